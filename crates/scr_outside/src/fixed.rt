@@ -1,0 +1,88 @@
+//! A source and a sink that never fail.
+
+ghost use Rattle.std.specs.Prelude.{◌≡◌, ℕ, ◌+◌, ◌-◌, ◌*◌, ◌^◌, ◌<◌, ◌≤◌, Option, Some, None, List, [], ◌++◌, length, take, drop, min, IsOk, OnOk, OnErr, IfOk};
+ghost use Rattle.scr_outside.specs.Bytes.{put_back, Gained, IsSpent};
+ghost use Rattle.scr_outside.specs.Faults.{Rose};
+
+use crate::sink::{Failed, Sink};
+use crate::source::Source;
+use std::marker::Model;
+
+/// A source over borrowed bytes. It tells them, and never fails.
+#[derive(Drop)]
+pub struct SliceSource<'a> {
+    left: &'a [u8],
+}
+
+impl<'a> Model for SliceSource<'a> {
+    ghost Value = { List ℕ };
+
+    ghost view = { λ s. s.left.now };
+}
+
+impl<'a> SliceSource<'a> {
+    /// A source that gives these bytes, as many in a call as the buffer takes.
+    pub fn new(bytes: &'a [u8]) -> SliceSource<'a>
+        ensures { result ≡ bytes.now }
+    {
+        SliceSource { left: bytes }
+    }
+}
+
+impl<'a> Source for SliceSource<'a> {
+    ghost faults = { λ _. 0 };
+
+    ghost left = { λ s. Some s };
+
+    fn read(&mut self, buffer: &mut [u8]) -> Result<usize, Failed>
+        requires { 0 < length buffer.old }
+        ensures never { IsOk result }
+        ensures count { IfOk result (λ n. n ≡ min (length buffer.old) (length self.old)) }
+        ensures bytes { IfOk result (λ n. take n buffer.new ≡ take n self.old) }
+        ensures ok { IfOk result (λ n. self.new ≡ drop n self.old) }
+        ensures within { IfOk result (λ n. n ≤ length buffer.old) }
+        ensures taken { IfOk result (λ n. Some self.old ≡ put_back (take n buffer.new) (Some self.new)) }
+        ensures end { IfOk result (λ n. n ≡ 0 → IsSpent (Some self.new)) }
+        ensures nothing { OnErr result (Some self.new ≡ Some self.old) }
+        ensures cause { OnErr result (Rose 0 0) }
+        ensures never_falls { 0 ≤ 0 }
+        ensures at_most { 0 < 2 ^ 64 }
+    {
+        let n = buffer.len().min(self.left.len());
+        let (given, rest) = self.left.split_at(n);
+        buffer[..n].copy_from_slice(given);
+        self.left = rest;
+        Ok(n)
+    }
+}
+
+/// A sink that takes each piece whole and forgets it. It tells no bytes, and never fails.
+#[derive(Clone, Copy, Debug)]
+pub struct NullSink;
+
+impl NullSink {
+    /// The sink.
+    pub fn new() -> NullSink {
+        NullSink
+    }
+}
+
+impl Sink for NullSink {
+    ghost faults = { λ _. 0 };
+
+    ghost held = { λ _. None };
+
+    fn write(&mut self, piece: &[u8]) -> Result<usize, Failed>
+        requires { 0 < length piece.now }
+        ensures whole { result ≡ Ok (length piece.now) }
+        ensures some { IfOk result (λ n. 0 < n) }
+        ensures within { IfOk result (λ n. n ≤ length piece.now) }
+        ensures gained { IfOk result (λ n. Gained None None (take n piece.now)) }
+        ensures nothing { OnErr result (Gained None None []) }
+        ensures cause { OnErr result (Rose 0 0) }
+        ensures never_falls { 0 ≤ 0 }
+        ensures at_most { 0 < 2 ^ 64 }
+    {
+        Ok(piece.len())
+    }
+}

@@ -1,0 +1,181 @@
+//! Sources and sinks in memory, whose bytes are known and which fail where they are told to.
+
+ghost use Rattle.std.specs.Prelude.{◌≡◌, ℕ, ◌+◌, ◌-◌, ◌*◌, ◌^◌, ◌<◌, ◌≤◌, ◌↔◌, Option, Some, None, List, [], ◌++◌, length, take, drop, min, IsErr, OnOk, OnErr, IfOk};
+ghost use Rattle.std.specs.Vec.{vec_len, vec_capacity};
+ghost use Rattle.scr_outside.specs.Bytes.{put_back, Gained, IsSpent};
+ghost use Rattle.scr_outside.specs.Faults.{Rose};
+ghost use Rattle.scr_outside.specs.Memory.{SourceMemory, SinkMemory, ReadFails, WriteFails, after_read, after_failed_read, after_write, after_failed_write};
+
+use crate::calls::Calls;
+use crate::sink::{Failed, NoMemory, Sink};
+use crate::source::Source;
+use std::alloc::Global;
+use std::marker::Model;
+
+/// A source over bytes in memory.
+#[derive(Drop)]
+pub struct MemSource {
+    bytes: Vec<u8>,
+    place: usize,
+    most: usize,
+    calls: Calls,
+}
+
+impl Model for MemSource {
+    ghost Value = { SourceMemory };
+
+    ghost view = { λ s. record {
+      left = drop s.place s.bytes.items;
+      most = s.most;
+      fails = s.calls.fails.items;
+      calls = s.calls.made;
+      faults = s.calls.faults;
+    } };
+
+    ghost invariant = { λ s. (s.place ≤ vec_len s.bytes) × (0 < s.most) };
+}
+
+impl MemSource {
+    /// A source that gives these bytes, at most `most` in a call. A call fails exactly where its
+    /// number, from 1, stands in `fails`; calls after number 4,294,967,295 stand in no list.
+    pub fn new(bytes: Vec<u8>, most: usize, fails: Vec<u32>) -> MemSource
+        requires { 0 < most }
+        ensures { result ≡ record { left = bytes.items; most = most; fails = fails.items; calls = 0; faults = 0 } }
+    {
+        MemSource {
+            bytes,
+            place: 0,
+            most,
+            calls: Calls {
+                fails,
+                made: 0,
+                faults: 0,
+            },
+        }
+    }
+}
+
+impl Source for MemSource {
+    ghost faults = { λ s. s.faults };
+
+    ghost left = { λ s. Some s.left };
+
+    fn read(&mut self, buffer: &mut [u8]) -> Result<usize, Failed>
+        requires { 0 < length buffer.old }
+        ensures fails { IsErr result ↔ ReadFails self.old }
+        ensures count { IfOk result (λ n. n ≡ min (length buffer.old) (min self.old.most (length self.old.left))) }
+        ensures bytes { IfOk result (λ n. take n buffer.new ≡ take n self.old.left) }
+        ensures ok { IfOk result (λ n. self.new ≡ after_read self.old (drop n self.old.left)) }
+        ensures err { OnErr result (self.new ≡ after_failed_read self.old) }
+        ensures within { IfOk result (λ n. n ≤ length buffer.old) }
+        ensures taken { IfOk result (λ n. Some self.old.left ≡ put_back (take n buffer.new) (Some self.new.left)) }
+        ensures end { IfOk result (λ n. n ≡ 0 → IsSpent (Some self.new.left)) }
+        ensures nothing { OnErr result (Some self.new.left ≡ Some self.old.left) }
+        ensures cause { OnErr result (Rose self.old.faults self.new.faults) }
+        ensures never_falls { self.old.faults ≤ self.new.faults }
+        ensures at_most { self.new.faults < 2 ^ 64 }
+    {
+        if self.calls.count() {
+            self.calls.raise();
+            return Err(Failed);
+        }
+        let rest = &self.bytes[self.place..];
+        let n = buffer.len().min(self.most).min(rest.len());
+        buffer[..n].copy_from_slice(&rest[..n]);
+        self.place += n;
+        Ok(n)
+    }
+}
+
+/// A sink in memory.
+#[derive(Drop)]
+pub struct MemSink {
+    held: Vec<u8>,
+    room: usize,
+    most: usize,
+    calls: Calls,
+}
+
+impl Model for MemSink {
+    ghost Value = { SinkMemory };
+
+    ghost view = { λ s. record {
+      held = s.held.items;
+      room = s.room;
+      most = s.most;
+      fails = s.calls.fails.items;
+      calls = s.calls.made;
+      faults = s.calls.faults;
+    } };
+
+    ghost invariant = { λ s. (0 < s.most) × (vec_len s.held ≤ s.room) × (s.room ≤ vec_capacity s.held) };
+}
+
+impl MemSink {
+    /// A sink with room for `room` bytes, which it reserves, and which takes at most `most` in a call.
+    /// A call fails where its number, from 1, stands in `fails`, and where no room is left; calls
+    /// after number 4,294,967,295 stand in no list. It can answer want of memory.
+    pub fn new(
+        alloc: Global,
+        room: usize,
+        most: usize,
+        fails: Vec<u32>,
+    ) -> Result<MemSink, NoMemory>
+        requires { 0 < most }
+        ensures { IfOk result (λ s. s ≡ record { held = []; room = room; most = most; fails = fails.items; calls = 0; faults = 0 }) }
+    {
+        match Vec::with_capacity(alloc, room) {
+            Ok(held) => Ok(MemSink {
+                held,
+                room,
+                most,
+                calls: Calls {
+                    fails,
+                    made: 0,
+                    faults: 0,
+                },
+            }),
+            Err(_) => Err(NoMemory),
+        }
+    }
+
+    /// The bytes that it holds.
+    pub fn contents(&self) -> &[u8]
+        ensures { result.now ≡ self.now.held }
+    {
+        &self.held
+    }
+}
+
+impl Sink for MemSink {
+    ghost faults = { λ s. s.faults };
+
+    ghost held = { λ s. Some s.held };
+
+    fn write(&mut self, piece: &[u8]) -> Result<usize, Failed>
+        requires { 0 < length piece.now }
+        ensures fails { IsErr result ↔ WriteFails self.old }
+        ensures count { IfOk result (λ n. n ≡ min (length piece.now) (min self.old.most (self.old.room - length self.old.held))) }
+        ensures ok { IfOk result (λ n. self.new ≡ after_write self.old (self.old.held ++ take n piece.now)) }
+        ensures err { OnErr result (self.new ≡ after_failed_write self.old) }
+        ensures some { IfOk result (λ n. 0 < n) }
+        ensures within { IfOk result (λ n. n ≤ length piece.now) }
+        ensures gained { IfOk result (λ n. Gained (Some self.old.held) (Some self.new.held) (take n piece.now)) }
+        ensures nothing { OnErr result (Gained (Some self.old.held) (Some self.new.held) []) }
+        ensures cause { OnErr result (Rose self.old.faults self.new.faults) }
+        ensures never_falls { self.old.faults ≤ self.new.faults }
+        ensures at_most { self.new.faults < 2 ^ 64 }
+    {
+        let listed = self.calls.count();
+        let free = self.room - self.held.len();
+        if listed || free == 0 {
+            self.calls.raise();
+            return Err(Failed);
+        }
+        let n = piece.len().min(self.most).min(free);
+        match self.held.extend_from_slice(&piece[..n]) {
+            Ok(()) => Ok(n),
+            Err(_) => unreachable!(),
+        }
+    }
+}
