@@ -1,0 +1,94 @@
+//! The printed scramble as fourteen amounts.
+ghost use Rattle.std.specs.Prelude.{◌≡◌, ℕ, ◌<◌, ◌%◌, List, All};
+ghost use Rattle.scr_play.specs.Play.{play};
+ghost use Rattle.scr_dials.specs.Dials.{turned, solved};
+ghost use Rattle.scr_dials.specs.Pattern.{IsAmounts, pattern};
+
+use crate::clock::Clock;
+
+const UR: u8 = 1;
+
+const DR: u8 = 2;
+
+const DL: u8 = 4;
+
+const UL: u8 = 8;
+
+const U: u8 = UR + UL;
+
+const R: u8 = UR + DR;
+
+const D: u8 = DR + DL;
+
+const L: u8 = DL + UL;
+
+const ALL: u8 = U + D;
+
+/// Plays the fourteen turns of a printed scramble on `clock`: UR DR DL UL U R D L ALL on the front and, with the back
+/// facing the scrambler, U R D L ALL on the back, by these amounts from 0 to 11.
+pub fn play_amounts(clock: &Clock, amounts: &[u8; 14]) -> Clock
+    requires { All (λ a. a < 12) amounts.now }
+    ensures { result ≡ play turned clock.now (pattern amounts.now) }
+{
+    clock
+        .pins(false, UR, amounts[0])
+        .pins(false, DR, amounts[1])
+        .pins(false, DL, amounts[2])
+        .pins(false, UL, amounts[3])
+        .pins(false, U, amounts[4])
+        .pins(false, R, amounts[5])
+        .pins(false, D, amounts[6])
+        .pins(false, L, amounts[7])
+        .pins(false, ALL, amounts[8])
+        .pins(true, U, amounts[9])
+        .pins(true, R, amounts[10])
+        .pins(true, D, amounts[11])
+        .pins(true, L, amounts[12])
+        .pins(true, ALL, amounts[13])
+}
+
+/// The amounts, from 0 to 11, of the one printed scramble that gives this state from solved.
+///
+/// Minus is eleven times, modulo 12. The back turns alone move the back, so its dials give their amounts, and then what
+/// the front turns alone made of the front's corners. There each corner pin's amount is the centre less the two edges
+/// that it doesn't touch, plus the opposite corner; the other amounts follow in the same way.
+pub fn solve(clock: &Clock) -> [u8; 14]
+    ensures amounts { IsAmounts result }
+    ensures gives { play turned solved (pattern result) ≡ clock.now }
+    ensures only { (amounts : List ℕ) → IsAmounts amounts → play turned solved (pattern amounts) ≡ clock.now → amounts ≡ result }
+{
+    let dials = clock.dials();
+    let (up, left, centre) = (dials[1] as u32, dials[3] as u32, dials[4] as u32);
+    let (right, down) = (dials[5] as u32, dials[7] as u32);
+    let (back_up, back_left, back_centre) = (dials[9] as u32, dials[10] as u32, dials[11] as u32);
+    let (back_right, back_down) = (dials[12] as u32, dials[13] as u32);
+    let up_left = dials[0] as u32 + back_up + back_right + 11 * back_centre;
+    let up_right = dials[2] as u32 + back_up + back_left + 11 * back_centre;
+    let down_left = dials[6] as u32 + back_right + back_down + 11 * back_centre;
+    let down_right = dials[8] as u32 + back_left + back_down + 11 * back_centre;
+    [
+        hour(centre + 11 * (left + down) + down_left),
+        hour(centre + 11 * (up + left) + up_left),
+        hour(centre + 11 * (up + right) + up_right),
+        hour(centre + 11 * (right + down) + down_right),
+        hour(left + right + down + 11 * (centre + down_left + down_right)),
+        hour(up + left + down + 11 * (centre + up_left + down_left)),
+        hour(up + left + right + 11 * (centre + up_left + up_right)),
+        hour(up + right + down + 11 * (centre + up_right + down_right)),
+        hour(
+            up_left + up_right + down_left + down_right + centre + 11 * (up + left + right + down),
+        ),
+        hour(back_centre + 11 * back_down),
+        hour(back_centre + 11 * back_left),
+        hour(back_centre + 11 * back_up),
+        hour(back_centre + 11 * back_right),
+        hour(back_up + back_left + back_right + back_down + 9 * back_centre),
+    ]
+}
+
+/// The hour from 0 to 11 that a number of hours comes to.
+fn hour(hours: u32) -> u8
+    ensures { result ≡ hours % 12 }
+{
+    (hours % 12) as u8
+}

@@ -1,0 +1,6 @@
+pub mod Rows
+pub mod Linear
+pub mod PatternSums
+pub mod Amounts
+pub mod DialLaws
+pub mod LeastLaws

@@ -1,0 +1,67 @@
+-- Clocks that are known from elsewhere, computed by the definitions.
+use Rattle.std.proofs.Common.{◌≡◌, ℕ, ◌^◌, false, List, [], ◌∷◌, refl}
+use Rattle.std.specs.Prelude.{codes}
+use Rattle.scr_play.specs.Play.{play}
+use Rattle.scr_dials.specs.Dials.{Turn, turned, gain, gains, added, solved, clock_count, digits, dials_of, number_of}
+use Rattle.scr_dials.specs.Pattern.{turns_at, pattern, amount_text, spelled, text_of}
+
+count_is : clock_count ≡ 12 ^ 14
+count_is = refl
+
+-- the state of number 985395116423286
+abbrev first_dials : List ℕ
+first_dials = 6 ∷ 4 ∷ 8 ∷ 9 ∷ 7 ∷ 8 ∷ 2 ∷ 1 ∷ 2 ∷ 8 ∷ 2 ∷ 6 ∷ 2 ∷ 9 ∷ []
+
+abbrev first_amounts : List ℕ
+first_amounts = 4 ∷ 4 ∷ 7 ∷ 5 ∷ 9 ∷ 2 ∷ 4 ∷ 11 ∷ 9 ∷ 9 ∷ 4 ∷ 10 ∷ 4 ∷ 3 ∷ []
+
+first_dials_of : dials_of 985395116423286 ≡ first_dials
+unfolding dials_of digits
+first_dials_of = refl
+
+first_number_of : number_of first_dials ≡ 985395116423286
+unfolding number_of
+first_number_of = refl
+
+first_play : play turned solved (pattern first_amounts) ≡ first_dials
+unfolding play turned gain gains added solved turns_at pattern
+first_play = refl
+
+first_text : text_of first_amounts ≡ codes "UR4+ DR4+ DL5- UL5+ U3- R2+ D4+ L1- ALL3- y2 U3- R4+ D2- L4+ ALL3+"
+unfolding amount_text spelled text_of
+first_text = refl
+
+-- solved has number 0, and is given by no turn at all
+abbrev no_amounts : List ℕ
+no_amounts = 0 ∷ 0 ∷ 0 ∷ 0 ∷ 0 ∷ 0 ∷ 0 ∷ 0 ∷ 0 ∷ 0 ∷ 0 ∷ 0 ∷ 0 ∷ 0 ∷ []
+
+solved_dials_of : dials_of 0 ≡ solved
+unfolding dials_of digits solved
+solved_dials_of = refl
+
+solved_play : play turned solved (pattern no_amounts) ≡ solved
+unfolding play turned gain gains added solved turns_at pattern
+solved_play = refl
+
+solved_text : text_of no_amounts ≡ codes "UR0+ DR0+ DL0+ UL0+ U0+ R0+ D0+ L0+ ALL0+ y2 U0+ R0+ D0+ L0+ ALL0+"
+unfolding amount_text spelled text_of
+solved_text = refl
+
+-- number 39089244 is solved with the pins UR and DL up on the front, turned by 1
+abbrev diagonal : Turn
+diagonal = record { back = false; pins = 5; amount = 1 }
+
+diagonal_dials_of : dials_of 39089244 ≡ turned solved diagonal
+unfolding dials_of digits turned gain gains added solved
+diagonal_dials_of = refl
+
+abbrev diagonal_amounts : List ℕ
+diagonal_amounts = 0 ∷ 11 ∷ 0 ∷ 11 ∷ 1 ∷ 1 ∷ 1 ∷ 1 ∷ 11 ∷ 0 ∷ 0 ∷ 0 ∷ 0 ∷ 0 ∷ []
+
+diagonal_play : play turned solved (pattern diagonal_amounts) ≡ dials_of 39089244
+unfolding dials_of digits play turned gain gains added solved turns_at pattern
+diagonal_play = refl
+
+diagonal_text : text_of diagonal_amounts ≡ codes "UR0+ DR1- DL0+ UL1- U1+ R1+ D1+ L1+ ALL1- y2 U0+ R0+ D0+ L0+ ALL0+"
+unfolding amount_text spelled text_of
+diagonal_text = refl

@@ -1,0 +1,56 @@
+//! Drawing: the first permitted state of a number of attempts.
+
+ghost use Rattle.std.specs.Prelude.{◌≡◌, ◌+◌, ◌*◌, ◌^◌, ◌≤◌, IfOk, IfErr, IsTrue, ok_or};
+ghost use Rattle.scr_stream.specs.Attempt.{attempt_values};
+ghost use Rattle.scr_stream.specs.Drawn.{drawn, hit, numbers_read};
+
+use crate::rejection::{attempt_within, limit_of};
+use crate::{Numbering, Permit};
+use scr_words::Words;
+
+/// No attempt gave a permitted state.
+#[derive(Debug, Clone, Copy, PartialEq, Eq)]
+pub struct DrawLimit {
+    /// How many words were taken: three for each attempt.
+    pub words: u32,
+}
+
+/// Draws the state of the first attempt that is accepted and whose state needs at least `least`
+/// counted turns, or tells that the first `attempts` attempts give none.
+///
+/// `least` is in the event's range, `attempts` is at most 1,000,000, and at most 2^62 words were
+/// taken before.
+pub fn draw<W: Words, P: Numbering + Permit<P::State>>(
+    words: &mut W,
+    puzzle: &P,
+    least: u32,
+    attempts: u32,
+) -> Result<P::State, DrawLimit>
+    requires least_in_range { least ≤ P.greatest puzzle.now }
+    requires few { attempts ≤ 1000000 }
+    requires room { W.taken words.old ≤ 2 ^ 62 }
+    ensures state { let hits = hit (P.count puzzle.now) (P.state_at puzzle.now) (λ s. P.needs puzzle.now s least) in
+        let values = attempt_values (W.word_at words.old) (W.taken words.old) attempts in
+        result ≡ ok_or (drawn hits values) (record { words = 3 * attempts }) }
+    ensures permitted { IfOk result (λ s. P.valid puzzle.now s × IsTrue (P.needs puzzle.now s least)) }
+    ensures taken { let hits = hit (P.count puzzle.now) (P.state_at puzzle.now) (λ s. P.needs puzzle.now s least) in
+        let values = attempt_values (W.word_at words.old) (W.taken words.old) attempts in
+        W.taken words.new ≡ W.taken words.old + 3 * numbers_read hits values }
+    ensures at_most { W.taken words.new ≤ W.taken words.old + 3 * attempts }
+    ensures all_taken { IfErr result (λ limit. W.taken words.new ≡ W.taken words.old + limit.words) }
+    ensures same_words { W.word_at words.new ≡ W.word_at words.old }
+{
+    let count = puzzle.count();
+    let limit = limit_of(count);
+    for tried in 0..attempts {
+        if let Some(number) = attempt_within(words, count, limit) {
+            let state = puzzle.state_at(number);
+            if puzzle.needs_at_least(&state, least) {
+                return Ok(state);
+            }
+        }
+    }
+    Err(DrawLimit {
+        words: 3 * attempts,
+    })
+}

@@ -1,0 +1,5 @@
+pub mod Command
+pub mod Message
+pub mod Scramble
+pub mod Outcome
+pub mod Status

@@ -1,0 +1,10 @@
+-- The exit code of each status.
+use Rattle.std.specs.Prelude.{ℕ}
+use Rattle.scr_sheet.specs.declared.fault.Status.{Status}
+use Rattle.scr_sheet.specs.declared.fault.Status.TheVariants.{Done, Usage, DrawLimit, WriteFault}
+
+abbrev pub code_of : Status → ℕ
+code_of Done = 0
+code_of Usage = 2
+code_of DrawLimit = 4
+code_of WriteFault = 6

@@ -1,0 +1,124 @@
+//! What goes wrong in a run, and how it is told.
+
+ghost use Rattle.std.specs.Prelude.{◌≡◌, ◌++◌, ◌+◌, ◌≤◌, ◌<◌, length, List};
+ghost use Rattle.arrayvec.specs.ArrayString.{array_string_len};
+ghost use Rattle.scr_sheet.specs.Message.{message_of, usage_text, seed_fault_text};
+ghost use Rattle.scr_sheet.specs.Outcome.{status_of};
+ghost use Rattle.scr_sheet.specs.Status.{code_of};
+
+use crate::command::UsageFault;
+use crate::text::decimal;
+use arrayvec::ArrayString;
+use scr_words::SeedFault;
+
+/// How a run ended.
+#[derive(Clone, Copy, Debug, PartialEq, Eq)]
+pub enum Status {
+    /// All was written.
+    Done,
+    /// The words are no command.
+    Usage,
+    /// A slot's attempts gave no permitted state.
+    DrawLimit,
+    /// The output could not be written.
+    WriteFault,
+}
+
+impl Status {
+    /// The status of a run that ended so.
+    pub(crate) fn of(ended: Result<(), Fault>) -> Status
+        ensures { result ≡ status_of ended }
+    {
+        match ended {
+            Ok(()) => Status::Done,
+            Err(Fault::Usage(_)) => Status::Usage,
+            Err(Fault::DrawLimit { .. }) => Status::DrawLimit,
+            Err(Fault::Write) => Status::WriteFault,
+        }
+    }
+
+    /// The exit code of the program.
+    pub fn code(self) -> u8
+        ensures { result ≡ code_of self }
+    {
+        match self {
+            Status::Done => 0,
+            Status::Usage => 2,
+            Status::DrawLimit => 4,
+            Status::WriteFault => 6,
+        }
+    }
+}
+
+/// What went wrong.
+#[derive(Clone, Copy, Debug)]
+pub enum Fault {
+    /// The words are no command.
+    Usage(UsageFault),
+    /// The attempts of a slot, which took so many words, gave no permitted state. Rounds and slots are
+    /// counted from 1.
+    DrawLimit { round: u32, slot: u32, words: u32 },
+    /// The output could not be written.
+    Write,
+}
+
+/// The length of the longest message, and a little more.
+const LONGEST: usize = 160;
+
+/// The words that are commands.
+const GRAMMAR: &str =
+    "usage: one EVENT SEED | sheet --seed HEX [--workers N] [--tries N] [--attempts N] | tables EVENT | load NUMBER";
+
+impl Fault {
+    /// The line that tells it, with its line feed.
+    pub fn message(self) -> ArrayString<LONGEST>
+        ensures { result.bytes ≡ message_of self }
+    {
+        let mut line = ArrayString::new();
+        line.push_str("scramble: ");
+        match self {
+            Fault::Usage(fault) => push_usage(&mut line, fault),
+            Fault::DrawLimit { round, slot, words } => {
+                line.push_str("round ");
+                line.push_str(decimal(round).as_str());
+                line.push_str(" slot ");
+                line.push_str(decimal(slot).as_str());
+                line.push_str(": no permitted state in ");
+                line.push_str(decimal(words).as_str());
+                line.push_str(" words");
+            }
+            Fault::Write => line.push_str("output could not be written"),
+        }
+        line.push_str("\n");
+        line
+    }
+}
+
+fn push_usage(line: &mut ArrayString<LONGEST>, fault: UsageFault)
+    requires { array_string_len line.old ≤ 10 }
+    ensures bytes { line.new.bytes ≡ line.old.bytes ++ usage_text fault }
+    ensures room { array_string_len line.new < LONGEST }
+{
+    match fault {
+        UsageFault::NoSeed(fault) => push_seed_fault(line, fault),
+        UsageFault::Grammar => line.push_str(GRAMMAR),
+    }
+}
+
+fn push_seed_fault(line: &mut ArrayString<LONGEST>, fault: SeedFault)
+    requires { array_string_len line.old ≤ 10 }
+    ensures bytes { line.new.bytes ≡ line.old.bytes ++ seed_fault_text fault }
+    ensures room { array_string_len line.new < LONGEST }
+{
+    match fault {
+        SeedFault::Length { got } => {
+            line.push_str("seed has ");
+            line.push_str(decimal(got).as_str());
+            line.push_str(" characters, not 64");
+        }
+        SeedFault::Digit { place } => {
+            line.push_str("seed has no hexadecimal digit at ");
+            line.push_str(decimal(place).as_str());
+        }
+    }
+}

@@ -1,0 +1,29 @@
+//! The program `scramble`: it hands its words and the standard streams to `run`, and ends with the code
+//! of the status that it answers.
+#![tactic(auto)]
+
+use std::env;
+use std::io;
+use std::process::ExitCode;
+
+use scr_outside::StdSink;
+use scr_sheet::{Status, run};
+
+fn main(rt: HostRuntime) -> ExitCode {
+    match run_on_words(&rt) {
+        Ok(status) => ExitCode::from(status.code()),
+        // The system gave no words.
+        Err(_) => ExitCode::FAILURE,
+    }
+}
+
+fn run_on_words(rt: &HostRuntime) -> io::Result<Status> {
+    let owned: Vec<String> = env::args(rt)?.skip(1).collect(rt.alloc())?;
+    let mut words = Vec::new(rt.alloc());
+    for word in &owned {
+        words.push(word.as_str())?;
+    }
+    let mut out = StdSink::new(rt.stdout());
+    let mut err = StdSink::new(rt.stderr());
+    Ok(run(&words, &mut out, &mut err))
+}
