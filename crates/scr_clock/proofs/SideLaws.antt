@@ -55,14 +55,14 @@ left_alone false dials p a c r =
     let e = written_out dials c.fourteen in
     subst (λ (l : List ℕ). IsOtherSolved false l) (sym e)
     (left_front (get_or dials 0 0) (get_or dials 1 0) (get_or dials 2 0) (get_or dials 3 0) (get_or dials 4 0) (get_or dials 5 0) (get_or dials 6 0) (get_or dials 7 0) (get_or dials 8 0) (get_or dials 9 0) (get_or dials 10 0) (get_or dials 11 0) (get_or dials 12 0) (get_or dials 13 0) p a
-      (below_at dials 0 c (omega arith)) (below_at dials 1 c (omega arith)) (below_at dials 2 c (omega arith)) (below_at dials 3 c (omega arith)) (below_at dials 4 c (omega arith)) (below_at dials 5 c (omega arith)) (below_at dials 6 c (omega arith)) (below_at dials 7 c (omega arith)) (below_at dials 8 c (omega arith)) (below_at dials 9 c (omega arith)) (below_at dials 10 c (omega arith)) (below_at dials 11 c (omega arith)) (below_at dials 12 c (omega arith)) (below_at dials 13 c (omega arith))
-      (subst (λ (l : List ℕ). IsOtherSolved false (turned l (record { back = false; pins = p; amount = a }))) e r))
+    (below_at dials 0 c (omega arith)) (below_at dials 1 c (omega arith)) (below_at dials 2 c (omega arith)) (below_at dials 3 c (omega arith)) (below_at dials 4 c (omega arith)) (below_at dials 5 c (omega arith)) (below_at dials 6 c (omega arith)) (below_at dials 7 c (omega arith)) (below_at dials 8 c (omega arith)) (below_at dials 9 c (omega arith)) (below_at dials 10 c (omega arith)) (below_at dials 11 c (omega arith)) (below_at dials 12 c (omega arith)) (below_at dials 13 c (omega arith))
+    (subst (λ (l : List ℕ). IsOtherSolved false (turned l (record { back = false; pins = p; amount = a }))) e r))
 left_alone true dials p a c r =
     let e = written_out dials c.fourteen in
     subst (λ (l : List ℕ). IsOtherSolved true l) (sym e)
     (left_back (get_or dials 0 0) (get_or dials 1 0) (get_or dials 2 0) (get_or dials 3 0) (get_or dials 4 0) (get_or dials 5 0) (get_or dials 6 0) (get_or dials 7 0) (get_or dials 8 0) (get_or dials 9 0) (get_or dials 10 0) (get_or dials 11 0) (get_or dials 12 0) (get_or dials 13 0) p a
-      (below_at dials 0 c (omega arith)) (below_at dials 1 c (omega arith)) (below_at dials 2 c (omega arith)) (below_at dials 3 c (omega arith)) (below_at dials 4 c (omega arith)) (below_at dials 5 c (omega arith)) (below_at dials 6 c (omega arith)) (below_at dials 7 c (omega arith)) (below_at dials 8 c (omega arith)) (below_at dials 9 c (omega arith)) (below_at dials 10 c (omega arith)) (below_at dials 11 c (omega arith)) (below_at dials 12 c (omega arith)) (below_at dials 13 c (omega arith))
-      (subst (λ (l : List ℕ). IsOtherSolved true (turned l (record { back = true; pins = p; amount = a }))) e r))
+    (below_at dials 0 c (omega arith)) (below_at dials 1 c (omega arith)) (below_at dials 2 c (omega arith)) (below_at dials 3 c (omega arith)) (below_at dials 4 c (omega arith)) (below_at dials 5 c (omega arith)) (below_at dials 6 c (omega arith)) (below_at dials 7 c (omega arith)) (below_at dials 8 c (omega arith)) (below_at dials 9 c (omega arith)) (below_at dials 10 c (omega arith)) (below_at dials 11 c (omega arith)) (below_at dials 12 c (omega arith)) (below_at dials 13 c (omega arith))
+    (subst (λ (l : List ℕ). IsOtherSolved true (turned l (record { back = true; pins = p; amount = a }))) e r))
 
 -- the dials that a turn's side leaves alone show what they showed
 pub IsOtherSolved-before : (dials : List ℕ) (t : Turn) → IsClock dials → IsOtherSolved t.back (turned dials t) → IsOtherSolved t.back dials
@@ -131,8 +131,8 @@ amount_by_centre dials t c turn e =
 gain_cases : (up amount pins : ℕ) → (gain up amount pins ≡ 0) ⊎ (gain up amount pins ≡ amount)
 gain_cases up amount pins =
     elim (cases_eq (bit_and pins up) 0) [
-      inl e ↦ inl (gain-apart up amount pins e)
-    | inr n ↦ inr (gain-shared up amount pins n)
+      | inl e ↦ inl (gain-apart up amount pins e)
+      | inr n ↦ inr (gain-shared up amount pins n)
     ]
 
 carried : (up pins a d c : ℕ) → d < 12 → c < 12 → a ≡ (12 - c) % 12 → (d + gain up a pins) % 12 ≡ 0 → (d ≡ 0) ⊎ (d ≡ c)
@@ -151,8 +151,8 @@ edges_at dials p a c amount r =
     let e = written_out dials c.fourteen in
     subst (λ (l : List ℕ). AreBackEdgesCarried l) (sym e)
     (edges_written (get_or dials 0 0) (get_or dials 1 0) (get_or dials 2 0) (get_or dials 3 0) (get_or dials 4 0) (get_or dials 5 0) (get_or dials 6 0) (get_or dials 7 0) (get_or dials 8 0) (get_or dials 9 0) (get_or dials 10 0) (get_or dials 11 0) (get_or dials 12 0) (get_or dials 13 0) p a
-      (below_at dials 9 c (omega arith)) (below_at dials 10 c (omega arith)) (below_at dials 11 c (omega arith)) (below_at dials 12 c (omega arith)) (below_at dials 13 c (omega arith)) amount
-      (subst (λ (l : List ℕ). IsOtherSolved false (turned l (record { back = true; pins = p; amount = a }))) e r))
+    (below_at dials 9 c (omega arith)) (below_at dials 10 c (omega arith)) (below_at dials 11 c (omega arith)) (below_at dials 12 c (omega arith)) (below_at dials 13 c (omega arith)) amount
+    (subst (λ (l : List ℕ). IsOtherSolved false (turned l (record { back = true; pins = p; amount = a }))) e r))
 
 -- ---- one turn
 pub turn_leads-from : (dials : List ℕ) (t : Turn) → is_turn t ≡ true → turned dials t ≡ solved → turn_leads t.back dials ≡ true
@@ -204,13 +204,13 @@ pub turn_leads-none : (back : Bool) (dials : List ℕ) → IsClock dials
 turn_leads-none back dials c none =
     not_true (turn_leads back dials)
     (λ h.
-      let r = turn_leads-gives back dials c h in
-      let parts = is_turn-parts r.last r.turn in
-      let amount = amount_by_centre dials r.last c r.turn (centre_last r.last dials r.leads) in
-      let same : turned dials (record { back = back; pins = r.last.pins; amount = centre_amount back dials }) ≡ solved =
-        ap (λ b. turned dials (record { back = b; pins = r.last.pins; amount = centre_amount b dials })) (sym r.side)
-        ∙ ap (λ a. turned dials (record { back = r.last.back; pins = r.last.pins; amount = a })) (sym amount) ∙ r.leads in
-      false≢true (sym (none r.last.pins parts.some_pin parts.four_pins) ∙ ap all_twelve same ∙ all_twelve-solved))
+    let r = turn_leads-gives back dials c h in
+    let parts = is_turn-parts r.last r.turn in
+    let amount = amount_by_centre dials r.last c r.turn (centre_last r.last dials r.leads) in
+    let same : turned dials (record { back = back; pins = r.last.pins; amount = centre_amount back dials }) ≡ solved =
+    ap (λ b. turned dials (record { back = b; pins = r.last.pins; amount = centre_amount b dials })) (sym r.side)
+    ∙ ap (λ a. turned dials (record { back = r.last.back; pins = r.last.pins; amount = a })) (sym amount) ∙ r.leads in
+    false≢true (sym (none r.last.pins parts.some_pin parts.four_pins) ∙ ap all_twelve same ∙ all_twelve-solved))
 
 -- ---- two turns
 -- two turns, of these sides, that lead to solved
@@ -242,10 +242,10 @@ pub turns_lead_on-apart : (back : Bool) (dials : List ℕ) → IsClock dials →
 turns_lead_on-apart back dials c n =
     not_true (turns_lead_on back back dials)
     (λ h.
-      let r = turns_lead_on-gives back back dials c h in
-      let after = other_solved back (turned dials r.one) (IsClock-turned dials r.one c) r.other in
-      n (subst (λ (b : Bool). IsOtherSolved b dials) r.one_side
-        (IsOtherSolved-before dials r.one c (subst (λ (b : Bool). IsOtherSolved b (turned dials r.one)) (sym r.one_side) after))))
+    let r = turns_lead_on-gives back back dials c h in
+    let after = other_solved back (turned dials r.one) (IsClock-turned dials r.one c) r.other in
+    n (subst (λ (b : Bool). IsOtherSolved b dials) r.one_side
+    (IsOtherSolved-before dials r.one c (subst (λ (b : Bool). IsOtherSolved b (turned dials r.one)) (sym r.one_side) after))))
 
 pub turns_lead_on-none : (first second : Bool) (dials : List ℕ) → IsClock dials
     → ((p : ℕ) → 0 < p → p < 16 → (a : ℕ) → a < 12 → turn_leads second (turned dials (record { back = first; pins = p; amount = a })) ≡ false)
@@ -254,10 +254,10 @@ unfolding turns_lead_on
 turns_lead_on-none first second dials c none =
     not_true (turns_lead_on first second dials)
     (λ h.
-      let r = some_on-gives first (λ t. turn_leads second (turned dials t)) h in
-      let parts = is_turn-parts r.0 r.2 in
-      false≢true (sym (none r.0.pins parts.some_pin parts.four_pins r.0.amount parts.hours)
-        ∙ ap (λ b. turn_leads second (turned dials (record { back = b; pins = r.0.pins; amount = r.0.amount }))) (sym r.1) ∙ r.3))
+    let r = some_on-gives first (λ t. turn_leads second (turned dials t)) h in
+    let parts = is_turn-parts r.0 r.2 in
+    false≢true (sym (none r.0.pins parts.some_pin parts.four_pins r.0.amount parts.hours)
+    ∙ ap (λ b. turn_leads second (turned dials (record { back = b; pins = r.0.pins; amount = r.0.amount }))) (sym r.1) ∙ r.3))
 
 -- a turn of the back before one of the front to solved
 record MixedTurns (dials : List ℕ) : Type 0 where
@@ -275,10 +275,10 @@ mixed dials c r =
     let centre : get_or (turned dials r.one) (cond r.one.back 11 4) 0 ≡ 0 = ap (λ b. get_or (turned dials r.one) (cond b 11 4) 0) r.one_side ∙ rest.2 in
     let amount : r.one.amount ≡ centre_amount true dials = amount_by_centre dials r.one c r.one_turn centre ∙ ap (λ b. centre_amount b dials) r.one_side in
     let same : turned dials r.one ≡ turned dials (record { back = true; pins = r.one.pins; amount = centre_amount true dials }) =
-      ap (λ b. turned dials (record { back = b; pins = r.one.pins; amount = r.one.amount })) r.one_side
-      ∙ ap (λ a. turned dials (record { back = true; pins = r.one.pins; amount = a })) amount in
+    ap (λ b. turned dials (record { back = b; pins = r.one.pins; amount = r.one.amount })) r.one_side
+    ∙ ap (λ a. turned dials (record { back = true; pins = r.one.pins; amount = a })) amount in
     let leads : turn_leads false (turned dials r.one) ≡ true =
-      subst (λ (b : Bool). turn_leads b (turned dials r.one) ≡ true) r.other.side (turn_leads-from (turned dials r.one) r.other.last r.other.turn r.other.leads) in
+    subst (λ (b : Bool). turn_leads b (turned dials r.one) ≡ true) r.other.side (turn_leads-from (turned dials r.one) r.other.last r.other.turn r.other.leads) in
     record {
       back_pins = r.one.pins;
       some_pin = parts.some_pin;
@@ -291,8 +291,8 @@ pub mixed-apart : (dials : List ℕ) → IsClock dials → (AreBackEdgesCarried 
 mixed-apart dials c n =
     not_true (turns_lead_on true false dials)
     (λ h.
-      let r = mixed dials c (turns_lead_on-gives true false dials c h) in
-      n (edges_at dials r.back_pins (centre_amount true dials) c refl r.carried_back))
+    let r = mixed dials c (turns_lead_on-gives true false dials c h) in
+    n (edges_at dials r.back_pins (centre_amount true dials) c refl r.carried_back))
 
 pub mixed-none : (dials : List ℕ) → IsClock dials
     → ((p : ℕ) → 0 < p → p < 16 → turn_leads false (turned dials (record { back = true; pins = p; amount = centre_amount true dials })) ≡ false)
@@ -300,8 +300,8 @@ pub mixed-none : (dials : List ℕ) → IsClock dials
 mixed-none dials c none =
     not_true (turns_lead_on true false dials)
     (λ h.
-      let r = mixed dials c (turns_lead_on-gives true false dials c h) in
-      false≢true (sym (none r.back_pins r.some_pin r.four_pins) ∙ r.front_leads))
+    let r = mixed dials c (turns_lead_on-gives true false dials c h) in
+    false≢true (sym (none r.back_pins r.some_pin r.four_pins) ∙ r.front_leads))
 
 -- ---- turns of any sides
 pub one_by_sides : (dials : List ℕ) → turns_lead 1 dials ≡ (turn_leads false dials || turn_leads true dials)
@@ -335,12 +335,12 @@ sides_from : (dials : List ℕ) (a b : Bool) (t u : Turn) → t.back ≡ a → u
     → (turns_lead_on false false dials || (turns_lead_on true true dials || turns_lead_on true false dials)) ≡ true
 sides_from dials a b t u ea eb turn other e =
     by_sides a b (subst (λ (x : Bool). turns_lead_on x b dials ≡ true) ea
-        (subst (λ (x : Bool). turns_lead_on t.back x dials ≡ true) eb (turns_lead_on-from dials t u turn other e)))
-      (subst (λ (x : Bool). turns_lead_on x a dials ≡ true) eb
-        (subst (λ (x : Bool). turns_lead_on u.back x dials ≡ true) ea (turns_lead_on-from dials u t other turn (turned_swap dials u t ∙ e))))
+    (subst (λ (x : Bool). turns_lead_on t.back x dials ≡ true) eb (turns_lead_on-from dials t u turn other e)))
+    (subst (λ (x : Bool). turns_lead_on x a dials ≡ true) eb
+    (subst (λ (x : Bool). turns_lead_on u.back x dials ≡ true) ea (turns_lead_on-from dials u t other turn (turned_swap dials u t ∙ e))))
   where
     by_sides : (a b : Bool) → turns_lead_on a b dials ≡ true → turns_lead_on b a dials ≡ true
-      → (turns_lead_on false false dials || (turns_lead_on true true dials || turns_lead_on true false dials)) ≡ true
+        → (turns_lead_on false false dials || (turns_lead_on true true dials || turns_lead_on true false dials)) ≡ true
     by_sides false false h k = or-left (turns_lead_on false false dials) _ h
     by_sides true true h k = or-right (turns_lead_on false false dials) _ (or-left (turns_lead_on true true dials) _ h)
     by_sides true false h k = or-right (turns_lead_on false false dials) _ (or-right (turns_lead_on true true dials) _ h)
@@ -352,9 +352,9 @@ two_by_sides dials c =
     same_tests (turns_lead 2 dials) (turns_lead_on false false dials || (turns_lead_on true true dials || turns_lead_on true false dials))
     (λ h. let r = any_turns-gives dials c h in sides_from dials r.one.back r.two.back r.one r.two refl refl r.one_turn r.two_turn r.lead)
     (λ h. elim (or_cases (turns_lead_on false false dials) (turns_lead_on true true dials || turns_lead_on true false dials) h) [
-      inl e ↦ any_turns-from false false dials c e
-    | inr f ↦ elim (or_cases (turns_lead_on true true dials) (turns_lead_on true false dials) f) [
-        inl e ↦ any_turns-from true true dials c e
-      | inr e ↦ any_turns-from true false dials c e
+      | inl e ↦ any_turns-from false false dials c e
+      | inr f ↦ elim (or_cases (turns_lead_on true true dials) (turns_lead_on true false dials) f) [
+        | inl e ↦ any_turns-from true true dials c e
+        | inr e ↦ any_turns-from true false dials c e
       ]
     ])

@@ -5,10 +5,12 @@
 
 mod amounts;
 mod clock;
+mod least;
 mod text;
 
 pub use amounts::{play_amounts, solve};
 pub use clock::{Clock, state_at};
+pub use least::needs_at_least;
 pub use text::amounts_text;
 
 #[cfg(test)]

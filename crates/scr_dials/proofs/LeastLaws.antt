@@ -20,8 +20,8 @@ unfolding some_below
 some_below-from zero passes k l h = absurd (omega (arith, l))
 some_below-from (suc n) passes k l h =
     elim (cases_eq k n) [
-      inl e ↦ or-left (passes n) (some_below n passes) (ap passes (sym e) ∙ h)
-    | inr e ↦ or-right (passes n) (some_below n passes) (some_below-from n passes k (omega (arith, e)) h)
+      | inl e ↦ or-left (passes n) (some_below n passes) (ap passes (sym e) ∙ h)
+      | inr e ↦ or-right (passes n) (some_below n passes) (some_below-from n passes k (omega (arith, e)) h)
     ]
 
 some_below-gives : (n : ℕ) (passes : ℕ → Bool) → some_below n passes ≡ true → (k : ℕ) × (k < n) × (passes k ≡ true)
@@ -29,8 +29,8 @@ unfolding some_below
 some_below-gives zero passes h = absurd (false≢true h)
 some_below-gives (suc n) passes h =
     elim (or_cases (passes n) (some_below n passes) h) [
-      inl e ↦ (n, omega arith, e)
-    | inr e ↦ (let r = some_below-gives n passes e in (r.0, omega (arith, r.1), r.2))
+      | inl e ↦ (n, omega arith, e)
+      | inr e ↦ (let r = some_below-gives n passes e in (r.0, omega (arith, r.1), r.2))
     ]
 
 is_turn-from : (back : Bool) (p a : ℕ) → p < 15 → a < 12 → is_turn (record { back = back; pins = p + 1; amount = a }) ≡ true
@@ -57,7 +57,7 @@ some_on-from passes t turn h =
     let pins : t.pins - 1 + 1 ≡ t.pins = omega (arith, parts.some_pin) in
     some_below-from 15 (λ p. some_below 12 (λ a. passes (record { back = t.back; pins = p + 1; amount = a }))) (t.pins - 1) (omega (arith, parts.some_pin, parts.four_pins))
     (some_below-from 12 (λ a. passes (record { back = t.back; pins = t.pins - 1 + 1; amount = a })) t.amount parts.hours
-      (ap (λ p. passes (record { back = t.back; pins = p; amount = t.amount })) pins ∙ h))
+    (ap (λ p. passes (record { back = t.back; pins = p; amount = t.amount })) pins ∙ h))
 
 pub some_on-gives : (back : Bool) (passes : Turn → Bool) → some_on back passes ≡ true → (t : Turn) × (t.back ≡ back) × (is_turn t ≡ true) × (passes t ≡ true)
 unfolding some_on
@@ -70,16 +70,16 @@ pub some_turn-from : (passes : Turn → Bool) (t : Turn) → is_turn t ≡ true 
 unfolding some_turn
 some_turn-from passes t turn h =
     elim (cases_Bool t.back) [
-      inl e ↦ or-right (some_on false passes) (some_on true passes) (subst (λ (b : Bool). some_on b passes ≡ true) e (some_on-from passes t turn h))
-    | inr e ↦ or-left (some_on false passes) (some_on true passes) (subst (λ (b : Bool). some_on b passes ≡ true) e (some_on-from passes t turn h))
+      | inl e ↦ or-right (some_on false passes) (some_on true passes) (subst (λ (b : Bool). some_on b passes ≡ true) e (some_on-from passes t turn h))
+      | inr e ↦ or-left (some_on false passes) (some_on true passes) (subst (λ (b : Bool). some_on b passes ≡ true) e (some_on-from passes t turn h))
     ]
 
 pub some_turn-gives : (passes : Turn → Bool) → some_turn passes ≡ true → (t : Turn) × (is_turn t ≡ true) × (passes t ≡ true)
 unfolding some_turn
 some_turn-gives passes h =
     elim (or_cases (some_on false passes) (some_on true passes) h) [
-      inl e ↦ (let r = some_on-gives false passes e in (r.0, r.2, r.3))
-    | inr e ↦ (let r = some_on-gives true passes e in (r.0, r.2, r.3))
+      | inl e ↦ (let r = some_on-gives false passes e in (r.0, r.2, r.3))
+      | inr e ↦ (let r = some_on-gives true passes e in (r.0, r.2, r.3))
     ]
 
 -- ---- all dials at 12
@@ -188,21 +188,22 @@ turns_lead-from (t ∷ w) zero dials c turns less leads =
     turns_lead-from w zero dials c turns.1 (omega (arith, less)) (ap (λ d. play turned d w) (sym same) ∙ leads)
 turns_lead-from (t ∷ w) (suc n) dials c turns less leads =
     elim (cases_eq t.amount 0) [
-      inl none ↦
-        let same : turned dials t ≡ dials = ap (λ a. turned dials (record { back = t.back; pins = t.pins; amount = a })) none ∙ turned-none dials t.back t.pins c in
-        turns_lead-from w (suc n) dials c turns.1 (omega (arith, less)) (ap (λ d. play turned d w) (sym same) ∙ leads)
-    | inr some ↦
-        some_turn-from (λ u. turns_lead n (turned dials u)) t turns.0
-        (turns_lead-from w n (turned dials t) (IsClock-turned dials t c) turns.1 (omega (arith, less, counted-some t some)) leads)
+      | inl none ↦
+          let same : turned dials t ≡ dials = ap (λ a. turned dials (record { back = t.back; pins = t.pins; amount = a })) none ∙ turned-none dials t.back t.pins c in
+          turns_lead-from w (suc n) dials c turns.1 (omega (arith, less)) (ap (λ d. play turned d w) (sym same) ∙ leads)
+      | inr some ↦
+          some_turn-from (λ u. turns_lead n (turned dials u)) t turns.0
+          (turns_lead-from w n (turned dials t) (IsClock-turned dials t c) turns.1 (omega (arith, less, counted-some t some)) leads)
     ]
 
 -- the test is true exactly where the minimum says so
 pub needs_test-iff : (dials : List ℕ) (least : ℕ) → IsClock dials → (needs_test dials least ≡ true) ↔ Needs clock_puzzle dials least
 unfolding needs_test
 needs_test-iff dials zero c = (λ _ w turns less leads. omega (arith, less), λ _. refl)
-needs_test-iff dials (suc n) c =
-    ( λ h w turns less leads. both_ways (turns_lead n dials) (not-true (turns_lead n dials) h) (turns_lead-from w n dials c turns less leads)
-    , λ needs. elim (cases_Bool (turns_lead n dials)) [
-        inl e ↦ (let led = turns_lead-gives n dials c e in absurd (needs led.0 led.1 led.2 led.3))
-      | inr e ↦ ap not e
-      ])
+needs_test-iff dials (suc n) c = (
+  λ h w turns less leads. both_ways (turns_lead n dials) (not-true (turns_lead n dials) h) (turns_lead-from w n dials c turns less leads),
+  λ needs. elim (cases_Bool (turns_lead n dials)) [
+    | inl e ↦ (let led = turns_lead-gives n dials c e in absurd (needs led.0 led.1 led.2 led.3))
+    | inr e ↦ ap not e
+  ],
+)

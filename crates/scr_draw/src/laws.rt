@@ -1,9 +1,10 @@
 //! Why drawing is fair: calls that do nothing, whose contracts are the laws.
 
-ghost use Rattle.std.specs.Prelude.{◌≡◌, ℕ, ◌%◌, ◌^◌, ◌<◌, ◌≤◌, IsTrue};
+ghost use Rattle.std.specs.Prelude.{◌≡◌, ℕ, suc, ◌+◌, ◌*◌, ◌%◌, ◌^◌, ◌<◌, ◌≤◌, ◌↔◌, IsTrue, Some, None};
 ghost use Rattle.scr_stream.specs.Attempt.{is_accepted, quotient};
 ghost use Rattle.scr_stream.specs.Count.{IsCount};
-ghost use Rattle.scr_stream.specs.Drawn.{hit};
+ghost use Rattle.scr_stream.specs.Attempt.{attempt_value, attempt_values};
+ghost use Rattle.scr_stream.specs.Drawn.{IsFirstHit, drawn, hit, numbers_read};
 ghost use Rattle.scr_stream.specs.Fair.{IsFair};
 ghost use Rattle.scr_stream.specs.Lists.{IsListing};
 
@@ -33,4 +34,20 @@ pub fn same_ways<P: Numbering + Permit<P::State>>(puzzle: &P, least: u32)
 /// Each list of numbers below 2^96 stands once among the lists that are counted.
 pub fn each_list_once()
     ensures { (len : ℕ) → IsListing (2 ^ 96) len }
+{}
+
+/// What is drawn is the state of the first attempt that hits one, none where each attempt misses;
+/// and the attempts up to it are read. `least` is in the event's range.
+pub fn first_hit<P: Numbering + Permit<P::State>>(puzzle: &P, least: u32)
+    requires { least ≤ P.greatest puzzle.now }
+    ensures state { let hits = hit (P.count puzzle.now) (P.state_at puzzle.now) (λ s. P.needs puzzle.now s least) in
+        (word : ℕ → ℕ) (place all : ℕ) (s : P.State) →
+        (drawn hits (attempt_values word place all) ≡ Some s) ↔ ((tried : ℕ) × IsFirstHit hits word place all s tried) }
+    ensures none { let hits = hit (P.count puzzle.now) (P.state_at puzzle.now) (λ s. P.needs puzzle.now s least) in
+        (word : ℕ → ℕ) (place all : ℕ) →
+        (drawn hits (attempt_values word place all) ≡ None)
+        ↔ ((tried : ℕ) → tried < all → hits (attempt_value word (place + 3 * tried)) ≡ None) }
+    ensures read { let hits = hit (P.count puzzle.now) (P.state_at puzzle.now) (λ s. P.needs puzzle.now s least) in
+        (word : ℕ → ℕ) (place all : ℕ) (s : P.State) (tried : ℕ) → IsFirstHit hits word place all s tried
+        → numbers_read hits (attempt_values word place all) ≡ suc tried }
 {}

@@ -101,4 +101,5 @@ fn draws_of_a_stream(rt: HostRuntime) {
     laws::each_equally(&Row);
     laws::same_ways(&Row, 2);
     laws::each_list_once();
+    laws::first_hit(&Row, 2);
 }

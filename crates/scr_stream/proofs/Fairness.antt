@@ -116,3 +116,16 @@ fair count state_at number_of IsValid permits law =
           count_ways s (hit count state_at permits) (2 ^ 96) (quotient count) _ (lit< tt)
           (hits_equally count state_at number_of IsValid permits law s h.0 h.1) missed len;
     }
+
+-- fairness, for other words on the same states
+pub fair_for : {S : Type 0} {count : ℕ} {state_at : ℕ → S} {hits : ℕ → Option S} (P Q : S → Type 0) → ((s : S) → P s ↔ Q s)
+    → IsFair count state_at hits P → IsFair count state_at hits Q
+fair_for P Q same fair_p = record {
+  some = fair_p.some;
+  equally = λ s h. fair_p.equally s ((same s).1 h);
+  hit_equally = λ s h. fair_p.hit_equally s ((same s).1 h);
+  permitted = λ v s below h. (same s).0 (fair_p.permitted v s below h);
+  misses = fair_p.misses;
+  missed = fair_p.missed;
+  same_ways = λ len s h. fair_p.same_ways len s ((same s).1 h);
+}

@@ -4,4 +4,5 @@ pub mod Counting
 pub mod Accepted
 pub mod Listing
 pub mod Drawing
+pub mod FirstHit
 pub mod Fairness

@@ -1,6 +1,6 @@
 -- What a list of numbers draws: the first state that one of them hits.
-use Rattle.std.specs.Prelude.{ℕ, suc, ◌%◌, ◌&&◌, Bool, if◌then◌else◌, Option, Some, None, List, [], ◌∷◌}
-use Rattle.scr_stream.specs.Attempt.{is_accepted}
+use Rattle.std.specs.Prelude.{◌<◌, ◌*◌, ◌+◌, ◌≡◌, ℕ, suc, ◌%◌, ◌&&◌, Bool, if◌then◌else◌, Option, Some, None, List, [], ◌∷◌}
+use Rattle.scr_stream.specs.Attempt.{attempt_value, is_accepted}
 
 -- the state that a number hits: that of its place in a run of `count`, where the number is accepted
 -- and the state passes the test; a number that hits nothing misses
@@ -27,3 +27,9 @@ more None later = later
 unfoldable pub numbers_read : {S : Type 0} → (ℕ → Option S) → List ℕ → ℕ
 numbers_read hits [] = 0
 numbers_read hits (v ∷ vs) = suc (more (hits v) (numbers_read hits vs))
+
+-- Attempt `tried` of those from a place on is the first that hits a state, and it hits s.
+pub record IsFirstHit {S : Type 0} (hits : ℕ → Option S) (word : ℕ → ℕ) (place all : ℕ) (s : S) (tried : ℕ) : Type 0 where
+  pub below : tried < all
+  pub here : hits (attempt_value word (place + 3 * tried)) ≡ Some s
+  pub missed : (earlier : ℕ) → earlier < tried → hits (attempt_value word (place + 3 * earlier)) ≡ None

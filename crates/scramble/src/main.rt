@@ -2,12 +2,10 @@
 //! of the status that it answers.
 #![tactic(auto)]
 
-use std::env;
-use std::io;
-use std::process::ExitCode;
-
 use scr_outside::StdSink;
 use scr_sheet::{Status, run};
+use std::process::ExitCode;
+use std::{env, io};
 
 fn main(rt: HostRuntime) -> ExitCode {
     match run_on_words(&rt) {

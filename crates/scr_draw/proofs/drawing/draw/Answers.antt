@@ -1,4 +1,5 @@
 use Rattle.std.proofs.Common.{◌≡◌, ◌∙◌, sym, refl, arith}
+use Rattle.scr_stream.specs.Drawn.{hit}
 use Rattle.scr_draw.proofs.Tried.{tried_all, tried_failed, tried_passed, tried_refused}
 use Rattle.scr_draw.proofs.drawing.draw.Goals as goal
 use Rattle.scr_draw.proofs.drawing.draw.Goals.{in-Some+else-needs_at_least, in_default}
@@ -40,12 +41,16 @@ loop-tried-preserved g c =
 pub returns-clause-state : goal.returns-clause-state
 returns-clause-state g c =
     let whole : c.loop-tried.tried ≡ c.args.attempts = omega arith in
-    let ends = tried_all _ c.loop-tried.invariant whole in
+    let ends = tried_all
+    (hit (g.P.Numbering.count c.args.puzzle.now) (g.P.Numbering.state_at c.args.puzzle.now)
+    (λ s. g.P.Permit.needs c.args.puzzle.now s c.args.least)) c.loop-tried.invariant whole in
     rw ends.0 refl
 
 pub returns-clause-taken : goal.returns-clause-taken
 returns-clause-taken g c =
     let whole : c.loop-tried.tried ≡ c.args.attempts = omega arith in
-    let ends = tried_all _ c.loop-tried.invariant whole in
+    let ends = tried_all
+    (hit (g.P.Numbering.count c.args.puzzle.now) (g.P.Numbering.state_at c.args.puzzle.now)
+    (λ s. g.P.Permit.needs c.args.puzzle.now s c.args.least)) c.loop-tried.invariant whole in
     let before = c.loop-tried.invariant.taken in
     rw ends.1 (omega (arith, before, whole))

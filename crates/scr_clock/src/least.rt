@@ -1,0 +1,168 @@
+//! The test of a minimum: whether a Clock needs at least so many turns, of any pin sets on either side.
+//!
+//! Turns commute, and a turn of a side moves that side's centre by its amount. So what two turns of different sides
+//! turned by can be read off the centres, and most states are decided by dials that such turns would leave alone.
+ghost use Rattle.std.specs.Prelude.{◌≡◌, ℕ, ◌<◌, ◌≤◌, ◌↔◌, ◌⊎◌, ◌==◌, ◌||◌, true, false, IsTrue};
+ghost use Rattle.std.specs.List.{list_all};
+ghost use Rattle.scr_play.specs.Reach.{Needs};
+ghost use Rattle.scr_dials.specs.Dials.{IsClock, clock_puzzle};
+ghost use Rattle.scr_dials.specs.Least.{all_twelve, turns_lead, needs_test};
+ghost use Rattle.scr_clock.specs.Sides.{IsOtherSolved, AreBackEdgesCarried, centre_amount, turn_leads, turns_lead_on};
+
+use crate::clock::Clock;
+
+/// Whether no word of fewer than `least` counted turns, of any pin sets on either side, brings `clock` to solved.
+/// `least` is at most 3.
+///
+/// It takes no memory. A random state is decided after a handful of comparisons of dials. One whose back edges each show
+/// 12 or what the back's centre shows, one in 1,296, takes up to 15 turns more, and one whose back is solved, or the
+/// edges and centre of its front, up to 180 turns with 15 turns after each.
+pub fn needs_at_least(clock: &Clock, least: u32) -> bool
+    requires { least ≤ 3 }
+    ensures test { result ≡ needs_test clock.now least }
+    ensures exact { IsTrue result ↔ Needs clock_puzzle clock.now least }
+{
+    match least {
+        0 => true,
+        1 => !is_solved(clock),
+        2 => !one_turn_leads(clock),
+        _ => !two_turns_lead(clock),
+    }
+}
+
+/// Whether one turn leads to solved.
+fn one_turn_leads(clock: &Clock) -> bool
+    ensures value { result ≡ turns_lead 1 clock.now }
+    ensures valid { IsClock clock.now }
+{
+    turn_of_side_leads(clock, false) || turn_of_side_leads(clock, true)
+}
+
+/// Whether two turns lead to solved.
+fn two_turns_lead(clock: &Clock) -> bool
+    ensures value { result ≡ turns_lead 2 clock.now }
+    ensures valid { IsClock clock.now }
+{
+    turns_of_one_side_lead(clock) || turns_of_both_lead(clock)
+}
+
+/// Whether two turns of one side lead to solved.
+fn turns_of_one_side_lead(clock: &Clock) -> bool
+    ensures value { result ≡ (turns_lead_on false false clock.now || turns_lead_on true true clock.now) }
+    ensures valid { IsClock clock.now }
+{
+    turns_of_side_lead(clock, false) || turns_of_side_lead(clock, true)
+}
+
+/// Whether one turn of this side leads to solved.
+fn turn_of_side_leads(clock: &Clock, back: bool) -> bool
+    ensures value { result ≡ turn_leads back clock.now }
+    ensures valid { IsClock clock.now }
+{
+    if !is_other_solved(clock, back) {
+        return false;
+    }
+    let amount = amount_of_centre(clock, back);
+    for pins in 1..16 {
+        let turned = clock.pins(back, pins, amount);
+        if is_solved(&turned) {
+            return true;
+        }
+    }
+    false
+}
+
+/// Whether two turns of this side lead to solved.
+fn turns_of_side_lead(clock: &Clock, back: bool) -> bool
+    ensures value { result ≡ turns_lead_on back back clock.now }
+    ensures valid { IsClock clock.now }
+{
+    if !is_other_solved(clock, back) {
+        return false;
+    }
+    for pins in 1..16 {
+        for amount in 0..12 {
+            let turned = clock.pins(back, pins, amount);
+            if turn_of_side_leads(&turned, back) {
+                return true;
+            }
+        }
+    }
+    false
+}
+
+/// Whether a turn of the back and one of the front lead to solved.
+fn turns_of_both_lead(clock: &Clock) -> bool
+    ensures value { result ≡ turns_lead_on true false clock.now }
+    ensures valid { IsClock clock.now }
+{
+    if !are_back_edges_carried(clock) {
+        return false;
+    }
+    let amount = amount_of_centre(clock, true);
+    for pins in 1..16 {
+        let turned = clock.pins(true, pins, amount);
+        if turn_of_side_leads(&turned, false) {
+            return true;
+        }
+    }
+    false
+}
+
+/// Whether all dials show 12.
+fn is_solved(clock: &Clock) -> bool
+    ensures value { result ≡ all_twelve clock.now }
+    ensures valid { IsClock clock.now }
+{
+    are_zero(&clock.dials())
+}
+
+/// Whether all of these numbers are 0.
+fn are_zero(numbers: &[u8]) -> bool
+    ensures { result ≡ list_all (λ n. n == 0) numbers.now }
+{
+    numbers.iter().all(|number| *number == 0)
+}
+
+/// Whether the dials that no turn of this side moves show 12.
+fn is_other_solved(clock: &Clock, back: bool) -> bool
+    ensures exact { IsTrue result ↔ IsOtherSolved back clock.now }
+    ensures valid { IsClock clock.now }
+{
+    let dials = clock.dials();
+    if back {
+        dials[1] == 0 && dials[3] == 0 && dials[4] == 0 && dials[5] == 0 && dials[7] == 0
+    } else {
+        dials[9] == 0 && dials[10] == 0 && dials[11] == 0 && dials[12] == 0 && dials[13] == 0
+    }
+}
+
+/// The amount by which this side's centre comes to 12.
+fn amount_of_centre(clock: &Clock, back: bool) -> u8
+    ensures value { result ≡ centre_amount back clock.now }
+    ensures hours { result < 12 }
+{
+    let dials = clock.dials();
+    let centre = if back { dials[11] } else { dials[4] };
+    (12 - centre) % 12
+}
+
+/// Whether each edge of the back shows 12 or what the back's centre shows.
+fn are_back_edges_carried(clock: &Clock) -> bool
+    ensures exact { IsTrue result ↔ AreBackEdgesCarried clock.now }
+    ensures valid { IsClock clock.now }
+{
+    let dials = clock.dials();
+    let centre = dials[11];
+    is_carried(dials[9], centre)
+        && is_carried(dials[10], centre)
+        && is_carried(dials[12], centre)
+        && is_carried(dials[13], centre)
+}
+
+/// Whether an edge shows 12 or what its centre shows.
+fn is_carried(dial: u8, centre: u8) -> bool
+    ensures { IsTrue result ↔ ((dial ≡ 0) ⊎ (dial ≡ centre)) }
+{
+    dial == 0 || dial == centre
+}
