@@ -1,15 +1,14 @@
 -- Turns of one side and of two: what they leave alone, and by how much they must turn.
-use Rattle.std.proofs.Common.{◌≡◌, ℕ, zero, suc, ◌+◌, ◌-◌, ◌%◌, ◌<◌, ◌≤◌, ◌⊎◌, inl, inr, Bool, true, false, cond, ◌||◌, ◌&&◌, eqb, ltb, All, List, [], ◌∷◌, length, get_or, refl, sym, ap, ◌∙◌, subst, arith}
+use Rattle.std.proofs.Common.{◌≡◌, ℕ, ◌+◌, ◌-◌, ◌%◌, ◌<◌, ◌⊎◌, inl, inr, Bool, true, false, cond, ◌||◌, ◌&&◌, eqb, ltb, List, [], ◌∷◌, get_or, refl, sym, ap, ◌∙◌, subst, arith}
 use Rattle.std.specs.Prelude.{bit_and}
-use Rattle.std.proofs.Math.Nat.{add_comm}
-use Rattle.std.proofs.lemmas.Bool.{false≢true, true≢false, or_cases, eqb-true, eq-eqb, eqb-false, ne_eqb, cases_Bool, cases_eq, and_from, lt-ltb, agree_below_at}
+use Rattle.std.proofs.lemmas.Bool.{false≢true, or_cases, eqb-true, eq-eqb, cases_eq, and_from, lt-ltb, agree_below_at}
 use Rattle.std.proofs.lemmas.List.Elements.{All-get_or}
 use Rattle.scr_dials.specs.Dials.{IsClock, Turn, is_turn, gain, gains, added, turned, solved}
-use Rattle.scr_dials.specs.Least.{some_below, some_on, some_turn, all_twelve, turns_lead}
+use Rattle.scr_dials.specs.Least.{some_turn, all_twelve, turns_lead}
 use Rattle.scr_dials.proofs.Amounts.{written_out}
 use Rattle.scr_dials.proofs.DialLaws.{gain-apart, gain-shared}
-use Rattle.scr_dials.proofs.LeastLaws.{TurnParts, is_turn-parts, some_on-from, some_on-gives, some_turn-from, some_turn-gives, or-left, or-right, all_twelve-solved, solved_from_all_twelve, IsClock-turned}
-use Rattle.scr_clock.specs.Sides.{IsOtherSolved, centre_amount, turn_leads, turns_lead_on, IsCarried, AreBackEdgesCarried}
+use Rattle.scr_dials.proofs.LeastLaws.{is_turn-parts, some_on-from, some_on-gives, some_turn-from, some_turn-gives, or-left, or-right, all_twelve-solved, solved_from_all_twelve, IsClock-turned}
+use Rattle.scr_clock.specs.Sides.{IsOtherSolved, centre_amount, turn_leads, turns_lead_on, AreBackEdgesCarried}
 
 -- two tests that are true together are the same
 pub same_tests : (a b : Bool) → (a ≡ true → b ≡ true) → (b ≡ true → a ≡ true) → a ≡ b

@@ -1,6 +1,6 @@
 -- What the test of a minimum asks, side by side.
 use Rattle.std.specs.Prelude.{◌≡◌, ℕ, ◌-◌, ◌%◌, Bool, true, false, ◌⊎◌, if◌then◌else◌, List, slice_index}
-use Rattle.scr_dials.specs.Dials.{Turn, turned}
+use Rattle.scr_dials.specs.Dials.{turned}
 use Rattle.scr_dials.specs.Least.{some_on, all_twelve}
 
 -- The dials that no turn of this side moves show 12: the back's for the front, the front's edges and centre for the back.

@@ -14,7 +14,7 @@ const BACK_CORNER_PINS: [u8; 9] = [1, 0, 8, 0, 0, 0, 2, 0, 4];
 const BACK_PINS: [u8; 5] = [9, 12, 15, 3, 6];
 
 /// A Clock: fourteen dials, each at an hour from 0 to 11.
-#[derive(Clone, Copy)]
+#[derive(Clone, Copy, Debug, PartialEq, Eq)]
 pub struct Clock {
     dials: [u8; 14],
 }

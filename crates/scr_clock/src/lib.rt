@@ -5,12 +5,15 @@
 
 mod amounts;
 mod clock;
+pub mod laws;
 mod least;
+mod numbers;
 mod text;
 
 pub use amounts::{play_amounts, solve};
 pub use clock::{Clock, state_at};
 pub use least::needs_at_least;
+pub use numbers::ClockNumbers;
 pub use text::amounts_text;
 
 #[cfg(test)]

@@ -2,7 +2,11 @@
 ghost use Rattle.std.specs.Prelude.{◌<◌};
 ghost use Rattle.scr_dials.specs.Dials.{clock_count};
 
-use crate::{Clock, amounts_text, play_amounts, solve, state_at};
+use crate::{
+    Clock, ClockNumbers, amounts_text, laws, needs_at_least, play_amounts, solve, state_at,
+};
+use scr_draw::{DrawLimit, Numbering, draw};
+use scr_words::ListWords;
 use std::process::Abort;
 
 fn shows(rt: &impl Abort, number: u128, dials: [u8; 14], text: &str)
@@ -37,4 +41,46 @@ fn known_scrambles(rt: HostRuntime) {
     );
     assert!(rt; Clock::from_dials([12; 14]).is_none());
     assert!(rt; Clock::from_dials([11; 14]).is_some());
+}
+
+#[test]
+fn known_minima(rt: HostRuntime) {
+    let solved = Clock::solved();
+    let rows = [
+        (solved, 0),
+        (solved.pins(false, 5, 1), 1),
+        (solved.pins(true, 9, 7), 1),
+        (solved.pins(false, 5, 1).pins(false, 3, 8), 2),
+        (solved.pins(true, 15, 6).pins(false, 15, 6), 2),
+        (solved.pins(true, 2, 1).pins(true, 4, 11), 2),
+        (state_at(985395116423286), 3),
+    ];
+    for (clock, least) in rows {
+        assert!(rt; needs_at_least(&clock, least));
+        assert!(rt; least == 3 || !needs_at_least(&clock, least + 1));
+    }
+}
+
+#[test]
+fn known_draws(rt: HostRuntime) {
+    let list = [39089244, 0, 0];
+    let mut words = ListWords::new(&list);
+    assert_eq!(rt;
+        draw(&mut words, &ClockNumbers, 1, 1),
+        Ok(state_at(39089244))
+    );
+    let mut words = ListWords::new(&list);
+    assert_eq!(rt;
+        draw(&mut words, &ClockNumbers, 2, 1),
+        Err(DrawLimit { words: 3 })
+    );
+    assert_eq!(rt;
+        ClockNumbers.number_of(&state_at(985395116423286)),
+        985395116423286
+    );
+    assert_eq!(rt; ClockNumbers.count(), 1283918464548864);
+    laws::each_clock_is_reached();
+    laws::one_list_of_amounts();
+    laws::minimum_is_exact();
+    laws::drawn_fairly(3);
 }

@@ -1,6 +1,6 @@
 -- The test of a minimum tells exactly what the minimum says.
-use Rattle.std.proofs.Common.{◌≡◌, ℕ, zero, suc, ◌+◌, ◌-◌, ◌%◌, ◌<◌, ◌≤◌, ◌≢◌, ◌↔◌, ◌⊎◌, inl, inr, Bool, true, false, not, cond, ◌&&◌, ◌||◌, eqb, ltb, IsTrue, All, List, [], ◌∷◌, ◌++◌, length, replicate, map, take, drop, bit_and, refl, sym, ap, ◌∙◌, subst, arith}
-use Rattle.std.proofs.lemmas.Bool.{false≢true, true≢false, and_parts, and_from, or_cases, eqb-true, eq-eqb, ltb-true, lt-ltb, ne_eqb, cases_eq, cases_Bool, both_ways, not-true}
+use Rattle.std.proofs.Common.{◌≡◌, ℕ, zero, suc, ◌+◌, ◌-◌, ◌%◌, ◌<◌, ◌≤◌, ◌↔◌, inl, inr, Bool, true, false, not, cond, ◌&&◌, ◌||◌, eqb, ltb, All, List, [], ◌∷◌, ◌++◌, length, replicate, map, take, drop, bit_and, refl, sym, ap, ◌∙◌, subst, arith}
+use Rattle.std.proofs.lemmas.Bool.{false≢true, and_parts, and_from, or_cases, eqb-true, ltb-true, lt-ltb, ne_eqb, cases_eq, cases_Bool, both_ways, not-true}
 use Rattle.std.proofs.lemmas.List.Elements.{All-head, All-tail, All-append, All-map}
 use Rattle.scr_play.specs.Play.{play, count_in}
 use Rattle.scr_play.specs.Reach.{IsWord, Needs}

@@ -4,3 +4,5 @@ pub mod PatternSums
 pub mod Amounts
 pub mod DialLaws
 pub mod LeastLaws
+pub mod Numbered
+pub mod Reached

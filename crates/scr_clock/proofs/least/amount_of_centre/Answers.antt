@@ -1,4 +1,4 @@
-use Rattle.std.proofs.Common.{◌≡◌, ℕ, ◌-◌, ◌%◌, List, cond, get_or, sym, ap, ◌∙◌}
+use Rattle.std.proofs.Common.{◌-◌, ◌%◌, cond, get_or, sym, ap, ◌∙◌}
 use Rattle.scr_clock.specs.Sides.{centre_amount}
 use Rattle.scr_clock.proofs.least.amount_of_centre.Goals as goal
 use Rattle.scr_clock.proofs.least.amount_of_centre.Goals.{then-back, else-back}

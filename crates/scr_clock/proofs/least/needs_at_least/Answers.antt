@@ -1,4 +1,4 @@
-use Rattle.std.proofs.Common.{◌≡◌, ℕ, suc, ◌↔◌, Bool, true, false, not, IsTrue, List, sym, ap, ◌∙◌, subst, arith}
+use Rattle.std.proofs.Common.{◌≡◌, ℕ, suc, ◌↔◌, Bool, true, not, List, sym, ap, ◌∙◌, subst, arith}
 use Rattle.scr_play.specs.Reach.{Needs}
 use Rattle.scr_dials.specs.Dials.{IsClock, clock_puzzle}
 use Rattle.scr_dials.specs.Least.{all_twelve, turns_lead, needs_test}

@@ -1,8 +1,7 @@
-use Rattle.std.proofs.Common.{◌≡◌, ℕ, ◌<◌, false, sym, ap, ◌∙◌, subst, arith}
+use Rattle.std.proofs.Common.{sym, ap, ◌∙◌, arith}
 use Rattle.std.proofs.lemmas.Bool.{iff_false}
 use Rattle.scr_dials.specs.Dials.{turned}
 use Rattle.scr_dials.specs.Least.{all_twelve}
-use Rattle.scr_clock.specs.Sides.{centre_amount}
 use Rattle.scr_clock.proofs.SideLaws.{turn_leads-apart, turn_leads-found, turn_leads-none}
 use Rattle.scr_clock.proofs.least.turn_of_side_leads.Goals as goal
 

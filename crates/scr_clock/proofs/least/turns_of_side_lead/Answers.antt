@@ -1,4 +1,4 @@
-use Rattle.std.proofs.Common.{◌≡◌, ℕ, ◌<◌, sym, ap, ◌∙◌, arith}
+use Rattle.std.proofs.Common.{sym, ap, ◌∙◌, arith}
 use Rattle.std.proofs.lemmas.Bool.{iff_false}
 use Rattle.scr_clock.specs.Sides.{turn_leads}
 use Rattle.scr_clock.proofs.SideLaws.{turns_lead_on-apart, turns_lead_on-found, turns_lead_on-none}

@@ -1,0 +1,4 @@
+mod PermutationSteps
+mod PlaceSetSteps
+mod DigitSteps
+mod MixedSteps

@@ -1,0 +1,6 @@
+use Rattle.std.proofs.Common.{◌≡◌, drop}
+use Rattle.scr_lists.specs.Numberings.{product}
+use Rattle.scr_rank.proofs.mixed.product_of.Given as goal
+
+abbrev pub invariant-loop-place : goal.invariant-loop-place
+invariant-loop-place l = l.count ≡ product (drop l.place l.bases)

@@ -1,0 +1,6 @@
+use Rattle.std.proofs.Common.{◌≡◌, drop}
+use Rattle.scr_lists.specs.Numberings.{mixed_number}
+use Rattle.scr_rank.proofs.mixed.rank_digits.Given as goal
+
+abbrev pub invariant-loop-place : goal.invariant-loop-place
+invariant-loop-place l = l.number ≡ mixed_number (drop l.place l.bases) (drop l.place l.digits)

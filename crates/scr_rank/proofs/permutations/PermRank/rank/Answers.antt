@@ -1,0 +1,8 @@
+use Rattle.std.proofs.Common.{ap, arith}
+use Rattle.scr_lists.specs.Numberings.{factorial}
+use Rattle.scr_lists.proofs.PermutationNumbers.{permutation_number-lt}
+use Rattle.scr_rank.proofs.permutations.PermRank.rank.Goals as goal
+
+pub returns-clause-below : goal.returns-clause-below
+returns-clause-below g c =
+    omega (arith, c.rank_permutation.ensures, permutation_number-lt c.args.value.now, ap factorial c.requires.valid.size)

@@ -1,0 +1,18 @@
+use Rattle.std.proofs.Common.{◌%◌, ◌-◌, length, refl}
+use Rattle.scr_rank.proofs.PermutationSteps.{unrank_room, unrank_step, unrank_start}
+use Rattle.scr_rank.proofs.permutations.unrank_permutation.Goals as goal
+
+pub raise_from-requires : goal.raise_from-requires
+raise_from-requires c =
+    let len = length c.args.out.now in
+    let l = c.loop-place in
+    unrank_room len l.out l.auto.out l.place c.args.number l.rest (l.rest % (len - (l.place - 1))) c.requires.few c.loop-place-test.true l.auto.place l.invariant refl
+
+pub loop-place-preserved : goal.loop-place-preserved
+loop-place-preserved c =
+    let len = length c.args.out.now in
+    let l = c.loop-place in
+    unrank_step len l.out l.auto.out l.place c.args.number l.rest (l.rest % (len - (l.place - 1))) c.requires.few c.loop-place-test.true l.auto.place l.invariant refl c.raise_from.new.list c.raise_from.ensures
+
+pub loop-place-init : goal.loop-place-init
+loop-place-init c = unrank_start c.args.out.now c.args.number

@@ -1,0 +1,151 @@
+//! Permutations and their numbers.
+ghost use Rattle.std.specs.Prelude.{◌≡◌, ℕ, ◌+◌, ◌*◌, ◌/◌, ◌%◌, ◌^◌, ◌<◌, ◌≤◌, ◌↔◌, List, map, length, IsTrue};
+ghost use Rattle.scr_lists.specs.Lists.{lesser, one_if, AllBelow};
+ghost use Rattle.scr_lists.specs.Permutations.{IsPermutation, parity, IsEven, raised};
+ghost use Rattle.scr_lists.specs.Numberings.{factorial, permutation_number};
+
+/// How many numbers of `list` are below `number`.
+fn count_lesser(list: &[u8], number: u8) -> usize
+    ensures { result ≡ lesser number list.now }
+{
+    let mut count = 0;
+    for other in list {
+        if *other < number {
+            count += 1;
+        }
+    }
+    count
+}
+
+/// Raises each number of `list` from `first` on by one, which makes room for `first`.
+fn raise_from(list: &mut [u8], first: u8)
+    requires { AllBelow 255 list.old }
+    ensures { list.new ≡ map (raised first) list.old }
+{
+    for number in list.iter_mut() {
+        if *number >= first {
+            *number += 1;
+        }
+    }
+}
+
+/// Whether a list is odd: an odd number of its pairs of places stand in falling order.
+pub fn is_odd(list: &[u8]) -> bool
+    requires { length list.now < 2 ^ 16 }
+    ensures { IsTrue result ↔ (parity list.now ≡ 1) }
+{
+    let mut inversions: usize = 0;
+    for place in 0..list.len() {
+        inversions += count_lesser(&list[place + 1..], list[place]);
+    }
+    inversions % 2 == 1
+}
+
+/// The number of a list of up to 12 different numbers among the permutations of its elements, in
+/// dictionary order from 0.
+pub fn rank_permutation(list: &[u8]) -> u64
+    requires { length list.now ≤ 12 }
+    ensures { result ≡ permutation_number list.now }
+{
+    let mut number: u64 = 0;
+    let mut weight: u64 = 1;
+    for place in (0..list.len()).rev() {
+        number += weight * count_lesser(&list[place + 1..], list[place]) as u64;
+        weight *= (list.len() - place) as u64;
+    }
+    number
+}
+
+/// Fills `out` with the permutation of the numbers below its length, up to 12, that has this number.
+pub fn unrank_permutation(number: u64, out: &mut [u8])
+    requires few { length out.old ≤ 12 }
+    requires below { number < factorial (length out.old) }
+    ensures valid { IsPermutation (length out.old) out.new }
+    ensures number { permutation_number out.new ≡ number }
+{
+    let len = out.len();
+    let mut rest = number;
+    for place in (0..len).rev() {
+        let base = (len - place) as u64;
+        let first = (rest % base) as u8;
+        rest /= base;
+        out[place] = first;
+        raise_from(&mut out[place + 1..], first);
+    }
+}
+
+/// Fills `out` with the permutation of a wanted parity among those numbered `2 * number` and
+/// `2 * number + 1`.
+pub fn unrank_with_parity(number: u64, odd: bool, out: &mut [u8])
+    requires few { length out.old ≤ 12 }
+    requires below { number < factorial (length out.old) / 2 }
+    ensures valid { IsPermutation (length out.old) out.new }
+    ensures parity { parity out.new ≡ one_if odd }
+    ensures number { permutation_number out.new / 2 ≡ number }
+{
+    unrank_permutation(2 * number, out);
+    if is_odd(out) != odd {
+        unrank_permutation(2 * number + 1, out);
+    }
+}
+
+/// The permutations of the numbers below `N`, in dictionary order: `N!` of them.
+pub struct PermRank<const N: usize>;
+
+impl<const N: usize> PermRank<N> {
+    /// The number of a permutation, below `N!`, for `N` up to 12.
+    pub fn rank(value: &[u8; N]) -> u128
+        requires size { N ≤ 12 }
+        requires valid { IsPermutation N value.now }
+        ensures number { result ≡ permutation_number value.now }
+        ensures below { result < factorial N }
+    {
+        u128::from(rank_permutation(&value[..]))
+    }
+
+    /// The permutation with a number below `N!`, for `N` up to 12: `unrank` undoes `rank`.
+    pub fn unrank(number: u128) -> [u8; N]
+        requires size { N ≤ 12 }
+        requires below { number < factorial N }
+        ensures valid { IsPermutation N result }
+        ensures number { permutation_number result ≡ number }
+        ensures inverse { (value : List ℕ)
+            → IsPermutation N value → permutation_number value ≡ number → result ≡ value }
+    {
+        let mut out = [0; N];
+        unrank_permutation(number as u64, &mut out[..]);
+        out
+    }
+}
+
+/// The even permutations of the numbers below `N`: number `r` is the even one of the permutations
+/// numbered `2 * r` and `2 * r + 1`. There are `N! / 2` of them.
+pub struct EvenPermRank<const N: usize>;
+
+impl<const N: usize> EvenPermRank<N> {
+    /// The number of an even permutation, below `N! / 2`, for `N` from 2 to 12.
+    pub fn rank(value: &[u8; N]) -> u128
+        requires size { (2 ≤ N) × (N ≤ 12) }
+        requires valid { IsPermutation N value.now }
+        requires even { IsEven value.now }
+        ensures number { result ≡ permutation_number value.now / 2 }
+        ensures below { result < factorial N / 2 }
+    {
+        u128::from(rank_permutation(&value[..]) / 2)
+    }
+
+    /// The even permutation with a number below `N! / 2`, for `N` from 2 to 12.
+    pub fn unrank(number: u128) -> [u8; N]
+        requires size { (2 ≤ N) × (N ≤ 12) }
+        requires below { number < factorial N / 2 }
+        ensures valid { IsPermutation N result }
+        ensures even { IsEven result }
+        ensures number { permutation_number result / 2 ≡ number }
+        ensures inverse { (value : List ℕ)
+            → IsPermutation N value → IsEven value → permutation_number value / 2 ≡ number → result ≡ value }
+    {
+        let mut out = [0; N];
+        unrank_with_parity(number as u64, false, &mut out[..]);
+        out
+    }
+}

@@ -1,0 +1,89 @@
+//! Sets of places, as increasing lists, and their numbers.
+ghost use Rattle.std.specs.Prelude.{◌≡◌, ℕ, ◌<◌, ◌≤◌, List, length};
+ghost use Rattle.scr_lists.specs.Numberings.{binomial, IsPlaceSet, place_set_number};
+
+/// How many sets of `size` of `places` places there are, for up to 12 places.
+pub fn count_sets(places: usize, size: usize) -> u64
+    requires { places ≤ 12 }
+    ensures { result ≡ binomial places size }
+{
+    if size > places {
+        return 0;
+    }
+    let mut count: u64 = 1;
+    for taken in 0..size {
+        count = count * (places - taken) as u64 / (taken + 1) as u64;
+    }
+    count
+}
+
+/// The number of a set of places, an increasing list, in dictionary order from 0.
+pub fn rank_place_set(set: &[u8], places: usize) -> u64
+    requires few { places ≤ 12 }
+    requires valid { IsPlaceSet places (length set.now) set.now }
+    ensures { result ≡ place_set_number places set.now }
+{
+    let mut number: u64 = 0;
+    let mut passed: usize = 0;
+    for place in 0..places {
+        if passed < set.len() {
+            if set[passed] as usize == place {
+                passed += 1;
+            } else {
+                number += count_sets(places - 1 - place, set.len() - 1 - passed);
+            }
+        }
+    }
+    number
+}
+
+/// Fills `out` with the set of as many places that has this number, in increasing order.
+pub fn unrank_place_set(number: u64, places: usize, out: &mut [u8])
+    requires few { places ≤ 12 }
+    requires below { number < binomial places (length out.old) }
+    ensures valid { IsPlaceSet places (length out.old) out.new }
+    ensures number { place_set_number places out.new ≡ number }
+{
+    let mut rest = number;
+    let mut chosen: usize = 0;
+    for place in 0..places {
+        if chosen < out.len() {
+            let with_place = count_sets(places - 1 - place, out.len() - 1 - chosen);
+            if rest < with_place {
+                out[chosen] = place as u8;
+                chosen += 1;
+            } else {
+                rest -= with_place;
+            }
+        }
+    }
+}
+
+/// The sets of `K` of `N` places, as increasing lists in dictionary order: `N` over `K` of them.
+pub struct Choose<const N: usize, const K: usize>;
+
+impl<const N: usize, const K: usize> Choose<N, K> {
+    /// The number of a set, below `N` over `K`, for `N` up to 12.
+    pub fn rank(value: &[u8; K]) -> u128
+        requires size { N ≤ 12 }
+        requires valid { IsPlaceSet N K value.now }
+        ensures number { result ≡ place_set_number N value.now }
+        ensures below { result < binomial N K }
+    {
+        u128::from(rank_place_set(&value[..], N))
+    }
+
+    /// The set with a number below `N` over `K`, for `N` up to 12.
+    pub fn unrank(number: u128) -> [u8; K]
+        requires size { N ≤ 12 }
+        requires below { number < binomial N K }
+        ensures valid { IsPlaceSet N K result }
+        ensures number { place_set_number N result ≡ number }
+        ensures inverse { (value : List ℕ)
+            → IsPlaceSet N K value → place_set_number N value ≡ number → result ≡ value }
+    {
+        let mut out = [0; K];
+        unrank_place_set(number as u64, N, &mut out[..]);
+        out
+    }
+}
