@@ -2,7 +2,6 @@
 use Rattle.std.specs.Prelude.{◌≡◌, ◌*◌, ◌⊎◌, ℕ, Option, Some, None, List, [], Result, Ok, Err}
 use Rattle.scr_outside.specs.Bytes.{Gained, GainedPart}
 use Rattle.scr_outside.specs.Faults.{Rose}
-use Rattle.scr_dials.specs.Dials.{dials_of}
 use Rattle.scr_sheet.specs.declared.command.Command.{Command}
 use Rattle.scr_sheet.specs.declared.command.Command.TheVariants.{One}
 use Rattle.scr_sheet.specs.declared.fault.Fault.{Fault}
@@ -12,7 +11,7 @@ use Rattle.scr_sheet.specs.declared.fault.Status.TheVariants as status
 use Rattle.scr_sheet.specs.declared.command.UsageFault.{UsageFault}
 use Rattle.scr_sheet.specs.Command.{command_of}
 use Rattle.scr_sheet.specs.Message.{message_of}
-use Rattle.scr_sheet.specs.Scramble.{number_drawn, attempts_of_one, IsScrambleLine}
+use Rattle.scr_sheet.specs.Scramble.{clock_drawn, attempts_of_one, IsScrambleLine}
 
 -- a sink before and after a call: the bytes that it holds, where it tells them, and its count of faults
 pub record Change : Type 0 where
@@ -32,16 +31,16 @@ Falters sink bytes =
 
 -- the line of the scramble that a seed's stream 0 draws
 pub record IsLineOf (seed line : List ℕ) : Type 0 where
-  pub number : ℕ
-  pub found : number_drawn seed ≡ Some number
-  pub is_line : IsScrambleLine (dials_of number) line
+  pub dials : List ℕ
+  pub found : clock_drawn seed ≡ Some dials
+  pub is_line : IsScrambleLine dials line
 
 -- how the command `one` ends at a seed
 abbrev pub EndsOne : List ℕ → Change → Result (Unit {0}) Fault → Type 0
 EndsOne seed out (Ok _) = (line : List ℕ) × IsLineOf seed line × Gains out line
 EndsOne seed out (Err (Usage fault)) = ⊥
 EndsOne seed out (Err (DrawLimit round slot taken)) =
-    (number_drawn seed ≡ None) × (round ≡ 1) × (slot ≡ 1) × (taken ≡ 3 * attempts_of_one) × Gains out []
+    (clock_drawn seed ≡ None) × (round ≡ 1) × (slot ≡ 1) × (taken ≡ 3 * attempts_of_one) × Gains out []
 EndsOne seed out (Err Write) = (line : List ℕ) × IsLineOf seed line × Falters out line
 
 -- how a run ends, by what its words ask for
@@ -51,7 +50,7 @@ Ends (Err fault) out ended = (ended ≡ Err (Usage fault)) × Gains out []
 
 -- the words ask for a scramble, and no attempt of its draw is accepted
 abbrev pub HasNoDraw : Result Command UsageFault → Type 0
-HasNoDraw (Ok (One seed)) = number_drawn seed.0 ≡ None
+HasNoDraw (Ok (One seed)) = clock_drawn seed.0 ≡ None
 HasNoDraw (Err fault) = ⊥
 
 -- what went wrong is told by its message, or by a first part of it where that could not be written

@@ -1,19 +1,15 @@
 //! The command `one`: the scramble of stream 0.
 
-ghost use Rattle.std.specs.Prelude.{◌≡◌, ◌↔◌, ◌*◌, ℕ, List, [], Option, Some, None, IsErr, IfSome, IfNone};
-ghost use Rattle.scr_dials.specs.Dials.{dials_of, IsClock};
-ghost use Rattle.scr_sheet.specs.Scramble.{number_drawn, IsScrambleLine};
+ghost use Rattle.std.specs.Prelude.{◌≡◌, ◌↔◌, ◌*◌, ℕ, List, [], Option, Some, None, IsErr, IfSome, IfNone, ok_or};
+ghost use Rattle.scr_sheet.specs.Scramble.{clock_drawn, attempts_of_one, IsScrambleLine};
 ghost use Rattle.scr_sheet.specs.Outcome.{EndsOne};
 
 use crate::fault::Fault;
 use arrayvec::ArrayString;
-use scr_clock::{Clock, amounts_text, solve, state_at};
-use scr_draw::attempt;
+use scr_clock::{Clock, ClockNumbers, amounts_text, solve};
+use scr_draw::{DrawLimit, draw};
 use scr_outside::{Failed, Sink, write_all};
 use scr_words::{ChaChaWords, Seed};
-
-/// How many Clocks there are.
-const CLOCKS: u128 = 1_283_918_464_548_864;
 
 /// How many attempts the draw of `one` has.
 const ATTEMPTS: u32 = 1000;
@@ -23,32 +19,24 @@ pub(crate) fn scramble_one<O: Sink>(seed: &Seed, out: &mut O) -> Result<(), Faul
     ensures { EndsOne seed.now.0
         (record { held_before = O.held out.old; held_after = O.held out.new; faults_before = O.faults out.old; faults_after = O.faults out.new }) result }
 {
-    match clock_drawn(seed) {
-        Some(clock) => match write_all(out, scramble_line(&clock).as_str().as_bytes()) {
+    match draw_clock(seed) {
+        Ok(clock) => match write_all(out, scramble_line(&clock).as_str().as_bytes()) {
             Ok(()) => Ok(()),
             Err(Failed) => Err(Fault::Write),
         },
-        None => Err(Fault::DrawLimit {
+        Err(limit) => Err(Fault::DrawLimit {
             round: 1,
             slot: 1,
-            words: 3 * ATTEMPTS,
+            words: limit.words,
         }),
     }
 }
 
-/// The Clock that stream 0 of a seed draws: the state of the first attempt that is accepted.
-fn clock_drawn(seed: &Seed) -> Option<Clock>
-    ensures some { IfSome result (λ clock. (number : ℕ) × (number_drawn seed.now.0 ≡ Some number) × (clock ≡ dials_of number)) }
-    ensures none { IfNone result (number_drawn seed.now.0 ≡ None) }
+/// The Clock that stream 0 of a seed draws, of which no minimum is asked.
+fn draw_clock(seed: &Seed) -> Result<Clock, DrawLimit>
+    ensures { result ≡ ok_or (clock_drawn seed.now.0) (record { words = 3 * attempts_of_one }) }
 {
-    let mut words = ChaChaWords::new(seed, 0);
-    for _ in 0..ATTEMPTS {
-        match attempt(&mut words, CLOCKS) {
-            Some(number) => return Some(state_at(number)),
-            None => {}
-        }
-    }
-    None
+    draw(&mut ChaChaWords::new(seed, 0), &ClockNumbers, 0, ATTEMPTS)
 }
 
 /// The text of the scramble, and a line feed.
