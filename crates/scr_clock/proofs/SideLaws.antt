@@ -1,13 +1,12 @@
 -- Turns of one side and of two: what they leave alone, and by how much they must turn.
-use Rattle.std.proofs.Common.{◌≡◌, ℕ, ◌+◌, ◌-◌, ◌%◌, ◌<◌, ◌⊎◌, inl, inr, Bool, true, false, cond, ◌||◌, ◌&&◌, eqb, ltb, List, [], ◌∷◌, get_or, refl, sym, ap, ◌∙◌, subst, arith}
+use Rattle.std.proofs.Common.{◌≡◌, ℕ, ◌+◌, ◌-◌, ◌%◌, ◌<◌, ◌⊎◌, inl, inr, Bool, true, false, cond, ◌||◌, eqb, List, [], ◌∷◌, get_or, refl, sym, ap, ◌∙◌, subst, arith}
 use Rattle.std.specs.Prelude.{bit_and}
-use Rattle.std.proofs.lemmas.Bool.{false≢true, or_cases, eqb-true, eq-eqb, cases_eq, and_from, lt-ltb, agree_below_at}
-use Rattle.std.proofs.lemmas.List.Elements.{All-get_or}
+use Rattle.std.proofs.lemmas.Bool.{false_from_ne_true, false≢true, or_cases, eqb-true, eq-eqb, cases_eq, agree_below_at}
 use Rattle.scr_dials.specs.Dials.{IsClock, Turn, is_turn, gain, gains, added, turned, solved}
 use Rattle.scr_dials.specs.Least.{some_turn, all_twelve, turns_lead}
 use Rattle.scr_dials.proofs.Amounts.{written_out}
-use Rattle.scr_dials.proofs.DialLaws.{gain-apart, gain-shared}
-use Rattle.scr_dials.proofs.LeastLaws.{is_turn-parts, some_on-from, some_on-gives, some_turn-from, some_turn-gives, or-left, or-right, all_twelve-solved, solved_from_all_twelve, IsClock-turned}
+use Rattle.scr_dials.proofs.DialLaws.{hour_at, gain-apart, gain-shared}
+use Rattle.scr_dials.proofs.LeastLaws.{is_turn-from, is_turn-parts, some_on-from, some_on-gives, some_turn-from, some_turn-gives, or-left, or-right, all_twelve-solved, solved_from_all_twelve, IsClock-turned}
 use Rattle.scr_clock.specs.Sides.{IsOtherSolved, centre_amount, turn_leads, turns_lead_on, AreBackEdgesCarried}
 
 -- two tests that are true together are the same
@@ -34,37 +33,40 @@ unfolding turned
 turned_swap dials t u = added_swap dials (gains t) (gains u)
 
 -- ---- what a turn of one side leaves alone
-left_front : (d0 d1 d2 d3 d4 d5 d6 d7 d8 d9 d10 d11 d12 d13 p a : ℕ) → d0 < 12 → d1 < 12 → d2 < 12 → d3 < 12 → d4 < 12 → d5 < 12 → d6 < 12 → d7 < 12 → d8 < 12 → d9 < 12 → d10 < 12 → d11 < 12 → d12 < 12 → d13 < 12
-    → IsOtherSolved false (turned (d0 ∷ d1 ∷ d2 ∷ d3 ∷ d4 ∷ d5 ∷ d6 ∷ d7 ∷ d8 ∷ d9 ∷ d10 ∷ d11 ∷ d12 ∷ d13 ∷ []) (record { back = false; pins = p; amount = a })) → IsOtherSolved false (d0 ∷ d1 ∷ d2 ∷ d3 ∷ d4 ∷ d5 ∷ d6 ∷ d7 ∷ d8 ∷ d9 ∷ d10 ∷ d11 ∷ d12 ∷ d13 ∷ [])
+left_front : (d0 d1 d2 d3 d4 d5 d6 d7 d8 d9 d10 d11 d12 d13 p a : ℕ) → d0 < 12 → d1 < 12 → d2 < 12 → d3 < 12 → d4 < 12
+    → d5 < 12 → d6 < 12 → d7 < 12 → d8 < 12 → d9 < 12 → d10 < 12 → d11 < 12 → d12 < 12 → d13 < 12
+    → IsOtherSolved false (turned (d0 ∷ d1 ∷ d2 ∷ d3 ∷ d4 ∷ d5 ∷ d6 ∷ d7 ∷ d8 ∷ d9 ∷ d10 ∷ d11 ∷ d12 ∷ d13 ∷ []) (record { back = false; pins = p; amount = a }))
+    → IsOtherSolved false (d0 ∷ d1 ∷ d2 ∷ d3 ∷ d4 ∷ d5 ∷ d6 ∷ d7 ∷ d8 ∷ d9 ∷ d10 ∷ d11 ∷ d12 ∷ d13 ∷ [])
 unfolding turned gain gains added
 left_front d0 d1 d2 d3 d4 d5 d6 d7 d8 d9 d10 d11 d12 d13 p a hd0 hd1 hd2 hd3 hd4 hd5 hd6 hd7 hd8 hd9 hd10 hd11 hd12 hd13 r =
     (omega (arith, r.0), omega (arith, r.1), omega (arith, r.2), omega (arith, r.3), omega (arith, r.4))
 
-left_back : (d0 d1 d2 d3 d4 d5 d6 d7 d8 d9 d10 d11 d12 d13 p a : ℕ) → d0 < 12 → d1 < 12 → d2 < 12 → d3 < 12 → d4 < 12 → d5 < 12 → d6 < 12 → d7 < 12 → d8 < 12 → d9 < 12 → d10 < 12 → d11 < 12 → d12 < 12 → d13 < 12
-    → IsOtherSolved true (turned (d0 ∷ d1 ∷ d2 ∷ d3 ∷ d4 ∷ d5 ∷ d6 ∷ d7 ∷ d8 ∷ d9 ∷ d10 ∷ d11 ∷ d12 ∷ d13 ∷ []) (record { back = true; pins = p; amount = a })) → IsOtherSolved true (d0 ∷ d1 ∷ d2 ∷ d3 ∷ d4 ∷ d5 ∷ d6 ∷ d7 ∷ d8 ∷ d9 ∷ d10 ∷ d11 ∷ d12 ∷ d13 ∷ [])
+left_back : (d0 d1 d2 d3 d4 d5 d6 d7 d8 d9 d10 d11 d12 d13 p a : ℕ) → d0 < 12 → d1 < 12 → d2 < 12 → d3 < 12 → d4 < 12
+    → d5 < 12 → d6 < 12 → d7 < 12 → d8 < 12 → d9 < 12 → d10 < 12 → d11 < 12 → d12 < 12 → d13 < 12
+    → IsOtherSolved true (turned (d0 ∷ d1 ∷ d2 ∷ d3 ∷ d4 ∷ d5 ∷ d6 ∷ d7 ∷ d8 ∷ d9 ∷ d10 ∷ d11 ∷ d12 ∷ d13 ∷ []) (record { back = true; pins = p; amount = a }))
+    → IsOtherSolved true (d0 ∷ d1 ∷ d2 ∷ d3 ∷ d4 ∷ d5 ∷ d6 ∷ d7 ∷ d8 ∷ d9 ∷ d10 ∷ d11 ∷ d12 ∷ d13 ∷ [])
 unfolding turned gain gains added
 left_back d0 d1 d2 d3 d4 d5 d6 d7 d8 d9 d10 d11 d12 d13 p a hd0 hd1 hd2 hd3 hd4 hd5 hd6 hd7 hd8 hd9 hd10 hd11 hd12 hd13 r =
     (omega (arith, r.0), omega (arith, r.1), omega (arith, r.2), omega (arith, r.3), omega (arith, r.4))
 
-below_at : (dials : List ℕ) (k : ℕ) → IsClock dials → k < 14 → get_or dials k 0 < 12
-below_at dials k c h = All-get_or (λ d. d < 12) dials k 0 (omega (arith, c.fourteen)) c.below
-
-left_alone : (back : Bool) (dials : List ℕ) (p a : ℕ) → IsClock dials → IsOtherSolved back (turned dials (record { back = back; pins = p; amount = a })) → IsOtherSolved back dials
+left_alone : (back : Bool) (dials : List ℕ) (p a : ℕ) → IsClock dials
+    → IsOtherSolved back (turned dials (record { back = back; pins = p; amount = a })) → IsOtherSolved back dials
 left_alone false dials p a c r =
     let e = written_out dials c.fourteen in
     subst (λ (l : List ℕ). IsOtherSolved false l) (sym e)
     (left_front (get_or dials 0 0) (get_or dials 1 0) (get_or dials 2 0) (get_or dials 3 0) (get_or dials 4 0) (get_or dials 5 0) (get_or dials 6 0) (get_or dials 7 0) (get_or dials 8 0) (get_or dials 9 0) (get_or dials 10 0) (get_or dials 11 0) (get_or dials 12 0) (get_or dials 13 0) p a
-    (below_at dials 0 c (omega arith)) (below_at dials 1 c (omega arith)) (below_at dials 2 c (omega arith)) (below_at dials 3 c (omega arith)) (below_at dials 4 c (omega arith)) (below_at dials 5 c (omega arith)) (below_at dials 6 c (omega arith)) (below_at dials 7 c (omega arith)) (below_at dials 8 c (omega arith)) (below_at dials 9 c (omega arith)) (below_at dials 10 c (omega arith)) (below_at dials 11 c (omega arith)) (below_at dials 12 c (omega arith)) (below_at dials 13 c (omega arith))
+    (hour_at dials 0 c (omega arith)) (hour_at dials 1 c (omega arith)) (hour_at dials 2 c (omega arith)) (hour_at dials 3 c (omega arith)) (hour_at dials 4 c (omega arith)) (hour_at dials 5 c (omega arith)) (hour_at dials 6 c (omega arith)) (hour_at dials 7 c (omega arith)) (hour_at dials 8 c (omega arith)) (hour_at dials 9 c (omega arith)) (hour_at dials 10 c (omega arith)) (hour_at dials 11 c (omega arith)) (hour_at dials 12 c (omega arith)) (hour_at dials 13 c (omega arith))
     (subst (λ (l : List ℕ). IsOtherSolved false (turned l (record { back = false; pins = p; amount = a }))) e r))
 left_alone true dials p a c r =
     let e = written_out dials c.fourteen in
     subst (λ (l : List ℕ). IsOtherSolved true l) (sym e)
     (left_back (get_or dials 0 0) (get_or dials 1 0) (get_or dials 2 0) (get_or dials 3 0) (get_or dials 4 0) (get_or dials 5 0) (get_or dials 6 0) (get_or dials 7 0) (get_or dials 8 0) (get_or dials 9 0) (get_or dials 10 0) (get_or dials 11 0) (get_or dials 12 0) (get_or dials 13 0) p a
-    (below_at dials 0 c (omega arith)) (below_at dials 1 c (omega arith)) (below_at dials 2 c (omega arith)) (below_at dials 3 c (omega arith)) (below_at dials 4 c (omega arith)) (below_at dials 5 c (omega arith)) (below_at dials 6 c (omega arith)) (below_at dials 7 c (omega arith)) (below_at dials 8 c (omega arith)) (below_at dials 9 c (omega arith)) (below_at dials 10 c (omega arith)) (below_at dials 11 c (omega arith)) (below_at dials 12 c (omega arith)) (below_at dials 13 c (omega arith))
+    (hour_at dials 0 c (omega arith)) (hour_at dials 1 c (omega arith)) (hour_at dials 2 c (omega arith)) (hour_at dials 3 c (omega arith)) (hour_at dials 4 c (omega arith)) (hour_at dials 5 c (omega arith)) (hour_at dials 6 c (omega arith)) (hour_at dials 7 c (omega arith)) (hour_at dials 8 c (omega arith)) (hour_at dials 9 c (omega arith)) (hour_at dials 10 c (omega arith)) (hour_at dials 11 c (omega arith)) (hour_at dials 12 c (omega arith)) (hour_at dials 13 c (omega arith))
     (subst (λ (l : List ℕ). IsOtherSolved true (turned l (record { back = true; pins = p; amount = a }))) e r))
 
 -- the dials that a turn's side leaves alone show what they showed
-pub IsOtherSolved-before : (dials : List ℕ) (t : Turn) → IsClock dials → IsOtherSolved t.back (turned dials t) → IsOtherSolved t.back dials
+pub IsOtherSolved-before : (dials : List ℕ) (t : Turn) → IsClock dials → IsOtherSolved t.back (turned dials t)
+    → IsOtherSolved t.back dials
 IsOtherSolved-before dials t c r = left_alone t.back dials t.pins t.amount c r
 
 IsOtherSolved-solved : (back : Bool) → IsOtherSolved back solved
@@ -73,7 +75,8 @@ IsOtherSolved-solved true = (refl, refl, refl, refl, refl)
 IsOtherSolved-solved false = (refl, refl, refl, refl, refl)
 
 -- before a turn to solved they show 12
-pub IsOtherSolved-last : (dials : List ℕ) (t : Turn) → IsClock dials → turned dials t ≡ solved → IsOtherSolved t.back dials
+pub IsOtherSolved-last : (dials : List ℕ) (t : Turn) → IsClock dials → turned dials t ≡ solved
+    → IsOtherSolved t.back dials
 IsOtherSolved-last dials t c e =
     IsOtherSolved-before dials t c (subst (λ (l : List ℕ). IsOtherSolved t.back l) (sym e) (IsOtherSolved-solved t.back))
 
@@ -84,18 +87,21 @@ some_of_all p pos l e =
     let none = eqb-true p 0 (sym same ∙ eq-eqb (bit_and 15 p) 0 e) in
     omega arith
 
-front_centre : (d0 d1 d2 d3 d4 d5 d6 d7 d8 d9 d10 d11 d12 d13 p a : ℕ) → get_or (turned (d0 ∷ d1 ∷ d2 ∷ d3 ∷ d4 ∷ d5 ∷ d6 ∷ d7 ∷ d8 ∷ d9 ∷ d10 ∷ d11 ∷ d12 ∷ d13 ∷ []) (record { back = false; pins = p; amount = a })) 4 0 ≡ (d4 + gain p a 15) % 12
+front_centre : (d0 d1 d2 d3 d4 d5 d6 d7 d8 d9 d10 d11 d12 d13 p a : ℕ)
+    → get_or (turned (d0 ∷ d1 ∷ d2 ∷ d3 ∷ d4 ∷ d5 ∷ d6 ∷ d7 ∷ d8 ∷ d9 ∷ d10 ∷ d11 ∷ d12 ∷ d13 ∷ []) (record { back = false; pins = p; amount = a })) 4 0 ≡ (d4 + gain p a 15) % 12
 unfolding turned gains added
 front_centre d0 d1 d2 d3 d4 d5 d6 d7 d8 d9 d10 d11 d12 d13 p a = refl
 
-back_centre : (d0 d1 d2 d3 d4 d5 d6 d7 d8 d9 d10 d11 d12 d13 p a : ℕ) → get_or (turned (d0 ∷ d1 ∷ d2 ∷ d3 ∷ d4 ∷ d5 ∷ d6 ∷ d7 ∷ d8 ∷ d9 ∷ d10 ∷ d11 ∷ d12 ∷ d13 ∷ []) (record { back = true; pins = p; amount = a })) 11 0 ≡ (d11 + gain p a 15) % 12
+back_centre : (d0 d1 d2 d3 d4 d5 d6 d7 d8 d9 d10 d11 d12 d13 p a : ℕ)
+    → get_or (turned (d0 ∷ d1 ∷ d2 ∷ d3 ∷ d4 ∷ d5 ∷ d6 ∷ d7 ∷ d8 ∷ d9 ∷ d10 ∷ d11 ∷ d12 ∷ d13 ∷ []) (record { back = true; pins = p; amount = a })) 11 0 ≡ (d11 + gain p a 15) % 12
 unfolding turned gains added
 back_centre d0 d1 d2 d3 d4 d5 d6 d7 d8 d9 d10 d11 d12 d13 p a = refl
 
 centre_at : Bool → ℕ
 centre_at back = cond back 11 4
 
-centre_gains : (back : Bool) (dials : List ℕ) (p a : ℕ) → IsClock dials → get_or (turned dials (record { back = back; pins = p; amount = a })) (centre_at back) 0 ≡ (get_or dials (centre_at back) 0 + gain p a 15) % 12
+centre_gains : (back : Bool) (dials : List ℕ) (p a : ℕ) → IsClock dials
+    → get_or (turned dials (record { back = back; pins = p; amount = a })) (centre_at back) 0 ≡ (get_or dials (centre_at back) 0 + gain p a 15) % 12
 unfolding centre_at
 centre_gains false dials p a c =
     let e = written_out dials c.fourteen in
@@ -107,8 +113,8 @@ centre_gains true dials p a c =
     ∙ back_centre (get_or dials 0 0) (get_or dials 1 0) (get_or dials 2 0) (get_or dials 3 0) (get_or dials 4 0) (get_or dials 5 0) (get_or dials 6 0) (get_or dials 7 0) (get_or dials 8 0) (get_or dials 9 0) (get_or dials 10 0) (get_or dials 11 0) (get_or dials 12 0) (get_or dials 13 0) p a
 
 below_centre : (back : Bool) (dials : List ℕ) → IsClock dials → get_or dials (cond back 11 4) 0 < 12
-below_centre true dials c = below_at dials 11 c (omega arith)
-below_centre false dials c = below_at dials 4 c (omega arith)
+below_centre true dials c = hour_at dials 11 c (omega arith)
+below_centre false dials c = hour_at dials 4 c (omega arith)
 
 centre_solved : (back : Bool) → get_or solved (cond back 11 4) 0 ≡ 0
 unfolding solved
@@ -116,7 +122,8 @@ centre_solved true = refl
 centre_solved false = refl
 
 -- a turn after which the side's centre shows 12 is by that amount
-pub amount_by_centre : (dials : List ℕ) (t : Turn) → IsClock dials → is_turn t ≡ true → get_or (turned dials t) (cond t.back 11 4) 0 ≡ 0 → t.amount ≡ centre_amount t.back dials
+pub amount_by_centre : (dials : List ℕ) (t : Turn) → IsClock dials → is_turn t ≡ true
+    → get_or (turned dials t) (cond t.back 11 4) 0 ≡ 0 → t.amount ≡ centre_amount t.back dials
 unfolding centre_amount centre_at
 amount_by_centre dials t c turn e =
     let parts = is_turn-parts t turn in
@@ -138,23 +145,27 @@ carried : (up pins a d c : ℕ) → d < 12 → c < 12 → a ≡ (12 - c) % 12 �
 carried up pins a d c low lowc e h =
     elim (gain_cases up a pins) [ inl g ↦ inl (omega (arith, g, h)) | inr g ↦ inr (omega (arith, g, h, e)) ]
 
-edges_written : (d0 d1 d2 d3 d4 d5 d6 d7 d8 d9 d10 d11 d12 d13 p a : ℕ) → d9 < 12 → d10 < 12 → d11 < 12 → d12 < 12 → d13 < 12 → a ≡ (12 - d11) % 12
-    → IsOtherSolved false (turned (d0 ∷ d1 ∷ d2 ∷ d3 ∷ d4 ∷ d5 ∷ d6 ∷ d7 ∷ d8 ∷ d9 ∷ d10 ∷ d11 ∷ d12 ∷ d13 ∷ []) (record { back = true; pins = p; amount = a })) → AreBackEdgesCarried (d0 ∷ d1 ∷ d2 ∷ d3 ∷ d4 ∷ d5 ∷ d6 ∷ d7 ∷ d8 ∷ d9 ∷ d10 ∷ d11 ∷ d12 ∷ d13 ∷ [])
+edges_written : (d0 d1 d2 d3 d4 d5 d6 d7 d8 d9 d10 d11 d12 d13 p a : ℕ) → d9 < 12 → d10 < 12 → d11 < 12 → d12 < 12
+    → d13 < 12 → a ≡ (12 - d11) % 12
+    → IsOtherSolved false (turned (d0 ∷ d1 ∷ d2 ∷ d3 ∷ d4 ∷ d5 ∷ d6 ∷ d7 ∷ d8 ∷ d9 ∷ d10 ∷ d11 ∷ d12 ∷ d13 ∷ []) (record { back = true; pins = p; amount = a }))
+    → AreBackEdgesCarried (d0 ∷ d1 ∷ d2 ∷ d3 ∷ d4 ∷ d5 ∷ d6 ∷ d7 ∷ d8 ∷ d9 ∷ d10 ∷ d11 ∷ d12 ∷ d13 ∷ [])
 unfolding turned gains added
 edges_written d0 d1 d2 d3 d4 d5 d6 d7 d8 d9 d10 d11 d12 d13 p a hd9 hd10 hd11 hd12 hd13 e r =
     (carried p 9 a d9 d11 hd9 hd11 e r.0, carried p 12 a d10 d11 hd10 hd11 e r.1, carried p 3 a d12 d11 hd12 hd11 e r.3, carried p 6 a d13 d11 hd13 hd11 e r.4)
 
-edges_at : (dials : List ℕ) (p a : ℕ) → IsClock dials → a ≡ centre_amount true dials → IsOtherSolved false (turned dials (record { back = true; pins = p; amount = a })) → AreBackEdgesCarried dials
+edges_at : (dials : List ℕ) (p a : ℕ) → IsClock dials → a ≡ centre_amount true dials
+    → IsOtherSolved false (turned dials (record { back = true; pins = p; amount = a })) → AreBackEdgesCarried dials
 unfolding centre_amount
 edges_at dials p a c amount r =
     let e = written_out dials c.fourteen in
     subst (λ (l : List ℕ). AreBackEdgesCarried l) (sym e)
     (edges_written (get_or dials 0 0) (get_or dials 1 0) (get_or dials 2 0) (get_or dials 3 0) (get_or dials 4 0) (get_or dials 5 0) (get_or dials 6 0) (get_or dials 7 0) (get_or dials 8 0) (get_or dials 9 0) (get_or dials 10 0) (get_or dials 11 0) (get_or dials 12 0) (get_or dials 13 0) p a
-    (below_at dials 9 c (omega arith)) (below_at dials 10 c (omega arith)) (below_at dials 11 c (omega arith)) (below_at dials 12 c (omega arith)) (below_at dials 13 c (omega arith)) amount
+    (hour_at dials 9 c (omega arith)) (hour_at dials 10 c (omega arith)) (hour_at dials 11 c (omega arith)) (hour_at dials 12 c (omega arith)) (hour_at dials 13 c (omega arith)) amount
     (subst (λ (l : List ℕ). IsOtherSolved false (turned l (record { back = true; pins = p; amount = a }))) e r))
 
 -- ---- one turn
-pub turn_leads-from : (dials : List ℕ) (t : Turn) → is_turn t ≡ true → turned dials t ≡ solved → turn_leads t.back dials ≡ true
+pub turn_leads-from : (dials : List ℕ) (t : Turn) → is_turn t ≡ true → turned dials t ≡ solved
+    → turn_leads t.back dials ≡ true
 unfolding turn_leads
 turn_leads-from dials t turn e = some_on-from (λ u. all_twelve (turned dials u)) t turn (ap all_twelve e ∙ all_twelve-solved)
 
@@ -165,7 +176,8 @@ pub record LeadingTurn (back : Bool) (dials : List ℕ) : Type 0 where
   pub turn : is_turn last ≡ true
   pub leads : turned dials last ≡ solved
 
-pub turn_leads-gives : (back : Bool) (dials : List ℕ) → IsClock dials → turn_leads back dials ≡ true → LeadingTurn back dials
+pub turn_leads-gives : (back : Bool) (dials : List ℕ) → IsClock dials → turn_leads back dials ≡ true
+    → LeadingTurn back dials
 unfolding turn_leads
 turn_leads-gives back dials c h =
     let r = some_on-gives back (λ t. all_twelve (turned dials t)) h in
@@ -175,24 +187,17 @@ other_solved : (back : Bool) (dials : List ℕ) → IsClock dials → LeadingTur
 other_solved back dials c r =
     subst (λ (b : Bool). IsOtherSolved b dials) r.side (IsOtherSolved-last dials r.last c r.leads)
 
-not_true : (b : Bool) → (b ≡ true → ⊥) → b ≡ false
-not_true true n = absurd (n refl)
-not_true false n = refl
-
 -- no turn of a side leads to solved where a dial that it leaves alone doesn't show 12
-pub turn_leads-apart : (back : Bool) (dials : List ℕ) → IsClock dials → (IsOtherSolved back dials → ⊥) → turn_leads back dials ≡ false
+pub turn_leads-apart : (back : Bool) (dials : List ℕ) → IsClock dials → (IsOtherSolved back dials → ⊥)
+    → turn_leads back dials ≡ false
 turn_leads-apart back dials c n =
-    not_true (turn_leads back dials) (λ h. n (other_solved back dials c (turn_leads-gives back dials c h)))
-
-is_turn-of : (back : Bool) (p a : ℕ) → 0 < p → p < 16 → a < 12 → is_turn (record { back = back; pins = p; amount = a }) ≡ true
-is_turn-of back p a pos l h =
-    and_from (ltb 0 p) (ltb p 16 && ltb a 12) (lt-ltb 0 p pos) (and_from (ltb p 16) (ltb a 12) (lt-ltb p 16 l) (lt-ltb a 12 h))
+    false_from_ne_true (turn_leads back dials) (λ h. n (other_solved back dials c (turn_leads-gives back dials c h)))
 
 pub turn_leads-found : (back : Bool) (dials : List ℕ) (p a : ℕ) → IsClock dials → 0 < p → p < 16 → a < 12
     → all_twelve (turned dials (record { back = back; pins = p; amount = a })) ≡ true → turn_leads back dials ≡ true
 turn_leads-found back dials p a c pos l h e =
     let t : Turn = record { back = back; pins = p; amount = a } in
-    turn_leads-from dials t (is_turn-of back p a pos l h) (solved_from_all_twelve (turned dials t) (IsClock-turned dials t c) e)
+    turn_leads-from dials t (is_turn-from back p a pos l h) (solved_from_all_twelve (turned dials t) (IsClock-turned dials t c) e)
 
 centre_last : (t : Turn) (dials : List ℕ) → turned dials t ≡ solved → get_or (turned dials t) (cond t.back 11 4) 0 ≡ 0
 centre_last t dials e = ap (λ l. get_or l (cond t.back 11 4) 0) e ∙ centre_solved t.back
@@ -201,7 +206,7 @@ pub turn_leads-none : (back : Bool) (dials : List ℕ) → IsClock dials
     → ((p : ℕ) → 0 < p → p < 16 → all_twelve (turned dials (record { back = back; pins = p; amount = centre_amount back dials })) ≡ false)
     → turn_leads back dials ≡ false
 turn_leads-none back dials c none =
-    not_true (turn_leads back dials)
+    false_from_ne_true (turn_leads back dials)
     (λ h.
     let r = turn_leads-gives back dials c h in
     let parts = is_turn-parts r.last r.turn in
@@ -219,27 +224,31 @@ pub record LeadingTurns (first second : Bool) (dials : List ℕ) : Type 0 where
   pub one_turn : is_turn one ≡ true
   pub other : LeadingTurn second (turned dials one)
 
-pub turns_lead_on-gives : (first second : Bool) (dials : List ℕ) → IsClock dials → turns_lead_on first second dials ≡ true → LeadingTurns first second dials
+pub turns_lead_on-gives : (first second : Bool) (dials : List ℕ) → IsClock dials
+    → turns_lead_on first second dials ≡ true → LeadingTurns first second dials
 unfolding turns_lead_on
 turns_lead_on-gives first second dials c h =
     let r = some_on-gives first (λ t. turn_leads second (turned dials t)) h in
     record { one = r.0; one_side = r.1; one_turn = r.2; other = turn_leads-gives second (turned dials r.0) (IsClock-turned dials r.0 c) r.3 }
 
 pub turns_lead_on-found : (first second : Bool) (dials : List ℕ) (p a : ℕ) → 0 < p → p < 16 → a < 12
-    → turn_leads second (turned dials (record { back = first; pins = p; amount = a })) ≡ true → turns_lead_on first second dials ≡ true
+    → turn_leads second (turned dials (record { back = first; pins = p; amount = a })) ≡ true
+    → turns_lead_on first second dials ≡ true
 unfolding turns_lead_on
 turns_lead_on-found first second dials p a pos l h e =
-    some_on-from (λ t. turn_leads second (turned dials t)) (record { back = first; pins = p; amount = a }) (is_turn-of first p a pos l h) e
+    some_on-from (λ t. turn_leads second (turned dials t)) (record { back = first; pins = p; amount = a }) (is_turn-from first p a pos l h) e
 
-turns_lead_on-from : (dials : List ℕ) (t u : Turn) → is_turn t ≡ true → is_turn u ≡ true → turned (turned dials t) u ≡ solved → turns_lead_on t.back u.back dials ≡ true
+turns_lead_on-from : (dials : List ℕ) (t u : Turn) → is_turn t ≡ true → is_turn u ≡ true
+    → turned (turned dials t) u ≡ solved → turns_lead_on t.back u.back dials ≡ true
 unfolding turns_lead_on
 turns_lead_on-from dials t u turn other e =
     some_on-from (λ v. turn_leads u.back (turned dials v)) t turn (turn_leads-from (turned dials t) u other e)
 
 -- no two turns of a side lead to solved where a dial that they leave alone doesn't show 12
-pub turns_lead_on-apart : (back : Bool) (dials : List ℕ) → IsClock dials → (IsOtherSolved back dials → ⊥) → turns_lead_on back back dials ≡ false
+pub turns_lead_on-apart : (back : Bool) (dials : List ℕ) → IsClock dials → (IsOtherSolved back dials → ⊥)
+    → turns_lead_on back back dials ≡ false
 turns_lead_on-apart back dials c n =
-    not_true (turns_lead_on back back dials)
+    false_from_ne_true (turns_lead_on back back dials)
     (λ h.
     let r = turns_lead_on-gives back back dials c h in
     let after = other_solved back (turned dials r.one) (IsClock-turned dials r.one c) r.other in
@@ -251,7 +260,7 @@ pub turns_lead_on-none : (first second : Bool) (dials : List ℕ) → IsClock di
     → turns_lead_on first second dials ≡ false
 unfolding turns_lead_on
 turns_lead_on-none first second dials c none =
-    not_true (turns_lead_on first second dials)
+    false_from_ne_true (turns_lead_on first second dials)
     (λ h.
     let r = some_on-gives first (λ t. turn_leads second (turned dials t)) h in
     let parts = is_turn-parts r.0 r.2 in
@@ -286,9 +295,10 @@ mixed dials c r =
       front_leads = subst (λ (l : List ℕ). turn_leads false l ≡ true) same leads;
     }
 
-pub mixed-apart : (dials : List ℕ) → IsClock dials → (AreBackEdgesCarried dials → ⊥) → turns_lead_on true false dials ≡ false
+pub mixed-apart : (dials : List ℕ) → IsClock dials → (AreBackEdgesCarried dials → ⊥)
+    → turns_lead_on true false dials ≡ false
 mixed-apart dials c n =
-    not_true (turns_lead_on true false dials)
+    false_from_ne_true (turns_lead_on true false dials)
     (λ h.
     let r = mixed dials c (turns_lead_on-gives true false dials c h) in
     n (edges_at dials r.back_pins (centre_amount true dials) c refl r.carried_back))
@@ -297,7 +307,7 @@ pub mixed-none : (dials : List ℕ) → IsClock dials
     → ((p : ℕ) → 0 < p → p < 16 → turn_leads false (turned dials (record { back = true; pins = p; amount = centre_amount true dials })) ≡ false)
     → turns_lead_on true false dials ≡ false
 mixed-none dials c none =
-    not_true (turns_lead_on true false dials)
+    false_from_ne_true (turns_lead_on true false dials)
     (λ h.
     let r = mixed dials c (turns_lead_on-gives true false dials c h) in
     false≢true (sym (none r.back_pins r.some_pin r.four_pins) ∙ r.front_leads))
@@ -323,14 +333,16 @@ any_turns-gives dials c h =
     let clock = IsClock-turned (turned dials r.0) s.0 (IsClock-turned dials r.0 c) in
     record { one = r.0; two = s.0; one_turn = r.1; two_turn = s.1; lead = solved_from_all_twelve (turned (turned dials r.0) s.0) clock s.2 }
 
-any_turns-from : (first second : Bool) (dials : List ℕ) → IsClock dials → turns_lead_on first second dials ≡ true → turns_lead 2 dials ≡ true
+any_turns-from : (first second : Bool) (dials : List ℕ) → IsClock dials → turns_lead_on first second dials ≡ true
+    → turns_lead 2 dials ≡ true
 unfolding turns_lead
 any_turns-from first second dials c h =
     let r = turns_lead_on-gives first second dials c h in
     some_turn-from (λ t. some_turn (λ u. all_twelve (turned (turned dials t) u))) r.one r.one_turn
     (some_turn-from (λ u. all_twelve (turned (turned dials r.one) u)) r.other.last r.other.turn (ap all_twelve r.other.leads ∙ all_twelve-solved))
 
-sides_from : (dials : List ℕ) (a b : Bool) (t u : Turn) → t.back ≡ a → u.back ≡ b → is_turn t ≡ true → is_turn u ≡ true → turned (turned dials t) u ≡ solved
+sides_from : (dials : List ℕ) (a b : Bool) (t u : Turn) → t.back ≡ a → u.back ≡ b → is_turn t ≡ true
+    → is_turn u ≡ true → turned (turned dials t) u ≡ solved
     → (turns_lead_on false false dials || (turns_lead_on true true dials || turns_lead_on true false dials)) ≡ true
 sides_from dials a b t u ea eb turn other e =
     by_sides a b (subst (λ (x : Bool). turns_lead_on x b dials ≡ true) ea

@@ -1,10 +1,8 @@
 -- The sums by which the amounts are computed are their rows.
-use Rattle.std.proofs.Common.{◌≡◌, ℕ, ◌+◌, ◌*◌, ◌%◌, List, [], ◌∷◌, refl, ap, ◌∙◌, arith}
+use Rattle.std.proofs.Common.{◌≡◌, ℕ, ◌+◌, ◌*◌, ◌%◌, [], ◌∷◌, refl, ap, ◌∙◌, arith}
 use Rattle.scr_dials.proofs.Linear.{dot, apply}
+use Rattle.scr_dials.proofs.PatternSums.{cons_same}
 use Rattle.scr_dials.proofs.Amounts.{amounts_of}
-
-cons_same : {x y : ℕ} {xs ys : List ℕ} → x ≡ y → xs ≡ ys → x ∷ xs ≡ y ∷ ys
-cons_same e f = cc
 
 pub amounts_by_sums : (d0 d1 d2 d3 d4 d5 d6 d7 d8 d9 d10 d11 d12 d13 r0 r1 r2 r3 r4 r5 r6 r7 r8 r9 r10 r11 r12 r13 : ℕ)
     → r0 ≡ (d4 + 11 * (d3 + d7) + (d6 + d12 + d13 + 11 * d11)) % 12

@@ -1,5 +1,5 @@
 //! What holds of Clock whatever the code: calls that do nothing, whose contracts are the laws.
-ghost use Rattle.std.specs.Prelude.{◌≡◌, ℕ, ◌≤◌, ◌↔◌, List, IsTrue};
+ghost use Rattle.std.specs.Prelude.{◌≡◌, ℕ, ◌↔◌, List, IsTrue};
 ghost use Rattle.scr_stream.specs.Drawn.{hit};
 ghost use Rattle.scr_stream.specs.Fair.{IsFair};
 ghost use Rattle.scr_play.specs.Play.{play};
@@ -28,10 +28,9 @@ pub fn minimum_is_exact()
         → IsTrue (needs_test dials least) ↔ Needs clock_puzzle dials least }
 {}
 
-/// Clock is drawn fairly: every Clock that turns reach and that needs `least` turns is drawn by equally many words.
-/// `least` is from 0 to 3.
-pub fn drawn_fairly(least: u32)
-    requires { least ≤ 3 }
-    ensures { IsFair clock_count dials_of (hit clock_count dials_of (λ dials. needs_test dials least))
+/// Clock is drawn fairly at each minimum: every Clock that turns reach and that needs `least` turns is drawn by equally
+/// many words.
+pub fn drawn_fairly()
+    ensures { (least : ℕ) → IsFair clock_count dials_of (hit clock_count dials_of (λ dials. needs_test dials least))
         (IsPermitted clock_puzzle least) }
 {}

@@ -1,6 +1,10 @@
-//! Clock: its state, its turns, and the one printed scramble that gives a state. The definitions stand in `scr_dials`;
-//! the contracts here say that the code computes them, and that the amounts of `solve` are the only ones that give
-//! their state.
+//! Clock: its state, its turns, the one printed scramble that gives a state, its numbers and its minimum.
+//!
+//! It stands on the definitions of `scr_play` and `scr_dials`, and on the drawing of `scr_draw`. Its contracts say that
+//! the code computes those definitions, that the amounts of `solve` play solved to the state and no others do, and that
+//! `needs_at_least` is true exactly where no word of fewer counted turns, of any pin sets, leads to solved. The module
+//! `laws` has what follows for the event: each list of fourteen dials below 12 is reached, and those that need the
+//! minimum are drawn by equally many words.
 #![tactic(auto)]
 
 mod amounts;

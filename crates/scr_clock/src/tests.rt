@@ -82,5 +82,5 @@ fn known_draws(rt: HostRuntime) {
     laws::each_clock_is_reached();
     laws::one_list_of_amounts();
     laws::minimum_is_exact();
-    laws::drawn_fairly(3);
+    laws::drawn_fairly();
 }

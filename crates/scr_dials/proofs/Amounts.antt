@@ -2,10 +2,11 @@
 use Rattle.std.proofs.Common.{◌≡◌, ℕ, suc, ◌%◌, ◌<◌, List, [], ◌∷◌, length, get_or, refl, sym, ap, ◌∙◌, arith}
 use Rattle.std.specs.Prelude.{All}
 use Rattle.std.proofs.lemmas.List.FromFn.{fill_by_all}
-use Rattle.std.proofs.lemmas.List.Elements.{All-nil, All-cons, All-get_or}
+use Rattle.std.proofs.lemmas.List.Elements.{All-nil, All-cons}
 use Rattle.scr_play.specs.Play.{play}
 use Rattle.scr_dials.specs.Dials.{IsClock, turned, solved}
 use Rattle.scr_dials.specs.Pattern.{pattern}
+use Rattle.scr_dials.proofs.DialLaws.{hour_at}
 use Rattle.scr_dials.proofs.Linear.{dot, apply, plus, scale, combine, reduced, product, zero_first, identity, apply-apply, apply-identity}
 use Rattle.scr_dials.proofs.PatternSums.{pattern_rows, play_pattern}
 
@@ -34,16 +35,14 @@ written xs = get_or xs 0 0 ∷ get_or xs 1 0 ∷ get_or xs 2 0 ∷ get_or xs 3 0
 pub written_out : (xs : List ℕ) → length xs ≡ 14 → xs ≡ written xs
 written_out xs e = fill_by_all (λ k. get_or xs k 0) xs 14 0 e (λ k h. refl)
 
-below_at : (xs : List ℕ) (k : ℕ) → IsClock xs → k < 14 → get_or xs k 0 < 12
-below_at xs k c h = All-get_or (λ d. d < 12) xs k 0 (omega (arith, c.fourteen)) c.below
-
 -- a printed scramble, played on solved
-pub play-pattern : (amounts : List ℕ) → IsClock amounts → play turned solved (pattern amounts) ≡ apply pattern_rows amounts
+pub play-pattern : (amounts : List ℕ) → IsClock amounts
+    → play turned solved (pattern amounts) ≡ apply pattern_rows amounts
 play-pattern amounts c =
     let e = written_out amounts c.fourteen in
     ap (λ xs. play turned solved (pattern xs)) e
     ∙ play_pattern _ _ _ _ _ _ _ _ _ _ _ _ _ _
-    (below_at amounts 9 c (omega arith)) (below_at amounts 10 c (omega arith)) (below_at amounts 11 c (omega arith)) (below_at amounts 12 c (omega arith)) (below_at amounts 13 c (omega arith))
+    (hour_at amounts 9 c (omega arith)) (hour_at amounts 10 c (omega arith)) (hour_at amounts 11 c (omega arith)) (hour_at amounts 12 c (omega arith)) (hour_at amounts 13 c (omega arith))
     ∙ ap (apply pattern_rows) (sym e)
 
 amounts_then_pattern : product pattern_rows amounts_rows ≡ identity 14

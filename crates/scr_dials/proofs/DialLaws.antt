@@ -4,7 +4,7 @@ use Rattle.std.specs.Prelude.{All, map, bit_and}
 use Rattle.std.proofs.Math.Seq.{take-suc-set}
 use Rattle.std.proofs.lemmas.Bool.{ne_eqb}
 use Rattle.std.proofs.lemmas.List.{length-take-le, take-append-drop, take_all, append-nil}
-use Rattle.std.proofs.lemmas.List.Elements.{All-nil, All-cons, All-replicate}
+use Rattle.std.proofs.lemmas.List.Elements.{All-nil, All-cons, All-get_or, All-replicate}
 use Rattle.scr_dials.specs.Dials.{IsClock, front_pins, back_pins, gain, gains, added, turned, solved, digits, dials_of}
 
 -- hours that are added stay below 12
@@ -36,7 +36,8 @@ added_by_places f (x ∷ xs) (d ∷ dials) (p ∷ next_to) e g h =
     cc
 
 -- parts are added to parts
-pub added-append : (xs ys gx gy : List ℕ) → length xs ≡ length gx → added (xs ++ ys) (gx ++ gy) ≡ added xs gx ++ added ys gy
+pub added-append : (xs ys gx gy : List ℕ) → length xs ≡ length gx
+    → added (xs ++ ys) (gx ++ gy) ≡ added xs gx ++ added ys gy
 unfolding added
 added-append [] ys [] gy e = refl
 added-append [] ys (g ∷ gx) gy e = absurd (omega (arith, e))
@@ -78,8 +79,13 @@ pub gain-shared : (up amount pins : ℕ) → (bit_and pins up ≡ 0 → ⊥) →
 unfolding gain
 gain-shared up amount pins n = ap (λ b. cond b 0 amount) (ne_eqb (bit_and pins up) 0 n)
 
+-- each dial of a Clock shows an hour
+pub hour_at : (dials : List ℕ) (k : ℕ) → IsClock dials → k < 14 → get_or dials k 0 < 12
+hour_at dials k c h = All-get_or (λ d. d < 12) dials k 0 (omega (arith, c.fourteen)) c.below
+
 -- what a front turn makes of the dials
-pub turned-front : (dials : List ℕ) (pins amount : ℕ) → turned dials (record { back = false; pins = pins; amount = amount }) ≡ added dials (map (gain pins amount) front_pins)
+pub turned-front : (dials : List ℕ) (pins amount : ℕ)
+    → turned dials (record { back = false; pins = pins; amount = amount }) ≡ added dials (map (gain pins amount) front_pins)
 unfolding turned gains
 turned-front dials pins amount = refl
 
@@ -94,7 +100,8 @@ turned-back dials pins amount e =
     ∙ added-append (take 9 dials) (drop 9 dials) (map (gain pins (12 - amount)) (take 9 back_pins)) (map (gain pins amount) (drop 9 back_pins)) nine
 
 -- one more digit is written
-pub digits_more : (items written : List ℕ) (i rest : ℕ) → length items ≡ 14 → i < 14 → take i items ++ digits (14 - i) rest ≡ written
+pub digits_more : (items written : List ℕ) (i rest : ℕ) → length items ≡ 14 → i < 14
+    → take i items ++ digits (14 - i) rest ≡ written
     → take (i + 1) (set items i (rest % 12)) ++ digits (14 - (i + 1)) (rest / 12) ≡ written
 digits_more items written i rest e l h =
     let more : take (i + 1) (set items i (rest % 12)) ≡ take i items ++ rest % 12 ∷ [] = rw add-one (take-suc-set items i (rest % 12) (omega arith)) in
@@ -104,7 +111,8 @@ digits_more items written i rest e l h =
     ∙ ap (λ t. take i items ++ t) (sym (ap (λ n. digits n rest) left ∙ digits-suc (14 - (i + 1)) rest)) ∙ h
 
 -- all digits are written
-pub digits_all : (items : List ℕ) (i rest number : ℕ) → length items ≡ 14 → i ≡ 14 → take i items ++ digits (14 - i) rest ≡ digits 14 number → items ≡ dials_of number
+pub digits_all : (items : List ℕ) (i rest number : ℕ) → length items ≡ 14 → i ≡ 14
+    → take i items ++ digits (14 - i) rest ≡ digits 14 number → items ≡ dials_of number
 unfolding digits dials_of
 digits_all items i rest number e l h =
     let whole : take 14 items ≡ items = take_all 14 items (omega arith) in

@@ -33,10 +33,11 @@ some_below-gives (suc n) passes h =
       | inr e ↦ (let r = some_below-gives n passes e in (r.0, omega (arith, r.1), r.2))
     ]
 
-is_turn-from : (back : Bool) (p a : ℕ) → p < 15 → a < 12 → is_turn (record { back = back; pins = p + 1; amount = a }) ≡ true
-is_turn-from back p a l h =
-    and_from (ltb 0 (p + 1)) (ltb (p + 1) 16 && ltb a 12) (lt-ltb 0 (p + 1) (omega arith))
-    (and_from (ltb (p + 1) 16) (ltb a 12) (lt-ltb (p + 1) 16 (omega arith)) (lt-ltb a 12 h))
+-- a pin set from 1 to 15 and an amount from 0 to 11 are a turn
+pub is_turn-from : (back : Bool) (p a : ℕ) → 0 < p → p < 16 → a < 12 → is_turn (record { back = back; pins = p; amount = a }) ≡ true
+is_turn-from back p a pos l h =
+    and_from (ltb 0 p) (ltb p 16 && ltb a 12) (lt-ltb 0 p pos)
+    (and_from (ltb p 16) (ltb a 12) (lt-ltb p 16 l) (lt-ltb a 12 h))
 
 -- what a turn's pins and amount are
 pub record TurnParts (t : Turn) : Type 0 where
@@ -59,12 +60,13 @@ some_on-from passes t turn h =
     (some_below-from 12 (λ a. passes (record { back = t.back; pins = t.pins - 1 + 1; amount = a })) t.amount parts.hours
     (ap (λ p. passes (record { back = t.back; pins = p; amount = t.amount })) pins ∙ h))
 
-pub some_on-gives : (back : Bool) (passes : Turn → Bool) → some_on back passes ≡ true → (t : Turn) × (t.back ≡ back) × (is_turn t ≡ true) × (passes t ≡ true)
+pub some_on-gives : (back : Bool) (passes : Turn → Bool) → some_on back passes ≡ true
+    → (t : Turn) × (t.back ≡ back) × (is_turn t ≡ true) × (passes t ≡ true)
 unfolding some_on
 some_on-gives back passes h =
     let p = some_below-gives 15 _ h in
     let a = some_below-gives 12 _ p.2 in
-    (record { back = back; pins = p.0 + 1; amount = a.0 }, refl, is_turn-from back p.0 a.0 p.1 a.1, a.2)
+    (record { back = back; pins = p.0 + 1; amount = a.0 }, refl, is_turn-from back (p.0 + 1) a.0 (omega arith) (omega (arith, p.1)) a.1, a.2)
 
 pub some_turn-from : (passes : Turn → Bool) (t : Turn) → is_turn t ≡ true → passes t ≡ true → some_turn passes ≡ true
 unfolding some_turn
@@ -74,7 +76,8 @@ some_turn-from passes t turn h =
       | inr e ↦ or-left (some_on false passes) (some_on true passes) (subst (λ (b : Bool). some_on b passes ≡ true) e (some_on-from passes t turn h))
     ]
 
-pub some_turn-gives : (passes : Turn → Bool) → some_turn passes ≡ true → (t : Turn) × (is_turn t ≡ true) × (passes t ≡ true)
+pub some_turn-gives : (passes : Turn → Bool) → some_turn passes ≡ true
+    → (t : Turn) × (is_turn t ≡ true) × (passes t ≡ true)
 unfolding some_turn
 some_turn-gives passes h =
     elim (or_cases (some_on false passes) (some_on true passes) h) [
@@ -126,7 +129,8 @@ unfolding gain
 gain-whole up pins = elim (eqb (bit_and pins up) 0) as (λ b. ◌≡◌ {A = ℕ} (cond b 0 12 % 12) 0) [ true ↦ refl | false ↦ refl ]
 
 -- whole rounds leave the dials as they are
-added_nothing : (dials gained : List ℕ) → length dials ≡ length gained → All (λ g. g % 12 ≡ 0) gained → All (λ d. d < 12) dials → added dials gained ≡ dials
+added_nothing : (dials gained : List ℕ) → length dials ≡ length gained → All (λ g. g % 12 ≡ 0) gained
+    → All (λ d. d < 12) dials → added dials gained ≡ dials
 unfolding added
 added_nothing [] gained e n h = refl
 added_nothing (d ∷ dials) [] e n h = absurd (omega (arith, e))
@@ -136,7 +140,8 @@ added_nothing (d ∷ dials) (g ∷ gained) e n h =
     let rest = added_nothing dials gained (omega (arith, e)) (All-tail (λ x. x % 12 ≡ 0) g gained n) (All-tail (λ x. x < 12) d dials h) in
     cc
 
-nothing_gained : (back : Bool) (pins : ℕ) → All (λ g. g % 12 ≡ 0) (gains (record { back = back; pins = pins; amount = 0 }))
+nothing_gained : (back : Bool) (pins : ℕ)
+    → All (λ g. g % 12 ≡ 0) (gains (record { back = back; pins = pins; amount = 0 }))
 unfolding gains
 nothing_gained true pins =
     All-append (λ g. g % 12 ≡ 0) (map (gain pins (12 - 0)) (take 9 back_pins)) (map (gain pins 0) (drop 9 back_pins))
@@ -145,7 +150,8 @@ nothing_gained true pins =
 nothing_gained false pins = All-map (λ g. g % 12 ≡ 0) (gain pins 0) front_pins (λ k d l. gain-none pins _)
 
 -- a turn by 0 does nothing
-pub turned-none : (dials : List ℕ) (back : Bool) (pins : ℕ) → IsClock dials → turned dials (record { back = back; pins = pins; amount = 0 }) ≡ dials
+pub turned-none : (dials : List ℕ) (back : Bool) (pins : ℕ) → IsClock dials
+    → turned dials (record { back = back; pins = pins; amount = 0 }) ≡ dials
 unfolding turned
 turned-none dials back pins c =
     let t : Turn = record { back = back; pins = pins; amount = 0 } in
@@ -179,7 +185,8 @@ turns_lead-gives (suc n) dials c h =
     let led = turns_lead-gives n (turned dials r.0) (IsClock-turned dials r.0 c) r.2 in
     (r.0 ∷ led.0, (r.1, led.1), omega (arith, led.2, counted-most r.0), led.3)
 
-turns_lead-from : (w : List Turn) (n : ℕ) (dials : List ℕ) → IsClock dials → IsWord clock_puzzle w → count_in counted w < suc n → play turned dials w ≡ solved → turns_lead n dials ≡ true
+turns_lead-from : (w : List Turn) (n : ℕ) (dials : List ℕ) → IsClock dials → IsWord clock_puzzle w
+    → count_in counted w < suc n → play turned dials w ≡ solved → turns_lead n dials ≡ true
 unfolding play count_in IsWord turns_lead
 turns_lead-from [] n dials c turns less leads = ap (turns_lead n) leads ∙ solved_led n
 turns_lead-from (t ∷ w) zero dials c turns less leads =
@@ -197,7 +204,8 @@ turns_lead-from (t ∷ w) (suc n) dials c turns less leads =
     ]
 
 -- the test is true exactly where the minimum says so
-pub needs_test-iff : (dials : List ℕ) (least : ℕ) → IsClock dials → (needs_test dials least ≡ true) ↔ Needs clock_puzzle dials least
+pub needs_test-iff : (dials : List ℕ) (least : ℕ) → IsClock dials
+    → (needs_test dials least ≡ true) ↔ Needs clock_puzzle dials least
 unfolding needs_test
 needs_test-iff dials zero c = (λ _ w turns less leads. omega (arith, less), λ _. refl)
 needs_test-iff dials (suc n) c = (

@@ -65,7 +65,8 @@ dot-reduced (x ∷ a) (y ∷ ys) =
     ∙ ap (λ n. (n + dot a ys) % 12) (mul-mod_first x y 12) ∙ mod-add-mod (x * y) 12 (dot a ys)
 
 -- a row of hours that a map gives, and its sum of products with the numbers that the map was given
-dot-apply : (row : List ℕ) (rows : List (List ℕ)) (xs : List ℕ) → dot row (apply rows xs) % 12 ≡ dot (combine row rows) xs % 12
+dot-apply : (row : List ℕ) (rows : List (List ℕ)) (xs : List ℕ)
+    → dot row (apply rows xs) % 12 ≡ dot (combine row rows) xs % 12
 unfolding dot apply combine
 dot-apply [] rows xs = refl
 dot-apply (c ∷ cs) [] xs = refl
@@ -80,7 +81,8 @@ dot-apply (c ∷ cs) (r ∷ rows) xs =
     ∙ ap (λ n. n % 12) (sym (dot-plus (scale c r) (combine cs rows) xs))
 
 -- one map after another is one map
-pub apply-apply : (outer inner : List (List ℕ)) (xs : List ℕ) → apply outer (apply inner xs) ≡ apply (product outer inner) xs
+pub apply-apply : (outer inner : List (List ℕ)) (xs : List ℕ)
+    → apply outer (apply inner xs) ≡ apply (product outer inner) xs
 unfolding apply product
 apply-apply [] inner xs = refl
 apply-apply (row ∷ rows) inner xs =

@@ -1,9 +1,38 @@
 -- Clocks that are known from elsewhere, computed by the definitions.
-use Rattle.std.proofs.Common.{◌≡◌, ℕ, ◌^◌, false, List, [], ◌∷◌, refl}
-use Rattle.std.specs.Prelude.{codes}
+use Rattle.std.proofs.Common.{◌≡◌, ℕ, ◌^◌, false, List, [], ◌∷◌, get_or, refl}
+use Rattle.std.specs.Prelude.{◌==◌, if◌then◌else◌, map, codes}
 use Rattle.scr_play.specs.Play.{play}
-use Rattle.scr_dials.specs.Dials.{Turn, turned, gain, gains, added, solved, clock_count, digits, dials_of, number_of}
+use Rattle.scr_dials.specs.Dials.{Turn, front_pins, back_pins, turned, gain, gains, added, solved, clock_count, digits, dials_of, number_of}
 use Rattle.scr_dials.specs.Pattern.{turns_at, pattern, amount_text, spelled, text_of}
+
+-- a pin as seen from the other side, where left and right are exchanged
+abbrev mirrored : ℕ → ℕ
+mirrored pin = if pin == 1 then 8 else (if pin == 8 then 1 else (if pin == 2 then 4 else (if pin == 4 then 2 else 0)))
+
+-- the dials of one side's corners, UL UR DL DR, of the front's edges and centre, U L C R D, and of the back's
+abbrev corners : List ℕ
+corners = 0 ∷ 2 ∷ 6 ∷ 8 ∷ []
+
+abbrev front_cross : List ℕ
+front_cross = 1 ∷ 3 ∷ 4 ∷ 5 ∷ 7 ∷ []
+
+abbrev back_cross : List ℕ
+back_cross = 9 ∷ 10 ∷ 11 ∷ 12 ∷ 13 ∷ []
+
+-- a corner's pin is the same pin from both sides
+corners_mirrored : map (λ k. mirrored (get_or front_pins k 0)) corners ≡ map (λ k. get_or back_pins k 0) corners
+corners_mirrored = refl
+
+-- both sides look alike from in front of them
+sides_alike : map (λ k. get_or front_pins k 0) front_cross ≡ map (λ k. get_or back_pins k 0) back_cross
+sides_alike = refl
+
+-- no turn of a side moves the other side's cross
+front_left_alone : map (λ k. get_or back_pins k 0) front_cross ≡ 0 ∷ 0 ∷ 0 ∷ 0 ∷ 0 ∷ []
+front_left_alone = refl
+
+back_left_alone : map (λ k. get_or front_pins k 0) back_cross ≡ 0 ∷ 0 ∷ 0 ∷ 0 ∷ 0 ∷ []
+back_left_alone = refl
 
 count_is : clock_count ≡ 12 ^ 14
 count_is = refl

@@ -1,1 +1,3 @@
-pub mod TextLemmas
+pub mod CommandLemmas
+pub mod SheetLemmas
+pub mod EndLemmas

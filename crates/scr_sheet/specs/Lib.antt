@@ -1,5 +1,6 @@
 pub mod Command
 pub mod Message
-pub mod Scramble
-pub mod Outcome
 pub mod Status
+pub mod Sheet
+pub mod Outcome
+pub mod Fair

@@ -1,12 +1,16 @@
--- What goes wrong in a run, the line that tells it, and its status.
+-- What goes wrong in a run, and the line that tells it.
 use Rattle.std.specs.Prelude.{ℕ, List, ◌++◌, codes}
 use Rattle.std.specs.Fmt.{decimal}
 use Rattle.scr_words.specs.declared.seed.SeedFault.{SeedFault}
 use Rattle.scr_words.specs.declared.seed.SeedFault.TheVariants.{Length, Digit}
+use Rattle.scr_list.specs.declared.fault.ListCause.{ListCause}
+use Rattle.scr_list.specs.declared.fault.ListCause.TheVariants as cause
+use Rattle.scr_list.specs.declared.fault.ListFault.{ListFault}
+use Rattle.scr_list.specs.declared.fault.ListFault.TheVariants as list
 use Rattle.scr_sheet.specs.declared.command.UsageFault.{UsageFault}
-use Rattle.scr_sheet.specs.declared.command.UsageFault.TheVariants.{NoSeed, Grammar}
+use Rattle.scr_sheet.specs.declared.command.UsageFault.TheVariants.{No444, NoSeed, Grammar}
 use Rattle.scr_sheet.specs.declared.fault.Fault.{Fault}
-use Rattle.scr_sheet.specs.declared.fault.Fault.TheVariants.{Usage, DrawLimit, Write}
+use Rattle.scr_sheet.specs.declared.fault.Fault.TheVariants as fault
 
 -- why a text is no seed
 abbrev pub seed_fault_text : SeedFault → List ℕ
@@ -15,17 +19,35 @@ seed_fault_text (Digit place) = codes "seed has no hexadecimal digit at " ++ dec
 
 -- why words were refused
 abbrev pub usage_text : UsageFault → List ℕ
+usage_text No444 = codes "444 is not supported"
 usage_text (NoSeed fault) = seed_fault_text fault
 usage_text Grammar =
     codes "usage: one EVENT SEED | sheet --seed HEX [--workers N] [--tries N] [--attempts N] | tables EVENT | load NUMBER"
 
+-- why a line was refused
+abbrev pub cause_text : ListCause → List ℕ
+cause_text cause.Words = codes "words"
+cause_text cause.No444 = codes "444 is not supported"
+cause_text cause.Event = codes "unknown event"
+cause_text cause.Groups = codes "groups"
+cause_text cause.Minimum = codes "minimum"
+cause_text cause.Rounds = codes "too many rounds"
+
+-- why a list was refused; lines are counted from 1
+abbrev pub list_text : ListFault → List ℕ
+list_text list.Read = codes "input could not be read"
+list_text list.TooLong = codes "list is longer than 4096 bytes"
+list_text (list.Line number cause) = codes "line " ++ decimal number ++ codes ": " ++ cause_text cause
+
 -- what went wrong; rounds and slots are counted from 1
 abbrev pub fault_text : Fault → List ℕ
-fault_text (Usage fault) = usage_text fault
-fault_text (DrawLimit round slot words) =
+fault_text (fault.Usage usage) = usage_text usage
+fault_text (fault.List list) = list_text list
+fault_text (fault.DrawLimit round slot words) =
     codes "round " ++ decimal round ++ codes " slot " ++ decimal slot ++ codes ": no permitted state in "
     ++ decimal words ++ codes " words"
-fault_text Write = codes "output could not be written"
+fault_text fault.Write = codes "output could not be written"
+fault_text fault.NoMemory = codes "out of memory"
 
 -- the line that the program writes for it
 abbrev pub message_of : Fault → List ℕ

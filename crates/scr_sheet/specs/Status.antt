@@ -1,10 +1,13 @@
 -- The exit code of each status.
 use Rattle.std.specs.Prelude.{ℕ}
 use Rattle.scr_sheet.specs.declared.fault.Status.{Status}
-use Rattle.scr_sheet.specs.declared.fault.Status.TheVariants.{Done, Usage, DrawLimit, WriteFault}
+use Rattle.scr_sheet.specs.declared.fault.Status.TheVariants.{Done, Usage, List, DrawLimit, ReadFault, WriteFault, NoMemory}
 
 abbrev pub code_of : Status → ℕ
 code_of Done = 0
 code_of Usage = 2
+code_of List = 3
 code_of DrawLimit = 4
+code_of ReadFault = 5
 code_of WriteFault = 6
+code_of NoMemory = 7

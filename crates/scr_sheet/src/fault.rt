@@ -2,13 +2,14 @@
 
 ghost use Rattle.std.specs.Prelude.{◌≡◌, ◌++◌, ◌+◌, ◌≤◌, ◌<◌, length, List};
 ghost use Rattle.arrayvec.specs.ArrayString.{array_string_len};
-ghost use Rattle.scr_sheet.specs.Message.{message_of, usage_text, seed_fault_text};
+ghost use Rattle.scr_sheet.specs.Message.{message_of, usage_text, seed_fault_text, list_text, cause_text};
 ghost use Rattle.scr_sheet.specs.Outcome.{status_of};
 ghost use Rattle.scr_sheet.specs.Status.{code_of};
 
 use crate::command::UsageFault;
-use crate::text::decimal;
 use arrayvec::ArrayString;
+use scr_list::{ListCause, ListFault};
+use scr_round::decimal;
 use scr_words::SeedFault;
 
 /// How a run ended.
@@ -18,10 +19,16 @@ pub enum Status {
     Done,
     /// The words are no command.
     Usage,
+    /// The input is no round list.
+    List,
     /// A slot's attempts gave no permitted state.
     DrawLimit,
+    /// The input could not be read.
+    ReadFault,
     /// The output could not be written.
     WriteFault,
+    /// Want of memory.
+    NoMemory,
 }
 
 impl Status {
@@ -32,8 +39,11 @@ impl Status {
         match ended {
             Ok(()) => Status::Done,
             Err(Fault::Usage(_)) => Status::Usage,
+            Err(Fault::List(ListFault::Read)) => Status::ReadFault,
+            Err(Fault::List(_)) => Status::List,
             Err(Fault::DrawLimit { .. }) => Status::DrawLimit,
             Err(Fault::Write) => Status::WriteFault,
+            Err(Fault::NoMemory) => Status::NoMemory,
         }
     }
 
@@ -44,8 +54,11 @@ impl Status {
         match self {
             Status::Done => 0,
             Status::Usage => 2,
+            Status::List => 3,
             Status::DrawLimit => 4,
+            Status::ReadFault => 5,
             Status::WriteFault => 6,
+            Status::NoMemory => 7,
         }
     }
 }
@@ -55,11 +68,15 @@ impl Status {
 pub enum Fault {
     /// The words are no command.
     Usage(UsageFault),
+    /// The input is no round list, or could not be read.
+    List(ListFault),
     /// The attempts of a slot, which took so many words, gave no permitted state. Rounds and slots are
     /// counted from 1.
     DrawLimit { round: u32, slot: u32, words: u32 },
     /// The output could not be written.
     Write,
+    /// Want of memory.
+    NoMemory,
 }
 
 /// The length of the longest message, and a little more.
@@ -78,6 +95,7 @@ impl Fault {
         line.push_str("scramble: ");
         match self {
             Fault::Usage(fault) => push_usage(&mut line, fault),
+            Fault::List(fault) => push_list(&mut line, fault),
             Fault::DrawLimit { round, slot, words } => {
                 line.push_str("round ");
                 line.push_str(decimal(round).as_str());
@@ -88,6 +106,7 @@ impl Fault {
                 line.push_str(" words");
             }
             Fault::Write => line.push_str("output could not be written"),
+            Fault::NoMemory => line.push_str("out of memory"),
         }
         line.push_str("\n");
         line
@@ -100,6 +119,7 @@ fn push_usage(line: &mut ArrayString<LONGEST>, fault: UsageFault)
     ensures room { array_string_len line.new < LONGEST }
 {
     match fault {
+        UsageFault::No444 => line.push_str("444 is not supported"),
         UsageFault::NoSeed(fault) => push_seed_fault(line, fault),
         UsageFault::Grammar => line.push_str(GRAMMAR),
     }
@@ -120,5 +140,37 @@ fn push_seed_fault(line: &mut ArrayString<LONGEST>, fault: SeedFault)
             line.push_str("seed has no hexadecimal digit at ");
             line.push_str(decimal(place).as_str());
         }
+    }
+}
+
+fn push_list(line: &mut ArrayString<LONGEST>, fault: ListFault)
+    requires { array_string_len line.old ≤ 10 }
+    ensures bytes { line.new.bytes ≡ line.old.bytes ++ list_text fault }
+    ensures room { array_string_len line.new < LONGEST }
+{
+    match fault {
+        ListFault::Read => line.push_str("input could not be read"),
+        ListFault::TooLong => line.push_str("list is longer than 4096 bytes"),
+        ListFault::Line { number, cause } => {
+            line.push_str("line ");
+            line.push_str(decimal(number).as_str());
+            line.push_str(": ");
+            line.push_str(cause_words(cause));
+        }
+    }
+}
+
+/// Why a line was refused: a few words.
+fn cause_words(cause: ListCause) -> &'static str
+    ensures words { result.now ≡ cause_text cause }
+    ensures few { length result.now ≤ 20 }
+{
+    match cause {
+        ListCause::Words => "words",
+        ListCause::No444 => "444 is not supported",
+        ListCause::Event => "unknown event",
+        ListCause::Groups => "groups",
+        ListCause::Minimum => "minimum",
+        ListCause::Rounds => "too many rounds",
     }
 }

@@ -1,29 +1,43 @@
 //! The top call.
 
-ghost use Rattle.std.specs.Prelude.{◌≡◌, ◌↔◌, ◌*◌, List, [], Option, Some, None, IsErr};
-ghost use Rattle.scr_outside.specs.Faults.{Rose};
+ghost use Rattle.std.specs.Prelude.{◌≡◌};
 ghost use Rattle.scr_sheet.specs.Command.{command_of, texts};
-ghost use Rattle.scr_sheet.specs.Outcome.{Ends, HasNoDraw, IsRun};
+ghost use Rattle.scr_list.specs.declared.round.Round.{Round};
+ghost use Rattle.scr_list.specs.Rounds.{IsRound};
+ghost use Rattle.scr_sheet.specs.Fair.{IsDrawnFairly};
+ghost use Rattle.scr_sheet.specs.Outcome.{Ends, IsRun};
 
-use crate::command::{Command, read_command};
+use crate::command::{Command, CommandFault, read_command};
 use crate::fault::{Fault, Status};
 use crate::one::scramble_one;
-use scr_outside::{Sink, write_all};
+use crate::sheet::write_sheet;
+use scr_clock::laws;
+use scr_outside::{Sink, Source, write_all};
+use std::alloc::Global;
 
-/// Does all that the program does, on its words without its own name: writes to `out` what they ask
-/// for, tells on `err` what goes wrong, and gives the status.
+/// Does all that the program does, on its words without its own name: reads the round list from
+/// `source` where they ask for a sheet, writes what they ask for to `out`, tells on `err` what goes
+/// wrong, and gives the status.
 ///
-/// It takes no memory. A fault of `err` changes no status.
-pub fn run<'w, O: Sink, E: Sink>(words: &'w [&'w str], out: &mut O, err: &mut E) -> Status
-    // What `out` and `err` gained, and the status, are those of an end that the definitions allow.
+/// It takes memory only where the first word is `sheet`. A fault of `err` changes no status.
+pub fn run<'w, S: Source, O: Sink, E: Sink>(
+    alloc: Global,
+    words: &'w [&'w str],
+    source: &mut S,
+    out: &mut O,
+    err: &mut E,
+) -> Status
+    // What was taken from `source`, what `out` and `err` gained, and the status, are those of an end
+    // that the definitions allow.
     ensures whole { IsRun (texts words.now) result
+        (record { left_before = S.left source.old; left_after = S.left source.new; faults_before = S.faults source.old; faults_after = S.faults source.new })
         (record { held_before = O.held out.old; held_after = O.held out.new; faults_before = O.faults out.old; faults_after = O.faults out.new })
         (record { held_before = E.held err.old; held_after = E.held err.new; faults_before = E.faults err.old; faults_after = E.faults err.new }) }
-    ensures usage { (result ≡ Status.Usage) ↔ IsErr (command_of (texts words.now)) }
-    ensures draw_limit { (result ≡ Status.DrawLimit) ↔ HasNoDraw (command_of (texts words.now)) }
-    ensures write_fault { result ≡ Status.WriteFault → Rose (O.faults out.old) (O.faults out.new) }
+    // Each round that a list can name is drawn fairly.
+    ensures fair { (round : Round) → IsRound round → IsDrawnFairly round.event round.least }
 {
-    let ended = perform(words, out);
+    laws::drawn_fairly();
+    let ended = perform(alloc, words, source, out);
     match ended {
         Ok(()) => {}
         Err(fault) => {
@@ -33,12 +47,21 @@ pub fn run<'w, O: Sink, E: Sink>(words: &'w [&'w str], out: &mut O, err: &mut E)
     Status::of(ended)
 }
 
-fn perform<O: Sink>(words: &[&str], out: &mut O) -> Result<(), Fault>
-    ensures { Ends (command_of (texts words.now))
+/// Does what the words ask for.
+fn perform<S: Source, O: Sink>(
+    alloc: Global,
+    words: &[&str],
+    source: &mut S,
+    out: &mut O,
+) -> Result<(), Fault>
+    ensures { Ends (texts words.now) (command_of (texts words.now))
+        (record { left_before = S.left source.old; left_after = S.left source.new; faults_before = S.faults source.old; faults_after = S.faults source.new })
         (record { held_before = O.held out.old; held_after = O.held out.new; faults_before = O.faults out.old; faults_after = O.faults out.new }) result }
 {
-    match read_command(words) {
+    match read_command(alloc, words) {
         Ok(Command::One(seed)) => scramble_one(&seed, out),
-        Err(fault) => Err(Fault::Usage(fault)),
+        Ok(Command::Sheet(seed, options)) => write_sheet(alloc, &seed, &options, source, out),
+        Err(CommandFault::Usage(fault)) => Err(Fault::Usage(fault)),
+        Err(CommandFault::NoMemory) => Err(Fault::NoMemory),
     }
 }

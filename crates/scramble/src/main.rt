@@ -2,7 +2,7 @@
 //! of the status that it answers.
 #![tactic(auto)]
 
-use scr_outside::StdSink;
+use scr_outside::{StdSink, StdSource};
 use scr_sheet::{Status, run};
 use std::process::ExitCode;
 use std::{env, io};
@@ -21,7 +21,8 @@ fn run_on_words(rt: &HostRuntime) -> io::Result<Status> {
     for word in &owned {
         words.push(word.as_str())?;
     }
+    let mut source = StdSource::new(rt.stdin());
     let mut out = StdSink::new(rt.stdout());
     let mut err = StdSink::new(rt.stderr());
-    Ok(run(&words, &mut out, &mut err))
+    Ok(run(rt.alloc(), &words, &mut source, &mut out, &mut err))
 }

@@ -9,7 +9,7 @@ use Rattle.scr_clock.proofs.laws.drawn_fairly.Goals as goal
 
 pub returns : goal.returns
 returns c =
-    let least = c.args.least in
+    λ (least : ℕ).
     fair_for (λ (dials : List ℕ). IsClock dials × IsTrue (needs_test dials least)) (IsPermitted clock_puzzle least)
     (permitted-iff least)
     (fair clock_count dials_of number_of IsClock (λ dials. needs_test dials least) clock_numbering)

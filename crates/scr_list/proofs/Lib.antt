@@ -1,0 +1,9 @@
+pub mod NumberLemmas
+pub mod EventLemmas
+pub mod LineLemmas
+pub mod RoundLemmas
+pub mod ReadLemmas
+pub mod RoundFacts
+pub mod ParseLemmas
+pub mod PrintedWords
+pub mod PrintedLemmas

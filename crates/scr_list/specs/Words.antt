@@ -1,0 +1,25 @@
+-- The lines of a text, and the words of a line. The grammar is our own choice.
+use Rattle.std.specs.Prelude.{ℕ, Bool, true, false, ◌||◌, ◌==◌, List, [], ◌∷◌, map, filter}
+use Rattle.std.specs.List.{slice_split}
+use Rattle.std.specs.Str.Lines.{strip_carriage_return}
+
+-- a byte that ends a line: a line feed
+abbrev pub is_line_feed : ℕ → Bool
+is_line_feed byte = byte == 10
+
+-- The lines of a text, each without the carriage return at its end, of which it loses one. Where the text ends with a
+-- line feed, an empty line comes last.
+abbrev pub lines_of : List ℕ → List (List ℕ)
+lines_of bytes = map strip_carriage_return (slice_split is_line_feed bytes)
+
+-- a space or a tab
+abbrev pub is_blank : ℕ → Bool
+is_blank byte = (byte == 32) || (byte == 9)
+
+abbrev pub has_bytes : List ℕ → Bool
+has_bytes [] = false
+has_bytes (byte ∷ rest) = true
+
+-- the words of a line: what stands between its blanks
+unfoldable pub words_of : List ℕ → List (List ℕ)
+words_of line = filter has_bytes (slice_split is_blank line)

@@ -1,0 +1,35 @@
+//! Why a list is refused.
+
+/// Why a line of a list names no round: the first that applies, in this order but for the second and
+/// the third, which change places.
+#[derive(Clone, Copy, Debug, PartialEq, Eq)]
+pub enum ListCause {
+    /// The line has one word, or more than three.
+    Words,
+    /// Its first word names no event that lists take.
+    Event,
+    /// Its first word is `444`; that event is not supported.
+    No444,
+    /// Its second word is no number from 1 to 26.
+    Groups,
+    /// Its third word is no number in the event's range, or the event takes none.
+    Minimum,
+    /// 64 rounds stand before it.
+    Rounds,
+}
+
+/// Why a list is refused, or was not read.
+#[derive(Clone, Copy, Debug, PartialEq, Eq)]
+pub enum ListFault {
+    /// It has more than 4,096 bytes.
+    TooLong,
+    /// The first line at fault.
+    Line {
+        /// Its number, from 1.
+        number: u32,
+        /// Why it names no round.
+        cause: ListCause,
+    },
+    /// The source failed.
+    Read,
+}

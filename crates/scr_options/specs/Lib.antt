@@ -1,0 +1,5 @@
+pub mod Hyphens
+pub mod Options
+pub mod SheetCommand
+pub mod Spelling
+pub mod Words

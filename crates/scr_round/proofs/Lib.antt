@@ -1,0 +1,4 @@
+pub mod RoundLemmas
+pub mod TextLemmas
+pub mod WritingLemmas
+pub mod LineLemmas

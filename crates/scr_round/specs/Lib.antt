@@ -1,0 +1,4 @@
+pub mod Round
+pub mod Made
+pub mod Making
+pub mod Writing
