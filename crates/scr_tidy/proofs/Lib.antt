@@ -1,0 +1,4 @@
+pub mod TidyLaws
+pub mod MergeLaws
+pub mod TidyPlay
+pub mod BackLaws
