@@ -1,3 +1,4 @@
 pub mod Sums
 pub mod Chains
 pub mod SideLaws
+pub mod WrittenClock

@@ -6,47 +6,6 @@ ghost use Rattle.scr_dials.specs.Pattern.{IsAmounts, pattern};
 
 use crate::clock::Clock;
 
-const UR: u8 = 1;
-
-const DR: u8 = 2;
-
-const DL: u8 = 4;
-
-const UL: u8 = 8;
-
-const U: u8 = UR + UL;
-
-const R: u8 = UR + DR;
-
-const D: u8 = DR + DL;
-
-const L: u8 = DL + UL;
-
-const ALL: u8 = U + D;
-
-/// Plays the fourteen turns of a printed scramble on `clock`: UR DR DL UL U R D L ALL on the front and, with the back
-/// facing the scrambler, U R D L ALL on the back, by these amounts from 0 to 11.
-pub fn play_amounts(clock: &Clock, amounts: &[u8; 14]) -> Clock
-    requires { All (λ a. a < 12) amounts.now }
-    ensures { result ≡ play turned clock.now (pattern amounts.now) }
-{
-    clock
-        .pins(false, UR, amounts[0])
-        .pins(false, DR, amounts[1])
-        .pins(false, DL, amounts[2])
-        .pins(false, UL, amounts[3])
-        .pins(false, U, amounts[4])
-        .pins(false, R, amounts[5])
-        .pins(false, D, amounts[6])
-        .pins(false, L, amounts[7])
-        .pins(false, ALL, amounts[8])
-        .pins(true, U, amounts[9])
-        .pins(true, R, amounts[10])
-        .pins(true, D, amounts[11])
-        .pins(true, L, amounts[12])
-        .pins(true, ALL, amounts[13])
-}
-
 /// The amounts, from 0 to 11, of the one printed scramble that gives this state from solved.
 ///
 /// Minus is eleven times, modulo 12. The back turns alone move the back, so its dials give their amounts, and then what

@@ -2,10 +2,9 @@
 ghost use Rattle.std.specs.Prelude.{◌<◌};
 ghost use Rattle.scr_dials.specs.Dials.{clock_count};
 
-use crate::{
-    Clock, ClockNumbers, amounts_text, laws, needs_at_least, play_amounts, solve, state_at,
-};
+use crate::{Clock, ClockNumbers, laws, needs_at_least, scramble_clock, state_at};
 use scr_draw::{DrawLimit, Numbering, draw};
+use scr_notation::{Event, Scramble, Turn, parse, print};
 use scr_words::ListWords;
 use std::process::Abort;
 
@@ -14,9 +13,33 @@ fn shows(rt: &impl Abort, number: u128, dials: [u8; 14], text: &str)
 {
     let clock = state_at(number);
     assert_eq!(rt; clock.dials(), dials);
-    let amounts = solve(&clock);
-    assert_eq!(rt; amounts_text(&amounts).as_str(), text);
-    assert_eq!(rt; play_amounts(&Clock::solved(), &amounts).dials(), dials);
+    let scramble = scramble_clock(&clock);
+    assert_eq!(rt; print(&scramble).as_str(), text);
+    assert_eq!(rt; Clock::solved().play(&scramble), Some(clock));
+}
+
+#[test]
+fn known_plays(rt: HostRuntime) {
+    let Ok(scramble) = parse(Event::Clock, "UR1+ y2 ALL2- y2 U6+") else {
+        assert!(rt; false);
+        return;
+    };
+    let solved = Clock::solved();
+    let turned = solved
+        .pins(false, 1, 1)
+        .pins(true, 15, 10)
+        .pins(false, 9, 6);
+    assert_eq!(rt; solved.play(&scramble), Some(turned));
+    let mut cube = Scramble::new(Event::C333);
+    assert_eq!(rt; solved.play(&cube), Some(solved));
+    assert!(rt;
+        cube.push(Turn::Face {
+            face: 0,
+            depth: 1,
+            amount: 1
+        })
+    );
+    assert_eq!(rt; solved.play(&cube), None);
 }
 
 #[test]

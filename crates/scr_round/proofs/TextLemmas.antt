@@ -1,7 +1,7 @@
 -- The decimal text of a number below 2 ^ 32.
-use Rattle.std.proofs.Common.{◌≡◌, ℕ, ◌+◌, ◌/◌, ◌%◌, ◌^◌, ◌<◌, ◌≤◌, List, [], ◌∷◌, ◌++◌, length, arith, length-append, lit<, ap, ◌∙◌, sym}
+use Rattle.std.proofs.Common.{◌≡◌, ℕ, ◌+◌, ◌/◌, ◌%◌, ◌^◌, ◌<◌, ◌≤◌, [], ◌∷◌, ◌++◌, length, arith, length-append, lit<, ap, ◌∙◌}
 use Rattle.std.specs.Fmt.{decimal}
-use Rattle.std.proofs.lemmas.Fmt.{length-decimal-le, decimal_step, decimal_digit}
+use Rattle.std.proofs.lemmas.Fmt.{length-decimal-le, decimal_step}
 
 pub length-decimal : (n : ℕ) → n < 2 ^ 32 → length (decimal n) ≤ 10
 length-decimal n small = length-decimal-le 10 n (lit< tt) (omega (arith, small)) (omega (arith, small))

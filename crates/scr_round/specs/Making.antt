@@ -1,16 +1,16 @@
 -- What making a round may answer.
-use Rattle.std.specs.Prelude.{◌≡◌, ℕ, ◌*◌, List, Option, None}
+use Rattle.std.specs.Prelude.{◌≡◌, ℕ, ◌*◌, List, None}
 use Rattle.scr_list.specs.declared.round.Round.{Round}
 use Rattle.scr_round.specs.declared.making.RoundFault.{RoundFault}
 use Rattle.scr_round.specs.declared.making.RoundFault.TheVariants.{NoMemory, Limit}
 use Rattle.scr_round.specs.Made.{Made}
-use Rattle.scr_round.specs.Round.{AreRoundScrambles, IsFirstWithout, IsSlotScramble, clock_drawn}
+use Rattle.scr_round.specs.Round.{AreRoundScrambles, IsFirstWithout, clock_drawn}
 
 -- round k with all its scrambles
 pub record IsMade (seed : List ℕ) (attempts k : ℕ) (round : Round) (made : Made) : Type 0 where
   pub same_round : made.round ≡ round
   pub same_index : made.index ≡ k
-  pub scrambles : AreRoundScrambles seed attempts k round made.amounts
+  pub scrambles : AreRoundScrambles seed attempts k round made.scrambles
 
 -- the first slot without a scramble; want of memory is free
 abbrev pub IsRoundFault : List ℕ → ℕ → ℕ → Round → RoundFault → Type 0

@@ -1,14 +1,15 @@
 -- A round of a sheet: its slots, its scrambles and its text.
-use Rattle.std.specs.Prelude.{◌≡◌, ℕ, zero, suc, ◌+◌, ◌*◌, Option, Some, None, List, [], ◌∷◌, ◌++◌, codes, take, drop, length, IsSome, ◌<◌}
+use Rattle.std.specs.Prelude.{◌≡◌, ℕ, zero, suc, ◌+◌, ◌*◌, Option, Some, None, List, [], ◌∷◌, ◌++◌, codes, map, take, drop, length, IsSome, ◌<◌}
 use Rattle.std.specs.Fmt.{decimal}
-use Rattle.scr_play.specs.Play.{play}
 use Rattle.scr_stream.specs.Stream.{stream_word}
 use Rattle.scr_stream.specs.Attempt.{attempt_values}
 use Rattle.scr_stream.specs.Drawn.{drawn, hit}
-use Rattle.scr_dials.specs.Dials.{turned, solved, clock_count, dials_of}
+use Rattle.scr_dials.specs.Dials.{clock_count, dials_of}
 use Rattle.scr_dials.specs.Least.{needs_test}
-use Rattle.scr_dials.specs.Pattern.{IsAmounts, pattern, text_of}
+use Rattle.scr_clock.specs.Printed.{IsPrintedFor}
+use Rattle.scr_notation.specs.declared.event.Event.TheVariants.{Clock}
 use Rattle.scr_notation.specs.Event.{name_of}
+use Rattle.scr_notation.specs.Written.{Written, text_of}
 use Rattle.scr_list.specs.Events.{scrambles_per_group, most_least}
 use Rattle.scr_list.specs.declared.round.Round.{Round}
 
@@ -32,25 +33,25 @@ clock_drawn seed attempts least stream =
     drawn (hit clock_count dials_of (λ dials. needs_test dials least))
     (attempt_values (stream_word seed stream) 0 attempts)
 
--- the amounts of a scramble which, played on solved, give this state
-pub record GivesState (dials amounts : List ℕ) : Type 0 where
-  pub hours : IsAmounts amounts
-  pub gives : play turned solved (pattern amounts) ≡ dials
+-- the printed scramble of a Clock, which gives it from solved: its turns are the only such
+pub record IsScrambleFor (dials : List ℕ) (scramble : Written) : Type 0 where
+  pub event : scramble.event ≡ Clock
+  pub printed : IsPrintedFor dials scramble.turns
 
 -- the scramble of a slot: that of the state which it draws
-pub record IsSlotScramble (seed : List ℕ) (attempts least stream : ℕ) (amounts : List ℕ) : Type 0 where
+pub record IsSlotScramble (seed : List ℕ) (attempts least stream : ℕ) (scramble : Written) : Type 0 where
   pub state : List ℕ
   pub draws : clock_drawn seed attempts least stream ≡ Some state
-  pub scramble : GivesState state amounts
+  pub gives : IsScrambleFor state scramble
 
 -- the scrambles of slots one after another, the first of them on this stream
-abbrev pub AreScrambles : List ℕ → ℕ → ℕ → ℕ → List (List ℕ) → Type 0
+abbrev pub AreScrambles : List ℕ → ℕ → ℕ → ℕ → List Written → Type 0
 AreScrambles seed attempts least stream [] = Unit {0}
-AreScrambles seed attempts least stream (amounts ∷ others) =
-    IsSlotScramble seed attempts least stream amounts × AreScrambles seed attempts least (stream + 1) others
+AreScrambles seed attempts least stream (scramble ∷ others) =
+    IsSlotScramble seed attempts least stream scramble × AreScrambles seed attempts least (stream + 1) others
 
 -- the scrambles of round k, one for each slot in order
-pub record AreRoundScrambles (seed : List ℕ) (attempts k : ℕ) (round : Round) (scrambles : List (List ℕ)) : Type 0 where
+pub record AreRoundScrambles (seed : List ℕ) (attempts k : ℕ) (round : Round) (scrambles : List Written) : Type 0 where
   pub each_slot : length scrambles ≡ slots_of round
   pub each : AreScrambles seed attempts round.least (first_stream k) scrambles
 
@@ -95,6 +96,14 @@ joined [] = []
 joined (line ∷ lines) = line ++ codes "\n" ++ joined lines
 
 -- the text of round k, of scrambles with these texts: groups are lettered from A
-abbrev pub round_text : ℕ → Round → List (List ℕ) → List ℕ
-round_text k round texts =
+abbrev pub text_of_round : ℕ → Round → List (List ℕ) → List ℕ
+text_of_round k round texts =
     joined (heading k round ∷ group_lines (scrambles_per_group round.event) round.groups 65 texts)
+
+-- the text of a scramble: its turns as they are spelled
+abbrev pub scramble_text : Written → List ℕ
+scramble_text scramble = text_of scramble.turns
+
+-- the text of round k with these scrambles
+abbrev pub round_text : ℕ → Round → List Written → List ℕ
+round_text k round scrambles = text_of_round k round (map scramble_text scrambles)

@@ -15,7 +15,7 @@ mod writing;
 
 pub use line::write_line;
 pub use made::RoundResult;
-pub use making::{RoundFault, make_round, slot_amounts};
+pub use making::{RoundFault, make_round, slot_scramble};
 pub use options::Options;
 pub use text::decimal;
 pub use writing::write_round;

@@ -3,28 +3,28 @@
 ghost use Rattle.std.specs.Prelude.{◌≡◌, List};
 
 use scr_list::Round;
+use scr_notation::Scramble;
 use std::marker::Model;
 
-/// A round with its scrambles: for each slot, in order, the fourteen amounts of a Clock's scramble.
+/// A round with its scrambles, one for each slot in order.
 #[derive(Drop)]
 pub struct RoundResult {
     pub(crate) round: Round,
     pub(crate) index: u32,
-    pub(crate) amounts: Vec<[u8; 14]>,
+    pub(crate) scrambles: Vec<Scramble>,
 }
 
 impl Model for RoundResult {
-    ghost use Rattle.std.specs.Prelude.{◌≡◌, ◌≤◌, ◌<◌, length, All, IsTrue};
+    ghost use Rattle.std.specs.Prelude.{◌≡◌, ◌≤◌, ◌<◌, length, IsTrue};
     ghost use Rattle.scr_list.specs.Rounds.{IsRound};
-    ghost use Rattle.scr_dials.specs.Pattern.{IsAmounts};
     ghost use Rattle.scr_round.specs.Round.{slots_of};
     ghost use Rattle.scr_round.specs.Made.{Made};
 
     ghost Value = { Made };
 
-    ghost view = { λ m. record { round = m.round; index = m.index; amounts = m.amounts.items } };
+    ghost view = { λ m. record { round = m.round; index = m.index; scrambles = m.scrambles.items } };
 
-    ghost invariant = { λ m. IsRound m.round × (length m.amounts.items ≡ slots_of m.round) × All IsAmounts m.amounts.items × (m.index < 256) };
+    ghost invariant = { λ m. IsRound m.round × (length m.scrambles.items ≡ slots_of m.round) × (m.index < 256) };
 }
 
 impl RoundResult {
@@ -42,10 +42,10 @@ impl RoundResult {
         self.index
     }
 
-    /// The amounts of its scrambles, in the order of the slots.
-    pub fn amounts(&self) -> &[[u8; 14]]
-        ensures { result.now ≡ self.now.amounts }
+    /// Its scrambles, in the order of the slots.
+    pub fn scrambles(&self) -> &[Scramble]
+        ensures { result.now ≡ self.now.scrambles }
     {
-        &self.amounts
+        &self.scrambles
     }
 }

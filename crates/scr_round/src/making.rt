@@ -9,9 +9,10 @@ ghost use Rattle.scr_round.specs.Making.{IsMade, IsRoundFault, DrawsNothing};
 
 use crate::made::RoundResult;
 use crate::options::Options;
-use scr_clock::{ClockNumbers, solve};
+use scr_clock::{ClockNumbers, scramble_clock};
 use scr_draw::draw;
 use scr_list::{Round, per_group};
+use scr_notation::Scramble;
 use scr_words::{ChaChaWords, Seed};
 use std::alloc::Global;
 
@@ -44,21 +45,21 @@ pub fn make_round(
         (IsRoundFault seed.now.0 options.now.attempts index round.now) }
 {
     let slots = slots(round);
-    let mut amounts = match Vec::with_capacity(alloc, slots as usize) {
-        Ok(amounts) => amounts,
+    let mut scrambles = match Vec::with_capacity(alloc, slots as usize) {
+        Ok(scrambles) => scrambles,
         Err(_) => return Err(RoundFault::NoMemory),
     };
     for slot in 0..slots {
         let stream = 1024 * index as u64 + slot as u64;
-        match slot_amounts(seed, stream, round.least as u32, options.attempts) {
-            Ok(scramble) => push_within(&mut amounts, scramble),
+        match slot_scramble(seed, stream, round.least as u32, options.attempts) {
+            Ok(scramble) => push_within(&mut scrambles, scramble),
             Err(words) => return Err(RoundFault::Limit { slot, words }),
         }
     }
     Ok(RoundResult {
         round: *round,
         index,
-        amounts,
+        scrambles,
     })
 }
 
@@ -71,26 +72,26 @@ pub(crate) fn slots(round: &Round) -> u32
     u32::from(round.groups) * (u32::from(per_group(round.event)) + 2)
 }
 
-/// The amounts of the scramble of a slot on this stream, or how many words its attempts took.
-pub fn slot_amounts(seed: &Seed, stream: u64, least: u32, attempts: u32) -> Result<[u8; 14], u32>
+/// The scramble of a slot on this stream, or how many words its attempts took.
+pub fn slot_scramble(seed: &Seed, stream: u64, least: u32, attempts: u32) -> Result<Scramble, u32>
     requires least { least ≤ 3 }
     requires attempts { attempts ≤ 1000000 }
     ensures { MatchResult result (IsSlotScramble seed.now.0 attempts least stream) (DrawsNothing seed.now.0 attempts least stream) }
 {
     let mut words = ChaChaWords::new(seed, stream);
     match draw(&mut words, &ClockNumbers, least, attempts) {
-        Ok(clock) => Ok(solve(&clock)),
+        Ok(clock) => Ok(scramble_clock(&clock)),
         Err(limit) => Err(limit.words),
     }
 }
 
 /// Appends to a list that has room.
-fn push_within(amounts: &mut Vec<[u8; 14]>, scramble: [u8; 14])
-    requires { vec_len amounts.old < vec_capacity amounts.old }
-    ensures items { amounts.new.items ≡ amounts.old.items ++ scramble ∷ [] }
-    ensures room { vec_capacity amounts.old ≤ vec_capacity amounts.new }
+fn push_within(scrambles: &mut Vec<Scramble>, scramble: Scramble)
+    requires { vec_len scrambles.old < vec_capacity scrambles.old }
+    ensures items { scrambles.new.items ≡ scrambles.old.items ++ scramble ∷ [] }
+    ensures room { vec_capacity scrambles.old ≤ vec_capacity scrambles.new }
 {
-    match amounts.push(scramble) {
+    match scrambles.push(scramble) {
         Ok(()) => {}
         Err(_) => unreachable!(),
     }

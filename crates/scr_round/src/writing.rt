@@ -1,9 +1,8 @@
 //! The text of a round.
 
-ghost use Rattle.std.specs.Prelude.{◌≡◌, ◌+◌, ◌-◌, ◌*◌, ◌≤◌, ◌<◌, [], ◌∷◌, ◌++◌, length, map, codes, List, All};
-ghost use Rattle.scr_dials.specs.Pattern.{IsAmounts, text_of};
+ghost use Rattle.std.specs.Prelude.{◌≡◌, ◌+◌, ◌-◌, ◌*◌, ◌≤◌, ◌<◌, [], ◌∷◌, ◌++◌, length, map, codes, List};
 ghost use Rattle.scr_list.specs.Rounds.{IsRound};
-ghost use Rattle.scr_round.specs.Round.{slots_of, heading, joined, labelled, labels_from, group_lines, round_text};
+ghost use Rattle.scr_round.specs.Round.{slots_of, heading, joined, labelled, labels_from, group_lines, round_text, scramble_text};
 ghost use Rattle.std.specs.Fmt.{decimal};
 ghost use Rattle.arrayvec.specs.ArrayString.{array_string_len};
 ghost use Rattle.scr_notation.specs.Event.{name_of};
@@ -15,18 +14,17 @@ use crate::line::write_line;
 use crate::made::RoundResult;
 use crate::text::decimal;
 use arrayvec::ArrayString;
-use scr_clock::amounts_text;
 use scr_list::{Round, greatest_least, per_group};
-use scr_notation::Event;
+use scr_notation::{Event, Scramble, print};
 use scr_outside::{Failed, Sink};
 
 /// Writes the text of a round, one piece a line. At `Failed`, which comes only where the sink's count of
 /// faults rose, a first part of it was written.
 pub fn write_round<O: Sink>(out: &mut O, made: &RoundResult) -> Result<(), Failed>
     ensures { Writes (O.held out.old) (O.held out.new) (O.faults out.old) (O.faults out.new)
-        (round_text made.now.index made.now.round (map text_of made.now.amounts)) result }
+        (round_text made.now.index made.now.round made.now.scrambles) result }
 {
-    write_parts(out, made.index, &made.round, &made.amounts)
+    write_parts(out, made.index, &made.round, &made.scrambles)
 }
 
 /// Writes the text of round `index`, counted from 0, of these scrambles.
@@ -34,14 +32,13 @@ fn write_parts<O: Sink>(
     out: &mut O,
     index: u32,
     round: &Round,
-    scrambles: &[[u8; 14]],
+    scrambles: &[Scramble],
 ) -> Result<(), Failed>
     requires index { index < 256 }
     requires round { IsRound round.now }
     requires each { length scrambles.now ≡ slots_of round.now }
-    requires hours { All IsAmounts scrambles.now }
     ensures { Writes (O.held out.old) (O.held out.new) (O.faults out.old) (O.faults out.new)
-        (round_text index round.now (map text_of scrambles.now)) result }
+        (round_text index round.now scrambles.now) result }
 {
     write_heading(out, index, round)?;
     write_groups(out, per_group(round.event), round.groups, scrambles)
@@ -95,14 +92,13 @@ fn write_groups<O: Sink>(
     out: &mut O,
     own: u8,
     groups: u8,
-    scrambles: &[[u8; 14]],
+    scrambles: &[Scramble],
 ) -> Result<(), Failed>
     requires own { own ≤ 5 }
     requires groups { groups ≤ 26 }
     requires each { length scrambles.now ≡ groups * (own + 2) }
-    requires hours { All IsAmounts scrambles.now }
     ensures { Writes (O.held out.old) (O.held out.new) (O.faults out.old) (O.faults out.new)
-        (joined (group_lines own groups 65 (map text_of scrambles.now))) result }
+        (joined (group_lines own groups 65 (map scramble_text scrambles.now))) result }
 {
     let mut rest = scrambles;
     for group in 0..groups {
@@ -118,14 +114,13 @@ fn write_group<O: Sink>(
     out: &mut O,
     own: u8,
     letter: u8,
-    scrambles: &[[u8; 14]],
+    scrambles: &[Scramble],
 ) -> Result<(), Failed>
     requires own { own ≤ 5 }
     requires letter { letter < 128 }
     requires each { length scrambles.now ≡ own + 2 }
-    requires hours { All IsAmounts scrambles.now }
     ensures { Writes (O.held out.old) (O.held out.new) (O.faults out.old) (O.faults out.new)
-        (joined ((codes "Group " ++ letter ∷ []) ∷ labelled (labels_from 1 own) (map text_of scrambles.now) ++ [] ∷ [])) result }
+        (joined ((codes "Group " ++ letter ∷ []) ∷ labelled (labels_from 1 own) (map scramble_text scrambles.now) ++ [] ∷ [])) result }
 {
     write_letter(out, letter)?;
     write_scrambles(out, own, scrambles)?;
@@ -144,12 +139,11 @@ fn write_letter<O: Sink>(out: &mut O, letter: u8) -> Result<(), Failed>
 }
 
 /// Writes the scrambles of a group, numbered from 1, and then the two extra ones.
-fn write_scrambles<O: Sink>(out: &mut O, own: u8, scrambles: &[[u8; 14]]) -> Result<(), Failed>
+fn write_scrambles<O: Sink>(out: &mut O, own: u8, scrambles: &[Scramble]) -> Result<(), Failed>
     requires own { own ≤ 5 }
     requires each { length scrambles.now ≡ own + 2 }
-    requires hours { All IsAmounts scrambles.now }
     ensures { Writes (O.held out.old) (O.held out.new) (O.faults out.old) (O.faults out.new)
-        (joined (labelled (labels_from 1 own) (map text_of scrambles.now))) result }
+        (joined (labelled (labels_from 1 own) (map scramble_text scrambles.now))) result }
 {
     for number in 0..own {
         write_own(out, number + 1, &scrambles[number as usize])?;
@@ -159,23 +153,21 @@ fn write_scrambles<O: Sink>(out: &mut O, own: u8, scrambles: &[[u8; 14]]) -> Res
 }
 
 /// Writes a scramble of the group's own behind its number.
-fn write_own<O: Sink>(out: &mut O, number: u8, amounts: &[u8; 14]) -> Result<(), Failed>
-    requires { IsAmounts amounts.now }
+fn write_own<O: Sink>(out: &mut O, number: u8, scramble: &Scramble) -> Result<(), Failed>
     ensures { Writes (O.held out.old) (O.held out.new) (O.faults out.old) (O.faults out.new)
-        (((decimal number ++ codes ". ") ++ text_of amounts.now) ++ codes "\n") result }
+        (((decimal number ++ codes ". ") ++ scramble_text scramble.now) ++ codes "\n") result }
 {
     let mut label = ArrayString::<12>::new();
     label.push_str(decimal(number as u32).as_str());
     label.push_str(". ");
-    write_scramble(out, label.as_str(), amounts)
+    write_scramble(out, label.as_str(), scramble)
 }
 
 /// Writes a scramble behind its label.
-fn write_scramble<O: Sink>(out: &mut O, label: &str, amounts: &[u8; 14]) -> Result<(), Failed>
-    requires label { length label.now ≤ 12 }
-    requires hours { IsAmounts amounts.now }
+fn write_scramble<O: Sink>(out: &mut O, label: &str, scramble: &Scramble) -> Result<(), Failed>
+    requires { length label.now ≤ 12 }
     ensures { Writes (O.held out.old) (O.held out.new) (O.faults out.old) (O.faults out.new)
-        ((label.now ++ text_of amounts.now) ++ codes "\n") result }
+        ((label.now ++ scramble_text scramble.now) ++ codes "\n") result }
 {
-    write_line(out, label, amounts_text(amounts).as_str())
+    write_line(out, label, print(scramble).as_str())
 }

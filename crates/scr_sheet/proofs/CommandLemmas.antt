@@ -1,5 +1,5 @@
 -- Words that are no command.
-use Rattle.std.proofs.Common.{◌≡◌, ℕ, List, [], ◌∷◌, length, Err, refl, arith, Bor}
+use Rattle.std.proofs.Common.{◌≡◌, ℕ, List, [], ◌∷◌, length, Err, refl, Bor}
 use Rattle.scr_sheet.specs.declared.command.UsageFault.TheVariants.{Grammar}
 use Rattle.scr_sheet.specs.Command.{one_of, texts}
 

@@ -1,16 +1,15 @@
 -- A round that ends the sheet before its end.
-use Rattle.std.proofs.Common.{◌≡◌, ℕ, suc, ◌+◌, ◌≤◌, ◌<◌, List, [], ◌∷◌, ◌++◌, length, take, drop, get_or, Err, Ok, refl, sym, ap, subst, ◌∙◌, append_assoc, append-nil, arith, take-append-drop, drop-cons, length-take-le, take-suc, add-one, inl, inr}
+use Rattle.std.proofs.Common.{◌≡◌, ℕ, suc, ◌+◌, ◌<◌, List, [], ◌∷◌, ◌++◌, length, take, drop, get_or, Err, Ok, sym, ap, subst, ◌∙◌, append_assoc, arith, take-append-drop, drop-cons, length-take-le, take-suc, add-one}
 use Rattle.std.specs.Prelude.{Option}
 use Rattle.scr_outside.specs.Bytes.{Gained, GainedPart}
-use Rattle.scr_outside.specs.Faults.{Rose}
 use Rattle.scr_outside.proofs.BytesLemmas.{appended-nil, Gained-append}
 use Rattle.scr_list.specs.declared.round.Round.{Round}
 use Rattle.scr_round.specs.Round.{IsFirstWithout}
 use Rattle.scr_round.proofs.WritingLemmas.{Rose-after}
 use Rattle.scr_sheet.specs.declared.fault.Fault.{Fault}
 use Rattle.scr_sheet.specs.declared.fault.Fault.TheVariants as fault
-use Rattle.scr_sheet.specs.Sheet.{IsSheet, IsSheetFrom}
-use Rattle.scr_sheet.specs.Outcome.{Written, EndsRound, EndsRounds, IsLed}
+use Rattle.scr_sheet.specs.Sheet.{IsSheetFrom}
+use Rattle.scr_sheet.specs.Outcome.{EndsRound, EndsRounds}
 use Rattle.scr_sheet.proofs.SheetLemmas.{IsLedTo, led-more, IsSheetFrom-append}
 
 -- the rounds before one, that one, and the rounds after it

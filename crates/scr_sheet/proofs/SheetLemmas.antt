@@ -1,12 +1,10 @@
 -- Rounds written one after another.
-use Rattle.std.proofs.Common.{◌≡◌, ℕ, ◌+◌, ◌≤◌, List, [], ◌∷◌, ◌++◌, length, map, refl, sym, ap, subst, ◌∙◌, append_assoc, append-nil, add-zero, arith}
+use Rattle.std.proofs.Common.{◌≡◌, ℕ, ◌+◌, ◌≤◌, List, [], ◌∷◌, ◌++◌, length, refl, sym, ap, subst, ◌∙◌, append_assoc, append-nil, add-zero, arith}
 use Rattle.std.specs.Prelude.{Option}
-use Rattle.scr_outside.specs.Bytes.{Gained, GainedPart}
-use Rattle.scr_outside.specs.Faults.{Rose}
+use Rattle.scr_outside.specs.Bytes.{Gained}
 use Rattle.scr_outside.proofs.BytesLemmas.{appended-nil, Gained-append}
-use Rattle.scr_dials.specs.Pattern.{text_of}
 use Rattle.scr_list.specs.declared.round.Round.{Round}
-use Rattle.scr_round.specs.Round.{AreRoundScrambles, round_text}
+use Rattle.scr_round.specs.Round.{round_text}
 use Rattle.scr_round.specs.Made.{Made}
 use Rattle.scr_round.specs.Making.{IsMade}
 use Rattle.scr_sheet.specs.Sheet.{IsSheetFrom, IsSheet}
@@ -26,15 +24,15 @@ IsSheetFrom-append seed attempts k (round ∷ led) more text next before after =
       before.1 ++ next,
       before.2,
       IsSheetFrom-append seed attempts (k + 1) led more before.1 next before.3 (subst P place after),
-      ap (λ t. t ++ next) before.4 ∙ append_assoc (round_text k round (map text_of before.0)) before.1 next,
+      ap (λ t. t ++ next) before.4 ∙ append_assoc (round_text k round before.0) before.1 next,
     )
 
 -- a round that was made has its text as a sheet of its own
 pub IsSheetFrom-made : (seed : List ℕ) (attempts k : ℕ) (round : Round) (made : Made) → IsMade seed attempts k round made →
-    IsSheetFrom seed attempts k (round ∷ []) (round_text made.index made.round (map text_of made.amounts))
+    IsSheetFrom seed attempts k (round ∷ []) (round_text made.index made.round made.scrambles)
 IsSheetFrom-made seed attempts k round made all =
-    let texts = map text_of made.amounts in (
-      made.amounts,
+    let texts = made.scrambles in (
+      made.scrambles,
       [],
       all.scrambles,
       refl,

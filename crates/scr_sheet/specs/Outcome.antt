@@ -1,8 +1,8 @@
 -- How a run may end.
-use Rattle.std.specs.Prelude.{◌≡◌, ◌≤◌, ◌*◌, ◌+◌, ◌⊎◌, ℕ, Option, Some, None, List, [], ◌∷◌, ◌++◌, length, codes, Result, Ok, Err}
+use Rattle.std.specs.Prelude.{◌≡◌, ◌≤◌, ◌*◌, ◌+◌, ◌⊎◌, ℕ, Option, None, List, [], ◌∷◌, ◌++◌, length, codes, Result, Ok, Err}
 use Rattle.scr_outside.specs.Bytes.{Gained, GainedPart}
 use Rattle.scr_outside.specs.Faults.{Rose}
-use Rattle.scr_dials.specs.Pattern.{text_of}
+use Rattle.scr_notation.specs.Written.{Written as Printed}
 use Rattle.scr_list.specs.Reading.{TookList, IsListFault, IsReadCause}
 use Rattle.scr_list.specs.declared.round.Round.{Round}
 use Rattle.scr_list.specs.declared.fault.ListFault.{ListFault}
@@ -16,7 +16,7 @@ use Rattle.scr_sheet.specs.declared.fault.Status.{Status}
 use Rattle.scr_sheet.specs.declared.fault.Status.TheVariants as status
 use Rattle.scr_sheet.specs.Command.{command_of, AsksForSheet}
 use Rattle.scr_sheet.specs.Message.{message_of}
-use Rattle.scr_round.specs.Round.{clock_drawn, IsSlotScramble, IsFirstWithout}
+use Rattle.scr_round.specs.Round.{clock_drawn, IsSlotScramble, IsFirstWithout, scramble_text}
 use Rattle.scr_sheet.specs.Sheet.{IsSheet, IsSheetFrom}
 
 -- ---- what a call changes outside
@@ -96,9 +96,9 @@ attempts_of_one = 1000
 
 -- the line of the scramble that stream 0 gives, with no minimum
 pub record IsLineOf (seed line : List ℕ) : Type 0 where
-  pub amounts : List ℕ
-  pub scramble : IsSlotScramble seed attempts_of_one 0 0 amounts
-  pub printed : line ≡ text_of amounts ++ codes "\n"
+  pub scramble : Printed
+  pub drawn : IsSlotScramble seed attempts_of_one 0 0 scramble
+  pub printed : line ≡ scramble_text scramble ++ codes "\n"
 
 -- how `one` ends
 abbrev pub EndsOne : List ℕ → Written → Result (Unit {0}) Fault → Type 0

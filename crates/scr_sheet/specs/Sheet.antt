@@ -1,6 +1,6 @@
 -- The sheet of a list of rounds.
-use Rattle.std.specs.Prelude.{◌≡◌, ℕ, ◌+◌, List, [], ◌∷◌, ◌++◌, map}
-use Rattle.scr_dials.specs.Pattern.{text_of}
+use Rattle.std.specs.Prelude.{◌≡◌, ℕ, ◌+◌, List, [], ◌∷◌, ◌++◌}
+use Rattle.scr_notation.specs.Written.{Written}
 use Rattle.scr_list.specs.declared.round.Round.{Round}
 use Rattle.scr_round.specs.Round.{AreRoundScrambles, round_text}
 
@@ -8,8 +8,8 @@ use Rattle.scr_round.specs.Round.{AreRoundScrambles, round_text}
 abbrev pub IsSheetFrom : List ℕ → ℕ → ℕ → List Round → List ℕ → Type 0
 IsSheetFrom seed attempts k [] text = text ≡ []
 IsSheetFrom seed attempts k (round ∷ rounds) text =
-    (scrambles : List (List ℕ)) × (rest : List ℕ) × AreRoundScrambles seed attempts k round scrambles
-    × IsSheetFrom seed attempts (k + 1) rounds rest × (text ≡ round_text k round (map text_of scrambles) ++ rest)
+    (scrambles : List Written) × (rest : List ℕ) × AreRoundScrambles seed attempts k round scrambles
+    × IsSheetFrom seed attempts (k + 1) rounds rest × (text ≡ round_text k round scrambles ++ rest)
 
 -- the text of a whole sheet
 abbrev pub IsSheet : List ℕ → ℕ → List Round → List ℕ → Type 0

@@ -3,9 +3,9 @@
 ghost use Rattle.scr_sheet.specs.Outcome.{EndsOne};
 
 use crate::fault::Fault;
-use scr_clock::amounts_text;
+use scr_notation::print;
 use scr_outside::{Failed, Sink};
-use scr_round::{slot_amounts, write_line};
+use scr_round::{slot_scramble, write_line};
 use scr_words::Seed;
 
 /// How many attempts the draw of `one` has.
@@ -17,8 +17,8 @@ pub(crate) fn scramble_one<O: Sink>(seed: &Seed, out: &mut O) -> Result<(), Faul
     ensures { EndsOne seed.now.0
         (record { held_before = O.held out.old; held_after = O.held out.new; faults_before = O.faults out.old; faults_after = O.faults out.new }) result }
 {
-    match slot_amounts(seed, 0, 0, ATTEMPTS) {
-        Ok(amounts) => match write_line(out, "", amounts_text(&amounts).as_str()) {
+    match slot_scramble(seed, 0, 0, ATTEMPTS) {
+        Ok(scramble) => match write_line(out, "", print(&scramble).as_str()) {
             Ok(()) => Ok(()),
             Err(Failed) => Err(Fault::Write),
         },

@@ -1,4 +1,4 @@
-use Rattle.std.proofs.Common.{ℕ, ◌+◌, ◌<◌, ◌≡◌, ◌≤◌, ◌/◌, ◌%◌, length, arith, ap, ap₂, ◌∙◌, sym, [], ◌∷◌, ◌++◌}
+use Rattle.std.proofs.Common.{length, arith, ap, sym}
 use Rattle.std.proofs.lemmas.Fmt.{decimal_digit}
 use Rattle.scr_round.proofs.TextLemmas.{length-decimal, decimal-more, length-decimal-more}
 use Rattle.scr_round.proofs.text.+decimal.Goals as goal

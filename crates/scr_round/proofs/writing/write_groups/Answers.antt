@@ -1,9 +1,7 @@
-use Rattle.std.proofs.Common.{◌≡◌, ℕ, ◌+◌, ◌-◌, ◌*◌, ◌<◌, length, refl, sym, ◌∙◌, ap, suc, suc-mul, arith}
-use Rattle.std.proofs.lemmas.List.Elements.{All-drop}
-use Rattle.scr_dials.specs.Pattern.{IsAmounts}
+use Rattle.std.proofs.Common.{◌≡◌, ℕ, ◌+◌, ◌-◌, ◌*◌, ◌<◌, refl, suc, suc-mul, arith}
 use Rattle.std.proofs.lemmas.Result.{err_from_is_err_and}
 use Rattle.scr_round.proofs.WritingLemmas.{written-more, written-part, written-at}
-use Rattle.scr_round.proofs.LineLemmas.{groups_left, groups_left-next}
+use Rattle.scr_round.proofs.LineLemmas.{groups_left-next}
 use Rattle.scr_round.proofs.writing.write_groups.Goals as goal
 
 pub returns-in_err-write_group : goal.returns-in_err-write_group
@@ -32,7 +30,6 @@ loop-group-preserved g c =
       each =
           one_less (c.args.own + 2) c.args.groups c.loop-group.group _ _ c.loop-group-test.true c.loop-group.invariant.each
           c.split_at.ensures.back_len;
-      hours = rw c.split_at.ensures.back (All-drop IsAmounts (c.args.own + 2) c.loop-group.rest.now c.loop-group.invariant.hours);
       written =
           rw c.split_at.ensures.back
           (written-more _ _ _ _ _ _ _ _ _ next (rw c.split_at.ensures.front at c.in_ok-write_group.ensures));

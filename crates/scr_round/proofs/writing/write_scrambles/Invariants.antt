@@ -1,4 +1,3 @@
-use Rattle.std.proofs.Common.{ℕ}
 use Rattle.scr_round.proofs.WritingLemmas.{IsWritten}
 use Rattle.scr_round.proofs.LineLemmas.{left_at}
 use Rattle.scr_round.proofs.writing.write_scrambles.Given as goal

@@ -1,4 +1,4 @@
-use Rattle.std.proofs.Common.{◌≡◌, List, ◌++◌, ◌∙◌, ap}
+use Rattle.std.proofs.Common.{◌++◌, ◌∙◌, ap}
 use Rattle.std.specs.Prelude.{codes}
 use Rattle.scr_sheet.proofs.one.scramble_one.Goals as goal
 
@@ -6,9 +6,9 @@ pub returns-in-Err-write_line : goal.returns-in-Err-write_line
 returns-in-Err-write_line g c = (
   c.as_str.result.now ++ codes "\n",
   record {
-    amounts = c.in-Ok.amounts;
-    scramble = c.in-Ok.ensures;
-    printed = ap (λ t. t ++ codes "\n") (c.as_str.ensures.value ∙ c.amounts_text.ensures);
+    scramble = c.in-Ok.scramble;
+    drawn = c.in-Ok.ensures;
+    printed = ap (λ t. t ++ codes "\n") (c.as_str.ensures.value ∙ c.print.ensures);
   },
   (c.in-Err-write_line.ensures.1, c.in-Err-write_line.ensures.0),
 )

@@ -1,6 +1,4 @@
-use Rattle.std.proofs.Common.{ℕ, ◌≤◌, List, take}
-use Rattle.scr_outside.specs.Bytes.{Gained}
-use Rattle.scr_sheet.specs.Sheet.{IsSheet}
+use Rattle.std.proofs.Common.{take}
 use Rattle.scr_sheet.proofs.SheetLemmas.{IsLedTo}
 use Rattle.scr_sheet.proofs.sheet.write_rounds.Given as goal
 

@@ -1,0 +1,8 @@
+pub mod WrittenLaws
+pub mod Below
+pub mod TurnLaws
+pub mod TextLaws
+pub mod ReadLaws
+pub mod TurningLaws
+pub mod CubeTurns
+pub mod FaultLaws

@@ -1,0 +1,76 @@
+//! A scramble: an event and its turns.
+ghost use Rattle.std.specs.Prelude.{◌≡◌, ◌<◌, ◌↔◌, [], ◌∷◌, ◌++◌, length, IsTrue};
+ghost use Rattle.std.specs.Bool.{OnTrue, OnFalse};
+ghost use Rattle.scr_notation.specs.Turns.{permits};
+
+use crate::event::Event;
+use crate::turn::{Turn, is_permitted};
+use arrayvec::ArrayVec;
+use std::marker::Model;
+
+/// The greatest number of turns of a scramble.
+pub const MOST_TURNS: usize = 160;
+
+/// An event and at most 160 turns, each of which the event has.
+#[derive(Drop)]
+pub struct Scramble {
+    event: Event,
+    turns: ArrayVec<Turn, MOST_TURNS>,
+}
+
+impl Model for Scramble {
+    ghost use Rattle.std.specs.Prelude.{◌≤◌};
+    ghost use Rattle.scr_notation.specs.Written.{Written, IsWritten};
+
+    ghost Value = { Written };
+
+    ghost view = { λ s. record { event = s.event; turns = s.turns.items } };
+
+    ghost invariant = { λ s. IsWritten (record { event = s.event; turns = s.turns.items }) };
+}
+
+impl Scramble {
+    ghost use Rattle.scr_notation.specs.Written.{Written, IsWritten};
+
+    /// The empty scramble of an event.
+    pub fn new(event: Event) -> Scramble
+        ensures value { result ≡ record { event = event; turns = [] } }
+        ensures valid { IsWritten result }
+    {
+        Scramble {
+            event,
+            turns: ArrayVec::new(),
+        }
+    }
+
+    /// The event.
+    pub fn event(&self) -> Event
+        ensures value { result ≡ self.now.event }
+        ensures valid { IsWritten self.now }
+    {
+        self.event
+    }
+
+    /// The turns, in order.
+    pub fn turns(&self) -> &[Turn]
+        ensures value { result.now ≡ self.now.turns }
+        ensures valid { IsWritten self.now }
+    {
+        self.turns.as_slice()
+    }
+
+    /// Adds a turn at the end. It answers false exactly where 160 turns are there or the event hasn't this turn, and then
+    /// changes nothing.
+    pub fn push(&mut self, turn: Turn) -> bool
+        ensures exact { IsTrue result ↔ (length self.old.turns < 160) × IsTrue (permits self.old.event turn) }
+        ensures pushed { OnTrue result (self.new ≡ record { event = self.old.event; turns = self.old.turns ++ turn ∷ [] }) }
+        ensures refused { OnFalse result (self.new ≡ self.old) }
+        ensures valid { IsWritten self.new }
+    {
+        if self.turns.len() == MOST_TURNS || !is_permitted(self.event, turn) {
+            return false;
+        }
+        self.turns.push(turn);
+        true
+    }
+}
