@@ -1,0 +1,118 @@
+//! The numbers of cubes, by which they are drawn.
+ghost use Rattle.std.specs.Prelude.{◌≡◌};
+ghost use Rattle.scr_faces.specs.Cube333.{cube_bases};
+ghost use Rattle.scr_faces.specs.Cube222.{bases_222};
+
+use crate::corners::Corners222;
+use crate::cube::Cube;
+use scr_draw::Numbering;
+use scr_rank::permutations::{is_odd, rank_permutation, unrank_with_parity};
+use scr_rank::{MixedRadix, PermRank, TwistRank};
+
+/// How many cubes there are.
+const CUBES: u128 = 43_252_003_274_489_856_000;
+
+/// How many states of a 2x2x2 there are.
+const STATES_222: u128 = 3_674_160;
+
+/// How many flips, twists, lists of corners and lists of edges of one parity there are.
+fn cube_radix() -> MixedRadix<4>
+    ensures { result ≡ cube_bases }
+{
+    MixedRadix::new([2048, 2187, 40_320, 239_500_800])
+}
+
+/// How many twists and lists of corners there are.
+fn radix_222() -> MixedRadix<2>
+    ensures { result ≡ bases_222 }
+{
+    MixedRadix::new([729, 5040])
+}
+
+/// The numbering of the 3x3x3: the flips are least, then come the twists, the list of corners, and half the number of
+/// the list of edges, since of two lists of edges the cube has the one with the corners' parity.
+#[derive(Clone, Copy)]
+pub struct CubeNumbers;
+
+impl Numbering for CubeNumbers {
+    ghost use Rattle.scr_faces.specs.Cube333.{IsCube, cube_count, cube_at, cube_number};
+    ghost use Rattle.scr_faces.proofs.Numbers333.{cube_numbering};
+
+    type State = Cube;
+
+    ghost count = { λ _. cube_count };
+
+    ghost state_at = { λ _. cube_at };
+
+    ghost number_of = { λ _. cube_number };
+
+    ghost valid = { λ _. IsCube };
+
+    fn count(&self) -> u128 {
+        CUBES
+    }
+
+    fn state_at(&self, number: u128) -> Cube {
+        let [flips, twists, corners, edge_half] = cube_radix().unrank(number);
+        let corners = PermRank::<8>::unrank(corners);
+        let mut edges = [0; 12];
+        unrank_with_parity(edge_half as u64, is_odd(&corners), &mut edges);
+        Cube::of_valid(
+            corners,
+            TwistRank::<8, 3>::unrank(twists),
+            edges,
+            TwistRank::<12, 2>::unrank(flips),
+        )
+    }
+
+    fn number_of(&self, state: &Cube) -> u128 {
+        cube_radix().rank(&[
+            TwistRank::<12, 2>::rank(&state.flips()),
+            TwistRank::<8, 3>::rank(&state.twists()),
+            PermRank::<8>::rank(&state.corners()),
+            u128::from(rank_permutation(&state.edges()) / 2),
+        ])
+    }
+
+    ghost law = { λ _. cube_numbering };
+}
+
+/// The numbering of the 2x2x2: the twists are least, then comes the list of corners.
+#[derive(Clone, Copy)]
+pub struct Numbers222;
+
+impl Numbering for Numbers222 {
+    ghost use Rattle.scr_faces.specs.Cube222.{IsCorners222, count_222, corners_222_at, number_222};
+    ghost use Rattle.scr_faces.proofs.Numbers222.{numbering_222};
+
+    type State = Corners222;
+
+    ghost count = { λ _. count_222 };
+
+    ghost state_at = { λ _. corners_222_at };
+
+    ghost number_of = { λ _. number_222 };
+
+    ghost valid = { λ _. IsCorners222 };
+
+    fn count(&self) -> u128 {
+        STATES_222
+    }
+
+    fn state_at(&self, number: u128) -> Corners222 {
+        let [twists, corners] = radix_222().unrank(number);
+        Corners222::of_valid(
+            PermRank::<7>::unrank(corners),
+            TwistRank::<7, 3>::unrank(twists),
+        )
+    }
+
+    fn number_of(&self, state: &Corners222) -> u128 {
+        radix_222().rank(&[
+            TwistRank::<7, 3>::rank(&state.twists()),
+            PermRank::<7>::rank(&state.corners()),
+        ])
+    }
+
+    ghost law = { λ _. numbering_222 };
+}
