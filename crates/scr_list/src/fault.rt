@@ -1,7 +1,7 @@
 //! Why a list is refused.
 
-/// Why a line of a list names no round: the first that applies, in this order but for the second and
-/// the third, which change places.
+/// Why a line of a list names no round. Where more than one applies, it is the first of: words, 444,
+/// event, groups, minimum, rounds.
 #[derive(Clone, Copy, Debug, PartialEq, Eq)]
 pub enum ListCause {
     /// The line has one word, or more than three.

@@ -29,7 +29,12 @@ pub struct Round {
 }
 
 impl Default for Round {
-    /// One group of Clock.
+    ghost use Rattle.std.specs.Prelude.{◌≡◌};
+    ghost use Rattle.scr_notation.specs.declared.event.Event.TheVariants.{Clock};
+
+    ghost is_default = { λ r. r ≡ record { event = Clock; groups = 1; least = 2 } };
+
+    /// One group of Clock, with a minimum of 2. It fills the unused room of a list.
     fn default() -> Round {
         Round {
             event: Event::Clock,
