@@ -1,4 +1,3 @@
-pub mod Sums
-pub mod Chains
 pub mod SideLaws
-pub mod WrittenClock
+pub mod ScrambleLaws
+pub mod OverLaws

@@ -1,3 +1,8 @@
+pub mod Dials
+pub mod Numbers
+pub mod Held
+pub mod Written
+pub mod Least
 pub mod Sides
-pub mod ClockNumbering
-pub mod Printed
+pub mod Known
+pub mod Proofs

@@ -1,20 +1,21 @@
-//! The printed scramble as fourteen amounts.
-ghost use Rattle.std.specs.Prelude.{◌≡◌, ℕ, ◌<◌, ◌%◌, List, All};
-ghost use Rattle.scr_play.specs.Play.{play};
-ghost use Rattle.scr_dials.specs.Dials.{turned, solved};
-ghost use Rattle.scr_dials.specs.Pattern.{IsAmounts, pattern};
+//! The scramble of a Clock as fourteen amounts.
+ghost use Rattle.std.specs.Prelude.{◌≡◌, ℕ, ◌%◌, List, Some};
+ghost use Rattle.scr_clock.specs.Dials.{solved};
+ghost use Rattle.scr_clock.specs.Held.{clock_after};
+ghost use Rattle.scr_clock.specs.Written.{IsAmounts, written};
 
 use crate::clock::Clock;
 
-/// The amounts, from 0 to 11, of the one printed scramble that gives this state from solved.
+/// The amounts, from 0 to 11, of the one scramble that leads from solved to this state.
 ///
 /// Minus is eleven times, modulo 12. The back turns alone move the back, so its dials give their amounts, and then what
 /// the front turns alone made of the front's corners. There each corner pin's amount is the centre less the two edges
 /// that it doesn't touch, plus the opposite corner; the other amounts follow in the same way.
 pub fn solve(clock: &Clock) -> [u8; 14]
     ensures amounts { IsAmounts result }
-    ensures gives { play turned solved (pattern result) ≡ clock.now }
-    ensures only { (amounts : List ℕ) → IsAmounts amounts → play turned solved (pattern amounts) ≡ clock.now → amounts ≡ result }
+    ensures gives { clock_after solved (written result) ≡ Some clock.now }
+    ensures only { (amounts : List ℕ)
+        → IsAmounts amounts → clock_after solved (written amounts) ≡ Some clock.now → amounts ≡ result }
 {
     let dials = clock.dials();
     let (up, left, centre) = (dials[1] as u32, dials[3] as u32, dials[4] as u32);

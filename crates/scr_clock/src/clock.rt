@@ -1,17 +1,16 @@
 //! The state of a Clock and its turns.
-ghost use Rattle.std.specs.Prelude.{◌≡◌, ℕ, ◌<◌, ◌≤◌, ◌↔◌, List, length, map, All, IsTrue, IsSome, IfSome};
-ghost use Rattle.scr_dials.specs.Dials.{IsClock, gain, added, turned, solved, clock_count, dials_of};
+ghost use Rattle.std.specs.Prelude.{◌≡◌, ℕ, ◌<◌, ◌≤◌, ◌↔◌, List, length, All, IsSome, IfSome};
+ghost use Rattle.scr_clock.specs.Dials.{IsClock, gain_at, turned, solved, dial_turn};
+ghost use Rattle.scr_clock.specs.Held.{clock_after};
 
+use scr_notation::{Scramble, Turn};
 use std::marker::Model;
 
 /// The pins next to each dial that a front turn moves, in the order of the dials.
 const FRONT_PINS: [u8; 14] = [8, 9, 1, 12, 15, 3, 4, 6, 2, 0, 0, 0, 0, 0];
 
-/// The pins, as seen from the back, next to each dial of the front that a back turn moves.
-const BACK_CORNER_PINS: [u8; 9] = [1, 0, 8, 0, 0, 0, 2, 0, 4];
-
-/// The pins, as seen from the back, next to each dial of the back.
-const BACK_PINS: [u8; 5] = [9, 12, 15, 3, 6];
+/// The pins, as seen from the back, next to each dial that a back turn moves.
+const BACK_PINS: [u8; 14] = [1, 0, 8, 0, 0, 0, 2, 0, 4, 9, 12, 15, 3, 6];
 
 /// A Clock: fourteen dials, each at an hour from 0 to 11.
 #[derive(Clone, Copy, Debug, PartialEq, Eq)]
@@ -46,10 +45,18 @@ impl Clock {
         ensures value { IfSome result (λ clock. clock ≡ dials) }
     {
         if dials.iter().all(|dial| *dial < 12) {
-            Some(Clock { dials })
+            Some(Clock::of_valid(dials))
         } else {
             None
         }
+    }
+
+    /// The Clock with these dials, each below 12.
+    pub(crate) fn of_valid(dials: [u8; 14]) -> Clock
+        requires { IsClock dials }
+        ensures { result ≡ dials }
+    {
+        Clock { dials }
     }
 
     /// The dials, in the order of `from_dials`.
@@ -67,45 +74,51 @@ impl Clock {
         requires some_pin { 0 < pins }
         requires four_pins { pins < 16 }
         requires hours { amount < 12 }
-        ensures { result ≡ turned self.now (record { back = back; pins = pins; amount = amount }) }
+        ensures { result ≡ turned self.now (dial_turn back pins amount) }
     {
-        let mut dials = self.dials;
-        if back {
-            let (front, rear) = dials.split_at_mut(9);
-            turn_dials(front, &BACK_CORNER_PINS, pins, 12 - amount);
-            turn_dials(rear, &BACK_PINS, pins, amount);
-        } else {
-            turn_dials(&mut dials, &FRONT_PINS, pins, amount);
+        let mut dials = [0; 14];
+        for dial in 0..14 {
+            dials[dial] = (self.dials[dial] + gain_at(dial, back, pins, amount)) % 12;
         }
         Clock { dials }
     }
-}
 
-/// Adds `amount` to each dial where one of the pins next to it is up.
-fn turn_dials(dials: &mut [u8], next_to: &[u8], up: u8, amount: u8)
-    requires same_length { length dials.old ≡ length next_to.now }
-    requires below { All (λ d. d < 12) dials.old }
-    requires hours { amount ≤ 12 }
-    ensures turned { dials.new ≡ added dials.old (map (gain up amount) next_to.now) }
-    ensures below { All (λ d. d < 12) dials.new }
-{
-    for i in 0..dials.len() {
-        let gained = if next_to[i] & up == 0 { 0 } else { amount };
-        dials[i] = (dials[i] + gained) % 12;
+    /// The Clock after the turns of a scramble, with the front facing the scrambler at first; `y2` changes the side that
+    /// does. `None` comes exactly where a turn is none of Clock's.
+    pub fn play(&self, scramble: &Scramble) -> Option<Clock>
+        ensures { result ≡ clock_after self.now scramble.now.turns }
+    {
+        let mut clock = *self;
+        let mut back = false;
+        for turn in scramble.turns() {
+            match *turn {
+                Turn::Pins { pins, amount } => clock = clock.pins(back, pins, amount),
+                Turn::Over => back = !back,
+                _ => return None,
+            }
+        }
+        Some(clock)
     }
 }
 
-/// The Clock of this number, whose digits in base 12 are the dials, the first dial the least. `number` is below 12^14.
-pub fn state_at(number: u128) -> Clock
-    requires { number < clock_count }
-    ensures state { result ≡ dials_of number }
-    ensures valid { IsClock result }
+/// What a dial gains by a turn: minus the amount is what is left of it to twelve.
+#[tactic(auto, unfolding(crate::specs::Dials::gain_at))]
+fn gain_at(dial: usize, back: bool, pins: u8, amount: u8) -> u8
+    requires fourteen { dial < 14 }
+    requires hours { amount < 12 }
+    ensures value { result ≡ gain_at (dial_turn back pins amount) dial }
+    ensures most { result ≤ 12 }
 {
-    let mut rest = number as u64;
-    let mut dials = [0; 14];
-    for k in 0..14 {
-        dials[k] = (rest % 12) as u8;
-        rest /= 12;
+    let next_to = if back {
+        BACK_PINS[dial]
+    } else {
+        FRONT_PINS[dial]
+    };
+    if next_to & pins == 0 {
+        0
+    } else if back && dial < 9 {
+        12 - amount
+    } else {
+        amount
     }
-    Clock { dials }
 }

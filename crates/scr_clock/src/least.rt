@@ -2,12 +2,11 @@
 //!
 //! Turns commute, and a turn of a side moves that side's centre by its amount. So what two turns of different sides
 //! turned by can be read off the centres, and most states are decided by dials that such turns would leave alone.
-ghost use Rattle.std.specs.Prelude.{◌≡◌, ℕ, ◌<◌, ◌≤◌, ◌↔◌, ◌⊎◌, ◌==◌, ◌||◌, true, false, IsTrue};
-ghost use Rattle.std.specs.List.{list_all};
+ghost use Rattle.std.specs.Prelude.{◌≡◌, ◌<◌, ◌≤◌, ◌↔◌, ◌⊎◌, true, false, [], ◌∷◌, IsTrue};
 ghost use Rattle.scr_play.specs.Reach.{Needs};
-ghost use Rattle.scr_dials.specs.Dials.{IsClock, clock_puzzle};
-ghost use Rattle.scr_dials.specs.Least.{all_twelve, turns_lead, needs_test};
-ghost use Rattle.scr_clock.specs.Sides.{IsOtherSolved, AreBackEdgesCarried, centre_amount, turn_leads, turns_lead_on};
+ghost use Rattle.scr_clock.specs.Dials.{IsClock, solved, clock_puzzle};
+ghost use Rattle.scr_clock.specs.Least.{turns_lead, needs_test};
+ghost use Rattle.scr_clock.specs.Sides.{SidesLead, IsOtherSolved, AreBackEdgesCarried, centre_amount};
 
 use crate::clock::Clock;
 
@@ -22,41 +21,43 @@ pub fn needs_at_least(clock: &Clock, least: u32) -> bool
     ensures test { result ≡ needs_test clock.now least }
     ensures exact { IsTrue result ↔ Needs clock_puzzle clock.now least }
 {
-    match least {
-        0 => true,
-        1 => !is_solved(clock),
-        2 => !one_turn_leads(clock),
-        _ => !two_turns_lead(clock),
+    least == 0 || !turns_lead(clock, least - 1)
+}
+
+/// Whether so many turns, at most two, lead to solved. Some of them may be by 0.
+fn turns_lead(clock: &Clock, turns: u32) -> bool
+    requires { turns ≤ 2 }
+    ensures value { result ≡ turns_lead turns clock.now }
+    ensures valid { IsClock clock.now }
+{
+    match turns {
+        0 => is_solved(clock),
+        1 => one_turn_leads(clock),
+        _ => two_turns_lead(clock),
     }
 }
 
 /// Whether one turn leads to solved.
 fn one_turn_leads(clock: &Clock) -> bool
-    ensures value { result ≡ turns_lead 1 clock.now }
+    ensures exact { IsTrue result ↔ (SidesLead (false ∷ []) clock.now ⊎ SidesLead (true ∷ []) clock.now) }
     ensures valid { IsClock clock.now }
 {
     turn_of_side_leads(clock, false) || turn_of_side_leads(clock, true)
 }
 
-/// Whether two turns lead to solved.
+/// Whether two turns lead to solved. Where they are of both sides, that of the back may come first.
 fn two_turns_lead(clock: &Clock) -> bool
-    ensures value { result ≡ turns_lead 2 clock.now }
+    ensures exact { IsTrue result
+        ↔ ((SidesLead (false ∷ false ∷ []) clock.now ⊎ SidesLead (true ∷ true ∷ []) clock.now)
+        ⊎ SidesLead (true ∷ false ∷ []) clock.now) }
     ensures valid { IsClock clock.now }
 {
-    turns_of_one_side_lead(clock) || turns_of_both_lead(clock)
-}
-
-/// Whether two turns of one side lead to solved.
-fn turns_of_one_side_lead(clock: &Clock) -> bool
-    ensures value { result ≡ (turns_lead_on false false clock.now || turns_lead_on true true clock.now) }
-    ensures valid { IsClock clock.now }
-{
-    turns_of_side_lead(clock, false) || turns_of_side_lead(clock, true)
+    turns_of_side_lead(clock, false) || turns_of_side_lead(clock, true) || turns_of_both_lead(clock)
 }
 
 /// Whether one turn of this side leads to solved.
 fn turn_of_side_leads(clock: &Clock, back: bool) -> bool
-    ensures value { result ≡ turn_leads back clock.now }
+    ensures exact { IsTrue result ↔ SidesLead (back ∷ []) clock.now }
     ensures valid { IsClock clock.now }
 {
     if !is_other_solved(clock, back) {
@@ -64,8 +65,7 @@ fn turn_of_side_leads(clock: &Clock, back: bool) -> bool
     }
     let amount = amount_of_centre(clock, back);
     for pins in 1..16 {
-        let turned = clock.pins(back, pins, amount);
-        if is_solved(&turned) {
+        if is_solved(&clock.pins(back, pins, amount)) {
             return true;
         }
     }
@@ -74,7 +74,7 @@ fn turn_of_side_leads(clock: &Clock, back: bool) -> bool
 
 /// Whether two turns of this side lead to solved.
 fn turns_of_side_lead(clock: &Clock, back: bool) -> bool
-    ensures value { result ≡ turns_lead_on back back clock.now }
+    ensures exact { IsTrue result ↔ SidesLead (back ∷ back ∷ []) clock.now }
     ensures valid { IsClock clock.now }
 {
     if !is_other_solved(clock, back) {
@@ -82,8 +82,7 @@ fn turns_of_side_lead(clock: &Clock, back: bool) -> bool
     }
     for pins in 1..16 {
         for amount in 0..12 {
-            let turned = clock.pins(back, pins, amount);
-            if turn_of_side_leads(&turned, back) {
+            if turn_of_side_leads(&clock.pins(back, pins, amount), back) {
                 return true;
             }
         }
@@ -91,9 +90,9 @@ fn turns_of_side_lead(clock: &Clock, back: bool) -> bool
     false
 }
 
-/// Whether a turn of the back and one of the front lead to solved.
+/// Whether a turn of the back and then one of the front lead to solved.
 fn turns_of_both_lead(clock: &Clock) -> bool
-    ensures value { result ≡ turns_lead_on true false clock.now }
+    ensures exact { IsTrue result ↔ SidesLead (true ∷ false ∷ []) clock.now }
     ensures valid { IsClock clock.now }
 {
     if !are_back_edges_carried(clock) {
@@ -101,8 +100,7 @@ fn turns_of_both_lead(clock: &Clock) -> bool
     }
     let amount = amount_of_centre(clock, true);
     for pins in 1..16 {
-        let turned = clock.pins(true, pins, amount);
-        if turn_of_side_leads(&turned, false) {
+        if turn_of_side_leads(&clock.pins(true, pins, amount), false) {
             return true;
         }
     }
@@ -111,17 +109,10 @@ fn turns_of_both_lead(clock: &Clock) -> bool
 
 /// Whether all dials show 12.
 fn is_solved(clock: &Clock) -> bool
-    ensures value { result ≡ all_twelve clock.now }
+    ensures exact { IsTrue result ↔ (clock.now ≡ solved) }
     ensures valid { IsClock clock.now }
 {
-    are_zero(&clock.dials())
-}
-
-/// Whether all of these numbers are 0.
-fn are_zero(numbers: &[u8]) -> bool
-    ensures { result ≡ list_all (λ n. n == 0) numbers.now }
-{
-    numbers.iter().all(|number| *number == 0)
+    clock.dials() == [0; 14]
 }
 
 /// Whether the dials that no turn of this side moves show 12.
@@ -138,6 +129,7 @@ fn is_other_solved(clock: &Clock, back: bool) -> bool
 }
 
 /// The amount by which this side's centre comes to 12.
+#[tactic(auto, unfolding(crate::specs::Sides::centre_amount))]
 fn amount_of_centre(clock: &Clock, back: bool) -> u8
     ensures value { result ≡ centre_amount back clock.now }
     ensures hours { result < 12 }

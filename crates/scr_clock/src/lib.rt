@@ -1,10 +1,14 @@
-//! Clock: its state, its turns, the one printed scramble that gives a state, its numbers and its minimum.
+//! Clock: its state, its turns, the one scramble that gives a state, its numbers and its minimum (WCA Regulations,
+//! articles 4 and 12).
 //!
-//! It stands on the definitions of `scr_play` and `scr_dials`, on the notation of `scr_notation`, and on the drawing of
-//! `scr_draw`. Its contracts say that the code computes those definitions, that the amounts of `solve` play solved to the
-//! state and no others do, that `scramble_clock` is the scramble with these amounts, and that `needs_at_least` is true exactly where no word of fewer counted turns, of any pin sets, leads to solved. The module
-//! `laws` has what follows for the event: each list of fourteen dials below 12 is reached, and those that need the
-//! minimum are drawn by equally many words.
+//! What a turn makes of the fourteen dials stands in `specs/Dials.antt`, what written turns make of a Clock in hand in
+//! `specs/Held.antt`, and the scramble of a Clock in `specs/Written.antt`. The contracts say that the code computes these
+//! definitions, that the amounts of `solve` lead from solved to the state and no others do, that `scramble_clock` is the
+//! scramble with these amounts, and that `needs_at_least` is true exactly where no word of fewer counted turns, of any pin
+//! sets, leads to solved. The module `laws` has what holds of Clock whatever the code, and Clocks known from elsewhere.
+//!
+//! The crate stands on the words of `scr_play`, the turns of `scr_notation`, the digits of `scr_combinatorics` and
+//! `scr_rank`, and the drawing of `scr_draw`.
 #![tactic(auto)]
 
 mod amounts;
@@ -12,13 +16,13 @@ mod clock;
 pub mod laws;
 mod least;
 mod numbers;
-mod printed;
+mod scramble;
 
 pub use amounts::solve;
-pub use clock::{Clock, state_at};
+pub use clock::Clock;
 pub use least::needs_at_least;
 pub use numbers::ClockNumbers;
-pub use printed::scramble_clock;
+pub use scramble::scramble_clock;
 
 #[cfg(test)]
 mod tests;

@@ -1,12 +1,39 @@
 //! Clock as an event: its numbered states and its minimum.
-ghost use Rattle.std.specs.Prelude.{◌≡◌, ℕ, ◌<◌, ◌≤◌};
+ghost use Rattle.std.specs.Prelude.{◌≡◌, ℕ, ◌<◌, ◌≤◌, All, replicate};
 
-use crate::clock::{Clock, state_at};
+use crate::clock::Clock;
 use crate::least::needs_at_least;
-use scr_draw::{Numbering, Permit};
+use scr_draw::{Numbering, Permit, RandomState};
+use scr_rank::MixedRadix;
 
 /// How many Clocks there are: 12^14.
 const COUNT: u128 = 1_283_918_464_548_864;
+
+/// Fourteen digits in base 12.
+fn dial_radix() -> MixedRadix<14>
+    ensures { result ≡ replicate 14 12 }
+{
+    MixedRadix::new([12; 14])
+}
+
+/// These digits as dials.
+fn hours(digits: &[u128; 14]) -> [u8; 14]
+    requires { All (λ digit. digit < 12) digits.now }
+    ensures { result ≡ digits.now }
+{
+    let mut hours = [0; 14];
+    for dial in 0..14 {
+        hours[dial] = digits[dial] as u8;
+    }
+    hours
+}
+
+/// These dials as digits.
+fn digits(dials: &[u8; 14]) -> [u128; 14]
+    ensures { result ≡ dials.now }
+{
+    dials.map(u128::from)
+}
 
 /// The numbering and the minimum of Clock. A state's number has its dials as digits in base 12, the first dial the
 /// least. Minima are from 0 to 3.
@@ -15,8 +42,9 @@ pub struct ClockNumbers;
 
 impl Numbering for ClockNumbers {
     ghost use Rattle.std.specs.Prelude.{ℕ, List};
-    ghost use Rattle.scr_dials.specs.Dials.{IsClock, clock_count, dials_of, number_of};
-    ghost use Rattle.scr_clock.specs.ClockNumbering.{clock_numbering};
+    ghost use Rattle.scr_clock.specs.Dials.{IsClock};
+    ghost use Rattle.scr_clock.specs.Numbers.{clock_count, dials_of, number_of};
+    ghost use Rattle.scr_clock.specs.Proofs.Numbering.{clock_numbering};
 
     type State = Clock;
 
@@ -33,16 +61,11 @@ impl Numbering for ClockNumbers {
     }
 
     fn state_at(&self, number: u128) -> Clock {
-        state_at(number)
+        Clock::of_valid(hours(&dial_radix().unrank(number)))
     }
 
     fn number_of(&self, state: &Clock) -> u128 {
-        let dials = state.dials();
-        let mut number = 0;
-        for k in (0..14).rev() {
-            number = 12 * number + u128::from(dials[k]);
-        }
-        number
+        dial_radix().rank(&digits(&state.dials()))
     }
 
     ghost law = { λ _. clock_numbering };
@@ -50,7 +73,12 @@ impl Numbering for ClockNumbers {
 
 impl Permit<Clock> for ClockNumbers {
     ghost use Rattle.std.specs.Prelude.{ℕ};
-    ghost use Rattle.scr_dials.specs.Least.{needs_test};
+    ghost use Rattle.scr_clock.specs.Dials.{clock_puzzle};
+    ghost use Rattle.scr_clock.specs.Least.{needs_test};
+    ghost use Rattle.scr_clock.specs.Proofs.LeastLaws.{needs_test-iff};
+    ghost use Rattle.scr_clock.specs.Proofs.Reached.{IsClock-reached};
+
+    ghost puzzle = { λ _. clock_puzzle };
 
     ghost greatest = { λ _. 3 };
 
@@ -59,4 +87,12 @@ impl Permit<Clock> for ClockNumbers {
     fn needs_at_least(&self, state: &Clock, least: u32) -> bool {
         needs_at_least(state, least)
     }
+
+    ghost exact = { λ _ dials least range reached. needs_test-iff dials least (IsClock-reached dials reached) };
+}
+
+impl RandomState for ClockNumbers {
+    ghost use Rattle.scr_clock.specs.Proofs.Reached.{IsClock-iff};
+
+    ghost reached = { λ _. IsClock-iff };
 }

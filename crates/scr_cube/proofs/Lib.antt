@@ -1,2 +1,7 @@
-pub mod Parts
-pub mod Plays
+pub mod FaceLaws
+pub mod Laws333
+pub mod Laws222
+pub mod Turning
+pub mod Orders
+pub mod Minima
+pub mod Parity

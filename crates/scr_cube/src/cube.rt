@@ -1,79 +1,15 @@
 //! The state of a 3x3x3 and its turns.
-ghost use Rattle.std.specs.Prelude.{◌≡◌, ◌<◌, ◌↔◌, All, IsSome, IfSome, IsTrue};
-ghost use Rattle.scr_lists.specs.Lists.{AllBelow};
-ghost use Rattle.scr_faces.specs.Cube333.{IsCube, solved_cube, corner_turn, edge_turn, quarter_turned, turned_cube};
-ghost use Rattle.scr_notation.specs.Turns.{is_face_turn};
-ghost use Rattle.scr_notation.specs.Turning.{cube_after};
+ghost use Rattle.std.specs.Prelude.{◌≡◌, ◌<◌, ◌↔◌, IsSome, IfSome, Some};
+ghost use Rattle.scr_play.specs.Play.{play};
+ghost use Rattle.scr_cube.specs.Cube333.{IsCube, solved_cube, cube_after};
 
 use crate::faces::face_and_amount;
-use scr_notation::Scramble;
-use scr_pieces::{add_digits, are_twists, is_permutation, pick_into};
+use crate::playing::{Turned, played};
+use crate::tables::{corner_turns, edge_turns};
+use scr_notation::{Scramble, Turn};
+use scr_orbit::Placed;
 use scr_rank::permutations::is_odd;
 use std::marker::Model;
-
-/// What a quarter turn of a face does: for each place, which place's piece comes there and what is added to its twist
-/// or flip.
-struct Quarter {
-    corners: [u8; 8],
-    twists: [u8; 8],
-    edges: [u8; 12],
-    flips: [u8; 12],
-}
-
-/// The quarter turns of U, R, F, D, L and B.
-static QUARTERS: [Quarter; 6] = [
-    Quarter {
-        corners: [3, 0, 1, 2, 4, 5, 6, 7],
-        twists: [0, 0, 0, 0, 0, 0, 0, 0],
-        edges: [3, 0, 1, 2, 4, 5, 6, 7, 8, 9, 10, 11],
-        flips: [0, 0, 0, 0, 0, 0, 0, 0, 0, 0, 0, 0],
-    },
-    Quarter {
-        corners: [4, 1, 2, 0, 7, 5, 6, 3],
-        twists: [2, 0, 0, 1, 1, 0, 0, 2],
-        edges: [8, 1, 2, 3, 11, 5, 6, 7, 4, 9, 10, 0],
-        flips: [0, 0, 0, 0, 0, 0, 0, 0, 0, 0, 0, 0],
-    },
-    Quarter {
-        corners: [1, 5, 2, 3, 0, 4, 6, 7],
-        twists: [1, 2, 0, 0, 2, 1, 0, 0],
-        edges: [0, 9, 2, 3, 4, 8, 6, 7, 1, 5, 10, 11],
-        flips: [0, 1, 0, 0, 0, 1, 0, 0, 1, 1, 0, 0],
-    },
-    Quarter {
-        corners: [0, 1, 2, 3, 5, 6, 7, 4],
-        twists: [0, 0, 0, 0, 0, 0, 0, 0],
-        edges: [0, 1, 2, 3, 5, 6, 7, 4, 8, 9, 10, 11],
-        flips: [0, 0, 0, 0, 0, 0, 0, 0, 0, 0, 0, 0],
-    },
-    Quarter {
-        corners: [0, 2, 6, 3, 4, 1, 5, 7],
-        twists: [0, 1, 2, 0, 0, 2, 1, 0],
-        edges: [0, 1, 10, 3, 4, 5, 9, 7, 8, 2, 6, 11],
-        flips: [0, 0, 0, 0, 0, 0, 0, 0, 0, 0, 0, 0],
-    },
-    Quarter {
-        corners: [0, 1, 3, 7, 4, 5, 2, 6],
-        twists: [0, 0, 1, 2, 0, 0, 2, 1],
-        edges: [0, 1, 2, 11, 4, 5, 6, 10, 8, 9, 3, 7],
-        flips: [0, 0, 0, 1, 0, 0, 0, 1, 0, 0, 1, 1],
-    },
-];
-
-/// The quarter turn of a face below 6.
-fn quarter_of(face: u8) -> &'static Quarter
-    requires { face < 6 }
-    ensures corners { result.now.corners ≡ (corner_turn face).places }
-    ensures twists { result.now.twists ≡ (corner_turn face).added }
-    ensures edges { result.now.edges ≡ (edge_turn face).places }
-    ensures flips { result.now.flips ≡ (edge_turn face).added }
-    ensures corners_below { AllBelow 8 result.now.corners }
-    ensures twists_below { AllBelow 3 result.now.twists }
-    ensures edges_below { AllBelow 12 result.now.edges }
-    ensures flips_below { AllBelow 2 result.now.flips }
-{
-    &QUARTERS[usize::from(face)]
-}
 
 /// A 3x3x3 that can be put together without taking one apart: twists sum to 0 modulo 3, flips to 0 modulo 2, and the
 /// lists of corners and edges are both even or both odd.
@@ -82,46 +18,32 @@ fn quarter_of(face: u8) -> &'static Quarter
 /// 4 DR, 5 DF, 6 DL, 7 DB, 8 FR, 9 FL, 10 BL, 11 BR.
 #[derive(Clone, Copy, Debug, PartialEq, Eq)]
 pub struct Cube {
-    corners: [u8; 8],
-    twists: [u8; 8],
-    edges: [u8; 12],
-    flips: [u8; 12],
+    corners: Placed<8>,
+    edges: Placed<12>,
 }
 
 // Clauses see the two orbits.
 impl Model for Cube {
-    ghost use Rattle.scr_faces.specs.Cube333.{CubeState, IsCube};
+    ghost use Rattle.scr_cube.specs.Cube333.{CubeState, IsCube};
 
     ghost Value = { CubeState };
 
-    ghost view = { λ c. record {
-      corners = record { pieces = c.corners; digits = c.twists };
-      edges = record { pieces = c.edges; digits = c.flips };
-    } };
+    ghost view = { λ c. record { corners = c.corners; edges = c.edges } };
 
-    ghost invariant = { λ c. IsCube (record {
-      corners = record { pieces = c.corners; digits = c.twists };
-      edges = record { pieces = c.edges; digits = c.flips };
-    }) };
+    ghost invariant = { λ c. IsCube (record { corners = c.corners; edges = c.edges }) };
 
-    ghost inverse = { λ s. record {
-      corners = s.corners.pieces;
-      twists = s.corners.digits;
-      edges = s.edges.pieces;
-      flips = s.edges.digits;
-    } };
+    ghost inverse = { λ s. record { corners = s.corners; edges = s.edges } };
 }
 
 impl Cube {
     /// The solved cube.
+    #[tactic(auto, unfolding(crate::specs::Cube333::solved_cube, scr_orbit::specs::Orbits::solved_orbit))]
     pub fn solved() -> Cube
         ensures { result ≡ solved_cube }
     {
         Cube {
-            corners: [0, 1, 2, 3, 4, 5, 6, 7],
-            twists: [0; 8],
-            edges: [0, 1, 2, 3, 4, 5, 6, 7, 8, 9, 10, 11],
-            flips: [0; 12],
+            corners: Placed::new([0, 1, 2, 3, 4, 5, 6, 7], [0; 8]),
+            edges: Placed::new([0, 1, 2, 3, 4, 5, 6, 7, 8, 9, 10, 11], [0; 12]),
         }
     }
 
@@ -142,38 +64,22 @@ impl Cube {
           edges = record { pieces = edges; digits = flips };
         }) }
     {
-        let pieces = is_permutation(&corners) && is_permutation(&edges);
-        let digits = are_twists(&twists, 3) && are_twists(&flips, 2);
-        if pieces && digits && is_odd(&corners) == is_odd(&edges) {
-            Some(Cube::of_valid(corners, twists, edges, flips))
+        let same_parity = is_odd(&corners) == is_odd(&edges);
+        let corners = Placed::new(corners, twists);
+        let edges = Placed::new(edges, flips);
+        if corners.is_zero_sum(3) && edges.is_zero_sum(2) && same_parity {
+            Some(Cube { corners, edges })
         } else {
             None
         }
     }
 
-    /// The cube of lists that are known to be valid.
-    pub(crate) fn of_valid(
-        corners: [u8; 8],
-        twists: [u8; 8],
-        edges: [u8; 12],
-        flips: [u8; 12],
-    ) -> Cube
-        requires { IsCube (record {
-          corners = record { pieces = corners; digits = twists };
-          edges = record { pieces = edges; digits = flips };
-        }) }
-        ensures same { result ≡ record {
-          corners = record { pieces = corners; digits = twists };
-          edges = record { pieces = edges; digits = flips };
-        } }
-        ensures valid { IsCube result }
+    /// The cube of orbits that are known to be valid.
+    pub(crate) fn of_valid(corners: Placed<8>, edges: Placed<12>) -> Cube
+        requires { IsCube (record { corners = corners; edges = edges }) }
+        ensures { result ≡ record { corners = corners; edges = edges } }
     {
-        Cube {
-            corners,
-            twists,
-            edges,
-            flips,
-        }
+        Cube { corners, edges }
     }
 
     /// Which corner stands at each place.
@@ -181,7 +87,7 @@ impl Cube {
         ensures same { result ≡ self.now.corners.pieces }
         ensures valid { IsCube self.now }
     {
-        self.corners
+        self.corners.pieces()
     }
 
     /// The twist of the corner at each place, from 0 to 2.
@@ -189,7 +95,7 @@ impl Cube {
         ensures same { result ≡ self.now.corners.digits }
         ensures valid { IsCube self.now }
     {
-        self.twists
+        self.corners.digits()
     }
 
     /// Which edge stands at each place.
@@ -197,7 +103,7 @@ impl Cube {
         ensures same { result ≡ self.now.edges.pieces }
         ensures valid { IsCube self.now }
     {
-        self.edges
+        self.edges.pieces()
     }
 
     /// The flip of the edge at each place, 0 or 1.
@@ -205,7 +111,7 @@ impl Cube {
         ensures same { result ≡ self.now.edges.digits }
         ensures valid { IsCube self.now }
     {
-        self.flips
+        self.edges.digits()
     }
 
     /// The cube after a turn of a face clockwise by `amount` quarters, from 1 to 3. The faces U R F D L B are 0 to 5.
@@ -213,50 +119,35 @@ impl Cube {
         requires face { face < 6 }
         requires some { 0 < amount }
         requires amount { amount < 4 }
-        ensures { result ≡ turned_cube self.now (record { face = face; amount = amount }) }
+        ensures { cube_after self.now (Turn.Face face 1 amount) ≡ Some result }
     {
-        let mut cube = *self;
-        for _done in 0..amount {
-            cube = cube.quarter(face);
+        let number = usize::from(3 * face + (amount - 1));
+        Cube {
+            corners: self.corners.turned(&corner_turns()[number], 3),
+            edges: self.edges.turned(&edge_turns()[number], 2),
         }
-        cube
     }
 
     /// The cube after the turns of a scramble. `None` comes exactly where one of them isn't a turn of the outer layer at
     /// a face.
     pub fn play(&self, scramble: &Scramble) -> Option<Cube>
-        ensures some { IsSome result ↔ All (λ t. IsTrue (is_face_turn 6 t)) scramble.now.turns }
-        ensures value { IfSome result (λ cube. cube ≡ cube_after self.now scramble.now.turns) }
+        ensures { result ≡ play cube_after self.now scramble.now.turns }
     {
-        let mut cube = *self;
-        for turn in scramble.turns() {
-            let (face, amount) = face_and_amount(*turn, 6)?;
-            cube = cube.turn(face, amount);
-        }
-        Some(cube)
+        played(*self, scramble.turns())
     }
+}
 
-    /// The cube after a quarter turn of a face clockwise.
-    fn quarter(&self, face: u8) -> Cube
-        requires { face < 6 }
-        ensures { result ≡ quarter_turned face self.now }
-    {
-        let turn = quarter_of(face);
-        let mut corners = [0; 8];
-        let mut twists = [0; 8];
-        let mut edges = [0; 12];
-        let mut flips = [0; 12];
-        pick_into(&self.corners, &turn.corners, &mut corners);
-        pick_into(&self.twists, &turn.corners, &mut twists);
-        add_digits(&mut twists, &turn.twists, 3);
-        pick_into(&self.edges, &turn.edges, &mut edges);
-        pick_into(&self.flips, &turn.edges, &mut flips);
-        add_digits(&mut flips, &turn.flips, 2);
-        Cube {
-            corners,
-            twists,
-            edges,
-            flips,
+impl Turned for Cube {
+    ghost use Rattle.scr_cube.specs.Cube333.{cube_after};
+
+    ghost after = { cube_after };
+
+    fn after(&self, turn: Turn) -> Option<Cube> {
+        let (face, amount) = face_and_amount(turn)?;
+        if face < 6 {
+            Some(self.turn(face, amount))
+        } else {
+            None
         }
     }
 }

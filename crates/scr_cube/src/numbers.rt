@@ -1,11 +1,12 @@
 //! The numbers of cubes, by which they are drawn.
 ghost use Rattle.std.specs.Prelude.{◌≡◌};
-ghost use Rattle.scr_faces.specs.Cube333.{cube_bases};
-ghost use Rattle.scr_faces.specs.Cube222.{bases_222};
+ghost use Rattle.scr_cube.specs.Cube333.{IsCube, cube_bases, cube_digits};
+ghost use Rattle.scr_cube.specs.Cube222.{bases_222};
 
 use crate::corners::Corners222;
 use crate::cube::Cube;
 use scr_draw::Numbering;
+use scr_orbit::Placed;
 use scr_rank::permutations::{is_odd, rank_permutation, unrank_with_parity};
 use scr_rank::{MixedRadix, PermRank, TwistRank};
 
@@ -22,6 +23,19 @@ fn cube_radix() -> MixedRadix<4>
     MixedRadix::new([2048, 2187, 40_320, 239_500_800])
 }
 
+/// The numbers of a cube's flips, of its twists, of its list of corners, and half the number of its list of edges.
+fn digits_of(cube: &Cube) -> [u128; 4]
+    requires { IsCube cube.now }
+    ensures { result ≡ cube_digits cube.now }
+{
+    [
+        TwistRank::<12, 2>::rank(&cube.flips()),
+        TwistRank::<8, 3>::rank(&cube.twists()),
+        PermRank::<8>::rank(&cube.corners()),
+        u128::from(rank_permutation(&cube.edges()) / 2),
+    ]
+}
+
 /// How many twists and lists of corners there are.
 fn radix_222() -> MixedRadix<2>
     ensures { result ≡ bases_222 }
@@ -35,8 +49,8 @@ fn radix_222() -> MixedRadix<2>
 pub struct CubeNumbers;
 
 impl Numbering for CubeNumbers {
-    ghost use Rattle.scr_faces.specs.Cube333.{IsCube, cube_count, cube_at, cube_number};
-    ghost use Rattle.scr_faces.proofs.Numbers333.{cube_numbering};
+    ghost use Rattle.scr_cube.specs.Cube333.{IsCube, cube_count, cube_at, cube_number};
+    ghost use Rattle.scr_cube.specs.Numbered333.{cube_numbering};
 
     type State = Cube;
 
@@ -58,20 +72,13 @@ impl Numbering for CubeNumbers {
         let mut edges = [0; 12];
         unrank_with_parity(edge_half as u64, is_odd(&corners), &mut edges);
         Cube::of_valid(
-            corners,
-            TwistRank::<8, 3>::unrank(twists),
-            edges,
-            TwistRank::<12, 2>::unrank(flips),
+            Placed::new(corners, TwistRank::<8, 3>::unrank(twists)),
+            Placed::new(edges, TwistRank::<12, 2>::unrank(flips)),
         )
     }
 
     fn number_of(&self, state: &Cube) -> u128 {
-        cube_radix().rank(&[
-            TwistRank::<12, 2>::rank(&state.flips()),
-            TwistRank::<8, 3>::rank(&state.twists()),
-            PermRank::<8>::rank(&state.corners()),
-            u128::from(rank_permutation(&state.edges()) / 2),
-        ])
+        cube_radix().rank(&digits_of(state))
     }
 
     ghost law = { λ _. cube_numbering };
@@ -82,8 +89,8 @@ impl Numbering for CubeNumbers {
 pub struct Numbers222;
 
 impl Numbering for Numbers222 {
-    ghost use Rattle.scr_faces.specs.Cube222.{IsCorners222, count_222, corners_222_at, number_222};
-    ghost use Rattle.scr_faces.proofs.Numbers222.{numbering_222};
+    ghost use Rattle.scr_cube.specs.Cube222.{IsCorners222, count_222, corners_222_at, number_222};
+    ghost use Rattle.scr_cube.specs.Numbered222.{numbering_222};
 
     type State = Corners222;
 
@@ -101,10 +108,10 @@ impl Numbering for Numbers222 {
 
     fn state_at(&self, number: u128) -> Corners222 {
         let [twists, corners] = radix_222().unrank(number);
-        Corners222::of_valid(
+        Corners222::of_valid(Placed::new(
             PermRank::<7>::unrank(corners),
             TwistRank::<7, 3>::unrank(twists),
-        )
+        ))
     }
 
     fn number_of(&self, state: &Corners222) -> u128 {

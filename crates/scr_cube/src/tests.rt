@@ -1,12 +1,13 @@
 //! States that are known from elsewhere.
 ghost use Rattle.std.specs.Prelude.{◌<◌};
-ghost use Rattle.scr_faces.specs.Cube333.{cube_count};
-ghost use Rattle.scr_faces.specs.Cube222.{count_222};
+ghost use Rattle.scr_cube.specs.Cube333.{cube_count};
+ghost use Rattle.scr_cube.specs.Cube222.{count_222};
 
 use crate::{Corners222, Cube, CubeNumbers, Numbers222};
 use scr_draw::Numbering;
-use scr_notation::{Event, Scramble, Turn};
+use scr_notation::{Event, parse};
 use std::process::Abort;
+use std::test::Fail;
 
 const IN_PLACE: [u8; 8] = [0, 1, 2, 3, 4, 5, 6, 7];
 
@@ -56,40 +57,6 @@ fn known_cubes(rt: HostRuntime) {
     assert!(rt; CubeNumbers.count() == 43252003274489856000);
 }
 
-// A flipped edge, a twisted corner, two exchanged corners, a corner twice.
-#[test]
-fn what_no_turns_reach(rt: HostRuntime) {
-    let flipped = [1, 0, 0, 0, 0, 0, 0, 0, 0, 0, 0, 0];
-    assert!(rt; Cube::from_lists(IN_PLACE, [0; 8], EDGES_IN_PLACE, flipped).is_none());
-    let twisted = [1, 0, 0, 0, 0, 0, 0, 0];
-    assert!(rt; Cube::from_lists(IN_PLACE, twisted, EDGES_IN_PLACE, [0; 12]).is_none());
-    let exchanged = [1, 0, 2, 3, 4, 5, 6, 7];
-    assert!(rt; Cube::from_lists(exchanged, [0; 8], EDGES_IN_PLACE, [0; 12]).is_none());
-    let twice = [0, 0, 2, 3, 4, 5, 6, 7];
-    assert!(rt; Cube::from_lists(twice, [0; 8], EDGES_IN_PLACE, [0; 12]).is_none());
-    assert!(rt; Corners222::from_lists([1, 0, 2, 3, 4, 5, 6], [0; 7]).is_some());
-    assert!(rt; Corners222::from_lists([1, 0, 2, 3, 4, 5, 6], [1; 7]).is_none());
-}
-
-// Each turn has order 4, and R U R' U' has order 6.
-#[test]
-fn orders(rt: HostRuntime) {
-    let solved = Cube::solved();
-    for face in 0..6 {
-        assert!(rt; solved.turn(face, 1) != solved && solved.turn(face, 2) != solved);
-        assert!(rt; solved.turn(face, 1).turn(face, 3) == solved);
-        assert!(rt; solved.turn(face, 2).turn(face, 2) == solved);
-    }
-    let mut cube = solved;
-    let mut corners = Corners222::solved();
-    for done in 1..7 {
-        cube = cube.turn(1, 1).turn(0, 1).turn(1, 3).turn(0, 3);
-        corners = corners.turn(1, 1).turn(0, 1).turn(1, 3).turn(0, 3);
-        assert!(rt; (cube == solved) == (done == 6));
-        assert!(rt; (corners == Corners222::solved()) == (done == 6));
-    }
-}
-
 fn is_number_222(rt: &impl Abort, number: u128, corners: [u8; 7], twists: [u8; 7])
     requires { number < count_222 }
 {
@@ -110,31 +77,69 @@ fn known_corners(rt: HostRuntime) {
     assert!(rt; Numbers222.count() == 3674160);
 }
 
-// R U R' U' is a scramble of both cubes, and with D it is one of the 3x3x3 alone.
+// A flipped edge, a twisted corner, two exchanged corners, a corner twice.
 #[test]
-fn scrambles_played(rt: HostRuntime) {
-    let solved = Cube::solved();
-    let corners = Corners222::solved();
-    let mut scramble = Scramble::new(Event::C333);
-    assert!(rt; solved.play(&scramble) == Some(solved));
-    for (face, amount) in [(1, 1), (0, 1), (1, 3), (0, 3)] {
-        let turn = Turn::Face {
-            face,
-            depth: 1,
-            amount,
-        };
-        assert!(rt; scramble.push(turn));
-    }
-    let cube = solved.turn(1, 1).turn(0, 1).turn(1, 3).turn(0, 3);
-    assert!(rt; solved.play(&scramble) == Some(cube));
-    let state = corners.turn(1, 1).turn(0, 1).turn(1, 3).turn(0, 3);
-    assert!(rt; corners.play(&scramble) == Some(state));
-    let down = Turn::Face {
-        face: 3,
-        depth: 1,
-        amount: 2,
-    };
-    assert!(rt; scramble.push(down));
-    assert!(rt; solved.play(&scramble) == Some(cube.turn(3, 2)));
-    assert!(rt; corners.play(&scramble).is_none());
+fn what_no_turns_reach(rt: HostRuntime) {
+    let flipped = [1, 0, 0, 0, 0, 0, 0, 0, 0, 0, 0, 0];
+    assert!(rt; Cube::from_lists(IN_PLACE, [0; 8], EDGES_IN_PLACE, flipped).is_none());
+    let twisted = [1, 0, 0, 0, 0, 0, 0, 0];
+    assert!(rt; Cube::from_lists(IN_PLACE, twisted, EDGES_IN_PLACE, [0; 12]).is_none());
+    let exchanged = [1, 0, 2, 3, 4, 5, 6, 7];
+    assert!(rt; Cube::from_lists(exchanged, [0; 8], EDGES_IN_PLACE, [0; 12]).is_none());
+    let twice = [0, 0, 2, 3, 4, 5, 6, 7];
+    assert!(rt; Cube::from_lists(twice, [0; 8], EDGES_IN_PLACE, [0; 12]).is_none());
+    assert!(rt; Corners222::from_lists([1, 0, 2, 3, 4, 5, 6], [0; 7]).is_some());
+    assert!(rt; Corners222::from_lists([1, 0, 2, 3, 4, 5, 6], [1; 7]).is_none());
+}
+
+// The word leads to the superflip, and with a wide turn it is no scramble.
+#[test]
+fn scrambles_played(rt: HostRuntime) -> Result<(), Fail> {
+    let text = "U R2 F B R B2 R U2 L B2 R U' D' R2 F R' L B2 U2 F2";
+    let scramble = parse(Event::C333, text)?;
+    let superflip = Cube::solved().play(&scramble);
+    assert!(rt; superflip == Cube::from_lists(IN_PLACE, [0; 8], EDGES_IN_PLACE, [1; 12]));
+    assert!(rt; Corners222::solved().play(&scramble).is_none());
+    let small = Corners222::solved().play(&parse(Event::C222, "R U F'")?);
+    let turned = Corners222::solved().turn(1, 1).turn(0, 1).turn(2, 3);
+    assert!(rt; small == Some(turned));
+    Ok(())
+}
+
+// How many states need 0, 1, 2 and 3 turns.
+macro_rules! counts {
+    ($rt:expr, $solved:expr, $faces:expr) => {{
+        let mut seen = Vec::new($rt.alloc());
+        let mut level = Vec::new($rt.alloc());
+        let mut counts = Vec::new($rt.alloc());
+        seen.push($solved)?;
+        level.push($solved)?;
+        counts.push(level.len())?;
+        for _distance in 1..4 {
+            let mut next = Vec::new($rt.alloc());
+            for state in &level {
+                for face in 0..$faces {
+                    for amount in 1..4 {
+                        let turned = state.turn(face, amount);
+                        if !seen.contains(&turned) {
+                            seen.push(turned)?;
+                            next.push(turned)?;
+                        }
+                    }
+                }
+            }
+            counts.push(next.len())?;
+            level = next;
+        }
+        counts
+    }};
+}
+
+#[test]
+fn distances(rt: HostRuntime) -> Result<(), Fail> {
+    let cubes = counts!(rt, Cube::solved(), 6);
+    assert_eq!(rt; cubes.as_slice(), [1, 18, 243, 3240].as_slice());
+    let states = counts!(rt, Corners222::solved(), 3);
+    assert_eq!(rt; states.as_slice(), [1, 9, 54, 321].as_slice());
+    Ok(())
 }

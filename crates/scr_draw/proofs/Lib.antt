@@ -1,1 +1,9 @@
+pub mod OnLiterals
+pub mod Spelled
+pub mod Counting
+pub mod Accepted
+pub mod CountedDraws
+pub mod FirstHit
+pub mod Fairness
+pub mod Outcomes
 pub mod Tried

@@ -2,16 +2,16 @@
 -- what the rest of it draws.
 use Rattle.std.proofs.Common.{◌≡◌, ℕ, suc, ◌+◌, ◌-◌, ◌*◌, ◌%◌, ◌<◌, Bool, true, false, Option, Some, None, List, [], ◌∷◌, refl, sym, ap, ◌∙◌, arith}
 use Rattle.std.specs.Prelude.{if◌then◌else◌, IsTrue}
-use Rattle.scr_stream.specs.Attempt.{answer, attempt_value, attempt_values, is_accepted}
-use Rattle.scr_stream.specs.Drawn.{drawn, hit, numbers_read}
+use Rattle.scr_draw.specs.Attempt.{answer, attempt_value, attempt_values, is_accepted}
+use Rattle.scr_draw.specs.Drawn.{drawn, hit, numbers_read}
 
-pub record IsTried {S : Type 0} (hits : ℕ → Option S) (word : ℕ → ℕ) (place all : ℕ) (word_now : ℕ → ℕ) (place_now tried : ℕ) : Type 0 where
+pub record IsTried {S : Type 0} (count : ℕ) (state_at : ℕ → S) (permits : S → Bool) (word : ℕ → ℕ) (place all : ℕ) (word_now : ℕ → ℕ) (place_now tried : ℕ) : Type 0 where
   pub same_words : word_now ≡ word
   pub taken : place_now ≡ place + 3 * tried
-  pub draws : drawn hits (attempt_values word place all)
-      ≡ drawn hits (attempt_values word (place + 3 * tried) (all - tried))
-  pub reads : numbers_read hits (attempt_values word place all)
-      ≡ tried + numbers_read hits (attempt_values word (place + 3 * tried) (all - tried))
+  pub draws : drawn (hit count state_at permits) (attempt_values word place all)
+      ≡ drawn (hit count state_at permits) (attempt_values word (place + 3 * tried) (all - tried))
+  pub reads : numbers_read (hit count state_at permits) (attempt_values word place all)
+      ≡ tried + numbers_read (hit count state_at permits) (attempt_values word (place + 3 * tried) (all - tried))
 
 -- the numbers of attempts, the first apart
 values_step : (word : ℕ → ℕ) (place n : ℕ) → attempt_values word place (suc n) ≡ attempt_value word place ∷ attempt_values word (place + 3) n
@@ -89,95 +89,77 @@ hit_of_passed count state_at permits v i h passed =
     let parts = accepted_place (is_accepted count v) (v % count) i h in
     rw (parts.0, parts.1, passed) refl
 
--- an attempt's answer, at the count and the words that the attempts began with
-answer_at : (count count_now : ℕ) (word word_now : ℕ → ℕ) (place place_now : ℕ) (o : Option ℕ) → count_now ≡ count
-    → word_now ≡ word → place_now ≡ place → o ≡ answer count_now (attempt_value word_now place_now)
-    → answer count (attempt_value word place) ≡ o
-answer_at count count_now word word_now place place_now o ec ew ep h =
-    sym (h ∙ ap (λ (c : ℕ). answer c (attempt_value word_now place_now)) ec
-    ∙ ap (λ (w : ℕ → ℕ). answer count (attempt_value w place_now)) ew
-    ∙ ap (λ (p : ℕ). answer count (attempt_value word p)) ep)
-
 -- ---- the steps of a draw
 
--- nothing was tried yet
-pub tried_none : {S : Type 0} (hits : ℕ → Option S) (word : ℕ → ℕ) (place all : ℕ) → IsTried hits word place all word place 0
-tried_none hits word place all =
-    let same : place + 3 * 0 ≡ place = omega arith in
-    let whole : all - 0 ≡ all = omega arith in record {
-      same_words = refl;
-      taken = sym same;
-      draws = rw (same, whole) refl;
-      reads = rw (same, whole) (omega arith);
-    }
+-- what the attempts draw in the end, and how many were read
+pub record EndsWith {S : Type 0} (hits : ℕ → Option S) (word : ℕ → ℕ) (place all read : ℕ) (outcome : Option S) : Type 0 where
+  pub draws : drawn hits (attempt_values word place all) ≡ outcome
+  pub reads : numbers_read hits (attempt_values word place all) ≡ read
 
--- one more missed, and its three words were taken
-tried_miss : {S : Type 0} (hits : ℕ → Option S) {word : ℕ → ℕ} {place all : ℕ} {word_now : ℕ → ℕ} {place_now tried : ℕ}
-    → IsTried hits word place all word_now place_now tried → tried < all
-    → hits (attempt_value word (place + 3 * tried)) ≡ None → (word_next : ℕ → ℕ) (place_next : ℕ) → word_next ≡ word_now
-    → place_next ≡ place_now + 3 → IsTried hits word place all word_next place_next (tried + 1)
-tried_miss hits {word} {place} {all} {word_now} {place_now} {tried} so_far more miss word_next place_next same three =
-    let v : ℕ = attempt_value word (place + 3 * tried) in
-    let vs : List ℕ = attempt_values word (place + 3 * (tried + 1)) (all - (tried + 1)) in
-    let step = rest_step word place all tried more in
-    let reads : numbers_read hits (attempt_values word (place + 3 * tried) (all - tried)) ≡ suc (numbers_read hits vs) =
-    rw step (read_past hits v vs miss) in
-    let before = so_far.reads in
-    let taken = so_far.taken in record {
-      same_words = same ∙ so_far.same_words;
-      taken = omega (arith, taken, three);
-      draws = so_far.draws ∙ rw step (drawn_past hits v vs miss);
-      reads = omega (arith, before, reads);
-    }
+module _ {S : Type 0} {count : ℕ} {state_at : ℕ → S} {permits : S → Bool} {word : ℕ → ℕ} {place all : ℕ} {word_now : ℕ → ℕ} {place_now tried : ℕ} where
+  -- one more missed, and its three words were taken
+  tried_miss : IsTried count state_at permits word place all word_now place_now tried → tried < all
+      → hit count state_at permits (attempt_value word (place + 3 * tried)) ≡ None → (word_next : ℕ → ℕ) (place_next : ℕ)
+      → word_next ≡ word_now → place_next ≡ place_now + 3 → IsTried count state_at permits word place all word_next place_next (tried + 1)
+  tried_miss so_far more miss word_next place_next same three =
+      let hits : ℕ → Option S = hit count state_at permits in
+      let v : ℕ = attempt_value word (place + 3 * tried) in
+      let vs : List ℕ = attempt_values word (place + 3 * (tried + 1)) (all - (tried + 1)) in
+      let step = rest_step word place all tried more in
+      let reads : numbers_read hits (attempt_values word (place + 3 * tried) (all - tried)) ≡ suc (numbers_read hits vs) =
+      rw step (read_past hits v vs miss) in
+      let before = so_far.reads in
+      let taken = so_far.taken in record {
+        same_words = same ∙ so_far.same_words;
+        taken = omega (arith, taken, three);
+        draws = so_far.draws ∙ rw step (drawn_past hits v vs miss);
+        reads = omega (arith, before, reads);
+      }
 
--- all missed
-pub tried_all : {S : Type 0} (hits : ℕ → Option S) {word : ℕ → ℕ} {place all : ℕ} {word_now : ℕ → ℕ} {place_now tried : ℕ}
-    → IsTried hits word place all word_now place_now tried → tried ≡ all
-    → (drawn hits (attempt_values word place all) ≡ None) × (numbers_read hits (attempt_values word place all) ≡ all)
-tried_all hits {word} {place} {all} {word_now} {place_now} {tried} so_far whole =
-    let none : all - tried ≡ 0 = omega arith in
-    let nothing : numbers_read hits (attempt_values word (place + 3 * tried) (all - tried)) ≡ 0 =
-    rw (none, values_none) (read_nothing hits) in
-    let before = so_far.reads in
-    (so_far.draws ∙ rw (none, values_none) (drawn_nothing hits), omega (arith, before, nothing))
+  -- all missed
+  pub tried_all : IsTried count state_at permits word place all word_now place_now tried → tried ≡ all
+      → EndsWith (hit count state_at permits) word place all all None
+  tried_all so_far whole =
+      let hits : ℕ → Option S = hit count state_at permits in
+      let none : all - tried ≡ 0 = omega arith in
+      let nothing : numbers_read hits (attempt_values word (place + 3 * tried) (all - tried)) ≡ 0 =
+      rw (none, values_none) (read_nothing hits) in
+      let before = so_far.reads in
+      record { draws = so_far.draws ∙ rw (none, values_none) (drawn_nothing hits); reads = omega (arith, before, nothing) }
 
--- an attempt was refused
-pub tried_refused : {S : Type 0} (count : ℕ) (state_at : ℕ → S) (permits : S → Bool)
-    {word : ℕ → ℕ} {place all : ℕ} {word_now : ℕ → ℕ} {place_now tried : ℕ} (count_now : ℕ) (word_next : ℕ → ℕ) (place_next : ℕ)
-    → IsTried (hit count state_at permits) word place all word_now place_now tried → tried < all → count_now ≡ count
-    → None ≡ answer count_now (attempt_value word_now place_now) → word_next ≡ word_now → place_next ≡ place_now + 3
-    → IsTried (hit count state_at permits) word place all word_next place_next (tried + 1)
-tried_refused count state_at permits {word} {place} {all} {word_now} {place_now} {tried} count_now word_next place_next so_far more ec h same three =
-    let now = answer_at count count_now word word_now (place + 3 * tried) place_now None ec so_far.same_words so_far.taken h in
-    let miss = hit_of_refused count state_at permits (attempt_value word (place + 3 * tried)) now in
-    tried_miss (hit count state_at permits) so_far more miss word_next place_next same three
+  module _ {count_now : ℕ} (so_far : IsTried count state_at permits word place all word_now place_now tried) (more : tried < all) (ec : count_now ≡ count) where
+    -- an attempt's answer, at the count and the words that the attempts began with
+    answer_at : (o : Option ℕ) → o ≡ answer count_now (attempt_value word_now place_now) → answer count (attempt_value word (place + 3 * tried)) ≡ o
+    answer_at o h =
+        sym (h ∙ ap (λ (c : ℕ). answer c (attempt_value word_now place_now)) ec
+        ∙ ap (λ (w : ℕ → ℕ). answer count (attempt_value w place_now)) so_far.same_words
+        ∙ ap (λ (p : ℕ). answer count (attempt_value word p)) so_far.taken)
 
--- an attempt was accepted, and its state failed the test
-pub tried_failed : {S : Type 0} (count : ℕ) (state_at : ℕ → S) (permits : S → Bool)
-    {word : ℕ → ℕ} {place all : ℕ} {word_now : ℕ → ℕ} {place_now tried : ℕ} (count_now : ℕ) (word_next : ℕ → ℕ) (place_next i : ℕ) (s : S)
-    → IsTried (hit count state_at permits) word place all word_now place_now tried → tried < all → count_now ≡ count
-    → Some i ≡ answer count_now (attempt_value word_now place_now) → word_next ≡ word_now → place_next ≡ place_now + 3
-    → s ≡ state_at i → permits s ≡ false → IsTried (hit count state_at permits) word place all word_next place_next (tried + 1)
-tried_failed count state_at permits {word} {place} {all} {word_now} {place_now} {tried} count_now word_next place_next i s so_far more ec h same three is failed =
-    let now = answer_at count count_now word word_now (place + 3 * tried) place_now (Some i) ec so_far.same_words so_far.taken h in
-    let miss = hit_of_failed count state_at permits (attempt_value word (place + 3 * tried)) i now (rw is at failed) in
-    tried_miss (hit count state_at permits) so_far more miss word_next place_next same three
+    -- it was refused
+    pub tried_refused : {word_next : ℕ → ℕ} {place_next : ℕ} → None ≡ answer count_now (attempt_value word_now place_now)
+        → word_next ≡ word_now → place_next ≡ place_now + 3 → IsTried count state_at permits word place all word_next place_next (tried + 1)
+    tried_refused {word_next} {place_next} h same three =
+        let miss = hit_of_refused count state_at permits (attempt_value word (place + 3 * tried)) (answer_at None h) in
+        tried_miss so_far more miss word_next place_next same three
 
--- an attempt was accepted, and its state passed the test: it is drawn, and its words are the last
-pub tried_passed : {S : Type 0} (count : ℕ) (state_at : ℕ → S) (permits : S → Bool)
-    {word : ℕ → ℕ} {place all : ℕ} {word_now : ℕ → ℕ} {place_now tried : ℕ} (count_now i : ℕ) (s : S)
-    → IsTried (hit count state_at permits) word place all word_now place_now tried → tried < all → count_now ≡ count
-    → Some i ≡ answer count_now (attempt_value word_now place_now) → s ≡ state_at i → permits s ≡ true
-    → (drawn (hit count state_at permits) (attempt_values word place all) ≡ Some s)
-    × (numbers_read (hit count state_at permits) (attempt_values word place all) ≡ tried + 1)
-tried_passed count state_at permits {word} {place} {all} {word_now} {place_now} {tried} count_now i s so_far more ec h is passed =
-    let hits = hit count state_at permits in
-    let v : ℕ = attempt_value word (place + 3 * tried) in
-    let vs : List ℕ = attempt_values word (place + 3 * (tried + 1)) (all - (tried + 1)) in
-    let step = rest_step word place all tried more in
-    let now = answer_at count count_now word word_now (place + 3 * tried) place_now (Some i) ec so_far.same_words so_far.taken h in
-    let here = hit_of_passed count state_at permits v i now (rw is at passed) ∙ ap Some (sym is) in
-    let reads : numbers_read hits (attempt_values word (place + 3 * tried) (all - tried)) ≡ 1 =
-    rw step (read_here hits v vs s here) in
-    let before = so_far.reads in
-    (so_far.draws ∙ rw step (drawn_here hits v vs s here), omega (arith, before, reads))
+    -- it was accepted, and its state failed the test
+    pub tried_failed : {word_next : ℕ → ℕ} {place_next i : ℕ} {s : S} → Some i ≡ answer count_now (attempt_value word_now place_now)
+        → s ≡ state_at i → permits s ≡ false → word_next ≡ word_now → place_next ≡ place_now + 3
+        → IsTried count state_at permits word place all word_next place_next (tried + 1)
+    tried_failed {word_next} {place_next} {i} h is failed same three =
+        let miss = hit_of_failed count state_at permits (attempt_value word (place + 3 * tried)) i (answer_at (Some i) h) (rw is at failed) in
+        tried_miss so_far more miss word_next place_next same three
+
+    -- it was accepted, and its state passed the test: it is drawn, and its words are the last
+    pub tried_passed : {i : ℕ} {s : S} → Some i ≡ answer count_now (attempt_value word_now place_now)
+        → s ≡ state_at i → permits s ≡ true → EndsWith (hit count state_at permits) word place all (tried + 1) (Some s)
+    tried_passed {i} {s} h is passed =
+        let hits : ℕ → Option S = hit count state_at permits in
+        let v : ℕ = attempt_value word (place + 3 * tried) in
+        let vs : List ℕ = attempt_values word (place + 3 * (tried + 1)) (all - (tried + 1)) in
+        let step = rest_step word place all tried more in
+        let here = hit_of_passed count state_at permits v i (answer_at (Some i) h) (rw is at passed) ∙ ap Some (sym is) in
+        let reads : numbers_read hits (attempt_values word (place + 3 * tried) (all - tried)) ≡ 1 =
+        rw step (read_here hits v vs s here) in
+        let before = so_far.reads in
+        record { draws = so_far.draws ∙ rw step (drawn_here hits v vs s here); reads = omega (arith, before, reads) }

@@ -1,8 +1,10 @@
 //! Drawing: the first permitted state of a number of attempts.
 
 ghost use Rattle.std.specs.Prelude.{◌≡◌, ◌+◌, ◌*◌, ◌^◌, ◌≤◌, IfOk, IfErr, IsTrue, ok_or};
-ghost use Rattle.scr_stream.specs.Attempt.{attempt_values};
-ghost use Rattle.scr_stream.specs.Drawn.{drawn, hit, numbers_read};
+ghost use Rattle.std.specs.Result.{result_ok};
+ghost use Rattle.scr_draw.specs.Attempt.{attempt_values};
+ghost use Rattle.scr_draw.specs.Drawn.{drawn, hit, numbers_read};
+ghost use Rattle.scr_draw.specs.StateSpace.{StateSpace, Draws};
 
 use crate::rejection::{attempt_within, limit_of};
 use crate::{Numbering, Permit};
@@ -32,6 +34,10 @@ pub fn draw<W: Words, P: Numbering + Permit<P::State>>(
     ensures state { let hits = hit (P.count puzzle.now) (P.state_at puzzle.now) (λ s. P.needs puzzle.now s least) in
         let values = attempt_values (W.word_at words.old) (W.taken words.old) attempts in
         result ≡ ok_or (drawn hits values) (record { words = 3 * attempts }) }
+    ensures draws { let space : StateSpace P.State =
+        record { count = P.count puzzle.now; state_at = P.state_at puzzle.now; puzzle = P.puzzle puzzle.now } in
+        let values = attempt_values (W.word_at words.old) (W.taken words.old) attempts in
+        Draws space least values (result_ok result) }
     ensures permitted { IfOk result (λ s. P.valid puzzle.now s × IsTrue (P.needs puzzle.now s least)) }
     ensures taken { let hits = hit (P.count puzzle.now) (P.state_at puzzle.now) (λ s. P.needs puzzle.now s least) in
         let values = attempt_values (W.word_at words.old) (W.taken words.old) attempts in

@@ -1,7 +1,8 @@
 //! What an event gives for drawing: numbered states, and a test of them.
 
-ghost use Rattle.std.specs.Prelude.{◌≡◌, ℕ, ◌<◌, ◌≤◌, Bool};
-ghost use Rattle.scr_stream.specs.Numbering.{IsNumbering};
+ghost use Rattle.std.specs.Prelude.{◌≡◌, ℕ, ◌<◌, ◌≤◌, ◌↔◌, Bool, IsTrue};
+ghost use Rattle.scr_combinatorics.specs.Numbering.{IsNumbering};
+ghost use Rattle.scr_play.specs.Reach.{Puzzle, IsReached, Needs};
 
 /// The states of an event, numbered from 0: `state_at` and `number_of` are inverse between the
 /// numbers below the count and the valid states. The count is from 1 to 2^96.
@@ -41,6 +42,9 @@ pub trait Numbering {
 
 /// The test of an event's minimum.
 pub trait Permit<S> {
+    /// The puzzle whose turns are counted.
+    ghost puzzle: { Self → Puzzle S };
+
     /// The greatest minimum that the test takes.
     ghost greatest: { Self → ℕ };
 
@@ -51,4 +55,14 @@ pub trait Permit<S> {
     fn needs_at_least(&self, state: &S, least: u32) -> bool
         requires { least ≤ greatest self.now }
         ensures { result ≡ needs self.now state.now least };
+
+    /// Of a state that turns reach, the test is true exactly where no word of fewer counted turns leads to a solved one.
+    ghost exact: { (event : Self) (s : S) (least : ℕ)
+        → least ≤ greatest event → IsReached (puzzle event) s → IsTrue (needs event s least) ↔ Needs (puzzle event) s least };
+}
+
+/// An event whose scrambles are of random states: the states that are numbered are those that turns reach.
+pub trait RandomState: Numbering + Permit<<Self as Numbering>::State> {
+    /// The valid states are those that turns reach.
+    ghost reached: { (event : Self) (s : Self.State) → Self.valid event s ↔ IsReached (Self.puzzle event) s };
 }

@@ -1,14 +1,22 @@
 //! Why drawing is fair: calls that do nothing, whose contracts are the laws.
 
-ghost use Rattle.std.specs.Prelude.{◌≡◌, ℕ, suc, ◌+◌, ◌*◌, ◌%◌, ◌^◌, ◌<◌, ◌≤◌, ◌↔◌, IsTrue, Some, None};
-ghost use Rattle.scr_stream.specs.Attempt.{is_accepted, quotient};
-ghost use Rattle.scr_stream.specs.Count.{IsCount};
-ghost use Rattle.scr_stream.specs.Attempt.{attempt_value, attempt_values};
-ghost use Rattle.scr_stream.specs.Drawn.{IsFirstHit, drawn, hit, numbers_read};
-ghost use Rattle.scr_stream.specs.Fair.{IsFair};
-ghost use Rattle.scr_stream.specs.Lists.{IsListing};
+ghost use Rattle.std.specs.Prelude.{◌≡◌, ℕ, suc, ◌+◌, ◌*◌, ◌%◌, ◌^◌, ◌<◌, ◌≤◌, ◌↔◌, ◌==◌, All, IsTrue, Some, None, unwrap_or, if◌then◌else◌, length, replicate, slice_index};
+ghost use Rattle.scr_combinatorics.specs.Digits.{mixed_digits, mixed_number};
+ghost use Rattle.scr_combinatorics.specs.Numbering.{IsOneToOne};
+ghost use Rattle.scr_words.specs.Stream.{stream_word};
+ghost use Rattle.scr_draw.specs.Attempt.{is_accepted, quotient, answer, attempt_value, attempt_values};
+ghost use Rattle.scr_draw.specs.Count.{IsCount, count_below};
+ghost use Rattle.scr_draw.specs.Drawn.{IsFirstHit, drawn, hit, numbers_read};
+ghost use Rattle.scr_draw.specs.Fair.{IsFair, ways};
+ghost use Rattle.scr_draw.specs.StateSpace.{StateSpace, HasOneOutcome, IsFairFor};
 
-use crate::{Numbering, Permit};
+use crate::{Numbering, Permit, RandomState};
+
+/// Three words of 32 bits spell each number below 2^96, each number once.
+pub fn each_number_once()
+    ensures { IsOneToOne (2 ^ 96) (mixed_digits (replicate 3 (2 ^ 32))) (λ words. attempt_value (slice_index words) 0)
+        (λ words. (length words ≡ 3) × All (λ word. word < 2 ^ 32) words) }
+{}
 
 /// Each number below the count is the answer of equally many accepted numbers below 2^96, and of at
 /// least one; each valid state is that of as many.
@@ -31,9 +39,18 @@ pub fn same_ways<P: Numbering + Permit<P::State>>(puzzle: &P, least: u32)
         (λ s. P.valid puzzle.now s × IsTrue (P.needs puzzle.now s least)) }
 {}
 
+/// Where the valid states are those that turns reach, the states that are drawn are those that turns reach and that need
+/// a minimum of the event's range, each by the same number of lists.
+pub fn drawn_fairly<P: RandomState>(event: &P)
+    ensures { let space : StateSpace P.State =
+        record { count = P.count event.now; state_at = P.state_at event.now; puzzle = P.puzzle event.now } in
+        (least : ℕ) → least ≤ P.greatest event.now → IsFairFor space least }
+{}
+
 /// Each list of numbers below 2^96 stands once among the lists that are counted.
 pub fn each_list_once()
-    ensures { (len : ℕ) → IsListing (2 ^ 96) len }
+    ensures { (len : ℕ) → IsOneToOne ((2 ^ 96) ^ len) (mixed_digits (replicate len (2 ^ 96)))
+        (mixed_number (replicate len (2 ^ 96))) (λ values. (length values ≡ len) × All (λ v. v < 2 ^ 96) values) }
 {}
 
 /// What is drawn is the state of the first attempt that hits one, none where each attempt misses;
@@ -50,4 +67,34 @@ pub fn first_hit<P: Numbering + Permit<P::State>>(puzzle: &P, least: u32)
     ensures read { let hits = hit (P.count puzzle.now) (P.state_at puzzle.now) (λ s. P.needs puzzle.now s least) in
         (word : ℕ → ℕ) (place all : ℕ) (s : P.State) (tried : ℕ) → IsFirstHit hits word place all s tried
         → numbers_read hits (attempt_values word place all) ≡ suc tried }
+{}
+
+/// Numbers have one outcome at each minimum of the event's range, whichever test tells what states need: the state that the
+/// first number which doesn't miss hits, and it is permitted; or none, where each misses.
+pub fn one_outcome<P: RandomState>(event: &P)
+    ensures { let space : StateSpace P.State =
+        record { count = P.count event.now; state_at = P.state_at event.now; puzzle = P.puzzle event.now } in
+        (least : ℕ) → least ≤ P.greatest event.now → HasOneOutcome space least }
+{}
+
+/// The definitions at worked numbers.
+#[tactic(auto, unfolding(crate::proofs::OnLiterals::draws_on_literals))]
+pub fn rows()
+    // the states of a 2x2x2: the first number that is refused, and the last that is accepted
+    ensures limit { quotient 3674160 * 3674160 ≡ 79228162514264337593543018880 }
+    ensures refused_at_the_limit { answer 3674160 79228162514264337593543018880 ≡ None }
+    ensures accepted_below { answer 3674160 79228162514264337593543018879 ≡ Some 3674159 }
+
+    // the first attempt on stream 0 of the zero key, on a Clock, on a 2x2x2 and on four tips
+    ensures first_value { attempt_value (stream_word (replicate 32 0) 0) 0
+        ≡ 3848953152 * 2 ^ 64 + 2419978656 * 2 ^ 32 + 2917185654 }
+    ensures first_answers { let value = 3848953152 * 2 ^ 64 + 2419978656 * 2 ^ 32 + 2917185654 in
+        (answer (12 ^ 14) value ≡ Some 985395116423286) × (answer 3674160 value ≡ Some 3015702)
+        × (answer 81 value ≡ Some 72) }
+
+    // four numbers in place of 2 ^ 96, of which number 0 hits state 7, number 1 state 8, and two miss: of the 64 lists of
+    // three numbers 28 draw state 7, by `ways` and counted one by one
+    ensures ways_of_few { ways 4 1 2 3 ≡ 28 }
+    ensures counted_of_few { let hits = λ (v : ℕ). if v == 0 then Some 7 else if v == 1 then Some 8 else None in
+        count_below (λ n. unwrap_or (drawn hits (mixed_digits (replicate 3 4) n)) 0 == 7) 64 ≡ 28 }
 {}

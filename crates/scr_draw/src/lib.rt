@@ -1,9 +1,10 @@
 //! Fair drawing: attempts on words, the first permitted state, and the law that each permitted state
 //! is drawn by equally many words.
 //!
-//! It stands on the words of `scr_words` and on the counting of `scr_stream`. An event gives its
-//! states by a `Numbering` and its minimum by a `Permit`; whatever they are, as long as the
-//! numbering keeps its law, the contracts of the module `laws` say that drawing is fair.
+//! It stands on the words of `scr_words`, on the numberings of `scr_combinatorics` and on the puzzles of `scr_play`.
+//! An event gives its states by a `Numbering` and its minimum by a `Permit`, whose test is exact for the puzzle that it
+//! names; where its numbered states are those that turns reach, it is a `RandomState`. Whatever they are, as long as they
+//! keep their laws, the contracts of the module `laws` say that drawing is fair.
 #![tactic(auto)]
 
 mod drawing;
@@ -12,7 +13,7 @@ pub mod laws;
 mod rejection;
 
 pub use drawing::{DrawLimit, draw};
-pub use event::{Numbering, Permit};
+pub use event::{Numbering, Permit, RandomState};
 pub use rejection::attempt;
 
 #[cfg(test)]

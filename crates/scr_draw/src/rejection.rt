@@ -1,7 +1,7 @@
 //! One attempt: three words read as a number, and the rejection that makes it fair.
 
 ghost use Rattle.std.specs.Prelude.{◌≡◌, ◌+◌, ◌-◌, ◌*◌, ◌^◌, ◌<◌, ◌≤◌, IfSome};
-ghost use Rattle.scr_stream.specs.Attempt.{answer, attempt_value, quotient};
+ghost use Rattle.scr_draw.specs.Attempt.{answer, attempt_value, quotient};
 
 use scr_words::Words;
 

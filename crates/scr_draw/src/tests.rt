@@ -1,6 +1,6 @@
-ghost use Rattle.std.specs.Prelude.{◌≡◌, ℕ, ◌<◌, nat_le};
+ghost use Rattle.std.specs.Prelude.{ℕ, ◌<◌, nat_le};
 
-use crate::{DrawLimit, Numbering, Permit, attempt, draw, laws};
+use crate::{DrawLimit, Numbering, Permit, RandomState, attempt, draw, laws};
 use scr_words::{ChaChaWords, ListWords, Seed, Words};
 
 /// As many states as a 2x2x2 has, each shown by its number, which is also how many turns it needs.
@@ -36,14 +36,21 @@ impl Numbering for Row {
     ghost law = { λ _. record {
       some = lit≤ tt;
       fits = lit≤ tt;
-      valid = λ i h. h;
-      below = λ s h. h;
-      number_again = λ i h. refl;
-      state_again = λ s h. refl;
+      one_to_one = record {
+        valid = λ i h. h;
+        below = λ s h. h;
+        number_again = λ i h. refl;
+        state_again = λ s h. refl;
+      };
     } };
 }
 
 impl Permit<u128> for Row {
+    ghost use Rattle.std.proofs.Common.{lit<};
+    ghost use Rattle.scr_draw.specs.Row.{row, row_exact};
+
+    ghost puzzle = { λ _. row 3674160 };
+
     ghost greatest = { λ _. 4000000 };
 
     ghost needs = { λ _ s least. nat_le least s };
@@ -51,6 +58,15 @@ impl Permit<u128> for Row {
     fn needs_at_least(&self, state: &u128, least: u32) -> bool {
         u128::from(least) <= *state
     }
+
+    ghost exact = { λ _ s least range reached. row_exact 3674160 s least (lit< tt) reached };
+}
+
+impl RandomState for Row {
+    ghost use Rattle.std.proofs.Common.{lit<};
+    ghost use Rattle.scr_draw.specs.Row.{row_reached};
+
+    ghost reached = { λ _ s. row_reached 3674160 s (lit< tt) };
 }
 
 // The words of q * 3674160, with q the quotient of 2^96, which is the first number that is refused,
@@ -98,8 +114,12 @@ fn draws_of_a_stream(rt: HostRuntime) {
         attempt(&mut words, 1283918464548864),
         Some(985395116423286)
     );
+    laws::each_number_once();
     laws::each_equally(&Row);
     laws::same_ways(&Row, 2);
+    laws::drawn_fairly(&Row);
     laws::each_list_once();
     laws::first_hit(&Row, 2);
+    laws::one_outcome(&Row);
+    laws::rows();
 }

@@ -1,67 +1,115 @@
--- Which texts name an event.
-use Rattle.std.proofs.Common.{◌≡◌, ℕ, Bool, true, false, cond, List, [], ◌∷◌, Option, Some, None, refl, ap, subst, get_or}
-use Rattle.std.specs.Prelude.{if◌then◌else◌, option_and_then, nat_lt}
+-- What the ids of the events are.
+use Rattle.std.proofs.Common.{◌≡◌, ℕ, ◌<◌, ◌≤◌, Bool, true, false, cond, List, [], ◌∷◌, length, Option, Some, None, refl, ap, ◌∙◌, subst, get_or}
+use Rattle.std.specs.Prelude.{◌&&◌, nat_lt, nat_le, codes, All}
+use Rattle.std.specs.Bool.{then_some}
 use Rattle.std.specs.List.{find, list_all}
 use Rattle.std.specs.Str.{IsUtf8, bytes_eq}
 use Rattle.std.proofs.lemmas.Str.{IsUtf8-from_ascii}
 use Rattle.std.proofs.lemmas.Str.Ascii.{IsAscii-from_all}
 use Rattle.std.proofs.lemmas.List.Sums.{AllPass-from_list_all}
-use borrow.Author.Tests.{ltb-true}
 use Rattle.std.proofs.lemmas.Slice.Eq.{bytes_eq-Decides}
+use borrow.Author.Tests.{ltb-true, leb-true}
 use Rattle.scr_notation.specs.declared.event.Event.{Event}
 use Rattle.scr_notation.specs.declared.event.Event.TheVariants.{C222, C333, Oh333, C555, C666, C777, Clock, Minx, Pyram, Skewb, Sq1}
 use Rattle.scr_notation.specs.Event.{id_of, events, event_of}
-use Rattle.scr_list.specs.Events.{is_built, built_event_of}
+use Rattle.scr_text.specs.Lines.{has_bytes}
+use Rattle.scr_list.specs.Events.{rules_of, greatest_of, usual_of, if_built, built_event_of}
 
+-- what an event's id is, and its minima
+pub record IsId (e : Event) : Type 0 where
+  pub plain : All (λ b. 32 < b) (id_of e)
+  pub ascii : All (λ b. b < 128) (id_of e)
+  pub some : has_bytes (id_of e) ≡ true
+  pub short : length (id_of e) ≤ 5
+  pub finds : event_of (id_of e) ≡ Some e
+  pub not_444 : bytes_eq (id_of e) (codes "444") ≡ false
+  pub range : greatest_of (rules_of e).minima ≤ 15
+  pub usual : usual_of (rules_of e).minima ≤ greatest_of (rules_of e).minima
+
+-- each row is computed
+is_id : Event → Bool
+is_id e =
+    list_all (λ b. nat_lt 32 b && nat_lt b 128) (id_of e) && has_bytes (id_of e) && nat_le (length (id_of e)) 5
+    && nat_le (greatest_of (rules_of e).minima) 15 && nat_le (usual_of (rules_of e).minima) (greatest_of (rules_of e).minima)
+
+parts : (a b : Bool) → (a && b) ≡ true → (a ≡ true) × (b ≡ true)
+parts true b is = (refl, is)
+parts false b is = cc
+
+id-facts : (e : Event) → is_id e ≡ true → event_of (id_of e) ≡ Some e → bytes_eq (id_of e) (codes "444") ≡ false → IsId e
+unfolding is_id
+id-facts e test finds not_444 =
+    let last = parts _ _ test in
+    let fourth = parts _ _ last.0 in
+    let third = parts _ _ fourth.0 in
+    let first = parts _ _ third.0 in
+    let each : (k : ℕ) (d : ℕ) → k < length (id_of e) → (nat_lt 32 (get_or (id_of e) k d) ≡ true) × (nat_lt (get_or (id_of e) k d) 128 ≡ true) =
+    λ k d h. parts _ _ (AllPass-from_list_all (λ b. nat_lt 32 b && nat_lt b 128) (id_of e) first.0 k d h)
+    in
+    record {
+      plain = λ k d h. ltb-true 32 _ (each k d h).0;
+      ascii = λ k d h. ltb-true _ 128 (each k d h).1;
+      some = first.1;
+      short = leb-true (length (id_of e)) 5 third.1;
+      finds = finds;
+      not_444 = not_444;
+      range = leb-true (greatest_of (rules_of e).minima) 15 fourth.1;
+      usual = leb-true (usual_of (rules_of e).minima) (greatest_of (rules_of e).minima) last.1;
+    }
+
+pub id-IsId : (e : Event) → IsId e
+unfolding is_id
+id-IsId C222 = id-facts C222 refl refl refl
+id-IsId C333 = id-facts C333 refl refl refl
+id-IsId Oh333 = id-facts Oh333 refl refl refl
+id-IsId C555 = id-facts C555 refl refl refl
+id-IsId C666 = id-facts C666 refl refl refl
+id-IsId C777 = id-facts C777 refl refl refl
+id-IsId Clock = id-facts Clock refl refl refl
+id-IsId Minx = id-facts Minx refl refl refl
+id-IsId Pyram = id-facts Pyram refl refl refl
+id-IsId Skewb = id-facts Skewb refl refl refl
+id-IsId Sq1 = id-facts Sq1 refl refl refl
+
+-- what a search finds passes its test
 passes-at : {X : Type 0} (p : X → Bool) (ys : List X) (x y : X) (b : Bool) → p y ≡ b →
     cond b (Some y) (find p ys) ≡ Some x → (find p ys ≡ Some x → p x ≡ true) → p x ≡ true
 passes-at p ys x y true here found rest = cc
 passes-at p ys x y false here found rest = rest found
 
--- what a search finds passes its test
 find-passes : {X : Type 0} (p : X → Bool) (xs : List X) (x : X) → find p xs ≡ Some x → p x ≡ true
 find-passes p [] x found = cc
 find-passes p (y ∷ ys) x found = passes-at p ys x y (p y) refl found (find-passes p ys x)
 
-ascii_text : (bs : List ℕ) → list_all (λ b. nat_lt b 128) bs ≡ true → IsUtf8 bs
-ascii_text bs ascii =
-    IsUtf8-from_ascii bs
-    (IsAscii-from_all bs (λ k d h. ltb-true (get_or bs k d) 128 (AllPass-from_list_all (λ b. nat_lt b 128) bs ascii k d h)))
-
--- an event's id is text
-id_of-IsUtf8 : (e : Event) → IsUtf8 (id_of e)
-id_of-IsUtf8 C222 = ascii_text (id_of C222) refl
-id_of-IsUtf8 C333 = ascii_text (id_of C333) refl
-id_of-IsUtf8 Oh333 = ascii_text (id_of Oh333) refl
-id_of-IsUtf8 C555 = ascii_text (id_of C555) refl
-id_of-IsUtf8 C666 = ascii_text (id_of C666) refl
-id_of-IsUtf8 C777 = ascii_text (id_of C777) refl
-id_of-IsUtf8 Clock = ascii_text (id_of Clock) refl
-id_of-IsUtf8 Minx = ascii_text (id_of Minx) refl
-id_of-IsUtf8 Pyram = ascii_text (id_of Pyram) refl
-id_of-IsUtf8 Skewb = ascii_text (id_of Skewb) refl
-id_of-IsUtf8 Sq1 = ascii_text (id_of Sq1) refl
-
+-- bytes that are no text name no event
 no_event-at : (id : List ℕ) → ¬ (IsUtf8 id) → (o : Option Event) → event_of id ≡ o → event_of id ≡ None
 no_event-at id no_text None is = is
 no_event-at id no_text (Some e) is =
     let same = (bytes_eq-Decides (id_of e) id).0 (find-passes (λ x. bytes_eq (id_of x) id) events e is) in
-    absurd (no_text (subst IsUtf8 same (id_of-IsUtf8 e)))
+    absurd (no_text (subst IsUtf8 same (IsUtf8-from_ascii (id_of e) (IsAscii-from_all (id_of e) (id-IsId e).ascii))))
 
--- bytes that are no text name no event
 pub built_event_of-no_text : (id : List ℕ) → ¬ (IsUtf8 id) → built_event_of id ≡ None
-built_event_of-no_text id no_text =
-    ap (λ o. option_and_then (λ e. if is_built e then Some e else None) o) (no_event-at id no_text (event_of id) refl)
+unfolding built_event_of
+built_event_of-no_text id no_text = rw (no_event-at id no_text (event_of id) refl) refl
 
-kept-is_built : (o : Option Event) (e : Event) →
-    option_and_then (λ x. if is_built x then Some x else None) o ≡ Some e → is_built e ≡ true
-kept-is_built None e is = cc
-kept-is_built (Some x) e is = kept-at x e (is_built x) refl is
+-- an event that lists take is built, and is found by its id
+pub built_event_of-is_built : (id : List ℕ) (e : Event) → built_event_of id ≡ Some e → (rules_of e).built ≡ true
+unfolding built_event_of
+built_event_of-is_built id e is = at (event_of id) is
   where
-    kept-at : (x e : Event) (b : Bool) → is_built x ≡ b → cond b (Some x) None ≡ Some e → is_built e ≡ true
-    kept-at x e true here is = cc
-    kept-at x e false here is = cc
+    kept : (b : Bool) (x : Event) → (rules_of x).built ≡ b → then_some b x ≡ Some e → (rules_of e).built ≡ true
+    kept true x here found = let same : x ≡ e = cc in subst (λ y. (rules_of y).built ≡ true) same here
+    kept false x here found = cc
 
--- an event that lists take is built
-pub built_event_of-is_built : (id : List ℕ) (e : Event) → built_event_of id ≡ Some e → is_built e ≡ true
-built_event_of-is_built id e is = kept-is_built (event_of id) e is
+    at : (o : Option Event) → if_built o ≡ Some e → (rules_of e).built ≡ true
+    at None found = cc
+    at (Some x) found = kept (rules_of x).built x refl found
+
+pub built_event_of-id : (e : Event) → (rules_of e).built ≡ true → built_event_of (id_of e) ≡ Some e
+unfolding built_event_of
+built_event_of-id e built = rw ((id-IsId e).finds, built) refl
+
+-- an event's id, read as text
+pub built_event_of-text : (id text : List ℕ) (found : Option Event) → text ≡ id → found ≡ event_of text → if_built found ≡ built_event_of id
+unfolding built_event_of
+built_event_of-text id text found same is = ap if_built is ∙ ap (λ t. if_built (event_of t)) same

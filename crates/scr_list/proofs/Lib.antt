@@ -1,9 +1,5 @@
-pub mod NumberLemmas
 pub mod EventLemmas
-pub mod LineLemmas
 pub mod RoundLemmas
-pub mod ReadLemmas
 pub mod RoundFacts
-pub mod ParseLemmas
-pub mod PrintedWords
+pub mod ReadLemmas
 pub mod PrintedLemmas

@@ -1,20 +1,27 @@
 -- A list as one would write it: a round a line, each with its minimum where its event has one.
-use Rattle.std.specs.Prelude.{ℕ, Option, Some, None, List, [], ◌∷◌, ◌++◌}
+use Rattle.std.specs.Prelude.{ℕ, Option, Some, None, List, [], ◌∷◌, map}
 use Rattle.std.specs.Fmt.{decimal}
+use Rattle.std.specs.List.{join_with_byte}
 use Rattle.scr_notation.specs.Event.{id_of}
+use Rattle.scr_text.specs.Lines.{text_of_lines}
+use Rattle.scr_list.specs.declared.event.Minima.{Minima}
 use Rattle.scr_list.specs.declared.round.Round.{Round}
-use Rattle.scr_list.specs.Events.{most_least}
+use Rattle.scr_list.specs.Events.{rules_of}
 
--- a blank and the minimum, where the event has one
-abbrev pub least_text : Option ℕ → ℕ → List ℕ
-least_text None least = []
-least_text (Some greatest) least = 32 ∷ decimal least
+-- the third word of a line, where its event has minima
+abbrev pub least_words : Option Minima → ℕ → List (List ℕ)
+least_words None least = []
+least_words (Some minima) least = decimal least ∷ []
+
+-- the words of the line of a round
+abbrev pub round_words : Round → List (List ℕ)
+round_words round =
+    id_of round.event ∷ decimal round.groups ∷ least_words (rules_of round.event).minima round.least
 
 -- the line of a round, without its line feed
-unfoldable pub round_text : Round → List ℕ
-round_text round = id_of round.event ++ 32 ∷ (decimal round.groups ++ least_text (most_least round.event) round.least)
+abbrev pub round_line : Round → List ℕ
+round_line round = join_with_byte 32 (round_words round)
 
--- the lines of rounds
-abbrev pub list_text : List Round → List ℕ
-list_text [] = []
-list_text (round ∷ rest) = round_text round ++ 10 ∷ list_text rest
+-- the list of rounds
+abbrev pub text_of_rounds : List Round → List ℕ
+text_of_rounds rounds = text_of_lines (map round_line rounds)

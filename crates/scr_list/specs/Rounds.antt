@@ -1,15 +1,15 @@
 -- The round list: what rounds a competition's list names, as a function of its bytes. The grammar is our own choice.
-use Rattle.std.specs.Prelude.{ℕ, ◌+◌, ◌≤◌, if◌then◌else◌, nat_lt, Option, Some, None, List, [], ◌∷◌, Result, Ok, Err, IsTrue, unwrap_or, codes, length, All}
+use Rattle.std.specs.Prelude.{ℕ, ◌+◌, ◌≤◌, if◌then◌else◌, nat_lt, Option, Some, None, List, [], ◌∷◌, Result, Ok, Err, IsTrue, codes, length, All}
 use Rattle.std.specs.Str.{bytes_eq}
-use Rattle.scr_notation.specs.declared.event.Event.{Event}
+use Rattle.scr_text.specs.Lines.{lines_of, line_words}
+use Rattle.scr_text.specs.Numbers.{number_between}
+use Rattle.scr_list.specs.declared.event.Minima.{Minima}
 use Rattle.scr_list.specs.declared.round.Round.{Round}
 use Rattle.scr_list.specs.declared.fault.ListCause.{ListCause}
 use Rattle.scr_list.specs.declared.fault.ListFault.{ListFault}
 use Rattle.scr_list.specs.declared.fault.ListFault.TheVariants.{TooLong, Line}
 use Rattle.scr_list.specs.declared.fault.ListCause.TheVariants as cause
-use Rattle.scr_list.specs.Numbers.{number_between}
-use Rattle.scr_list.specs.Events.{is_built, built_event_of, usual_least, most_least}
-use Rattle.scr_list.specs.Words.{lines_of, words_of}
+use Rattle.scr_list.specs.Events.{rules_of, greatest_of, usual_of, built_event_of}
 
 -- the most bytes of a list
 abbrev pub most_bytes : ℕ
@@ -21,69 +21,61 @@ most_rounds = 64
 
 -- a round that a list can name
 pub record IsRound (round : Round) : Type 0 where
-  pub event : IsTrue (is_built round.event)
+  pub event : IsTrue (rules_of round.event).built
   pub some_groups : 1 ≤ round.groups
   pub few_groups : round.groups ≤ 26
-  pub least : round.least ≤ unwrap_or (most_least round.event) 0
+  pub least : round.least ≤ greatest_of (rules_of round.event).minima
 
 -- rounds that a list can name
 pub record IsRounds (rounds : List Round) : Type 0 where
   pub each : All IsRound rounds
   pub few : length rounds ≤ most_rounds
 
--- the minimum that a word sets for an event
-abbrev pub set_least : Option ℕ → List ℕ → Option ℕ
+-- ---- a line
+
+-- the minimum that a word sets
+abbrev pub set_least : Option Minima → List ℕ → Option ℕ
 set_least None word = None
-set_least (Some greatest) word = number_between 0 greatest word
+set_least (Some minima) word = number_between 0 minima.greatest word
 
--- the minimum of a round: that of its line's third word, and the event's own where the line has none
-abbrev pub least_of : Event → Option (List ℕ) → Option ℕ
-least_of event None = Some (usual_least event)
-least_of event (Some word) = set_least (most_least event) word
+-- the minimum of a round: that of its line's third word, and the usual one where the line has none
+abbrev pub least_of : Option Minima → Option (List ℕ) → Option ℕ
+least_of minima None = Some (usual_of minima)
+least_of minima (Some word) = set_least minima word
 
--- a round with all its parts, where this many rounds stand before it
-abbrev pub placed_round : ℕ → Event → ℕ → Option ℕ → Result Round ListCause
-placed_round before event groups None = Err cause.Minimum
-placed_round before event groups (Some least) =
-    if nat_lt before most_rounds then Ok (record { event = event; groups = groups; least = least }) else Err cause.Rounds
+-- what follows from a part that a line has, or the cause why it lacks it
+abbrev pub or_cause : {X Y : Type 0} → ListCause → Option X → (X → Result Y ListCause) → Result Y ListCause
+or_cause why None next = Err why
+or_cause why (Some part) next = next part
 
--- a round of an event, where its second word is a number of groups
-abbrev pub grouped_round : ℕ → Event → Option ℕ → Option (List ℕ) → Result Round ListCause
-grouped_round before event None least = Err cause.Groups
-grouped_round before event (Some groups) least = placed_round before event groups (least_of event least)
+-- a round, where fewer rounds than a list may have stand before it
+abbrev pub placed_round : ℕ → Round → Result Round ListCause
+placed_round before round = if nat_lt before most_rounds then Ok round else Err cause.Rounds
 
--- a round where its first word is an event's id
-abbrev pub event_round : ℕ → Option Event → List ℕ → Option (List ℕ) → Result Round ListCause
-event_round before None groups least = Err cause.Event
-event_round before (Some event) groups least = grouped_round before event (number_between 1 26 groups) least
-
--- the round that a first, a second and maybe a third word name, or the first cause why they name none
+-- The round that a first, a second and maybe a third word name where this many rounds stand before it, or the first
+-- cause why they name none.
 abbrev pub named_round : ℕ → List ℕ → List ℕ → Option (List ℕ) → Result Round ListCause
 named_round before event groups least =
-    if bytes_eq event (codes "444") then Err cause.No444 else event_round before (built_event_of event) groups least
+    if bytes_eq event (codes "444") then Err cause.No444
+    else or_cause cause.Event (built_event_of event) (λ e.
+    or_cause cause.Groups (number_between 1 26 groups) (λ g.
+    or_cause cause.Minimum (least_of (rules_of e).minima least) (λ m.
+    placed_round before (record { event = e; groups = g; least = m }))))
 
--- the round that the words of a line name, where this many rounds stand before it
-unfoldable pub round_of_words : ℕ → List (List ℕ) → Result Round ListCause
-round_of_words before [] = Err cause.Words
+-- the round of a line that has one
+abbrev pub some_round : Result Round ListCause → Result (Option Round) ListCause
+some_round (Ok round) = Ok (Some round)
+some_round (Err cause) = Err cause
+
+-- the round that the words of a line name, where it has words
+unfoldable pub round_of_words : ℕ → List (List ℕ) → Result (Option Round) ListCause
+round_of_words before [] = Ok None
 round_of_words before (event ∷ []) = Err cause.Words
-round_of_words before (event ∷ groups ∷ []) = named_round before event groups None
-round_of_words before (event ∷ groups ∷ least ∷ []) = named_round before event groups (Some least)
+round_of_words before (event ∷ groups ∷ []) = some_round (named_round before event groups None)
+round_of_words before (event ∷ groups ∷ least ∷ []) = some_round (named_round before event groups (Some least))
 round_of_words before (event ∷ groups ∷ least ∷ more ∷ others) = Err cause.Words
 
--- a line that has words: its number and its words
-pub record RoundLine : Type 0 where
-  pub number : ℕ
-  pub words : List (List ℕ)
-
--- a line before others, where it has words
-abbrev pub with_line : ℕ → List (List ℕ) → List RoundLine → List RoundLine
-with_line number [] others = others
-with_line number (word ∷ words) others = record { number = number; words = word ∷ words } ∷ others
-
--- the lines that have words, where the first line of all has this number
-abbrev pub round_lines : ℕ → List (List ℕ) → List RoundLine
-round_lines number [] = []
-round_lines number (line ∷ rest) = with_line number (words_of line) (round_lines (number + 1) rest)
+-- ---- a list
 
 -- a round before others
 abbrev pub with_round : Round → Result (List Round) ListFault → Result (List Round) ListFault
@@ -91,17 +83,19 @@ with_round round (Ok rounds) = Ok (round ∷ rounds)
 with_round round (Err fault) = Err fault
 
 -- what a line names before what the lines after it name: the first line at fault decides
-abbrev pub then_rounds : ℕ → Result Round ListCause → Result (List Round) ListFault → Result (List Round) ListFault
-then_rounds number (Ok round) others = with_round round others
-then_rounds number (Err cause) others = Err (Line number cause)
+abbrev pub then_rounds : ℕ → ℕ → Result (Option Round) ListCause → (ℕ → Result (List Round) ListFault)
+    → Result (List Round) ListFault
+then_rounds before number (Err cause) others = Err (Line number cause)
+then_rounds before number (Ok None) others = others before
+then_rounds before number (Ok (Some round)) others = with_round round (others (before + 1))
 
--- the rounds that lines name, where this many rounds stand before them
-abbrev pub rounds_of_lines : ℕ → List RoundLine → Result (List Round) ListFault
-rounds_of_lines before [] = Ok []
-rounds_of_lines before (line ∷ rest) =
-    then_rounds line.number (round_of_words before line.words) (rounds_of_lines (before + 1) rest)
+-- the rounds that lines name, where this many rounds stand before them and the first of them has this number
+unfoldable pub rounds_of_lines : ℕ → ℕ → List (List ℕ) → Result (List Round) ListFault
+rounds_of_lines before number [] = Ok []
+rounds_of_lines before number (line ∷ lines) =
+    then_rounds before number (round_of_words before (line_words line)) (λ stand. rounds_of_lines stand (number + 1) lines)
 
--- The rounds that a list names, or why it is none: it's too long, or a line is at fault.
+-- The rounds that a list names, or why it is none: it's too long, or a line is at fault. Lines are counted from 1.
 unfoldable pub rounds_of : List ℕ → Result (List Round) ListFault
 rounds_of bytes =
-    if nat_lt most_bytes (length bytes) then Err TooLong else rounds_of_lines 0 (round_lines 1 (lines_of bytes))
+    if nat_lt most_bytes (length bytes) then Err TooLong else rounds_of_lines 0 1 (lines_of bytes)

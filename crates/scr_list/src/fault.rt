@@ -1,5 +1,10 @@
 //! Why a list is refused.
 
+ghost use Rattle.std.specs.Prelude.{◌≡◌};
+ghost use Rattle.scr_list.specs.declared.fault.ListFault.TheVariants.{Read};
+
+use scr_outside::Failed;
+
 /// Why a line of a list names no round. Where more than one applies, it is the first of: words, 444,
 /// event, groups, minimum, rounds.
 #[derive(Clone, Copy, Debug, PartialEq, Eq)]
@@ -32,4 +37,12 @@ pub enum ListFault {
     },
     /// The source failed.
     Read,
+}
+
+impl From<Failed> for ListFault {
+    ghost from_gives = { λ _ fault. fault ≡ Read };
+
+    fn from(_failed: Failed) -> ListFault {
+        ListFault::Read
+    }
 }

@@ -1,7 +1,14 @@
-//! What the grammar means: a call that does nothing, whose contract is the law.
+//! What the grammar and the words of the contracts mean: calls that do nothing, whose contracts are
+//! laws about the definitions alone.
 
-ghost use Rattle.std.specs.Prelude.{◌≡◌, Ok};
-ghost use Rattle.scr_list.specs.Printed.{list_text};
+ghost use Rattle.std.specs.Prelude.{◌≡◌, ℕ, ◌<◌, ◌≤◌, ◌+◌, Some, Ok, List, [], length, Result};
+ghost use Rattle.scr_outside.specs.Change.{Change};
+ghost use Rattle.scr_outside.specs.Faults.{last_count};
+ghost use Rattle.scr_list.specs.declared.round.Round.{Round};
+ghost use Rattle.scr_list.specs.declared.fault.ListFault.{ListFault};
+ghost use Rattle.scr_list.specs.declared.fault.ListFault.TheVariants.{Read, TooLong};
+ghost use Rattle.scr_list.specs.Printed.{text_of_rounds};
+ghost use Rattle.scr_list.specs.Reading.{ReadsList, ReadsNoList};
 ghost use Rattle.scr_list.specs.Rounds.{IsRounds, rounds_of};
 
 use crate::round::Round;
@@ -10,5 +17,24 @@ use crate::round::Round;
 /// has one, are a list that names just these rounds.
 pub fn reads_back(rounds: &[Round])
     requires { IsRounds rounds.now }
-    ensures { rounds_of (list_text rounds.now) ≡ Ok rounds.now }
+    ensures { rounds_of (text_of_rounds rounds.now) ≡ Ok rounds.now }
+{}
+
+/// A list that was read is all that its source had, where that is told, and nothing is left.
+pub fn lists_that_were_read()
+    ensures { (change : Change) (list : List ℕ) (answer : Result (List Round) ListFault) → ReadsList change answer
+        → change.bytes_before ≡ Some list → (rounds_of list ≡ answer) × (change.bytes_after ≡ Some []) }
+{}
+
+/// A list is too long only where a source gave 4,097 bytes; and where a source failed, its count of
+/// faults rose, and it gave no more bytes than that.
+pub fn lists_that_were_not_read()
+    ensures long { (change : Change) (before after : List ℕ) → ReadsNoList change TooLong
+        → change.bytes_before ≡ Some before → change.bytes_after ≡ Some after
+        → length before ≡ length after + 4097 }
+    ensures part { (change : Change) (before after : List ℕ) → ReadsNoList change Read
+        → change.bytes_before ≡ Some before → change.bytes_after ≡ Some after
+        → length before ≤ length after + 4097 }
+    ensures rose { (change : Change) → ReadsNoList change Read → change.faults_after < last_count
+        → change.faults_before < change.faults_after }
 {}

@@ -1,23 +1,21 @@
 //! The round list: which rounds a competition holds, as its delegate writes them.
 //!
 //! The grammar is a definition of its own, a function of the list's bytes, `rounds_of`. It stands on
-//! the sources of `scr_outside` and the events of `scr_notation`. Its theorem is that of
-//! `read_rounds`: whatever pieces a source gives, the bytes were read to the end of input and the
-//! answer is that of the definition, or they were too many, or the source's count of faults rose.
+//! the sources of `scr_outside`, the numbers, lines and words of `scr_text` and the events of
+//! `scr_notation`. Its theorem is that of `read_rounds`: whatever pieces a source gives, the bytes were
+//! read to the end of input and the answer is that of the definition, or they were too many, or the
+//! source's count of faults rose. What lists and sheets need of an event is a row in one table.
 #![tactic(auto)]
 
 mod event;
 mod fault;
 pub mod laws;
-mod number;
 mod read;
 mod round;
 #[cfg(test)]
 mod tests;
-mod words;
 
-pub use event::{built, default_least, greatest_least, per_group};
+pub use event::{EventRules, Minima, built, built_event, event_rules};
 pub use fault::{ListCause, ListFault};
-pub use number::number_within;
 pub use read::read_rounds;
 pub use round::{Round, parse_rounds};

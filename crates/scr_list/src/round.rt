@@ -1,21 +1,17 @@
 //! The rounds that a list names.
 
-ghost use Rattle.std.specs.Prelude.{◌≡◌, ◌≢◌, ℕ, ◌+◌, ◌-◌, ◌*◌, ◌<◌, ◌≤◌, length, option_copied, Result, Ok, Err, IfOk, IfErr, OnOk};
-ghost use Rattle.scr_notation.specs.declared.event.Event.TheVariants.{Clock};
+ghost use Rattle.std.specs.Prelude.{◌≡◌, ◌≢◌, length, option_copied, IfOk, IfErr};
 ghost use Rattle.scr_list.specs.declared.fault.ListFault.TheVariants.{Read};
-ghost use Rattle.arrayvec.specs.ArrayVec.{array_vec_len};
-ghost use Rattle.scr_list.specs.Events.{built_event_of};
-ghost use Rattle.scr_list.specs.Words.{words_of};
-ghost use Rattle.scr_list.specs.Rounds.{rounds_of, IsRounds, least_of, named_round};
-ghost use Rattle.scr_list.specs.Steps.{round_if_words, added};
+ghost use Rattle.scr_text.specs.Lines.{line_words};
+ghost use Rattle.scr_text.specs.Numbers.{number_between};
+ghost use Rattle.scr_list.specs.Rounds.{rounds_of, round_of_words, named_round, placed_round, least_of, IsRounds};
 ghost use Rattle.scr_list.specs.Reading.{listed};
 
-use crate::event::{built, default_least, greatest_least};
+use crate::event::{Minima, built_event, event_rules};
 use crate::fault::{ListCause, ListFault};
-use crate::number::number_within;
-use crate::words::{after_line, line_end, without_return, word_at};
 use arrayvec::ArrayVec;
 use scr_notation::Event;
+use scr_text::{number_within, split_line, word_at};
 
 /// A round of an event.
 #[derive(Clone, Copy, Debug, PartialEq, Eq)]
@@ -55,52 +51,37 @@ pub fn parse_rounds(bytes: &[u8]) -> Result<ArrayVec<Round, 64>, ListFault>
         return Err(ListFault::TooLong);
     }
     let mut rounds = ArrayVec::new();
-    let mut rest = bytes;
+    let mut rest = Some(bytes);
     let mut number = 1;
-    'lines: loop {
-        let end = line_end(rest);
-        if let Err(cause) = add_line(&mut rounds, without_return(&rest[..end])) {
-            return Err(ListFault::Line { number, cause });
+    'lines: while let Some(text) = rest {
+        let (line, others) = split_line(text);
+        let named = match round_of_line(line, rounds.len()) {
+            Ok(named) => named,
+            Err(cause) => return Err(ListFault::Line { number, cause }),
+        };
+        if let Some(round) = named {
+            rounds.push(round);
         }
-        if end == rest.len() {
-            return Ok(rounds);
-        }
-        rest = after_line(rest, end);
+        rest = others;
         number += 1;
     }
+    Ok(rounds)
 }
 
-/// Adds the round that a line names, where it has words.
-fn add_line(rounds: &mut ArrayVec<Round, 64>, line: &[u8]) -> Result<(), ListCause>
-    ensures ok { OnOk result (added rounds.old.items (words_of line.now) ≡ Ok rounds.new.items) }
-    ensures err { IfErr result (λ cause. added rounds.old.items (words_of line.now) ≡ Err cause) }
-{
-    if let Some(round) = round_of_line(line, rounds.len())? {
-        rounds.push(round);
-    }
-    Ok(())
-}
-
-/// The round that a line names, where it has words and so many rounds stand before it.
+/// The round that a line names where this many rounds stand before it, and where it has words.
 fn round_of_line(line: &[u8], before: usize) -> Result<Option<Round>, ListCause>
-    ensures { result ≡ round_if_words before (words_of line.now) }
+    ensures { result ≡ round_of_words before (line_words line.now) }
 {
-    let Some(event) = word_at(line, 0) else {
-        return Ok(None);
-    };
-    let Some(groups) = word_at(line, 1) else {
-        return Err(ListCause::Words);
-    };
-    if word_at(line, 3).is_some() {
-        return Err(ListCause::Words);
-    }
-    match named(before, event, groups, word_at(line, 2)) {
-        Ok(round) => Ok(Some(round)),
-        Err(cause) => Err(cause),
+    match (word_at(line, 0), word_at(line, 1), word_at(line, 3)) {
+        (None, _, _) => Ok(None),
+        (Some(event), Some(groups), None) => {
+            Ok(Some(named(before, event, groups, word_at(line, 2))?))
+        }
+        _ => Err(ListCause::Words),
     }
 }
 
-/// The round that two or three words name where so many rounds stand before it, or the first cause
+/// The round that two or three words name where this many rounds stand before it, or the first cause
 /// why they name none.
 fn named(
     before: usize,
@@ -114,39 +95,48 @@ fn named(
         return Err(ListCause::No444);
     }
     let event = built_event(event).ok_or(ListCause::Event)?;
-    let groups = number_within(groups, 1, 26).ok_or(ListCause::Groups)? as u8;
-    let least = minimum(event, least).ok_or(ListCause::Minimum)?;
-    if before >= 64 {
-        return Err(ListCause::Rounds);
-    }
-    Ok(Round {
-        event,
-        groups,
-        least,
-    })
-}
-
-/// The minimum of a round: what its third word says, or the event's own where it has none.
-fn minimum(event: Event, word: Option<&[u8]>) -> Option<u8>
-    ensures { result ≡ least_of event (option_copied word.entry) }
-{
-    let Some(word) = word else {
-        return Some(default_least(event));
-    };
-    let greatest = greatest_least(event)?;
-    let least = number_within(word, 0, u32::from(greatest))?;
-    Some(least as u8)
-}
-
-/// The event of those that lists take which has this id.
-fn built_event(id: &[u8]) -> Option<Event>
-    ensures { result ≡ built_event_of id.now }
-{
-    match str::from_utf8(id) {
-        Ok(id) => match Event::from_id(id) {
-            Some(event) if built(event) => Some(event),
-            _ => None,
+    let groups = group_count(groups).ok_or(ListCause::Groups)?;
+    let least = minimum(event_rules(event).minima, least).ok_or(ListCause::Minimum)?;
+    placed(
+        before,
+        Round {
+            event,
+            groups,
+            least,
         },
-        Err(_) => None,
+    )
+}
+
+/// A round, where fewer than 64 rounds stand before it.
+fn placed(before: usize, round: Round) -> Result<Round, ListCause>
+    ensures { result ≡ placed_round before round }
+{
+    if before < 64 {
+        Ok(round)
+    } else {
+        Err(ListCause::Rounds)
+    }
+}
+
+/// The number of groups that a word says.
+fn group_count(word: &[u8]) -> Option<u8>
+    ensures { result ≡ number_between 1 26 word.now }
+{
+    let count = number_within(word, 1, 26)?;
+    Some(count as u8)
+}
+
+/// The minimum of a round: what its third word says, or the usual one where it has none.
+fn minimum(minima: Option<Minima>, word: Option<&[u8]>) -> Option<u8>
+    ensures { result ≡ least_of minima (option_copied word.entry) }
+{
+    match (minima, word) {
+        (None, None) => Some(0),
+        (None, Some(_)) => None,
+        (Some(minima), None) => Some(minima.usual),
+        (Some(minima), Some(word)) => {
+            let least = number_within(word, 0, u32::from(minima.greatest))?;
+            Some(least as u8)
+        }
     }
 }

@@ -1,23 +1,19 @@
-//! Lists from the manual's rules, each read one byte a call and in large pieces.
+//! Lists from the manual's rules, each read one byte a call and in large pieces, and the table of events.
 
 ghost use Rattle.std.specs.Prelude.{◌<◌};
 
 use super::*;
 use scr_notation::Event;
-use scr_outside::{MemSource, SliceSource};
+use scr_outside::MemSource;
 use std::alloc::{AllocError, Global};
 use std::test::Fail;
 
-/// One group of Clock with the default minimum.
+/// One group of Clock with the usual minimum.
 const ONE: Round = Round {
     event: Event::Clock,
     groups: 1,
     least: 2,
 };
-
-fn at_line(number: u32, cause: ListCause) -> ListFault {
-    ListFault::Line { number, cause }
-}
 
 /// Whether the list is read so, by a source that gives at most so many bytes a call.
 fn is_read(
@@ -36,9 +32,9 @@ fn is_read(
     })
 }
 
-/// Whether the list is read so, in pieces of one byte and whole.
+/// Whether the list is read so, in single bytes and whole.
 fn reads(
-    rt: &HostRuntime,
+    rt: &impl AllocGlobal,
     list: &[u8],
     wanted: Result<&[Round], ListFault>,
 ) -> Result<bool, AllocError> {
@@ -47,40 +43,58 @@ fn reads(
 
 #[test]
 fn lists_name_rounds(rt: HostRuntime) -> Result<(), Fail> {
-    let three = Round {
+    let most = Round {
+        event: Event::Clock,
         groups: 26,
         least: 3,
-        ..ONE
     };
+    for list in [
+        "clock 1",
+        "clock 1\r\n",
+        "clock 1\r",
+        "\tclock\t\t1 2 ",
+        "\n \r\nclock 1\n\n",
+    ] {
+        assert!(rt; reads(&rt, list.as_bytes(), Ok(&[ONE]))?, "{list}");
+    }
     assert!(rt; reads(&rt, b"", Ok(&[]))?);
-    assert!(rt; reads(&rt, b"clock 1", Ok(&[ONE]))?);
-    assert!(rt; reads(&rt, b"clock 1\r\n", Ok(&[ONE]))?);
-    assert!(rt; reads(&rt, b"clock 1\r", Ok(&[ONE]))?);
-    assert!(rt; reads(&rt, b"\tclock\t\t1 ", Ok(&[ONE]))?);
-    assert!(rt; reads(&rt, b"\n \r\nclock 26 3\nclock 1\n", Ok(&[three, ONE]))?);
+    assert!(rt; reads(&rt, b"clock 26 3\nclock 1", Ok(&[most, ONE]))?);
     Ok(())
 }
 
 #[test]
 fn lists_are_refused(rt: HostRuntime) -> Result<(), Fail> {
-    assert!(rt; reads(&rt, b"444 1", Err(at_line(1, ListCause::No444)))?);
-    assert!(rt; reads(&rt, b"444", Err(at_line(1, ListCause::Words)))?);
-    assert!(rt; reads(&rt, b"\nclock 27", Err(at_line(2, ListCause::Groups)))?);
-    assert!(rt; reads(&rt, b"333", Err(at_line(1, ListCause::Words)))?);
-    assert!(rt; reads(&rt, b"444bf 1", Err(at_line(1, ListCause::Event)))?);
-    assert!(rt; reads(&rt, b"clock 01", Err(at_line(1, ListCause::Groups)))?);
-    assert!(rt; reads(&rt, b"clock 0", Err(at_line(1, ListCause::Groups)))?);
-    assert!(rt; reads(&rt, b"clock +1", Err(at_line(1, ListCause::Groups)))?);
-    assert!(rt; reads(&rt, b"clock 4294967297", Err(at_line(1, ListCause::Groups)))?);
-    assert!(rt; reads(&rt, b"clock 1\r\r\n", Err(at_line(1, ListCause::Groups)))?);
-    assert!(rt; reads(&rt, b"clock 1 4", Err(at_line(1, ListCause::Minimum)))?);
-    reads(
-        &rt,
-        b"clock 0 4\nclock 1 4",
-        Err(at_line(1, ListCause::Groups)),
-    )?;
-    assert!(rt; reads(&rt, b"\xff 1", Err(at_line(1, ListCause::Event)))?);
-    assert!(rt; reads(&rt, b"clock 1 2 3", Err(at_line(1, ListCause::Words)))?);
+    for (list, number, cause) in [
+        ("444 1", 1, ListCause::No444),
+        ("444", 1, ListCause::Words),
+        ("333", 1, ListCause::Words),
+        ("clock 1 2 3", 1, ListCause::Words),
+        ("444bf 1", 1, ListCause::Event),
+        ("333 1", 1, ListCause::Event),
+        ("\u{fe} 1", 1, ListCause::Event),
+        ("\nclock 27", 2, ListCause::Groups),
+        ("clock 0", 1, ListCause::Groups),
+        ("clock 01", 1, ListCause::Groups),
+        ("clock +1", 1, ListCause::Groups),
+        ("clock 4294967297", 1, ListCause::Groups),
+        ("clock 1\r\r\n", 1, ListCause::Groups),
+        ("clock 0 4\nclock 1 4", 1, ListCause::Groups),
+        ("clock 1 4", 1, ListCause::Minimum),
+        ("clock 1\n\nclock 1 -1", 3, ListCause::Minimum),
+    ] {
+        let fault = ListFault::Line { number, cause };
+        assert!(rt; reads(&rt, list.as_bytes(), Err(fault))?, "{list}");
+    }
+    assert!(rt;
+        reads(
+            &rt,
+            b"\xff 1",
+            Err(ListFault::Line {
+                number: 1,
+                cause: ListCause::Event
+            })
+        )?
+    );
     Ok(())
 }
 
@@ -92,7 +106,11 @@ fn long_lists(rt: HostRuntime) -> Result<(), Fail> {
     }
     assert!(rt; reads(&rt, &list, Ok(&[ONE; 64]))?);
     list.extend_from_slice(b"clock 1\n")?;
-    assert!(rt; reads(&rt, &list, Err(at_line(65, ListCause::Rounds)))?);
+    let rounds = ListFault::Line {
+        number: 65,
+        cause: ListCause::Rounds,
+    };
+    assert!(rt; reads(&rt, &list, Err(rounds))?);
     list.clear();
     list.extend_from_slice(b"clock 1\n")?;
     for _ in 0..4088 {
@@ -101,41 +119,40 @@ fn long_lists(rt: HostRuntime) -> Result<(), Fail> {
     assert!(rt; reads(&rt, &list, Ok(&[ONE]))?);
     list.push(b'\n')?;
     assert!(rt; reads(&rt, &list, Err(ListFault::TooLong))?);
-    list[0] = b'4';
-    assert!(rt; reads(&rt, &list, Err(ListFault::TooLong))?);
-    Ok(())
-}
-
-#[test]
-fn a_source_that_fails(rt: HostRuntime) -> Result<(), Fail> {
-    let list = b"444 1".to_vec(rt.alloc())?;
-    let mut source = MemSource::new(list, 1, vec![in rt.alloc(); 3]?);
+    let mut source = MemSource::new(list, 4000, vec![in rt.alloc(); 2]?);
     assert_eq!(rt; read_rounds(&mut source).err(), Some(ListFault::Read));
-    assert_eq!(rt;
-        read_rounds(&mut SliceSource::new(b"clock 1 0")).is_ok(),
-        true
-    );
     Ok(())
 }
 
 #[test]
-fn events_and_numbers(rt: HostRuntime) -> Result<(), Fail> {
-    assert!(rt; built(Event::Clock) && !built(Event::C333));
-    assert_eq!(rt; (per_group(Event::Clock), per_group(Event::C777)), (5, 3));
-    assert_eq!(rt;
-        (default_least(Event::Clock), greatest_least(Event::Clock)),
-        (2, Some(3))
-    );
-    assert_eq!(rt;
-        (default_least(Event::Minx), greatest_least(Event::Minx)),
-        (0, None)
-    );
-    assert_eq!(rt; number_within(b"1000000", 1, 1_000_000), Some(1_000_000));
-    assert_eq!(rt; number_within(b"0", 0, u32::MAX), Some(0));
-    assert_eq!(rt; number_within(b"4294967295", 0, u32::MAX), Some(u32::MAX));
-    assert_eq!(rt; number_within(b"4294967296", 0, u32::MAX), None);
-    assert_eq!(rt; number_within(b"99999999999999999999", 0, u32::MAX), None);
-    assert_eq!(rt; number_within(b"00", 0, 9), None);
-    assert_eq!(rt; number_within(b"", 0, 9), None);
-    Ok(())
+fn the_table_of_events(rt: HostRuntime) {
+    for (event, id, name, built, per_group, minima) in [
+        (Event::C222, "222", "2x2x2 Cube", false, 5, Some((4, 11))),
+        (Event::C333, "333", "3x3x3 Cube", false, 5, Some((2, 5))),
+        (
+            Event::Oh333,
+            "333oh",
+            "3x3x3 One-Handed",
+            false,
+            5,
+            Some((2, 5)),
+        ),
+        (Event::C555, "555", "5x5x5 Cube", false, 5, None),
+        (Event::C666, "666", "6x6x6 Cube", false, 3, None),
+        (Event::C777, "777", "7x7x7 Cube", false, 3, None),
+        (Event::Clock, "clock", "Clock", true, 5, Some((2, 3))),
+        (Event::Minx, "minx", "Megaminx", false, 5, None),
+        (Event::Pyram, "pyram", "Pyraminx", false, 5, Some((6, 15))),
+        (Event::Skewb, "skewb", "Skewb", false, 5, Some((7, 11))),
+        (Event::Sq1, "sq1", "Square-1", false, 5, Some((2, 4))),
+    ] {
+        let rules = event_rules(event);
+        assert_eq!(rt; Event::from_id(id), Some(event));
+        assert_eq!(rt; (event.id(), event.name()), (id, name));
+        assert_eq!(rt; (rules.built, rules.per_group), (built, per_group));
+        assert_eq!(rt;
+            rules.minima.map(|minima| (minima.usual, minima.greatest)),
+            minima
+        );
+    }
 }

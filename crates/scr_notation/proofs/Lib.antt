@@ -4,5 +4,5 @@ pub mod TurnLaws
 pub mod TextLaws
 pub mod ReadLaws
 pub mod TurningLaws
-pub mod CubeTurns
 pub mod FaultLaws
+pub mod TidyingLaws

@@ -1,40 +1,42 @@
--- The events, with the id and the name of each (WCA Regulations, article 9).
+-- The events, with the id, the name and the turns of each (WCA Regulations, articles 9 and 12).
 use Rattle.std.specs.Prelude.{ℕ, List, [], ◌∷◌, codes, Option, find}
 use Rattle.std.specs.Str.{bytes_eq}
 use Rattle.scr_notation.specs.declared.event.Event.{Event}
 use Rattle.scr_notation.specs.declared.event.Event.TheVariants.{C222, C333, Oh333, C555, C666, C777, Clock, Minx, Pyram, Skewb, Sq1}
+use Rattle.scr_notation.specs.declared.event.Kind.{Kind}
+use Rattle.scr_notation.specs.declared.event.Kind.TheVariants.{Faces, PinSets, NoTurns}
 
 -- the events, in the order of their numbers
 abbrev pub events : List Event
 events = C222 ∷ C333 ∷ Oh333 ∷ C555 ∷ C666 ∷ C777 ∷ Clock ∷ Minx ∷ Pyram ∷ Skewb ∷ Sq1 ∷ []
 
--- how lists and commands name an event
-abbrev pub id_of : Event → List ℕ
-id_of C222 = codes "222"
-id_of C333 = codes "333"
-id_of Oh333 = codes "333oh"
-id_of C555 = codes "555"
-id_of C666 = codes "666"
-id_of C777 = codes "777"
-id_of Clock = codes "clock"
-id_of Minx = codes "minx"
-id_of Pyram = codes "pyram"
-id_of Skewb = codes "skewb"
-id_of Sq1 = codes "sq1"
+-- how lists and commands name an event, how a sheet names it, and what its turns are
+pub record EventRow : Type 0 where
+  pub id : List ℕ
+  pub name : List ℕ
+  pub kind : Kind
 
--- how a sheet names it
+abbrev pub row_of : Event → EventRow
+row_of C222 = record { id = codes "222"; name = codes "2x2x2 Cube"; kind = Faces 3 }
+row_of C333 = record { id = codes "333"; name = codes "3x3x3 Cube"; kind = Faces 6 }
+row_of Oh333 = record { id = codes "333oh"; name = codes "3x3x3 One-Handed"; kind = Faces 6 }
+row_of C555 = record { id = codes "555"; name = codes "5x5x5 Cube"; kind = NoTurns }
+row_of C666 = record { id = codes "666"; name = codes "6x6x6 Cube"; kind = NoTurns }
+row_of C777 = record { id = codes "777"; name = codes "7x7x7 Cube"; kind = NoTurns }
+row_of Clock = record { id = codes "clock"; name = codes "Clock"; kind = PinSets }
+row_of Minx = record { id = codes "minx"; name = codes "Megaminx"; kind = NoTurns }
+row_of Pyram = record { id = codes "pyram"; name = codes "Pyraminx"; kind = NoTurns }
+row_of Skewb = record { id = codes "skewb"; name = codes "Skewb"; kind = NoTurns }
+row_of Sq1 = record { id = codes "sq1"; name = codes "Square-1"; kind = NoTurns }
+
+abbrev pub id_of : Event → List ℕ
+id_of event = (row_of event).id
+
 abbrev pub name_of : Event → List ℕ
-name_of C222 = codes "2x2x2 Cube"
-name_of C333 = codes "3x3x3 Cube"
-name_of Oh333 = codes "3x3x3 One-Handed"
-name_of C555 = codes "5x5x5 Cube"
-name_of C666 = codes "6x6x6 Cube"
-name_of C777 = codes "7x7x7 Cube"
-name_of Clock = codes "Clock"
-name_of Minx = codes "Megaminx"
-name_of Pyram = codes "Pyraminx"
-name_of Skewb = codes "Skewb"
-name_of Sq1 = codes "Square-1"
+name_of event = (row_of event).name
+
+abbrev pub kind_of : Event → Kind
+kind_of event = (row_of event).kind
 
 -- the event that has an id
 abbrev pub event_of : List ℕ → Option Event

@@ -1,6 +1,6 @@
 pub mod Event
+pub mod Kinds
 pub mod Turns
-pub mod TurnNumbers
 pub mod Written
 pub mod Reading
 pub mod Turning

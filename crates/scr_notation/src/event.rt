@@ -1,7 +1,8 @@
 //! The events.
 
 ghost use Rattle.std.specs.Prelude.{◌≡◌, ◌↔◌, IfSome, IsNone, Some};
-ghost use Rattle.scr_notation.specs.Event.{id_of, name_of, event_of};
+ghost use Rattle.scr_notation.specs.Event.{row_of, id_of, name_of, kind_of, event_of};
+ghost use Rattle.scr_notation.specs.Kinds.{IsKind};
 
 /// An event (WCA Regulations, article 9), in the order of the events' numbers from 0.
 #[derive(Clone, Copy, Debug, PartialEq, Eq)]
@@ -30,6 +31,25 @@ pub enum Event {
     Sq1,
 }
 
+/// What the turns of an event are.
+#[derive(Clone, Copy, Debug, PartialEq, Eq)]
+pub enum Kind {
+    /// Turns of the outer layer at the first so many faces of a cube, at most six.
+    Faces(u8),
+    /// Pin sets of a Clock, turned by hours, and `y2`.
+    PinSets,
+    /// The event's turns are not here yet.
+    NoTurns,
+}
+
+/// What the table of events has of one.
+#[derive(Clone, Copy)]
+struct EventRow {
+    id: &'static str,
+    name: &'static str,
+    kind: Kind,
+}
+
 /// The events, in the order of their numbers.
 const EVENTS: [Event; 11] = [
     Event::C222,
@@ -50,38 +70,22 @@ impl Event {
     pub fn id(self) -> &'static str
         ensures { result.now ≡ id_of self }
     {
-        match self {
-            Event::C222 => "222",
-            Event::C333 => "333",
-            Event::Oh333 => "333oh",
-            Event::C555 => "555",
-            Event::C666 => "666",
-            Event::C777 => "777",
-            Event::Clock => "clock",
-            Event::Minx => "minx",
-            Event::Pyram => "pyram",
-            Event::Skewb => "skewb",
-            Event::Sq1 => "sq1",
-        }
+        self.row().id
     }
 
     /// How a sheet names it.
     pub fn name(self) -> &'static str
         ensures { result.now ≡ name_of self }
     {
-        match self {
-            Event::C222 => "2x2x2 Cube",
-            Event::C333 => "3x3x3 Cube",
-            Event::Oh333 => "3x3x3 One-Handed",
-            Event::C555 => "5x5x5 Cube",
-            Event::C666 => "6x6x6 Cube",
-            Event::C777 => "7x7x7 Cube",
-            Event::Clock => "Clock",
-            Event::Minx => "Megaminx",
-            Event::Pyram => "Pyraminx",
-            Event::Skewb => "Skewb",
-            Event::Sq1 => "Square-1",
-        }
+        self.row().name
+    }
+
+    /// What its turns are.
+    pub fn kind(self) -> Kind
+        ensures value { result ≡ kind_of self }
+        ensures few_faces { IsKind result }
+    {
+        self.row().kind
     }
 
     /// The event that has this id; `None` exactly where no event has it.
@@ -89,5 +93,27 @@ impl Event {
         ensures { result ≡ event_of text.now }
     {
         EVENTS.iter().copied().find(|event| event.id() == text)
+    }
+
+    /// Its row in the table of events.
+    fn row(self) -> EventRow
+        ensures id { result.id.now ≡ (row_of self).id }
+        ensures name { result.name.now ≡ (row_of self).name }
+        ensures kind { result.kind ≡ (row_of self).kind }
+    {
+        let (id, name, kind) = match self {
+            Event::C222 => ("222", "2x2x2 Cube", Kind::Faces(3)),
+            Event::C333 => ("333", "3x3x3 Cube", Kind::Faces(6)),
+            Event::Oh333 => ("333oh", "3x3x3 One-Handed", Kind::Faces(6)),
+            Event::C555 => ("555", "5x5x5 Cube", Kind::NoTurns),
+            Event::C666 => ("666", "6x6x6 Cube", Kind::NoTurns),
+            Event::C777 => ("777", "7x7x7 Cube", Kind::NoTurns),
+            Event::Clock => ("clock", "Clock", Kind::PinSets),
+            Event::Minx => ("minx", "Megaminx", Kind::NoTurns),
+            Event::Pyram => ("pyram", "Pyraminx", Kind::NoTurns),
+            Event::Skewb => ("skewb", "Skewb", Kind::NoTurns),
+            Event::Sq1 => ("sq1", "Square-1", Kind::NoTurns),
+        };
+        EventRow { id, name, kind }
     }
 }

@@ -62,8 +62,9 @@ fn read_turn(event: Event, word: &str) -> Option<Turn>
     ensures found { IfSome result (λ turn. IsTrue (permits event turn) × (spelling turn ≡ word.now)) }
     ensures none { IsNone result → IsSpelling event word.now → ⊥ }
 {
-    for number in 0..turn_count(event) {
-        let turn = turn_at(event, number);
+    let kind = event.kind();
+    for number in 0..turn_count(kind) {
+        let turn = turn_at(kind, number);
         if spelled(event, turn).as_str() == word {
             return Some(turn);
         }

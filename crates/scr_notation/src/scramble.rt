@@ -4,7 +4,7 @@ ghost use Rattle.std.specs.Bool.{OnTrue, OnFalse};
 ghost use Rattle.scr_notation.specs.Turns.{permits};
 
 use crate::event::Event;
-use crate::turn::{Turn, is_permitted};
+use crate::turn::{Turn, is_of_kind};
 use arrayvec::ArrayVec;
 use std::marker::Model;
 
@@ -67,7 +67,7 @@ impl Scramble {
         ensures refused { OnFalse result (self.new ≡ self.old) }
         ensures valid { IsWritten self.new }
     {
-        if self.turns.len() == MOST_TURNS || !is_permitted(self.event, turn) {
+        if self.turns.len() == MOST_TURNS || !is_of_kind(self.event.kind(), turn) {
             return false;
         }
         self.turns.push(turn);

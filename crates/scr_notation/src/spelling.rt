@@ -2,8 +2,7 @@
 ghost use Rattle.std.specs.Prelude.{◌≡◌, ◌<◌, ◌≤◌, ◌==◌, [], ◌∷◌, length, IsTrue, slice_index};
 ghost use Rattle.std.specs.List.{list_any};
 ghost use Rattle.arrayvec.specs.ArrayString.{array_string_len};
-ghost use Rattle.scr_dials.specs.Pattern.{front_sets, front_names, amount_text};
-ghost use Rattle.scr_notation.specs.Turns.{permits, face_letters, quarters_text, name_of_set, spelling};
+ghost use Rattle.scr_notation.specs.Turns.{permits, face_letters, quarters_text, pin_sets, pin_names, name_of_set, hours_text, spelling};
 
 use crate::event::Event;
 use crate::turn::Turn;
@@ -26,7 +25,12 @@ pub(crate) fn spelled(event: Event, turn: Turn) -> ArrayString<7>
             text.push_str(hours(amount));
         }
         Turn::Over => text.push_str("y2"),
-        _ => {}
+        // No event has these turns yet.
+        Turn::Axis { .. }
+        | Turn::Tip { .. }
+        | Turn::Layers { .. }
+        | Turn::Twist
+        | Turn::Wide { .. } => {}
     }
     text
 }
@@ -60,8 +64,8 @@ fn quarters(amount: u8) -> &'static str
 
 /// The name of a pin set.
 fn pins_name(pins: u8) -> &'static str
-    requires { IsTrue (list_any (λ set. set == pins) front_sets) }
-    ensures value { result.now ≡ name_of_set pins front_sets front_names }
+    requires { IsTrue (list_any (λ set. set == pins) pin_sets) }
+    ensures value { result.now ≡ name_of_set pins pin_sets pin_names }
     ensures short { length result.now ≤ 3 }
 {
     match pins {
@@ -78,10 +82,10 @@ fn pins_name(pins: u8) -> &'static str
 }
 
 /// How an amount of hours from 0 to 11 is written: 0 to 6 with `+`, and 7 to 11 as what is left to twelve, with `-`.
-#[tactic(auto, unfolding(scr_dials::specs::Pattern::amount_text))]
+#[tactic(auto, unfolding(crate::specs::Turns::hours_text))]
 fn hours(amount: u8) -> &'static str
     requires { amount < 12 }
-    ensures value { result.now ≡ amount_text amount }
+    ensures value { result.now ≡ hours_text amount }
     ensures short { length result.now ≤ 2 }
 {
     match amount {

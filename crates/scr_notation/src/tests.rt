@@ -1,6 +1,6 @@
 //! Texts and turns that are known from elsewhere.
 use crate::turn::{turn_at, turn_count};
-use crate::{Event, NotationFault, Scramble, Turn, inverse, parse, print, tidy};
+use crate::{Event, NotationFault, Scramble, Turn, inverse, laws, parse, print, tidy};
 use arrayvec::ArrayString;
 use std::process::Abort;
 
@@ -81,8 +81,9 @@ fn known_lengths(rt: HostRuntime) {
 /// All turns of an event are printed and read again.
 fn each_turn(rt: &impl Abort, event: Event, count: usize) {
     let mut scramble = Scramble::new(event);
-    for number in 0..turn_count(event) {
-        assert!(rt; scramble.push(turn_at(event, number)));
+    let kind = event.kind();
+    for number in 0..turn_count(kind) {
+        assert!(rt; scramble.push(turn_at(kind, number)));
     }
     let text = print(&scramble);
     let Ok(read) = parse(event, text.as_str()) else {
@@ -108,10 +109,9 @@ fn turns_to(rt: &impl Abort, text: &str, tidied: &str, back: &str) {
         assert!(rt; false);
         return;
     };
-    if scramble.event() == Event::C333 {
-        assert_eq!(rt; print(&tidy(&scramble)).as_str(), tidied);
-        assert_eq!(rt; print(&inverse(&scramble)).as_str(), back);
-    }
+    assert_eq!(rt; scramble.event(), Event::C333);
+    assert_eq!(rt; print(&tidy(&scramble)).as_str(), tidied);
+    assert_eq!(rt; print(&inverse(&scramble)).as_str(), back);
 }
 
 #[test]
@@ -120,4 +120,31 @@ fn known_turnings(rt: HostRuntime) {
     turns_to(&rt, "R U U' R", "R2", "R' U U' R'");
     turns_to(&rt, "R L R'", "R L R'", "R L' R'");
     turns_to(&rt, "U U2", "U'", "U2 U'");
+}
+
+#[test]
+fn known_events(rt: HostRuntime) {
+    let rows = [
+        (Event::C222, "222", "2x2x2 Cube"),
+        (Event::C333, "333", "3x3x3 Cube"),
+        (Event::Oh333, "333oh", "3x3x3 One-Handed"),
+        (Event::C555, "555", "5x5x5 Cube"),
+        (Event::C666, "666", "6x6x6 Cube"),
+        (Event::C777, "777", "7x7x7 Cube"),
+        (Event::Clock, "clock", "Clock"),
+        (Event::Minx, "minx", "Megaminx"),
+        (Event::Pyram, "pyram", "Pyraminx"),
+        (Event::Skewb, "skewb", "Skewb"),
+        (Event::Sq1, "sq1", "Square-1"),
+    ];
+    for (event, id, name) in rows {
+        assert_eq!(rt; event.id(), id);
+        assert_eq!(rt; event.name(), name);
+        assert_eq!(rt; Event::from_id(id), Some(event));
+    }
+    assert_eq!(rt; Event::from_id("444"), None);
+    laws::one_turn_for_each_spelling();
+    laws::one_fault_for_each_text();
+    laws::opposites();
+    laws::tidied_words();
 }

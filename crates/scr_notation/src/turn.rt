@@ -1,11 +1,10 @@
 //! The turns.
 ghost use Rattle.std.specs.Prelude.{◌≡◌, ◌<◌, ◌==◌, IsTrue};
 ghost use Rattle.std.specs.List.{list_any};
-ghost use Rattle.scr_dials.specs.Pattern.{front_sets};
-ghost use Rattle.scr_notation.specs.Turns.{permits, is_face_turn as face_turn, is_clock_turn as clock_turn};
-ghost use Rattle.scr_notation.specs.TurnNumbers.{turn_count, turn_at, clock_turn_at};
+ghost use Rattle.scr_notation.specs.Kinds.{IsKind};
+ghost use Rattle.scr_notation.specs.Turns.{pin_sets, has_turn, is_face_turn as face_turn, is_clock_turn as clock_turn, turn_count, turn_at, clock_turn_at};
 
-use crate::event::Event;
+use crate::event::Kind;
 
 /// A turn (WCA Regulations, article 12). Which turns an event has, and how they are written, stands in `specs/Turns.antt`.
 #[derive(Clone, Copy, Debug, PartialEq, Eq)]
@@ -41,15 +40,17 @@ impl Default for Turn {
     }
 }
 
-/// Whether `event` has this turn.
-pub(crate) fn is_permitted(event: Event, turn: Turn) -> bool
-    ensures { result ≡ permits event turn }
+/// The pin sets of a Clock's turns, in the order of their names: UR DR DL UL U R D L ALL.
+pub const PIN_SETS: [u8; 9] = [1, 2, 4, 8, 9, 3, 6, 12, 15];
+
+/// Whether a kind of events has this turn.
+pub(crate) fn is_of_kind(kind: Kind, turn: Turn) -> bool
+    ensures { result ≡ has_turn kind turn }
 {
-    match event {
-        Event::C222 => is_face_turn(3, turn),
-        Event::C333 | Event::Oh333 => is_face_turn(6, turn),
-        Event::Clock => is_clock_turn(turn),
-        _ => false,
+    match kind {
+        Kind::Faces(faces) => is_face_turn(faces, turn),
+        Kind::PinSets => is_clock_turn(turn),
+        Kind::NoTurns => false,
     }
 }
 
@@ -80,36 +81,33 @@ fn is_clock_turn(turn: Turn) -> bool
 
 /// Whether a Clock's turns have this pin set.
 fn is_pin_set(pins: u8) -> bool
-    ensures { result ≡ list_any (λ set. set == pins) front_sets }
+    ensures { result ≡ list_any (λ set. set == pins) pin_sets }
 {
     PIN_SETS.iter().any(|set| *set == pins)
 }
 
-/// The pin sets of a Clock's turns.
-const PIN_SETS: [u8; 9] = [1, 2, 4, 8, 9, 3, 6, 12, 15];
-
-/// How many turns `event` has.
-pub(crate) fn turn_count(event: Event) -> u8
-    ensures { result ≡ turn_count event }
+/// How many turns a kind has.
+pub(crate) fn turn_count(kind: Kind) -> u8
+    requires { IsKind kind }
+    ensures { result ≡ turn_count kind }
 {
-    match event {
-        Event::C222 => 9,
-        Event::C333 | Event::Oh333 => 18,
-        Event::Clock => 109,
-        _ => 0,
+    match kind {
+        Kind::Faces(faces) => 3 * faces,
+        Kind::PinSets => 109,
+        Kind::NoTurns => 0,
     }
 }
 
-/// The turn of this number, below the event's count.
-#[tactic(auto, unfolding(crate::specs::TurnNumbers::turn_at, crate::specs::TurnNumbers::face_turn_at))]
-pub(crate) fn turn_at(event: Event, number: u8) -> Turn
-    requires { number < turn_count event }
-    ensures value { result ≡ turn_at event number }
-    ensures permitted { IsTrue (permits event (turn_at event number)) }
+/// The turn of a kind with this number, below the count.
+#[tactic(auto, unfolding(crate::specs::Turns::turn_at, crate::specs::Turns::face_turn_at))]
+pub(crate) fn turn_at(kind: Kind, number: u8) -> Turn
+    requires { number < turn_count kind }
+    ensures value { result ≡ turn_at kind number }
+    ensures of_kind { IsTrue (has_turn kind (turn_at kind number)) }
 {
-    match event {
-        Event::Clock => clock_turn_at(number),
-        _ => Turn::Face {
+    match kind {
+        Kind::PinSets => clock_turn_at(number),
+        Kind::Faces(_) | Kind::NoTurns => Turn::Face {
             face: number / 3,
             depth: 1,
             amount: number % 3 + 1,
@@ -117,8 +115,8 @@ pub(crate) fn turn_at(event: Event, number: u8) -> Turn
     }
 }
 
-/// The turn of a Clock of this number, below 109.
-#[tactic(auto, unfolding(crate::specs::TurnNumbers::clock_turn_at))]
+/// The turn of a Clock with this number, below 109.
+#[tactic(auto, unfolding(crate::specs::Turns::clock_turn_at))]
 fn clock_turn_at(number: u8) -> Turn
     requires { number < 109 }
     ensures { result ≡ clock_turn_at number }

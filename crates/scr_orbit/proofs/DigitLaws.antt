@@ -1,8 +1,10 @@
 -- Laws of digits that are added place by place.
 use Rattle.std.proofs.Common.{◌≡◌, ℕ, zero, suc, ◌+◌, ◌%◌, ◌<◌, List, [], ◌∷◌, length, slice_index, refl, sym, ap, ◌∙◌, arith, add_assoc}
-use Rattle.std.proofs.Math.Nat.{add-mod-mod, mod-add-mod, mod-eq_of_lt}
+use Rattle.std.proofs.Math.Nat.{add-mod-mod, mod-add-mod, mod-eq_of_lt, zero-mod}
 use Rattle.std.proofs.lemmas.Nat.{mod_below}
-use Rattle.scr_lists.specs.Lists.{total, AllBelow, pick}
+use Rattle.std.proofs.lemmas.List.Elements.{All-nil, All-cons, All-head, All-tail}
+use Rattle.std.specs.Prelude.{All}
+use Rattle.scr_combinatorics.specs.Lists.{total, pick}
 use Rattle.scr_orbit.specs.Orbits.{added_digits, zeros}
 
 pub length-added_digits : (m : ℕ) (ds es : List ℕ) → length ds ≡ length es → length (added_digits m ds es) ≡ length ds
@@ -12,11 +14,12 @@ length-added_digits m (d ∷ ds) [] h = absurd (omega (arith, h))
 length-added_digits m (d ∷ ds) (e ∷ es) h = ap suc (length-added_digits m ds es (omega (arith, h)))
 
 -- they are digits
-pub AllBelow-added_digits : (m : ℕ) (ds es : List ℕ) → 0 < m → AllBelow m (added_digits m ds es)
+pub All-added_digits : (m : ℕ) (ds es : List ℕ) → 0 < m → All (λ d. d < m) (added_digits m ds es)
 unfolding added_digits
-AllBelow-added_digits m [] es pos = tt
-AllBelow-added_digits m (d ∷ ds) [] pos = tt
-AllBelow-added_digits m (d ∷ ds) (e ∷ es) pos = (mod_below (d + e) m pos, AllBelow-added_digits m ds es pos)
+All-added_digits m [] es pos = All-nil (λ d. d < m)
+All-added_digits m (d ∷ ds) [] pos = All-nil (λ d. d < m)
+All-added_digits m (d ∷ ds) (e ∷ es) pos =
+    All-cons (λ d. d < m) ((d + e) % m) (added_digits m ds es) (mod_below (d + e) m pos) (All-added_digits m ds es pos)
 
 -- each place has its sum
 pub added_digits-at : (m : ℕ) (ds es : List ℕ) (k : ℕ) → length ds ≡ length es → k < length ds → slice_index (added_digits m ds es) k ≡ (slice_index ds k + slice_index es k) % m
@@ -68,20 +71,24 @@ added_digits-assoc m (d ∷ ds) (e ∷ es) (f ∷ fs) =
     ∙ ap (λ xs. (d + (e + f) % m) % m ∷ xs) (added_digits-assoc m ds es fs)
 
 -- sums are picked as their parts are
-pub pick-added_digits : (m : ℕ) (ds es ks : List ℕ) → length ds ≡ length es → AllBelow (length ds) ks → pick (added_digits m ds es) ks ≡ added_digits m (pick ds ks) (pick es ks)
+pub pick-added_digits : (m : ℕ) (ds es ks : List ℕ) → length ds ≡ length es → All (λ k. k < length ds) ks → pick (added_digits m ds es) ks ≡ added_digits m (pick ds ks) (pick es ks)
 unfolding added_digits
 pick-added_digits m ds es [] h below = refl
 pick-added_digits m ds es (k ∷ ks) h below =
-    ap (λ x. x ∷ pick (added_digits m ds es) ks) (added_digits-at m ds es k h below.0)
-    ∙ ap (λ xs. (slice_index ds k + slice_index es k) % m ∷ xs) (pick-added_digits m ds es ks h below.1)
+    ap (λ x. x ∷ pick (added_digits m ds es) ks) (added_digits-at m ds es k h (All-head (λ i. i < length ds) k ks below))
+    ∙ ap (λ xs. (slice_index ds k + slice_index es k) % m ∷ xs) (pick-added_digits m ds es ks h (All-tail (λ i. i < length ds) k ks below))
 
 pub length-zeros : (n : ℕ) → length (zeros n) ≡ n
 length-zeros zero = refl
 length-zeros (suc n) = ap suc (length-zeros n)
 
-pub AllBelow-zeros : (m n : ℕ) → 0 < m → AllBelow m (zeros n)
-AllBelow-zeros m zero pos = tt
-AllBelow-zeros m (suc n) pos = (pos, AllBelow-zeros m n pos)
+pub All-zeros : (m n : ℕ) → 0 < m → All (λ d. d < m) (zeros n)
+All-zeros m zero pos = All-nil (λ d. d < m)
+All-zeros m (suc n) pos = All-cons (λ d. d < m) 0 (zeros n) pos (All-zeros m n pos)
+
+pub total-zeros : (m n : ℕ) → total (zeros n) % m ≡ 0
+total-zeros m zero = zero-mod m
+total-zeros m (suc n) = ap (λ z. z % m) (omega arith) ∙ total-zeros m n
 
 pub zeros-at : (n k : ℕ) → slice_index (zeros n) k ≡ 0
 zeros-at zero k = refl
@@ -89,19 +96,19 @@ zeros-at (suc n) zero = refl
 zeros-at (suc n) (suc k) = zeros-at n k
 
 -- zeros add nothing
-pub added_digits-zeros : (m : ℕ) (ds : List ℕ) → AllBelow m ds → added_digits m ds (zeros (length ds)) ≡ ds
+pub added_digits-zeros : (m : ℕ) (ds : List ℕ) → All (λ d. d < m) ds → added_digits m ds (zeros (length ds)) ≡ ds
 unfolding added_digits
 added_digits-zeros m [] h = refl
 added_digits-zeros m (d ∷ ds) h =
-    ap (λ x. x ∷ added_digits m ds (zeros (length ds))) (ap (λ z. z % m) (omega arith) ∙ mod-eq_of_lt h.0)
-    ∙ ap (λ xs. d ∷ xs) (added_digits-zeros m ds h.1)
+    ap (λ x. x ∷ added_digits m ds (zeros (length ds))) (ap (λ z. z % m) (omega arith) ∙ mod-eq_of_lt (All-head (λ x. x < m) d ds h))
+    ∙ ap (λ xs. d ∷ xs) (added_digits-zeros m ds (All-tail (λ x. x < m) d ds h))
 
 -- and what is added to zeros is there
-pub added_digits-to_zeros : (m n : ℕ) (ks ds : List ℕ) → AllBelow m ds → length ks ≡ length ds → added_digits m (pick (zeros n) ks) ds ≡ ds
+pub added_digits-to_zeros : (m n : ℕ) (ks ds : List ℕ) → All (λ d. d < m) ds → length ks ≡ length ds → added_digits m (pick (zeros n) ks) ds ≡ ds
 unfolding added_digits
 added_digits-to_zeros m n [] [] h e = refl
 added_digits-to_zeros m n [] (d ∷ ds) h e = absurd (omega (arith, e))
 added_digits-to_zeros m n (k ∷ ks) [] h e = refl
 added_digits-to_zeros m n (k ∷ ks) (d ∷ ds) h e =
-    ap (λ x. x ∷ added_digits m (pick (zeros n) ks) ds) (ap (λ z. (z + d) % m) (zeros-at n k) ∙ ap (λ z. z % m) (omega arith) ∙ mod-eq_of_lt h.0)
-    ∙ ap (λ xs. d ∷ xs) (added_digits-to_zeros m n ks ds h.1 (omega (arith, e)))
+    ap (λ x. x ∷ added_digits m (pick (zeros n) ks) ds) (ap (λ z. (z + d) % m) (zeros-at n k) ∙ ap (λ z. z % m) (omega arith) ∙ mod-eq_of_lt (All-head (λ x. x < m) d ds h))
+    ∙ ap (λ xs. d ∷ xs) (added_digits-to_zeros m n ks ds (All-tail (λ x. x < m) d ds h) (omega (arith, e)))

@@ -1,3 +1,6 @@
 pub mod DigitLaws
 pub mod OrbitLaws
-pub mod ListsAtLaws
+pub mod Places
+pub mod TableTests
+pub mod ActionLaws
+pub mod PowerLaws

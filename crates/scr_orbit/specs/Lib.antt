@@ -1,2 +1,3 @@
+pub mod Actions
 pub mod Orbits
-pub mod ListsAt
+pub mod PlaceTurns

@@ -1,10 +1,22 @@
 //! Orbits: pieces that change places among themselves, each with a digit modulo some number, as a corner's twist or an
-//! edge's flip. The crate has definitions and their laws alone, over any number of places and any modulus, with no
-//! puzzle's name in them; the puzzles' crates stand on it.
+//! edge's flip. Everything here is over any number of places and any modulus, with no puzzle's name in it; the puzzles'
+//! crates and the coordinates of their states stand on it.
 //!
 //! A turn is a rearrangement of an orbit: for each place, which place's piece comes there and what is added to its digit.
-//! `laws` says that turns keep orbits valid, what becomes of the sum of the digits and of the parity, and that a word,
-//! played from any orbit, is one rearrangement of it.
+//! [`PlaceTurn`] is one in arrays, [`Placed`] an orbit in arrays; turning allocates nothing. `laws` says that turns keep
+//! orbits valid, what becomes of the sum of the digits and of the parity, and that rearrangements can be composed.
+//! `specs/Actions.antt` has what puzzles share whose states are orbits: tables of turns, and words that come to one
+//! rearrangement. Its laws stand in `proofs/ActionLaws.antt`, for each puzzle's crate to state.
 #![tactic(auto)]
 
 pub mod laws;
+mod placed;
+mod turning;
+mod validity;
+
+pub use placed::{PlaceTurn, Placed};
+pub use turning::{add_digits, pick_into};
+pub use validity::{are_twists, is_permutation};
+
+#[cfg(test)]
+mod tests;

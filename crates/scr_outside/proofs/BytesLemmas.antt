@@ -1,6 +1,6 @@
--- One write after another.
-use Rattle.std.proofs.Common.{ap₂, take_at, drop-drop, ◌≡◌, ℕ, ◌+◌, ◌≤◌, Option, Some, None, List, [], ◌++◌, take, drop, length, refl, ap, sym, ◌∙◌, append_assoc, append-nil, take-add, take-append-drop}
-use Rattle.scr_outside.specs.Bytes.{appended, Gained, GainedPart, IsFirstPart}
+-- Bytes moved one piece after another.
+use Rattle.std.proofs.Common.{ap₂, take_at, drop-drop, ◌≡◌, ℕ, ◌+◌, Option, Some, None, List, [], ◌++◌, take, drop, length, refl, ap, sym, ◌∙◌, append_assoc, append-nil, take-append-drop}
+use Rattle.scr_outside.specs.Bytes.{appended, put_back, IsFirstPart}
 
 pub appended-nil : (held : Option (List ℕ)) → appended held [] ≡ held
 appended-nil None = refl
@@ -10,24 +10,17 @@ pub appended-append : (held : Option (List ℕ)) (x y : List ℕ) → appended (
 appended-append None x y = refl
 appended-append (Some bytes) x y = ap Some (append_assoc bytes x y)
 
--- two pieces in turn
-pub Gained-append : (before between after : Option (List ℕ)) (x y : List ℕ) →
-    Gained before between x → Gained between after y → Gained before after (x ++ y)
-Gained-append before between after x y first second =
-    second ∙ ap (λ held. appended held y) first ∙ appended-append before x y
+pub put_back-nil : (left : Option (List ℕ)) → put_back [] left ≡ left
+put_back-nil None = refl
+put_back-nil (Some bytes) = refl
 
--- the first i bytes of a piece, and then the next n
-pub Gained-more : (before between after : Option (List ℕ)) (piece : List ℕ) (i n : ℕ) →
-    Gained before between (take i piece) → Gained between after (take n (drop i piece)) →
-    Gained before after (take (i + n) piece)
-Gained-more before between after piece i n first second =
-    rw (take-add i n piece) (Gained-append before between after _ _ first second)
+pub put_back-append : (left : Option (List ℕ)) (x y : List ℕ) → put_back x (put_back y left) ≡ put_back (x ++ y) left
+put_back-append None x y = refl
+put_back-append (Some bytes) x y = ap Some (sym (append_assoc x y bytes))
 
 -- the first i bytes of a piece are a first part
-pub GainedPart-take : (before between after : Option (List ℕ)) (piece : List ℕ) (i : ℕ) →
-    Gained before between (take i piece) → Gained between after [] → GainedPart before after piece
-GainedPart-take before between after piece i first nothing =
-    (take i piece, (drop i piece, sym (take-append-drop i piece)), nothing ∙ appended-nil between ∙ first)
+pub IsFirstPart-take : (i : ℕ) (piece : List ℕ) → IsFirstPart (take i piece) piece
+IsFirstPart-take i piece = record { rest = drop i piece; parts = sym (take-append-drop i piece) }
 
 -- the next n bytes of a list, copied to the front of a buffer, and then what follows them
 pub copied-put_back : (bytes copied rest : List ℕ) (place n : ℕ) →

@@ -11,18 +11,10 @@ abbrev pub put_back : List ℕ → Option (List ℕ) → Option (List ℕ)
 put_back bytes None = None
 put_back bytes (Some left) = Some (bytes ++ left)
 
--- a sink that held `before` gained just these bytes
-abbrev pub Gained : Option (List ℕ) → Option (List ℕ) → List ℕ → Type 0
-Gained before after bytes = after ≡ appended before bytes
-
 -- the whole begins with these bytes
-abbrev pub IsFirstPart : List ℕ → List ℕ → Type 0
-IsFirstPart part whole = (rest : List ℕ) × (whole ≡ part ++ rest)
-
--- a sink that held `before` gained some first part of the whole
-abbrev pub GainedPart : Option (List ℕ) → Option (List ℕ) → List ℕ → Type 0
-GainedPart before after whole =
-    (part : List ℕ) × IsFirstPart part whole × Gained before after part
+pub record IsFirstPart (part whole : List ℕ) : Type 0 where
+  pub rest : List ℕ
+  pub parts : whole ≡ part ++ rest
 
 -- nothing is left, where that is told
 abbrev pub IsSpent : Option (List ℕ) → Type 0

@@ -1,3 +1,5 @@
 pub mod Faults
 pub mod Bytes
+pub mod Change
 pub mod Memory
+pub mod Standard

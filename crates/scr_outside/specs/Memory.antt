@@ -1,5 +1,6 @@
 -- Sources and sinks in memory. Calls are numbered from 1 on, and some numbers stand in a list of calls that fail.
-use Rattle.std.specs.Prelude.{ℕ, ◌≡◌, ◌+◌, ◌-◌, ◌≤◌, ◌^◌, ◌⊎◌, List, length, min, Contains}
+use Rattle.std.specs.Prelude.{ℕ, ◌≤◌, ◌⊎◌, Some, List, length, Contains}
+use Rattle.scr_outside.specs.Change.{Change, change_of}
 use Rattle.scr_outside.specs.Faults.{raised}
 
 -- a source: the bytes that it has left, at most how many it gives at once, the calls that fail, how many calls
@@ -19,6 +20,13 @@ pub record SinkMemory : Type 0 where
   pub fails : List ℕ
   pub calls : ℕ
   pub faults : ℕ
+
+-- what a call changed at a source, and at a sink
+abbrev pub source_change : SourceMemory → SourceMemory → Change
+source_change = change_of (λ s. Some s.left) (λ s. s.faults)
+
+abbrev pub sink_change : SinkMemory → SinkMemory → Change
+sink_change = change_of (λ s. Some s.held) (λ s. s.faults)
 
 -- the number of the call after so many calls; the count of calls stays at 2 ^ 64 - 1
 abbrev pub next_call : ℕ → ℕ

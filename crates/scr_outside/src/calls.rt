@@ -1,7 +1,9 @@
 //! The calls of a source or a sink in memory.
 
-ghost use Rattle.std.specs.Prelude.{◌≡◌, ℕ, ◌+◌, ◌-◌, ◌*◌, ◌^◌, ◌<◌, ◌≤◌, ◌↔◌, List, Contains, IsTrue};
+ghost use Rattle.std.specs.Prelude.{◌≡◌, ◌↔◌, Contains, IsTrue};
 ghost use Rattle.scr_outside.specs.Faults.{raised};
+
+use crate::faults::raised;
 
 /// How many calls there were, which of them fail, and how many failed. Both counts stay at 2^64 - 1.
 #[derive(Drop)]
@@ -17,7 +19,7 @@ impl Calls {
         ensures fails { IsTrue result ↔ Contains self.old.fails.items (raised self.old.made) }
         ensures counted { self.new ≡ record self.old { made = raised self.old.made } }
     {
-        self.made = self.made.saturating_add(1);
+        self.made = raised(self.made);
         stands_in(&self.fails, self.made)
     }
 
@@ -25,7 +27,7 @@ impl Calls {
     pub(crate) fn raise(&mut self)
         ensures { self.new ≡ record self.old { faults = raised self.old.faults } }
     {
-        self.faults = self.faults.saturating_add(1);
+        self.faults = raised(self.faults);
     }
 }
 

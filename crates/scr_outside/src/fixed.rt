@@ -1,8 +1,8 @@
 //! A source and a sink that never fail.
 
-ghost use Rattle.std.specs.Prelude.{◌≡◌, ℕ, ◌+◌, ◌-◌, ◌*◌, ◌^◌, ◌<◌, ◌≤◌, Option, Some, None, List, [], ◌++◌, length, take, drop, min, IsOk, OnOk, OnErr, IfOk};
-ghost use Rattle.scr_outside.specs.Bytes.{put_back, Gained, IsSpent};
-ghost use Rattle.scr_outside.specs.Faults.{Rose};
+ghost use Rattle.std.specs.Prelude.{◌≡◌, ℕ, ◌^◌, ◌<◌, ◌≤◌, Some, None, List, length, take, drop, min, IsOk, OnErr, IfOk};
+ghost use Rattle.scr_outside.specs.Bytes.{IsSpent};
+ghost use Rattle.scr_outside.specs.Change.{change_of, Gains, Gives, Fails};
 
 use crate::sink::{Failed, Sink};
 use crate::source::Source;
@@ -39,13 +39,12 @@ impl<'a> Source for SliceSource<'a> {
         ensures never { IsOk result }
         ensures count { IfOk result (λ n. n ≡ min (length buffer.old) (length self.old)) }
         ensures bytes { IfOk result (λ n. take n buffer.new ≡ take n self.old) }
-        ensures ok { IfOk result (λ n. self.new ≡ drop n self.old) }
+        ensures after { IfOk result (λ n. self.new ≡ drop n self.old) }
+        // What the trait says.
         ensures within { IfOk result (λ n. n ≤ length buffer.old) }
-        ensures taken { IfOk result (λ n. Some self.old ≡ put_back (take n buffer.new) (Some self.new)) }
+        ensures ok { IfOk result (λ n. Gives (change_of (λ s. Some s) (λ _. 0) self.old self.new) (take n buffer.new)) }
         ensures end { IfOk result (λ n. n ≡ 0 → IsSpent (Some self.new)) }
-        ensures nothing { OnErr result (Some self.new ≡ Some self.old) }
-        ensures cause { OnErr result (Rose 0 0) }
-        ensures never_falls { 0 ≤ 0 }
+        ensures err { OnErr result (Fails (change_of (λ s. Some s) (λ _. 0) self.old self.new)) }
         ensures at_most { 0 < 2 ^ 64 }
     {
         let n = buffer.len().min(self.left.len());
@@ -75,12 +74,11 @@ impl Sink for NullSink {
     fn write(&mut self, piece: &[u8]) -> Result<usize, Failed>
         requires { 0 < length piece.now }
         ensures whole { result ≡ Ok (length piece.now) }
+        // What the trait says.
         ensures some { IfOk result (λ n. 0 < n) }
         ensures within { IfOk result (λ n. n ≤ length piece.now) }
-        ensures gained { IfOk result (λ n. Gained None None (take n piece.now)) }
-        ensures nothing { OnErr result (Gained None None []) }
-        ensures cause { OnErr result (Rose 0 0) }
-        ensures never_falls { 0 ≤ 0 }
+        ensures ok { IfOk result (λ n. Gains (change_of (λ _. None) (λ _. 0) self.old self.new) (take n piece.now)) }
+        ensures err { OnErr result (Fails (change_of (λ _. None) (λ _. 0) self.old self.new)) }
         ensures at_most { 0 < 2 ^ 64 }
     {
         Ok(piece.len())

@@ -1,13 +1,19 @@
 //! The outside of the program: where bytes come from and where they go.
 //!
-//! The program reads and writes through two traits, whose contracts speak of the bytes, where they
-//! are known, and of a count of faults that never falls. The crate stands on the standard library
-//! alone. Its theorem is that of `write_all`: the whole piece was appended, or a first part of it and
-//! the count of faults rose.
+//! The program reads and writes through two traits, `Source` and `Sink`. Their contracts say what a call
+//! changed: the bytes that a sink gained or a source gave, where these are known, and a count of faults
+//! that never falls (`specs/Change.antt`, one word for each change). Below the standard library and
+//! `arrayvec` it stands on nothing. Its theorem is that of `write_all` and `write_line`: the whole text
+//! was appended, or a first part of it and the count of faults rose. The adapters over the system's
+//! readers and writers are tied to these by what they say of their bytes. `laws` says what the words of
+//! the contracts refuse.
 #![tactic(auto)]
 
 mod calls;
+mod faults;
 mod fixed;
+pub mod laws;
+mod line;
 mod memory;
 mod sink;
 mod source;
@@ -16,6 +22,7 @@ mod standard;
 mod tests;
 
 pub use fixed::{NullSink, SliceSource};
+pub use line::{LINE_ROOM, write_line};
 pub use memory::{MemSink, MemSource};
 pub use sink::{Failed, NoMemory, Sink, write_all};
 pub use source::Source;

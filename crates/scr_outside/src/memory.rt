@@ -1,10 +1,10 @@
 //! Sources and sinks in memory, whose bytes are known and which fail where they are told to.
 
-ghost use Rattle.std.specs.Prelude.{◌≡◌, ℕ, ◌+◌, ◌-◌, ◌*◌, ◌^◌, ◌<◌, ◌≤◌, ◌↔◌, Option, Some, None, List, [], ◌++◌, length, take, drop, min, IsErr, OnOk, OnErr, IfOk};
+ghost use Rattle.std.specs.Prelude.{◌≡◌, ◌-◌, ◌^◌, ◌<◌, ◌≤◌, ◌↔◌, Some, [], ◌++◌, length, take, drop, min, IsErr, OnErr, IfOk};
 ghost use Rattle.std.specs.Vec.{vec_len, vec_capacity};
-ghost use Rattle.scr_outside.specs.Bytes.{put_back, Gained, IsSpent};
-ghost use Rattle.scr_outside.specs.Faults.{Rose};
-ghost use Rattle.scr_outside.specs.Memory.{SourceMemory, SinkMemory, ReadFails, WriteFails, after_read, after_failed_read, after_write, after_failed_write};
+ghost use Rattle.scr_outside.specs.Bytes.{IsSpent};
+ghost use Rattle.scr_outside.specs.Change.{Gains, Gives, Fails};
+ghost use Rattle.scr_outside.specs.Memory.{SourceMemory, SinkMemory, source_change, sink_change, ReadFails, WriteFails, after_read, after_failed_read, after_write, after_failed_write};
 
 use crate::calls::Calls;
 use crate::sink::{Failed, NoMemory, Sink};
@@ -65,14 +65,13 @@ impl Source for MemSource {
         ensures fails { IsErr result ↔ ReadFails self.old }
         ensures count { IfOk result (λ n. n ≡ min (length buffer.old) (min self.old.most (length self.old.left))) }
         ensures bytes { IfOk result (λ n. take n buffer.new ≡ take n self.old.left) }
-        ensures ok { IfOk result (λ n. self.new ≡ after_read self.old (drop n self.old.left)) }
-        ensures err { OnErr result (self.new ≡ after_failed_read self.old) }
+        ensures after { IfOk result (λ n. self.new ≡ after_read self.old (drop n self.old.left)) }
+        ensures after_fault { OnErr result (self.new ≡ after_failed_read self.old) }
+        // What the trait says.
         ensures within { IfOk result (λ n. n ≤ length buffer.old) }
-        ensures taken { IfOk result (λ n. Some self.old.left ≡ put_back (take n buffer.new) (Some self.new.left)) }
+        ensures ok { IfOk result (λ n. Gives (source_change self.old self.new) (take n buffer.new)) }
         ensures end { IfOk result (λ n. n ≡ 0 → IsSpent (Some self.new.left)) }
-        ensures nothing { OnErr result (Some self.new.left ≡ Some self.old.left) }
-        ensures cause { OnErr result (Rose self.old.faults self.new.faults) }
-        ensures never_falls { self.old.faults ≤ self.new.faults }
+        ensures err { OnErr result (Fails (source_change self.old self.new)) }
         ensures at_most { self.new.faults < 2 ^ 64 }
     {
         if self.calls.count() {
@@ -156,14 +155,13 @@ impl Sink for MemSink {
         requires { 0 < length piece.now }
         ensures fails { IsErr result ↔ WriteFails self.old }
         ensures count { IfOk result (λ n. n ≡ min (length piece.now) (min self.old.most (self.old.room - length self.old.held))) }
-        ensures ok { IfOk result (λ n. self.new ≡ after_write self.old (self.old.held ++ take n piece.now)) }
-        ensures err { OnErr result (self.new ≡ after_failed_write self.old) }
+        ensures after { IfOk result (λ n. self.new ≡ after_write self.old (self.old.held ++ take n piece.now)) }
+        ensures after_fault { OnErr result (self.new ≡ after_failed_write self.old) }
+        // What the trait says.
         ensures some { IfOk result (λ n. 0 < n) }
         ensures within { IfOk result (λ n. n ≤ length piece.now) }
-        ensures gained { IfOk result (λ n. Gained (Some self.old.held) (Some self.new.held) (take n piece.now)) }
-        ensures nothing { OnErr result (Gained (Some self.old.held) (Some self.new.held) []) }
-        ensures cause { OnErr result (Rose self.old.faults self.new.faults) }
-        ensures never_falls { self.old.faults ≤ self.new.faults }
+        ensures ok { IfOk result (λ n. Gains (sink_change self.old self.new) (take n piece.now)) }
+        ensures err { OnErr result (Fails (sink_change self.old self.new)) }
         ensures at_most { self.new.faults < 2 ^ 64 }
     {
         let listed = self.calls.count();

@@ -1,10 +1,9 @@
 //! What the program writes to.
 
-ghost use Rattle.std.specs.Prelude.{◌≡◌, ℕ, ◌+◌, ◌-◌, ◌*◌, ◌^◌, ◌<◌, ◌≤◌, Option, List, [], length, take, OnOk, OnErr, IfOk};
-ghost use Rattle.scr_outside.specs.Bytes.{Gained, GainedPart};
-ghost use Rattle.scr_outside.specs.Faults.{Rose};
+ghost use Rattle.std.specs.Prelude.{ℕ, ◌^◌, ◌<◌, ◌≤◌, Option, List, length, take, OnErr, IfOk};
+ghost use Rattle.scr_outside.specs.Change.{change_of, Gains, Fails, Writes};
 
-/// A write that failed. The sink's count of faults tells that it did.
+/// A call that failed. The count of faults of the source or sink tells that it did.
 #[derive(Clone, Copy, Debug, PartialEq, Eq)]
 pub struct Failed;
 
@@ -26,20 +25,15 @@ pub trait Sink {
         requires { 0 < length piece.now }
         ensures some { IfOk result (λ n. 0 < n) }
         ensures within { IfOk result (λ n. n ≤ length piece.now) }
-        ensures gained { IfOk result (λ n. Gained (held self.old) (held self.new) (take n piece.now)) }
-        ensures nothing { OnErr result (Gained (held self.old) (held self.new) []) }
-        ensures cause { OnErr result (Rose (faults self.old) (faults self.new)) }
-        ensures never_falls { faults self.old ≤ faults self.new }
+        ensures ok { IfOk result (λ n. Gains (change_of held faults self.old self.new) (take n piece.now)) }
+        ensures err { OnErr result (Fails (change_of held faults self.old self.new)) }
         ensures at_most { faults self.new < 2 ^ 64 };
 }
 
 /// Writes a whole piece, by as many writes as the sink needs. At `Failed` a first part of it was
 /// appended; it comes only where the count of faults rose.
 pub fn write_all<O: Sink>(out: &mut O, piece: &[u8]) -> Result<(), Failed>
-    ensures whole { OnOk result (Gained (O.held out.old) (O.held out.new) piece.now) }
-    ensures part { OnErr result (GainedPart (O.held out.old) (O.held out.new) piece.now) }
-    ensures cause { OnErr result (Rose (O.faults out.old) (O.faults out.new)) }
-    ensures never_falls { O.faults out.old ≤ O.faults out.new }
+    ensures { Writes (change_of O.held O.faults out.old out.new) piece.now result }
 {
     let mut written = 0;
     while written < piece.len() {

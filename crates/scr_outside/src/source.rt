@@ -1,8 +1,8 @@
 //! What the program reads from.
 
-ghost use Rattle.std.specs.Prelude.{◌≡◌, ℕ, ◌+◌, ◌-◌, ◌*◌, ◌^◌, ◌<◌, ◌≤◌, Option, List, [], length, take, OnOk, OnErr, IfOk};
-ghost use Rattle.scr_outside.specs.Bytes.{put_back, IsSpent};
-ghost use Rattle.scr_outside.specs.Faults.{Rose};
+ghost use Rattle.std.specs.Prelude.{◌≡◌, ℕ, ◌^◌, ◌<◌, ◌≤◌, Option, List, length, take, OnErr, IfOk};
+ghost use Rattle.scr_outside.specs.Bytes.{IsSpent};
+ghost use Rattle.scr_outside.specs.Change.{change_of, Gives, Fails};
 
 use crate::sink::Failed;
 
@@ -20,10 +20,8 @@ pub trait Source {
     fn read(&mut self, buffer: &mut [u8]) -> Result<usize, Failed>
         requires { 0 < length buffer.old }
         ensures within { IfOk result (λ n. n ≤ length buffer.old) }
-        ensures taken { IfOk result (λ n. left self.old ≡ put_back (take n buffer.new) (left self.new)) }
+        ensures ok { IfOk result (λ n. Gives (change_of left faults self.old self.new) (take n buffer.new)) }
         ensures end { IfOk result (λ n. n ≡ 0 → IsSpent (left self.new)) }
-        ensures nothing { OnErr result (left self.new ≡ left self.old) }
-        ensures cause { OnErr result (Rose (faults self.old) (faults self.new)) }
-        ensures never_falls { faults self.old ≤ faults self.new }
+        ensures err { OnErr result (Fails (change_of left faults self.old self.new)) }
         ensures at_most { faults self.new < 2 ^ 64 };
 }

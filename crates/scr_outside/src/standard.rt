@@ -1,10 +1,14 @@
 //! The real thing: adapters over the system's readers and writers. They are the trusted edge, and tell
-//! nothing of their bytes.
+//! nothing of their bytes as sources and sinks; their contracts tie them to the reader or writer inside.
 
-ghost use Rattle.std.specs.Prelude.{◌≡◌, ℕ, ◌+◌, ◌-◌, ◌*◌, ◌^◌, ◌<◌, ◌≤◌, Option, Some, None, List, [], ◌++◌, length, take, OnOk, OnErr, IfOk};
-ghost use Rattle.scr_outside.specs.Bytes.{put_back, Gained, IsSpent};
-ghost use Rattle.scr_outside.specs.Faults.{Rose};
+ghost use Rattle.std.specs.Prelude.{◌≡◌, ℕ, ◌^◌, ◌<◌, ◌≤◌, None, length, take, OnOk, OnErr, IfOk};
+ghost use Rattle.std.specs.Io.KnownBytes.{ReadConsumes, WriteAppends};
+ghost use Rattle.scr_outside.specs.Bytes.{IsSpent};
+ghost use Rattle.scr_outside.specs.Change.{Gains, Gives, Fails};
+ghost use Rattle.scr_outside.specs.Faults.{raised};
+ghost use Rattle.scr_outside.specs.Standard.{Adapted, adapter_change};
 
+use crate::faults::raised;
 use crate::sink::{Failed, Sink};
 use crate::source::Source;
 use std::io::{Read, Write};
@@ -13,14 +17,14 @@ use std::marker::Model;
 /// A source over a reader. Each error of the reader is a fault, an interrupted call too.
 #[derive(Drop)]
 pub struct StdSource<R: Read> {
-    inner: R,
-    faults: u64,
+    pub(crate) inner: R,
+    pub(crate) faults: u64,
 }
 
 impl<R: Read> Model for StdSource<R> {
-    ghost Value = { ℕ };
+    ghost Value = { Adapted R };
 
-    ghost view = { λ s. s.faults };
+    ghost view = { λ s. record { inner = s.inner; faults = s.faults } };
 
     ghost invariant = { λ s. s.faults < 2 ^ 64 };
 }
@@ -28,22 +32,34 @@ impl<R: Read> Model for StdSource<R> {
 impl<R: Read> StdSource<R> {
     /// A source over this reader, with no fault so far.
     pub fn new(inner: R) -> StdSource<R>
-        ensures { result ≡ 0 }
+        ensures { result ≡ record { inner = inner; faults = 0 } }
     {
         StdSource { inner, faults: 0 }
     }
 }
 
 impl<R: Read> Source for StdSource<R> {
-    ghost faults = { λ s. s };
+    ghost faults = { λ s. s.faults };
 
     ghost left = { λ _. None };
 
-    fn read(&mut self, buffer: &mut [u8]) -> Result<usize, Failed> {
+    fn read(&mut self, buffer: &mut [u8]) -> Result<usize, Failed>
+        requires { 0 < length buffer.old }
+        // It gives what the reader gives, ends where the reader ends, and fails where the reader fails.
+        ensures bytes { ReadConsumes (R.remaining self.old.inner) (R.remaining self.new.inner) result buffer.new }
+        ensures counted { OnErr result (self.new.faults ≡ raised self.old.faults) }
+        ensures no_fault { OnOk result (self.new.faults ≡ self.old.faults) }
+        // What the trait says, of bytes that are not told.
+        ensures within { IfOk result (λ n. n ≤ length buffer.old) }
+        ensures ok { IfOk result (λ n. Gives (adapter_change self.old self.new) (take n buffer.new)) }
+        ensures end { IfOk result (λ n. n ≡ 0 → IsSpent None) }
+        ensures err { OnErr result (Fails (adapter_change self.old self.new)) }
+        ensures at_most { self.new.faults < 2 ^ 64 }
+    {
         match self.inner.read(buffer) {
             Ok(n) => Ok(n),
             Err(_) => {
-                self.faults = self.faults.saturating_add(1);
+                self.faults = raised(self.faults);
                 Err(Failed)
             }
         }
@@ -54,14 +70,14 @@ impl<R: Read> Source for StdSource<R> {
 /// write that took nothing.
 #[derive(Drop)]
 pub struct StdSink<W: Write> {
-    inner: W,
-    faults: u64,
+    pub(crate) inner: W,
+    pub(crate) faults: u64,
 }
 
 impl<W: Write> Model for StdSink<W> {
-    ghost Value = { ℕ };
+    ghost Value = { Adapted W };
 
-    ghost view = { λ s. s.faults };
+    ghost view = { λ s. record { inner = s.inner; faults = s.faults } };
 
     ghost invariant = { λ s. s.faults < 2 ^ 64 };
 }
@@ -69,22 +85,34 @@ impl<W: Write> Model for StdSink<W> {
 impl<W: Write> StdSink<W> {
     /// A sink over this writer, with no fault so far.
     pub fn new(inner: W) -> StdSink<W>
-        ensures { result ≡ 0 }
+        ensures { result ≡ record { inner = inner; faults = 0 } }
     {
         StdSink { inner, faults: 0 }
     }
 }
 
 impl<W: Write> Sink for StdSink<W> {
-    ghost faults = { λ s. s };
+    ghost faults = { λ s. s.faults };
 
     ghost held = { λ _. None };
 
-    fn write(&mut self, piece: &[u8]) -> Result<usize, Failed> {
+    fn write(&mut self, piece: &[u8]) -> Result<usize, Failed>
+        requires { 0 < length piece.now }
+        // The writer took what it is said to have taken, and nothing at a failure.
+        ensures bytes { WriteAppends (W.contents self.old.inner) (W.contents self.new.inner) result piece.now }
+        ensures counted { OnErr result (self.new.faults ≡ raised self.old.faults) }
+        ensures no_fault { OnOk result (self.new.faults ≡ self.old.faults) }
+        // What the trait says, of bytes that are not told.
+        ensures some { IfOk result (λ n. 0 < n) }
+        ensures within { IfOk result (λ n. n ≤ length piece.now) }
+        ensures ok { IfOk result (λ n. Gains (adapter_change self.old self.new) (take n piece.now)) }
+        ensures err { OnErr result (Fails (adapter_change self.old self.new)) }
+        ensures at_most { self.new.faults < 2 ^ 64 }
+    {
         match self.inner.write(piece) {
             Ok(n) if 0 < n => Ok(n),
             _ => {
-                self.faults = self.faults.saturating_add(1);
+                self.faults = raised(self.faults);
                 Err(Failed)
             }
         }

@@ -4,6 +4,31 @@ use super::*;
 use std::io;
 use std::test::Fail;
 
+/// A reader that gives `a`, is interrupted, gives `b`, and ends.
+#[derive(Drop)]
+struct Interrupted {
+    calls: u8,
+}
+
+impl io::Read for Interrupted {
+    fn read(&mut self, buffer: &mut [u8]) -> io::Result<usize> {
+        self.calls = self.calls.saturating_add(1);
+        let byte = match self.calls {
+            1 => b'a',
+            2 => return Err(io::Error::from(io::ErrorKind::Interrupted)),
+            3 => b'b',
+            _ => return Ok(0),
+        };
+        match buffer {
+            [] => Ok(0),
+            [first, ..] => {
+                *first = byte;
+                Ok(1)
+            }
+        }
+    }
+}
+
 /// A writer that takes one byte, then none, then fails.
 #[derive(Drop)]
 struct Faltering {
@@ -26,19 +51,26 @@ impl io::Write for Faltering {
 }
 
 #[test]
-fn a_sink_without_room_fails(rt: HostRuntime) -> Result<(), Fail> {
-    let mut sink = MemSink::new(rt.alloc(), 4, 9, Vec::new(rt.alloc()))?;
-    assert_eq!(rt; write_all(&mut sink, b"hello"), Err(Failed));
-    assert_eq!(rt; sink.contents(), b"hell".as_slice());
+fn sinks_fail_where_they_are_told_to(rt: HostRuntime) -> Result<(), Fail> {
+    let mut small = MemSink::new(rt.alloc(), 4, 9, Vec::new(rt.alloc()))?;
+    assert_eq!(rt; write_all(&mut small, b"hello"), Err(Failed));
+    assert_eq!(rt; small.contents(), b"hell".as_slice());
+
+    let mut second = MemSink::new(rt.alloc(), 9, 2, vec![in rt.alloc(); 2]?)?;
+    assert_eq!(rt; write_all(&mut second, b"hello"), Err(Failed));
+    assert_eq!(rt; write_all(&mut second, b"y!"), Ok(()));
+    assert_eq!(rt; second.contents(), b"hey!".as_slice());
+    assert_eq!(rt; write_all(&mut NullSink::new(), b"ab"), Ok(()));
     Ok(())
 }
 
 #[test]
-fn a_sink_fails_where_it_is_told_to(rt: HostRuntime) -> Result<(), Fail> {
-    let mut sink = MemSink::new(rt.alloc(), 9, 2, vec![in rt.alloc(); 2]?)?;
-    assert_eq!(rt; write_all(&mut sink, b"hello"), Err(Failed));
-    assert_eq!(rt; write_all(&mut sink, b"y!"), Ok(()));
-    assert_eq!(rt; sink.contents(), b"hey!".as_slice());
+fn a_line_is_one_piece(rt: HostRuntime) -> Result<(), Fail> {
+    let mut sink = MemSink::new(rt.alloc(), 99, 99, vec![in rt.alloc(); 3]?)?;
+    assert_eq!(rt; write_line(&mut sink, "1. ", "R U2"), Ok(()));
+    assert_eq!(rt; write_line(&mut sink, "", ""), Ok(()));
+    assert_eq!(rt; write_line(&mut sink, "2. ", "F'"), Err(Failed));
+    assert_eq!(rt; sink.contents(), b"1. R U2\n\n".as_slice());
     Ok(())
 }
 
@@ -60,14 +92,22 @@ fn sources_give_their_bytes(rt: HostRuntime) -> Result<(), Fail> {
 
 #[test]
 fn adapters_pass_bytes_and_count_faults(rt: HostRuntime) {
-    let mut source = StdSource::new(io::Cursor::new(b"ab".as_slice()));
+    let mut source = StdSource::new(Interrupted { calls: 0 });
     let mut buffer = [0; 8];
-    assert_eq!(rt; source.read(&mut buffer), Ok(2));
-    assert_eq!(rt; buffer[1], b'b');
-    assert_eq!(rt; source.read(&mut buffer), Ok(0));
+    for (wanted, byte, faults) in [
+        (Ok(1), b'a', 0),
+        (Err(Failed), b'a', 1),
+        (Ok(1), b'b', 1),
+        (Ok(0), b'b', 1),
+        (Ok(0), b'b', 1),
+    ] {
+        assert_eq!(rt; source.read(&mut buffer), wanted);
+        assert_eq!(rt; (buffer[0], source.faults), (byte, faults));
+    }
+
     let mut sink = StdSink::new(Faltering { calls: 0 });
-    assert_eq!(rt; sink.write(b"ab"), Ok(1));
-    assert_eq!(rt; sink.write(b"ab"), Err(Failed));
-    assert_eq!(rt; sink.write(b"ab"), Err(Failed));
-    assert_eq!(rt; write_all(&mut NullSink::new(), b"ab"), Ok(()));
+    for (wanted, faults) in [(Ok(1), 0), (Err(Failed), 1), (Err(Failed), 2)] {
+        assert_eq!(rt; sink.write(b"ab"), wanted);
+        assert_eq!(rt; sink.faults, faults);
+    }
 }

@@ -1,1 +1,6 @@
 pub mod PlayLaws
+pub mod StepLaws
+pub mod BackLaws
+pub mod TidyLaws
+pub mod MergeLaws
+pub mod TidyPlay

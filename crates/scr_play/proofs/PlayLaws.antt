@@ -1,37 +1,45 @@
 -- Laws of words over any puzzle.
-use Rattle.std.proofs.Common.{◌≡◌, ℕ, ◌+◌, ◌≤◌, IsTrue, List, [], ◌∷◌, ◌++◌, refl, sym, ap, ◌∙◌, zero-add, add_assoc, arith}
+use Rattle.std.proofs.Common.{◌≡◌, ℕ, ◌+◌, ◌≤◌, List, [], ◌∷◌, ◌++◌, Option, Some, None, refl, sym, ap, subst, ◌∙◌, zero-add, add_assoc, arith}
+use Rattle.std.specs.Prelude.{option_and_then}
 use Rattle.scr_play.specs.Play.{play, count_in}
-use Rattle.scr_play.specs.Reach.{Puzzle, IsWord, IsReached, Needs}
+use Rattle.scr_play.specs.Reach.{Puzzle, IsReached, Needs}
 
--- a joined word is played part by part
-pub play-append : {S T : Type 0} (turned : S → T → S) (s : S) (v w : List T)
-    → play turned s (v ++ w) ≡ play turned (play turned s v) w
-unfolding play
-play-append turned s [] w = refl
-play-append turned s (t ∷ v) w = play-append turned (turned s t) v w
+-- what two steps that may fail give came from what the first gave
+pub and_then-some : {A B : Type 0} (f : A → Option B) (o : Option A) (b : B) → option_and_then f o ≡ Some b
+    → (a : A) × (o ≡ Some a) × (f a ≡ Some b)
+and_then-some f None b e = absurd (cc)
+and_then-some f (Some a) b e = (a, refl, e)
 
 -- the empty word does nothing
-pub play-empty : {S T : Type 0} (turned : S → T → S) (s : S) → play turned s [] ≡ s
+pub play-empty : {S T : Type 0} (after : S → T → Option S) (s : S) → play after s [] ≡ Some s
 unfolding play
-play-empty turned s = refl
+play-empty after s = refl
 
 -- a word's first turn is applied first
-pub play-first : {S T : Type 0} (turned : S → T → S) (s : S) (t : T) (w : List T)
-    → play turned s (t ∷ w) ≡ play turned (turned s t) w
+pub play-first : {S T : Type 0} (after : S → T → Option S) (s r : S) (t : T) (w : List T) → after s t ≡ Some r
+    → play after s (t ∷ w) ≡ play after r w
 unfolding play
-play-first turned s t w = refl
+play-first after s r t w e = ap (option_and_then (λ x. play after x w)) e
+
+-- where a word is defined, its first turn is, and so is its rest
+pub play-parts : {S T : Type 0} (after : S → T → Option S) (s q : S) (t : T) (w : List T) → play after s (t ∷ w) ≡ Some q
+    → (r : S) × (after s t ≡ Some r) × (play after r w ≡ Some q)
+unfolding play
+play-parts after s q t w e = and_then-some (λ x. play after x w) (after s t) q e
 
 -- a word of one letter is that turn
-pub play-one : {S T : Type 0} (turned : S → T → S) (s : S) (t : T) → play turned s (t ∷ []) ≡ turned s t
+pub play-one : {S T : Type 0} (after : S → T → Option S) (s : S) (t : T) → play after s (t ∷ []) ≡ after s t
 unfolding play
-play-one turned s t = refl
+play-one after s t = elim (after s t) as (λ o. option_and_then (λ x. Some x) o ≡ o) [ None ↦ refl | Some r ↦ refl ]
 
--- a word's last turn is applied last
-pub play-last : {S T : Type 0} (turned : S → T → S) (s : S) (w : List T) (t : T)
-    → play turned s (w ++ t ∷ []) ≡ turned (play turned s w) t
+-- joined words are played one after the other
+pub play-append : {S T : Type 0} (after : S → T → Option S) (s r : S) (v w : List T) → play after s v ≡ Some r
+    → play after s (v ++ w) ≡ play after r w
 unfolding play
-play-last turned s [] t = refl
-play-last turned s (u ∷ w) t = play-last turned (turned s u) w t
+play-append after s r [] w e = let same : s ≡ r = cc in ap (λ x. play after x w) same
+play-append after s r (t ∷ v) w e =
+    let parts = play-parts after s r t v e in
+    play-first after s parts.0 t (v ++ w) parts.1 ∙ play-append after parts.0 r v w parts.2
 
 -- counted turns add up over joined words
 pub count_in-append : {T : Type 0} (counted : T → ℕ) (v w : List T)
@@ -41,36 +49,33 @@ count_in-append counted [] w = sym (zero-add (count_in counted w))
 count_in-append counted (t ∷ v) w =
     ap (λ n. counted t + n) (count_in-append counted v w) ∙ sym (add_assoc (counted t) (count_in counted v) (count_in counted w))
 
--- joined words of a puzzle are a word of it
-pub IsWord-append : {S T : Type 0} (p : Puzzle S T) (v w : List T) → IsWord p v → IsWord p w → IsWord p (v ++ w)
-unfolding IsWord
-IsWord-append p [] w a b = b
-IsWord-append p (t ∷ v) w a b = (a.0, IsWord-append p v w a.1 b)
+-- a property that each turn keeps is kept by words
+pub play-keeps : {S T : Type 0} (after : S → T → Option S) (P : S → Type 0)
+    → ((s r : S) (t : T) → P s → after s t ≡ Some r → P r) → (s r : S) (w : List T) → P s → play after s w ≡ Some r → P r
+play-keeps after P keeps s r [] h e = let same : s ≡ r = (let d = play-empty after s in cc) in subst P same h
+play-keeps after P keeps s r (t ∷ w) h e =
+    let parts = play-parts after s r t w e in
+    play-keeps after P keeps parts.0 r w (keeps s parts.0 t h parts.1) parts.2
 
--- a property that each turn of the puzzle keeps is kept by its words
-pub play-keeps : {S T : Type 0} (p : Puzzle S T) (P : S → Type 0)
-    → ((s : S) (t : T) → IsTrue (p.is_turn t) → P s → P (p.turned s t)) → (s : S) (w : List T) → IsWord p w → P s
-    → P (play p.turned s w)
-unfolding play IsWord
-play-keeps p P keeps s [] h q = q
-play-keeps p P keeps s (t ∷ w) h q = play-keeps p P keeps (p.turned s t) w h.1 (keeps s t h.0 q)
+-- a solved state is reached, by the empty word
+pub IsReached-solved : {S : Type 0} (p : Puzzle S) (s : S) → p.IsSolved s → IsReached p s
+IsReached-solved p s h = ([], s, h, play-empty p.after s)
 
--- the solved state is reached, by the empty word
-pub IsReached-solved : {S T : Type 0} (p : Puzzle S T) → IsReached p p.solved
-unfolding play IsWord
-IsReached-solved p = ([], tt, refl)
+-- what a word makes of a reached state is reached
+pub IsReached-play : {S : Type 0} (p : Puzzle S) (s r : S) (w : List p.Turn) → IsReached p s → play p.after s w ≡ Some r
+    → IsReached p r
+IsReached-play p s r w h e = (h.0 ++ w, h.1, h.2, play-append p.after h.1 s h.0 w h.3 ∙ e)
 
--- what a word of the puzzle makes of a reached state is reached
-pub IsReached-play : {S T : Type 0} (p : Puzzle S T) (s : S) (w : List T) → IsReached p s → IsWord p w
-    → IsReached p (play p.turned s w)
-IsReached-play p s w r h =
-    (r.0 ++ w, IsWord-append p r.0 w r.1 h, play-append p.turned p.solved r.0 w ∙ ap (λ x. play p.turned x w) r.2)
+-- a property of solved states that each turn keeps is one of each reached state
+pub IsReached-keeps : {S : Type 0} (p : Puzzle S) (P : S → Type 0) → ((s : S) → p.IsSolved s → P s)
+    → ((s r : S) (t : p.Turn) → P s → p.after s t ≡ Some r → P r) → (s : S) → IsReached p s → P s
+IsReached-keeps p P solved keeps s h = play-keeps p.after P keeps h.1 s h.0 (solved h.1 h.2) h.3
 
 -- each state needs no turn at least
-pub Needs-zero : {S T : Type 0} (p : Puzzle S T) (s : S) → Needs p s 0
-Needs-zero p s = λ w h c e. omega arith
+pub Needs-zero : {S : Type 0} (p : Puzzle S) (s : S) → Needs p s 0
+Needs-zero p s = λ w end c e g. omega arith
 
 -- a state that needs so many needs fewer too
-pub Needs-fewer : {S T : Type 0} (p : Puzzle S T) (s : S) (least fewer : ℕ) → fewer ≤ least → Needs p s least
+pub Needs-fewer : {S : Type 0} (p : Puzzle S) (s : S) (least fewer : ℕ) → fewer ≤ least → Needs p s least
     → Needs p s fewer
-Needs-fewer p s least fewer le n = λ w h c e. n w h (omega arith) e
+Needs-fewer p s least fewer le n = λ w end c e g. n w end (omega arith) e g

@@ -1,16 +1,19 @@
 -- The steps of the loops over permutations, as facts about lists.
-use Rattle.std.proofs.Common.{◌≡◌, ℕ, zero, suc, ◌+◌, ◌-◌, ◌*◌, ◌/◌, ◌%◌, ◌^◌, ◌<◌, ◌≤◌, List, [], ◌∷◌, ◌++◌, map, length, take, drop, set, slice_index, refl, sym, ap, ◌∙◌, subst, zero-add, arith}
+use Rattle.std.proofs.Common.{◌≡◌, ℕ, zero, suc, ◌+◌, ◌-◌, ◌*◌, ◌/◌, ◌%◌, ◌^◌, ◌<◌, ◌≤◌, All, List, [], ◌∷◌, ◌++◌, map, length, take, drop, set, slice_index, refl, sym, ap, ◌∙◌, subst, zero-add, arith}
+use Rattle.std.specs.List.{swap}
+use Rattle.std.proofs.lemmas.List.Edits.{swap_is}
+use Rattle.std.proofs.lemmas.List.Elements.{All-same, All-weaker}
 use Rattle.std.proofs.lemmas.List.{take_rest, at_drop_more, length-drop, length-set, drop-set, drop-set-lt, drop-append-le, length-take-le, drop-take, drop_all, append-nil}
-use Rattle.std.proofs.lemmas.Nat.{mod_below}
-use Rattle.std.proofs.Math.Nat.{mul_comm, div-div-eq-div-mul, div-one}
+use Rattle.std.proofs.lemmas.Nat.{mod_below, div-mul-add, mod-mul-add}
+use Rattle.std.proofs.Math.Nat.{mul_comm, div-div-eq-div-mul, div-one, mod-eq_of_lt}
 use Rattle.std.proofs.Math.Arith.{mod-mul}
 use borrow.Rule.Slice.PartMut.{put_mid}
-use Rattle.scr_lists.specs.Lists.{lesser, AllBelow}
-use Rattle.scr_lists.specs.Permutations.{IsPermutation, inversions, raised}
-use Rattle.scr_lists.specs.Numberings.{factorial, permutation_number}
-use Rattle.scr_lists.proofs.Counts.{lesser-le_length, AllBelow-mono}
-use Rattle.scr_lists.proofs.PermutationLaws.{AllBelow-permutation}
-use Rattle.scr_lists.proofs.PermutationNumbers.{permutation_number-lt, factorial-pos, IsPermutation-raised, permutation_number-first}
+use Rattle.scr_combinatorics.specs.Lists.{lesser_count}
+use Rattle.scr_combinatorics.specs.Permutations.{IsPermutation, inversions, factorial, permutation_number, nth_except, permutation_at}
+use Rattle.scr_combinatorics.proofs.Counts.{lesser_count-le_length}
+use Rattle.scr_combinatorics.proofs.PermutationLaws.{All-permutation}
+use Rattle.scr_combinatorics.proofs.PermutationNumbers.{permutation_number-lt, factorial-pos, IsPermutation-at}
+use Rattle.scr_combinatorics.proofs.Halves.{last_swapped}
 
 -- ---- bounds
 
@@ -29,17 +32,17 @@ factorial-small n le =
 
 pub inversions-le : (n : ℕ) (xs : List ℕ) → length xs ≤ n → inversions xs ≤ n * length xs
 inversions-le n [] le = omega arith
-inversions-le n (x ∷ xs) le = omega (arith, lesser-le_length x xs, inversions-le n xs (omega arith))
+inversions-le n (x ∷ xs) le = omega (arith, lesser_count-le_length x xs, inversions-le n xs (omega arith))
 
 pub inversions-small : (xs : List ℕ) → length xs < 2 ^ 16 → inversions xs < 2 ^ 32
 inversions-small xs lt = omega (arith, inversions-le (2 ^ 16) xs (omega arith))
 
 -- ---- the inversions from a place on
 
-pub inversions-drop : (xs : List ℕ) (place : ℕ) → place < length xs → inversions (drop place xs) ≡ lesser (slice_index xs place) (take (length xs - (place + 1)) (drop (place + 1) xs)) + inversions (drop (place + 1) xs)
+pub inversions-drop : (xs : List ℕ) (place : ℕ) → place < length xs → inversions (drop place xs) ≡ lesser_count (slice_index xs place) (take (length xs - (place + 1)) (drop (place + 1) xs)) + inversions (drop (place + 1) xs)
 inversions-drop xs place lt =
     at_drop_more inversions xs place 0 lt
-    ∙ ap (λ zs. lesser (slice_index xs place) zs + inversions (drop (place + 1) xs)) (sym (take_rest xs (place + 1)))
+    ∙ ap (λ zs. lesser_count (slice_index xs place) zs + inversions (drop (place + 1) xs)) (sym (take_rest xs (place + 1)))
 
 -- ---- the number from a place on
 
@@ -49,18 +52,18 @@ pub record RankStep (xs : List ℕ) (place number weight count : ℕ) : Type 0 w
   pub low : number + weight * count < 2 ^ 32
   pub low_weight : weight * (length xs - (place - 1)) < 2 ^ 32
 
-pub rank_step : (xs : List ℕ) (place number weight count : ℕ) → length xs ≤ 12 → 0 < place → place ≤ length xs → number ≡ permutation_number (drop place xs) → weight ≡ factorial (length xs - place) → count ≡ lesser (slice_index xs (place - 1)) (take (length xs - (place - 1 + 1)) (drop (place - 1 + 1) xs)) → RankStep xs place number weight count
+pub rank_step : (xs : List ℕ) (place number weight count : ℕ) → length xs ≤ 12 → 0 < place → place ≤ length xs → number ≡ permutation_number (drop place xs) → weight ≡ factorial (length xs - place) → count ≡ lesser_count (slice_index xs (place - 1)) (take (length xs - (place - 1 + 1)) (drop (place - 1 + 1) xs)) → RankStep xs place number weight count
 rank_step xs place number weight count few pos le en ew ec =
     let q : ℕ = place - 1 in
     let e : q + 1 ≡ place = omega arith in
     let m : ℕ = length xs - place in
     let ys : List ℕ = drop (q + 1) xs in
     let f : ℕ = factorial m in
-    let c : ℕ = lesser (slice_index xs q) ys in
+    let c : ℕ = lesser_count (slice_index xs q) ys in
     let size : length ys ≡ m = length-drop (q + 1) xs ∙ ap (λ z. length xs - z) e in
     let room : length xs - q ≡ suc m = omega arith in
     let whole : permutation_number (drop q xs) ≡ c * factorial (length ys) + permutation_number ys = at_drop_more permutation_number xs q 0 (omega arith) in
-    let ec' : count ≡ c = ec ∙ ap (lesser (slice_index xs q)) (take_rest xs (q + 1)) in
+    let ec' : count ≡ c = ec ∙ ap (lesser_count (slice_index xs q)) (take_rest xs (q + 1)) in
     let counted : number + weight * count ≡ permutation_number (drop q xs) =
     omega (
       arith,
@@ -84,21 +87,30 @@ rank_step xs place number weight count few pos le en ew ec =
 
 -- ---- the permutation from a place on
 
+-- the list from there on, and what is left of the number
 pub record UnrankStep (n r rest : ℕ) (xs : List ℕ) : Type 0 where
-  pub valid : IsPermutation n xs
-  pub number : permutation_number xs ≡ r % factorial n
+  pub list : xs ≡ permutation_at n (r % factorial n)
   pub rest_is : rest ≡ r / factorial n
 
+-- the first digit of a number over (n + 1)!, and what it leaves
+first_digit : (r n f : ℕ) → 0 < f → (r % (suc n * f) / f ≡ r / f % suc n) × (r % (suc n * f) % f ≡ r % f)
+first_digit r n f pos =
+    let d : ℕ = r / f % suc n in
+    let low : r % f < f = mod_below r f pos in
+    let some : 0 < suc n = omega arith in
+    let whole : r % (suc n * f) ≡ d * f + r % f = mod-mul r some pos in
+    (ap (λ z. z / f) whole ∙ div-mul-add d f (r % f) low, ap (λ z. z % f) whole ∙ mod-mul-add d f (r % f) low)
+
 -- one digit more
-unrank_more : (n r rest : ℕ) (xs : List ℕ) → UnrankStep n r rest xs → UnrankStep (suc n) r (rest / suc n) (rest % suc n ∷ map (raised (rest % suc n)) xs)
+unrank_more : (n r rest : ℕ) (xs : List ℕ) → UnrankStep n r rest xs → UnrankStep (suc n) r (rest / suc n) (rest % suc n ∷ map (nth_except (rest % suc n)) xs)
+unfolding permutation_at
 unrank_more n r rest xs h =
     let f : ℕ = factorial n in
-    let d : ℕ = rest % suc n in
-    let low : d < suc n = mod_below rest (suc n) (omega arith) in
-    let pos : 0 < suc n = omega arith in
+    let parts = first_digit r n f (factorial-pos n) in
+    let digit : rest % suc n ≡ r % (suc n * f) / f = ap (λ z. z % suc n) h.rest_is ∙ sym parts.0 in
+    let tail : xs ≡ permutation_at n (r % (suc n * f) % f) = h.list ∙ ap (permutation_at n) (sym parts.1) in
     record {
-      valid = IsPermutation-raised n d xs h.valid (omega arith);
-      number = omega (arith, permutation_number-first n d xs h.valid (omega arith), h.number, mod-mul r pos (factorial-pos n), ap (λ z. z % suc n * f) h.rest_is);
+      list = ap (λ d. d ∷ map (nth_except d) xs) digit ∙ ap (λ zs. r % (suc n * f) / f ∷ map (nth_except (r % (suc n * f) / f)) zs) tail;
       rest_is = ap (λ z. z / suc n) h.rest_is ∙ div-div-eq-div-mul r f (suc n) ∙ ap (λ z. r / z) (mul_comm f (suc n));
     }
 
@@ -106,7 +118,7 @@ unrank_more n r rest xs h =
 after_write : (out : List ℕ) (q d : ℕ) → take (length (set out q d) - (q + 1)) (drop (q + 1) (set out q d)) ≡ drop (q + 1) out
 after_write out q d = take_rest (set out q d) (q + 1) ∙ drop-set-lt (q + 1) out q d (omega arith)
 
--- the list from that place on, once what follows is raised
+-- the list from that place on, once what follows is nth_except
 from_write : (out : List ℕ) (q d : ℕ) (ys : List ℕ) → q < length out → drop q (put_mid (q + 1) (length (set out q d) - (q + 1)) (set out q d) ys) ≡ d ∷ ys
 from_write out q d ys lt =
     let s : List ℕ = set out q d in
@@ -119,15 +131,16 @@ from_write out q d ys lt =
     ∙ ap (λ zs. d ∷ zs) (append-nil ys)
 
 module _ (len : ℕ) (out : List ℕ) (size : length out ≡ len) (place r rest d : ℕ) (few : len ≤ 12) (pos : 0 < place) (le : place ≤ len) (h : UnrankStep (len - place) r rest (drop place out)) (is_d : d ≡ rest % (len - (place - 1))) where
-  pub unrank_room : AllBelow 255 (take (length (set out (place - 1) d) - (place - 1 + 1)) (drop (place - 1 + 1) (set out (place - 1) d)))
+  pub unrank_room : All (λ z. z < 255) (take (length (set out (place - 1) d) - (place - 1 + 1)) (drop (place - 1 + 1) (set out (place - 1) d)))
   unrank_room =
       let q : ℕ = place - 1 in
       let e : q + 1 ≡ place = omega arith in
       let n : ℕ = len - place in
-      subst (AllBelow 255) (sym (after_write out q d ∙ ap (λ z. drop z out) e))
-      (AllBelow-mono n 255 (drop place out) (omega arith) (AllBelow-permutation n (drop place out) h.valid))
+      let own : IsPermutation n (drop place out) = subst (IsPermutation n) (sym h.list) (IsPermutation-at n (r % factorial n) (mod_below r (factorial n) (factorial-pos n))) in
+      All-same (λ z. z < 255) _ (drop place out) (after_write out q d ∙ ap (λ z. drop z out) e)
+      (All-weaker (λ z. z < n) (λ z. z < 255) (λ z low. omega arith) (drop place out) (All-permutation n (drop place out) own))
 
-  pub unrank_step : (ys : List ℕ) → ys ≡ map (raised d) (take (length (set out (place - 1) d) - (place - 1 + 1)) (drop (place - 1 + 1) (set out (place - 1) d))) → UnrankStep (len - (place - 1)) r (rest / (len - (place - 1))) (drop (place - 1) (put_mid (place - 1 + 1) (length (set out (place - 1) d) - (place - 1 + 1)) (set out (place - 1) d) ys))
+  pub unrank_step : (ys : List ℕ) → ys ≡ map (nth_except d) (take (length (set out (place - 1) d) - (place - 1 + 1)) (drop (place - 1 + 1) (set out (place - 1) d))) → UnrankStep (len - (place - 1)) r (rest / (len - (place - 1))) (drop (place - 1) (put_mid (place - 1 + 1) (length (set out (place - 1) d) - (place - 1 + 1)) (set out (place - 1) d) ys))
   unrank_step ys ey =
       let q : ℕ = place - 1 in
       let e : q + 1 ≡ place = omega arith in
@@ -135,18 +148,43 @@ module _ (len : ℕ) (out : List ℕ) (size : length out ≡ len) (place r rest 
       let room : suc n ≡ len - q = omega arith in
       let xs : List ℕ = drop place out in
       let same_d : rest % suc n ≡ d = ap (λ z. rest % z) room ∙ sym is_d in
-      let list : rest % suc n ∷ map (raised (rest % suc n)) xs ≡ drop q (put_mid (q + 1) (length (set out q d) - (q + 1)) (set out q d) ys) =
-      ap (λ z. z ∷ map (raised z) xs) same_d
-      ∙ ap (λ zs. d ∷ map (raised d) zs) (sym (after_write out q d ∙ ap (λ z. drop z out) e))
+      let list : rest % suc n ∷ map (nth_except (rest % suc n)) xs ≡ drop q (put_mid (q + 1) (length (set out q d) - (q + 1)) (set out q d) ys) =
+      ap (λ z. z ∷ map (nth_except z) xs) same_d
+      ∙ ap (λ zs. d ∷ map (nth_except d) zs) (sym (after_write out q d ∙ ap (λ z. drop z out) e))
       ∙ ap (λ zs. d ∷ zs) (sym ey)
       ∙ sym (from_write out q d ys (omega arith)) in
       subst (λ zs. UnrankStep (len - q) r (rest / (len - q)) zs) list
-      (subst (λ z. UnrankStep z r (rest / z) (rest % suc n ∷ map (raised (rest % suc n)) xs)) room (unrank_more n r rest xs h))
+      (subst (λ z. UnrankStep z r (rest / z) (rest % suc n ∷ map (nth_except (rest % suc n)) xs)) room (unrank_more n r rest xs h))
 
 -- at the start nothing is written
 pub unrank_start : (out : List ℕ) (r : ℕ) → UnrankStep (length out - length out) r r (drop (length out) out)
+unfolding permutation_at
 unrank_start out r =
     let none : 0 ≡ length out - length out = omega arith in
-    subst (λ n. UnrankStep n r r (drop (length out) out)) none
-    (subst (UnrankStep 0 r r) (sym (drop_all (length out) out (omega arith)))
-    (record { valid = record { size = refl; once = λ k lt. absurd (omega arith) }; number = omega arith; rest_is = sym (div-one r) }))
+    subst (λ n. UnrankStep n r r (drop (length out) out)) none (record { list = drop_all (length out) out (omega arith); rest_is = sym (div-one r) })
+
+-- and at the end all is
+pub unrank_end : (n r rest place : ℕ) (out : List ℕ) → r < factorial n → place ≤ 0 → UnrankStep (n - place) r rest (drop place out) → out ≡ permutation_at n r
+unrank_end n r rest place out lt none h =
+    let first : place ≡ 0 = omega arith in
+    let whole : n - place ≡ n = omega arith in
+    sym (ap (λ z. drop z out) first) ∙ h.list ∙ ap (λ m. permutation_at m (r % factorial m)) whole ∙ ap (permutation_at n) (mod-eq_of_lt lt)
+
+-- ---- the last two elements exchanged
+
+swap_later : (x y : ℕ) (ys : List ℕ) (i j : ℕ) → i < length (y ∷ ys) → j < length (y ∷ ys) → swap (x ∷ y ∷ ys) (suc i) (suc j) ≡ x ∷ swap (y ∷ ys) i j
+swap_later x y ys i j li lj = ap (λ zs. x ∷ zs) (swap_is (y ∷ ys) i j x li lj)
+
+swap_last_two : (xs : List ℕ) (i : ℕ) → suc (suc i) ≡ length xs → swap xs i (suc i) ≡ last_swapped xs
+swap_last_two [] i e = absurd (omega arith)
+swap_last_two (x ∷ []) i e = absurd (omega arith)
+swap_last_two (x ∷ y ∷ []) zero e = refl
+swap_last_two (x ∷ y ∷ []) (suc i) e = absurd (omega arith)
+swap_last_two (x ∷ y ∷ z ∷ xs) zero e = absurd (omega arith)
+swap_last_two (x ∷ y ∷ z ∷ xs) (suc i) e =
+    swap_later x y (z ∷ xs) i (suc i) (omega arith) (omega arith) ∙ ap (λ zs. x ∷ zs) (swap_last_two (y ∷ z ∷ xs) i (omega arith))
+
+pub swap-last : (xs : List ℕ) (low high : ℕ) → 2 ≤ length xs → low ≡ length xs - 1 - 1 → high ≡ length xs - 1 → swap xs low high ≡ last_swapped xs
+swap-last xs low high le el eh =
+    let next : high ≡ suc low = omega arith in
+    ap (swap xs low) next ∙ swap_last_two xs low (omega arith)

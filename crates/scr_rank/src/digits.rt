@@ -1,6 +1,6 @@
 //! Digits in one base whose sum is 0 modulo the base, as twists and flips are, and their numbers.
 ghost use Rattle.std.specs.Prelude.{◌≡◌, ℕ, ◌-◌, ◌^◌, ◌/◌, ◌%◌, ◌<◌, ◌≤◌, List, length, slice_index};
-ghost use Rattle.scr_lists.specs.Numberings.{IsTwists, twists_number};
+ghost use Rattle.scr_combinatorics.specs.Twists.{IsTwists, twists_number, twists_at};
 
 /// The number that all digits but the last one write, the least digit first.
 pub fn rank_twists(digits: &[u8], base: u8) -> u64
@@ -22,6 +22,7 @@ pub fn unrank_twists(number: u64, base: u8, out: &mut [u8])
     requires some { (1 ≤ length out.old) × (length out.old ≤ 12) }
     requires base { (1 ≤ base) × (base ≤ 12) }
     requires below { number < base ^ (length out.old - 1) }
+    ensures list { out.new ≡ twists_at (length out.old) base number }
     ensures valid { IsTwists (length out.old) base out.new }
     ensures number { twists_number base out.new ≡ number }
 {
@@ -58,6 +59,7 @@ impl<const N: usize, const BASE: usize> TwistRank<N, BASE> {
         requires size { (1 ≤ N) × (N ≤ 12) }
         requires base { (1 ≤ BASE) × (BASE ≤ 12) }
         requires below { number < BASE ^ (N - 1) }
+        ensures list { result ≡ twists_at N BASE number }
         ensures valid { IsTwists N BASE result }
         ensures number { twists_number BASE result ≡ number }
         ensures place_has_digit { (k : ℕ) → k < N - 1 → slice_index result k ≡ number / BASE ^ k % BASE }

@@ -1,6 +1,6 @@
 //! Mixed digits, each below its own base, and their numbers.
 ghost use Rattle.std.specs.Prelude.{◌≡◌, ℕ, ◌^◌, ◌/◌, ◌%◌, ◌<◌, ◌≤◌, List, All, length, take, slice_index};
-ghost use Rattle.scr_lists.specs.Numberings.{product, AreDigits, mixed_number, mixed_digits};
+ghost use Rattle.scr_combinatorics.specs.Digits.{product, AreDigits, mixed_number, mixed_digits};
 
 use std::marker::Model;
 
@@ -50,8 +50,11 @@ impl<const D: usize> MixedRadix<D> {
     /// The list of digits with a number below `count`.
     pub fn unrank(&self, number: u128) -> [u128; D]
         requires below { number < product self.now }
+        ensures list { result ≡ mixed_digits self.now number }
         ensures valid { AreDigits self.now result }
         ensures number { mixed_number self.now result ≡ number }
+        ensures place_has_digit { (k : ℕ) → k < D
+            → slice_index result k ≡ number / product (take k self.now) % slice_index self.now k }
         ensures inverse { (value : List ℕ)
             → AreDigits self.now value → mixed_number self.now value ≡ number → result ≡ value }
     {

@@ -1,12 +1,11 @@
 //! Permutations and their numbers.
-ghost use Rattle.std.specs.Prelude.{◌≡◌, ℕ, ◌+◌, ◌*◌, ◌/◌, ◌%◌, ◌^◌, ◌<◌, ◌≤◌, ◌↔◌, List, map, length, IsTrue};
-ghost use Rattle.scr_lists.specs.Lists.{lesser, one_if, AllBelow};
-ghost use Rattle.scr_lists.specs.Permutations.{IsPermutation, parity, IsEven, raised};
-ghost use Rattle.scr_lists.specs.Numberings.{factorial, permutation_number};
+ghost use Rattle.std.specs.Prelude.{◌≡◌, ℕ, ◌/◌, ◌^◌, ◌<◌, ◌≤◌, ◌↔◌, All, IsTrue, List, if◌then◌else◌, map, length};
+ghost use Rattle.scr_combinatorics.specs.Lists.{lesser_count};
+ghost use Rattle.scr_combinatorics.specs.Permutations.{IsPermutation, parity, IsEven, factorial, permutation_number, nth_except, permutation_at, half_at};
 
 /// How many numbers of `list` are below `number`.
 fn count_lesser(list: &[u8], number: u8) -> usize
-    ensures { result ≡ lesser number list.now }
+    ensures { result ≡ lesser_count number list.now }
 {
     let mut count = 0;
     for other in list {
@@ -19,8 +18,8 @@ fn count_lesser(list: &[u8], number: u8) -> usize
 
 /// Raises each number of `list` from `first` on by one, which makes room for `first`.
 fn raise_from(list: &mut [u8], first: u8)
-    requires { AllBelow 255 list.old }
-    ensures { list.new ≡ map (raised first) list.old }
+    requires { All (λ number. number < 255) list.old }
+    ensures { list.new ≡ map (nth_except first) list.old }
 {
     for number in list.iter_mut() {
         if *number >= first {
@@ -60,6 +59,7 @@ pub fn rank_permutation(list: &[u8]) -> u64
 pub fn unrank_permutation(number: u64, out: &mut [u8])
     requires few { length out.old ≤ 12 }
     requires below { number < factorial (length out.old) }
+    ensures list { out.new ≡ permutation_at (length out.old) number }
     ensures valid { IsPermutation (length out.old) out.new }
     ensures number { permutation_number out.new ≡ number }
 {
@@ -75,17 +75,19 @@ pub fn unrank_permutation(number: u64, out: &mut [u8])
 }
 
 /// Fills `out` with the permutation of a wanted parity among those numbered `2 * number` and
-/// `2 * number + 1`.
+/// `2 * number + 1`, which differ in the order of their last two numbers.
 pub fn unrank_with_parity(number: u64, odd: bool, out: &mut [u8])
     requires few { length out.old ≤ 12 }
     requires below { number < factorial (length out.old) / 2 }
+    ensures list { out.new ≡ half_at (length out.old) (if odd then 1 else 0) number }
     ensures valid { IsPermutation (length out.old) out.new }
-    ensures parity { parity out.new ≡ one_if odd }
+    ensures parity { parity out.new ≡ (if odd then 1 else 0) }
     ensures number { permutation_number out.new / 2 ≡ number }
 {
     unrank_permutation(2 * number, out);
     if is_odd(out) != odd {
-        unrank_permutation(2 * number + 1, out);
+        let last = out.len() - 1;
+        out.swap(last - 1, last);
     }
 }
 
@@ -107,6 +109,7 @@ impl<const N: usize> PermRank<N> {
     pub fn unrank(number: u128) -> [u8; N]
         requires size { N ≤ 12 }
         requires below { number < factorial N }
+        ensures list { result ≡ permutation_at N number }
         ensures valid { IsPermutation N result }
         ensures number { permutation_number result ≡ number }
         ensures inverse { (value : List ℕ)
@@ -138,6 +141,7 @@ impl<const N: usize> EvenPermRank<N> {
     pub fn unrank(number: u128) -> [u8; N]
         requires size { (2 ≤ N) × (N ≤ 12) }
         requires below { number < factorial N / 2 }
+        ensures list { result ≡ half_at N 0 number }
         ensures valid { IsPermutation N result }
         ensures even { IsEven result }
         ensures number { permutation_number result / 2 ≡ number }

@@ -1,6 +1,6 @@
 //! Sets of places, as increasing lists, and their numbers.
 ghost use Rattle.std.specs.Prelude.{◌≡◌, ℕ, ◌<◌, ◌≤◌, List, length};
-ghost use Rattle.scr_lists.specs.Numberings.{binomial, IsPlaceSet, place_set_number};
+ghost use Rattle.scr_combinatorics.specs.PlaceSets.{binomial, IsPlaceSet, place_set_number, place_set_at};
 
 /// How many sets of `size` of `places` places there are, for up to 12 places.
 pub fn count_sets(places: usize, size: usize) -> u64
@@ -25,13 +25,15 @@ pub fn rank_place_set(set: &[u8], places: usize) -> u64
 {
     let mut number: u64 = 0;
     let mut passed: usize = 0;
+    let mut sets = count_sets(places, set.len());
     for place in 0..places {
-        if passed < set.len() {
-            if set[passed] as usize == place {
-                passed += 1;
-            } else {
-                number += count_sets(places - 1 - place, set.len() - 1 - passed);
-            }
+        let with_place = sets * (set.len() - passed) as u64 / (places - place) as u64;
+        if passed < set.len() && set[passed] as usize == place {
+            passed += 1;
+            sets = with_place;
+        } else {
+            number += with_place;
+            sets -= with_place;
         }
     }
     number
@@ -41,20 +43,22 @@ pub fn rank_place_set(set: &[u8], places: usize) -> u64
 pub fn unrank_place_set(number: u64, places: usize, out: &mut [u8])
     requires few { places ≤ 12 }
     requires below { number < binomial places (length out.old) }
+    ensures list { out.new ≡ place_set_at places (length out.old) number }
     ensures valid { IsPlaceSet places (length out.old) out.new }
     ensures number { place_set_number places out.new ≡ number }
 {
     let mut rest = number;
     let mut chosen: usize = 0;
+    let mut sets = count_sets(places, out.len());
     for place in 0..places {
-        if chosen < out.len() {
-            let with_place = count_sets(places - 1 - place, out.len() - 1 - chosen);
-            if rest < with_place {
-                out[chosen] = place as u8;
-                chosen += 1;
-            } else {
-                rest -= with_place;
-            }
+        let with_place = sets * (out.len() - chosen) as u64 / (places - place) as u64;
+        if rest < with_place {
+            out[chosen] = place as u8;
+            chosen += 1;
+            sets = with_place;
+        } else {
+            rest -= with_place;
+            sets -= with_place;
         }
     }
 }
@@ -77,6 +81,7 @@ impl<const N: usize, const K: usize> Choose<N, K> {
     pub fn unrank(number: u128) -> [u8; K]
         requires size { N ≤ 12 }
         requires below { number < binomial N K }
+        ensures list { result ≡ place_set_at N K number }
         ensures valid { IsPlaceSet N K result }
         ensures number { place_set_number N result ≡ number }
         ensures inverse { (value : List ℕ)

@@ -1,4 +1,1 @@
-pub mod RoundLemmas
-pub mod TextLemmas
-pub mod WritingLemmas
-pub mod LineLemmas
+pub mod LineLaws

@@ -1,4 +1,1 @@
 pub mod Round
-pub mod Made
-pub mod Making
-pub mod Writing

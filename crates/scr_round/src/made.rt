@@ -1,6 +1,6 @@
 //! A round that was made.
 
-ghost use Rattle.std.specs.Prelude.{◌≡◌, List};
+ghost use Rattle.std.specs.Prelude.{◌≡◌, ◌<◌, List, length};
 
 use scr_list::Round;
 use scr_notation::Scramble;
@@ -9,42 +9,59 @@ use std::marker::Model;
 /// A round with its scrambles, one for each slot in order.
 #[derive(Drop)]
 pub struct RoundResult {
-    pub(crate) round: Round,
-    pub(crate) index: u32,
-    pub(crate) scrambles: Vec<Scramble>,
+    round: Round,
+    index: u32,
+    scrambles: Vec<Scramble>,
 }
 
 impl Model for RoundResult {
-    ghost use Rattle.std.specs.Prelude.{◌≡◌, ◌≤◌, ◌<◌, length, IsTrue};
-    ghost use Rattle.scr_list.specs.Rounds.{IsRound};
-    ghost use Rattle.scr_round.specs.Round.{slots_of};
-    ghost use Rattle.scr_round.specs.Made.{Made};
+    ghost use Rattle.scr_round.specs.Round.{Made, IsMade};
 
     ghost Value = { Made };
 
     ghost view = { λ m. record { round = m.round; index = m.index; scrambles = m.scrambles.items } };
 
-    ghost invariant = { λ m. IsRound m.round × (length m.scrambles.items ≡ slots_of m.round) × (m.index < 256) };
+    ghost invariant = { λ m. IsMade (record { round = m.round; index = m.index; scrambles = m.scrambles.items }) };
 }
 
 impl RoundResult {
+    ghost use Rattle.scr_list.specs.Rounds.{IsRound};
+    ghost use Rattle.scr_round.specs.Round.{Made, IsMade, slots_of};
+
+    /// Round `index` of a list, counted from 0 and below 256, with a scramble for each slot.
+    pub fn new(round: Round, index: u32, scrambles: Vec<Scramble>) -> RoundResult
+        requires round { IsRound round }
+        requires index { index < 256 }
+        requires each_slot { length scrambles.items ≡ slots_of round }
+        ensures { result ≡ record { round = round; index = index; scrambles = scrambles.items } }
+    {
+        RoundResult {
+            round,
+            index,
+            scrambles,
+        }
+    }
+
     /// The round.
     pub fn round(&self) -> &Round
-        ensures { result.now ≡ self.now.round }
+        ensures value { result.now ≡ self.now.round }
+        ensures valid { IsMade self.now }
     {
         &self.round
     }
 
     /// Its place in the list, from 0.
     pub fn index(&self) -> u32
-        ensures { result ≡ self.now.index }
+        ensures value { result ≡ self.now.index }
+        ensures valid { IsMade self.now }
     {
         self.index
     }
 
     /// Its scrambles, in the order of the slots.
     pub fn scrambles(&self) -> &[Scramble]
-        ensures { result.now ≡ self.now.scrambles }
+        ensures value { result.now ≡ self.now.scrambles }
+        ensures valid { IsMade self.now }
     {
         &self.scrambles
     }

@@ -1,54 +1,48 @@
 //! The text of a round.
 
-ghost use Rattle.std.specs.Prelude.{◌≡◌, ◌+◌, ◌-◌, ◌*◌, ◌≤◌, ◌<◌, [], ◌∷◌, ◌++◌, length, map, codes, List};
-ghost use Rattle.scr_list.specs.Rounds.{IsRound};
-ghost use Rattle.scr_round.specs.Round.{slots_of, heading, joined, labelled, labels_from, group_lines, round_text, scramble_text};
+ghost use Rattle.std.specs.Prelude.{◌≡◌, ◌+◌, ◌*◌, ◌≤◌, ◌<◌, [], ◌∷◌, ◌++◌, length, codes};
 ghost use Rattle.std.specs.Fmt.{decimal};
 ghost use Rattle.arrayvec.specs.ArrayString.{array_string_len};
+ghost use Rattle.scr_outside.specs.Change.{change_of, Writes};
+ghost use Rattle.scr_text.specs.Lines.{text_of_lines};
 ghost use Rattle.scr_notation.specs.Event.{name_of};
-ghost use Rattle.scr_list.specs.Events.{most_least};
-ghost use Rattle.scr_round.specs.Round.{minimum_text};
-ghost use Rattle.scr_round.specs.Writing.{Writes};
+ghost use Rattle.scr_notation.specs.Written.{text_of};
+ghost use Rattle.scr_list.specs.Events.{rules_of};
+ghost use Rattle.scr_list.specs.Rounds.{IsRound};
+ghost use Rattle.scr_round.specs.Round.{slots_of, turns_of_each, labels_from, labelled, group_lines, minimum_text, heading, round_text};
 
-use crate::line::write_line;
 use crate::made::RoundResult;
-use crate::text::decimal;
 use arrayvec::ArrayString;
-use scr_list::{Round, greatest_least, per_group};
+use scr_list::{Round, event_rules};
 use scr_notation::{Event, Scramble, print};
-use scr_outside::{Failed, Sink};
+use scr_outside::{Failed, Sink, write_line};
+use scr_text::decimal;
 
-/// Writes the text of a round, one piece a line. At `Failed`, which comes only where the sink's count of
-/// faults rose, a first part of it was written.
-pub fn write_round<O: Sink>(out: &mut O, made: &RoundResult) -> Result<(), Failed>
-    ensures { Writes (O.held out.old) (O.held out.new) (O.faults out.old) (O.faults out.new)
-        (round_text made.now.index made.now.round made.now.scrambles) result }
+/// How many slots a round has: at most 182.
+pub fn slots(round: &Round) -> u32
+    requires { IsRound round.now }
+    ensures count { result ≡ slots_of round.now }
+    ensures few { result ≤ 182 }
 {
-    write_parts(out, made.index, &made.round, &made.scrambles)
+    u32::from(round.groups) * (u32::from(event_rules(round.event).per_group) + 2)
 }
 
-/// Writes the text of round `index`, counted from 0, of these scrambles.
-fn write_parts<O: Sink>(
-    out: &mut O,
-    index: u32,
-    round: &Round,
-    scrambles: &[Scramble],
-) -> Result<(), Failed>
-    requires index { index < 256 }
-    requires round { IsRound round.now }
-    requires each { length scrambles.now ≡ slots_of round.now }
-    ensures { Writes (O.held out.old) (O.held out.new) (O.faults out.old) (O.faults out.new)
-        (round_text index round.now scrambles.now) result }
+/// Writes the text of a round, one piece a line. At `Failed`, which comes only where the sink's count of faults rose, a
+/// first part of it was written.
+pub fn write_round<O: Sink>(out: &mut O, made: &RoundResult) -> Result<(), Failed>
+    ensures { Writes (change_of O.held O.faults out.old out.new)
+        (round_text made.now.index made.now.round (turns_of_each made.now.scrambles)) result }
 {
-    write_heading(out, index, round)?;
-    write_groups(out, per_group(round.event), round.groups, scrambles)
+    let round = made.round();
+    write_heading(out, made.index(), round)?;
+    let own = event_rules(round.event).per_group;
+    write_groups(out, own, round.groups, made.scrambles())
 }
 
 /// Writes the head of a round.
 fn write_heading<O: Sink>(out: &mut O, index: u32, round: &Round) -> Result<(), Failed>
     requires { index < 256 }
-    ensures { Writes (O.held out.old) (O.held out.new) (O.faults out.old) (O.faults out.new)
-        (heading index round.now ++ codes "\n") result }
+    ensures { Writes (change_of O.held O.faults out.old out.new) (heading index round.now ++ codes "\n") result }
 {
     write_line(
         out,
@@ -73,11 +67,11 @@ fn head_text(index: u32, event: Event) -> ArrayString<40>
 
 /// What the head says of the minimum.
 fn minimum_text(round: &Round) -> ArrayString<24>
-    ensures bytes { result.bytes ≡ minimum_text (most_least round.now.event) round.now.least }
+    ensures bytes { result.bytes ≡ minimum_text (rules_of round.now.event).minima round.now.least }
     ensures short { array_string_len result ≤ 24 }
 {
     let mut minimum = ArrayString::new();
-    match greatest_least(round.event) {
+    match event_rules(round.event).minima {
         Some(_) => {
             minimum.push_str(", at least ");
             minimum.push_str(decimal(round.least as u32).as_str());
@@ -97,8 +91,8 @@ fn write_groups<O: Sink>(
     requires own { own ≤ 5 }
     requires groups { groups ≤ 26 }
     requires each { length scrambles.now ≡ groups * (own + 2) }
-    ensures { Writes (O.held out.old) (O.held out.new) (O.faults out.old) (O.faults out.new)
-        (joined (group_lines own groups 65 (map scramble_text scrambles.now))) result }
+    ensures { Writes (change_of O.held O.faults out.old out.new)
+        (text_of_lines (group_lines own groups 65 (turns_of_each scrambles.now))) result }
 {
     let mut rest = scrambles;
     for group in 0..groups {
@@ -119,8 +113,8 @@ fn write_group<O: Sink>(
     requires own { own ≤ 5 }
     requires letter { letter < 128 }
     requires each { length scrambles.now ≡ own + 2 }
-    ensures { Writes (O.held out.old) (O.held out.new) (O.faults out.old) (O.faults out.new)
-        (joined ((codes "Group " ++ letter ∷ []) ∷ labelled (labels_from 1 own) (map scramble_text scrambles.now) ++ [] ∷ [])) result }
+    ensures { Writes (change_of O.held O.faults out.old out.new)
+        (text_of_lines ((codes "Group " ++ letter ∷ []) ∷ labelled (labels_from 1 own) (turns_of_each scrambles.now) ++ [] ∷ [])) result }
 {
     write_letter(out, letter)?;
     write_scrambles(out, own, scrambles)?;
@@ -130,8 +124,7 @@ fn write_group<O: Sink>(
 /// Writes the line that begins a group.
 fn write_letter<O: Sink>(out: &mut O, letter: u8) -> Result<(), Failed>
     requires { letter < 128 }
-    ensures { Writes (O.held out.old) (O.held out.new) (O.faults out.old) (O.faults out.new)
-        ((codes "Group " ++ letter ∷ []) ++ codes "\n") result }
+    ensures { Writes (change_of O.held O.faults out.old out.new) ((codes "Group " ++ letter ∷ []) ++ codes "\n") result }
 {
     let mut name = ArrayString::<1>::new();
     name.push(letter as char);
@@ -142,8 +135,8 @@ fn write_letter<O: Sink>(out: &mut O, letter: u8) -> Result<(), Failed>
 fn write_scrambles<O: Sink>(out: &mut O, own: u8, scrambles: &[Scramble]) -> Result<(), Failed>
     requires own { own ≤ 5 }
     requires each { length scrambles.now ≡ own + 2 }
-    ensures { Writes (O.held out.old) (O.held out.new) (O.faults out.old) (O.faults out.new)
-        (joined (labelled (labels_from 1 own) (map scramble_text scrambles.now))) result }
+    ensures { Writes (change_of O.held O.faults out.old out.new)
+        (text_of_lines (labelled (labels_from 1 own) (turns_of_each scrambles.now))) result }
 {
     for number in 0..own {
         write_own(out, number + 1, &scrambles[number as usize])?;
@@ -154,8 +147,8 @@ fn write_scrambles<O: Sink>(out: &mut O, own: u8, scrambles: &[Scramble]) -> Res
 
 /// Writes a scramble of the group's own behind its number.
 fn write_own<O: Sink>(out: &mut O, number: u8, scramble: &Scramble) -> Result<(), Failed>
-    ensures { Writes (O.held out.old) (O.held out.new) (O.faults out.old) (O.faults out.new)
-        (((decimal number ++ codes ". ") ++ scramble_text scramble.now) ++ codes "\n") result }
+    ensures { Writes (change_of O.held O.faults out.old out.new)
+        (((decimal number ++ codes ". ") ++ text_of scramble.now.turns) ++ codes "\n") result }
 {
     let mut label = ArrayString::<12>::new();
     label.push_str(decimal(number as u32).as_str());
@@ -166,8 +159,8 @@ fn write_own<O: Sink>(out: &mut O, number: u8, scramble: &Scramble) -> Result<()
 /// Writes a scramble behind its label.
 fn write_scramble<O: Sink>(out: &mut O, label: &str, scramble: &Scramble) -> Result<(), Failed>
     requires { length label.now ≤ 12 }
-    ensures { Writes (O.held out.old) (O.held out.new) (O.faults out.old) (O.faults out.new)
-        ((label.now ++ scramble_text scramble.now) ++ codes "\n") result }
+    ensures { Writes (change_of O.held O.faults out.old out.new)
+        ((label.now ++ text_of scramble.now.turns) ++ codes "\n") result }
 {
     write_line(out, label, print(scramble).as_str())
 }

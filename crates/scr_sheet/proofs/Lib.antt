@@ -1,3 +1,3 @@
-pub mod CommandLemmas
-pub mod SheetLemmas
-pub mod EndLemmas
+pub mod PartLaws
+pub mod CommandLaws
+pub mod RunLaws

@@ -1,6 +1,6 @@
-pub mod Command
-pub mod Message
-pub mod Status
 pub mod Sheet
+pub mod Making
+pub mod Message
 pub mod Outcome
-pub mod Fair
+pub mod Status
+pub mod Task

@@ -1,7 +1,7 @@
 -- The exit code of each status.
 use Rattle.std.specs.Prelude.{ℕ}
-use Rattle.scr_sheet.specs.declared.fault.Status.{Status}
-use Rattle.scr_sheet.specs.declared.fault.Status.TheVariants.{Done, Usage, List, DrawLimit, ReadFault, WriteFault, NoMemory}
+use Rattle.scr_sheet.specs.declared.status.Status.{Status}
+use Rattle.scr_sheet.specs.declared.status.Status.TheVariants.{Done, Usage, List, DrawLimit, ReadFault, WriteFault, NoMemory}
 
 abbrev pub code_of : Status → ℕ
 code_of Done = 0

@@ -1,67 +1,15 @@
 //! What goes wrong in a run, and how it is told.
 
-ghost use Rattle.std.specs.Prelude.{◌≡◌, ◌++◌, ◌+◌, ◌≤◌, ◌<◌, length, List};
+ghost use Rattle.std.specs.Prelude.{◌≡◌, ◌++◌, ◌≤◌, ◌<◌, length};
 ghost use Rattle.arrayvec.specs.ArrayString.{array_string_len};
 ghost use Rattle.scr_sheet.specs.Message.{message_of, usage_text, seed_fault_text, list_text, cause_text};
-ghost use Rattle.scr_sheet.specs.Outcome.{status_of};
-ghost use Rattle.scr_sheet.specs.Status.{code_of};
 
-use crate::command::UsageFault;
 use arrayvec::ArrayString;
+use scr_command::{CommandFault, UsageFault};
 use scr_list::{ListCause, ListFault};
-use scr_round::decimal;
+use scr_outside::Failed;
+use scr_text::decimal;
 use scr_words::SeedFault;
-
-/// How a run ended.
-#[derive(Clone, Copy, Debug, PartialEq, Eq)]
-pub enum Status {
-    /// All was written.
-    Done,
-    /// The words are no command.
-    Usage,
-    /// The input is no round list.
-    List,
-    /// A slot's attempts gave no permitted state.
-    DrawLimit,
-    /// The input could not be read.
-    ReadFault,
-    /// The output could not be written.
-    WriteFault,
-    /// Want of memory.
-    NoMemory,
-}
-
-impl Status {
-    /// The status of a run that ended so.
-    pub(crate) fn of(ended: Result<(), Fault>) -> Status
-        ensures { result ≡ status_of ended }
-    {
-        match ended {
-            Ok(()) => Status::Done,
-            Err(Fault::Usage(_)) => Status::Usage,
-            Err(Fault::List(ListFault::Read)) => Status::ReadFault,
-            Err(Fault::List(_)) => Status::List,
-            Err(Fault::DrawLimit { .. }) => Status::DrawLimit,
-            Err(Fault::Write) => Status::WriteFault,
-            Err(Fault::NoMemory) => Status::NoMemory,
-        }
-    }
-
-    /// The exit code of the program.
-    pub fn code(self) -> u8
-        ensures { result ≡ code_of self }
-    {
-        match self {
-            Status::Done => 0,
-            Status::Usage => 2,
-            Status::List => 3,
-            Status::DrawLimit => 4,
-            Status::ReadFault => 5,
-            Status::WriteFault => 6,
-            Status::NoMemory => 7,
-        }
-    }
-}
 
 /// What went wrong.
 #[derive(Clone, Copy, Debug)]
@@ -70,13 +18,48 @@ pub enum Fault {
     Usage(UsageFault),
     /// The input is no round list, or could not be read.
     List(ListFault),
-    /// The attempts of a slot, which took so many words, gave no permitted state. Rounds and slots are
-    /// counted from 1.
+    /// The attempts of a slot, which took so many words, gave no permitted state. Rounds and slots are counted from 1.
     DrawLimit { round: u32, slot: u32, words: u32 },
     /// The output could not be written.
     Write,
     /// Want of memory.
     NoMemory,
+}
+
+impl From<CommandFault> for Fault {
+    ghost use Rattle.std.specs.Prelude.{◌≡◌};
+    ghost use Rattle.scr_sheet.specs.Outcome.{fault_of_command};
+
+    ghost from_gives = { λ command fault. fault ≡ fault_of_command command };
+
+    fn from(fault: CommandFault) -> Fault {
+        match fault {
+            CommandFault::Usage(fault) => Fault::Usage(fault),
+            CommandFault::NoMemory => Fault::NoMemory,
+        }
+    }
+}
+
+impl From<ListFault> for Fault {
+    ghost use Rattle.std.specs.Prelude.{◌≡◌};
+    ghost use Rattle.scr_sheet.specs.declared.fault.Fault.TheVariants.{List};
+
+    ghost from_gives = { λ list fault. fault ≡ List list };
+
+    fn from(fault: ListFault) -> Fault {
+        Fault::List(fault)
+    }
+}
+
+impl From<Failed> for Fault {
+    ghost use Rattle.std.specs.Prelude.{◌≡◌};
+    ghost use Rattle.scr_sheet.specs.declared.fault.Fault.TheVariants.{Write};
+
+    ghost from_gives = { λ _ fault. fault ≡ Write };
+
+    fn from(_failed: Failed) -> Fault {
+        Fault::Write
+    }
 }
 
 /// The length of the longest message, and a little more.

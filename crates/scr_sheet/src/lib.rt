@@ -1,21 +1,26 @@
-//! All that the program does, as one call: `run`.
+//! All that the program does, as one call: [`run`].
 //!
-//! It reads the words of the command line and the round list, makes the rounds and writes them. It
-//! stands on every crate below. Its contract is the headline of the repository: what was written is
-//! what the definitions give for the words and the list, whatever goes wrong outside.
+//! A run reads the words of the command line, and the round list where they ask for a sheet; it makes and writes parts
+//! one after another, each the slots of an event and the text of their scrambles, and tells what goes wrong. The
+//! contract of `run` is the headline of the repository: whatever goes wrong outside, what was read and written, what was
+//! told and the status are those of an end that the definitions allow (`specs/Outcome.antt`), and each round that a list
+//! can name is drawn fairly. `laws` says that a list has one sheet, and which runs must end with it.
 #![tactic(auto)]
 
-mod command;
 mod fault;
-mod one;
+pub mod laws;
+mod making;
+mod parts;
 mod program;
-mod sheet;
+mod status;
 #[cfg(test)]
 mod tests;
 
-pub use command::{Command, CommandFault, UsageFault, read_command};
-pub use fault::{Fault, Status};
+pub use fault::Fault;
+pub use making::{RoundFault, make_round};
 pub use program::run;
+pub use scr_command::{Command, CommandFault, Options, UsageFault, read_command};
 pub use scr_list::{ListCause, ListFault, Round, built, read_rounds};
 pub use scr_notation::Event;
-pub use scr_round::{Options, RoundFault, RoundResult, make_round, write_round};
+pub use scr_round::{RoundResult, write_round};
+pub use status::Status;

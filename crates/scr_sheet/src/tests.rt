@@ -1,8 +1,10 @@
-//! Whole runs over sources and sinks in memory.
+//! Whole runs over sources and sinks in memory, against words, sheets and messages as the manual has them.
 
 ghost use Rattle.std.specs.Prelude.{◌<◌};
 
 use super::*;
+use scr_command::UsageFault;
+use scr_list::{ListCause, ListFault};
 use scr_outside::{MemSink, MemSource};
 use std::process::Abort;
 use std::test::Fail;
@@ -14,6 +16,39 @@ const SCRAMBLE: &str = "UR4+ DR4+ DL5- UL5+ U3- R2+ D4+ L1- ALL3- y2 U3- R4+ D2-
 
 const USAGE: &str =
     "scramble: usage: one EVENT SEED | sheet --seed HEX [--workers N] [--tries N] [--attempts N] | tables EVENT | load NUMBER\n";
+
+/// A sheet of two rounds, of two groups and of one, as the first version of the program printed it.
+const SHEET: [&str; 29] = [
+    "Round 1: Clock, at least 3\n",
+    "Group A\n",
+    "1. UR2- DR4+ DL5+ UL3+ U4+ R2- D4- L1- ALL3- y2 U1- R3- D1- L5+ ALL2+\n",
+    "2. UR4- DR4- DL4- UL4- U2- R1- D0+ L3+ ALL3+ y2 U1- R1+ D0+ L3+ ALL1+\n",
+    "3. UR1- DR4+ DL2+ UL2+ U2+ R3- D5- L3- ALL2- y2 U1- R0+ D6+ L3- ALL0+\n",
+    "4. UR2- DR2+ DL5+ UL6+ U1- R2- D1- L6+ ALL4+ y2 U5+ R4- D2- L1- ALL3-\n",
+    "5. UR3+ DR0+ DL3+ UL4+ U3- R6+ D4- L1- ALL6+ y2 U2+ R1- D4- L3+ ALL1-\n",
+    "E1. UR5+ DR3+ DL4- UL5- U3+ R3+ D3+ L0+ ALL5- y2 U1- R5+ D4- L5+ ALL2-\n",
+    "E2. UR3- DR5+ DL1+ UL2- U3- R5+ D4+ L3+ ALL1- y2 U1+ R5- D0+ L4- ALL4+\n",
+    "\n",
+    "Group B\n",
+    "1. UR4- DR1- DL5+ UL4- U3- R4+ D2+ L4+ ALL1+ y2 U1- R5+ D3+ L4- ALL6+\n",
+    "2. UR2+ DR0+ DL3+ UL5- U2- R1+ D4- L3- ALL4+ y2 U5- R4+ D1+ L2- ALL4-\n",
+    "3. UR5+ DR2- DL6+ UL5+ U4- R1- D1+ L3- ALL2+ y2 U1+ R5- D5+ L4+ ALL3+\n",
+    "4. UR1- DR6+ DL1- UL3- U2+ R4- D1+ L2- ALL1- y2 U2- R3- D3+ L2+ ALL3-\n",
+    "5. UR3- DR4+ DL4- UL4- U1+ R1+ D5- L4+ ALL2+ y2 U2+ R1- D5+ L2+ ALL4+\n",
+    "E1. UR2- DR4+ DL4+ UL3- U4- R6+ D6+ L4- ALL5- y2 U2+ R6+ D3- L1+ ALL6+\n",
+    "E2. UR3- DR3+ DL1- UL1+ U0+ R4+ D0+ L4+ ALL2+ y2 U1+ R1- D4- L2- ALL5+\n",
+    "\n",
+    "Round 2: Clock, at least 0\n",
+    "Group A\n",
+    "1. UR0+ DR5- DL4+ UL2- U3- R6+ D3+ L4- ALL6+ y2 U1- R4- D0+ L2- ALL6+\n",
+    "2. UR6+ DR5- DL1- UL4- U4- R5+ D5+ L1- ALL4- y2 U5+ R4+ D5+ L4- ALL2+\n",
+    "3. UR4- DR2+ DL6+ UL3- U2- R1+ D5+ L4+ ALL1+ y2 U1+ R2- D5- L3+ ALL5+\n",
+    "4. UR0+ DR3+ DL3+ UL4+ U5+ R4- D3+ L1+ ALL1+ y2 U3+ R2+ D4+ L5- ALL3+\n",
+    "5. UR2+ DR0+ DL4- UL4- U1+ R4- D2- L2- ALL2- y2 U2- R4+ D4- L0+ ALL0+\n",
+    "E1. UR5- DR2+ DL4- UL1+ U4+ R2- D1- L3+ ALL3- y2 U0+ R1- D4+ L3- ALL1-\n",
+    "E2. UR1- DR5+ DL2+ UL5+ U0+ R2+ D2+ L5- ALL2+ y2 U5- R6+ D2+ L2+ ALL6+\n",
+    "\n",
+];
 
 /// What a run gave.
 #[derive(Drop)]
@@ -62,161 +97,181 @@ fn check(
 }
 
 #[test]
-fn one_scramble(rt: HostRuntime) -> Result<(), Fail> {
-    let bad_digit = "000000000000000000000000000000000000000000000000000000000000000g";
-    let no_digit = "scramble: seed has no hexadecimal digit at 63\n";
-    let of_two = "scramble: seed has 2 characters, not 64\n";
-    let of_none = "scramble: seed has 0 characters, not 64\n";
-    let no_444 = "scramble: 444 is not supported\n";
-    check(&rt, &["one", "clock", ZEROS], b"", 0, SCRAMBLE, "")?;
-    check(&rt, &["one", "clock", bad_digit], b"", 2, "", no_digit)?;
-    check(&rt, &["one", "clock", "-x"], b"", 2, "", of_two)?;
-    check(&rt, &["one", "clock", ""], b"", 2, "", of_none)?;
-    check(&rt, &["one", "444", ZEROS], b"", 2, "", no_444)?;
-    check(&rt, &["one", "333", ZEROS], b"", 2, "", USAGE)?;
-    check(&rt, &["one", "clock"], b"", 2, "", USAGE)?;
-    check(&rt, &["one", "clock", ZEROS, ZEROS], b"", 2, "", USAGE)?;
-    check(&rt, &[], b"", 2, "", USAGE)
-}
-
-#[test]
-fn words_of_a_sheet(rt: HostRuntime) -> Result<(), Fail> {
-    let of_three = "scramble: seed has 3 characters, not 64\n";
-    let of_more = "scramble: seed has 65 characters, not 64\n";
-    let of_none = "scramble: seed has 0 characters, not 64\n";
-    let equals = "--seed==0000000000000000000000000000000000000000000000000000000000000000";
+fn words_and_lists(rt: HostRuntime) -> Result<(), Fail> {
+    let digit = "000000000000000000000000000000000000000000000000000000000000000g";
     let joined = "--seed=0000000000000000000000000000000000000000000000000000000000000000";
-    check(&rt, &["sheet", "--seed", "abc"], b"", 2, "", of_three)?;
-    check(&rt, &["sheet", equals], b"", 2, "", of_more)?;
-    check(&rt, &["sheet", "--seed="], b"", 2, "", of_none)?;
-    check(&rt, &["sheet", joined, "--workers=2"], b"", 0, "", "")?;
-    for refused in [
-        ["--seed", ZEROS, "--workers", "0"],
-        ["--seed", ZEROS, "--workers", "65"],
-        ["--seed", ZEROS, "--workers", "01"],
-        ["--seed", ZEROS, "--workers", "+1"],
-        ["--seed", ZEROS, "--tries", "1"],
-        ["--seed", ZEROS, "--attempts", "1000001"],
-        ["--seed", "abc", "--workers", "0"],
-        ["--seed", ZEROS, "--seed", ZEROS],
-    ] {
-        let [seed, value, name, number] = refused;
-        check(
-            &rt,
-            &["sheet", seed, value, name, number],
-            b"",
+    let equals = "--seed==0000000000000000000000000000000000000000000000000000000000000000";
+    let runs: [(&[&str], &str, u8, &str, &str); 20] = [
+        (&["one", "clock", ZEROS], "", 0, SCRAMBLE, ""),
+        (
+            &["one", "clock", digit],
+            "",
+            2,
+            "",
+            "scramble: seed has no hexadecimal digit at 63\n",
+        ),
+        (
+            &["one", "clock", "-x"],
+            "",
+            2,
+            "",
+            "scramble: seed has 2 characters, not 64\n",
+        ),
+        (
+            &["one", "clock", ""],
+            "",
+            2,
+            "",
+            "scramble: seed has 0 characters, not 64\n",
+        ),
+        (
+            &["one", "444", ZEROS],
+            "",
+            2,
+            "",
+            "scramble: 444 is not supported\n",
+        ),
+        (&["one", "333", ZEROS], "", 2, "", USAGE),
+        (&["one", "clock"], "", 2, "", USAGE),
+        (&["one", "clock", ZEROS, ZEROS], "", 2, "", USAGE),
+        (&[], "", 2, "", USAGE),
+        (&["sheet"], "", 2, "", USAGE),
+        (
+            &["sheet", equals],
+            "",
+            2,
+            "",
+            "scramble: seed has 65 characters, not 64\n",
+        ),
+        (
+            &["sheet", "--seed", ZEROS, "--workers", "65"],
+            "",
             2,
             "",
             USAGE,
-        )?;
+        ),
+        (
+            &["sheet", "--seed", ZEROS, "--attempts", "1000001"],
+            "",
+            2,
+            "",
+            USAGE,
+        ),
+        (&["sheet", joined, "--workers=64"], "", 0, "", ""),
+        (&["sheet", joined], " \n\t\r\n", 0, "", ""),
+        (
+            &["sheet", joined],
+            "444 1",
+            3,
+            "",
+            "scramble: line 1: 444 is not supported\n",
+        ),
+        (
+            &["sheet", joined],
+            "\nclock 27",
+            3,
+            "",
+            "scramble: line 2: groups\n",
+        ),
+        (
+            &["sheet", joined],
+            "333",
+            3,
+            "",
+            "scramble: line 1: words\n",
+        ),
+        (
+            &["sheet", joined],
+            "444bf 1",
+            3,
+            "",
+            "scramble: line 1: unknown event\n",
+        ),
+        (
+            &["sheet", joined],
+            "clock 1 4",
+            3,
+            "",
+            "scramble: line 1: minimum\n",
+        ),
+    ];
+    for (words, list, code, out, err) in runs {
+        check(&rt, words, list.as_bytes(), code, out, err)?;
     }
-    check(&rt, &["sheet", "--seed", "-x"], b"", 2, "", USAGE)?;
-    check(&rt, &["sheet", "--help"], b"", 2, "", USAGE)?;
-    check(&rt, &["sheet"], b"", 2, "", USAGE)
-}
-
-#[test]
-fn lists_that_are_refused(rt: HostRuntime) -> Result<(), Fail> {
-    let sheet = ["sheet", "--seed", ZEROS];
-    check(
-        &rt,
-        &sheet,
-        b"444 1",
-        3,
-        "",
-        "scramble: line 1: 444 is not supported\n",
-    )?;
-    check(
-        &rt,
-        &sheet,
-        b"\nclock 27",
-        3,
-        "",
-        "scramble: line 2: groups\n",
-    )?;
-    check(&rt, &sheet, b"333", 3, "", "scramble: line 1: words\n")?;
-    check(
-        &rt,
-        &sheet,
-        b"444bf 1",
-        3,
-        "",
-        "scramble: line 1: unknown event\n",
-    )?;
-    check(
-        &rt,
-        &sheet,
-        b"clock 1 4",
-        3,
-        "",
-        "scramble: line 1: minimum\n",
-    )?;
-    check(&rt, &sheet, b"", 0, "", "")?;
-    check(&rt, &sheet, b" \n\t\r\n", 0, "", "")
-}
-
-#[test]
-fn a_sheet_in_any_pieces(rt: HostRuntime) -> Result<(), Fail> {
-    let words = ["sheet", "--seed", ZEROS];
-    let list = b"clock 1\n";
-    let whole = run_with(&rt, &words, list, 4096, [&[], &[], &[]])?;
-    let start =
-        b"Round 1: Clock, at least 2\nGroup A\n1. UR4+ DR4+ DL5- UL5+ U3- R2+ D4+ L1- ALL3- y2 U3- R4+ D2- L4+ ALL3+\n";
-    assert_eq!(rt; whole.code, 0);
-    assert!(rt; whole.out.contents().starts_with(start));
-    assert!(rt; whole.out.contents().ends_with(b"\n\n"));
-
-    let bytewise = run_with(&rt, &words, list, 1, [&[], &[], &[]])?;
-    assert_eq!(rt; bytewise.code, 0);
-    assert_eq!(rt; bytewise.out.contents(), whole.out.contents());
-
-    for call in 1..10 {
-        let failed = run_with(&rt, &words, list, 1, [&[call], &[], &[]])?;
-        assert_eq!(rt; failed.code, 5);
-        assert!(rt; failed.out.contents().is_empty());
-    }
-    let ended = run_with(&rt, &words, list, 1, [&[10], &[], &[]])?;
-    assert_eq!(rt; ended.code, 0);
-
-    for call in 1..11 {
-        let failed = run_with(&rt, &words, list, 4096, [&[], &[call], &[]])?;
-        assert_eq!(rt; failed.code, 6);
-        assert!(rt; whole.out.contents().starts_with(failed.out.contents()));
-        assert_eq!(rt;
-            failed
-                .out
-                .contents()
-                .iter()
-                .filter(|byte| **byte == b'\n')
-                .count(),
-            call as usize - 1
-        );
-    }
-    let unharmed = run_with(&rt, &words, list, 4096, [&[], &[11], &[]])?;
-    assert_eq!(rt; unharmed.code, 0);
-
-    let untold = run_with(&rt, &["sheet"], list, 1, [&[], &[], &[5]])?;
-    assert_eq!(rt; untold.code, 2);
-    assert_eq!(rt; untold.err.contents(), b"scra".as_slice());
     Ok(())
 }
 
 #[test]
-fn the_longest_list(rt: HostRuntime) -> Result<(), Fail> {
-    let mut list = b"clock 1\n".to_vec(rt.alloc())?;
-    for _ in 0..4088 {
-        list.push(b'\n')?;
+fn faults_are_told(rt: HostRuntime) {
+    let rounds = ListFault::Line {
+        number: 65,
+        cause: ListCause::Rounds,
+    };
+    let limit = Fault::DrawLimit {
+        round: 3,
+        slot: 182,
+        words: 3_000_000,
+    };
+    for (fault, code, message) in [
+        (Fault::Usage(UsageFault::Grammar), 2, USAGE),
+        (
+            Fault::List(rounds),
+            3,
+            "scramble: line 65: too many rounds\n",
+        ),
+        (
+            Fault::List(ListFault::TooLong),
+            3,
+            "scramble: list is longer than 4096 bytes\n",
+        ),
+        (
+            limit,
+            4,
+            "scramble: round 3 slot 182: no permitted state in 3000000 words\n",
+        ),
+        (
+            Fault::List(ListFault::Read),
+            5,
+            "scramble: input could not be read\n",
+        ),
+        (Fault::Write, 6, "scramble: output could not be written\n"),
+        (Fault::NoMemory, 7, "scramble: out of memory\n"),
+    ] {
+        assert_eq!(rt; fault.message().as_str(), message);
+        assert_eq!(rt; Status::of(Err(fault)).code(), code);
     }
-    let words = ["sheet", "--seed", ZEROS];
-    let longest = run_with(&rt, &words, &list, 1000, [&[], &[], &[]])?;
-    assert_eq!(rt; longest.code, 0);
-    list.push(b'\n')?;
-    check(
-        &rt,
-        &words,
-        &list,
-        3,
-        "",
-        "scramble: list is longer than 4096 bytes\n",
-    )
+    assert_eq!(rt; Status::of(Ok(())).code(), 0);
+}
+
+#[test]
+fn a_whole_sheet(rt: HostRuntime) -> Result<(), Fail> {
+    let seed = "000102030405060708090a0b0c0d0e0f101112131415161718191a1b1c1d1e1f";
+    let words = ["sheet", "--seed", seed, "--attempts", "7", "--workers=3"];
+    let list = b"clock 2 3\n\nclock 1 0\n";
+    let mut sheet = Vec::new(rt.alloc());
+    for line in SHEET {
+        sheet.extend_from_slice(line.as_bytes())?;
+    }
+    for most in [1, 4096] {
+        let whole = run_with(&rt, &words, list, most, [&[], &[], &[]])?;
+        assert_eq!(rt; whole.code, 0);
+        assert_eq!(rt; whole.out.contents(), sheet.as_slice());
+    }
+    for call in 1..7 {
+        let failed = run_with(&rt, &words, list, 4, [&[call], &[], &[]])?;
+        assert_eq!(rt; failed.code, 5);
+        assert!(rt; failed.out.contents().is_empty());
+    }
+    for call in 1..29 {
+        let failed = run_with(&rt, &words, list, 4096, [&[], &[call], &[]])?;
+        let written = failed.out.contents();
+        let lines = written.iter().filter(|byte| **byte == b'\n').count();
+        assert_eq!(rt; failed.code, 6);
+        assert!(rt; sheet.starts_with(written));
+        assert_eq!(rt; lines, call as usize - 1);
+    }
+    let untold = run_with(&rt, &["sheet"], list, 1, [&[], &[], &[5]])?;
+    assert_eq!(rt; untold.code, 2);
+    assert_eq!(rt; untold.err.contents(), b"scra".as_slice());
+    Ok(())
 }

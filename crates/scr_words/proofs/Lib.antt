@@ -1,2 +1,3 @@
 pub mod SameWords
 pub mod Digits
+pub mod OnLiterals

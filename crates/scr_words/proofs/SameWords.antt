@@ -4,7 +4,7 @@ use Rattle.std.proofs.Common.{◌≡◌, ℕ, List, refl, ap, ◌∙◌}
 use Rattle.rand_core.specs.Steps.{u32_at}
 use Rattle.rand_chacha.specs.Block.{block_word as chacha_word}
 use Rattle.rand_chacha.specs.ChaCha.{ChaCha, key_of, next_word, word_at}
-use Rattle.scr_stream.specs.Stream.{key_word, key_words, input_state, block_word, word_of_key}
+use Rattle.scr_words.specs.Stream.{key_word, key_words, input_state, block_word, word_of_key}
 
 -- the key of a seed
 pub same_key : (seed : List ℕ) → key_of seed ≡ key_words seed

@@ -1,2 +1,3 @@
 pub mod Seed
+pub mod Stream
 pub mod Taken

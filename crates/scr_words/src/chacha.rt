@@ -1,7 +1,7 @@
 //! The words of a seeded stream.
 
 ghost use Rattle.std.specs.Prelude.{◌≡◌};
-ghost use Rattle.scr_stream.specs.Stream.{key_words, stream_word};
+ghost use Rattle.scr_words.specs.Stream.{key_words, stream_word};
 
 use crate::{Seed, Words};
 use rand_chacha::ChaCha20Rng;
@@ -42,7 +42,7 @@ impl ChaChaWords {
 }
 
 impl Words for ChaChaWords {
-    ghost use Rattle.scr_stream.specs.Stream.{word_of_key};
+    ghost use Rattle.scr_words.specs.Stream.{word_of_key};
 
     ghost word_at = { λ s. word_of_key s.key s.stream };
 

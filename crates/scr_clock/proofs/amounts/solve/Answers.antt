@@ -1,43 +1,28 @@
-use Rattle.std.proofs.Common.{ℕ, List, get_or, sym, ap, ◌∙◌, subst}
-use Rattle.scr_play.specs.Play.{play}
-use Rattle.scr_dials.specs.Dials.{IsClock, turned, solved}
-use Rattle.scr_dials.specs.Pattern.{pattern}
-use Rattle.scr_dials.proofs.Amounts.{written_out, amounts_of, IsClock-amounts_of, amounts_of-give, amounts_of-only}
-use Rattle.scr_clock.proofs.Sums.{amounts_by_sums}
+use Rattle.std.proofs.Common.{◌≡◌, List, ℕ, [], ◌∷◌, sym, ap, ◌∙◌, subst}
+use Rattle.scr_clock.specs.Dials.{solved}
+use Rattle.scr_clock.specs.Held.{clock_after}
+use Rattle.scr_clock.specs.Written.{IsAmounts, written}
+use Rattle.scr_clock.specs.Proofs.AmountLaws.{amounts_of, IsAmounts-amounts_of, amounts_of-give, amounts_of-only}
 use Rattle.scr_clock.proofs.amounts.solve.Goals as goal
+
+abbrev hours : goal.After-hour-14 → List ℕ
+hours c =
+    c.hour.result ∷ c.hour-2.result ∷ c.hour-3.result ∷ c.hour-4.result ∷ c.hour-5.result ∷ c.hour-6.result ∷ c.hour-7.result
+    ∷ c.hour-8.result ∷ c.hour-9.result ∷ c.hour-10.result ∷ c.hour-11.result ∷ c.hour-12.result ∷ c.hour-13.result ∷ c.hour-14.result ∷ []
+
+-- they are the sums of the dials
+hours_are : (c : goal.After-hour-14) → hours c ≡ amounts_of c.args.clock.now
+unfolding amounts_of
+hours_are c = let same = c.dials-dials.ensures.same in cc
 
 pub returns-clause-amounts : goal.returns-clause-amounts
 returns-clause-amounts c =
-    let dials = c.dials-dials.result in
-    let same = c.dials-dials.ensures.same in
-    let valid = subst (λ (l : List ℕ). IsClock l) (sym same) c.dials-dials.ensures.valid in
-    let e =
-    amounts_by_sums (get_or dials 0 0) (get_or dials 1 0) (get_or dials 2 0) (get_or dials 3 0) (get_or dials 4 0) (get_or dials 5 0) (get_or dials 6 0) (get_or dials 7 0) (get_or dials 8 0) (get_or dials 9 0) (get_or dials 10 0) (get_or dials 11 0) (get_or dials 12 0) (get_or dials 13 0) _ _ _ _ _ _ _ _ _ _ _ _ _ _
-    c.hour.ensures c.hour-2.ensures c.hour-3.ensures c.hour-4.ensures c.hour-5.ensures c.hour-6.ensures c.hour-7.ensures c.hour-8.ensures c.hour-9.ensures c.hour-10.ensures c.hour-11.ensures c.hour-12.ensures c.hour-13.ensures c.hour-14.ensures
-    ∙ ap amounts_of (sym (written_out dials valid.fourteen))
-    in
-    subst (λ (l : List ℕ). IsClock l) (sym e) (IsClock-amounts_of dials)
+    let P : List ℕ → Type 0 = λ amounts. IsAmounts amounts in
+    subst P (sym (hours_are c)) (IsAmounts-amounts_of c.args.clock.now)
 
 pub returns-clause-gives : goal.returns-clause-gives
 returns-clause-gives c =
-    let dials = c.dials-dials.result in
-    let same = c.dials-dials.ensures.same in
-    let valid = subst (λ (l : List ℕ). IsClock l) (sym same) c.dials-dials.ensures.valid in
-    let e =
-    amounts_by_sums (get_or dials 0 0) (get_or dials 1 0) (get_or dials 2 0) (get_or dials 3 0) (get_or dials 4 0) (get_or dials 5 0) (get_or dials 6 0) (get_or dials 7 0) (get_or dials 8 0) (get_or dials 9 0) (get_or dials 10 0) (get_or dials 11 0) (get_or dials 12 0) (get_or dials 13 0) _ _ _ _ _ _ _ _ _ _ _ _ _ _
-    c.hour.ensures c.hour-2.ensures c.hour-3.ensures c.hour-4.ensures c.hour-5.ensures c.hour-6.ensures c.hour-7.ensures c.hour-8.ensures c.hour-9.ensures c.hour-10.ensures c.hour-11.ensures c.hour-12.ensures c.hour-13.ensures c.hour-14.ensures
-    ∙ ap amounts_of (sym (written_out dials valid.fourteen))
-    in
-    ap (λ l. play turned solved (pattern l)) e ∙ amounts_of-give dials valid ∙ same
+    ap (λ amounts. clock_after solved (written amounts)) (hours_are c) ∙ amounts_of-give c.args.clock.now c.dials-dials.ensures.valid
 
 pub returns-clause-only : goal.returns-clause-only
-returns-clause-only c =
-    let dials = c.dials-dials.result in
-    let same = c.dials-dials.ensures.same in
-    let valid = subst (λ (l : List ℕ). IsClock l) (sym same) c.dials-dials.ensures.valid in
-    let e =
-    amounts_by_sums (get_or dials 0 0) (get_or dials 1 0) (get_or dials 2 0) (get_or dials 3 0) (get_or dials 4 0) (get_or dials 5 0) (get_or dials 6 0) (get_or dials 7 0) (get_or dials 8 0) (get_or dials 9 0) (get_or dials 10 0) (get_or dials 11 0) (get_or dials 12 0) (get_or dials 13 0) _ _ _ _ _ _ _ _ _ _ _ _ _ _
-    c.hour.ensures c.hour-2.ensures c.hour-3.ensures c.hour-4.ensures c.hour-5.ensures c.hour-6.ensures c.hour-7.ensures c.hour-8.ensures c.hour-9.ensures c.hour-10.ensures c.hour-11.ensures c.hour-12.ensures c.hour-13.ensures c.hour-14.ensures
-    ∙ ap amounts_of (sym (written_out dials valid.fourteen))
-    in
-    λ amounts hours plays. amounts_of-only amounts hours ∙ ap amounts_of (plays ∙ sym same) ∙ sym e
+returns-clause-only c = λ amounts h e. amounts_of-only amounts c.args.clock.now h e ∙ sym (hours_are c)

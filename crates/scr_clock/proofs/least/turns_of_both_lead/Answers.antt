@@ -1,22 +1,25 @@
-use Rattle.std.proofs.Common.{true, false, sym, ap, ◌∙◌, arith}
+use Rattle.std.proofs.Common.{true, false, [], ◌∷◌, sym, ◌∙◌, arith}
 use Rattle.std.proofs.lemmas.Bool.{iff_false}
-use Rattle.scr_dials.specs.Dials.{turned}
-use Rattle.scr_clock.specs.Sides.{turn_leads}
-use Rattle.scr_clock.proofs.SideLaws.{mixed-apart, mixed-none, turns_lead_on-found}
+use Rattle.scr_clock.specs.Sides.{SidesLead}
+use Rattle.scr_clock.proofs.SideLaws.{by_amount, amount_of_back, back_edges_carried, found, untrue}
 use Rattle.scr_clock.proofs.least.turns_of_both_lead.Goals as goal
 
-pub returns-then-not-are_back_edges_carried-clause-value : goal.returns-then-not-are_back_edges_carried-clause-value
-returns-then-not-are_back_edges_carried-clause-value c =
+pub returns-then-not-are_back_edges_carried-clause-exact : goal.returns-then-not-are_back_edges_carried-clause-exact
+returns-then-not-are_back_edges_carried-clause-exact c =
     let edges = c.are_back_edges_carried.ensures in
-    sym (mixed-apart c.args.clock.now edges.valid (iff_false edges.exact c.if-not-are_back_edges_carried.true))
+    untrue (λ s. iff_false edges.exact c.if-not-are_back_edges_carried.true (back_edges_carried c.args.clock.now edges.valid s))
 
-pub returns-then-turn_of_side_leads-clause-value : goal.returns-then-turn_of_side_leads-clause-value
-returns-then-turn_of_side_leads-clause-value c =
-    let found = ap (turn_leads false) (sym c.pins-turned.ensures) ∙ sym c.turn_of_side_leads.ensures.value ∙ c.if-turn_of_side_leads.true in
-    sym (turns_lead_on-found true false c.args.clock.now c.loop-pins.pins c.amount_of_centre-amount.result (omega arith) (omega arith) (omega arith) found)
+pub returns-clause-exact : goal.returns-clause-exact
+returns-clause-exact c =
+    let dials = c.args.clock.now in
+    let amount = c.amount_of_centre-amount in
+    untrue (λ s. c.loop-pins.invariant s.setting.pins s.setting.some_pin (omega (arith, s.setting.four_pins))
+    (by_amount true dials (SidesLead (false ∷ [])) s.setting amount.result
+    (amount_of_back dials c.are_back_edges_carried.ensures.valid s ∙ sym amount.ensures.value) s.gives))
 
-pub returns-clause-value : goal.returns-clause-value
-returns-clause-value c =
-    let amount = c.amount_of_centre-amount.ensures.value in
-    sym (mixed-none c.args.clock.now c.are_back_edges_carried.ensures.valid
-    (λ p pos l. ap (λ a. turn_leads false (turned c.args.clock.now (record { back = true; pins = p; amount = a }))) (sym amount) ∙ c.loop-pins.invariant p pos (omega arith)))
+pub returns-then-turn_of_side_leads-clause-exact : goal.returns-then-turn_of_side_leads-clause-exact
+returns-then-turn_of_side_leads-clause-exact c =
+    let amount = c.amount_of_centre-amount in
+    found true c.args.clock.now c.pins.result (SidesLead (false ∷ [])) c.loop-pins.pins amount.result (omega arith)
+    (omega arith) amount.ensures.hours
+    c.pins.ensures (c.turn_of_side_leads.ensures.exact.0 c.if-turn_of_side_leads.true)

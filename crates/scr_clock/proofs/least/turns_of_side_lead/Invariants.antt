@@ -1,13 +1,14 @@
-use Rattle.std.proofs.Common.{◌≡◌, ℕ, ◌<◌, false}
-use Rattle.scr_dials.specs.Dials.{turned}
-use Rattle.scr_clock.specs.Sides.{turn_leads}
+use Rattle.std.proofs.Common.{ℕ, ◌<◌, [], ◌∷◌}
+use Rattle.scr_clock.specs.Dials.{turned, dial_turn}
+use Rattle.scr_clock.specs.Sides.{SidesLead}
 use Rattle.scr_clock.proofs.least.turns_of_side_lead.Given as goal
 
 abbrev pub invariant-loop-pins : goal.invariant-loop-pins
 invariant-loop-pins l =
-    (p : ℕ) → 0 < p → p < l.pins → (a : ℕ) → a < 12 → turn_leads l.back (turned l.clock (record { back = l.back; pins = p; amount = a })) ≡ false
+    (p : ℕ) → 0 < p → p < l.pins → (a : ℕ) → a < 12 → SidesLead (l.back ∷ []) (turned l.clock (dial_turn l.back p a)) → ⊥
 
 abbrev pub invariant-loop-amount : goal.invariant-loop-amount
-invariant-loop-amount l =
-    ((p : ℕ) → 0 < p → p < l.pins → (a : ℕ) → a < 12 → turn_leads l.back (turned l.clock (record { back = l.back; pins = p; amount = a })) ≡ false)
-    × ((a : ℕ) → a < l.amount → turn_leads l.back (turned l.clock (record { back = l.back; pins = l.pins; amount = a })) ≡ false)
+invariant-loop-amount l = record {
+  before : (p : ℕ) → 0 < p → p < l.pins → (a : ℕ) → a < 12 → SidesLead (l.back ∷ []) (turned l.clock (dial_turn l.back p a)) → ⊥;
+  here : (a : ℕ) → a < l.amount → SidesLead (l.back ∷ []) (turned l.clock (dial_turn l.back l.pins a)) → ⊥;
+}

@@ -1,5 +1,5 @@
-use Rattle.scr_stream.proofs.Accepted.{answered_equally}
-use Rattle.scr_stream.proofs.Fairness.{state_equally}
+use Rattle.scr_draw.proofs.Accepted.{answered_equally}
+use Rattle.scr_draw.proofs.Fairness.{state_equally}
 use Rattle.scr_draw.proofs.laws.each_equally.Goals as goal
 
 pub returns-clause-numbers : goal.returns-clause-numbers

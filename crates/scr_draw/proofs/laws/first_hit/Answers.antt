@@ -1,4 +1,4 @@
-use Rattle.scr_stream.proofs.FirstHit.{drawn_is_first, none_is_drawn, read_of_first}
+use Rattle.scr_draw.proofs.FirstHit.{drawn_is_first, none_is_drawn, read_of_first}
 use Rattle.scr_draw.proofs.laws.first_hit.Goals as goal
 
 pub returns-clause-state : goal.returns-clause-state

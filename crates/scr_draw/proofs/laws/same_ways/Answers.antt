@@ -1,4 +1,4 @@
-use Rattle.scr_stream.proofs.Fairness.{fair}
+use Rattle.scr_draw.proofs.Fairness.{fair}
 use Rattle.scr_draw.proofs.laws.same_ways.Goals as goal
 
 pub returns : goal.returns

@@ -1,16 +1,13 @@
 use Rattle.std.proofs.Common.{arith}
-use Rattle.scr_list.proofs.ReadLemmas.{read-list, read-fault, read-cause}
+use Rattle.scr_list.proofs.ReadLemmas.{read-answer}
 use Rattle.scr_list.proofs.read.read_rounds.Goals as goal
 
-pub returns-in-Ok-clause-read : goal.returns-in-Ok-clause-read
-returns-in-Ok-clause-read g c =
-    read-list _ _ c.read_all.new.buffer c.in-Ok.filled c.parse_rounds.result (omega arith) c.in-Ok.ensures.within c.in-Ok.ensures.taken
-    c.in-Ok.ensures.end c.parse_rounds.ensures.answer
+pub returns-clause-read : goal.returns-clause-read
+returns-clause-read g c =
+    (read-answer _ c.read_all.new.buffer c.in_ok-filled.filled c.parse_rounds.result (omega arith) c.in_ok-filled.ensures.within
+    c.in_ok-filled.ensures.taken c.in_ok-filled.ensures.end c.parse_rounds.ensures.answer).0
 
-pub returns-in-Ok-clause-fault : goal.returns-in-Ok-clause-fault
-returns-in-Ok-clause-fault g c =
-    read-fault _ _ c.read_all.new.buffer c.in-Ok.filled c.parse_rounds.result (omega arith) c.in-Ok.ensures.within c.in-Ok.ensures.taken
-    c.in-Ok.ensures.end c.parse_rounds.ensures.answer
-
-pub returns-in-Ok-clause-cause : goal.returns-in-Ok-clause-cause
-returns-in-Ok-clause-cause g c = read-cause _ _ _ c.parse_rounds.result c.parse_rounds.ensures.answer
+pub returns-clause-fault : goal.returns-clause-fault
+returns-clause-fault g c =
+    (read-answer _ c.read_all.new.buffer c.in_ok-filled.filled c.parse_rounds.result (omega arith) c.in_ok-filled.ensures.within
+    c.in_ok-filled.ensures.taken c.in_ok-filled.ensures.end c.parse_rounds.ensures.answer).1

@@ -1,42 +1,57 @@
-use Rattle.std.proofs.Common.{◌≡◌, sym, ap, ◌∙◌, true, false}
-use Rattle.std.specs.Prelude.{slice_get, is_some}
-use Rattle.scr_list.specs.Words.{words_of}
-use Rattle.scr_list.specs.Rounds.{named_round}
-use Rattle.scr_list.specs.Steps.{some_round}
-use Rattle.scr_list.proofs.RoundLemmas.{one_word, many_words, named_words, copied-is_some}
+use Rattle.std.proofs.Common.{refl}
+use Rattle.std.proofs.lemmas.Result.{err_from_is_err_and}
+use Rattle.scr_list.proofs.RoundLemmas.{round_of_words-by}
 use Rattle.scr_list.proofs.round.round_of_line.Goals as goal
 
-pub returns-in_default-word_at : goal.returns-in_default-word_at
-returns-in_default-word_at c =
-    sym
-    (one_word c.args.before (words_of c.args.line.now) c.in-Some.event.now (sym c.in-Some.ensures)
-    (sym c.in_default-word_at.ensures))
+pub returns-in-None-default-default : goal.returns-in-None-default-default
+returns-in-None-default-default c =
+    rw (round_of_words-by, ← c.word_at.ensures, c.in-None-default-default.is-0) refl
 
-pub returns-then-is_some : goal.returns-then-is_some
-returns-then-is_some c =
-    let fourth : is_some (slice_get (words_of c.args.line.now) 3) ≡ true =
-    ap is_some (sym c.word_at-3.ensures) ∙ copied-is_some c.word_at-3.result ∙ sym c.if-is_some.ensures
-    in
-    sym (many_words c.args.before (words_of c.args.line.now) fourth)
+pub returns-in_ok-named-in-Some-Some-None : goal.returns-in_ok-named-in-Some-Some-None
+returns-in_ok-named-in-Some-Some-None c =
+    rw (
+      round_of_words-by,
+      ← c.word_at.ensures,
+      ← c.word_at-2.ensures,
+      ← c.word_at-3.ensures,
+      ← c.word_at-in-Some-Some-None.ensures,
+      c.in-Some-Some-None.is-0,
+      c.in-Some-Some-None.is-1,
+      c.in-Some-Some-None.is-2,
+      ← c.named.ensures,
+      c.in_ok-named-in-Some-Some-None.was,
+    ) refl
 
-pub returns-in-Ok : goal.returns-in-Ok
-returns-in-Ok c =
-    let few : is_some (slice_get (words_of c.args.line.now) 3) ≡ false =
-    ap is_some (sym c.word_at-3.ensures) ∙ copied-is_some c.word_at-3.result ∙ sym c.if-is_some.ensures
-    in
-    sym
-    (named_words c.args.before (words_of c.args.line.now) c.in-Some.event.now c.in-Some-word_at.groups.now
-    (sym c.in-Some.ensures) (sym c.in-Some-word_at.ensures) few
-    ∙ ap (λ w. some_round (named_round c.args.before c.in-Some.event.now c.in-Some-word_at.groups.now w)) (sym c.word_at-4.ensures)
-    ∙ ap some_round (sym c.in-Ok.ensures))
+pub returns-in_default : goal.returns-in_default
+returns-in_default c =
+    rw (
+      round_of_words-by,
+      ← c.word_at.ensures,
+      ← c.word_at-2.ensures,
+      ← c.word_at-3.ensures,
+      c.in_default.is-0,
+      c.in_default.is-1,
+      c.in_default.is-2,
+    ) refl
 
-pub returns-in-Err : goal.returns-in-Err
-returns-in-Err c =
-    let few : is_some (slice_get (words_of c.args.line.now) 3) ≡ false =
-    ap is_some (sym c.word_at-3.ensures) ∙ copied-is_some c.word_at-3.result ∙ sym c.if-is_some.ensures
-    in
-    sym
-    (named_words c.args.before (words_of c.args.line.now) c.in-Some.event.now c.in-Some-word_at.groups.now
-    (sym c.in-Some.ensures) (sym c.in-Some-word_at.ensures) few
-    ∙ ap (λ w. some_round (named_round c.args.before c.in-Some.event.now c.in-Some-word_at.groups.now w)) (sym c.word_at-4.ensures)
-    ∙ ap some_round (sym c.in-Err.ensures))
+pub returns-in_default-2 : goal.returns-in_default-2
+returns-in_default-2 c =
+    rw (round_of_words-by, ← c.word_at.ensures, ← c.word_at-2.ensures, c.in_default.is-0, c.in_default.is-1) refl
+
+pub returns-in_err-named-in-Some-Some-None : goal.returns-in_err-named-in-Some-Some-None
+returns-in_err-named-in-Some-Some-None c =
+    let p = err_from_is_err_and c.from_residual.result c.from_residual.ensures.1 in
+    rw (
+      p.1,
+      round_of_words-by,
+      ← c.word_at.ensures,
+      ← c.word_at-2.ensures,
+      ← c.word_at-3.ensures,
+      ← c.word_at-in-Some-Some-None.ensures,
+      c.in-Some-Some-None.is-0,
+      c.in-Some-Some-None.is-1,
+      c.in-Some-Some-None.is-2,
+      ← c.named.ensures,
+      c.in_err-named-in-Some-Some-None.was,
+      p.2,
+    ) refl

@@ -1,8 +1,7 @@
-use Rattle.std.proofs.Common.{◌≡◌, ◌+◌, ◌≤◌, length, drop, reverse}
-use Rattle.scr_tidy.specs.Tidy.{tidy}
-use Rattle.scr_notation.specs.Turning.{face_merging}
+use Rattle.std.proofs.Common.{◌≡◌, drop, reverse}
+use Rattle.scr_notation.specs.Written.{IsWritten}
 use Rattle.scr_notation.proofs.turning.tidy.Given as goal
 
 abbrev pub invariant-loop-k : goal.invariant-loop-k
 invariant-loop-k l =
-    (reverse l.last_first.items ≡ tidy face_merging (drop l.k l.turns)) × (length l.last_first.items + l.k ≤ length l.turns)
+    (l.tidy ≡ record { event = l.fn.scramble.event; turns = reverse (drop l.k l.last_first.items) }) × IsWritten l.tidy

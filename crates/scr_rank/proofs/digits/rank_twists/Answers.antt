@@ -1,32 +1,24 @@
-use Rattle.std.proofs.Common.{◌-◌, ◌*◌, ap, arith}
-use Rattle.scr_rank.proofs.DigitSteps.{rank_more, rank_low}
+use Rattle.std.proofs.Common.{arith}
+use Rattle.scr_rank.proofs.DigitSteps.{ranked_by}
 use Rattle.scr_rank.proofs.digits.rank_twists.Goals as goal
 
 pub overflow_mul-number : goal.overflow_mul-number
 overflow_mul-number c =
     let l = c.loop-place in
-    let ds = c.args.digits.now in
-    omega (
-      arith,
-      ap (λ z. l.number * z) c.from.ensures,
-      rank_more c.args.base ds l.place l.number c.loop-place-test.true l.auto.place l.invariant,
-      rank_low c.args.base (l.place - 1) ds c.requires.base c.requires.some.1 c.requires.valid.below,
-    )
+    let next = ranked_by c.args.base c.args.digits.now l.place l.number c.from.result c.from.ensures c.requires.base c.requires.some c.requires.valid
+    c.loop-place-test.true l.auto.place l.invariant in
+    omega (arith, next.low)
 
 pub overflow_add-number : goal.overflow_add-number
 overflow_add-number c =
     let l = c.loop-place in
-    let ds = c.args.digits.now in
-    omega (
-      arith,
-      ap (λ z. l.number * z) c.from.ensures,
-      c.from-in-loop-place.ensures,
-      rank_more c.args.base ds l.place l.number c.loop-place-test.true l.auto.place l.invariant,
-      rank_low c.args.base (l.place - 1) ds c.requires.base c.requires.some.1 c.requires.valid.below,
-    )
+    let next = ranked_by c.args.base c.args.digits.now l.place l.number c.from.result c.from.ensures c.requires.base c.requires.some c.requires.valid
+    c.loop-place-test.true l.auto.place l.invariant in
+    omega (arith, c.from-in-loop-place.ensures, next.low)
 
 pub loop-place-preserved : goal.loop-place-preserved
 loop-place-preserved c =
     let l = c.loop-place in
-    let ds = c.args.digits.now in
-    omega (arith, ap (λ z. l.number * z) c.from.ensures, c.from-in-loop-place.ensures, rank_more c.args.base ds l.place l.number c.loop-place-test.true l.auto.place l.invariant)
+    let next = ranked_by c.args.base c.args.digits.now l.place l.number c.from.result c.from.ensures c.requires.base c.requires.some c.requires.valid
+    c.loop-place-test.true l.auto.place l.invariant in
+    omega (arith, c.from-in-loop-place.ensures, next.counted)

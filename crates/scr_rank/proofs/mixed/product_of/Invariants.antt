@@ -1,5 +1,5 @@
 use Rattle.std.proofs.Common.{◌≡◌, drop}
-use Rattle.scr_lists.specs.Numberings.{product}
+use Rattle.scr_combinatorics.specs.Digits.{product}
 use Rattle.scr_rank.proofs.mixed.product_of.Given as goal
 
 abbrev pub invariant-loop-place : goal.invariant-loop-place

@@ -1,16 +1,12 @@
-use Rattle.std.proofs.Common.{◌-◌, arith}
-use Rattle.scr_rank.proofs.MixedSteps.{number_more, number_low, length-digits}
+use Rattle.std.proofs.Common.{arith}
+use Rattle.scr_rank.proofs.MixedSteps.{ranked_by, length-digits}
 use Rattle.scr_rank.proofs.mixed.rank_digits.Goals as goal
 
 pub overflow_mul-number : goal.overflow_mul-number
 overflow_mul-number c =
     let l = c.loop-place in
-    omega (
-      arith,
-      number_more c.args.bases.now c.args.digits.now l.place l.number c.requires.valid c.loop-place-test.true l.auto.place l.invariant,
-      number_low c.args.bases.now c.args.digits.now (l.place - 1) c.requires.some c.requires.valid,
-      c.requires.fits,
-    )
+    let next = ranked_by c.args.bases.now c.args.digits.now l.place l.number c.requires.some c.requires.valid c.loop-place-test.true l.auto.place l.invariant in
+    omega (arith, next.low, c.requires.fits)
 
 pub bounds-digits-place : goal.bounds-digits-place
 bounds-digits-place c = omega (arith, length-digits c.args.bases.now c.args.digits.now c.requires.valid)
@@ -18,14 +14,10 @@ bounds-digits-place c = omega (arith, length-digits c.args.bases.now c.args.digi
 pub overflow_add-number : goal.overflow_add-number
 overflow_add-number c =
     let l = c.loop-place in
-    omega (
-      arith,
-      number_more c.args.bases.now c.args.digits.now l.place l.number c.requires.valid c.loop-place-test.true l.auto.place l.invariant,
-      number_low c.args.bases.now c.args.digits.now (l.place - 1) c.requires.some c.requires.valid,
-      c.requires.fits,
-    )
+    let next = ranked_by c.args.bases.now c.args.digits.now l.place l.number c.requires.some c.requires.valid c.loop-place-test.true l.auto.place l.invariant in
+    omega (arith, next.low, c.requires.fits)
 
 pub loop-place-preserved : goal.loop-place-preserved
 loop-place-preserved c =
     let l = c.loop-place in
-    number_more c.args.bases.now c.args.digits.now l.place l.number c.requires.valid c.loop-place-test.true l.auto.place l.invariant
+    (ranked_by c.args.bases.now c.args.digits.now l.place l.number c.requires.some c.requires.valid c.loop-place-test.true l.auto.place l.invariant).counted

@@ -1,5 +1,5 @@
 use Rattle.std.proofs.Common.{◌≡◌, drop}
-use Rattle.scr_lists.specs.Numberings.{mixed_number}
+use Rattle.scr_combinatorics.specs.Digits.{mixed_number}
 use Rattle.scr_rank.proofs.mixed.rank_digits.Given as goal
 
 abbrev pub invariant-loop-place : goal.invariant-loop-place

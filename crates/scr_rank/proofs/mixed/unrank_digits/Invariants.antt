@@ -1,5 +1,5 @@
 use Rattle.std.proofs.Common.{◌≡◌, ◌++◌, take, drop}
-use Rattle.scr_lists.specs.Numberings.{mixed_digits}
+use Rattle.scr_combinatorics.specs.Digits.{mixed_digits}
 use Rattle.scr_rank.proofs.mixed.unrank_digits.Given as goal
 
 abbrev pub invariant-loop-place : goal.invariant-loop-place

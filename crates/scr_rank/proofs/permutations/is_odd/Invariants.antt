@@ -1,5 +1,5 @@
 use Rattle.std.proofs.Common.{◌≡◌, ◌+◌, drop}
-use Rattle.scr_lists.specs.Permutations.{inversions}
+use Rattle.scr_combinatorics.specs.Permutations.{inversions}
 use Rattle.scr_rank.proofs.permutations.is_odd.Given as goal
 
 abbrev pub invariant-loop-place : goal.invariant-loop-place

@@ -1,9 +1,8 @@
 use Rattle.std.proofs.Common.{◌≡◌, ◌+◌, ℕ, List, length, get_or, set, take, drop, map, ◌++◌, ◌<◌, sym, ap, ◌∙◌, add-one, arith}
 use Rattle.std.proofs.lemmas.List.{length-map, length-take-le, get_or-append_right, get_or-drop, get_or_default}
 use Rattle.std.proofs.lemmas.List.Edits.{map_over_more}
-use Rattle.scr_lists.specs.Permutations.{raised}
-use Rattle.scr_lists.proofs.Counts.{AllBelow-at}
-use Rattle.scr_lists.proofs.PermutationNumbers.{raised-above, raised-below}
+use Rattle.scr_combinatorics.specs.Permutations.{nth_except}
+use Rattle.scr_combinatorics.proofs.PermutationNumbers.{nth_except-above, nth_except-below}
 use Rattle.scr_rank.proofs.permutations.raise_from.Goals as goal
 use Rattle.scr_rank.proofs.permutations.raise_from.Goals.{then-number-first, else-number-first}
 
@@ -20,7 +19,7 @@ pub overflow_add-number : goal.overflow_add-number
 overflow_add-number c =
     let l = c.loop-number in
     let xs = c.args.list.now in
-    omega (arith, not_yet (raised c.args.first) xs l.list l.number-index c.loop-number-test.true l.invariant, AllBelow-at 255 xs c.requires l.number-index c.loop-number-test.true)
+    omega (arith, not_yet (nth_except c.args.first) xs l.list l.number-index c.loop-number-test.true l.invariant, c.requires l.number-index 0 c.loop-number-test.true)
 
 step : (f : ℕ → ℕ) (xs ys zs : List ℕ) (i : ℕ) → i < length xs → length ys ≡ length xs → ys ≡ map f (take i xs) ++ drop i xs → zs ≡ set ys i (f (get_or ys i 0)) → zs ≡ map f (take (i + 1) xs) ++ drop (i + 1) xs
 step f xs ys zs i lt size e ez =
@@ -30,10 +29,10 @@ step f xs ys zs i lt size e ez =
 pub loop-number-preserved : goal.loop-number-preserved
 loop-number-preserved c =
     let l = c.loop-number in
-    let f = raised c.args.first in
+    let f = nth_except c.args.first in
     let x = get_or l.list l.number-index 0 in
     let next = step f c.args.list.now l.list c.if-number-first.list l.number-index c.loop-number-test.true l.auto.list l.invariant in
     elim c.if-number-first.branch [
-      | then-number-first w ↦ next (w.list-is ∙ ap (set l.list l.number-index) (add-one x ∙ sym (raised-above c.args.first x w.if-number-first.true)))
-      | else-number-first w ↦ next (w.list-is ∙ ap (set l.list l.number-index) (sym (raised-below c.args.first x w.if-number-first.false)))
+      | then-number-first w ↦ next (w.list-is ∙ ap (set l.list l.number-index) (add-one x ∙ sym (nth_except-above c.args.first x w.if-number-first.true)))
+      | else-number-first w ↦ next (w.list-is ∙ ap (set l.list l.number-index) (sym (nth_except-below c.args.first x w.if-number-first.false)))
     ]

@@ -1,5 +1,5 @@
 use Rattle.std.proofs.Common.{◌≡◌, ◌-◌, drop, length}
-use Rattle.scr_lists.specs.Numberings.{factorial, permutation_number}
+use Rattle.scr_combinatorics.specs.Permutations.{factorial, permutation_number}
 use Rattle.scr_rank.proofs.permutations.rank_permutation.Given as goal
 
 abbrev pub invariant-loop-place : goal.invariant-loop-place

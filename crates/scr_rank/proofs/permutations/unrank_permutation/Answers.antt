@@ -1,5 +1,7 @@
-use Rattle.std.proofs.Common.{◌%◌, ◌-◌, length, refl}
-use Rattle.scr_rank.proofs.PermutationSteps.{unrank_room, unrank_step, unrank_start}
+use Rattle.std.proofs.Common.{◌%◌, ◌-◌, length, refl, sym, ap, ◌∙◌, subst}
+use Rattle.scr_combinatorics.specs.Permutations.{IsPermutation, permutation_number}
+use Rattle.scr_combinatorics.proofs.PermutationNumbers.{IsPermutation-at, permutation_number-at}
+use Rattle.scr_rank.proofs.PermutationSteps.{unrank_room, unrank_step, unrank_start, unrank_end}
 use Rattle.scr_rank.proofs.permutations.unrank_permutation.Goals as goal
 
 pub raise_from-requires : goal.raise_from-requires
@@ -16,3 +18,17 @@ loop-place-preserved c =
 
 pub loop-place-init : goal.loop-place-init
 loop-place-init c = unrank_start c.args.out.now c.args.number
+
+pub returns-clause-list : goal.returns-clause-list
+returns-clause-list c =
+    let l = c.loop-place in
+    unrank_end (length c.args.out.now) c.args.number l.rest l.place l.out c.requires.below c.loop-place-test.false l.invariant
+
+pub returns-clause-valid : goal.returns-clause-valid
+returns-clause-valid c =
+    let len = length c.args.out.now in
+    subst (IsPermutation len) (sym (returns-clause-list c)) (IsPermutation-at len c.args.number c.requires.below)
+
+pub returns-clause-number : goal.returns-clause-number
+returns-clause-number c =
+    ap permutation_number (returns-clause-list c) ∙ permutation_number-at (length c.args.out.now) c.args.number c.requires.below

@@ -1,5 +1,5 @@
 use Rattle.std.proofs.Common.{sym, arith}
-use Rattle.scr_lists.proofs.PlaceSets.{binomial-above}
+use Rattle.scr_combinatorics.proofs.PlaceSets.{binomial-above}
 use Rattle.scr_rank.proofs.PlaceSetSteps.{count_step, count_small}
 use Rattle.scr_rank.proofs.place_sets.count_sets.Goals as goal
 

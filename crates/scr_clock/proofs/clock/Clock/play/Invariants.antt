@@ -1,11 +1,9 @@
-use Rattle.std.proofs.Common.{◌≡◌, take, drop, IsTrue}
-use Rattle.std.specs.Prelude.{All}
-use Rattle.scr_notation.specs.Turns.{is_clock_turn}
-use Rattle.scr_clock.specs.Printed.{clock_after}
-use Rattle.scr_clock.proofs.WrittenClock.{rest_after}
+use Rattle.std.proofs.Common.{◌≡◌, false, Some, take}
+use Rattle.scr_play.specs.Play.{play}
+use Rattle.scr_clock.specs.Held.{held_after, held_clock}
 use Rattle.scr_clock.proofs.clock.Clock.play.Given as goal
 
 abbrev pub invariant-loop-turn : goal.invariant-loop-turn
 invariant-loop-turn l =
-    (rest_after l.clock l.back (drop l.turn-index l.turn-items) ≡ clock_after l.self l.turn-items)
-    × All (λ turn. IsTrue (is_clock_turn turn)) (take l.turn-index l.turn-items)
+    play held_after (held_clock l.self false) (take l.turn-index l.turn-items) ≡ Some
+    (held_clock l.clock l.back)

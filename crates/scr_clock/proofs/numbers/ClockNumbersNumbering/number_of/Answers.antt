@@ -1,31 +1,19 @@
-use Rattle.std.proofs.Common.{◌≡◌, ℕ, ◌+◌, ◌*◌, List, sym, ap, ◌∙◌, subst, arith}
-use Rattle.scr_dials.specs.Dials.{IsClock}
-use Rattle.scr_dials.proofs.Numbered.{number_of-drop_all, numbered_from}
+use Rattle.std.proofs.Common.{ℕ, List, replicate, sym, ap, ◌∙◌, subst, lit<}
+use Rattle.scr_combinatorics.specs.Digits.{AreDigits, mixed_number}
+use Rattle.scr_combinatorics.proofs.Digits.{AreDigits-replicate}
+use Rattle.scr_clock.specs.Numbers.{number_of}
 use Rattle.scr_clock.proofs.numbers.ClockNumbersNumbering.number_of.Goals as goal
 
-clock_of : (dials state : List ℕ) → dials ≡ state → IsClock state → IsClock dials
-clock_of dials state e c = subst (λ (l : List ℕ). IsClock l) (sym e) c
+pub rank-requires : goal.rank-requires
+rank-requires c =
+    let digits = c.digits.ensures ∙ c.dials.ensures.same in
+    let are = (AreDigits-replicate 14 12 c.args.state.now).1 (c.requires.fourteen, c.requires.below) in
+    let bases = subst (λ (b : List ℕ). AreDigits b c.digits.result) (sym c.dial_radix.ensures)
+    (subst (λ (ds : List ℕ). AreDigits (replicate 14 12) ds) (sym digits) are) in
+    (lit< tt, (lit< tt, bases))
 
-pub loop-k-init : goal.loop-k-init
-loop-k-init c =
-    let clock = clock_of c.dials-dials.result c.args.state.now c.dials-dials.ensures.same c.requires in
-    sym (number_of-drop_all c.dials-dials.result 14 (omega (arith, clock.fourteen)))
-
-pub overflow_mul-number : goal.overflow_mul-number
-overflow_mul-number c =
-    let clock = clock_of c.dials-dials.result c.args.state.now c.dials-dials.ensures.same c.requires in
-    let step = numbered_from c.dials-dials.result c.loop-k.k c.loop-k.number clock (omega arith) (omega arith) c.loop-k.invariant in
-    omega (arith, step.fits)
-
-pub overflow_add-number : goal.overflow_add-number
-overflow_add-number c =
-    let clock = clock_of c.dials-dials.result c.args.state.now c.dials-dials.ensures.same c.requires in
-    let step = numbered_from c.dials-dials.result c.loop-k.k c.loop-k.number clock (omega arith) (omega arith) c.loop-k.invariant in
-    let read = c.from.ensures in
-    omega (arith, step.fits, read)
-
-pub loop-k-preserved : goal.loop-k-preserved
-loop-k-preserved c =
-    let clock = clock_of c.dials-dials.result c.args.state.now c.dials-dials.ensures.same c.requires in
-    let step = numbered_from c.dials-dials.result c.loop-k.k c.loop-k.number clock (omega arith) (omega arith) c.loop-k.invariant in
-    ap (λ n. 12 * c.loop-k.number + n) c.from.ensures ∙ step.more
+pub returns : goal.returns
+unfolding number_of
+returns c =
+    c.rank.ensures.number ∙ ap (λ bases. mixed_number bases c.digits.result) c.dial_radix.ensures
+    ∙ ap (mixed_number (replicate 14 12)) (c.digits.ensures ∙ c.dials.ensures.same)

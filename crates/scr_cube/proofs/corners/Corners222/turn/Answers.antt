@@ -1,19 +1,18 @@
-use Rattle.std.proofs.Common.{sym, ap, ◌∙◌, arith, refl}
-use Rattle.scr_orbit.specs.Orbits.{repeated}
-use Rattle.scr_orbit.proofs.OrbitLaws.{repeated-add}
-use Rattle.scr_faces.specs.Cube222.{quarter_turned_222, turned_222}
+use Rattle.std.proofs.Common.{ap, ◌∙◌, sym, arith}
+use Rattle.scr_notation.specs.declared.turn.Turn.TheVariants.{Face}
+use Rattle.scr_cube.specs.Cube222.{corners_after}
+use Rattle.scr_cube.proofs.Laws222.{play_222}
+use Rattle.scr_cube.proofs.Turning.{corners_turned}
 use Rattle.scr_cube.proofs.corners.Corners222.turn.Goals as goal
 
-pub loop-done-init : goal.loop-done-init
-unfolding repeated
-loop-done-init c = refl
-
-pub loop-done-preserved : goal.loop-done-preserved
-unfolding repeated
-loop-done-preserved c =
-    let step = quarter_turned_222 c.args.face in
-    c.quarter-state.ensures ∙ ap step c.loop-done.invariant ∙ sym (repeated-add c.loop-done._done 1 step c.args.self.now)
+pub invariant_of-result : goal.invariant_of-result
+invariant_of-result c =
+    play_222.kept c.self.inside.corners _ (Face c.args.face 1 c.args.amount) c.self.invariant
+    (corners_turned c.self.inside.corners c.args.face c.args.amount c.from-number.result c.turns_222.result.now _ c.turned.result
+    c.requires.some c.requires.amount c.from-number.ensures c.turns_222.ensures.defined (omega arith) c.turned.ensures)
 
 pub returns : goal.returns
-unfolding turned_222
-returns c = c.loop-done.invariant ∙ ap (λ n. repeated n (quarter_turned_222 c.args.face) c.args.self.now) (omega arith)
+returns c =
+    ap (λ o. corners_after o (Face c.args.face 1 c.args.amount)) (sym c.self.view_is)
+    ∙ corners_turned c.self.inside.corners c.args.face c.args.amount c.from-number.result c.turns_222.result.now _ c.turned.result
+    c.requires.some c.requires.amount c.from-number.ensures c.turns_222.ensures.defined (omega arith) c.turned.ensures

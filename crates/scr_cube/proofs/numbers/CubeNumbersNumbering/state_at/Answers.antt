@@ -1,19 +1,27 @@
-use Rattle.std.proofs.Common.{◌≡◌, ℕ, ◌/◌, List, get_or, sym, ap, ◌∙◌, subst}
-use Rattle.scr_lists.specs.Numberings.{permutation_number, twists_number, AreDigits, mixed_number}
-use Rattle.scr_faces.specs.Cube333.{CubeState, cube_bases}
-use Rattle.scr_cube.proofs.Parts.{four_digits, digits_by_parts, cube_at_by_digits}
+use Rattle.std.proofs.Common.{◌≡◌, get_or, ap, ◌∙◌}
+use Rattle.scr_combinatorics.specs.Permutations.{permutation_at, half_at, parity}
+use Rattle.scr_combinatorics.specs.Twists.{twists_at}
+use Rattle.scr_combinatorics.specs.Digits.{mixed_digits}
+use Rattle.scr_orbit.proofs.OrbitLaws.{same_orbit}
+use Rattle.scr_cube.specs.Cube333.{cube_bases, cube_of_digits, cube_at}
+use Rattle.scr_cube.proofs.Laws333.{same_cube}
+use Rattle.scr_cube.proofs.Parity.{parity_by}
 use Rattle.scr_cube.proofs.numbers.CubeNumbersNumbering.state_at.Goals as goal
 
 pub returns : goal.returns
+unfolding cube_of_digits
 returns c =
-    let ds : List ℕ = c.unrank.result in
-    let made : CubeState = c.of_valid.result in
-    let whole = c.of_valid.ensures.same in
-    let valid : AreDigits cube_bases ds = subst (λ bases. AreDigits bases ds) c.cube_radix.ensures c.unrank.ensures.valid in
-    let number : mixed_number cube_bases ds ≡ c.args.number = ap (λ bases. mixed_number bases ds) (sym c.cube_radix.ensures) ∙ c.unrank.ensures.number in
-    let same = digits_by_parts made (get_or ds 0 0) (get_or ds 1 0) (get_or ds 2 0) (get_or ds 3 0)
-    (sym (ap (λ s. twists_number 2 s.edges.digits) whole ∙ c.unrank-3.ensures.number))
-    (sym (ap (λ s. twists_number 3 s.corners.digits) whole ∙ c.unrank-2.ensures.number))
-    (sym (ap (λ s. permutation_number s.corners.pieces) whole ∙ c.unrank-corners.ensures.number))
-    (sym (ap (λ s. permutation_number s.edges.pieces / 2) whole ∙ c.unrank_with_parity.ensures.number)) in
-    cube_at_by_digits made c.args.number ds c.of_valid.ensures.valid (sym (four_digits ds valid) ∙ same) number
+    let cube = cube_at c.args.number in
+    let digits : c.unrank.result ≡ mixed_digits cube_bases c.args.number =
+    c.unrank.ensures.list ∙ ap (λ bases. mixed_digits bases c.args.number) c.cube_radix.ensures in
+    let corners = c.unrank-corners.ensures.list ∙ ap (λ ds. permutation_at 8 (get_or ds 2 0)) digits in
+    let odd = parity_by c.is_odd.result c.unrank-corners.result c.is_odd.ensures ∙ ap parity corners in
+    let edges : c.unrank_with_parity.new.out ≡ cube.edges.pieces =
+    c.unrank_with_parity.ensures.list
+    ∙ ap (λ k. half_at 12 k (get_or c.unrank.result 3 0)) odd
+    ∙ ap (λ ds. half_at 12 (parity (cube_at c.args.number).corners.pieces) (get_or ds 3 0)) digits in
+    c.of_valid.ensures
+    ∙ same_cube _ cube
+    (c.new.ensures ∙ same_orbit _ cube.corners corners (c.unrank-2.ensures.list ∙ ap (λ ds. twists_at 8 3 (get_or ds 1 0)) digits))
+    (c.new-2.ensures ∙ same_orbit _ cube.edges edges
+    (c.unrank-3.ensures.list ∙ ap (λ ds. twists_at 12 2 (get_or ds 0 0)) digits))

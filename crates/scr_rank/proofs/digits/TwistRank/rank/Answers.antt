@@ -1,5 +1,5 @@
 use Rattle.std.proofs.Common.{arith}
-use Rattle.scr_lists.proofs.DigitNumbers.{twists_number-lt}
+use Rattle.scr_combinatorics.proofs.Twists.{twists_number-lt}
 use Rattle.scr_rank.proofs.digits.TwistRank.rank.Goals as goal
 
 pub returns-clause-below : goal.returns-clause-below

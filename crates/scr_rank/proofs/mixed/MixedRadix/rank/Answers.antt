@@ -1,6 +1,6 @@
 use Rattle.std.proofs.Common.{ap, arith}
-use Rattle.scr_lists.specs.Numberings.{mixed_number}
-use Rattle.scr_lists.proofs.DigitNumbers.{mixed_number-lt}
+use Rattle.scr_combinatorics.specs.Digits.{mixed_number}
+use Rattle.scr_combinatorics.proofs.Digits.{mixed_number-lt}
 use Rattle.scr_rank.proofs.mixed.MixedRadix.rank.Goals as goal
 
 pub returns-clause-below : goal.returns-clause-below

@@ -1,5 +1,5 @@
 use Rattle.std.proofs.Common.{arith}
-use Rattle.scr_lists.proofs.Halves.{half_lt}
+use Rattle.scr_combinatorics.proofs.Halves.{half_lt}
 use Rattle.scr_rank.proofs.permutations.EvenPermRank.rank.Goals as goal
 
 pub returns-clause-below : goal.returns-clause-below

@@ -1,6 +1,6 @@
 use Rattle.std.proofs.Common.{ap, arith}
-use Rattle.scr_lists.specs.Numberings.{factorial}
-use Rattle.scr_lists.proofs.PermutationNumbers.{permutation_number-lt}
+use Rattle.scr_combinatorics.specs.Permutations.{factorial}
+use Rattle.scr_combinatorics.proofs.PermutationNumbers.{permutation_number-lt}
 use Rattle.scr_rank.proofs.permutations.PermRank.rank.Goals as goal
 
 pub returns-clause-below : goal.returns-clause-below

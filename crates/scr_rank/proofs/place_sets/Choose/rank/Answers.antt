@@ -1,5 +1,5 @@
 use Rattle.std.proofs.Common.{arith}
-use Rattle.scr_lists.proofs.PlaceSets.{place_set_number-lt}
+use Rattle.scr_combinatorics.proofs.PlaceSets.{place_set_number-lt}
 use Rattle.scr_rank.proofs.place_sets.Choose.rank.Goals as goal
 
 pub returns-clause-below : goal.returns-clause-below

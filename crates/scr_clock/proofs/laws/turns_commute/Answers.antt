@@ -1,0 +1,5 @@
+use Rattle.scr_clock.specs.Proofs.TurnLaws.{turned_swap}
+use Rattle.scr_clock.proofs.laws.turns_commute.Goals as goal
+
+pub returns : goal.returns
+returns c = turned_swap

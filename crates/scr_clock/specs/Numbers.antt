@@ -1,0 +1,15 @@
+-- The numbers of Clocks: dial k is digit k of the number in base 12.
+use Rattle.std.specs.Prelude.{ℕ, List, replicate}
+use Rattle.scr_combinatorics.specs.Digits.{mixed_number, mixed_digits}
+
+-- How many Clocks there are: 12^14.
+abbrev pub clock_count : ℕ
+clock_count = 1283918464548864
+
+-- The dials of a number below the count.
+unfoldable pub dials_of : ℕ → List ℕ
+dials_of number = mixed_digits (replicate 14 12) number
+
+-- The number whose digits these dials are.
+unfoldable pub number_of : List ℕ → ℕ
+number_of dials = mixed_number (replicate 14 12) dials

@@ -1,0 +1,89 @@
+-- Laws of turns of the dials.
+use Rattle.std.proofs.Common.{◌≡◌, ℕ, ◌+◌, ◌-◌, ◌%◌, ◌<◌, ◌⊎◌, inl, inr, Bool, true, cond, ltb, ◌&&◌, List, length, get_or, Some, None, refl, sym, arith}
+use Rattle.std.specs.List.{range_with_len}
+use Rattle.std.proofs.lemmas.Bool.{and_parts, and_from, ltb-true, lt-ltb, cond-true, cases_cond}
+use Rattle.std.proofs.lemmas.Option.{cond_some}
+use Rattle.std.proofs.lemmas.List.FromFn.{fill_by_all, get_or-map-range_with_len}
+use Rattle.std.proofs.lemmas.List.Elements.{All-replicate, All-map}
+use Rattle.scr_clock.specs.Dials.{IsClock, DialTurn, is_turn, gain_at, turned, solved, dials_after}
+use Rattle.scr_clock.specs.Sides.{Setting, turn_by}
+use Rattle.scr_clock.specs.Proofs.Hours.{hour_at}
+
+-- ---- turns
+
+-- a pin set from 1 to 15 and an amount from 0 to 11 are a turn
+pub is_turn-from : (back : Bool) (s : Setting) → is_turn (turn_by back s) ≡ true
+is_turn-from back s =
+    and_from (ltb 0 s.pins) (ltb s.pins 16 && ltb s.amount 12) (lt-ltb 0 s.pins s.some_pin)
+    (and_from (ltb s.pins 16) (ltb s.amount 12) (lt-ltb s.pins 16 s.four_pins) (lt-ltb s.amount 12 s.hours))
+
+-- and so is the setting of each turn
+abbrev pub setting_of : (t : DialTurn) → is_turn t ≡ true → Setting
+setting_of t h =
+    let a = and_parts (ltb 0 t.pins) (ltb t.pins 16 && ltb t.amount 12) h in
+    let b = and_parts (ltb t.pins 16) (ltb t.amount 12) a.1 in
+    record {
+      pins = t.pins;
+      amount = t.amount;
+      some_pin = ltb-true 0 t.pins a.0;
+      four_pins = ltb-true t.pins 16 b.0;
+      hours = ltb-true t.amount 12 b.1;
+    }
+
+-- a turn is defined
+pub dials_after-turn : (dials : List ℕ) (t : DialTurn) → is_turn t ≡ true → dials_after dials t ≡ Some (turned dials t)
+unfolding dials_after
+dials_after-turn dials t h = cond-true (is_turn t) (Some (turned dials t)) None h
+
+-- and nothing else is
+pub dials_after-parts : (dials r : List ℕ) (t : DialTurn) → dials_after dials t ≡ Some r → (is_turn t ≡ true) × (turned dials t ≡ r)
+unfolding dials_after
+dials_after-parts dials r t e = cond_some (is_turn t) (turned dials t) r e
+
+-- ---- dial by dial
+
+-- a dial gains nothing, the amount, or what is left of it to twelve
+gain_at-cases : (t : DialTurn) (k : ℕ) → (gain_at t k ≡ 0) ⊎ ((gain_at t k ≡ 12 - t.amount) ⊎ (gain_at t k ≡ t.amount))
+unfolding gain_at
+gain_at-cases t k =
+    elim (cases_cond _ 0 (cond (t.back && ltb k 9) (12 - t.amount) t.amount) (gain_at t k) refl) [
+      | inl z ↦ inl z
+      | inr some ↦ inr (cases_cond (t.back && ltb k 9) (12 - t.amount) t.amount (gain_at t k) some)
+    ]
+
+-- each dial comes to the sum of its hour and what it gains
+pub turned-at : (dials : List ℕ) (t : DialTurn) (k : ℕ) → k < 14 → get_or (turned dials t) k 0 ≡ (get_or dials k 0 + gain_at t k) % 12
+unfolding turned
+turned-at dials t k l = get_or-map-range_with_len (λ j. (get_or dials j 0 + gain_at t j) % 12) 0 14 k k 0 l (omega arith)
+
+-- dials that have come to these hours are the turned ones
+pub turned_by_dials : (dials other : List ℕ) (t : DialTurn) → length other ≡ 14
+    → ((k : ℕ) → k < 14 → get_or other k 0 ≡ (get_or dials k 0 + gain_at t k) % 12) → other ≡ turned dials t
+unfolding turned
+turned_by_dials dials other t e h = fill_by_all (λ j. (get_or dials j 0 + gain_at t j) % 12) other 14 0 e h
+
+-- a turn gives a Clock
+pub IsClock-turned : (dials : List ℕ) (t : DialTurn) → IsClock (turned dials t)
+unfolding turned
+IsClock-turned dials t = record {
+  fourteen = refl;
+  below = All-map (λ d. d < 12) (λ j. (get_or dials j 0 + gain_at t j) % 12) (range_with_len 0 14) (λ k d l. omega arith);
+}
+
+pub IsClock-solved : IsClock solved
+IsClock-solved = record { fourteen = refl; below = All-replicate (λ d. d < 12) 14 0 (omega arith) }
+
+-- it doesn't matter which of two turns comes first
+pub turned_swap : (dials : List ℕ) (t u : DialTurn) → turned (turned dials t) u ≡ turned (turned dials u) t
+turned_swap dials t u =
+    turned_by_dials (turned dials u) (turned (turned dials t) u) t (IsClock-turned (turned dials t) u).fourteen
+    (λ k l. omega (arith, turned-at dials t k l, turned-at (turned dials t) u k l, turned-at dials u k l))
+
+-- a turn by 0 does nothing
+pub turned-none : (dials : List ℕ) (t : DialTurn) → IsClock dials → t.amount ≡ 0 → turned dials t ≡ dials
+turned-none dials t c e =
+    sym (turned_by_dials dials dials t c.fourteen
+    (λ k l. elim (gain_at-cases t k) [
+      | inl z ↦ omega (arith, hour_at dials k c l, z)
+      | inr s ↦ elim s [ inl z ↦ omega (arith, hour_at dials k c l, e, z) | inr z ↦ omega (arith, hour_at dials k c l, e, z) ]
+    ]))

@@ -1,0 +1,11 @@
+pub mod Counts
+pub mod Picks
+pub mod PermutationLaws
+pub mod Parities
+pub mod Orders
+pub mod PermutationNumbers
+pub mod Halves
+pub mod PlaceSets
+pub mod Digits
+pub mod Twists
+pub mod Numberings

@@ -1,0 +1,6 @@
+pub mod Lists
+pub mod Permutations
+pub mod PlaceSets
+pub mod Digits
+pub mod Twists
+pub mod Numbering

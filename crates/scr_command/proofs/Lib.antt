@@ -1,0 +1,9 @@
+pub mod Ordinary
+pub mod Parsed
+pub mod Rows
+pub mod SheetRules
+pub mod Slots
+pub mod SpellingLaws
+pub mod Turns
+pub mod Walked
+pub mod WordForms

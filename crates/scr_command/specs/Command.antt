@@ -1,0 +1,115 @@
+-- What the words of the command line ask for.
+use Rattle.std.specs.Prelude.{◌≡◌, ◌≤◌, ℕ, if◌then◌else◌, true, IsTrue, List, [], ◌∷◌, codes, Option, Some, None, Result, Ok, Err}
+use Rattle.std.specs.Str.{bytes_eq}
+use Rattle.scr_words.specs.declared.seed.Seed.{Seed}
+use Rattle.scr_words.specs.declared.seed.SeedFault.{SeedFault}
+use Rattle.scr_words.specs.Seed.{seed_of}
+use Rattle.scr_notation.specs.declared.event.Event.{Event}
+use Rattle.scr_text.specs.Numbers.{number_between}
+use Rattle.scr_list.specs.Events.{rules_of, built_event_of}
+use Rattle.scr_command.specs.declared.options.Options.{Options}
+use Rattle.scr_command.specs.declared.command.Command.{Command}
+use Rattle.scr_command.specs.declared.command.Command.TheVariants.{One, Sheet}
+use Rattle.scr_command.specs.declared.command.UsageFault.{UsageFault}
+use Rattle.scr_command.specs.declared.command.UsageFault.TheVariants.{No444, NoSeed, Grammar}
+use Rattle.scr_command.specs.declared.command.CommandFault.{CommandFault}
+use Rattle.scr_command.specs.declared.command.CommandFault.TheVariants as refusal
+use Rattle.scr_command.specs.OptionWords.{SplitOptions, options_of}
+
+-- ---- the numbers of a run
+
+-- those of a sheet whose words say nothing of them
+abbrev pub usual_options : Options
+usual_options = record { workers = 1; tries = 0; attempts = 1000 }
+
+-- numbers that words can set: 1 to 64 workers, no tries yet, 1 to 1,000,000 attempts
+pub record AreOptions (options : Options) : Type 0 where
+  pub some_workers : 1 ≤ options.workers
+  pub few_workers : options.workers ≤ 64
+  pub no_tries : options.tries ≡ 0
+  pub some_attempts : 1 ≤ options.attempts
+  pub few_attempts : options.attempts ≤ 1000000
+
+-- an option's number in a range, or the usual one where the option isn't there
+abbrev pub setting : ℕ → ℕ → ℕ → Option (List ℕ) → Option ℕ
+setting low high usual None = Some usual
+setting low high usual (Some text) = number_between low high text
+
+-- the three numbers, where each is one
+abbrev pub settings_of : Option ℕ → Option ℕ → Option ℕ → Option Options
+settings_of (Some workers) (Some tries) (Some attempts) =
+    Some (record { workers = workers; tries = tries; attempts = attempts })
+settings_of None tries attempts = None
+settings_of (Some workers) None attempts = None
+settings_of (Some workers) (Some tries) None = None
+
+-- the numbers of options as they were split
+abbrev pub settings_in : SplitOptions → Option Options
+settings_in split = settings_of (setting 1 64 usual_options.workers split.workers)
+    (setting 0 0 usual_options.tries split.tries) (setting 1 1000000 usual_options.attempts split.attempts)
+
+-- ---- a seed
+
+-- a command, with what was read where its seed stands
+abbrev pub seeded : (Seed → Command) → Result Seed SeedFault → Result Command UsageFault
+seeded command (Ok seed) = Ok (command seed)
+seeded command (Err fault) = Err (NoSeed fault)
+
+-- ---- `one EVENT SEED`
+
+-- the command, with the event that its word names
+abbrev pub one_for : Option Event → List ℕ → Result Command UsageFault
+one_for None seed = Err Grammar
+one_for (Some event) seed = seeded (One event) (seed_of seed)
+
+-- the words after `one`
+abbrev pub one_of : List (List ℕ) → Result Command UsageFault
+one_of [] = Err Grammar
+one_of (event ∷ []) = Err Grammar
+one_of (event ∷ seed ∷ []) = if bytes_eq event (codes "444") then Err No444 else one_for (built_event_of event) seed
+one_of (event ∷ seed ∷ more ∷ others) = Err Grammar
+
+-- ---- `sheet --seed HEX [--workers N] [--tries N] [--attempts N]`
+
+-- the command, where its numbers are in their ranges: only then can the seed alone be amiss
+abbrev pub sheet_for : Option Options → List ℕ → Result Command UsageFault
+sheet_for None seed = Err Grammar
+sheet_for (Some options) seed = seeded (λ s. Sheet s options) (seed_of seed)
+
+-- the command of options as they were split
+abbrev pub sheet_of : Option SplitOptions → Result Command UsageFault
+sheet_of None = Err Grammar
+sheet_of (Some split) = sheet_for (settings_in split) split.seed
+
+-- ---- all commands
+
+-- The command that the words are, or why they are none. Words that are a command but for the seed
+-- are refused for the seed.
+abbrev pub command_of : List (List ℕ) → Result Command UsageFault
+command_of [] = Err Grammar
+command_of (command ∷ words) =
+    if bytes_eq command (codes "sheet") then sheet_of (options_of words)
+    else if bytes_eq command (codes "one") then one_of words
+    else Err Grammar
+
+-- a command that words can ask for: its event is one that lists take, and its numbers are in their ranges
+abbrev pub IsCommand : Command → Type 0
+IsCommand (One event seed) = IsTrue (rules_of event).built
+IsCommand (Sheet seed options) = AreOptions options
+
+-- ---- words that are no command
+
+-- the words begin with `sheet`: only for these does a run take memory
+abbrev pub AsksForSheet : List (List ℕ) → Type 0
+AsksForSheet [] = ⊥
+AsksForSheet (command ∷ words) = bytes_eq command (codes "sheet") ≡ true
+
+-- why no command was read: the words are none, or memory was wanting
+abbrev pub IsRefusal : List (List ℕ) → CommandFault → Type 0
+IsRefusal words (refusal.Usage usage) = command_of words ≡ Err usage
+IsRefusal words refusal.NoMemory = AsksForSheet words
+
+-- the same, for the words after `sheet`
+abbrev pub IsSheetRefusal : List (List ℕ) → CommandFault → Type 0
+IsSheetRefusal words (refusal.Usage usage) = sheet_of (options_of words) ≡ Err usage
+IsSheetRefusal words refusal.NoMemory = Unit {0}

@@ -1,0 +1,12 @@
+-- The words on which the grammar and the parser differ: the parser takes a lone hyphen as a value,
+-- and two as the end of the options.
+use Rattle.std.specs.Prelude.{◌||◌, ◌≡◌, Bool, false, codes}
+use Rattle.std.specs.Str.{IsUtf8, bytes_eq}
+use Rattle.scr_command.specs.OptionWords.{Text}
+
+abbrev pub is_bare : Text → Bool
+is_bare word = bytes_eq word (codes "-") || bytes_eq word (codes "--")
+
+-- a word that is left to the parser
+abbrev pub IsOrdinary : Text → Type 0
+IsOrdinary word = IsUtf8 word × (is_bare word ≡ false)

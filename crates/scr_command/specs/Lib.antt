@@ -1,0 +1,6 @@
+pub mod Hyphens
+pub mod OptionWords
+pub mod SheetCommand
+pub mod Spelling
+pub mod Words
+pub mod Command

@@ -1,0 +1,151 @@
+//! The words of the command line.
+
+ghost use Rattle.std.specs.Prelude.{◌≡◌, ◌≤◌, [], ◌∷◌, Option, Some, MatchResult, option_map, Ok, IfOk, IfSome};
+ghost use Rattle.scr_command.specs.declared.command.UsageFault.TheVariants.{Grammar, NoSeed};
+ghost use Rattle.scr_command.specs.declared.command.CommandFault.TheVariants.{Usage, NoMemory};
+ghost use Rattle.scr_command.specs.OptionWords.{options_of};
+ghost use Rattle.scr_command.specs.Words.{options_in_words, texts};
+ghost use Rattle.scr_command.specs.Command.{command_of, sheet_of, one_of, setting, settings_in, IsRefusal, IsSheetRefusal, IsCommand, AreOptions};
+
+use crate::options::Options;
+use crate::splitting::{OptionsFault, SheetWords, split_options};
+use scr_list::built_event;
+use scr_notation::Event;
+use scr_text::number_within;
+use scr_words::{Seed, SeedFault, read_seed};
+use std::alloc::Global;
+
+/// What the program is asked to do.
+#[derive(Clone, Copy, Debug, PartialEq, Eq)]
+pub enum Command {
+    /// One scramble of an event, of stream 0 of a seed.
+    One(Event, Seed),
+    /// A sheet of the rounds that the input lists.
+    Sheet(Seed, Options),
+}
+
+/// Why the words ask for nothing.
+#[derive(Clone, Copy, Debug, PartialEq, Eq)]
+pub enum UsageFault {
+    /// They ask for the event 444.
+    No444,
+    /// Only the seed is amiss.
+    NoSeed(SeedFault),
+    /// They are no command.
+    Grammar,
+}
+
+impl From<SeedFault> for UsageFault {
+    ghost from_gives = { λ fault usage. usage ≡ NoSeed fault };
+
+    fn from(fault: SeedFault) -> UsageFault {
+        UsageFault::NoSeed(fault)
+    }
+}
+
+/// Why no command was read.
+#[derive(Clone, Copy, Debug, PartialEq, Eq)]
+pub enum CommandFault {
+    /// The words are no command.
+    Usage(UsageFault),
+    /// Want of memory.
+    NoMemory,
+}
+
+impl From<UsageFault> for CommandFault {
+    ghost from_gives = { λ usage fault. fault ≡ Usage usage };
+
+    fn from(usage: UsageFault) -> CommandFault {
+        CommandFault::Usage(usage)
+    }
+}
+
+/// Reads the words of the command line, without the program's name. It takes memory only where the
+/// first word is `sheet`.
+pub fn read_command(alloc: Global, words: &[&str]) -> Result<Command, CommandFault>
+    ensures answer { MatchResult result (λ command. command_of (texts words.now) ≡ Ok command)
+        (IsRefusal (texts words.now)) }
+    ensures command { IfOk result IsCommand }
+{
+    match words {
+        [] => Err(CommandFault::Usage(UsageFault::Grammar)),
+        [command, words @ ..] if *command == "sheet" => read_sheet(alloc, words),
+        [command, words @ ..] if *command == "one" => Ok(read_one(words)?),
+        [..] => Err(CommandFault::Usage(UsageFault::Grammar)),
+    }
+}
+
+/// Reads the words after `one`.
+fn read_one(words: &[&str]) -> Result<Command, UsageFault>
+    ensures answer { result ≡ one_of (texts words.now) }
+    ensures command { IfOk result IsCommand }
+{
+    match words {
+        [event, seed] => read_event_and_seed(event, seed),
+        _ => Err(UsageFault::Grammar),
+    }
+}
+
+fn read_event_and_seed(event: &str, seed: &str) -> Result<Command, UsageFault>
+    ensures answer { result ≡ one_of (event.now ∷ seed.now ∷ []) }
+    ensures command { IfOk result IsCommand }
+{
+    if event == "444" {
+        return Err(UsageFault::No444);
+    }
+    let event = built_event(event.as_bytes()).ok_or(UsageFault::Grammar)?;
+    let seed = read_seed(seed)?;
+    Ok(Command::One(event, seed))
+}
+
+/// Reads the words after `sheet`.
+fn read_sheet(alloc: Global, words: &[&str]) -> Result<Command, CommandFault>
+    ensures answer { MatchResult result (λ command. sheet_of (options_of (texts words.now)) ≡ Ok command)
+        (IsSheetRefusal (texts words.now)) }
+    ensures command { IfOk result IsCommand }
+{
+    match split_options(alloc, words) {
+        Ok(split) => Ok(read_options(&split)?),
+        Err(OptionsFault::Usage) => Err(CommandFault::Usage(UsageFault::Grammar)),
+        Err(OptionsFault::NoMemory) => Err(CommandFault::NoMemory),
+    }
+}
+
+/// Reads the options of `sheet`, which are split.
+fn read_options(split: &SheetWords<'_>) -> Result<Command, UsageFault>
+    ensures answer { result ≡ sheet_of (Some (options_in_words split.now)) }
+    ensures command { IfOk result IsCommand }
+{
+    let options = read_numbers(split).ok_or(UsageFault::Grammar)?;
+    let seed = read_seed(split.seed)?;
+    Ok(Command::Sheet(seed, options))
+}
+
+/// Reads the numbers among the options.
+fn read_numbers(split: &SheetWords<'_>) -> Option<Options>
+    ensures answer { result ≡ settings_in (options_in_words split.now) }
+    ensures range { IfSome result AreOptions }
+{
+    let usual = Options::default();
+    let workers = read_setting(split.workers, 1, 64, usual.workers)?;
+    let tries = read_setting(split.tries, 0, 0, usual.tries)?;
+    let attempts = read_setting(split.attempts, 1, 1_000_000, usual.attempts)?;
+    Some(Options {
+        workers,
+        tries,
+        attempts,
+    })
+}
+
+/// Reads an option's number in a range; the usual one stands where the option isn't there.
+fn read_setting(text: Option<&str>, low: u32, high: u32, usual: u32) -> Option<u32>
+    requires low { low ≤ usual }
+    requires high { usual ≤ high }
+    ensures answer { result ≡ setting low high usual (option_map (λ t. t.now) text.entry) }
+    ensures range { IfSome result (λ number. (low ≤ number) × (number ≤ high)) }
+{
+    match text {
+        Some(text) => number_within(text.as_bytes(), low, high),
+        None => Some(usual),
+    }
+}

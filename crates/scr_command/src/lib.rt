@@ -1,0 +1,20 @@
+//! The words of the command line: what the program is asked to do, or why they ask for nothing.
+//!
+//! `specs/Command.antt` says which words are which command, as one definition of the words,
+//! `command_of`. The options of `sheet` are split by `clap` (`specs/OptionWords.antt` has their
+//! grammar); numbers are read by `scr_text`, seeds by `scr_words`, events by `scr_list`. Its theorem
+//! is that of `read_command`: the command is the one of the definition, words that are none are
+//! refused for the cause that it gives, and want of memory comes only where the first word is
+//! `sheet`. `laws` says which words the grammar of options has without reading them in order.
+#![tactic(auto)]
+
+mod command;
+pub mod laws;
+mod options;
+mod splitting;
+#[cfg(test)]
+mod tests;
+
+pub use command::{Command, CommandFault, UsageFault, read_command};
+pub use options::Options;
+pub use splitting::{OptionsFault, SheetWords, split_options};

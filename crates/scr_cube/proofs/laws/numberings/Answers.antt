@@ -1,0 +1,9 @@
+use Rattle.scr_cube.specs.Numbered333.{cube_numbering}
+use Rattle.scr_cube.specs.Numbered222.{numbering_222}
+use Rattle.scr_cube.proofs.laws.numberings.Goals as goal
+
+pub returns-clause-cube : goal.returns-clause-cube
+returns-clause-cube c = cube_numbering
+
+pub returns-clause-corners : goal.returns-clause-corners
+returns-clause-corners c = numbering_222

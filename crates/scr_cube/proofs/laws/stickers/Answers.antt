@@ -1,0 +1,5 @@
+use Rattle.scr_cube.proofs.Orders.{carries_stickers}
+use Rattle.scr_cube.proofs.laws.stickers.Goals as goal
+
+pub returns : goal.returns
+returns c = carries_stickers

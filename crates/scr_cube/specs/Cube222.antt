@@ -1,0 +1,72 @@
+-- A 2x2x2 as its corners, its turns (WCA Regulations, article 12), and its number.
+--
+-- The corner DBL stands still, so turns are of U, R and F. Places and pieces are numbered 0 URF, 1 UFL, 2 ULB, 3 UBR,
+-- 4 DFR, 5 DLF, 6 DRB. A corner's twist is how many thirds clockwise its U or D sticker stands from the U or D side.
+use Rattle.std.specs.Prelude.{◌≡◌, ℕ, List, [], ◌∷◌, slice_index, Option}
+use Rattle.scr_combinatorics.specs.Permutations.{permutation_number, permutation_at}
+use Rattle.scr_combinatorics.specs.Twists.{twists_number, twists_at}
+use Rattle.scr_combinatorics.specs.Digits.{mixed_number, mixed_digits}
+use Rattle.scr_play.specs.Reach.{Puzzle}
+use Rattle.scr_orbit.specs.Actions.{Action, after_by, power_table, all_powers}
+use Rattle.scr_orbit.specs.Orbits.{Orbit, Rearrangement, IsZeroSumOrbit, solved_orbit, orbit_action}
+use Rattle.scr_notation.specs.declared.turn.Turn.{Turn}
+use Rattle.scr_cube.specs.Faces.{quarters_of}
+
+-- Seven corners that can be put together without taking the cube apart: twists sum to 0 modulo 3.
+abbrev pub IsCorners222 : Orbit → Type 0
+IsCorners222 = IsZeroSumOrbit 7 3
+
+-- The quarter turns of U, R and F: which place's corner comes to each place, and the twist added.
+abbrev pub quarters_222 : List Rearrangement
+quarters_222 =
+    record { places = 3 ∷ 0 ∷ 1 ∷ 2 ∷ 4 ∷ 5 ∷ 6 ∷ []; added = 0 ∷ 0 ∷ 0 ∷ 0 ∷ 0 ∷ 0 ∷ 0 ∷ [] }
+    ∷ record { places = 4 ∷ 1 ∷ 2 ∷ 0 ∷ 6 ∷ 5 ∷ 3 ∷ []; added = 2 ∷ 0 ∷ 0 ∷ 1 ∷ 1 ∷ 0 ∷ 2 ∷ [] }
+    ∷ record { places = 1 ∷ 5 ∷ 2 ∷ 3 ∷ 0 ∷ 4 ∷ 6 ∷ []; added = 1 ∷ 2 ∷ 0 ∷ 0 ∷ 2 ∷ 1 ∷ 0 ∷ [] }
+    ∷ []
+
+abbrev pub action_222 : Action Orbit Rearrangement
+action_222 = orbit_action 7 3
+
+-- All 9 turns, in the order of their numbers: U U2 U' R R2 R' F F2 F'.
+unfoldable pub turns_222 : List Rearrangement
+turns_222 = all_powers action_222 4 quarters_222
+
+-- What each letter of the notation does.
+abbrev pub table_222 : Turn → Option Rearrangement
+table_222 = power_table action_222 quarters_222 quarters_of
+
+-- What a letter makes of the corners: nothing where it isn't a turn of U, R or F.
+abbrev pub corners_after : Orbit → Turn → Option Orbit
+corners_after = after_by action_222 table_222
+
+unfoldable pub solved_222 : Orbit
+solved_222 = solved_orbit 7
+
+-- The 2x2x2 as a puzzle. Each turn counts once (WCA Regulations, article 4).
+abbrev pub puzzle_222 : Puzzle Orbit
+puzzle_222 = record { Turn = Turn; after = corners_after; IsSolved = λ c. c ≡ solved_222; counted = λ t. 1 }
+
+-- ---- numbers
+
+-- How many states there are.
+abbrev pub count_222 : ℕ
+count_222 = 3674160
+
+-- How many twists and lists of corners there are.
+abbrev pub bases_222 : List ℕ
+bases_222 = 729 ∷ 5040 ∷ []
+
+-- The numbers of the twists and of the list of corners.
+unfoldable pub digits_222 : Orbit → List ℕ
+digits_222 c = twists_number 3 c.digits ∷ permutation_number c.pieces ∷ []
+
+-- The state with these two numbers.
+unfoldable pub corners_of_digits : List ℕ → Orbit
+corners_of_digits ds = record { pieces = permutation_at 7 (slice_index ds 1); digits = twists_at 7 3 (slice_index ds 0) }
+
+-- The number of a state, with the twists least, and the state of a number below the count.
+abbrev pub number_222 : Orbit → ℕ
+number_222 c = mixed_number bases_222 (digits_222 c)
+
+abbrev pub corners_222_at : ℕ → Orbit
+corners_222_at number = corners_of_digits (mixed_digits bases_222 number)

@@ -1,0 +1,137 @@
+-- A 3x3x3 as its corners and edges, its turns (WCA Regulations, article 12), and its number.
+--
+-- Corners are numbered 0 URF, 1 UFL, 2 ULB, 3 UBR, 4 DFR, 5 DLF, 6 DBL, 7 DRB, and edges 0 UR, 1 UF, 2 UL, 3 UB, 4 DR,
+-- 5 DF, 6 DL, 7 DB, 8 FR, 9 FL, 10 BL, 11 BR, places and pieces alike (after Kociemba). A corner's twist is how many
+-- thirds clockwise its U or D sticker stands from the U or D side. An edge's flip is 1 where it takes an odd number of
+-- quarter turns of F and B to bring the edge to its place as it stands in the solved cube.
+use Rattle.std.specs.Prelude.{◌≡◌, ℕ, ◌/◌, List, [], ◌∷◌, map, slice_index, Option}
+use Rattle.scr_combinatorics.specs.Permutations.{parity, permutation_number, permutation_at, half_at}
+use Rattle.scr_combinatorics.specs.Twists.{twists_number, twists_at}
+use Rattle.scr_combinatorics.specs.Digits.{mixed_number, mixed_digits}
+use Rattle.scr_play.specs.Reach.{Puzzle}
+use Rattle.scr_orbit.specs.Actions.{Action, after_by, power_table, all_powers}
+use Rattle.scr_orbit.specs.Orbits.{Orbit, Rearrangement, IsZeroSumOrbit, IsZeroSumRearrangement, turned_orbit, composed, identity, solved_orbit}
+use Rattle.scr_notation.specs.declared.turn.Turn.{Turn}
+use Rattle.scr_cube.specs.Faces.{quarters_of}
+
+-- The corners with their twists, and the edges with their flips.
+pub record CubeState : Type 0 where
+  pub corners : Orbit
+  pub edges : Orbit
+
+-- A cube that can be put together without taking one apart: twists sum to 0 modulo 3, flips to 0 modulo 2, and corners
+-- and edges are both even or both odd.
+pub record IsCube (c : CubeState) : Type 0 where
+  pub corners : IsZeroSumOrbit 8 3 c.corners
+  pub edges : IsZeroSumOrbit 12 2 c.edges
+  pub same_parity : parity c.corners.pieces ≡ parity c.edges.pieces
+
+-- ---- turns
+
+-- What a turn does to the corners and to the edges.
+pub record CubeTurn : Type 0 where
+  pub corners : Rearrangement
+  pub edges : Rearrangement
+
+-- A turn that keeps cubes valid.
+pub record IsCubeTurn (r : CubeTurn) : Type 0 where
+  pub corners : IsZeroSumRearrangement 8 3 r.corners
+  pub edges : IsZeroSumRearrangement 12 2 r.edges
+  pub same_parity : parity r.corners.places ≡ parity r.edges.places
+
+-- The quarter turns of U, R, F, D, L and B: which place's piece comes to each place, and what is added to its twist or flip.
+abbrev pub cube_quarters : List CubeTurn
+cube_quarters =
+    record {
+      corners = record { places = 3 ∷ 0 ∷ 1 ∷ 2 ∷ 4 ∷ 5 ∷ 6 ∷ 7 ∷ []; added = 0 ∷ 0 ∷ 0 ∷ 0 ∷ 0 ∷ 0 ∷ 0 ∷ 0 ∷ [] };
+      edges = record { places = 3 ∷ 0 ∷ 1 ∷ 2 ∷ 4 ∷ 5 ∷ 6 ∷ 7 ∷ 8 ∷ 9 ∷ 10 ∷ 11 ∷ []; added = 0 ∷ 0 ∷ 0 ∷ 0 ∷ 0 ∷ 0 ∷ 0 ∷ 0 ∷ 0 ∷ 0 ∷ 0 ∷ 0 ∷ [] };
+    }
+    ∷ record {
+      corners = record { places = 4 ∷ 1 ∷ 2 ∷ 0 ∷ 7 ∷ 5 ∷ 6 ∷ 3 ∷ []; added = 2 ∷ 0 ∷ 0 ∷ 1 ∷ 1 ∷ 0 ∷ 0 ∷ 2 ∷ [] };
+      edges = record { places = 8 ∷ 1 ∷ 2 ∷ 3 ∷ 11 ∷ 5 ∷ 6 ∷ 7 ∷ 4 ∷ 9 ∷ 10 ∷ 0 ∷ []; added = 0 ∷ 0 ∷ 0 ∷ 0 ∷ 0 ∷ 0 ∷ 0 ∷ 0 ∷ 0 ∷ 0 ∷ 0 ∷ 0 ∷ [] };
+    }
+    ∷ record {
+      corners = record { places = 1 ∷ 5 ∷ 2 ∷ 3 ∷ 0 ∷ 4 ∷ 6 ∷ 7 ∷ []; added = 1 ∷ 2 ∷ 0 ∷ 0 ∷ 2 ∷ 1 ∷ 0 ∷ 0 ∷ [] };
+      edges = record { places = 0 ∷ 9 ∷ 2 ∷ 3 ∷ 4 ∷ 8 ∷ 6 ∷ 7 ∷ 1 ∷ 5 ∷ 10 ∷ 11 ∷ []; added = 0 ∷ 1 ∷ 0 ∷ 0 ∷ 0 ∷ 1 ∷ 0 ∷ 0 ∷ 1 ∷ 1 ∷ 0 ∷ 0 ∷ [] };
+    }
+    ∷ record {
+      corners = record { places = 0 ∷ 1 ∷ 2 ∷ 3 ∷ 5 ∷ 6 ∷ 7 ∷ 4 ∷ []; added = 0 ∷ 0 ∷ 0 ∷ 0 ∷ 0 ∷ 0 ∷ 0 ∷ 0 ∷ [] };
+      edges = record { places = 0 ∷ 1 ∷ 2 ∷ 3 ∷ 5 ∷ 6 ∷ 7 ∷ 4 ∷ 8 ∷ 9 ∷ 10 ∷ 11 ∷ []; added = 0 ∷ 0 ∷ 0 ∷ 0 ∷ 0 ∷ 0 ∷ 0 ∷ 0 ∷ 0 ∷ 0 ∷ 0 ∷ 0 ∷ [] };
+    }
+    ∷ record {
+      corners = record { places = 0 ∷ 2 ∷ 6 ∷ 3 ∷ 4 ∷ 1 ∷ 5 ∷ 7 ∷ []; added = 0 ∷ 1 ∷ 2 ∷ 0 ∷ 0 ∷ 2 ∷ 1 ∷ 0 ∷ [] };
+      edges = record { places = 0 ∷ 1 ∷ 10 ∷ 3 ∷ 4 ∷ 5 ∷ 9 ∷ 7 ∷ 8 ∷ 2 ∷ 6 ∷ 11 ∷ []; added = 0 ∷ 0 ∷ 0 ∷ 0 ∷ 0 ∷ 0 ∷ 0 ∷ 0 ∷ 0 ∷ 0 ∷ 0 ∷ 0 ∷ [] };
+    }
+    ∷ record {
+      corners = record { places = 0 ∷ 1 ∷ 3 ∷ 7 ∷ 4 ∷ 5 ∷ 2 ∷ 6 ∷ []; added = 0 ∷ 0 ∷ 1 ∷ 2 ∷ 0 ∷ 0 ∷ 2 ∷ 1 ∷ [] };
+      edges = record { places = 0 ∷ 1 ∷ 2 ∷ 11 ∷ 4 ∷ 5 ∷ 6 ∷ 10 ∷ 8 ∷ 9 ∷ 3 ∷ 7 ∷ []; added = 0 ∷ 0 ∷ 0 ∷ 1 ∷ 0 ∷ 0 ∷ 0 ∷ 1 ∷ 0 ∷ 0 ∷ 1 ∷ 1 ∷ [] };
+    }
+    ∷ []
+
+-- Turns rearrange corners and edges at once.
+abbrev pub cube_action : Action CubeState CubeTurn
+cube_action = record {
+  turned = λ c r. record { corners = turned_orbit 3 c.corners r.corners; edges = turned_orbit 2 c.edges r.edges };
+  composed = λ r q. record { corners = composed 3 r.corners q.corners; edges = composed 2 r.edges q.edges };
+  identity = record { corners = identity 8; edges = identity 12 };
+}
+
+-- All 18 turns, in the order of their numbers: U U2 U' R R2 R' F F2 F' D D2 D' L L2 L' B B2 B'. A half turn is its quarter
+-- turn twice, and a quarter turn the other way is three.
+unfoldable pub cube_turns : List CubeTurn
+cube_turns = all_powers cube_action 4 cube_quarters
+
+-- What they do to the corners, and to the edges.
+abbrev pub corner_turns : List Rearrangement
+corner_turns = map (λ r. r.corners) cube_turns
+
+abbrev pub edge_turns : List Rearrangement
+edge_turns = map (λ r. r.edges) cube_turns
+
+-- What each letter of the notation does.
+abbrev pub cube_table : Turn → Option CubeTurn
+cube_table = power_table cube_action cube_quarters quarters_of
+
+-- What a letter makes of a cube: nothing where it isn't a turn of one of the six faces.
+abbrev pub cube_after : CubeState → Turn → Option CubeState
+cube_after = after_by cube_action cube_table
+
+unfoldable pub solved_cube : CubeState
+solved_cube = record { corners = solved_orbit 8; edges = solved_orbit 12 }
+
+-- The 3x3x3 as a puzzle. Each turn counts once (WCA Regulations, article 4).
+abbrev pub cube_puzzle : Puzzle CubeState
+cube_puzzle = record { Turn = Turn; after = cube_after; IsSolved = λ c. c ≡ solved_cube; counted = λ t. 1 }
+
+-- ---- numbers
+
+-- How many cubes there are.
+abbrev pub cube_count : ℕ
+cube_count = 43252003274489856000
+
+-- How many flips, twists, lists of corners and lists of edges of one parity there are.
+abbrev pub cube_bases : List ℕ
+cube_bases = 2048 ∷ 2187 ∷ 40320 ∷ 239500800 ∷ []
+
+-- The numbers of a cube's flips, of its twists, of its list of corners, and the half of the number of its list of
+-- edges. Of two lists of edges with one half the cube has the one with the corners' parity.
+unfoldable pub cube_digits : CubeState → List ℕ
+cube_digits c =
+    twists_number 2 c.edges.digits ∷ twists_number 3 c.corners.digits ∷ permutation_number c.corners.pieces
+    ∷ permutation_number c.edges.pieces / 2 ∷ []
+
+-- The cube with these four numbers.
+unfoldable pub cube_of_digits : List ℕ → CubeState
+cube_of_digits ds =
+    let corners = permutation_at 8 (slice_index ds 2) in
+    record {
+      corners = record { pieces = corners; digits = twists_at 8 3 (slice_index ds 1) };
+      edges = record { pieces = half_at 12 (parity corners) (slice_index ds 3); digits = twists_at 12 2 (slice_index ds 0) };
+    }
+
+-- The number of a cube, with the flips least, and the cube of a number below the count.
+abbrev pub cube_number : CubeState → ℕ
+cube_number c = mixed_number cube_bases (cube_digits c)
+
+abbrev pub cube_at : ℕ → CubeState
+cube_at number = cube_of_digits (mixed_digits cube_bases number)

@@ -1,0 +1,27 @@
+-- Words and states that are known from elsewhere.
+use Rattle.std.specs.Prelude.{◌≡◌, ℕ, List, [], ◌∷◌, map, replicate, Some}
+use Rattle.scr_combinatorics.specs.Lists.{numbers_from}
+use Rattle.scr_orbit.specs.Actions.{IsOrder, composed_word}
+use Rattle.scr_orbit.specs.Orbits.{solved_orbit}
+use Rattle.scr_notation.specs.declared.turn.Turn.{Turn}
+use Rattle.scr_notation.specs.Turns.{face_turn_at}
+use Rattle.scr_cube.specs.Cube333.{CubeState, CubeTurn, cube_action, cube_table}
+
+-- The word of turns with these numbers.
+abbrev pub numbered_word : List ℕ → List Turn
+numbered_word numbers = map face_turn_at numbers
+
+-- The word is done so many times, and no fewer, to move nothing.
+pub record IsWordOrder (w : List Turn) (n : ℕ) : Type 0 where
+  pub turn : CubeTurn
+  pub comes_to : composed_word cube_action cube_table w ≡ Some turn
+  pub order : IsOrder cube_action turn n
+
+-- The superflip: each piece at home, and each edge flipped.
+unfoldable pub superflip : CubeState
+superflip = record { corners = solved_orbit 8; edges = record { pieces = numbers_from 0 12; digits = replicate 12 1 } }
+
+-- A known word for it, of 20 turns: U R2 F B R B2 R U2 L B2 R U' D' R2 F R' L B2 U2 F2
+abbrev pub superflip_word : List Turn
+superflip_word =
+    numbered_word (0 ∷ 4 ∷ 6 ∷ 15 ∷ 3 ∷ 16 ∷ 3 ∷ 1 ∷ 12 ∷ 16 ∷ 3 ∷ 2 ∷ 11 ∷ 4 ∷ 6 ∷ 5 ∷ 12 ∷ 16 ∷ 1 ∷ 7 ∷ [])

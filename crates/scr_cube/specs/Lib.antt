@@ -1,0 +1,8 @@
+pub mod Faces
+pub mod Cube333
+pub mod Cube222
+pub mod Stickers
+pub mod Symmetry
+pub mod Known
+pub mod Numbered333
+pub mod Numbered222

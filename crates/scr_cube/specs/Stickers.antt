@@ -1,0 +1,44 @@
+-- What quarter turns do to stickers, which is where the tables come from. The faces U R F D L B are 0 to 5.
+use Rattle.std.specs.Prelude.{◌≡◌, ℕ, ◌==◌, if◌then◌else◌, List, [], ◌∷◌, ◌++◌, map, take, drop, slice_index, slice_index_or}
+use Rattle.std.specs.List.{list_any, zip}
+use Rattle.scr_orbit.specs.Orbits.{Rearrangement}
+use Rattle.scr_cube.specs.Cube333.{CubeTurn}
+
+-- The faces at which the stickers of each corner place are, clockwise, that of U or D first: URF, UFL, ULB, UBR, DFR, DLF,
+-- DBL, DRB.
+abbrev pub corner_faces : List (List ℕ)
+corner_faces =
+    (0 ∷ 1 ∷ 2 ∷ []) ∷ (0 ∷ 2 ∷ 4 ∷ []) ∷ (0 ∷ 4 ∷ 5 ∷ []) ∷ (0 ∷ 5 ∷ 1 ∷ [])
+    ∷ (3 ∷ 2 ∷ 1 ∷ []) ∷ (3 ∷ 4 ∷ 2 ∷ []) ∷ (3 ∷ 5 ∷ 4 ∷ []) ∷ (3 ∷ 1 ∷ 5 ∷ []) ∷ []
+
+-- The same of each edge place, the one first that tells the flip: UR, UF, UL, UB, DR, DF, DL, DB, FR, FL, BL, BR.
+abbrev pub edge_faces : List (List ℕ)
+edge_faces =
+    (0 ∷ 1 ∷ []) ∷ (0 ∷ 2 ∷ []) ∷ (0 ∷ 4 ∷ []) ∷ (0 ∷ 5 ∷ []) ∷ (3 ∷ 1 ∷ []) ∷ (3 ∷ 2 ∷ []) ∷ (3 ∷ 4 ∷ []) ∷ (3 ∷ 5 ∷ [])
+    ∷ (2 ∷ 1 ∷ []) ∷ (2 ∷ 4 ∷ []) ∷ (5 ∷ 4 ∷ []) ∷ (5 ∷ 1 ∷ []) ∷ []
+
+-- Where a clockwise quarter turn about each face takes what is at U, R, F, D, L and B: about U, F goes to L, L to B, B to R
+-- and R to F.
+abbrev pub carried_to : List (List ℕ)
+carried_to =
+    (0 ∷ 2 ∷ 4 ∷ 3 ∷ 5 ∷ 1 ∷ []) ∷ (5 ∷ 1 ∷ 0 ∷ 2 ∷ 4 ∷ 3 ∷ []) ∷ (1 ∷ 3 ∷ 2 ∷ 4 ∷ 0 ∷ 5 ∷ [])
+    ∷ (0 ∷ 5 ∷ 1 ∷ 3 ∷ 2 ∷ 4 ∷ []) ∷ (2 ∷ 1 ∷ 3 ∷ 5 ∷ 4 ∷ 0 ∷ []) ∷ (4 ∷ 0 ∷ 2 ∷ 1 ∷ 3 ∷ 5 ∷ []) ∷ []
+
+-- The faces of a piece's stickers after a quarter turn of a face, which carries the pieces that have a sticker there.
+abbrev pub carried_piece : ℕ → List ℕ → List ℕ
+carried_piece face stickers =
+    if list_any (λ s. s == face) stickers then map (slice_index (slice_index_or carried_to face [])) stickers else stickers
+
+-- The faces of the stickers of a piece that stands at a place with this digit.
+abbrev pub standing : List ℕ → ℕ → List ℕ
+standing faces digit = drop digit faces ++ take digit faces
+
+-- A rearrangement is what a quarter turn of this face does to stickers.
+abbrev pub IsCarried : ℕ → List (List ℕ) → Rearrangement → Type 0
+IsCarried face places r =
+    map (λ from. carried_piece face (slice_index_or places from [])) r.places ≡ map (λ p. standing p.0 p.1) (zip places r.added)
+
+-- So it is with both kinds of pieces.
+pub record CarriesStickers (face : ℕ) (r : CubeTurn) : Type 0 where
+  pub corners : IsCarried face corner_faces r.corners
+  pub edges : IsCarried face edge_faces r.edges

@@ -1,3 +1,0 @@
-pub mod Dials
-pub mod Pattern
-pub mod Least

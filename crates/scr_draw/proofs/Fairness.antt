@@ -1,0 +1,131 @@
+-- Drawing by attempts on a numbering is fair.
+use Rattle.std.proofs.Common.{◌≡◌, ℕ, ◌*◌, ◌/◌, ◌%◌, ◌^◌, ◌<◌, ◌≤◌, Bool, true, false, ◌&&◌, Option, Some, None, is_none, refl, sym, ap, ◌∙◌, arith, lit<}
+use Rattle.std.proofs.lemmas.Bool.{and_parts}
+use Rattle.std.proofs.Math.Nat.{le-div_iff_mul-le}
+use Rattle.std.specs.Prelude.{IsTrue, ◌↔◌, if◌then◌else◌}
+use Rattle.scr_draw.specs.Attempt.{is_accepted, quotient}
+use Rattle.scr_draw.specs.Count.{IsCount, count_below}
+use Rattle.scr_draw.specs.Drawn.{hit}
+use Rattle.scr_draw.specs.Fair.{IsFair}
+use Rattle.scr_combinatorics.specs.Numbering.{IsNumbering}
+use Rattle.scr_draw.proofs.Accepted.{answered_tells, count_answered, is_answered}
+use Rattle.scr_draw.proofs.CountedDraws.{count_ways}
+
+one_run : (count bound : ℕ) → 1 ≤ count → count ≤ bound → 1 ≤ bound / count
+one_run count bound some fits =
+    let once : 1 * count ≤ bound = omega arith in
+    let above : 0 < count = some in
+    (le-div_iff_mul-le above).1 once
+
+-- at least one run of numbers is accepted
+pub quotient_some : (count : ℕ) → 1 ≤ count → count ≤ 2 ^ 96 → 1 ≤ quotient count
+quotient_some count some fits = one_run count (2 ^ 96) some fits
+
+-- the value of an option, told apart from none
+some_same : {S : Type 0} (b : Bool) (x s : S) → (if b then Some x else None) ≡ Some s → IsTrue b × (x ≡ s)
+some_same true x s h = (refl, cc h)
+some_same false x s h = cc h
+
+-- what it is for a number to hit a state
+pub hit_parts : {S : Type 0} (count : ℕ) (state_at : ℕ → S) (permits : S → Bool) (v : ℕ) (s : S)
+    → hit count state_at permits v ≡ Some s
+    → IsTrue (is_accepted count v) × (state_at (v % count) ≡ s) × IsTrue (permits s)
+hit_parts count state_at permits v s h =
+    let both = some_same (is_accepted count v && permits (state_at (v % count))) (state_at (v % count)) s h in
+    let parts = and_parts (is_accepted count v) (permits (state_at (v % count))) both.0 in
+    (parts.0, both.1, rw both.1 at parts.1)
+
+pub hit_from : {S : Type 0} (count : ℕ) (state_at : ℕ → S) (permits : S → Bool) (v : ℕ) (s : S)
+    → IsTrue (is_accepted count v) → state_at (v % count) ≡ s → IsTrue (permits s)
+    → hit count state_at permits v ≡ Some s
+hit_from count state_at permits v s accepted same permitted = rw (accepted, same, permitted) refl
+
+-- whether a number hits nothing
+is_none_tells : {S : Type 0} (o : Option S) → IsTrue (is_none o) ↔ (o ≡ None)
+is_none_tells (Some s) = (λ h. cc h, λ h. cc h)
+is_none_tells None = (λ h. refl, λ h. refl)
+
+-- the answer of an accepted number gives a valid state exactly where it is that state's number
+same_state : {S : Type 0} (count : ℕ) (state_at : ℕ → S) (number_of : S → ℕ) (IsValid : S → Type 0)
+    → IsNumbering count state_at number_of IsValid → (s : S) → IsValid s → (i : ℕ) → i < count
+    → (i ≡ number_of s) ↔ (state_at i ≡ s)
+same_state count state_at number_of IsValid law s valid i below = (
+  λ e. ap state_at e ∙ law.one_to_one.state_again s valid,
+  λ e. sym (law.one_to_one.number_again i below) ∙ ap number_of e,
+)
+
+-- each valid state is that of equally many accepted numbers
+pub state_equally : {S : Type 0} (count : ℕ) (state_at : ℕ → S) (number_of : S → ℕ) (IsValid : S → Type 0)
+    → IsNumbering count state_at number_of IsValid → (s : S) → IsValid s
+    → IsCount (λ v. IsTrue (is_accepted count v) × (state_at (v % count) ≡ s)) (2 ^ 96) (quotient count)
+state_equally count state_at number_of IsValid law s valid = record {
+  test = is_answered count (number_of s);
+  tells = λ v below.
+      let some = law.some in
+      let place : v % count < count = omega arith in
+      let same = same_state count state_at number_of IsValid law s valid (v % count) place in
+      let answered = answered_tells count (number_of s) v in (
+        λ h. let parts = answered.0 h in (parts.0, same.0 parts.1),
+        λ h. answered.1 (h.0, same.1 h.1),
+      );
+  counted = count_answered count (number_of s) (law.one_to_one.below s valid);
+}
+
+-- and is hit by as many where it passes the test
+hits_equally : {S : Type 0} (count : ℕ) (state_at : ℕ → S) (number_of : S → ℕ) (IsValid : S → Type 0) (permits : S → Bool)
+    → IsNumbering count state_at number_of IsValid → (s : S) → IsValid s → IsTrue (permits s)
+    → IsCount (λ v. hit count state_at permits v ≡ Some s) (2 ^ 96) (quotient count)
+hits_equally count state_at number_of IsValid permits law s valid passes =
+    let all = state_equally count state_at number_of IsValid law s valid in record {
+      test = all.test;
+      tells = λ v below. (
+        λ h. let parts = (all.tells v below).0 h in hit_from count state_at permits v s parts.0 parts.1 passes,
+        λ h. let parts = hit_parts count state_at permits v s h in (all.tells v below).1 (parts.0, parts.1),
+      );
+      counted = all.counted;
+    }
+
+-- a state that a number hits is valid and passes the test
+hit_is_permitted : {S : Type 0} (count : ℕ) (state_at : ℕ → S) (number_of : S → ℕ) (IsValid : S → Type 0) (permits : S → Bool)
+    → IsNumbering count state_at number_of IsValid → (v : ℕ) (s : S) → hit count state_at permits v ≡ Some s
+    → IsValid s × IsTrue (permits s)
+hit_is_permitted count state_at number_of IsValid permits law v s h =
+    let parts = hit_parts count state_at permits v s h in
+    let some = law.some in
+    let place : v % count < count = omega arith in
+    (rw parts.1 at (law.one_to_one.valid (v % count) place), parts.2)
+
+-- fairness, for the valid states that pass a test
+pub fair : {S : Type 0} (count : ℕ) (state_at : ℕ → S) (number_of : S → ℕ) (IsValid : S → Type 0) (permits : S → Bool)
+    → IsNumbering count state_at number_of IsValid
+    → IsFair count state_at (hit count state_at permits) (λ s. IsValid s × IsTrue (permits s))
+fair count state_at number_of IsValid permits law =
+    let missed : IsCount (λ v. hit count state_at permits v ≡ None) (2 ^ 96) (count_below (λ v. is_none (hit count state_at permits v)) (2 ^ 96)) =
+    record {
+      test = λ v. is_none (hit count state_at permits v);
+      tells = λ v below. is_none_tells (hit count state_at permits v);
+      counted = refl;
+    } in record {
+      some = quotient_some count law.some law.fits;
+      equally = λ s h. state_equally count state_at number_of IsValid law s h.0;
+      hit_equally = λ s h. hits_equally count state_at number_of IsValid permits law s h.0 h.1;
+      permitted = λ v s below h. hit_is_permitted count state_at number_of IsValid permits law v s h;
+      misses = count_below (λ v. is_none (hit count state_at permits v)) (2 ^ 96);
+      missed = missed;
+      same_ways = λ len s h.
+          count_ways s (hit count state_at permits) (2 ^ 96) (quotient count) _ (lit< tt)
+          (hits_equally count state_at number_of IsValid permits law s h.0 h.1) missed len;
+    }
+
+-- fairness, for other words on the same states
+pub fair_for : {S : Type 0} {count : ℕ} {state_at : ℕ → S} {hits : ℕ → Option S} (P Q : S → Type 0) → ((s : S) → P s ↔ Q s)
+    → IsFair count state_at hits P → IsFair count state_at hits Q
+fair_for P Q same fair_p = record {
+  some = fair_p.some;
+  equally = λ s h. fair_p.equally s ((same s).1 h);
+  hit_equally = λ s h. fair_p.hit_equally s ((same s).1 h);
+  permitted = λ v s below h. (same s).0 (fair_p.permitted v s below h);
+  misses = fair_p.misses;
+  missed = fair_p.missed;
+  same_ways = λ len s h. fair_p.same_ways len s ((same s).1 h);
+}

@@ -1,9 +1,0 @@
-use Rattle.scr_faces.proofs.Numbers333.{cube_numbering}
-use Rattle.scr_faces.proofs.Numbers222.{numbering_222}
-use Rattle.scr_faces.proofs.laws.numberings.Goals as goal
-
-pub returns-clause-cube : goal.returns-clause-cube
-returns-clause-cube c = cube_numbering
-
-pub returns-clause-corners : goal.returns-clause-corners
-returns-clause-corners c = numbering_222

@@ -1,3 +1,0 @@
-pub mod Faces
-pub mod Cube333
-pub mod Cube222

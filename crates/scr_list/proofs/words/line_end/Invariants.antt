@@ -1,6 +1,0 @@
-use Rattle.std.proofs.Common.{◌≡◌, ℕ, ◌<◌, false, get_or}
-use Rattle.scr_list.specs.Words.{is_line_feed}
-use Rattle.scr_list.proofs.words.line_end.Given as goal
-
-abbrev pub invariant-loop-place : goal.invariant-loop-place
-invariant-loop-place l = (k : ℕ) → k < l.place → is_line_feed (get_or l.text k 0) ≡ false

@@ -1,0 +1,237 @@
+-- Laws of puzzles whose turns are powers of generators of one order: their tables are of turns, opposite letters undo each
+-- other and merged ones add up, so that the turns are lawful; and the list of all turns has each at its number.
+use Rattle.std.proofs.Common.{◌≡◌, ℕ, zero, suc, ◌+◌, ◌-◌, ◌*◌, ◌%◌, ◌<◌, Bool, true, not, IsTrue, List, [], ◌∷◌, ◌++◌, Option, Some, None, map, length, get_or, refl, sym, ap, ◌∙◌, subst, arith}
+use Rattle.std.proofs.lemmas.Bool.{and_parts, false≢true}
+use Rattle.std.specs.Prelude.{All, ◌&&◌, slice_get, option_and_then}
+use Rattle.std.specs.Option.{option_map}
+use Rattle.std.proofs.lemmas.List.{length-map}
+use Rattle.std.proofs.lemmas.Option.{same_Some, slice_get_within, get_or_from_slice_get, slice_get-map, slice_get-get_or}
+use Rattle.scr_combinatorics.specs.Lists.{numbers_from}
+use Rattle.scr_combinatorics.proofs.Picks.{length-numbers_from, numbers_from-at}
+use Rattle.scr_play.specs.Tidy.{Merging, IsKeptByTidy}
+use Rattle.scr_play.specs.Lawful.{IsLawful}
+use Rattle.scr_play.specs.Play.{play}
+use Rattle.scr_play.specs.Back.{IsTakenBack}
+use Rattle.scr_play.proofs.PlayLaws.{and_then-some, play-keeps}
+use Rattle.scr_play.proofs.BackLaws.{IsTakenBack-lawful}
+use Rattle.scr_play.proofs.TidyPlay.{IsKeptByTidy-lawful}
+use Rattle.scr_orbit.specs.Actions.{Action, IsAction, after_by, power, Power, power_of, IsOrder, power_table, all_powers, composed_word}
+use Rattle.scr_orbit.proofs.ActionLaws.{map-some, IsTurn-power, power-add, power-mod, merged_turn, IsLawful-table, play-composed_word}
+
+-- what holds of each element holds of the one at a place
+pub All-got : {X : Type 0} (P : X → Type 0) (xs : List X) (k : ℕ) (x : X) → All P xs → slice_get xs k ≡ Some x → P x
+All-got P xs k x each e =
+    subst P (get_or_from_slice_get xs k x x e) (each k x (slice_get_within xs k x e))
+
+-- ---- the list of all turns
+
+get-append : {X : Type 0} (xs ys : List X) (i : ℕ) → i < length xs → slice_get (xs ++ ys) i ≡ slice_get xs i
+get-append [] ys i lt = absurd (omega arith)
+get-append (x ∷ xs) ys zero lt = refl
+get-append (x ∷ xs) ys (suc i) lt = get-append xs ys i (omega arith)
+
+get-append_past : {X : Type 0} (xs ys : List X) (n i : ℕ) → n ≡ length xs + i → slice_get (xs ++ ys) n ≡ slice_get ys i
+get-append_past [] ys n i e = let same : n ≡ i = omega (arith, e) in ap (slice_get ys) same
+get-append_past (x ∷ xs) ys zero i e = absurd (omega (arith, e))
+get-append_past (x ∷ xs) ys (suc n) i e = get-append_past xs ys n i (omega (arith, e))
+
+module _ {S R : Type 0} (a : Action S R) (order : ℕ) where
+  powers_at : (r : R) (e : ℕ) → 0 < e → e < order → slice_get (map (power a r) (numbers_from 1 (order - 1))) (e - 1) ≡ Some (power a r e)
+  powers_at r e some lt =
+      let in_list : e - 1 < length (numbers_from 1 (order - 1)) = omega (arith, length-numbers_from 1 (order - 1)) in
+      let at : get_or (numbers_from 1 (order - 1)) (e - 1) 0 ≡ e = omega (arith, numbers_from-at 1 (order - 1) (e - 1) (omega arith)) in
+      slice_get-map (power a r) (numbers_from 1 (order - 1)) (e - 1)
+      ∙ ap (option_map (power a r)) (slice_get-get_or (numbers_from 1 (order - 1)) (e - 1) 0 in_list ∙ ap Some at)
+
+  powers_length : (r : R) → length (map (power a r) (numbers_from 1 (order - 1))) ≡ order - 1
+  powers_length r = length-map (numbers_from 1 (order - 1)) (power a r) ∙ length-numbers_from 1 (order - 1)
+
+  -- each turn stands at its number: `order - 1` for each earlier generator, and its own exponent, from 1
+  pub all_powers-at : (generators : List R) (g e : ℕ) → 0 < e → e < order
+      → slice_get (all_powers a order generators) ((order - 1) * g + (e - 1)) ≡ power_of a generators (record { generator = g; exponent = e })
+  unfolding all_powers power_of
+  all_powers-at [] g e some lt = refl
+  all_powers-at (r ∷ rs) zero e some lt =
+      let first : (order - 1) * zero + (e - 1) ≡ e - 1 = omega arith in
+      ap (slice_get (map (power a r) (numbers_from 1 (order - 1)) ++ all_powers a order rs)) first
+      ∙ get-append (map (power a r) (numbers_from 1 (order - 1))) (all_powers a order rs) (e - 1) (omega (arith, powers_length r))
+      ∙ powers_at r e some lt
+  all_powers-at (r ∷ rs) (suc g) e some lt =
+      get-append_past (map (power a r) (numbers_from 1 (order - 1))) (all_powers a order rs) ((order - 1) * suc g + (e - 1)) ((order - 1) * g + (e - 1))
+      (omega (arith, powers_length r))
+      ∙ all_powers-at rs g e some lt
+
+-- The letter at a number is the power with that number.
+pub power_table-at : {S R T : Type 0} (a : Action S R) (order : ℕ) (generators : List R) (power_at : T → Option Power) (t : T) (g e : ℕ)
+    → 0 < e → e < order → power_at t ≡ Some (record { generator = g; exponent = e })
+    → power_table a generators power_at t ≡ slice_get (all_powers a order generators) ((order - 1) * g + (e - 1))
+power_table-at a order generators power_at t g e some lt read =
+    ap (option_and_then (power_of a generators)) read ∙ sym (all_powers-at a order generators g e some lt)
+
+-- ---- orders
+
+-- a test fails at the next powers
+abbrev pub apart : {S R : Type 0} → Action S R → (R → Bool) → R → ℕ → R → Bool
+apart a test r zero p = true
+apart a test r (suc n) p = not (test p) && apart a test r n (a.composed r p)
+
+apart-at : {S R : Type 0} (a : Action S R) (test : R → Bool) (r : R) (n j i : ℕ) → apart a test r n (power a r j) ≡ true → i < n
+    → test (power a r (j + i)) ≡ true → ⊥
+unfolding power
+apart-at a test r zero j i h lt e = absurd (omega arith)
+apart-at a test r (suc n) j zero h lt e =
+    let here : j + zero ≡ j = omega arith in
+    let fails = and_parts (not (test (power a r j))) (apart a test r n (a.composed r (power a r j))) h in
+    false≢true (sym (ap not (ap (λ k. test (power a r k)) (sym here) ∙ e)) ∙ fails.0)
+apart-at a test r (suc n) j (suc i) h lt e =
+    let next : j + suc i ≡ suc j + i = omega arith in
+    let fails = and_parts (not (test (power a r j))) (apart a test r n (a.composed r (power a r j))) h in
+    apart-at a test r n (suc j) i fails.1 (omega arith) (ap (λ k. test (power a r k)) (sym next) ∙ e)
+
+-- an order, by a test that only the identity need pass
+pub IsOrder-from_test : {S R : Type 0} (a : Action S R) (test : R → Bool) (r : R) (n : ℕ) → 0 < n → power a r n ≡ a.identity
+    → test a.identity ≡ true → apart a test r (n - 1) (power a r 1) ≡ true → IsOrder a r n
+IsOrder-from_test a test r n some whole passes h = record {
+  some = some;
+  whole = whole;
+  least = λ k pos lt e.
+      let from_one : 1 + (k - 1) ≡ k = omega arith in
+      apart-at a test r (n - 1) 1 (k - 1) h (omega arith) (ap (λ j. test (power a r j)) from_one ∙ ap test e ∙ passes);
+}
+
+-- ---- lawful turns
+
+-- the power of one generator that a letter or none is
+abbrev pub merged_power : {T : Type 0} → (T → Option Power) → ℕ → Option T → Option Power
+merged_power power_at generator None = Some (record { generator = generator; exponent = 0 })
+merged_power power_at generator (Some t) = power_at t
+
+-- Of letters that are powers of generators of one order: the opposite letter has what is left to the order, and two
+-- letters of one generator come to the sum of their exponents.
+pub record ArePowers {T : Type 0} (order : ℕ) (power_at : T → Option Power) (opposite : T → T) (m : Merging T) : Type 0 where
+  pub below : (t : T) (p : Power) → power_at t ≡ Some p → (0 < p.exponent) × (p.exponent < order)
+  pub opposites : (t : T) (p : Power) → power_at t ≡ Some p
+      → power_at (opposite t) ≡ Some (record { generator = p.generator; exponent = order - p.exponent })
+  pub same : (t u : T) (p q : Power) → IsTrue (m.alike t u) → power_at t ≡ Some p → power_at u ≡ Some q
+      → p.generator ≡ q.generator
+  pub merges : (t u : T) (p q : Power) → IsTrue (m.alike t u) → power_at t ≡ Some p → power_at u ≡ Some q
+      → merged_power power_at p.generator (m.merged t u)
+      ≡ Some (record { generator = p.generator; exponent = (p.exponent + q.exponent) % order })
+
+-- a turn of this order
+pub record IsGenerator {S R : Type 0} (a : Action S R) (IsTurn : R → Type 0) (order : ℕ) (r : R) : Type 0 where
+  pub turn : IsTurn r
+  pub whole : power a r order ≡ a.identity
+
+module _ {S R T : Type 0} (a : Action S R) (IsValid : S → Type 0) (IsTurn : R → Type 0) (l : IsAction a IsValid IsTurn)
+    (order : ℕ) (generators : List R) (each : All (IsGenerator a IsTurn order) generators)
+    (power_at : T → Option Power) (opposite : T → T) (m : Merging T) (ps : ArePowers order power_at opposite m) where
+  -- a letter's generator, and its power
+  pub record IsPowerOf (t : T) (r : R) : Type 0 where
+    pub letter : Power
+    pub generator : R
+    pub read : power_at t ≡ Some letter
+    pub there : slice_get generators letter.generator ≡ Some generator
+    pub made : power a generator letter.exponent ≡ r
+    pub is : IsGenerator a IsTurn order generator
+
+  pub IsPowerOf-table : (t : T) (r : R) → power_table a generators power_at t ≡ Some r → IsPowerOf t r
+  unfolding power_of
+  IsPowerOf-table t r e =
+      let letter = and_then-some (power_of a generators) (power_at t) r e in
+      let found = map-some (λ g. power a g letter.0.exponent) (slice_get generators letter.0.generator) r letter.2 in
+      record {
+        letter = letter.0;
+        generator = found.0;
+        read = letter.1;
+        there = found.1;
+        made = found.2;
+        is = All-got (IsGenerator a IsTurn order) generators letter.0.generator found.0 each found.1;
+      }
+
+  -- a table of powers is one of turns
+  pub IsTurn-power_table : (t : T) (r : R) → power_table a generators power_at t ≡ Some r → IsTurn r
+  IsTurn-power_table t r e =
+      let p = IsPowerOf-table t r e in
+      subst IsTurn p.made (IsTurn-power a IsValid IsTurn l p.generator p.letter.exponent p.is.turn)
+
+  power_of-at : (n e : ℕ) (g : R) → slice_get generators n ≡ Some g → power_of a generators (record { generator = n; exponent = e }) ≡ Some (power a g e)
+  unfolding power_of
+  power_of-at n e g h = ap (option_map (λ x. power a x e)) h
+
+  -- the opposite letter undoes a letter
+  pub opposites-power_table : (t : T) (r : R) → power_table a generators power_at t ≡ Some r
+      → (q : R) × (power_table a generators power_at (opposite t) ≡ Some q) × (a.composed r q ≡ a.identity)
+  opposites-power_table t r e =
+      let p = IsPowerOf-table t r e in
+      let g = p.generator in
+      let n = p.letter.exponent in
+      let left = order - n in
+      let all : n + left ≡ order = omega (arith, ps.below t p.letter p.read) in (
+        power a g left,
+        ap (option_and_then (power_of a generators)) (ps.opposites t p.letter p.read) ∙ power_of-at p.letter.generator left g p.there,
+        ap (λ x. a.composed x (power a g left)) (sym p.made)
+            ∙ sym (power-add a IsValid IsTurn l g n left p.is.turn) ∙ ap (power a g) all ∙ p.is.whole,
+      )
+
+  merged_by : (n : ℕ) (g : R) (o : Option T) → slice_get generators n ≡ Some g
+      → merged_turn a (power_table a generators power_at) o
+      ≡ option_and_then (power_of a generators) (merged_power power_at n o)
+  unfolding power
+  merged_by n g None h = sym (power_of-at n 0 g h)
+  merged_by n g (Some t) h = refl
+
+  -- and merged letters come to both
+  pub merges-power_table : (t u : T) (r q : R) → IsTrue (m.alike t u)
+      → power_table a generators power_at t ≡ Some r → power_table a generators power_at u ≡ Some q
+      → merged_turn a (power_table a generators power_at) (m.merged t u) ≡ Some (a.composed r q)
+  merges-power_table t u r q alike e f =
+      let p = IsPowerOf-table t r e in
+      let s = IsPowerOf-table u q f in
+      let g = p.generator in
+      let n = p.letter.exponent in
+      let k = s.letter.exponent in
+      let one : s.generator ≡ g =
+      same_Some s.generator g (sym s.there ∙ ap (slice_get generators) (sym (ps.same t u p.letter s.letter alike p.read s.read)) ∙ p.there) in
+      let other : power a g k ≡ q = ap (λ x. power a x k) (sym one) ∙ s.made in
+      merged_by p.letter.generator g (m.merged t u) p.there
+      ∙ ap (option_and_then (power_of a generators)) (ps.merges t u p.letter s.letter alike p.read s.read)
+      ∙ power_of-at p.letter.generator ((n + k) % order) g p.there
+      ∙ ap Some (power-mod a IsValid IsTurn l g order (n + k) (omega (arith, ps.below t p.letter p.read)) p.is.turn p.is.whole
+      ∙ power-add a IsValid IsTurn l g n k p.is.turn
+      ∙ ap (λ x. a.composed x (power a g k)) p.made ∙ ap (a.composed r) other)
+
+  pub IsLawful-powers : IsLawful (after_by a (power_table a generators power_at)) opposite m IsValid
+  IsLawful-powers =
+      IsLawful-table a IsValid IsTurn l (power_table a generators power_at) IsTurn-power_table opposite m
+      opposites-power_table merges-power_table
+
+-- ---- what holds of such a puzzle
+
+-- Its letters are turns, its words are taken back and tidied, lead from valid states to valid ones, and come each to one
+-- rearrangement.
+pub record PuzzleLaws {S R T : Type 0} (a : Action S R) (IsValid : S → Type 0) (IsTurn : R → Type 0) (table : T → Option R)
+    (opposite : T → T) (m : Merging T) : Type 0 where
+  pub turns : (t : T) (r : R) → table t ≡ Some r → IsTurn r
+  pub taken_back : IsTakenBack (after_by a table) opposite IsValid
+  pub kept_by_tidy : IsKeptByTidy (after_by a table) m IsValid
+  pub kept : (s r : S) (t : T) → IsValid s → after_by a table s t ≡ Some r → IsValid r
+  pub valid : (s r : S) (w : List T) → IsValid s → play (after_by a table) s w ≡ Some r → IsValid r
+  pub words : (s : S) (w : List T) → IsValid s → play (after_by a table) s w ≡ option_map (a.turned s) (composed_word a table w)
+
+pub puzzle_laws : {S R T : Type 0} (a : Action S R) (IsValid : S → Type 0) (IsTurn : R → Type 0) → IsAction a IsValid IsTurn
+    → (order : ℕ) (generators : List R) → All (IsGenerator a IsTurn order) generators
+    → (power_at : T → Option Power) (opposite : T → T) (m : Merging T) → ArePowers order power_at opposite m
+    → PuzzleLaws a IsValid IsTurn (power_table a generators power_at) opposite m
+puzzle_laws a IsValid IsTurn l order generators each power_at opposite m ps =
+    let turns = IsTurn-power_table a IsValid IsTurn l order generators each power_at opposite m ps in
+    let table = power_table a generators power_at in
+    let lawful = IsLawful-powers a IsValid IsTurn l order generators each power_at opposite m ps in
+    record {
+      turns = turns;
+      taken_back = IsTakenBack-lawful (after_by a table) opposite m IsValid lawful;
+      kept_by_tidy = IsKeptByTidy-lawful (after_by a table) opposite m IsValid lawful;
+      kept = lawful.keeps;
+      valid = play-keeps (after_by a table) IsValid lawful.keeps;
+      words = play-composed_word a IsValid IsTurn l table turns;
+    }

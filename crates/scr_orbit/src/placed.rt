@@ -1,0 +1,84 @@
+//! Orbits and their turns in arrays.
+ghost use Rattle.std.specs.Prelude.{◌≡◌, ◌≤◌, ◌<◌, ◌↔◌, IsTrue};
+ghost use Rattle.scr_orbit.specs.Orbits.{IsOrbit, IsRearrangement, IsZeroSumOrbit, turned_orbit, solved_orbit};
+
+use crate::turning::{add_digits, pick_into};
+use crate::validity::{are_twists, is_permutation};
+use std::marker::Model;
+
+/// A turn of an orbit of `N` places: place k gets the piece that stands at `places[k]`, and `added[k]` is added to its
+/// digit.
+#[derive(Clone, Copy, Debug, PartialEq, Eq)]
+pub struct PlaceTurn<const N: usize> {
+    pub places: [u8; N],
+    pub added: [u8; N],
+}
+
+/// An orbit of `N` places: which piece stands at each, and the digit of that piece.
+#[derive(Clone, Copy, Debug, PartialEq, Eq)]
+pub struct Placed<const N: usize> {
+    pieces: [u8; N],
+    digits: [u8; N],
+}
+
+// Clauses see the orbit.
+impl<const N: usize> Model for Placed<N> {
+    ghost use Rattle.scr_orbit.specs.Orbits.{Orbit};
+
+    ghost Value = { Orbit };
+
+    ghost view = { λ p. record { pieces = p.pieces; digits = p.digits } };
+
+    ghost inverse = { λ o. record { pieces = o.pieces; digits = o.digits } };
+}
+
+impl<const N: usize> Placed<N> {
+    ghost use Rattle.scr_orbit.specs.PlaceTurns.{rearrangement_of};
+
+    /// The orbit with these pieces at the places, with these digits.
+    pub fn new(pieces: [u8; N], digits: [u8; N]) -> Placed<N>
+        ensures { result ≡ record { pieces = pieces.entry; digits = digits.entry } }
+    {
+        Placed { pieces, digits }
+    }
+
+    /// Which piece stands at each place.
+    pub fn pieces(&self) -> [u8; N]
+        ensures { result ≡ self.now.pieces }
+    {
+        self.pieces
+    }
+
+    /// The digit of the piece at each place.
+    pub fn digits(&self) -> [u8; N]
+        ensures { result ≡ self.now.digits }
+    {
+        self.digits
+    }
+
+    /// The orbit after a turn, with digits modulo `modulus`, which is at most 128.
+    #[inline]
+    pub fn turned(&self, turn: &PlaceTurn<N>, modulus: u8) -> Placed<N>
+        requires small { modulus ≤ 128 }
+        requires valid { IsOrbit N modulus self.now }
+        requires turn { IsRearrangement N modulus (rearrangement_of turn.now) }
+        ensures { result ≡ turned_orbit modulus self.now (rearrangement_of turn.now) }
+    {
+        let mut pieces = [0; N];
+        let mut digits = [0; N];
+        pick_into(&self.pieces[..], &turn.places[..], &mut pieces[..]);
+        pick_into(&self.digits[..], &turn.places[..], &mut digits[..]);
+        add_digits(&mut digits[..], &turn.added[..], modulus);
+        Placed { pieces, digits }
+    }
+
+    /// Whether each piece stands at one place, and the digits are below `modulus`, at least 1, and sum to 0 modulo it. There
+    /// are at most 256 places.
+    pub fn is_zero_sum(&self, modulus: u8) -> bool
+        requires few { N ≤ 256 }
+        requires modulus { 0 < modulus }
+        ensures { IsTrue result ↔ IsZeroSumOrbit N modulus self.now }
+    {
+        is_permutation(&self.pieces[..]) && are_twists(&self.digits[..], modulus)
+    }
+}

@@ -1,0 +1,31 @@
+-- The first word to a goal. Words are lists of turn numbers.
+use Rattle.std.specs.Prelude.{◌≡◌, ℕ, ◌<◌, ◌≤◌, List, [], ◌∷◌, length, ◌⊎◌, Option, Some}
+use Rattle.scr_play.specs.Play.{play}
+
+-- A word is defined from this state, and ends where the goal holds.
+pub record LeadsTo {S : Type 0} (after : S → ℕ → Option S) (IsGoal : S → Type 0) (s : S) (w : List ℕ) : Type 0 where
+  pub end : S
+  pub played : play after s w ≡ Some end
+  pub goal : IsGoal end
+
+-- of two words of one length, the first has the lower number at the first place where they differ
+abbrev pub IsLower : List ℕ → List ℕ → Type 0
+IsLower [] w = ⊥
+IsLower (t ∷ v) [] = ⊥
+IsLower (t ∷ v) (u ∷ w) = (t < u) ⊎ ((t ≡ u) × IsLower v w)
+
+-- the order of words: by length, then by turn numbers from the first turn
+abbrev pub IsEarlier : List ℕ → List ℕ → Type 0
+IsEarlier v w = (length v < length w) ⊎ ((length v ≡ length w) × IsLower v w)
+
+-- The first word from this state to the goal: it leads there, and each other that does comes later.
+pub record IsFirstWord {S : Type 0} (after : S → ℕ → Option S) (IsGoal : S → Type 0) (s : S) (w : List ℕ) : Type 0 where
+  pub leads : LeadsTo after IsGoal s w
+  pub first : (v : List ℕ) → LeadsTo after IsGoal s v → (v ≡ w) ⊎ IsEarlier w v
+
+-- The least number of turns from this state to the goal.
+pub record IsDistance {S : Type 0} (after : S → ℕ → Option S) (IsGoal : S → Type 0) (s : S) (d : ℕ) : Type 0 where
+  pub word : List ℕ
+  pub leads : LeadsTo after IsGoal s word
+  pub turns : length word ≡ d
+  pub least : (v : List ℕ) → LeadsTo after IsGoal s v → d ≤ length v

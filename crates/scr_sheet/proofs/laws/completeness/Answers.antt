@@ -1,0 +1,21 @@
+use Rattle.std.proofs.Common.{inl, inr, ap}
+use Rattle.scr_sheet.specs.Outcome.{status_of}
+use Rattle.scr_sheet.proofs.RunLaws.{EndsParts-done, EndsParts-limit, IsUnhindered-ends, IsTask-decided}
+use Rattle.scr_sheet.proofs.laws.completeness.Goals as goal
+
+pub returns-clause-done : goal.returns-clause-done
+returns-clause-done c = λ words outcome source out err settings parts run each.
+    rw run.run.answer
+    (elim (IsUnhindered-ends c.lists_that_were_read.ensures run) [
+      | inl ends ↦ EndsParts-done settings parts out run.run.ended ends run.written each
+      | inr wanting ↦ inr (ap status_of wanting)
+    ])
+
+pub returns-clause-limit : goal.returns-clause-limit
+returns-clause-limit c = λ words outcome source out err settings parts run lacks.
+    let decided = IsTask-decided words run.command run.list settings parts c.each_event.ensures.one run.asks run.task in
+    rw run.run.answer
+    (elim (IsUnhindered-ends c.lists_that_were_read.ensures run) [
+      | inl ends ↦ EndsParts-limit settings parts out run.run.ended ends run.written decided lacks
+      | inr wanting ↦ inr (ap status_of wanting)
+    ])

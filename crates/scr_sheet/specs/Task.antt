@@ -1,0 +1,45 @@
+-- What a command is to make and write, and which runs nothing hinders.
+use Rattle.std.specs.Prelude.{◌≡◌, ◌⊎◌, ℕ, Some, List, [], ◌∷◌, ◌++◌, Ok}
+use Rattle.scr_outside.specs.Change.{Change}
+use Rattle.scr_outside.specs.Faults.{Rose}
+use Rattle.scr_list.specs.declared.round.Round.{Round}
+use Rattle.scr_list.specs.Rounds.{rounds_of}
+use Rattle.scr_command.specs.declared.command.Command.{Command}
+use Rattle.scr_command.specs.declared.command.Command.TheVariants.{One, Sheet}
+use Rattle.scr_command.specs.Command.{usual_options, command_of}
+use Rattle.scr_slots.specs.declared.settings.Settings.{Settings}
+use Rattle.scr_sheet.specs.declared.status.Status.{Status}
+use Rattle.scr_sheet.specs.declared.status.Status.TheVariants as status
+use Rattle.scr_sheet.specs.Making.{settings_of}
+use Rattle.scr_sheet.specs.Outcome.{IsRun}
+use Rattle.scr_sheet.specs.Sheet.{Part, round_parts, one_part, IsFirstWithout}
+
+-- what a command makes and writes whose input is this list
+abbrev pub IsTask : Command → List ℕ → Settings → List Part → Type 0
+IsTask (One event seed) list settings parts = (settings ≡ settings_of seed usual_options) × (parts ≡ one_part event ∷ [])
+IsTask (Sheet seed options) list settings parts =
+    (rounds : List Round) × (rounds_of list ≡ Ok rounds) × (settings ≡ settings_of seed options) × (parts ≡ round_parts 0 rounds)
+
+-- A run whose words are a command and whose input is a list with this task; neither input nor output failed.
+pub record IsUnhindered (words : List (List ℕ)) (outcome : Status) (source out err : Change) (settings : Settings) (parts : List Part) : Type 0 where
+  pub run : IsRun words outcome source out err
+  pub command : Command
+  pub asks : command_of words ≡ Ok command
+  pub list : List ℕ
+  pub input : source.bytes_before ≡ Some list
+  pub task : IsTask command list settings parts
+  pub read : ¬ (Rose source.faults_before source.faults_after)
+  pub written : ¬ (Rose out.faults_before out.faults_after)
+
+-- some slot of these parts has no scramble
+pub record LacksScramble (settings : Settings) (parts : List Part) : Type 0 where
+  pub led : List Part
+  pub part : Part
+  pub rest : List Part
+  pub are : parts ≡ led ++ part ∷ rest
+  pub slot : ℕ
+  pub first : IsFirstWithout settings part slot
+
+-- a run ended with this status, or wanted memory
+abbrev pub EndsWith : Status → Status → Type 0
+EndsWith outcome wanted = (outcome ≡ wanted) ⊎ (outcome ≡ status.NoMemory)

@@ -1,0 +1,39 @@
+//! What holds of sheets and of runs whatever the code: calls that do nothing, whose contracts are the laws.
+
+ghost use Rattle.std.specs.Prelude.{◌≡◌, ℕ, List, [], ◌∷◌, IsTrue};
+ghost use Rattle.scr_outside.specs.Change.{Change};
+ghost use Rattle.scr_notation.specs.declared.event.Event.{Event};
+ghost use Rattle.scr_list.specs.declared.round.Round.{Round};
+ghost use Rattle.scr_list.specs.Events.{rules_of};
+ghost use Rattle.scr_list.specs.Rounds.{IsRounds};
+ghost use Rattle.scr_slots.specs.declared.settings.Settings.{Settings};
+ghost use Rattle.scr_sheet.specs.declared.status.Status.{Status};
+ghost use Rattle.scr_sheet.specs.declared.status.Status.TheVariants.{Done, DrawLimit};
+ghost use Rattle.scr_sheet.specs.Sheet.{Part, round_parts, one_part, IsText};
+ghost use Rattle.scr_sheet.specs.Task.{IsUnhindered, LacksScramble, EndsWith};
+
+use scr_list::laws as list_laws;
+use scr_slots::laws as slot_laws;
+
+/// A list has one sheet, and an event one line of `one`: made with the same settings, two are the same.
+pub fn one_sheet()
+    ensures sheet { (settings : Settings) (rounds : List Round) → IsRounds rounds → (text other : List ℕ)
+        → IsText settings (round_parts 0 rounds) text → IsText settings (round_parts 0 rounds) other → text ≡ other }
+    ensures line { (settings : Settings) (event : Event) → IsTrue (rules_of event).built → (text other : List ℕ)
+        → IsText settings (one_part event ∷ []) text → IsText settings (one_part event ∷ []) other → text ≡ other }
+{
+    slot_laws::each_event();
+}
+
+/// Which runs must end with a whole sheet: those whose words are a command and whose list names rounds, where neither
+/// input nor output fails and each slot has a scramble. Where one has none, the status is `DrawLimit` and never `Done`.
+/// Want of memory alone is always free.
+pub fn completeness()
+    ensures done { (words : List (List ℕ)) (outcome : Status) (source out err : Change) (settings : Settings) (parts : List Part)
+        → IsUnhindered words outcome source out err settings parts → ¬ (LacksScramble settings parts) → EndsWith outcome Done }
+    ensures limit { (words : List (List ℕ)) (outcome : Status) (source out err : Change) (settings : Settings) (parts : List Part)
+        → IsUnhindered words outcome source out err settings parts → LacksScramble settings parts → EndsWith outcome DrawLimit }
+{
+    slot_laws::each_event();
+    list_laws::lists_that_were_read();
+}

@@ -1,0 +1,109 @@
+//! What the commands make and write.
+
+ghost use Rattle.std.specs.Prelude.{◌≢◌, ◌≤◌, ◌<◌, [], ◌∷◌, IsTrue, Err};
+ghost use Rattle.scr_outside.specs.Change.{change_of};
+ghost use Rattle.scr_list.specs.Events.{rules_of};
+ghost use Rattle.scr_list.specs.Rounds.{IsRound, IsRounds};
+ghost use Rattle.scr_sheet.specs.declared.fault.Fault.TheVariants.{NoMemory};
+ghost use Rattle.scr_sheet.specs.Making.{settings_of};
+ghost use Rattle.scr_sheet.specs.Outcome.{EndsCommand, EndsParts};
+ghost use Rattle.scr_sheet.specs.Sheet.{one_part, round_part, round_parts};
+ghost use Rattle.scr_command.specs.declared.command.Command.TheVariants.{Sheet};
+ghost use Rattle.scr_command.specs.Command.{usual_options};
+
+use crate::fault::Fault;
+use crate::making::{RoundFault, make_round, settings};
+use scr_command::Options;
+use scr_list::{Round, read_rounds};
+use scr_notation::{Event, print};
+use scr_outside::{Sink, Source, write_line};
+use scr_round::write_round;
+use scr_slots::slot_scramble;
+use scr_words::Seed;
+use std::alloc::Global;
+
+/// Reads the round list, and makes and writes its rounds.
+pub(crate) fn write_sheet<S: Source, O: Sink>(
+    alloc: Global,
+    seed: &Seed,
+    options: &Options,
+    source: &mut S,
+    out: &mut O,
+) -> Result<(), Fault>
+    requires { options.now.attempts ≤ 1000000 }
+    ensures { EndsCommand (Sheet seed.now options.now) (change_of S.left S.faults source.old source.new)
+        (change_of O.held O.faults out.old out.new) result }
+{
+    let rounds = read_rounds(source)?;
+    write_rounds(alloc, seed, options, &rounds, out)
+}
+
+/// Makes and writes these rounds, each once all its slots have their scrambles.
+fn write_rounds<O: Sink>(
+    alloc: Global,
+    seed: &Seed,
+    options: &Options,
+    rounds: &[Round],
+    out: &mut O,
+) -> Result<(), Fault>
+    requires rounds { IsRounds rounds.now }
+    requires attempts { options.now.attempts ≤ 1000000 }
+    ensures { EndsParts (settings_of seed.now options.now) 0 (round_parts 0 rounds.now) (change_of O.held O.faults out.old out.new) result }
+{
+    for (index, round) in rounds.iter().enumerate() {
+        write_one_round(alloc, seed, options, index as u32, round, out)?;
+    }
+    Ok(())
+}
+
+/// Makes a round, and writes it.
+fn write_one_round<O: Sink>(
+    alloc: Global,
+    seed: &Seed,
+    options: &Options,
+    index: u32,
+    round: &Round,
+    out: &mut O,
+) -> Result<(), Fault>
+    requires index { index < 256 }
+    requires round { IsRound round.now }
+    requires attempts { options.now.attempts ≤ 1000000 }
+    ensures { EndsParts (settings_of seed.now options.now) index (round_part index round.now ∷ [])
+        (change_of O.held O.faults out.old out.new) result }
+{
+    let made = match make_round(alloc, seed, index, round, options) {
+        Ok(made) => made,
+        Err(RoundFault::Limit { slot, words }) => {
+            return Err(Fault::DrawLimit {
+                round: index + 1,
+                slot: slot + 1,
+                words,
+            });
+        }
+        Err(RoundFault::NoMemory) => return Err(Fault::NoMemory),
+    };
+    write_round(out, &made)?;
+    Ok(())
+}
+
+/// Draws the state of stream 0 of a seed, of which no minimum is asked, and writes the line of its scramble.
+pub(crate) fn write_one<O: Sink>(event: Event, seed: &Seed, out: &mut O) -> Result<(), Fault>
+    requires { IsTrue (rules_of event).built }
+    ensures ends { EndsParts (settings_of seed.now usual_options) 0 (one_part event ∷ []) (change_of O.held O.faults out.old out.new) result }
+    ensures memory { result ≢ Err NoMemory }
+{
+    let settings = settings(seed, &Options::default());
+    let scramble = match slot_scramble(event, &settings, 0, 0) {
+        Ok(scramble) => scramble,
+        Err(limit) => {
+            let words = limit.words;
+            return Err(Fault::DrawLimit {
+                round: 1,
+                slot: 1,
+                words,
+            });
+        }
+    };
+    write_line(out, "", print(&scramble).as_str())?;
+    Ok(())
+}

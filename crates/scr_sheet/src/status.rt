@@ -1,0 +1,59 @@
+//! How runs end.
+
+ghost use Rattle.std.specs.Prelude.{◌≡◌};
+ghost use Rattle.scr_sheet.specs.Outcome.{status_of};
+ghost use Rattle.scr_sheet.specs.Status.{code_of};
+
+use crate::fault::Fault;
+use scr_list::ListFault;
+
+/// How a run ended.
+#[derive(Clone, Copy, Debug, PartialEq, Eq)]
+pub enum Status {
+    /// All was written.
+    Done,
+    /// The words are no command.
+    Usage,
+    /// The input is no round list.
+    List,
+    /// A slot's attempts gave no permitted state.
+    DrawLimit,
+    /// The input could not be read.
+    ReadFault,
+    /// The output could not be written.
+    WriteFault,
+    /// Want of memory.
+    NoMemory,
+}
+
+impl Status {
+    /// The status of a run that ended so.
+    pub(crate) fn of(ended: Result<(), Fault>) -> Status
+        ensures { result ≡ status_of ended }
+    {
+        match ended {
+            Ok(()) => Status::Done,
+            Err(Fault::Usage(_)) => Status::Usage,
+            Err(Fault::List(ListFault::Read)) => Status::ReadFault,
+            Err(Fault::List(_)) => Status::List,
+            Err(Fault::DrawLimit { .. }) => Status::DrawLimit,
+            Err(Fault::Write) => Status::WriteFault,
+            Err(Fault::NoMemory) => Status::NoMemory,
+        }
+    }
+
+    /// The exit code of the program.
+    pub fn code(self) -> u8
+        ensures { result ≡ code_of self }
+    {
+        match self {
+            Status::Done => 0,
+            Status::Usage => 2,
+            Status::List => 3,
+            Status::DrawLimit => 4,
+            Status::ReadFault => 5,
+            Status::WriteFault => 6,
+            Status::NoMemory => 7,
+        }
+    }
+}

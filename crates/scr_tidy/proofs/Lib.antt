@@ -1,4 +1,0 @@
-pub mod TidyLaws
-pub mod MergeLaws
-pub mod TidyPlay
-pub mod BackLaws
