@@ -17,7 +17,8 @@ use Rattle.scr_notation.specs.declared.event.Kind.{Kind}
 use Rattle.scr_notation.specs.declared.event.Kind.TheVariants.{Faces, PinSets, NoTurns}
 use Rattle.scr_notation.specs.declared.turn.Turn.{Turn}
 use Rattle.scr_notation.specs.declared.turn.Turn.TheVariants.{Pins, Over}
-use Rattle.scr_notation.specs.Turns.{pin_sets, has_turn, permits, is_clock_turn}
+use Rattle.scr_notation.specs.Turns.{has_turn, permits}
+use Rattle.scr_notation.specs.Pins.{pin_sets, is_clock_turn}
 use Rattle.scr_notation.specs.Written.{Written}
 use Rattle.scr_clock.specs.Held.{HeldClock, held_after, clock_after, held_clock}
 use Rattle.scr_clock.specs.Written.{IsAmounts, pins_at, written}

@@ -1,43 +1,33 @@
 -- Turns of one side and of two: what they leave alone, and by how much they must turn.
-use Rattle.std.proofs.Common.{◌≡◌, ℕ, zero, suc, ◌<◌, ◌↔◌, ◌⊎◌, inl, inr, Bool, true, false, cond, eqb, IsTrue, List, [], ◌∷◌, length, replicate, get_or, refl, sym, ap, ◌∙◌, subst, arith}
+use Rattle.std.proofs.Common.{◌≡◌, ℕ, zero, suc, ◌<◌, ◌↔◌, ◌⊎◌, inl, inr, Bool, true, false, cond, eqb, ltb, ltb-true, IsTrue, List, [], ◌∷◌, length, replicate, get_or, refl, sym, ap, ◌∙◌, subst, arith}
 use Rattle.std.specs.Prelude.{bit_and}
 use Rattle.std.proofs.lemmas.Bool.{false≢true, cond-false, ne_eqb, cases_cond, agree_below_at}
-use Rattle.scr_clock.specs.Dials.{IsClock, DialTurn, gain_at, turned, solved, dial_turn}
+use Rattle.scr_clock.specs.Dials.{IsClock, gain_at, turned, solved, dial_turn}
 use Rattle.scr_clock.specs.Least.{turns_lead}
-use Rattle.scr_clock.specs.Sides.{Setting, turn_by, SomeTurn, SidesLead, IsOtherSolved, centre_amount, AreBackEdgesCarried}
+use Rattle.scr_clock.specs.Sides.{Setting, turn_by, SomeTurn, SidesLead, OfOthers, IsOtherSolved, centre_amount, AreBackEdgesCarried}
 use Rattle.scr_clock.specs.Proofs.Hours.{hour_at}
 use Rattle.scr_clock.specs.Proofs.TurnLaws.{turned-at, turned_swap, IsClock-turned}
 use Rattle.scr_clock.specs.Proofs.LeastLaws.{solved_from_all_twelve, turns_lead-from, turns_lead-gives}
 
 -- ---- what a turn of one side leaves alone
 
+-- a turn gives no such dial anything
+none_gained : (back : Bool) (p a : ℕ) → OfOthers back (λ k. IsTrue (ltb k 14) × (gain_at (dial_turn back p a) k ≡ 0))
+unfolding gain_at
+none_gained true p a = ((refl, refl), (refl, refl), (refl, refl), (refl, refl), (refl, refl))
+none_gained false p a = ((refl, refl), (refl, refl), (refl, refl), (refl, refl), (refl, refl))
+
+OfOthers-both : (back : Bool) (P Q R : ℕ → Type 0) → ((k : ℕ) → P k → Q k → R k) → OfOthers back P → OfOthers back Q → OfOthers back R
+OfOthers-both true P Q R f p q = (f 1 p.0 q.0, f 3 p.1 q.1, f 4 p.2 q.2, f 5 p.3 q.3, f 7 p.4 q.4)
+OfOthers-both false P Q R f p q = (f 9 p.0 q.0, f 10 p.1 q.1, f 11 p.2 q.2, f 12 p.3 q.3, f 13 p.4 q.4)
+
 left_alone : (back : Bool) (dials : List ℕ) (p a : ℕ) → IsClock dials
     → IsOtherSolved back (turned dials (dial_turn back p a)) → IsOtherSolved back dials
-unfolding gain_at
-left_alone back dials p a c = by_side back
-  where
-    before : (t : DialTurn) (k : ℕ) → k < 14 → gain_at t k ≡ 0 → get_or (turned dials t) k 0 ≡ 0 → get_or dials k 0 ≡ 0
-    before t k l e r = omega (arith, turned-at dials t k l, hour_at dials k c l, e, r)
-
-    by_side : (back : Bool) → IsOtherSolved back (turned dials (dial_turn back p a)) → IsOtherSolved back dials
-    by_side false r =
-        let z = before (dial_turn false p a) in (
-          z 9 (omega arith) refl r.0,
-          z 10 (omega arith) refl r.1,
-          z 11 (omega arith) refl r.2,
-          z 12 (omega arith) refl r.3,
-          z 13
-              (omega arith) refl r.4,
-        )
-    by_side true r =
-        let z = before (dial_turn true p a) in (
-          z 1 (omega arith) refl r.0,
-          z 3 (omega arith) refl r.1,
-          z 4 (omega arith) refl r.2,
-          z 5 (omega arith) refl r.3,
-          z 7
-              (omega arith) refl r.4,
-        )
+left_alone back dials p a c =
+    let t = dial_turn back p a in
+    OfOthers-both back (λ k. IsTrue (ltb k 14) × (gain_at t k ≡ 0)) (λ k. get_or (turned dials t) k 0 ≡ 0) (λ k. get_or dials k 0 ≡ 0)
+    (λ k none after. let l : k < 14 = ltb-true k 14 none.0 in omega (arith, turned-at dials t k l, hour_at dials k c l, none.1, after))
+    (none_gained back p a)
 
 IsOtherSolved-solved : (back : Bool) → IsOtherSolved back solved
 IsOtherSolved-solved true = (refl, refl, refl, refl, refl)
@@ -62,28 +52,22 @@ all_turn p a pos l =
 abbrev centre_at : Bool → ℕ
 centre_at back = cond back 11 4
 
+centre_in : (back : Bool) → centre_at back < 14
+centre_in true = omega arith
+centre_in false = omega arith
+
+centre_gain : (back : Bool) (s : Setting) → gain_at (turn_by back s) (centre_at back) ≡ s.amount
+unfolding gain_at
+centre_gain true s = all_turn s.pins s.amount s.some_pin s.four_pins
+centre_gain false s = all_turn s.pins s.amount s.some_pin s.four_pins
+
 -- a turn after which the side's centre shows 12 is by that amount
 amount_by_centre : (back : Bool) (dials : List ℕ) (s : Setting) → IsClock dials
     → get_or (turned dials (turn_by back s)) (centre_at back) 0 ≡ 0 → s.amount ≡ centre_amount back dials
-unfolding gain_at centre_amount
-amount_by_centre true dials s c e =
-    omega (
-      arith,
-      turned-at dials (turn_by true s) 11 (omega arith),
-      hour_at dials 11 c (omega arith),
-      all_turn s.pins s.amount
-          s.some_pin s.four_pins,
-      e,
-    )
-amount_by_centre false dials s c e =
-    omega (
-      arith,
-      turned-at dials (turn_by false s) 4 (omega arith),
-      hour_at dials 4 c (omega arith),
-      all_turn s.pins s.amount
-          s.some_pin s.four_pins,
-      e,
-    )
+unfolding centre_amount
+amount_by_centre back dials s c e =
+    let low = centre_in back in
+    omega (arith, turned-at dials (turn_by back s) (centre_at back) low, hour_at dials (centre_at back) c low, centre_gain back s, s.hours, e)
 
 centre_solved : (back : Bool) → get_or solved (centre_at back) 0 ≡ 0
 centre_solved true = refl

@@ -4,7 +4,7 @@ use Rattle.std.specs.Option.{option_map}
 use Rattle.scr_play.specs.Play.{play}
 use Rattle.scr_notation.specs.declared.turn.Turn.{Turn}
 use Rattle.scr_notation.specs.declared.turn.Turn.TheVariants.{Pins, Over}
-use Rattle.scr_notation.specs.Turns.{is_clock_turn}
+use Rattle.scr_notation.specs.Pins.{is_clock_turn}
 use Rattle.scr_clock.specs.Dials.{turned, dial_turn}
 
 -- the dials, and whether the back faces the scrambler

@@ -1,7 +1,7 @@
 -- What is known of Clocks from elsewhere, and what their shape says of the pins.
 use Rattle.std.specs.Prelude.{◌≡◌, ℕ, ◌-◌, ◌%◌, ◌==◌, if◌then◌else◌, List, [], ◌∷◌, slice_index, Some}
 use Rattle.scr_combinatorics.specs.Lists.{pick}
-use Rattle.scr_notation.specs.Written.{text_of}
+use Rattle.scr_notation.specs.Spelling.{text_of}
 use Rattle.scr_clock.specs.Dials.{solved}
 use Rattle.scr_clock.specs.Numbers.{dials_of, number_of}
 use Rattle.scr_clock.specs.Held.{clock_after}

@@ -24,14 +24,15 @@ abbrev pub SidesLead : List Bool → List ℕ → Type 0
 SidesLead [] dials = dials ≡ solved
 SidesLead (back ∷ sides) dials = SomeTurn back dials (SidesLead sides)
 
--- The dials that no turn of this side moves show 12: the back's for the front, the front's edges and centre for the back.
+-- Something is so of each dial that no turn of this side moves: the back's edges and centre for the front, and the front's
+-- for the back.
+abbrev pub OfOthers : Bool → (ℕ → Type 0) → Type 0
+OfOthers false IsSo = IsSo 9 × IsSo 10 × IsSo 11 × IsSo 12 × IsSo 13
+OfOthers true IsSo = IsSo 1 × IsSo 3 × IsSo 4 × IsSo 5 × IsSo 7
+
+-- They show 12.
 abbrev pub IsOtherSolved : Bool → List ℕ → Type 0
-IsOtherSolved false dials =
-    (slice_index dials 9 ≡ 0) × (slice_index dials 10 ≡ 0) × (slice_index dials 11 ≡ 0)
-    × (slice_index dials 12 ≡ 0) × (slice_index dials 13 ≡ 0)
-IsOtherSolved true dials =
-    (slice_index dials 1 ≡ 0) × (slice_index dials 3 ≡ 0) × (slice_index dials 4 ≡ 0)
-    × (slice_index dials 5 ≡ 0) × (slice_index dials 7 ≡ 0)
+IsOtherSolved back dials = OfOthers back (λ k. slice_index dials k ≡ 0)
 
 -- The amount that brings a side's centre to 12.
 unfoldable pub centre_amount : Bool → List ℕ → ℕ

@@ -3,7 +3,7 @@ use Rattle.std.specs.Prelude.{◌≡◌, ℕ, List, ◌∷◌, ◌++◌, take, d
 use Rattle.std.specs.Simd.Lanes.{zip2}
 use Rattle.scr_notation.specs.declared.turn.Turn.{Turn}
 use Rattle.scr_notation.specs.declared.turn.Turn.TheVariants.{Pins, Over}
-use Rattle.scr_notation.specs.Turns.{pin_sets}
+use Rattle.scr_notation.specs.Pins.{pin_sets}
 use Rattle.scr_clock.specs.Dials.{IsClock, solved}
 use Rattle.scr_clock.specs.Held.{clock_after}
 

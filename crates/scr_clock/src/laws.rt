@@ -1,11 +1,11 @@
 //! What holds of Clock whatever the code: calls that do nothing, whose contracts are the laws.
 //!
 //! That Clocks are drawn fairly is the law of `scr_draw` for any event that it draws.
-ghost use Rattle.std.specs.Prelude.{◌≡◌, ℕ, ◌<◌, ◌↔◌, true, false, List, [], ◌∷◌, map, All, IsTrue, IsSome, Some, codes};
+ghost use Rattle.std.specs.Prelude.{◌≡◌, ℕ, ◌<◌, ◌↔◌, true, false, List, [], ◌∷◌, map, replicate, All, IsTrue, IsSome, Some, codes};
 ghost use Rattle.scr_combinatorics.specs.Lists.{pick};
 ghost use Rattle.scr_play.specs.Reach.{IsReached, Needs};
 ghost use Rattle.scr_notation.specs.declared.turn.Turn.{Turn};
-ghost use Rattle.scr_notation.specs.Turns.{is_clock_turn};
+ghost use Rattle.scr_notation.specs.Pins.{is_clock_turn};
 ghost use Rattle.scr_clock.specs.Dials.{IsClock, DialTurn, front_pins, back_pins, turned, solved, clock_puzzle, dial_turn};
 ghost use Rattle.scr_clock.specs.Held.{clock_after};
 ghost use Rattle.scr_clock.specs.Written.{IsAmounts, written, IsScrambleOf};
@@ -77,9 +77,7 @@ pub fn known_scrambles()
         (6 ∷ 4 ∷ 8 ∷ 9 ∷ 7 ∷ 8 ∷ 2 ∷ 1 ∷ 2 ∷ 8 ∷ 2 ∷ 6 ∷ 2 ∷ 9 ∷ [])
         (4 ∷ 4 ∷ 7 ∷ 5 ∷ 9 ∷ 2 ∷ 4 ∷ 11 ∷ 9 ∷ 9 ∷ 4 ∷ 10 ∷ 4 ∷ 3 ∷ [])
         (codes "UR4+ DR4+ DL5- UL5+ U3- R2+ D4+ L1- ALL3- y2 U3- R4+ D2- L4+ ALL3+") }
-    ensures solved { IsKnown 0
-        (0 ∷ 0 ∷ 0 ∷ 0 ∷ 0 ∷ 0 ∷ 0 ∷ 0 ∷ 0 ∷ 0 ∷ 0 ∷ 0 ∷ 0 ∷ 0 ∷ [])
-        (0 ∷ 0 ∷ 0 ∷ 0 ∷ 0 ∷ 0 ∷ 0 ∷ 0 ∷ 0 ∷ 0 ∷ 0 ∷ 0 ∷ 0 ∷ 0 ∷ [])
+    ensures solved { IsKnown 0 solved (replicate 14 0)
         (codes "UR0+ DR0+ DL0+ UL0+ U0+ R0+ D0+ L0+ ALL0+ y2 U0+ R0+ D0+ L0+ ALL0+") }
     ensures two_pins { IsKnown 39089244
         (0 ∷ 1 ∷ 1 ∷ 1 ∷ 1 ∷ 1 ∷ 1 ∷ 1 ∷ 0 ∷ 0 ∷ 0 ∷ 0 ∷ 0 ∷ 0 ∷ [])

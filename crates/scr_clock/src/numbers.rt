@@ -41,24 +41,14 @@ fn digits(dials: &[u8; 14]) -> [u128; 14]
 pub struct ClockNumbers;
 
 impl Numbering for ClockNumbers {
-    ghost use Rattle.std.specs.Prelude.{ℕ, List};
-    ghost use Rattle.scr_clock.specs.Dials.{IsClock};
-    ghost use Rattle.scr_clock.specs.Numbers.{clock_count, dials_of, number_of};
+    ghost use Rattle.scr_clock.specs.Numbers.{clock_numbered};
     ghost use Rattle.scr_clock.specs.Proofs.Numbering.{clock_numbering};
 
     type State = Clock;
 
-    ghost count = { λ _. clock_count };
+    ghost numbered = { λ _. clock_numbered };
 
-    ghost state_at = { λ _. dials_of };
-
-    ghost number_of = { λ _. number_of };
-
-    ghost valid = { λ _. IsClock };
-
-    fn count(&self) -> u128 {
-        COUNT
-    }
+    ghost law = { λ _. clock_numbering };
 
     fn state_at(&self, number: u128) -> Clock {
         Clock::of_valid(hours(&dial_radix().unrank(number)))
@@ -68,7 +58,9 @@ impl Numbering for ClockNumbers {
         dial_radix().rank(&digits(&state.dials()))
     }
 
-    ghost law = { λ _. clock_numbering };
+    fn count(&self) -> u128 {
+        COUNT
+    }
 }
 
 impl Permit<Clock> for ClockNumbers {

@@ -3,7 +3,7 @@ ghost use Rattle.std.specs.Prelude.{◌≡◌, ◌+◌, ◌<◌, ◌≤◌, ◌=
 ghost use Rattle.std.specs.List.{list_any};
 ghost use Rattle.scr_notation.specs.declared.event.Event.TheVariants.{Clock as ClockEvent};
 ghost use Rattle.scr_notation.specs.declared.turn.Turn.{Turn};
-ghost use Rattle.scr_notation.specs.Turns.{pin_sets};
+ghost use Rattle.scr_notation.specs.Pins.{pin_sets};
 ghost use Rattle.scr_clock.specs.Written.{pins_at, IsScrambleOf};
 
 use crate::amounts::solve;

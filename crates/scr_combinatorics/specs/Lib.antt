@@ -3,4 +3,5 @@ pub mod Permutations
 pub mod PlaceSets
 pub mod Digits
 pub mod Twists
+pub mod Numbered
 pub mod Numbering

@@ -1,19 +1,17 @@
 -- What the words of the command line ask for.
-use Rattle.std.specs.Prelude.{◌≡◌, ◌≤◌, ℕ, if◌then◌else◌, true, IsTrue, List, [], ◌∷◌, codes, Option, Some, None, Result, Ok, Err}
+use Rattle.std.specs.Prelude.{◌≡◌, ℕ, if◌then◌else◌, true, List, [], ◌∷◌, codes, Option, Some, None, Result, Ok, Err}
 use Rattle.std.specs.Str.{bytes_eq}
 use Rattle.scr_words.specs.declared.seed.Seed.{Seed}
 use Rattle.scr_words.specs.declared.seed.SeedFault.{SeedFault}
 use Rattle.scr_words.specs.Seed.{seed_of}
 use Rattle.scr_notation.specs.declared.event.Event.{Event}
 use Rattle.scr_text.specs.Numbers.{number_between}
-use Rattle.scr_list.specs.Events.{rules_of, built_event_of}
+use Rattle.scr_list.specs.Events.{built_event_of}
 use Rattle.scr_command.specs.declared.options.Options.{Options}
 use Rattle.scr_command.specs.declared.command.Command.{Command}
 use Rattle.scr_command.specs.declared.command.Command.TheVariants.{One, Sheet}
 use Rattle.scr_command.specs.declared.command.UsageFault.{UsageFault}
 use Rattle.scr_command.specs.declared.command.UsageFault.TheVariants.{No444, NoSeed, Grammar}
-use Rattle.scr_command.specs.declared.command.CommandFault.{CommandFault}
-use Rattle.scr_command.specs.declared.command.CommandFault.TheVariants as refusal
 use Rattle.scr_command.specs.OptionWords.{SplitOptions, options_of}
 
 -- ---- the numbers of a run
@@ -21,14 +19,6 @@ use Rattle.scr_command.specs.OptionWords.{SplitOptions, options_of}
 -- those of a sheet whose words say nothing of them
 abbrev pub usual_options : Options
 usual_options = record { workers = 1; tries = 0; attempts = 1000 }
-
--- numbers that words can set: 1 to 64 workers, no tries yet, 1 to 1,000,000 attempts
-pub record AreOptions (options : Options) : Type 0 where
-  pub some_workers : 1 ≤ options.workers
-  pub few_workers : options.workers ≤ 64
-  pub no_tries : options.tries ≡ 0
-  pub some_attempts : 1 ≤ options.attempts
-  pub few_attempts : options.attempts ≤ 1000000
 
 -- an option's number in a range, or the usual one where the option isn't there
 abbrev pub setting : ℕ → ℕ → ℕ → Option (List ℕ) → Option ℕ
@@ -92,24 +82,7 @@ command_of (command ∷ words) =
     else if bytes_eq command (codes "one") then one_of words
     else Err Grammar
 
--- a command that words can ask for: its event is one that lists take, and its numbers are in their ranges
-abbrev pub IsCommand : Command → Type 0
-IsCommand (One event seed) = IsTrue (rules_of event).built
-IsCommand (Sheet seed options) = AreOptions options
-
--- ---- words that are no command
-
 -- the words begin with `sheet`: only for these does a run take memory
 abbrev pub AsksForSheet : List (List ℕ) → Type 0
 AsksForSheet [] = ⊥
 AsksForSheet (command ∷ words) = bytes_eq command (codes "sheet") ≡ true
-
--- why no command was read: the words are none, or memory was wanting
-abbrev pub IsRefusal : List (List ℕ) → CommandFault → Type 0
-IsRefusal words (refusal.Usage usage) = command_of words ≡ Err usage
-IsRefusal words refusal.NoMemory = AsksForSheet words
-
--- the same, for the words after `sheet`
-abbrev pub IsSheetRefusal : List (List ℕ) → CommandFault → Type 0
-IsSheetRefusal words (refusal.Usage usage) = sheet_of (options_of words) ≡ Err usage
-IsSheetRefusal words refusal.NoMemory = Unit {0}

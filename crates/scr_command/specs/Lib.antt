@@ -4,3 +4,5 @@ pub mod SheetCommand
 pub mod Spelling
 pub mod Words
 pub mod Command
+pub mod Reading
+pub mod Split

@@ -1,18 +1,8 @@
--- The answer of `split_options` as a contract sees it.
-use Rattle.std.specs.Prelude.{List, map, option_map}
+-- The words of the command line as texts.
+use Rattle.std.specs.Prelude.{List, map}
 use Rattle.std.specs.Borrow.{Bor}
-use Rattle.scr_command.specs.OptionWords.{SplitOptions, Text}
-use Rattle.scr_command.specs.declared.splitting.SheetWords.{SheetWords}
+use Rattle.scr_command.specs.OptionWords.{Text}
 
 -- the texts behind references
 abbrev pub texts : List (Bor Text) → List Text
 texts = map (λ word. word.now)
-
--- the options whose values these are
-abbrev pub options_in_words : SheetWords → SplitOptions
-options_in_words r = record {
-  seed = r.seed.now;
-  workers = option_map (λ value. value.now) r.workers;
-  tries = option_map (λ value. value.now) r.tries;
-  attempts = option_map (λ value. value.now) r.attempts;
-}

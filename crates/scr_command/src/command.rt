@@ -4,8 +4,10 @@ ghost use Rattle.std.specs.Prelude.{◌≡◌, ◌≤◌, [], ◌∷◌, Option,
 ghost use Rattle.scr_command.specs.declared.command.UsageFault.TheVariants.{Grammar, NoSeed};
 ghost use Rattle.scr_command.specs.declared.command.CommandFault.TheVariants.{Usage, NoMemory};
 ghost use Rattle.scr_command.specs.OptionWords.{options_of};
-ghost use Rattle.scr_command.specs.Words.{options_in_words, texts};
-ghost use Rattle.scr_command.specs.Command.{command_of, sheet_of, one_of, setting, settings_in, IsRefusal, IsSheetRefusal, IsCommand, AreOptions};
+ghost use Rattle.scr_command.specs.Words.{texts};
+ghost use Rattle.scr_command.specs.Split.{options_in_words};
+ghost use Rattle.scr_command.specs.Command.{command_of, sheet_of, one_of, setting, settings_in};
+ghost use Rattle.scr_command.specs.Reading.{IsRefusal, IsSheetRefusal, IsCommand, AreOptions};
 
 use crate::options::Options;
 use crate::splitting::{OptionsFault, SheetWords, split_options};

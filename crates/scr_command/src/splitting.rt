@@ -13,7 +13,8 @@ ghost use Rattle.clap.specs.Words.{FailsBy, app_of, fault_of, found_of, matches_
 ghost use Rattle.scr_command.specs.Hyphens.{IsOrdinary, is_bare};
 ghost use Rattle.scr_command.specs.OptionWords.{options_of};
 ghost use Rattle.scr_command.specs.SheetCommand.{app_with, given_rule, sheet_app};
-ghost use Rattle.scr_command.specs.Words.{options_in_words, texts};
+ghost use Rattle.scr_command.specs.Words.{texts};
+ghost use Rattle.scr_command.specs.Split.{options_in_words};
 
 use clap::error::ErrorKind;
 use clap::{Arg, ArgAction, ArgMatches, Command, Error};

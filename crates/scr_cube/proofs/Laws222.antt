@@ -1,16 +1,16 @@
 -- Laws of the turns of a 2x2x2: they act on its states, each face's quarter turn has order 4, and what follows of that.
-use Rattle.std.proofs.Common.{◌≡◌, true, refl, sym, subst, lit<}
+use Rattle.std.proofs.Common.{◌≡◌, true, refl, lit<}
 use Rattle.std.specs.Prelude.{All}
 use Rattle.std.proofs.lemmas.List.Elements.{All-from_recursion}
-use Rattle.scr_play.specs.Reach.{IsReached}
 use Rattle.scr_orbit.specs.Actions.{power}
-use Rattle.scr_orbit.specs.Orbits.{Orbit, Rearrangement, IsZeroSumRearrangement, composed, identity, added_digits}
+use Rattle.scr_orbit.specs.Orbits.{Rearrangement, IsZeroSumRearrangement, composed, identity, added_digits}
 use Rattle.scr_orbit.proofs.OrbitLaws.{zero_sum_laws, IsZeroSumOrbit-solved}
-use Rattle.scr_orbit.proofs.PowerLaws.{IsGenerator, PuzzleLaws, puzzle_laws}
+use Rattle.scr_orbit.specs.LawfulTurns.{HasLawfulTurns}
+use Rattle.scr_orbit.proofs.PowerLaws.{IsGenerator, HasLawfulTurns-powers}
 use Rattle.scr_orbit.proofs.TableTests.{is_zero_sum_turn, IsZeroSumRearrangement-from_test}
 use Rattle.scr_notation.specs.Turning.{opposite, face_merging}
 use Rattle.scr_cube.specs.Faces.{quarters_of}
-use Rattle.scr_cube.specs.Cube222.{IsCorners222, quarters_222, action_222, table_222, solved_222, puzzle_222}
+use Rattle.scr_cube.specs.Cube222.{IsCorners222, quarters_222, action_222, table_222, solved_222}
 use Rattle.scr_cube.proofs.FaceLaws.{face_powers}
 
 quarter_by : (r : Rearrangement) → is_zero_sum_turn 7 3 r ≡ true → power action_222 r 4 ≡ action_222.identity
@@ -23,14 +23,8 @@ each_quarter_222 =
     All-from_recursion (IsGenerator action_222 (IsZeroSumRearrangement 7 3) 4) quarters_222
     (quarter_by _ refl refl, (quarter_by _ refl refl, (quarter_by _ refl refl, tt)))
 
-pub play_222 : PuzzleLaws action_222 IsCorners222 (IsZeroSumRearrangement 7 3) table_222 opposite face_merging
-play_222 =
-    puzzle_laws action_222 IsCorners222 (IsZeroSumRearrangement 7 3) (zero_sum_laws 7 3 (lit< tt)) 4 quarters_222 each_quarter_222 quarters_of
-    opposite face_merging face_powers
-
-pub IsCorners222-solved : IsCorners222 solved_222
+pub lawful_222 : HasLawfulTurns action_222 IsCorners222 (IsZeroSumRearrangement 7 3) table_222 opposite face_merging solved_222
 unfolding solved_222
-IsCorners222-solved = IsZeroSumOrbit-solved 7 3 (lit< tt)
-
-pub IsCorners222-reached : (c : Orbit) → IsReached puzzle_222 c → IsCorners222 c
-IsCorners222-reached c h = play_222.valid h.1 c h.0 (subst IsCorners222 (sym h.2) IsCorners222-solved) h.3
+lawful_222 =
+    HasLawfulTurns-powers action_222 IsCorners222 (IsZeroSumRearrangement 7 3) (zero_sum_laws 7 3 (lit< tt)) 4 quarters_222 each_quarter_222 quarters_of
+    opposite face_merging face_powers solved_222 (IsZeroSumOrbit-solved 7 3 (lit< tt))

@@ -1,17 +1,17 @@
 -- Laws of the turns of a 3x3x3: they act on cubes, each face's quarter turn has order 4, and what follows of that.
-use Rattle.std.proofs.Common.{◌≡◌, ℕ, ◌+◌, ◌%◌, true, refl, sym, ap, ◌∙◌, subst, lit<}
+use Rattle.std.proofs.Common.{◌≡◌, ℕ, ◌+◌, ◌%◌, true, refl, sym, ap, ◌∙◌, lit<}
 use Rattle.std.specs.Prelude.{All}
 use Rattle.std.proofs.lemmas.List.Elements.{All-from_recursion}
 use Rattle.scr_combinatorics.specs.Permutations.{parity}
-use Rattle.scr_play.specs.Reach.{IsReached}
 use Rattle.scr_orbit.specs.Actions.{IsAction, power}
 use Rattle.scr_orbit.specs.Orbits.{Orbit, Rearrangement, composed, identity, added_digits, solved_orbit}
 use Rattle.scr_orbit.proofs.OrbitLaws.{zero_sum_laws, IsZeroSumOrbit-solved, parity-turned, parity-composed}
-use Rattle.scr_orbit.proofs.PowerLaws.{IsGenerator, PuzzleLaws, puzzle_laws}
+use Rattle.scr_orbit.specs.LawfulTurns.{HasLawfulTurns}
+use Rattle.scr_orbit.proofs.PowerLaws.{IsGenerator, HasLawfulTurns-powers}
 use Rattle.scr_orbit.proofs.TableTests.{is_zero_sum_turn, IsZeroSumRearrangement-from_test}
 use Rattle.scr_notation.specs.Turning.{opposite, face_merging}
 use Rattle.scr_cube.specs.Faces.{quarters_of}
-use Rattle.scr_cube.specs.Cube333.{CubeState, IsCube, CubeTurn, IsCubeTurn, cube_quarters, cube_action, cube_table, solved_cube, cube_puzzle}
+use Rattle.scr_cube.specs.Cube333.{CubeState, IsCube, CubeTurn, IsCubeTurn, cube_quarters, cube_action, cube_table, solved_cube}
 use Rattle.scr_cube.proofs.FaceLaws.{face_powers}
 
 -- a cube is its corners and its edges, and so is a turn
@@ -27,8 +27,9 @@ same_turn r q a b =
     let second : Rearrangement → CubeTurn = λ o. record { corners = q.corners; edges = o } in
     ap first a ∙ ap second b
 
-both_parities : (a b c d : ℕ) → a ≡ b → c ≡ d → (a + c) % 2 ≡ (b + d) % 2
-both_parities a b c d e f = ap (λ z. (z + c) % 2) e ∙ ap (λ z. (b + z) % 2) f
+-- sums of equal parities are equal
+same_sum : (s t a b c d : ℕ) → s ≡ (a + c) % 2 → t ≡ (b + d) % 2 → a ≡ b → c ≡ d → s ≡ t
+same_sum s t a b c d f g e h = f ∙ ap (λ z. (z + c) % 2) e ∙ ap (λ z. (b + z) % 2) h ∙ sym g
 
 -- turns act on cubes
 pub cube_laws : IsAction cube_action IsCube IsCubeTurn
@@ -40,18 +41,14 @@ cube_laws =
       valid = λ c r h k. record {
         corners = corners.valid c.corners r.corners h.corners k.corners;
         edges = edges.valid c.edges r.edges h.edges k.edges;
-        same_parity =
-            parity-turned 8 3 c.corners r.corners h.corners.pieces k.corners.places
-            ∙ both_parities _ _ _ _ h.same_parity k.same_parity
-            ∙ sym (parity-turned 12 2 c.edges r.edges h.edges.pieces k.edges.places);
+        same_parity = same_sum _ _ _ _ _ _ (parity-turned 8 3 c.corners r.corners h.corners.pieces k.corners.places)
+            (parity-turned 12 2 c.edges r.edges h.edges.pieces k.edges.places) h.same_parity k.same_parity;
       };
       closed = λ r q h k. record {
         corners = corners.closed r.corners q.corners h.corners k.corners;
         edges = edges.closed r.edges q.edges h.edges k.edges;
-        same_parity =
-            parity-composed 8 3 r.corners q.corners h.corners.places k.corners.places
-            ∙ both_parities _ _ _ _ h.same_parity k.same_parity
-            ∙ sym (parity-composed 12 2 r.edges q.edges h.edges.places k.edges.places);
+        same_parity = same_sum _ _ _ _ _ _ (parity-composed 8 3 r.corners q.corners h.corners.places k.corners.places)
+            (parity-composed 12 2 r.edges q.edges h.edges.places k.edges.places) h.same_parity k.same_parity;
       };
       neutral = record { corners = corners.neutral; edges = edges.neutral; same_parity = refl };
       grouped = λ r q p h k i. same_turn _ _ (corners.grouped r.corners q.corners p.corners h.corners k.corners i.corners)
@@ -89,13 +86,13 @@ each_quarter = All-from_recursion (IsGenerator cube_action IsCubeTurn 4) cube_qu
   ),
 )
 
--- what follows of that
-pub cube_play : PuzzleLaws cube_action IsCube IsCubeTurn cube_table opposite face_merging
-cube_play = puzzle_laws cube_action IsCube IsCubeTurn cube_laws 4 cube_quarters each_quarter quarters_of opposite face_merging face_powers
+-- ---- what follows of that
 
-pub IsCube-solved : IsCube solved_cube
+IsCube-solved : IsCube solved_cube
 unfolding solved_cube solved_orbit
 IsCube-solved = record { corners = IsZeroSumOrbit-solved 8 3 (lit< tt); edges = IsZeroSumOrbit-solved 12 2 (lit< tt); same_parity = refl }
 
-pub IsCube-reached : (c : CubeState) → IsReached cube_puzzle c → IsCube c
-IsCube-reached c h = cube_play.valid h.1 c h.0 (subst IsCube (sym h.2) IsCube-solved) h.3
+pub lawful_cube : HasLawfulTurns cube_action IsCube IsCubeTurn cube_table opposite face_merging solved_cube
+lawful_cube =
+    HasLawfulTurns-powers cube_action IsCube IsCubeTurn cube_laws 4 cube_quarters each_quarter quarters_of opposite face_merging face_powers
+    solved_cube IsCube-solved

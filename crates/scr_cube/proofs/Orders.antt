@@ -1,5 +1,5 @@
 -- Orders of turns and of words, turns that can be exchanged, and the stickers that turns carry, by computation.
-use Rattle.std.proofs.Common.{◌≡◌, ℕ, zero, suc, ◌+◌, ◌<◌, Bool, List, [], ◌∷◌, Some, refl, sym, ap, subst, ◌∙◌, arith, lit<}
+use Rattle.std.proofs.Common.{◌≡◌, ℕ, zero, suc, ◌+◌, ◌-◌, ◌<◌, Bool, true, List, [], ◌∷◌, Some, refl, sym, ap, subst, ◌∙◌, arith, lit<}
 use Rattle.std.specs.Prelude.{All, ◌&&◌, slice_get, unwrap_or}
 use Rattle.std.specs.Str.{bytes_eq}
 use Rattle.std.proofs.lemmas.List.Elements.{All-from_recursion}
@@ -7,12 +7,12 @@ use Rattle.std.proofs.lemmas.Option.{same_Some}
 use Rattle.scr_combinatorics.specs.Lists.{numbers_from}
 use Rattle.scr_orbit.specs.Actions.{IsOrder, power, composed_word, power_of}
 use Rattle.scr_orbit.specs.Orbits.{composed, identity, added_digits, zeros}
-use Rattle.scr_orbit.proofs.PowerLaws.{All-got, IsOrder-from_test}
+use Rattle.scr_orbit.proofs.PowerLaws.{All-got, IsOrder-from_test, apart}
 use Rattle.scr_notation.specs.declared.turn.Turn.{Turn}
 use Rattle.scr_notation.specs.Turns.{face_turn_at}
 use Rattle.scr_cube.specs.Cube333.{CubeTurn, cube_quarters, cube_action, cube_table}
 use Rattle.scr_cube.specs.Stickers.{CarriesStickers}
-use Rattle.scr_cube.specs.Known.{IsWordOrder, numbered_word}
+use Rattle.scr_cube.specs.Known.{IsWordOrder, numbered_word, known_orders}
 
 -- nothing is moved, as a test
 is_still : CubeTurn → Bool
@@ -36,29 +36,19 @@ quarter_order face r e = All-got (λ q. IsOrder cube_action q 4) cube_quarters f
 turn_of : List Turn → CubeTurn
 turn_of w = unwrap_or (composed_word cube_action cube_table w) cube_action.identity
 
-pub right_up : IsWordOrder (numbered_word (3 ∷ 0 ∷ [])) 105
-unfolding turn_of composed_word power power_of composed identity added_digits is_still face_turn_at
-right_up = record {
-  turn = turn_of (numbered_word (3 ∷ 0 ∷ []));
-  comes_to = refl;
-  order = IsOrder-from_test cube_action is_still (turn_of (numbered_word (3 ∷ 0 ∷ []))) 105 (lit< tt) refl refl refl;
-}
+order_of : (w : List ℕ) (n : ℕ) → 0 < n → composed_word cube_action cube_table (numbered_word w) ≡ Some (turn_of (numbered_word w))
+    → power cube_action (turn_of (numbered_word w)) n ≡ cube_action.identity → is_still cube_action.identity ≡ true
+    → apart cube_action is_still (turn_of (numbered_word w)) (n - 1) (power cube_action (turn_of (numbered_word w)) 1) ≡ true
+    → IsWordOrder (numbered_word w) n
+order_of w n some comes whole passes least =
+    record { turn = turn_of (numbered_word w); comes_to = comes; order = IsOrder-from_test cube_action is_still (turn_of (numbered_word w)) n some whole passes least }
 
-pub right_up_back : IsWordOrder (numbered_word (3 ∷ 2 ∷ [])) 63
+pub word_orders : All (λ row. IsWordOrder (numbered_word row.0) row.1) known_orders
 unfolding turn_of composed_word power power_of composed identity added_digits is_still face_turn_at
-right_up_back = record {
-  turn = turn_of (numbered_word (3 ∷ 2 ∷ []));
-  comes_to = refl;
-  order = IsOrder-from_test cube_action is_still (turn_of (numbered_word (3 ∷ 2 ∷ []))) 63 (lit< tt) refl refl refl;
-}
-
-pub commutator : IsWordOrder (numbered_word (3 ∷ 0 ∷ 5 ∷ 2 ∷ [])) 6
-unfolding turn_of composed_word power power_of composed identity added_digits is_still face_turn_at
-commutator = record {
-  turn = turn_of (numbered_word (3 ∷ 0 ∷ 5 ∷ 2 ∷ []));
-  comes_to = refl;
-  order = IsOrder-from_test cube_action is_still (turn_of (numbered_word (3 ∷ 0 ∷ 5 ∷ 2 ∷ []))) 6 (lit< tt) refl refl refl;
-}
+word_orders = All-from_recursion (λ row. IsWordOrder (numbered_word row.0) row.1) known_orders (
+  order_of (3 ∷ 0 ∷ []) 105 (lit< tt) refl refl refl refl,
+  (order_of (3 ∷ 2 ∷ []) 63 (lit< tt) refl refl refl refl, (order_of (3 ∷ 0 ∷ 5 ∷ 2 ∷ []) 6 (lit< tt) refl refl refl refl, tt)),
+)
 
 exchanged : (x y r q : CubeTurn) → Some x ≡ Some r → Some y ≡ Some q → cube_action.composed x y ≡ cube_action.composed y x
     → cube_action.composed r q ≡ cube_action.composed q r

@@ -2,12 +2,12 @@
 --
 -- The corner DBL stands still, so turns are of U, R and F. Places and pieces are numbered 0 URF, 1 UFL, 2 ULB, 3 UBR,
 -- 4 DFR, 5 DLF, 6 DRB. A corner's twist is how many thirds clockwise its U or D sticker stands from the U or D side.
-use Rattle.std.specs.Prelude.{◌≡◌, ℕ, List, [], ◌∷◌, slice_index, Option}
+use Rattle.std.specs.Prelude.{ℕ, List, [], ◌∷◌, slice_index, Option}
 use Rattle.scr_combinatorics.specs.Permutations.{permutation_number, permutation_at}
 use Rattle.scr_combinatorics.specs.Twists.{twists_number, twists_at}
-use Rattle.scr_combinatorics.specs.Digits.{mixed_number, mixed_digits}
+use Rattle.scr_combinatorics.specs.Numbered.{Numbered, numbered_by_digits}
 use Rattle.scr_play.specs.Reach.{Puzzle}
-use Rattle.scr_orbit.specs.Actions.{Action, after_by, power_table, all_powers}
+use Rattle.scr_orbit.specs.Actions.{Action, after_by, table_puzzle, power_table, all_powers}
 use Rattle.scr_orbit.specs.Orbits.{Orbit, Rearrangement, IsZeroSumOrbit, solved_orbit, orbit_action}
 use Rattle.scr_notation.specs.declared.turn.Turn.{Turn}
 use Rattle.scr_cube.specs.Faces.{quarters_of}
@@ -44,13 +44,9 @@ solved_222 = solved_orbit 7
 
 -- The 2x2x2 as a puzzle. Each turn counts once (WCA Regulations, article 4).
 abbrev pub puzzle_222 : Puzzle Orbit
-puzzle_222 = record { Turn = Turn; after = corners_after; IsSolved = λ c. c ≡ solved_222; counted = λ t. 1 }
+puzzle_222 = table_puzzle action_222 table_222 solved_222 (λ t. 1)
 
 -- ---- numbers
-
--- How many states there are.
-abbrev pub count_222 : ℕ
-count_222 = 3674160
 
 -- How many twists and lists of corners there are.
 abbrev pub bases_222 : List ℕ
@@ -64,9 +60,6 @@ digits_222 c = twists_number 3 c.digits ∷ permutation_number c.pieces ∷ []
 unfoldable pub corners_of_digits : List ℕ → Orbit
 corners_of_digits ds = record { pieces = permutation_at 7 (slice_index ds 1); digits = twists_at 7 3 (slice_index ds 0) }
 
--- The number of a state, with the twists least, and the state of a number below the count.
-abbrev pub number_222 : Orbit → ℕ
-number_222 c = mixed_number bases_222 (digits_222 c)
-
-abbrev pub corners_222_at : ℕ → Orbit
-corners_222_at number = corners_of_digits (mixed_digits bases_222 number)
+-- The numbered states, 3,674,160 of them: the number of the twists is the least digit.
+abbrev pub numbered_222 : Numbered Orbit
+numbered_222 = numbered_by_digits bases_222 corners_of_digits digits_222 IsCorners222

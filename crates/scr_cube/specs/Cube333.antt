@@ -7,9 +7,9 @@
 use Rattle.std.specs.Prelude.{◌≡◌, ℕ, ◌/◌, List, [], ◌∷◌, map, slice_index, Option}
 use Rattle.scr_combinatorics.specs.Permutations.{parity, permutation_number, permutation_at, half_at}
 use Rattle.scr_combinatorics.specs.Twists.{twists_number, twists_at}
-use Rattle.scr_combinatorics.specs.Digits.{mixed_number, mixed_digits}
+use Rattle.scr_combinatorics.specs.Numbered.{Numbered, numbered_by_digits}
 use Rattle.scr_play.specs.Reach.{Puzzle}
-use Rattle.scr_orbit.specs.Actions.{Action, after_by, power_table, all_powers}
+use Rattle.scr_orbit.specs.Actions.{Action, after_by, table_puzzle, power_table, all_powers}
 use Rattle.scr_orbit.specs.Orbits.{Orbit, Rearrangement, IsZeroSumOrbit, IsZeroSumRearrangement, turned_orbit, composed, identity, solved_orbit}
 use Rattle.scr_notation.specs.declared.turn.Turn.{Turn}
 use Rattle.scr_cube.specs.Faces.{quarters_of}
@@ -101,13 +101,9 @@ solved_cube = record { corners = solved_orbit 8; edges = solved_orbit 12 }
 
 -- The 3x3x3 as a puzzle. Each turn counts once (WCA Regulations, article 4).
 abbrev pub cube_puzzle : Puzzle CubeState
-cube_puzzle = record { Turn = Turn; after = cube_after; IsSolved = λ c. c ≡ solved_cube; counted = λ t. 1 }
+cube_puzzle = table_puzzle cube_action cube_table solved_cube (λ t. 1)
 
 -- ---- numbers
-
--- How many cubes there are.
-abbrev pub cube_count : ℕ
-cube_count = 43252003274489856000
 
 -- How many flips, twists, lists of corners and lists of edges of one parity there are.
 abbrev pub cube_bases : List ℕ
@@ -129,9 +125,6 @@ cube_of_digits ds =
       edges = record { pieces = half_at 12 (parity corners) (slice_index ds 3); digits = twists_at 12 2 (slice_index ds 0) };
     }
 
--- The number of a cube, with the flips least, and the cube of a number below the count.
-abbrev pub cube_number : CubeState → ℕ
-cube_number c = mixed_number cube_bases (cube_digits c)
-
-abbrev pub cube_at : ℕ → CubeState
-cube_at number = cube_of_digits (mixed_digits cube_bases number)
+-- The numbered cubes, 43,252,003,274,489,856,000 of them: the number of the flips is the least digit.
+abbrev pub cube_numbered : Numbered CubeState
+cube_numbered = numbered_by_digits cube_bases cube_of_digits cube_digits IsCube

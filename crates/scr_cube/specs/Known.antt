@@ -17,6 +17,10 @@ pub record IsWordOrder (w : List Turn) (n : ℕ) : Type 0 where
   pub comes_to : composed_word cube_action cube_table w ≡ Some turn
   pub order : IsOrder cube_action turn n
 
+-- Words of turns by their numbers, and how often each is done to move nothing: R U, R U' and R U R' U'.
+abbrev pub known_orders : List (List ℕ × ℕ)
+known_orders = (3 ∷ 0 ∷ [], 105) ∷ (3 ∷ 2 ∷ [], 63) ∷ (3 ∷ 0 ∷ 5 ∷ 2 ∷ [], 6) ∷ []
+
 -- The superflip: each piece at home, and each edge flipped.
 unfoldable pub superflip : CubeState
 superflip = record { corners = solved_orbit 8; edges = record { pieces = numbers_from 0 12; digits = replicate 12 1 } }

@@ -1,5 +1,5 @@
 -- The numbers of cubes: one for each. (The proof stands here, since the law of the code's numbering cites it.)
-use Rattle.std.proofs.Common.{◌≡◌, ℕ, ◌/◌, ◌<◌, List, [], ◌∷◌, refl, sym, ap, ◌∙◌, subst, lit≤, lit<}
+use Rattle.std.proofs.Common.{◌≡◌, ℕ, ◌/◌, ◌<◌, List, [], ◌∷◌, sym, ap, ◌∙◌, subst, lit≤, lit<}
 use Rattle.std.proofs.lemmas.Nat.{mod_below}
 use Rattle.scr_combinatorics.specs.Permutations.{parity, factorial, permutation_number, permutation_at, half_at}
 use Rattle.scr_combinatorics.specs.Twists.{twists_number, twists_at}
@@ -9,16 +9,15 @@ use Rattle.scr_combinatorics.proofs.PermutationNumbers.{permutation_number-lt, I
 use Rattle.scr_combinatorics.proofs.Halves.{half_lt, IsHalf-half_at, half_at-number}
 use Rattle.scr_combinatorics.proofs.Twists.{twists_number-lt, IsTwists-twists_at, twists_number-twists_at, twists_at-number}
 use Rattle.scr_combinatorics.proofs.Digits.{by_four_digits}
-use Rattle.scr_combinatorics.proofs.Numberings.{IsDigitCode, numbering_by_digits}
+use Rattle.scr_combinatorics.proofs.Numberings.{GivesState, numbering_by_digits}
 use Rattle.scr_orbit.proofs.OrbitLaws.{same_orbit}
-use Rattle.scr_cube.specs.Cube333.{CubeState, IsCube, cube_count, cube_bases, cube_digits, cube_of_digits, cube_number, cube_at}
+use Rattle.scr_cube.specs.Cube333.{CubeState, IsCube, cube_bases, cube_digits, cube_of_digits, cube_numbered}
 
--- the cube of four numbers below their counts is valid, and has them
-record IsCubeOf (ds : List ℕ) : Type 0 where
-  valid : IsCube (cube_of_digits ds)
-  digits : cube_digits (cube_of_digits ds) ≡ ds
+-- four numbers below their counts give a cube
+abbrev Gives : List ℕ → Type 0
+Gives = GivesState cube_bases cube_of_digits cube_digits IsCube
 
-cube_of_four : (f t p e : ℕ) → f < 2048 → t < 2187 → p < 40320 → e < 239500800 → IsCubeOf (f ∷ t ∷ p ∷ e ∷ [])
+cube_of_four : (f t p e : ℕ) → f < 2048 → t < 2187 → p < 40320 → e < 239500800 → Gives (f ∷ t ∷ p ∷ e ∷ [])
 unfolding cube_of_digits cube_digits
 cube_of_four f t p e lf lt lp le =
     let edges : List ℕ = half_at 12 (parity (permutation_at 8 p)) e in
@@ -32,7 +31,7 @@ cube_of_four f t p e lf lt lp le =
         edges = record { pieces = half.permutation; digits = IsTwists-twists_at 12 2 f (lit< tt) (lit< tt) };
         same_parity = sym half.same_parity;
       };
-      digits = ap (λ x. x ∷ twists_number 3 (twists_at 8 3 t) ∷ permutation_number (permutation_at 8 p) ∷ permutation_number edges / 2 ∷ []) flips
+      again = ap (λ x. x ∷ twists_number 3 (twists_at 8 3 t) ∷ permutation_number (permutation_at 8 p) ∷ permutation_number edges / 2 ∷ []) flips
           ∙ ap (λ x. f ∷ x ∷ permutation_number (permutation_at 8 p) ∷ permutation_number edges / 2 ∷ []) twists
           ∙ ap (λ x. f ∷ t ∷ x ∷ permutation_number edges / 2 ∷ []) pieces
           ∙ ap (λ x. f ∷ t ∷ p ∷ x ∷ []) half.number;
@@ -68,13 +67,7 @@ cube_of_digits-digits c h =
     ∙ ap (λ o. record { corners = c.corners; edges = o }) (same_orbit _ c.edges edges flips)
 
 -- cubes are numbered by the numbers below the count, one for each
-pub cube_numbering : IsNumbering cube_count cube_at cube_number IsCube
+pub cube_numbering : IsNumbering cube_numbered
 cube_numbering =
-    let code : IsDigitCode cube_bases cube_count cube_of_digits cube_digits IsCube = record {
-      counted = refl;
-      some = lit≤ tt;
-      fits = lit≤ tt;
-      from_digits = λ ds h. let made = by_four_digits IsCubeOf 2048 2187 40320 239500800 cube_of_four ds h in (made.valid, made.digits);
-      from_state = λ c h. (AreDigits-cube c h, cube_of_digits-digits c h);
-    } in
-    numbering_by_digits code
+    numbering_by_digits cube_bases cube_of_digits cube_digits IsCube (lit≤ tt) (lit≤ tt) (by_four_digits Gives 2048 2187 40320 239500800 cube_of_four)
+    (λ c h. record { below = AreDigits-cube c h; again = cube_of_digits-digits c h })

@@ -1,12 +1,7 @@
-//! The state of a 2x2x2 and its turns.
-ghost use Rattle.std.specs.Prelude.{◌≡◌, ◌<◌, ◌↔◌, IsSome, IfSome, Some};
-ghost use Rattle.scr_play.specs.Play.{play};
-ghost use Rattle.scr_cube.specs.Cube222.{IsCorners222, solved_222, corners_after};
+//! The state of a 2x2x2.
+ghost use Rattle.std.specs.Prelude.{◌≡◌, ◌↔◌, IsSome, IfSome};
+ghost use Rattle.scr_cube.specs.Cube222.{IsCorners222, solved_222};
 
-use crate::faces::face_and_amount;
-use crate::playing::{Turned, played};
-use crate::tables::turns_222;
-use scr_notation::{Scramble, Turn};
 use scr_orbit::Placed;
 use std::marker::Model;
 
@@ -65,6 +60,14 @@ impl Corners222 {
         Corners222 { corners }
     }
 
+    /// The corners at their places, with their twists.
+    pub(crate) fn orbit(&self) -> Placed<7>
+        ensures same { result ≡ self.now }
+        ensures valid { IsCorners222 self.now }
+    {
+        self.corners
+    }
+
     /// Which corner stands at each place.
     pub fn corners(&self) -> [u8; 7]
         ensures same { result ≡ self.now.pieces }
@@ -79,41 +82,5 @@ impl Corners222 {
         ensures valid { IsCorners222 self.now }
     {
         self.corners.digits()
-    }
-
-    /// The state after a turn of a face clockwise by `amount` quarters, from 1 to 3. The faces U R F are 0 to 2.
-    pub fn turn(&self, face: u8, amount: u8) -> Corners222
-        requires face { face < 3 }
-        requires some { 0 < amount }
-        requires amount { amount < 4 }
-        ensures { corners_after self.now (Turn.Face face 1 amount) ≡ Some result }
-    {
-        let number = usize::from(3 * face + (amount - 1));
-        Corners222 {
-            corners: self.corners.turned(&turns_222()[number], 3),
-        }
-    }
-
-    /// The state after the turns of a scramble. `None` comes exactly where one of them isn't a turn of the outer layer
-    /// at U, R or F.
-    pub fn play(&self, scramble: &Scramble) -> Option<Corners222>
-        ensures { result ≡ play corners_after self.now scramble.now.turns }
-    {
-        played(*self, scramble.turns())
-    }
-}
-
-impl Turned for Corners222 {
-    ghost use Rattle.scr_cube.specs.Cube222.{corners_after};
-
-    ghost after = { corners_after };
-
-    fn after(&self, turn: Turn) -> Option<Corners222> {
-        let (face, amount) = face_and_amount(turn)?;
-        if face < 3 {
-            Some(self.turn(face, amount))
-        } else {
-            None
-        }
     }
 }

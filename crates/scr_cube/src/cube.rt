@@ -1,12 +1,7 @@
-//! The state of a 3x3x3 and its turns.
-ghost use Rattle.std.specs.Prelude.{◌≡◌, ◌<◌, ◌↔◌, IsSome, IfSome, Some};
-ghost use Rattle.scr_play.specs.Play.{play};
-ghost use Rattle.scr_cube.specs.Cube333.{IsCube, solved_cube, cube_after};
+//! The state of a 3x3x3.
+ghost use Rattle.std.specs.Prelude.{◌≡◌, ◌↔◌, IsSome, IfSome};
+ghost use Rattle.scr_cube.specs.Cube333.{IsCube, solved_cube};
 
-use crate::faces::face_and_amount;
-use crate::playing::{Turned, played};
-use crate::tables::{corner_turns, edge_turns};
-use scr_notation::{Scramble, Turn};
 use scr_orbit::Placed;
 use scr_rank::permutations::is_odd;
 use std::marker::Model;
@@ -82,6 +77,15 @@ impl Cube {
         Cube { corners, edges }
     }
 
+    /// The corners and the edges at their places, with their twists and flips.
+    pub(crate) fn orbits(&self) -> (Placed<8>, Placed<12>)
+        ensures corners { result.0 ≡ self.now.corners }
+        ensures edges { result.1 ≡ self.now.edges }
+        ensures valid { IsCube self.now }
+    {
+        (self.corners, self.edges)
+    }
+
     /// Which corner stands at each place.
     pub fn corners(&self) -> [u8; 8]
         ensures same { result ≡ self.now.corners.pieces }
@@ -112,42 +116,5 @@ impl Cube {
         ensures valid { IsCube self.now }
     {
         self.edges.digits()
-    }
-
-    /// The cube after a turn of a face clockwise by `amount` quarters, from 1 to 3. The faces U R F D L B are 0 to 5.
-    pub fn turn(&self, face: u8, amount: u8) -> Cube
-        requires face { face < 6 }
-        requires some { 0 < amount }
-        requires amount { amount < 4 }
-        ensures { cube_after self.now (Turn.Face face 1 amount) ≡ Some result }
-    {
-        let number = usize::from(3 * face + (amount - 1));
-        Cube {
-            corners: self.corners.turned(&corner_turns()[number], 3),
-            edges: self.edges.turned(&edge_turns()[number], 2),
-        }
-    }
-
-    /// The cube after the turns of a scramble. `None` comes exactly where one of them isn't a turn of the outer layer at
-    /// a face.
-    pub fn play(&self, scramble: &Scramble) -> Option<Cube>
-        ensures { result ≡ play cube_after self.now scramble.now.turns }
-    {
-        played(*self, scramble.turns())
-    }
-}
-
-impl Turned for Cube {
-    ghost use Rattle.scr_cube.specs.Cube333.{cube_after};
-
-    ghost after = { cube_after };
-
-    fn after(&self, turn: Turn) -> Option<Cube> {
-        let (face, amount) = face_and_amount(turn)?;
-        if face < 6 {
-            Some(self.turn(face, amount))
-        } else {
-            None
-        }
     }
 }

@@ -1,44 +1,28 @@
 //! Laws of the 3x3x3 and the 2x2x2. The functions do nothing: what each ensures is the law.
-ghost use Rattle.std.specs.Prelude.{◌≡◌, ℕ, ◌*◌, ◌/◌, ◌+◌, ◌^◌, ◌<◌, List, [], ◌∷◌, map, length, take, slice_get, slice_index, Some, codes};
-ghost use Rattle.std.specs.Option.{option_map};
+ghost use Rattle.std.specs.Prelude.{◌≡◌, ℕ, ◌*◌, ◌/◌, ◌+◌, ◌^◌, ◌<◌, List, [], ◌∷◌, All, map, length, take, slice_get, slice_index, Some, codes};
 ghost use Rattle.scr_combinatorics.specs.Lists.{numbers_from};
 ghost use Rattle.scr_combinatorics.specs.Permutations.{factorial};
 ghost use Rattle.scr_combinatorics.specs.Numbering.{IsNumbering};
 ghost use Rattle.scr_play.specs.Play.{play, count_in};
-ghost use Rattle.scr_play.specs.Reach.{IsReached, Needs};
-ghost use Rattle.scr_play.specs.Back.{IsTakenBack};
-ghost use Rattle.scr_play.specs.Tidy.{IsKeptByTidy};
-ghost use Rattle.scr_orbit.specs.Actions.{IsAction, IsOrder, composed_word};
+ghost use Rattle.scr_play.specs.Reach.{Needs};
+ghost use Rattle.scr_orbit.specs.Actions.{IsOrder};
+ghost use Rattle.scr_orbit.specs.LawfulTurns.{HasLawfulTurns};
 ghost use Rattle.scr_orbit.specs.Orbits.{Orbit, IsZeroSumRearrangement, zeros};
 ghost use Rattle.scr_notation.specs.declared.turn.Turn.{Turn as Letter};
 ghost use Rattle.scr_notation.specs.Turns.{face_turn_at};
 ghost use Rattle.scr_notation.specs.Turning.{opposite, face_merging};
-ghost use Rattle.scr_notation.specs.Written.{text_of};
-ghost use Rattle.scr_cube.specs.Cube333.{CubeState, CubeTurn, IsCube, IsCubeTurn, cube_quarters, cube_action, cube_turns, cube_table, cube_after, solved_cube, cube_puzzle, cube_count, cube_number, cube_at};
-ghost use Rattle.scr_cube.specs.Cube222.{IsCorners222, quarters_222, action_222, turns_222, table_222, corners_after, solved_222, puzzle_222, count_222, number_222, corners_222_at};
+ghost use Rattle.scr_notation.specs.Spelling.{text_of};
+ghost use Rattle.scr_cube.specs.Cube333.{CubeTurn, IsCube, IsCubeTurn, cube_quarters, cube_action, cube_turns, cube_table, cube_after, solved_cube, cube_puzzle, cube_numbered};
+ghost use Rattle.scr_cube.specs.Cube222.{IsCorners222, quarters_222, action_222, turns_222, table_222, corners_after, solved_222, puzzle_222, numbered_222};
 ghost use Rattle.scr_cube.specs.Stickers.{CarriesStickers};
 ghost use Rattle.scr_cube.specs.Symmetry.{ShowsTurns, left_right, up_down, front_back, without_dbl};
-ghost use Rattle.scr_cube.specs.Known.{numbered_word, IsWordOrder, superflip, superflip_word};
+ghost use Rattle.scr_cube.specs.Known.{numbered_word, known_orders, IsWordOrder, superflip, superflip_word};
 
-/// Turns keep a 3x3x3 valid, and composed turns act as one after the other; words are taken back and tidied, and each
-/// comes to one rearrangement, the same for every cube. What turns reach is valid.
-pub fn turns_333()
-    ensures acts { IsAction cube_action IsCube IsCubeTurn }
-    ensures taken_back { IsTakenBack cube_after opposite IsCube }
-    ensures kept_by_tidy { IsKeptByTidy cube_after face_merging IsCube }
-    ensures words { (c : CubeState) (w : List Letter) → IsCube c
-        → play cube_after c w ≡ option_map (cube_action.turned c) (composed_word cube_action cube_table w) }
-    ensures reached { (c : CubeState) → IsReached cube_puzzle c → IsCube c }
-{}
-
-/// The same of a 2x2x2.
-pub fn turns_222()
-    ensures acts { IsAction action_222 IsCorners222 (IsZeroSumRearrangement 7 3) }
-    ensures taken_back { IsTakenBack corners_after opposite IsCorners222 }
-    ensures kept_by_tidy { IsKeptByTidy corners_after face_merging IsCorners222 }
-    ensures words { (c : Orbit) (w : List Letter) → IsCorners222 c
-        → play corners_after c w ≡ option_map (action_222.turned c) (composed_word action_222 table_222 w) }
-    ensures reached { (c : Orbit) → IsReached puzzle_222 c → IsCorners222 c }
+/// The turns of both puzzles are lawful: they keep states valid, and composed turns act as one after the other; words are
+/// taken back and tidied, and each comes to one rearrangement, the same for every state. What turns reach is valid.
+pub fn turns()
+    ensures cube { HasLawfulTurns cube_action IsCube IsCubeTurn cube_table opposite face_merging solved_cube }
+    ensures corners { HasLawfulTurns action_222 IsCorners222 (IsZeroSumRearrangement 7 3) table_222 opposite face_merging solved_222 }
 {}
 
 /// The tables have each turn at the number that the notation gives it.
@@ -49,27 +33,25 @@ pub fn turn_numbers()
 
 /// Each number below the count is that of exactly one valid state, and each valid state has exactly one.
 pub fn numberings()
-    ensures cube { IsNumbering cube_count cube_at cube_number IsCube }
-    ensures corners { IsNumbering count_222 corners_222_at number_222 IsCorners222 }
-    ensures cubes { cube_count ≡ 2 ^ 11 * 3 ^ 7 * factorial 8 * (factorial 12 / 2) }
-    ensures states { count_222 ≡ 3 ^ 6 * factorial 7 }
+    ensures cube { IsNumbering cube_numbered }
+    ensures corners { IsNumbering numbered_222 }
+    ensures cubes { cube_numbered.count ≡ 2 ^ 11 * 3 ^ 7 * factorial 8 * (factorial 12 / 2) }
+    ensures states { numbered_222.count ≡ 3 ^ 6 * factorial 7 }
 {}
 
 /// Every turn counts once. The state after one turn needs one, and no more.
 pub fn minima()
-    ensures counts_333 { (w : List Letter) → count_in cube_puzzle.counted w ≡ length w }
-    ensures counts_222 { (w : List Letter) → count_in puzzle_222.counted w ≡ length w }
-    ensures one_needed { (s : Orbit) → corners_after solved_222 (face_turn_at 0) ≡ Some s → Needs puzzle_222 s 1 }
-    ensures one_enough { (s : Orbit) → corners_after solved_222 (face_turn_at 0) ≡ Some s → Needs puzzle_222 s 2 → ⊥ }
+    ensures counts { (w : List Letter)
+        → (count_in cube_puzzle.counted w ≡ length w) × (count_in puzzle_222.counted w ≡ length w) }
+    ensures one_turn { (s : Orbit) → corners_after solved_222 (face_turn_at 0) ≡ Some s
+        → Needs puzzle_222 s 1 × (Needs puzzle_222 s 2 → ⊥) }
     ensures twenty_enough { Needs cube_puzzle superflip 21 → ⊥ }
 {}
 
 /// Quarter turns have order 4; R U has order 105, R U' 63, and R U R' U' 6.
 pub fn orders()
     ensures quarters { (face : ℕ) (r : CubeTurn) → slice_get cube_quarters face ≡ Some r → IsOrder cube_action r 4 }
-    ensures right_up { IsWordOrder (numbered_word (3 ∷ 0 ∷ [])) 105 }
-    ensures right_up_back { IsWordOrder (numbered_word (3 ∷ 2 ∷ [])) 63 }
-    ensures commutator { IsWordOrder (numbered_word (3 ∷ 0 ∷ 5 ∷ 2 ∷ [])) 6 }
+    ensures words { All (λ row. IsWordOrder (numbered_word row.0) row.1) known_orders }
 {}
 
 /// Each table is what a quarter turn does to stickers.
@@ -79,6 +61,7 @@ pub fn stickers()
 
 /// A mirror shows turns the other way round. Turns of opposite faces can be exchanged. The 2x2x2's turns are those of the
 /// 3x3x3's corners, where DBL stands still.
+#[tactic(auto, unfolding(crate::proofs::OnLiterals::cubes_on_literals))]
 pub fn symmetries()
     ensures left_right { ShowsTurns left_right }
     ensures up_down { ShowsTurns up_down }
@@ -92,29 +75,30 @@ pub fn symmetries()
 {}
 
 /// States that are known from elsewhere, and a word to the superflip.
+#[tactic(auto, unfolding(crate::proofs::OnLiterals::cubes_on_literals))]
 pub fn known_states()
     ensures spelled { text_of superflip_word ≡ codes "U R2 F B R B2 R U2 L B2 R U' D' R2 F R' L B2 U2 F2" }
     ensures superflip { play cube_after solved_cube superflip_word ≡ Some superflip }
-    ensures first { cube_at 0 ≡ solved_cube }
-    ensures number_2047 { cube_at 2047 ≡ superflip }
-    ensures number_4478975 { cube_at 4478975 ≡ record {
+    ensures first { cube_numbered.state_at 0 ≡ solved_cube }
+    ensures number_2047 { cube_numbered.state_at 2047 ≡ superflip }
+    ensures number_4478975 { cube_numbered.state_at 4478975 ≡ record {
       corners = record { pieces = numbers_from 0 8; digits = 2 ∷ 2 ∷ 2 ∷ 2 ∷ 2 ∷ 2 ∷ 2 ∷ 1 ∷ [] };
       edges = superflip.edges;
     } }
-    ensures number_4478976 { cube_at 4478976 ≡ record {
+    ensures number_4478976 { cube_numbered.state_at 4478976 ≡ record {
       corners = record { pieces = 0 ∷ 1 ∷ 2 ∷ 3 ∷ 4 ∷ 5 ∷ 7 ∷ 6 ∷ []; digits = zeros 8 };
       edges = record { pieces = 0 ∷ 1 ∷ 2 ∷ 3 ∷ 4 ∷ 5 ∷ 6 ∷ 7 ∷ 8 ∷ 9 ∷ 11 ∷ 10 ∷ []; digits = zeros 12 };
     } }
-    ensures last { cube_at 43252003274489855999 ≡ record {
+    ensures last { cube_numbered.state_at 43252003274489855999 ≡ record {
       corners = record { pieces = 7 ∷ 6 ∷ 5 ∷ 4 ∷ 3 ∷ 2 ∷ 1 ∷ 0 ∷ []; digits = 2 ∷ 2 ∷ 2 ∷ 2 ∷ 2 ∷ 2 ∷ 2 ∷ 1 ∷ [] };
       edges = record { pieces = 11 ∷ 10 ∷ 9 ∷ 8 ∷ 7 ∷ 6 ∷ 5 ∷ 4 ∷ 3 ∷ 2 ∷ 1 ∷ 0 ∷ []; digits = superflip.edges.digits };
     } }
-    ensures after_up { corners_after solved_222 (face_turn_at 0) ≡ Some (corners_222_at 1574640) }
-    ensures corners_3015702 { corners_222_at 3015702 ≡ record {
+    ensures after_up { corners_after solved_222 (face_turn_at 0) ≡ Some (numbered_222.state_at 1574640) }
+    ensures corners_3015702 { numbered_222.state_at 3015702 ≡ record {
       pieces = 5 ∷ 4 ∷ 2 ∷ 1 ∷ 3 ∷ 0 ∷ 6 ∷ [];
       digits = 0 ∷ 0 ∷ 2 ∷ 2 ∷ 0 ∷ 2 ∷ 0 ∷ [];
     } }
-    ensures corners_last { corners_222_at 3674159 ≡ record {
+    ensures corners_last { numbered_222.state_at 3674159 ≡ record {
       pieces = 6 ∷ 5 ∷ 4 ∷ 3 ∷ 2 ∷ 1 ∷ 0 ∷ [];
       digits = 2 ∷ 2 ∷ 2 ∷ 2 ∷ 2 ∷ 2 ∷ 0 ∷ [];
     } }

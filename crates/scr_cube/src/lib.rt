@@ -4,10 +4,10 @@
 //! A cube is two orbits, of corners and of edges, and a 2x2x2 one; a puzzle is the table of its quarter turns over them
 //! (`specs/Cube333.antt`, `specs/Cube222.antt`), and all else follows by the one theory of `scr_orbit`. [`corner_turns`],
 //! [`edge_turns`] and [`turns_222`] are all turns as single rearrangements, for searches and coordinates; a wrong entry is
-//! refused. `laws` has what holds of both: that turns keep states valid, that words are taken back and tidied, that the
-//! numberings are one to one, and what ties the tables to the puzzles themselves: stickers that are carried, mirror images,
-//! orders, known words and known numbers. The crate stands on the notation of turns, on orbits, on the numbers of lists and
-//! on fair drawing.
+//! refused. [`FaceTurned`] turns both, by faces and by scrambles. `laws` has what holds of both: that turns are lawful, that
+//! the numberings are one to one, and what ties the tables to the puzzles themselves: stickers that are carried, mirror
+//! images, orders, known words and known numbers. The crate stands on the notation of turns, on orbits, on the numbers of
+//! lists and on fair drawing.
 #![tactic(auto)]
 
 mod corners;
@@ -15,13 +15,14 @@ mod cube;
 mod faces;
 pub mod laws;
 mod numbers;
-mod playing;
 mod tables;
+mod turning;
 
 pub use corners::Corners222;
 pub use cube::Cube;
 pub use numbers::{CubeNumbers, Numbers222};
 pub use tables::{corner_turns, edge_turns, turns_222};
+pub use turning::FaceTurned;
 
 #[cfg(test)]
 mod tests;

@@ -1,7 +1,9 @@
 //! The numbers of cubes, by which they are drawn.
 ghost use Rattle.std.specs.Prelude.{◌≡◌};
-ghost use Rattle.scr_cube.specs.Cube333.{IsCube, cube_bases, cube_digits};
-ghost use Rattle.scr_cube.specs.Cube222.{bases_222};
+ghost use Rattle.scr_cube.specs.Cube333.{IsCube, cube_bases, cube_digits, cube_numbered};
+ghost use Rattle.scr_cube.specs.Cube222.{bases_222, numbered_222};
+ghost use Rattle.scr_cube.specs.Numbered333.{cube_numbering};
+ghost use Rattle.scr_cube.specs.Numbered222.{numbering_222};
 
 use crate::corners::Corners222;
 use crate::cube::Cube;
@@ -9,6 +11,15 @@ use scr_draw::Numbering;
 use scr_orbit::Placed;
 use scr_rank::permutations::{is_odd, rank_permutation, unrank_with_parity};
 use scr_rank::{MixedRadix, PermRank, TwistRank};
+
+/// The numbering of the 3x3x3: the flips are the least digit, then come the twists, the list of corners, and half the number
+/// of the list of edges, since of two lists of edges the cube has the one with the corners' parity.
+#[derive(Clone, Copy)]
+pub struct CubeNumbers;
+
+/// The numbering of the 2x2x2: the twists are the least digit, then comes the list of corners.
+#[derive(Clone, Copy)]
+pub struct Numbers222;
 
 /// How many cubes there are.
 const CUBES: u128 = 43_252_003_274_489_856_000;
@@ -43,28 +54,12 @@ fn radix_222() -> MixedRadix<2>
     MixedRadix::new([729, 5040])
 }
 
-/// The numbering of the 3x3x3: the flips are least, then come the twists, the list of corners, and half the number of
-/// the list of edges, since of two lists of edges the cube has the one with the corners' parity.
-#[derive(Clone, Copy)]
-pub struct CubeNumbers;
-
 impl Numbering for CubeNumbers {
-    ghost use Rattle.scr_cube.specs.Cube333.{IsCube, cube_count, cube_at, cube_number};
-    ghost use Rattle.scr_cube.specs.Numbered333.{cube_numbering};
-
     type State = Cube;
 
-    ghost count = { λ _. cube_count };
+    ghost numbered = { λ _. cube_numbered };
 
-    ghost state_at = { λ _. cube_at };
-
-    ghost number_of = { λ _. cube_number };
-
-    ghost valid = { λ _. IsCube };
-
-    fn count(&self) -> u128 {
-        CUBES
-    }
+    ghost law = { λ _. cube_numbering };
 
     fn state_at(&self, number: u128) -> Cube {
         let [flips, twists, corners, edge_half] = cube_radix().unrank(number);
@@ -81,30 +76,18 @@ impl Numbering for CubeNumbers {
         cube_radix().rank(&digits_of(state))
     }
 
-    ghost law = { λ _. cube_numbering };
+    // 2^11 flips, 3^7 twists, 8! lists of corners, and 12!/2 lists of edges, those of the corners' parity.
+    fn count(&self) -> u128 {
+        CUBES
+    }
 }
 
-/// The numbering of the 2x2x2: the twists are least, then comes the list of corners.
-#[derive(Clone, Copy)]
-pub struct Numbers222;
-
 impl Numbering for Numbers222 {
-    ghost use Rattle.scr_cube.specs.Cube222.{IsCorners222, count_222, corners_222_at, number_222};
-    ghost use Rattle.scr_cube.specs.Numbered222.{numbering_222};
-
     type State = Corners222;
 
-    ghost count = { λ _. count_222 };
+    ghost numbered = { λ _. numbered_222 };
 
-    ghost state_at = { λ _. corners_222_at };
-
-    ghost number_of = { λ _. number_222 };
-
-    ghost valid = { λ _. IsCorners222 };
-
-    fn count(&self) -> u128 {
-        STATES_222
-    }
+    ghost law = { λ _. numbering_222 };
 
     fn state_at(&self, number: u128) -> Corners222 {
         let [twists, corners] = radix_222().unrank(number);
@@ -121,5 +104,7 @@ impl Numbering for Numbers222 {
         ])
     }
 
-    ghost law = { λ _. numbering_222 };
+    fn count(&self) -> u128 {
+        STATES_222
+    }
 }

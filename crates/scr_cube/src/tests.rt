@@ -1,9 +1,9 @@
 //! States that are known from elsewhere.
 ghost use Rattle.std.specs.Prelude.{◌<◌};
-ghost use Rattle.scr_cube.specs.Cube333.{cube_count};
-ghost use Rattle.scr_cube.specs.Cube222.{count_222};
+ghost use Rattle.scr_cube.specs.Cube333.{cube_numbered};
+ghost use Rattle.scr_cube.specs.Cube222.{numbered_222};
 
-use crate::{Corners222, Cube, CubeNumbers, Numbers222};
+use crate::{Corners222, Cube, CubeNumbers, FaceTurned, Numbers222};
 use scr_draw::Numbering;
 use scr_notation::{Event, parse};
 use std::process::Abort;
@@ -21,7 +21,7 @@ fn is_number(
     edges: [u8; 12],
     flips: [u8; 12],
 )
-    requires { number < cube_count }
+    requires { number < cube_numbered.count }
 {
     let cube = CubeNumbers.state_at(number);
     assert!(rt; Cube::from_lists(corners, twists, edges, flips) == Some(cube));
@@ -58,7 +58,7 @@ fn known_cubes(rt: HostRuntime) {
 }
 
 fn is_number_222(rt: &impl Abort, number: u128, corners: [u8; 7], twists: [u8; 7])
-    requires { number < count_222 }
+    requires { number < numbered_222.count }
 {
     let state = Numbers222.state_at(number);
     assert!(rt; Corners222::from_lists(corners, twists) == Some(state));

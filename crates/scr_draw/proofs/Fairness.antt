@@ -7,6 +7,7 @@ use Rattle.scr_draw.specs.Attempt.{is_accepted, quotient}
 use Rattle.scr_draw.specs.Count.{IsCount, count_below}
 use Rattle.scr_draw.specs.Drawn.{hit}
 use Rattle.scr_draw.specs.Fair.{IsFair}
+use Rattle.scr_combinatorics.specs.Numbered.{Numbered}
 use Rattle.scr_combinatorics.specs.Numbering.{IsNumbering}
 use Rattle.scr_draw.proofs.Accepted.{answered_tells, count_answered, is_answered}
 use Rattle.scr_draw.proofs.CountedDraws.{count_ways}
@@ -45,77 +46,71 @@ is_none_tells : {S : Type 0} (o : Option S) → IsTrue (is_none o) ↔ (o ≡ No
 is_none_tells (Some s) = (λ h. cc h, λ h. cc h)
 is_none_tells None = (λ h. refl, λ h. refl)
 
--- the answer of an accepted number gives a valid state exactly where it is that state's number
-same_state : {S : Type 0} (count : ℕ) (state_at : ℕ → S) (number_of : S → ℕ) (IsValid : S → Type 0)
-    → IsNumbering count state_at number_of IsValid → (s : S) → IsValid s → (i : ℕ) → i < count
-    → (i ≡ number_of s) ↔ (state_at i ≡ s)
-same_state count state_at number_of IsValid law s valid i below = (
-  λ e. ap state_at e ∙ law.one_to_one.state_again s valid,
-  λ e. sym (law.one_to_one.number_again i below) ∙ ap number_of e,
-)
+module _ {S : Type 0} (n : Numbered S) (law : IsNumbering n) where
+  -- the answer of an accepted number gives a valid state exactly where it is that state's number
+  same_state : (s : S) → n.IsValid s → (i : ℕ) → i < n.count → (i ≡ n.number_of s) ↔ (n.state_at i ≡ s)
+  same_state s valid i below = (
+    λ e. ap n.state_at e ∙ law.one_to_one.state_again s valid,
+    λ e. sym (law.one_to_one.number_again i below) ∙ ap n.number_of e,
+  )
 
--- each valid state is that of equally many accepted numbers
-pub state_equally : {S : Type 0} (count : ℕ) (state_at : ℕ → S) (number_of : S → ℕ) (IsValid : S → Type 0)
-    → IsNumbering count state_at number_of IsValid → (s : S) → IsValid s
-    → IsCount (λ v. IsTrue (is_accepted count v) × (state_at (v % count) ≡ s)) (2 ^ 96) (quotient count)
-state_equally count state_at number_of IsValid law s valid = record {
-  test = is_answered count (number_of s);
-  tells = λ v below.
-      let some = law.some in
-      let place : v % count < count = omega arith in
-      let same = same_state count state_at number_of IsValid law s valid (v % count) place in
-      let answered = answered_tells count (number_of s) v in (
-        λ h. let parts = answered.0 h in (parts.0, same.0 parts.1),
-        λ h. answered.1 (h.0, same.1 h.1),
-      );
-  counted = count_answered count (number_of s) (law.one_to_one.below s valid);
-}
+  -- each valid state is that of equally many accepted numbers
+  pub state_equally : (s : S) → n.IsValid s
+      → IsCount (λ v. IsTrue (is_accepted n.count v) × (n.state_at (v % n.count) ≡ s)) (2 ^ 96) (quotient n.count)
+  state_equally s valid = record {
+    test = is_answered n.count (n.number_of s);
+    tells = λ v below.
+        let some = law.some in
+        let place : v % n.count < n.count = omega arith in
+        let same = same_state s valid (v % n.count) place in
+        let answered = answered_tells n.count (n.number_of s) v in (
+          λ h. let parts = answered.0 h in (parts.0, same.0 parts.1),
+          λ h. answered.1 (h.0, same.1 h.1),
+        );
+    counted = count_answered n.count (n.number_of s) (law.one_to_one.below s valid);
+  }
 
--- and is hit by as many where it passes the test
-hits_equally : {S : Type 0} (count : ℕ) (state_at : ℕ → S) (number_of : S → ℕ) (IsValid : S → Type 0) (permits : S → Bool)
-    → IsNumbering count state_at number_of IsValid → (s : S) → IsValid s → IsTrue (permits s)
-    → IsCount (λ v. hit count state_at permits v ≡ Some s) (2 ^ 96) (quotient count)
-hits_equally count state_at number_of IsValid permits law s valid passes =
-    let all = state_equally count state_at number_of IsValid law s valid in record {
-      test = all.test;
-      tells = λ v below. (
-        λ h. let parts = (all.tells v below).0 h in hit_from count state_at permits v s parts.0 parts.1 passes,
-        λ h. let parts = hit_parts count state_at permits v s h in (all.tells v below).1 (parts.0, parts.1),
-      );
-      counted = all.counted;
-    }
+  module _ (permits : S → Bool) where
+    -- and is hit by as many where it passes the test
+    hits_equally : (s : S) → n.IsValid s → IsTrue (permits s)
+        → IsCount (λ v. hit n.count n.state_at permits v ≡ Some s) (2 ^ 96) (quotient n.count)
+    hits_equally s valid passes =
+        let all = state_equally s valid in record {
+          test = all.test;
+          tells = λ v below. (
+            λ h. let parts = (all.tells v below).0 h in hit_from n.count n.state_at permits v s parts.0 parts.1 passes,
+            λ h. let parts = hit_parts n.count n.state_at permits v s h in (all.tells v below).1 (parts.0, parts.1),
+          );
+          counted = all.counted;
+        }
 
--- a state that a number hits is valid and passes the test
-hit_is_permitted : {S : Type 0} (count : ℕ) (state_at : ℕ → S) (number_of : S → ℕ) (IsValid : S → Type 0) (permits : S → Bool)
-    → IsNumbering count state_at number_of IsValid → (v : ℕ) (s : S) → hit count state_at permits v ≡ Some s
-    → IsValid s × IsTrue (permits s)
-hit_is_permitted count state_at number_of IsValid permits law v s h =
-    let parts = hit_parts count state_at permits v s h in
-    let some = law.some in
-    let place : v % count < count = omega arith in
-    (rw parts.1 at (law.one_to_one.valid (v % count) place), parts.2)
+    -- a state that a number hits is valid and passes the test
+    hit_is_permitted : (v : ℕ) (s : S) → hit n.count n.state_at permits v ≡ Some s → n.IsValid s × IsTrue (permits s)
+    hit_is_permitted v s h =
+        let parts = hit_parts n.count n.state_at permits v s h in
+        let some = law.some in
+        let place : v % n.count < n.count = omega arith in
+        (rw parts.1 at (law.one_to_one.valid (v % n.count) place), parts.2)
 
--- fairness, for the valid states that pass a test
-pub fair : {S : Type 0} (count : ℕ) (state_at : ℕ → S) (number_of : S → ℕ) (IsValid : S → Type 0) (permits : S → Bool)
-    → IsNumbering count state_at number_of IsValid
-    → IsFair count state_at (hit count state_at permits) (λ s. IsValid s × IsTrue (permits s))
-fair count state_at number_of IsValid permits law =
-    let missed : IsCount (λ v. hit count state_at permits v ≡ None) (2 ^ 96) (count_below (λ v. is_none (hit count state_at permits v)) (2 ^ 96)) =
-    record {
-      test = λ v. is_none (hit count state_at permits v);
-      tells = λ v below. is_none_tells (hit count state_at permits v);
-      counted = refl;
-    } in record {
-      some = quotient_some count law.some law.fits;
-      equally = λ s h. state_equally count state_at number_of IsValid law s h.0;
-      hit_equally = λ s h. hits_equally count state_at number_of IsValid permits law s h.0 h.1;
-      permitted = λ v s below h. hit_is_permitted count state_at number_of IsValid permits law v s h;
-      misses = count_below (λ v. is_none (hit count state_at permits v)) (2 ^ 96);
-      missed = missed;
-      same_ways = λ len s h.
-          count_ways s (hit count state_at permits) (2 ^ 96) (quotient count) _ (lit< tt)
-          (hits_equally count state_at number_of IsValid permits law s h.0 h.1) missed len;
-    }
+    -- fairness, for the valid states that pass a test
+    pub fair : IsFair n.count n.state_at (hit n.count n.state_at permits) (λ s. n.IsValid s × IsTrue (permits s))
+    fair =
+        let misses : ℕ = count_below (λ v. is_none (hit n.count n.state_at permits v)) (2 ^ 96) in
+        let missed : IsCount (λ v. hit n.count n.state_at permits v ≡ None) (2 ^ 96) misses =
+        record {
+          test = λ v. is_none (hit n.count n.state_at permits v);
+          tells = λ v below. is_none_tells (hit n.count n.state_at permits v);
+          counted = refl;
+        } in record {
+          some = quotient_some n.count law.some law.fits;
+          equally = λ s h. state_equally s h.0;
+          hit_equally = λ s h. hits_equally s h.0 h.1;
+          permitted = λ v s below h. hit_is_permitted v s h;
+          misses = misses;
+          missed = missed;
+          same_ways = λ len s h.
+              count_ways s (hit n.count n.state_at permits) (2 ^ 96) (quotient n.count) _ (lit< tt) (hits_equally s h.0 h.1) missed len;
+        }
 
 -- fairness, for other words on the same states
 pub fair_for : {S : Type 0} {count : ℕ} {state_at : ℕ → S} {hits : ℕ → Option S} (P Q : S → Type 0) → ((s : S) → P s ↔ Q s)

@@ -3,7 +3,8 @@ use Rattle.std.proofs.Common.{◌≡◌, ℕ, zero, suc, ◌+◌, ◌*◌, ◌<�
 use Rattle.std.specs.Option.{option_or}
 use Rattle.std.specs.Prelude.{◌↔◌}
 use Rattle.scr_draw.specs.Attempt.{attempt_value, attempt_values}
-use Rattle.scr_draw.specs.Drawn.{IsFirstHit, drawn, numbers_read}
+use Rattle.scr_draw.specs.Drawn.{drawn}
+use Rattle.scr_draw.specs.FirstHit.{IsFirstHit, numbers_read}
 
 -- attempt tried + 1 from a place on is attempt `tried` from the next place on
 next_place : (place tried : ℕ) → place + 3 + 3 * tried ≡ place + 3 * suc tried

@@ -3,7 +3,8 @@
 use Rattle.std.proofs.Common.{◌≡◌, ℕ, suc, ◌+◌, ◌-◌, ◌*◌, ◌%◌, ◌<◌, Bool, true, false, Option, Some, None, List, [], ◌∷◌, refl, sym, ap, ◌∙◌, arith}
 use Rattle.std.specs.Prelude.{if◌then◌else◌, IsTrue}
 use Rattle.scr_draw.specs.Attempt.{answer, attempt_value, attempt_values, is_accepted}
-use Rattle.scr_draw.specs.Drawn.{drawn, hit, numbers_read}
+use Rattle.scr_draw.specs.Drawn.{drawn, hit}
+use Rattle.scr_draw.specs.FirstHit.{numbers_read}
 
 pub record IsTried {S : Type 0} (count : ℕ) (state_at : ℕ → S) (permits : S → Bool) (word : ℕ → ℕ) (place all : ℕ) (word_now : ℕ → ℕ) (place_now tried : ℕ) : Type 0 where
   pub same_words : word_now ≡ word

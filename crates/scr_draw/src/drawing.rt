@@ -3,11 +3,13 @@
 ghost use Rattle.std.specs.Prelude.{◌≡◌, ◌+◌, ◌*◌, ◌^◌, ◌≤◌, IfOk, IfErr, IsTrue, ok_or};
 ghost use Rattle.std.specs.Result.{result_ok};
 ghost use Rattle.scr_draw.specs.Attempt.{attempt_values};
-ghost use Rattle.scr_draw.specs.Drawn.{drawn, hit, numbers_read};
-ghost use Rattle.scr_draw.specs.StateSpace.{StateSpace, Draws};
+ghost use Rattle.scr_draw.specs.Drawn.{drawn, hit};
+ghost use Rattle.scr_draw.specs.FirstHit.{numbers_read};
+ghost use Rattle.scr_play.specs.Reach.{IsPermitted};
+ghost use Rattle.scr_draw.specs.StateSpace.{Draws, space_of};
 
 use crate::rejection::{attempt_within, limit_of};
-use crate::{Numbering, Permit};
+use crate::{Numbering, Permit, RandomState};
 use scr_words::Words;
 
 /// No attempt gave a permitted state.
@@ -31,15 +33,13 @@ pub fn draw<W: Words, P: Numbering + Permit<P::State>>(
     requires least_in_range { least ≤ P.greatest puzzle.now }
     requires few { attempts ≤ 1000000 }
     requires room { W.taken words.old ≤ 2 ^ 62 }
-    ensures state { let hits = hit (P.count puzzle.now) (P.state_at puzzle.now) (λ s. P.needs puzzle.now s least) in
+    ensures state { let n = P.numbered puzzle.now in
+        let hits = hit n.count n.state_at (λ s. P.needs puzzle.now s least) in
         let values = attempt_values (W.word_at words.old) (W.taken words.old) attempts in
         result ≡ ok_or (drawn hits values) (record { words = 3 * attempts }) }
-    ensures draws { let space : StateSpace P.State =
-        record { count = P.count puzzle.now; state_at = P.state_at puzzle.now; puzzle = P.puzzle puzzle.now } in
-        let values = attempt_values (W.word_at words.old) (W.taken words.old) attempts in
-        Draws space least values (result_ok result) }
-    ensures permitted { IfOk result (λ s. P.valid puzzle.now s × IsTrue (P.needs puzzle.now s least)) }
-    ensures taken { let hits = hit (P.count puzzle.now) (P.state_at puzzle.now) (λ s. P.needs puzzle.now s least) in
+    ensures permitted { IfOk result (λ s. (P.numbered puzzle.now).IsValid s × IsTrue (P.needs puzzle.now s least)) }
+    ensures taken { let n = P.numbered puzzle.now in
+        let hits = hit n.count n.state_at (λ s. P.needs puzzle.now s least) in
         let values = attempt_values (W.word_at words.old) (W.taken words.old) attempts in
         W.taken words.new ≡ W.taken words.old + 3 * numbers_read hits values }
     ensures at_most { W.taken words.new ≤ W.taken words.old + 3 * attempts }
@@ -59,4 +59,25 @@ pub fn draw<W: Words, P: Numbering + Permit<P::State>>(
     Err(DrawLimit {
         words: 3 * attempts,
     })
+}
+
+/// The same for an event whose numbered states are those that turns reach: what is drawn is a state that turns reach and that
+/// needs at least `least` turns, the first that the attempts hit.
+pub fn draw_permitted<W: Words, P: RandomState>(
+    words: &mut W,
+    event: &P,
+    least: u32,
+    attempts: u32,
+) -> Result<P::State, DrawLimit>
+    requires least_in_range { least ≤ P.greatest event.now }
+    requires few { attempts ≤ 1000000 }
+    requires room { W.taken words.old ≤ 2 ^ 62 }
+    ensures draws { let space = space_of (P.numbered event.now) (P.puzzle event.now) in
+        let values = attempt_values (W.word_at words.old) (W.taken words.old) attempts in
+        Draws space least values (result_ok result) }
+    ensures valid { IfOk result (P.numbered event.now).IsValid }
+    ensures permitted { IfOk result (IsPermitted (P.puzzle event.now) least) }
+    ensures limit { IfErr result (λ limit. limit.words ≡ 3 * attempts) }
+{
+    draw(words, event, least, attempts)
 }

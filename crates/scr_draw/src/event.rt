@@ -1,6 +1,7 @@
 //! What an event gives for drawing: numbered states, and a test of them.
 
 ghost use Rattle.std.specs.Prelude.{◌≡◌, ℕ, ◌<◌, ◌≤◌, ◌↔◌, Bool, IsTrue};
+ghost use Rattle.scr_combinatorics.specs.Numbered.{Numbered};
 ghost use Rattle.scr_combinatorics.specs.Numbering.{IsNumbering};
 ghost use Rattle.scr_play.specs.Reach.{Puzzle, IsReached, Needs};
 
@@ -10,34 +11,25 @@ pub trait Numbering {
     /// A state.
     type State: Drop;
 
-    /// How many states there are.
-    ghost count: { Self → ℕ };
-
-    /// The state of a number.
-    ghost state_at: { Self → ℕ → Self.State };
-
-    /// The number of a state.
-    ghost number_of: { Self → Self.State → ℕ };
-
-    /// Which states are valid.
-    ghost valid: { Self → Self.State → Type 0 };
+    /// How many states there are, the state of each number, the number of each state, and which states are valid.
+    ghost numbered: { Self → Numbered Self.State };
 
     /// How many states there are, from 1 to 2^96.
     fn count(&self) -> u128
-        ensures { result ≡ count self.now };
+        ensures { result ≡ (numbered self.now).count };
 
     /// The state of a number, which is below the count.
     fn state_at(&self, number: u128) -> Self::State
-        requires { number < count self.now }
-        ensures { result ≡ state_at self.now number };
+        requires { number < (numbered self.now).count }
+        ensures { result ≡ (numbered self.now).state_at number };
 
     /// The number of a valid state.
     fn number_of(&self, state: &Self::State) -> u128
-        requires { valid self.now state.now }
-        ensures { result ≡ number_of self.now state.now };
+        requires { (numbered self.now).IsValid state.now }
+        ensures { result ≡ (numbered self.now).number_of state.now };
 
     /// The two are inverse.
-    ghost law: { (puzzle : Self) → IsNumbering (count puzzle) (state_at puzzle) (number_of puzzle) (valid puzzle) };
+    ghost law: { (puzzle : Self) → IsNumbering (numbered puzzle) };
 }
 
 /// The test of an event's minimum.
@@ -64,5 +56,6 @@ pub trait Permit<S> {
 /// An event whose scrambles are of random states: the states that are numbered are those that turns reach.
 pub trait RandomState: Numbering + Permit<<Self as Numbering>::State> {
     /// The valid states are those that turns reach.
-    ghost reached: { (event : Self) (s : Self.State) → Self.valid event s ↔ IsReached (Self.puzzle event) s };
+    ghost reached: { (event : Self) (s : Self.State)
+        → (Self.numbered event).IsValid s ↔ IsReached (Self.puzzle event) s };
 }

@@ -6,9 +6,11 @@ ghost use Rattle.scr_combinatorics.specs.Numbering.{IsOneToOne};
 ghost use Rattle.scr_words.specs.Stream.{stream_word};
 ghost use Rattle.scr_draw.specs.Attempt.{is_accepted, quotient, answer, attempt_value, attempt_values};
 ghost use Rattle.scr_draw.specs.Count.{IsCount, count_below};
-ghost use Rattle.scr_draw.specs.Drawn.{IsFirstHit, drawn, hit, numbers_read};
+ghost use Rattle.scr_draw.specs.Drawn.{drawn, hit};
+ghost use Rattle.scr_draw.specs.FirstHit.{IsFirstHit, numbers_read};
 ghost use Rattle.scr_draw.specs.Fair.{IsFair, ways};
-ghost use Rattle.scr_draw.specs.StateSpace.{StateSpace, HasOneOutcome, IsFairFor};
+ghost use Rattle.scr_draw.specs.StateSpace.{IsFairFor, space_of};
+ghost use Rattle.scr_draw.specs.OneOutcome.{HasOneOutcome};
 
 use crate::{Numbering, Permit, RandomState};
 
@@ -21,29 +23,28 @@ pub fn each_number_once()
 /// Each number below the count is the answer of equally many accepted numbers below 2^96, and of at
 /// least one; each valid state is that of as many.
 pub fn each_equally<P: Numbering>(puzzle: &P)
-    ensures some { 1 ≤ quotient (P.count puzzle.now) }
-    ensures numbers { let count = P.count puzzle.now in
+    ensures some { 1 ≤ quotient (P.numbered puzzle.now).count }
+    ensures numbers { let count = (P.numbered puzzle.now).count in
         (i : ℕ) → i < count
         → IsCount (λ v. IsTrue (is_accepted count v) × (v % count ≡ i)) (2 ^ 96) (quotient count) }
-    ensures states { let count = P.count puzzle.now in
-        (s : P.State) → P.valid puzzle.now s
-        → IsCount (λ v. IsTrue (is_accepted count v) × (P.state_at puzzle.now (v % count) ≡ s)) (2 ^ 96) (quotient count) }
+    ensures states { let n = P.numbered puzzle.now in
+        (s : P.State) → n.IsValid s
+        → IsCount (λ v. IsTrue (is_accepted n.count v) × (n.state_at (v % n.count) ≡ s)) (2 ^ 96) (quotient n.count) }
 {}
 
 /// Drawing is fair: for each number of attempts, every valid state that needs `least` is drawn by
 /// the same number of lists of numbers below 2^96. `least` is in the event's range.
 pub fn same_ways<P: Numbering + Permit<P::State>>(puzzle: &P, least: u32)
     requires { least ≤ P.greatest puzzle.now }
-    ensures { IsFair (P.count puzzle.now) (P.state_at puzzle.now)
-        (hit (P.count puzzle.now) (P.state_at puzzle.now) (λ s. P.needs puzzle.now s least))
-        (λ s. P.valid puzzle.now s × IsTrue (P.needs puzzle.now s least)) }
+    ensures { let n = P.numbered puzzle.now in
+        IsFair n.count n.state_at (hit n.count n.state_at (λ s. P.needs puzzle.now s least))
+        (λ s. n.IsValid s × IsTrue (P.needs puzzle.now s least)) }
 {}
 
 /// Where the valid states are those that turns reach, the states that are drawn are those that turns reach and that need
 /// a minimum of the event's range, each by the same number of lists.
 pub fn drawn_fairly<P: RandomState>(event: &P)
-    ensures { let space : StateSpace P.State =
-        record { count = P.count event.now; state_at = P.state_at event.now; puzzle = P.puzzle event.now } in
+    ensures { let space = space_of (P.numbered event.now) (P.puzzle event.now) in
         (least : ℕ) → least ≤ P.greatest event.now → IsFairFor space least }
 {}
 
@@ -57,14 +58,17 @@ pub fn each_list_once()
 /// and the attempts up to it are read. `least` is in the event's range.
 pub fn first_hit<P: Numbering + Permit<P::State>>(puzzle: &P, least: u32)
     requires { least ≤ P.greatest puzzle.now }
-    ensures state { let hits = hit (P.count puzzle.now) (P.state_at puzzle.now) (λ s. P.needs puzzle.now s least) in
+    ensures state { let n = P.numbered puzzle.now in
+        let hits = hit n.count n.state_at (λ s. P.needs puzzle.now s least) in
         (word : ℕ → ℕ) (place all : ℕ) (s : P.State) →
         (drawn hits (attempt_values word place all) ≡ Some s) ↔ ((tried : ℕ) × IsFirstHit hits word place all s tried) }
-    ensures none { let hits = hit (P.count puzzle.now) (P.state_at puzzle.now) (λ s. P.needs puzzle.now s least) in
+    ensures none { let n = P.numbered puzzle.now in
+        let hits = hit n.count n.state_at (λ s. P.needs puzzle.now s least) in
         (word : ℕ → ℕ) (place all : ℕ) →
         (drawn hits (attempt_values word place all) ≡ None)
         ↔ ((tried : ℕ) → tried < all → hits (attempt_value word (place + 3 * tried)) ≡ None) }
-    ensures read { let hits = hit (P.count puzzle.now) (P.state_at puzzle.now) (λ s. P.needs puzzle.now s least) in
+    ensures read { let n = P.numbered puzzle.now in
+        let hits = hit n.count n.state_at (λ s. P.needs puzzle.now s least) in
         (word : ℕ → ℕ) (place all : ℕ) (s : P.State) (tried : ℕ) → IsFirstHit hits word place all s tried
         → numbers_read hits (attempt_values word place all) ≡ suc tried }
 {}
@@ -72,8 +76,7 @@ pub fn first_hit<P: Numbering + Permit<P::State>>(puzzle: &P, least: u32)
 /// Numbers have one outcome at each minimum of the event's range, whichever test tells what states need: the state that the
 /// first number which doesn't miss hits, and it is permitted; or none, where each misses.
 pub fn one_outcome<P: RandomState>(event: &P)
-    ensures { let space : StateSpace P.State =
-        record { count = P.count event.now; state_at = P.state_at event.now; puzzle = P.puzzle event.now } in
+    ensures { let space = space_of (P.numbered event.now) (P.puzzle event.now) in
         (least : ℕ) → least ≤ P.greatest event.now → HasOneOutcome space least }
 {}
 

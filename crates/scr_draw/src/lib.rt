@@ -12,7 +12,7 @@ mod event;
 pub mod laws;
 mod rejection;
 
-pub use drawing::{DrawLimit, draw};
+pub use drawing::{DrawLimit, draw, draw_permitted};
 pub use event::{Numbering, Permit, RandomState};
 pub use rejection::attempt;
 

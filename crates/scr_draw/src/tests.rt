@@ -13,13 +13,12 @@ impl Numbering for Row {
 
     type State = u128;
 
-    ghost count = { λ _. 3674160 };
-
-    ghost state_at = { λ _ i. i };
-
-    ghost number_of = { λ _ s. s };
-
-    ghost valid = { λ _ s. s < 3674160 };
+    ghost numbered = { λ _. record {
+      count = 3674160;
+      state_at = λ i. i;
+      number_of = λ s. s;
+      IsValid = λ s. s < 3674160;
+    } };
 
     fn count(&self) -> u128 {
         STATES

@@ -8,14 +8,16 @@ use Rattle.std.proofs.lemmas.List.Elements.{All-cons, All-nil, All-head, All-tai
 use borrow.Author.Tests.{lt-ltb}
 use Rattle.scr_notation.specs.declared.event.Event.{Event}
 use Rattle.scr_notation.specs.Event.{id_of}
-use Rattle.scr_text.specs.Lines.{line_words, IsLine, IsWord}
+use Rattle.scr_text.specs.Lines.{line_words}
+use Rattle.scr_text.specs.Parts.{IsLine, IsWord}
 use Rattle.scr_text.specs.Numbers.{number_between}
 use Rattle.scr_text.proofs.NumberLaws.{in_range-some, number_of_text-decimal}
 use Rattle.scr_text.proofs.LineLaws.{lines_of-text_of_lines, line_words-join_with_byte, join_with_byte-plain, IsWord-plain, IsLine-plain, IsWord-decimal, decimal-plain}
 use Rattle.scr_list.specs.declared.event.Minima.{Minima}
 use Rattle.scr_list.specs.declared.round.Round.{Round}
 use Rattle.scr_list.specs.Events.{rules_of, greatest_of, usual_of}
-use Rattle.scr_list.specs.Rounds.{IsRound, IsRounds, least_of, set_least, named_round, some_round, round_of_words, rounds_of}
+use Rattle.scr_list.specs.Rounds.{IsRound, least_of, set_least, named_round, some_round, round_of_words, rounds_of}
+use Rattle.scr_list.specs.RoundLists.{IsRounds}
 use Rattle.scr_list.specs.Printed.{least_words, round_words, round_line, text_of_rounds}
 use Rattle.scr_list.proofs.EventLemmas.{id-IsId, built_event_of-id}
 use Rattle.scr_list.proofs.RoundLemmas.{read_on, read_on-none, read_on-round, read_on-end, rounds_of-start}

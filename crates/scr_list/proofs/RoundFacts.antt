@@ -11,7 +11,8 @@ use Rattle.scr_list.specs.declared.round.Round.{Round}
 use Rattle.scr_list.specs.declared.fault.ListCause.{ListCause}
 use Rattle.scr_list.specs.declared.fault.ListFault.{ListFault}
 use Rattle.scr_list.specs.Events.{rules_of, greatest_of, usual_of, built_event_of}
-use Rattle.scr_list.specs.Rounds.{IsRound, IsRounds, least_of, or_cause, named_round, some_round, round_of_words, then_rounds, rounds_of_lines, rounds_of}
+use Rattle.scr_list.specs.Rounds.{IsRound, least_of, or_cause, named_round, some_round, round_of_words, then_rounds, rounds_of_lines, rounds_of}
+use Rattle.scr_list.specs.RoundLists.{IsRounds}
 use Rattle.scr_list.proofs.EventLemmas.{built_event_of-is_built, id-IsId}
 
 -- a number between two others

@@ -2,7 +2,8 @@
 use Rattle.std.proofs.Common.{◌≡◌, ℕ, ◌+◌, ◌<◌, ◌≤◌, Bool, true, false, cond, List, [], ◌∷◌, ◌++◌, length, Option, Some, None, Result, Ok, Err, refl, sym, ap, ◌∙◌, append_assoc, append-nil, length-append, Bor, arith}
 use Rattle.std.specs.Prelude.{slice_get, nat_lt, option_copied, IfSome}
 use borrow.Author.Tests.{lt-ltb, le-ltb, ltb-true, ltb-false}
-use Rattle.scr_text.specs.Lines.{lines_of, more_lines, line_words}
+use Rattle.scr_text.specs.Lines.{lines_of, line_words}
+use Rattle.scr_text.specs.Parts.{more_lines}
 use Rattle.scr_list.specs.declared.round.Round.{Round}
 use Rattle.scr_list.specs.declared.fault.ListCause.{ListCause}
 use Rattle.scr_list.specs.declared.fault.ListCause.TheVariants.{Words}

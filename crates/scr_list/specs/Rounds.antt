@@ -1,5 +1,5 @@
 -- The round list: what rounds a competition's list names, as a function of its bytes. The grammar is our own choice.
-use Rattle.std.specs.Prelude.{ℕ, ◌+◌, ◌≤◌, if◌then◌else◌, nat_lt, Option, Some, None, List, [], ◌∷◌, Result, Ok, Err, IsTrue, codes, length, All}
+use Rattle.std.specs.Prelude.{ℕ, ◌+◌, ◌≤◌, if◌then◌else◌, nat_lt, Option, Some, None, List, [], ◌∷◌, Result, Ok, Err, IsTrue, codes, length}
 use Rattle.std.specs.Str.{bytes_eq}
 use Rattle.scr_text.specs.Lines.{lines_of, line_words}
 use Rattle.scr_text.specs.Numbers.{number_between}
@@ -25,11 +25,6 @@ pub record IsRound (round : Round) : Type 0 where
   pub some_groups : 1 ≤ round.groups
   pub few_groups : round.groups ≤ 26
   pub least : round.least ≤ greatest_of (rules_of round.event).minima
-
--- rounds that a list can name
-pub record IsRounds (rounds : List Round) : Type 0 where
-  pub each : All IsRound rounds
-  pub few : length rounds ≤ most_rounds
 
 -- ---- a line
 

@@ -9,7 +9,8 @@ ghost use Rattle.scr_list.specs.declared.fault.ListFault.{ListFault};
 ghost use Rattle.scr_list.specs.declared.fault.ListFault.TheVariants.{Read, TooLong};
 ghost use Rattle.scr_list.specs.Printed.{text_of_rounds};
 ghost use Rattle.scr_list.specs.Reading.{ReadsList, ReadsNoList};
-ghost use Rattle.scr_list.specs.Rounds.{IsRounds, rounds_of};
+ghost use Rattle.scr_list.specs.Rounds.{rounds_of};
+ghost use Rattle.scr_list.specs.RoundLists.{IsRounds};
 
 use crate::round::Round;
 

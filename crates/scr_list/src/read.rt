@@ -3,7 +3,7 @@
 ghost use Rattle.std.specs.Prelude.{◌≡◌, ◌<◌, ◌≤◌, length, take, Ok, IfOk, OnErr, IfErr};
 ghost use Rattle.scr_outside.specs.Bytes.{IsSpent};
 ghost use Rattle.scr_outside.specs.Change.{change_of, Gives};
-ghost use Rattle.scr_list.specs.Rounds.{IsRounds};
+ghost use Rattle.scr_list.specs.RoundLists.{IsRounds};
 ghost use Rattle.scr_list.specs.Reading.{ReadsList, ReadsInPart, ReadsNoList};
 
 use crate::fault::ListFault;

@@ -4,7 +4,8 @@ ghost use Rattle.std.specs.Prelude.{◌≡◌, ◌≢◌, length, option_copied,
 ghost use Rattle.scr_list.specs.declared.fault.ListFault.TheVariants.{Read};
 ghost use Rattle.scr_text.specs.Lines.{line_words};
 ghost use Rattle.scr_text.specs.Numbers.{number_between};
-ghost use Rattle.scr_list.specs.Rounds.{rounds_of, round_of_words, named_round, placed_round, least_of, IsRounds};
+ghost use Rattle.scr_list.specs.Rounds.{rounds_of, round_of_words, named_round, placed_round, least_of};
+ghost use Rattle.scr_list.specs.RoundLists.{IsRounds};
 ghost use Rattle.scr_list.specs.Reading.{listed};
 
 use crate::event::{Minima, built_event, event_rules};

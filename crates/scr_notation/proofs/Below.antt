@@ -1,10 +1,9 @@
 -- Tests computed over whole ranges.
 use Rattle.std.proofs.Common.{◌≡◌, ℕ, ◌<◌, Bool, true, false, zero, suc, IsTrue, List, [], ◌∷◌, length, refl, ap, ◌∙◌, eqb, subst, arith, eq-eqb, sym, ⊎_elim}
-use Rattle.std.specs.Prelude.{◌&&◌, ◌||◌, ◌==◌, not, All}
+use Rattle.std.specs.Prelude.{◌&&◌, ◌||◌, ◌==◌, not, All, slice_index}
 use Rattle.std.specs.List.{list_any, list_all}
 use Rattle.std.proofs.lemmas.Bool.{false≢true, cases_lt, eqb-true}
 use Rattle.std.proofs.lemmas.List.Elements.{All-nil, All-cons}
-use Rattle.std.specs.Prelude.{slice_index}
 
 pub and_first : (a b : Bool) → IsTrue (a && b) → IsTrue a
 and_first true b h = refl

@@ -13,8 +13,9 @@ use Rattle.scr_notation.specs.declared.event.Event.{Event}
 use Rattle.scr_notation.specs.declared.turn.Turn.{Turn}
 use Rattle.scr_notation.specs.declared.reading.NotationFault.{NotationFault}
 use Rattle.scr_notation.specs.declared.reading.NotationFault.TheVariants.{Spelling, TooLong}
-use Rattle.scr_notation.specs.Turns.{permits, spelling}
-use Rattle.scr_notation.specs.Written.{Written, IsWritten, text_of, with_word}
+use Rattle.scr_notation.specs.Turns.{permits}
+use Rattle.scr_notation.specs.Spelling.{spelling, text_of}
+use Rattle.scr_notation.specs.Written.{Written, IsWritten, with_word}
 use Rattle.scr_notation.specs.Reading.{words_of, place_after, IsSpelling, IsFault, IsFirstFault, IsReadAs, IsReadSoFar}
 use Rattle.scr_notation.proofs.TurnLaws.{IsWord-spelling}
 use Rattle.scr_notation.proofs.TextLaws.{words_of-some, words_of-text_of, text_of-only, joined-more, length-text_of, place_after-more, place_after-short}

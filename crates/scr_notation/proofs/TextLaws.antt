@@ -7,8 +7,8 @@ use Rattle.std.proofs.lemmas.List.Splits.{slice_split_none, slice_split_at}
 use Rattle.std.proofs.lemmas.List.Elements.{All-nil, All-cons, All-head, All-tail}
 use Rattle.scr_notation.specs.declared.event.Event.{Event}
 use Rattle.scr_notation.specs.declared.turn.Turn.{Turn}
-use Rattle.scr_notation.specs.Turns.{permits, spelling}
-use Rattle.scr_notation.specs.Written.{text_of}
+use Rattle.scr_notation.specs.Turns.{permits}
+use Rattle.scr_notation.specs.Spelling.{spelling, text_of}
 use Rattle.scr_notation.specs.Reading.{words_of, place_after}
 use Rattle.scr_notation.proofs.TurnLaws.{IsWord, IsWord-spelling, one_spelling}
 

@@ -12,7 +12,9 @@ use Rattle.scr_notation.specs.Event.{kind_of}
 use Rattle.scr_notation.specs.Kinds.{IsKind}
 use Rattle.scr_notation.specs.declared.turn.Turn.{Turn}
 use Rattle.scr_notation.specs.declared.turn.Turn.TheVariants.{Face, Pins, Over}
-use Rattle.scr_notation.specs.Turns.{is_face_turn, is_clock_turn, has_turn, permits, pin_sets, hours_text, spelling, turn_count, face_turn_at, clock_turn_at, turn_at}
+use Rattle.scr_notation.specs.Turns.{is_face_turn, has_turn, permits, turn_count, face_turn_at, clock_turn_at, turn_at}
+use Rattle.scr_notation.specs.Spelling.{hours_text, spelling}
+use Rattle.scr_notation.specs.Pins.{is_clock_turn, pin_sets}
 use Rattle.scr_notation.proofs.Below.{and_first, and_second, all_below, at_below, same, not_same, place_of, All-from_test}
 
 -- each numbered turn of a Clock is one of its turns

@@ -12,7 +12,8 @@ use Rattle.scr_notation.specs.declared.event.Kind.TheVariants.{Faces, PinSets, N
 use Rattle.scr_notation.specs.declared.turn.Turn.{Turn}
 use Rattle.scr_notation.specs.declared.turn.Turn.TheVariants.{Face, Pins, Over}
 use Rattle.scr_notation.specs.Event.{kind_of}
-use Rattle.scr_notation.specs.Turns.{is_face_turn, is_clock_turn, pin_sets, has_turn, permits}
+use Rattle.scr_notation.specs.Turns.{is_face_turn, has_turn, permits}
+use Rattle.scr_notation.specs.Pins.{is_clock_turn, pin_sets}
 use Rattle.scr_notation.specs.Turning.{opposite, are_of_one_face, face_turns_merged, face_merging, is_of_faces}
 use Rattle.scr_notation.proofs.Below.{and_first, and_second}
 use Rattle.scr_notation.proofs.TurnLaws.{face_turn_parts, face_turn_of_parts, below_twelve}

@@ -5,7 +5,8 @@ use Rattle.scr_notation.specs.declared.event.Event.{Event}
 use Rattle.scr_notation.specs.declared.turn.Turn.{Turn}
 use Rattle.scr_notation.specs.declared.reading.NotationFault.{NotationFault}
 use Rattle.scr_notation.specs.declared.reading.NotationFault.TheVariants.{Spelling, TooLong}
-use Rattle.scr_notation.specs.Turns.{permits, spelling}
+use Rattle.scr_notation.specs.Turns.{permits}
+use Rattle.scr_notation.specs.Spelling.{spelling}
 use Rattle.scr_notation.specs.Written.{Written, IsWritten}
 
 -- The words of a text: none of the empty text, and otherwise what stands between its spaces (byte 32). So two

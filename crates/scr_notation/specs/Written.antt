@@ -1,9 +1,8 @@
--- What a contract sees of a scramble, and its text.
-use Rattle.std.specs.Prelude.{ℕ, ◌≤◌, ◌==◌, IsTrue, if◌then◌else◌, List, ◌∷◌, ◌++◌, length, map, All}
-use Rattle.std.specs.List.{join_with_byte}
+-- What a contract sees of a scramble.
+use Rattle.std.specs.Prelude.{ℕ, ◌≤◌, ◌==◌, IsTrue, if◌then◌else◌, List, ◌∷◌, ◌++◌, length, All}
 use Rattle.scr_notation.specs.declared.event.Event.{Event}
 use Rattle.scr_notation.specs.declared.turn.Turn.{Turn}
-use Rattle.scr_notation.specs.Turns.{permits, spelling}
+use Rattle.scr_notation.specs.Turns.{permits}
 
 -- an event and its turns, in order
 pub record Written : Type 0 where
@@ -14,10 +13,6 @@ pub record Written : Type 0 where
 pub record IsWritten (s : Written) : Type 0 where
   pub room : length s.turns ≤ 160
   pub permitted : All (λ t. IsTrue (permits s.event t)) s.turns
-
--- the text of turns: their spellings with one space (byte 32) between
-abbrev pub text_of : List Turn → List ℕ
-text_of turns = join_with_byte 32 (map spelling turns)
 
 -- a text with one more word, behind a space unless it is the first
 unfoldable pub with_word : List ℕ → List ℕ → List ℕ

@@ -5,7 +5,8 @@ ghost use Rattle.scr_notation.specs.declared.event.Event.{Event};
 ghost use Rattle.scr_notation.specs.declared.turn.Turn.{Turn};
 ghost use Rattle.scr_notation.specs.declared.reading.NotationFault.{NotationFault};
 ghost use Rattle.scr_notation.specs.Event.{kind_of};
-ghost use Rattle.scr_notation.specs.Turns.{permits, spelling};
+ghost use Rattle.scr_notation.specs.Turns.{permits};
+ghost use Rattle.scr_notation.specs.Spelling.{spelling};
 ghost use Rattle.scr_notation.specs.Turning.{opposite, face_merging, is_of_faces};
 ghost use Rattle.scr_notation.specs.Reading.{IsFirstFault};
 

@@ -1,8 +1,9 @@
 //! Printing a scramble.
 ghost use Rattle.std.specs.Prelude.{◌≡◌, ◌+◌, ◌≤◌, IsTrue};
 ghost use Rattle.arrayvec.specs.ArrayString.{array_string_len};
-ghost use Rattle.scr_notation.specs.Turns.{permits, spelling};
-ghost use Rattle.scr_notation.specs.Written.{text_of, with_word};
+ghost use Rattle.scr_notation.specs.Turns.{permits};
+ghost use Rattle.scr_notation.specs.Spelling.{spelling, text_of};
+ghost use Rattle.scr_notation.specs.Written.{with_word};
 
 use crate::event::Event;
 use crate::scramble::Scramble;

@@ -1,7 +1,8 @@
 //! Reading the text of a scramble.
 ghost use Rattle.std.specs.Prelude.{◌≡◌, ◌<◌, ◌≤◌, [], ◌∷◌, ◌++◌, map, Ok, IsTrue, IsNone, IfSome, IfOk, IfErr};
-ghost use Rattle.scr_notation.specs.Turns.{permits, spelling};
-ghost use Rattle.scr_notation.specs.Written.{Written, IsWritten, text_of};
+ghost use Rattle.scr_notation.specs.Turns.{permits};
+ghost use Rattle.scr_notation.specs.Spelling.{spelling, text_of};
+ghost use Rattle.scr_notation.specs.Written.{Written, IsWritten};
 ghost use Rattle.scr_notation.specs.Reading.{IsSpelling, place_after, IsFault, IsFirstFault, IsReadAs};
 
 use crate::event::Event;

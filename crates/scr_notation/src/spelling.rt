@@ -2,14 +2,16 @@
 ghost use Rattle.std.specs.Prelude.{◌≡◌, ◌<◌, ◌≤◌, ◌==◌, [], ◌∷◌, length, IsTrue, slice_index};
 ghost use Rattle.std.specs.List.{list_any};
 ghost use Rattle.arrayvec.specs.ArrayString.{array_string_len};
-ghost use Rattle.scr_notation.specs.Turns.{permits, face_letters, quarters_text, pin_sets, pin_names, name_of_set, hours_text, spelling};
+ghost use Rattle.scr_notation.specs.Turns.{permits};
+ghost use Rattle.scr_notation.specs.Spelling.{face_letters, quarters_text, pin_names, name_of_set, hours_text, spelling};
+ghost use Rattle.scr_notation.specs.Pins.{pin_sets};
 
 use crate::event::Event;
 use crate::turn::Turn;
 use arrayvec::ArrayString;
 
 /// The spelling of a turn that `event` has.
-#[tactic(auto, unfolding(crate::specs::Turns::spelling))]
+#[tactic(auto, unfolding(crate::specs::Spelling::spelling))]
 pub(crate) fn spelled(event: Event, turn: Turn) -> ArrayString<7>
     requires { IsTrue (permits event turn) }
     ensures { result.bytes ≡ spelling turn }
@@ -82,7 +84,7 @@ fn pins_name(pins: u8) -> &'static str
 }
 
 /// How an amount of hours from 0 to 11 is written: 0 to 6 with `+`, and 7 to 11 as what is left to twelve, with `-`.
-#[tactic(auto, unfolding(crate::specs::Turns::hours_text))]
+#[tactic(auto, unfolding(crate::specs::Spelling::hours_text))]
 fn hours(amount: u8) -> &'static str
     requires { amount < 12 }
     ensures value { result.now ≡ hours_text amount }

@@ -2,7 +2,8 @@
 ghost use Rattle.std.specs.Prelude.{◌≡◌, ◌<◌, ◌==◌, IsTrue};
 ghost use Rattle.std.specs.List.{list_any};
 ghost use Rattle.scr_notation.specs.Kinds.{IsKind};
-ghost use Rattle.scr_notation.specs.Turns.{pin_sets, has_turn, is_face_turn as face_turn, is_clock_turn as clock_turn, turn_count, turn_at, clock_turn_at};
+ghost use Rattle.scr_notation.specs.Turns.{has_turn, is_face_turn as face_turn, turn_count, turn_at, clock_turn_at};
+ghost use Rattle.scr_notation.specs.Pins.{pin_sets, is_clock_turn as clock_turn};
 
 use crate::event::Kind;
 

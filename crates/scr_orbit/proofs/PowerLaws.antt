@@ -1,21 +1,20 @@
 -- Laws of puzzles whose turns are powers of generators of one order: their tables are of turns, opposite letters undo each
 -- other and merged ones add up, so that the turns are lawful; and the list of all turns has each at its number.
-use Rattle.std.proofs.Common.{◌≡◌, ℕ, zero, suc, ◌+◌, ◌-◌, ◌*◌, ◌%◌, ◌<◌, Bool, true, not, IsTrue, List, [], ◌∷◌, ◌++◌, Option, Some, None, map, length, get_or, refl, sym, ap, ◌∙◌, subst, arith}
+use Rattle.std.proofs.Common.{◌≡◌, ℕ, zero, suc, ◌+◌, ◌-◌, ◌*◌, ◌%◌, ◌<◌, ◌≤◌, Bool, true, not, IsTrue, List, [], ◌∷◌, ◌++◌, Option, Some, None, map, length, get_or, refl, sym, ap, ◌∙◌, subst, arith}
 use Rattle.std.proofs.lemmas.Bool.{and_parts, false≢true}
 use Rattle.std.specs.Prelude.{All, ◌&&◌, slice_get, option_and_then}
 use Rattle.std.specs.Option.{option_map}
 use Rattle.std.proofs.lemmas.List.{length-map}
-use Rattle.std.proofs.lemmas.Option.{same_Some, slice_get_within, get_or_from_slice_get, slice_get-map, slice_get-get_or}
+use Rattle.std.proofs.lemmas.Option.{same_Some, slice_get_within, slice_get_past, get_or_from_slice_get, slice_get-map, slice_get-get_or}
 use Rattle.scr_combinatorics.specs.Lists.{numbers_from}
 use Rattle.scr_combinatorics.proofs.Picks.{length-numbers_from, numbers_from-at}
-use Rattle.scr_play.specs.Tidy.{Merging, IsKeptByTidy}
+use Rattle.scr_play.specs.Tidy.{Merging}
 use Rattle.scr_play.specs.Lawful.{IsLawful}
-use Rattle.scr_play.specs.Play.{play}
-use Rattle.scr_play.specs.Back.{IsTakenBack}
 use Rattle.scr_play.proofs.PlayLaws.{and_then-some, play-keeps}
 use Rattle.scr_play.proofs.BackLaws.{IsTakenBack-lawful}
 use Rattle.scr_play.proofs.TidyPlay.{IsKeptByTidy-lawful}
-use Rattle.scr_orbit.specs.Actions.{Action, IsAction, after_by, power, Power, power_of, IsOrder, power_table, all_powers, composed_word}
+use Rattle.scr_orbit.specs.Actions.{Action, IsAction, after_by, power, Power, power_of, IsOrder, power_table, all_powers}
+use Rattle.scr_orbit.specs.LawfulTurns.{HasLawfulTurns}
 use Rattle.scr_orbit.proofs.ActionLaws.{map-some, IsTurn-power, power-add, power-mod, merged_turn, IsLawful-table, play-composed_word}
 
 -- what holds of each element holds of the one at a place
@@ -208,30 +207,32 @@ module _ {S R T : Type 0} (a : Action S R) (IsValid : S → Type 0) (IsTurn : R 
 
 -- ---- what holds of such a puzzle
 
--- Its letters are turns, its words are taken back and tidied, lead from valid states to valid ones, and come each to one
--- rearrangement.
-pub record PuzzleLaws {S R T : Type 0} (a : Action S R) (IsValid : S → Type 0) (IsTurn : R → Type 0) (table : T → Option R)
-    (opposite : T → T) (m : Merging T) : Type 0 where
-  pub turns : (t : T) (r : R) → table t ≡ Some r → IsTurn r
-  pub taken_back : IsTakenBack (after_by a table) opposite IsValid
-  pub kept_by_tidy : IsKeptByTidy (after_by a table) m IsValid
-  pub kept : (s r : S) (t : T) → IsValid s → after_by a table s t ≡ Some r → IsValid r
-  pub valid : (s r : S) (w : List T) → IsValid s → play (after_by a table) s w ≡ Some r → IsValid r
-  pub words : (s : S) (w : List T) → IsValid s → play (after_by a table) s w ≡ option_map (a.turned s) (composed_word a table w)
-
-pub puzzle_laws : {S R T : Type 0} (a : Action S R) (IsValid : S → Type 0) (IsTurn : R → Type 0) → IsAction a IsValid IsTurn
+pub HasLawfulTurns-powers : {S R T : Type 0} (a : Action S R) (IsValid : S → Type 0) (IsTurn : R → Type 0) → IsAction a IsValid IsTurn
     → (order : ℕ) (generators : List R) → All (IsGenerator a IsTurn order) generators
     → (power_at : T → Option Power) (opposite : T → T) (m : Merging T) → ArePowers order power_at opposite m
-    → PuzzleLaws a IsValid IsTurn (power_table a generators power_at) opposite m
-puzzle_laws a IsValid IsTurn l order generators each power_at opposite m ps =
+    → (solved : S) → IsValid solved → HasLawfulTurns a IsValid IsTurn (power_table a generators power_at) opposite m solved
+HasLawfulTurns-powers a IsValid IsTurn l order generators each power_at opposite m ps solved own =
     let turns = IsTurn-power_table a IsValid IsTurn l order generators each power_at opposite m ps in
     let table = power_table a generators power_at in
     let lawful = IsLawful-powers a IsValid IsTurn l order generators each power_at opposite m ps in
     record {
+      acts = l;
       turns = turns;
+      kept = lawful.keeps;
       taken_back = IsTakenBack-lawful (after_by a table) opposite m IsValid lawful;
       kept_by_tidy = IsKeptByTidy-lawful (after_by a table) opposite m IsValid lawful;
-      kept = lawful.keeps;
-      valid = play-keeps (after_by a table) IsValid lawful.keeps;
       words = play-composed_word a IsValid IsTurn l table turns;
+      reached = λ counted s h. play-keeps (after_by a table) IsValid lawful.keeps h.1 s h.0 (subst IsValid (sym h.2) own) h.3;
     }
+
+-- A letter that is a power of none of the generators makes nothing.
+pub after-no_power : {S R T : Type 0} (a : Action S R) (generators : List R) (power_at : T → Option Power) (s : S) (t : T)
+    → ((p : Power) → power_at t ≡ Some p → length generators ≤ p.generator) → after_by a (power_table a generators power_at) s t ≡ None
+unfolding power_of
+after-no_power a generators power_at s t none = by (power_at t) refl
+  where
+    by : (o : Option Power) → power_at t ≡ o → after_by a (power_table a generators power_at) s t ≡ None
+    by None e = ap (λ o. option_map (a.turned s) (option_and_then (power_of a generators) o)) e
+    by (Some p) e =
+        ap (λ o. option_map (a.turned s) (option_and_then (power_of a generators) o)) e
+        ∙ ap (λ o. option_map (a.turned s) (option_map (λ r. power a r p.exponent) o)) (slice_get_past generators p.generator (none p e))

@@ -6,6 +6,7 @@ use Rattle.std.specs.Option.{option_map}
 use Rattle.std.specs.List.{flat_map}
 use Rattle.std.proofs.Common.{zero, suc}
 use Rattle.scr_combinatorics.specs.Lists.{numbers_from}
+use Rattle.scr_play.specs.Reach.{Puzzle}
 
 -- What rearrangements R do: what one makes of a state, one and then another as one, and the one that moves nothing.
 pub record Action (S R : Type 0) : Type 0 where
@@ -31,6 +32,11 @@ pub record IsAction {S R : Type 0} (a : Action S R) (IsValid : S → Type 0) (Is
 -- What a letter makes of a state, by a table of what each letter rearranges; a letter that isn't there makes nothing.
 abbrev pub after_by : {S R T : Type 0} → Action S R → (T → Option R) → S → T → Option S
 after_by a table s t = option_map (a.turned s) (table t)
+
+-- The puzzle of such a table, with one solved state.
+abbrev pub table_puzzle : {S R T : Type 0} → Action S R → (T → Option R) → S → (T → ℕ) → Puzzle S
+table_puzzle {T = T} a table solved counted =
+    record { Turn = T; after = after_by a table; IsSolved = λ s. s ≡ solved; counted = counted }
 
 -- What a word comes to, as one rearrangement. There is none where one of its letters isn't in the table.
 unfoldable pub composed_word : {S R T : Type 0} → Action S R → (T → Option R) → List T → Option R

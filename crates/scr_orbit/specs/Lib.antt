@@ -1,3 +1,4 @@
 pub mod Actions
+pub mod LawfulTurns
 pub mod Orbits
 pub mod PlaceTurns

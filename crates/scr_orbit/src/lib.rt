@@ -6,7 +6,8 @@
 //! [`PlaceTurn`] is one in arrays, [`Placed`] an orbit in arrays; turning allocates nothing. `laws` says that turns keep
 //! orbits valid, what becomes of the sum of the digits and of the parity, and that rearrangements can be composed.
 //! `specs/Actions.antt` has what puzzles share whose states are orbits: tables of turns, and words that come to one
-//! rearrangement. Its laws stand in `proofs/ActionLaws.antt`, for each puzzle's crate to state.
+//! rearrangement; `specs/LawfulTurns.antt` says what holds of such a puzzle. `proofs/PowerLaws.antt` gives that for letters
+//! that are powers of a few turns, for each puzzle's crate to state.
 #![tactic(auto)]
 
 pub mod laws;

@@ -1,5 +1,5 @@
 -- What a call changed outside, at a sink or a source: a contract says it in one of these words.
-use Rattle.std.specs.Prelude.{ℕ, ◌≡◌, ◌≤◌, Option, List, Result, Ok, Err}
+use Rattle.std.specs.Prelude.{ℕ, ◌≡◌, ◌≤◌, Option, List}
 use Rattle.scr_outside.specs.Bytes.{appended, put_back, IsFirstPart}
 use Rattle.scr_outside.specs.Faults.{Rose}
 
@@ -25,12 +25,6 @@ pub record IsUnchanged (change : Change) : Type 0 where
   pub bytes : change.bytes_after ≡ change.bytes_before
   pub faults : change.faults_after ≡ change.faults_before
 
--- the count of faults rose, and no byte was written or read
-pub record Fails (change : Change) : Type 0 where
-  pub bytes : change.bytes_after ≡ change.bytes_before
-  pub rose : Rose change.faults_before change.faults_after
-  pub never_falls : change.faults_before ≤ change.faults_after
-
 -- the sink gained just these bytes
 pub record Gains (change : Change) (bytes : List ℕ) : Type 0 where
   pub gained : change.bytes_after ≡ appended change.bytes_before bytes
@@ -42,11 +36,6 @@ pub record Falters (change : Change) (bytes : List ℕ) : Type 0 where
   pub first : IsFirstPart part bytes
   pub gains : Gains change part
   pub rose : Rose change.faults_before change.faults_after
-
--- a text was written, or a first part of it, where the sink failed
-abbrev pub Writes : {E : Type 0} → Change → List ℕ → Result (Unit {0}) E → Type 0
-Writes change text (Ok _) = Gains change text
-Writes change text (Err _) = Falters change text
 
 -- the source gave just these bytes
 pub record Gives (change : Change) (bytes : List ℕ) : Type 0 where

@@ -1,7 +1,7 @@
 -- Sources and sinks in memory. Calls are numbered from 1 on, and some numbers stand in a list of calls that fail.
 use Rattle.std.specs.Prelude.{ℕ, ◌≤◌, ◌⊎◌, Some, List, length, Contains}
 use Rattle.scr_outside.specs.Change.{Change, change_of}
-use Rattle.scr_outside.specs.Faults.{raised}
+use Rattle.scr_outside.specs.Calls.{raised}
 
 -- a source: the bytes that it has left, at most how many it gives at once, the calls that fail, how many calls
 -- there were, and how many faults

@@ -1,7 +1,7 @@
 //! The calls of a source or a sink in memory.
 
 ghost use Rattle.std.specs.Prelude.{◌≡◌, ◌↔◌, Contains, IsTrue};
-ghost use Rattle.scr_outside.specs.Faults.{raised};
+ghost use Rattle.scr_outside.specs.Calls.{raised};
 
 use crate::faults::raised;
 

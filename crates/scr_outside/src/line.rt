@@ -1,7 +1,8 @@
 //! Lines, each written as one piece.
 
 ghost use Rattle.std.specs.Prelude.{◌+◌, ◌<◌, ◌++◌, length, codes};
-ghost use Rattle.scr_outside.specs.Change.{change_of, Writes};
+ghost use Rattle.scr_outside.specs.Change.{change_of};
+ghost use Rattle.scr_outside.specs.Calls.{Writes};
 
 use crate::sink::{Failed, Sink, write_all};
 use arrayvec::ArrayString;

@@ -3,7 +3,8 @@
 ghost use Rattle.std.specs.Prelude.{◌≡◌, ◌-◌, ◌^◌, ◌<◌, ◌≤◌, ◌↔◌, Some, [], ◌++◌, length, take, drop, min, IsErr, OnErr, IfOk};
 ghost use Rattle.std.specs.Vec.{vec_len, vec_capacity};
 ghost use Rattle.scr_outside.specs.Bytes.{IsSpent};
-ghost use Rattle.scr_outside.specs.Change.{Gains, Gives, Fails};
+ghost use Rattle.scr_outside.specs.Change.{Gains, Gives};
+ghost use Rattle.scr_outside.specs.Calls.{Fails};
 ghost use Rattle.scr_outside.specs.Memory.{SourceMemory, SinkMemory, source_change, sink_change, ReadFails, WriteFails, after_read, after_failed_read, after_write, after_failed_write};
 
 use crate::calls::Calls;

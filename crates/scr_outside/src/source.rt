@@ -2,7 +2,8 @@
 
 ghost use Rattle.std.specs.Prelude.{◌≡◌, ℕ, ◌^◌, ◌<◌, ◌≤◌, Option, List, length, take, OnErr, IfOk};
 ghost use Rattle.scr_outside.specs.Bytes.{IsSpent};
-ghost use Rattle.scr_outside.specs.Change.{change_of, Gives, Fails};
+ghost use Rattle.scr_outside.specs.Change.{change_of, Gives};
+ghost use Rattle.scr_outside.specs.Calls.{Fails};
 
 use crate::sink::Failed;
 

@@ -4,8 +4,8 @@
 ghost use Rattle.std.specs.Prelude.{◌≡◌, ℕ, ◌^◌, ◌<◌, ◌≤◌, None, length, take, OnOk, OnErr, IfOk};
 ghost use Rattle.std.specs.Io.KnownBytes.{ReadConsumes, WriteAppends};
 ghost use Rattle.scr_outside.specs.Bytes.{IsSpent};
-ghost use Rattle.scr_outside.specs.Change.{Gains, Gives, Fails};
-ghost use Rattle.scr_outside.specs.Faults.{raised};
+ghost use Rattle.scr_outside.specs.Change.{Gains, Gives};
+ghost use Rattle.scr_outside.specs.Calls.{Fails, raised};
 ghost use Rattle.scr_outside.specs.Standard.{Adapted, adapter_change};
 
 use crate::faults::raised;

@@ -4,8 +4,10 @@ use Rattle.std.proofs.lemmas.List.{take-map, drop-map}
 use Rattle.std.specs.Prelude.{codes}
 use Rattle.std.specs.Fmt.{decimal}
 use Rattle.scr_text.specs.Lines.{text_of_lines}
-use Rattle.scr_notation.specs.Written.{Written, text_of}
-use Rattle.scr_round.specs.Round.{turns_of_each, labelled, labels_from, group_lines}
+use Rattle.scr_notation.specs.Written.{Written}
+use Rattle.scr_notation.specs.Spelling.{text_of}
+use Rattle.scr_round.specs.Round.{labelled, labels_from, group_lines}
+use Rattle.scr_round.specs.Made.{turns_of_each}
 
 -- a line, as it is written
 abbrev pub line_of : List ℕ → List ℕ → List ℕ

@@ -1,34 +1,17 @@
 -- A round of a sheet: its slots and its text. The layout is our own choice.
-use Rattle.std.specs.Prelude.{ℕ, zero, suc, ◌+◌, ◌*◌, ◌<◌, ◌≡◌, Option, Some, None, List, [], ◌∷◌, ◌++◌, codes, map, take, drop, length}
+use Rattle.std.specs.Prelude.{ℕ, zero, suc, ◌+◌, ◌*◌, Option, Some, None, List, [], ◌∷◌, ◌++◌, codes, take, drop}
 use Rattle.std.specs.Fmt.{decimal}
 use Rattle.scr_notation.specs.declared.turn.Turn.{Turn}
 use Rattle.scr_notation.specs.Event.{name_of}
-use Rattle.scr_notation.specs.Written.{Written, text_of}
+use Rattle.scr_notation.specs.Spelling.{text_of}
 use Rattle.scr_text.specs.Lines.{text_of_lines}
 use Rattle.scr_list.specs.Events.{rules_of}
-use Rattle.scr_list.specs.Rounds.{IsRound}
 use Rattle.scr_list.specs.declared.event.Minima.{Minima}
 use Rattle.scr_list.specs.declared.round.Round.{Round}
 
 -- how many slots a round has: for each group one for each of its scrambles, and two for the extra ones
 abbrev pub slots_of : Round → ℕ
 slots_of round = round.groups * ((rules_of round.event).per_group + 2)
-
--- what a contract sees of a round that was made: its place in the list, from 0, and its scrambles, one for each slot
-pub record Made : Type 0 where
-  pub round : Round
-  pub index : ℕ
-  pub scrambles : List Written
-
--- there are fewer than 256 rounds, and a scramble for each slot
-pub record IsMade (made : Made) : Type 0 where
-  pub round : IsRound made.round
-  pub index : made.index < 256
-  pub each_slot : length made.scrambles ≡ slots_of made.round
-
--- the turns of each scramble
-abbrev pub turns_of_each : List Written → List (List Turn)
-turns_of_each scrambles = map (λ scramble. scramble.turns) scrambles
 
 -- the labels of scrambles from a number on, and then of the two extra ones
 abbrev pub labels_from : ℕ → ℕ → List (List ℕ)

@@ -15,7 +15,7 @@ pub struct RoundResult {
 }
 
 impl Model for RoundResult {
-    ghost use Rattle.scr_round.specs.Round.{Made, IsMade};
+    ghost use Rattle.scr_round.specs.Made.{Made, IsMade};
 
     ghost Value = { Made };
 
@@ -26,7 +26,8 @@ impl Model for RoundResult {
 
 impl RoundResult {
     ghost use Rattle.scr_list.specs.Rounds.{IsRound};
-    ghost use Rattle.scr_round.specs.Round.{Made, IsMade, slots_of};
+    ghost use Rattle.scr_round.specs.Round.{slots_of};
+    ghost use Rattle.scr_round.specs.Made.{Made, IsMade};
 
     /// Round `index` of a list, counted from 0 and below 256, with a scramble for each slot.
     pub fn new(round: Round, index: u32, scrambles: Vec<Scramble>) -> RoundResult

@@ -3,13 +3,15 @@
 ghost use Rattle.std.specs.Prelude.{◌≡◌, ◌+◌, ◌*◌, ◌≤◌, ◌<◌, [], ◌∷◌, ◌++◌, length, codes};
 ghost use Rattle.std.specs.Fmt.{decimal};
 ghost use Rattle.arrayvec.specs.ArrayString.{array_string_len};
-ghost use Rattle.scr_outside.specs.Change.{change_of, Writes};
+ghost use Rattle.scr_outside.specs.Change.{change_of};
+ghost use Rattle.scr_outside.specs.Calls.{Writes};
 ghost use Rattle.scr_text.specs.Lines.{text_of_lines};
 ghost use Rattle.scr_notation.specs.Event.{name_of};
-ghost use Rattle.scr_notation.specs.Written.{text_of};
+ghost use Rattle.scr_notation.specs.Spelling.{text_of};
 ghost use Rattle.scr_list.specs.Events.{rules_of};
 ghost use Rattle.scr_list.specs.Rounds.{IsRound};
-ghost use Rattle.scr_round.specs.Round.{slots_of, turns_of_each, labels_from, labelled, group_lines, minimum_text, heading, round_text};
+ghost use Rattle.scr_round.specs.Round.{slots_of, labels_from, labelled, group_lines, minimum_text, heading, round_text};
+ghost use Rattle.scr_round.specs.Made.{turns_of_each};
 
 use crate::made::RoundResult;
 use arrayvec::ArrayString;

@@ -2,7 +2,8 @@
 use Rattle.std.proofs.lemmas.List.{length-map, map-append}
 use Rattle.std.proofs.Common.{◌≡◌, ℕ, ◌+◌, ◌<◌, List, [], ◌∷◌, ◌++◌, length, drop, get_or, Err, refl, sym, ap, subst, ◌∙◌, append_assoc, append-nil, length-append, drop-cons, add-one, arith}
 use Rattle.std.specs.Prelude.{Option, codes}
-use Rattle.scr_notation.specs.Written.{Written, text_of}
+use Rattle.scr_notation.specs.Written.{Written}
+use Rattle.scr_notation.specs.Spelling.{text_of}
 use Rattle.scr_outside.specs.Change.{Change, Gains}
 use Rattle.scr_outside.proofs.ChangeLemmas.{from_to, Gains-nothing, Gains-append, Falters-after}
 use Rattle.scr_notation.specs.declared.event.Event.{Event}
@@ -13,9 +14,10 @@ use Rattle.scr_slots.specs.Slots.{IsSlotScramble}
 use Rattle.scr_slots.specs.Events.{scrambling_of}
 use Rattle.scr_sheet.specs.declared.fault.Fault.{Fault}
 use Rattle.scr_sheet.specs.declared.fault.Fault.TheVariants as fault
-use Rattle.scr_round.specs.Round.{Made, turns_of_each, round_text}
-use Rattle.scr_sheet.specs.Making.{IsRoundMade, IsLimit}
-use Rattle.scr_sheet.specs.Sheet.{Part, round_part, round_parts, one_part, AreScrambles, IsPartText, IsText}
+use Rattle.scr_round.specs.Round.{round_text}
+use Rattle.scr_round.specs.Made.{Made, turns_of_each}
+use Rattle.scr_sheet.specs.Making.{IsRoundMade}
+use Rattle.scr_sheet.specs.Sheet.{IsLimit, Part, round_part, round_parts, one_part, AreScrambles, IsPartText, IsText}
 use Rattle.scr_sheet.specs.Outcome.{IsLed, IsDone, IsStopped, EndsParts}
 
 -- ---- scrambles and texts

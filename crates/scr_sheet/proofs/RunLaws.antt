@@ -19,10 +19,11 @@ use Rattle.scr_outside.specs.Faults.{Rose}
 use Rattle.scr_notation.specs.declared.event.Event.{Event}
 use Rattle.scr_notation.specs.declared.turn.Turn.{Turn}
 use Rattle.scr_list.specs.declared.round.Round.{Round}
-use Rattle.scr_list.specs.Events.{rules_of, greatest_of}
+use Rattle.scr_list.specs.Events.{rules_of}
 use Rattle.scr_list.specs.Rounds.{IsRound, rounds_of, most_bytes}
 use Rattle.scr_slots.specs.declared.settings.Settings.{Settings}
-use Rattle.scr_slots.specs.Slots.{IsSlotScramble, HasOneScramble}
+use Rattle.scr_slots.specs.Slots.{IsSlotScramble}
+use Rattle.scr_slots.specs.Outcomes.{HasOneScramble}
 use Rattle.scr_slots.specs.Events.{scrambling_of}
 use Rattle.scr_sheet.specs.declared.fault.Fault.{Fault}
 use Rattle.scr_sheet.specs.declared.fault.Fault.TheVariants as fault
@@ -67,14 +68,13 @@ IsText-one_text settings (part ∷ parts) text other decided first second =
 
 -- each event that lists take has decided slots
 abbrev pub AreDecided : Type 0
-AreDecided = (event : Event) (least : ℕ) → IsTrue (rules_of event).built → least ≤ greatest_of (rules_of event).minima
-    → HasOneScramble (scrambling_of event) least
+AreDecided = (event : Event) (least : ℕ) → IsTrue (rules_of event).built → HasOneScramble (scrambling_of event) least
 
 pub round_parts-decided : (k : ℕ) (rounds : List Round) → AreDecided → All IsRound rounds → All IsDecided (round_parts k rounds)
 round_parts-decided k [] decided each = All-nil IsDecided
 round_parts-decided k (round ∷ rounds) decided each =
     let here = All-head IsRound round rounds each in
-    All-cons IsDecided (round_part k round) (round_parts (k + 1) rounds) (decided round.event round.least here.event here.least)
+    All-cons IsDecided (round_part k round) (round_parts (k + 1) rounds) (decided round.event round.least here.event)
     (round_parts-decided (k + 1) rounds decided (All-tail IsRound round rounds each))
 
 -- ---- the ends of parts
@@ -193,6 +193,6 @@ pub IsTask-decided : (words : List (List ℕ)) (command : Command) (list : List 
     → command_of words ≡ Ok command → IsTask command list settings parts → All IsDecided parts
 IsTask-decided words (One event seed) list settings parts decided asks task =
     rw task.1
-    (All-cons IsDecided (one_part event) [] (decided event 0 (one-built words event seed asks) (omega arith)) (All-nil IsDecided))
+    (All-cons IsDecided (one_part event) [] (decided event 0 (one-built words event seed asks)) (All-nil IsDecided))
 IsTask-decided words (Sheet seed options) list settings parts decided asks task =
     rw task.3 (round_parts-decided 0 task.0 decided (rounds_of-IsRounds list task.0 task.1).each)

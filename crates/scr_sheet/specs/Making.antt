@@ -1,28 +1,17 @@
 -- What the making of a round gives.
-use Rattle.std.specs.Prelude.{◌≡◌, ℕ, ◌*◌}
-use Rattle.scr_words.specs.declared.seed.Seed.{Seed}
+use Rattle.std.specs.Prelude.{◌≡◌, ℕ}
 use Rattle.scr_list.specs.declared.round.Round.{Round}
-use Rattle.scr_command.specs.declared.options.Options.{Options}
 use Rattle.scr_slots.specs.declared.settings.Settings.{Settings}
-use Rattle.scr_round.specs.Round.{Made, turns_of_each}
+use Rattle.scr_round.specs.Made.{Made, turns_of_each}
 use Rattle.scr_sheet.specs.declared.making.RoundFault.{RoundFault}
 use Rattle.scr_sheet.specs.declared.making.RoundFault.TheVariants.{NoMemory, Limit}
-use Rattle.scr_sheet.specs.Sheet.{Part, round_part, ArePartScrambles, IsFirstWithout}
-
--- what a sheet is made with
-abbrev pub settings_of : Seed → Options → Settings
-settings_of seed options = record { seed = seed; tries = options.tries; attempts = options.attempts }
+use Rattle.scr_sheet.specs.Sheet.{Part, round_part, ArePartScrambles, IsLimit}
 
 -- round k was made: each slot has its scramble
 pub record IsRoundMade (settings : Settings) (k : ℕ) (round : Round) (made : Made) : Type 0 where
   pub same_round : made.round ≡ round
   pub same_index : made.index ≡ k
   pub scrambles : ArePartScrambles settings (round_part k round) (turns_of_each made.scrambles)
-
--- a slot of a part, the first without a scramble, whose attempts took so many words
-pub record IsLimit (settings : Settings) (part : Part) (slot words : ℕ) : Type 0 where
-  pub first : IsFirstWithout settings part slot
-  pub taken : words ≡ 3 * settings.attempts
 
 -- why the scrambles of a part were not made
 abbrev pub IsPartFault : Settings → Part → RoundFault → Type 0

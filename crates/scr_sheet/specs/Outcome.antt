@@ -16,9 +16,8 @@ use Rattle.scr_sheet.specs.declared.fault.Fault.{Fault}
 use Rattle.scr_sheet.specs.declared.fault.Fault.TheVariants as fault
 use Rattle.scr_sheet.specs.declared.status.Status.{Status}
 use Rattle.scr_sheet.specs.declared.status.Status.TheVariants as status
-use Rattle.scr_sheet.specs.Making.{settings_of, IsLimit}
+use Rattle.scr_sheet.specs.Sheet.{settings_of, IsLimit, Part, round_parts, one_part, IsText}
 use Rattle.scr_sheet.specs.Message.{message_of}
-use Rattle.scr_sheet.specs.Sheet.{Part, round_parts, one_part, IsText}
 
 -- ---- the one table of outcomes, over the parts that a command writes; the first of them is part k
 

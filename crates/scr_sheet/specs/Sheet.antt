@@ -1,14 +1,20 @@
 -- What a command writes: parts one after another, each the text of some slots' scrambles.
-use Rattle.std.specs.Prelude.{◌≡◌, ℕ, ◌+◌, ◌<◌, List, [], ◌∷◌, ◌++◌, map, length}
+use Rattle.std.specs.Prelude.{◌≡◌, ℕ, ◌+◌, ◌*◌, ◌<◌, List, [], ◌∷◌, ◌++◌, map, length}
 use Rattle.scr_notation.specs.declared.event.Event.{Event}
 use Rattle.scr_notation.specs.declared.turn.Turn.{Turn}
-use Rattle.scr_notation.specs.Written.{text_of}
+use Rattle.scr_notation.specs.Spelling.{text_of}
 use Rattle.scr_text.specs.Lines.{text_of_lines}
+use Rattle.scr_words.specs.declared.seed.Seed.{Seed}
 use Rattle.scr_list.specs.declared.round.Round.{Round}
+use Rattle.scr_command.specs.declared.options.Options.{Options}
 use Rattle.scr_round.specs.Round.{slots_of, round_text}
 use Rattle.scr_slots.specs.declared.settings.Settings.{Settings}
 use Rattle.scr_slots.specs.Slots.{IsSlotScramble, HasNoScramble, first_stream}
 use Rattle.scr_slots.specs.Events.{scrambling_of}
+
+-- what a sheet is made with
+abbrev pub settings_of : Seed → Options → Settings
+settings_of seed options = record { seed = seed; tries = options.tries; attempts = options.attempts }
 
 -- A part: slots of an event with one minimum, on streams one after another, and the text of their scrambles.
 pub record Part : Type 0 where
@@ -73,3 +79,8 @@ pub record IsFirstWithout (settings : Settings) (part : Part) (j : ℕ) : Type 0
   pub before : List (List Turn)
   pub as_many : length before ≡ j
   pub each : AreScrambles settings part.event part.least part.first_stream before
+
+-- a slot of a part, the first without a scramble, whose attempts took so many words
+pub record IsLimit (settings : Settings) (part : Part) (slot words : ℕ) : Type 0 where
+  pub first : IsFirstWithout settings part slot
+  pub taken : words ≡ 3 * settings.attempts

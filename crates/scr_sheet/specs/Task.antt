@@ -10,9 +10,8 @@ use Rattle.scr_command.specs.Command.{usual_options, command_of}
 use Rattle.scr_slots.specs.declared.settings.Settings.{Settings}
 use Rattle.scr_sheet.specs.declared.status.Status.{Status}
 use Rattle.scr_sheet.specs.declared.status.Status.TheVariants as status
-use Rattle.scr_sheet.specs.Making.{settings_of}
+use Rattle.scr_sheet.specs.Sheet.{settings_of, Part, round_parts, one_part, IsFirstWithout}
 use Rattle.scr_sheet.specs.Outcome.{IsRun}
-use Rattle.scr_sheet.specs.Sheet.{Part, round_parts, one_part, IsFirstWithout}
 
 -- what a command makes and writes whose input is this list
 abbrev pub IsTask : Command → List ℕ → Settings → List Part → Type 0

@@ -5,7 +5,7 @@ ghost use Rattle.scr_outside.specs.Change.{Change};
 ghost use Rattle.scr_notation.specs.declared.event.Event.{Event};
 ghost use Rattle.scr_list.specs.declared.round.Round.{Round};
 ghost use Rattle.scr_list.specs.Events.{rules_of};
-ghost use Rattle.scr_list.specs.Rounds.{IsRounds};
+ghost use Rattle.scr_list.specs.RoundLists.{IsRounds};
 ghost use Rattle.scr_slots.specs.declared.settings.Settings.{Settings};
 ghost use Rattle.scr_sheet.specs.declared.status.Status.{Status};
 ghost use Rattle.scr_sheet.specs.declared.status.Status.TheVariants.{Done, DrawLimit};
@@ -22,7 +22,7 @@ pub fn one_sheet()
     ensures line { (settings : Settings) (event : Event) → IsTrue (rules_of event).built → (text other : List ℕ)
         → IsText settings (one_part event ∷ []) text → IsText settings (one_part event ∷ []) other → text ≡ other }
 {
-    slot_laws::each_event();
+    slot_laws::one_scramble();
 }
 
 /// Which runs must end with a whole sheet: those whose words are a command and whose list names rounds, where neither
@@ -34,6 +34,6 @@ pub fn completeness()
     ensures limit { (words : List (List ℕ)) (outcome : Status) (source out err : Change) (settings : Settings) (parts : List Part)
         → IsUnhindered words outcome source out err settings parts → LacksScramble settings parts → EndsWith outcome DrawLimit }
 {
-    slot_laws::each_event();
+    slot_laws::one_scramble();
     list_laws::lists_that_were_read();
 }

@@ -3,8 +3,8 @@
 ghost use Rattle.std.specs.Prelude.{◌≡◌, ◌+◌, ◌<◌, ◌≤◌, ◌++◌, [], ◌∷◌, MatchResult};
 ghost use Rattle.std.specs.Vec.{vec_len, vec_capacity};
 ghost use Rattle.scr_list.specs.Rounds.{IsRound};
-ghost use Rattle.scr_sheet.specs.Making.{settings_of, IsRoundMade, IsPartFault};
-ghost use Rattle.scr_sheet.specs.Sheet.{round_part};
+ghost use Rattle.scr_sheet.specs.Making.{IsRoundMade, IsPartFault};
+ghost use Rattle.scr_sheet.specs.Sheet.{settings_of, round_part};
 
 use scr_command::Options;
 use scr_list::Round;

@@ -3,11 +3,11 @@
 ghost use Rattle.std.specs.Prelude.{◌≢◌, ◌≤◌, ◌<◌, [], ◌∷◌, IsTrue, Err};
 ghost use Rattle.scr_outside.specs.Change.{change_of};
 ghost use Rattle.scr_list.specs.Events.{rules_of};
-ghost use Rattle.scr_list.specs.Rounds.{IsRound, IsRounds};
+ghost use Rattle.scr_list.specs.Rounds.{IsRound};
+ghost use Rattle.scr_list.specs.RoundLists.{IsRounds};
 ghost use Rattle.scr_sheet.specs.declared.fault.Fault.TheVariants.{NoMemory};
-ghost use Rattle.scr_sheet.specs.Making.{settings_of};
+ghost use Rattle.scr_sheet.specs.Sheet.{settings_of, one_part, round_part, round_parts};
 ghost use Rattle.scr_sheet.specs.Outcome.{EndsCommand, EndsParts};
-ghost use Rattle.scr_sheet.specs.Sheet.{one_part, round_part, round_parts};
 ghost use Rattle.scr_command.specs.declared.command.Command.TheVariants.{Sheet};
 ghost use Rattle.scr_command.specs.Command.{usual_options};
 

@@ -34,7 +34,7 @@ pub fn run<'w, S: Source, O: Sink, E: Sink>(
     // Each round that a list can name is drawn fairly.
     ensures fair { (round : Round) → IsRound round → IsDrawnFairly (scrambling_of round.event) round.least }
 {
-    laws::each_event();
+    laws::each_drawn_fairly();
     let ended = perform(alloc, words, source, out);
     tell(err, ended);
     Status::of(ended)

@@ -3,7 +3,8 @@
 ghost use Rattle.std.specs.Prelude.{◌≤◌, IsTrue, MatchResult};
 ghost use Rattle.scr_list.specs.Events.{rules_of, greatest_of};
 ghost use Rattle.scr_slots.specs.Events.{scrambling_of};
-ghost use Rattle.scr_slots.specs.Slots.{IsSlotScramble, IsMissed};
+ghost use Rattle.scr_slots.specs.Slots.{IsSlotScramble};
+ghost use Rattle.scr_slots.specs.Outcomes.{IsMissed};
 
 use crate::scrambled::{Scrambled, drawn_scramble};
 use crate::settings::Settings;
@@ -12,16 +13,10 @@ use scr_draw::DrawLimit;
 use scr_notation::{Event, Scramble};
 
 impl Scrambled for ClockNumbers {
-    ghost use Rattle.scr_clock.specs.Dials.{solved};
-    ghost use Rattle.scr_clock.specs.Held.{clock_after};
-    ghost use Rattle.scr_clock.specs.Written.{IsScrambleOf};
     ghost use Rattle.scr_clock.specs.Proofs.AmountLaws.{IsScrambleOf-one};
+    ghost use Rattle.scr_slots.specs.Events.{clock_rule};
 
-    ghost played = { λ _. clock_after solved };
-
-    ghost most_turns = { λ _. 15 };
-
-    ghost IsScramble = { λ _ tries dials turns. IsScrambleOf dials turns };
+    ghost rule = { λ _. clock_rule };
 
     fn scramble(&self, state: &Clock, _tries: u32) -> Scramble {
         scramble_clock(state)

@@ -1,36 +1,30 @@
 //! Events whose scrambles give random states.
 
-ghost use Rattle.std.specs.Prelude.{◌≡◌, ◌*◌, ◌≤◌, ℕ, Option, Some, List, length, MatchResult};
-ghost use Rattle.scr_draw.specs.StateSpace.{StateSpace};
+ghost use Rattle.std.specs.Prelude.{◌≡◌, ◌*◌, ◌≤◌, ℕ, Some, List, length, MatchResult};
 ghost use Rattle.scr_notation.specs.declared.turn.Turn.{Turn};
-ghost use Rattle.scr_slots.specs.Slots.{Scrambling, ByState, IsSlotScramble, IsMissed};
+ghost use Rattle.scr_slots.specs.Slots.{ScrambleRule, IsSlotScramble, by_state};
+ghost use Rattle.scr_slots.specs.Outcomes.{IsMissed};
 
 use crate::settings::Settings;
-use scr_draw::{DrawLimit, RandomState, draw};
+use scr_draw::{DrawLimit, RandomState, draw_permitted};
 use scr_notation::Scramble;
 use scr_words::ChaChaWords;
 
 /// An event whose scrambles give random states.
 pub trait Scrambled: RandomState {
-    /// What the turns of a scramble make of the solved puzzle.
-    ghost played: { Self → List Turn → Option Self.State };
-
-    /// How many turns a scramble has at most.
-    ghost most_turns: { Self → ℕ };
-
-    /// Which turns are the scramble of a state, where a solver has so many tries.
-    ghost IsScramble: { Self → ℕ → Self.State → List Turn → Type 0 };
+    /// What makes turns the scramble of a state.
+    ghost rule: { Self → ScrambleRule Self.State };
 
     /// The scramble of a valid state, where a solver has so many tries: played on the solved puzzle it gives the state.
     fn scramble(&self, state: &Self::State, tries: u32) -> Scramble
-        requires { Self.valid self.now state.now }
-        ensures scramble { IsScramble self.now tries state.now result.turns }
-        ensures gives { played self.now result.turns ≡ Some state.now }
-        ensures short { length result.turns ≤ most_turns self.now };
+        requires { (Self.numbered self.now).IsValid state.now }
+        ensures scramble { (rule self.now).IsScramble tries state.now result.turns }
+        ensures gives { (rule self.now).played result.turns ≡ Some state.now }
+        ensures short { length result.turns ≤ (rule self.now).most_turns };
 
     /// A state has one scramble.
     ghost only: { (event : Self) (tries : ℕ) (state : Self.State) (turns other : List Turn)
-        → IsScramble event tries state turns → IsScramble event tries state other → turns ≡ other };
+        → (rule event).IsScramble tries state turns → (rule event).IsScramble tries state other → turns ≡ other };
 }
 
 /// The scramble of a slot on this stream: that of the state which the stream draws with so many attempts, one that needs at
@@ -45,17 +39,11 @@ pub fn drawn_scramble<E: Scrambled>(
 ) -> Result<Scramble, DrawLimit>
     requires least { least ≤ E.greatest event.now }
     requires attempts { settings.now.attempts ≤ 1000000 }
-    ensures { let scrambling : Scrambling = ByState (record {
-      State = E.State;
-      space = record { count = E.count event.now; state_at = E.state_at event.now; puzzle = E.puzzle event.now };
-      played = E.played event.now;
-      most_turns = E.most_turns event.now;
-      IsScramble = E.IsScramble event.now;
-    }) in
+    ensures { let scrambling = by_state (E.numbered event.now) (E.puzzle event.now) (E.rule event.now) in
         MatchResult result (λ scramble. IsSlotScramble scrambling settings.now least stream scramble.turns)
         (IsMissed scrambling settings.now least stream) }
 {
     let mut words = ChaChaWords::new(&settings.seed, stream);
-    let state = draw(&mut words, event, least, settings.attempts)?;
+    let state = draw_permitted(&mut words, event, least, settings.attempts)?;
     Ok(event.scramble(&state, settings.tries))
 }

@@ -12,7 +12,8 @@ use Rattle.std.proofs.lemmas.List.Splits.{slice_split_at, slice_split_first, sli
 use Rattle.std.proofs.lemmas.List.Quantifiers.{position-Some}
 use Rattle.std.proofs.lemmas.List.Sums.{AllPass-from_list_all, position_or_len_is, fails_before_first}
 use borrow.Author.Tests.{ne_eqb}
-use Rattle.scr_text.specs.Lines.{lines_of, line_words, is_blank, is_line_feed, has_bytes, text_of_lines, IsLine, IsWord}
+use Rattle.scr_text.specs.Lines.{lines_of, line_words, is_blank, is_line_feed, has_bytes, text_of_lines}
+use Rattle.scr_text.specs.Parts.{IsLine, IsWord}
 use Rattle.scr_text.proofs.NumberLaws.{digits_model}
 
 pub lines_of-text_of_lines : (lines : List (List ℕ)) → All IsLine lines → lines_of (text_of_lines lines) ≡ lines ++ [] ∷ []

@@ -1,5 +1,5 @@
 -- The lines of a text, and the words of a line. The grammar is our own choice.
-use Rattle.std.specs.Prelude.{ℕ, Bool, true, false, ◌||◌, ◌==◌, ◌≡◌, Option, Some, None, List, [], ◌∷◌, ◌++◌, map, filter, All}
+use Rattle.std.specs.Prelude.{ℕ, Bool, true, false, ◌||◌, ◌==◌, List, [], ◌∷◌, ◌++◌, map, filter}
 use Rattle.std.specs.List.{slice_split}
 use Rattle.std.specs.Str.Lines.{strip_carriage_return}
 
@@ -12,11 +12,6 @@ is_line_feed byte = byte == 10
 unfoldable pub lines_of : List ℕ → List (List ℕ)
 lines_of text = map strip_carriage_return (slice_split is_line_feed text)
 
--- the lines of what follows a line feed, where there is one
-abbrev pub more_lines : Option (List ℕ) → List (List ℕ)
-more_lines None = []
-more_lines (Some text) = lines_of text
-
 -- a space or a tab
 abbrev pub is_blank : ℕ → Bool
 is_blank byte = (byte == 32) || (byte == 9)
@@ -28,16 +23,6 @@ has_bytes (byte ∷ rest) = true
 -- the words of a line: what stands between its blanks
 unfoldable pub line_words : List ℕ → List (List ℕ)
 line_words line = filter has_bytes (slice_split is_blank line)
-
--- a text that is one word: it has bytes, and no blanks
-pub record IsWord (text : List ℕ) : Type 0 where
-  pub some : has_bytes text ≡ true
-  pub plain : All (λ byte. is_blank byte ≡ false) text
-
--- a text that is one line: it has no line feed, and no carriage return at its end
-pub record IsLine (text : List ℕ) : Type 0 where
-  pub plain : All (λ byte. is_line_feed byte ≡ false) text
-  pub end : strip_carriage_return text ≡ text
 
 -- lines, each with its line feed
 abbrev pub text_of_lines : List (List ℕ) → List ℕ

@@ -5,7 +5,8 @@ ghost use Rattle.std.specs.Prelude.{◌≡◌, ℕ, ◌^◌, ◌<◌, Some, List
 ghost use Rattle.std.specs.Fmt.{decimal};
 ghost use Rattle.std.specs.List.{join_with_byte};
 ghost use Rattle.scr_text.specs.Numbers.{number_of_text};
-ghost use Rattle.scr_text.specs.Lines.{lines_of, line_words, text_of_lines, IsLine, IsWord};
+ghost use Rattle.scr_text.specs.Lines.{lines_of, line_words, text_of_lines};
+ghost use Rattle.scr_text.specs.Parts.{IsLine, IsWord};
 
 /// The text of a number is read as that number, and no other text is.
 pub fn each_number_has_one_text()

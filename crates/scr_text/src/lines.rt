@@ -2,7 +2,8 @@
 
 ghost use Rattle.std.specs.Prelude.{◌≡◌, ◌<◌, ◌∷◌, length, slice_get, position, IfSome, option_copied};
 ghost use Rattle.std.specs.Str.Lines.{strip_carriage_return};
-ghost use Rattle.scr_text.specs.Lines.{lines_of, more_lines, is_line_feed, is_blank, line_words};
+ghost use Rattle.scr_text.specs.Lines.{lines_of, is_line_feed, is_blank, line_words};
+ghost use Rattle.scr_text.specs.Parts.{more_lines};
 
 /// The first line of a text, without its line feed and a carriage return before that, and what follows
 /// the line feed, where there is one.

@@ -1,3 +1,4 @@
 pub mod Seed
 pub mod Stream
+pub mod Runs
 pub mod Taken

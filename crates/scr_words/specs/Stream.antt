@@ -1,6 +1,6 @@
 -- The words of a stream: the blocks of ChaCha20 (RFC 8439, 2.3), one after another.
 -- A word is a number below 2 ^ 32. The rounds are those that `rand_chacha` specifies.
-use Rattle.std.specs.Prelude.{ℕ, zero, suc, ◌+◌, ◌*◌, ◌/◌, ◌%◌, ◌^◌, List, [], ◌∷◌, slice_index}
+use Rattle.std.specs.Prelude.{ℕ, ◌+◌, ◌*◌, ◌/◌, ◌%◌, ◌^◌, List, [], ◌∷◌, slice_index}
 use Rattle.rand_chacha.specs.Block.{add32, double_rounds}
 
 -- word k of the key: four bytes of the seed, least byte first
@@ -39,8 +39,3 @@ word_of_key key stream place = block_word key stream (place / 16) (place % 16)
 -- the word at a place of a stream of the seed
 abbrev pub stream_word : List ℕ → ℕ → ℕ → ℕ
 stream_word seed stream place = word_of_key (key_words seed) stream place
-
--- n words of a stream of the seed, from a place on
-abbrev pub words_from : List ℕ → ℕ → ℕ → ℕ → List ℕ
-words_from seed stream place zero = []
-words_from seed stream place (suc n) = stream_word seed stream place ∷ words_from seed stream (place + 1) n

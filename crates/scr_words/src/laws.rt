@@ -2,7 +2,7 @@
 
 ghost use Rattle.std.specs.Prelude.{◌≡◌, ◌+◌, ◌*◌, ◌^◌, ◌++◌, [], ◌∷◌, replicate};
 ghost use Rattle.std.specs.List.{range_with_len};
-ghost use Rattle.scr_words.specs.Stream.{words_from};
+ghost use Rattle.scr_words.specs.Runs.{words_from};
 
 /// The streams have the block vectors of RFC 8439 that fit two words of block number and two of stream. The RFC's counter
 /// and the first word of its nonce are the block number here, the low word first; the rest of its nonce is the stream.

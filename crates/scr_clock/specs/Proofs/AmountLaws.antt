@@ -41,41 +41,27 @@ unfolding amounts_of
 IsAmounts-amounts_of dials =
     record { fourteen = refl; below = All-map (λ a. a < 12) (λ sum. sum % 12) (sums_of dials) (λ k d l. omega arith) }
 
+-- dial by dial, an hour comes again; hours are added modulo twelve
 given_again : (h : Hours) → given (amounts_of (listed h)) ≡ listed h
 unfolding given side_turned gain_at turned amounts_of
 given_again h =
-    cons_same (simp (mod-add-mod, add-mod-mod) (omega arith))
-    (cons_same (simp (mod-add-mod, add-mod-mod) (omega arith))
-    (cons_same (simp (mod-add-mod, add-mod-mod) (omega arith))
-    (cons_same (simp (mod-add-mod, add-mod-mod) (omega arith))
-    (cons_same (simp (mod-add-mod, add-mod-mod) (omega arith))
-    (cons_same (simp (mod-add-mod, add-mod-mod) (omega arith))
-    (cons_same (simp (mod-add-mod, add-mod-mod) (omega arith))
-    (cons_same (simp (mod-add-mod, add-mod-mod) (omega arith))
-    (cons_same (simp (mod-add-mod, add-mod-mod) (omega arith))
-    (cons_same (simp (mod-add-mod, add-mod-mod) (omega arith))
-    (cons_same (simp (mod-add-mod, add-mod-mod) (omega arith))
-    (cons_same (simp (mod-add-mod, add-mod-mod) (omega arith))
-    (cons_same (simp (mod-add-mod, add-mod-mod) (omega arith))
-    (cons_same (simp (mod-add-mod, add-mod-mod) (omega arith)) refl)))))))))))))
+    cons_same (simp (mod-add-mod, add-mod-mod) (omega arith)) (cons_same (simp (mod-add-mod, add-mod-mod) (omega arith))
+    (cons_same (simp (mod-add-mod, add-mod-mod) (omega arith)) (cons_same (simp (mod-add-mod, add-mod-mod) (omega arith))
+    (cons_same (simp (mod-add-mod, add-mod-mod) (omega arith)) (cons_same (simp (mod-add-mod, add-mod-mod) (omega arith))
+    (cons_same (simp (mod-add-mod, add-mod-mod) (omega arith)) (cons_same (simp (mod-add-mod, add-mod-mod) (omega arith))
+    (cons_same (simp (mod-add-mod, add-mod-mod) (omega arith)) (cons_same (simp (mod-add-mod, add-mod-mod) (omega arith))
+    (cons_same (simp (mod-add-mod, add-mod-mod) (omega arith)) (cons_same (simp (mod-add-mod, add-mod-mod) (omega arith))
+    (cons_same (simp (mod-add-mod, add-mod-mod) (omega arith)) (cons_same (simp (mod-add-mod, add-mod-mod) (omega arith)) refl)))))))))))))
 
+-- and so amount by amount
 amounts_again : (h : Hours) → amounts_of (given (listed h)) ≡ listed h
 unfolding given side_turned gain_at turned amounts_of
 amounts_again h =
-    cons_same (simp mod-add-mod (omega arith))
-    (cons_same (simp mod-add-mod (omega arith))
-    (cons_same (simp mod-add-mod (omega arith))
-    (cons_same (simp mod-add-mod (omega arith))
-    (cons_same (simp mod-add-mod (omega arith))
-    (cons_same (simp mod-add-mod (omega arith))
-    (cons_same (simp mod-add-mod (omega arith))
-    (cons_same (simp mod-add-mod (omega arith))
-    (cons_same (simp mod-add-mod (omega arith))
-    (cons_same (simp mod-add-mod (omega arith))
-    (cons_same (simp mod-add-mod (omega arith))
-    (cons_same (simp mod-add-mod (omega arith))
-    (cons_same (simp mod-add-mod (omega arith))
-    (cons_same (simp mod-add-mod (omega arith)) refl)))))))))))))
+    cons_same (simp mod-add-mod (omega arith)) (cons_same (simp mod-add-mod (omega arith)) (cons_same (simp mod-add-mod (omega arith))
+    (cons_same (simp mod-add-mod (omega arith)) (cons_same (simp mod-add-mod (omega arith)) (cons_same (simp mod-add-mod (omega arith))
+    (cons_same (simp mod-add-mod (omega arith)) (cons_same (simp mod-add-mod (omega arith)) (cons_same (simp mod-add-mod (omega arith))
+    (cons_same (simp mod-add-mod (omega arith)) (cons_same (simp mod-add-mod (omega arith)) (cons_same (simp mod-add-mod (omega arith))
+    (cons_same (simp mod-add-mod (omega arith)) (cons_same (simp mod-add-mod (omega arith)) refl)))))))))))))
 
 -- they lead to the Clock
 pub amounts_of-give : (dials : List ℕ) → IsClock dials → clock_after solved (written (amounts_of dials)) ≡ Some dials

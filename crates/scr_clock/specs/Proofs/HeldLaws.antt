@@ -10,7 +10,7 @@ use Rattle.scr_play.specs.Play.{play}
 use Rattle.scr_play.proofs.PlayLaws.{play-empty, play-first, play-parts, play-append, play-one}
 use Rattle.scr_notation.specs.declared.turn.Turn.{Turn}
 use Rattle.scr_notation.specs.declared.turn.Turn.TheVariants.{Pins, Over}
-use Rattle.scr_notation.specs.Turns.{pin_sets, is_clock_turn}
+use Rattle.scr_notation.specs.Pins.{pin_sets, is_clock_turn}
 use Rattle.scr_clock.specs.Dials.{DialTurn, is_turn, turned, solved, dials_after, dial_turn}
 use Rattle.scr_clock.specs.Held.{HeldClock, held_after, clock_after, held_clock}
 use Rattle.scr_clock.specs.Written.{IsAmounts, pins_at, written}

@@ -1,6 +1,6 @@
 use Rattle.std.proofs.Common.{refl}
 use Rattle.scr_play.specs.Play.{play}
-use Rattle.scr_notation.specs.Turns.{hours_text, spelling}
+use Rattle.scr_notation.specs.Spelling.{hours_text, spelling}
 use Rattle.scr_clock.specs.Dials.{gain_at, turned}
 use Rattle.scr_clock.specs.Numbers.{dials_of, number_of}
 use Rattle.scr_clock.specs.Held.{held_after}

@@ -9,16 +9,6 @@ returns-then-needs_at_least-clause-state g c =
     c.state_at-state.ensures (sym c.needs_at_least.ensures ∙ c.if-needs_at_least.true) in
     rw ends.draws refl
 
-pub returns-then-needs_at_least-clause-draws : goal.returns-then-needs_at_least-clause-draws
-returns-then-needs_at_least-clause-draws g c =
-    let ends = tried_passed c.loop-tried.invariant c.loop-tried-test.true c.count-count.ensures c.in-Some.ensures.value
-    c.state_at-state.ensures (sym c.needs_at_least.ensures ∙ c.if-needs_at_least.true) in
-    record {
-      test = λ s. g.P.Permit.needs c.args.puzzle.now s c.args.least;
-      tells = λ s r. g.met.P.Permit.exact c.args.puzzle.now s c.args.least c.requires.least_in_range r;
-      drawn_is = ends.draws;
-    }
-
 pub returns-then-needs_at_least-clause-taken : goal.returns-then-needs_at_least-clause-taken
 returns-then-needs_at_least-clause-taken g c =
     let ends = tried_passed c.loop-tried.invariant c.loop-tried-test.true c.count-count.ensures c.in-Some.ensures.value
@@ -43,15 +33,6 @@ pub returns-clause-state : goal.returns-clause-state
 returns-clause-state g c =
     let whole : c.loop-tried.tried ≡ c.args.attempts = omega arith in
     rw (tried_all c.loop-tried.invariant whole).draws refl
-
-pub returns-clause-draws : goal.returns-clause-draws
-returns-clause-draws g c =
-    let whole : c.loop-tried.tried ≡ c.args.attempts = omega arith in
-    record {
-      test = λ s. g.P.Permit.needs c.args.puzzle.now s c.args.least;
-      tells = λ s r. g.met.P.Permit.exact c.args.puzzle.now s c.args.least c.requires.least_in_range r;
-      drawn_is = (tried_all c.loop-tried.invariant whole).draws;
-    }
 
 pub returns-clause-taken : goal.returns-clause-taken
 returns-clause-taken g c =

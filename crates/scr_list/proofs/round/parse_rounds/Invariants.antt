@@ -1,6 +1,6 @@
 use Rattle.std.proofs.Common.{◌≡◌, ◌+◌, ◌≤◌}
 use Rattle.std.specs.Prelude.{option_copied}
-use Rattle.scr_text.specs.Lines.{more_lines}
+use Rattle.scr_text.specs.Parts.{more_lines}
 use Rattle.scr_list.specs.Rounds.{rounds_of}
 use Rattle.scr_list.proofs.RoundLemmas.{read_on, left_of}
 use Rattle.scr_list.proofs.round.parse_rounds.Given as goal

@@ -1,7 +1,7 @@
 use Rattle.std.proofs.Common.{◌+◌, length, take, get_or, ap, ◌∙◌, sym, arith}
 use Rattle.scr_notation.specs.declared.turn.Turn.TheVariants.{Face}
-use Rattle.scr_notation.specs.Turns.{spelling}
-use Rattle.scr_notation.specs.Written.{text_of, with_word}
+use Rattle.scr_notation.specs.Spelling.{spelling, text_of}
+use Rattle.scr_notation.specs.Written.{with_word}
 use Rattle.scr_notation.proofs.ReadLaws.{print-room, print-more}
 use Rattle.scr_notation.proofs.printing.print.Goals as goal
 

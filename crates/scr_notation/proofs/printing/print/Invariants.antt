@@ -1,5 +1,5 @@
 use Rattle.std.proofs.Common.{◌≡◌, take}
-use Rattle.scr_notation.specs.Written.{text_of}
+use Rattle.scr_notation.specs.Spelling.{text_of}
 use Rattle.scr_notation.proofs.printing.print.Given as goal
 
 abbrev pub invariant-loop-turn : goal.invariant-loop-turn

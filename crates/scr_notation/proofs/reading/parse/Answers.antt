@@ -3,7 +3,7 @@ use Rattle.std.proofs.lemmas.Iterator.Splits.{YieldsList-from_str_split}
 use Rattle.std.proofs.lemmas.Iterator.Consumers.{YieldsList-turn, YieldsList-end, YieldsList-at}
 use Rattle.std.proofs.lemmas.List.{length_push}
 use Rattle.std.proofs.lemmas.Result.{err_from_is_err_and}
-use Rattle.scr_notation.specs.Written.{text_of}
+use Rattle.scr_notation.specs.Spelling.{text_of}
 use Rattle.scr_notation.specs.Reading.{words_of, IsReadSoFar}
 use Rattle.scr_notation.proofs.TextLaws.{words_of-some}
 use Rattle.scr_notation.proofs.ReadLaws.{read-none, read-more, read-all, first-fault, no-fault, same-result, next-word, no-text, some-text}

@@ -1,6 +1,7 @@
 use Rattle.std.proofs.Common.{◌<◌, IsTrue, arith, ap, sym, ◌∙◌, subst}
 use Rattle.scr_notation.specs.declared.event.Kind.{Kind}
-use Rattle.scr_notation.specs.Turns.{spelling, has_turn}
+use Rattle.scr_notation.specs.Turns.{has_turn}
+use Rattle.scr_notation.specs.Spelling.{spelling}
 use Rattle.scr_notation.proofs.TurnLaws.{numbered}
 use Rattle.scr_notation.proofs.reading.read_turn.Goals as goal
 

@@ -1,5 +1,6 @@
 use Rattle.std.proofs.Common.{◌≡◌, ℕ, ◌<◌}
-use Rattle.scr_notation.specs.Turns.{spelling, turn_at}
+use Rattle.scr_notation.specs.Turns.{turn_at}
+use Rattle.scr_notation.specs.Spelling.{spelling}
 use Rattle.scr_notation.proofs.reading.read_turn.Given as goal
 
 abbrev pub invariant-loop-number : goal.invariant-loop-number

@@ -2,7 +2,8 @@ use Rattle.std.proofs.Common.{[], ◌∷◌, ◌++◌}
 use Rattle.std.specs.Prelude.{codes}
 use Rattle.std.proofs.lemmas.Result.{err_from_is_err_and}
 use Rattle.scr_outside.proofs.ChangeLemmas.{written-none, written-more, written-part, written-last, written-at}
-use Rattle.scr_round.specs.Round.{turns_of_each, labelled, labels_from}
+use Rattle.scr_round.specs.Round.{labelled, labels_from}
+use Rattle.scr_round.specs.Made.{turns_of_each}
 use Rattle.scr_round.proofs.LineLaws.{group_parts}
 use Rattle.scr_round.proofs.writing.write_group.Goals as goal
 

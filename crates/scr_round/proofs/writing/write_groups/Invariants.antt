@@ -2,7 +2,8 @@ use Rattle.std.proofs.Common.{◌≡◌, ◌+◌, ◌-◌, ◌*◌, length}
 use Rattle.scr_outside.specs.Change.{change_of}
 use Rattle.scr_outside.proofs.ChangeLemmas.{IsWrittenUpTo}
 use Rattle.scr_text.specs.Lines.{text_of_lines}
-use Rattle.scr_round.specs.Round.{turns_of_each, group_lines}
+use Rattle.scr_round.specs.Round.{group_lines}
+use Rattle.scr_round.specs.Made.{turns_of_each}
 use Rattle.scr_round.proofs.LineLaws.{groups_left}
 use Rattle.scr_round.proofs.writing.write_groups.Given as goal
 

@@ -1,7 +1,8 @@
 use Rattle.std.proofs.lemmas.Result.{err_from_is_err_and}
 use Rattle.scr_outside.proofs.ChangeLemmas.{written-none, written-more, written-part, written-last, written-at}
 use Rattle.scr_list.specs.Events.{rules_of}
-use Rattle.scr_round.specs.Round.{turns_of_each, group_lines, heading}
+use Rattle.scr_round.specs.Round.{group_lines, heading}
+use Rattle.scr_round.specs.Made.{turns_of_each}
 use Rattle.scr_round.proofs.LineLaws.{first_line}
 use Rattle.scr_round.proofs.writing.write_round.Goals as goal
 

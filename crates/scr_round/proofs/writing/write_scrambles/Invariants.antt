@@ -1,7 +1,8 @@
 use Rattle.scr_outside.specs.Change.{change_of}
 use Rattle.scr_outside.proofs.ChangeLemmas.{IsWrittenUpTo}
 use Rattle.scr_text.specs.Lines.{text_of_lines}
-use Rattle.scr_round.specs.Round.{turns_of_each, labelled, labels_from}
+use Rattle.scr_round.specs.Round.{labelled, labels_from}
+use Rattle.scr_round.specs.Made.{turns_of_each}
 use Rattle.scr_round.proofs.LineLaws.{left_at}
 use Rattle.scr_round.proofs.writing.write_scrambles.Given as goal
 

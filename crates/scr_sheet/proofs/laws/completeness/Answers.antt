@@ -13,7 +13,7 @@ returns-clause-done c = λ words outcome source out err settings parts run each.
 
 pub returns-clause-limit : goal.returns-clause-limit
 returns-clause-limit c = λ words outcome source out err settings parts run lacks.
-    let decided = IsTask-decided words run.command run.list settings parts c.each_event.ensures.one run.asks run.task in
+    let decided = IsTask-decided words run.command run.list settings parts c.one_scramble.ensures run.asks run.task in
     rw run.run.answer
     (elim (IsUnhindered-ends c.lists_that_were_read.ensures run) [
       | inl ends ↦ EndsParts-limit settings parts out run.run.ended ends run.written decided lacks

@@ -1,9 +1,8 @@
 use Rattle.std.proofs.Common.{◌≡◌, ◌≤◌, length}
 use Rattle.std.specs.Vec.{vec_capacity}
-use Rattle.scr_round.specs.Round.{turns_of_each}
+use Rattle.scr_round.specs.Made.{turns_of_each}
 use Rattle.scr_slots.specs.Slots.{first_stream}
-use Rattle.scr_sheet.specs.Making.{settings_of}
-use Rattle.scr_sheet.specs.Sheet.{AreScrambles}
+use Rattle.scr_sheet.specs.Sheet.{settings_of, AreScrambles}
 use Rattle.scr_sheet.proofs.making.make_round.Given as goal
 
 abbrev pub invariant-loop-slot : goal.invariant-loop-slot

@@ -2,10 +2,10 @@ use Rattle.std.proofs.Common.{◌≡◌, ◌∷◌, [], ◌++◌, refl, ap, ◌�
 use Rattle.std.specs.Prelude.{codes}
 use Rattle.std.proofs.lemmas.Result.{err_from_is_err_and}
 use Rattle.scr_command.specs.Command.{usual_options}
-use Rattle.scr_slots.specs.Slots.{IsSlotScramble, IsMissed}
+use Rattle.scr_slots.specs.Slots.{IsSlotScramble}
+use Rattle.scr_slots.specs.Outcomes.{IsMissed}
 use Rattle.scr_slots.specs.Events.{scrambling_of}
-use Rattle.scr_sheet.specs.Making.{settings_of}
-use Rattle.scr_sheet.specs.Sheet.{one_part}
+use Rattle.scr_sheet.specs.Sheet.{settings_of, one_part}
 use Rattle.scr_sheet.proofs.PartLaws.{IsStopped-first, IsPartText-line, IsText-one}
 use Rattle.scr_sheet.proofs.parts.write_one.Goals as goal
 

@@ -1,7 +1,6 @@
 use Rattle.std.proofs.Common.{drop}
 use Rattle.scr_outside.specs.Change.{change_of}
-use Rattle.scr_sheet.specs.Making.{settings_of}
-use Rattle.scr_sheet.specs.Sheet.{round_parts}
+use Rattle.scr_sheet.specs.Sheet.{settings_of, round_parts}
 use Rattle.scr_sheet.proofs.PartLaws.{IsMadeUpTo}
 use Rattle.scr_sheet.proofs.parts.write_rounds.Given as goal
 

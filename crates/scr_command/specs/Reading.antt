@@ -1,0 +1,33 @@
+-- What reading the words of the command line finds: a command that words can ask for, or why there is none.
+use Rattle.std.specs.Prelude.{◌≡◌, ◌≤◌, IsTrue, List, ℕ, Err}
+use Rattle.scr_list.specs.Events.{rules_of}
+use Rattle.scr_command.specs.declared.options.Options.{Options}
+use Rattle.scr_command.specs.declared.command.Command.{Command}
+use Rattle.scr_command.specs.declared.command.Command.TheVariants.{One, Sheet}
+use Rattle.scr_command.specs.declared.command.CommandFault.{CommandFault}
+use Rattle.scr_command.specs.declared.command.CommandFault.TheVariants as refusal
+use Rattle.scr_command.specs.OptionWords.{options_of}
+use Rattle.scr_command.specs.Command.{command_of, sheet_of, AsksForSheet}
+
+-- numbers that words can set: 1 to 64 workers, no tries yet, 1 to 1,000,000 attempts
+pub record AreOptions (options : Options) : Type 0 where
+  pub some_workers : 1 ≤ options.workers
+  pub few_workers : options.workers ≤ 64
+  pub no_tries : options.tries ≡ 0
+  pub some_attempts : 1 ≤ options.attempts
+  pub few_attempts : options.attempts ≤ 1000000
+
+-- a command that words can ask for: its event is one that lists take, and its numbers are in their ranges
+abbrev pub IsCommand : Command → Type 0
+IsCommand (One event seed) = IsTrue (rules_of event).built
+IsCommand (Sheet seed options) = AreOptions options
+
+-- why no command was read: the words are none, or memory was wanting
+abbrev pub IsRefusal : List (List ℕ) → CommandFault → Type 0
+IsRefusal words (refusal.Usage usage) = command_of words ≡ Err usage
+IsRefusal words refusal.NoMemory = AsksForSheet words
+
+-- the same, for the words after `sheet`
+abbrev pub IsSheetRefusal : List (List ℕ) → CommandFault → Type 0
+IsSheetRefusal words (refusal.Usage usage) = sheet_of (options_of words) ≡ Err usage
+IsSheetRefusal words refusal.NoMemory = Unit {0}

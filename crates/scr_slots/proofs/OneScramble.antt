@@ -1,0 +1,51 @@
+-- A slot has one scramble at most, and either that or none.
+use Rattle.std.proofs.Common.{◌≡◌, ℕ, ◌≤◌, List, Some, None, subst, lit≤}
+use Rattle.std.specs.Prelude.{IsTrue}
+use Rattle.scr_combinatorics.specs.Numbered.{Numbered}
+use Rattle.scr_play.specs.Reach.{Puzzle}
+use Rattle.scr_draw.specs.StateSpace.{space_of}
+use Rattle.scr_draw.proofs.Outcomes.{Draws-one}
+use Rattle.scr_notation.specs.declared.turn.Turn.{Turn}
+use Rattle.scr_notation.specs.declared.event.Event.{Event}
+use Rattle.scr_notation.specs.declared.event.Event.TheVariants.{C222, C333, Oh333, C555, C666, C777, Clock, Minx, Pyram, Skewb, Sq1}
+use Rattle.scr_list.specs.Events.{rules_of}
+use Rattle.scr_clock.specs.Dials.{clock_puzzle}
+use Rattle.scr_clock.specs.Numbers.{clock_numbered}
+use Rattle.scr_clock.specs.Proofs.AmountLaws.{IsScrambleOf-one}
+use Rattle.scr_slots.specs.Events.{scrambling_of, clock_rule}
+use Rattle.scr_slots.specs.Slots.{ScrambleRule, by_state, slot_numbers}
+use Rattle.scr_slots.specs.Outcomes.{HasOneScramble}
+
+-- a state has one scramble
+abbrev pub IsOnly : {S : Type 0} → ScrambleRule S → Type 0
+IsOnly {S} rule = (tries : ℕ) (state : S) (turns other : List Turn) → rule.IsScramble tries state turns → rule.IsScramble tries state other
+    → turns ≡ other
+
+-- Then a slot has: its numbers draw one state at most, whichever test tells what states need.
+pub HasOneScramble-only : {S : Type 0} (n : Numbered S) (puzzle : Puzzle S) (rule : ScrambleRule S) (least : ℕ) → 1 ≤ n.count → IsOnly rule
+    → HasOneScramble (by_state n puzzle rule) least
+HasOneScramble-only n puzzle rule least some only = record {
+  one = λ settings stream turns other first second.
+      let drawn =
+      Draws-one (space_of n puzzle) least some (slot_numbers settings stream) (Some first.state) (Some second.state) first.draws second.draws in
+      let same : first.state ≡ second.state = cc in
+      only settings.tries second.state turns other (subst (λ s. rule.IsScramble settings.tries s turns) same first.scramble) second.scramble;
+  apart = λ settings stream turns found none.
+      let drawn = Draws-one (space_of n puzzle) least some (slot_numbers settings stream) (Some found.state) None found.draws none in
+      cc;
+}
+
+-- So it is for each event that lists take.
+pub each_one : (event : Event) (least : ℕ) → IsTrue (rules_of event).built → HasOneScramble (scrambling_of event) least
+each_one C222 least built = cc
+each_one C333 least built = cc
+each_one Oh333 least built = cc
+each_one C555 least built = cc
+each_one C666 least built = cc
+each_one C777 least built = cc
+each_one Clock least built =
+    HasOneScramble-only clock_numbered clock_puzzle clock_rule least (lit≤ tt) (λ tries. IsScrambleOf-one)
+each_one Minx least built = cc
+each_one Pyram least built = cc
+each_one Skewb least built = cc
+each_one Sq1 least built = cc
