@@ -1,5 +1,5 @@
 -- What the words of the command line ask for.
-use Rattle.std.specs.Prelude.{◌≡◌, ℕ, if◌then◌else◌, true, List, [], ◌∷◌, codes, Option, Some, None, Result, Ok, Err}
+use Rattle.std.specs.Prelude.{◌≡◌, ℕ, if◌then◌else◌, true, List, [], ◌∷◌, codes, Option, Some, None, Result, Ok, Err, ok_or}
 use Rattle.std.specs.Str.{bytes_eq}
 use Rattle.scr_words.specs.declared.seed.Seed.{Seed}
 use Rattle.scr_words.specs.declared.seed.SeedFault.{SeedFault}
@@ -9,7 +9,7 @@ use Rattle.scr_text.specs.Numbers.{number_between}
 use Rattle.scr_list.specs.Events.{built_event_of}
 use Rattle.scr_command.specs.declared.options.Options.{Options}
 use Rattle.scr_command.specs.declared.command.Command.{Command}
-use Rattle.scr_command.specs.declared.command.Command.TheVariants.{One, Sheet}
+use Rattle.scr_command.specs.declared.command.Command.TheVariants.{One, Sheet, Tables}
 use Rattle.scr_command.specs.declared.command.UsageFault.{UsageFault}
 use Rattle.scr_command.specs.declared.command.UsageFault.TheVariants.{No444, NoSeed, Grammar}
 use Rattle.scr_command.specs.OptionWords.{SplitOptions, options_of}
@@ -47,16 +47,20 @@ seeded command (Err fault) = Err (NoSeed fault)
 
 -- ---- `one EVENT SEED`
 
--- the command, with the event that its word names
-abbrev pub one_for : Option Event → List ℕ → Result Command UsageFault
-one_for None seed = Err Grammar
-one_for (Some event) seed = seeded (One event) (seed_of seed)
+-- the event of those that lists take which a word names
+abbrev pub event_for : List ℕ → Result Event UsageFault
+event_for word = if bytes_eq word (codes "444") then Err No444 else ok_or (built_event_of word) Grammar
+
+-- the command, with its event and what was read where its seed stands
+abbrev pub one_for : Result Event UsageFault → List ℕ → Result Command UsageFault
+one_for (Err fault) seed = Err fault
+one_for (Ok event) seed = seeded (One event) (seed_of seed)
 
 -- the words after `one`
 abbrev pub one_of : List (List ℕ) → Result Command UsageFault
 one_of [] = Err Grammar
 one_of (event ∷ []) = Err Grammar
-one_of (event ∷ seed ∷ []) = if bytes_eq event (codes "444") then Err No444 else one_for (built_event_of event) seed
+one_of (event ∷ seed ∷ []) = one_for (event_for event) seed
 one_of (event ∷ seed ∷ more ∷ others) = Err Grammar
 
 -- ---- `sheet --seed HEX [--workers N] [--tries N] [--attempts N]`
@@ -71,6 +75,19 @@ abbrev pub sheet_of : Option SplitOptions → Result Command UsageFault
 sheet_of None = Err Grammar
 sheet_of (Some split) = sheet_for (settings_in split) split.seed
 
+-- ---- `tables EVENT`
+
+-- the command, with its event
+abbrev pub tables_for : Result Event UsageFault → Result Command UsageFault
+tables_for (Err fault) = Err fault
+tables_for (Ok event) = Ok (Tables event)
+
+-- the words after `tables`
+abbrev pub tables_of : List (List ℕ) → Result Command UsageFault
+tables_of [] = Err Grammar
+tables_of (event ∷ []) = tables_for (event_for event)
+tables_of (event ∷ more ∷ others) = Err Grammar
+
 -- ---- all commands
 
 -- The command that the words are, or why they are none. Words that are a command but for the seed
@@ -80,6 +97,7 @@ command_of [] = Err Grammar
 command_of (command ∷ words) =
     if bytes_eq command (codes "sheet") then sheet_of (options_of words)
     else if bytes_eq command (codes "one") then one_of words
+    else if bytes_eq command (codes "tables") then tables_of words
     else Err Grammar
 
 -- the words begin with `sheet`: only for these does a run take memory

@@ -3,7 +3,7 @@ use Rattle.std.specs.Prelude.{◌≡◌, ◌≤◌, IsTrue, List, ℕ, Err}
 use Rattle.scr_list.specs.Events.{rules_of}
 use Rattle.scr_command.specs.declared.options.Options.{Options}
 use Rattle.scr_command.specs.declared.command.Command.{Command}
-use Rattle.scr_command.specs.declared.command.Command.TheVariants.{One, Sheet}
+use Rattle.scr_command.specs.declared.command.Command.TheVariants.{One, Sheet, Tables}
 use Rattle.scr_command.specs.declared.command.CommandFault.{CommandFault}
 use Rattle.scr_command.specs.declared.command.CommandFault.TheVariants as refusal
 use Rattle.scr_command.specs.OptionWords.{options_of}
@@ -21,6 +21,7 @@ pub record AreOptions (options : Options) : Type 0 where
 abbrev pub IsCommand : Command → Type 0
 IsCommand (One event seed) = IsTrue (rules_of event).built
 IsCommand (Sheet seed options) = AreOptions options
+IsCommand (Tables event) = IsTrue (rules_of event).built
 
 -- why no command was read: the words are none, or memory was wanting
 abbrev pub IsRefusal : List (List ℕ) → CommandFault → Type 0

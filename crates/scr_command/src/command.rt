@@ -1,12 +1,13 @@
 //! The words of the command line.
 
-ghost use Rattle.std.specs.Prelude.{◌≡◌, ◌≤◌, [], ◌∷◌, Option, Some, MatchResult, option_map, Ok, IfOk, IfSome};
+ghost use Rattle.std.specs.Prelude.{◌≡◌, ◌≤◌, [], ◌∷◌, IsTrue, Option, Some, MatchResult, option_map, Ok, IfOk, IfSome};
+ghost use Rattle.scr_list.specs.Events.{rules_of};
 ghost use Rattle.scr_command.specs.declared.command.UsageFault.TheVariants.{Grammar, NoSeed};
 ghost use Rattle.scr_command.specs.declared.command.CommandFault.TheVariants.{Usage, NoMemory};
 ghost use Rattle.scr_command.specs.OptionWords.{options_of};
 ghost use Rattle.scr_command.specs.Words.{texts};
 ghost use Rattle.scr_command.specs.Split.{options_in_words};
-ghost use Rattle.scr_command.specs.Command.{command_of, sheet_of, one_of, setting, settings_in};
+ghost use Rattle.scr_command.specs.Command.{command_of, sheet_of, one_of, tables_of, event_for, setting, settings_in};
 ghost use Rattle.scr_command.specs.Reading.{IsRefusal, IsSheetRefusal, IsCommand, AreOptions};
 
 use crate::options::Options;
@@ -24,6 +25,8 @@ pub enum Command {
     One(Event, Seed),
     /// A sheet of the rounds that the input lists.
     Sheet(Seed, Options),
+    /// How many positions the tables of an event have at each distance.
+    Tables(Event),
 }
 
 /// Why the words ask for nothing.
@@ -73,6 +76,7 @@ pub fn read_command(alloc: Global, words: &[&str]) -> Result<Command, CommandFau
         [] => Err(CommandFault::Usage(UsageFault::Grammar)),
         [command, words @ ..] if *command == "sheet" => read_sheet(alloc, words),
         [command, words @ ..] if *command == "one" => Ok(read_one(words)?),
+        [command, words @ ..] if *command == "tables" => Ok(read_tables(words)?),
         [..] => Err(CommandFault::Usage(UsageFault::Grammar)),
     }
 }
@@ -92,12 +96,31 @@ fn read_event_and_seed(event: &str, seed: &str) -> Result<Command, UsageFault>
     ensures answer { result ≡ one_of (event.now ∷ seed.now ∷ []) }
     ensures command { IfOk result IsCommand }
 {
+    let event = read_event(event)?;
+    let seed = read_seed(seed)?;
+    Ok(Command::One(event, seed))
+}
+
+/// Reads the words after `tables`.
+fn read_tables(words: &[&str]) -> Result<Command, UsageFault>
+    ensures answer { result ≡ tables_of (texts words.now) }
+    ensures command { IfOk result IsCommand }
+{
+    match words {
+        [event] => Ok(Command::Tables(read_event(event)?)),
+        _ => Err(UsageFault::Grammar),
+    }
+}
+
+/// Reads the word of an event that lists take.
+fn read_event(event: &str) -> Result<Event, UsageFault>
+    ensures answer { result ≡ event_for event.now }
+    ensures built { IfOk result (λ e. IsTrue (rules_of e).built) }
+{
     if event == "444" {
         return Err(UsageFault::No444);
     }
-    let event = built_event(event.as_bytes()).ok_or(UsageFault::Grammar)?;
-    let seed = read_seed(seed)?;
-    Ok(Command::One(event, seed))
+    built_event(event.as_bytes()).ok_or(UsageFault::Grammar)
 }
 
 /// Reads the words after `sheet`.

@@ -71,6 +71,12 @@ fn commands_read(rt: HostRuntime) {
     reads(
         &rt,
         alloc,
+        &["tables", "222"],
+        Ok(Command::Tables(Event::C222)),
+    );
+    reads(
+        &rt,
+        alloc,
         &["sheet", "--seed", ZEROS],
         sheet(Options {
             workers: 1,
@@ -157,6 +163,10 @@ fn commands_refused(rt: HostRuntime) {
     }
     reads(&rt, alloc, &[], usage);
     reads(&rt, alloc, &["one", "444"], usage);
+    reads(&rt, alloc, &["tables"], usage);
+    reads(&rt, alloc, &["tables", "333"], usage);
+    let no_444 = Err(CommandFault::Usage(UsageFault::No444));
+    reads(&rt, alloc, &["tables", "444"], no_444);
     reads(&rt, alloc, &["one", "clock", ZEROS, ZEROS], usage);
     reads(&rt, alloc, &["sheet"], usage);
 }

@@ -8,7 +8,7 @@ use Rattle.scr_orbit.specs.Actions.{Power}
 use Rattle.scr_orbit.proofs.PowerLaws.{ArePowers, merged_power}
 use Rattle.scr_notation.specs.declared.turn.Turn.{Turn}
 use Rattle.scr_notation.specs.declared.turn.Turn.TheVariants.{Face, Axis, Tip, Layers, Twist, Pins, Over, Wide}
-use Rattle.scr_notation.specs.Turning.{opposite, are_of_one_face, face_turns_merged, face_merging}
+use Rattle.scr_notation.specs.Turning.{opposite, are_alike, turns_merged, turn_merging}
 use Rattle.scr_notation.proofs.Below.{and_first, and_second}
 use Rattle.scr_cube.specs.Faces.{quarters_of}
 
@@ -48,7 +48,7 @@ quarters_of-face face amount some few =
 
 -- two turns of one face come to the sum of their quarters
 merged_by : (face amount more : ℕ) (b : Bool) → eqb ((amount + more) % 4) 0 ≡ b
-    → merged_power quarters_of face (face_turns_merged (Face face 1 amount) (Face face 1 more)) ≡ Some (record { generator = face; exponent = (amount + more) % 4 })
+    → merged_power quarters_of face (turns_merged (Face face 1 amount) (Face face 1 more)) ≡ Some (record { generator = face; exponent = (amount + more) % 4 })
 merged_by face amount more true e =
     ap (λ b. merged_power quarters_of face (cond b None (Some (Face face 1 ((amount + more) % 4))))) e
     ∙ ap (λ n. Some (record { generator = face; exponent = n })) (sym (eqb-true ((amount + more) % 4) 0 e))
@@ -56,13 +56,13 @@ merged_by face amount more false e =
     ap (λ b. merged_power quarters_of face (cond b None (Some (Face face 1 ((amount + more) % 4))))) e
     ∙ quarters_of-face face ((amount + more) % 4) (omega (arith, eqb-false ((amount + more) % 4) 0 e)) (omega arith)
 
-same_face : (t u : Turn) (p q : Power) → IsTrue (are_of_one_face t u) → IsQuartersOf t p → IsQuartersOf u q → p.generator ≡ q.generator
+same_face : (t u : Turn) (p q : Power) → IsTrue (are_alike t u) → IsQuartersOf t p → IsQuartersOf u q → p.generator ≡ q.generator
 same_face t u p q alike a b =
-    let whole : IsTrue (are_of_one_face (Face p.generator 1 p.exponent) (Face q.generator 1 q.exponent)) =
-    ap (λ v. are_of_one_face v (Face q.generator 1 q.exponent)) (sym a.is) ∙ ap (are_of_one_face t) (sym b.is) ∙ alike in
+    let whole : IsTrue (are_alike (Face p.generator 1 p.exponent) (Face q.generator 1 q.exponent)) =
+    ap (λ v. are_alike v (Face q.generator 1 q.exponent)) (sym a.is) ∙ ap (are_alike t) (sym b.is) ∙ alike in
     eqb-true p.generator q.generator (and_first (eqb p.generator q.generator) true whole)
 
-pub face_powers : ArePowers 4 quarters_of opposite face_merging
+pub face_powers : ArePowers 4 quarters_of opposite turn_merging
 face_powers = record {
   below = λ t p e. let a = IsQuartersOf-read t p e in (a.some, a.few);
   opposites = λ t p e.
@@ -73,7 +73,7 @@ face_powers = record {
       let a = IsQuartersOf-read t p e in
       let b = IsQuartersOf-read u q f in
       let other : u ≡ Face p.generator 1 q.exponent = b.is ∙ ap (λ g. Face g 1 q.exponent) (sym (same_face t u p q alike a b)) in
-      ap (λ v. merged_power quarters_of p.generator (face_turns_merged v u)) a.is
-      ∙ ap (λ v. merged_power quarters_of p.generator (face_turns_merged (Face p.generator 1 p.exponent) v)) other
+      ap (λ v. merged_power quarters_of p.generator (turns_merged v u)) a.is
+      ∙ ap (λ v. merged_power quarters_of p.generator (turns_merged (Face p.generator 1 p.exponent) v)) other
       ∙ merged_by p.generator p.exponent q.exponent (eqb ((p.exponent + q.exponent) % 4) 0) refl;
 }

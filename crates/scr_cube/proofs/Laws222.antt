@@ -8,7 +8,7 @@ use Rattle.scr_orbit.proofs.OrbitLaws.{zero_sum_laws, IsZeroSumOrbit-solved}
 use Rattle.scr_orbit.specs.LawfulTurns.{HasLawfulTurns}
 use Rattle.scr_orbit.proofs.PowerLaws.{IsGenerator, HasLawfulTurns-powers}
 use Rattle.scr_orbit.proofs.TableTests.{is_zero_sum_turn, IsZeroSumRearrangement-from_test}
-use Rattle.scr_notation.specs.Turning.{opposite, face_merging}
+use Rattle.scr_notation.specs.Turning.{opposite, turn_merging}
 use Rattle.scr_cube.specs.Faces.{quarters_of}
 use Rattle.scr_cube.specs.Cube222.{IsCorners222, quarters_222, action_222, table_222, solved_222}
 use Rattle.scr_cube.proofs.FaceLaws.{face_powers}
@@ -23,8 +23,8 @@ each_quarter_222 =
     All-from_recursion (IsGenerator action_222 (IsZeroSumRearrangement 7 3) 4) quarters_222
     (quarter_by _ refl refl, (quarter_by _ refl refl, (quarter_by _ refl refl, tt)))
 
-pub lawful_222 : HasLawfulTurns action_222 IsCorners222 (IsZeroSumRearrangement 7 3) table_222 opposite face_merging solved_222
+pub lawful_222 : HasLawfulTurns action_222 IsCorners222 (IsZeroSumRearrangement 7 3) table_222 opposite turn_merging solved_222
 unfolding solved_222
 lawful_222 =
     HasLawfulTurns-powers action_222 IsCorners222 (IsZeroSumRearrangement 7 3) (zero_sum_laws 7 3 (lit< tt)) 4 quarters_222 each_quarter_222 quarters_of
-    opposite face_merging face_powers solved_222 (IsZeroSumOrbit-solved 7 3 (lit< tt))
+    opposite turn_merging face_powers solved_222 (IsZeroSumOrbit-solved 7 3 (lit< tt))

@@ -9,7 +9,7 @@ use Rattle.scr_orbit.proofs.OrbitLaws.{zero_sum_laws, IsZeroSumOrbit-solved, par
 use Rattle.scr_orbit.specs.LawfulTurns.{HasLawfulTurns}
 use Rattle.scr_orbit.proofs.PowerLaws.{IsGenerator, HasLawfulTurns-powers}
 use Rattle.scr_orbit.proofs.TableTests.{is_zero_sum_turn, IsZeroSumRearrangement-from_test}
-use Rattle.scr_notation.specs.Turning.{opposite, face_merging}
+use Rattle.scr_notation.specs.Turning.{opposite, turn_merging}
 use Rattle.scr_cube.specs.Faces.{quarters_of}
 use Rattle.scr_cube.specs.Cube333.{CubeState, IsCube, CubeTurn, IsCubeTurn, cube_quarters, cube_action, cube_table, solved_cube}
 use Rattle.scr_cube.proofs.FaceLaws.{face_powers}
@@ -92,7 +92,7 @@ IsCube-solved : IsCube solved_cube
 unfolding solved_cube solved_orbit
 IsCube-solved = record { corners = IsZeroSumOrbit-solved 8 3 (lit< tt); edges = IsZeroSumOrbit-solved 12 2 (lit< tt); same_parity = refl }
 
-pub lawful_cube : HasLawfulTurns cube_action IsCube IsCubeTurn cube_table opposite face_merging solved_cube
+pub lawful_cube : HasLawfulTurns cube_action IsCube IsCubeTurn cube_table opposite turn_merging solved_cube
 lawful_cube =
-    HasLawfulTurns-powers cube_action IsCube IsCubeTurn cube_laws 4 cube_quarters each_quarter quarters_of opposite face_merging face_powers
+    HasLawfulTurns-powers cube_action IsCube IsCubeTurn cube_laws 4 cube_quarters each_quarter quarters_of opposite turn_merging face_powers
     solved_cube IsCube-solved

@@ -8,7 +8,7 @@ use Rattle.scr_play.proofs.PlayLaws.{play-empty, play-one}
 use Rattle.scr_orbit.specs.Actions.{power, power_of}
 use Rattle.scr_orbit.specs.Orbits.{Orbit, turned_orbit, composed, identity, solved_orbit, added_digits}
 use Rattle.scr_notation.specs.declared.turn.Turn.{Turn}
-use Rattle.scr_notation.specs.Turns.{face_turn_at}
+use Rattle.scr_notation.specs.TurnNumbers.{face_turn_at}
 use Rattle.scr_cube.specs.Cube333.{cube_puzzle, cube_after, solved_cube}
 use Rattle.scr_cube.specs.Cube222.{corners_after, solved_222, puzzle_222}
 use Rattle.scr_cube.specs.Known.{superflip, superflip_word}

@@ -5,7 +5,7 @@ use Rattle.scr_combinatorics.specs.Twists.{with_sum_fixed, twists_at}
 use Rattle.scr_play.specs.Play.{play}
 use Rattle.scr_orbit.specs.Actions.{power, power_of}
 use Rattle.scr_orbit.specs.Orbits.{turned_orbit, composed, identity, solved_orbit, added_digits}
-use Rattle.scr_notation.specs.Turns.{face_turn_at}
+use Rattle.scr_notation.specs.TurnNumbers.{face_turn_at}
 use Rattle.scr_notation.specs.Spelling.{spelling}
 use Rattle.scr_cube.specs.Cube333.{solved_cube, cube_of_digits}
 use Rattle.scr_cube.specs.Cube222.{solved_222, corners_of_digits}

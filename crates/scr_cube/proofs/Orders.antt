@@ -9,7 +9,7 @@ use Rattle.scr_orbit.specs.Actions.{IsOrder, power, composed_word, power_of}
 use Rattle.scr_orbit.specs.Orbits.{composed, identity, added_digits, zeros}
 use Rattle.scr_orbit.proofs.PowerLaws.{All-got, IsOrder-from_test, apart}
 use Rattle.scr_notation.specs.declared.turn.Turn.{Turn}
-use Rattle.scr_notation.specs.Turns.{face_turn_at}
+use Rattle.scr_notation.specs.TurnNumbers.{face_turn_at}
 use Rattle.scr_cube.specs.Cube333.{CubeTurn, cube_quarters, cube_action, cube_table}
 use Rattle.scr_cube.specs.Stickers.{CarriesStickers}
 use Rattle.scr_cube.specs.Known.{IsWordOrder, numbered_word, known_orders}

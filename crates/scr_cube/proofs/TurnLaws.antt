@@ -1,9 +1,10 @@
 -- Turns read from the tables in arrays, by their numbers, and letters read as turns.
-use Rattle.std.proofs.Common.{◌≡◌, ℕ, ◌+◌, ◌-◌, ◌*◌, ◌/◌, ◌%◌, ◌<◌, ◌≤◌, List, Option, Some, None, map, length, get_or, refl, sym, ap, subst, ◌∙◌, arith}
-use Rattle.std.specs.Prelude.{slice_get}
+use Rattle.std.proofs.Common.{◌≡◌, ℕ, ◌+◌, ◌-◌, ◌*◌, ◌/◌, ◌%◌, ◌<◌, ◌≤◌, List, Option, Some, None, cond, map, length, get_or, refl, sym, ap, subst, ◌∙◌, arith, lit≤, ne_eqb, ⊎_elim}
+use Rattle.std.specs.Prelude.{◌&&◌, nat_lt, slice_get, option_and_then}
+use Rattle.std.proofs.lemmas.Bool.{cases_lt}
 use Rattle.std.specs.Option.{option_map}
-use Rattle.std.proofs.lemmas.Option.{slice_get-map, same_Some}
-use Rattle.scr_orbit.specs.Actions.{Action, Power, after_by, power_table, all_powers}
+use Rattle.std.proofs.lemmas.Option.{slice_get-map, slice_get_past, same_Some}
+use Rattle.scr_orbit.specs.Actions.{Action, Power, after_by, power_of, power_table, all_powers}
 use Rattle.scr_orbit.specs.Orbits.{Orbit, Rearrangement, turned_orbit}
 use Rattle.scr_orbit.specs.declared.placed.PlaceTurn.{PlaceTurn}
 use Rattle.scr_orbit.specs.PlaceTurns.{rearrangement_of}
@@ -11,7 +12,7 @@ use Rattle.scr_orbit.proofs.Places.{turn-at}
 use Rattle.scr_orbit.proofs.PowerLaws.{power_table-at}
 use Rattle.scr_notation.specs.declared.turn.Turn.{Turn}
 use Rattle.scr_notation.specs.declared.turn.Turn.TheVariants.{Face}
-use Rattle.scr_notation.specs.Turns.{face_turn_at}
+use Rattle.scr_notation.specs.TurnNumbers.{face_turn_at}
 use Rattle.scr_cube.specs.Faces.{quarters_of}
 use Rattle.scr_cube.specs.Cube333.{CubeState, IsCube, CubeTurn, cube_quarters, cube_action, cube_turns, corner_turns, edge_turns, cube_after}
 use Rattle.scr_cube.specs.Cube222.{IsCorners222, quarters_222, action_222, turns_222, corners_after}
@@ -21,19 +22,50 @@ use Rattle.scr_cube.proofs.Laws222.{lawful_222}
 
 -- ---- by their numbers
 
--- all turns, in the order of their numbers, are what the letters with these numbers rearrange
-pub all_powers-numbered : {S R : Type 0} (a : Action S R) (quarters : List R) (n : ℕ)
-    → slice_get (all_powers a 4 quarters) n ≡ power_table a quarters quarters_of (face_turn_at n)
+-- the first eighteen turns are of outer layers
+pub outer : (n : ℕ) → n < 18 → face_turn_at n ≡ Face (n / 3) 1 (n % 3 + 1)
 unfolding face_turn_at
-all_powers-numbered a quarters n =
-    let number : 3 * (n / 3) + (n % 3 + 1 - 1) ≡ n = omega arith in
-    sym (power_table-at a 4 quarters quarters_of (face_turn_at n) (n / 3) (n % 3 + 1) (omega arith) (omega arith)
-    (quarters_of-face (n / 3) (n % 3 + 1) (omega arith) (omega arith))
-    ∙ ap (slice_get (all_powers a 4 quarters)) number)
+outer n l =
+    let face : n / 3 % 6 ≡ n / 3 = omega arith in
+    let depth : n / 18 + 1 ≡ 1 = omega arith in
+    cc
 
-after-numbered : {S R : Type 0} (a : Action S R) (quarters : List R) (s : S) (n : ℕ) (r : R) → slice_get (all_powers a 4 quarters) n ≡ Some r
+-- and the others are no turns of these puzzles
+pub inner : (n : ℕ) → 18 ≤ n → quarters_of (face_turn_at n) ≡ None
+unfolding face_turn_at
+inner n l =
+    let amount : ℕ = n % 3 + 1 in
+    ap
+    (λ b. cond (b && (nat_lt 0 amount && nat_lt amount 4)) (Some (record { generator = n / 3 % 6; exponent = amount })) None)
+    (ne_eqb (n / 18 + 1) 1 (λ q. omega arith))
+
+-- all turns of at most six faces, in the order of their numbers, are what the letters with these numbers rearrange
+pub all_powers-numbered : {S R : Type 0} (a : Action S R) (quarters : List R) → length (all_powers a 4 quarters) ≤ 18 → (n : ℕ)
+    → slice_get (all_powers a 4 quarters) n ≡ power_table a quarters quarters_of (face_turn_at n)
+all_powers-numbered a quarters few n =
+    ⊎_elim
+    (λ l.
+    let number : 3 * (n / 3) + (n % 3 + 1 - 1) ≡ n = omega arith in
+    sym (ap (power_table a quarters quarters_of) (outer n l)
+    ∙ power_table-at a 4 quarters quarters_of (Face (n / 3) 1 (n % 3 + 1)) (n / 3) (n % 3 + 1) (omega arith) (omega arith)
+    (quarters_of-face (n / 3) (n % 3 + 1) (omega arith) (omega arith))
+    ∙ ap (slice_get (all_powers a 4 quarters)) number))
+    (λ l. slice_get_past (all_powers a 4 quarters) n (omega arith) ∙ sym (ap (option_and_then (power_of a quarters)) (inner n l)))
+    (cases_lt n 18)
+
+after-numbered : {S R : Type 0} (a : Action S R) (quarters : List R) → length (all_powers a 4 quarters) ≤ 18 → (s : S) (n : ℕ) (r : R)
+    → slice_get (all_powers a 4 quarters) n ≡ Some r
     → after_by a (power_table a quarters quarters_of) s (face_turn_at n) ≡ Some (a.turned s r)
-after-numbered a quarters s n r there = ap (option_map (a.turned s)) (sym (all_powers-numbered a quarters n) ∙ there)
+after-numbered a quarters few s n r there = ap (option_map (a.turned s)) (sym (all_powers-numbered a quarters few n) ∙ there)
+
+-- there are so few turns of both puzzles
+pub few_turns_333 : length (all_powers cube_action 4 cube_quarters) ≤ 18
+unfolding all_powers
+few_turns_333 = lit≤ tt
+
+pub few_turns_222 : length (all_powers action_222 4 quarters_222) ≤ 18
+unfolding all_powers
+few_turns_222 = lit≤ tt
 
 -- a turn is what it does to the corners and to the edges
 both_parts : (o : Option CubeTurn) (a b : Rearrangement) → option_map (λ r. r.corners) o ≡ Some a → option_map (λ r. r.edges) o ≡ Some b
@@ -54,7 +86,7 @@ unfolding cube_turns
 cube_turned c first second fc se own n cs es d e corners edges a b lc le f g =
     let q = rearrangement_of (get_or cs n d) in
     let r = rearrangement_of (get_or es n e) in
-    let made = after-numbered cube_action cube_quarters c n (record { corners = q; edges = r })
+    let made = after-numbered cube_action cube_quarters few_turns_333 c n (record { corners = q; edges = r })
     (both_parts (slice_get cube_turns n) q r
     (sym (slice_get-map (λ x. x.corners) cube_turns n) ∙ turn-at cs corner_turns n d a lc)
     (sym (slice_get-map (λ x. x.edges) cube_turns n) ∙ turn-at es edge_turns n e b le))
@@ -68,16 +100,15 @@ pub corners_turned : (c first : Orbit) → first ≡ c → IsCorners222 c → (n
 unfolding turns_222
 corners_turned c first fc own n ts d corners a lt f =
     let r = rearrangement_of (get_or ts n d) in
-    let made = after-numbered action_222 quarters_222 c n r (turn-at ts turns_222 n d a lt) ∙ ap Some (sym (f ∙ ap (λ o. turned_orbit 3 o r) fc)) in
+    let made = after-numbered action_222 quarters_222 few_turns_222 c n r (turn-at ts turns_222 n d a lt) ∙ ap Some (sym (f ∙ ap (λ o. turned_orbit 3 o r) fc)) in
     (lawful_222.kept c corners (face_turn_at n) own made, made)
 
 -- the number of a face's turn
-pub face_turn_at-face : (n face amount : ℕ) → n ≡ 3 * face + (amount - 1) → 0 < amount → amount < 4 → face_turn_at n ≡ Face face 1 amount
-unfolding face_turn_at
-face_turn_at-face n face amount number some few =
+pub face_turn_at-face : (n face amount : ℕ) → n ≡ 3 * face + (amount - 1) → face < 6 → 0 < amount → amount < 4 → face_turn_at n ≡ Face face 1 amount
+face_turn_at-face n face amount number there some few =
     let which : n / 3 ≡ face = omega arith in
     let much : n % 3 + 1 ≡ amount = omega arith in
-    ap (λ f. Face f 1 (n % 3 + 1)) which ∙ ap (λ a. Face face 1 a) much
+    outer n (omega arith) ∙ ap (λ f. Face f 1 (n % 3 + 1)) which ∙ ap (λ a. Face face 1 a) much
 
 -- ---- letters, by the face and the amount that are read from them
 

@@ -4,7 +4,7 @@ use Rattle.scr_combinatorics.specs.Lists.{numbers_from}
 use Rattle.scr_orbit.specs.Actions.{IsOrder, composed_word}
 use Rattle.scr_orbit.specs.Orbits.{solved_orbit}
 use Rattle.scr_notation.specs.declared.turn.Turn.{Turn}
-use Rattle.scr_notation.specs.Turns.{face_turn_at}
+use Rattle.scr_notation.specs.TurnNumbers.{face_turn_at}
 use Rattle.scr_cube.specs.Cube333.{CubeState, CubeTurn, cube_action, cube_table}
 
 -- The word of turns with these numbers.

@@ -9,8 +9,8 @@ ghost use Rattle.scr_orbit.specs.Actions.{IsOrder};
 ghost use Rattle.scr_orbit.specs.LawfulTurns.{HasLawfulTurns};
 ghost use Rattle.scr_orbit.specs.Orbits.{Orbit, IsZeroSumRearrangement, zeros};
 ghost use Rattle.scr_notation.specs.declared.turn.Turn.{Turn as Letter};
-ghost use Rattle.scr_notation.specs.Turns.{face_turn_at};
-ghost use Rattle.scr_notation.specs.Turning.{opposite, face_merging};
+ghost use Rattle.scr_notation.specs.TurnNumbers.{face_turn_at};
+ghost use Rattle.scr_notation.specs.Turning.{opposite, turn_merging};
 ghost use Rattle.scr_notation.specs.Spelling.{text_of};
 ghost use Rattle.scr_cube.specs.Cube333.{CubeTurn, IsCube, IsCubeTurn, cube_quarters, cube_action, cube_turns, cube_table, cube_after, solved_cube, cube_puzzle, cube_numbered};
 ghost use Rattle.scr_cube.specs.Cube222.{IsCorners222, quarters_222, action_222, turns_222, table_222, corners_after, solved_222, puzzle_222, numbered_222};
@@ -21,8 +21,8 @@ ghost use Rattle.scr_cube.specs.Known.{numbered_word, known_orders, IsWordOrder,
 /// The turns of both puzzles are lawful: they keep states valid, and composed turns act as one after the other; words are
 /// taken back and tidied, and each comes to one rearrangement, the same for every state. What turns reach is valid.
 pub fn turns()
-    ensures cube { HasLawfulTurns cube_action IsCube IsCubeTurn cube_table opposite face_merging solved_cube }
-    ensures corners { HasLawfulTurns action_222 IsCorners222 (IsZeroSumRearrangement 7 3) table_222 opposite face_merging solved_222 }
+    ensures cube { HasLawfulTurns cube_action IsCube IsCubeTurn cube_table opposite turn_merging solved_cube }
+    ensures corners { HasLawfulTurns action_222 IsCorners222 (IsZeroSumRearrangement 7 3) table_222 opposite turn_merging solved_222 }
 {}
 
 /// The tables have each turn at the number that the notation gives it.

@@ -1,5 +1,6 @@
 //! Puzzles whose turns are those of the outer layers at their faces, turned one by one and by scrambles.
 ghost use Rattle.std.specs.Prelude.{◌≡◌, ◌<◌};
+ghost use Rattle.std.proofs.Common.{lit≤};
 ghost use Rattle.scr_play.specs.Play.{play};
 ghost use Rattle.scr_orbit.proofs.PowerLaws.{after-no_power};
 ghost use Rattle.scr_cube.specs.Faces.{quarters_of};
@@ -17,7 +18,7 @@ pub trait FaceTurned: Copy {
     ghost use Rattle.std.specs.Prelude.{◌≡◌, ◌+◌, ◌*◌, ◌<◌, ◌≤◌, ℕ, Option, Some, None};
     ghost use Rattle.scr_orbit.specs.Actions.{Power};
     ghost use Rattle.scr_notation.specs.declared.turn.Turn.{Turn as Letter};
-    ghost use Rattle.scr_notation.specs.Turns.{face_turn_at};
+    ghost use Rattle.scr_notation.specs.TurnNumbers.{face_turn_at};
 
     /// How many faces can be turned.
     ghost FACES: { ℕ };
@@ -31,6 +32,9 @@ pub trait FaceTurned: Copy {
     fn turned(&self, number: usize) -> Self
         requires { number < 3 * FACES }
         ensures { after self.now (face_turn_at number) ≡ Some result };
+
+    /// A cube has six faces.
+    ghost few: { FACES ≤ 6 };
 
     /// No other letter makes anything.
     ghost barred: { (state : Self) (letter : Letter)
@@ -70,6 +74,8 @@ impl FaceTurned for Cube {
         )
     }
 
+    ghost few = { lit≤ tt };
+
     ghost barred = { after-no_power cube_action cube_quarters quarters_of };
 }
 
@@ -83,6 +89,8 @@ impl FaceTurned for Corners222 {
     fn turned(&self, number: usize) -> Corners222 {
         Corners222::of_valid(self.orbit().turned(&turns_222()[number], 3))
     }
+
+    ghost few = { lit≤ tt };
 
     ghost barred = { after-no_power action_222 quarters_222 quarters_of };
 }

@@ -22,7 +22,7 @@ abbrev pub without_minima : Bool → ℕ → EventRules
 without_minima built per_group = record { built = built; per_group = per_group; minima = None }
 
 abbrev pub rules_of : Event → EventRules
-rules_of C222 = with_minima false 5 4 11
+rules_of C222 = with_minima true 5 4 11
 rules_of C333 = with_minima false 5 2 5
 rules_of Oh333 = with_minima false 5 2 5
 rules_of C555 = without_minima false 5

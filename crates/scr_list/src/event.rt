@@ -30,7 +30,7 @@ pub fn event_rules(event: Event) -> EventRules
     ensures { result ≡ rules_of event }
 {
     let (built, per_group, minima) = match event {
-        Event::C222 => (false, 5, up_to(11, 4)),
+        Event::C222 => (true, 5, up_to(11, 4)),
         Event::C333 => (false, 5, up_to(5, 2)),
         Event::Oh333 => (false, 5, up_to(5, 2)),
         Event::C555 => (false, 5, None),

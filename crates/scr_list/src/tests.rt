@@ -48,6 +48,11 @@ fn lists_name_rounds(rt: HostRuntime) -> Result<(), Fail> {
         groups: 26,
         least: 3,
     };
+    let cube = Round {
+        event: Event::C222,
+        groups: 5,
+        least: 4,
+    };
     for list in [
         "clock 1",
         "clock 1\r\n",
@@ -58,7 +63,7 @@ fn lists_name_rounds(rt: HostRuntime) -> Result<(), Fail> {
         assert!(rt; reads(&rt, list.as_bytes(), Ok(&[ONE]))?, "{list}");
     }
     assert!(rt; reads(&rt, b"", Ok(&[]))?);
-    assert!(rt; reads(&rt, b"clock 26 3\nclock 1", Ok(&[most, ONE]))?);
+    assert!(rt; reads(&rt, b"clock 26 3\n222 5\nclock 1", Ok(&[most, cube, ONE]))?);
     Ok(())
 }
 
@@ -80,6 +85,7 @@ fn lists_are_refused(rt: HostRuntime) -> Result<(), Fail> {
         ("clock 1\r\r\n", 1, ListCause::Groups),
         ("clock 0 4\nclock 1 4", 1, ListCause::Groups),
         ("clock 1 4", 1, ListCause::Minimum),
+        ("222 1 12", 1, ListCause::Minimum),
         ("clock 1\n\nclock 1 -1", 3, ListCause::Minimum),
     ] {
         let fault = ListFault::Line { number, cause };
@@ -127,7 +133,7 @@ fn long_lists(rt: HostRuntime) -> Result<(), Fail> {
 #[test]
 fn the_table_of_events(rt: HostRuntime) {
     for (event, id, name, built, per_group, minima) in [
-        (Event::C222, "222", "2x2x2 Cube", false, 5, Some((4, 11))),
+        (Event::C222, "222", "2x2x2 Cube", true, 5, Some((4, 11))),
         (Event::C333, "333", "3x3x3 Cube", false, 5, Some((2, 5))),
         (
             Event::Oh333,

@@ -13,6 +13,9 @@ pub and_second : (a b : Bool) → IsTrue (a && b) → IsTrue b
 and_second true b h = h
 and_second false b h = absurd (false≢true h)
 
+pub and_true : (a b : Bool) → IsTrue a → IsTrue b → IsTrue (a && b)
+and_true a b h k = ap (λ x. x && b) h ∙ k
+
 -- the test holds of each number below this one
 unfoldable pub all_below : (ℕ → Bool) → ℕ → Bool
 all_below p zero = true

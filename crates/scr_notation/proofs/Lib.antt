@@ -1,8 +1,11 @@
 pub mod WrittenLaws
 pub mod Below
-pub mod TurnLaws
+pub mod LayersLaws
+pub mod NumberLaws
+pub mod SpellingLaws
 pub mod TextLaws
 pub mod ReadLaws
-pub mod TurningLaws
+pub mod MergingLaws
+pub mod OppositeLaws
 pub mod FaultLaws
 pub mod TidyingLaws

@@ -17,7 +17,7 @@ use Rattle.scr_notation.specs.Turns.{permits}
 use Rattle.scr_notation.specs.Spelling.{spelling, text_of}
 use Rattle.scr_notation.specs.Written.{Written, IsWritten, with_word}
 use Rattle.scr_notation.specs.Reading.{words_of, place_after, IsSpelling, IsFault, IsFirstFault, IsReadAs, IsReadSoFar}
-use Rattle.scr_notation.proofs.TurnLaws.{IsWord-spelling}
+use Rattle.scr_notation.proofs.SpellingLaws.{IsWord-spelling}
 use Rattle.scr_notation.proofs.TextLaws.{words_of-some, words_of-text_of, text_of-only, joined-more, length-text_of, place_after-more, place_after-short}
 
 -- the text of turns isn't empty, unless there are none

@@ -10,7 +10,7 @@ use Rattle.scr_notation.specs.declared.turn.Turn.{Turn}
 use Rattle.scr_notation.specs.Turns.{permits}
 use Rattle.scr_notation.specs.Spelling.{spelling, text_of}
 use Rattle.scr_notation.specs.Reading.{words_of, place_after}
-use Rattle.scr_notation.proofs.TurnLaws.{IsWord, IsWord-spelling, one_spelling}
+use Rattle.scr_notation.proofs.SpellingLaws.{IsWord, IsWord-spelling, one_spelling}
 
 -- words, joined and cut again
 cut : (w : List ℕ) (ws : List (List ℕ)) → All IsWord (w ∷ ws) → slice_split (λ b. b == 32) (join_with_byte 32 (w ∷ ws)) ≡ w ∷ ws

@@ -1,8 +1,14 @@
 pub mod Event
 pub mod Kinds
+pub mod Amounts
+pub mod Faces
+pub mod Axes
+pub mod Layers
 pub mod Pins
-pub mod Spelling
+pub mod Wide
 pub mod Turns
+pub mod TurnNumbers
+pub mod Spelling
 pub mod Written
 pub mod Reading
 pub mod Turning

@@ -1,17 +1,47 @@
 -- How each turn is written, and the text of turns (WCA Regulations, article 12).
-use Rattle.std.specs.Prelude.{ℕ, ◌+◌, ◌-◌, ◌==◌, nat_le, if◌then◌else◌, List, [], ◌∷◌, ◌++◌, map, slice_index, codes}
+use Rattle.std.specs.Prelude.{ℕ, ◌+◌, ◌-◌, ◌==◌, nat_le, if◌then◌else◌, ℤ, pos, negsuc, Bool, List, [], ◌∷◌, ◌++◌, map, slice_index, codes}
 use Rattle.std.specs.List.{join_with_byte}
 use Rattle.scr_notation.specs.declared.turn.Turn.{Turn}
 use Rattle.scr_notation.specs.declared.turn.Turn.TheVariants.{Face, Axis, Tip, Layers, Twist, Pins, Over, Wide}
 use Rattle.scr_notation.specs.Pins.{pin_sets}
 
--- the letter of a face: U R F D L B are 0 to 5
+-- the letters of a cube's faces, of axes, of tips and of a Megaminx's wide turns, in the order of their numbers
 abbrev pub face_letters : List ℕ
 face_letters = codes "URFDLB"
 
--- how far a face is turned: nothing for a quarter clockwise, `2` for a half turn, `'` for a quarter the other way
-abbrev pub quarters_text : ℕ → List ℕ
-quarters_text amount = if amount == 1 then [] else (if amount == 2 then codes "2" else codes "'")
+abbrev pub axis_letters : List ℕ
+axis_letters = codes "ULRB"
+
+abbrev pub tip_letters : List ℕ
+tip_letters = codes "ulrb"
+
+abbrev pub wide_letters : List ℕ
+wide_letters = codes "RDU"
+
+-- the letter with this number
+abbrev pub letter_text : List ℕ → ℕ → List ℕ
+letter_text letters n = slice_index letters n ∷ []
+
+-- How far a turn goes, of which so many steps make a whole one: nothing for one step clockwise, `'` for one step the other
+-- way, `2` for the half turn between them.
+abbrev pub amount_text : ℕ → ℕ → List ℕ
+amount_text order amount = if amount == 1 then [] else (if amount + 1 == order then codes "'" else codes "2")
+
+-- two and more layers have `w` behind the letter, and three have `3` before it
+abbrev pub layers_before : ℕ → List ℕ
+layers_before depth = if depth == 3 then codes "3" else []
+
+abbrev pub layers_behind : ℕ → List ℕ
+layers_behind depth = if depth == 1 then [] else codes "w"
+
+-- the way of a wide turn: `++` and `--`, but nothing and `'` for the letter U
+abbrev pub way_text : ℕ → Bool → List ℕ
+way_text letter plus = if letter == 2 then (if plus then [] else codes "'") else (if plus then codes "++" else codes "--")
+
+-- a number of one digit (0 is byte 48), with `-` where it is below 0
+abbrev pub signed_text : ℤ → List ℕ
+signed_text (pos n) = (48 + n) ∷ []
+signed_text (negsuc n) = codes "-" ++ (48 + (n + 1)) ∷ []
 
 -- the names of a Clock's pin sets, in their order
 abbrev pub pin_names : List (List ℕ)
@@ -24,21 +54,21 @@ name_of_set pins [] names = []
 name_of_set pins (set ∷ sets) [] = []
 name_of_set pins (set ∷ sets) (name ∷ names) = if set == pins then name else name_of_set pins sets names
 
--- how many hours: 0 to 6 as that number and `+`, 7 to 11 as the number left to twelve and `-`, each a digit (0 is byte 48)
+-- how many hours: 0 to 6 as that number and `+`, 7 to 11 as the number left to twelve and `-`
 unfoldable pub hours_text : ℕ → List ℕ
 hours_text amount = if nat_le amount 6 then (48 + amount) ∷ codes "+" else (48 + (12 - amount)) ∷ codes "-"
 
--- How a turn is written: a face's letter and its amount, or the name of the pins and the hours with their sign, or `y2`.
--- The other turns are of events whose turns are not here yet.
+-- how a turn is written
 unfoldable pub spelling : Turn → List ℕ
-spelling (Face face depth amount) = slice_index face_letters face ∷ quarters_text amount
+spelling (Face face depth amount) =
+    layers_before depth ++ letter_text face_letters face ++ layers_behind depth ++ amount_text 4 amount
+spelling (Axis axis amount) = letter_text axis_letters axis ++ amount_text 3 amount
+spelling (Tip tip amount) = letter_text tip_letters tip ++ amount_text 3 amount
+spelling (Layers top bottom) = codes "(" ++ signed_text top ++ codes "," ++ signed_text bottom ++ codes ")"
+spelling Twist = codes "/"
 spelling (Pins pins amount) = name_of_set pins pin_sets pin_names ++ hours_text amount
 spelling Over = codes "y2"
-spelling (Axis axis amount) = []
-spelling (Tip tip amount) = []
-spelling (Layers top bottom) = []
-spelling Twist = []
-spelling (Wide letter plus) = []
+spelling (Wide letter plus) = letter_text wide_letters letter ++ way_text letter plus
 
 -- the text of turns: their spellings with one space (byte 32) between
 abbrev pub text_of : List Turn → List ℕ

@@ -1,40 +1,70 @@
 -- Turns taken back and merged (WCA Regulations, article 12).
-use Rattle.std.specs.Prelude.{◌+◌, ◌-◌, ◌%◌, Bool, true, false, ◌==◌, ◌&&◌, if◌then◌else◌, Option, Some, None}
+use Rattle.std.specs.Prelude.{ℕ, ◌+◌, ◌-◌, ◌%◌, ℤ, neg_ℤ, ◌+ℤ◌, Bool, true, false, not, ◌==◌, ◌&&◌, if◌then◌else◌, Option, Some, None}
 use Rattle.scr_play.specs.Tidy.{Merging}
 use Rattle.scr_notation.specs.declared.event.Kind.{Kind}
-use Rattle.scr_notation.specs.declared.event.Kind.TheVariants.{Faces, PinSets, NoTurns}
+use Rattle.scr_notation.specs.declared.event.Kind.TheVariants.{Faces, Axes, LayersAndTwist, PinSets, WideTurns}
 use Rattle.scr_notation.specs.declared.turn.Turn.{Turn}
 use Rattle.scr_notation.specs.declared.turn.Turn.TheVariants.{Face, Axis, Tip, Layers, Twist, Pins, Over, Wide}
+use Rattle.scr_notation.specs.Layers.{twelfths, are_still}
 
--- The turn that undoes a turn: by what is left to four quarters of a face, or to twelve hours of a Clock; a Clock is
--- turned over by turning it over. The other turns are of events whose turns are not here yet.
+-- The turn that undoes a turn: by what is left to four quarters of a face, to three thirds of an axis or a tip, or to twelve
+-- hours of a Clock; layers and wide turns go the other way; a twist or a turning over is done again.
 abbrev pub opposite : Turn → Turn
 opposite (Face face depth amount) = Face face depth (4 - amount)
+opposite (Axis axis amount) = Axis axis (3 - amount)
+opposite (Tip tip amount) = Tip tip (3 - amount)
+opposite (Layers top bottom) = Layers (twelfths (neg_ℤ top)) (twelfths (neg_ℤ bottom))
+opposite Twist = Twist
 opposite (Pins pins amount) = Pins pins ((12 - amount) % 12)
 opposite Over = Over
-opposite (Axis axis amount) = Axis axis amount
-opposite (Tip tip amount) = Tip tip amount
-opposite (Layers top bottom) = Layers top bottom
-opposite Twist = Twist
-opposite (Wide letter plus) = Wide letter plus
+opposite (Wide letter plus) = Wide letter (not plus)
 
--- two turns of one face, and of as many of its layers
-abbrev pub are_of_one_face : Turn → Turn → Bool
-are_of_one_face (Face face depth amount) (Face other deep more) = (face == other) && (depth == deep)
-are_of_one_face _ _ = false
+-- Two turns that are merged where they are neighbours: of one face and as many of its layers, of a Square-1's layers, or
+-- two twists. The kinds of the other turns have no merging.
+abbrev pub are_alike : Turn → Turn → Bool
+are_alike (Face face depth amount) (Face other deep more) = (face == other) && (depth == deep)
+are_alike (Face face depth amount) _ = false
+are_alike (Layers top bottom) (Layers more_top more_bottom) = true
+are_alike (Layers top bottom) _ = false
+are_alike Twist Twist = true
+are_alike Twist _ = false
+are_alike (Axis axis amount) _ = false
+are_alike (Tip tip amount) _ = false
+are_alike (Pins pins amount) _ = false
+are_alike Over _ = false
+are_alike (Wide letter plus) _ = false
 
--- what two turns of one face come to: the sum of their quarters, modulo 4, or nothing where that is 0
-abbrev pub face_turns_merged : Turn → Turn → Option Turn
-face_turns_merged (Face face depth amount) (Face other deep more) =
-    if (amount + more) % 4 == 0 then None else Some (Face other deep ((amount + more) % 4))
-face_turns_merged _ _ = None
+-- a face turned by so many quarters, or nothing where that is none
+abbrev pub face_turned : ℕ → ℕ → ℕ → Option Turn
+face_turned face depth amount = if amount == 0 then None else Some (Face face depth amount)
 
--- how turns of faces are merged
-abbrev pub face_merging : Merging Turn
-face_merging = record { alike = are_of_one_face; merged = face_turns_merged }
+-- the layers turned so far, or nothing where neither turns
+abbrev pub layers_turned : ℤ → ℤ → Option Turn
+layers_turned top bottom = if are_still top bottom then None else Some (Layers top bottom)
 
--- the kinds whose turns are all of faces
-abbrev pub is_of_faces : Kind → Bool
-is_of_faces (Faces faces) = true
-is_of_faces PinSets = false
-is_of_faces NoTurns = false
+-- What two such turns come to: the sum of the quarters modulo 4, the sums of the twelfths modulo 12, and nothing where no
+-- turn is left; two twists are nothing.
+abbrev pub turns_merged : Turn → Turn → Option Turn
+turns_merged (Face face depth amount) (Face other deep more) = face_turned other deep ((amount + more) % 4)
+turns_merged (Face face depth amount) _ = None
+turns_merged (Layers top bottom) (Layers more_top more_bottom) =
+    layers_turned (twelfths (top +ℤ more_top)) (twelfths (bottom +ℤ more_bottom))
+turns_merged (Layers top bottom) _ = None
+turns_merged Twist _ = None
+turns_merged (Axis axis amount) _ = None
+turns_merged (Tip tip amount) _ = None
+turns_merged (Pins pins amount) _ = None
+turns_merged Over _ = None
+turns_merged (Wide letter plus) _ = None
+
+-- how turns are merged
+abbrev pub turn_merging : Merging Turn
+turn_merging = record { alike = are_alike; merged = turns_merged }
+
+-- the kinds whose turns are merged
+abbrev pub has_merging : Kind → Bool
+has_merging (Faces near far) = true
+has_merging (Axes tips) = false
+has_merging LayersAndTwist = true
+has_merging PinSets = false
+has_merging WideTurns = false

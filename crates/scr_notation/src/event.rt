@@ -31,15 +31,19 @@ pub enum Event {
     Sq1,
 }
 
-/// What the turns of an event are.
+/// A kind of puzzles, by the turns that they have.
 #[derive(Clone, Copy, Debug, PartialEq, Eq)]
 pub enum Kind {
-    /// Turns of the outer layer at the first so many faces of a cube, at most six.
-    Faces(u8),
+    /// Turns of a cube's faces: at the near faces U R F of up to `near` layers, and at the far faces D L B of up to `far`.
+    Faces { near: u8, far: u8 },
+    /// Turns about four axes, and of the tips at them if there are any.
+    Axes { tips: bool },
+    /// Turns of a Square-1's two layers, and its twist.
+    LayersAndTwist,
     /// Pin sets of a Clock, turned by hours, and `y2`.
     PinSets,
-    /// The event's turns are not here yet.
-    NoTurns,
+    /// Wide turns of a Megaminx.
+    WideTurns,
 }
 
 /// What the table of events has of one.
@@ -83,7 +87,7 @@ impl Event {
     /// What its turns are.
     pub fn kind(self) -> Kind
         ensures value { result ≡ kind_of self }
-        ensures few_faces { IsKind result }
+        ensures depths { IsKind result }
     {
         self.row().kind
     }
@@ -102,17 +106,17 @@ impl Event {
         ensures kind { result.kind ≡ (row_of self).kind }
     {
         let (id, name, kind) = match self {
-            Event::C222 => ("222", "2x2x2 Cube", Kind::Faces(3)),
-            Event::C333 => ("333", "3x3x3 Cube", Kind::Faces(6)),
-            Event::Oh333 => ("333oh", "3x3x3 One-Handed", Kind::Faces(6)),
-            Event::C555 => ("555", "5x5x5 Cube", Kind::NoTurns),
-            Event::C666 => ("666", "6x6x6 Cube", Kind::NoTurns),
-            Event::C777 => ("777", "7x7x7 Cube", Kind::NoTurns),
+            Event::C222 => ("222", "2x2x2 Cube", Kind::Faces { near: 1, far: 0 }),
+            Event::C333 => ("333", "3x3x3 Cube", Kind::Faces { near: 1, far: 1 }),
+            Event::Oh333 => ("333oh", "3x3x3 One-Handed", Kind::Faces { near: 1, far: 1 }),
+            Event::C555 => ("555", "5x5x5 Cube", Kind::Faces { near: 2, far: 2 }),
+            Event::C666 => ("666", "6x6x6 Cube", Kind::Faces { near: 3, far: 2 }),
+            Event::C777 => ("777", "7x7x7 Cube", Kind::Faces { near: 3, far: 3 }),
             Event::Clock => ("clock", "Clock", Kind::PinSets),
-            Event::Minx => ("minx", "Megaminx", Kind::NoTurns),
-            Event::Pyram => ("pyram", "Pyraminx", Kind::NoTurns),
-            Event::Skewb => ("skewb", "Skewb", Kind::NoTurns),
-            Event::Sq1 => ("sq1", "Square-1", Kind::NoTurns),
+            Event::Minx => ("minx", "Megaminx", Kind::WideTurns),
+            Event::Pyram => ("pyram", "Pyraminx", Kind::Axes { tips: true }),
+            Event::Skewb => ("skewb", "Skewb", Kind::Axes { tips: false }),
+            Event::Sq1 => ("sq1", "Square-1", Kind::LayersAndTwist),
         };
         EventRow { id, name, kind }
     }

@@ -1,14 +1,13 @@
 //! Events, turns and scrambles as the WCA writes them (WCA Regulations, articles 9 and 12). No puzzle stands here: the
 //! puzzles' crates say what turns do.
 //!
-//! Which events there are, which turns each kind of events has and how turns are written stands in `specs/Event.antt` and
-//! `specs/Turns.antt`. `print` gives the text of a scramble, and `parse` is its inverse: an accepted text is the text of
-//! exactly the scramble that was read, and any other is refused at its first word at fault, with the byte at which that
-//! word begins. `inverse` is the reversed list of opposite turns, and `tidy` what is left when turns of one face are
-//! merged, in whatever order.
+//! Which events there are stands in `specs/Event.antt`; which turns the puzzle of an event has in `specs/Faces.antt`,
+//! `Axes.antt`, `Layers.antt`, `Pins.antt` and `Wide.antt`; how turns are written in `specs/Spelling.antt`. `print` gives the
+//! text of a scramble, and `parse` is its inverse: an accepted text is the text of exactly the scramble that was read, and any
+//! other is refused at its first word at fault, with the byte at which that word begins. `inverse` is the reversed list of
+//! opposite turns, and `tidy` what is left when turns of one face, turns of layers and twists are merged, in whatever order.
 //!
-//! The turns of 222, 333, 333oh and clock are here; the other events have no turn yet. Nothing takes memory. The crate
-//! stands on `scr_play` for words taken back and tidied.
+//! Nothing takes memory. The crate stands on `scr_play` for words taken back and tidied.
 #![tactic(auto)]
 
 mod event;

@@ -1,14 +1,24 @@
 //! How a turn is written.
-ghost use Rattle.std.specs.Prelude.{◌≡◌, ◌<◌, ◌≤◌, ◌==◌, [], ◌∷◌, length, IsTrue, slice_index};
+ghost use Rattle.std.specs.Prelude.{◌≡◌, ℕ, ◌+◌, ◌<◌, ◌≤◌, ◌==◌, [], ◌∷◌, ◌++◌, length, IsTrue, slice_index};
 ghost use Rattle.std.specs.List.{list_any};
 ghost use Rattle.arrayvec.specs.ArrayString.{array_string_len};
-ghost use Rattle.scr_notation.specs.Turns.{permits};
-ghost use Rattle.scr_notation.specs.Spelling.{face_letters, quarters_text, pin_names, name_of_set, hours_text, spelling};
+ghost use Rattle.scr_notation.specs.Layers.{is_twelfths};
 ghost use Rattle.scr_notation.specs.Pins.{pin_sets};
+ghost use Rattle.scr_notation.specs.Turns.{permits};
+ghost use Rattle.scr_notation.specs.Spelling.{letter_text, amount_text, layers_before, layers_behind, way_text, signed_text, pin_names, name_of_set, hours_text, spelling};
 
 use crate::event::Event;
 use crate::turn::Turn;
 use arrayvec::ArrayString;
+
+/// The letters of faces, axes, tips and wide turns, in the order of their numbers.
+const FACE_LETTERS: [u8; 6] = *b"URFDLB";
+
+const AXIS_LETTERS: [u8; 4] = *b"ULRB";
+
+const TIP_LETTERS: [u8; 4] = *b"ulrb";
+
+const WIDE_LETTERS: [u8; 3] = *b"RDU";
 
 /// The spelling of a turn that `event` has.
 #[tactic(auto, unfolding(crate::specs::Spelling::spelling))]
@@ -18,49 +28,117 @@ pub(crate) fn spelled(event: Event, turn: Turn) -> ArrayString<7>
 {
     let mut text = ArrayString::new();
     match turn {
-        Turn::Face { face, amount, .. } => {
-            text.push_str(face_letter(face));
-            text.push_str(quarters(amount));
+        Turn::Face {
+            face,
+            depth,
+            amount,
+        } => {
+            text.push_str(before_letter(depth));
+            push_letter(&mut text, &FACE_LETTERS, face);
+            text.push_str(behind_letter(depth));
+            text.push_str(amount_name(4, amount));
         }
+        Turn::Axis { axis, amount } => {
+            push_letter(&mut text, &AXIS_LETTERS, axis);
+            text.push_str(amount_name(3, amount));
+        }
+        Turn::Tip { tip, amount } => {
+            push_letter(&mut text, &TIP_LETTERS, tip);
+            text.push_str(amount_name(3, amount));
+        }
+        Turn::Layers { top, bottom } => {
+            text.push_str("(");
+            text.push_str(twelfths(top));
+            text.push_str(",");
+            text.push_str(twelfths(bottom));
+            text.push_str(")");
+        }
+        Turn::Twist => text.push_str("/"),
         Turn::Pins { pins, amount } => {
             text.push_str(pins_name(pins));
             text.push_str(hours(amount));
         }
         Turn::Over => text.push_str("y2"),
-        // No event has these turns yet.
-        Turn::Axis { .. }
-        | Turn::Tip { .. }
-        | Turn::Layers { .. }
-        | Turn::Twist
-        | Turn::Wide { .. } => {}
+        Turn::Wide { letter, plus } => {
+            push_letter(&mut text, &WIDE_LETTERS, letter);
+            text.push_str(way(letter, plus));
+        }
     }
     text
 }
 
-/// The letter of a face, from 0 to 5.
-fn face_letter(face: u8) -> &'static str
-    requires { face < 6 }
-    ensures { result.now ≡ slice_index face_letters face ∷ [] }
+/// Writes the letter with this number behind a text.
+fn push_letter(text: &mut ArrayString<7>, letters: &[u8], number: u8)
+    requires below { number < length letters.now }
+    requires ascii { (n : ℕ) → n < length letters.now → slice_index letters.now n < 128 }
+    requires room { array_string_len text.old + 1 ≤ 7 }
+    ensures { text.new.bytes ≡ text.old.bytes ++ letter_text letters.now number }
 {
-    match face {
-        0 => "U",
-        1 => "R",
-        2 => "F",
-        3 => "D",
-        4 => "L",
-        _ => "B",
+    text.push(letters[number as usize] as char);
+}
+
+/// What stands before the letter of a face's turn of so many layers.
+fn before_letter(depth: u8) -> &'static str
+    ensures value { result.now ≡ layers_before depth }
+    ensures short { length result.now ≤ 1 }
+{
+    if depth == 3 { "3" } else { "" }
+}
+
+/// What stands behind it.
+fn behind_letter(depth: u8) -> &'static str
+    ensures value { result.now ≡ layers_behind depth }
+    ensures short { length result.now ≤ 1 }
+{
+    if depth == 1 { "" } else { "w" }
+}
+
+/// How an amount is written, of which `order` make a whole turn.
+fn amount_name(order: u8, amount: u8) -> &'static str
+    ensures value { result.now ≡ amount_text order amount }
+    ensures short { length result.now ≤ 1 }
+{
+    if amount == 1 {
+        ""
+    } else if amount as u16 + 1 == order as u16 {
+        "'"
+    } else {
+        "2"
     }
 }
 
-/// How an amount of quarters from 1 to 3 is written.
-fn quarters(amount: u8) -> &'static str
-    ensures value { result.now ≡ quarters_text amount }
-    ensures short { length result.now ≤ 1 }
+/// How the way of a wide turn is written.
+fn way(letter: u8, plus: bool) -> &'static str
+    ensures value { result.now ≡ way_text letter plus }
+    ensures short { length result.now ≤ 2 }
+{
+    match (letter, plus) {
+        (2, true) => "",
+        (2, false) => "'",
+        (_, true) => "++",
+        (_, false) => "--",
+    }
+}
+
+/// How an amount of twelfths is written.
+fn twelfths(amount: i8) -> &'static str
+    requires { IsTrue (is_twelfths amount) }
+    ensures value { result.now ≡ signed_text amount }
+    ensures short { length result.now ≤ 2 }
 {
     match amount {
-        1 => "",
+        -5 => "-5",
+        -4 => "-4",
+        -3 => "-3",
+        -2 => "-2",
+        -1 => "-1",
+        0 => "0",
+        1 => "1",
         2 => "2",
-        _ => "'",
+        3 => "3",
+        4 => "4",
+        5 => "5",
+        _ => "6",
     }
 }
 

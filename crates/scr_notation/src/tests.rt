@@ -1,4 +1,9 @@
 //! Texts and turns that are known from elsewhere.
+ghost use Rattle.std.specs.Prelude.{◌≡◌, IsTrue};
+ghost use Rattle.scr_notation.specs.declared.event.Event.TheVariants.{Clock};
+ghost use Rattle.scr_notation.specs.Event.{kind_of};
+ghost use Rattle.scr_notation.specs.Turning.{has_merging};
+
 use crate::turn::{turn_at, turn_count};
 use crate::{Event, NotationFault, Scramble, Turn, inverse, laws, parse, print, tidy};
 use arrayvec::ArrayString;
@@ -24,34 +29,62 @@ fn refused(rt: &impl Abort, event: Event, text: &str, fault: NotationFault) {
 
 #[test]
 fn known_texts(rt: HostRuntime) {
-    reads(&rt, Event::C333, "R U2 F'", 3);
-    reads(&rt, Event::C222, "R U2 F'", 3);
-    reads(&rt, Event::Oh333, "B2 L D'", 3);
-    reads(&rt, Event::Clock, "UR6+ DL1- y2 ALL5- U0+", 5);
-    reads(&rt, Event::C333, "", 0);
-    reads(&rt, Event::Minx, "", 0);
-    let first = NotationFault::Spelling { place: 0 };
-    for text in [" U", "u", "U2'", "Uw", "U\tR", "R3", "U3", "y2", " "] {
-        refused(&rt, Event::C333, text, first);
+    let read = [
+        (Event::C333, "", 0),
+        (Event::C333, "R U2 F'", 3),
+        (Event::C222, "R U2 F'", 3),
+        (Event::Oh333, "B2 L D'", 3),
+        (Event::C555, "Dw Rw2 Uw' B L' Fw", 6),
+        (Event::C666, "3Rw' Dw2 3Uw B2 3Fw2 Lw'", 6),
+        (Event::C777, "3Dw2 3Bw' 3Lw Rw U' 3Fw", 6),
+        (Event::Clock, "UR6+ DL1- y2 ALL5- U0+", 5),
+        (
+            Event::Minx,
+            "R-- D++ R++ D-- R++ D++ R++ D-- R-- D-- U'",
+            11,
+        ),
+        (Event::Pyram, "U L' R B' u' l r b'", 8),
+        (Event::Skewb, "B U", 2),
+        (Event::Sq1, "(3,0) / (-3,6) / (0,-5) (-1,0)", 6),
+    ];
+    for (event, text, turns) in read {
+        reads(&rt, event, text, turns);
     }
-    refused(
-        &rt,
-        Event::C333,
-        "R  U",
-        NotationFault::Spelling { place: 2 },
-    );
-    refused(&rt, Event::C333, "U ", NotationFault::Spelling { place: 2 });
-    refused(
-        &rt,
-        Event::C333,
-        "U2 R' x",
-        NotationFault::Spelling { place: 6 },
-    );
-    refused(&rt, Event::C222, "D", first);
-    for text in ["UR6-", "UR0-", "UR7+", "UR06+", "UR", "6+", "UL12-", "Y2"] {
-        refused(&rt, Event::Clock, text, first);
+    let wrong = [
+        (Event::C333, " U", 0),
+        (Event::C333, "u", 0),
+        (Event::C333, "U2'", 0),
+        (Event::C333, "Uw", 0),
+        (Event::C333, "U\tR", 0),
+        (Event::C333, "R3", 0),
+        (Event::C333, "y2", 0),
+        (Event::C333, " ", 0),
+        (Event::C333, "R  U", 2),
+        (Event::C333, "U ", 2),
+        (Event::C333, "U2 R' x", 6),
+        (Event::C222, "D", 0),
+        (Event::C555, "3Uw", 0),
+        (Event::C666, "Dw 3Dw", 3),
+        (Event::C777, "4Uw", 0),
+        (Event::C777, "3U", 0),
+        (Event::Clock, "UR6-", 0),
+        (Event::Clock, "UR0-", 0),
+        (Event::Clock, "UR7+", 0),
+        (Event::Clock, "UR06+", 0),
+        (Event::Clock, "Y2", 0),
+        (Event::Minx, "R+", 0),
+        (Event::Minx, "U++", 0),
+        (Event::Pyram, "U2", 0),
+        (Event::Skewb, "U u", 2),
+        (Event::Sq1, "(0,0)", 0),
+        (Event::Sq1, "(-6,0)", 0),
+        (Event::Sq1, "( 1,0)", 0),
+        (Event::Sq1, "(+1,0)", 0),
+        (Event::Sq1, "(01,0)", 0),
+    ];
+    for (event, text, place) in wrong {
+        refused(&rt, event, text, NotationFault::Spelling { place });
     }
-    refused(&rt, Event::Sq1, "(0,0)", first);
 }
 
 #[test]
@@ -94,56 +127,71 @@ fn each_turn(rt: &impl Abort, event: Event, count: usize) {
     assert!(rt; read.turns() == scramble.turns());
 }
 
-#[test]
-fn each_turn_of_each_event(rt: HostRuntime) {
-    each_turn(&rt, Event::C222, 9);
-    each_turn(&rt, Event::C333, 18);
-    each_turn(&rt, Event::Oh333, 18);
-    each_turn(&rt, Event::Clock, 109);
-    each_turn(&rt, Event::Sq1, 0);
-}
-
-/// A 3x3x3's scramble, tidied and taken back.
-fn turns_to(rt: &impl Abort, text: &str, tidied: &str, back: &str) {
-    let Ok(scramble) = parse(Event::C333, text) else {
+/// The scramble is taken back by this one.
+fn taken_back(rt: &impl Abort, event: Event, text: &str, back: &str)
+    requires { event ≡ Clock → ⊥ }
+{
+    let Ok(scramble) = parse(event, text) else {
         assert!(rt; false);
         return;
     };
-    assert_eq!(rt; scramble.event(), Event::C333);
-    assert_eq!(rt; print(&tidy(&scramble)).as_str(), tidied);
     assert_eq!(rt; print(&inverse(&scramble)).as_str(), back);
+}
+
+/// The scramble is tidied to this one.
+fn tidied(rt: &impl Abort, event: Event, text: &str, tidy_text: &str)
+    requires { IsTrue (has_merging (kind_of event)) }
+{
+    let Ok(scramble) = parse(event, text) else {
+        assert!(rt; false);
+        return;
+    };
+    assert_eq!(rt; print(&tidy(&scramble)).as_str(), tidy_text);
 }
 
 #[test]
 fn known_turnings(rt: HostRuntime) {
-    turns_to(&rt, "U U2 U", "", "U' U2 U'");
-    turns_to(&rt, "R U U' R", "R2", "R' U U' R'");
-    turns_to(&rt, "R L R'", "R L R'", "R L' R'");
-    turns_to(&rt, "U U2", "U'", "U2 U'");
+    tidied(&rt, Event::C333, "U U2 U", "");
+    tidied(&rt, Event::C333, "R U U' R", "R2");
+    tidied(&rt, Event::Oh333, "R L R'", "R L R'");
+    tidied(&rt, Event::C222, "U U2", "U'");
+    tidied(&rt, Event::Sq1, "(3,0) (-3,6)", "(0,6)");
+    tidied(&rt, Event::Sq1, "(1,0) / / (-1,0)", "");
+    tidied(&rt, Event::Sq1, "/ (4,-5) (3,-2) /", "/ (-5,5) /");
+    taken_back(&rt, Event::C333, "R L2 U'", "U L2 R'");
+    taken_back(&rt, Event::C666, "3Rw' Dw2 U", "U' Dw2 3Rw");
+    taken_back(&rt, Event::Minx, "R++ D-- U'", "U D++ R--");
+    taken_back(&rt, Event::Pyram, "U L' u r'", "r u' L U'");
+    taken_back(&rt, Event::Skewb, "B U'", "U B'");
+    taken_back(&rt, Event::Sq1, "(-3,6) / (5,0)", "(-5,0) / (3,6)");
 }
 
 #[test]
 fn known_events(rt: HostRuntime) {
     let rows = [
-        (Event::C222, "222", "2x2x2 Cube"),
-        (Event::C333, "333", "3x3x3 Cube"),
-        (Event::Oh333, "333oh", "3x3x3 One-Handed"),
-        (Event::C555, "555", "5x5x5 Cube"),
-        (Event::C666, "666", "6x6x6 Cube"),
-        (Event::C777, "777", "7x7x7 Cube"),
-        (Event::Clock, "clock", "Clock"),
-        (Event::Minx, "minx", "Megaminx"),
-        (Event::Pyram, "pyram", "Pyraminx"),
-        (Event::Skewb, "skewb", "Skewb"),
-        (Event::Sq1, "sq1", "Square-1"),
+        (Event::C222, "222", "2x2x2 Cube", 9),
+        (Event::C333, "333", "3x3x3 Cube", 18),
+        (Event::Oh333, "333oh", "3x3x3 One-Handed", 18),
+        (Event::C555, "555", "5x5x5 Cube", 36),
+        (Event::C666, "666", "6x6x6 Cube", 45),
+        (Event::C777, "777", "7x7x7 Cube", 54),
+        (Event::Clock, "clock", "Clock", 109),
+        (Event::Minx, "minx", "Megaminx", 6),
+        (Event::Pyram, "pyram", "Pyraminx", 16),
+        (Event::Skewb, "skewb", "Skewb", 8),
+        (Event::Sq1, "sq1", "Square-1", 144),
     ];
-    for (event, id, name) in rows {
+    for (event, id, name, turns) in rows {
         assert_eq!(rt; event.id(), id);
         assert_eq!(rt; event.name(), name);
         assert_eq!(rt; Event::from_id(id), Some(event));
+        each_turn(&rt, event, turns);
     }
     assert_eq!(rt; Event::from_id("444"), None);
     laws::one_turn_for_each_spelling();
+    laws::known_texts();
+    laws::known_numbers();
+    laws::turn_numbers();
     laws::one_fault_for_each_text();
     laws::opposites();
     laws::tidied_words();

@@ -1,13 +1,20 @@
-//! The turns.
-ghost use Rattle.std.specs.Prelude.{◌≡◌, ◌<◌, ◌==◌, IsTrue};
+//! The turns, and their numbers.
+ghost use Rattle.std.specs.Prelude.{◌≡◌, ◌+◌, ◌*◌, ◌<◌, ◌==◌, IsTrue};
 ghost use Rattle.std.specs.List.{list_any};
 ghost use Rattle.scr_notation.specs.Kinds.{IsKind};
-ghost use Rattle.scr_notation.specs.Turns.{has_turn, is_face_turn as face_turn, turn_count, turn_at, clock_turn_at};
+ghost use Rattle.scr_notation.specs.Amounts.{is_amount};
+ghost use Rattle.scr_notation.specs.Faces.{depths_of, is_face_turn as face_turn};
+ghost use Rattle.scr_notation.specs.Axes.{is_axis_turn as axis_turn};
+ghost use Rattle.scr_notation.specs.Layers.{is_twelfths as twelfths, is_layer_turn as layer_turn};
 ghost use Rattle.scr_notation.specs.Pins.{pin_sets, is_clock_turn as clock_turn};
+ghost use Rattle.scr_notation.specs.Wide.{is_wide_turn as wide_turn};
+ghost use Rattle.scr_notation.specs.Turns.{has_turn};
+ghost use Rattle.scr_notation.specs.TurnNumbers.{turn_count, turn_at, face_turn_at, axis_turn_at, layer_turn_at, clock_turn_at, wide_turn_at};
 
 use crate::event::Kind;
 
-/// A turn (WCA Regulations, article 12). Which turns an event has, and how they are written, stands in `specs/Turns.antt`.
+/// A turn (WCA Regulations, article 12). Which turns an event has stands in `specs/Turns.antt`, and how they are written in
+/// `specs/Spelling.antt`.
 #[derive(Clone, Copy, Debug, PartialEq, Eq)]
 pub enum Turn {
     /// The `depth` outer layers at a face of a cube, clockwise by `amount` quarters. The faces U R F D L B are 0 to 5.
@@ -44,29 +51,80 @@ impl Default for Turn {
 /// The pin sets of a Clock's turns, in the order of their names: UR DR DL UL U R D L ALL.
 pub const PIN_SETS: [u8; 9] = [1, 2, 4, 8, 9, 3, 6, 12, 15];
 
-/// Whether a kind of events has this turn.
+/// Whether a kind of puzzles has this turn.
 pub(crate) fn is_of_kind(kind: Kind, turn: Turn) -> bool
     ensures { result ≡ has_turn kind turn }
 {
     match kind {
-        Kind::Faces(faces) => is_face_turn(faces, turn),
+        Kind::Faces { near, far } => is_face_turn(near, far, turn),
+        Kind::Axes { tips } => is_axis_turn(tips, turn),
+        Kind::LayersAndTwist => is_layer_turn(turn),
         Kind::PinSets => is_clock_turn(turn),
-        Kind::NoTurns => false,
+        Kind::WideTurns => is_wide_turn(turn),
     }
 }
 
-/// Whether this is a turn of the outer layer at one of the first `faces` faces.
-fn is_face_turn(faces: u8, turn: Turn) -> bool
-    ensures { result ≡ face_turn faces turn }
+/// Whether this is a turn of a cube: of up to `near` layers at U R F, and of up to `far` at D L B.
+fn is_face_turn(near: u8, far: u8, turn: Turn) -> bool
+    ensures { result ≡ face_turn near far turn }
 {
     match turn {
         Turn::Face {
             face,
             depth,
             amount,
-        } => face < faces && depth == 1 && 1 <= amount && amount <= 3,
+        } => 1 <= depth && depth <= depths_of(near, far, face) && is_amount(4, amount),
         _ => false,
     }
+}
+
+/// How many layers may be turned at a face.
+fn depths_of(near: u8, far: u8, face: u8) -> u8
+    ensures { result ≡ depths_of near far face }
+{
+    match face {
+        0..=2 => near,
+        3..=5 => far,
+        _ => 0,
+    }
+}
+
+/// Whether this is one step at least, and less than a whole turn of `order` steps.
+fn is_amount(order: u8, amount: u8) -> bool
+    ensures { result ≡ is_amount order amount }
+{
+    0 < amount && amount < order
+}
+
+/// Whether this is a turn about an axis, or one of a tip where there are tips.
+fn is_axis_turn(tips: bool, turn: Turn) -> bool
+    ensures { result ≡ axis_turn tips turn }
+{
+    match turn {
+        Turn::Axis { axis, amount } => axis < 4 && is_amount(3, amount),
+        Turn::Tip { tip, amount } => tips && tip < 4 && is_amount(3, amount),
+        _ => false,
+    }
+}
+
+/// Whether this is a turn of a Square-1.
+fn is_layer_turn(turn: Turn) -> bool
+    ensures { result ≡ layer_turn turn }
+{
+    match turn {
+        Turn::Layers { top, bottom } => {
+            is_twelfths(top) && is_twelfths(bottom) && !(top == 0 && bottom == 0)
+        }
+        Turn::Twist => true,
+        _ => false,
+    }
+}
+
+/// Whether this is an amount of twelfths from -5 to 6.
+fn is_twelfths(amount: i8) -> bool
+    ensures { result ≡ twelfths amount }
+{
+    -5 <= amount && amount <= 6
 }
 
 /// Whether this is a turn of a Clock.
@@ -87,37 +145,96 @@ fn is_pin_set(pins: u8) -> bool
     PIN_SETS.iter().any(|set| *set == pins)
 }
 
+/// Whether this is a turn of a Megaminx.
+fn is_wide_turn(turn: Turn) -> bool
+    ensures { result ≡ wide_turn turn }
+{
+    match turn {
+        Turn::Wide { letter, .. } => letter < 3,
+        _ => false,
+    }
+}
+
 /// How many turns a kind has.
 pub(crate) fn turn_count(kind: Kind) -> u8
     requires { IsKind kind }
     ensures { result ≡ turn_count kind }
 {
     match kind {
-        Kind::Faces(faces) => 3 * faces,
+        Kind::Faces { near, far } => 9 * (near + far),
+        Kind::Axes { tips } => { if tips { 16 } else { 8 } }
+        Kind::LayersAndTwist => 144,
         Kind::PinSets => 109,
-        Kind::NoTurns => 0,
+        Kind::WideTurns => 6,
     }
 }
 
 /// The turn of a kind with this number, below the count.
-#[tactic(auto, unfolding(crate::specs::Turns::turn_at, crate::specs::Turns::face_turn_at))]
+#[tactic(auto, using(crate::proofs::NumberLaws::has_turn_at), unfolding(crate::specs::TurnNumbers::turn_at))]
 pub(crate) fn turn_at(kind: Kind, number: u8) -> Turn
-    requires { number < turn_count kind }
+    requires kind { IsKind kind }
+    requires below { number < turn_count kind }
     ensures value { result ≡ turn_at kind number }
     ensures of_kind { IsTrue (has_turn kind (turn_at kind number)) }
 {
     match kind {
+        Kind::Faces { .. } => face_turn_at(number),
+        Kind::Axes { .. } => axis_turn_at(number),
+        Kind::LayersAndTwist => layer_turn_at(number),
         Kind::PinSets => clock_turn_at(number),
-        Kind::Faces(_) | Kind::NoTurns => Turn::Face {
-            face: number / 3,
-            depth: 1,
-            amount: number % 3 + 1,
-        },
+        Kind::WideTurns => wide_turn_at(number),
+    }
+}
+
+/// The turn of a face with this number.
+#[tactic(auto, unfolding(crate::specs::TurnNumbers::face_turn_at))]
+fn face_turn_at(number: u8) -> Turn
+    ensures { result ≡ face_turn_at number }
+{
+    Turn::Face {
+        face: number / 3 % 6,
+        depth: number / 18 + 1,
+        amount: number % 3 + 1,
+    }
+}
+
+/// The turn of an axis or a tip with this number, below 16.
+#[tactic(auto, unfolding(crate::specs::TurnNumbers::axis_turn_at))]
+fn axis_turn_at(number: u8) -> Turn
+    ensures { result ≡ axis_turn_at number }
+{
+    let amount = number % 2 + 1;
+    if number < 8 {
+        Turn::Axis {
+            axis: number / 2,
+            amount,
+        }
+    } else {
+        Turn::Tip {
+            tip: (number - 8) / 2,
+            amount,
+        }
+    }
+}
+
+/// The turn of a Square-1 with this number, below 144.
+#[tactic(auto, unfolding(crate::specs::TurnNumbers::layer_turn_at))]
+fn layer_turn_at(number: u8) -> Turn
+    requires { number < 144 }
+    ensures { result ≡ layer_turn_at number }
+{
+    if number == 65 {
+        Turn::Twist
+    } else {
+        Turn::Layers {
+            top: (number / 12) as i8 - 5,
+            bottom: (number % 12) as i8 - 5,
+        }
     }
 }
 
 /// The turn of a Clock with this number, below 109.
-#[tactic(auto, unfolding(crate::specs::Turns::clock_turn_at))]
+#[tactic(auto, unfolding(crate::specs::TurnNumbers::clock_turn_at))]
 fn clock_turn_at(number: u8) -> Turn
     requires { number < 109 }
     ensures { result ≡ clock_turn_at number }
@@ -129,5 +246,16 @@ fn clock_turn_at(number: u8) -> Turn
             pins: PIN_SETS[(number / 12) as usize],
             amount: number % 12,
         }
+    }
+}
+
+/// The turn of a Megaminx with this number.
+#[tactic(auto, unfolding(crate::specs::TurnNumbers::wide_turn_at))]
+fn wide_turn_at(number: u8) -> Turn
+    ensures { result ≡ wide_turn_at number }
+{
+    Turn::Wide {
+        letter: number / 2,
+        plus: number % 2 == 0,
     }
 }

@@ -1,12 +1,13 @@
 //! Scrambles taken back and tidied.
-ghost use Rattle.std.specs.Prelude.{◌≡◌, ◌+◌, ◌<◌, ◌≤◌, reverse, length, IsTrue};
+ghost use Rattle.std.specs.Prelude.{◌≡◌, ◌+◌, ◌-◌, ◌<◌, ◌≤◌, neg_ℤ, ◌+ℤ◌, reverse, length, IsTrue};
 ghost use Rattle.arrayvec.specs.ArrayVec.{array_vec_len};
 ghost use Rattle.scr_play.specs.Back.{back};
 ghost use Rattle.scr_play.specs.Tidy.{with_turn, tidy};
 ghost use Rattle.scr_notation.specs.declared.event.Event.TheVariants.{Clock};
 ghost use Rattle.scr_notation.specs.Event.{kind_of};
 ghost use Rattle.scr_notation.specs.Written.{IsWritten};
-ghost use Rattle.scr_notation.specs.Turning.{opposite, are_of_one_face, face_turns_merged, face_merging, is_of_faces};
+ghost use Rattle.scr_notation.specs.Layers.{twelfths};
+ghost use Rattle.scr_notation.specs.Turning.{opposite, are_alike, face_turned, layers_turned, turns_merged, turn_merging, has_merging};
 
 use crate::scramble::{MOST_TURNS, Scramble};
 use crate::turn::Turn;
@@ -26,11 +27,12 @@ pub fn inverse(scramble: &Scramble) -> Scramble
     undoing
 }
 
-/// What is left of a scramble of 222, 333 or 333oh when neighbouring turns of one face are merged, until there are none:
-/// two such come to one turn, or to nothing. The order in which that is done doesn't matter.
+/// What is left of a scramble of cubes or of Square-1 when neighbouring turns of one face, or of the layers, or two twists
+/// are merged, until there are none: two such come to one turn, or to nothing. The order in which that is done doesn't
+/// matter.
 pub fn tidy(scramble: &Scramble) -> Scramble
-    requires { IsTrue (is_of_faces (kind_of scramble.now.event)) }
-    ensures value { result ≡ record { event = scramble.now.event; turns = tidy face_merging scramble.now.turns } }
+    requires { IsTrue (has_merging (kind_of scramble.now.event)) }
+    ensures value { result ≡ record { event = scramble.now.event; turns = tidy turn_merging scramble.now.turns } }
     ensures valid { IsWritten result }
 {
     let last_first = tidied(scramble.turns());
@@ -44,7 +46,7 @@ pub fn tidy(scramble: &Scramble) -> Scramble
 /// The tidied turns, with the last one first.
 fn tidied(turns: &[Turn]) -> ArrayVec<Turn, MOST_TURNS>
     requires { length turns.now ≤ 160 }
-    ensures { reverse result.items ≡ tidy face_merging turns.now }
+    ensures { reverse result.items ≡ tidy turn_merging turns.now }
 {
     let mut last_first = ArrayVec::new();
     for k in (0..turns.len()).rev() {
@@ -56,17 +58,17 @@ fn tidied(turns: &[Turn]) -> ArrayVec<Turn, MOST_TURNS>
 /// Puts a turn before a tidy word, whose turns stand with the last one first.
 fn put_before(last_first: &mut ArrayVec<Turn, MOST_TURNS>, turn: Turn)
     requires { array_vec_len last_first.old < 160 }
-    ensures word { reverse last_first.new.items ≡ with_turn face_merging turn (reverse last_first.old.items) }
+    ensures word { reverse last_first.new.items ≡ with_turn turn_merging turn (reverse last_first.old.items) }
     ensures len { array_vec_len last_first.new ≤ array_vec_len last_first.old + 1 }
 {
     let Some(next) = last_first.pop() else {
         last_first.push(turn);
         return;
     };
-    if !are_of_one_face(turn, next) {
+    if !are_alike(turn, next) {
         last_first.push(next);
         last_first.push(turn);
-    } else if let Some(merged) = face_turns_merged(turn, next) {
+    } else if let Some(merged) = turns_merged(turn, next) {
         last_first.push(merged);
     }
 }
@@ -85,23 +87,34 @@ fn opposite(turn: Turn) -> Turn
             depth,
             amount: 4u8.saturating_sub(amount),
         },
+        Turn::Axis { axis, amount } => Turn::Axis {
+            axis,
+            amount: thirds_back(amount),
+        },
+        Turn::Tip { tip, amount } => Turn::Tip {
+            tip,
+            amount: thirds_back(amount),
+        },
+        Turn::Layers { top, bottom } => Turn::Layers {
+            top: twelfths_back(top),
+            bottom: twelfths_back(bottom),
+        },
+        Turn::Twist => turn,
         Turn::Pins { pins, amount } => Turn::Pins {
             pins,
             amount: 12u8.saturating_sub(amount) % 12,
         },
         Turn::Over => turn,
-        // No event has these turns yet.
-        Turn::Axis { .. }
-        | Turn::Tip { .. }
-        | Turn::Layers { .. }
-        | Turn::Twist
-        | Turn::Wide { .. } => turn,
+        Turn::Wide { letter, plus } => Turn::Wide {
+            letter,
+            plus: !plus,
+        },
     }
 }
 
-/// Whether both are turns of one face, and of as many of its layers.
-fn are_of_one_face(turn: Turn, other: Turn) -> bool
-    ensures { result ≡ are_of_one_face turn other }
+/// Whether both are turns of one face and of as many of its layers, or of a Square-1's layers, or twists.
+fn are_alike(turn: Turn, other: Turn) -> bool
+    ensures { result ≡ are_alike turn other }
 {
     match (turn, other) {
         (
@@ -112,13 +125,15 @@ fn are_of_one_face(turn: Turn, other: Turn) -> bool
                 ..
             },
         ) => face == other && depth == deep,
+        (Turn::Layers { .. }, Turn::Layers { .. }) => true,
+        (Turn::Twist, Turn::Twist) => true,
         _ => false,
     }
 }
 
-/// What two turns of one face come to together: one turn, or nothing.
-fn face_turns_merged(turn: Turn, other: Turn) -> Option<Turn>
-    ensures { result ≡ face_turns_merged turn other }
+/// What two such turns come to together: one turn, or nothing.
+fn turns_merged(turn: Turn, other: Turn) -> Option<Turn>
+    ensures { result ≡ turns_merged turn other }
 {
     match (turn, other) {
         (
@@ -128,14 +143,69 @@ fn face_turns_merged(turn: Turn, other: Turn) -> Option<Turn>
                 depth,
                 amount: more,
             },
-        ) => match ((amount as u16 + more as u16) % 4) as u8 {
-            0 => None,
-            amount => Some(Turn::Face {
-                face,
-                depth,
-                amount,
-            }),
-        },
+        ) => face_turned(face, depth, ((amount as u16 + more as u16) % 4) as u8),
+        (
+            Turn::Layers { top, bottom },
+            Turn::Layers {
+                top: more_top,
+                bottom: more_bottom,
+            },
+        ) => layers_turned(
+            twelfths_sum(top, more_top),
+            twelfths_sum(bottom, more_bottom),
+        ),
         _ => None,
     }
+}
+
+/// A face turned by so many quarters, or nothing where that is none.
+fn face_turned(face: u8, depth: u8, amount: u8) -> Option<Turn>
+    ensures { result ≡ face_turned face depth amount }
+{
+    if amount == 0 {
+        return None;
+    }
+    Some(Turn::Face {
+        face,
+        depth,
+        amount,
+    })
+}
+
+/// The layers turned so far, or nothing where neither turns.
+fn layers_turned(top: i8, bottom: i8) -> Option<Turn>
+    ensures { result ≡ layers_turned top bottom }
+{
+    if top == 0 && bottom == 0 {
+        return None;
+    }
+    Some(Turn::Layers { top, bottom })
+}
+
+/// What is left of three thirds.
+fn thirds_back(amount: u8) -> u8
+    ensures { result ≡ 3 - amount }
+{
+    3u8.saturating_sub(amount)
+}
+
+/// So many twelfths the other way.
+fn twelfths_back(amount: i8) -> i8
+    ensures { result ≡ twelfths (neg_ℤ amount) }
+{
+    twelfths(-(amount as i16))
+}
+
+/// The sum of two amounts of twelfths.
+fn twelfths_sum(amount: i8, more: i8) -> i8
+    ensures { result ≡ twelfths (amount +ℤ more) }
+{
+    twelfths(amount as i16 + more as i16)
+}
+
+/// Twelfths of a turn, modulo 12, from -5 to 6.
+fn twelfths(amount: i16) -> i8
+    ensures { result ≡ twelfths amount }
+{
+    ((amount as i32 + 5).rem_euclid(12) - 5) as i8
 }

@@ -4,3 +4,4 @@ pub mod BackLaws
 pub mod TidyLaws
 pub mod MergeLaws
 pub mod TidyPlay
+pub mod FirstWordLaws

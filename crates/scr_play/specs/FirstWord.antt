@@ -23,9 +23,14 @@ pub record IsFirstWord {S : Type 0} (after : S → ℕ → Option S) (IsGoal : S
   pub leads : LeadsTo after IsGoal s w
   pub first : (v : List ℕ) → LeadsTo after IsGoal s v → (v ≡ w) ⊎ IsEarlier w v
 
--- The least number of turns from this state to the goal.
+-- The least number of turns from this state to the goal: a word of so many leads there, and none that leads there has fewer.
+-- That there is such a word is truncated, so that the fact is a proposition.
 pub record IsDistance {S : Type 0} (after : S → ℕ → Option S) (IsGoal : S → Type 0) (s : S) (d : ℕ) : Type 0 where
-  pub word : List ℕ
-  pub leads : LeadsTo after IsGoal s word
-  pub turns : length word ≡ d
-  pub least : (v : List ℕ) → LeadsTo after IsGoal s v → d ≤ length v
+  pub reached : ∥ ((w : List ℕ) × LeadsTo after IsGoal s w × (length w ≡ d)) ∥₁
+  pub least : (w : List ℕ) → LeadsTo after IsGoal s w → d ≤ length w
+
+-- A turn is the first that leads to a state at this distance.
+pub record LowersFirst {S : Type 0} (after : S → ℕ → Option S) (IsGoal : S → Type 0) (s r : S) (t d : ℕ) : Type 0 where
+  pub leads : after s t ≡ Some r
+  pub lower : IsDistance after IsGoal r d
+  pub first : (u : ℕ) (q : S) → u < t → after s u ≡ Some q → IsDistance after IsGoal q d → ⊥

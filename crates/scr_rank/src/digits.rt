@@ -3,6 +3,7 @@ ghost use Rattle.std.specs.Prelude.{◌≡◌, ℕ, ◌-◌, ◌^◌, ◌/◌, �
 ghost use Rattle.scr_combinatorics.specs.Twists.{IsTwists, twists_number, twists_at};
 
 /// The number that all digits but the last one write, the least digit first.
+#[inline]
 pub fn rank_twists(digits: &[u8], base: u8) -> u64
     requires some { (1 ≤ length digits.now) × (length digits.now ≤ 12) }
     requires base { base ≤ 12 }
@@ -18,6 +19,7 @@ pub fn rank_twists(digits: &[u8], base: u8) -> u64
 
 /// Fills `out` with the digits that write this number, the least one first, and with the last digit
 /// that makes their sum 0 modulo the base.
+#[inline]
 pub fn unrank_twists(number: u64, base: u8, out: &mut [u8])
     requires some { (1 ≤ length out.old) × (length out.old ≤ 12) }
     requires base { (1 ≤ base) × (base ≤ 12) }
@@ -44,6 +46,7 @@ pub struct TwistRank<const N: usize, const BASE: usize>;
 
 impl<const N: usize, const BASE: usize> TwistRank<N, BASE> {
     /// The number of a list of digits, below `BASE^(N - 1)`, for `N` and `BASE` from 1 to 12.
+    #[inline]
     pub fn rank(value: &[u8; N]) -> u128
         requires size { (1 ≤ N) × (N ≤ 12) }
         requires base { (1 ≤ BASE) × (BASE ≤ 12) }
@@ -55,6 +58,7 @@ impl<const N: usize, const BASE: usize> TwistRank<N, BASE> {
     }
 
     /// The list of digits with a number below `BASE^(N - 1)`, for `N` and `BASE` from 1 to 12.
+    #[inline]
     pub fn unrank(number: u128) -> [u8; N]
         requires size { (1 ≤ N) × (N ≤ 12) }
         requires base { (1 ≤ BASE) × (BASE ≤ 12) }

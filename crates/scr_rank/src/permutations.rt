@@ -3,7 +3,20 @@ ghost use Rattle.std.specs.Prelude.{◌≡◌, ℕ, ◌/◌, ◌^◌, ◌<◌, �
 ghost use Rattle.scr_combinatorics.specs.Lists.{lesser_count};
 ghost use Rattle.scr_combinatorics.specs.Permutations.{IsPermutation, parity, IsEven, factorial, permutation_number, nth_except, permutation_at, half_at};
 
+/// How many permutations of `len` numbers there are, for up to 12 numbers.
+pub fn count_permutations(len: usize) -> u32
+    requires { len ≤ 12 }
+    ensures { result ≡ factorial len }
+{
+    let mut count: u32 = 1;
+    for more in 0..len {
+        count *= more as u32 + 1;
+    }
+    count
+}
+
 /// How many numbers of `list` are below `number`.
+#[inline]
 fn count_lesser(list: &[u8], number: u8) -> usize
     ensures { result ≡ lesser_count number list.now }
 {
@@ -17,6 +30,7 @@ fn count_lesser(list: &[u8], number: u8) -> usize
 }
 
 /// Raises each number of `list` from `first` on by one, which makes room for `first`.
+#[inline]
 fn raise_from(list: &mut [u8], first: u8)
     requires { All (λ number. number < 255) list.old }
     ensures { list.new ≡ map (nth_except first) list.old }
@@ -42,6 +56,7 @@ pub fn is_odd(list: &[u8]) -> bool
 
 /// The number of a list of up to 12 different numbers among the permutations of its elements, in
 /// dictionary order from 0.
+#[inline]
 pub fn rank_permutation(list: &[u8]) -> u64
     requires { length list.now ≤ 12 }
     ensures { result ≡ permutation_number list.now }
@@ -56,6 +71,7 @@ pub fn rank_permutation(list: &[u8]) -> u64
 }
 
 /// Fills `out` with the permutation of the numbers below its length, up to 12, that has this number.
+#[inline]
 pub fn unrank_permutation(number: u64, out: &mut [u8])
     requires few { length out.old ≤ 12 }
     requires below { number < factorial (length out.old) }
@@ -96,6 +112,7 @@ pub struct PermRank<const N: usize>;
 
 impl<const N: usize> PermRank<N> {
     /// The number of a permutation, below `N!`, for `N` up to 12.
+    #[inline]
     pub fn rank(value: &[u8; N]) -> u128
         requires size { N ≤ 12 }
         requires valid { IsPermutation N value.now }
@@ -106,6 +123,7 @@ impl<const N: usize> PermRank<N> {
     }
 
     /// The permutation with a number below `N!`, for `N` up to 12: `unrank` undoes `rank`.
+    #[inline]
     pub fn unrank(number: u128) -> [u8; N]
         requires size { N ≤ 12 }
         requires below { number < factorial N }

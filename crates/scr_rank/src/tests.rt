@@ -4,6 +4,7 @@ ghost use Rattle.std.specs.Prelude.{◌≡◌, ◌-◌, ◌/◌, ◌^◌, ◌<�
 ghost use Rattle.scr_combinatorics.specs.Permutations.{factorial};
 ghost use Rattle.scr_combinatorics.specs.PlaceSets.{binomial};
 
+use super::permutations::count_permutations;
 use super::{Choose, EvenPermRank, MixedRadix, PermRank, TwistRank};
 use std::process::Abort;
 
@@ -69,6 +70,10 @@ fn mixed_digits<const D: usize>(rt: &impl Abort, radix: &MixedRadix<D>) {
 
 #[test]
 fn rows(rt: HostRuntime) {
+    assert_eq!(rt;
+        (count_permutations(0), count_permutations(12)),
+        (1, 479001600)
+    );
     assert_eq!(rt; PermRank::<4>::rank(&[3, 2, 1, 0]), 23);
     assert_eq!(rt; EvenPermRank::<4>::unrank(1), [0, 2, 3, 1]);
     assert_eq!(rt; EvenPermRank::<4>::unrank(11), [3, 2, 1, 0]);

@@ -4,24 +4,11 @@ use Rattle.std.proofs.lemmas.List.{take-map, drop-map}
 use Rattle.std.specs.Prelude.{codes}
 use Rattle.std.specs.Fmt.{decimal}
 use Rattle.scr_text.specs.Lines.{text_of_lines}
+use Rattle.scr_text.proofs.WrittenLines.{line_of, first_line, text_of_lines-append}
 use Rattle.scr_notation.specs.Written.{Written}
 use Rattle.scr_notation.specs.Spelling.{text_of}
 use Rattle.scr_round.specs.Round.{labelled, labels_from, group_lines}
 use Rattle.scr_round.specs.Made.{turns_of_each}
-
--- a line, as it is written
-abbrev pub line_of : List ℕ → List ℕ → List ℕ
-line_of label text = (label ++ text) ++ codes "\n"
-
--- the first line of a text, and the others
-pub first_line : (line : List ℕ) (lines : List (List ℕ)) → text_of_lines (line ∷ lines) ≡ (line ++ codes "\n") ++ text_of_lines lines
-first_line line lines = sym (append_assoc line (10 ∷ []) (text_of_lines lines))
-
--- lines in two parts
-pub text_of_lines-append : (xs ys : List (List ℕ)) → text_of_lines (xs ++ ys) ≡ text_of_lines xs ++ text_of_lines ys
-text_of_lines-append [] ys = refl
-text_of_lines-append (x ∷ xs) ys =
-    ap (λ t. x ++ 10 ∷ t) (text_of_lines-append xs ys) ∙ sym (append_assoc x (10 ∷ text_of_lines xs) (text_of_lines ys))
 
 -- ---- the scrambles of a group
 

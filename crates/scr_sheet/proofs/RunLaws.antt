@@ -1,15 +1,15 @@
 -- What runs must end with, and that a list has one sheet.
-use Rattle.std.proofs.lemmas.List.Elements.{All-nil, All-head, All-tail, All-cons}
+use Rattle.std.proofs.lemmas.List.Elements.{All-nil, All-head, All-tail, All-cons, All-contains_itself, Contains-get_or}
 use Rattle.scr_list.proofs.RoundLemmas.{rounds_of-long}
 use Rattle.scr_list.proofs.RoundFacts.{rounds_of-IsRounds}
 use Rattle.std.proofs.Common.{◌≡◌, ◌⊎◌, ℕ, zero, suc, ◌+◌, ◌≤◌, ◌<◌, List, [], ◌∷◌, ◌++◌, length, length-append, Ok, Err, inl, inr, refl, sym, ap, subst, ◌∙◌, arith, All}
-use Rattle.std.specs.Prelude.{Result, IsTrue, Option, Some, None}
+use Rattle.std.specs.Prelude.{Result, IsTrue, Option, Some, None, Contains, map}
 use Rattle.scr_outside.specs.Bytes.{put_back}
 use Rattle.scr_list.specs.declared.fault.ListFault.{ListFault}
 use Rattle.scr_list.specs.declared.fault.ListFault.TheVariants as list
 use Rattle.scr_list.specs.Reading.{ReadsList, ReadsNoList}
 use Rattle.scr_command.specs.declared.command.Command.{Command}
-use Rattle.scr_command.specs.declared.command.Command.TheVariants.{One, Sheet}
+use Rattle.scr_command.specs.declared.command.Command.TheVariants.{One, Sheet, Tables}
 use Rattle.scr_command.specs.Command.{command_of}
 use Rattle.scr_sheet.proofs.CommandLaws.{one-built}
 use Rattle.scr_command.specs.declared.command.UsageFault.{UsageFault}
@@ -19,18 +19,26 @@ use Rattle.scr_outside.specs.Faults.{Rose}
 use Rattle.scr_notation.specs.declared.event.Event.{Event}
 use Rattle.scr_notation.specs.declared.turn.Turn.{Turn}
 use Rattle.scr_list.specs.declared.round.Round.{Round}
-use Rattle.scr_list.specs.Events.{rules_of}
+use Rattle.scr_list.specs.Events.{rules_of, greatest_of}
 use Rattle.scr_list.specs.Rounds.{IsRound, rounds_of, most_bytes}
 use Rattle.scr_slots.specs.declared.settings.Settings.{Settings}
-use Rattle.scr_slots.specs.Slots.{IsSlotScramble}
+use Rattle.scr_slots.specs.Slots.{IsSlotScramble, IsDrawnFairly}
 use Rattle.scr_slots.specs.Outcomes.{HasOneScramble}
 use Rattle.scr_slots.specs.Events.{scrambling_of}
 use Rattle.scr_sheet.specs.declared.fault.Fault.{Fault}
 use Rattle.scr_sheet.specs.declared.fault.Fault.TheVariants as fault
 use Rattle.scr_sheet.specs.declared.status.Status.TheVariants as status
 use Rattle.scr_sheet.specs.Sheet.{Part, round_part, round_parts, one_part, AreScrambles, IsPartText, IsText, IsFirstWithout}
-use Rattle.scr_sheet.specs.Outcome.{EndsParts, EndsCommand, Ends, status_of}
+use Rattle.scr_table.specs.declared.fault.BuildFault.{BuildFault}
+use Rattle.scr_table.specs.declared.fault.BuildFault.TheVariants as build
+use Rattle.scr_sheet.specs.Outcome.{EndsParts, EndsMaking, EndsCommand, Ends, LacksTables, fault_of_build, status_of}
 use Rattle.scr_sheet.specs.Task.{IsTask, IsUnhindered, LacksScramble, EndsWith}
+
+-- the events of a list's parts are those of its rounds
+pub events_of_parts : (k : ℕ) (rounds : List Round)
+    → map (λ (part : Part). part.event) (round_parts k rounds) ≡ map (λ (round : Round). round.event) rounds
+events_of_parts k [] = refl
+events_of_parts k (round ∷ rounds) = ap (λ events. round.event ∷ events) (events_of_parts (k + 1) rounds)
 
 -- ---- one text
 
@@ -117,7 +125,8 @@ EndsParts-done settings parts out (Err (fault.List list)) ends written each = ab
 EndsParts-done settings parts out (Err (fault.DrawLimit number slot words)) ends written each =
     absurd (each (record { led = ends.led; part = ends.failing; rest = ends.rest; are = ends.before.are; slot = ends.j; first = ends.limit.first }))
 EndsParts-done settings parts out (Err fault.Write) ends written each = absurd (written ends.faltered.rose)
-EndsParts-done settings parts out (Err fault.NoMemory) ends written each = inr refl
+EndsParts-done settings parts out (Err fault.NoMemory) ends written each = inr (inl refl)
+EndsParts-done settings parts out (Err (fault.Gap table index)) ends written each = absurd ends
 
 -- parts of which one lacks a scramble
 pub EndsParts-limit : (settings : Settings) (parts : List Part) (out : Change) (ended : Result (Unit {0}) Fault)
@@ -130,7 +139,8 @@ EndsParts-limit settings parts out (Err (fault.Usage usage)) ends written decide
 EndsParts-limit settings parts out (Err (fault.List list)) ends written decided lacks = absurd ends
 EndsParts-limit settings parts out (Err (fault.DrawLimit number slot words)) ends written decided lacks = inl refl
 EndsParts-limit settings parts out (Err fault.Write) ends written decided lacks = absurd (written ends.faltered.rose)
-EndsParts-limit settings parts out (Err fault.NoMemory) ends written decided lacks = inr refl
+EndsParts-limit settings parts out (Err fault.NoMemory) ends written decided lacks = inr (inl refl)
+EndsParts-limit settings parts out (Err (fault.Gap table index)) ends written decided lacks = absurd ends
 
 -- ---- the ends of runs that nothing hinders
 
@@ -163,9 +173,18 @@ IsList-read source bytes rounds (list.Line number cause) whole is input read ref
     let none : ⊥ = cc in absurd none
 IsList-read source bytes rounds list.Read whole is input read refused = absurd (read refused.rose)
 
+-- tables that could not be built
+pub LacksTables-ends : (events : List Event) (out : Change) (ended : Result (Unit {0}) Fault) (wanted : Status) → LacksTables events out ended
+    → EndsWith (status_of ended) wanted
+LacksTables-ends events out ended wanted lacks = at lacks.why lacks.is
+  where
+    at : (why : BuildFault) → ended ≡ Err (fault_of_build why) → EndsWith (status_of ended) wanted
+    at build.NoMemory is = inr (inl (ap status_of is))
+    at (build.Gap table index) is = inr (inr (ap status_of is))
+
 EndsCommand-parts : (command : Command) (list : List ℕ) (settings : Settings) (parts : List Part) (source out : Change)
     (ended : Result (Unit {0}) Fault) → ReadWhole → IsTask command list settings parts → source.bytes_before ≡ Some list
-    → ¬ (Rose source.faults_before source.faults_after) → EndsCommand command source out ended → EndsParts settings 0 parts out ended
+    → ¬ (Rose source.faults_before source.faults_after) → EndsCommand command source out ended → EndsMaking settings parts out ended
 EndsCommand-parts (One event seed) list settings parts source out ended whole task input read ends = rw (task.0, task.1) ends.1
 EndsCommand-parts (Sheet seed options) list settings parts source out ended whole task input read (inl ends) =
     let is = task.1 in
@@ -175,10 +194,11 @@ EndsCommand-parts (Sheet seed options) list settings parts source out ended whol
     rw (task.2, same_parts) ends.2
 EndsCommand-parts (Sheet seed options) list settings parts source out ended whole task input read (inr refused) =
     absurd (IsList-read source list task.0 refused.list whole task.1 input read refused.cause)
+EndsCommand-parts (Tables event) list settings parts source out ended whole task input read ends = absurd task
 
 pub IsUnhindered-ends : {words : List (List ℕ)} {outcome : Status} {source out err : Change} {settings : Settings} {parts : List Part}
     → ReadWhole → (run : IsUnhindered words outcome source out err settings parts)
-    → EndsParts settings 0 parts out run.run.ended ⊎ (run.run.ended ≡ Err fault.NoMemory)
+    → EndsMaking settings parts out run.run.ended ⊎ (run.run.ended ≡ Err fault.NoMemory)
 IsUnhindered-ends {source = source} {out = out} {settings = settings} {parts = parts} whole run =
     elim run.run.performed.ends [
       | inl ends ↦
@@ -196,3 +216,36 @@ IsTask-decided words (One event seed) list settings parts decided asks task =
     (All-cons IsDecided (one_part event) [] (decided event 0 (one-built words event seed asks)) (All-nil IsDecided))
 IsTask-decided words (Sheet seed options) list settings parts decided asks task =
     rw task.3 (round_parts-decided 0 task.0 decided (rounds_of-IsRounds list task.0 task.1).each)
+IsTask-decided words (Tables event) list settings parts decided asks task = absurd task
+
+-- ---- fairness
+
+-- the event of a part is drawn fairly
+abbrev pub IsFairPart : Part → Type 0
+IsFairPart part = IsDrawnFairly (scrambling_of part.event) part.least
+
+-- each of these events is, at each minimum of its range
+abbrev pub AreFairlyDrawn : List Event → Type 0
+AreFairlyDrawn events = (event : Event) (least : ℕ) → Contains events event → IsTrue (rules_of event).built
+    → least ≤ greatest_of (rules_of event).minima → IsDrawnFairly (scrambling_of event) least
+
+pub round_parts-fair : (events : List Event) (k : ℕ) (rounds : List Round) → AreFairlyDrawn events → All IsRound rounds
+    → All (Contains events) (map (λ (round : Round). round.event) rounds) → All IsFairPart (round_parts k rounds)
+round_parts-fair events k [] fair each asked = All-nil IsFairPart
+round_parts-fair events k (round ∷ rounds) fair each asked =
+    let here = All-head IsRound round rounds each in
+    let others = map (λ (r : Round). r.event) rounds in
+    All-cons IsFairPart (round_part k round) (round_parts (k + 1) rounds)
+    (fair round.event round.least (All-head (Contains events) round.event others asked) here.event here.least)
+    (round_parts-fair events (k + 1) rounds fair (All-tail IsRound round rounds each) (All-tail (Contains events) round.event others asked))
+
+-- those of the rounds of a list, whose tables were built
+pub list-fair : (rounds : List Round) → AreFairlyDrawn (map (λ (round : Round). round.event) rounds) → All IsRound rounds
+    → All IsFairPart (round_parts 0 rounds)
+list-fair rounds fair each =
+    let events = map (λ (round : Round). round.event) rounds in round_parts-fair events 0 rounds fair each (All-contains_itself events)
+
+-- and that of one event
+pub one-fair : (event : Event) → AreFairlyDrawn (event ∷ []) → IsTrue (rules_of event).built → All IsFairPart (one_part event ∷ [])
+one-fair event fair built =
+    All-cons IsFairPart (one_part event) [] (fair event 0 (Contains-get_or (event ∷ []) 0 event (omega arith)) built (omega arith)) (All-nil IsFairPart)

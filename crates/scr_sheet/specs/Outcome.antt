@@ -1,23 +1,34 @@
 -- How a run may end.
-use Rattle.std.specs.Prelude.{◌≡◌, ◌+◌, ◌⊎◌, ℕ, List, [], ◌∷◌, ◌++◌, length, Result, Ok, Err}
+use Rattle.std.specs.Prelude.{◌≡◌, ◌+◌, ◌⊎◌, ℕ, List, [], ◌∷◌, ◌++◌, length, map, All, Result, Ok, Err}
 use Rattle.scr_outside.specs.Change.{Change, IsUnchanged, Gains, Falters}
 use Rattle.scr_list.specs.Reading.{ReadsList, ReadsNoList}
+use Rattle.scr_notation.specs.declared.event.Event.{Event}
 use Rattle.scr_list.specs.declared.round.Round.{Round}
 use Rattle.scr_list.specs.declared.fault.ListFault.{ListFault}
 use Rattle.scr_list.specs.declared.fault.ListFault.TheVariants as list
 use Rattle.scr_command.specs.declared.command.Command.{Command}
-use Rattle.scr_command.specs.declared.command.Command.TheVariants.{One, Sheet}
+use Rattle.scr_command.specs.declared.command.Command.TheVariants.{One, Sheet, Tables}
 use Rattle.scr_command.specs.declared.command.UsageFault.{UsageFault}
 use Rattle.scr_command.specs.declared.command.CommandFault.{CommandFault}
 use Rattle.scr_command.specs.declared.command.CommandFault.TheVariants as refusal
 use Rattle.scr_command.specs.Command.{usual_options, command_of, AsksForSheet}
+use Rattle.scr_table.specs.declared.fault.BuildFault.{BuildFault}
+use Rattle.scr_table.specs.declared.fault.BuildFault.TheVariants as build
 use Rattle.scr_slots.specs.declared.settings.Settings.{Settings}
+use Rattle.scr_slots.specs.Slots.{IsDrawnFairly}
+use Rattle.scr_slots.specs.Events.{scrambling_of, tables_of}
+use Rattle.scr_slots.specs.Tables.{HasTables, IsBuildCause}
 use Rattle.scr_sheet.specs.declared.fault.Fault.{Fault}
 use Rattle.scr_sheet.specs.declared.fault.Fault.TheVariants as fault
 use Rattle.scr_sheet.specs.declared.status.Status.{Status}
 use Rattle.scr_sheet.specs.declared.status.Status.TheVariants as status
 use Rattle.scr_sheet.specs.Sheet.{settings_of, IsLimit, Part, round_parts, one_part, IsText}
+use Rattle.scr_table_text.specs.TableText.{IsTablesText}
 use Rattle.scr_sheet.specs.Message.{message_of}
+
+-- nothing was written
+abbrev pub IsUnwritten : Change → Type 0
+IsUnwritten out = Gains out []
 
 -- ---- the one table of outcomes, over the parts that a command writes; the first of them is part k
 
@@ -69,12 +80,43 @@ EndsParts settings k parts out (Err fault.Write) = IsBroken settings parts out
 EndsParts settings k parts out (Err fault.NoMemory) = IsCutShort settings parts out
 EndsParts settings k parts out (Err (fault.Usage usage)) = ⊥
 EndsParts settings k parts out (Err (fault.List list)) = ⊥
+EndsParts settings k parts out (Err (fault.Gap table index)) = ⊥
+
+-- ---- tables
+
+-- why tables could not be built, as a fault of the run
+abbrev pub fault_of_build : BuildFault → Fault
+fault_of_build build.NoMemory = fault.NoMemory
+fault_of_build (build.Gap table index) = fault.Gap table index
+
+-- The tables of these events could not be built: one of them has a gap, or memory was wanting. Nothing was written.
+pub record LacksTables (events : List Event) (out : Change) (ended : Result (Unit {0}) Fault) : Type 0 where
+  pub why : BuildFault
+  pub is : ended ≡ Err (fault_of_build why)
+  pub cause : IsBuildCause events why
+  pub unwritten : IsUnwritten out
+
+-- how the text of an event's tables ends that is written
+abbrev pub EndsTables : Event → Change → Result (Unit {0}) Fault → Type 0
+EndsTables event out (Ok _) = (text : List ℕ) × IsTablesText (tables_of event) text × Gains out text
+EndsTables event out (Err fault.Write) = (text : List ℕ) × IsTablesText (tables_of event) text × Falters out text
+EndsTables event out (Err (fault.DrawLimit number slot words)) = ⊥
+EndsTables event out (Err fault.NoMemory) = ⊥
+EndsTables event out (Err (fault.Usage usage)) = ⊥
+EndsTables event out (Err (fault.List list)) = ⊥
+EndsTables event out (Err (fault.Gap table index)) = ⊥
 
 -- ---- the commands
 
--- nothing was written
-abbrev pub IsUnwritten : Change → Type 0
-IsUnwritten out = Gains out []
+-- The tables of the parts' events were built, so that each part is drawn fairly; and so end the parts.
+pub record IsMaking (settings : Settings) (parts : List Part) (out : Change) (ended : Result (Unit {0}) Fault) : Type 0 where
+  pub fair : All (λ part. IsDrawnFairly (scrambling_of part.event) part.least) parts
+  pub ends : EndsParts settings 0 parts out ended
+
+-- how the making and writing of parts ends, whose tables are built first
+abbrev pub EndsMaking : Settings → List Part → Change → Result (Unit {0}) Fault → Type 0
+EndsMaking settings parts out ended =
+    IsMaking settings parts out ended ⊎ LacksTables (map (λ part. part.event) parts) out ended
 
 -- the input is no round list, or could not be read
 pub record IsRefused (source out : Change) (ended : Result (Unit {0}) Fault) : Type 0 where
@@ -86,10 +128,12 @@ pub record IsRefused (source out : Change) (ended : Result (Unit {0}) Fault) : T
 -- how a command ends; `sheet` reads its list to the end of input before it writes
 abbrev pub EndsCommand : Command → Change → Change → Result (Unit {0}) Fault → Type 0
 EndsCommand (One event seed) source out ended =
-    IsUnchanged source × EndsParts (settings_of seed usual_options) 0 (one_part event ∷ []) out ended
+    IsUnchanged source × EndsMaking (settings_of seed usual_options) (one_part event ∷ []) out ended
 EndsCommand (Sheet seed options) source out ended =
-    ((rounds : List Round) × ReadsList source (Ok rounds) × EndsParts (settings_of seed options) 0 (round_parts 0 rounds) out ended)
+    ((rounds : List Round) × ReadsList source (Ok rounds) × EndsMaking (settings_of seed options) (round_parts 0 rounds) out ended)
     ⊎ IsRefused source out ended
+EndsCommand (Tables event) source out ended =
+    IsUnchanged source × (EndsTables event out ended ⊎ LacksTables (event ∷ []) out ended)
 
 -- how a run ends on words that are this command, or that are none
 abbrev pub Ends : Result Command UsageFault → Change → Change → Result (Unit {0}) Fault → Type 0
@@ -109,10 +153,17 @@ abbrev pub fault_of_command : CommandFault → Fault
 fault_of_command (refusal.Usage usage) = fault.Usage usage
 fault_of_command refusal.NoMemory = fault.NoMemory
 
--- What a run on these words does before it tells how it ended; which words alone take memory.
+-- the command needs the tables of its event
+abbrev pub NeedsTables : Result Command UsageFault → Type 0
+NeedsTables (Ok (One event seed)) = HasTables event
+NeedsTables (Ok (Sheet seed options)) = ⊥
+NeedsTables (Ok (Tables event)) = HasTables event
+NeedsTables (Err usage) = ⊥
+
+-- What a run on these words does before it tells how it ended; only a sheet and what needs tables take memory.
 pub record IsPerformed (words : List (List ℕ)) (source out : Change) (ended : Result (Unit {0}) Fault) : Type 0 where
   pub ends : Ends (command_of words) source out ended ⊎ IsOutOfMemory source out ended
-  pub memory : ended ≡ Err fault.NoMemory → AsksForSheet words
+  pub memory : ended ≡ Err fault.NoMemory → AsksForSheet words ⊎ NeedsTables (command_of words)
 
 -- what went wrong is told by its message, or by a first part of it where that could not be written
 abbrev pub Tells : Change → Result (Unit {0}) Fault → Type 0
@@ -129,6 +180,7 @@ status_of (Err (fault.List (list.Line number cause))) = status.List
 status_of (Err (fault.DrawLimit number slot words)) = status.DrawLimit
 status_of (Err fault.Write) = status.WriteFault
 status_of (Err fault.NoMemory) = status.NoMemory
+status_of (Err (fault.Gap table index)) = status.Gap
 
 -- What a run did: how it ended, the status that this has, and what was told of it.
 pub record IsRun (words : List (List ℕ)) (outcome : Status) (source out err : Change) : Type 0 where

@@ -1,7 +1,7 @@
 -- The exit code of each status.
 use Rattle.std.specs.Prelude.{ℕ}
 use Rattle.scr_sheet.specs.declared.status.Status.{Status}
-use Rattle.scr_sheet.specs.declared.status.Status.TheVariants.{Done, Usage, List, DrawLimit, ReadFault, WriteFault, NoMemory}
+use Rattle.scr_sheet.specs.declared.status.Status.TheVariants.{Done, Usage, List, DrawLimit, ReadFault, WriteFault, NoMemory, Gap}
 
 abbrev pub code_of : Status → ℕ
 code_of Done = 0
@@ -11,3 +11,4 @@ code_of DrawLimit = 4
 code_of ReadFault = 5
 code_of WriteFault = 6
 code_of NoMemory = 7
+code_of Gap = 8

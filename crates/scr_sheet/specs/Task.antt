@@ -5,7 +5,7 @@ use Rattle.scr_outside.specs.Faults.{Rose}
 use Rattle.scr_list.specs.declared.round.Round.{Round}
 use Rattle.scr_list.specs.Rounds.{rounds_of}
 use Rattle.scr_command.specs.declared.command.Command.{Command}
-use Rattle.scr_command.specs.declared.command.Command.TheVariants.{One, Sheet}
+use Rattle.scr_command.specs.declared.command.Command.TheVariants.{One, Sheet, Tables}
 use Rattle.scr_command.specs.Command.{usual_options, command_of}
 use Rattle.scr_slots.specs.declared.settings.Settings.{Settings}
 use Rattle.scr_sheet.specs.declared.status.Status.{Status}
@@ -18,6 +18,7 @@ abbrev pub IsTask : Command → List ℕ → Settings → List Part → Type 0
 IsTask (One event seed) list settings parts = (settings ≡ settings_of seed usual_options) × (parts ≡ one_part event ∷ [])
 IsTask (Sheet seed options) list settings parts =
     (rounds : List Round) × (rounds_of list ≡ Ok rounds) × (settings ≡ settings_of seed options) × (parts ≡ round_parts 0 rounds)
+IsTask (Tables event) list settings parts = ⊥
 
 -- A run whose words are a command and whose input is a list with this task; neither input nor output failed.
 pub record IsUnhindered (words : List (List ℕ)) (outcome : Status) (source out err : Change) (settings : Settings) (parts : List Part) : Type 0 where
@@ -39,6 +40,6 @@ pub record LacksScramble (settings : Settings) (parts : List Part) : Type 0 wher
   pub slot : ℕ
   pub first : IsFirstWithout settings part slot
 
--- a run ended with this status, or wanted memory
+-- a run ended with this status, or wanted memory, or a table had a gap
 abbrev pub EndsWith : Status → Status → Type 0
-EndsWith outcome wanted = (outcome ≡ wanted) ⊎ (outcome ≡ status.NoMemory)
+EndsWith outcome wanted = (outcome ≡ wanted) ⊎ ((outcome ≡ status.NoMemory) ⊎ (outcome ≡ status.Gap))

@@ -8,6 +8,7 @@ use arrayvec::ArrayString;
 use scr_command::{CommandFault, UsageFault};
 use scr_list::{ListCause, ListFault};
 use scr_outside::Failed;
+use scr_table::{BuildFault, TableName};
 use scr_text::decimal;
 use scr_words::SeedFault;
 
@@ -24,6 +25,8 @@ pub enum Fault {
     Write,
     /// Want of memory.
     NoMemory,
+    /// No word of as many turns as the table's bound leads from this position to a goal.
+    Gap { table: TableName, index: u32 },
 }
 
 impl From<CommandFault> for Fault {
@@ -62,6 +65,20 @@ impl From<Failed> for Fault {
     }
 }
 
+impl From<BuildFault> for Fault {
+    ghost use Rattle.std.specs.Prelude.{◌≡◌};
+    ghost use Rattle.scr_sheet.specs.Outcome.{fault_of_build};
+
+    ghost from_gives = { λ build fault. fault ≡ fault_of_build build };
+
+    fn from(fault: BuildFault) -> Fault {
+        match fault {
+            BuildFault::NoMemory => Fault::NoMemory,
+            BuildFault::Gap { table, index } => Fault::Gap { table, index },
+        }
+    }
+}
+
 /// The length of the longest message, and a little more.
 const LONGEST: usize = 160;
 
@@ -90,6 +107,12 @@ impl Fault {
             }
             Fault::Write => line.push_str("output could not be written"),
             Fault::NoMemory => line.push_str("out of memory"),
+            Fault::Gap { table, index } => {
+                line.push_str("table ");
+                line.push_str(table.text());
+                line.push_str(" has a gap at ");
+                line.push_str(decimal(index).as_str());
+            }
         }
         line.push_str("\n");
         line

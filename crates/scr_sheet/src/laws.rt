@@ -27,7 +27,7 @@ pub fn one_sheet()
 
 /// Which runs must end with a whole sheet: those whose words are a command and whose list names rounds, where neither
 /// input nor output fails and each slot has a scramble. Where one has none, the status is `DrawLimit` and never `Done`.
-/// Want of memory alone is always free.
+/// Want of memory, and a gap in a table, are always free.
 pub fn completeness()
     ensures done { (words : List (List ℕ)) (outcome : Status) (source out err : Change) (settings : Settings) (parts : List Part)
         → IsUnhindered words outcome source out err settings parts → ¬ (LacksScramble settings parts) → EndsWith outcome Done }

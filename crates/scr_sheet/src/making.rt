@@ -1,6 +1,6 @@
 //! The scrambles of a round, drawn slot by slot.
 
-ghost use Rattle.std.specs.Prelude.{◌≡◌, ◌+◌, ◌<◌, ◌≤◌, ◌++◌, [], ◌∷◌, MatchResult};
+ghost use Rattle.std.specs.Prelude.{◌≡◌, ◌+◌, ◌<◌, ◌≤◌, ◌++◌, [], ◌∷◌, Contains, MatchResult};
 ghost use Rattle.std.specs.Vec.{vec_len, vec_capacity};
 ghost use Rattle.scr_list.specs.Rounds.{IsRound};
 ghost use Rattle.scr_sheet.specs.Making.{IsRoundMade, IsPartFault};
@@ -10,7 +10,7 @@ use scr_command::Options;
 use scr_list::Round;
 use scr_notation::Scramble;
 use scr_round::{RoundResult, slots};
-use scr_slots::{Settings, slot_scramble};
+use scr_slots::{Settings, Tables, slot_scramble};
 use scr_words::Seed;
 use std::alloc::{AllocError, Global};
 
@@ -41,11 +41,13 @@ impl From<AllocError> for RoundFault {
 /// where there is one.
 pub fn make_round(
     alloc: Global,
+    tables: &Tables,
     seed: &Seed,
     index: u32,
     round: &Round,
     options: &Options,
 ) -> Result<RoundResult, RoundFault>
+    requires tables { Contains tables.now round.now.event }
     requires index { index < 256 }
     requires round { IsRound round.now }
     requires attempts { options.now.attempts ≤ 1000000 }
@@ -57,7 +59,7 @@ pub fn make_round(
     let mut scrambles = Vec::with_capacity(alloc, slots as usize)?;
     for slot in 0..slots {
         let stream = 1024 * index as u64 + slot as u64;
-        match slot_scramble(round.event, &settings, round.least as u32, stream) {
+        match slot_scramble(tables, round.event, &settings, round.least as u32, stream) {
             Ok(scramble) => push_within(&mut scrambles, scramble),
             Err(limit) => {
                 let words = limit.words;

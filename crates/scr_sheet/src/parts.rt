@@ -1,13 +1,14 @@
 //! What the commands make and write.
 
-ghost use Rattle.std.specs.Prelude.{◌≢◌, ◌≤◌, ◌<◌, [], ◌∷◌, IsTrue, Err};
+ghost use Rattle.std.specs.Prelude.{◌≡◌, ◌≢◌, ◌≤◌, ◌<◌, ◌⊎◌, [], ◌∷◌, map, Contains, IsTrue, Err};
 ghost use Rattle.scr_outside.specs.Change.{change_of};
 ghost use Rattle.scr_list.specs.Events.{rules_of};
 ghost use Rattle.scr_list.specs.Rounds.{IsRound};
 ghost use Rattle.scr_list.specs.RoundLists.{IsRounds};
 ghost use Rattle.scr_sheet.specs.declared.fault.Fault.TheVariants.{NoMemory};
 ghost use Rattle.scr_sheet.specs.Sheet.{settings_of, one_part, round_part, round_parts};
-ghost use Rattle.scr_sheet.specs.Outcome.{EndsCommand, EndsParts};
+ghost use Rattle.scr_slots.specs.Tables.{HasTables};
+ghost use Rattle.scr_sheet.specs.Outcome.{EndsCommand, EndsMaking, EndsParts, EndsTables, LacksTables};
 ghost use Rattle.scr_command.specs.declared.command.Command.TheVariants.{Sheet};
 ghost use Rattle.scr_command.specs.Command.{usual_options};
 
@@ -18,7 +19,7 @@ use scr_list::{Round, read_rounds};
 use scr_notation::{Event, print};
 use scr_outside::{Sink, Source, write_line};
 use scr_round::write_round;
-use scr_slots::slot_scramble;
+use scr_slots::{Tables, laws, slot_scramble, write_tables_of};
 use scr_words::Seed;
 use std::alloc::Global;
 
@@ -35,11 +36,11 @@ pub(crate) fn write_sheet<S: Source, O: Sink>(
         (change_of O.held O.faults out.old out.new) result }
 {
     let rounds = read_rounds(source)?;
-    write_rounds(alloc, seed, options, &rounds, out)
+    make_sheet(alloc, seed, options, &rounds, out)
 }
 
-/// Makes and writes these rounds, each once all its slots have their scrambles.
-fn write_rounds<O: Sink>(
+/// Builds the tables of these rounds' events, and makes and writes the rounds.
+fn make_sheet<O: Sink>(
     alloc: Global,
     seed: &Seed,
     options: &Options,
@@ -48,10 +49,29 @@ fn write_rounds<O: Sink>(
 ) -> Result<(), Fault>
     requires rounds { IsRounds rounds.now }
     requires attempts { options.now.attempts ≤ 1000000 }
+    ensures { EndsMaking (settings_of seed.now options.now) (round_parts 0 rounds.now) (change_of O.held O.faults out.old out.new) result }
+{
+    let tables = Tables::build(alloc, rounds)?;
+    laws::each_drawn_fairly(&tables);
+    write_rounds(alloc, &tables, seed, options, rounds, out)
+}
+
+/// Makes and writes these rounds, each once all its slots have their scrambles.
+fn write_rounds<O: Sink>(
+    alloc: Global,
+    tables: &Tables,
+    seed: &Seed,
+    options: &Options,
+    rounds: &[Round],
+    out: &mut O,
+) -> Result<(), Fault>
+    requires tables { tables.now ≡ map (λ round. round.event) rounds.now }
+    requires rounds { IsRounds rounds.now }
+    requires attempts { options.now.attempts ≤ 1000000 }
     ensures { EndsParts (settings_of seed.now options.now) 0 (round_parts 0 rounds.now) (change_of O.held O.faults out.old out.new) result }
 {
     for (index, round) in rounds.iter().enumerate() {
-        write_one_round(alloc, seed, options, index as u32, round, out)?;
+        write_one_round(alloc, tables, seed, options, index as u32, round, out)?;
     }
     Ok(())
 }
@@ -59,19 +79,21 @@ fn write_rounds<O: Sink>(
 /// Makes a round, and writes it.
 fn write_one_round<O: Sink>(
     alloc: Global,
+    tables: &Tables,
     seed: &Seed,
     options: &Options,
     index: u32,
     round: &Round,
     out: &mut O,
 ) -> Result<(), Fault>
+    requires tables { Contains tables.now round.now.event }
     requires index { index < 256 }
     requires round { IsRound round.now }
     requires attempts { options.now.attempts ≤ 1000000 }
     ensures { EndsParts (settings_of seed.now options.now) index (round_part index round.now ∷ [])
         (change_of O.held O.faults out.old out.new) result }
 {
-    let made = match make_round(alloc, seed, index, round, options) {
+    let made = match make_round(alloc, tables, seed, index, round, options) {
         Ok(made) => made,
         Err(RoundFault::Limit { slot, words }) => {
             return Err(Fault::DrawLimit {
@@ -87,13 +109,35 @@ fn write_one_round<O: Sink>(
 }
 
 /// Draws the state of stream 0 of a seed, of which no minimum is asked, and writes the line of its scramble.
-pub(crate) fn write_one<O: Sink>(event: Event, seed: &Seed, out: &mut O) -> Result<(), Fault>
+pub(crate) fn write_one<O: Sink>(
+    alloc: Global,
+    event: Event,
+    seed: &Seed,
+    out: &mut O,
+) -> Result<(), Fault>
     requires { IsTrue (rules_of event).built }
+    ensures ends { EndsMaking (settings_of seed.now usual_options) (one_part event ∷ []) (change_of O.held O.faults out.old out.new) result }
+    ensures memory { result ≡ Err NoMemory → HasTables event }
+{
+    let tables = Tables::of_event(alloc, event)?;
+    laws::each_drawn_fairly(&tables);
+    write_one_line(&tables, event, seed, out)
+}
+
+/// The same, where the event's tables are built.
+fn write_one_line<O: Sink>(
+    tables: &Tables,
+    event: Event,
+    seed: &Seed,
+    out: &mut O,
+) -> Result<(), Fault>
+    requires tables { Contains tables.now event }
+    requires built { IsTrue (rules_of event).built }
     ensures ends { EndsParts (settings_of seed.now usual_options) 0 (one_part event ∷ []) (change_of O.held O.faults out.old out.new) result }
     ensures memory { result ≢ Err NoMemory }
 {
     let settings = settings(seed, &Options::default());
-    let scramble = match slot_scramble(event, &settings, 0, 0) {
+    let scramble = match slot_scramble(tables, event, &settings, 0, 0) {
         Ok(scramble) => scramble,
         Err(limit) => {
             let words = limit.words;
@@ -105,5 +149,20 @@ pub(crate) fn write_one<O: Sink>(event: Event, seed: &Seed, out: &mut O) -> Resu
         }
     };
     write_line(out, "", print(&scramble).as_str())?;
+    Ok(())
+}
+
+/// Writes how many positions the tables of an event have at each distance.
+pub(crate) fn write_event_tables<O: Sink>(
+    alloc: Global,
+    event: Event,
+    out: &mut O,
+) -> Result<(), Fault>
+    ensures ends { EndsTables event (change_of O.held O.faults out.old out.new) result
+        ⊎ LacksTables (event ∷ []) (change_of O.held O.faults out.old out.new) result }
+    ensures memory { result ≡ Err NoMemory → HasTables event }
+{
+    let tables = Tables::of_event(alloc, event)?;
+    write_tables_of(&tables, event, out)?;
     Ok(())
 }

@@ -24,6 +24,8 @@ pub enum Status {
     WriteFault,
     /// Want of memory.
     NoMemory,
+    /// A table has a gap.
+    Gap,
 }
 
 impl Status {
@@ -39,6 +41,7 @@ impl Status {
             Err(Fault::DrawLimit { .. }) => Status::DrawLimit,
             Err(Fault::Write) => Status::WriteFault,
             Err(Fault::NoMemory) => Status::NoMemory,
+            Err(Fault::Gap { .. }) => Status::Gap,
         }
     }
 
@@ -54,6 +57,7 @@ impl Status {
             Status::ReadFault => 5,
             Status::WriteFault => 6,
             Status::NoMemory => 7,
+            Status::Gap => 8,
         }
     }
 }

@@ -6,6 +6,7 @@ use super::*;
 use scr_command::UsageFault;
 use scr_list::{ListCause, ListFault};
 use scr_outside::{MemSink, MemSource};
+use scr_table::TableName;
 use std::process::Abort;
 use std::test::Fail;
 
@@ -13,6 +14,14 @@ const ZEROS: &str = "00000000000000000000000000000000000000000000000000000000000
 
 /// The scramble of stream 0 of `ZEROS`.
 const SCRAMBLE: &str = "UR4+ DR4+ DL5- UL5+ U3- R2+ D4+ L1- ALL3- y2 U3- R4+ D2- L4+ ALL3+\n";
+
+/// The same of the 2x2x2: that of state 3015702.
+const SCRAMBLE_222: &str = "R2 U R' F U2 F' U R U\n";
+
+/// How many positions of the 2x2x2 are so many turns from solved.
+const TABLE_222: &str =
+    "table corners positions 3674160 bound 11\n0 1\n1 9\n2 54\n3 321\n4 1847\n5 9992\n6 50136\n\
+    7 227536\n8 870072\n9 1887748\n10 623800\n11 2644\n";
 
 const USAGE: &str =
     "scramble: usage: one EVENT SEED | sheet --seed HEX [--workers N] [--tries N] [--attempts N] | tables EVENT | load NUMBER\n";
@@ -101,8 +110,19 @@ fn words_and_lists(rt: HostRuntime) -> Result<(), Fail> {
     let digit = "000000000000000000000000000000000000000000000000000000000000000g";
     let joined = "--seed=0000000000000000000000000000000000000000000000000000000000000000";
     let equals = "--seed==0000000000000000000000000000000000000000000000000000000000000000";
-    let runs: [(&[&str], &str, u8, &str, &str); 20] = [
+    let runs: [(&[&str], &str, u8, &str, &str); 25] = [
         (&["one", "clock", ZEROS], "", 0, SCRAMBLE, ""),
+        (&["one", "222", ZEROS], "", 0, SCRAMBLE_222, ""),
+        (&["tables", "clock"], "", 0, "no tables\n", ""),
+        (&["tables", "222"], "", 0, TABLE_222, ""),
+        (
+            &["tables", "444"],
+            "",
+            2,
+            "",
+            "scramble: 444 is not supported\n",
+        ),
+        (&["tables", "333"], "", 2, "", USAGE),
         (
             &["one", "clock", digit],
             "",
@@ -207,6 +227,10 @@ fn faults_are_told(rt: HostRuntime) {
         number: 65,
         cause: ListCause::Rounds,
     };
+    let gap = Fault::Gap {
+        table: TableName::CornerSlice,
+        index: 17,
+    };
     let limit = Fault::DrawLimit {
         round: 3,
         slot: 182,
@@ -236,11 +260,22 @@ fn faults_are_told(rt: HostRuntime) {
         ),
         (Fault::Write, 6, "scramble: output could not be written\n"),
         (Fault::NoMemory, 7, "scramble: out of memory\n"),
+        (gap, 8, "scramble: table cornerslice has a gap at 17\n"),
     ] {
         assert_eq!(rt; fault.message().as_str(), message);
         assert_eq!(rt; Status::of(Err(fault)).code(), code);
     }
     assert_eq!(rt; Status::of(Ok(())).code(), 0);
+}
+
+#[test]
+fn a_sheet_of_two_events(rt: HostRuntime) -> Result<(), Fail> {
+    let words = ["sheet", "--seed", ZEROS];
+    let ran = run_with(&rt, &words, b"222 1\nclock 1 0", 4096, [&[], &[], &[]])?;
+    assert_eq!(rt; ran.code, 0);
+    let head = "Round 1: 2x2x2 Cube, at least 4\nGroup A\n1. R2 U R' F U2 F' U R U\n2. ";
+    assert!(rt; ran.out.contents().starts_with(head.as_bytes()));
+    Ok(())
 }
 
 #[test]

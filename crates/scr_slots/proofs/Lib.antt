@@ -1,1 +1,2 @@
 pub mod OneScramble
+pub mod BuildCauses

@@ -12,7 +12,11 @@ use Rattle.scr_list.specs.Events.{rules_of}
 use Rattle.scr_clock.specs.Dials.{clock_puzzle}
 use Rattle.scr_clock.specs.Numbers.{clock_numbered}
 use Rattle.scr_clock.specs.Proofs.AmountLaws.{IsScrambleOf-one}
-use Rattle.scr_slots.specs.Events.{scrambling_of, clock_rule}
+use Rattle.scr_cube.specs.Cube222.{numbered_222, puzzle_222}
+use Rattle.scr_small.specs.Puzzle222.{numbered_puzzle_222}
+use Rattle.scr_small.specs.Lawful222.{lawful_puzzle_222}
+use Rattle.scr_small.specs.PuzzleLaws.{IsScrambleOf-unique}
+use Rattle.scr_slots.specs.Events.{scrambling_of, clock_rule, rule_222}
 use Rattle.scr_slots.specs.Slots.{ScrambleRule, by_state, slot_numbers}
 use Rattle.scr_slots.specs.Outcomes.{HasOneScramble}
 
@@ -37,7 +41,8 @@ HasOneScramble-only n puzzle rule least some only = record {
 
 -- So it is for each event that lists take.
 pub each_one : (event : Event) (least : ℕ) → IsTrue (rules_of event).built → HasOneScramble (scrambling_of event) least
-each_one C222 least built = cc
+each_one C222 least built =
+    HasOneScramble-only numbered_222 puzzle_222 rule_222 least (lit≤ tt) (λ tries. IsScrambleOf-unique numbered_puzzle_222 lawful_puzzle_222)
 each_one C333 least built = cc
 each_one Oh333 least built = cc
 each_one C555 least built = cc

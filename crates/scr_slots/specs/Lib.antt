@@ -1,3 +1,5 @@
 pub mod Slots
 pub mod Outcomes
 pub mod Events
+pub mod Tables
+pub mod Held

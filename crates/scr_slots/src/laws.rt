@@ -1,19 +1,22 @@
 //! What holds of slots whatever the code: calls that do nothing, whose contracts are the laws.
 
-ghost use Rattle.std.specs.Prelude.{◌≡◌, ◌+◌, ◌≤◌, ◌<◌, ℕ, IsTrue};
-ghost use Rattle.scr_notation.specs.declared.event.Event.{Event};
+ghost use Rattle.std.specs.Prelude.{Contains, ◌≡◌, ◌+◌, ◌≤◌, ◌<◌, ℕ, IsTrue};
+ghost use Rattle.scr_notation.specs.declared.event.Event.{Event as EventOf};
 ghost use Rattle.scr_list.specs.Events.{rules_of, greatest_of};
 ghost use Rattle.scr_slots.specs.Events.{scrambling_of};
 ghost use Rattle.scr_slots.specs.Slots.{IsDrawnFairly, by_state, first_stream};
 ghost use Rattle.scr_slots.specs.Outcomes.{HasOneScramble};
 
 use crate::scrambled::Scrambled;
+use crate::tables::Tables;
 use scr_clock::ClockNumbers;
 use scr_draw::laws as drawing;
+use scr_notation::Event;
+use scr_small::Small222;
 
 /// What a slot of an event has does not depend on how it is found: it has one scramble at most, and either that or none.
 pub fn one_scramble()
-    ensures { (event : Event) (least : ℕ) → IsTrue (rules_of event).built → HasOneScramble (scrambling_of event) least }
+    ensures { (event : EventOf) (least : ℕ) → IsTrue (rules_of event).built → HasOneScramble (scrambling_of event) least }
 {}
 
 /// The event is drawn fairly at each minimum of its range.
@@ -24,12 +27,15 @@ pub fn drawn_fairly<E: Scrambled>(event: &E)
     drawing::drawn_fairly(event);
 }
 
-/// Each event that lists take is drawn fairly at each minimum of its range.
-pub fn each_drawn_fairly()
-    ensures { (event : Event) (least : ℕ) → IsTrue (rules_of event).built → least ≤ greatest_of (rules_of event).minima
-        → IsDrawnFairly (scrambling_of event) least }
+/// Each event that lists take, and whose tables are built, is drawn fairly at each minimum of its range.
+pub fn each_drawn_fairly(tables: &Tables)
+    ensures { (event : EventOf) (least : ℕ) → Contains tables.now event → IsTrue (rules_of event).built
+        → least ≤ greatest_of (rules_of event).minima → IsDrawnFairly (scrambling_of event) least }
 {
     drawn_fairly(&ClockNumbers);
+    if tables.has(Event::C222) {
+        drawn_fairly(&Small222::new(tables.of_222()));
+    }
 }
 
 /// No two slots of a list share a stream: a round has at most 182 slots.

@@ -1,5 +1,5 @@
 use Rattle.std.proofs.Common.{◌≡◌, ℕ, ◌<◌}
-use Rattle.scr_notation.specs.Turns.{turn_at}
+use Rattle.scr_notation.specs.TurnNumbers.{turn_at}
 use Rattle.scr_notation.specs.Spelling.{spelling}
 use Rattle.scr_notation.proofs.reading.read_turn.Given as goal
 

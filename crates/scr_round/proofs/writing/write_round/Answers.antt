@@ -3,7 +3,7 @@ use Rattle.scr_outside.proofs.ChangeLemmas.{written-none, written-more, written-
 use Rattle.scr_list.specs.Events.{rules_of}
 use Rattle.scr_round.specs.Round.{group_lines, heading}
 use Rattle.scr_round.specs.Made.{turns_of_each}
-use Rattle.scr_round.proofs.LineLaws.{first_line}
+use Rattle.scr_text.proofs.WrittenLines.{first_line}
 use Rattle.scr_round.proofs.writing.write_round.Goals as goal
 
 pub returns-in_err-write_heading : goal.returns-in_err-write_heading

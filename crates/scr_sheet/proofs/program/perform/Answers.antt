@@ -1,15 +1,21 @@
-use Rattle.std.proofs.Common.{inl, refl, ◌∙◌, ap, Ok}
+use Rattle.std.proofs.Common.{inl, inr, refl, ◌∙◌, ap, Ok}
 use Rattle.scr_sheet.proofs.CommandLaws.{sheet-asks}
 use Rattle.scr_sheet.proofs.program.perform.Goals as goal
 
 pub returns-in-One : goal.returns-in-One
 returns-in-One g c = record {
   ends = inl (rw (c.in_ok-event.ensures.answer, c.in-One.is) (record { bytes = refl; faults = refl }, c.write_one.ensures.ends));
-  memory = λ is. absurd (c.write_one.ensures.memory is);
+  memory = λ is. inr (rw (c.in_ok-event.ensures.answer, c.in-One.is) (c.write_one.ensures.memory is));
 }
 
 pub returns-in-Sheet : goal.returns-in-Sheet
 returns-in-Sheet g c = record {
   ends = inl (rw (c.in_ok-event.ensures.answer, c.in-Sheet.is) c.write_sheet.ensures);
-  memory = λ is. sheet-asks _ c.in-Sheet.seed c.in-Sheet.options (c.in_ok-event.ensures.answer ∙ ap Ok c.in-Sheet.is);
+  memory = λ is. inl (sheet-asks _ c.in-Sheet.seed c.in-Sheet.options (c.in_ok-event.ensures.answer ∙ ap Ok c.in-Sheet.is));
+}
+
+pub returns-in-Tables : goal.returns-in-Tables
+returns-in-Tables g c = record {
+  ends = inl (rw (c.in_ok-event.ensures.answer, c.in-Tables.is) (record { bytes = refl; faults = refl }, c.write_event_tables.ensures.ends));
+  memory = λ is. inr (rw (c.in_ok-event.ensures.answer, c.in-Tables.is) (c.write_event_tables.ensures.memory is));
 }

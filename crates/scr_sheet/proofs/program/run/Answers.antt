@@ -1,9 +1,11 @@
 use Rattle.scr_sheet.proofs.program.run.Goals as goal
 
-pub returns-clause-whole : goal.returns-clause-whole
-returns-clause-whole g c = record {
-  ended = c.perform-ended.result;
-  performed = c.perform-ended.ensures;
-  answer = c.of.ensures;
-  tells = c.tell.ensures;
+pub returns : goal.returns
+returns g c = record {
+  whole = record {
+    ended = c.perform-ended.result;
+    performed = c.perform-ended.ensures;
+    answer = c.of.ensures;
+    tells = c.tell.ensures;
+  };
 }

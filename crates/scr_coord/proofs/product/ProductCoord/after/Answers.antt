@@ -1,0 +1,14 @@
+use Rattle.std.proofs.Common.{sym, arith}
+use Rattle.scr_coord.proofs.ProductLaws.{pair_below}
+use Rattle.scr_coord.proofs.product.ProductCoord.after.Goals as goal
+
+pub overflow_add-both : goal.overflow_add-both
+overflow_add-both g c =
+    let me = c.args.self.now in
+    omega (
+      arith,
+      me.fits,
+      pair_below (g.L.Coord.coordinate me.low.now) (g.H.Coord.coordinate me.high.now) c.count-low_count.result c.args.position c.args.turn
+          c.in_ok-low.low c.in_ok-high.high c.count-low_count.ensures me.same_turns (g.met.L.Coord.law me.low.now) (g.met.H.Coord.law me.high.now)
+          c.requires.position c.requires.turn (sym c.in_ok-low.ensures) (sym c.in_ok-high.ensures),
+    )

@@ -1,0 +1,21 @@
+-- Coordinates: what a search sees of a puzzle's states, as numbers. No puzzle stands here.
+use Rattle.std.specs.Prelude.{◌≡◌, ℕ, ◌<◌, nat_lt, Bool, IsTrue, Option, Some, None, if◌then◌else◌}
+
+-- Positions, the numbers below a count; turns, the numbers below another; where a turn leads from a position, or nothing
+-- where it is barred there; and which positions are goals.
+pub record Coordinate : Type 0 where
+  pub count : ℕ
+  pub turns : ℕ
+  pub after : ℕ → ℕ → Option ℕ
+  pub is_goal : ℕ → Bool
+
+-- Turns lead from positions to positions.
+abbrev pub StaysBelow : Coordinate → Type 0
+StaysBelow c = (p t q : ℕ) → p < c.count → t < c.turns → c.after p t ≡ Some q → q < c.count
+
+-- where the turn of a number leads, or nothing where there is no such turn: over this, words of turn numbers are played
+abbrev pub moved : Coordinate → ℕ → ℕ → Option ℕ
+moved c p t = if nat_lt t c.turns then c.after p t else None
+
+abbrev pub IsGoal : Coordinate → ℕ → Type 0
+IsGoal c p = IsTrue (c.is_goal p)

@@ -1,0 +1,7 @@
+pub mod Coordinates
+pub mod SearchSpaces
+pub mod Products
+pub mod Moves
+pub mod Projections
+pub mod MarkedLaws
+pub mod StaysBelowLaws

@@ -1,0 +1,38 @@
+-- What a move table holds.
+use Rattle.std.specs.Prelude.{ℕ, ◌+◌, ◌*◌, Bool, false, List, [], ◌∷◌, ◌++◌, Option, Some, None, nat_lt, if◌then◌else◌, slice_index, slice_index_or, unwrap_or}
+use Rattle.std.proofs.Common.{zero, suc}
+use Rattle.scr_coord.specs.Coordinates.{Coordinate}
+
+-- For each position, in order, and for each turn, in order, the position that it leads to, or a number that is no position
+-- where the turn is barred; and for each position whether it is a goal.
+pub record Moves : Type 0 where
+  pub count : ℕ
+  pub turns : ℕ
+  pub targets : List ℕ
+  pub goals : List Bool
+
+-- a position below the count, or none
+abbrev pub position_below : ℕ → ℕ → Option ℕ
+position_below count n = if nat_lt n count then Some n else None
+
+-- The coordinate that a move table shows.
+abbrev pub moves_coordinate : Moves → Coordinate
+moves_coordinate m = record {
+  count = m.count;
+  turns = m.turns;
+  after = λ p t. position_below m.count (slice_index m.targets (p * m.turns + t));
+  is_goal = λ p. slice_index_or m.goals p false;
+}
+
+-- the mark of a barred turn, above each position that a number of 32 bits can be
+abbrev pub barred : ℕ
+barred = 4294967295
+
+-- f 0, f 1 .. up to f (n - 1)
+unfoldable pub each_below : {X : Type 0} → (ℕ → X) → ℕ → List X
+each_below f zero = []
+each_below f (suc n) = each_below f n ++ f n ∷ []
+
+-- The entries of the first n turns of a position.
+abbrev pub row_of : Coordinate → ℕ → ℕ → List ℕ
+row_of c p n = each_below (λ t. unwrap_or (c.after p t) barred) n

@@ -1,0 +1,33 @@
+//! What a coordinate is.
+ghost use Rattle.std.specs.Prelude.{◌≡◌, ◌<◌};
+ghost use Rattle.scr_coord.specs.Coordinates.{Coordinate, StaysBelow};
+
+/// A coordinate of a puzzle: positions, which are the numbers of the lists that it sees of a state, and where turns lead
+/// from each. A turn may be barred.
+pub trait Coord {
+    /// What it shows.
+    ghost coordinate: { Self → Coordinate };
+
+    /// How many positions there are.
+    fn count(&self) -> u32
+        ensures { result ≡ (coordinate self.now).count };
+
+    /// How many turns there are.
+    fn turns(&self) -> u32
+        ensures { result ≡ (coordinate self.now).turns };
+
+    /// The position after a turn; `None` exactly where the turn is barred there. The position is below `count`, and the
+    /// turn below `turns`.
+    fn after(&self, position: u32, turn: u32) -> Option<u32>
+        requires position { position < (coordinate self.now).count }
+        requires turn { turn < (coordinate self.now).turns }
+        ensures { result ≡ (coordinate self.now).after position turn };
+
+    /// Whether a position, below `count`, is a goal.
+    fn is_goal(&self, position: u32) -> bool
+        requires { position < (coordinate self.now).count }
+        ensures { result ≡ (coordinate self.now).is_goal position };
+
+    /// Turns lead from positions to positions.
+    ghost law: { (coord : Self) → StaysBelow (coordinate coord) };
+}

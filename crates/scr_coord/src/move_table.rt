@@ -1,0 +1,99 @@
+//! Move tables: where each turn leads from each position of a coordinate, in one flat list.
+ghost use Rattle.std.specs.Prelude.{◌≡◌, ◌+◌, ◌*◌, ◌^◌, ◌<◌, ◌++◌, IfOk, OnOk, length};
+ghost use Rattle.scr_coord.specs.Coordinates.{Coordinate, StaysBelow};
+ghost use Rattle.scr_coord.specs.SearchSpaces.{ShowsSame};
+ghost use Rattle.scr_coord.specs.Moves.{Moves, moves_coordinate, row_of};
+
+use crate::Coord;
+use std::alloc::{AllocError, Global};
+use std::marker::Model;
+
+// The entry of a barred turn: no position, since a count of 32 bits is at most this.
+const BARRED: u32 = u32::MAX;
+
+/// The moves of a coordinate, and its goals: a step is one look into a list. It shows the same coordinate.
+#[derive(Drop)]
+pub struct MoveTable {
+    count: u32,
+    turns: u32,
+    targets: Vec<u32>,
+    goals: Vec<bool>,
+}
+
+// Clauses see what it holds.
+impl Model for MoveTable {
+    ghost use Rattle.std.specs.Prelude.{◌≡◌, ◌*◌, length};
+    ghost use Rattle.scr_coord.specs.Moves.{Moves};
+
+    ghost Value = { Moves };
+
+    ghost view = { λ m. record { count = m.count; turns = m.turns; targets = m.targets.items; goals = m.goals.items } };
+
+    ghost invariant = { λ m. (length m.targets.items ≡ m.count * m.turns) × (length m.goals.items ≡ m.count) };
+}
+
+impl MoveTable {
+    /// The moves of a coordinate, which is asked for each turn of each position. Only memory can be wanting.
+    pub fn build<C: Coord>(alloc: Global, coord: &C) -> Result<MoveTable, AllocError>
+        ensures { IfOk result (λ table. ShowsSame (C.coordinate coord.now) (moves_coordinate table)) }
+    {
+        let count = coord.count();
+        let turns = coord.turns();
+        let mut targets = Vec::with_capacity(alloc, count as usize * turns as usize)?;
+        let mut goals = Vec::with_capacity(alloc, count as usize)?;
+        for position in 0..count {
+            push_row(&mut targets, coord, position)?;
+            goals.push(coord.is_goal(position))?;
+        }
+        Ok(MoveTable {
+            count,
+            turns,
+            targets,
+            goals,
+        })
+    }
+}
+
+/// Adds the entries of one position's turns.
+fn push_row<C: Coord>(targets: &mut Vec<u32>, coord: &C, position: u32) -> Result<(), AllocError>
+    requires { position < (C.coordinate coord.now).count }
+    ensures { let c = C.coordinate coord.now in
+        OnOk result (targets.new.items ≡ targets.old.items ++ row_of c position c.turns) }
+{
+    for turn in 0..coord.turns() {
+        targets.push(coord.after(position, turn).unwrap_or(BARRED))?;
+    }
+    Ok(())
+}
+
+impl Coord for MoveTable {
+    ghost use Rattle.scr_coord.specs.Moves.{moves_coordinate};
+    ghost use Rattle.scr_coord.specs.StaysBelowLaws.{StaysBelow-moves};
+
+    ghost coordinate = { moves_coordinate };
+
+    fn count(&self) -> u32 {
+        self.count
+    }
+
+    fn turns(&self) -> u32 {
+        self.turns
+    }
+
+    #[inline]
+    fn after(&self, position: u32, turn: u32) -> Option<u32> {
+        let target = self.targets[position as usize * self.turns as usize + turn as usize];
+        if target < self.count {
+            Some(target)
+        } else {
+            None
+        }
+    }
+
+    #[inline]
+    fn is_goal(&self, position: u32) -> bool {
+        self.goals[position as usize]
+    }
+
+    ghost law = { StaysBelow-moves };
+}

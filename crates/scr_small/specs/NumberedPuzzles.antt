@@ -1,0 +1,47 @@
+-- Puzzles whose states and turns have numbers, so that one table over the numbers of the states solves them. No puzzle
+-- stands here.
+use Rattle.std.specs.Prelude.{◌≡◌, ℕ, ◌==◌, List, map, Option}
+use Rattle.std.specs.Option.{option_map}
+use Rattle.scr_combinatorics.specs.Numbered.{Numbered}
+use Rattle.scr_play.specs.Back.{back}
+use Rattle.scr_play.specs.FirstWord.{IsFirstWord}
+use Rattle.scr_play.specs.Reach.{Puzzle}
+use Rattle.scr_coord.specs.Coordinates.{Coordinate}
+
+-- Numbered states; what a letter makes of one, or nothing where it is no turn of the puzzle; which state is solved; how many
+-- turns there are, and the letter of each number below that; and the letter that takes a letter's turn back.
+pub record NumberedPuzzle (S T : Type 0) : Type 1 where
+  pub numbered : Numbered S
+  pub after : S → T → Option S
+  pub solved : S
+  pub turns : ℕ
+  pub letter_at : ℕ → T
+  pub opposite : T → T
+
+-- The puzzle that it is: each turn counts once (WCA Regulations, article 4).
+abbrev pub puzzle_of : {S T : Type 0} → NumberedPuzzle S T → Puzzle S
+puzzle_of {T = T} p = record { Turn = T; after = p.after; IsSolved = λ s. s ≡ p.solved; counted = λ t. 1 }
+
+-- what the turn of a number makes of a state: over this, words of turn numbers are played
+abbrev pub after_number : {S T : Type 0} → NumberedPuzzle S T → S → ℕ → Option S
+after_number p s n = p.after s (p.letter_at n)
+
+-- The puzzle as a coordinate: the positions are the numbers of the states, a turn leads from a state's number to that of the
+-- turned state, and the goal is the number of the solved state.
+abbrev pub state_coordinate : {S T : Type 0} → NumberedPuzzle S T → Coordinate
+state_coordinate p = record {
+  count = p.numbered.count;
+  turns = p.turns;
+  after = λ i n. option_map p.numbered.number_of (after_number p (p.numbered.state_at i) n);
+  is_goal = λ i. i == p.numbered.number_of p.solved;
+}
+
+-- The first word of turn numbers that leads from a state to solved, in the order of words: by length, and then by numbers.
+abbrev pub IsFirstSolution : {S T : Type 0} → NumberedPuzzle S T → S → List ℕ → Type 0
+IsFirstSolution p s word = IsFirstWord (after_number p) (λ r. r ≡ p.solved) s word
+
+-- The scramble of a state: the first word that solves it, as letters, taken back.
+pub record IsScrambleOf {S T : Type 0} (p : NumberedPuzzle S T) (s : S) (turns : List T) : Type 0 where
+  pub solution : List ℕ
+  pub first : IsFirstSolution p s solution
+  pub taken_back : turns ≡ back p.opposite (map p.letter_at solution)

@@ -1,0 +1,22 @@
+-- Laws of a coordinate's turns.
+use Rattle.std.proofs.Common.{◌≡◌, ℕ, ◌<◌, Bool, true, false, Option, Some, None, refl}
+use Rattle.std.specs.Prelude.{nat_lt, if◌then◌else◌}
+use borrow.Author.Tests.{ltb-true}
+use Rattle.scr_coord.specs.Coordinates.{Coordinate, StaysBelow, moved}
+
+-- what is taken where a test holds
+pub taken_where : {A : Type 0} (b : Bool) (o : Option A) (q : A) → (if b then o else None) ≡ Some q → (b ≡ true) × (o ≡ Some q)
+taken_where true o q e = (refl, e)
+taken_where false o q e = absurd (cc)
+
+-- a turn that leads somewhere is one of the coordinate's, and not barred
+pub moved-turn : (c : Coordinate) (p t q : ℕ) → moved c p t ≡ Some q → (t < c.turns) × (c.after p t ≡ Some q)
+moved-turn c p t q e =
+    let parts = taken_where (nat_lt t c.turns) (c.after p t) q e in
+    (ltb-true t c.turns parts.0, parts.1)
+
+-- and leads from positions to positions
+pub moved-below : (c : Coordinate) → StaysBelow c → (p t q : ℕ) → p < c.count → moved c p t ≡ Some q → q < c.count
+moved-below c below p t q lt e =
+    let parts = moved-turn c p t q e in
+    below p t q lt parts.0 parts.1

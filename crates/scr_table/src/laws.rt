@@ -1,0 +1,68 @@
+//! What is so of distances, first words and minima, which later crates rest on. The functions do nothing: what each ensures
+//! is the law.
+
+ghost use Rattle.std.specs.Prelude.{◌≡◌, ℕ, suc, ◌+◌, ◌≤◌, ◌↔◌, List, [], ◌∷◌, length, Some};
+ghost use Rattle.scr_coord.specs.Coordinates.{Coordinate, moved, IsGoal};
+ghost use Rattle.scr_play.specs.Reach.{Needs};
+ghost use Rattle.scr_play.specs.FirstWord.{IsEarlier, IsFirstWord, IsDistance, LowersFirst};
+ghost use Rattle.scr_table.specs.declared.name.TableName.TheVariants.{Corners};
+ghost use Rattle.scr_table.specs.Distances.{Distances, Measures, IsGap};
+ghost use Rattle.scr_table.specs.Moves.{NeedsTurns, puzzle_of};
+ghost use Rattle.scr_table.specs.Row.{row};
+
+use crate::moves::Moves;
+
+/// A position has one distance: 0 exactly at the goals; elsewhere some turn leads to a position whose distance is one less,
+/// and no turn leads further down.
+pub fn distances()
+    ensures one { (c : Coordinate) (p d e : ℕ)
+        → IsDistance (moved c) (IsGoal c) p d → IsDistance (moved c) (IsGoal c) p e → d ≡ e }
+    ensures zero { (c : Coordinate) (p : ℕ) → IsDistance (moved c) (IsGoal c) p 0 ↔ IsGoal c p }
+    ensures lowers { (c : Coordinate) (p d : ℕ) → IsDistance (moved c) (IsGoal c) p (suc d)
+        → ∥ ((t : ℕ) × (q : ℕ) × (moved c p t ≡ Some q) × IsDistance (moved c) (IsGoal c) q d) ∥₁ }
+    ensures no_further { (c : Coordinate) (p q t d e : ℕ) → moved c p t ≡ Some q
+        → IsDistance (moved c) (IsGoal c) p d → IsDistance (moved c) (IsGoal c) q e → d ≤ e + 1 }
+{}
+
+/// A position has one first word, as long as its distance: empty from a goal; elsewhere the first turn that lowers the
+/// distance, followed by the first word from where it leads.
+pub fn first_words()
+    ensures one { (c : Coordinate) (p : ℕ) (v w : List ℕ)
+        → IsFirstWord (moved c) (IsGoal c) p v → IsFirstWord (moved c) (IsGoal c) p w → v ≡ w }
+    ensures as_long { (c : Coordinate) (p d : ℕ) (w : List ℕ)
+        → IsFirstWord (moved c) (IsGoal c) p w → IsDistance (moved c) (IsGoal c) p d → length w ≡ d }
+    ensures empty { (c : Coordinate) (p : ℕ) → IsFirstWord (moved c) (IsGoal c) p [] ↔ IsGoal c p }
+    ensures goes_on { (c : Coordinate) (p q t d : ℕ) (w : List ℕ)
+        → IsDistance (moved c) (IsGoal c) p (suc d) → LowersFirst (moved c) (IsGoal c) p q t d
+        → IsFirstWord (moved c) (IsGoal c) q w → IsFirstWord (moved c) (IsGoal c) p (t ∷ w) }
+    ensures begins { (c : Coordinate) (p t : ℕ) (w : List ℕ) → IsFirstWord (moved c) (IsGoal c) p (t ∷ w)
+        → (q : ℕ) × LowersFirst (moved c) (IsGoal c) p q t (length w) × IsFirstWord (moved c) (IsGoal c) q w }
+{}
+
+/// A coordinate has one table of a name and a bound.
+pub fn one_table()
+    ensures { (c : Coordinate) (some other : Distances) → Measures c some → Measures c other
+        → some.name ≡ other.name → some.bound ≡ other.bound → some ≡ other }
+{}
+
+/// Where each turn counts for one, the minima of a set of moves are those of the puzzle that they are.
+pub fn minima<M: Moves>(moves: &M)
+    ensures { (s : M.State) (least : ℕ)
+        → NeedsTurns (M.moves moves.now) s least ↔ Needs (puzzle_of (M.moves moves.now)) s least }
+{}
+
+/// The order of words, and the definitions at a row of three positions: what they hold of and what they refuse.
+pub fn rows()
+    ensures by_length { IsEarlier (9 ∷ []) (0 ∷ 0 ∷ []) }
+    ensures by_turns { IsEarlier (0 ∷ 3 ∷ []) (3 ∷ 0 ∷ []) }
+    ensures no_other_order { IsEarlier (3 ∷ 0 ∷ []) (0 ∷ 3 ∷ []) → ⊥ }
+    ensures distance { IsDistance (moved (row 3)) (IsGoal (row 3)) 2 2 }
+    ensures first_word { IsFirstWord (moved (row 3)) (IsGoal (row 3)) 2 (0 ∷ 0 ∷ []) }
+    ensures no_first_word { IsFirstWord (moved (row 3)) (IsGoal (row 3)) 2 (0 ∷ []) → ⊥ }
+    ensures measures { Measures (row 3) (record { name = Corners; bound = 2; distances = 0 ∷ 1 ∷ 2 ∷ [] }) }
+    ensures no_greater { Measures (row 3) (record { name = Corners; bound = 2; distances = 0 ∷ 1 ∷ 1 ∷ [] }) → ⊥ }
+    ensures no_longer { Measures (row 3) (record { name = Corners; bound = 1; distances = 0 ∷ 1 ∷ 2 ∷ [] }) → ⊥ }
+    ensures gap { IsGap (row 3) 1 2 }
+    ensures no_gap { IsGap (row 3) 2 2 → ⊥ }
+    ensures outside { IsGap (row 3) 1 3 → ⊥ }
+{}

@@ -1,0 +1,25 @@
+//! Distance tables: at each position of a coordinate the least number of turns to a goal.
+//!
+//! A [`DistanceTable`] is built over any [`Coord`](scr_coord::Coord), with no puzzle's name in it. What is so of a built
+//! table is one record, `Measures` of `specs/Distances.antt`, over distances and first words as `scr_play` defines them;
+//! how a table is filled and how its entries are stored stands in no definition. Walking down a table gives first words.
+//! [`no_shorter`] tests minima over any [`Moves`], with no table. The contracts of the module `laws` say what callers need
+//! of distances and first words.
+#![tactic(auto)]
+
+mod entries;
+mod fault;
+mod fill;
+pub mod laws;
+mod levels;
+mod moves;
+mod name;
+mod table;
+
+pub use fault::BuildFault;
+pub use moves::{Moves, no_shorter};
+pub use name::TableName;
+pub use table::DistanceTable;
+
+#[cfg(test)]
+mod tests;

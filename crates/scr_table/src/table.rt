@@ -1,0 +1,184 @@
+//! A distance table.
+
+ghost use Rattle.std.specs.Prelude.{◌≡◌, ℕ, ◌+◌, ◌<◌, ◌≤◌, ◌==◌, All, IfOk, IfErr, IfSome, IfNone, count_by, length, slice_index};
+ghost use Rattle.scr_coord.specs.Coordinates.{moved, IsGoal};
+ghost use Rattle.scr_play.specs.FirstWord.{IsFirstWord, LowersFirst};
+ghost use Rattle.scr_table.specs.Distances.{Measures};
+ghost use Rattle.scr_table.specs.Causes.{IsCause};
+
+use crate::entries::Entries;
+use crate::fault::BuildFault;
+use crate::fill::{UNKNOWN, fill, step};
+use crate::name::TableName;
+use arrayvec::ArrayVec;
+use scr_coord::Coord;
+use std::alloc::Global;
+use std::marker::Model;
+
+/// At each position of a coordinate the least number of turns to a goal.
+#[derive(Drop)]
+pub struct DistanceTable {
+    name: TableName,
+    bound: u32,
+    entries: Entries,
+}
+
+impl Model for DistanceTable {
+    ghost use Rattle.std.specs.Prelude.{ℕ, ◌≤◌, slice_index};
+    ghost use Rattle.scr_table.specs.Distances.{Distances};
+
+    ghost Value = { Distances };
+
+    ghost view = { λ table. record { name = table.name; bound = table.bound; distances = table.entries } };
+
+    ghost invariant = { λ table. (table.bound ≤ 24) × ((p : ℕ) → slice_index table.entries p ≤ table.bound) };
+}
+
+impl DistanceTable {
+    /// The table of a coordinate, or the first position that no word of at most `bound` turns leads to a goal from.
+    /// `bound` is at most 24, and there are at most 256 turns.
+    pub fn build<C: Coord>(
+        alloc: Global,
+        name: TableName,
+        coord: &C,
+        bound: u32,
+    ) -> Result<DistanceTable, BuildFault>
+        requires bound { bound ≤ 24 }
+        requires few_turns { (C.coordinate coord.now).turns ≤ 256 }
+        ensures named { IfOk result (λ table. table.name ≡ name) }
+        ensures bounded { IfOk result (λ table. table.bound ≡ bound) }
+        ensures measures { IfOk result (Measures (C.coordinate coord.now)) }
+        ensures cause { IfErr result (IsCause name (C.coordinate coord.now) bound) }
+    {
+        let mut entries = vec![in alloc; UNKNOWN; coord.count() as usize]?;
+        fill(coord, &mut entries, bound as u8);
+        match first_above(&entries, bound as u8) {
+            Some(index) => Err(BuildFault::Gap {
+                table: name,
+                index: index as u32,
+            }),
+            None => Ok(DistanceTable {
+                name,
+                bound,
+                entries: Entries::new(entries),
+            }),
+        }
+    }
+
+    /// Which table it is.
+    pub fn name(&self) -> TableName
+        ensures { result ≡ self.now.name }
+    {
+        self.name
+    }
+
+    /// How many positions it has.
+    pub fn positions(&self) -> u32
+        ensures { result ≡ length self.now.distances }
+    {
+        self.entries.len()
+    }
+
+    /// The bound that it was built with.
+    pub fn bound(&self) -> u32
+        ensures value { result ≡ self.now.bound }
+        ensures at_most { result ≤ 24 }
+    {
+        self.bound
+    }
+
+    /// The least number of turns from a position, below `positions`, to a goal.
+    #[inline]
+    pub fn distance(&self, position: u32) -> u32
+        requires { position < length self.now.distances }
+        ensures value { result ≡ slice_index self.now.distances position }
+        ensures within_bound { result ≤ self.now.bound }
+        ensures at_most { result ≤ 24 }
+    {
+        u32::from(self.entries.get(position))
+    }
+
+    /// How many positions there are at each distance.
+    pub fn counts(&self) -> [u32; 25]
+        ensures counted { (d : ℕ) → d < 25
+            → slice_index result d ≡ count_by (λ distance. distance == d) self.now.distances }
+        ensures all { All (λ distance. distance < 25) self.now.distances }
+    {
+        counts_of(&self.entries)
+    }
+
+    /// The first word from a position, below `positions`, to a goal. The table measures the coordinate, which has at most
+    /// 256 turns.
+    pub fn descend<C: Coord>(&self, coord: &C, position: u32) -> ArrayVec<u8, 24>
+        requires measures { Measures (C.coordinate coord.now) self.now }
+        requires few_turns { (C.coordinate coord.now).turns ≤ 256 }
+        requires position { position < length self.now.distances }
+        ensures { let c = C.coordinate coord.now in IsFirstWord (moved c) (IsGoal c) position result.items }
+    {
+        let mut word = ArrayVec::new();
+        let mut at = position;
+        for lower in (0..self.distance(position)).rev() {
+            let descent = self.first_lowering(coord, at, lower);
+            word.push(descent.turn);
+            at = descent.next;
+        }
+        word
+    }
+
+    /// The first turn that leads to a position at the distance `lower`, which is one below that of this position.
+    fn first_lowering<C: Coord>(&self, coord: &C, position: u32, lower: u32) -> Descent
+        requires measures { Measures (C.coordinate coord.now) self.now }
+        requires few_turns { (C.coordinate coord.now).turns ≤ 256 }
+        requires position { position < length self.now.distances }
+        requires lower { slice_index self.now.distances position ≡ lower + 1 }
+        ensures first { let c = C.coordinate coord.now in
+            LowersFirst (moved c) (IsGoal c) position result.next result.turn lower }
+        ensures below { result.next < length self.now.distances }
+        ensures lower { slice_index self.now.distances result.next ≡ lower }
+    {
+        for turn in 0..coord.turns() {
+            if let Some(next) = step(coord, position, turn) {
+                if self.distance(next) == lower {
+                    return Descent {
+                        turn: turn as u8,
+                        next,
+                    };
+                }
+            }
+        }
+        unreachable!()
+    }
+}
+
+/// A turn, and the position where it leads.
+#[derive(Clone, Copy)]
+struct Descent {
+    turn: u8,
+    next: u32,
+}
+
+/// The first position whose entry is above a bound.
+fn first_above(entries: &[u8], bound: u8) -> Option<usize>
+    ensures above { IfSome result (λ index. bound < slice_index entries.now index) }
+    ensures below { IfSome result (λ index. index < length entries.now) }
+    ensures none { IfNone result ((p : ℕ) → slice_index entries.now p ≤ bound) }
+{
+    for (index, entry) in entries.iter().enumerate() {
+        if *entry > bound {
+            return Some(index);
+        }
+    }
+    None
+}
+
+/// How many entries are equal to each number below 25. No entry is greater.
+fn counts_of(entries: &Entries) -> [u32; 25]
+    requires { (p : ℕ) → slice_index entries.now p ≤ 24 }
+    ensures { (d : ℕ) → d < 25 → slice_index result d ≡ count_by (λ entry. entry == d) entries.now }
+{
+    let mut counts = [0; 25];
+    for position in 0..entries.len() {
+        counts[usize::from(entries.get(position))] += 1;
+    }
+    counts
+}
