@@ -110,7 +110,7 @@ fn words_and_lists(rt: HostRuntime) -> Result<(), Fail> {
     let digit = "000000000000000000000000000000000000000000000000000000000000000g";
     let joined = "--seed=0000000000000000000000000000000000000000000000000000000000000000";
     let equals = "--seed==0000000000000000000000000000000000000000000000000000000000000000";
-    let runs: [(&[&str], &str, u8, &str, &str); 25] = [
+    let runs: [(&[&str], &str, u8, &str, &str); 26] = [
         (&["one", "clock", ZEROS], "", 0, SCRAMBLE, ""),
         (&["one", "222", ZEROS], "", 0, SCRAMBLE_222, ""),
         (&["tables", "clock"], "", 0, "no tables\n", ""),
@@ -213,6 +213,13 @@ fn words_and_lists(rt: HostRuntime) -> Result<(), Fail> {
             3,
             "",
             "scramble: line 1: minimum\n",
+        ),
+        (
+            &["sheet", joined, "--attempts=1"],
+            "222 1 11",
+            4,
+            "",
+            "scramble: round 1 slot 1: no permitted state in 3 words\n",
         ),
     ];
     for (words, list, code, out, err) in runs {
