@@ -1,10 +1,10 @@
 //! Clock as an event: its numbered states and its minimum.
-ghost use Rattle.std.specs.Prelude.{◌≡◌, ℕ, ◌<◌, ◌≤◌, All, replicate};
+ghost use Rattle.std.specs.Prelude.{◌≡◌, ℕ, ◌≤◌, replicate};
 
 use crate::clock::Clock;
 use crate::least::needs_at_least;
 use scr_draw::{Numbering, Permit, RandomState};
-use scr_rank::MixedRadix;
+use scr_rank::{MixedRadix, in_bytes};
 
 /// How many Clocks there are: 12^14.
 const COUNT: u128 = 1_283_918_464_548_864;
@@ -14,18 +14,6 @@ fn dial_radix() -> MixedRadix<14>
     ensures { result ≡ replicate 14 12 }
 {
     MixedRadix::new([12; 14])
-}
-
-/// These digits as dials.
-fn hours(digits: &[u128; 14]) -> [u8; 14]
-    requires { All (λ digit. digit < 12) digits.now }
-    ensures { result ≡ digits.now }
-{
-    let mut hours = [0; 14];
-    for dial in 0..14 {
-        hours[dial] = digits[dial] as u8;
-    }
-    hours
 }
 
 /// These dials as digits.
@@ -51,7 +39,7 @@ impl Numbering for ClockNumbers {
     ghost law = { λ _. clock_numbering };
 
     fn state_at(&self, number: u128) -> Clock {
-        Clock::of_valid(hours(&dial_radix().unrank(number)))
+        Clock::of_valid(in_bytes(&dial_radix().unrank(number)))
     }
 
     fn number_of(&self, state: &Clock) -> u128 {

@@ -8,4 +8,6 @@ pub mod Halves
 pub mod PlaceSets
 pub mod Digits
 pub mod Twists
+pub mod Pairings
 pub mod Numberings
+pub mod EvenLists

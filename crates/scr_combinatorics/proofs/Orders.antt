@@ -33,3 +33,12 @@ same_from_order P f higher xs ys size p q e =
       | inr (inl before) ↦ absurd (omega (arith, higher xs ys p q before))
       | inr (inr after) ↦ absurd (omega (arith, higher ys xs q p after))
     ]
+
+-- no two lists come before one another
+pub ComesBefore-asymmetric : (xs ys : List ℕ) → ComesBefore xs ys → ComesBefore ys xs → ⊥
+ComesBefore-asymmetric [] ys p q = p
+ComesBefore-asymmetric (x ∷ xs) [] p q = p
+ComesBefore-asymmetric (x ∷ xs) (y ∷ ys) (inl lt) (inl gt) = omega arith
+ComesBefore-asymmetric (x ∷ xs) (y ∷ ys) (inl lt) (inr both) = omega (arith, both.0)
+ComesBefore-asymmetric (x ∷ xs) (y ∷ ys) (inr both) (inl gt) = omega (arith, both.0)
+ComesBefore-asymmetric (x ∷ xs) (y ∷ ys) (inr p) (inr q) = ComesBefore-asymmetric xs ys p.1 q.1

@@ -128,7 +128,7 @@ IsPermutation-pick n xs ks p q =
 
 -- ---- the inverse
 
-place_of-lt : (x : ℕ) (xs : List ℕ) → 0 < occurrences x xs → place_of x xs < length xs
+pub place_of-lt : (x : ℕ) (xs : List ℕ) → 0 < occurrences x xs → place_of x xs < length xs
 place_of-lt x [] h = absurd (omega arith)
 place_of-lt x (y ∷ ys) h =
     elim (cases_eq y x) [
@@ -136,7 +136,7 @@ place_of-lt x (y ∷ ys) h =
       | inr e ↦ rw (cond-false (eqb y x) 0 (suc (place_of x ys)) (ne_eqb y x e)) (omega (arith, place_of-lt x ys (omega (arith, one_if-other y x e))))
     ]
 
-at-place_of : (x : ℕ) (xs : List ℕ) → 0 < occurrences x xs → slice_index xs (place_of x xs) ≡ x
+pub at-place_of : (x : ℕ) (xs : List ℕ) → 0 < occurrences x xs → slice_index xs (place_of x xs) ≡ x
 at-place_of x [] h = absurd (omega arith)
 at-place_of x (y ∷ ys) h =
     elim (cases_eq y x) [

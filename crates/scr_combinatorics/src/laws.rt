@@ -4,6 +4,7 @@ ghost use Rattle.std.specs.Prelude.{◌≡◌, ℕ, ◌+◌, ◌-◌, ◌*◌, �
 ghost use Rattle.scr_combinatorics.specs.Lists.{IsRearranged, ComesBefore, numbers_from, pick, total};
 ghost use Rattle.scr_combinatorics.specs.Permutations.{IsPermutation, is_permutation, inverse, parity, factorial, permutation_number, permutation_at, half_at};
 ghost use Rattle.scr_combinatorics.specs.PlaceSets.{binomial, IsPlaceSet, place_set_number, place_set_at};
+ghost use Rattle.scr_combinatorics.specs.Pairings.{IsPairing, pairing_count, pairing_number, pairing_at};
 ghost use Rattle.scr_combinatorics.specs.Digits.{product, AreDigits, mixed_number, mixed_digits};
 ghost use Rattle.scr_combinatorics.specs.Twists.{IsTwists, twists_number, twists_at};
 ghost use Rattle.scr_combinatorics.specs.Numbering.{IsOneToOne};
@@ -71,6 +72,16 @@ pub fn place_sets_in_order()
         → ComesBefore xs ys → place_set_number n xs < place_set_number n ys }
 {}
 
+/// The ways to pair `2 * pairs` places, as the lists of each place's partner, are numbered by the numbers below
+/// `1 * 3 * 5 * ..` of so many factors, in the order of a dictionary.
+pub fn pairings_in_order()
+    ensures numbered { (pairs : ℕ)
+        → IsOneToOne (pairing_count pairs) (pairing_at pairs) (pairing_number pairs) (IsPairing (2 * pairs)) }
+    ensures order { (pairs : ℕ) (xs ys : List ℕ)
+        → IsPairing (2 * pairs) xs → IsPairing (2 * pairs) ys
+        → ComesBefore xs ys → pairing_number pairs xs < pairing_number pairs ys }
+{}
+
 /// Digits, each below its own base, are numbered by the numbers below the product of the bases: the first digit is the
 /// least, and each place has what the number leaves after the bases before it, modulo its own base.
 pub fn mixed_by_digits()
@@ -99,6 +110,7 @@ pub fn twists_by_digits()
 {}
 
 /// The definitions at lists worked by hand, and lists that they refuse.
+#[tactic(auto, unfolding(crate::specs::Pairings::pairing_number, crate::specs::Pairings::pairing_at))]
 pub fn rows()
     // the last and the first of the 24 lists of four numbers; 0 2 3 1 is number 3 and has two pairs in falling order
     ensures permutation_numbers { (permutation_number (3 ∷ 2 ∷ 1 ∷ 0 ∷ []) ≡ 23)
@@ -114,6 +126,13 @@ pub fn rows()
     // 01 02 03 12 13 23 are the sets of two of four places
     ensures place_sets { (place_set_number 4 (2 ∷ 3 ∷ []) ≡ 5) × (place_set_number 4 (1 ∷ 2 ∷ []) ≡ 3) }
     ensures falling_is_none { IsPlaceSet 4 2 (2 ∷ 1 ∷ []) → ⊥ }
+
+    // eight places in pairs: the first, one between and the last of the 105
+    ensures pairings { (pairing_at 4 0 ≡ 1 ∷ 0 ∷ 3 ∷ 2 ∷ 5 ∷ 4 ∷ 7 ∷ 6 ∷ [])
+        × (pairing_number 4 (2 ∷ 3 ∷ 0 ∷ 1 ∷ 6 ∷ 7 ∷ 4 ∷ 5 ∷ []) ≡ 16)
+        × (pairing_at 4 104 ≡ 7 ∷ 6 ∷ 5 ∷ 4 ∷ 3 ∷ 2 ∷ 1 ∷ 0 ∷ []) × (pairing_count 4 ≡ 105) }
+    ensures own_partner_is_none { IsPairing 2 (0 ∷ 1 ∷ []) → ⊥ }
+    ensures cycle_is_none { IsPairing 4 (1 ∷ 2 ∷ 3 ∷ 0 ∷ []) → ⊥ }
 
     // 2 + 3 * 1, where the last digit is not read; 1 + 2 * (2 + 3 * 3)
     ensures digit_numbers { (twists_number 3 (2 ∷ 1 ∷ 0 ∷ []) ≡ 5)

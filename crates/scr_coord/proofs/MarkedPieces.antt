@@ -38,7 +38,7 @@ stands_in-marked marked low (suc k) (x ∷ xs) lt =
     ∙ stands_in-marked marked (suc low) k xs (omega arith)
 
 -- marks of picked pieces are marks of the places that they are picked from
-marked-map : (marked : ℕ → Bool) (f : ℕ → ℕ) (low : ℕ) (ks : List ℕ) → marked_from marked low (map f ks) ≡ marked_from (λ k. marked (f k)) low ks
+pub marked-map : (marked : ℕ → Bool) (f : ℕ → ℕ) (low : ℕ) (ks : List ℕ) → marked_from marked low (map f ks) ≡ marked_from (λ k. marked (f k)) low ks
 marked-map marked f low [] = refl
 marked-map marked f low (k ∷ ks) = ap (λ rest. cond (marked (f k)) (low ∷ rest) rest) (marked-map marked f (suc low) ks)
 

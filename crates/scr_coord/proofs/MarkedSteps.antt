@@ -10,7 +10,7 @@ append_by : (b : Bool) (low : ℕ) (xs ys : List ℕ) → cond b (low ∷ (xs ++
 append_by true low xs ys = refl
 append_by false low xs ys = refl
 
-marked-append : (marked : ℕ → Bool) (low : ℕ) (xs ys : List ℕ) → marked_from marked low (xs ++ ys) ≡ marked_from marked low xs ++ marked_from marked (low + length xs) ys
+pub marked-append : (marked : ℕ → Bool) (low : ℕ) (xs ys : List ℕ) → marked_from marked low (xs ++ ys) ≡ marked_from marked low xs ++ marked_from marked (low + length xs) ys
 marked-append marked low [] ys = ap (λ n. marked_from marked n ys) (sym (add-zero low))
 marked-append marked low (x ∷ xs) ys =
     let on : suc low + length xs ≡ low + suc (length xs) = omega arith in

@@ -25,7 +25,7 @@ mod twists;
 pub use coordinate::Coord;
 pub use lists::Lists;
 pub use move_table::MoveTable;
-pub use place_set::PlaceSet;
+pub use place_set::{PlaceSet, places_of};
 pub use product::Product;
 pub use twists::Twists;
 

@@ -40,7 +40,7 @@ impl<'a, const N: usize, const K: usize> PlaceSet<'a, N, K> {
 }
 
 /// Fills `out` with the places of the elements of `set` in `list`, in increasing order. There are as many as `out` takes.
-fn places_of(set: &[u8], list: &[u8], out: &mut [u8])
+pub fn places_of(set: &[u8], list: &[u8], out: &mut [u8])
     requires few { length list.now ≤ 256 }
     requires fits { length (marked_places (stands_in set.now) list.now) ≡ length out.old }
     ensures { out.new ≡ marked_places (stands_in set.now) list.now }

@@ -1,30 +1,23 @@
 -- Laws of the turns of a 2x2x2: they act on its states, each face's quarter turn has order 4, and what follows of that.
-use Rattle.std.proofs.Common.{◌≡◌, true, refl, lit<}
-use Rattle.std.specs.Prelude.{All}
-use Rattle.std.proofs.lemmas.List.Elements.{All-from_recursion}
+use Rattle.std.proofs.Common.{refl, lit<, lit≤}
 use Rattle.scr_orbit.specs.Actions.{power}
-use Rattle.scr_orbit.specs.Orbits.{Rearrangement, IsZeroSumRearrangement, composed, identity, added_digits}
+use Rattle.scr_orbit.specs.Orbits.{IsZeroSumRearrangement, composed, identity, added_digits}
 use Rattle.scr_orbit.proofs.OrbitLaws.{zero_sum_laws, IsZeroSumOrbit-solved}
-use Rattle.scr_orbit.specs.LawfulTurns.{HasLawfulTurns}
-use Rattle.scr_orbit.proofs.PowerLaws.{IsGenerator, HasLawfulTurns-powers}
-use Rattle.scr_orbit.proofs.TableTests.{is_zero_sum_turn, IsZeroSumRearrangement-from_test}
-use Rattle.scr_notation.specs.Turning.{opposite, turn_merging}
-use Rattle.scr_cube.specs.Faces.{quarters_of}
-use Rattle.scr_cube.specs.Cube222.{IsCorners222, quarters_222, action_222, table_222, solved_222}
-use Rattle.scr_cube.proofs.FaceLaws.{face_powers}
+use Rattle.scr_orbit.proofs.Orders.{TellsIdentity}
+use Rattle.scr_orbit.proofs.TableTests.{is_still, still, is_zero_sum_turn, IsZeroSumRearrangement-from_test}
+use Rattle.scr_turning.specs.PowerPuzzles.{IsPowerPuzzle}
+use Rattle.scr_turning.specs.Proofs.FaceLaws.{face_powers, faces_numbered}
+use Rattle.scr_turning.proofs.PowerPuzzleLaws.{IsPowerPuzzle-from_test}
+use Rattle.scr_cube.specs.Cube222.{IsCorners222, powers_222, solved_222}
 
-quarter_by : (r : Rearrangement) → is_zero_sum_turn 7 3 r ≡ true → power action_222 r 4 ≡ action_222.identity
-    → IsGenerator action_222 (IsZeroSumRearrangement 7 3) 4 r
-quarter_by r a e = record { turn = IsZeroSumRearrangement-from_test 7 3 r a; whole = e }
+pub tells_222 : TellsIdentity powers_222.action (is_still 7)
+unfolding identity
+tells_222 = record { shows = still 7; passes = refl }
 
-pub each_quarter_222 : All (IsGenerator action_222 (IsZeroSumRearrangement 7 3) 4) quarters_222
-unfolding power composed identity added_digits
-each_quarter_222 =
-    All-from_recursion (IsGenerator action_222 (IsZeroSumRearrangement 7 3) 4) quarters_222
-    (quarter_by _ refl refl, (quarter_by _ refl refl, (quarter_by _ refl refl, tt)))
-
-pub lawful_222 : HasLawfulTurns action_222 IsCorners222 (IsZeroSumRearrangement 7 3) table_222 opposite turn_merging solved_222
-unfolding solved_222
+pub lawful_222 : IsPowerPuzzle powers_222 IsCorners222 (IsZeroSumRearrangement 7 3)
+unfolding power composed identity added_digits solved_222
 lawful_222 =
-    HasLawfulTurns-powers action_222 IsCorners222 (IsZeroSumRearrangement 7 3) (zero_sum_laws 7 3 (lit< tt)) 4 quarters_222 each_quarter_222 quarters_of
-    opposite turn_merging face_powers solved_222 (IsZeroSumOrbit-solved 7 3 (lit< tt))
+    IsPowerPuzzle-from_test powers_222 IsCorners222 (IsZeroSumRearrangement 7 3)
+    (record { numbered = faces_numbered; powers = face_powers; few = lit≤ tt })
+    (zero_sum_laws 7 3 (lit< tt)) (IsZeroSumOrbit-solved 7 3 (lit< tt))
+    (is_still 7) tells_222 (is_zero_sum_turn 7 3) (IsZeroSumRearrangement-from_test 7 3) refl

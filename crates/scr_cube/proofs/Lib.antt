@@ -1,8 +1,7 @@
 pub mod OnLiterals
-pub mod FaceLaws
 pub mod Laws333
 pub mod Laws222
-pub mod TurnLaws
-pub mod Orders
+pub mod Turned
+pub mod Known
 pub mod Minima
 pub mod Parity

@@ -2,15 +2,14 @@
 --
 -- The corner DBL stands still, so turns are of U, R and F. Places and pieces are numbered 0 URF, 1 UFL, 2 ULB, 3 UBR,
 -- 4 DFR, 5 DLF, 6 DRB. A corner's twist is how many thirds clockwise its U or D sticker stands from the U or D side.
-use Rattle.std.specs.Prelude.{ℕ, List, [], ◌∷◌, slice_index, Option}
+use Rattle.std.specs.Prelude.{ℕ, List, [], ◌∷◌, slice_index}
 use Rattle.scr_combinatorics.specs.Permutations.{permutation_number, permutation_at}
 use Rattle.scr_combinatorics.specs.Twists.{twists_number, twists_at}
 use Rattle.scr_combinatorics.specs.Numbered.{Numbered, numbered_by_digits}
-use Rattle.scr_play.specs.Reach.{Puzzle}
-use Rattle.scr_orbit.specs.Actions.{Action, after_by, table_puzzle, power_table, all_powers}
+use Rattle.scr_orbit.specs.Actions.{Action}
 use Rattle.scr_orbit.specs.Orbits.{Orbit, Rearrangement, IsZeroSumOrbit, solved_orbit, orbit_action}
-use Rattle.scr_notation.specs.declared.turn.Turn.{Turn}
-use Rattle.scr_cube.specs.Faces.{quarters_of}
+use Rattle.scr_turning.specs.Faces.{face_letters}
+use Rattle.scr_turning.specs.PowerPuzzles.{PowerPuzzle}
 
 -- Seven corners that can be put together without taking the cube apart: twists sum to 0 modulo 3.
 abbrev pub IsCorners222 : Orbit → Type 0
@@ -27,24 +26,12 @@ quarters_222 =
 abbrev pub action_222 : Action Orbit Rearrangement
 action_222 = orbit_action 7 3
 
--- All 9 turns, in the order of their numbers: U U2 U' R R2 R' F F2 F'.
-unfoldable pub turns_222 : List Rearrangement
-turns_222 = all_powers action_222 4 quarters_222
-
--- What each letter of the notation does.
-abbrev pub table_222 : Turn → Option Rearrangement
-table_222 = power_table action_222 quarters_222 quarters_of
-
--- What a letter makes of the corners: nothing where it isn't a turn of U, R or F.
-abbrev pub corners_after : Orbit → Turn → Option Orbit
-corners_after = after_by action_222 table_222
-
 unfoldable pub solved_222 : Orbit
 solved_222 = solved_orbit 7
 
--- The 2x2x2 as a puzzle. Each turn counts once (WCA Regulations, article 4).
-abbrev pub puzzle_222 : Puzzle Orbit
-puzzle_222 = table_puzzle action_222 table_222 solved_222 (λ t. 1)
+-- The 2x2x2 as data. Its 9 turns are U U2 U' R R2 R' F F2 F', in the order of their numbers.
+abbrev pub powers_222 : PowerPuzzle Orbit Rearrangement
+powers_222 = record { letters = face_letters; action = action_222; generators = quarters_222; solved = solved_222 }
 
 -- ---- numbers
 

@@ -4,15 +4,14 @@
 -- 5 DF, 6 DL, 7 DB, 8 FR, 9 FL, 10 BL, 11 BR, places and pieces alike (after Kociemba). A corner's twist is how many
 -- thirds clockwise its U or D sticker stands from the U or D side. An edge's flip is 1 where it takes an odd number of
 -- quarter turns of F and B to bring the edge to its place as it stands in the solved cube.
-use Rattle.std.specs.Prelude.{◌≡◌, ℕ, ◌/◌, List, [], ◌∷◌, map, slice_index, Option}
+use Rattle.std.specs.Prelude.{◌≡◌, ℕ, ◌/◌, List, [], ◌∷◌, slice_index}
 use Rattle.scr_combinatorics.specs.Permutations.{parity, permutation_number, permutation_at, half_at}
 use Rattle.scr_combinatorics.specs.Twists.{twists_number, twists_at}
 use Rattle.scr_combinatorics.specs.Numbered.{Numbered, numbered_by_digits}
-use Rattle.scr_play.specs.Reach.{Puzzle}
-use Rattle.scr_orbit.specs.Actions.{Action, after_by, table_puzzle, power_table, all_powers}
+use Rattle.scr_orbit.specs.Actions.{Action}
 use Rattle.scr_orbit.specs.Orbits.{Orbit, Rearrangement, IsZeroSumOrbit, IsZeroSumRearrangement, turned_orbit, composed, identity, solved_orbit}
-use Rattle.scr_notation.specs.declared.turn.Turn.{Turn}
-use Rattle.scr_cube.specs.Faces.{quarters_of}
+use Rattle.scr_turning.specs.Faces.{face_letters}
+use Rattle.scr_turning.specs.PowerPuzzles.{PowerPuzzle}
 
 -- The corners with their twists, and the edges with their flips.
 pub record CubeState : Type 0 where
@@ -76,32 +75,12 @@ cube_action = record {
   identity = record { corners = identity 8; edges = identity 12 };
 }
 
--- All 18 turns, in the order of their numbers: U U2 U' R R2 R' F F2 F' D D2 D' L L2 L' B B2 B'. A half turn is its quarter
--- turn twice, and a quarter turn the other way is three.
-unfoldable pub cube_turns : List CubeTurn
-cube_turns = all_powers cube_action 4 cube_quarters
-
--- What they do to the corners, and to the edges.
-abbrev pub corner_turns : List Rearrangement
-corner_turns = map (λ r. r.corners) cube_turns
-
-abbrev pub edge_turns : List Rearrangement
-edge_turns = map (λ r. r.edges) cube_turns
-
--- What each letter of the notation does.
-abbrev pub cube_table : Turn → Option CubeTurn
-cube_table = power_table cube_action cube_quarters quarters_of
-
--- What a letter makes of a cube: nothing where it isn't a turn of one of the six faces.
-abbrev pub cube_after : CubeState → Turn → Option CubeState
-cube_after = after_by cube_action cube_table
-
 unfoldable pub solved_cube : CubeState
 solved_cube = record { corners = solved_orbit 8; edges = solved_orbit 12 }
 
--- The 3x3x3 as a puzzle. Each turn counts once (WCA Regulations, article 4).
-abbrev pub cube_puzzle : Puzzle CubeState
-cube_puzzle = table_puzzle cube_action cube_table solved_cube (λ t. 1)
+-- The 3x3x3 as data. Its 18 turns are U U2 U' R R2 R' F F2 F' D D2 D' L L2 L' B B2 B', in the order of their numbers.
+abbrev pub cube_powers : PowerPuzzle CubeState CubeTurn
+cube_powers = record { letters = face_letters; action = cube_action; generators = cube_quarters; solved = solved_cube }
 
 -- ---- numbers
 

@@ -1,21 +1,10 @@
 -- Words and states that are known from elsewhere.
-use Rattle.std.specs.Prelude.{◌≡◌, ℕ, List, [], ◌∷◌, map, replicate, Some}
+use Rattle.std.specs.Prelude.{ℕ, List, [], ◌∷◌, replicate}
 use Rattle.scr_combinatorics.specs.Lists.{numbers_from}
-use Rattle.scr_orbit.specs.Actions.{IsOrder, composed_word}
 use Rattle.scr_orbit.specs.Orbits.{solved_orbit}
 use Rattle.scr_notation.specs.declared.turn.Turn.{Turn}
-use Rattle.scr_notation.specs.TurnNumbers.{face_turn_at}
-use Rattle.scr_cube.specs.Cube333.{CubeState, CubeTurn, cube_action, cube_table}
-
--- The word of turns with these numbers.
-abbrev pub numbered_word : List ℕ → List Turn
-numbered_word numbers = map face_turn_at numbers
-
--- The word is done so many times, and no fewer, to move nothing.
-pub record IsWordOrder (w : List Turn) (n : ℕ) : Type 0 where
-  pub turn : CubeTurn
-  pub comes_to : composed_word cube_action cube_table w ≡ Some turn
-  pub order : IsOrder cube_action turn n
+use Rattle.scr_turning.specs.PowerPuzzles.{word_at}
+use Rattle.scr_cube.specs.Cube333.{CubeState, cube_powers}
 
 -- Words of turns by their numbers, and how often each is done to move nothing: R U, R U' and R U R' U'.
 abbrev pub known_orders : List (List ℕ × ℕ)
@@ -28,4 +17,4 @@ superflip = record { corners = solved_orbit 8; edges = record { pieces = numbers
 -- A known word for it, of 20 turns: U R2 F B R B2 R U2 L B2 R U' D' R2 F R' L B2 U2 F2
 abbrev pub superflip_word : List Turn
 superflip_word =
-    numbered_word (0 ∷ 4 ∷ 6 ∷ 15 ∷ 3 ∷ 16 ∷ 3 ∷ 1 ∷ 12 ∷ 16 ∷ 3 ∷ 2 ∷ 11 ∷ 4 ∷ 6 ∷ 5 ∷ 12 ∷ 16 ∷ 1 ∷ 7 ∷ [])
+    word_at cube_powers (0 ∷ 4 ∷ 6 ∷ 15 ∷ 3 ∷ 16 ∷ 3 ∷ 1 ∷ 12 ∷ 16 ∷ 3 ∷ 2 ∷ 11 ∷ 4 ∷ 6 ∷ 5 ∷ 12 ∷ 16 ∷ 1 ∷ 7 ∷ [])

@@ -1,4 +1,3 @@
-pub mod Faces
 pub mod Cube333
 pub mod Cube222
 pub mod Stickers

@@ -1,7 +1,7 @@
 -- What quarter turns do to stickers, which is where the tables come from. The faces U R F D L B are 0 to 5.
-use Rattle.std.specs.Prelude.{◌≡◌, ℕ, ◌==◌, if◌then◌else◌, List, [], ◌∷◌, ◌++◌, map, take, drop, slice_index, slice_index_or}
-use Rattle.std.specs.List.{list_any, zip}
-use Rattle.scr_orbit.specs.Orbits.{Rearrangement}
+use Rattle.std.specs.Prelude.{ℕ, ◌==◌, if◌then◌else◌, List, [], ◌∷◌, map, slice_index, slice_index_or}
+use Rattle.std.specs.List.{list_any}
+use Rattle.scr_orbit.specs.Stickers.{IsCarriedBy}
 use Rattle.scr_cube.specs.Cube333.{CubeTurn}
 
 -- The faces at which the stickers of each corner place are, clockwise, that of U or D first: URF, UFL, ULB, UBR, DFR, DLF,
@@ -29,16 +29,7 @@ abbrev pub carried_piece : ℕ → List ℕ → List ℕ
 carried_piece face stickers =
     if list_any (λ s. s == face) stickers then map (slice_index (slice_index_or carried_to face [])) stickers else stickers
 
--- The faces of the stickers of a piece that stands at a place with this digit.
-abbrev pub standing : List ℕ → ℕ → List ℕ
-standing faces digit = drop digit faces ++ take digit faces
-
--- A rearrangement is what a quarter turn of this face does to stickers.
-abbrev pub IsCarried : ℕ → List (List ℕ) → Rearrangement → Type 0
-IsCarried face places r =
-    map (λ from. carried_piece face (slice_index_or places from [])) r.places ≡ map (λ p. standing p.0 p.1) (zip places r.added)
-
--- So it is with both kinds of pieces.
+-- A turn is what a quarter turn of this face does to the stickers of both kinds of pieces.
 pub record CarriesStickers (face : ℕ) (r : CubeTurn) : Type 0 where
-  pub corners : IsCarried face corner_faces r.corners
-  pub edges : IsCarried face edge_faces r.edges
+  pub corners : IsCarriedBy (carried_piece face) corner_faces r.corners
+  pub edges : IsCarriedBy (carried_piece face) edge_faces r.edges

@@ -5,30 +5,23 @@ ghost use Rattle.scr_combinatorics.specs.Permutations.{factorial};
 ghost use Rattle.scr_combinatorics.specs.Numbering.{IsNumbering};
 ghost use Rattle.scr_play.specs.Play.{play, count_in};
 ghost use Rattle.scr_play.specs.Reach.{Needs};
-ghost use Rattle.scr_orbit.specs.Actions.{IsOrder};
-ghost use Rattle.scr_orbit.specs.LawfulTurns.{HasLawfulTurns};
 ghost use Rattle.scr_orbit.specs.Orbits.{Orbit, IsZeroSumRearrangement, zeros};
 ghost use Rattle.scr_notation.specs.declared.turn.Turn.{Turn as Letter};
 ghost use Rattle.scr_notation.specs.TurnNumbers.{face_turn_at};
-ghost use Rattle.scr_notation.specs.Turning.{opposite, turn_merging};
 ghost use Rattle.scr_notation.specs.Spelling.{text_of};
-ghost use Rattle.scr_cube.specs.Cube333.{CubeTurn, IsCube, IsCubeTurn, cube_quarters, cube_action, cube_turns, cube_table, cube_after, solved_cube, cube_puzzle, cube_numbered};
-ghost use Rattle.scr_cube.specs.Cube222.{IsCorners222, quarters_222, action_222, turns_222, table_222, corners_after, solved_222, puzzle_222, numbered_222};
+ghost use Rattle.scr_turning.specs.PowerPuzzles.{IsPowerPuzzle, HaveOrders, after_letter, power_puzzle};
+ghost use Rattle.scr_cube.specs.Cube333.{CubeTurn, IsCube, IsCubeTurn, cube_quarters, cube_action, cube_powers, solved_cube, cube_numbered};
+ghost use Rattle.scr_cube.specs.Cube222.{IsCorners222, quarters_222, powers_222, solved_222, numbered_222};
 ghost use Rattle.scr_cube.specs.Stickers.{CarriesStickers};
 ghost use Rattle.scr_cube.specs.Symmetry.{ShowsTurns, left_right, up_down, front_back, without_dbl};
-ghost use Rattle.scr_cube.specs.Known.{numbered_word, known_orders, IsWordOrder, superflip, superflip_word};
+ghost use Rattle.scr_cube.specs.Known.{known_orders, superflip, superflip_word};
 
 /// The turns of both puzzles are lawful: they keep states valid, and composed turns act as one after the other; words are
-/// taken back and tidied, and each comes to one rearrangement, the same for every state. What turns reach is valid.
+/// taken back and tidied, and each comes to one rearrangement, the same for every state. What turns reach is valid. A quarter
+/// turn has order 4, and each turn has the number that the notation gives it.
 pub fn turns()
-    ensures cube { HasLawfulTurns cube_action IsCube IsCubeTurn cube_table opposite turn_merging solved_cube }
-    ensures corners { HasLawfulTurns action_222 IsCorners222 (IsZeroSumRearrangement 7 3) table_222 opposite turn_merging solved_222 }
-{}
-
-/// The tables have each turn at the number that the notation gives it.
-pub fn turn_numbers()
-    ensures cube { (n : ℕ) → slice_get cube_turns n ≡ cube_table (face_turn_at n) }
-    ensures corners { (n : ℕ) → slice_get turns_222 n ≡ table_222 (face_turn_at n) }
+    ensures cube { IsPowerPuzzle cube_powers IsCube IsCubeTurn }
+    ensures corners { IsPowerPuzzle powers_222 IsCorners222 (IsZeroSumRearrangement 7 3) }
 {}
 
 /// Each number below the count is that of exactly one valid state, and each valid state has exactly one.
@@ -42,16 +35,15 @@ pub fn numberings()
 /// Every turn counts once. The state after one turn needs one, and no more.
 pub fn minima()
     ensures counts { (w : List Letter)
-        → (count_in cube_puzzle.counted w ≡ length w) × (count_in puzzle_222.counted w ≡ length w) }
-    ensures one_turn { (s : Orbit) → corners_after solved_222 (face_turn_at 0) ≡ Some s
-        → Needs puzzle_222 s 1 × (Needs puzzle_222 s 2 → ⊥) }
-    ensures twenty_enough { Needs cube_puzzle superflip 21 → ⊥ }
+        → (count_in (power_puzzle cube_powers).counted w ≡ length w) × (count_in (power_puzzle powers_222).counted w ≡ length w) }
+    ensures one_turn { (s : Orbit) → (after_letter powers_222) solved_222 (face_turn_at 0) ≡ Some s
+        → Needs (power_puzzle powers_222) s 1 × (Needs (power_puzzle powers_222) s 2 → ⊥) }
+    ensures twenty_enough { Needs (power_puzzle cube_powers) superflip 21 → ⊥ }
 {}
 
-/// Quarter turns have order 4; R U has order 105, R U' 63, and R U R' U' 6.
+/// R U has order 105, R U' 63, and R U R' U' 6.
 pub fn orders()
-    ensures quarters { (face : ℕ) (r : CubeTurn) → slice_get cube_quarters face ≡ Some r → IsOrder cube_action r 4 }
-    ensures words { All (λ row. IsWordOrder (numbered_word row.0) row.1) known_orders }
+    ensures { HaveOrders cube_powers known_orders }
 {}
 
 /// Each table is what a quarter turn does to stickers.
@@ -78,7 +70,7 @@ pub fn symmetries()
 #[tactic(auto, unfolding(crate::proofs::OnLiterals::cubes_on_literals))]
 pub fn known_states()
     ensures spelled { text_of superflip_word ≡ codes "U R2 F B R B2 R U2 L B2 R U' D' R2 F R' L B2 U2 F2" }
-    ensures superflip { play cube_after solved_cube superflip_word ≡ Some superflip }
+    ensures superflip { play (after_letter cube_powers) solved_cube superflip_word ≡ Some superflip }
     ensures first { cube_numbered.state_at 0 ≡ solved_cube }
     ensures number_2047 { cube_numbered.state_at 2047 ≡ superflip }
     ensures number_4478975 { cube_numbered.state_at 4478975 ≡ record {
@@ -93,7 +85,7 @@ pub fn known_states()
       corners = record { pieces = 7 ∷ 6 ∷ 5 ∷ 4 ∷ 3 ∷ 2 ∷ 1 ∷ 0 ∷ []; digits = 2 ∷ 2 ∷ 2 ∷ 2 ∷ 2 ∷ 2 ∷ 2 ∷ 1 ∷ [] };
       edges = record { pieces = 11 ∷ 10 ∷ 9 ∷ 8 ∷ 7 ∷ 6 ∷ 5 ∷ 4 ∷ 3 ∷ 2 ∷ 1 ∷ 0 ∷ []; digits = superflip.edges.digits };
     } }
-    ensures after_up { corners_after solved_222 (face_turn_at 0) ≡ Some (numbered_222.state_at 1574640) }
+    ensures after_up { (after_letter powers_222) solved_222 (face_turn_at 0) ≡ Some (numbered_222.state_at 1574640) }
     ensures corners_3015702 { numbered_222.state_at 3015702 ≡ record {
       pieces = 5 ∷ 4 ∷ 2 ∷ 1 ∷ 3 ∷ 0 ∷ 6 ∷ [];
       digits = 0 ∷ 0 ∷ 2 ∷ 2 ∷ 0 ∷ 2 ∷ 0 ∷ [];

@@ -2,17 +2,17 @@
 //! they are drawn fairly.
 //!
 //! A cube is two orbits, of corners and of edges, and a 2x2x2 one; a puzzle is the table of its quarter turns over them
-//! (`specs/Cube333.antt`, `specs/Cube222.antt`), and all else follows by the one theory of `scr_orbit`. [`corner_turns`],
+//! (`specs/Cube333.antt`, `specs/Cube222.antt`), and all else follows by the one theory of
+//! `scr_turning`. [`corner_turns`],
 //! [`edge_turns`] and [`turns_222`] are all turns as single rearrangements, for searches and coordinates; a wrong entry is
-//! refused. [`FaceTurned`] turns both, by faces and by scrambles. `laws` has what holds of both: that turns are lawful, that
+//! refused. Both are turned by faces and by scrambles ([`PowerTurned`]). `laws` has what holds of both: that turns are lawful, that
 //! the numberings are one to one, and what ties the tables to the puzzles themselves: stickers that are carried, mirror
-//! images, orders, known words and known numbers. The crate stands on the notation of turns, on orbits, on the numbers of
+//! images, orders, known words and known numbers. The crate stands on puzzles of pieces, on orbits, on the numbers of
 //! lists and on fair drawing.
 #![tactic(auto)]
 
 mod corners;
 mod cube;
-mod faces;
 pub mod laws;
 mod numbers;
 mod tables;
@@ -21,8 +21,8 @@ mod turning;
 pub use corners::Corners222;
 pub use cube::Cube;
 pub use numbers::{CubeNumbers, Numbers222};
+pub use scr_turning::PowerTurned;
 pub use tables::{corner_turns, edge_turns, turns_222};
-pub use turning::FaceTurned;
 
 #[cfg(test)]
 mod tests;

@@ -3,7 +3,7 @@ ghost use Rattle.std.specs.Prelude.{◌<◌};
 ghost use Rattle.scr_cube.specs.Cube333.{cube_numbered};
 ghost use Rattle.scr_cube.specs.Cube222.{numbered_222};
 
-use crate::{Corners222, Cube, CubeNumbers, FaceTurned, Numbers222};
+use crate::{Corners222, Cube, CubeNumbers, Numbers222, PowerTurned};
 use scr_draw::Numbering;
 use scr_notation::{Event, parse};
 use std::process::Abort;
@@ -25,10 +25,8 @@ fn is_number(
 {
     let cube = CubeNumbers.state_at(number);
     assert!(rt; Cube::from_lists(corners, twists, edges, flips) == Some(cube));
-    assert_eq!(rt; cube.corners(), corners);
-    assert_eq!(rt; cube.twists(), twists);
-    assert_eq!(rt; cube.edges(), edges);
-    assert_eq!(rt; cube.flips(), flips);
+    assert!(rt; cube.corners() == corners && cube.twists() == twists);
+    assert!(rt; cube.edges() == edges && cube.flips() == flips);
     assert_eq!(rt; CubeNumbers.number_of(&cube), number);
 }
 
@@ -106,40 +104,31 @@ fn scrambles_played(rt: HostRuntime) -> Result<(), Fail> {
     Ok(())
 }
 
-// How many states need 0, 1, 2 and 3 turns.
-macro_rules! counts {
-    ($rt:expr, $solved:expr, $faces:expr) => {{
-        let mut seen = Vec::new($rt.alloc());
-        let mut level = Vec::new($rt.alloc());
-        let mut counts = Vec::new($rt.alloc());
-        seen.push($solved)?;
-        level.push($solved)?;
-        counts.push(level.len())?;
-        for _distance in 1..4 {
-            let mut next = Vec::new($rt.alloc());
-            for state in &level {
-                for face in 0..$faces {
-                    for amount in 1..4 {
-                        let turned = state.turn(face, amount);
-                        if !seen.contains(&turned) {
-                            seen.push(turned)?;
-                            next.push(turned)?;
-                        }
+// How many cubes need 0, 1, 2 and 3 turns.
+#[test]
+fn distances(rt: HostRuntime) -> Result<(), Fail> {
+    let mut seen = Vec::new(rt.alloc());
+    let mut level = Vec::new(rt.alloc());
+    let mut counts = Vec::new(rt.alloc());
+    seen.push(Cube::solved())?;
+    level.push(Cube::solved())?;
+    counts.push(level.len())?;
+    for _distance in 1..4 {
+        let mut next = Vec::new(rt.alloc());
+        for cube in &level {
+            for face in 0..6 {
+                for amount in 1..4 {
+                    let turned = cube.turn(face, amount);
+                    if !seen.contains(&turned) {
+                        seen.push(turned)?;
+                        next.push(turned)?;
                     }
                 }
             }
-            counts.push(next.len())?;
-            level = next;
         }
-        counts
-    }};
-}
-
-#[test]
-fn distances(rt: HostRuntime) -> Result<(), Fail> {
-    let cubes = counts!(rt, Cube::solved(), 6);
-    assert_eq!(rt; cubes.as_slice(), [1, 18, 243, 3240].as_slice());
-    let states = counts!(rt, Corners222::solved(), 3);
-    assert_eq!(rt; states.as_slice(), [1, 9, 54, 321].as_slice());
+        counts.push(next.len())?;
+        level = next;
+    }
+    assert_eq!(rt; counts.as_slice(), [1, 18, 243, 3240].as_slice());
     Ok(())
 }

@@ -1,70 +1,24 @@
-//! Puzzles whose turns are those of the outer layers at their faces, turned one by one and by scrambles.
-ghost use Rattle.std.specs.Prelude.{◌≡◌, ◌<◌};
+//! Turns of both cubes. The faces U R F D L B are the generators 0 to 5.
 ghost use Rattle.std.proofs.Common.{lit≤};
-ghost use Rattle.scr_play.specs.Play.{play};
 ghost use Rattle.scr_orbit.proofs.PowerLaws.{after-no_power};
-ghost use Rattle.scr_cube.specs.Faces.{quarters_of};
-ghost use Rattle.scr_cube.specs.Cube333.{cube_quarters, cube_action, cube_after};
-ghost use Rattle.scr_cube.specs.Cube222.{quarters_222, action_222, corners_after};
+ghost use Rattle.scr_turning.specs.Faces.{quarters_of};
+ghost use Rattle.scr_turning.specs.PowerPuzzles.{after_letter};
+ghost use Rattle.scr_cube.specs.Cube333.{cube_quarters, cube_action, cube_powers};
+ghost use Rattle.scr_cube.specs.Cube222.{quarters_222, action_222, powers_222};
 
 use crate::corners::Corners222;
 use crate::cube::Cube;
-use crate::faces::face_and_amount;
 use crate::tables::{corner_turns, edge_turns, turns_222};
-use scr_notation::{Scramble, Turn};
+use scr_turning::{Faces, PowerTurned};
 
-/// A state of such a puzzle. The faces U R F D L B are 0 to 5, and the puzzle has the first of them.
-pub trait FaceTurned: Copy {
-    ghost use Rattle.std.specs.Prelude.{◌≡◌, ◌+◌, ◌*◌, ◌<◌, ◌≤◌, ℕ, Option, Some, None};
-    ghost use Rattle.scr_orbit.specs.Actions.{Power};
-    ghost use Rattle.scr_notation.specs.declared.turn.Turn.{Turn as Letter};
-    ghost use Rattle.scr_notation.specs.TurnNumbers.{face_turn_at};
+impl PowerTurned for Cube {
+    type Kind = Faces;
 
-    /// How many faces can be turned.
-    ghost FACES: { ℕ };
+    ghost GENERATORS = { 6 };
 
-    const FACES: u8;
+    const GENERATORS: u8 = 6;
 
-    /// What a letter makes of a state: nothing where it isn't a turn of one of the faces.
-    ghost after: { Self → Letter → Option Self };
-
-    /// The state after the turn with this number, three for each face: by one, two and three quarters.
-    fn turned(&self, number: usize) -> Self
-        requires { number < 3 * FACES }
-        ensures { after self.now (face_turn_at number) ≡ Some result };
-
-    /// A cube has six faces.
-    ghost few: { FACES ≤ 6 };
-
-    /// No other letter makes anything.
-    ghost barred: { (state : Self) (letter : Letter)
-        → ((p : Power) → quarters_of letter ≡ Some p → FACES ≤ p.generator) → after state letter ≡ None };
-
-    /// The state after a turn of a face clockwise by `amount` quarters, from 1 to 3.
-    final fn turn(&self, face: u8, amount: u8) -> Self
-        requires face { face < FACES }
-        requires some { 0 < amount }
-        requires amount { amount < 4 }
-        ensures { after self.now (Turn.Face face 1 amount) ≡ Some result }
-    {
-        self.turned(3 * usize::from(face) + usize::from(amount - 1))
-    }
-
-    /// The state after the turns of a scramble. `None` comes exactly where one of them isn't a turn of the outer layer at
-    /// one of the faces.
-    final fn play(&self, scramble: &Scramble) -> Option<Self>
-        ensures { result ≡ play after self.now scramble.now.turns }
-    {
-        played(*self, scramble.turns())
-    }
-}
-
-impl FaceTurned for Cube {
-    ghost FACES = { 6 };
-
-    const FACES: u8 = 6;
-
-    ghost after = { cube_after };
+    ghost after = { (after_letter cube_powers) };
 
     fn turned(&self, number: usize) -> Cube {
         let (corners, edges) = self.orbits();
@@ -79,12 +33,14 @@ impl FaceTurned for Cube {
     ghost barred = { after-no_power cube_action cube_quarters quarters_of };
 }
 
-impl FaceTurned for Corners222 {
-    ghost FACES = { 3 };
+impl PowerTurned for Corners222 {
+    type Kind = Faces;
 
-    const FACES: u8 = 3;
+    ghost GENERATORS = { 3 };
 
-    ghost after = { corners_after };
+    const GENERATORS: u8 = 3;
+
+    ghost after = { (after_letter powers_222) };
 
     fn turned(&self, number: usize) -> Corners222 {
         Corners222::of_valid(self.orbit().turned(&turns_222()[number], 3))
@@ -93,27 +49,4 @@ impl FaceTurned for Corners222 {
     ghost few = { lit≤ tt };
 
     ghost barred = { after-no_power action_222 quarters_222 quarters_of };
-}
-
-/// The state after a letter's turn, or `None` where it isn't a turn of one of the faces.
-fn after<S: FaceTurned>(state: &S, letter: Turn) -> Option<S>
-    ensures { result ≡ S.after state.now letter }
-{
-    let (face, amount) = face_and_amount(letter)?;
-    if face < S::FACES {
-        Some(state.turn(face, amount))
-    } else {
-        None
-    }
-}
-
-/// The state after these turns, or `None` where one of them isn't one of the puzzle.
-fn played<S: FaceTurned>(start: S, turns: &[Turn]) -> Option<S>
-    ensures { result ≡ play S.after start turns.now }
-{
-    let mut state = start;
-    for turn in turns {
-        state = after(&state, *turn)?;
-    }
-    Some(state)
 }

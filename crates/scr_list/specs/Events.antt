@@ -30,8 +30,8 @@ rules_of C666 = without_minima false 3
 rules_of C777 = without_minima false 3
 rules_of Clock = with_minima true 5 2 3
 rules_of Minx = without_minima false 5
-rules_of Pyram = with_minima false 5 6 15
-rules_of Skewb = with_minima false 5 7 11
+rules_of Pyram = with_minima true 5 6 15
+rules_of Skewb = with_minima true 5 7 11
 rules_of Sq1 = with_minima false 5 2 4
 
 -- the greatest minimum of a round; 0 where it has none

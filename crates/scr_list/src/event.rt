@@ -38,8 +38,8 @@ pub fn event_rules(event: Event) -> EventRules
         Event::C777 => (false, 3, None),
         Event::Clock => (true, 5, up_to(3, 2)),
         Event::Minx => (false, 5, None),
-        Event::Pyram => (false, 5, up_to(15, 6)),
-        Event::Skewb => (false, 5, up_to(11, 7)),
+        Event::Pyram => (true, 5, up_to(15, 6)),
+        Event::Skewb => (true, 5, up_to(11, 7)),
         Event::Sq1 => (false, 5, up_to(4, 2)),
     };
     EventRules {

@@ -148,8 +148,8 @@ fn the_table_of_events(rt: HostRuntime) {
         (Event::C777, "777", "7x7x7 Cube", false, 3, None),
         (Event::Clock, "clock", "Clock", true, 5, Some((2, 3))),
         (Event::Minx, "minx", "Megaminx", false, 5, None),
-        (Event::Pyram, "pyram", "Pyraminx", false, 5, Some((6, 15))),
-        (Event::Skewb, "skewb", "Skewb", false, 5, Some((7, 11))),
+        (Event::Pyram, "pyram", "Pyraminx", true, 5, Some((6, 15))),
+        (Event::Skewb, "skewb", "Skewb", true, 5, Some((7, 11))),
         (Event::Sq1, "sq1", "Square-1", false, 5, Some((2, 4))),
     ] {
         let rules = event_rules(event);

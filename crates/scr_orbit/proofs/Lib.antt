@@ -4,3 +4,7 @@ pub mod Places
 pub mod TableTests
 pub mod ActionLaws
 pub mod PowerLaws
+pub mod Orders
+pub mod Parts
+pub mod Minima
+pub mod InPlaceLaws

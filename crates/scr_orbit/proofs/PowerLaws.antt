@@ -1,8 +1,7 @@
 -- Laws of puzzles whose turns are powers of generators of one order: their tables are of turns, opposite letters undo each
 -- other and merged ones add up, so that the turns are lawful; and the list of all turns has each at its number.
-use Rattle.std.proofs.Common.{◌≡◌, ℕ, zero, suc, ◌+◌, ◌-◌, ◌*◌, ◌%◌, ◌<◌, ◌≤◌, Bool, true, not, IsTrue, List, [], ◌∷◌, ◌++◌, Option, Some, None, map, length, get_or, refl, sym, ap, ◌∙◌, subst, arith}
-use Rattle.std.proofs.lemmas.Bool.{and_parts, false≢true}
-use Rattle.std.specs.Prelude.{All, ◌&&◌, slice_get, option_and_then}
+use Rattle.std.proofs.Common.{◌≡◌, ℕ, zero, suc, ◌+◌, ◌-◌, ◌*◌, ◌%◌, ◌<◌, ◌≤◌, IsTrue, List, [], ◌∷◌, ◌++◌, Option, Some, None, map, length, length-append, get_or, refl, sym, ap, ◌∙◌, subst, arith}
+use Rattle.std.specs.Prelude.{All, slice_get, option_and_then}
 use Rattle.std.specs.Option.{option_map}
 use Rattle.std.proofs.lemmas.List.{length-map}
 use Rattle.std.proofs.lemmas.Option.{same_Some, slice_get_within, slice_get_past, get_or_from_slice_get, slice_get-map, slice_get-get_or}
@@ -13,7 +12,7 @@ use Rattle.scr_play.specs.Lawful.{IsLawful}
 use Rattle.scr_play.proofs.PlayLaws.{and_then-some, play-keeps}
 use Rattle.scr_play.proofs.BackLaws.{IsTakenBack-lawful}
 use Rattle.scr_play.proofs.TidyPlay.{IsKeptByTidy-lawful}
-use Rattle.scr_orbit.specs.Actions.{Action, IsAction, after_by, power, Power, power_of, IsOrder, power_table, all_powers}
+use Rattle.scr_orbit.specs.Actions.{Action, IsAction, after_by, power, Power, power_of, power_table, all_powers}
 use Rattle.scr_orbit.specs.LawfulTurns.{HasLawfulTurns}
 use Rattle.scr_orbit.proofs.ActionLaws.{map-some, IsTurn-power, power-add, power-mod, merged_turn, IsLawful-table, play-composed_word}
 
@@ -24,12 +23,12 @@ All-got P xs k x each e =
 
 -- ---- the list of all turns
 
-get-append : {X : Type 0} (xs ys : List X) (i : ℕ) → i < length xs → slice_get (xs ++ ys) i ≡ slice_get xs i
+pub get-append : {X : Type 0} (xs ys : List X) (i : ℕ) → i < length xs → slice_get (xs ++ ys) i ≡ slice_get xs i
 get-append [] ys i lt = absurd (omega arith)
 get-append (x ∷ xs) ys zero lt = refl
 get-append (x ∷ xs) ys (suc i) lt = get-append xs ys i (omega arith)
 
-get-append_past : {X : Type 0} (xs ys : List X) (n i : ℕ) → n ≡ length xs + i → slice_get (xs ++ ys) n ≡ slice_get ys i
+pub get-append_past : {X : Type 0} (xs ys : List X) (n i : ℕ) → n ≡ length xs + i → slice_get (xs ++ ys) n ≡ slice_get ys i
 get-append_past [] ys n i e = let same : n ≡ i = omega (arith, e) in ap (slice_get ys) same
 get-append_past (x ∷ xs) ys zero i e = absurd (omega (arith, e))
 get-append_past (x ∷ xs) ys (suc n) i e = get-append_past xs ys n i (omega (arith, e))
@@ -60,43 +59,20 @@ module _ {S R : Type 0} (a : Action S R) (order : ℕ) where
       (omega (arith, powers_length r))
       ∙ all_powers-at rs g e some lt
 
+  -- and there are so many
+  pub length-all_powers : (generators : List R) → length (all_powers a order generators) ≡ (order - 1) * length generators
+  unfolding all_powers
+  length-all_powers [] = omega arith
+  length-all_powers (r ∷ rs) =
+      let rest : List R = all_powers a order rs in
+      omega (arith, length-append (map (power a r) (numbers_from 1 (order - 1))) rest, powers_length r, length-all_powers rs)
+
 -- The letter at a number is the power with that number.
 pub power_table-at : {S R T : Type 0} (a : Action S R) (order : ℕ) (generators : List R) (power_at : T → Option Power) (t : T) (g e : ℕ)
     → 0 < e → e < order → power_at t ≡ Some (record { generator = g; exponent = e })
     → power_table a generators power_at t ≡ slice_get (all_powers a order generators) ((order - 1) * g + (e - 1))
 power_table-at a order generators power_at t g e some lt read =
     ap (option_and_then (power_of a generators)) read ∙ sym (all_powers-at a order generators g e some lt)
-
--- ---- orders
-
--- a test fails at the next powers
-abbrev pub apart : {S R : Type 0} → Action S R → (R → Bool) → R → ℕ → R → Bool
-apart a test r zero p = true
-apart a test r (suc n) p = not (test p) && apart a test r n (a.composed r p)
-
-apart-at : {S R : Type 0} (a : Action S R) (test : R → Bool) (r : R) (n j i : ℕ) → apart a test r n (power a r j) ≡ true → i < n
-    → test (power a r (j + i)) ≡ true → ⊥
-unfolding power
-apart-at a test r zero j i h lt e = absurd (omega arith)
-apart-at a test r (suc n) j zero h lt e =
-    let here : j + zero ≡ j = omega arith in
-    let fails = and_parts (not (test (power a r j))) (apart a test r n (a.composed r (power a r j))) h in
-    false≢true (sym (ap not (ap (λ k. test (power a r k)) (sym here) ∙ e)) ∙ fails.0)
-apart-at a test r (suc n) j (suc i) h lt e =
-    let next : j + suc i ≡ suc j + i = omega arith in
-    let fails = and_parts (not (test (power a r j))) (apart a test r n (a.composed r (power a r j))) h in
-    apart-at a test r n (suc j) i fails.1 (omega arith) (ap (λ k. test (power a r k)) (sym next) ∙ e)
-
--- an order, by a test that only the identity need pass
-pub IsOrder-from_test : {S R : Type 0} (a : Action S R) (test : R → Bool) (r : R) (n : ℕ) → 0 < n → power a r n ≡ a.identity
-    → test a.identity ≡ true → apart a test r (n - 1) (power a r 1) ≡ true → IsOrder a r n
-IsOrder-from_test a test r n some whole passes h = record {
-  some = some;
-  whole = whole;
-  least = λ k pos lt e.
-      let from_one : 1 + (k - 1) ≡ k = omega arith in
-      apart-at a test r (n - 1) 1 (k - 1) h (omega arith) (ap (λ j. test (power a r j)) from_one ∙ ap test e ∙ passes);
-}
 
 -- ---- lawful turns
 

@@ -56,6 +56,12 @@ pub record IsOrder {S R : Type 0} (a : Action S R) (r : R) (n : ℕ) : Type 0 wh
   pub whole : power a r n ≡ a.identity
   pub least : (k : ℕ) → 0 < k → k < n → power a r k ≡ a.identity → ⊥
 
+-- A word is done so many times, and no fewer, to move nothing.
+pub record IsWordOrder {S R T : Type 0} (a : Action S R) (table : T → Option R) (w : List T) (n : ℕ) : Type 0 where
+  pub turn : R
+  pub comes_to : composed_word a table w ≡ Some turn
+  pub order : IsOrder a turn n
+
 -- Which generator of a puzzle, from 0, and how many times.
 pub record Power : Type 0 where
   pub generator : ℕ

@@ -2,3 +2,5 @@ pub mod Actions
 pub mod LawfulTurns
 pub mod Orbits
 pub mod PlaceTurns
+pub mod InPlace
+pub mod Stickers

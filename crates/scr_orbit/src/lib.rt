@@ -17,7 +17,7 @@ mod validity;
 
 pub use placed::{PlaceTurn, Placed};
 pub use turning::{add_digits, pick_into};
-pub use validity::{are_twists, is_permutation};
+pub use validity::{are_completed, are_twists, is_permutation};
 
 #[cfg(test)]
 mod tests;

@@ -14,6 +14,14 @@ pub struct PlaceTurn<const N: usize> {
     pub added: [u8; N],
 }
 
+/// A table of turns, one in a line: its places, then the digits that it adds.
+#[macro_export]
+macro_rules! place_turns {
+    ($($places:expr => $added:expr),* $(,)?) => {
+        [$($crate::PlaceTurn { places: $places, added: $added }),*]
+    };
+}
+
 /// An orbit of `N` places: which piece stands at each, and the digit of that piece.
 #[derive(Clone, Copy, Debug, PartialEq, Eq)]
 pub struct Placed<const N: usize> {

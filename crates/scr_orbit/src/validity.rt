@@ -1,5 +1,6 @@
 //! Tests of what makes an orbit valid.
-ghost use Rattle.std.specs.Prelude.{◌≤◌, ◌<◌, ◌↔◌, IsTrue, length};
+ghost use Rattle.std.specs.Prelude.{◌≡◌, ◌+◌, ◌%◌, ◌≤◌, ◌<◌, ◌↔◌, All, IsTrue, length};
+ghost use Rattle.scr_combinatorics.specs.Lists.{total};
 ghost use Rattle.scr_combinatorics.specs.Permutations.{IsPermutation};
 ghost use Rattle.scr_combinatorics.specs.Twists.{IsTwists};
 
@@ -22,7 +23,17 @@ pub fn are_twists(digits: &[u8], base: u8) -> bool
     requires base { 0 < base }
     ensures { IsTrue result ↔ IsTwists (length digits.now) base digits.now }
 {
-    let mut sum: u32 = 0;
+    are_completed(digits, 0, base)
+}
+
+/// Whether digits, of which there are at most 256, are below `base` and sum to 0 modulo it together with `more`. `base` is at
+/// least 1.
+pub fn are_completed(digits: &[u8], more: u8, base: u8) -> bool
+    requires few { length digits.now ≤ 256 }
+    requires base { 0 < base }
+    ensures { IsTrue result ↔ (All (λ d. d < base) digits.now × ((total digits.now + more) % base ≡ 0)) }
+{
+    let mut sum = u32::from(more);
     for digit in digits {
         if *digit >= base {
             return false;

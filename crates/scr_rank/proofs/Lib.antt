@@ -2,3 +2,4 @@ mod PermutationSteps
 mod PlaceSetSteps
 mod DigitSteps
 mod MixedSteps
+mod PairingSteps

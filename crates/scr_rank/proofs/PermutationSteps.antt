@@ -92,8 +92,8 @@ pub record UnrankStep (n r rest : ℕ) (xs : List ℕ) : Type 0 where
   pub list : xs ≡ permutation_at n (r % factorial n)
   pub rest_is : rest ≡ r / factorial n
 
--- the first digit of a number over (n + 1)!, and what it leaves
-first_digit : (r n f : ℕ) → 0 < f → (r % (suc n * f) / f ≡ r / f % suc n) × (r % (suc n * f) % f ≡ r % f)
+-- the first digit of a number below (n + 1) * f, and what it leaves
+pub first_digit : (r n f : ℕ) → 0 < f → (r % (suc n * f) / f ≡ r / f % suc n) × (r % (suc n * f) % f ≡ r % f)
 first_digit r n f pos =
     let d : ℕ = r / f % suc n in
     let low : r % f < f = mod_below r f pos in

@@ -1,5 +1,5 @@
-//! The numbers of lists: permutations, even permutations, digits whose sum is fixed, sets of places and
-//! mixed digits.
+//! The numbers of lists: permutations, even permutations, digits whose sum is fixed, sets of places, places
+//! in pairs, and mixed digits.
 //!
 //! Each type's `rank` and `unrank` are inverse bijections between its lists and the numbers below its
 //! count: `unrank` gives the list of a number, which is valid and the only one with that number, and `rank` of a valid
@@ -12,11 +12,13 @@
 
 pub mod digits;
 pub mod mixed;
+mod pairings;
 pub mod permutations;
 pub mod place_sets;
 
 pub use digits::TwistRank;
-pub use mixed::MixedRadix;
+pub use mixed::{MixedRadix, in_bytes};
+pub use pairings::Pairing8;
 pub use permutations::{EvenPermRank, PermRank};
 pub use place_sets::Choose;
 

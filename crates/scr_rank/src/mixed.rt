@@ -103,3 +103,24 @@ fn unrank_digits(bases: &[u128], number: u128, out: &mut [u128])
         rest /= bases[place];
     }
 }
+
+/// Digits below 256 in bytes.
+pub fn in_bytes<const D: usize>(digits: &[u128; D]) -> [u8; D]
+    requires { All (λ digit. digit < 256) digits.now }
+    ensures { result ≡ digits.now }
+{
+    let mut bytes = [0; D];
+    fill_bytes(&digits[..], &mut bytes[..]);
+    bytes
+}
+
+/// Fills `bytes` with `digits`.
+fn fill_bytes(digits: &[u128], bytes: &mut [u8])
+    requires same_length { length bytes.old ≡ length digits.now }
+    requires below { All (λ digit. digit < 256) digits.now }
+    ensures { bytes.new ≡ digits.now }
+{
+    for place in 0..bytes.len() {
+        bytes[place] = digits[place] as u8;
+    }
+}

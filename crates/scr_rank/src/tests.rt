@@ -5,7 +5,7 @@ ghost use Rattle.scr_combinatorics.specs.Permutations.{factorial};
 ghost use Rattle.scr_combinatorics.specs.PlaceSets.{binomial};
 
 use super::permutations::count_permutations;
-use super::{Choose, EvenPermRank, MixedRadix, PermRank, TwistRank};
+use super::{Choose, EvenPermRank, MixedRadix, Pairing8, PermRank, TwistRank};
 use std::process::Abort;
 
 // Makes one kind of round trip at each of these lengths, each with its count of lists.
@@ -68,6 +68,14 @@ fn mixed_digits<const D: usize>(rt: &impl Abort, radix: &MixedRadix<D>) {
     }
 }
 
+fn pairings(rt: &impl Abort, count: u128)
+    requires { count ≡ 105 }
+{
+    for number in 0..count {
+        assert_eq!(rt; Pairing8::rank(&Pairing8::unrank(number)), number);
+    }
+}
+
 #[test]
 fn rows(rt: HostRuntime) {
     assert_eq!(rt;
@@ -85,6 +93,14 @@ fn rows(rt: HostRuntime) {
     assert_eq!(rt; TwistRank::<3, 12>::unrank(143), [11, 11, 2]);
     assert_eq!(rt; Choose::<4, 2>::unrank(5), [2, 3]);
     assert_eq!(rt; MixedRadix::new([2, 3, 4]).unrank(23), [1, 2, 3]);
+}
+
+#[test]
+fn pairing_rows(rt: HostRuntime) {
+    assert_eq!(rt; Pairing8::unrank(0), [1, 0, 3, 2, 5, 4, 7, 6]);
+    assert_eq!(rt; Pairing8::unrank(16), [2, 3, 0, 1, 6, 7, 4, 5]);
+    assert_eq!(rt; Pairing8::unrank(104), [7, 6, 5, 4, 3, 2, 1, 0]);
+    pairings(&rt, 105);
 }
 
 #[test]

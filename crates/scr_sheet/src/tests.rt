@@ -23,6 +23,22 @@ const TABLE_222: &str =
     "table corners positions 3674160 bound 11\n0 1\n1 9\n2 54\n3 321\n4 1847\n5 9992\n6 50136\n\
     7 227536\n8 870072\n9 1887748\n10 623800\n11 2644\n";
 
+/// The scramble of the Pyraminx: that of state 52354422.
+const SCRAMBLE_PYRAM: &str = "R L' U' R B' U B' r' b'\n";
+
+/// How many positions of the Pyraminx without tips are so many turns from solved.
+const TABLE_PYRAM: &str =
+    "table pyramid positions 933120 bound 11\n0 1\n1 8\n2 48\n3 288\n4 1728\n5 9896\n6 51808\n\
+    7 220111\n8 480467\n9 166276\n10 2457\n11 32\n";
+
+/// The scramble of the Skewb: that of state 1965942.
+const SCRAMBLE_SKEWB: &str = "B R' L' R L U R'\n";
+
+/// How many positions of the Skewb are so many turns from solved.
+const TABLE_SKEWB: &str =
+    "table skewb positions 3149280 bound 11\n0 1\n1 8\n2 48\n3 288\n4 1728\n5 10248\n6 59304\n\
+    7 315198\n8 1225483\n9 1455856\n10 81028\n11 90\n";
+
 const USAGE: &str =
     "scramble: usage: one EVENT SEED | sheet --seed HEX [--workers N] [--tries N] [--attempts N] | tables EVENT | load NUMBER\n";
 
@@ -110,11 +126,9 @@ fn words_and_lists(rt: HostRuntime) -> Result<(), Fail> {
     let digit = "000000000000000000000000000000000000000000000000000000000000000g";
     let joined = "--seed=0000000000000000000000000000000000000000000000000000000000000000";
     let equals = "--seed==0000000000000000000000000000000000000000000000000000000000000000";
-    let runs: [(&[&str], &str, u8, &str, &str); 26] = [
+    let runs: [(&[&str], &str, u8, &str, &str); 23] = [
         (&["one", "clock", ZEROS], "", 0, SCRAMBLE, ""),
-        (&["one", "222", ZEROS], "", 0, SCRAMBLE_222, ""),
         (&["tables", "clock"], "", 0, "no tables\n", ""),
-        (&["tables", "222"], "", 0, TABLE_222, ""),
         (
             &["tables", "444"],
             "",
@@ -214,9 +228,33 @@ fn words_and_lists(rt: HostRuntime) -> Result<(), Fail> {
             "",
             "scramble: line 1: minimum\n",
         ),
+    ];
+    for (words, list, code, out, err) in runs {
+        check(&rt, words, list.as_bytes(), code, out, err)?;
+    }
+    Ok(())
+}
+
+#[test]
+fn events_with_tables(rt: HostRuntime) -> Result<(), Fail> {
+    let runs: [(&[&str], &str, u8, &str, &str); 8] = [
+        (&["one", "222", ZEROS], "", 0, SCRAMBLE_222, ""),
+        (&["one", "pyram", ZEROS], "", 0, SCRAMBLE_PYRAM, ""),
+        (&["one", "skewb", ZEROS], "", 0, SCRAMBLE_SKEWB, ""),
+        (&["tables", "222"], "", 0, TABLE_222, ""),
+        (&["tables", "pyram"], "", 0, TABLE_PYRAM, ""),
+        (&["tables", "skewb"], "", 0, TABLE_SKEWB, ""),
         (
-            &["sheet", joined, "--attempts=1"],
+            &["sheet", "--seed", ZEROS, "--attempts=1"],
             "222 1 11",
+            4,
+            "",
+            "scramble: round 1 slot 1: no permitted state in 3 words\n",
+        ),
+        // two of the tips of its first draw aren't turned, so that it needs 13 turns at most
+        (
+            &["sheet", "--seed", ZEROS, "--attempts=1"],
+            "pyram 1 15",
             4,
             "",
             "scramble: round 1 slot 1: no permitted state in 3 words\n",
@@ -276,12 +314,26 @@ fn faults_are_told(rt: HostRuntime) {
 }
 
 #[test]
-fn a_sheet_of_two_events(rt: HostRuntime) -> Result<(), Fail> {
-    let words = ["sheet", "--seed", ZEROS];
-    let ran = run_with(&rt, &words, b"222 1\nclock 1 0", 4096, [&[], &[], &[]])?;
-    assert_eq!(rt; ran.code, 0);
-    let head = "Round 1: 2x2x2 Cube, at least 4\nGroup A\n1. R2 U R' F U2 F' U R U\n2. ";
-    assert!(rt; ran.out.contents().starts_with(head.as_bytes()));
+fn sheets_of_two_events(rt: HostRuntime) -> Result<(), Fail> {
+    for (list, head) in [
+        (
+            "222 1\nclock 1 0",
+            "Round 1: 2x2x2 Cube, at least 4\nGroup A\n1. R2 U R' F U2 F' U R U\n2. ",
+        ),
+        (
+            "pyram 1\n222 1",
+            "Round 1: Pyraminx, at least 6\nGroup A\n1. R L' U' R B' U B' r' b'\n2. ",
+        ),
+        (
+            "skewb 1\npyram 1",
+            "Round 1: Skewb, at least 7\nGroup A\n1. B R' L' R L U R'\n2. ",
+        ),
+    ] {
+        let words = ["sheet", "--seed", ZEROS];
+        let ran = run_with(&rt, &words, list.as_bytes(), 4096, [&[], &[], &[]])?;
+        assert_eq!(rt; ran.code, 0);
+        assert!(rt; ran.out.contents().starts_with(head.as_bytes()));
+    }
     Ok(())
 }
 

@@ -1,11 +1,17 @@
--- Why the table of an event isn't built, as a cause for a list of events.
-use Rattle.std.proofs.Common.{◌≡◌, List, [], length, sym, ap, arith}
-use Rattle.std.specs.Prelude.{Contains}
+-- The one table of an event among the tables of events, and why it isn't built, as a cause for a list of events.
+use Rattle.std.proofs.Common.{◌≡◌, List, [], ◌∷◌, length, Option, Some, None, refl, sym, ap, ◌∙◌, subst, arith, lit<}
+use Rattle.std.specs.Prelude.{Contains, IsSome, IfSome}
+use Rattle.std.proofs.lemmas.Option.{same_Some}
 use Rattle.scr_notation.specs.declared.event.Event.{Event}
+use Rattle.scr_notation.specs.declared.event.Event.TheVariants.{C222, C333, Oh333, C555, C666, C777, Clock, Minx, Pyram, Skewb, Sq1}
 use Rattle.scr_table.specs.declared.fault.BuildFault.{BuildFault}
 use Rattle.scr_table.specs.declared.fault.BuildFault.TheVariants.{NoMemory, Gap}
 use Rattle.scr_table.specs.Causes.{IsCause}
-use Rattle.scr_table.specs.Lines.{TableLine}
+use Rattle.scr_table.specs.Lines.{TableLine, AreTablesOf}
+use Rattle.scr_small.specs.Puzzle222.{corners_line}
+use Rattle.scr_small.specs.PuzzlePyram.{pyramid_line}
+use Rattle.scr_small.specs.PuzzleSkewb.{skewb_line}
+use Rattle.scr_small.specs.Tables.{small_line, BuiltTable, IsBuilt}
 use Rattle.scr_slots.specs.Events.{tables_of}
 use Rattle.scr_slots.specs.Tables.{IsBuildCause}
 
@@ -31,3 +37,35 @@ IsBuildCause-line events event asked line listed (Gap name index) cause = record
   named = sym cause.0;
   gap = cause.1;
 }
+
+-- the table of an event that one table solves is its one table
+pub tables_of-small : (event : Event) (line : TableLine) → small_line event ≡ Some line → tables_of event ≡ line ∷ []
+tables_of-small C222 line e = ap (λ l. l ∷ []) (same_Some corners_line line e)
+tables_of-small C333 line e = absurd (cc)
+tables_of-small Oh333 line e = absurd (cc)
+tables_of-small C555 line e = absurd (cc)
+tables_of-small C666 line e = absurd (cc)
+tables_of-small C777 line e = absurd (cc)
+tables_of-small Clock line e = absurd (cc)
+tables_of-small Minx line e = absurd (cc)
+tables_of-small Pyram line e = ap (λ l. l ∷ []) (same_Some pyramid_line line e)
+tables_of-small Skewb line e = ap (λ l. l ∷ []) (same_Some skewb_line line e)
+tables_of-small Sq1 line e = absurd (cc)
+
+-- so a built one is the table of its event
+pub AreTablesOf-small : (event : Event) (built : BuiltTable) → built.event ≡ event → IsBuilt built → AreTablesOf (tables_of event) (built.distances ∷ [])
+AreTablesOf-small event built same b =
+    let P : List TableLine → Type 0 = λ lines. AreTablesOf lines (built.distances ∷ []) in
+    subst P (sym (tables_of-small event b.line (ap small_line (sym same) ∙ b.of_event))) (b.table, tt)
+
+-- and its cause is one of the event's
+pub IsBuildCause-small : (events : List Event) (event : Event) → Contains events event → (fault : BuildFault)
+    → IsSome (small_line event) → IfSome (small_line event) (λ line. IsCause line.name line.coordinate line.bound fault) → IsBuildCause events fault
+IsBuildCause-small events event asked fault small cause = by_line (small_line event) refl small cause
+  where
+    by_line : (o : Option TableLine) → small_line event ≡ o → IsSome o → IfSome o (λ line. IsCause line.name line.coordinate line.bound fault)
+        → IsBuildCause events fault
+    by_line None e some c = absurd (cc)
+    by_line (Some line) e some c =
+        let P : List TableLine → Type 0 = λ lines. Contains lines line in
+        IsBuildCause-line events event asked line (subst P (sym (tables_of-small event line e)) (0, lit< tt, refl)) fault c

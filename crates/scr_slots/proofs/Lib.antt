@@ -1,2 +1,3 @@
 pub mod OneScramble
 pub mod BuildCauses
+pub mod FairEvents

@@ -12,11 +12,17 @@ use Rattle.scr_list.specs.Events.{rules_of}
 use Rattle.scr_clock.specs.Dials.{clock_puzzle}
 use Rattle.scr_clock.specs.Numbers.{clock_numbered}
 use Rattle.scr_clock.specs.Proofs.AmountLaws.{IsScrambleOf-one}
-use Rattle.scr_cube.specs.Cube222.{numbered_222, puzzle_222}
+use Rattle.scr_turning.specs.PowerPuzzles.{power_puzzle}
+use Rattle.scr_cube.specs.Cube222.{numbered_222, powers_222}
 use Rattle.scr_small.specs.Puzzle222.{numbered_puzzle_222}
 use Rattle.scr_small.specs.Lawful222.{lawful_puzzle_222}
 use Rattle.scr_small.specs.PuzzleLaws.{IsScrambleOf-unique}
-use Rattle.scr_slots.specs.Events.{scrambling_of, clock_rule, rule_222}
+use Rattle.scr_tetra.specs.Pyraminx.{numbered_pyram, pyram_powers}
+use Rattle.scr_tetra.specs.Skewb.{skewb_numbered, skewb_powers}
+use Rattle.scr_small.specs.PyramLaws.{IsScramblePyram-unique}
+use Rattle.scr_small.specs.PuzzleSkewb.{numbered_puzzle_skewb}
+use Rattle.scr_small.specs.LawfulSkewb.{lawful_puzzle_skewb}
+use Rattle.scr_slots.specs.Events.{scrambling_of, clock_rule, rule_222, pyram_rule, skewb_rule}
 use Rattle.scr_slots.specs.Slots.{ScrambleRule, by_state, slot_numbers}
 use Rattle.scr_slots.specs.Outcomes.{HasOneScramble}
 
@@ -42,7 +48,7 @@ HasOneScramble-only n puzzle rule least some only = record {
 -- So it is for each event that lists take.
 pub each_one : (event : Event) (least : ℕ) → IsTrue (rules_of event).built → HasOneScramble (scrambling_of event) least
 each_one C222 least built =
-    HasOneScramble-only numbered_222 puzzle_222 rule_222 least (lit≤ tt) (λ tries. IsScrambleOf-unique numbered_puzzle_222 lawful_puzzle_222)
+    HasOneScramble-only numbered_222 (power_puzzle powers_222) rule_222 least (lit≤ tt) (λ tries. IsScrambleOf-unique numbered_puzzle_222 lawful_puzzle_222)
 each_one C333 least built = cc
 each_one Oh333 least built = cc
 each_one C555 least built = cc
@@ -51,6 +57,7 @@ each_one C777 least built = cc
 each_one Clock least built =
     HasOneScramble-only clock_numbered clock_puzzle clock_rule least (lit≤ tt) (λ tries. IsScrambleOf-one)
 each_one Minx least built = cc
-each_one Pyram least built = cc
-each_one Skewb least built = cc
+each_one Pyram least built = HasOneScramble-only numbered_pyram (power_puzzle pyram_powers) pyram_rule least (lit≤ tt) (λ tries. IsScramblePyram-unique)
+each_one Skewb least built =
+    HasOneScramble-only skewb_numbered (power_puzzle skewb_powers) skewb_rule least (lit≤ tt) (λ tries. IsScrambleOf-unique numbered_puzzle_skewb lawful_puzzle_skewb)
 each_one Sq1 least built = cc

@@ -4,33 +4,46 @@ use Rattle.scr_notation.specs.declared.event.Event.{Event}
 use Rattle.scr_notation.specs.declared.event.Event.TheVariants.{C222, C333, Oh333, C555, C666, C777, Clock, Minx, Pyram, Skewb, Sq1}
 use Rattle.scr_table.specs.Lines.{TableLine}
 use Rattle.scr_play.specs.Play.{play}
+use Rattle.scr_notation.specs.declared.turn.Turn.{Turn}
 use Rattle.scr_orbit.specs.Orbits.{Orbit}
-use Rattle.scr_cube.specs.Cube222.{corners_after, solved_222, numbered_222, puzzle_222}
-use Rattle.scr_small.specs.Puzzle222.{IsScramble222, corners_line}
+use Rattle.scr_turning.specs.PowerPuzzles.{after_letter, power_puzzle}
+use Rattle.scr_cube.specs.Cube222.{numbered_222, powers_222}
+use Rattle.scr_tetra.specs.Pyraminx.{PyramState, pyram_powers, solved_pyram, numbered_pyram}
+use Rattle.scr_tetra.specs.Skewb.{SkewbState, skewb_numbered, skewb_powers}
+use Rattle.scr_small.specs.NumberedPuzzles.{NumberedPuzzle, IsScrambleOf}
+use Rattle.scr_small.specs.Puzzle222.{numbered_puzzle_222, corners_line}
+use Rattle.scr_small.specs.PuzzlePyram.{IsScramblePyram, pyramid_line}
+use Rattle.scr_small.specs.PuzzleSkewb.{numbered_puzzle_skewb, skewb_line}
 use Rattle.scr_clock.specs.Dials.{solved, clock_puzzle}
 use Rattle.scr_clock.specs.Numbers.{clock_numbered}
 use Rattle.scr_clock.specs.Held.{clock_after}
-use Rattle.scr_clock.specs.Written.{IsScrambleOf}
+use Rattle.scr_clock.specs.Written.{IsScrambleOf as IsClockScramble}
 use Rattle.scr_slots.specs.Slots.{ScrambleRule, Scrambling, NotYet, by_state}
 
--- the 2x2x2: the first word that solves the state, taken back, whatever the tries
+-- a puzzle that one table solves: the first word that solves the state, taken back, whatever the tries
+abbrev pub small_rule : {S : Type 0} → NumberedPuzzle S Turn → ℕ → ScrambleRule S
+small_rule p most_turns = record { played = play p.after p.solved; most_turns = most_turns; IsScramble = λ tries. IsScrambleOf p }
+
 abbrev pub rule_222 : ScrambleRule Orbit
-rule_222 = record {
-  played = play corners_after solved_222;
-  most_turns = 11;
-  IsScramble = λ tries. IsScramble222;
-}
+rule_222 = small_rule numbered_puzzle_222 11
+
+abbrev pub skewb_rule : ScrambleRule SkewbState
+skewb_rule = small_rule numbered_puzzle_skewb 11
+
+-- the Pyraminx: so without its tips, and then the tips
+abbrev pub pyram_rule : ScrambleRule PyramState
+pyram_rule = record { played = play (after_letter pyram_powers) solved_pyram; most_turns = 15; IsScramble = λ tries. IsScramblePyram }
 
 -- Clock: fourteen amounts and `y2`, whatever the tries
 abbrev pub clock_rule : ScrambleRule (List ℕ)
 clock_rule = record {
   played = clock_after solved;
   most_turns = 15;
-  IsScramble = λ tries dials turns. IsScrambleOf dials turns;
+  IsScramble = λ tries dials turns. IsClockScramble dials turns;
 }
 
 abbrev pub scrambling_of : Event → Scrambling
-scrambling_of C222 = by_state numbered_222 puzzle_222 rule_222
+scrambling_of C222 = by_state numbered_222 (power_puzzle powers_222) rule_222
 scrambling_of C333 = NotYet
 scrambling_of Oh333 = NotYet
 scrambling_of C555 = NotYet
@@ -38,8 +51,8 @@ scrambling_of C666 = NotYet
 scrambling_of C777 = NotYet
 scrambling_of Clock = by_state clock_numbered clock_puzzle clock_rule
 scrambling_of Minx = NotYet
-scrambling_of Pyram = NotYet
-scrambling_of Skewb = NotYet
+scrambling_of Pyram = by_state numbered_pyram (power_puzzle pyram_powers) pyram_rule
+scrambling_of Skewb = by_state skewb_numbered (power_puzzle skewb_powers) skewb_rule
 scrambling_of Sq1 = NotYet
 
 -- the tables of an event, in the order in which they are built and printed
@@ -52,6 +65,6 @@ tables_of C666 = []
 tables_of C777 = []
 tables_of Clock = []
 tables_of Minx = []
-tables_of Pyram = []
-tables_of Skewb = []
+tables_of Pyram = pyramid_line ∷ []
+tables_of Skewb = skewb_line ∷ []
 tables_of Sq1 = []

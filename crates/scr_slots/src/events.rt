@@ -1,11 +1,10 @@
 //! The events in code: an impl and an arm for each.
 
-ghost use Rattle.std.specs.Prelude.{Contains, ◌≡◌, ◌≤◌, IsTrue, MatchResult};
-ghost use Rattle.scr_notation.specs.declared.event.Event.TheVariants.{C222};
+ghost use Rattle.std.specs.Prelude.{Contains, ◌≤◌, [], ◌∷◌, IsSome, IsTrue, MatchResult};
 ghost use Rattle.scr_list.specs.Events.{rules_of, greatest_of};
 ghost use Rattle.scr_outside.specs.Change.{change_of};
-ghost use Rattle.scr_table.specs.Lines.{IsTableOf};
-ghost use Rattle.scr_small.specs.Puzzle222.{corners_line};
+ghost use Rattle.scr_table.specs.Lines.{AreTablesOf};
+ghost use Rattle.scr_small.specs.Tables.{small_line};
 ghost use Rattle.scr_table_text.specs.Counted.{WritesTables};
 ghost use Rattle.scr_slots.specs.Events.{scrambling_of, tables_of};
 ghost use Rattle.scr_slots.specs.Slots.{IsSlotScramble};
@@ -15,13 +14,13 @@ use crate::scrambled::{Scrambled, drawn_scramble};
 use crate::settings::Settings;
 use crate::tables::Tables;
 use scr_clock::{Clock, ClockNumbers, scramble_clock};
-use scr_cube::Corners222;
 use scr_draw::DrawLimit;
 use scr_notation::{Event, Scramble};
 use scr_outside::{Failed, Sink};
-use scr_small::{Small222, SmallTables, scramble_222};
-use scr_table::{DistanceTable, TableName};
+use scr_small::{OneTable, Small222, SmallPuzzle, SmallPyram, SmallSkewb};
+use scr_table::DistanceTable;
 use scr_table_text::write_tables;
+use scr_tetra::Pyraminx;
 
 impl Scrambled for ClockNumbers {
     ghost use Rattle.scr_clock.specs.Proofs.AmountLaws.{IsScrambleOf-one};
@@ -36,25 +35,37 @@ impl Scrambled for ClockNumbers {
     ghost only = { λ _ tries. IsScrambleOf-one };
 }
 
-impl Scrambled for Small222<'_> {
-    ghost use Rattle.scr_small.specs.Puzzle222.{numbered_puzzle_222};
-    ghost use Rattle.scr_small.specs.Lawful222.{lawful_puzzle_222};
+impl<P: OneTable> Scrambled for SmallPuzzle<'_, P> {
     ghost use Rattle.scr_small.specs.PuzzleLaws.{IsScrambleOf-unique};
-    ghost use Rattle.scr_slots.specs.Events.{rule_222};
+    ghost use Rattle.scr_slots.specs.Events.{small_rule};
 
-    ghost rule = { λ _. rule_222 };
+    ghost rule = { λ _. small_rule P.shown P.BOUND };
 
-    fn scramble(&self, state: &Corners222, _tries: u32) -> Scramble {
-        scramble_222(self.tables(), state)
+    fn scramble(&self, state: &P::State, _tries: u32) -> Scramble {
+        self.scramble_of(state)
     }
 
-    ghost only = { λ _ tries. IsScrambleOf-unique numbered_puzzle_222 lawful_puzzle_222 };
+    ghost only = { λ _ tries. IsScrambleOf-unique P.shown P.lawful };
+}
+
+impl Scrambled for SmallPyram<'_> {
+    ghost use Rattle.scr_small.specs.PyramLaws.{IsScramblePyram-unique};
+    ghost use Rattle.scr_slots.specs.Events.{pyram_rule};
+
+    ghost rule = { λ _. pyram_rule };
+
+    fn scramble(&self, state: &Pyraminx, _tries: u32) -> Scramble {
+        self.scramble_of(state)
+    }
+
+    ghost only = { λ _ tries. IsScramblePyram-unique };
 }
 
 /// The scramble of a slot of an event on this stream, or how many words its attempts took, where they draw no state that
 /// needs at least `least` turns.
 ///
-/// The tables are those of a list with the event, which is one that lists take; `least` is in its range, and there are at most 1,000,000 attempts.
+/// The tables are those of a list with the event, which is one that lists take; `least` is in its range, and there are at
+/// most 1,000,000 attempts.
 pub fn slot_scramble(
     tables: &Tables,
     event: Event,
@@ -70,16 +81,25 @@ pub fn slot_scramble(
         (IsMissed (scrambling_of event) settings.now least stream) }
 {
     match event {
-        Event::C222 => { drawn_scramble(&Small222::new(tables.of_222()), settings, least, stream) }
+        Event::C222 => {
+            let cube = Small222::new(tables.of_small(event));
+            drawn_scramble(&cube, settings, least, stream)
+        }
         Event::Clock => drawn_scramble(&ClockNumbers, settings, least, stream),
+        Event::Pyram => {
+            let pyraminx = SmallPyram::new(tables.of_small(event));
+            drawn_scramble(&pyraminx, settings, least, stream)
+        }
+        Event::Skewb => {
+            let skewb = SmallSkewb::new(tables.of_small(event));
+            drawn_scramble(&skewb, settings, least, stream)
+        }
         Event::C333
         | Event::Oh333
         | Event::C555
         | Event::C666
         | Event::C777
         | Event::Minx
-        | Event::Pyram
-        | Event::Skewb
         | Event::Sq1 => unreachable!(),
     }
 }
@@ -93,7 +113,9 @@ pub fn write_tables_of<O: Sink>(tables: &Tables, event: Event, out: &mut O) -> R
     ensures { WritesTables (tables_of event) (change_of O.held O.faults out.old out.new) result }
 {
     match event {
-        Event::C222 => write_tables(out, &[corners_table(tables.of_222())]),
+        Event::C222 | Event::Pyram | Event::Skewb => {
+            write_tables(out, &[small_table(tables, event)])
+        }
         Event::C333
         | Event::Oh333
         | Event::C555
@@ -101,19 +123,15 @@ pub fn write_tables_of<O: Sink>(tables: &Tables, event: Event, out: &mut O) -> R
         | Event::C777
         | Event::Clock
         | Event::Minx
-        | Event::Pyram
-        | Event::Skewb
         | Event::Sq1 => write_tables(out, &[]),
     }
 }
 
-/// The table of the 2x2x2.
-fn corners_table(tables: &SmallTables) -> &DistanceTable
-    requires { tables.now.event ≡ C222 }
-    ensures { IsTableOf corners_line result.now }
+/// The table of an event that one table solves.
+fn small_table(tables: &Tables, event: Event) -> &DistanceTable
+    requires listed { Contains tables.now event }
+    requires small { IsSome (small_line event) }
+    ensures { AreTablesOf (tables_of event) (result.now ∷ []) }
 {
-    match tables.table(TableName::Corners) {
-        Some(table) => table,
-        None => unreachable!(),
-    }
+    tables.of_small(event).only()
 }

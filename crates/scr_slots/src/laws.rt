@@ -2,6 +2,7 @@
 
 ghost use Rattle.std.specs.Prelude.{Contains, ◌≡◌, ◌+◌, ◌≤◌, ◌<◌, ℕ, IsTrue};
 ghost use Rattle.scr_notation.specs.declared.event.Event.{Event as EventOf};
+ghost use Rattle.scr_notation.specs.declared.event.Event.TheVariants.{C222, Pyram, Skewb};
 ghost use Rattle.scr_list.specs.Events.{rules_of, greatest_of};
 ghost use Rattle.scr_slots.specs.Events.{scrambling_of};
 ghost use Rattle.scr_slots.specs.Slots.{IsDrawnFairly, by_state, first_stream};
@@ -12,7 +13,7 @@ use crate::tables::Tables;
 use scr_clock::ClockNumbers;
 use scr_draw::laws as drawing;
 use scr_notation::Event;
-use scr_small::Small222;
+use scr_small::{Small222, SmallPyram, SmallSkewb};
 
 /// What a slot of an event has does not depend on how it is found: it has one scramble at most, and either that or none.
 pub fn one_scramble()
@@ -33,8 +34,35 @@ pub fn each_drawn_fairly(tables: &Tables)
         → least ≤ greatest_of (rules_of event).minima → IsDrawnFairly (scrambling_of event) least }
 {
     drawn_fairly(&ClockNumbers);
+    fairly_222(tables);
+    fairly_pyram(tables);
+    fairly_skewb(tables);
+}
+
+/// The 2x2x2, where its table is built.
+fn fairly_222(tables: &Tables)
+    ensures { Contains tables.now C222 → (least : ℕ) → least ≤ 11 → IsDrawnFairly (scrambling_of C222) least }
+{
     if tables.has(Event::C222) {
-        drawn_fairly(&Small222::new(tables.of_222()));
+        drawn_fairly(&Small222::new(tables.of_small(Event::C222)));
+    }
+}
+
+/// The Pyraminx, where its table is built.
+fn fairly_pyram(tables: &Tables)
+    ensures { Contains tables.now Pyram → (least : ℕ) → least ≤ 15 → IsDrawnFairly (scrambling_of Pyram) least }
+{
+    if tables.has(Event::Pyram) {
+        drawn_fairly(&SmallPyram::new(tables.of_small(Event::Pyram)));
+    }
+}
+
+/// The Skewb, where its table is built.
+fn fairly_skewb(tables: &Tables)
+    ensures { Contains tables.now Skewb → (least : ℕ) → least ≤ 11 → IsDrawnFairly (scrambling_of Skewb) least }
+{
+    if tables.has(Event::Skewb) {
+        drawn_fairly(&SmallSkewb::new(tables.of_small(Event::Skewb)));
     }
 }
 

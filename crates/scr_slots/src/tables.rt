@@ -1,7 +1,7 @@
 //! The tables of a list's events.
 
-ghost use Rattle.std.specs.Prelude.{◌≡◌, ◌≤◌, ◌↔◌, [], ◌∷◌, map, length, Contains, IfOk, IfErr, IsTrue};
-ghost use Rattle.scr_notation.specs.declared.event.Event.TheVariants.{C222};
+ghost use Rattle.std.specs.Prelude.{◌≡◌, ◌≤◌, ◌↔◌, [], ◌∷◌, map, length, Contains, IfOk, IfErr, IsSome, IsSomeAnd, IsTrue};
+ghost use Rattle.scr_small.specs.Tables.{small_line};
 ghost use Rattle.scr_slots.specs.Held.{HoldTables};
 ghost use Rattle.scr_slots.specs.Tables.{IsBuildCause};
 
@@ -20,7 +20,9 @@ const MOST_ROUNDS: usize = 64;
 #[derive(Drop)]
 pub struct Tables {
     rounds: ArrayVec<Round, MOST_ROUNDS>,
-    tables_222: Option<SmallTables>,
+    of_222: Option<SmallTables>,
+    of_pyram: Option<SmallTables>,
+    of_skewb: Option<SmallTables>,
 }
 
 // Clauses see the events for which they are built.
@@ -30,12 +32,13 @@ impl Model for Tables {
 
     ghost Value = { List Event };
 
-    ghost use Rattle.scr_notation.specs.declared.event.Event.TheVariants.{C222};
+    ghost use Rattle.scr_notation.specs.declared.event.Event.TheVariants.{C222, Pyram, Skewb};
     ghost use Rattle.scr_slots.specs.Held.{HoldTables};
 
     ghost view = { λ tables. map (λ round. round.event) tables.rounds.items };
 
-    ghost invariant = { λ tables. HoldTables C222 (map (λ round. round.event) tables.rounds.items) tables.tables_222 };
+    ghost invariant = { λ tables. let events = map (λ round. round.event) tables.rounds.items in
+        HoldTables C222 events tables.of_222 × HoldTables Pyram events tables.of_pyram × HoldTables Skewb events tables.of_skewb };
 }
 
 impl Tables {
@@ -50,10 +53,14 @@ impl Tables {
         for round in rounds {
             asked.push(*round);
         }
-        let tables_222 = tables_222(alloc, rounds)?;
+        let of_222 = small_tables(alloc, rounds, Event::C222)?;
+        let of_pyram = small_tables(alloc, rounds, Event::Pyram)?;
+        let of_skewb = small_tables(alloc, rounds, Event::Skewb)?;
         Ok(Tables {
             rounds: asked,
-            tables_222,
+            of_222,
+            of_pyram,
+            of_skewb,
         })
     }
 
@@ -79,15 +86,36 @@ impl Tables {
         has_round(self.rounds.as_slice(), event)
     }
 
-    /// The tables of the 2x2x2, where the list has a round of it.
-    pub(crate) fn of_222(&self) -> &SmallTables
-        requires { Contains self.now C222 }
-        ensures { result.now.event ≡ C222 }
+    /// The table of an event that one table solves, where the list has a round of it.
+    pub(crate) fn of_small(&self, event: Event) -> &SmallTables
+        requires listed { Contains self.now event }
+        requires small { IsSome (small_line event) }
+        ensures { result.now.event ≡ event }
     {
-        match &self.tables_222 {
-            Some(tables) => tables,
-            None => unreachable!(),
+        match event {
+            Event::C222 => held(&self.of_222, event),
+            Event::Pyram => held(&self.of_pyram, event),
+            Event::Skewb => held(&self.of_skewb, event),
+            Event::C333
+            | Event::Oh333
+            | Event::C555
+            | Event::C666
+            | Event::C777
+            | Event::Clock
+            | Event::Minx
+            | Event::Sq1 => unreachable!(),
         }
+    }
+}
+
+/// The table of this event, which is there.
+fn held(tables: &Option<SmallTables>, event: Event) -> &SmallTables
+    requires { IsSomeAnd tables.now (λ built. built.event ≡ event) }
+    ensures { result.now.event ≡ event }
+{
+    match tables {
+        Some(tables) => tables,
+        None => unreachable!(),
     }
 }
 
@@ -103,13 +131,18 @@ fn has_round(rounds: &[Round], event: Event) -> bool
     false
 }
 
-/// The tables of the 2x2x2, where one of these rounds is of it.
-fn tables_222(alloc: Global, rounds: &[Round]) -> Result<Option<SmallTables>, BuildFault>
-    ensures built { IfOk result (HoldTables C222 (map (λ round. round.event) rounds.now)) }
+/// The table of an event that one table solves, where one of these rounds is of it.
+fn small_tables(
+    alloc: Global,
+    rounds: &[Round],
+    event: Event,
+) -> Result<Option<SmallTables>, BuildFault>
+    requires { IsSome (small_line event) }
+    ensures built { IfOk result (HoldTables event (map (λ round. round.event) rounds.now)) }
     ensures cause { IfErr result (IsBuildCause (map (λ round. round.event) rounds.now)) }
 {
-    if has_round(rounds, Event::C222) {
-        let tables = SmallTables::build(alloc, Event::C222)?;
+    if has_round(rounds, event) {
+        let tables = SmallTables::build(alloc, event)?;
         Ok(Some(tables))
     } else {
         Ok(None)

@@ -1,6 +1,5 @@
-pub mod Scrambles
-pub mod Parts
-pub mod Parts222
+pub mod WalkedWords
+pub mod ShownByParts
 pub mod BuiltTables
 pub mod Pairs
 pub mod OnLiterals

@@ -1,60 +1,58 @@
--- The 2x2x2 is a numbered puzzle. (The proof stands in specs/, since laws of the code's types cite it.)
-use Rattle.std.proofs.Common.{◌≡◌, ℕ, ◌+◌, ◌-◌, ◌*◌, ◌/◌, ◌%◌, ◌<◌, ◌≤◌, Some, ap, sym, ◌∙◌, lit<, arith, ⊎_elim}
-use Rattle.std.specs.Prelude.{slice_get}
-use Rattle.std.proofs.lemmas.Bool.{cases_lt}
-use Rattle.std.proofs.lemmas.Option.{slice_get_within, same_Some}
-use Rattle.scr_orbit.specs.Actions.{Power, power, power_of}
-use Rattle.scr_orbit.specs.Orbits.{Orbit, Rearrangement}
-use Rattle.scr_orbit.proofs.ActionLaws.{map-some}
+-- The 2x2x2 is a numbered puzzle, whose twists and list of corners turns move each by itself. (The proof stands in specs/,
+-- since laws of the code's types cite it.)
+use Rattle.std.proofs.Common.{◌≡◌, ◌/◌, ◌%◌, refl, ap, sym, ◌∙◌, lit<, arith}
+use Rattle.scr_combinatorics.specs.Lists.{pick}
+use Rattle.scr_combinatorics.specs.Permutations.{permutation_number, permutation_at}
+use Rattle.scr_combinatorics.specs.Twists.{twists_number, twists_at}
+use Rattle.scr_combinatorics.proofs.Twists.{twists_number-lt}
+use Rattle.scr_orbit.specs.Orbits.{Orbit, turned_orbit, solved_orbit, added_digits}
 use Rattle.scr_orbit.proofs.OrbitLaws.{IsZeroSumOrbit-solved}
-use Rattle.scr_orbit.proofs.PowerLaws.{after-no_power}
-use Rattle.scr_notation.specs.declared.turn.Turn.{Turn}
-use Rattle.scr_notation.specs.TurnNumbers.{face_turn_at}
-use Rattle.scr_cube.specs.Faces.{quarters_of}
-use Rattle.scr_cube.specs.Cube222.{quarters_222, action_222, table_222, corners_after, solved_222}
+use Rattle.scr_turning.specs.PowerPuzzles.{letter_table}
+use Rattle.scr_cube.specs.Cube222.{IsCorners222, action_222, powers_222, solved_222, numbered_222, digits_222, corners_of_digits}
 use Rattle.scr_cube.specs.Numbered222.{numbering_222}
-use Rattle.scr_cube.proofs.FaceLaws.{IsQuartersOf-read, quarters_of-face}
 use Rattle.scr_cube.proofs.Laws222.{lawful_222}
-use Rattle.scr_cube.proofs.TurnLaws.{face_turn_at-face, inner, outer}
-use Rattle.scr_play.proofs.PlayLaws.{and_then-some}
 use Rattle.scr_small.specs.LawfulPuzzles.{IsNumberedPuzzle}
 use Rattle.scr_small.specs.Puzzle222.{numbered_puzzle_222}
-
--- a turn by its number, from 9 on, is one of a face that the puzzle hasn't
-past_faces : (n : ℕ) → 9 ≤ n → (p : Power) → quarters_of (face_turn_at n) ≡ Some p → 3 ≤ p.generator
-past_faces n le p e =
-    ⊎_elim
-    (λ l.
-    let same = same_Some _ p (sym (quarters_of-face (n / 3) (n % 3 + 1) (omega arith) (omega arith)) ∙ sym (ap quarters_of (outer n l)) ∙ e) in
-    let face : n / 3 ≡ p.generator = ap (λ q. q.generator) same in
-    omega arith)
-    (λ l. absurd (cc (inner n l, e)))
-    (cases_lt n 18)
-
--- a face that can be turned is one of the three
-face_below : (p : Power) (r : Rearrangement) → power_of action_222 quarters_222 p ≡ Some r → p.generator < 3
-unfolding power_of
-face_below p r e =
-    let found = map-some (λ q. power action_222 q p.exponent) (slice_get quarters_222 p.generator) r e in
-    slice_get_within quarters_222 p.generator found.0 found.1
-
--- what does something is a turn with a number below nine
-number_of_turn : (s r : Orbit) (t : Turn) → corners_after s t ≡ Some r → (n : ℕ) × (n < 9) × (face_turn_at n ≡ t)
-number_of_turn s r t e =
-    let read = map-some (action_222.turned s) (table_222 t) r e in
-    let power = and_then-some (power_of action_222 quarters_222) (quarters_of t) read.0 read.1 in
-    let p = power.0 in
-    let q = IsQuartersOf-read t p power.1 in
-    let face : p.generator < 3 = face_below p read.0 power.2 in
-    (3 * p.generator + (p.exponent - 1), omega (arith, q.some, q.few), face_turn_at-face _ p.generator p.exponent (omega arith) (omega (arith, face)) q.some q.few ∙ sym q.is)
+use Rattle.scr_small.specs.StateParts.{MovesByParts}
+use Rattle.scr_small.specs.PartLaws.{AreParts, MovesByParts-table}
 
 pub lawful_puzzle_222 : IsNumberedPuzzle numbered_puzzle_222
 unfolding solved_222
 lawful_puzzle_222 = record {
   numbering = numbering_222;
   solved = IsZeroSumOrbit-solved 7 3 (lit< tt);
-  kept = lawful_222.kept;
-  taken_back = lawful_222.taken_back;
-  numbers = number_of_turn;
-  no_more = λ s n le. after-no_power action_222 quarters_222 quarters_of s (face_turn_at n) (past_faces n le);
+  kept = lawful_222.lawful.kept;
+  taken_back = lawful_222.lawful.taken_back;
+  numbers = lawful_222.numbers;
+  no_more = lawful_222.no_more;
 }
+
+-- ---- the twists and the list of corners
+
+number_of_twists : (o : Orbit) → IsCorners222 o → numbered_222.number_of o % 729 ≡ twists_number 3 o.digits
+unfolding digits_222
+number_of_twists o h = omega (arith, twists_number-lt 7 3 o.digits h.digits)
+
+number_of_corners : (o : Orbit) → IsCorners222 o → numbered_222.number_of o / 729 ≡ permutation_number o.pieces
+unfolding digits_222
+number_of_corners o h = omega (arith, twists_number-lt 7 3 o.digits h.digits)
+
+told_222 : AreParts numbered_puzzle_222 729 (λ o. o.digits) (λ o. o.pieces)
+unfolding corners_of_digits
+told_222 = record {
+  low_told = λ i j e. ap (twists_at 7 3) e;
+  high_told = λ i j e. ap (λ d. permutation_at 7 (d % 5040)) e;
+  low_number = λ s r v w e. number_of_twists s v ∙ ap (twists_number 3) e ∙ sym (number_of_twists r w);
+  high_number = λ s r v w e. number_of_corners s v ∙ ap permutation_number e ∙ sym (number_of_corners r w);
+}
+
+pub parts_222 : MovesByParts numbered_puzzle_222 729 5040
+unfolding turned_orbit
+parts_222 =
+    MovesByParts-table numbered_puzzle_222 lawful_puzzle_222 action_222 (letter_table powers_222) (λ s t. refl) 729 5040 refl (λ o. o.digits) (λ o. o.pieces) told_222
+    (λ s r x e. ap (λ digits. added_digits 3 (pick digits x.places) x.added) e) (λ s r x e. ap (λ pieces. pick pieces x.places) e)
+
+-- solved has the first number
+pub first_222 : numbered_222.number_of solved_222 ≡ 0
+unfolding solved_222 solved_orbit digits_222
+first_222 = refl

@@ -1,6 +1,13 @@
 pub mod NumberedPuzzles
+pub mod LawfulPuzzles
 pub mod PuzzleLaws
+pub mod StateParts
+pub mod PartLaws
 pub mod Puzzle222
 pub mod Lawful222
+pub mod PuzzleSkewb
+pub mod LawfulSkewb
+pub mod PuzzlePyram
+pub mod LawfulTetraminx
+pub mod PyramLaws
 pub mod Tables
-pub mod LawfulPuzzles

@@ -7,6 +7,8 @@ use Rattle.scr_play.specs.Back.{back}
 use Rattle.scr_play.specs.FirstWord.{IsFirstWord}
 use Rattle.scr_play.specs.Reach.{Puzzle}
 use Rattle.scr_coord.specs.Coordinates.{Coordinate}
+use Rattle.scr_table.specs.declared.name.TableName.{TableName}
+use Rattle.scr_table.specs.Lines.{TableLine}
 
 -- Numbered states; what a letter makes of one, or nothing where it is no turn of the puzzle; which state is solved; how many
 -- turns there are, and the letter of each number below that; and the letter that takes a letter's turn back.
@@ -35,6 +37,10 @@ state_coordinate p = record {
   after = λ i n. option_map p.numbered.number_of (after_number p (p.numbered.state_at i) n);
   is_goal = λ i. i == p.numbered.number_of p.solved;
 }
+
+-- The table of this name over them, where no state is farther than so many turns.
+abbrev pub state_line : {S T : Type 0} → NumberedPuzzle S T → TableName → ℕ → TableLine
+state_line p name bound = record { name = name; coordinate = state_coordinate p; bound = bound }
 
 -- The first word of turn numbers that leads from a state to solved, in the order of words: by length, and then by numbers.
 abbrev pub IsFirstSolution : {S T : Type 0} → NumberedPuzzle S T → S → List ℕ → Type 0

@@ -16,10 +16,14 @@ use Rattle.scr_coord.specs.Coordinates.{StaysBelow}
 use Rattle.scr_coord.specs.SearchSpaces.{SearchSpace, positions, Follows, FindsTheSame}
 use Rattle.scr_coord.proofs.SearchLaws.{FindsTheSame-follows}
 use Rattle.scr_table.specs.Distances.{Distances, Measures}
-use Rattle.scr_cube.proofs.Minima.{count_once}
+use Rattle.scr_orbit.proofs.Minima.{count_once}
 use Rattle.scr_table.proofs.FoundWords.{first_word}
 use Rattle.scr_small.specs.NumberedPuzzles.{NumberedPuzzle, puzzle_of, after_number, state_coordinate, IsFirstSolution, IsScrambleOf}
 use Rattle.scr_small.specs.LawfulPuzzles.{IsNumberedPuzzle}
+
+-- what is so where a number is no less, is so where the test of it passes
+pub tested_by : {P : Type 0} (least d : ℕ) → (least ≤ d) ↔ P → IsTrue (nat_le least d) ↔ P
+tested_by least d iff = (λ e. iff.0 (leb-true least d e), λ h. le-leb least d (iff.1 h))
 
 module _ {S T : Type 0} (p : NumberedPuzzle S T) (l : IsNumberedPuzzle p) where
   -- what a search sees of the puzzle
@@ -161,9 +165,7 @@ module _ {S T : Type 0} (p : NumberedPuzzle S T) (l : IsNumberedPuzzle p) where
 
     -- and so says the test of the table's entry
     pub tested-iff : (s : S) (least : ℕ) → p.numbered.IsValid s → IsTrue (nat_le least (distance_of s)) ↔ Needs (puzzle_of p) s least
-    tested-iff s least h =
-        let needs = Needs-iff s least h in
-        (λ e. needs.0 (leb-true least (distance_of s) e), λ n. le-leb least (distance_of s) (needs.1 n))
+    tested-iff s least h = tested_by least (distance_of s) (Needs-iff s least h)
 
     -- the scramble of a valid state has as many turns as its distance
     pub length-scramble : (s : S) (turns : List T) → p.numbered.IsValid s → IsScrambleOf p s turns → length turns ≡ distance_of s

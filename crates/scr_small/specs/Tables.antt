@@ -8,6 +8,8 @@ use Rattle.scr_notation.specs.declared.event.Event.TheVariants.{C222, C333, Oh33
 use Rattle.scr_table.specs.Distances.{Distances}
 use Rattle.scr_table.specs.Lines.{TableLine, IsTableOf}
 use Rattle.scr_small.specs.Puzzle222.{corners_line}
+use Rattle.scr_small.specs.PuzzlePyram.{pyramid_line}
+use Rattle.scr_small.specs.PuzzleSkewb.{skewb_line}
 
 -- The table of an event, where one table solves its states.
 abbrev pub small_line : Event → Option TableLine
@@ -19,8 +21,8 @@ small_line C666 = None
 small_line C777 = None
 small_line Clock = None
 small_line Minx = None
-small_line Pyram = None
-small_line Skewb = None
+small_line Pyram = Some pyramid_line
+small_line Skewb = Some skewb_line
 small_line Sq1 = None
 
 -- Built tables as callers see them: whose they are, and what stands in the one table.

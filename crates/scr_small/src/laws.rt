@@ -1,36 +1,71 @@
 //! Laws of the puzzles that one table solves. The functions do nothing: what each ensures is the law.
-ghost use Rattle.std.specs.Prelude.{◌≡◌, ℕ, ◌≤◌, ◌↔◌, List, [], ◌∷◌, Some, None, true, false, length, slice_index};
+ghost use Rattle.std.specs.Prelude.{◌≡◌, ℕ, ◌+◌, ◌≤◌, ◌↔◌, List, Some, None, true, false, length, slice_index};
 ghost use Rattle.scr_play.specs.Play.{play};
 ghost use Rattle.scr_play.specs.Reach.{IsReached, Needs};
-ghost use Rattle.scr_orbit.specs.Orbits.{Orbit};
 ghost use Rattle.scr_notation.specs.declared.turn.Turn.{Turn as Letter};
-ghost use Rattle.scr_notation.specs.TurnNumbers.{face_turn_at};
 ghost use Rattle.scr_coord.specs.Coordinates.{StaysBelow};
+ghost use Rattle.scr_coord.specs.Products.{product};
+ghost use Rattle.scr_coord.specs.SearchSpaces.{ShowsSame};
 ghost use Rattle.scr_table.specs.Distances.{Distances, Measures};
-ghost use Rattle.scr_cube.specs.Cube222.{IsCorners222, corners_after, numbered_222, puzzle_222, solved_222};
+ghost use Rattle.scr_turning.specs.PowerPuzzles.{after_letter, power_puzzle};
+ghost use Rattle.scr_tetra.specs.Pyraminx.{numbered_tetraminx, PyramState, IsPyram, pyram_powers, solved_pyram};
+ghost use Rattle.scr_tetra.specs.PyramParts.{turned_count};
 ghost use Rattle.scr_small.specs.LawfulPuzzles.{IsNumberedPuzzle};
-ghost use Rattle.scr_small.specs.Puzzle222.{numbered_puzzle_222, coordinate_222, IsScramble222};
+ghost use Rattle.scr_small.specs.NumberedPuzzles.{puzzle_of, state_coordinate, IsScrambleOf};
+ghost use Rattle.scr_small.specs.StateParts.{MovesByParts, low_part, high_part};
+ghost use Rattle.scr_small.specs.Puzzle222.{coordinate_222};
+ghost use Rattle.scr_small.specs.PuzzlePyram.{coordinate_tetraminx, IsScramblePyram};
+ghost use Rattle.scr_small.specs.PuzzleSkewb.{coordinate_skewb};
 
-/// The 2x2x2 is a numbered puzzle. Where a table measures its coordinate, its valid states are those that turns reach, a
-/// state needs as many turns as its distance and no more, and each valid state has a scramble, which has so many turns and
-/// leads to it from solved. With or without a table it has no two.
-pub fn measured_222()
-    ensures numbered { IsNumberedPuzzle numbered_puzzle_222 }
-    ensures stays { StaysBelow coordinate_222 }
-    ensures reached { (table : Distances) → Measures coordinate_222 table
-        → (s : Orbit) → IsCorners222 s ↔ IsReached puzzle_222 s }
-    ensures needs { (table : Distances) → Measures coordinate_222 table → (s : Orbit) (least : ℕ) → IsCorners222 s
-        → (least ≤ slice_index table.distances (numbered_222.number_of s)) ↔ Needs puzzle_222 s least }
-    ensures scrambled { (table : Distances) → Measures coordinate_222 table → (s : Orbit) → IsCorners222 s
-        → (turns : List Letter) × IsScramble222 s turns
-        × (length turns ≡ slice_index table.distances (numbered_222.number_of s))
-        × (play corners_after solved_222 turns ≡ Some s) }
-    ensures one_scramble { (s : Orbit) (some other : List Letter)
-        → IsScramble222 s some → IsScramble222 s other → some ≡ other }
+use crate::one_table::OneTable;
+
+/// Such a puzzle is a numbered one. Turns move the two parts of its states each by itself, so that the coordinates of the
+/// parts, side by side, show it.
+pub fn shown_by_parts<P: OneTable>()
+    ensures numbered { IsNumberedPuzzle P.shown }
+    ensures stays { StaysBelow (state_coordinate P.shown) }
+    ensures parts { MovesByParts P.shown P.LOW P.HIGH }
+    ensures shown { ShowsSame (state_coordinate P.shown) (product (low_part P.shown P.LOW) (high_part P.shown P.LOW P.HIGH)) }
 {}
 
-/// The coordinate at worked positions: it has 3,674,160; U leads from solved to number 1574640, and U' back; there is no
-/// tenth turn; solved alone is the goal.
+/// Where a table measures the coordinate of such a puzzle, its valid states are those that turns reach, a state needs as many
+/// turns as its distance and no more, and each valid state has a scramble, which has so many turns and leads to it from
+/// solved. With or without a table it has no two.
+pub fn measured<P: OneTable>()
+    ensures reached { (table : Distances) → Measures (state_coordinate P.shown) table
+        → (s : P.State) → P.shown.numbered.IsValid s ↔ IsReached (puzzle_of P.shown) s }
+    ensures needs { (table : Distances) → Measures (state_coordinate P.shown) table
+        → (s : P.State) (least : ℕ) → P.shown.numbered.IsValid s
+        → (least ≤ slice_index table.distances (P.shown.numbered.number_of s)) ↔ Needs (puzzle_of P.shown) s least }
+    ensures scrambled { (table : Distances) → Measures (state_coordinate P.shown) table
+        → (s : P.State) → P.shown.numbered.IsValid s
+        → (turns : List Letter) × IsScrambleOf P.shown s turns
+        × (length turns ≡ slice_index table.distances (P.shown.numbered.number_of s))
+        × (play P.shown.after P.shown.solved turns ≡ Some s) }
+    ensures one_scramble { (s : P.State) (some other : List Letter)
+        → IsScrambleOf P.shown s some → IsScrambleOf P.shown s other → some ≡ other }
+{}
+
+/// Where a table measures the Pyraminx without tips, the valid states of the Pyraminx are those that turns reach; a state needs
+/// as many turns as its distance without tips and one for each tip that stands turned, and no more; and each valid state has
+/// a scramble, which leads to it from solved. With or without a table it has no two.
+pub fn measured_pyram()
+    ensures reached { (table : Distances) → Measures coordinate_tetraminx table
+        → (s : PyramState) → IsPyram s ↔ IsReached (power_puzzle pyram_powers) s }
+    ensures needs { (table : Distances) → Measures coordinate_tetraminx table
+        → (s : PyramState) (least : ℕ) → IsPyram s
+        → (least ≤ slice_index table.distances (numbered_tetraminx.number_of s.body) + turned_count s.tips)
+        ↔ Needs (power_puzzle pyram_powers) s least }
+    ensures scrambled { (table : Distances) → Measures coordinate_tetraminx table
+        → (s : PyramState) → IsPyram s → (turns : List Letter) × IsScramblePyram s turns }
+    ensures played { (s : PyramState) (turns : List Letter) → IsPyram s → IsScramblePyram s turns
+        → play (after_letter pyram_powers) solved_pyram turns ≡ Some s }
+    ensures one_scramble { (s : PyramState) (some other : List Letter)
+        → IsScramblePyram s some → IsScramblePyram s other → some ≡ other }
+{}
+
+/// The coordinate of the 2x2x2 at worked positions: it has 3,674,160; U leads from solved to number 1574640, and U' back;
+/// there is no tenth turn; solved alone is the goal.
 #[tactic(auto, unfolding(crate::proofs::OnLiterals::positions_on_literals))]
 pub fn rows_222()
     ensures count { coordinate_222.count ≡ 3674160 }
@@ -39,4 +74,29 @@ pub fn rows_222()
     ensures no_tenth { coordinate_222.after 0 9 ≡ None }
     ensures solved { coordinate_222.is_goal 0 ≡ true }
     ensures unsolved { coordinate_222.is_goal 1574640 ≡ false }
+{}
+
+/// That of the Pyraminx without tips: it has 933,120; U leads from solved to number 186625, and U' back; there is no ninth
+/// turn; solved alone is the goal.
+#[tactic(auto, unfolding(crate::proofs::OnLiterals::positions_on_literals))]
+pub fn rows_pyram()
+    ensures count { coordinate_tetraminx.count ≡ 933120 }
+    ensures turned { coordinate_tetraminx.after 0 0 ≡ Some 186625 }
+    ensures turned_back { coordinate_tetraminx.after 186625 1 ≡ Some 0 }
+    ensures no_ninth { coordinate_tetraminx.after 0 8 ≡ None }
+    ensures solved { coordinate_tetraminx.is_goal 0 ≡ true }
+    ensures unsolved { coordinate_tetraminx.is_goal 186625 ≡ false }
+{}
+
+/// That of the Skewb: it has 3,149,280; B leads from solved to number 9423, and U from there to number 1718795; B' leads back;
+/// there is no ninth turn; solved alone is the goal.
+#[tactic(auto, unfolding(crate::proofs::OnLiterals::positions_on_literals))]
+pub fn rows_skewb()
+    ensures count { coordinate_skewb.count ≡ 3149280 }
+    ensures turned { coordinate_skewb.after 0 6 ≡ Some 9423 }
+    ensures turned_again { coordinate_skewb.after 9423 0 ≡ Some 1718795 }
+    ensures turned_back { coordinate_skewb.after 9423 7 ≡ Some 0 }
+    ensures no_ninth { coordinate_skewb.after 0 8 ≡ None }
+    ensures solved { coordinate_skewb.is_goal 0 ≡ true }
+    ensures unsolved { coordinate_skewb.is_goal 9423 ≡ false }
 {}

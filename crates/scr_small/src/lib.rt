@@ -1,23 +1,35 @@
-//! Puzzles that one table solves: the 2x2x2.
+//! Puzzles that one table solves: the 2x2x2, the Pyraminx and the Skewb.
 //!
 //! What such a puzzle is stands in `specs/NumberedPuzzles.antt`, with no puzzle's name in it: numbered states, numbered
 //! turns, the coordinate of the states' numbers, and the scramble of a state, which is the first word that solves it, taken
 //! back. `specs/PuzzleLaws.antt` says what a table that measures the coordinate tells of any such puzzle: its valid states
 //! are those that turns reach, a state needs as many turns as its distance, and each has one scramble, which leads to it
-//! from solved. `specs/Puzzle222.antt` has the 2x2x2's data.
+//! from solved. `specs/Puzzle222.antt`, `specs/PuzzlePyram.antt` and `specs/PuzzleSkewb.antt` have the puzzles' data. The
+//! table of the Pyraminx is over its states without tips: `specs/PyramLaws.antt` says what it tells of those with tips.
 //!
-//! [`SmallTables`] is the built table of an event, over two move tables side by side; [`scramble_222`] and [`needs_222`]
-//! walk and read it, and [`Small222`] is the event that fair drawing takes, whose law is that the states it draws are those
-//! that turns reach.
+//! A state is two parts that turns move each by itself (`specs/StateParts.antt`), so that a table is filled over two move
+//! tables side by side. [`OneTable`] is what a puzzle gives: its numbers and turns in code, and these laws. [`SmallTables`]
+//! is the built table of an event; [`scramble_222`], [`scramble_pyram`], [`scramble_skewb`] and the tests of minima walk and
+//! read it; [`SmallPuzzle`] and [`SmallPyram`] are the events that fair drawing takes, whose law is that the states it draws
+//! are those that turns reach.
 #![tactic(auto)]
 
 pub mod laws;
+mod one_table;
 mod pair_table;
-mod puzzle;
+mod parts;
+mod scrambles;
 mod small_222;
+mod small_puzzle;
+mod small_pyram;
+mod small_skewb;
 mod tables;
 
+pub use one_table::OneTable;
 pub use small_222::{Small222, needs_222, scramble_222};
+pub use small_puzzle::SmallPuzzle;
+pub use small_pyram::{SmallPyram, needs_pyram, scramble_pyram};
+pub use small_skewb::{SmallSkewb, needs_skewb, scramble_skewb};
 pub use tables::SmallTables;
 
 #[cfg(test)]

@@ -1,20 +1,15 @@
 //! The built table of an event.
 ghost use Rattle.std.specs.Prelude.{◌≡◌, ◌↔◌, IfOk, IfErr, IfSome, IsSome};
-ghost use Rattle.scr_notation.specs.declared.event.Event.TheVariants.{C222};
 ghost use Rattle.scr_table.specs.Causes.{IsCause};
-ghost use Rattle.scr_coord.specs.Moves.{moves_coordinate};
-ghost use Rattle.scr_coord.specs.Products.{product};
-ghost use Rattle.scr_coord.specs.SearchSpaces.{ShowsSame};
-ghost use Rattle.scr_table.specs.Lines.{IsTableOf};
-ghost use Rattle.scr_table.specs.declared.name.TableName.TheVariants.{Corners};
-ghost use Rattle.scr_small.specs.Tables.{small_line};
-ghost use Rattle.scr_small.specs.Puzzle222.{coordinate_222, corners_line};
+ghost use Rattle.scr_small.specs.Tables.{small_line, IsBuilt, ShowsEvent};
 
+use crate::one_table::OneTable;
 use crate::pair_table::PairTable;
-use scr_coord::{Lists, Twists};
-use scr_cube::turns_222;
+use crate::parts::{HighPart, LowPart};
+use scr_cube::Numbers222;
 use scr_notation::Event;
 use scr_table::{BuildFault, DistanceTable, TableName};
+use scr_tetra::{SkewbNumbers, TetraminxNumbers};
 use std::alloc::Global;
 use std::marker::Model;
 
@@ -38,17 +33,15 @@ impl Model for SmallTables {
 }
 
 impl SmallTables {
-    ghost use Rattle.scr_small.specs.Tables.{IsBuilt, ShowsEvent};
-
-    /// The table of 222, or why there is none.
+    /// The table of an event that one table solves, or why there is none.
     pub fn build(alloc: Global, event: Event) -> Result<SmallTables, BuildFault>
-        requires { event ≡ C222 }
+        requires { IsSome (small_line event) }
         ensures event { IfOk result (λ tables. tables.event ≡ event) }
         ensures table { IfOk result IsBuilt }
         ensures cause { IfErr result (λ fault.
             IfSome (small_line event) (λ line. IsCause line.name line.coordinate line.bound fault)) }
     {
-        let table = table_222(alloc)?;
+        let table = table_of_event(alloc, event)?;
         Ok(SmallTables { event, table })
     }
 
@@ -66,6 +59,14 @@ impl SmallTables {
         }
     }
 
+    /// The one table.
+    pub fn only(&self) -> &DistanceTable
+        ensures same { result.now ≡ self.now.distances }
+        ensures built { IsBuilt self.now }
+    {
+        &self.table.distances
+    }
+
     /// The table, with the moves by which it is walked down.
     pub(crate) fn pair(&self) -> &PairTable
         ensures same { result.now.distances ≡ self.now.distances }
@@ -76,15 +77,37 @@ impl SmallTables {
     }
 }
 
-/// The table of the 2x2x2: the twists follow each other in its positions, beside the lists of corners.
-fn table_222(alloc: Global) -> Result<PairTable, BuildFault>
-    ensures table { IfOk result (λ table. IsTableOf corners_line table.distances) }
-    ensures shows { IfOk result (λ table.
-        ShowsSame coordinate_222 (product (moves_coordinate table.low) (moves_coordinate table.high))) }
-    ensures cause { IfErr result (IsCause Corners coordinate_222 11) }
+/// The table of an event that one table solves.
+fn table_of_event(alloc: Global, event: Event) -> Result<PairTable, BuildFault>
+    requires { IsSome (small_line event) }
+    ensures table { IfOk result (λ table. IsBuilt (record { event = event; distances = table.distances })) }
+    ensures shows { IfOk result (λ table. ShowsEvent event table.low table.high) }
+    ensures cause { IfErr result (λ fault.
+        IfSome (small_line event) (λ line. IsCause line.name line.coordinate line.bound fault)) }
 {
-    let turns = turns_222();
-    let twists = Twists::<7, 3>::new(turns);
-    let corners = Lists::<7>::new(turns);
-    PairTable::build(alloc, TableName::Corners, &twists, &corners, 11)
+    match event {
+        Event::C222 => table_of::<Numbers222>(alloc),
+        Event::Pyram => table_of::<TetraminxNumbers>(alloc),
+        Event::Skewb => table_of::<SkewbNumbers>(alloc),
+        Event::C333
+        | Event::Oh333
+        | Event::C555
+        | Event::C666
+        | Event::C777
+        | Event::Clock
+        | Event::Minx
+        | Event::Sq1 => unreachable!(),
+    }
+}
+
+/// The table of a puzzle, over its two parts side by side.
+fn table_of<P: OneTable>(alloc: Global) -> Result<PairTable, BuildFault>
+    ensures table { IfOk result (λ table. IsBuilt (record { event = P.EVENT; distances = table.distances })) }
+    ensures shows { IfOk result (λ table. ShowsEvent P.EVENT table.low table.high) }
+    ensures cause { IfErr result (λ fault.
+        IfSome (small_line P.EVENT) (λ line. IsCause line.name line.coordinate line.bound fault)) }
+{
+    let low = LowPart::<P>::new();
+    let high = HighPart::<P>::new();
+    PairTable::build(alloc, P::NAME, &low, &high, P::BOUND)
 }

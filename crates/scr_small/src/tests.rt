@@ -1,21 +1,61 @@
-//! The 2x2x2's table, and draws and scrambles known from elsewhere.
+//! The tables, and draws and scrambles known from elsewhere: found by another solver.
 ghost use Rattle.std.specs.Prelude.{◌≡◌, ◌^◌, ◌<◌, ◌≤◌};
-ghost use Rattle.scr_notation.specs.declared.event.Event.TheVariants.{C222};
+ghost use Rattle.scr_notation.specs.declared.event.Event.TheVariants.{C222, Pyram, Skewb as EventSkewb};
 ghost use Rattle.scr_cube.specs.Cube222.{numbered_222};
 
-use crate::{Small222, SmallTables, laws, needs_222, scramble_222};
-use scr_cube::{Corners222, FaceTurned, Numbers222};
-use scr_draw::{DrawLimit, Numbering, draw_permitted};
+use crate::{
+    Small222, SmallPyram, SmallSkewb, SmallTables, laws, needs_222, needs_pyram, needs_skewb,
+    scramble_222, scramble_pyram, scramble_skewb,
+};
+use scr_cube::{Corners222, Numbers222, PowerTurned};
+use scr_draw::{DrawLimit, Numbering, RandomState, draw_permitted};
 use scr_notation::{Event, Scramble, print};
 use scr_table::TableName;
+use scr_tetra::{PyramNumbers, Pyraminx, Skewb, SkewbNumbers, TetraminxNumbers};
 use scr_words::{ChaChaWords, ListWords, Seed, Words};
 use std::process::Abort;
 use std::test::Fail;
 
-/// How many states are 0 to 11 turns from solved.
-const COUNTS: [u32; 12] = [
+/// How many states of a 2x2x2 are 0 to 11 turns from solved.
+const COUNTS_222: [u32; 12] = [
     1, 9, 54, 321, 1847, 9992, 50136, 227536, 870072, 1887748, 623800, 2644,
 ];
+
+/// How many states of a Pyraminx without tips are.
+const COUNTS_PYRAM: [u32; 12] = [
+    1, 8, 48, 288, 1728, 9896, 51808, 220111, 480467, 166276, 2457, 32,
+];
+
+/// Numbers of Pyraminxes, how many turns each needs, and its scramble.
+const PYRAMINXES: [(u32, u32, &str); 6] = [
+    (0, 0, ""),
+    (55, 2, "u b'"),
+    (15116625, 1, "U"),
+    (52354422, 9, "R L' U' R B' U B' r' b'"),
+    (75582719, 12, "B R' U L B' L B' U u' l' r' b'"),
+    (3644, 15, "B L B L U' L B' R U L' U' u' l' r' b'"),
+];
+
+/// The words of number 55.
+const TWO_TIPS: [u32; 3] = [55, 0, 0];
+
+/// How many states of a Skewb are.
+const COUNTS_SKEWB: [u32; 12] = [
+    1, 8, 48, 288, 1728, 10248, 59304, 315198, 1225483, 1455856, 81028, 90,
+];
+
+/// Numbers of Skewbs, how many turns each needs, and its scramble.
+const SKEWBS: [(u32, u32, &str); 6] = [
+    (0, 0, ""),
+    (9423, 1, "B"),
+    (1718795, 2, "B U"),
+    (1965942, 7, "B R' L' R L U R'"),
+    (3149279, 9, "U' B' R' U B' R' B L U"),
+    (44, 11, "B R U' L B' U' L U R L U'"),
+];
+
+/// The words of number 9423.
+const AFTER_B: [u32; 3] = [9423, 0, 0];
 
 /// A list of no words, whose words are zeros.
 const NO_WORDS: [u32; 0] = [];
@@ -33,6 +73,21 @@ const LAST: [u32; 6] = [
     0xffff_ffff,
 ];
 
+/// The one table of an event has this name, and so many positions at each distance from 0 to 11.
+fn has_counts(
+    rt: &impl Abort,
+    tables: &SmallTables,
+    name: TableName,
+    counts: [u32; 12],
+) -> Result<(), Fail> {
+    let table = tables.table(name).ok_or("no table")?;
+    assert!(rt; tables.table(TableName::Flips).is_none());
+    assert_eq!(rt; table.bound(), 11);
+    let counted = table.counts();
+    assert_eq!(rt; &counted[..12], counts.as_slice());
+    Ok(())
+}
+
 /// The state of a number needs just so many turns. Its scramble has as many, leads to it from solved, and is returned.
 fn scrambled(rt: &impl Abort, tables: &SmallTables, number: u128, turns: u32) -> Scramble
     requires event { tables.now.event ≡ C222 }
@@ -47,22 +102,49 @@ fn scrambled(rt: &impl Abort, tables: &SmallTables, number: u128, turns: u32) ->
     scramble
 }
 
+/// The Pyraminxes of these numbers need just so many turns, and have these scrambles, which lead to them from solved.
+fn scrambled_pyraminxes(rt: &impl Abort, tables: &SmallTables, rows: &[(u32, u32, &str)])
+    requires { tables.now.event ≡ Pyram }
+{
+    for &(number, turns, text) in rows {
+        assert!(rt; number < 75582720 && turns < 16);
+        let state = PyramNumbers.state_at(u128::from(number));
+        let scramble = scramble_pyram(tables, &state);
+        assert_eq!(rt; print(&scramble).as_str(), text);
+        assert!(rt; Pyraminx::solved().play(&scramble) == Some(state));
+        assert!(rt; needs_pyram(tables, &state, turns) && !needs_pyram(tables, &state, turns + 1));
+    }
+}
+
+/// The Skewbs of these numbers need just so many turns, and have these scrambles, which lead to them from solved.
+fn scrambled_skewbs(rt: &impl Abort, tables: &SmallTables, rows: &[(u32, u32, &str)])
+    requires { tables.now.event ≡ EventSkewb }
+{
+    for &(number, turns, text) in rows {
+        assert!(rt; number < 3149280 && turns < 12);
+        let state = SkewbNumbers.state_at(u128::from(number));
+        let scramble = scramble_skewb(tables, &state);
+        assert_eq!(rt; print(&scramble).as_str(), text);
+        assert!(rt; Skewb::solved().play(&scramble) == Some(state));
+        assert!(rt; needs_skewb(tables, &state, turns) && !needs_skewb(tables, &state, turns + 1));
+    }
+}
+
 /// Drawing from these words at a minimum gives the state of a number, or none.
-fn expect_draw<W: Words>(
+fn expect_draw<W: Words, P: RandomState>(
     rt: &impl Abort,
-    tables: &SmallTables,
+    puzzle: &P,
     words: &mut W,
     least: u32,
     attempts: u32,
     drawn: Result<u128, DrawLimit>,
 )
-    requires event { tables.now.event ≡ C222 }
-    requires least { least ≤ 11 }
+    requires least { least ≤ P.greatest puzzle.now }
     requires attempts { attempts ≤ 1000000 }
     requires room { W.taken words.old ≤ 2 ^ 62 }
 {
-    let number = match draw_permitted(words, &Small222::new(tables), least, attempts) {
-        Ok(state) => Ok(Numbers222.number_of(&state)),
+    let number = match draw_permitted(words, puzzle, least, attempts) {
+        Ok(state) => Ok(puzzle.number_of(&state)),
         Err(limit) => Err(limit),
     };
     assert!(rt; number == drawn);
@@ -71,68 +153,67 @@ fn expect_draw<W: Words>(
 #[test]
 fn the_table_of_222(rt: HostRuntime) -> Result<(), Fail> {
     let tables = SmallTables::build(rt.alloc(), Event::C222)?;
-    assert!(rt; tables.table(TableName::Skewb).is_none());
-    let table = tables.table(TableName::Corners).ok_or("no table")?;
-    assert_eq!(rt; [table.positions(), table.bound()], [3674160, 11]);
-    let counts = table.counts();
-    assert_eq!(rt; &counts[..12], COUNTS.as_slice());
-
+    has_counts(&rt, &tables, TableName::Corners, COUNTS_222)?;
     assert_eq!(rt; print(&scrambled(&rt, &tables, 0, 0)).as_str(), "");
     assert_eq!(rt; print(&scrambled(&rt, &tables, 1574640, 1)).as_str(), "U");
-    // found by another solver
     let first = scrambled(&rt, &tables, 3015702, 9);
     assert_eq!(rt; print(&first).as_str(), "R2 U R' F U2 F' U R U");
     let last = scrambled(&rt, &tables, 3674159, 9);
     assert_eq!(rt; print(&last).as_str(), "U2 F' R2 U R F2 R' U R2");
+    let table = tables.table(TableName::Corners).ok_or("no table")?;
+    assert_eq!(rt; table.positions(), 3674160);
     let farthest = (0..3674160).find(|number| table.distance(*number) == 11);
     let number = farthest.ok_or("none at 11")?;
     assert!(rt; number < 3674160);
     let _eleven = scrambled(&rt, &tables, u128::from(number), 11);
+    Ok(())
+}
 
-    expect_draw(&rt, &tables, &mut ListWords::new(&LAST), 0, 2, Ok(3674159));
-    expect_draw(
-        &rt,
-        &tables,
-        &mut ListWords::new(&LAST),
-        0,
-        1,
-        Err(DrawLimit { words: 3 }),
-    );
-    expect_draw(
-        &rt,
-        &tables,
-        &mut ChaChaWords::new(&Seed([0; 32]), 0),
-        0,
-        1,
-        Ok(3015702),
-    );
+#[test]
+fn draws_of_222(rt: HostRuntime) -> Result<(), Fail> {
+    let tables = SmallTables::build(rt.alloc(), Event::C222)?;
+    let cube = Small222::new(&tables);
+    expect_draw(&rt, &cube, &mut ListWords::new(&LAST), 0, 2, Ok(3674159));
+    let none = Err(DrawLimit { words: 3 });
+    expect_draw(&rt, &cube, &mut ListWords::new(&LAST), 0, 1, none);
+    let mut zeros = ChaChaWords::new(&Seed([0; 32]), 0);
+    expect_draw(&rt, &cube, &mut zeros, 0, 1, Ok(3015702));
     // the state after U needs one turn, and not four
-    expect_draw(
-        &rt,
-        &tables,
-        &mut ListWords::new(&AFTER_U),
-        1,
-        1,
-        Ok(1574640),
-    );
-    expect_draw(
-        &rt,
-        &tables,
-        &mut ListWords::new(&AFTER_U),
-        4,
-        1,
-        Err(DrawLimit { words: 3 }),
-    );
-    expect_draw(
-        &rt,
-        &tables,
-        &mut ListWords::new(&NO_WORDS),
-        1,
-        5,
-        Err(DrawLimit { words: 15 }),
-    );
-    expect_draw(&rt, &tables, &mut ListWords::new(&NO_WORDS), 0, 1, Ok(0));
-    laws::measured_222();
+    expect_draw(&rt, &cube, &mut ListWords::new(&AFTER_U), 1, 1, Ok(1574640));
+    expect_draw(&rt, &cube, &mut ListWords::new(&AFTER_U), 4, 1, none);
+    let five_times = Err(DrawLimit { words: 15 });
+    expect_draw(&rt, &cube, &mut ListWords::new(&NO_WORDS), 1, 5, five_times);
+    expect_draw(&rt, &cube, &mut ListWords::new(&NO_WORDS), 0, 1, Ok(0));
+    laws::measured::<Numbers222>();
     laws::rows_222();
+    Ok(())
+}
+
+#[test]
+fn the_table_of_pyram(rt: HostRuntime) -> Result<(), Fail> {
+    let tables = SmallTables::build(rt.alloc(), Event::Pyram)?;
+    has_counts(&rt, &tables, TableName::Pyramid, COUNTS_PYRAM)?;
+    scrambled_pyraminxes(&rt, &tables, &PYRAMINXES);
+    let pyraminx = SmallPyram::new(&tables);
+    expect_draw(&rt, &pyraminx, &mut ListWords::new(&TWO_TIPS), 2, 1, Ok(55));
+    let none = Err(DrawLimit { words: 3 });
+    expect_draw(&rt, &pyraminx, &mut ListWords::new(&TWO_TIPS), 3, 1, none);
+    laws::shown_by_parts::<TetraminxNumbers>();
+    laws::measured_pyram();
+    laws::rows_pyram();
+    Ok(())
+}
+
+#[test]
+fn the_table_of_skewb(rt: HostRuntime) -> Result<(), Fail> {
+    let tables = SmallTables::build(rt.alloc(), Event::Skewb)?;
+    has_counts(&rt, &tables, TableName::Skewb, COUNTS_SKEWB)?;
+    scrambled_skewbs(&rt, &tables, &SKEWBS);
+    let skewb = SmallSkewb::new(&tables);
+    expect_draw(&rt, &skewb, &mut ListWords::new(&AFTER_B), 1, 1, Ok(9423));
+    let none = Err(DrawLimit { words: 3 });
+    expect_draw(&rt, &skewb, &mut ListWords::new(&AFTER_B), 2, 1, none);
+    laws::shown_by_parts::<SkewbNumbers>();
+    laws::rows_skewb();
     Ok(())
 }

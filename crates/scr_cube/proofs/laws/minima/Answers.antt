@@ -1,4 +1,5 @@
-use Rattle.scr_cube.proofs.Minima.{count_once, one_needed, one_enough, twenty_enough}
+use Rattle.scr_orbit.proofs.Minima.{count_once}
+use Rattle.scr_cube.proofs.Minima.{one_needed, one_enough, twenty_enough}
 use Rattle.scr_cube.proofs.laws.minima.Goals as goal
 
 pub returns : goal.returns

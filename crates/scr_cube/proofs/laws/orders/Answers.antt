@@ -1,5 +1,5 @@
-use Rattle.scr_cube.proofs.Orders.{quarter_order, word_orders}
+use Rattle.scr_cube.proofs.Known.{word_orders}
 use Rattle.scr_cube.proofs.laws.orders.Goals as goal
 
 pub returns : goal.returns
-returns c = record { quarters = quarter_order; words = word_orders }
+returns c = word_orders

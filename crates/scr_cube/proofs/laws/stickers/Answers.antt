@@ -1,4 +1,4 @@
-use Rattle.scr_cube.proofs.Orders.{carries_stickers}
+use Rattle.scr_cube.proofs.Known.{carries_stickers}
 use Rattle.scr_cube.proofs.laws.stickers.Goals as goal
 
 pub returns : goal.returns

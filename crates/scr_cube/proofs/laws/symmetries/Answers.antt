@@ -1,4 +1,4 @@
-use Rattle.scr_cube.proofs.Orders.{opposite_faces}
+use Rattle.scr_cube.proofs.Known.{opposite_faces}
 use Rattle.scr_cube.proofs.laws.symmetries.Goals as goal
 
 pub returns-clause-opposite_faces : goal.returns-clause-opposite_faces

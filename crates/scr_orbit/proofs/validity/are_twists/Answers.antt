@@ -1,38 +1,12 @@
-use Rattle.std.proofs.Common.{◌≡◌, ◌<◌, ◌%◌, take, arith, refl, below_more, add-one, ap, sym, ◌∙◌}
-use Rattle.std.proofs.lemmas.Bool.{false≢true, eq-eqb, eqb-true}
-use Rattle.std.proofs.lemmas.List.{take_all}
+use Rattle.std.proofs.Common.{◌≡◌, ◌+◌, ◌%◌, refl, sym, ap, ◌∙◌, arith}
 use Rattle.scr_combinatorics.specs.Lists.{total}
-use Rattle.std.proofs.lemmas.List.Elements.{All-from_get_or}
-use Rattle.scr_orbit.proofs.Places.{total-take_suc}
 use Rattle.scr_orbit.proofs.validity.are_twists.Goals as goal
-
-pub returns-then-digit-base : goal.returns-then-digit-base
-returns-then-digit-base c = (
-  λ h. absurd (false≢true h),
-  λ h. absurd (omega (arith, h.below c.loop-digit.digit-index 0 c.loop-digit-test.true, c.if-digit-base.true)),
-)
-
-pub loop-digit-preserved : goal.loop-digit-preserved
-loop-digit-preserved c =
-    let i = c.loop-digit.digit-index in
-    let more = total-take_suc c.args.digits.now i c.loop-digit-test.true in
-    record {
-      below = below_more _ _ c.loop-digit.invariant.below (omega arith);
-      summed = rw add-one (omega (arith, more, c.loop-digit.invariant.summed, c.from-sum.ensures));
-      fits = omega (arith, c.type_inv.digits i, c.loop-digit.invariant.fits, c.from-sum.ensures);
-    }
 
 pub returns : goal.returns
 returns c =
     let digits = c.args.digits.now in
-    let i = c.loop-digit.digit-index in
-    let all : take i digits ≡ digits = take_all i digits (omega arith) in
-    let sum : c.loop-digit.sum % c.from.result ≡ total digits % c.args.base =
-    ap (λ b. c.loop-digit.sum % b) c.from.ensures ∙ ap (λ s. s % c.args.base) (c.loop-digit.invariant.summed ∙ ap total all) in (
-      λ h. record {
-        size = refl;
-        below = All-from_get_or (λ d. d < c.args.base) digits 0 (λ k lt. c.loop-digit.invariant.below k (omega arith));
-        sum_fixed = sym sum ∙ eqb-true (c.loop-digit.sum % c.from.result) 0 h;
-      },
-      λ h. eq-eqb (c.loop-digit.sum % c.from.result) 0 (sum ∙ h.sum_fixed),
+    let none : total digits + 0 ≡ total digits = omega arith in
+    let sum : (total digits + 0) % c.args.base ≡ total digits % c.args.base = ap (λ s. s % c.args.base) none in (
+      λ h. let made = c.are_completed.ensures.0 h in record { size = refl; below = made.0; sum_fixed = sym sum ∙ made.1 },
+      λ h. c.are_completed.ensures.1 (h.below, sum ∙ h.sum_fixed),
     )

@@ -6,4 +6,4 @@ use Rattle.scr_clock.proofs.numbers.ClockNumbersNumbering.state_at.Goals as goal
 pub returns : goal.returns
 unfolding dials_of
 returns c =
-    c.of_valid.ensures ∙ c.hours.ensures ∙ c.unrank.ensures.list ∙ ap (λ bases. mixed_digits bases c.args.number) c.dial_radix.ensures
+    c.of_valid.ensures ∙ c.in_bytes.ensures ∙ c.unrank.ensures.list ∙ ap (λ bases. mixed_digits bases c.args.number) c.dial_radix.ensures

@@ -1,0 +1,37 @@
+-- Laws of pieces that turn at their places.
+use Rattle.std.proofs.Common.{◌≡◌, ℕ, ◌<◌, List, sym, ap, ◌∙◌}
+use Rattle.scr_combinatorics.specs.Lists.{numbers_from, pick}
+use Rattle.scr_combinatorics.proofs.Picks.{pick-in_order, length-numbers_from}
+use Rattle.scr_orbit.specs.Actions.{IsAction}
+use Rattle.scr_orbit.specs.Orbits.{added_digits, zeros}
+use Rattle.scr_orbit.specs.InPlace.{AreDigitsInPlace, in_place_action}
+use Rattle.scr_orbit.proofs.DigitLaws.{length-added_digits, All-added_digits, added_digits-assoc, length-zeros, All-zeros, added_digits-zeros, added_digits-to_zeros}
+
+AreDigitsInPlace-added : (n m : ℕ) (ds es : List ℕ) → 0 < m → AreDigitsInPlace n m ds → AreDigitsInPlace n m es → AreDigitsInPlace n m (added_digits m ds es)
+AreDigitsInPlace-added n m ds es pos a b =
+    record { size = length-added_digits m ds es (a.size ∙ sym b.size) ∙ a.size; below = All-added_digits m ds es pos }
+
+pub AreDigitsInPlace-zeros : (n m : ℕ) → 0 < m → AreDigitsInPlace n m (zeros n)
+AreDigitsInPlace-zeros n m pos = record { size = length-zeros n; below = All-zeros m n pos }
+
+-- zeros change nothing
+pub added_digits-still : (n m : ℕ) (ds : List ℕ) → AreDigitsInPlace n m ds → added_digits m ds (zeros n) ≡ ds
+added_digits-still n m ds a = ap (λ k. added_digits m ds (zeros k)) (sym a.size) ∙ added_digits-zeros m ds a.below
+
+from_zeros : (n m : ℕ) (ds : List ℕ) → AreDigitsInPlace n m ds → added_digits m (zeros n) ds ≡ ds
+from_zeros n m ds a =
+    ap (λ xs. added_digits m xs ds) (sym (ap (λ k. pick (zeros n) (numbers_from 0 k)) (sym (length-zeros n)) ∙ pick-in_order (zeros n)))
+    ∙ added_digits-to_zeros m n (numbers_from 0 n) ds a.below (length-numbers_from 0 n ∙ sym a.size)
+
+-- turns act on such digits
+pub in_place_laws : (n m : ℕ) → 0 < m → IsAction (in_place_action n m) (AreDigitsInPlace n m) (AreDigitsInPlace n m)
+in_place_laws n m pos = record {
+  valid = λ ds es a b. AreDigitsInPlace-added n m ds es pos a b;
+  closed = λ ds es a b. AreDigitsInPlace-added n m ds es pos a b;
+  neutral = AreDigitsInPlace-zeros n m pos;
+  grouped = λ ds es fs a b c. added_digits-assoc m ds es fs;
+  nothing_before = from_zeros n m;
+  nothing_after = added_digits-still n m;
+  turned_by_none = added_digits-still n m;
+  turned_by_both = λ ds es fs a b c. sym (added_digits-assoc m ds es fs);
+}

@@ -1,0 +1,27 @@
+-- How many turns a state needs, of puzzles whose turns all count once.
+use Rattle.std.proofs.Common.{◌≡◌, ℕ, ◌<◌, List, [], ◌∷◌, Option, Some, length, refl, sym, ◌∙◌, arith}
+use Rattle.std.proofs.lemmas.Option.{same_Some}
+use Rattle.scr_play.specs.Play.{play, count_in}
+use Rattle.scr_play.specs.Reach.{Needs}
+use Rattle.scr_play.proofs.PlayLaws.{play-empty}
+use Rattle.scr_orbit.specs.Actions.{Action, after_by, table_puzzle}
+
+-- each turn counts once
+pub count_once : {T : Type 0} (w : List T) → count_in (λ t. 1) w ≡ length w
+unfolding count_in
+count_once [] = refl
+count_once (t ∷ w) = omega (arith, count_once w)
+
+module _ {S R T : Type 0} (a : Action S R) (table : T → Option R) (solved : S) where
+  no_turns : (s end : S) (w : List T) → count_in (λ t. 1) w < 1 → play (after_by a table) s w ≡ Some end → s ≡ end
+  no_turns s end [] c e = same_Some s end (sym (play-empty (after_by a table) s) ∙ e)
+  no_turns s end (t ∷ w) c e = absurd (omega (arith, count_once (t ∷ w)))
+
+  -- a state that isn't solved needs one
+  pub one_needed : (s : S) → (s ≡ solved → ⊥) → Needs (table_puzzle a table solved (λ t. 1)) s 1
+  one_needed s apart w end c p is = apart (no_turns s end w c p ∙ is)
+
+  -- and none needs more than a word to solved has
+  pub enough : (s : S) (w : List T) (n : ℕ) → length w < n → play (after_by a table) s w ≡ Some solved
+      → Needs (table_puzzle a table solved (λ t. 1)) s n → ⊥
+  enough s w n lt e needs = needs w solved (omega (arith, count_once w)) e refl

@@ -1,0 +1,58 @@
+//! Scrambles and distances by a built table.
+ghost use Rattle.std.specs.Prelude.{ℕ, ◌≡◌, ◌<◌, ◌≤◌, ◌↔◌, nat_le, All, IsTrue, List, Some, map, length, slice_index};
+ghost use Rattle.scr_play.specs.Play.{play};
+ghost use Rattle.scr_play.specs.Reach.{Needs};
+ghost use Rattle.scr_notation.specs.declared.turn.Turn.{Turn as Letter};
+ghost use Rattle.scr_table.specs.Distances.{Measures};
+ghost use Rattle.scr_small.specs.NumberedPuzzles.{puzzle_of, state_coordinate, IsScrambleOf};
+
+use crate::one_table::OneTable;
+use crate::tables::SmallTables;
+use scr_notation::{Scramble, inverse};
+
+/// The scramble of a state: the first word that solves it, taken back. The tables are those of the puzzle's event.
+pub(crate) fn scramble_of<P: OneTable>(tables: &SmallTables, state: &P::State) -> Scramble
+    requires { tables.now.event ≡ P.EVENT }
+    ensures event { result.event ≡ P.EVENT }
+    ensures at_most { length result.turns ≤ P.BOUND }
+    ensures scramble { IsScrambleOf P.shown state.now result.turns }
+    ensures only { (turns : List Letter) → IsScrambleOf P.shown state.now turns → turns ≡ result.turns }
+    ensures played { play P.shown.after P.shown.solved result.turns ≡ Some state.now }
+{
+    let word = tables.pair().descend(P::number_of(state));
+    inverse(&spelled::<P>(&word))
+}
+
+/// How many turns a state is from solved, and so how many it needs. The tables are those of the puzzle's event.
+pub(crate) fn distance_of<P: OneTable>(tables: &SmallTables, state: &P::State) -> u32
+    requires { tables.now.event ≡ P.EVENT }
+    ensures entry { result ≡ slice_index tables.now.distances.distances (P.shown.numbered.number_of state.now) }
+    ensures at_most { result ≤ P.BOUND }
+    ensures exact { (least : ℕ) → (least ≤ result) ↔ Needs (puzzle_of P.shown) state.now least }
+    ensures measures { Measures (state_coordinate P.shown) tables.now.distances }
+{
+    tables.pair().distances.distance(P::number_of(state))
+}
+
+/// Whether no word of fewer than `least` turns brings a state to solved. The tables are those of the puzzle's event.
+pub(crate) fn needs_of<P: OneTable>(tables: &SmallTables, state: &P::State, least: u32) -> bool
+    requires { tables.now.event ≡ P.EVENT }
+    ensures exact { IsTrue result ↔ Needs (puzzle_of P.shown) state.now least }
+    ensures tested { let entries = tables.now.distances.distances in
+        result ≡ nat_le least (slice_index entries (P.shown.numbered.number_of state.now)) }
+{
+    least <= distance_of::<P>(tables, state)
+}
+
+/// The turns with these numbers, at most 24, as a scramble.
+fn spelled<P: OneTable>(numbers: &[u8]) -> Scramble
+    requires few { length numbers.now ≤ 24 }
+    requires turns { All (λ n. n < P.TURNS) numbers.now }
+    ensures { result ≡ record { event = P.EVENT; turns = map P.shown.letter_at numbers.now } }
+{
+    let mut scramble = Scramble::new(P::EVENT);
+    for k in 0..numbers.len() {
+        scramble.push(P::letter(numbers[k]));
+    }
+    scramble
+}

@@ -1,0 +1,233 @@
+//! The Pyraminx: its scrambles, its minima, and how it is drawn. The table is that of the Pyraminx without tips.
+ghost use Rattle.std.specs.Prelude.{◌≡◌, ◌+◌, ◌<◌, ◌≤◌, ◌↔◌, ◌++◌, nat_le, All, List, Some, IsTrue, length, slice_index};
+ghost use Rattle.scr_play.specs.Play.{play};
+ghost use Rattle.scr_play.specs.Reach.{Needs};
+ghost use Rattle.scr_notation.specs.declared.event.Event.TheVariants.{Pyram};
+ghost use Rattle.scr_notation.specs.declared.turn.Turn.{Turn as Letter};
+ghost use Rattle.scr_table.specs.Distances.{Measures};
+ghost use Rattle.scr_turning.specs.PowerPuzzles.{after_letter, power_puzzle};
+ghost use Rattle.scr_tetra.specs.PyramParts.{tips_word, turned_count};
+ghost use Rattle.scr_tetra.specs.Pyraminx.{numbered_tetraminx, pyram_powers, solved_pyram};
+ghost use Rattle.scr_small.specs.PuzzlePyram.{coordinate_tetraminx, IsScramblePyram};
+
+use crate::one_table::OneTable;
+use crate::scrambles::{distance_of, scramble_of};
+use crate::tables::SmallTables;
+use scr_draw::{Numbering, Permit, RandomState};
+use scr_notation::{Event, Scramble, Turn};
+use scr_table::TableName;
+use scr_tetra::{PowerTurned, PyramNumbers, Pyraminx, Tetraminx, TetraminxNumbers};
+
+impl OneTable for TetraminxNumbers {
+    ghost use Rattle.std.specs.Prelude.{refl};
+    ghost use Rattle.std.proofs.Common.{lit≤, lit<};
+    ghost use Rattle.scr_notation.specs.declared.event.Event.TheVariants.{Pyram};
+    ghost use Rattle.scr_table.specs.declared.name.TableName.TheVariants.{Pyramid};
+    ghost use Rattle.scr_small.specs.PuzzlePyram.{numbered_puzzle_tetraminx};
+    ghost use Rattle.scr_small.specs.LawfulTetraminx.{lawful_puzzle_tetraminx, parts_tetraminx, first_tetraminx};
+
+    type State = Tetraminx;
+
+    ghost shown = { numbered_puzzle_tetraminx };
+
+    ghost EVENT = { Pyram };
+
+    const EVENT: Event = Event::Pyram;
+
+    ghost NAME = { Pyramid };
+
+    const NAME: TableName = TableName::Pyramid;
+
+    ghost BOUND = { 11 };
+
+    const BOUND: u32 = 11;
+
+    ghost TURNS = { 8 };
+
+    const TURNS: u32 = 8;
+
+    // 81 digits of axial pieces, and 32 flips
+    ghost LOW = { 2592 };
+
+    const LOW: u32 = 2592;
+
+    // 6!/2 even lists of edges
+    ghost HIGH = { 360 };
+
+    const HIGH: u32 = 360;
+
+    fn state_at(number: u32) -> Tetraminx {
+        TetraminxNumbers.state_at(u128::from(number))
+    }
+
+    fn number_of(state: &Tetraminx) -> u32 {
+        let [..] = state.edges();
+        TetraminxNumbers.number_of(state) as u32
+    }
+
+    fn turned(state: &Tetraminx, number: u32) -> Tetraminx {
+        state.turned(number as usize)
+    }
+
+    #[tactic(auto, unfolding(scr_notation::specs::TurnNumbers::axis_turn_at))]
+    fn letter(number: u8) -> Turn {
+        Turn::Axis {
+            axis: number / 2,
+            amount: number % 2 + 1,
+        }
+    }
+
+    ghost lawful = { lawful_puzzle_tetraminx };
+
+    ghost taken_back = { refl };
+
+    ghost not_clock = { λ e. Prim.cc };
+
+    ghost by_parts = { parts_tetraminx };
+
+    ghost first = { first_tetraminx };
+
+    ghost fits = { lit< tt };
+
+    ghost counted = { refl };
+
+    ghost few = { lit≤ tt };
+
+    ghost of_event = { refl };
+
+    ghost near = { lit≤ tt };
+}
+
+/// The scramble of a Pyraminx, of at most 15 turns: the first word of large turns that solves it without its tips, taken back,
+/// and then the tips. The tables are those of pyram.
+pub fn scramble_pyram(tables: &SmallTables, state: &Pyraminx) -> Scramble
+    requires { tables.now.event ≡ Pyram }
+    ensures event { result.event ≡ Pyram }
+    ensures at_most { length result.turns ≤ 15 }
+    ensures scramble { IsScramblePyram state.now result.turns }
+    ensures only { (turns : List Letter) → IsScramblePyram state.now turns → turns ≡ result.turns }
+    ensures played { play (after_letter pyram_powers) solved_pyram result.turns ≡ Some state.now }
+{
+    let mut scramble = scramble_of::<TetraminxNumbers>(tables, &state.body());
+    push_tips(&mut scramble, &state.tips());
+    scramble
+}
+
+/// Adds the turns of the tips that stand turned by so many thirds, in the order u l r b.
+fn push_tips(scramble: &mut Scramble, tips: &[u8])
+    requires event { scramble.old.event ≡ Pyram }
+    requires room { length scramble.old.turns + length tips.now ≤ 160 }
+    requires few { length tips.now ≤ 4 }
+    requires thirds { All (λ digit. digit < 3) tips.now }
+    ensures { scramble.new ≡ record { event = Pyram; turns = scramble.old.turns ++ tips_word tips.now } }
+{
+    for tip in 0..tips.len() {
+        let amount = tips[tip];
+        if amount != 0 {
+            let tip = tip as u8;
+            scramble.push(Turn::Tip { tip, amount });
+        }
+    }
+}
+
+/// Whether no word of fewer than `least` turns brings a Pyraminx to solved, where a turn of a tip counts as a large one does.
+/// The tables are those of pyram.
+pub fn needs_pyram(tables: &SmallTables, state: &Pyraminx, least: u32) -> bool
+    requires { tables.now.event ≡ Pyram }
+    ensures exact { IsTrue result ↔ Needs (power_puzzle pyram_powers) state.now least }
+    ensures tested { let number = numbered_tetraminx.number_of state.now.body in
+        result ≡ nat_le least (slice_index tables.now.distances.distances number + turned_count state.now.tips) }
+{
+    let large = distance_of::<TetraminxNumbers>(tables, &state.body());
+    least <= large + count_turned(&state.tips())
+}
+
+/// How many digits, of at most 4, aren't 0.
+fn count_turned(digits: &[u8]) -> u32
+    requires { length digits.now ≤ 4 }
+    ensures count { result ≡ turned_count digits.now }
+    ensures few { result ≤ 4 }
+{
+    let mut turned = 0;
+    for digit in digits {
+        if *digit != 0 {
+            turned += 1;
+        }
+    }
+    turned
+}
+
+/// The Pyraminx as an event that states are drawn of, by its built table.
+#[derive(Drop)]
+pub struct SmallPyram<'a> {
+    tables: &'a SmallTables,
+    ghost event: { tables.now.event ≡ Pyram },
+    ghost measures: { Measures coordinate_tetraminx tables.now.distances },
+}
+
+impl<'a> SmallPyram<'a> {
+    /// The event. The tables are those of pyram.
+    pub fn new(tables: &'a SmallTables) -> SmallPyram<'a>
+        requires { tables.now.event ≡ Pyram }
+    {
+        let _pair = tables.pair();
+        SmallPyram { tables }
+    }
+
+    /// The scramble of a state.
+    pub fn scramble_of(&self, state: &Pyraminx) -> Scramble
+        ensures event { result.event ≡ Pyram }
+        ensures at_most { length result.turns ≤ 15 }
+        ensures scramble { IsScramblePyram state.now result.turns }
+        ensures played { play (after_letter pyram_powers) solved_pyram result.turns ≡ Some state.now }
+    {
+        scramble_pyram(self.tables, state)
+    }
+}
+
+impl Numbering for SmallPyram<'_> {
+    ghost use Rattle.scr_tetra.specs.Pyraminx.{numbered_pyram};
+    ghost use Rattle.scr_tetra.specs.NumberedPyram.{pyram_numbering};
+
+    type State = Pyraminx;
+
+    ghost numbered = { λ _. numbered_pyram };
+
+    ghost law = { λ _. pyram_numbering };
+
+    fn count(&self) -> u128 {
+        PyramNumbers.count()
+    }
+
+    fn state_at(&self, number: u128) -> Pyraminx {
+        PyramNumbers.state_at(number)
+    }
+
+    fn number_of(&self, state: &Pyraminx) -> u128 {
+        PyramNumbers.number_of(state)
+    }
+}
+
+impl Permit<Pyraminx> for SmallPyram<'_> {
+    ghost use Rattle.scr_small.specs.PyramLaws.{IsPyram-reached, tested_pyram};
+
+    ghost puzzle = { λ _. (power_puzzle pyram_powers) };
+
+    ghost greatest = { λ _. 15 };
+
+    ghost needs = { λ small s least.
+        nat_le least (slice_index small.tables.now.distances.distances (numbered_tetraminx.number_of s.body) + turned_count s.tips) };
+
+    fn needs_at_least(&self, state: &Pyraminx, least: u32) -> bool {
+        needs_pyram(self.tables, state, least)
+    }
+
+    ghost exact = { λ small s least range reached.
+        tested_pyram small.tables.now.distances small.measures s least (IsPyram-reached s reached) };
+}
+
+impl RandomState for SmallPyram<'_> {
+    ghost use Rattle.scr_small.specs.PyramLaws.{IsReached-pyram};
+
+    ghost reached = { λ small s. IsReached-pyram small.tables.now.distances small.measures s };
+}

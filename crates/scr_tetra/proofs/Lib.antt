@@ -1,0 +1,12 @@
+pub mod SkewbLaws
+pub mod SkewbTurns
+pub mod SkewbDigits
+pub mod SkewbOnLiterals
+pub mod SkewbKnown
+pub mod PyramLaws
+pub mod PyramTurns
+pub mod PyramLiterals
+pub mod PyramKnown
+pub mod PyramMinima
+pub mod PyramWords
+pub mod PyramTips

@@ -1,0 +1,8 @@
+use Rattle.std.proofs.Common.{sym, ap, ◌∙◌, refl}
+use Rattle.scr_turning.specs.Proofs.AxisLaws.{letter-high}
+use Rattle.scr_turning.specs.PowerPuzzles.{after_letter}
+use Rattle.scr_tetra.specs.Pyraminx.{pyram_powers}
+use Rattle.scr_tetra.proofs.pyraminx.Pyraminx.tip.Goals as goal
+
+pub returns : goal.returns
+returns c = sym (ap ((after_letter pyram_powers) c.args.self.now) (letter-high _ c.args.tip refl)) ∙ c.turn.ensures

@@ -1,0 +1,170 @@
+-- A Pyraminx as its edges, its axial pieces and its tips, its turns (WCA Regulations, article 12), and its number.
+--
+-- The axes are 0 U, 1 L, 2 R, 3 B: the corners above, at the left, at the right and at the back. An edge stands between
+-- two of them; edge places and pieces are numbered 0 UL, 1 UR, 2 UB, 3 LR, 4 LB, 5 RB. Axial pieces and tips stay at their
+-- axes. An axial piece's digit is how many thirds clockwise it stands turned, and a tip's how many it stands turned against
+-- the axial piece below it. Without its tips the puzzle is known as the Tetraminx, which stands here by itself, since it is
+-- what a search has to solve.
+use Rattle.std.specs.Prelude.{ℕ, ◌/◌, List, [], ◌∷◌, ◌++◌, map, replicate, slice_index}
+use Rattle.scr_combinatorics.specs.Permutations.{IsEven, permutation_number, half_at}
+use Rattle.scr_combinatorics.specs.Twists.{twists_number, twists_at}
+use Rattle.scr_combinatorics.specs.Digits.{mixed_number, mixed_digits}
+use Rattle.scr_combinatorics.specs.Numbered.{Numbered, numbered_by_digits}
+use Rattle.scr_orbit.specs.Actions.{Action}
+use Rattle.scr_orbit.specs.Orbits.{Orbit, Rearrangement, IsZeroSumOrbit, IsZeroSumRearrangement, added_digits, turned_orbit, composed, identity, solved_orbit, zeros}
+use Rattle.scr_orbit.specs.InPlace.{AreDigitsInPlace}
+use Rattle.scr_turning.specs.Axes.{axis_letters}
+use Rattle.scr_turning.specs.PowerPuzzles.{PowerPuzzle}
+
+-- ---- the Tetraminx: edges with their flips, and the digits of the axial pieces
+
+pub record TetraminxState : Type 0 where
+  pub edges : Orbit
+  pub axials : List ℕ
+
+-- What can be put together without taking the puzzle apart: the edges are an even list, and the flips sum to 0 modulo 2.
+pub record IsTetraminx (s : TetraminxState) : Type 0 where
+  pub edges : IsZeroSumOrbit 6 2 s.edges
+  pub even : IsEven s.edges.pieces
+  pub axials : AreDigitsInPlace 4 3 s.axials
+
+-- What a turn does to the edges, and what it adds to the axial pieces.
+pub record TetraminxTurn : Type 0 where
+  pub edges : Rearrangement
+  pub axials : List ℕ
+
+-- A turn that keeps states valid.
+pub record IsTetraminxTurn (r : TetraminxTurn) : Type 0 where
+  pub edges : IsZeroSumRearrangement 6 2 r.edges
+  pub even : IsEven r.edges.places
+  pub axials : AreDigitsInPlace 4 3 r.axials
+
+-- The turns about U, L, R and B by a third: which place's edge comes to each place, and what is added to its flip.
+abbrev pub tetraminx_thirds : List TetraminxTurn
+tetraminx_thirds =
+    record {
+      edges = record { places = 1 ∷ 2 ∷ 0 ∷ 3 ∷ 4 ∷ 5 ∷ []; added = 0 ∷ 0 ∷ 0 ∷ 0 ∷ 0 ∷ 0 ∷ [] };
+      axials = 1 ∷ 0 ∷ 0 ∷ 0 ∷ [];
+    }
+    ∷ record {
+      edges = record { places = 4 ∷ 1 ∷ 2 ∷ 0 ∷ 3 ∷ 5 ∷ []; added = 0 ∷ 0 ∷ 0 ∷ 0 ∷ 0 ∷ 0 ∷ [] };
+      axials = 0 ∷ 1 ∷ 0 ∷ 0 ∷ [];
+    }
+    ∷ record {
+      edges = record { places = 0 ∷ 3 ∷ 2 ∷ 5 ∷ 4 ∷ 1 ∷ []; added = 0 ∷ 1 ∷ 0 ∷ 1 ∷ 0 ∷ 0 ∷ [] };
+      axials = 0 ∷ 0 ∷ 1 ∷ 0 ∷ [];
+    }
+    ∷ record {
+      edges = record { places = 0 ∷ 1 ∷ 5 ∷ 3 ∷ 2 ∷ 4 ∷ []; added = 0 ∷ 0 ∷ 1 ∷ 0 ∷ 1 ∷ 0 ∷ [] };
+      axials = 0 ∷ 0 ∷ 0 ∷ 1 ∷ [];
+    }
+    ∷ []
+
+-- Turns rearrange the edges and turn the axial pieces at once.
+abbrev pub tetraminx_action : Action TetraminxState TetraminxTurn
+tetraminx_action = record {
+  turned = λ s r. record { edges = turned_orbit 2 s.edges r.edges; axials = added_digits 3 s.axials r.axials };
+  composed = λ r q. record { edges = composed 2 r.edges q.edges; axials = added_digits 3 r.axials q.axials };
+  identity = record { edges = identity 6; axials = zeros 4 };
+}
+
+unfoldable pub solved_tetraminx : TetraminxState
+solved_tetraminx = record { edges = solved_orbit 6; axials = zeros 4 }
+
+-- The Tetraminx as data. Its 8 turns are U U' L L' R R' B B', in the order of their numbers.
+abbrev pub tetraminx_powers : PowerPuzzle TetraminxState TetraminxTurn
+tetraminx_powers = record {
+  letters = axis_letters;
+  action = tetraminx_action;
+  generators = tetraminx_thirds;
+  solved = solved_tetraminx;
+}
+
+-- ---- the Pyraminx: with its tips
+
+pub record PyramState : Type 0 where
+  pub body : TetraminxState
+  pub tips : List ℕ
+
+pub record IsPyram (s : PyramState) : Type 0 where
+  pub body : IsTetraminx s.body
+  pub tips : AreDigitsInPlace 4 3 s.tips
+
+pub record PyramTurn : Type 0 where
+  pub body : TetraminxTurn
+  pub tips : List ℕ
+
+pub record IsPyramTurn (r : PyramTurn) : Type 0 where
+  pub body : IsTetraminxTurn r.body
+  pub tips : AreDigitsInPlace 4 3 r.tips
+
+abbrev pub pyram_action : Action PyramState PyramTurn
+pyram_action = record {
+  turned = λ s r. record { body = tetraminx_action.turned s.body r.body; tips = added_digits 3 s.tips r.tips };
+  composed = λ r q. record { body = tetraminx_action.composed r.body q.body; tips = added_digits 3 r.tips q.tips };
+  identity = record { body = tetraminx_action.identity; tips = zeros 4 };
+}
+
+-- A large turn, which leaves the tips as they stand to the axial pieces.
+abbrev pub large_turn : TetraminxTurn → PyramTurn
+large_turn r = record { body = r; tips = zeros 4 }
+
+-- A turn of tips alone.
+abbrev pub tip_turn : List ℕ → PyramTurn
+tip_turn added = record { body = tetraminx_action.identity; tips = added }
+
+-- A third of each tip: u, l, r and b.
+abbrev pub tip_thirds : List (List ℕ)
+tip_thirds = (1 ∷ 0 ∷ 0 ∷ 0 ∷ []) ∷ (0 ∷ 1 ∷ 0 ∷ 0 ∷ []) ∷ (0 ∷ 0 ∷ 1 ∷ 0 ∷ []) ∷ (0 ∷ 0 ∷ 0 ∷ 1 ∷ []) ∷ []
+
+abbrev pub pyram_thirds : List PyramTurn
+pyram_thirds = map large_turn tetraminx_thirds ++ map tip_turn tip_thirds
+
+unfoldable pub solved_pyram : PyramState
+solved_pyram = record { body = solved_tetraminx; tips = zeros 4 }
+
+-- The Pyraminx as data. Its 16 turns are U U' L L' R R' B B', and then u u' l l' r r' b b', in the order of their numbers.
+abbrev pub pyram_powers : PowerPuzzle PyramState PyramTurn
+pyram_powers = record { letters = axis_letters; action = pyram_action; generators = pyram_thirds; solved = solved_pyram }
+
+-- ---- numbers
+
+-- How many digits of axial pieces, flips and even lists of edges there are.
+abbrev pub tetraminx_bases : List ℕ
+tetraminx_bases = 81 ∷ 32 ∷ 360 ∷ []
+
+-- The number of four digits from 0 to 2, the first one the least.
+abbrev pub thirds_number : List ℕ → ℕ
+thirds_number = mixed_number (replicate 4 3)
+
+-- The numbers of the axial pieces' digits and of the flips, and half the number of the list of edges, which is even.
+unfoldable pub tetraminx_digits : TetraminxState → List ℕ
+tetraminx_digits s =
+    thirds_number s.axials ∷ twists_number 2 s.edges.digits ∷ permutation_number s.edges.pieces / 2 ∷ []
+
+unfoldable pub tetraminx_of_digits : List ℕ → TetraminxState
+tetraminx_of_digits ds = record {
+  edges = record { pieces = half_at 6 0 (slice_index ds 2); digits = twists_at 6 2 (slice_index ds 1) };
+  axials = mixed_digits (replicate 4 3) (slice_index ds 0);
+}
+
+-- The numbered states of a Tetraminx, 933,120 of them.
+abbrev pub numbered_tetraminx : Numbered TetraminxState
+numbered_tetraminx = numbered_by_digits tetraminx_bases tetraminx_of_digits tetraminx_digits IsTetraminx
+
+-- How many digits of tips and states without tips there are.
+abbrev pub pyram_bases : List ℕ
+pyram_bases = 81 ∷ 933120 ∷ []
+
+unfoldable pub pyram_digits : PyramState → List ℕ
+pyram_digits s = thirds_number s.tips ∷ numbered_tetraminx.number_of s.body ∷ []
+
+unfoldable pub pyram_of_digits : List ℕ → PyramState
+pyram_of_digits ds = record {
+  body = numbered_tetraminx.state_at (slice_index ds 1);
+  tips = mixed_digits (replicate 4 3) (slice_index ds 0);
+}
+
+-- The numbered states of a Pyraminx, 75,582,720 of them: the number of the tips is the least digit.
+abbrev pub numbered_pyram : Numbered PyramState
+numbered_pyram = numbered_by_digits pyram_bases pyram_of_digits pyram_digits IsPyram

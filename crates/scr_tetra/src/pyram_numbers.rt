@@ -1,0 +1,125 @@
+//! The numbers of Pyraminx states, by which they are drawn.
+ghost use Rattle.std.specs.Prelude.{◌≡◌, ◌<◌, replicate};
+ghost use Rattle.scr_combinatorics.specs.Digits.{mixed_digits};
+ghost use Rattle.scr_orbit.specs.InPlace.{AreDigitsInPlace};
+ghost use Rattle.scr_tetra.specs.Pyraminx.{IsTetraminx, thirds_number, tetraminx_bases, tetraminx_digits, numbered_tetraminx, pyram_bases, numbered_pyram};
+ghost use Rattle.scr_tetra.specs.NumberedPyram.{tetraminx_numbering, pyram_numbering};
+
+use crate::pyraminx::Pyraminx;
+use crate::tetraminx::Tetraminx;
+use scr_draw::Numbering;
+use scr_orbit::Placed;
+use scr_rank::{EvenPermRank, MixedRadix, TwistRank, in_bytes};
+
+/// The numbering of the Pyraminx: the tips are the least digit, then comes the number without tips.
+#[derive(Clone, Copy)]
+pub struct PyramNumbers;
+
+/// The numbering of the Pyraminx without tips: the axial pieces are the least digit, then come the flips and the list of
+/// edges, which is even.
+#[derive(Clone, Copy)]
+pub struct TetraminxNumbers;
+
+/// How many states there are.
+const STATES: u128 = 75_582_720;
+
+/// How many of them without tips.
+const WITHOUT_TIPS: u128 = 933_120;
+
+/// How many digits of tips and states without tips there are.
+fn pyram_radix() -> MixedRadix<2>
+    ensures { result ≡ pyram_bases }
+{
+    MixedRadix::new([81, WITHOUT_TIPS])
+}
+
+/// How many digits of axial pieces, flips and even lists of edges there are.
+fn tetraminx_radix() -> MixedRadix<3>
+    ensures { result ≡ tetraminx_bases }
+{
+    MixedRadix::new([81, 32, 360])
+}
+
+/// Four digits in base 3.
+fn thirds_radix() -> MixedRadix<4>
+    ensures { result ≡ replicate 4 3 }
+{
+    MixedRadix::new([3; 4])
+}
+
+/// The number of four digits from 0 to 2, the first one the least.
+fn number_of_thirds(digits: &[u8; 4]) -> u128
+    requires { AreDigitsInPlace 4 3 digits.now }
+    ensures { result ≡ thirds_number digits.now }
+{
+    thirds_radix().rank(&digits.map(u128::from))
+}
+
+/// The four digits with a number.
+fn thirds_at(number: u128) -> [u8; 4]
+    requires { number < 81 }
+    ensures { result ≡ mixed_digits (replicate 4 3) number }
+{
+    in_bytes(&thirds_radix().unrank(number))
+}
+
+/// The numbers of the axial pieces' digits and of the flips, and half the number of the list of edges.
+fn digits_of(state: &Tetraminx) -> [u128; 3]
+    requires { IsTetraminx state.now }
+    ensures { result ≡ tetraminx_digits state.now }
+{
+    [
+        number_of_thirds(&state.axials()),
+        TwistRank::<6, 2>::rank(&state.flips()),
+        EvenPermRank::<6>::rank(&state.edges()),
+    ]
+}
+
+impl Numbering for TetraminxNumbers {
+    type State = Tetraminx;
+
+    ghost numbered = { λ _. numbered_tetraminx };
+
+    ghost law = { λ _. tetraminx_numbering };
+
+    fn state_at(&self, number: u128) -> Tetraminx {
+        let [axials, flips, edges] = tetraminx_radix().unrank(number);
+        Tetraminx::of_valid(
+            Placed::new(
+                EvenPermRank::<6>::unrank(edges),
+                TwistRank::<6, 2>::unrank(flips),
+            ),
+            thirds_at(axials),
+        )
+    }
+
+    fn number_of(&self, state: &Tetraminx) -> u128 {
+        tetraminx_radix().rank(&digits_of(state))
+    }
+
+    fn count(&self) -> u128 {
+        WITHOUT_TIPS
+    }
+}
+
+impl Numbering for PyramNumbers {
+    type State = Pyraminx;
+
+    ghost numbered = { λ _. numbered_pyram };
+
+    ghost law = { λ _. pyram_numbering };
+
+    fn state_at(&self, number: u128) -> Pyraminx {
+        let [tips, body] = pyram_radix().unrank(number);
+        Pyraminx::of_valid(TetraminxNumbers.state_at(body), thirds_at(tips))
+    }
+
+    fn number_of(&self, state: &Pyraminx) -> u128 {
+        let tips = number_of_thirds(&state.tips());
+        pyram_radix().rank(&[tips, TetraminxNumbers.number_of(&state.body())])
+    }
+
+    fn count(&self) -> u128 {
+        STATES
+    }
+}

@@ -1,0 +1,59 @@
+//! Turns of a Pyraminx, without its tips and with them. The axes U L R B are the generators 0 to 3, the tips 4 to 7.
+ghost use Rattle.std.proofs.Common.{lit≤};
+ghost use Rattle.scr_orbit.proofs.PowerLaws.{after-no_power};
+ghost use Rattle.scr_turning.specs.Axes.{thirds_of};
+ghost use Rattle.scr_turning.specs.PowerPuzzles.{after_letter};
+ghost use Rattle.scr_tetra.specs.Pyraminx.{tetraminx_thirds, tetraminx_action, tetraminx_powers, pyram_thirds, pyram_action, pyram_powers};
+
+use crate::pyram_tables::{axial_turns, edge_turns};
+use crate::pyraminx::Pyraminx;
+use crate::tetraminx::{Tetraminx, turned_in_place};
+use scr_turning::{Axes, PowerTurned};
+
+impl PowerTurned for Tetraminx {
+    type Kind = Axes;
+
+    ghost GENERATORS = { 4 };
+
+    const GENERATORS: u8 = 4;
+
+    ghost after = { (after_letter tetraminx_powers) };
+
+    fn turned(&self, number: usize) -> Tetraminx {
+        let (edges, axials) = self.parts();
+        let added = axial_turns()[number];
+        Tetraminx::of_valid(
+            edges.turned(&edge_turns()[number], 2),
+            turned_in_place(axials, added),
+        )
+    }
+
+    ghost few = { lit≤ tt };
+
+    ghost barred = { after-no_power tetraminx_action tetraminx_thirds thirds_of };
+}
+
+impl PowerTurned for Pyraminx {
+    type Kind = Axes;
+
+    ghost GENERATORS = { 8 };
+
+    const GENERATORS: u8 = 8;
+
+    ghost after = { (after_letter pyram_powers) };
+
+    fn turned(&self, number: usize) -> Pyraminx {
+        let body = self.body();
+        let tips = self.tips();
+        if number < 8 {
+            Pyraminx::of_valid(body.turned(number), tips)
+        } else {
+            let added = axial_turns()[number - 8];
+            Pyraminx::of_valid(body, turned_in_place(tips, added))
+        }
+    }
+
+    ghost few = { lit≤ tt };
+
+    ghost barred = { after-no_power pyram_action pyram_thirds thirds_of };
+}

@@ -1,0 +1,33 @@
+//! Turns of a Skewb. The axes U L R B are the generators 0 to 3.
+ghost use Rattle.std.proofs.Common.{lit≤};
+ghost use Rattle.scr_orbit.proofs.PowerLaws.{after-no_power};
+ghost use Rattle.scr_turning.specs.Axes.{thirds_of};
+ghost use Rattle.scr_turning.specs.PowerPuzzles.{after_letter};
+ghost use Rattle.scr_tetra.specs.Skewb.{skewb_thirds, skewb_action, skewb_powers};
+
+use crate::skewb::Skewb;
+use crate::skewb_tables::{centre_turns, four_turns, three_turns};
+use scr_turning::{Axes, PowerTurned};
+
+impl PowerTurned for Skewb {
+    type Kind = Axes;
+
+    ghost GENERATORS = { 4 };
+
+    const GENERATORS: u8 = 4;
+
+    ghost after = { (after_letter skewb_powers) };
+
+    fn turned(&self, number: usize) -> Skewb {
+        let (four, three, centres) = self.orbits();
+        Skewb::of_valid(
+            four.turned(&four_turns()[number], 3),
+            three.turned(&three_turns()[number], 3),
+            centres.turned(&centre_turns()[number], 1),
+        )
+    }
+
+    ghost few = { lit≤ tt };
+
+    ghost barred = { after-no_power skewb_action skewb_thirds thirds_of };
+}

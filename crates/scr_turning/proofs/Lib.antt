@@ -1,0 +1,2 @@
+pub mod NumberedTurns
+pub mod PowerPuzzleLaws

@@ -1,0 +1,5 @@
+pub mod Letters
+pub mod Faces
+pub mod Axes
+pub mod PowerPuzzles
+pub mod Proofs
