@@ -1,0 +1,45 @@
+-- Twelfths of a turn, counted clockwise from 0 to 11.
+use Rattle.std.proofs.Common.{◌≡◌, ℕ, ◌+◌, ◌*◌, ◌/◌, ◌%◌, ◌<◌, sym, ap, ◌∙◌, arith}
+use Rattle.std.specs.Prelude.{ℤ, pos, negsuc, neg_ℤ, ◌+ℤ◌}
+use Rattle.std.proofs.lemmas.Int.{ints}
+use Rattle.scr_notation.specs.Layers.{twelfths}
+use Rattle.scr_notation.proofs.LayersLaws.{AreTwelfths-twelfths}
+use Rattle.scr_sq1.specs.Units.{clockwise}
+
+pub clockwise-lt : (z : ℤ) → clockwise z < 12
+clockwise-lt (pos n) = omega arith
+clockwise-lt (negsuc n) = omega arith
+
+-- a number and its twelfths clockwise differ by whole turns
+record IsClockwise (z : ℤ) (n : ℕ) : Type 0 where
+  turns : ℕ
+  turns_more : ℕ
+  same : z +ℤ pos (12 * turns) ≡ pos (n + 12 * turns_more)
+
+IsClockwise-clockwise : (z : ℤ) → IsClockwise z (clockwise z)
+IsClockwise-clockwise (pos n) = record { turns = 0; turns_more = n / 12; same = omega (arith, ints) }
+IsClockwise-clockwise (negsuc n) = record { turns = n / 12 + 1; turns_more = 0; same = omega (arith, ints) }
+
+clockwise-only : (z : ℤ) (n : ℕ) → n < 12 → IsClockwise z n → clockwise z ≡ n
+clockwise-only (pos m) n lt h = omega (arith, ints, h.same)
+clockwise-only (negsuc m) n lt h = omega (arith, ints, h.same)
+
+pub clockwise-twelfths : (z : ℤ) → clockwise (twelfths z) ≡ clockwise z
+clockwise-twelfths z =
+    let t = AreTwelfths-twelfths z in
+    let c = IsClockwise-clockwise z in
+    clockwise-only (twelfths z) (clockwise z) (clockwise-lt z)
+    (record { turns = t.turns_more + c.turns; turns_more = t.turns + c.turns_more; same = omega (arith, ints, t.same, c.same) })
+
+pub clockwise-sum : (x z : ℤ) → clockwise (x +ℤ z) ≡ (clockwise x + clockwise z) % 12
+clockwise-sum x z =
+    let a = IsClockwise-clockwise x in
+    let b = IsClockwise-clockwise z in
+    let s : ℕ = clockwise x + clockwise z in
+    clockwise-only (x +ℤ z) (s % 12) (omega arith)
+    (record { turns = a.turns + b.turns; turns_more = a.turns_more + b.turns_more + s / 12; same = omega (arith, ints, a.same, b.same) })
+
+pub clockwise-back : (z : ℤ) → (clockwise z + clockwise (twelfths (neg_ℤ z))) % 12 ≡ 0
+clockwise-back z =
+    ap (λ n. (clockwise z + n) % 12) (clockwise-twelfths (neg_ℤ z)) ∙ sym (clockwise-sum z (neg_ℤ z))
+    ∙ ap clockwise {x = z +ℤ neg_ℤ z} {y = pos 0} (omega (arith, ints))

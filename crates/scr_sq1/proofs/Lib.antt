@@ -1,0 +1,11 @@
+mod Places
+mod TurnLaws
+mod Clockwise
+mod Lawful
+mod Motions
+mod Minima
+mod TurnedOver
+mod OnLiterals
+mod Steps
+mod ShapeSteps
+mod PieceSteps

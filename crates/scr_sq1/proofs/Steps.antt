@@ -1,0 +1,12 @@
+-- The steps of the loops over units, as facts about lists.
+use Rattle.std.proofs.Common.{◌≡◌, ℕ, ◌<◌, List, length, slice_index, sym, ◌∙◌, arith}
+use Rattle.std.proofs.lemmas.List.{ext_get_or}
+use Rattle.scr_combinatorics.specs.Lists.{pick}
+use Rattle.scr_combinatorics.proofs.Picks.{length-pick, pick-at}
+
+-- units that have at each place what is picked there
+pub picked_by_units : (units places out : List ℕ) → length places ≡ 24 → length out ≡ 24
+    → ((k : ℕ) → k < 24 → slice_index out k ≡ slice_index units (slice_index places k)) → out ≡ pick units places
+picked_by_units units places out told size filled =
+    ext_get_or 0 out (pick units places) (size ∙ sym told ∙ sym (length-pick units places)) (λ k lt.
+    filled k (omega arith) ∙ sym (pick-at units places k (omega arith)))

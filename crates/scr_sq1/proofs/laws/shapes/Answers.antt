@@ -1,0 +1,21 @@
+use Rattle.std.proofs.Common.{refl, sym, ap, ◌∙◌}
+use Rattle.scr_sq1.specs.Proofs.HalfWords.{half_of_word, IsHalf-word, IsKnownHalf-below}
+use Rattle.scr_sq1.specs.Proofs.HalfNumbers.{ways_of_shapes, shapes_one_to_one, shape_number-order}
+use Rattle.scr_sq1.specs.Proofs.Pieces.{StatePieces-valid}
+use Rattle.scr_sq1.proofs.OnLiterals.{sq1_on_literals}
+use Rattle.scr_sq1.proofs.laws.shapes.Goals as goal
+
+pub returns : goal.returns
+unfolding sq1_on_literals
+returns c = record {
+  halves = λ word six. let half = IsHalf-word word six in (half_of_word word, half.below, half.again);
+  once = λ h g lh lg same. sym (IsKnownHalf-below h lh).number ∙ ap half_of_word same ∙ (IsKnownHalf-below g lg).number;
+  counted = ways_of_shapes;
+  one_to_one = shapes_one_to_one;
+  in_order = shape_number-order;
+  of_states = λ s valid. (StatePieces-valid s valid).shape;
+  solved = refl;
+  solved_number = refl;
+  first = refl;
+  last = refl;
+}

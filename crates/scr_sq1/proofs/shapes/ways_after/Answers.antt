@@ -1,0 +1,12 @@
+use Rattle.std.proofs.Common.{[], get_or, ◌-◌, sym, ap, ◌∙◌, arith}
+use Rattle.scr_sq1.specs.declared.shapes.TheConstants.{WAYS}
+use Rattle.scr_sq1.specs.Proofs.HalfNumbers.{ways_after-few}
+use Rattle.scr_sq1.proofs.ShapeSteps.{ways_table}
+use Rattle.scr_sq1.proofs.shapes.ways_after.Goals as goal
+
+pub returns-then-taken-corners-clause-value : goal.returns-then-taken-corners-clause-value
+returns-then-taken-corners-clause-value c =
+    c.from-then-taken-corners.ensures
+    ∙ ap (λ i. get_or (get_or WAYS c.args.others []) i 0) c.from.ensures
+    ∙ ways_table c.args.others (c.args.corners - c.args.taken) c.requires.others (omega arith)
+    ∙ sym (ways_after-few c.args.others c.args.corners c.args.taken c.if-taken-corners.true)

@@ -1,0 +1,5 @@
+pub mod Units
+pub mod Shapes
+pub mod Numbers
+pub mod Known
+pub mod Proofs

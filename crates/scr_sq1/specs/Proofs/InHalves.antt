@@ -1,0 +1,236 @@
+-- Where no corner lies across the cut, the two units of each corner lie in one half, and the other way round.
+use Rattle.std.proofs.Common.{◌≡◌, ℕ, zero, suc, ◌+◌, ◌-◌, ◌%◌, ◌<◌, ◌≤◌, ◌⊎◌, inl, inr, Bool, true, false, IsTrue, not, List, [], ◌∷◌, length, slice_index, cond, lit<, lit≤, refl, sym, ap, ◌∙◌, subst, arith, eqb-true, eq-eqb, ltb-true}
+use Rattle.std.specs.Prelude.{◌&&◌, ◌==◌}
+use Rattle.std.proofs.lemmas.Bool.{cases_eq, cases_lt, false≢true, and_parts, and_from, or_cases, or_left, or_right, lt-ltb, le-ltb, ne_eqb, cond-true, cond-false}
+use Rattle.scr_combinatorics.specs.Lists.{occurrences}
+use Rattle.scr_combinatorics.proofs.Counts.{one_if-same, occurrences-twice}
+use Rattle.scr_sq1.specs.Units.{Sq1State, IsSq1, is_corner, units_filled, next_unit, previous_unit, fills_neighbour, are_of_one_corner, is_open}
+
+-- an element that stands at three places occurs three times
+pub occurrences-thrice : (xs : List ℕ) (i j k : ℕ) → i < j → j < k → k < length xs → slice_index xs i ≡ slice_index xs k
+    → slice_index xs j ≡ slice_index xs k → 3 ≤ occurrences (slice_index xs k) xs
+occurrences-thrice [] i j k a b lt d e = absurd (omega arith)
+occurrences-thrice (x ∷ xs) i zero k a b lt d e = absurd (omega arith)
+occurrences-thrice (x ∷ xs) i (suc j) zero a b lt d e = absurd (omega arith)
+occurrences-thrice (x ∷ xs) zero (suc j) (suc k) a b lt d e =
+    omega (arith, ap (λ z. occurrences z (x ∷ xs)) d, one_if-same x, ap (λ z. occurrences z xs) d, occurrences-twice xs j k (omega arith) (omega arith) e)
+occurrences-thrice (x ∷ xs) (suc i) (suc j) (suc k) a b lt d e =
+    omega (arith, occurrences-thrice xs i j k (omega arith) (omega arith) (omega arith) d e)
+
+-- the unit behind this one, or the one before, lies in the same half and is of the same piece
+abbrev pub HasPartner : List ℕ → ℕ → Type 0
+HasPartner units k =
+    ((k % 6 < 5) × (slice_index units (suc k) ≡ slice_index units k))
+    ⊎ ((j : ℕ) × (suc j ≡ k) × (j % 6 < 5) × (slice_index units j ≡ slice_index units k))
+
+-- what a valid state has of each piece, and that each corner's units lie in one half
+pub record InHalves (units : List ℕ) : Type 0 where
+  pub size : length units ≡ 24
+  pub corners : (p : ℕ) → p < 8 → occurrences p units ≡ 2
+  pub edges : (p : ℕ) → 8 ≤ p → p < 16 → occurrences p units ≡ 1
+  pub partners : (k : ℕ) → k < 24 → slice_index units k < 8 → HasPartner units k
+
+corner_fills : (p : ℕ) → p < 8 → units_filled p ≡ 2
+corner_fills p lt = cond-true {A = ℕ} (is_corner p) 2 1 (lt-ltb p 8 lt)
+
+edge_fills : (p : ℕ) → 8 ≤ p → units_filled p ≡ 1
+edge_fills p le = cond-false {A = ℕ} (is_corner p) 2 1 (le-ltb p 8 le)
+
+-- ---- from valid states
+
+-- a test that does not hold
+pub not_false : (b : Bool) → (IsTrue b → ⊥) → IsTrue (not b)
+not_false true h = absurd (h refl)
+not_false false h = refl
+
+pub not_true : (b : Bool) → IsTrue (not b) → IsTrue b → ⊥
+not_true true h t = false≢true h
+not_true false h t = false≢true t
+
+pub one_corner : (units : List ℕ) (j k : ℕ) → slice_index units j < 8 → slice_index units k ≡ slice_index units j → IsTrue (are_of_one_corner units j k)
+one_corner units j k lt e = and_from (is_corner (slice_index units j)) (slice_index units k == slice_index units j) (lt-ltb (slice_index units j) 8 lt) (eq-eqb (slice_index units k) (slice_index units j) e)
+
+pub of_one_corner : (units : List ℕ) (j k : ℕ) → IsTrue (are_of_one_corner units j k) → (slice_index units j < 8) × (slice_index units k ≡ slice_index units j)
+of_one_corner units j k h =
+    let both = and_parts (is_corner (slice_index units j)) (slice_index units k == slice_index units j) h in
+    (ltb-true (slice_index units j) 8 both.0, eqb-true (slice_index units k) (slice_index units j) both.1)
+
+-- the four places of the cut
+pub record IsOpen (units : List ℕ) : Type 0 where
+  pub top_back : IsTrue (are_of_one_corner units 11 0) → ⊥
+  pub top_front : IsTrue (are_of_one_corner units 5 6) → ⊥
+  pub bottom_front : IsTrue (are_of_one_corner units 23 12) → ⊥
+  pub bottom_back : IsTrue (are_of_one_corner units 17 18) → ⊥
+
+pub IsOpen-test : (units : List ℕ) → IsTrue (is_open units) → IsOpen units
+IsOpen-test units h =
+    let a = are_of_one_corner units 11 0 in
+    let b = are_of_one_corner units 5 6 in
+    let c = are_of_one_corner units 23 12 in
+    let d = are_of_one_corner units 17 18 in
+    let both = and_parts (not a && not b) (not c && not d) h in
+    let top = and_parts (not a) (not b) both.0 in
+    let bottom = and_parts (not c) (not d) both.1 in
+    record { top_back = not_true a top.0; top_front = not_true b top.1; bottom_front = not_true c bottom.0; bottom_back = not_true d bottom.1 }
+
+pub is_open-from : (units : List ℕ) → IsOpen units → IsTrue (is_open units)
+is_open-from units o =
+    let a = are_of_one_corner units 11 0 in
+    let b = are_of_one_corner units 5 6 in
+    let c = are_of_one_corner units 23 12 in
+    let d = are_of_one_corner units 17 18 in
+    and_from (not a && not b) (not c && not d)
+    (and_from (not a) (not b) (not_false a o.top_back) (not_false b o.top_front))
+    (and_from (not c) (not d) (not_false c o.bottom_front) (not_false d o.bottom_back))
+
+-- ---- neighbours inside a half, and across the cut
+
+next_unit-inside : (k : ℕ) → k < 24 → k % 6 < 5 → next_unit k ≡ suc k
+next_unit-inside k lt inside =
+    cond-false (k == 11) 0 (cond (k == 23) 12 (k + 1)) (ne_eqb k 11 (λ e. omega arith))
+    ∙ cond-false (k == 23) 12 (k + 1) (ne_eqb k 23 (λ e. omega arith)) ∙ omega arith
+
+previous_unit-inside : (j : ℕ) → suc j < 24 → j % 6 < 5 → previous_unit (suc j) ≡ j
+previous_unit-inside j lt inside =
+    cond-false (suc j == 0) 11 (cond (suc j == 12) 23 (suc j - 1)) (ne_eqb (suc j) 0 (λ e. omega arith))
+    ∙ cond-false (suc j == 12) 23 (suc j - 1) (ne_eqb (suc j) 12 (λ e. omega arith)) ∙ omega arith
+
+-- the last units of the halves
+module _ (P : ℕ → Type 0) (top_right : P 5) (top_left : P 11) (bottom_right : P 17) (bottom_left : P 23) where
+  by_last : (k : ℕ) → k < 24 → 5 ≤ k % 6 → P k
+  by_last k lt last =
+      elim (cases_eq k 5) [
+        | inl e ↦ subst P (sym e) top_right
+        | inr a ↦ elim (cases_eq k 11) [
+          | inl e ↦ subst P (sym e) top_left
+          | inr b ↦ elim (cases_eq k 17) [
+            | inl e ↦ subst P (sym e) bottom_right
+            | inr c ↦ subst P {x = 23} (omega arith) bottom_left
+          ]
+        ]
+      ]
+
+-- the first units
+module _ (P : ℕ → Type 0) (top_right : P 0) (top_left : P 6) (bottom_right : P 12) (bottom_left : P 18) where
+  by_first : (k : ℕ) → k < 24 → k % 6 ≡ 0 → P k
+  by_first k lt first =
+      elim (cases_eq k 0) [
+        | inl e ↦ subst P (sym e) top_right
+        | inr a ↦ elim (cases_eq k 6) [
+          | inl e ↦ subst P (sym e) top_left
+          | inr b ↦ elim (cases_eq k 12) [
+            | inl e ↦ subst P (sym e) bottom_right
+            | inr c ↦ subst P {x = 18} (omega arith) bottom_left
+          ]
+        ]
+      ]
+
+module _ (s : Sq1State) (h : IsSq1 s) where
+  -- no corner goes on across the cut
+  not_behind : (k : ℕ) → k < 24 → 5 ≤ k % 6 → slice_index s.units k < 8 → slice_index s.units (next_unit k) ≡ slice_index s.units k → ⊥
+  not_behind =
+      let o = IsOpen-test s.units h.opened in
+      by_last (λ k. slice_index s.units k < 8 → slice_index s.units (next_unit k) ≡ slice_index s.units k → ⊥)
+      (λ c e. o.top_front (one_corner s.units 5 6 c e))
+      (λ c e. o.top_back (one_corner s.units 11 0 c e))
+      (λ c e. o.bottom_back (one_corner s.units 17 18 c e))
+      (λ c e. o.bottom_front (one_corner s.units 23 12 c e))
+
+  not_before : (k : ℕ) → k < 24 → k % 6 ≡ 0 → slice_index s.units k < 8 → slice_index s.units (previous_unit k) ≡ slice_index s.units k → ⊥
+  not_before =
+      let o = IsOpen-test s.units h.opened in
+      by_first (λ k. slice_index s.units k < 8 → slice_index s.units (previous_unit k) ≡ slice_index s.units k → ⊥)
+      (λ c e. o.top_back (one_corner s.units 11 0 (omega arith) (sym e)))
+      (λ c e. o.top_front (one_corner s.units 5 6 (omega arith) (sym e)))
+      (λ c e. o.bottom_front (one_corner s.units 23 12 (omega arith) (sym e)))
+      (λ c e. o.bottom_back (one_corner s.units 17 18 (omega arith) (sym e)))
+
+  behind : (k : ℕ) → k < 24 → slice_index s.units k < 8 → slice_index s.units (next_unit k) ≡ slice_index s.units k → HasPartner s.units k
+  behind k lt corner e =
+      elim (cases_lt (k % 6) 5) [
+        | inl inside ↦ inl (inside, ap (λ i. slice_index s.units i) (sym (next_unit-inside k lt inside)) ∙ e)
+        | inr last ↦ absurd (not_behind k lt last corner e)
+      ]
+
+  before : (k : ℕ) → k < 24 → slice_index s.units k < 8 → slice_index s.units (previous_unit k) ≡ slice_index s.units k → HasPartner s.units k
+  before k lt corner e =
+      elim (cases_eq (k % 6) 0) [
+        | inl first ↦ absurd (not_before k lt first corner e)
+        | inr inside ↦
+            let j : ℕ = k - 1 in
+            let is : suc j ≡ k = omega arith in
+            let low : j % 6 < 5 = omega arith in
+            let same : previous_unit k ≡ j = ap previous_unit (sym is) ∙ previous_unit-inside j (omega arith) low in
+            inr (j, is, low, ap (λ i. slice_index s.units i) (sym same) ∙ e)
+      ]
+
+  pub InHalves-valid : InHalves s.units
+  InHalves-valid = record {
+    size = h.size;
+    corners = λ p lt. h.pieces p (omega arith) ∙ corner_fills p lt;
+    edges = λ p le lt. h.pieces p lt ∙ edge_fills p le;
+    partners = λ k lt corner.
+        let units = s.units in
+        let a = slice_index units (next_unit k) == slice_index units k in
+        let b = slice_index units (previous_unit k) == slice_index units k in
+        elim (or_cases a b (h.neighbours k lt (lt-ltb (slice_index units k) 8 corner))) [
+          | inl e ↦ behind k lt corner (eqb-true (slice_index units (next_unit k)) (slice_index units k) e)
+          | inr e ↦ before k lt corner (eqb-true (slice_index units (previous_unit k)) (slice_index units k) e)
+        ];
+  }
+
+-- ---- to valid states
+
+module _ (units : List ℕ) (h : InHalves units) where
+  -- no corner fills three units
+  pub no_third : (i j k : ℕ) → i < j → j < k → k < 24 → slice_index units k < 8 → slice_index units i ≡ slice_index units k
+      → slice_index units j ≡ slice_index units k → ⊥
+  no_third i j k a b lt corner d e =
+      omega (arith, h.size, occurrences-thrice units i j k a b (omega (arith, h.size)) d e, h.corners (slice_index units k) corner)
+
+  -- a corner at the last unit of a half has its other unit before it
+  partner_before : (j : ℕ) → suc j < 24 → 5 ≤ suc j % 6 → slice_index units (suc j) < 8 → slice_index units j ≡ slice_index units (suc j)
+  partner_before j lt last corner =
+      elim (h.partners (suc j) lt corner) [
+        | inl p ↦ let inside = p.0 in absurd (omega arith)
+        | inr p ↦ let is = p.1 in ap (λ i. slice_index units i) {y = p.0} (omega arith) ∙ p.3
+      ]
+
+  -- so its third unit would lie across the cut
+  apart : (j k : ℕ) → suc j < 24 → 5 ≤ suc j % 6 → k < 24 → (suc j < k) ⊎ (k < j) → IsTrue (are_of_one_corner units (suc j) k) → ⊥
+  apart j k lt last low order one =
+      let is = of_one_corner units (suc j) k one in
+      let first : slice_index units j ≡ slice_index units (suc j) = partner_before j lt last is.0 in
+      elim order [
+        | inl above ↦ no_third j (suc j) k (omega arith) above low (omega (arith, is.0, is.1)) (first ∙ sym is.1) (sym is.1)
+        | inr below ↦ no_third k j (suc j) below (omega arith) lt is.0 is.1 first
+      ]
+
+  IsOpen-halves : IsOpen units
+  IsOpen-halves = record {
+    top_back = apart 10 0 (lit< tt) (lit≤ tt) (lit< tt) (inr (lit< tt));
+    top_front = apart 4 6 (lit< tt) (lit≤ tt) (lit< tt) (inl (lit< tt));
+    bottom_front = apart 22 12 (lit< tt) (lit≤ tt) (lit< tt) (inr (lit< tt));
+    bottom_back = apart 16 18 (lit< tt) (lit≤ tt) (lit< tt) (inl (lit< tt));
+  }
+
+  partner_fills : (k : ℕ) → k < 24 → HasPartner units k → IsTrue (fills_neighbour units k)
+  partner_fills k lt (inl p) =
+      or_left (slice_index units (next_unit k) == slice_index units k) (slice_index units (previous_unit k) == slice_index units k)
+      (eq-eqb (slice_index units (next_unit k)) (slice_index units k) (ap (λ i. slice_index units i) (next_unit-inside k lt p.0) ∙ p.1))
+  partner_fills k lt (inr p) =
+      let j = p.0 in
+      let same : previous_unit k ≡ j = ap previous_unit (sym p.1) ∙ previous_unit-inside j (omega (arith, p.1)) p.2 in
+      or_right (slice_index units (next_unit k) == slice_index units k) (slice_index units (previous_unit k) == slice_index units k)
+      (eq-eqb (slice_index units (previous_unit k)) (slice_index units k) (ap (λ i. slice_index units i) same ∙ p.3))
+
+  pub IsSq1-halves : (equator : Bool) → IsSq1 (record { units = units; equator = equator })
+  IsSq1-halves equator = record {
+    size = h.size;
+    pieces = λ p lt. elim (cases_lt p 8) [
+      | inl low ↦ h.corners p low ∙ sym (corner_fills p low)
+      | inr high ↦ h.edges p high lt ∙ sym (edge_fills p high)
+    ];
+    neighbours = λ k lt corner. partner_fills k lt (h.partners k lt (ltb-true (slice_index units k) 8 corner));
+    opened = is_open-from units IsOpen-halves;
+  }

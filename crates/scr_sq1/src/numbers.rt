@@ -1,0 +1,66 @@
+//! The numbers of the states of a Square-1, by which they are drawn.
+ghost use Rattle.std.specs.Prelude.{◌≡◌, ◌<◌};
+ghost use Rattle.scr_sq1.specs.Units.{IsSq1};
+ghost use Rattle.scr_sq1.specs.Numbers.{sq1_bases, sq1_digits, sq1_numbered};
+ghost use Rattle.scr_sq1.specs.Proofs.Numbering.{sq1_numbering};
+
+use crate::pieces::units_of;
+use crate::shapes::{shape_at, shape_number};
+use crate::state::Sq1;
+use scr_draw::Numbering;
+use scr_rank::{MixedRadix, PermRank};
+
+/// How many states there are.
+const STATES: u128 = 11_958_666_854_400;
+
+/// How many digits of the equator, of lists of corners, of lists of edges and of shapes there are.
+fn sq1_radix() -> MixedRadix<4>
+    ensures { result ≡ sq1_bases }
+{
+    MixedRadix::new([2, 40320, 40320, 3678])
+}
+
+/// The equator, the numbers of the list of corners and of the list of edges, and the number of the shape.
+fn digits_of(state: &Sq1) -> [u128; 4]
+    requires { IsSq1 state.now }
+    ensures { result ≡ sq1_digits state.now }
+{
+    let equator = if state.equator() { 1 } else { 0 };
+    [
+        equator,
+        PermRank::<8>::rank(&state.corners()),
+        PermRank::<8>::rank(&state.edges()),
+        u128::from(shape_number(&state.shape())),
+    ]
+}
+
+/// The numbering of the Square-1: the equator is the least digit, then come the lists of corners and of edges in unit order, and
+/// the shape.
+#[derive(Clone, Copy)]
+pub struct Sq1Numbers;
+
+impl Numbering for Sq1Numbers {
+    type State = Sq1;
+
+    ghost numbered = { λ _. sq1_numbered };
+
+    ghost law = { λ _. sq1_numbering };
+
+    fn state_at(&self, number: u128) -> Sq1 {
+        let [equator, corners, edges, shape] = sq1_radix().unrank(number);
+        let units = units_of(
+            &shape_at(shape as u32).halves(),
+            &PermRank::<8>::unrank(corners),
+            &PermRank::<8>::unrank(edges),
+        );
+        Sq1::of_valid(units, equator == 1)
+    }
+
+    fn number_of(&self, state: &Sq1) -> u128 {
+        sq1_radix().rank(&digits_of(state))
+    }
+
+    fn count(&self) -> u128 {
+        STATES
+    }
+}

@@ -1,0 +1,136 @@
+//! The pieces of a Square-1 in unit order.
+ghost use Rattle.std.specs.Prelude.{◌≡◌, ◌+◌, ◌<◌, ◌≤◌, ◌++◌, All, length, take};
+ghost use Rattle.scr_combinatorics.specs.Permutations.{IsPermutation};
+ghost use Rattle.scr_sq1.specs.Shapes.{half_word, IsShape, units_among};
+ghost use Rattle.scr_sq1.specs.Numbers.{corners_of, edges_of, laid, shape_word};
+ghost use Rattle.scr_sq1.specs.Proofs.LaidLaws.{Fits};
+
+use crate::shapes::CORNERS;
+use crate::turning::UNITS;
+
+/// How many pieces there are.
+const PIECES: usize = 16;
+
+/// A corner among the pieces of a half.
+const C: bool = true;
+
+/// An edge among them.
+const E: bool = false;
+
+/// Which pieces of each half are corners. A half has six pieces, less one for each of its corners.
+const HALVES: [[bool; 6]; 13] = [
+    [E, E, E, E, E, E],
+    [C, E, E, E, E, E],
+    [E, C, E, E, E, E],
+    [E, E, C, E, E, E],
+    [E, E, E, C, E, E],
+    [E, E, E, E, C, E],
+    [C, C, E, E, E, E],
+    [C, E, C, E, E, E],
+    [C, E, E, C, E, E],
+    [E, C, C, E, E, E],
+    [E, C, E, C, E, E],
+    [E, E, C, C, E, E],
+    [C, C, C, E, E, E],
+];
+
+/// The corners of these units in unit order.
+pub(crate) fn corners_in(units: &[u8; UNITS]) -> [u8; 8]
+    requires { length (corners_of units.now) ≡ 8 }
+    ensures { result ≡ corners_of units.now }
+{
+    let mut corners = [0; 8];
+    let mut found: usize = 0;
+    let mut is_second = false;
+    for unit in units {
+        if *unit < 8 {
+            if !is_second {
+                corners[found] = *unit;
+                found += 1;
+            }
+            is_second = !is_second;
+        }
+    }
+    corners
+}
+
+/// The edges of these units in unit order, edge n for piece 8 + n.
+pub(crate) fn edges_in(units: &[u8; UNITS]) -> [u8; 8]
+    requires { length (edges_of units.now) ≡ 8 }
+    ensures { result ≡ edges_of units.now }
+{
+    let mut edges = [0; 8];
+    let mut found: usize = 0;
+    for unit in units {
+        if *unit >= 8 {
+            edges[found] = *unit - 8;
+            found += 1;
+        }
+    }
+    edges
+}
+
+/// The units of the state with this shape, these corners and these edges, each in unit order.
+pub(crate) fn units_of(halves: &[u8; 4], corners: &[u8; 8], edges: &[u8; 8]) -> [u8; UNITS]
+    requires shape { IsShape halves.now }
+    requires corners { IsPermutation 8 corners.now }
+    requires edges { IsPermutation 8 edges.now }
+    ensures { result ≡ laid (shape_word halves.now) corners.now edges.now }
+{
+    laid(&shape_word(halves), corners, edges)
+}
+
+/// Which pieces of a shape are corners, one half behind the other.
+fn shape_word(halves: &[u8; 4]) -> [bool; PIECES]
+    requires { IsShape halves.now }
+    ensures { result ≡ shape_word halves.now }
+{
+    let mut word = [false; PIECES];
+    let mut pieces: usize = 0;
+    for half in halves {
+        pieces = with_half(&mut word, pieces, *half);
+    }
+    word
+}
+
+/// Puts the pieces of a half behind the first `from` of a word, and tells how many there are then.
+fn with_half(word: &mut [bool; PIECES], from: usize, half: u8) -> usize
+    requires half { half < 13 }
+    requires room { from + length (half_word half) ≤ 16 }
+    ensures pieces { result ≡ from + length (half_word half) }
+    ensures word { take result word.new ≡ take from word.old ++ half_word half }
+{
+    let half = usize::from(half);
+    let pieces = 6 - usize::from(CORNERS[half]);
+    for piece in 0..pieces {
+        word[from + piece] = HALVES[half][piece];
+    }
+    from + pieces
+}
+
+/// The units of pieces that lie one behind the other: each corner of the word is the next one of these and fills two units, and
+/// each edge is the next one of these.
+fn laid(word: &[bool; PIECES], corners: &[u8; 8], edges: &[u8; 8]) -> [u8; UNITS]
+    requires fits { Fits word.now corners.now edges.now }
+    requires units { units_among word.now ≡ 24 }
+    requires edges { All (λ edge. edge < 8) edges.now }
+    ensures { result ≡ laid word.now corners.now edges.now }
+{
+    let mut units = [0; UNITS];
+    let mut unit: usize = 0;
+    let mut corner: usize = 0;
+    let mut edge: usize = 0;
+    for is_corner in word {
+        if *is_corner {
+            units[unit] = corners[corner];
+            units[unit + 1] = corners[corner];
+            unit += 2;
+            corner += 1;
+        } else {
+            units[unit] = 8 + edges[edge];
+            unit += 1;
+            edge += 1;
+        }
+    }
+    units
+}

@@ -1,0 +1,181 @@
+//! The state of a Square-1 and its turns.
+ghost use Rattle.std.specs.Prelude.{◌≡◌, ◌↔◌, pos, negsuc, Some, IsTrue, IsSome, IfSome};
+ghost use Rattle.scr_play.specs.Play.{play};
+ghost use Rattle.scr_notation.specs.declared.turn.Turn.{Turn as Letter};
+ghost use Rattle.scr_notation.specs.declared.turn.Turn.TheVariants.{Layers};
+ghost use Rattle.scr_notation.specs.Layers.{is_twelfths, is_layer_turn};
+ghost use Rattle.scr_combinatorics.specs.Permutations.{IsPermutation};
+ghost use Rattle.scr_sq1.specs.Shapes.{shape_of};
+ghost use Rattle.scr_sq1.specs.Numbers.{corners_of, edges_of};
+ghost use Rattle.scr_sq1.specs.Units.{IsSq1, solved_sq1, after_layers, twisted, sq1_after};
+
+use crate::pieces::{corners_in, edges_in};
+use crate::shapes::{Shape, shape_in};
+use crate::turning::{UNITS, clockwise, turned, twisted};
+use crate::validity::{are_corners_whole, has_each_piece, is_open};
+use scr_notation::{Scramble, Turn};
+use std::marker::Model;
+
+/// A Square-1 that can be put together, and that can twist: no corner lies across the cut.
+///
+/// Units 0 to 11 are the top layer, clockwise as seen from above, from the cut at the back on; 12 to 23 are the bottom layer,
+/// clockwise as seen from below, from the cut at the front on. Corners are pieces 0 to 7, and fill two units; edges are pieces
+/// 8 to 15, and fill one.
+#[derive(Clone, Copy, Debug, PartialEq, Eq)]
+pub struct Sq1 {
+    units: [u8; UNITS],
+    equator: bool,
+}
+
+// Clauses see the units and the equator.
+impl Model for Sq1 {
+    ghost use Rattle.scr_sq1.specs.Units.{Sq1State, IsSq1};
+
+    ghost Value = { Sq1State };
+
+    ghost view = { λ s. record { units = s.units; equator = s.equator } };
+
+    ghost invariant = { λ s. IsSq1 (record { units = s.units; equator = s.equator }) };
+
+    ghost inverse = { λ s. record { units = s.units; equator = s.equator } };
+}
+
+impl Sq1 {
+    /// The solved state.
+    pub fn solved() -> Sq1
+        ensures { result ≡ solved_sq1 }
+    {
+        Sq1 {
+            units: [
+                0, 0, 8, 1, 1, 9, 2, 2, 10, 3, 3, 11, 12, 4, 4, 13, 5, 5, 14, 6, 6, 15, 7, 7,
+            ],
+            equator: false,
+        }
+    }
+
+    /// The state in which each unit is of this piece, and whose equator stands turned or not. `None` comes exactly where these
+    /// aren't the sixteen pieces, each in its own units, or where a corner lies across the cut.
+    pub fn from_units(units: [u8; UNITS], equator: bool) -> Option<Sq1>
+        ensures valid { IsSome result ↔ IsSq1 (record { units = units; equator = equator }) }
+        ensures value { IfSome result (λ state. state ≡ record { units = units; equator = equator }) }
+    {
+        if has_each_piece(&units) && are_corners_whole(&units) && is_open(&units) {
+            Some(Sq1 { units, equator })
+        } else {
+            None
+        }
+    }
+
+    /// The state of units that are known to be valid.
+    pub(crate) fn of_valid(units: [u8; UNITS], equator: bool) -> Sq1
+        requires { IsSq1 (record { units = units; equator = equator }) }
+        ensures { result ≡ record { units = units; equator = equator } }
+    {
+        Sq1 { units, equator }
+    }
+
+    /// Which piece each unit is of.
+    pub fn units(&self) -> [u8; UNITS]
+        ensures same { result ≡ self.now.units }
+        ensures valid { IsSq1 self.now }
+    {
+        self.units
+    }
+
+    /// Whether the equator stands turned, as it does after an odd number of twists from solved.
+    pub fn equator(&self) -> bool
+        ensures same { result ≡ self.now.equator }
+        ensures valid { IsSq1 self.now }
+    {
+        self.equator
+    }
+
+    /// Where its corners and edges lie.
+    pub fn shape(&self) -> Shape
+        ensures { result ≡ shape_of self.now.units }
+    {
+        shape_in(&self.units)
+    }
+
+    /// The corners in unit order.
+    pub fn corners(&self) -> [u8; 8]
+        ensures corners { result ≡ corners_of self.now.units }
+        ensures valid { IsPermutation 8 result }
+    {
+        corners_in(&self.units)
+    }
+
+    /// The edges in unit order, edge n for piece 8 + n.
+    pub fn edges(&self) -> [u8; 8]
+        ensures edges { result ≡ edges_of self.now.units }
+        ensures valid { IsPermutation 8 result }
+    {
+        edges_in(&self.units)
+    }
+
+    /// The state after the layers are turned by so many twelfths, from -5 to 6, each clockwise as seen from its own side.
+    /// `None` comes exactly where a corner would lie across the cut.
+    #[inline]
+    pub fn turn(&self, top: i8, bottom: i8) -> Option<Sq1>
+        requires top { IsTrue (is_twelfths top) }
+        requires bottom { IsTrue (is_twelfths bottom) }
+        ensures { result ≡ after_layers self.now top bottom }
+    {
+        let units = turned(&self.units, clockwise(top), clockwise(bottom));
+        if is_open(&units) {
+            Some(Sq1 {
+                units,
+                equator: self.equator,
+            })
+        } else {
+            None
+        }
+    }
+
+    /// The state after the half at the right of the cut is turned over, with its part of the equator.
+    #[inline]
+    pub fn twist(&self) -> Sq1
+        ensures { result ≡ twisted self.now }
+    {
+        Sq1 {
+            units: twisted(&self.units),
+            equator: !self.equator,
+        }
+    }
+
+    /// The state after the turns of a scramble. `None` comes exactly where one of them isn't a turn of a Square-1, or is
+    /// barred in its place.
+    pub fn play(&self, scramble: &Scramble) -> Option<Sq1>
+        ensures { result ≡ play sq1_after self.now scramble.now.turns }
+    {
+        let mut state = *self;
+        for turn in scramble.turns() {
+            state = after(&state, *turn)?;
+        }
+        Some(state)
+    }
+}
+
+/// The state after a letter's turn. `None` comes exactly where it isn't a turn of a Square-1, or is barred.
+fn after(state: &Sq1, letter: Turn) -> Option<Sq1>
+    ensures { result ≡ sq1_after state.now letter }
+{
+    match letter {
+        Turn::Layers { top, bottom } => {
+            if is_layer_turn(top, bottom) {
+                state.turn(top, bottom)
+            } else {
+                None
+            }
+        }
+        Turn::Twist => Some(state.twist()),
+        _ => None,
+    }
+}
+
+/// Whether these are amounts of a turn of the layers: from -5 to 6, and not both 0.
+fn is_layer_turn(top: i8, bottom: i8) -> bool
+    ensures { result ≡ is_layer_turn (Layers top bottom) }
+{
+    (-5 <= top && top <= 6) && (-5 <= bottom && bottom <= 6) && !(top == 0 && bottom == 0)
+}

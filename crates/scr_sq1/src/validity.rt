@@ -1,0 +1,100 @@
+//! Tests of what makes a state valid.
+ghost use Rattle.std.specs.Prelude.{◌≡◌, ℕ, ◌<◌, ◌↔◌, IsTrue, slice_index};
+ghost use Rattle.scr_combinatorics.specs.Lists.{occurrences};
+ghost use Rattle.scr_sq1.specs.Units.{is_corner, next_unit, previous_unit, fills_neighbour, are_of_one_corner, is_open, units_filled};
+
+use crate::turning::UNITS;
+
+/// Whether no corner lies across the cut.
+#[inline]
+pub(crate) fn is_open(units: &[u8; UNITS]) -> bool
+    ensures { result ≡ is_open units.now }
+{
+    !are_of_one_corner(units, 11, 0)
+        && !are_of_one_corner(units, 5, 6)
+        && !are_of_one_corner(units, 23, 12)
+        && !are_of_one_corner(units, 17, 18)
+}
+
+/// Whether two units are of one corner.
+#[inline]
+fn are_of_one_corner(units: &[u8; UNITS], unit: usize, other: usize) -> bool
+    requires unit { unit < 24 }
+    requires other { other < 24 }
+    ensures { result ≡ are_of_one_corner units.now unit other }
+{
+    units[unit] < 8 && units[other] == units[unit]
+}
+
+/// Whether each corner fills two units and each edge one.
+pub(crate) fn has_each_piece(units: &[u8; UNITS]) -> bool
+    ensures { IsTrue result ↔ ((p : ℕ) → p < 16 → occurrences p units.now ≡ units_filled p) }
+{
+    for piece in 0..16 {
+        let filled = if piece < 8 { 2 } else { 1 };
+        if count(units, piece) != filled {
+            return false;
+        }
+    }
+    true
+}
+
+/// How many units a piece fills.
+fn count(units: &[u8; UNITS], piece: u8) -> usize
+    ensures { result ≡ occurrences piece units.now }
+{
+    let mut count = 0;
+    for unit in units {
+        if *unit == piece {
+            count += 1;
+        }
+    }
+    count
+}
+
+/// Whether each unit of a corner has a neighbour of the same corner, round its layer.
+pub(crate) fn are_corners_whole(units: &[u8; UNITS]) -> bool
+    ensures { IsTrue result ↔ ((k : ℕ) → k < 24 → IsTrue (is_corner (slice_index units.now k))
+        → IsTrue (fills_neighbour units.now k)) }
+{
+    for unit in 0..UNITS {
+        if units[unit] < 8 && !fills_neighbour(units, unit) {
+            return false;
+        }
+    }
+    true
+}
+
+/// Whether a unit's piece fills a neighbouring unit too.
+fn fills_neighbour(units: &[u8; UNITS], unit: usize) -> bool
+    requires { unit < 24 }
+    ensures { result ≡ fills_neighbour units.now unit }
+{
+    units[next_unit(unit)] == units[unit] || units[previous_unit(unit)] == units[unit]
+}
+
+/// The unit behind a unit, round its layer.
+fn next_unit(unit: usize) -> usize
+    requires { unit < 24 }
+    ensures value { result ≡ next_unit unit }
+    ensures below { result < 24 }
+{
+    match unit {
+        11 => 0,
+        23 => 12,
+        _ => unit + 1,
+    }
+}
+
+/// The unit before a unit, round its layer.
+fn previous_unit(unit: usize) -> usize
+    requires { unit < 24 }
+    ensures value { result ≡ previous_unit unit }
+    ensures below { result < 24 }
+{
+    match unit {
+        0 => 11,
+        12 => 23,
+        _ => unit - 1,
+    }
+}
