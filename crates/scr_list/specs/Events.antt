@@ -25,11 +25,11 @@ abbrev pub rules_of : Event → EventRules
 rules_of C222 = with_minima true 5 4 11
 rules_of C333 = with_minima false 5 2 5
 rules_of Oh333 = with_minima false 5 2 5
-rules_of C555 = without_minima false 5
-rules_of C666 = without_minima false 3
-rules_of C777 = without_minima false 3
+rules_of C555 = without_minima true 5
+rules_of C666 = without_minima true 3
+rules_of C777 = without_minima true 3
 rules_of Clock = with_minima true 5 2 3
-rules_of Minx = without_minima false 5
+rules_of Minx = without_minima true 5
 rules_of Pyram = with_minima true 5 6 15
 rules_of Skewb = with_minima true 5 7 11
 rules_of Sq1 = with_minima false 5 2 4

@@ -63,7 +63,18 @@ fn lists_name_rounds(rt: HostRuntime) -> Result<(), Fail> {
         assert!(rt; reads(&rt, list.as_bytes(), Ok(&[ONE]))?, "{list}");
     }
     assert!(rt; reads(&rt, b"", Ok(&[]))?);
-    assert!(rt; reads(&rt, b"clock 26 3\n222 5\nclock 1", Ok(&[most, cube, ONE]))?);
+    let moves = Round {
+        event: Event::Minx,
+        groups: 3,
+        least: 0,
+    };
+    assert!(rt;
+        reads(
+            &rt,
+            b"clock 26 3\n222 5\nminx 3\nclock 1",
+            Ok(&[most, cube, moves, ONE])
+        )?
+    );
     Ok(())
 }
 
@@ -86,6 +97,7 @@ fn lists_are_refused(rt: HostRuntime) -> Result<(), Fail> {
         ("clock 0 4\nclock 1 4", 1, ListCause::Groups),
         ("clock 1 4", 1, ListCause::Minimum),
         ("222 1 12", 1, ListCause::Minimum),
+        ("minx 1 0", 1, ListCause::Minimum),
         ("clock 1\n\nclock 1 -1", 3, ListCause::Minimum),
     ] {
         let fault = ListFault::Line { number, cause };
@@ -143,11 +155,11 @@ fn the_table_of_events(rt: HostRuntime) {
             5,
             Some((2, 5)),
         ),
-        (Event::C555, "555", "5x5x5 Cube", false, 5, None),
-        (Event::C666, "666", "6x6x6 Cube", false, 3, None),
-        (Event::C777, "777", "7x7x7 Cube", false, 3, None),
+        (Event::C555, "555", "5x5x5 Cube", true, 5, None),
+        (Event::C666, "666", "6x6x6 Cube", true, 3, None),
+        (Event::C777, "777", "7x7x7 Cube", true, 3, None),
         (Event::Clock, "clock", "Clock", true, 5, Some((2, 3))),
-        (Event::Minx, "minx", "Megaminx", false, 5, None),
+        (Event::Minx, "minx", "Megaminx", true, 5, None),
         (Event::Pyram, "pyram", "Pyraminx", true, 5, Some((6, 15))),
         (Event::Skewb, "skewb", "Skewb", true, 5, Some((7, 11))),
         (Event::Sq1, "sq1", "Square-1", false, 5, Some((2, 4))),

@@ -39,6 +39,13 @@ const TABLE_SKEWB: &str =
     "table skewb positions 3149280 bound 11\n0 1\n1 8\n2 48\n3 288\n4 1728\n5 10248\n6 59304\n\
     7 315198\n8 1225483\n9 1455856\n10 81028\n11 90\n";
 
+/// The scramble of the Megaminx.
+const SCRAMBLE_MINX: &str =
+    "R-- D++ R++ D-- R++ D++ R++ D-- R-- D-- U' R-- D++ R++ D++ R-- D++ R-- D-- R-- D-- U' R-- D++ \
+    R++ D++ R++ D-- R++ D++ R-- D++ U R-- D++ R-- D-- R-- D-- R-- D++ R-- D++ U R++ D-- R-- D-- R++ \
+    D++ R++ D++ R++ D-- U' R++ D++ R++ D++ R-- D-- R-- D-- R-- D-- U' R++ D-- R-- D++ R-- D-- R-- \
+    D-- R-- D-- U'\n";
+
 const USAGE: &str =
     "scramble: usage: one EVENT SEED | sheet --seed HEX [--workers N] [--tries N] [--attempts N] | tables EVENT | load NUMBER\n";
 
@@ -126,9 +133,11 @@ fn words_and_lists(rt: HostRuntime) -> Result<(), Fail> {
     let digit = "000000000000000000000000000000000000000000000000000000000000000g";
     let joined = "--seed=0000000000000000000000000000000000000000000000000000000000000000";
     let equals = "--seed==0000000000000000000000000000000000000000000000000000000000000000";
-    let runs: [(&[&str], &str, u8, &str, &str); 23] = [
+    let runs: [(&[&str], &str, u8, &str, &str); 25] = [
         (&["one", "clock", ZEROS], "", 0, SCRAMBLE, ""),
+        (&["one", "minx", ZEROS], "", 0, SCRAMBLE_MINX, ""),
         (&["tables", "clock"], "", 0, "no tables\n", ""),
+        (&["tables", "777"], "", 0, "no tables\n", ""),
         (
             &["tables", "444"],
             "",
@@ -313,26 +322,60 @@ fn faults_are_told(rt: HostRuntime) {
     assert_eq!(rt; Status::of(Ok(())).code(), 0);
 }
 
+// How a sheet begins, how many lines it has, and what is told at its end.
 #[test]
 fn sheets_of_two_events(rt: HostRuntime) -> Result<(), Fail> {
-    for (list, head) in [
+    for (list, attempts, head, lines, err) in [
         (
             "222 1\nclock 1 0",
+            "1000",
             "Round 1: 2x2x2 Cube, at least 4\nGroup A\n1. R2 U R' F U2 F' U R U\n2. ",
+            20,
+            "",
         ),
         (
             "pyram 1\n222 1",
+            "1000",
             "Round 1: Pyraminx, at least 6\nGroup A\n1. R L' U' R B' U B' r' b'\n2. ",
+            20,
+            "",
         ),
         (
             "skewb 1\npyram 1",
+            "1000",
             "Round 1: Skewb, at least 7\nGroup A\n1. B R' L' R L U R'\n2. ",
+            20,
+            "",
+        ),
+        (
+            "minx 1\n777 2",
+            "1",
+            "Round 1: Megaminx, random moves\nGroup A\n1. R-- D++ R++ D-- R++ D++ ",
+            25,
+            "",
+        ),
+        (
+            "555 2\n666 1",
+            "1000",
+            "Round 1: 5x5x5 Cube, random moves\nGroup A\n1. L Bw2 D' Rw' L Fw2 Bw2 Rw2 F2 ",
+            27,
+            "",
+        ),
+        // the sheet ends before a round with a slot that draws nothing
+        (
+            "666 1\npyram 1 15",
+            "1",
+            "Round 1: 6x6x6 Cube, random moves\nGroup A\n1. Lw Dw2 B' U' R Uw2 R2 Bw2 ",
+            8,
+            "scramble: round 2 slot 1: no permitted state in 3 words\n",
         ),
     ] {
-        let words = ["sheet", "--seed", ZEROS];
+        let words = ["sheet", "--seed", ZEROS, "--attempts", attempts];
         let ran = run_with(&rt, &words, list.as_bytes(), 4096, [&[], &[], &[]])?;
-        assert_eq!(rt; ran.code, 0);
-        assert!(rt; ran.out.contents().starts_with(head.as_bytes()));
+        let sheet = ran.out.contents();
+        assert!(rt; sheet.starts_with(head.as_bytes()));
+        assert_eq!(rt; sheet.iter().filter(|byte| **byte == b'\n').count(), lines);
+        assert_eq!(rt; ran.err.contents(), err.as_bytes());
     }
     Ok(())
 }

@@ -1,5 +1,6 @@
 -- A slot has one scramble at most, and either that or none.
-use Rattle.std.proofs.Common.{◌≡◌, ℕ, ◌≤◌, List, Some, None, subst, lit≤}
+use Rattle.std.proofs.Common.{◌≡◌, ℕ, ◌≤◌, List, Some, None, sym, ◌∙◌, subst, lit≤}
+use Rattle.std.proofs.lemmas.Option.{same_Some}
 use Rattle.std.specs.Prelude.{IsTrue}
 use Rattle.scr_combinatorics.specs.Numbered.{Numbered}
 use Rattle.scr_play.specs.Reach.{Puzzle}
@@ -23,7 +24,7 @@ use Rattle.scr_small.specs.PyramLaws.{IsScramblePyram-unique}
 use Rattle.scr_small.specs.PuzzleSkewb.{numbered_puzzle_skewb}
 use Rattle.scr_small.specs.LawfulSkewb.{lawful_puzzle_skewb}
 use Rattle.scr_slots.specs.Events.{scrambling_of, clock_rule, rule_222, pyram_rule, skewb_rule}
-use Rattle.scr_slots.specs.Slots.{ScrambleRule, by_state, slot_numbers}
+use Rattle.scr_slots.specs.Slots.{ScrambleRule, MoveEvent, ByMoves, by_state, slot_numbers}
 use Rattle.scr_slots.specs.Outcomes.{HasOneScramble}
 
 -- a state has one scramble
@@ -45,18 +46,25 @@ HasOneScramble-only n puzzle rule least some only = record {
       cc;
 }
 
+-- And a slot of random moves has those that its words give, or none.
+HasOneScramble-moves : (event : MoveEvent) (least : ℕ) → HasOneScramble (ByMoves event) least
+HasOneScramble-moves event least = record {
+  one = λ settings stream turns other first second. same_Some turns other (sym first ∙ second);
+  apart = λ settings stream turns found none. let no : Some turns ≡ None = sym found ∙ none in cc;
+}
+
 -- So it is for each event that lists take.
 pub each_one : (event : Event) (least : ℕ) → IsTrue (rules_of event).built → HasOneScramble (scrambling_of event) least
 each_one C222 least built =
     HasOneScramble-only numbered_222 (power_puzzle powers_222) rule_222 least (lit≤ tt) (λ tries. IsScrambleOf-unique numbered_puzzle_222 lawful_puzzle_222)
 each_one C333 least built = cc
 each_one Oh333 least built = cc
-each_one C555 least built = cc
-each_one C666 least built = cc
-each_one C777 least built = cc
+each_one C555 least built = HasOneScramble-moves _ least
+each_one C666 least built = HasOneScramble-moves _ least
+each_one C777 least built = HasOneScramble-moves _ least
 each_one Clock least built =
     HasOneScramble-only clock_numbered clock_puzzle clock_rule least (lit≤ tt) (λ tries. IsScrambleOf-one)
-each_one Minx least built = cc
+each_one Minx least built = HasOneScramble-moves _ least
 each_one Pyram least built = HasOneScramble-only numbered_pyram (power_puzzle pyram_powers) pyram_rule least (lit≤ tt) (λ tries. IsScramblePyram-unique)
 each_one Skewb least built =
     HasOneScramble-only skewb_numbered (power_puzzle skewb_powers) skewb_rule least (lit≤ tt) (λ tries. IsScrambleOf-unique numbered_puzzle_skewb lawful_puzzle_skewb)

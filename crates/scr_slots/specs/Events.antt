@@ -18,7 +18,11 @@ use Rattle.scr_clock.specs.Dials.{solved, clock_puzzle}
 use Rattle.scr_clock.specs.Numbers.{clock_numbered}
 use Rattle.scr_clock.specs.Held.{clock_after}
 use Rattle.scr_clock.specs.Written.{IsScrambleOf as IsClockScramble}
-use Rattle.scr_slots.specs.Slots.{ScrambleRule, Scrambling, NotYet, by_state}
+use Rattle.scr_bigs.specs.BigCubes.{BigCube, cube_555, cube_666, cube_777}
+use Rattle.scr_bigs.specs.CubeMoves.{cube_moves}
+use Rattle.scr_bigs.specs.Megaminx.{megaminx_moves}
+use Rattle.scr_bigs.specs.Fairness.{AreFairTurns, AreFairBits}
+use Rattle.scr_slots.specs.Slots.{ScrambleRule, Scrambling, ByMoves, NotYet, by_state}
 
 -- a puzzle that one table solves: the first word that solves the state, taken back, whatever the tries
 abbrev pub small_rule : {S : Type 0} → NumberedPuzzle S Turn → ℕ → ScrambleRule S
@@ -42,15 +46,23 @@ clock_rule = record {
   IsScramble = λ tries dials turns. IsClockScramble dials turns;
 }
 
+-- a big cube: each turn is one of those that may follow the one before
+abbrev pub by_cube_moves : BigCube → Scrambling
+by_cube_moves cube = ByMoves (record { moves = cube_moves cube; AreFair = AreFairTurns cube })
+
+-- a Megaminx: the seventy bits of one attempt, whatever the attempts
+abbrev pub by_megaminx_moves : Scrambling
+by_megaminx_moves = ByMoves (record { moves = λ attempts. megaminx_moves; AreFair = AreFairBits })
+
 abbrev pub scrambling_of : Event → Scrambling
 scrambling_of C222 = by_state numbered_222 (power_puzzle powers_222) rule_222
 scrambling_of C333 = NotYet
 scrambling_of Oh333 = NotYet
-scrambling_of C555 = NotYet
-scrambling_of C666 = NotYet
-scrambling_of C777 = NotYet
+scrambling_of C555 = by_cube_moves cube_555
+scrambling_of C666 = by_cube_moves cube_666
+scrambling_of C777 = by_cube_moves cube_777
 scrambling_of Clock = by_state clock_numbered clock_puzzle clock_rule
-scrambling_of Minx = NotYet
+scrambling_of Minx = by_megaminx_moves
 scrambling_of Pyram = by_state numbered_pyram (power_puzzle pyram_powers) pyram_rule
 scrambling_of Skewb = by_state skewb_numbered (power_puzzle skewb_powers) skewb_rule
 scrambling_of Sq1 = NotYet

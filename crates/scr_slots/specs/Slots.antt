@@ -22,9 +22,17 @@ pub record StateEvent : Type 1 where
   pub space : StateSpace State
   pub rule : ScrambleRule State
 
+-- An event whose scrambles are random moves (WCA Regulations, article 4): the turns that words give from a place on, where
+-- each turn has so many attempts, and what is promised of how they are chosen. Nothing is promised of the states that they
+-- lead to.
+pub record MoveEvent : Type 1 where
+  pub moves : ℕ → (ℕ → ℕ) → ℕ → Option (List Turn)
+  pub AreFair : Type 0
+
 -- How an event is scrambled. The events that are not on sheets yet have no scrambling.
 pub data Scrambling : Type 1 where
   ByState : StateEvent → Scrambling
+  ByMoves : MoveEvent → Scrambling
   NotYet : Scrambling
 
 -- By random states of a puzzle, which are numbered so.
@@ -45,20 +53,27 @@ pub record IsDrawnScramble (event : StateEvent) (settings : Settings) (least str
   pub gives : event.rule.played turns ≡ Some state
   pub short : length turns ≤ event.rule.most_turns
 
+-- What a slot has of random moves: those of the slot's stream of the seed, from its first word on, or none.
+abbrev pub HasMoves : MoveEvent → Settings → ℕ → Option (List Turn) → Type 0
+HasMoves event settings stream moves = event.moves settings.attempts (stream_word settings.seed.0 stream) 0 ≡ moves
+
 -- The turns of a slot's scramble, by the event's scrambling.
 abbrev pub IsSlotScramble : Scrambling → Settings → ℕ → ℕ → List Turn → Type 0
 IsSlotScramble (ByState event) settings least stream turns = IsDrawnScramble event settings least stream turns
+IsSlotScramble (ByMoves event) settings least stream turns = HasMoves event settings stream (Some turns)
 IsSlotScramble NotYet settings least stream turns = ⊥
 
--- A slot has no scramble: each of its attempts misses.
+-- A slot has no scramble: each of its attempts misses, or all those of one of its random moves are refused.
 abbrev pub HasNoScramble : Scrambling → Settings → ℕ → ℕ → Type 0
 HasNoScramble (ByState event) settings least stream = Draws event.space least (slot_numbers settings stream) None
+HasNoScramble (ByMoves event) settings least stream = HasMoves event settings stream None
 HasNoScramble NotYet settings least stream = ⊥
 
 -- What fairness says of an event: every state that turns reach and that needs so many is drawn by equally many lists of
--- numbers.
+-- numbers. Of random moves it says only that each step takes each of its choices by equally many numbers.
 abbrev pub IsDrawnFairly : Scrambling → ℕ → Type 0
 IsDrawnFairly (ByState event) least = IsFairFor event.space least
+IsDrawnFairly (ByMoves event) least = event.AreFair
 IsDrawnFairly NotYet least = ⊥
 
 -- Slot 0 of round k of a list has this stream, both counted from 0, and slot j the stream j further on.

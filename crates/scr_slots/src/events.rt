@@ -10,6 +10,7 @@ ghost use Rattle.scr_slots.specs.Events.{scrambling_of, tables_of};
 ghost use Rattle.scr_slots.specs.Slots.{IsSlotScramble};
 ghost use Rattle.scr_slots.specs.Outcomes.{IsMissed};
 
+use crate::moved::{cube_scramble, megaminx_scramble};
 use crate::scrambled::{Scrambled, drawn_scramble};
 use crate::settings::Settings;
 use crate::tables::Tables;
@@ -62,7 +63,7 @@ impl Scrambled for SmallPyram<'_> {
 }
 
 /// The scramble of a slot of an event on this stream, or how many words its attempts took, where they draw no state that
-/// needs at least `least` turns.
+/// needs at least `least` turns, or where all those of a random move are refused.
 ///
 /// The tables are those of a list with the event, which is one that lists take; `least` is in its range, and there are at
 /// most 1,000,000 attempts.
@@ -85,7 +86,11 @@ pub fn slot_scramble(
             let cube = Small222::new(tables.of_small(event));
             drawn_scramble(&cube, settings, least, stream)
         }
+        Event::C555 => cube_scramble::<5>(settings, stream),
+        Event::C666 => cube_scramble::<6>(settings, stream),
+        Event::C777 => cube_scramble::<7>(settings, stream),
         Event::Clock => drawn_scramble(&ClockNumbers, settings, least, stream),
+        Event::Minx => Ok(megaminx_scramble(settings, stream)),
         Event::Pyram => {
             let pyraminx = SmallPyram::new(tables.of_small(event));
             drawn_scramble(&pyraminx, settings, least, stream)
@@ -94,13 +99,7 @@ pub fn slot_scramble(
             let skewb = SmallSkewb::new(tables.of_small(event));
             drawn_scramble(&skewb, settings, least, stream)
         }
-        Event::C333
-        | Event::Oh333
-        | Event::C555
-        | Event::C666
-        | Event::C777
-        | Event::Minx
-        | Event::Sq1 => unreachable!(),
+        Event::C333 | Event::Oh333 | Event::Sq1 => unreachable!(),
     }
 }
 

@@ -10,6 +10,7 @@ ghost use Rattle.scr_slots.specs.Outcomes.{HasOneScramble};
 
 use crate::scrambled::Scrambled;
 use crate::tables::Tables;
+use scr_bigs::laws as moves;
 use scr_clock::ClockNumbers;
 use scr_draw::laws as drawing;
 use scr_notation::Event;
@@ -28,11 +29,13 @@ pub fn drawn_fairly<E: Scrambled>(event: &E)
     drawing::drawn_fairly(event);
 }
 
-/// Each event that lists take, and whose tables are built, is drawn fairly at each minimum of its range.
+/// Each event that lists take, and whose tables are built, is drawn fairly at each minimum of its range; of an event that is
+/// scrambled by random moves this says that each of their steps is fair, and no more.
 pub fn each_drawn_fairly(tables: &Tables)
     ensures { (event : EventOf) (least : ℕ) → Contains tables.now event → IsTrue (rules_of event).built
         → least ≤ greatest_of (rules_of event).minima → IsDrawnFairly (scrambling_of event) least }
 {
+    moves::fair_steps();
     drawn_fairly(&ClockNumbers);
     fairly_222(tables);
     fairly_pyram(tables);

@@ -4,13 +4,14 @@
 //! needs; the sheet and its fairness cite it. [`Tables`] are those of a list's events, each built once. A slot has a stream
 //! of the seed to itself: its state is drawn from the stream's words, and its scramble is that state's. [`drawn_scramble`]
 //! does this for any event that is a [`Scrambled`], proved once; an event is an impl of that trait and an arm of
-//! [`slot_scramble`]. The contracts say that the scramble is exactly the one that the definitions give, or that there is
-//! none; `laws` say that a slot has one scramble, that each event is drawn fairly, and that no two slots of a list share a
-//! stream.
+//! [`slot_scramble`]. An event of random moves reads its turns from the stream's words. The contracts say that the scramble is exactly the one that the definitions give, or that there is
+//! none; `laws` say that a slot has one scramble, that each event is drawn fairly (of random moves, that each step is fair),
+//! and that no two slots of a list share a stream.
 #![tactic(auto)]
 
 mod events;
 pub mod laws;
+mod moved;
 mod scrambled;
 mod settings;
 mod tables;

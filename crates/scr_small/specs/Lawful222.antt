@@ -1,16 +1,25 @@
 -- The 2x2x2 is a numbered puzzle, whose twists and list of corners turns move each by itself. (The proof stands in specs/,
 -- since laws of the code's types cite it.)
-use Rattle.std.proofs.Common.{◌≡◌, ◌/◌, ◌%◌, refl, ap, sym, ◌∙◌, lit<, arith}
+use Rattle.std.proofs.Common.{◌≡◌, ℕ, ◌+◌, ◌-◌, ◌*◌, ◌/◌, ◌%◌, ◌<◌, ◌≤◌, Some, refl, ap, sym, ◌∙◌, lit<, arith, ⊎_elim}
+use Rattle.std.specs.Prelude.{slice_get}
+use Rattle.std.proofs.lemmas.Bool.{cases_lt}
+use Rattle.std.proofs.lemmas.Option.{slice_get_within, same_Some}
+use Rattle.scr_orbit.specs.Actions.{Power, power, power_of}
 use Rattle.scr_combinatorics.specs.Lists.{pick}
 use Rattle.scr_combinatorics.specs.Permutations.{permutation_number, permutation_at}
 use Rattle.scr_combinatorics.specs.Twists.{twists_number, twists_at}
 use Rattle.scr_combinatorics.proofs.Twists.{twists_number-lt}
-use Rattle.scr_orbit.specs.Orbits.{Orbit, turned_orbit, solved_orbit, added_digits}
+use Rattle.scr_orbit.specs.Orbits.{Orbit, Rearrangement, turned_orbit, solved_orbit, added_digits}
+use Rattle.scr_orbit.proofs.ActionLaws.{map-some}
 use Rattle.scr_orbit.proofs.OrbitLaws.{IsZeroSumOrbit-solved}
-use Rattle.scr_turning.specs.PowerPuzzles.{letter_table}
-use Rattle.scr_cube.specs.Cube222.{IsCorners222, action_222, powers_222, solved_222, numbered_222, digits_222, corners_of_digits}
+use Rattle.scr_orbit.proofs.PowerLaws.{after-no_power}
+use Rattle.scr_notation.specs.declared.turn.Turn.{Turn}
+use Rattle.scr_notation.specs.TurnNumbers.{face_turn_at}
+use Rattle.scr_turning.specs.PowerPuzzles.{after_letter, letter_table}
+use Rattle.scr_cube.specs.Cube222.{IsCorners222, quarters_222, action_222, powers_222, solved_222, numbered_222, digits_222, corners_of_digits}
 use Rattle.scr_cube.specs.Numbered222.{numbering_222}
 use Rattle.scr_cube.proofs.Laws222.{lawful_222}
+use Rattle.scr_play.proofs.PlayLaws.{and_then-some}
 use Rattle.scr_small.specs.LawfulPuzzles.{IsNumberedPuzzle}
 use Rattle.scr_small.specs.Puzzle222.{numbered_puzzle_222}
 use Rattle.scr_small.specs.StateParts.{MovesByParts}

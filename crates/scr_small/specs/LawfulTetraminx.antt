@@ -6,7 +6,7 @@ use Rattle.scr_combinatorics.specs.Permutations.{permutation_number}
 use Rattle.scr_combinatorics.specs.Twists.{twists_number}
 use Rattle.scr_orbit.specs.Orbits.{turned_orbit, solved_orbit, added_digits}
 use Rattle.scr_turning.specs.PowerPuzzles.{letter_table}
-use Rattle.scr_tetra.specs.Pyraminx.{TetraminxState, IsTetraminx, tetraminx_action, tetraminx_powers, solved_tetraminx, numbered_tetraminx, tetraminx_digits, tetraminx_of_digits, thirds_number}
+use Rattle.scr_tetra.specs.Pyraminx.{TetraminxState, IsTetraminx, tetraminx_thirds, tetraminx_action, tetraminx_powers, solved_tetraminx, numbered_tetraminx, tetraminx_digits, tetraminx_of_digits, thirds_number}
 use Rattle.scr_tetra.specs.NumberedPyram.{tetraminx_numbering, tetraminx_has_three}
 use Rattle.scr_tetra.proofs.PyramLaws.{lawful_tetraminx, IsTetraminx-solved}
 use Rattle.scr_small.specs.LawfulPuzzles.{IsNumberedPuzzle}

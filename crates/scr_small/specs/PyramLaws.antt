@@ -1,6 +1,6 @@
 -- What the table of the Pyraminx without tips says of the Pyraminx: its valid states are those that turns reach, what each
 -- needs, and its scramble. (The proofs stand in specs/, since laws of the code's types cite them.)
-use Rattle.std.proofs.Common.{◌≡◌, ℕ, ◌+◌, ◌≤◌, Bool, true, false, cond, IsTrue, List, [], ◌∷◌, ◌++◌, map, length, get_or, inl, inr, Some, refl, sym, ap, ◌∙◌, arith, lit≤, lit<}
+use Rattle.std.proofs.Common.{◌≡◌, ℕ, ◌+◌, ◌/◌, ◌≤◌, Bool, true, false, cond, IsTrue, List, [], ◌∷◌, ◌++◌, map, length, get_or, inl, inr, Some, refl, sym, ap, ◌∙◌, arith, lit≤, lit<}
 use Rattle.std.specs.Prelude.{nat_le, ◌==◌, ◌↔◌}
 use Rattle.std.proofs.lemmas.Bool.{cases_lt}
 use Rattle.std.proofs.lemmas.List.{length-append, length-map, length-reverse}
@@ -15,7 +15,8 @@ use Rattle.scr_notation.specs.Turning.{opposite}
 use Rattle.scr_orbit.proofs.Minima.{count_once}
 use Rattle.scr_table.specs.Distances.{Distances, Measures}
 use Rattle.scr_turning.specs.PowerPuzzles.{after_letter, power_puzzle}
-use Rattle.scr_tetra.specs.Pyraminx.{numbered_tetraminx, tetraminx_powers, solved_tetraminx, PyramState, IsPyram, pyram_powers, solved_pyram}
+use Rattle.scr_tetra.specs.Pyraminx.{numbered_tetraminx, tetraminx_powers, solved_tetraminx, PyramState, IsPyram, pyram_powers, solved_pyram, numbered_pyram, pyram_digits}
+use Rattle.scr_tetra.specs.NumberedPyram.{thirds_one_to_one}
 use Rattle.scr_tetra.specs.PyramParts.{large_turns, turned_count, tips_word}
 use Rattle.scr_tetra.proofs.PyramLaws.{lawful_pyram, IsTetraminx-solved}
 use Rattle.scr_tetra.proofs.PyramTips.{tips_word-played, length-tips_word}
@@ -35,6 +36,11 @@ turned_count-le (d ∷ ds) = omega (arith, turned_by (d == 0) (turned_count ds) 
 
 pub few_tips : (s : PyramState) → IsPyram s → length (tips_word s.tips) ≤ 4
 few_tips s h = omega (arith, length-tips_word s.tips h.tips, turned_count-le s.tips, h.tips.size)
+
+-- the position of a state in the table is the rest of its number, behind the number of its tips
+pub position_of : (s : PyramState) → IsPyram s → numbered_pyram.number_of s / 81 ≡ numbered_tetraminx.number_of s.body
+unfolding pyram_digits
+position_of s h = omega (arith, thirds_one_to_one.below s.tips h.tips)
 
 -- ---- scrambles
 

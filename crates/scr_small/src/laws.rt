@@ -1,5 +1,5 @@
 //! Laws of the puzzles that one table solves. The functions do nothing: what each ensures is the law.
-ghost use Rattle.std.specs.Prelude.{◌≡◌, ℕ, ◌+◌, ◌≤◌, ◌↔◌, List, Some, None, true, false, length, slice_index};
+ghost use Rattle.std.specs.Prelude.{◌≡◌, ℕ, ◌+◌, ◌/◌, ◌≤◌, ◌↔◌, List, Some, None, true, false, length, slice_index};
 ghost use Rattle.scr_play.specs.Play.{play};
 ghost use Rattle.scr_play.specs.Reach.{IsReached, Needs};
 ghost use Rattle.scr_notation.specs.declared.turn.Turn.{Turn as Letter};
@@ -8,7 +8,7 @@ ghost use Rattle.scr_coord.specs.Products.{product};
 ghost use Rattle.scr_coord.specs.SearchSpaces.{ShowsSame};
 ghost use Rattle.scr_table.specs.Distances.{Distances, Measures};
 ghost use Rattle.scr_turning.specs.PowerPuzzles.{after_letter, power_puzzle};
-ghost use Rattle.scr_tetra.specs.Pyraminx.{numbered_tetraminx, PyramState, IsPyram, pyram_powers, solved_pyram};
+ghost use Rattle.scr_tetra.specs.Pyraminx.{numbered_tetraminx, numbered_pyram, PyramState, IsPyram, pyram_powers, solved_pyram};
 ghost use Rattle.scr_tetra.specs.PyramParts.{turned_count};
 ghost use Rattle.scr_small.specs.LawfulPuzzles.{IsNumberedPuzzle};
 ghost use Rattle.scr_small.specs.NumberedPuzzles.{puzzle_of, state_coordinate, IsScrambleOf};
@@ -48,8 +48,10 @@ pub fn measured<P: OneTable>()
 
 /// Where a table measures the Pyraminx without tips, the valid states of the Pyraminx are those that turns reach; a state needs
 /// as many turns as its distance without tips and one for each tip that stands turned, and no more; and each valid state has
-/// a scramble, which leads to it from solved. With or without a table it has no two.
+/// a scramble, which leads to it from solved. With or without a table it has no two. A state's position in the table is its
+/// number over 81, rounded down.
 pub fn measured_pyram()
+    ensures position { (s : PyramState) → IsPyram s → numbered_pyram.number_of s / 81 ≡ numbered_tetraminx.number_of s.body }
     ensures reached { (table : Distances) → Measures coordinate_tetraminx table
         → (s : PyramState) → IsPyram s ↔ IsReached (power_puzzle pyram_powers) s }
     ensures needs { (table : Distances) → Measures coordinate_tetraminx table

@@ -39,11 +39,6 @@ pub trait OneTable {
 
     const BOUND: u32;
 
-    /// How many turns there are.
-    ghost TURNS: { ℕ };
-
-    const TURNS: u32;
-
     /// How many positions the part has whose numbers follow each other.
     ghost LOW: { ℕ };
 
@@ -64,14 +59,18 @@ pub trait OneTable {
         ensures number { result ≡ shown.numbered.number_of state.now }
         ensures valid { shown.numbered.IsValid state.now };
 
+    /// How many turns there are.
+    fn turns() -> u32
+        ensures { result ≡ shown.turns };
+
     /// The state after the turn with this number.
     fn turned(state: &Self::State, number: u32) -> Self::State
-        requires { number < TURNS }
+        requires { number < shown.turns }
         ensures { shown.after state.now (shown.letter_at number) ≡ Some result };
 
     /// The turn with this number.
     fn letter(number: u8) -> Turn
-        requires { number < TURNS }
+        requires { number < shown.turns }
         ensures letter { result ≡ shown.letter_at number }
         ensures of_event { IsTrue (permits EVENT result) };
 
@@ -89,9 +88,7 @@ pub trait OneTable {
 
     ghost fits: { LOW * HIGH < 2 ^ 32 };
 
-    ghost counted: { shown.turns ≡ TURNS };
-
-    ghost few: { TURNS ≤ 256 };
+    ghost few: { shown.turns ≤ 256 };
 
     /// Its table is that of the event.
     ghost of_event: { small_line EVENT ≡ Some (state_line shown NAME BOUND) };

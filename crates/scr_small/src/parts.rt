@@ -29,7 +29,7 @@ impl<P: OneTable> Coord for LowPart<P> {
     }
 
     fn turns(&self) -> u32 {
-        P::TURNS
+        P::turns()
     }
 
     fn after(&self, position: u32, turn: u32) -> Option<u32> {
@@ -66,7 +66,7 @@ impl<P: OneTable> Coord for HighPart<P> {
     }
 
     fn turns(&self) -> u32 {
-        P::TURNS
+        P::turns()
     }
 
     fn after(&self, position: u32, turn: u32) -> Option<u32> {

@@ -47,7 +47,7 @@ pub(crate) fn needs_of<P: OneTable>(tables: &SmallTables, state: &P::State, leas
 /// The turns with these numbers, at most 24, as a scramble.
 fn spelled<P: OneTable>(numbers: &[u8]) -> Scramble
     requires few { length numbers.now ≤ 24 }
-    requires turns { All (λ n. n < P.TURNS) numbers.now }
+    requires turns { All (λ n. n < P.shown.turns) numbers.now }
     ensures { result ≡ record { event = P.EVENT; turns = map P.shown.letter_at numbers.now } }
 {
     let mut scramble = Scramble::new(P::EVENT);

@@ -44,10 +44,6 @@ impl OneTable for Numbers222 {
 
     const BOUND: u32 = 11;
 
-    ghost TURNS = { 9 };
-
-    const TURNS: u32 = 9;
-
     // 3^6 twists
     ghost LOW = { 729 };
 
@@ -65,6 +61,10 @@ impl OneTable for Numbers222 {
     fn number_of(state: &Corners222) -> u32 {
         let [..] = state.twists();
         Numbers222.number_of(state) as u32
+    }
+
+    fn turns() -> u32 {
+        9
     }
 
     fn turned(state: &Corners222, number: u32) -> Corners222 {
@@ -91,8 +91,6 @@ impl OneTable for Numbers222 {
     ghost first = { first_222 };
 
     ghost fits = { lit< tt };
-
-    ghost counted = { refl };
 
     ghost few = { lit≤ tt };
 

@@ -42,10 +42,6 @@ impl OneTable for TetraminxNumbers {
 
     const BOUND: u32 = 11;
 
-    ghost TURNS = { 8 };
-
-    const TURNS: u32 = 8;
-
     // 81 digits of axial pieces, and 32 flips
     ghost LOW = { 2592 };
 
@@ -63,6 +59,10 @@ impl OneTable for TetraminxNumbers {
     fn number_of(state: &Tetraminx) -> u32 {
         let [..] = state.edges();
         TetraminxNumbers.number_of(state) as u32
+    }
+
+    fn turns() -> u32 {
+        8
     }
 
     fn turned(state: &Tetraminx, number: u32) -> Tetraminx {
@@ -88,8 +88,6 @@ impl OneTable for TetraminxNumbers {
     ghost first = { first_tetraminx };
 
     ghost fits = { lit< tt };
-
-    ghost counted = { refl };
 
     ghost few = { lit≤ tt };
 

@@ -44,10 +44,6 @@ impl OneTable for SkewbNumbers {
 
     const BOUND: u32 = 11;
 
-    ghost TURNS = { 8 };
-
-    const TURNS: u32 = 8;
-
     // 81 twists of the four, 9 of the three, and 12 even lists of the four
     ghost LOW = { 8748 };
 
@@ -65,6 +61,10 @@ impl OneTable for SkewbNumbers {
     fn number_of(state: &Skewb) -> u32 {
         let [..] = state.centres();
         SkewbNumbers.number_of(state) as u32
+    }
+
+    fn turns() -> u32 {
+        8
     }
 
     fn turned(state: &Skewb, number: u32) -> Skewb {
@@ -90,8 +90,6 @@ impl OneTable for SkewbNumbers {
     ghost first = { first_skewb };
 
     ghost fits = { lit< tt };
-
-    ghost counted = { refl };
 
     ghost few = { lit≤ tt };
 

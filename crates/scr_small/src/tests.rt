@@ -1,15 +1,14 @@
 //! The tables, and draws and scrambles known from elsewhere: found by another solver.
-ghost use Rattle.std.specs.Prelude.{◌≡◌, ◌^◌, ◌<◌, ◌≤◌};
+ghost use Rattle.std.specs.Prelude.{◌≡◌, ◌^◌, ◌≤◌};
 ghost use Rattle.scr_notation.specs.declared.event.Event.TheVariants.{C222, Pyram, Skewb as EventSkewb};
-ghost use Rattle.scr_cube.specs.Cube222.{numbered_222};
 
 use crate::{
     Small222, SmallPyram, SmallSkewb, SmallTables, laws, needs_222, needs_pyram, needs_skewb,
     scramble_222, scramble_pyram, scramble_skewb,
 };
 use scr_cube::{Corners222, Numbers222, PowerTurned};
-use scr_draw::{DrawLimit, Numbering, RandomState, draw_permitted};
-use scr_notation::{Event, Scramble, print};
+use scr_draw::{Numbering, RandomState, draw_permitted};
+use scr_notation::{Event, print};
 use scr_table::TableName;
 use scr_tetra::{PyramNumbers, Pyraminx, Skewb, SkewbNumbers, TetraminxNumbers};
 use scr_words::{ChaChaWords, ListWords, Seed, Words};
@@ -19,6 +18,14 @@ use std::test::Fail;
 /// How many states of a 2x2x2 are 0 to 11 turns from solved.
 const COUNTS_222: [u32; 12] = [
     1, 9, 54, 321, 1847, 9992, 50136, 227536, 870072, 1887748, 623800, 2644,
+];
+
+/// Numbers of 2x2x2s, how many turns each needs, and its scramble.
+const CUBES: [(u32, u32, &str); 4] = [
+    (0, 0, ""),
+    (1574640, 1, "U"),
+    (3015702, 9, "R2 U R' F U2 F' U R U"),
+    (3674159, 9, "U2 F' R2 U R F2 R' U R2"),
 ];
 
 /// How many states of a Pyraminx without tips are.
@@ -88,18 +95,18 @@ fn has_counts(
     Ok(())
 }
 
-/// The state of a number needs just so many turns. Its scramble has as many, leads to it from solved, and is returned.
-fn scrambled(rt: &impl Abort, tables: &SmallTables, number: u128, turns: u32) -> Scramble
-    requires event { tables.now.event ≡ C222 }
-    requires number { number < numbered_222.count }
-    requires turns { turns ≤ 11 }
+/// The 2x2x2s of these numbers need just so many turns, and have these scrambles, which lead to them from solved.
+fn scrambled_cubes(rt: &impl Abort, tables: &SmallTables, rows: &[(u32, u32, &str)])
+    requires { tables.now.event ≡ C222 }
 {
-    let state = Numbers222.state_at(number);
-    let scramble = scramble_222(tables, &state);
-    assert_eq!(rt; scramble.turns().len(), turns as usize);
-    assert!(rt; Corners222::solved().play(&scramble) == Some(state));
-    assert!(rt; needs_222(tables, &state, turns) && !needs_222(tables, &state, turns + 1));
-    scramble
+    for &(number, turns, text) in rows {
+        assert!(rt; number < 3674160 && turns < 12);
+        let state = Numbers222.state_at(u128::from(number));
+        let scramble = scramble_222(tables, &state);
+        assert_eq!(rt; print(&scramble).as_str(), text);
+        assert!(rt; Corners222::solved().play(&scramble) == Some(state));
+        assert!(rt; needs_222(tables, &state, turns) && !needs_222(tables, &state, turns + 1));
+    }
 }
 
 /// The Pyraminxes of these numbers need just so many turns, and have these scrambles, which lead to them from solved.
@@ -137,35 +144,43 @@ fn expect_draw<W: Words, P: RandomState>(
     words: &mut W,
     least: u32,
     attempts: u32,
-    drawn: Result<u128, DrawLimit>,
+    drawn: Option<u128>,
 )
     requires least { least ≤ P.greatest puzzle.now }
     requires attempts { attempts ≤ 1000000 }
     requires room { W.taken words.old ≤ 2 ^ 62 }
 {
     let number = match draw_permitted(words, puzzle, least, attempts) {
-        Ok(state) => Ok(puzzle.number_of(&state)),
-        Err(limit) => Err(limit),
+        Ok(state) => Some(puzzle.number_of(&state)),
+        Err(limit) => {
+            assert_eq!(rt; limit.words, 3 * attempts);
+            None
+        }
     };
     assert!(rt; number == drawn);
+}
+
+/// The same from a list of words, and then zeros.
+fn expect_listed<P: RandomState>(
+    rt: &impl Abort,
+    puzzle: &P,
+    list: &[u32],
+    least: u32,
+    attempts: u32,
+    drawn: Option<u128>,
+)
+    requires least { least ≤ P.greatest puzzle.now }
+    requires attempts { attempts ≤ 1000000 }
+{
+    let mut words = ListWords::new(list);
+    expect_draw(rt, puzzle, &mut words, least, attempts, drawn);
 }
 
 #[test]
 fn the_table_of_222(rt: HostRuntime) -> Result<(), Fail> {
     let tables = SmallTables::build(rt.alloc(), Event::C222)?;
     has_counts(&rt, &tables, TableName::Corners, COUNTS_222)?;
-    assert_eq!(rt; print(&scrambled(&rt, &tables, 0, 0)).as_str(), "");
-    assert_eq!(rt; print(&scrambled(&rt, &tables, 1574640, 1)).as_str(), "U");
-    let first = scrambled(&rt, &tables, 3015702, 9);
-    assert_eq!(rt; print(&first).as_str(), "R2 U R' F U2 F' U R U");
-    let last = scrambled(&rt, &tables, 3674159, 9);
-    assert_eq!(rt; print(&last).as_str(), "U2 F' R2 U R F2 R' U R2");
-    let table = tables.table(TableName::Corners).ok_or("no table")?;
-    assert_eq!(rt; table.positions(), 3674160);
-    let farthest = (0..3674160).find(|number| table.distance(*number) == 11);
-    let number = farthest.ok_or("none at 11")?;
-    assert!(rt; number < 3674160);
-    let _eleven = scrambled(&rt, &tables, u128::from(number), 11);
+    scrambled_cubes(&rt, &tables, &CUBES);
     Ok(())
 }
 
@@ -173,17 +188,15 @@ fn the_table_of_222(rt: HostRuntime) -> Result<(), Fail> {
 fn draws_of_222(rt: HostRuntime) -> Result<(), Fail> {
     let tables = SmallTables::build(rt.alloc(), Event::C222)?;
     let cube = Small222::new(&tables);
-    expect_draw(&rt, &cube, &mut ListWords::new(&LAST), 0, 2, Ok(3674159));
-    let none = Err(DrawLimit { words: 3 });
-    expect_draw(&rt, &cube, &mut ListWords::new(&LAST), 0, 1, none);
     let mut zeros = ChaChaWords::new(&Seed([0; 32]), 0);
-    expect_draw(&rt, &cube, &mut zeros, 0, 1, Ok(3015702));
+    expect_draw(&rt, &cube, &mut zeros, 0, 1, Some(3015702));
+    expect_listed(&rt, &cube, &LAST, 0, 2, Some(3674159));
+    expect_listed(&rt, &cube, &LAST, 0, 1, None);
     // the state after U needs one turn, and not four
-    expect_draw(&rt, &cube, &mut ListWords::new(&AFTER_U), 1, 1, Ok(1574640));
-    expect_draw(&rt, &cube, &mut ListWords::new(&AFTER_U), 4, 1, none);
-    let five_times = Err(DrawLimit { words: 15 });
-    expect_draw(&rt, &cube, &mut ListWords::new(&NO_WORDS), 1, 5, five_times);
-    expect_draw(&rt, &cube, &mut ListWords::new(&NO_WORDS), 0, 1, Ok(0));
+    expect_listed(&rt, &cube, &AFTER_U, 1, 1, Some(1574640));
+    expect_listed(&rt, &cube, &AFTER_U, 4, 1, None);
+    expect_listed(&rt, &cube, &NO_WORDS, 1, 5, None);
+    expect_listed(&rt, &cube, &NO_WORDS, 0, 1, Some(0));
     laws::measured::<Numbers222>();
     laws::rows_222();
     Ok(())
@@ -195,9 +208,8 @@ fn the_table_of_pyram(rt: HostRuntime) -> Result<(), Fail> {
     has_counts(&rt, &tables, TableName::Pyramid, COUNTS_PYRAM)?;
     scrambled_pyraminxes(&rt, &tables, &PYRAMINXES);
     let pyraminx = SmallPyram::new(&tables);
-    expect_draw(&rt, &pyraminx, &mut ListWords::new(&TWO_TIPS), 2, 1, Ok(55));
-    let none = Err(DrawLimit { words: 3 });
-    expect_draw(&rt, &pyraminx, &mut ListWords::new(&TWO_TIPS), 3, 1, none);
+    expect_listed(&rt, &pyraminx, &TWO_TIPS, 2, 1, Some(55));
+    expect_listed(&rt, &pyraminx, &TWO_TIPS, 3, 1, None);
     laws::shown_by_parts::<TetraminxNumbers>();
     laws::measured_pyram();
     laws::rows_pyram();
@@ -210,9 +222,8 @@ fn the_table_of_skewb(rt: HostRuntime) -> Result<(), Fail> {
     has_counts(&rt, &tables, TableName::Skewb, COUNTS_SKEWB)?;
     scrambled_skewbs(&rt, &tables, &SKEWBS);
     let skewb = SmallSkewb::new(&tables);
-    expect_draw(&rt, &skewb, &mut ListWords::new(&AFTER_B), 1, 1, Ok(9423));
-    let none = Err(DrawLimit { words: 3 });
-    expect_draw(&rt, &skewb, &mut ListWords::new(&AFTER_B), 2, 1, none);
+    expect_listed(&rt, &skewb, &AFTER_B, 1, 1, Some(9423));
+    expect_listed(&rt, &skewb, &AFTER_B, 2, 1, None);
     laws::shown_by_parts::<SkewbNumbers>();
     laws::rows_skewb();
     Ok(())

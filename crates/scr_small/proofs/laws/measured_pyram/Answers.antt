@@ -1,5 +1,8 @@
-use Rattle.scr_small.specs.PyramLaws.{IsReached-pyram, Needs-pyram, scrambled_pyram, play-scrambled_pyram, IsScramblePyram-unique}
+use Rattle.scr_small.specs.PyramLaws.{position_of, IsReached-pyram, Needs-pyram, scrambled_pyram, play-scrambled_pyram, IsScramblePyram-unique}
 use Rattle.scr_small.proofs.laws.measured_pyram.Goals as goal
+
+pub returns-clause-position : goal.returns-clause-position
+returns-clause-position c = position_of
 
 pub returns-clause-reached : goal.returns-clause-reached
 returns-clause-reached c = IsReached-pyram

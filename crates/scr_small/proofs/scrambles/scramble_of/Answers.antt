@@ -19,9 +19,9 @@ spelled-requires-clause-turns g c =
     ShowsSame-event c.args.tables.now.event p.EVENT (state_line p.shown p.NAME p.BOUND) c.requires l.of_event c.pair.result.now.low c.pair.result.now.high
     c.pair.ensures.shows in
     let P : ℕ → Type 0 = λ k. All (λ n. n < k) c.descend-word.result.items in
-    let Q : List ℕ → Type 0 = All (λ n. n < p.TURNS) in
+    let Q : List ℕ → Type 0 = All (λ n. n < p.shown.turns) in
     subst Q (sym c.deref.ensures.0)
-    (subst P (shown.turns ∙ l.counted)
+    (subst P (shown.turns)
     (All-turns (product (moves_coordinate c.pair.result.now.low) (moves_coordinate c.pair.result.now.high)) c.number_of.result c.descend-word.result.items
     c.descend-word.ensures.leads))
 

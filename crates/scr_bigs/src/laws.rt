@@ -1,0 +1,52 @@
+//! What holds of random moves whatever the code: calls that do nothing, whose contracts are the laws.
+
+ghost use Rattle.std.specs.Prelude.{◌≡◌, ℕ, ◌-◌, ◌*◌, ◌^◌, ◌<◌, ◌↔◌, Some, None, IsTrue, List, codes};
+ghost use Rattle.scr_draw.specs.Attempt.{answer, is_accepted, quotient};
+ghost use Rattle.scr_notation.specs.declared.turn.Turn.{Turn};
+ghost use Rattle.scr_notation.specs.declared.turn.Turn.TheVariants.{Face};
+ghost use Rattle.scr_notation.specs.Spelling.{text_of};
+ghost use Rattle.scr_bigs.specs.BigCubes.{IsSide, cube_of, slab, all_turns, may_follow};
+ghost use Rattle.scr_bigs.specs.CubeMoves.{cube_moves};
+ghost use Rattle.scr_bigs.specs.Megaminx.{bits_of, rows_turns, megaminx_moves};
+ghost use Rattle.scr_bigs.specs.Fairness.{AreFairTurns, AreFairBits};
+ghost use Rattle.scr_bigs.specs.Following.{SlabMayFollow, AreCubeTurns, AreMegaminxTurns};
+
+/// Each step of a big cube takes each of its choices by equally many numbers, and its choices differ; and the numbers of a
+/// Megaminx give each list of seventy bits equally often.
+pub fn fair_steps()
+    ensures cubes { (side : ℕ) → IsSide side → AreFairTurns (cube_of side) }
+    ensures bits { AreFairBits }
+{}
+
+/// A turn may follow another where its slab is on another axis, or later in the order of the same axis.
+pub fn followers()
+    ensures { (side face depth amount next_face next_depth next_amount : ℕ)
+        → IsTrue (may_follow (cube_of side) (Face face depth amount) (Face next_face next_depth next_amount))
+        ↔ SlabMayFollow (cube_of side) (slab face depth) (slab next_face next_depth) }
+{}
+
+/// What the turns of scrambles are.
+pub fn random_turns()
+    ensures cubes { (side attempts place : ℕ) (word : ℕ → ℕ) (turns : List Turn)
+        → cube_moves (cube_of side) attempts word place ≡ Some turns → AreCubeTurns (cube_of side) turns }
+    ensures megaminx { (v : ℕ) → AreMegaminxTurns v (rows_turns 7 (bits_of v)) }
+{}
+
+/// Every number of a Megaminx is accepted.
+pub fn every_number()
+    ensures whole_runs { quotient (2 ^ 70) * 2 ^ 70 ≡ 2 ^ 96 }
+    ensures accepted { (v : ℕ) → v < 2 ^ 96 → IsTrue (is_accepted (2 ^ 70) v) }
+{}
+
+/// The turns of big cubes in their order, and the numbers at which attempts of the first turn of a 5x5x5 begin to be refused.
+#[tactic(auto, unfolding(crate::specs::BigCubes::all_turns, scr_notation::specs::Spelling::spelling))]
+pub fn known_turns()
+    ensures of_555 { text_of (all_turns (cube_of 5))
+        ≡ codes "U U2 U' Uw Uw2 Uw' D D2 D' Dw Dw2 Dw' R R2 R' Rw Rw2 Rw' L L2 L' Lw Lw2 Lw' F F2 F' Fw Fw2 Fw' B B2 B' Bw Bw2 Bw'" }
+    ensures of_666 { text_of (all_turns (cube_of 6))
+        ≡ codes "U U2 U' Uw Uw2 Uw' 3Uw 3Uw2 3Uw' D D2 D' Dw Dw2 Dw' R R2 R' Rw Rw2 Rw' 3Rw 3Rw2 3Rw' L L2 L' Lw Lw2 Lw' F F2 F' Fw Fw2 Fw' 3Fw 3Fw2 3Fw' B B2 B' Bw Bw2 Bw'" }
+    ensures of_777 { text_of (all_turns (cube_of 7))
+        ≡ codes "U U2 U' Uw Uw2 Uw' 3Uw 3Uw2 3Uw' D D2 D' Dw Dw2 Dw' 3Dw 3Dw2 3Dw' R R2 R' Rw Rw2 Rw' 3Rw 3Rw2 3Rw' L L2 L' Lw Lw2 Lw' 3Lw 3Lw2 3Lw' F F2 F' Fw Fw2 Fw' 3Fw 3Fw2 3Fw' B B2 B' Bw Bw2 Bw' 3Bw 3Bw2 3Bw'" }
+    ensures refused { answer 36 (2 ^ 96 - 28) ≡ None }
+    ensures accepted { answer 36 (2 ^ 96 - 29) ≡ Some 35 }
+{}
