@@ -2,7 +2,7 @@
 use Rattle.std.proofs.Common.{◌≡◌, ℕ, ◌*◌, ◌/◌, ◌%◌, ◌^◌, ◌<◌, ◌≤◌, Bool, true, false, ◌&&◌, Option, Some, None, is_some, List, [], ◌∷◌, length, zero, suc, refl, ap, ◌∙◌, arith}
 use Rattle.std.specs.Prelude.{slice_get, option_and_then, if◌then◌else◌, IsTrue, ◌↔◌}
 use Rattle.std.specs.Option.{option_or}
-use Rattle.std.proofs.lemmas.Bool.{lt-ltb, le-ltb}
+use Rattle.std.proofs.lemmas.Bool.{lt-ltb}
 use Rattle.std.proofs.lemmas.Option.{slice_get-get_or}
 use Rattle.scr_draw.specs.Attempt.{answer, is_accepted}
 use Rattle.scr_draw.specs.Drawn.{drawn, hit}
@@ -11,22 +11,10 @@ use Rattle.scr_draw.proofs.Accepted.{answered_equally}
 use Rattle.scr_draw.proofs.Fairness.{quotient_some}
 use Rattle.scr_bigs.specs.Choices.{choice_of, IsFairChoice}
 
--- ---- a number that is accepted, and one that is refused
+-- ---- a number that is accepted
 
 pub answer-accepted : (count v : ℕ) → v < 2 ^ 96 / count * count → Some (v % count) ≡ answer count v
 answer-accepted count v below = let test = lt-ltb v (2 ^ 96 / count * count) below in rw test refl
-
-pub answer-refused : (count v : ℕ) → 2 ^ 96 / count * count ≤ v → None ≡ answer count v
-answer-refused count v past = let test = le-ltb v (2 ^ 96 / count * count) past in rw test refl
-
--- the same of a number and a count that are other names for them
-pub answer-is_accepted : {count now v number : ℕ} → now ≡ count → number ≡ v → number < 2 ^ 96 / now * now → Some (number % now) ≡ answer count v
-answer-is_accepted {count} {now} {v} {number} same is below =
-    answer-accepted now number below ∙ ap (λ c. answer c number) same ∙ ap (answer count) is
-
-pub answer-is_refused : {count now v number : ℕ} → now ≡ count → number ≡ v → 2 ^ 96 / now * now ≤ number → None ≡ answer count v
-answer-is_refused {count} {now} {v} {number} same is past =
-    answer-refused now number past ∙ ap (λ c. answer c number) same ∙ ap (answer count) is
 
 -- ---- what is drawn of some choices is the one with the number that is drawn
 

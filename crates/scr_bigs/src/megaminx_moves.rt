@@ -5,8 +5,8 @@ ghost use Rattle.scr_combinatorics.specs.Digits.{mixed_digits};
 ghost use Rattle.scr_notation.specs.declared.event.Event.TheVariants.{Minx};
 ghost use Rattle.scr_bigs.specs.Megaminx.{row_turns, megaminx_moves};
 
-use crate::choosing::next_number;
 use crate::turns::push_turn;
+use scr_draw::next_number;
 use scr_notation::{Event, Scramble, Turn};
 use scr_words::Words;
 

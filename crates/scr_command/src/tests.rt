@@ -112,7 +112,7 @@ fn commands_refused(rt: HostRuntime) {
         (["one", "444", ZEROS], UsageFault::No444),
         (["one", "444", "x"], UsageFault::No444),
         (["one", "444bf", ZEROS], UsageFault::Grammar),
-        (["one", "333", ZEROS], UsageFault::Grammar),
+        (["one", "sq1", ZEROS], UsageFault::Grammar),
         (["one", "clock", "-x"], length(2)),
         (["one", "clock", ""], length(0)),
         (["one", "clock", BAD_DIGIT], digit),
@@ -164,7 +164,7 @@ fn commands_refused(rt: HostRuntime) {
     reads(&rt, alloc, &[], usage);
     reads(&rt, alloc, &["one", "444"], usage);
     reads(&rt, alloc, &["tables"], usage);
-    reads(&rt, alloc, &["tables", "333"], usage);
+    reads(&rt, alloc, &["tables", "sq1"], usage);
     let no_444 = Err(CommandFault::Usage(UsageFault::No444));
     reads(&rt, alloc, &["tables", "444"], no_444);
     reads(&rt, alloc, &["one", "clock", ZEROS, ZEROS], usage);

@@ -14,7 +14,7 @@ mod rejection;
 
 pub use drawing::{DrawLimit, draw, draw_permitted};
 pub use event::{Numbering, Permit, RandomState};
-pub use rejection::attempt;
+pub use rejection::{attempt, next_number};
 
 #[cfg(test)]
 mod tests;

@@ -23,8 +23,8 @@ without_minima built per_group = record { built = built; per_group = per_group; 
 
 abbrev pub rules_of : Event → EventRules
 rules_of C222 = with_minima true 5 4 11
-rules_of C333 = with_minima false 5 2 5
-rules_of Oh333 = with_minima false 5 2 5
+rules_of C333 = with_minima true 5 0 0
+rules_of Oh333 = with_minima true 5 0 0
 rules_of C555 = without_minima true 5
 rules_of C666 = without_minima true 3
 rules_of C777 = without_minima true 3

@@ -31,8 +31,8 @@ pub fn event_rules(event: Event) -> EventRules
 {
     let (built, per_group, minima) = match event {
         Event::C222 => (true, 5, up_to(11, 4)),
-        Event::C333 => (false, 5, up_to(5, 2)),
-        Event::Oh333 => (false, 5, up_to(5, 2)),
+        Event::C333 => (true, 5, up_to(0, 0)),
+        Event::Oh333 => (true, 5, up_to(0, 0)),
         Event::C555 => (true, 5, None),
         Event::C666 => (true, 3, None),
         Event::C777 => (true, 3, None),

@@ -108,7 +108,8 @@ EndsTables event out (Err (fault.Gap table index)) = ⊥
 
 -- ---- the commands
 
--- The tables of the parts' events were built, so that each part is drawn fairly; and so end the parts.
+-- The tables of the parts' events were built, so that each part is drawn fairly (of random moves: each of their steps is); and
+-- so end the parts.
 pub record IsMaking (settings : Settings) (parts : List Part) (out : Change) (ended : Result (Unit {0}) Fault) : Type 0 where
   pub fair : All (λ part. IsDrawnFairly (scrambling_of part.event) part.least) parts
   pub ends : EndsParts settings 0 parts out ended

@@ -23,7 +23,7 @@ pub fn run<'w, S: Source, O: Sink, E: Sink>(
     err: &mut E,
 ) -> Status
     // What `source` gave, what `out` and `err` gained, and the status, are those of an end that the definitions allow; and
-    // wherever scrambles are made, each of their rounds is drawn fairly.
+    // wherever scrambles are made, each of their rounds is drawn fairly; of random moves each step is.
     ensures whole { IsRun (texts words.now) result (change_of S.left S.faults source.old source.new)
         (change_of O.held O.faults out.old out.new) (change_of E.held E.faults err.old err.new) }
 {

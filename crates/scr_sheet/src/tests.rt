@@ -39,6 +39,16 @@ const TABLE_SKEWB: &str =
     "table skewb positions 3149280 bound 11\n0 1\n1 8\n2 48\n3 288\n4 1728\n5 10248\n6 59304\n\
     7 315198\n8 1225483\n9 1455856\n10 81028\n11 90\n";
 
+/// The scramble of the 3x3x3, and its tables.
+const SCRAMBLE_333: &str =
+    "F2 U2 L2 F2 R2 F2 D2 R2 F2 R2 U R2 U' F2 U L2 U' F2 R2 L' F2 R D U R' F2 U2 B' U2 F L' D\n";
+
+const TABLES_333: &str =
+    "table flips positions 2048 bound 7\n0 1\n1 2\n2 25\n3 202\n4 620\n5 900\n6 285\n7 13\n\
+    table slice positions 1082565 bound 13\n0 1\n1 2\n2 17\n3 134\n4 1065\n5 8190\n6 54694\n7 267576\n8 560568\n9 187204\n10 3114\n\
+    table tetrads positions 29400 bound 15\n0 1\n1 2\n2 9\n3 36\n4 124\n5 530\n6 1806\n7 3732\n8 5158\n9 7070\n10 7218\n11 3202\n12 488\n13 24\n\
+    table halves positions 663552 bound 17\n0 1\n1 6\n2 27\n3 120\n4 519\n5 1932\n6 6484\n7 20310\n8 55034\n9 113892\n10 178495\n11 179196\n12 89728\n13 16176\n14 1488\n15 144\n";
+
 /// The scramble of the Megaminx.
 const SCRAMBLE_MINX: &str =
     "R-- D++ R++ D-- R++ D++ R++ D-- R-- D-- U' R-- D++ R++ D++ R-- D++ R-- D-- R-- D-- U' R-- D++ \
@@ -145,7 +155,7 @@ fn words_and_lists(rt: HostRuntime) -> Result<(), Fail> {
             "",
             "scramble: 444 is not supported\n",
         ),
-        (&["tables", "333"], "", 2, "", USAGE),
+        (&["tables", "sq1"], "", 2, "", USAGE),
         (
             &["one", "clock", digit],
             "",
@@ -174,7 +184,7 @@ fn words_and_lists(rt: HostRuntime) -> Result<(), Fail> {
             "",
             "scramble: 444 is not supported\n",
         ),
-        (&["one", "333", ZEROS], "", 2, "", USAGE),
+        (&["one", "sq1", ZEROS], "", 2, "", USAGE),
         (&["one", "clock"], "", 2, "", USAGE),
         (&["one", "clock", ZEROS, ZEROS], "", 2, "", USAGE),
         (&[], "", 2, "", USAGE),
@@ -246,7 +256,10 @@ fn words_and_lists(rt: HostRuntime) -> Result<(), Fail> {
 
 #[test]
 fn events_with_tables(rt: HostRuntime) -> Result<(), Fail> {
-    let runs: [(&[&str], &str, u8, &str, &str); 8] = [
+    let runs: [(&[&str], &str, u8, &str, &str); 11] = [
+        (&["one", "333", ZEROS], "", 0, SCRAMBLE_333, ""),
+        (&["one", "333oh", ZEROS], "", 0, SCRAMBLE_333, ""),
+        (&["tables", "333"], "", 0, TABLES_333, ""),
         (&["one", "222", ZEROS], "", 0, SCRAMBLE_222, ""),
         (&["one", "pyram", ZEROS], "", 0, SCRAMBLE_PYRAM, ""),
         (&["one", "skewb", ZEROS], "", 0, SCRAMBLE_SKEWB, ""),
@@ -344,6 +357,13 @@ fn sheets_of_two_events(rt: HostRuntime) -> Result<(), Fail> {
             "skewb 1\npyram 1",
             "1000",
             "Round 1: Skewb, at least 7\nGroup A\n1. B R' L' R L U R'\n2. ",
+            20,
+            "",
+        ),
+        (
+            "333oh 1\n333 1 0",
+            "1000",
+            "Round 1: 3x3x3 One-Handed, at least 0\nGroup A\n1. F2 U2 L2 F2 R2 F2 D2 R2 F2 R2 U R2 U' ",
             20,
             "",
         ),

@@ -1,5 +1,5 @@
 -- The one table of an event among the tables of events, and why it isn't built, as a cause for a list of events.
-use Rattle.std.proofs.Common.{◌≡◌, List, [], ◌∷◌, length, Option, Some, None, refl, sym, ap, ◌∙◌, subst, arith, lit<}
+use Rattle.std.proofs.Common.{◌≡◌, List, [], ◌∷◌, length, inl, inr, Option, Some, None, refl, sym, ap, ◌∙◌, subst, arith, lit<}
 use Rattle.std.specs.Prelude.{Contains, IsSome, IfSome}
 use Rattle.std.proofs.lemmas.Option.{same_Some}
 use Rattle.scr_notation.specs.declared.event.Event.{Event}
@@ -12,7 +12,9 @@ use Rattle.scr_small.specs.Puzzle222.{corners_line}
 use Rattle.scr_small.specs.PuzzlePyram.{pyramid_line}
 use Rattle.scr_small.specs.PuzzleSkewb.{skewb_line}
 use Rattle.scr_small.specs.Tables.{small_line, BuiltTable, IsBuilt}
+use Rattle.scr_stages.specs.Built.{IsStageCause}
 use Rattle.scr_slots.specs.Events.{tables_of}
+use Rattle.scr_slots.specs.Held.{HasCubes}
 use Rattle.scr_slots.specs.Tables.{IsBuildCause}
 
 -- a list with an element isn't empty
@@ -40,6 +42,7 @@ IsBuildCause-line events event asked line listed (Gap name index) cause = record
 
 -- the table of an event that one table solves is its one table
 pub tables_of-small : (event : Event) (line : TableLine) → small_line event ≡ Some line → tables_of event ≡ line ∷ []
+unfolding tables_of
 tables_of-small C222 line e = ap (λ l. l ∷ []) (same_Some corners_line line e)
 tables_of-small C333 line e = absurd (cc)
 tables_of-small Oh333 line e = absurd (cc)
@@ -69,3 +72,11 @@ IsBuildCause-small events event asked fault small cause = by_line (small_line ev
     by_line (Some line) e some c =
         let P : List TableLine → Type 0 = λ lines. Contains lines line in
         IsBuildCause-line events event asked line (subst P (sym (tables_of-small event line e)) (0, lit< tt, refl)) fault c
+
+-- ---- the 3x3x3
+
+-- why the tables of the stages aren't built is why those of a 3x3x3 are not
+pub IsBuildCause-stages : (events : List Event) → HasCubes events → (fault : BuildFault) → IsStageCause fault → IsBuildCause events fault
+unfolding tables_of
+IsBuildCause-stages events (inl asked) fault (k, line, inside, is, cause) = IsBuildCause-line events C333 asked line (k, inside, is) fault cause
+IsBuildCause-stages events (inr asked) fault (k, line, inside, is, cause) = IsBuildCause-line events Oh333 asked line (k, inside, is) fault cause

@@ -15,6 +15,8 @@ use Rattle.scr_clock.specs.Numbers.{clock_numbered}
 use Rattle.scr_clock.specs.Proofs.AmountLaws.{IsScrambleOf-one}
 use Rattle.scr_turning.specs.PowerPuzzles.{power_puzzle}
 use Rattle.scr_cube.specs.Cube222.{numbered_222, powers_222}
+use Rattle.scr_cube.specs.Cube333.{cube_numbered, cube_powers}
+use Rattle.scr_stages.proofs.SolutionLaws.{IsStageScramble-unique}
 use Rattle.scr_small.specs.Puzzle222.{numbered_puzzle_222}
 use Rattle.scr_small.specs.Lawful222.{lawful_puzzle_222}
 use Rattle.scr_small.specs.PuzzleLaws.{IsScrambleOf-unique}
@@ -23,7 +25,7 @@ use Rattle.scr_tetra.specs.Skewb.{skewb_numbered, skewb_powers}
 use Rattle.scr_small.specs.PyramLaws.{IsScramblePyram-unique}
 use Rattle.scr_small.specs.PuzzleSkewb.{numbered_puzzle_skewb}
 use Rattle.scr_small.specs.LawfulSkewb.{lawful_puzzle_skewb}
-use Rattle.scr_slots.specs.Events.{scrambling_of, clock_rule, rule_222, pyram_rule, skewb_rule}
+use Rattle.scr_slots.specs.Events.{scrambling_of, clock_rule, rule_222, rule_333, pyram_rule, skewb_rule}
 use Rattle.scr_slots.specs.Slots.{ScrambleRule, MoveEvent, ByMoves, by_state, slot_numbers}
 use Rattle.scr_slots.specs.Outcomes.{HasOneScramble}
 
@@ -55,10 +57,11 @@ HasOneScramble-moves event least = record {
 
 -- So it is for each event that lists take.
 pub each_one : (event : Event) (least : ℕ) → IsTrue (rules_of event).built → HasOneScramble (scrambling_of event) least
+unfolding scrambling_of
 each_one C222 least built =
     HasOneScramble-only numbered_222 (power_puzzle powers_222) rule_222 least (lit≤ tt) (λ tries. IsScrambleOf-unique numbered_puzzle_222 lawful_puzzle_222)
-each_one C333 least built = cc
-each_one Oh333 least built = cc
+each_one C333 least built = HasOneScramble-only cube_numbered (power_puzzle cube_powers) rule_333 least (lit≤ tt) (λ tries. IsStageScramble-unique)
+each_one Oh333 least built = HasOneScramble-only cube_numbered (power_puzzle cube_powers) rule_333 least (lit≤ tt) (λ tries. IsStageScramble-unique)
 each_one C555 least built = HasOneScramble-moves _ least
 each_one C666 least built = HasOneScramble-moves _ least
 each_one C777 least built = HasOneScramble-moves _ least

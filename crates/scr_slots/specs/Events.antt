@@ -8,6 +8,9 @@ use Rattle.scr_notation.specs.declared.turn.Turn.{Turn}
 use Rattle.scr_orbit.specs.Orbits.{Orbit}
 use Rattle.scr_turning.specs.PowerPuzzles.{after_letter, power_puzzle}
 use Rattle.scr_cube.specs.Cube222.{numbered_222, powers_222}
+use Rattle.scr_cube.specs.Cube333.{CubeState, cube_numbered, cube_powers, solved_cube}
+use Rattle.scr_stages.specs.Stages.{IsStageScramble}
+use Rattle.scr_stages.specs.Tables.{stage_lines}
 use Rattle.scr_tetra.specs.Pyraminx.{PyramState, pyram_powers, solved_pyram, numbered_pyram}
 use Rattle.scr_tetra.specs.Skewb.{SkewbState, skewb_numbered, skewb_powers}
 use Rattle.scr_small.specs.NumberedPuzzles.{NumberedPuzzle, IsScrambleOf}
@@ -38,6 +41,10 @@ skewb_rule = small_rule numbered_puzzle_skewb 11
 abbrev pub pyram_rule : ScrambleRule PyramState
 pyram_rule = record { played = play (after_letter pyram_powers) solved_pyram; most_turns = 15; IsScramble = λ tries. IsScramblePyram }
 
+-- the 3x3x3: the words of the four stages, tidied and taken back, whatever the tries
+abbrev pub rule_333 : ScrambleRule CubeState
+rule_333 = record { played = play (after_letter cube_powers) solved_cube; most_turns = 52; IsScramble = λ tries. IsStageScramble }
+
 -- Clock: fourteen amounts and `y2`, whatever the tries
 abbrev pub clock_rule : ScrambleRule (List ℕ)
 clock_rule = record {
@@ -54,10 +61,10 @@ by_cube_moves cube = ByMoves (record { moves = cube_moves cube; AreFair = AreFai
 abbrev pub by_megaminx_moves : Scrambling
 by_megaminx_moves = ByMoves (record { moves = λ attempts. megaminx_moves; AreFair = AreFairBits })
 
-abbrev pub scrambling_of : Event → Scrambling
+unfoldable pub scrambling_of : Event → Scrambling
 scrambling_of C222 = by_state numbered_222 (power_puzzle powers_222) rule_222
-scrambling_of C333 = NotYet
-scrambling_of Oh333 = NotYet
+scrambling_of C333 = by_state cube_numbered (power_puzzle cube_powers) rule_333
+scrambling_of Oh333 = by_state cube_numbered (power_puzzle cube_powers) rule_333
 scrambling_of C555 = by_cube_moves cube_555
 scrambling_of C666 = by_cube_moves cube_666
 scrambling_of C777 = by_cube_moves cube_777
@@ -68,10 +75,10 @@ scrambling_of Skewb = by_state skewb_numbered (power_puzzle skewb_powers) skewb_
 scrambling_of Sq1 = NotYet
 
 -- the tables of an event, in the order in which they are built and printed
-abbrev pub tables_of : Event → List TableLine
+unfoldable pub tables_of : Event → List TableLine
 tables_of C222 = corners_line ∷ []
-tables_of C333 = []
-tables_of Oh333 = []
+tables_of C333 = stage_lines
+tables_of Oh333 = stage_lines
 tables_of C555 = []
 tables_of C666 = []
 tables_of C777 = []

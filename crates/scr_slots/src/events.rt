@@ -13,6 +13,7 @@ ghost use Rattle.scr_slots.specs.Outcomes.{IsMissed};
 use crate::moved::{cube_scramble, megaminx_scramble};
 use crate::scrambled::{Scrambled, drawn_scramble};
 use crate::settings::Settings;
+use crate::staged_cube::StagedCube;
 use crate::tables::Tables;
 use scr_clock::{Clock, ClockNumbers, scramble_clock};
 use scr_draw::DrawLimit;
@@ -67,6 +68,7 @@ impl Scrambled for SmallPyram<'_> {
 ///
 /// The tables are those of a list with the event, which is one that lists take; `least` is in its range, and there are at
 /// most 1,000,000 attempts.
+#[tactic(auto, unfolding(crate::specs::Events::scrambling_of))]
 pub fn slot_scramble(
     tables: &Tables,
     event: Event,
@@ -86,6 +88,10 @@ pub fn slot_scramble(
             let cube = Small222::new(tables.of_small(event));
             drawn_scramble(&cube, settings, least, stream)
         }
+        Event::C333 | Event::Oh333 => {
+            let cube = StagedCube::new(tables.of_cubes());
+            drawn_scramble(&cube, settings, least, stream)
+        }
         Event::C555 => cube_scramble::<5>(settings, stream),
         Event::C666 => cube_scramble::<6>(settings, stream),
         Event::C777 => cube_scramble::<7>(settings, stream),
@@ -99,7 +105,7 @@ pub fn slot_scramble(
             let skewb = SmallSkewb::new(tables.of_small(event));
             drawn_scramble(&skewb, settings, least, stream)
         }
-        Event::C333 | Event::Oh333 | Event::Sq1 => unreachable!(),
+        Event::Sq1 => unreachable!(),
     }
 }
 
@@ -107,6 +113,7 @@ pub fn slot_scramble(
 /// comes only where the sink's count of faults rose, a first part of it was written.
 ///
 /// The tables are those of a list with the event.
+#[tactic(auto, unfolding(crate::specs::Events::tables_of))]
 pub fn write_tables_of<O: Sink>(tables: &Tables, event: Event, out: &mut O) -> Result<(), Failed>
     requires { Contains tables.now event }
     ensures { WritesTables (tables_of event) (change_of O.held O.faults out.old out.new) result }
@@ -115,14 +122,9 @@ pub fn write_tables_of<O: Sink>(tables: &Tables, event: Event, out: &mut O) -> R
         Event::C222 | Event::Pyram | Event::Skewb => {
             write_tables(out, &[small_table(tables, event)])
         }
-        Event::C333
-        | Event::Oh333
-        | Event::C555
-        | Event::C666
-        | Event::C777
-        | Event::Clock
-        | Event::Minx
-        | Event::Sq1 => write_tables(out, &[]),
+        Event::C333 | Event::Oh333 => write_tables(out, &tables.of_cubes().all()),
+        Event::C555 | Event::C666 | Event::C777 | Event::Clock | Event::Minx | Event::Sq1 =>
+            write_tables(out, &[]),
     }
 }
 

@@ -2,13 +2,15 @@
 
 ghost use Rattle.std.specs.Prelude.{Contains, ◌≡◌, ◌+◌, ◌≤◌, ◌<◌, ℕ, IsTrue};
 ghost use Rattle.scr_notation.specs.declared.event.Event.{Event as EventOf};
-ghost use Rattle.scr_notation.specs.declared.event.Event.TheVariants.{C222, Pyram, Skewb};
+ghost use Rattle.scr_notation.specs.declared.event.Event.TheVariants.{C222, C333, Pyram, Skewb};
 ghost use Rattle.scr_list.specs.Events.{rules_of, greatest_of};
 ghost use Rattle.scr_slots.specs.Events.{scrambling_of};
+ghost use Rattle.scr_slots.specs.Held.{HasCubes};
 ghost use Rattle.scr_slots.specs.Slots.{IsDrawnFairly, by_state, first_stream};
 ghost use Rattle.scr_slots.specs.Outcomes.{HasOneScramble};
 
 use crate::scrambled::Scrambled;
+use crate::staged_cube::StagedCube;
 use crate::tables::Tables;
 use scr_bigs::laws as moves;
 use scr_clock::ClockNumbers;
@@ -40,9 +42,11 @@ pub fn each_drawn_fairly(tables: &Tables)
     fairly_222(tables);
     fairly_pyram(tables);
     fairly_skewb(tables);
+    fairly_333(tables);
 }
 
 /// The 2x2x2, where its table is built.
+#[tactic(auto, unfolding(crate::specs::Events::scrambling_of))]
 fn fairly_222(tables: &Tables)
     ensures { Contains tables.now C222 → (least : ℕ) → least ≤ 11 → IsDrawnFairly (scrambling_of C222) least }
 {
@@ -52,6 +56,7 @@ fn fairly_222(tables: &Tables)
 }
 
 /// The Pyraminx, where its table is built.
+#[tactic(auto, unfolding(crate::specs::Events::scrambling_of))]
 fn fairly_pyram(tables: &Tables)
     ensures { Contains tables.now Pyram → (least : ℕ) → least ≤ 15 → IsDrawnFairly (scrambling_of Pyram) least }
 {
@@ -61,11 +66,22 @@ fn fairly_pyram(tables: &Tables)
 }
 
 /// The Skewb, where its table is built.
+#[tactic(auto, unfolding(crate::specs::Events::scrambling_of))]
 fn fairly_skewb(tables: &Tables)
     ensures { Contains tables.now Skewb → (least : ℕ) → least ≤ 11 → IsDrawnFairly (scrambling_of Skewb) least }
 {
     if tables.has(Event::Skewb) {
         drawn_fairly(&SmallSkewb::new(tables.of_small(Event::Skewb)));
+    }
+}
+
+/// The 3x3x3, with two hands or with one, where its tables are built.
+#[tactic(auto, unfolding(crate::specs::Events::scrambling_of))]
+fn fairly_333(tables: &Tables)
+    ensures { HasCubes tables.now → (least : ℕ) → least ≤ 0 → IsDrawnFairly (scrambling_of C333) least }
+{
+    if tables.has(Event::C333) || tables.has(Event::Oh333) {
+        drawn_fairly(&StagedCube::new(tables.of_cubes()));
     }
 }
 

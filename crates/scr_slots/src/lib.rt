@@ -14,6 +14,7 @@ pub mod laws;
 mod moved;
 mod scrambled;
 mod settings;
+mod staged_cube;
 mod tables;
 
 pub use events::{slot_scramble, write_tables_of};

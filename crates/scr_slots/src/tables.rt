@@ -2,13 +2,14 @@
 
 ghost use Rattle.std.specs.Prelude.{◌≡◌, ◌≤◌, ◌↔◌, [], ◌∷◌, map, length, Contains, IfOk, IfErr, IsSome, IsSomeAnd, IsTrue};
 ghost use Rattle.scr_small.specs.Tables.{small_line};
-ghost use Rattle.scr_slots.specs.Held.{HoldTables};
+ghost use Rattle.scr_slots.specs.Held.{HasCubes, HoldStages, HoldTables};
 ghost use Rattle.scr_slots.specs.Tables.{IsBuildCause};
 
 use arrayvec::ArrayVec;
 use scr_list::Round;
 use scr_notation::Event;
 use scr_small::SmallTables;
+use scr_stages::StageTables;
 use scr_table::BuildFault;
 use std::alloc::Global;
 use std::marker::Model;
@@ -23,6 +24,7 @@ pub struct Tables {
     of_222: Option<SmallTables>,
     of_pyram: Option<SmallTables>,
     of_skewb: Option<SmallTables>,
+    of_cubes: Option<StageTables>,
 }
 
 // Clauses see the events for which they are built.
@@ -33,12 +35,13 @@ impl Model for Tables {
     ghost Value = { List Event };
 
     ghost use Rattle.scr_notation.specs.declared.event.Event.TheVariants.{C222, Pyram, Skewb};
-    ghost use Rattle.scr_slots.specs.Held.{HoldTables};
+    ghost use Rattle.scr_slots.specs.Held.{HoldStages, HoldTables};
 
     ghost view = { λ tables. map (λ round. round.event) tables.rounds.items };
 
     ghost invariant = { λ tables. let events = map (λ round. round.event) tables.rounds.items in
-        HoldTables C222 events tables.of_222 × HoldTables Pyram events tables.of_pyram × HoldTables Skewb events tables.of_skewb };
+        HoldTables C222 events tables.of_222 × HoldTables Pyram events tables.of_pyram × HoldTables Skewb events tables.of_skewb
+        × HoldStages events tables.of_cubes };
 }
 
 impl Tables {
@@ -56,11 +59,13 @@ impl Tables {
         let of_222 = small_tables(alloc, rounds, Event::C222)?;
         let of_pyram = small_tables(alloc, rounds, Event::Pyram)?;
         let of_skewb = small_tables(alloc, rounds, Event::Skewb)?;
+        let of_cubes = stage_tables(alloc, rounds)?;
         Ok(Tables {
             rounds: asked,
             of_222,
             of_pyram,
             of_skewb,
+            of_cubes,
         })
     }
 
@@ -106,6 +111,16 @@ impl Tables {
             | Event::Sq1 => unreachable!(),
         }
     }
+
+    /// The tables of the stages, where the list has a round of a 3x3x3.
+    pub(crate) fn of_cubes(&self) -> &StageTables
+        requires { HasCubes self.now }
+    {
+        match &self.of_cubes {
+            Some(tables) => tables,
+            None => unreachable!(),
+        }
+    }
 }
 
 /// The table of this event, which is there.
@@ -143,6 +158,26 @@ fn small_tables(
 {
     if has_round(rounds, event) {
         let tables = SmallTables::build(alloc, event)?;
+        Ok(Some(tables))
+    } else {
+        Ok(None)
+    }
+}
+
+/// Whether one of these rounds is of a 3x3x3, with two hands or with one.
+fn has_cubes(rounds: &[Round]) -> bool
+    ensures { IsTrue result ↔ HasCubes (map (λ round. round.event) rounds.now) }
+{
+    has_round(rounds, Event::C333) || has_round(rounds, Event::Oh333)
+}
+
+/// The tables of the stages, where one of these rounds is of a 3x3x3.
+fn stage_tables(alloc: Global, rounds: &[Round]) -> Result<Option<StageTables>, BuildFault>
+    ensures built { IfOk result (HoldStages (map (λ round. round.event) rounds.now)) }
+    ensures cause { IfErr result (IsBuildCause (map (λ round. round.event) rounds.now)) }
+{
+    if has_cubes(rounds) {
+        let tables = StageTables::build(alloc)?;
         Ok(Some(tables))
     } else {
         Ok(None)

@@ -1,11 +1,11 @@
-mod Places
-mod TurnLaws
-mod Clockwise
-mod Lawful
+pub mod Places
+pub mod TurnLaws
+pub mod Clockwise
+pub mod Lawful
 mod Motions
 mod Minima
 mod TurnedOver
-mod OnLiterals
+pub mod OnLiterals
 mod Steps
 mod ShapeSteps
 mod PieceSteps

@@ -2,7 +2,7 @@ use Rattle.std.proofs.Common.{◌≡◌, List, length, map, take, sym, ap, ◌�
 use Rattle.std.proofs.Math.Seq.{take-length}
 use Rattle.scr_list.specs.declared.round.Round.{Round}
 use Rattle.scr_notation.specs.declared.event.Event.TheVariants.{C222, Pyram, Skewb}
-use Rattle.scr_slots.specs.Held.{HoldTables}
+use Rattle.scr_slots.specs.Held.{HoldStages, HoldTables}
 use Rattle.scr_slots.proofs.tables.Tables.build.Goals as goal
 
 pub invariant_of-result : goal.invariant_of-result
@@ -12,8 +12,10 @@ invariant_of-result c =
     c.loop-round.invariant ∙ ap (λ n. take n c.args.rounds.now) end ∙ take-length c.args.rounds.now in
     let P : List Round → Type 0 = λ rounds. HoldTables C222 (map (λ (round : Round). round.event) rounds) c.in_ok-of_222.of_222 in
     let Q : List Round → Type 0 = λ rounds. HoldTables Pyram (map (λ (round : Round). round.event) rounds) c.in_ok-of_pyram.of_pyram in
-    let R : List Round → Type 0 = λ rounds. HoldTables Skewb (map (λ (round : Round). round.event) rounds) c.in_ok-of_skewb.of_skewb in (
+    let R : List Round → Type 0 = λ rounds. HoldTables Skewb (map (λ (round : Round). round.event) rounds) c.in_ok-of_skewb.of_skewb in
+    let S : List Round → Type 0 = λ rounds. HoldStages (map (λ (round : Round). round.event) rounds) c.in_ok-of_cubes.of_cubes in (
       subst P (sym same) c.in_ok-of_222.ensures.built,
       subst Q (sym same) c.in_ok-of_pyram.ensures.built,
       subst R (sym same) c.in_ok-of_skewb.ensures.built,
+      subst S (sym same) c.in_ok-of_cubes.ensures.built,
     )

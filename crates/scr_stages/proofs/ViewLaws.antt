@@ -1,0 +1,102 @@
+-- Views of states by numbers go along with turns, where the number of a turned state is that which the turn makes of the list that is
+-- kept for the number. No puzzle stands here.
+use Rattle.std.proofs.Common.{◌≡◌, ℕ, ◌<◌, ◌≤◌, Bool, true, false, cond, IsTrue, List, map, length, Option, Some, None, refl, sym, ap, ◌∙◌, subst}
+use Rattle.std.specs.Prelude.{All, nat_lt, slice_get, ◌↔◌}
+use Rattle.std.specs.Option.{option_map}
+use Rattle.std.proofs.lemmas.Bool.{eq-eqb, eqb-true, ltb-false}
+use Rattle.std.proofs.lemmas.List.{length-map}
+use Rattle.std.proofs.lemmas.Option.{slice_get-map, slice_get_past}
+use Rattle.scr_combinatorics.specs.Numbered.{Numbered}
+use Rattle.scr_combinatorics.specs.Numbering.{IsOneToOne}
+use Rattle.scr_orbit.specs.Orbits.{Rearrangement}
+use Rattle.scr_orbit.proofs.ActionLaws.{map-some}
+use Rattle.scr_orbit.proofs.PowerLaws.{All-got}
+use Rattle.scr_coord.specs.Coordinates.{Coordinate, StaysBelow, moved}
+use Rattle.scr_coord.specs.Projections.{ListView, projection}
+use Rattle.scr_coord.specs.SearchSpaces.{SearchSpace, positions, Follows}
+use Rattle.scr_stages.specs.Tables.{numbered_coordinate}
+
+-- What turns make of states, which of them are valid, and turns that are asked for: the turn of a number is at that place of a
+-- list, and keeps states valid.
+pub record TurnsStates {S R : Type 0} (turned : S → R → S) (turns : List R) (after : S → ℕ → Option S) (IsValid : S → Type 0) (IsTurn : R → Type 0) : Type 0 where
+  pub each : All IsTurn turns
+  pub after_is : (s : S) (t : ℕ) → after s t ≡ option_map (turned s) (slice_get turns t)
+  pub keeps : (s : S) (r : R) → IsValid s → IsTurn r → IsValid (turned s r)
+
+pub kept_by : {S R : Type 0} (turned : S → R → S) (turns : List R) (after : S → ℕ → Option S) (IsValid : S → Type 0) (IsTurn : R → Type 0)
+    → TurnsStates turned turns after IsValid IsTurn → (s r : S) (t : ℕ) → IsValid s → after s t ≡ Some r → IsValid r
+kept_by turned turns after IsValid IsTurn l s r t h e =
+    let found = map-some (turned s) (slice_get turns t) r (sym (l.after_is s t) ∙ e) in
+    subst IsValid found.2 (l.keeps s found.0 h (All-got IsTurn turns t found.0 l.each found.1))
+
+module _ {S R : Type 0} (turned : S → R → S) (turns : List R) (after : S → ℕ → Option S) (IsValid : S → Type 0) (IsTurn : R → Type 0)
+    (l : TurnsStates turned turns after IsValid IsTurn) (v : ListView) (part : R → Rearrangement) (view : S → ℕ) (IsGoal : S → Type 0)
+    (below : (s : S) → IsValid s → view s < v.count)
+    (steps : (s : S) (r : R) → IsValid s → IsTurn r → v.number_of (v.turned (v.list_at (view s)) (part r)) ≡ view (turned s r))
+    (goals : (s : S) → IsValid s → IsGoal s ↔ (view s ≡ v.number_of v.goal)) where
+  step_by : (s : S) (o : Option R) → IsValid s → ((r : R) → o ≡ Some r → IsTurn r)
+      → option_map (λ r. v.number_of (v.turned (v.list_at (view s)) r)) (option_map part o) ≡ option_map view (option_map (turned s) o)
+  step_by s None h turns = refl
+  step_by s (Some r) h turns = ap Some (steps s r h (turns r refl))
+
+  -- there is none past the last
+  guarded : (f : Rearrangement → ℕ) (t : ℕ) (b : Bool) → nat_lt t (length (map part turns)) ≡ b
+      → cond b (option_map f (slice_get (map part turns) t)) None ≡ option_map f (option_map part (slice_get turns t))
+  guarded f t true e = ap (option_map f) (slice_get-map part turns t)
+  guarded f t false e =
+      ap (option_map f) (sym (slice_get_past (map part turns) t (ltb-false t (length (map part turns)) e)) ∙ slice_get-map part turns t)
+
+  pub Follows-viewed : Follows (record { IsValid = IsValid; after = after; IsGoal = IsGoal }) (positions (projection v (map part turns))) view
+  Follows-viewed = record {
+    kept = kept_by turned turns after IsValid IsTurn l;
+    valid = below;
+    turned = λ s t h.
+        guarded (λ r. v.number_of (v.turned (v.list_at (view s)) r)) t (nat_lt t (length (map part turns))) refl
+        ∙ step_by s (slice_get turns t) h (λ r e. All-got IsTurn turns t r l.each e)
+        ∙ ap (option_map view) (sym (l.after_is s t));
+    goals = λ s h. (
+      λ g. eq-eqb (view s) (v.number_of v.goal) ((goals s h).0 g),
+      λ e. (goals s h).1 (eqb-true (view s) (v.number_of v.goal) e),
+    );
+  }
+
+-- What goes along with turns goes along with the same goals, however they are told, and where fewer states are valid.
+pub Follows-goals : {S : Type 0} (IsValid IsGoal IsOther : S → Type 0) (after : S → ℕ → Option S) (c : Coordinate) (view : S → ℕ)
+    → ((s : S) → IsValid s → IsOther s ↔ IsGoal s)
+    → Follows (record { IsValid = IsValid; after = after; IsGoal = IsGoal }) (positions c) view
+    → Follows (record { IsValid = IsValid; after = after; IsGoal = IsOther }) (positions c) view
+Follows-goals IsValid IsGoal IsOther after c view same f = record {
+  kept = f.kept;
+  valid = f.valid;
+  turned = f.turned;
+  goals = λ s h. (λ g. (f.goals s h).0 ((same s h).0 g), λ e. (same s h).1 ((f.goals s h).1 e));
+}
+
+-- Numbered states go along with the coordinate of their numbers.
+module _ {S : Type 0} (n : Numbered S) (one : IsOneToOne n.count n.state_at n.number_of n.IsValid) (turns : ℕ) (after : S → ℕ → Option S) (solved : S)
+    (valid : n.IsValid solved) (kept : (s r : S) (t : ℕ) → n.IsValid s → after s t ≡ Some r → n.IsValid r)
+    (no_more : (s : S) (t : ℕ) → turns ≤ t → after s t ≡ None) where
+  guarded_by : (s : S) (t : ℕ) (b : Bool) → nat_lt t turns ≡ b
+      → cond b (option_map n.number_of (after s t)) None ≡ option_map n.number_of (after s t)
+  guarded_by s t true e = refl
+  guarded_by s t false e = ap (option_map n.number_of) (sym (no_more s t (ltb-false t turns e)))
+
+  pub Follows-numbered : Follows (record { IsValid = n.IsValid; after = after; IsGoal = λ s. s ≡ solved }) (positions (numbered_coordinate n turns after solved)) n.number_of
+  Follows-numbered = record {
+    kept = kept;
+    valid = one.below;
+    turned = λ s t h.
+        ap (λ r. cond (nat_lt t turns) (option_map n.number_of (after r t)) None) (one.state_again s h)
+        ∙ guarded_by s t (nat_lt t turns) refl;
+    goals = λ s h. (
+      λ e. eq-eqb (n.number_of s) (n.number_of solved) (ap n.number_of e),
+      λ e.
+          sym (one.state_again s h) ∙ ap n.state_at (eqb-true (n.number_of s) (n.number_of solved) e)
+          ∙ one.state_again solved valid,
+    );
+  }
+
+  pub StaysBelow-numbered : StaysBelow (numbered_coordinate n turns after solved)
+  StaysBelow-numbered p t q at turn e =
+      let made = map-some n.number_of (after (n.state_at p) t) q e in
+      subst (λ k. k < n.count) made.2 (one.below made.0 (kept (n.state_at p) made.0 t (one.valid p at) made.1))

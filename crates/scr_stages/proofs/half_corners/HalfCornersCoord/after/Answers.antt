@@ -1,0 +1,35 @@
+use Rattle.std.proofs.Common.{ℕ, ◌<◌, List, [], length, get_or, map, ap, ◌∙◌, subst, sym}
+use Rattle.scr_combinatorics.specs.Permutations.{IsPermutation}
+use Rattle.scr_combinatorics.proofs.PermutationLaws.{IsPermutation-pick}
+use Rattle.scr_orbit.specs.declared.placed.PlaceTurn.{PlaceTurn}
+use Rattle.scr_orbit.specs.PlaceTurns.{rearrangement_of}
+use Rattle.scr_orbit.proofs.OrbitLaws.{places_in}
+use Rattle.scr_coord.specs.Projections.{AreTurns}
+use Rattle.scr_coord.proofs.ProjectionLaws.{turn_read, after_read}
+use Rattle.scr_stages.specs.Tetrads.{half_corners_number, half_corners_view}
+use Rattle.scr_stages.proofs.half_corners.HalfCornersCoord.after.Goals as goal
+
+abbrev none : PlaceTurn 8
+none = record { places = []; added = [] }
+
+turn_at : (turns : List (PlaceTurn 8)) (t : ℕ) → AreTurns (λ turn. IsPermutation 8 turn.places) turns → t < length (map rearrangement_of turns)
+    → IsPermutation 8 (get_or turns t none).places
+turn_at turns t valid lt = turn_read (λ turn. IsPermutation 8 turn.places) turns t none valid lt
+
+pub pick_into-requires-clause-places : goal.pick_into-requires-clause-places
+pick_into-requires-clause-places c =
+    let turns = c.args.self.now.turns.now in
+    places_in 8 (get_or turns c.args.turn none).places c.half_corners_at.result (turn_at turns c.args.turn c.args.self.now.valid c.requires.turn)
+    c.half_corners_at.ensures.valid.size
+
+pub half_corners_number-requires : goal.half_corners_number-requires
+half_corners_number-requires c =
+    let turns = c.args.self.now.turns.now in
+    subst (IsPermutation 8) (sym c.pick_into.ensures)
+    (IsPermutation-pick 8 c.half_corners_at.result (get_or turns c.args.turn none).places c.half_corners_at.ensures.valid
+    (turn_at turns c.args.turn c.args.self.now.valid c.requires.turn))
+
+pub returns : goal.returns
+returns c =
+    after_read half_corners_view c.args.self.now.turns.now c.args.position c.args.turn c.half_corners_number.result none c.half_corners_at.result
+    c.requires.turn c.half_corners_at.ensures.list (c.half_corners_number.ensures ∙ ap half_corners_number c.pick_into.ensures)

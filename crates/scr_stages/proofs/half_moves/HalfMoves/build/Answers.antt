@@ -1,0 +1,30 @@
+use Rattle.std.proofs.Common.{map, ap, ◌∙◌, subst}
+use Rattle.scr_orbit.specs.PlaceTurns.{rearrangement_of}
+use Rattle.scr_coord.specs.Moves.{moves_coordinate}
+use Rattle.scr_coord.specs.Projections.{projection}
+use Rattle.scr_coord.specs.SearchSpaces.{ShowsSame}
+use Rattle.scr_stages.specs.Tetrads.{half_corners_view}
+use Rattle.scr_stages.proofs.TurnArrays.{first_moves, second_moves, middle_moves}
+use Rattle.scr_stages.proofs.HalfTurned.{StaysBelow-halves}
+use Rattle.scr_stages.proofs.half_moves.HalfMoves.build.Goals as goal
+
+pub block_moves-requires-clause-kept : goal.block_moves-requires-clause-kept
+block_moves-requires-clause-kept c = first_moves
+
+pub block_moves-requires-2-clause-kept : goal.block_moves-requires-2-clause-kept
+block_moves-requires-2-clause-kept c = second_moves
+
+pub block_moves-requires-3-clause-kept : goal.block_moves-requires-3-clause-kept
+block_moves-requires-3-clause-kept c = middle_moves
+
+pub invariant_of-result : goal.invariant_of-result
+invariant_of-result c = record {
+  shows_corners = subst (λ moves. ShowsSame (projection half_corners_view moves) (moves_coordinate c.in_ok-build.field-0))
+      (ap (map rearrangement_of) c.new.ensures ∙ c.half_corner_turns.ensures) c.in_ok-build.ensures;
+  shows_first = c.in_ok-block_moves.ensures;
+  shows_second = c.in_ok-block_moves-2.ensures;
+  shows_middle = c.in_ok-block_moves-3.ensures;
+  corner_parities = c.corner_parities.ensures;
+  parities = c.parities.ensures;
+  stays = StaysBelow-halves;
+}

@@ -1,0 +1,16 @@
+use Rattle.std.proofs.Common.{◌≡◌, length, ap, ◌∙◌, arith}
+use Rattle.std.proofs.lemmas.List.{length-set}
+use Rattle.scr_combinatorics.specs.Permutations.{parity}
+use Rattle.scr_stages.specs.Tetrads.{half_corners_at}
+use Rattle.scr_stages.proofs.ParitySteps.{filled_place, parity-byte}
+use Rattle.scr_stages.proofs.half_moves.corner_parities.Goals as goal
+
+pub loop-number-preserved : goal.loop-number-preserved
+loop-number-preserved c =
+    let odd = c.loop-number.odd in
+    let number = c.loop-number.number in
+    let size = c.loop-number.invariant.1 in (
+      filled_place (λ q. parity (half_corners_at q)) odd number c.from.result (omega (arith, size, c.loop-number-test.true))
+          (c.from.ensures ∙ parity-byte c.is_odd.result c.half_corners_at.result c.is_odd.ensures ∙ ap parity c.half_corners_at.ensures.list) c.loop-number.invariant.0,
+      length-set odd number c.from.result ∙ size,
+    )

@@ -1,0 +1,6 @@
+use Rattle.std.proofs.Common.{◌∙◌}
+use Rattle.scr_stages.proofs.TetradTables.{corners_related-table}
+use Rattle.scr_stages.proofs.tetrads.corners_related.Goals as goal
+
+pub returns : goal.returns
+returns c = c.joined.ensures ∙ corners_related-table c.args.relation c.requires

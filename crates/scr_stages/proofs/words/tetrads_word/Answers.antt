@@ -1,0 +1,35 @@
+use Rattle.std.proofs.Common.{◌≡◌, ◌+◌, ◌*◌, length, refl, sym, ap, ◌∙◌, subst, lit<, lit≤}
+use Rattle.scr_combinatorics.specs.PlaceSets.{IsPlaceSet, place_set_number}
+use Rattle.scr_play.specs.FirstWord.{IsFirstWord}
+use Rattle.scr_coord.specs.Coordinates.{moved, IsGoal}
+use Rattle.scr_coord.specs.Projections.{marked_places, stands_in}
+use Rattle.scr_stages.specs.Stages.{tetrads_stage}
+use Rattle.scr_stages.specs.Numbers.{tetrads_number, first_edges, IsDominoCube}
+use Rattle.scr_stages.specs.Tables.{tetrads_line, tetrads_coordinate}
+use Rattle.scr_stages.specs.Tetrads.{corner_index}
+use Rattle.scr_stages.proofs.DominoLaws.{IsPlaceSet-first_places}
+use Rattle.scr_stages.proofs.StageWords.{StaysBelow-tetrads, IsStageWord-first, Follows-half_turned}
+use Rattle.scr_stages.proofs.words.tetrads_word.Goals as goal
+
+pub places_of-requires-clause-fits : goal.places_of-requires-clause-fits
+places_of-requires-clause-fits c =
+    ap (λ edges. length (marked_places (stands_in first_edges) edges)) c.edges.ensures.same
+    ∙ (IsPlaceSet-first_places c.args.cube.now c.requires).size
+
+pub rank-places-requires : goal.rank-places-requires
+rank-places-requires c =
+    let places = c.places_of.ensures ∙ ap (marked_places (stands_in first_edges)) c.edges.ensures.same in
+    (lit< tt, (lit≤ tt, subst (IsPlaceSet 8 4) (sym places) (IsPlaceSet-first_places c.args.cube.now c.requires)))
+
+pub returns : goal.returns
+returns c =
+    let cube = c.args.cube.now in
+    let tables = c.args.tables.now in
+    let word = c.tetrads_word.result.items in
+    let places = c.places_of.ensures ∙ ap (marked_places (stands_in first_edges)) c.edges.ensures.same in
+    let number = ap (λ n. n + 70 * c.corner_index.result) (c.rank-places.ensures.number ∙ ap (place_set_number 8) places)
+    ∙ ap (λ n. place_set_number 8 (marked_places (stands_in first_edges) cube.edges.pieces) + 70 * n) (c.corner_index.ensures.value ∙ ap corner_index c.corners.ensures.same) in
+    let built = c.tetrads_word.ensures.built in
+    IsStageWord-first tetrads_stage IsDominoCube tetrads_line tetrads_number (Follows-half_turned tables.halves built.halves) StaysBelow-tetrads refl tables.tetrads
+    built.tetrads cube c.requires word
+    (subst (λ p. IsFirstWord (moved tetrads_coordinate) (IsGoal tetrads_coordinate) p word) number c.tetrads_word.ensures.first)

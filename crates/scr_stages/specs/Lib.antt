@@ -1,0 +1,5 @@
+pub mod Stages
+pub mod Tetrads
+pub mod Numbers
+pub mod Tables
+pub mod Built

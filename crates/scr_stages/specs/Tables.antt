@@ -1,0 +1,92 @@
+-- The tables of the stages: what each is a table of, and how far it may reach.
+use Rattle.std.specs.Prelude.{ℕ, ◌==◌, List, [], ◌∷◌, map, slice_index_or, Option}
+use Rattle.std.specs.Option.{option_map}
+use Rattle.scr_combinatorics.specs.Lists.{numbers_from, pick}
+use Rattle.scr_combinatorics.specs.Numbered.{Numbered}
+use Rattle.scr_orbit.specs.Orbits.{Rearrangement}
+use Rattle.scr_coord.specs.Coordinates.{Coordinate}
+use Rattle.scr_coord.specs.Products.{product}
+use Rattle.scr_coord.specs.Projections.{projection, twists_view, place_set_view, pieces_view}
+use Rattle.scr_table.specs.declared.name.TableName.TheVariants.{Flips, Slice, Tetrads, Halves}
+use Rattle.scr_table.specs.Lines.{TableLine}
+use Rattle.scr_turning.specs.PowerPuzzles.{all_turns}
+use Rattle.scr_cube.specs.Cube333.{CubeTurn, cube_action, cube_powers, solved_cube}
+use Rattle.scr_stages.specs.Stages.{middle_edges, after_of, half_turns, Stage, flips_stage, slice_stage, tetrads_stage, halves_stage}
+use Rattle.scr_stages.specs.Tetrads.{in_block, tetrads_view, half_corners_view}
+use Rattle.scr_stages.specs.Numbers.{first_edges, half_cubes}
+
+-- what the turns with these numbers do, to corners and to edges
+abbrev pub turns_of : List ℕ → List CubeTurn
+turns_of numbers = map (λ t. slice_index_or (all_turns cube_powers) t cube_action.identity) numbers
+
+abbrev pub corners_by : List ℕ → List Rearrangement
+corners_by numbers = map (λ r. r.corners) (turns_of numbers)
+
+abbrev pub edges_by : List ℕ → List Rearrangement
+edges_by numbers = map (λ r. r.edges) (turns_of numbers)
+
+-- what a turn does to the pieces at the places of a block, which it carries among these
+abbrev pub block_turn : List ℕ → Rearrangement → Rearrangement
+block_turn block r = record { places = in_block block r.places; added = pick r.added block }
+
+-- what turns with these numbers do so, of a list of turns
+abbrev pub block_turns : List ℕ → List Rearrangement → List ℕ → List Rearrangement
+block_turns block turns numbers = map (λ t. block_turn block (slice_index_or turns t (record { places = []; added = [] }))) numbers
+
+-- The flips.
+abbrev pub flips_coordinate : Coordinate
+flips_coordinate = projection (twists_view 12 2) (edges_by flips_stage.turns)
+
+-- The twists, beside the places of the edges of the middle layer.
+abbrev pub slice_coordinate : Coordinate
+slice_coordinate =
+    product (projection (twists_view 8 3) (corners_by slice_stage.turns))
+    (projection (place_set_view 12 4 middle_edges) (edges_by slice_stage.turns))
+
+-- The places of the first edges among the eight above and below, beside the indexes of the corners.
+abbrev pub outer_places : List ℕ
+outer_places = numbers_from 0 8
+
+abbrev pub tetrads_coordinate : Coordinate
+tetrads_coordinate =
+    product (projection (place_set_view 8 4 first_edges) (map (block_turn outer_places) (edges_by tetrads_stage.turns)))
+    (projection tetrads_view (corners_by tetrads_stage.turns))
+
+-- Numbered states as a coordinate: a turn leads from a state's number to that of the turned state, and the goal is the number of
+-- the solved one.
+abbrev pub numbered_coordinate : {S : Type 0} → Numbered S → ℕ → (S → ℕ → Option S) → S → Coordinate
+numbered_coordinate n turns after solved = record {
+  count = n.count;
+  turns = turns;
+  after = λ p t. option_map n.number_of (after (n.state_at p) t);
+  is_goal = λ p. p == n.number_of solved;
+}
+
+-- The cubes that half turns solve.
+abbrev pub halves_coordinate : Coordinate
+halves_coordinate = numbered_coordinate half_cubes 6 (after_of half_turns) solved_cube
+
+-- Its parts, over which the half turns go side by side: the corners, and each of the three blocks of edges.
+abbrev pub half_corners_coordinate : Coordinate
+half_corners_coordinate = projection half_corners_view (corners_by half_turns)
+
+abbrev pub half_block_coordinate : List ℕ → Coordinate
+half_block_coordinate block = projection (pieces_view 4) (map (block_turn block) (edges_by half_turns))
+
+-- ---- the tables
+
+abbrev pub flips_line : TableLine
+flips_line = record { name = Flips; coordinate = flips_coordinate; bound = flips_stage.bound }
+
+abbrev pub slice_line : TableLine
+slice_line = record { name = Slice; coordinate = slice_coordinate; bound = slice_stage.bound }
+
+abbrev pub tetrads_line : TableLine
+tetrads_line = record { name = Tetrads; coordinate = tetrads_coordinate; bound = tetrads_stage.bound }
+
+abbrev pub halves_line : TableLine
+halves_line = record { name = Halves; coordinate = halves_coordinate; bound = halves_stage.bound }
+
+-- in the order in which they are built
+abbrev pub stage_lines : List TableLine
+stage_lines = flips_line ∷ slice_line ∷ tetrads_line ∷ halves_line ∷ []

@@ -1,0 +1,59 @@
+//! Some of the turns of a puzzle, as what they do to the places of a block.
+ghost use Rattle.std.specs.Prelude.{◌≡◌, ◌<◌, ◌≤◌, All, map, length, slice_index_or};
+ghost use Rattle.scr_combinatorics.specs.Permutations.{IsPermutation};
+ghost use Rattle.scr_orbit.specs.PlaceTurns.{rearrangement_of};
+ghost use Rattle.scr_stages.specs.Tables.{block_turn, block_turns};
+
+use crate::places::pieces_in_block;
+use scr_orbit::{PlaceTurn, pick_into};
+
+/// What a turn does to the pieces at the places of a block.
+fn block_turn<const N: usize, const M: usize>(turn: &PlaceTurn<N>, block: &[u8; M]) -> PlaceTurn<M>
+    requires few { M ≤ 255 }
+    requires block { All (λ place. place < N) block.now }
+    ensures { rearrangement_of result ≡ block_turn block.now (rearrangement_of turn.now) }
+{
+    let mut places = [0; M];
+    let mut added = [0; M];
+    pieces_in_block(&turn.places[..], &block[..], &mut places[..]);
+    pick_into(&turn.added[..], &block[..], &mut added[..]);
+    PlaceTurn { places, added }
+}
+
+/// Fills `out` with what the turns with these numbers do to the pieces at the places of a block.
+fn fill_block_turns<const N: usize, const M: usize>(
+    turns: &[PlaceTurn<N>],
+    block: &[u8; M],
+    numbers: &[u8],
+    out: &mut [PlaceTurn<M>],
+)
+    requires same_length { length out.old ≡ length numbers.now }
+    requires few { M ≤ 255 }
+    requires block { All (λ place. place < N) block.now }
+    requires numbers { All (λ t. t < length turns.now) numbers.now }
+    ensures { map rearrangement_of out.new ≡ block_turns block.now (map rearrangement_of turns.now) numbers.now }
+{
+    for at in 0..out.len() {
+        out[at] = block_turn(&turns[usize::from(numbers[at])], block);
+    }
+}
+
+/// What the turns with these numbers do to the pieces at the places of a block.
+pub(crate) fn block_turns<const N: usize, const M: usize, const K: usize>(
+    turns: &[PlaceTurn<N>],
+    block: &[u8; M],
+    numbers: &[u8; K],
+) -> [PlaceTurn<M>; K]
+    requires few { M ≤ 255 }
+    requires block { All (λ place. place < N) block.now }
+    requires numbers { All (λ t. t < length turns.now) numbers.now }
+    ensures { map rearrangement_of result ≡ block_turns block.now (map rearrangement_of turns.now) numbers.now }
+{
+    let none = PlaceTurn {
+        places: [0; M],
+        added: [0; M],
+    };
+    let mut out = [none; K];
+    fill_block_turns(turns, block, &numbers[..], &mut out[..]);
+    out
+}

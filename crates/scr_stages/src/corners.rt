@@ -1,0 +1,141 @@
+//! The index of a list of corners: their relation, and the set of the places of the first tetrad.
+ghost use Rattle.std.specs.Prelude.{◌≡◌, ◌<◌, map};
+ghost use Rattle.scr_combinatorics.specs.Lists.{pick};
+ghost use Rattle.std.proofs.Props.{props};
+ghost use Rattle.scr_combinatorics.specs.Permutations.{IsPermutation};
+ghost use Rattle.scr_combinatorics.specs.PlaceSets.{IsPlaceSet};
+ghost use Rattle.scr_orbit.specs.PlaceTurns.{rearrangement_of};
+ghost use Rattle.scr_coord.specs.Coordinates.{StaysBelow};
+ghost use Rattle.scr_coord.specs.Projections.{AreTurns, projection};
+ghost use Rattle.scr_stages.specs.Tetrads.{axes_of, corner_index, other_places, corners_at, places_of_tetrad, tetrads_view};
+
+use crate::places::arrange;
+use crate::tetrads::{
+    FIRST_TETRAD, SECOND_TETRAD, axes_of, corners_related, joined, relation_number,
+};
+use scr_coord::{Coord, places_of};
+use scr_orbit::{PlaceTurn, pick_into};
+use scr_rank::Choose;
+
+/// Each corner at its place.
+const SOLVED: [u8; 8] = [0, 1, 2, 3, 4, 5, 6, 7];
+
+/// The index of a list of corners, below 420.
+pub(crate) fn corner_index(corners: &[u8; 8]) -> u32
+    requires { IsPermutation 8 corners.now }
+    ensures value { result ≡ corner_index corners.now }
+    ensures below { result < 420 }
+{
+    let first = places_of_tetrad(&FIRST_TETRAD, corners);
+    let second = places_of_tetrad(&SECOND_TETRAD, corners);
+    let relation = relation_number(&axes_at(corners, &first), &axes_at(corners, &second));
+    relation + 6 * Choose::<8, 4>::rank(&first) as u32
+}
+
+/// The places of a tetrad's corners, in increasing order.
+fn places_of_tetrad(tetrad: &[u8; 4], corners: &[u8; 8]) -> [u8; 4]
+    requires tetrad { IsPlaceSet 8 4 tetrad.now }
+    requires corners { IsPermutation 8 corners.now }
+    ensures places { result ≡ places_of_tetrad tetrad.now corners.now }
+    ensures valid { IsPlaceSet 8 4 result }
+{
+    let mut places = [0; 4];
+    places_of(&tetrad[..], &corners[..], &mut places[..]);
+    places
+}
+
+/// The axes of the corner at the first of four places and each of the others.
+fn axes_at(corners: &[u8; 8], places: &[u8; 4]) -> [u8; 3]
+    requires corners { IsPermutation 8 corners.now }
+    requires places { IsPlaceSet 8 4 places.now }
+    ensures { result ≡ axes_of (pick corners.now places.now) }
+{
+    let mut picked = [0; 4];
+    pick_into(&corners[..], &places[..], &mut picked[..]);
+    axes_of(&picked)
+}
+
+/// The eight places but for four of them, in increasing order.
+fn other_places(places: &[u8; 4]) -> [u8; 4]
+    requires { IsPlaceSet 8 4 places.now }
+    ensures { result ≡ other_places places.now }
+{
+    let mut others = [0; 4];
+    let mut found = 0;
+    for place in 0..8u8 {
+        if !places.contains(&place) {
+            others[found] = place;
+            found += 1;
+        }
+    }
+    others
+}
+
+/// The list of corners that is kept for an index, below 420.
+fn corners_at(index: u32) -> [u8; 8]
+    requires { index < 420 }
+    ensures list { result ≡ corners_at index }
+    ensures valid { IsPermutation 8 result }
+{
+    let places = Choose::<8, 4>::unrank(u128::from(index / 6));
+    let order = joined(&places, &other_places(&places));
+    let mut corners = [0; 8];
+    arrange(
+        &order[..],
+        &corners_related(index % 6)[..],
+        &mut corners[..],
+    );
+    corners
+}
+
+/// The lists of corners of a 3x3x3 by their index, as a coordinate. The goal is the list in order.
+#[derive(Drop)]
+pub(crate) struct TetradCorners<'a> {
+    turns: &'a [PlaceTurn<8>],
+    ghost valid: { AreTurns (λ turn. IsPermutation 8 turn.places) turns.now } by { Prim.hlevel props },
+    ghost stays: { StaysBelow (projection tetrads_view (map rearrangement_of turns.now)) } by { Prim.hlevel props },
+}
+
+impl<'a> TetradCorners<'a> {
+    /// The coordinate of 1 to 256 turns, each a permutation of the places.
+    pub fn new(turns: &'a [PlaceTurn<8>]) -> TetradCorners<'a>
+        requires { AreTurns (λ turn. IsPermutation 8 turn.places) turns.now }
+        ensures { result.turns.now ≡ turns.now }
+    {
+        TetradCorners { turns }
+    }
+}
+
+impl Coord for TetradCorners<'_> {
+    ghost use Rattle.std.specs.Prelude.{map};
+    ghost use Rattle.scr_orbit.specs.PlaceTurns.{rearrangement_of};
+    ghost use Rattle.scr_coord.specs.Projections.{projection};
+    ghost use Rattle.scr_stages.specs.Tetrads.{tetrads_view};
+
+    ghost coordinate = { λ t. projection tetrads_view (map rearrangement_of t.turns.now) };
+
+    fn count(&self) -> u32 {
+        420
+    }
+
+    fn turns(&self) -> u32 {
+        self.turns.len() as u32
+    }
+
+    fn after(&self, position: u32, turn: u32) -> Option<u32> {
+        let turn = &self.turns[turn as usize];
+        let mut corners = [0; 8];
+        pick_into(
+            &corners_at(position)[..],
+            &turn.places[..],
+            &mut corners[..],
+        );
+        Some(corner_index(&corners))
+    }
+
+    fn is_goal(&self, position: u32) -> bool {
+        position == corner_index(&SOLVED)
+    }
+
+    ghost law = { λ t. t.stays };
+}

@@ -1,0 +1,157 @@
+//! The half turns of the cubes that they solve, by parts.
+ghost use Rattle.std.specs.Prelude.{◌≡◌, ℕ, ◌<◌, All, IfOk, map, slice_index};
+ghost use Rattle.std.proofs.Props.{props};
+ghost use Rattle.scr_combinatorics.specs.Permutations.{IsPermutation, parity, permutation_at};
+ghost use Rattle.scr_coord.specs.Coordinates.{StaysBelow};
+ghost use Rattle.scr_coord.specs.Moves.{moves_coordinate};
+ghost use Rattle.scr_coord.specs.SearchSpaces.{ShowsSame};
+ghost use Rattle.scr_stages.specs.Stages.{half_turns, middle_edges};
+ghost use Rattle.scr_stages.specs.Numbers.{first_edges, second_edges, AreParts, half_cubes};
+ghost use Rattle.scr_stages.specs.Tables.{block_turn, edges_by, halves_coordinate, half_corners_coordinate, half_block_coordinate};
+ghost use Rattle.scr_stages.specs.Tetrads.{half_corners_at};
+
+use crate::half_corners::{HalfCorners, half_corners_at};
+use crate::stage_turns::{half_block_turns, half_corner_turns};
+use scr_coord::{Coord, Lists, MoveTable};
+use scr_rank::PermRank;
+use scr_rank::permutations::is_odd;
+use std::alloc::{AllocError, Global};
+
+/// The edges UR UL DR DL.
+pub(crate) const FIRST_EDGES: [u8; 4] = [0, 2, 4, 6];
+
+/// UF UB DF DB.
+pub(crate) const SECOND_EDGES: [u8; 4] = [1, 3, 5, 7];
+
+/// FR FL BL BR.
+pub(crate) const MIDDLE_EDGES: [u8; 4] = [8, 9, 10, 11];
+
+/// The moves of the corners, of each block of edges, and the parities of their lists, 1 where a list is odd. Together they
+/// are the coordinate of the cubes that half turns solve.
+#[derive(Drop)]
+pub(crate) struct HalfMoves {
+    corners: MoveTable,
+    first: MoveTable,
+    second: MoveTable,
+    middle: MoveTable,
+    odd_corners: [u8; 96],
+    odd: [u8; 24],
+    ghost shows_corners: { ShowsSame half_corners_coordinate (moves_coordinate corners) },
+    ghost shows_first: { ShowsSame (half_block_coordinate first_edges) (moves_coordinate first) },
+    ghost shows_second: { ShowsSame (half_block_coordinate second_edges) (moves_coordinate second) },
+    ghost shows_middle: { ShowsSame (half_block_coordinate middle_edges) (moves_coordinate middle) },
+    ghost corner_parities: { (q : ℕ) → q < 96 → slice_index odd_corners q ≡ parity (half_corners_at q) } by { Prim.hlevel props },
+    ghost parities: { (k : ℕ) → k < 24 → slice_index odd k ≡ parity (permutation_at 4 k) } by { Prim.hlevel props },
+    ghost stays: { StaysBelow halves_coordinate } by { Prim.hlevel props },
+}
+
+/// The moves of a block of edges, among whose places half turns carry its edges.
+fn block_moves(alloc: Global, block: &[u8; 4]) -> Result<MoveTable, AllocError>
+    requires places { All (λ place. place < 12) block.now }
+    requires kept { All (λ r. IsPermutation 4 r.places) (map (block_turn block.now) (edges_by half_turns)) }
+    ensures { IfOk result (λ table. ShowsSame (half_block_coordinate block.now) (moves_coordinate table)) }
+{
+    MoveTable::build(alloc, &Lists::<4>::new(&half_block_turns(block)[..]))
+}
+
+/// The parity of each list of four, by its number.
+fn parities() -> [u8; 24]
+    ensures { (k : ℕ) → k < 24 → slice_index result k ≡ parity (permutation_at 4 k) }
+{
+    let mut odd = [0; 24];
+    for number in 0..24 {
+        odd[number] = u8::from(is_odd(&PermRank::<4>::unrank(number as u128)[..]));
+    }
+    odd
+}
+
+/// The parity of each list of corners that half turns lead to, by its number.
+fn corner_parities() -> [u8; 96]
+    ensures { (q : ℕ) → q < 96 → slice_index result q ≡ parity (half_corners_at q) }
+{
+    let mut odd = [0; 96];
+    for number in 0..96 {
+        odd[number] = u8::from(is_odd(&half_corners_at(number as u32)[..]));
+    }
+    odd
+}
+
+/// The numbers of the parts of a cube: of its middle edges, second edges, first edges, and corners.
+#[derive(Clone, Copy)]
+struct HalfParts {
+    middle: u32,
+    second: u32,
+    first: u32,
+    corners: u32,
+}
+
+impl HalfMoves {
+    /// The moves. Only memory can be wanting.
+    pub fn build(alloc: Global) -> Result<HalfMoves, AllocError> {
+        Ok(HalfMoves {
+            corners: MoveTable::build(alloc, &HalfCorners::new(&half_corner_turns()[..]))?,
+            first: block_moves(alloc, &FIRST_EDGES)?,
+            second: block_moves(alloc, &SECOND_EDGES)?,
+            middle: block_moves(alloc, &MIDDLE_EDGES)?,
+            odd_corners: corner_parities(),
+            odd: parities(),
+        })
+    }
+
+    /// The parts of the cube with a number. Of two lists of middle edges with one half the cube has the one that makes edges
+    /// and corners both even or both odd.
+    #[inline]
+    fn parts(&self, position: u32) -> HalfParts
+        requires { position < 663552 }
+        ensures { AreParts (half_cubes.state_at position) result.middle result.second result.first result.corners }
+    {
+        let half = position % 12;
+        let rest = position / 12;
+        let second = rest % 24;
+        let rest = rest / 24;
+        let first = rest % 24;
+        let corners = rest / 24;
+        let odd = self.odd_corners[corners as usize]
+            + self.odd[first as usize]
+            + self.odd[second as usize]
+            + self.odd[2 * half as usize];
+        HalfParts {
+            middle: 2 * half + u32::from(odd % 2),
+            second,
+            first,
+            corners,
+        }
+    }
+}
+
+impl Coord for HalfMoves {
+    ghost use Rattle.scr_stages.specs.Tables.{halves_coordinate};
+
+    ghost coordinate = { λ _. halves_coordinate };
+
+    fn count(&self) -> u32 {
+        663_552
+    }
+
+    fn turns(&self) -> u32 {
+        6
+    }
+
+    // The parts don't depend on the turn, so that a loop over the turns of a position divides once.
+    #[inline]
+    fn after(&self, position: u32, turn: u32) -> Option<u32> {
+        let parts = self.parts(position);
+        let middle = self.middle.after(parts.middle, turn)?;
+        let second = self.second.after(parts.second, turn)?;
+        let first = self.first.after(parts.first, turn)?;
+        let corners = self.corners.after(parts.corners, turn)?;
+        Some(middle / 2 + 12 * (second + 24 * (first + 24 * corners)))
+    }
+
+    #[inline]
+    fn is_goal(&self, position: u32) -> bool {
+        position == 0
+    }
+
+    ghost law = { λ m. m.stays };
+}

@@ -1,0 +1,82 @@
+//! The solution of a cube by stages, and the scramble that it gives.
+ghost use Rattle.std.specs.Prelude.{◌≡◌, ◌+◌, ◌<◌, ◌≤◌, All, List, Some, ◌++◌, IsTrue, length};
+ghost use Rattle.scr_play.specs.Play.{play};
+ghost use Rattle.scr_notation.specs.declared.event.Event.TheVariants.{C333};
+ghost use Rattle.scr_notation.specs.declared.turn.Turn.{Turn as Letter};
+ghost use Rattle.scr_notation.specs.TurnNumbers.{face_turn_at};
+ghost use Rattle.scr_notation.specs.Turns.{permits};
+ghost use Rattle.scr_turning.specs.PowerPuzzles.{after_letter};
+ghost use Rattle.scr_cube.specs.Cube333.{IsCube, cube_powers, solved_cube};
+ghost use Rattle.scr_stages.specs.Stages.{after_of, letters_of, stages, IsSolution, IsStageScramble};
+
+use crate::stage_turns::{ALL_TURNS, HALF_TURNS, SLICE_TURNS, TETRADS_TURNS};
+use crate::tables::StageTables;
+use crate::words::{flips_word, halves_word, slice_word, tetrads_word};
+use scr_cube::{Cube, PowerTurned};
+use scr_notation::{Event, Scramble, Turn, inverse, tidy};
+
+/// The solution of a cube by the four stages, of at most 52 turns: the first word of each stage's turns to its goal, one
+/// after another.
+pub fn solve_stages(tables: &StageTables, cube: &Cube) -> Scramble
+    ensures event { result.event ≡ C333 }
+    ensures at_most { length result.turns ≤ 52 }
+    ensures solution { IsSolution stages cube.now result.turns }
+    ensures only { (turns : List Letter) → IsSolution stages cube.now turns → turns ≡ result.turns }
+    ensures played { play (after_letter cube_powers) cube.now result.turns ≡ Some solved_cube }
+    ensures valid { IsCube cube.now }
+{
+    let mut solution = Scramble::new(Event::C333);
+    let word = flips_word(tables, cube);
+    let unflipped = follow(cube, &ALL_TURNS[..], &word[..], &mut solution);
+    let word = slice_word(tables, &unflipped);
+    let domino = follow(&unflipped, &SLICE_TURNS[..], &word[..], &mut solution);
+    let word = tetrads_word(tables, &domino);
+    let half_turned = follow(&domino, &TETRADS_TURNS[..], &word[..], &mut solution);
+    let word = halves_word(tables, &half_turned);
+    follow(&half_turned, &HALF_TURNS[..], &word[..], &mut solution);
+    solution
+}
+
+/// The scramble of a cube by stages, of at most 52 turns: its solution, in which neighbouring turns of one face are merged,
+/// taken back.
+pub fn scramble_by_stages(tables: &StageTables, cube: &Cube) -> Scramble
+    ensures event { result.event ≡ C333 }
+    ensures at_most { length result.turns ≤ 52 }
+    ensures scramble { IsStageScramble cube.now result.turns }
+    ensures only { (turns : List Letter) → IsStageScramble cube.now turns → turns ≡ result.turns }
+    ensures played { play (after_letter cube_powers) solved_cube result.turns ≡ Some cube.now }
+{
+    inverse(&tidy(&solve_stages(tables, cube)))
+}
+
+/// Plays a word of places of a list of turns, and adds its letters to a solution, which has room for them.
+fn follow(cube: &Cube, turns: &[u8], word: &[u8], solution: &mut Scramble) -> Cube
+    requires turns { All (λ t. t < 18) turns.now }
+    requires word { All (λ place. place < length turns.now) word.now }
+    requires event { solution.old.event ≡ C333 }
+    requires room { length solution.old.turns + length word.now ≤ 160 }
+    ensures written { solution.new ≡ record { event = C333; turns = solution.old.turns ++ letters_of turns.now word.now } }
+    ensures played { play (after_of turns.now) cube.now word.now ≡ Some result }
+{
+    let mut state = *cube;
+    for at in 0..word.len() {
+        let number = turns[usize::from(word[at])];
+        state = state.turned(usize::from(number));
+        solution.push(letter(number));
+    }
+    state
+}
+
+/// The turn with a number, below 18.
+#[tactic(auto, unfolding(scr_notation::specs::TurnNumbers::face_turn_at))]
+fn letter(number: u8) -> Turn
+    requires { number < 18 }
+    ensures letter { result ≡ face_turn_at number }
+    ensures of_event { IsTrue (permits C333 result) }
+{
+    Turn::Face {
+        face: number / 3,
+        depth: 1,
+        amount: number % 3 + 1,
+    }
+}
