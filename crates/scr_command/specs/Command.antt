@@ -6,10 +6,10 @@ use Rattle.scr_words.specs.declared.seed.SeedFault.{SeedFault}
 use Rattle.scr_words.specs.Seed.{seed_of}
 use Rattle.scr_notation.specs.declared.event.Event.{Event}
 use Rattle.scr_text.specs.Numbers.{number_between}
-use Rattle.scr_list.specs.Events.{built_event_of}
+use Rattle.scr_list.specs.Events.{event_named}
 use Rattle.scr_command.specs.declared.options.Options.{Options}
 use Rattle.scr_command.specs.declared.command.Command.{Command}
-use Rattle.scr_command.specs.declared.command.Command.TheVariants.{One, Sheet, Tables}
+use Rattle.scr_command.specs.declared.command.Command.TheVariants.{One, Sheet, Tables, Load}
 use Rattle.scr_command.specs.declared.command.UsageFault.{UsageFault}
 use Rattle.scr_command.specs.declared.command.UsageFault.TheVariants.{No444, NoSeed, Grammar}
 use Rattle.scr_command.specs.OptionWords.{SplitOptions, options_of}
@@ -18,7 +18,7 @@ use Rattle.scr_command.specs.OptionWords.{SplitOptions, options_of}
 
 -- those of a sheet whose words say nothing of them
 abbrev pub usual_options : Options
-usual_options = record { workers = 1; tries = 0; attempts = 1000 }
+usual_options = record { workers = 1; tries = 2000; attempts = 1000 }
 
 -- an option's number in a range, or the usual one where the option isn't there
 abbrev pub setting : ℕ → ℕ → ℕ → Option (List ℕ) → Option ℕ
@@ -36,7 +36,7 @@ settings_of (Some workers) (Some tries) None = None
 -- the numbers of options as they were split
 abbrev pub settings_in : SplitOptions → Option Options
 settings_in split = settings_of (setting 1 64 usual_options.workers split.workers)
-    (setting 0 0 usual_options.tries split.tries) (setting 1 1000000 usual_options.attempts split.attempts)
+    (setting 0 100000 usual_options.tries split.tries) (setting 1 1000000 usual_options.attempts split.attempts)
 
 -- ---- a seed
 
@@ -47,9 +47,9 @@ seeded command (Err fault) = Err (NoSeed fault)
 
 -- ---- `one EVENT SEED`
 
--- the event of those that lists take which a word names
+-- the event that a word names
 abbrev pub event_for : List ℕ → Result Event UsageFault
-event_for word = if bytes_eq word (codes "444") then Err No444 else ok_or (built_event_of word) Grammar
+event_for word = if bytes_eq word (codes "444") then Err No444 else ok_or (event_named word) Grammar
 
 -- the command, with its event and what was read where its seed stands
 abbrev pub one_for : Result Event UsageFault → List ℕ → Result Command UsageFault
@@ -88,6 +88,19 @@ tables_of [] = Err Grammar
 tables_of (event ∷ []) = tables_for (event_for event)
 tables_of (event ∷ more ∷ others) = Err Grammar
 
+-- ---- `load NUMBER`
+
+-- the command, with its number from 0 to 9,999
+abbrev pub load_for : Option ℕ → Result Command UsageFault
+load_for None = Err Grammar
+load_for (Some number) = Ok (Load number)
+
+-- the words after `load`
+abbrev pub load_of : List (List ℕ) → Result Command UsageFault
+load_of [] = Err Grammar
+load_of (number ∷ []) = load_for (number_between 0 9999 number)
+load_of (number ∷ more ∷ others) = Err Grammar
+
 -- ---- all commands
 
 -- The command that the words are, or why they are none. Words that are a command but for the seed
@@ -98,9 +111,10 @@ command_of (command ∷ words) =
     if bytes_eq command (codes "sheet") then sheet_of (options_of words)
     else if bytes_eq command (codes "one") then one_of words
     else if bytes_eq command (codes "tables") then tables_of words
+    else if bytes_eq command (codes "load") then load_of words
     else Err Grammar
 
--- the words begin with `sheet`: only for these does a run take memory
+-- the words begin with `sheet`: only these does a run split into options, for which it takes memory
 abbrev pub AsksForSheet : List (List ℕ) → Type 0
 AsksForSheet [] = ⊥
 AsksForSheet (command ∷ words) = bytes_eq command (codes "sheet") ≡ true

@@ -1,27 +1,27 @@
 -- What reading the words of the command line finds: a command that words can ask for, or why there is none.
-use Rattle.std.specs.Prelude.{◌≡◌, ◌≤◌, IsTrue, List, ℕ, Err}
-use Rattle.scr_list.specs.Events.{rules_of}
+use Rattle.std.specs.Prelude.{◌≡◌, ◌≤◌, List, ℕ, Err}
 use Rattle.scr_command.specs.declared.options.Options.{Options}
 use Rattle.scr_command.specs.declared.command.Command.{Command}
-use Rattle.scr_command.specs.declared.command.Command.TheVariants.{One, Sheet, Tables}
+use Rattle.scr_command.specs.declared.command.Command.TheVariants.{One, Sheet, Tables, Load}
 use Rattle.scr_command.specs.declared.command.CommandFault.{CommandFault}
 use Rattle.scr_command.specs.declared.command.CommandFault.TheVariants as refusal
 use Rattle.scr_command.specs.OptionWords.{options_of}
 use Rattle.scr_command.specs.Command.{command_of, sheet_of, AsksForSheet}
 
--- numbers that words can set: 1 to 64 workers, no tries yet, 1 to 1,000,000 attempts
+-- numbers that words can set: 1 to 64 workers, up to 100,000 tries, 1 to 1,000,000 attempts
 pub record AreOptions (options : Options) : Type 0 where
   pub some_workers : 1 ≤ options.workers
   pub few_workers : options.workers ≤ 64
-  pub no_tries : options.tries ≡ 0
+  pub few_tries : options.tries ≤ 100000
   pub some_attempts : 1 ≤ options.attempts
   pub few_attempts : options.attempts ≤ 1000000
 
--- a command that words can ask for: its event is one that lists take, and its numbers are in their ranges
+-- a command that words can ask for: its numbers are in their ranges
 abbrev pub IsCommand : Command → Type 0
-IsCommand (One event seed) = IsTrue (rules_of event).built
+IsCommand (One event seed) = Unit {0}
 IsCommand (Sheet seed options) = AreOptions options
-IsCommand (Tables event) = IsTrue (rules_of event).built
+IsCommand (Tables event) = Unit {0}
+IsCommand (Load number) = number ≤ 9999
 
 -- why no command was read: the words are none, or memory was wanting
 abbrev pub IsRefusal : List (List ℕ) → CommandFault → Type 0

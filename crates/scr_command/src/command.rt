@@ -1,18 +1,17 @@
 //! The words of the command line.
 
 ghost use Rattle.std.specs.Prelude.{◌≡◌, ◌≤◌, [], ◌∷◌, IsTrue, Option, Some, MatchResult, option_map, Ok, IfOk, IfSome};
-ghost use Rattle.scr_list.specs.Events.{rules_of};
 ghost use Rattle.scr_command.specs.declared.command.UsageFault.TheVariants.{Grammar, NoSeed};
 ghost use Rattle.scr_command.specs.declared.command.CommandFault.TheVariants.{Usage, NoMemory};
 ghost use Rattle.scr_command.specs.OptionWords.{options_of};
 ghost use Rattle.scr_command.specs.Words.{texts};
 ghost use Rattle.scr_command.specs.Split.{options_in_words};
-ghost use Rattle.scr_command.specs.Command.{command_of, sheet_of, one_of, tables_of, event_for, setting, settings_in};
+ghost use Rattle.scr_command.specs.Command.{command_of, sheet_of, one_of, tables_of, load_of, event_for, setting, settings_in};
 ghost use Rattle.scr_command.specs.Reading.{IsRefusal, IsSheetRefusal, IsCommand, AreOptions};
 
 use crate::options::Options;
 use crate::splitting::{OptionsFault, SheetWords, split_options};
-use scr_list::built_event;
+use scr_list::event_named;
 use scr_notation::Event;
 use scr_text::number_within;
 use scr_words::{Seed, SeedFault, read_seed};
@@ -27,6 +26,8 @@ pub enum Command {
     Sheet(Seed, Options),
     /// How many positions the tables of an event have at each distance.
     Tables(Event),
+    /// What a sheet amounts to whose list follows from this number, from 0 to 9,999.
+    Load(u32),
 }
 
 /// Why the words ask for nothing.
@@ -77,6 +78,7 @@ pub fn read_command(alloc: Global, words: &[&str]) -> Result<Command, CommandFau
         [command, words @ ..] if *command == "sheet" => read_sheet(alloc, words),
         [command, words @ ..] if *command == "one" => Ok(read_one(words)?),
         [command, words @ ..] if *command == "tables" => Ok(read_tables(words)?),
+        [command, words @ ..] if *command == "load" => Ok(read_load(words)?),
         [..] => Err(CommandFault::Usage(UsageFault::Grammar)),
     }
 }
@@ -112,15 +114,34 @@ fn read_tables(words: &[&str]) -> Result<Command, UsageFault>
     }
 }
 
-/// Reads the word of an event that lists take.
+/// Reads the words after `load`.
+fn read_load(words: &[&str]) -> Result<Command, UsageFault>
+    ensures answer { result ≡ load_of (texts words.now) }
+    ensures command { IfOk result IsCommand }
+{
+    match words {
+        [number] => read_load_number(number),
+        _ => Err(UsageFault::Grammar),
+    }
+}
+
+/// Reads the number of `load`.
+fn read_load_number(number: &str) -> Result<Command, UsageFault>
+    ensures answer { result ≡ load_of (number.now ∷ []) }
+    ensures command { IfOk result IsCommand }
+{
+    let number = number_within(number.as_bytes(), 0, 9999).ok_or(UsageFault::Grammar)?;
+    Ok(Command::Load(number))
+}
+
+/// Reads the word of an event.
 fn read_event(event: &str) -> Result<Event, UsageFault>
     ensures answer { result ≡ event_for event.now }
-    ensures built { IfOk result (λ e. IsTrue (rules_of e).built) }
 {
     if event == "444" {
         return Err(UsageFault::No444);
     }
-    built_event(event.as_bytes()).ok_or(UsageFault::Grammar)
+    event_named(event.as_bytes()).ok_or(UsageFault::Grammar)
 }
 
 /// Reads the words after `sheet`.
@@ -153,7 +174,7 @@ fn read_numbers(split: &SheetWords<'_>) -> Option<Options>
 {
     let usual = Options::default();
     let workers = read_setting(split.workers, 1, 64, usual.workers)?;
-    let tries = read_setting(split.tries, 0, 0, usual.tries)?;
+    let tries = read_setting(split.tries, 0, 100_000, usual.tries)?;
     let attempts = read_setting(split.attempts, 1, 1_000_000, usual.attempts)?;
     Some(Options {
         workers,

@@ -1,12 +1,11 @@
 //! The numbers that a run is made with.
 
-/// How a sheet is made. The numbers never change a state that is drawn, but for the attempts, which
-/// may end a draw.
+/// How a sheet is made. The numbers never change a state that is drawn, but for the attempts, which may end a draw.
 #[derive(Clone, Copy, Debug, PartialEq, Eq)]
 pub struct Options {
     /// How many workers draw, from 1 to 64. They change nothing of what is written.
     pub workers: u32,
-    /// How many first parts a solver tries. No event has any to try yet, so 0.
+    /// How many first parts the solver of a 3x3x3 tries, up to 100,000.
     pub tries: u32,
     /// How many attempts the draw of a slot has, from 1 to 1,000,000.
     pub attempts: u32,
@@ -18,11 +17,11 @@ impl Default for Options {
 
     ghost is_default = { λ options. options ≡ usual_options };
 
-    /// One worker, no tries, 1,000 attempts.
+    /// One worker, 2,000 tries, 1,000 attempts.
     fn default() -> Options {
         Options {
             workers: 1,
-            tries: 0,
+            tries: 2000,
             attempts: 1000,
         }
     }

@@ -74,19 +74,22 @@ fn commands_read(rt: HostRuntime) {
         &["tables", "222"],
         Ok(Command::Tables(Event::C222)),
     );
+    for (number, word) in [(0, "0"), (15, "15"), (9999, "9999")] {
+        reads(&rt, alloc, &["load", word], Ok(Command::Load(number)));
+    }
     reads(
         &rt,
         alloc,
         &["sheet", "--seed", ZEROS],
         sheet(Options {
             workers: 1,
-            tries: 0,
+            tries: 2000,
             attempts: 1000,
         }),
     );
     let most = Options {
         workers: 64,
-        tries: 0,
+        tries: 100_000,
         attempts: 1_000_000,
     };
     let words = [
@@ -96,7 +99,7 @@ fn commands_read(rt: HostRuntime) {
         "--attempts",
         "1000000",
         "--tries",
-        "0",
+        "100000",
         "--seed",
         ZEROS,
     ];
@@ -112,7 +115,6 @@ fn commands_refused(rt: HostRuntime) {
         (["one", "444", ZEROS], UsageFault::No444),
         (["one", "444", "x"], UsageFault::No444),
         (["one", "444bf", ZEROS], UsageFault::Grammar),
-        (["one", "sq1", ZEROS], UsageFault::Grammar),
         (["one", "clock", "-x"], length(2)),
         (["one", "clock", ""], length(0)),
         (["one", "clock", BAD_DIGIT], digit),
@@ -126,6 +128,7 @@ fn commands_refused(rt: HostRuntime) {
         (["sheet", "--seed", "--"], UsageFault::Grammar),
         (["sheet", "--workers", "2"], UsageFault::Grammar),
         (["tables", "222", ZEROS], UsageFault::Grammar),
+        (["load", "15", "15"], UsageFault::Grammar),
         (["Sheet", "--seed", ZEROS], UsageFault::Grammar),
     ] {
         let [command, second, third] = words;
@@ -139,7 +142,7 @@ fn commands_refused(rt: HostRuntime) {
         "--workers=01",
         "--workers=+1",
         "--workers",
-        "--tries=1",
+        "--tries=100001",
         "--attempts=0",
         "--attempts=1000001",
         "--attempts=",
@@ -164,9 +167,13 @@ fn commands_refused(rt: HostRuntime) {
     reads(&rt, alloc, &[], usage);
     reads(&rt, alloc, &["one", "444"], usage);
     reads(&rt, alloc, &["tables"], usage);
-    reads(&rt, alloc, &["tables", "sq1"], usage);
+    reads(&rt, alloc, &["tables", "magic"], usage);
     let no_444 = Err(CommandFault::Usage(UsageFault::No444));
     reads(&rt, alloc, &["tables", "444"], no_444);
     reads(&rt, alloc, &["one", "clock", ZEROS, ZEROS], usage);
     reads(&rt, alloc, &["sheet"], usage);
+    reads(&rt, alloc, &["load"], usage);
+    for number in ["10000", "015", "+15", "-1", "", "x"] {
+        reads(&rt, alloc, &["load", number], usage);
+    }
 }

@@ -1,7 +1,6 @@
 -- What the ids of the events are.
 use Rattle.std.proofs.Common.{◌≡◌, ℕ, ◌<◌, ◌≤◌, Bool, true, false, cond, List, [], ◌∷◌, length, Option, Some, None, refl, ap, ◌∙◌, subst, get_or}
 use Rattle.std.specs.Prelude.{◌&&◌, nat_lt, nat_le, codes, All}
-use Rattle.std.specs.Bool.{then_some}
 use Rattle.std.specs.List.{find, list_all}
 use Rattle.std.specs.Str.{IsUtf8, bytes_eq}
 use Rattle.std.proofs.lemmas.Str.{IsUtf8-from_ascii}
@@ -13,7 +12,7 @@ use Rattle.scr_notation.specs.declared.event.Event.{Event}
 use Rattle.scr_notation.specs.declared.event.Event.TheVariants.{C222, C333, Oh333, C555, C666, C777, Clock, Minx, Pyram, Skewb, Sq1}
 use Rattle.scr_notation.specs.Event.{id_of, events, event_of}
 use Rattle.scr_text.specs.Lines.{has_bytes}
-use Rattle.scr_list.specs.Events.{rules_of, greatest_of, usual_of, if_built, built_event_of}
+use Rattle.scr_list.specs.Events.{rules_of, greatest_of, usual_of, event_named}
 
 -- what an event's id is, and its minima
 pub record IsId (e : Event) : Type 0 where
@@ -88,28 +87,16 @@ no_event-at id no_text (Some e) is =
     let same = (bytes_eq-Decides (id_of e) id).0 (find-passes (λ x. bytes_eq (id_of x) id) events e is) in
     absurd (no_text (subst IsUtf8 same (IsUtf8-from_ascii (id_of e) (IsAscii-from_all (id_of e) (id-IsId e).ascii))))
 
-pub built_event_of-no_text : (id : List ℕ) → ¬ (IsUtf8 id) → built_event_of id ≡ None
-unfolding built_event_of
-built_event_of-no_text id no_text = rw (no_event-at id no_text (event_of id) refl) refl
+pub event_named-no_text : (word : List ℕ) → ¬ (IsUtf8 word) → event_named word ≡ None
+unfolding event_named
+event_named-no_text word no_text = no_event-at word no_text (event_of word) refl
 
--- an event that lists take is built, and is found by its id
-pub built_event_of-is_built : (id : List ℕ) (e : Event) → built_event_of id ≡ Some e → (rules_of e).built ≡ true
-unfolding built_event_of
-built_event_of-is_built id e is = at (event_of id) is
-  where
-    kept : (b : Bool) (x : Event) → (rules_of x).built ≡ b → then_some b x ≡ Some e → (rules_of e).built ≡ true
-    kept true x here found = let same : x ≡ e = cc in subst (λ y. (rules_of y).built ≡ true) same here
-    kept false x here found = cc
+-- an event is found by its id
+pub event_named-id : (e : Event) → event_named (id_of e) ≡ Some e
+unfolding event_named
+event_named-id e = (id-IsId e).finds
 
-    at : (o : Option Event) → if_built o ≡ Some e → (rules_of e).built ≡ true
-    at None found = cc
-    at (Some x) found = kept (rules_of x).built x refl found
-
-pub built_event_of-id : (e : Event) → (rules_of e).built ≡ true → built_event_of (id_of e) ≡ Some e
-unfolding built_event_of
-built_event_of-id e built = rw ((id-IsId e).finds, built) refl
-
--- an event's id, read as text
-pub built_event_of-text : (id text : List ℕ) (found : Option Event) → text ≡ id → found ≡ event_of text → if_built found ≡ built_event_of id
-unfolding built_event_of
-built_event_of-text id text found same is = ap if_built is ∙ ap (λ t. if_built (event_of t)) same
+-- a word, read as text
+pub event_named-text : (word text : List ℕ) (found : Option Event) → text ≡ word → found ≡ event_of text → found ≡ event_named word
+unfolding event_named
+event_named-text word text found same is = is ∙ ap event_of same

@@ -19,7 +19,7 @@ use Rattle.scr_list.specs.Events.{rules_of, greatest_of, usual_of}
 use Rattle.scr_list.specs.Rounds.{IsRound, least_of, set_least, named_round, some_round, round_of_words, rounds_of}
 use Rattle.scr_list.specs.RoundLists.{IsRounds}
 use Rattle.scr_list.specs.Printed.{least_words, round_words, round_line, text_of_rounds}
-use Rattle.scr_list.proofs.EventLemmas.{id-IsId, built_event_of-id}
+use Rattle.scr_list.proofs.EventLemmas.{id-IsId, event_named-id}
 use Rattle.scr_list.proofs.RoundLemmas.{read_on, read_on-none, read_on-round, read_on-end, rounds_of-start}
 
 -- a number's text is read as that number
@@ -69,7 +69,7 @@ named-round before round least low it set =
     let fits : nat_lt before 64 ≡ true = lt-ltb before 64 low in
     rw (
       (id-IsId round.event).not_444,
-      built_event_of-id round.event it.event,
+      event_named-id round.event,
       number_between-decimal 1 26 round.groups (omega arith) it.some_groups few,
       set,
       fits,

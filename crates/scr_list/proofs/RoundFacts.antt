@@ -10,10 +10,10 @@ use Rattle.scr_list.specs.declared.event.Minima.{Minima}
 use Rattle.scr_list.specs.declared.round.Round.{Round}
 use Rattle.scr_list.specs.declared.fault.ListCause.{ListCause}
 use Rattle.scr_list.specs.declared.fault.ListFault.{ListFault}
-use Rattle.scr_list.specs.Events.{rules_of, greatest_of, usual_of, built_event_of}
+use Rattle.scr_list.specs.Events.{rules_of, greatest_of, usual_of, event_named}
 use Rattle.scr_list.specs.Rounds.{IsRound, least_of, or_cause, named_round, some_round, round_of_words, then_rounds, rounds_of_lines, rounds_of}
 use Rattle.scr_list.specs.RoundLists.{IsRounds}
-use Rattle.scr_list.proofs.EventLemmas.{built_event_of-is_built, id-IsId}
+use Rattle.scr_list.proofs.EventLemmas.{id-IsId}
 
 -- a number between two others
 number_between-range : (least greatest : ℕ) (text : List ℕ) (n : ℕ) → number_between least greatest text ≡ Some n →
@@ -62,7 +62,7 @@ pub record IsPlaced (before : ℕ) (round : Round) : Type 0 where
 named-is : (before : ℕ) (event groups : List ℕ) (least : Option (List ℕ)) (round : Round) →
     named_round before event groups least ≡ Ok round → IsPlaced before round
 named-is before event groups least round found =
-    let known = or_cause-part _ (built_event_of event) _ round (not_fault (bytes_eq event (codes "444")) _ _ round found).1 in
+    let known = or_cause-part _ (event_named event) _ round (not_fault (bytes_eq event (codes "444")) _ _ round found).1 in
     let grouped = or_cause-part _ (number_between 1 26 groups) _ round known.2 in
     let set = or_cause-part _ (least_of (rules_of known.0).minima least) _ round grouped.2 in
     let placed = not_past (nat_lt before 64) _ _ round set.2 in
@@ -71,7 +71,6 @@ named-is before event groups least round found =
     subst P placed.1 (record {
       few = ltb-true before 64 placed.0;
       is_round = record {
-        event = built_event_of-is_built event known.0 known.1;
         some_groups = range.0;
         few_groups = range.1;
         least = least_of-le (rules_of known.0).minima least set.0 (id-IsId known.0).usual set.1;

@@ -1,5 +1,5 @@
 -- The round list: what rounds a competition's list names, as a function of its bytes. The grammar is our own choice.
-use Rattle.std.specs.Prelude.{ℕ, ◌+◌, ◌≤◌, if◌then◌else◌, nat_lt, Option, Some, None, List, [], ◌∷◌, Result, Ok, Err, IsTrue, codes, length}
+use Rattle.std.specs.Prelude.{ℕ, ◌+◌, ◌≤◌, if◌then◌else◌, nat_lt, Option, Some, None, List, [], ◌∷◌, Result, Ok, Err, codes, length}
 use Rattle.std.specs.Str.{bytes_eq}
 use Rattle.scr_text.specs.Lines.{lines_of, line_words}
 use Rattle.scr_text.specs.Numbers.{number_between}
@@ -9,7 +9,7 @@ use Rattle.scr_list.specs.declared.fault.ListCause.{ListCause}
 use Rattle.scr_list.specs.declared.fault.ListFault.{ListFault}
 use Rattle.scr_list.specs.declared.fault.ListFault.TheVariants.{TooLong, Line}
 use Rattle.scr_list.specs.declared.fault.ListCause.TheVariants as cause
-use Rattle.scr_list.specs.Events.{rules_of, greatest_of, usual_of, built_event_of}
+use Rattle.scr_list.specs.Events.{rules_of, greatest_of, usual_of, event_named}
 
 -- the most bytes of a list
 abbrev pub most_bytes : ℕ
@@ -21,7 +21,6 @@ most_rounds = 64
 
 -- a round that a list can name
 pub record IsRound (round : Round) : Type 0 where
-  pub event : IsTrue (rules_of round.event).built
   pub some_groups : 1 ≤ round.groups
   pub few_groups : round.groups ≤ 26
   pub least : round.least ≤ greatest_of (rules_of round.event).minima
@@ -52,7 +51,7 @@ placed_round before round = if nat_lt before most_rounds then Ok round else Err 
 abbrev pub named_round : ℕ → List ℕ → List ℕ → Option (List ℕ) → Result Round ListCause
 named_round before event groups least =
     if bytes_eq event (codes "444") then Err cause.No444
-    else or_cause cause.Event (built_event_of event) (λ e.
+    else or_cause cause.Event (event_named event) (λ e.
     or_cause cause.Groups (number_between 1 26 groups) (λ g.
     or_cause cause.Minimum (least_of (rules_of e).minima least) (λ m.
     placed_round before (record { event = e; groups = g; least = m }))))

@@ -15,7 +15,7 @@ mod round;
 #[cfg(test)]
 mod tests;
 
-pub use event::{EventRules, Minima, built, built_event, event_rules};
+pub use event::{EventRules, Minima, event_named, event_rules};
 pub use fault::{ListCause, ListFault};
 pub use read::read_rounds;
 pub use round::{Round, parse_rounds};

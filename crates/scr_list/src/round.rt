@@ -8,7 +8,7 @@ ghost use Rattle.scr_list.specs.Rounds.{rounds_of, round_of_words, named_round, 
 ghost use Rattle.scr_list.specs.RoundLists.{IsRounds};
 ghost use Rattle.scr_list.specs.Reading.{listed};
 
-use crate::event::{Minima, built_event, event_rules};
+use crate::event::{Minima, event_named, event_rules};
 use crate::fault::{ListCause, ListFault};
 use arrayvec::ArrayVec;
 use scr_notation::Event;
@@ -95,7 +95,7 @@ fn named(
     if event == b"444".as_slice() {
         return Err(ListCause::No444);
     }
-    let event = built_event(event).ok_or(ListCause::Event)?;
+    let event = event_named(event).ok_or(ListCause::Event)?;
     let groups = group_count(groups).ok_or(ListCause::Groups)?;
     let least = minimum(event_rules(event).minima, least).ok_or(ListCause::Minimum)?;
     placed(

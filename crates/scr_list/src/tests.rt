@@ -86,7 +86,7 @@ fn lists_are_refused(rt: HostRuntime) -> Result<(), Fail> {
         ("333", 1, ListCause::Words),
         ("clock 1 2 3", 1, ListCause::Words),
         ("444bf 1", 1, ListCause::Event),
-        ("sq1 1", 1, ListCause::Event),
+        ("magic 1", 1, ListCause::Event),
         ("\u{fe} 1", 1, ListCause::Event),
         ("\nclock 27", 2, ListCause::Groups),
         ("clock 0", 1, ListCause::Groups),
@@ -144,30 +144,23 @@ fn long_lists(rt: HostRuntime) -> Result<(), Fail> {
 
 #[test]
 fn the_table_of_events(rt: HostRuntime) {
-    for (event, id, name, built, per_group, minima) in [
-        (Event::C222, "222", "2x2x2 Cube", true, 5, Some((4, 11))),
-        (Event::C333, "333", "3x3x3 Cube", true, 5, Some((0, 0))),
-        (
-            Event::Oh333,
-            "333oh",
-            "3x3x3 One-Handed",
-            true,
-            5,
-            Some((0, 0)),
-        ),
-        (Event::C555, "555", "5x5x5 Cube", true, 5, None),
-        (Event::C666, "666", "6x6x6 Cube", true, 3, None),
-        (Event::C777, "777", "7x7x7 Cube", true, 3, None),
-        (Event::Clock, "clock", "Clock", true, 5, Some((2, 3))),
-        (Event::Minx, "minx", "Megaminx", true, 5, None),
-        (Event::Pyram, "pyram", "Pyraminx", true, 5, Some((6, 15))),
-        (Event::Skewb, "skewb", "Skewb", true, 5, Some((7, 11))),
-        (Event::Sq1, "sq1", "Square-1", false, 5, Some((2, 4))),
+    for (event, id, name, per_group, minima) in [
+        (Event::C222, "222", "2x2x2 Cube", 5, Some((4, 11))),
+        (Event::C333, "333", "3x3x3 Cube", 5, Some((2, 5))),
+        (Event::Oh333, "333oh", "3x3x3 One-Handed", 5, Some((2, 5))),
+        (Event::C555, "555", "5x5x5 Cube", 5, None),
+        (Event::C666, "666", "6x6x6 Cube", 3, None),
+        (Event::C777, "777", "7x7x7 Cube", 3, None),
+        (Event::Clock, "clock", "Clock", 5, Some((2, 3))),
+        (Event::Minx, "minx", "Megaminx", 5, None),
+        (Event::Pyram, "pyram", "Pyraminx", 5, Some((6, 15))),
+        (Event::Skewb, "skewb", "Skewb", 5, Some((7, 11))),
+        (Event::Sq1, "sq1", "Square-1", 5, Some((2, 4))),
     ] {
         let rules = event_rules(event);
         assert_eq!(rt; Event::from_id(id), Some(event));
         assert_eq!(rt; (event.id(), event.name()), (id, name));
-        assert_eq!(rt; (rules.built, rules.per_group), (built, per_group));
+        assert_eq!(rt; rules.per_group, per_group);
         assert_eq!(rt;
             rules.minima.map(|minima| (minima.usual, minima.greatest)),
             minima

@@ -1,3 +1,4 @@
 pub mod PartLaws
-pub mod CommandLaws
+pub mod LoadRounds
 pub mod RunLaws
+pub mod SizeLaws

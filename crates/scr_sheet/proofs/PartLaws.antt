@@ -18,7 +18,7 @@ use Rattle.scr_round.specs.Round.{round_text}
 use Rattle.scr_round.specs.Made.{Made, turns_of_each}
 use Rattle.scr_sheet.specs.Making.{IsRoundMade}
 use Rattle.scr_sheet.specs.Sheet.{IsLimit, Part, round_part, round_parts, one_part, AreScrambles, IsPartText, IsText}
-use Rattle.scr_sheet.specs.Outcome.{IsLed, IsDone, IsStopped, EndsParts}
+use Rattle.scr_sheet.specs.Outcome.{IsUnwritten, IsLed, IsDone, IsStopped, IsCutShort, EndsParts}
 
 -- ---- scrambles and texts
 
@@ -203,9 +203,9 @@ IsPartText-line turns slot is = record {
 }
 
 -- a part that stands alone has a slot without a scramble
-pub IsStopped-first : {settings : Settings} {part : Part} {words : ℕ} {held : Option (List ℕ)} {faults : ℕ} (k j : ℕ)
-    → IsLimit settings part j words → IsStopped settings k (part ∷ []) (from_to held faults held faults) (k + 1) (j + 1) words
-IsStopped-first {part = part} k j limit = record {
+pub IsStopped-first : {settings : Settings} {part : Part} {words : ℕ} {out : Change} (k j : ℕ)
+    → IsLimit settings part j words → IsUnwritten out → IsStopped settings k (part ∷ []) out (k + 1) (j + 1) words
+IsStopped-first {part = part} k j limit unwritten = record {
   led = [];
   failing = part;
   rest = [];
@@ -215,5 +215,15 @@ IsStopped-first {part = part} k j limit = record {
   j = j;
   numbered_slot = refl;
   limit = limit;
-  gained = Gains-nothing;
+  gained = unwritten;
+}
+
+-- a part that stands alone is not made for want of memory
+pub IsCutShort-first : {settings : Settings} {part : Part} {out : Change} → IsUnwritten out → IsCutShort settings (part ∷ []) out
+IsCutShort-first {part = part} unwritten = record {
+  led = [];
+  rest = part ∷ [];
+  text = [];
+  before = record { are = refl; has = refl };
+  gained = unwritten;
 }

@@ -9,9 +9,8 @@ use Rattle.scr_list.specs.declared.fault.ListFault.{ListFault}
 use Rattle.scr_list.specs.declared.fault.ListFault.TheVariants as list
 use Rattle.scr_list.specs.Reading.{ReadsList, ReadsNoList}
 use Rattle.scr_command.specs.declared.command.Command.{Command}
-use Rattle.scr_command.specs.declared.command.Command.TheVariants.{One, Sheet, Tables}
+use Rattle.scr_command.specs.declared.command.Command.TheVariants.{One, Sheet, Tables, Load}
 use Rattle.scr_command.specs.Command.{command_of}
-use Rattle.scr_sheet.proofs.CommandLaws.{one-built}
 use Rattle.scr_command.specs.declared.command.UsageFault.{UsageFault}
 use Rattle.scr_sheet.specs.declared.status.Status.{Status}
 use Rattle.scr_outside.specs.Change.{Change}
@@ -31,7 +30,9 @@ use Rattle.scr_sheet.specs.declared.status.Status.TheVariants as status
 use Rattle.scr_sheet.specs.Sheet.{Part, round_part, round_parts, one_part, AreScrambles, IsPartText, IsText, IsFirstWithout}
 use Rattle.scr_table.specs.declared.fault.BuildFault.{BuildFault}
 use Rattle.scr_table.specs.declared.fault.BuildFault.TheVariants as build
-use Rattle.scr_sheet.specs.Outcome.{EndsParts, EndsMaking, EndsCommand, Ends, LacksTables, fault_of_build, status_of}
+use Rattle.scr_sheet.specs.Load.{load_rounds}
+use Rattle.scr_sheet.proofs.LoadRounds.{load_rounds-IsRounds}
+use Rattle.scr_sheet.specs.Outcome.{EndsParts, EndsMaking, EndsCommand, EndsTelling, Ends, LacksTables, gaining, fault_of_build, status_of}
 use Rattle.scr_sheet.specs.Task.{IsTask, IsUnhindered, LacksScramble, EndsWith}
 
 -- the events of a list's parts are those of its rounds
@@ -74,16 +75,14 @@ IsText-one_text settings (part ∷ parts) text other decided first second =
     let rest = IsText-one_text settings parts first.1 second.1 (All-tail IsDecided part parts decided) first.3 second.3 in
     first.4 ∙ ap (λ t. t ++ first.1) here ∙ ap (λ t. second.0 ++ t) rest ∙ sym second.4
 
--- each event that lists take has decided slots
+-- each event has decided slots
 abbrev pub AreDecided : Type 0
-AreDecided = (event : Event) (least : ℕ) → IsTrue (rules_of event).built → HasOneScramble (scrambling_of event) least
+AreDecided = (event : Event) (least : ℕ) → HasOneScramble (scrambling_of event) least
 
-pub round_parts-decided : (k : ℕ) (rounds : List Round) → AreDecided → All IsRound rounds → All IsDecided (round_parts k rounds)
-round_parts-decided k [] decided each = All-nil IsDecided
-round_parts-decided k (round ∷ rounds) decided each =
-    let here = All-head IsRound round rounds each in
-    All-cons IsDecided (round_part k round) (round_parts (k + 1) rounds) (decided round.event round.least here.event)
-    (round_parts-decided (k + 1) rounds decided (All-tail IsRound round rounds each))
+-- and so has each part
+pub all_decided : AreDecided → (parts : List Part) → All IsDecided parts
+all_decided decided [] = All-nil IsDecided
+all_decided decided (part ∷ parts) = All-cons IsDecided part parts (decided part.event part.least) (all_decided decided parts)
 
 -- ---- the ends of parts
 
@@ -116,7 +115,7 @@ IsText-apart settings [] part rest text j decided is lacks = IsPartText-apart se
 IsText-apart settings (other ∷ led) part rest text j decided is lacks = IsText-apart settings led part rest is.1 j (All-tail IsDecided other (led ++ part ∷ rest) decided) is.3 lacks
 
 -- parts whose slots all have scrambles, where the output doesn't fail
-pub EndsParts-done : (settings : Settings) (parts : List Part) (out : Change) (ended : Result (Unit {0}) Fault)
+EndsParts-done : (settings : Settings) (parts : List Part) (out : Change) (ended : Result (Unit {0}) Fault)
     → EndsParts settings 0 parts out ended → ¬ (Rose out.faults_before out.faults_after) → ¬ (LacksScramble settings parts)
     → EndsWith (status_of ended) status.Done
 EndsParts-done settings parts out (Ok u) ends written each = inl refl
@@ -129,7 +128,7 @@ EndsParts-done settings parts out (Err fault.NoMemory) ends written each = inr (
 EndsParts-done settings parts out (Err (fault.Gap table index)) ends written each = absurd ends
 
 -- parts of which one lacks a scramble
-pub EndsParts-limit : (settings : Settings) (parts : List Part) (out : Change) (ended : Result (Unit {0}) Fault)
+EndsParts-limit : (settings : Settings) (parts : List Part) (out : Change) (ended : Result (Unit {0}) Fault)
     → EndsParts settings 0 parts out ended → ¬ (Rose out.faults_before out.faults_after) → All IsDecided parts → LacksScramble settings parts
     → EndsWith (status_of ended) status.DrawLimit
 EndsParts-limit settings parts out (Ok u) ends written decided lacks =
@@ -174,7 +173,7 @@ IsList-read source bytes rounds (list.Line number cause) whole is input read ref
 IsList-read source bytes rounds list.Read whole is input read refused = absurd (read refused.rose)
 
 -- tables that could not be built
-pub LacksTables-ends : (events : List Event) (out : Change) (ended : Result (Unit {0}) Fault) (wanted : Status) → LacksTables events out ended
+LacksTables-ends : (events : List Event) (out : Change) (ended : Result (Unit {0}) Fault) (wanted : Status) → LacksTables events out ended
     → EndsWith (status_of ended) wanted
 LacksTables-ends events out ended wanted lacks = at lacks.why lacks.is
   where
@@ -182,41 +181,94 @@ LacksTables-ends events out ended wanted lacks = at lacks.why lacks.is
     at build.NoMemory is = inr (inl (ap status_of is))
     at (build.Gap table index) is = inr (inr (ap status_of is))
 
+-- A run ended as the making of its parts did, for a sink that didn't fail.
+record IsWell (settings : Settings) (parts : List Part) (ended : Result (Unit {0}) Fault) : Type 0 where
+  sink : Change
+  made : Result (Unit {0}) Fault
+  making : EndsMaking settings parts sink made
+  whole : ¬ (Rose sink.faults_before sink.faults_after)
+  same : ended ≡ made
+
+-- parts that are written
+IsWell-written : (settings : Settings) (parts : List Part) (out : Change) (ended : Result (Unit {0}) Fault) → ¬ (Rose out.faults_before out.faults_after)
+    → EndsMaking settings parts out ended → IsWell settings parts ended
+IsWell-written settings parts out ended written making = record { sink = out; made = ended; making = making; whole = written; same = refl }
+
+-- a sheet that is told of and not written
+EndsTelling-same : (made : Result (Unit {0}) Fault) (lines : List ℕ) (out : Change) (ended : Result (Unit {0}) Fault)
+    → ¬ (Rose out.faults_before out.faults_after) → EndsTelling made lines out ended → ended ≡ made
+EndsTelling-same (Ok u) lines out (Ok v) written told = refl
+EndsTelling-same (Ok u) lines out (Err f) written told = absurd (written told.1.rose)
+EndsTelling-same (Err f) lines out ended written told = told.0
+
+not_risen : ¬ (Rose 0 0)
+not_risen (inl higher) = absurd (omega (arith, higher))
+not_risen (inr last) = absurd (omega (arith, last))
+
 EndsCommand-parts : (command : Command) (list : List ℕ) (settings : Settings) (parts : List Part) (source out : Change)
     (ended : Result (Unit {0}) Fault) → ReadWhole → IsTask command list settings parts → source.bytes_before ≡ Some list
-    → ¬ (Rose source.faults_before source.faults_after) → EndsCommand command source out ended → EndsMaking settings parts out ended
-EndsCommand-parts (One event seed) list settings parts source out ended whole task input read ends = rw (task.0, task.1) ends.1
-EndsCommand-parts (Sheet seed options) list settings parts source out ended whole task input read (inl ends) =
+    → ¬ (Rose source.faults_before source.faults_after) → ¬ (Rose out.faults_before out.faults_after)
+    → EndsCommand command source out ended → IsWell settings parts ended
+EndsCommand-parts (One event seed) list settings parts source out ended whole task input read written ends =
+    IsWell-written settings parts out ended written (rw (task.0, task.1) ends.1)
+EndsCommand-parts (Sheet seed options) list settings parts source out ended whole task input read written (inl ends) =
     let is = task.1 in
     let again = (whole source list (Ok ends.0) ends.1 input).0 in
     let same : ends.0 ≡ task.0 = cc in
     let same_parts : parts ≡ round_parts 0 ends.0 = task.3 ∙ ap (round_parts 0) (sym same) in
-    rw (task.2, same_parts) ends.2
-EndsCommand-parts (Sheet seed options) list settings parts source out ended whole task input read (inr refused) =
+    IsWell-written settings parts out ended written (rw (task.2, same_parts) ends.2)
+EndsCommand-parts (Sheet seed options) list settings parts source out ended whole task input read written (inr refused) =
     absurd (IsList-read source list task.0 refused.list whole task.1 input read refused.cause)
-EndsCommand-parts (Tables event) list settings parts source out ended whole task input read ends = absurd task
+EndsCommand-parts (Tables event) list settings parts source out ended whole task input read written ends = absurd task
+EndsCommand-parts (Load number) list settings parts source out ended whole task input read written ends = record {
+  sink = gaining ends.1.sheet;
+  made = ends.1.made;
+  making = rw (task.0, task.1) ends.1.making;
+  whole = not_risen;
+  same = EndsTelling-same ends.1.made _ out ended written ends.1.told;
+}
 
-pub IsUnhindered-ends : {words : List (List ℕ)} {outcome : Status} {source out err : Change} {settings : Settings} {parts : List Part}
+IsUnhindered-ends : {words : List (List ℕ)} {outcome : Status} {source out err : Change} {settings : Settings} {parts : List Part}
     → ReadWhole → (run : IsUnhindered words outcome source out err settings parts)
-    → EndsMaking settings parts out run.run.ended ⊎ (run.run.ended ≡ Err fault.NoMemory)
+    → IsWell settings parts run.run.ended ⊎ (run.run.ended ≡ Err fault.NoMemory)
 IsUnhindered-ends {source = source} {out = out} {settings = settings} {parts = parts} whole run =
     elim run.run.performed.ends [
       | inl ends ↦
           let P : Result Command UsageFault → Type 0 = λ asked. Ends asked source out run.run.ended in
-          inl (EndsCommand-parts run.command run.list settings parts source out run.run.ended whole run.task run.input run.read
+          inl (EndsCommand-parts run.command run.list settings parts source out run.run.ended whole run.task run.input run.read run.written
           (subst P run.asks ends))
       | inr wanting ↦ inr wanting.is
     ]
 
--- the parts of a command's task have decided slots
-pub IsTask-decided : (words : List (List ℕ)) (command : Command) (list : List ℕ) (settings : Settings) (parts : List Part) → AreDecided
-    → command_of words ≡ Ok command → IsTask command list settings parts → All IsDecided parts
-IsTask-decided words (One event seed) list settings parts decided asks task =
-    rw task.1
-    (All-cons IsDecided (one_part event) [] (decided event 0 (one-built words event seed asks)) (All-nil IsDecided))
-IsTask-decided words (Sheet seed options) list settings parts decided asks task =
-    rw task.3 (round_parts-decided 0 task.0 decided (rounds_of-IsRounds list task.0 task.1).each)
-IsTask-decided words (Tables event) list settings parts decided asks task = absurd task
+-- the end of a run that nothing hindered, where this follows from its making
+unhindered-with : {words : List (List ℕ)} {outcome : Status} {source out err : Change} {settings : Settings} {parts : List Part} (wanted : Status)
+    → ReadWhole → IsUnhindered words outcome source out err settings parts
+    → ((sink : Change) (made : Result (Unit {0}) Fault) → EndsParts settings 0 parts sink made → ¬ (Rose sink.faults_before sink.faults_after)
+    → EndsWith (status_of made) wanted) → EndsWith outcome wanted
+unhindered-with {parts = parts} wanted whole run each =
+    rw run.run.answer
+    (elim (IsUnhindered-ends whole run) [
+      | inl well ↦
+          rw well.same
+          (elim well.making [
+            | inl making ↦ each well.sink well.made making.ends well.whole
+            | inr lacks ↦ LacksTables-ends (map (λ (part : Part). part.event) parts) well.sink well.made wanted lacks
+          ])
+      | inr wanting ↦ inr (inl (ap status_of wanting))
+    ])
+
+-- where each slot has its scramble
+pub IsUnhindered-done : {words : List (List ℕ)} {outcome : Status} {source out err : Change} {settings : Settings} {parts : List Part}
+    → ReadWhole → IsUnhindered words outcome source out err settings parts → ¬ (LacksScramble settings parts) → EndsWith outcome status.Done
+IsUnhindered-done {settings = settings} {parts = parts} whole run each =
+    unhindered-with status.Done whole run (λ sink made ends written. EndsParts-done settings parts sink made ends written each)
+
+-- and where one has none
+pub IsUnhindered-limit : {words : List (List ℕ)} {outcome : Status} {source out err : Change} {settings : Settings} {parts : List Part}
+    → ReadWhole → IsUnhindered words outcome source out err settings parts → All IsDecided parts → LacksScramble settings parts
+    → EndsWith outcome status.DrawLimit
+IsUnhindered-limit {settings = settings} {parts = parts} whole run decided lacks =
+    unhindered-with status.DrawLimit whole run (λ sink made ends written. EndsParts-limit settings parts sink made ends written decided lacks)
 
 -- ---- fairness
 
@@ -226,8 +278,7 @@ IsFairPart part = IsDrawnFairly (scrambling_of part.event) part.least
 
 -- each of these events is, at each minimum of its range
 abbrev pub AreFairlyDrawn : List Event → Type 0
-AreFairlyDrawn events = (event : Event) (least : ℕ) → Contains events event → IsTrue (rules_of event).built
-    → least ≤ greatest_of (rules_of event).minima → IsDrawnFairly (scrambling_of event) least
+AreFairlyDrawn events = (event : Event) (least : ℕ) → Contains events event → least ≤ greatest_of (rules_of event).minima → IsDrawnFairly (scrambling_of event) least
 
 pub round_parts-fair : (events : List Event) (k : ℕ) (rounds : List Round) → AreFairlyDrawn events → All IsRound rounds
     → All (Contains events) (map (λ (round : Round). round.event) rounds) → All IsFairPart (round_parts k rounds)
@@ -236,7 +287,7 @@ round_parts-fair events k (round ∷ rounds) fair each asked =
     let here = All-head IsRound round rounds each in
     let others = map (λ (r : Round). r.event) rounds in
     All-cons IsFairPart (round_part k round) (round_parts (k + 1) rounds)
-    (fair round.event round.least (All-head (Contains events) round.event others asked) here.event here.least)
+    (fair round.event round.least (All-head (Contains events) round.event others asked) here.least)
     (round_parts-fair events (k + 1) rounds fair (All-tail IsRound round rounds each) (All-tail (Contains events) round.event others asked))
 
 -- those of the rounds of a list, whose tables were built
@@ -246,6 +297,6 @@ list-fair rounds fair each =
     let events = map (λ (round : Round). round.event) rounds in round_parts-fair events 0 rounds fair each (All-contains_itself events)
 
 -- and that of one event
-pub one-fair : (event : Event) → AreFairlyDrawn (event ∷ []) → IsTrue (rules_of event).built → All IsFairPart (one_part event ∷ [])
-one-fair event fair built =
-    All-cons IsFairPart (one_part event) [] (fair event 0 (Contains-get_or (event ∷ []) 0 event (omega arith)) built (omega arith)) (All-nil IsFairPart)
+pub one-fair : (event : Event) → AreFairlyDrawn (event ∷ []) → All IsFairPart (one_part event ∷ [])
+one-fair event fair =
+    All-cons IsFairPart (one_part event) [] (fair event 0 (Contains-get_or (event ∷ []) 0 event (omega arith)) (omega arith)) (All-nil IsFairPart)

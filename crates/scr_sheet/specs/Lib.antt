@@ -1,6 +1,9 @@
 pub mod Sheet
+pub mod Load
 pub mod Making
 pub mod Message
 pub mod Outcome
+pub mod Sizes
 pub mod Status
 pub mod Task
+pub mod TextSink

@@ -1,5 +1,5 @@
 -- How a run may end.
-use Rattle.std.specs.Prelude.{◌≡◌, ◌+◌, ◌⊎◌, ℕ, List, [], ◌∷◌, ◌++◌, length, map, All, Result, Ok, Err}
+use Rattle.std.specs.Prelude.{◌≡◌, ◌+◌, ◌⊎◌, ℕ, List, [], ◌∷◌, ◌++◌, length, map, All, Some, Result, Ok, Err}
 use Rattle.scr_outside.specs.Change.{Change, IsUnchanged, Gains, Falters}
 use Rattle.scr_list.specs.Reading.{ReadsList, ReadsNoList}
 use Rattle.scr_notation.specs.declared.event.Event.{Event}
@@ -7,7 +7,7 @@ use Rattle.scr_list.specs.declared.round.Round.{Round}
 use Rattle.scr_list.specs.declared.fault.ListFault.{ListFault}
 use Rattle.scr_list.specs.declared.fault.ListFault.TheVariants as list
 use Rattle.scr_command.specs.declared.command.Command.{Command}
-use Rattle.scr_command.specs.declared.command.Command.TheVariants.{One, Sheet, Tables}
+use Rattle.scr_command.specs.declared.command.Command.TheVariants.{One, Sheet, Tables, Load}
 use Rattle.scr_command.specs.declared.command.UsageFault.{UsageFault}
 use Rattle.scr_command.specs.declared.command.CommandFault.{CommandFault}
 use Rattle.scr_command.specs.declared.command.CommandFault.TheVariants as refusal
@@ -22,7 +22,8 @@ use Rattle.scr_sheet.specs.declared.fault.Fault.{Fault}
 use Rattle.scr_sheet.specs.declared.fault.Fault.TheVariants as fault
 use Rattle.scr_sheet.specs.declared.status.Status.{Status}
 use Rattle.scr_sheet.specs.declared.status.Status.TheVariants as status
-use Rattle.scr_sheet.specs.Sheet.{settings_of, IsLimit, Part, round_parts, one_part, IsText}
+use Rattle.scr_sheet.specs.Sheet.{settings_of, IsLimit, Part, round_part, round_parts, one_part, IsText}
+use Rattle.scr_sheet.specs.Load.{load_seed, load_rounds, load_text}
 use Rattle.scr_table_text.specs.TableText.{IsTablesText}
 use Rattle.scr_sheet.specs.Message.{message_of}
 
@@ -82,6 +83,11 @@ EndsParts settings k parts out (Err (fault.Usage usage)) = ⊥
 EndsParts settings k parts out (Err (fault.List list)) = ⊥
 EndsParts settings k parts out (Err (fault.Gap table index)) = ⊥
 
+-- how a part ends, which is round k, where this fault comes before anything of it is written
+abbrev pub EndsUnmade : Settings → ℕ → Round → Fault → Type 0
+EndsUnmade settings k round why =
+    (out : Change) → IsUnwritten out → EndsParts settings k (round_part k round ∷ []) out (Err why)
+
 -- ---- tables
 
 -- why tables could not be built, as a fault of the run
@@ -119,6 +125,23 @@ abbrev pub EndsMaking : Settings → List Part → Change → Result (Unit {0}) 
 EndsMaking settings parts out ended =
     IsMaking settings parts out ended ⊎ LacksTables (map (λ part. part.event) parts) out ended
 
+-- a sink that gained this text, and did not fail
+abbrev pub gaining : List ℕ → Change
+gaining text = record { bytes_before = Some []; bytes_after = Some text; faults_before = 0; faults_after = 0 }
+
+-- How the telling of a sheet ends whose making ended so: where the sheet is whole, these lines on it are written.
+abbrev pub EndsTelling : Result (Unit {0}) Fault → List ℕ → Change → Result (Unit {0}) Fault → Type 0
+EndsTelling (Ok _) lines out (Ok _) = Gains out lines
+EndsTelling (Ok _) lines out (Err why) = (why ≡ fault.Write) × Falters out lines
+EndsTelling (Err why) lines out ended = (ended ≡ Err why) × IsUnwritten out
+
+-- A sheet is made as for a sink that takes all of it, and is not written; it is told what it amounts to.
+pub record EndsLoad (number : ℕ) (out : Change) (ended : Result (Unit {0}) Fault) : Type 0 where
+  pub sheet : List ℕ
+  pub made : Result (Unit {0}) Fault
+  pub making : EndsMaking (settings_of (load_seed number) usual_options) (round_parts 0 (load_rounds number)) (gaining sheet) made
+  pub told : EndsTelling made (load_text (load_rounds number) sheet) out ended
+
 -- the input is no round list, or could not be read
 pub record IsRefused (source out : Change) (ended : Result (Unit {0}) Fault) : Type 0 where
   pub list : ListFault
@@ -135,6 +158,7 @@ EndsCommand (Sheet seed options) source out ended =
     ⊎ IsRefused source out ended
 EndsCommand (Tables event) source out ended =
     IsUnchanged source × (EndsTables event out ended ⊎ LacksTables (event ∷ []) out ended)
+EndsCommand (Load number) source out ended = IsUnchanged source × EndsLoad number out ended
 
 -- how a run ends on words that are this command, or that are none
 abbrev pub Ends : Result Command UsageFault → Change → Change → Result (Unit {0}) Fault → Type 0
@@ -154,17 +178,19 @@ abbrev pub fault_of_command : CommandFault → Fault
 fault_of_command (refusal.Usage usage) = fault.Usage usage
 fault_of_command refusal.NoMemory = fault.NoMemory
 
--- the command needs the tables of its event
-abbrev pub NeedsTables : Result Command UsageFault → Type 0
-NeedsTables (Ok (One event seed)) = HasTables event
-NeedsTables (Ok (Sheet seed options)) = ⊥
-NeedsTables (Ok (Tables event)) = HasTables event
-NeedsTables (Err usage) = ⊥
+-- what the words ask for, once they are read, takes memory: it needs the tables of its event, or makes rounds
+abbrev pub TakesMemory : Result Command UsageFault → Type 0
+TakesMemory (Ok (One event seed)) = HasTables event
+TakesMemory (Ok (Sheet seed options)) = Unit {0}
+TakesMemory (Ok (Tables event)) = HasTables event
+TakesMemory (Ok (Load number)) = Unit {0}
+TakesMemory (Err usage) = ⊥
 
--- What a run on these words does before it tells how it ended; only a sheet and what needs tables take memory.
+-- What a run on these words does before it tells how it ended. Only words that begin with `sheet`, and what needs tables
+-- or makes rounds, take memory.
 pub record IsPerformed (words : List (List ℕ)) (source out : Change) (ended : Result (Unit {0}) Fault) : Type 0 where
   pub ends : Ends (command_of words) source out ended ⊎ IsOutOfMemory source out ended
-  pub memory : ended ≡ Err fault.NoMemory → AsksForSheet words ⊎ NeedsTables (command_of words)
+  pub memory : ended ≡ Err fault.NoMemory → AsksForSheet words ⊎ TakesMemory (command_of words)
 
 -- what went wrong is told by its message, or by a first part of it where that could not be written
 abbrev pub Tells : Change → Result (Unit {0}) Fault → Type 0

@@ -11,6 +11,7 @@ use scr_outside::Failed;
 use scr_table::{BuildFault, TableName};
 use scr_text::decimal;
 use scr_words::SeedFault;
+use std::alloc::AllocError;
 
 /// What went wrong.
 #[derive(Clone, Copy, Debug)]
@@ -62,6 +63,17 @@ impl From<Failed> for Fault {
 
     fn from(_failed: Failed) -> Fault {
         Fault::Write
+    }
+}
+
+impl From<AllocError> for Fault {
+    ghost use Rattle.std.specs.Prelude.{◌≡◌};
+    ghost use Rattle.scr_sheet.specs.declared.fault.Fault.TheVariants.{NoMemory};
+
+    ghost from_gives = { λ _ fault. fault ≡ NoMemory };
+
+    fn from(_wanting: AllocError) -> Fault {
+        Fault::NoMemory
     }
 }
 

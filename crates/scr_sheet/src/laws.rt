@@ -1,15 +1,15 @@
 //! What holds of sheets and of runs whatever the code: calls that do nothing, whose contracts are the laws.
 
-ghost use Rattle.std.specs.Prelude.{◌≡◌, ℕ, List, [], ◌∷◌, IsTrue};
+ghost use Rattle.std.specs.Prelude.{◌≡◌, ℕ, List, [], ◌∷◌, length, IsTrue};
 ghost use Rattle.scr_outside.specs.Change.{Change};
 ghost use Rattle.scr_notation.specs.declared.event.Event.{Event};
 ghost use Rattle.scr_list.specs.declared.round.Round.{Round};
-ghost use Rattle.scr_list.specs.Events.{rules_of};
 ghost use Rattle.scr_list.specs.RoundLists.{IsRounds};
 ghost use Rattle.scr_slots.specs.declared.settings.Settings.{Settings};
 ghost use Rattle.scr_sheet.specs.declared.status.Status.{Status};
 ghost use Rattle.scr_sheet.specs.declared.status.Status.TheVariants.{Done, DrawLimit};
 ghost use Rattle.scr_sheet.specs.Sheet.{Part, round_parts, one_part, IsText};
+ghost use Rattle.scr_sheet.specs.Load.{load_rounds, slots_of_all};
 ghost use Rattle.scr_sheet.specs.Task.{IsUnhindered, LacksScramble, EndsWith};
 
 use scr_list::laws as list_laws;
@@ -17,9 +17,9 @@ use scr_slots::laws as slot_laws;
 
 /// A list has one sheet, and an event one line of `one`: made with the same settings, two are the same.
 pub fn one_sheet()
-    ensures sheet { (settings : Settings) (rounds : List Round) → IsRounds rounds → (text other : List ℕ)
+    ensures sheet { (settings : Settings) (rounds : List Round) (text other : List ℕ)
         → IsText settings (round_parts 0 rounds) text → IsText settings (round_parts 0 rounds) other → text ≡ other }
-    ensures line { (settings : Settings) (event : Event) → IsTrue (rules_of event).built → (text other : List ℕ)
+    ensures line { (settings : Settings) (event : Event) (text other : List ℕ)
         → IsText settings (one_part event ∷ []) text → IsText settings (one_part event ∷ []) other → text ≡ other }
 {
     slot_laws::one_scramble();
@@ -37,3 +37,11 @@ pub fn completeness()
     slot_laws::one_scramble();
     list_laws::lists_that_were_read();
 }
+
+/// The rounds that follow from a number are rounds that lists take. Those of 0 are one with 7 slots, and those of 15 are 16
+/// with 456.
+pub fn load_lists()
+    ensures each { (number : ℕ) → IsRounds (load_rounds number) }
+    ensures first { (length (load_rounds 0) ≡ 1) × (slots_of_all (load_rounds 0) ≡ 7) }
+    ensures fifteenth { (length (load_rounds 15) ≡ 16) × (slots_of_all (load_rounds 15) ≡ 456) }
+{}

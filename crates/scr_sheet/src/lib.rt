@@ -10,18 +10,20 @@
 
 mod fault;
 pub mod laws;
+mod load;
 mod making;
 mod parts;
 mod program;
 mod status;
 #[cfg(test)]
 mod tests;
+mod text_sink;
 
 pub use fault::Fault;
 pub use making::{RoundFault, make_round};
 pub use program::run;
 pub use scr_command::{Command, CommandFault, Options, UsageFault, read_command};
-pub use scr_list::{ListCause, ListFault, Round, built, read_rounds};
+pub use scr_list::{ListCause, ListFault, Round, read_rounds};
 pub use scr_notation::Event;
 pub use scr_round::{RoundResult, write_round};
 pub use status::Status;

@@ -1,14 +1,14 @@
 //! What the commands make and write.
 
-ghost use Rattle.std.specs.Prelude.{◌≡◌, ◌≢◌, ◌≤◌, ◌<◌, ◌⊎◌, [], ◌∷◌, map, Contains, IsTrue, Err};
+ghost use Rattle.std.specs.Prelude.{◌≡◌, ◌≢◌, ◌≤◌, ◌<◌, ◌⊎◌, [], ◌∷◌, map, Contains, IsTrue, MatchResult, Err};
 ghost use Rattle.scr_outside.specs.Change.{change_of};
-ghost use Rattle.scr_list.specs.Events.{rules_of};
 ghost use Rattle.scr_list.specs.Rounds.{IsRound};
 ghost use Rattle.scr_list.specs.RoundLists.{IsRounds};
 ghost use Rattle.scr_sheet.specs.declared.fault.Fault.TheVariants.{NoMemory};
 ghost use Rattle.scr_sheet.specs.Sheet.{settings_of, one_part, round_part, round_parts};
 ghost use Rattle.scr_slots.specs.Tables.{HasTables};
-ghost use Rattle.scr_sheet.specs.Outcome.{EndsCommand, EndsMaking, EndsParts, EndsTables, LacksTables};
+ghost use Rattle.scr_sheet.specs.Outcome.{EndsCommand, EndsMaking, EndsParts, EndsTables, EndsUnmade, LacksTables};
+ghost use Rattle.scr_sheet.specs.Making.{IsRoundMade};
 ghost use Rattle.scr_command.specs.declared.command.Command.TheVariants.{Sheet};
 ghost use Rattle.scr_command.specs.Command.{usual_options};
 
@@ -18,7 +18,7 @@ use scr_command::Options;
 use scr_list::{Round, read_rounds};
 use scr_notation::{Event, print};
 use scr_outside::{Sink, Source, write_line};
-use scr_round::write_round;
+use scr_round::{RoundResult, write_round};
 use scr_slots::{Tables, laws, slot_scramble, write_tables_of};
 use scr_words::Seed;
 use std::alloc::Global;
@@ -93,19 +93,36 @@ fn write_one_round<O: Sink>(
     ensures { EndsParts (settings_of seed.now options.now) index (round_part index round.now ∷ [])
         (change_of O.held O.faults out.old out.new) result }
 {
-    let made = match make_round(alloc, tables, seed, index, round, options) {
-        Ok(made) => made,
-        Err(RoundFault::Limit { slot, words }) => {
-            return Err(Fault::DrawLimit {
-                round: index + 1,
-                slot: slot + 1,
-                words,
-            });
-        }
-        Err(RoundFault::NoMemory) => return Err(Fault::NoMemory),
-    };
+    let made = made_round(alloc, tables, seed, index, round, options)?;
     write_round(out, &made)?;
     Ok(())
+}
+
+/// Makes a round, or gives what the run ends with.
+pub(crate) fn made_round(
+    alloc: Global,
+    tables: &Tables,
+    seed: &Seed,
+    index: u32,
+    round: &Round,
+    options: &Options,
+) -> Result<RoundResult, Fault>
+    requires tables { Contains tables.now round.now.event }
+    requires index { index < 256 }
+    requires round { IsRound round.now }
+    requires attempts { options.now.attempts ≤ 1000000 }
+    ensures { let settings = settings_of seed.now options.now in
+        MatchResult result (IsRoundMade settings index round.now) (EndsUnmade settings index round.now) }
+{
+    match make_round(alloc, tables, seed, index, round, options) {
+        Ok(made) => Ok(made),
+        Err(RoundFault::Limit { slot, words }) => Err(Fault::DrawLimit {
+            round: index + 1,
+            slot: slot + 1,
+            words,
+        }),
+        Err(RoundFault::NoMemory) => Err(Fault::NoMemory),
+    }
 }
 
 /// Draws the state of stream 0 of a seed, of which no minimum is asked, and writes the line of its scramble.
@@ -115,7 +132,6 @@ pub(crate) fn write_one<O: Sink>(
     seed: &Seed,
     out: &mut O,
 ) -> Result<(), Fault>
-    requires { IsTrue (rules_of event).built }
     ensures ends { EndsMaking (settings_of seed.now usual_options) (one_part event ∷ []) (change_of O.held O.faults out.old out.new) result }
     ensures memory { result ≡ Err NoMemory → HasTables event }
 {
@@ -132,7 +148,6 @@ fn write_one_line<O: Sink>(
     out: &mut O,
 ) -> Result<(), Fault>
     requires tables { Contains tables.now event }
-    requires built { IsTrue (rules_of event).built }
     ensures ends { EndsParts (settings_of seed.now usual_options) 0 (one_part event ∷ []) (change_of O.held O.faults out.old out.new) result }
     ensures memory { result ≢ Err NoMemory }
 {

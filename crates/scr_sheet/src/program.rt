@@ -5,6 +5,7 @@ ghost use Rattle.scr_command.specs.Words.{texts};
 ghost use Rattle.scr_sheet.specs.Outcome.{IsRun, IsPerformed, Tells};
 
 use crate::fault::Fault;
+use crate::load::write_load;
 use crate::parts::{write_event_tables, write_one, write_sheet};
 use crate::status::Status;
 use scr_command::{Command, read_command};
@@ -14,7 +15,7 @@ use std::alloc::Global;
 /// Does all that the program does, on its words without its own name: reads the round list from `source` where they ask
 /// for a sheet, writes what they ask for to `out`, tells on `err` what goes wrong, and gives the status.
 ///
-/// It takes memory only where the first word is `sheet`, or where tables are needed. A fault of `err` changes no status.
+/// It takes memory only where the first word is `sheet`, where tables are needed, or where rounds are made for `load`. A fault of `err` changes no status.
 pub fn run<'w, S: Source, O: Sink, E: Sink>(
     alloc: Global,
     words: &'w [&'w str],
@@ -46,6 +47,7 @@ fn perform<S: Source, O: Sink>(
         Command::One(event, seed) => write_one(alloc, event, &seed, out),
         Command::Sheet(seed, options) => write_sheet(alloc, &seed, &options, source, out),
         Command::Tables(event) => write_event_tables(alloc, event, out),
+        Command::Load(number) => write_load(alloc, number, out),
     }
 }
 

@@ -3,10 +3,12 @@
 ghost use Rattle.std.specs.Prelude.{◌<◌};
 
 use super::*;
+use arrayvec::ArrayString;
 use scr_command::UsageFault;
 use scr_list::{ListCause, ListFault};
 use scr_outside::{MemSink, MemSource};
 use scr_table::TableName;
+use scr_text::decimal;
 use std::process::Abort;
 use std::test::Fail;
 
@@ -40,14 +42,26 @@ const TABLE_SKEWB: &str =
     7 315198\n8 1225483\n9 1455856\n10 81028\n11 90\n";
 
 /// The scramble of the 3x3x3, and its tables.
-const SCRAMBLE_333: &str =
-    "F2 U2 L2 F2 R2 F2 D2 R2 F2 R2 U R2 U' F2 U L2 U' F2 R2 L' F2 R D U R' F2 U2 B' U2 F L' D\n";
+const SCRAMBLE_333: &str = "U2 F2 U R2 B2 U' B2 D2 U B2 R D2 R2 D B F2 D' U2 F L\n";
 
 const TABLES_333: &str =
     "table flips positions 2048 bound 7\n0 1\n1 2\n2 25\n3 202\n4 620\n5 900\n6 285\n7 13\n\
     table slice positions 1082565 bound 13\n0 1\n1 2\n2 17\n3 134\n4 1065\n5 8190\n6 54694\n7 267576\n8 560568\n9 187204\n10 3114\n\
     table tetrads positions 29400 bound 15\n0 1\n1 2\n2 9\n3 36\n4 124\n5 530\n6 1806\n7 3732\n8 5158\n9 7070\n10 7218\n11 3202\n12 488\n13 24\n\
-    table halves positions 663552 bound 17\n0 1\n1 6\n2 27\n3 120\n4 519\n5 1932\n6 6484\n7 20310\n8 55034\n9 113892\n10 178495\n11 179196\n12 89728\n13 16176\n14 1488\n15 144\n";
+    table halves positions 663552 bound 17\n0 1\n1 6\n2 27\n3 120\n4 519\n5 1932\n6 6484\n7 20310\n8 55034\n9 113892\n10 178495\n11 179196\n12 89728\n13 16176\n14 1488\n15 144\n\
+    table flipslice positions 1013760 bound 12\n0 1\n1 4\n2 50\n3 532\n4 4804\n5 41832\n6 238263\n7 555636\n8 172314\n9 324\n\
+    table twistslice positions 1082565 bound 12\n0 1\n1 4\n2 50\n3 586\n4 6184\n5 54066\n6 296322\n7 582492\n8 142520\n9 340\n\
+    table cornerslice positions 967680 bound 18\n0 1\n1 10\n2 67\n3 404\n4 2023\n5 8504\n6 28545\n7 69734\n8 127540\n9 179700\n10 189120\n11 199200\n12 116112\n13 44416\n14 2304\n\
+    table edgeslice positions 967680 bound 18\n0 1\n1 10\n2 67\n3 456\n4 3063\n5 18202\n6 86691\n7 290812\n8 434814\n9 120488\n10 11818\n11 1114\n12 144\n";
+
+/// The scramble of the Square-1, and its tables.
+const SCRAMBLE_SQ1: &str =
+    "(-2,0) / (2,2) / (-5,1) / (2,2) / (1,1) / (-1,-1) / (-2,-5) / (-1,-1) / (1,4) / (-1,2) / (-2,-5) / (-1,2) / (0,-3) / (0,-2) / (0,-3) / (4,-1) / (0,-4) / (2,-5) / (3,6)\n";
+
+const TABLES_SQ1: &str =
+    "table shapes positions 7356 bound 13\n0 4\n1 16\n2 88\n3 240\n4 1772\n5 3800\n6 1400\n7 36\n\
+    table pairings positions 11025 bound 20\n0 1\n1 4\n2 32\n3 248\n4 1596\n5 4664\n6 4336\n7 144\n\
+    table square positions 73728 bound 20\n0 16\n1 256\n2 2432\n3 13952\n4 30128\n5 22656\n6 4288\n";
 
 /// The scramble of the Megaminx.
 const SCRAMBLE_MINX: &str =
@@ -155,7 +169,7 @@ fn words_and_lists(rt: HostRuntime) -> Result<(), Fail> {
             "",
             "scramble: 444 is not supported\n",
         ),
-        (&["tables", "sq1"], "", 2, "", USAGE),
+        (&["tables", "magic"], "", 2, "", USAGE),
         (
             &["one", "clock", digit],
             "",
@@ -184,7 +198,7 @@ fn words_and_lists(rt: HostRuntime) -> Result<(), Fail> {
             "",
             "scramble: 444 is not supported\n",
         ),
-        (&["one", "sq1", ZEROS], "", 2, "", USAGE),
+        (&["one", "magic", ZEROS], "", 2, "", USAGE),
         (&["one", "clock"], "", 2, "", USAGE),
         (&["one", "clock", ZEROS, ZEROS], "", 2, "", USAGE),
         (&[], "", 2, "", USAGE),
@@ -256,10 +270,12 @@ fn words_and_lists(rt: HostRuntime) -> Result<(), Fail> {
 
 #[test]
 fn events_with_tables(rt: HostRuntime) -> Result<(), Fail> {
-    let runs: [(&[&str], &str, u8, &str, &str); 11] = [
+    let runs: [(&[&str], &str, u8, &str, &str); 13] = [
         (&["one", "333", ZEROS], "", 0, SCRAMBLE_333, ""),
         (&["one", "333oh", ZEROS], "", 0, SCRAMBLE_333, ""),
         (&["tables", "333"], "", 0, TABLES_333, ""),
+        (&["one", "sq1", ZEROS], "", 0, SCRAMBLE_SQ1, ""),
+        (&["tables", "sq1"], "", 0, TABLES_SQ1, ""),
         (&["one", "222", ZEROS], "", 0, SCRAMBLE_222, ""),
         (&["one", "pyram", ZEROS], "", 0, SCRAMBLE_PYRAM, ""),
         (&["one", "skewb", ZEROS], "", 0, SCRAMBLE_SKEWB, ""),
@@ -338,45 +354,53 @@ fn faults_are_told(rt: HostRuntime) {
 // How a sheet begins, how many lines it has, and what is told at its end.
 #[test]
 fn sheets_of_two_events(rt: HostRuntime) -> Result<(), Fail> {
-    for (list, attempts, head, lines, err) in [
+    for (list, option, head, lines, err) in [
         (
             "222 1\nclock 1 0",
-            "1000",
+            "--attempts=1000",
             "Round 1: 2x2x2 Cube, at least 4\nGroup A\n1. R2 U R' F U2 F' U R U\n2. ",
             20,
             "",
         ),
         (
             "pyram 1\n222 1",
-            "1000",
+            "--attempts=1000",
             "Round 1: Pyraminx, at least 6\nGroup A\n1. R L' U' R B' U B' r' b'\n2. ",
             20,
             "",
         ),
         (
             "skewb 1\npyram 1",
-            "1000",
+            "--attempts=1000",
             "Round 1: Skewb, at least 7\nGroup A\n1. B R' L' R L U R'\n2. ",
             20,
             "",
         ),
         (
-            "333oh 1\n333 1 0",
-            "1000",
-            "Round 1: 3x3x3 One-Handed, at least 0\nGroup A\n1. F2 U2 L2 F2 R2 F2 D2 R2 F2 R2 U R2 U' ",
+            "333oh 1\n333 1 5",
+            "--attempts=1000",
+            "Round 1: 3x3x3 One-Handed, at least 2\nGroup A\n1. U2 F2 U R2 B2 U' B2 D2 U B2 R D2 R2 ",
+            20,
+            "",
+        ),
+        // made in four stages, for want of tries
+        (
+            "333 1\n333oh 1 0",
+            "--tries=0",
+            "Round 1: 3x3x3 Cube, at least 2\nGroup A\n1. F2 U2 L2 F2 R2 F2 D2 R2 F2 R2 U R2 U' ",
             20,
             "",
         ),
         (
             "minx 1\n777 2",
-            "1",
+            "--attempts=1",
             "Round 1: Megaminx, random moves\nGroup A\n1. R-- D++ R++ D-- R++ D++ ",
             25,
             "",
         ),
         (
             "555 2\n666 1",
-            "1000",
+            "--attempts=1000",
             "Round 1: 5x5x5 Cube, random moves\nGroup A\n1. L Bw2 D' Rw' L Fw2 Bw2 Rw2 F2 ",
             27,
             "",
@@ -384,13 +408,13 @@ fn sheets_of_two_events(rt: HostRuntime) -> Result<(), Fail> {
         // the sheet ends before a round with a slot that draws nothing
         (
             "666 1\npyram 1 15",
-            "1",
+            "--attempts=1",
             "Round 1: 6x6x6 Cube, random moves\nGroup A\n1. Lw Dw2 B' U' R Uw2 R2 Bw2 ",
             8,
             "scramble: round 2 slot 1: no permitted state in 3 words\n",
         ),
     ] {
-        let words = ["sheet", "--seed", ZEROS, "--attempts", attempts];
+        let words = ["sheet", "--seed", ZEROS, option];
         let ran = run_with(&rt, &words, list.as_bytes(), 4096, [&[], &[], &[]])?;
         let sheet = ran.out.contents();
         assert!(rt; sheet.starts_with(head.as_bytes()));
@@ -430,5 +454,73 @@ fn a_whole_sheet(rt: HostRuntime) -> Result<(), Fail> {
     let untold = run_with(&rt, &["sheet"], list, 1, [&[], &[], &[5]])?;
     assert_eq!(rt; untold.code, 2);
     assert_eq!(rt; untold.err.contents(), b"scra".as_slice());
+    Ok(())
+}
+
+/// The four lines of `load` on a sheet of so many rounds and scrambles.
+fn told(rt: &impl AllocGlobal, rounds: u32, scrambles: u32, sheet: &[u8]) -> Result<Vec<u8>, Fail> {
+    let mut bytes: u32 = 0;
+    let mut sum: u32 = 0;
+    for byte in sheet {
+        bytes = bytes.wrapping_add(1);
+        sum = sum.wrapping_add(u32::from(*byte));
+    }
+    let mut text = Vec::new(rt.alloc());
+    for (label, number) in [
+        ("rounds ", rounds),
+        ("scrambles ", scrambles),
+        ("bytes ", bytes),
+        ("sum ", sum),
+    ] {
+        text.extend_from_slice(label.as_bytes())?;
+        text.extend_from_slice(decimal(number).as_str().as_bytes())?;
+        text.extend_from_slice(b"\n")?;
+    }
+    Ok(text)
+}
+
+// What `load` tells of a sheet, against the sheet of the same rounds as a list. Neither reads more than it asks for.
+#[test]
+fn loads_are_sheets_that_are_counted(rt: HostRuntime) -> Result<(), Fail> {
+    for (number, seed, list, rounds, scrambles) in [
+        ("0", ZEROS, "222 1", 1, 7),
+        (
+            "1",
+            "0100000000000000000000000000000000000000000000000000000000000000",
+            "333 2\n333oh 7",
+            2,
+            63,
+        ),
+        (
+            "258",
+            "0201000000000000000000000000000000000000000000000000000000000000",
+            "777 3\nclock 8\nminx 5",
+            3,
+            106,
+        ),
+        (
+            "15",
+            "0f00000000000000000000000000000000000000000000000000000000000000",
+            "666 8\n777 5\nclock 2\nminx 7\npyram 4\nskewb 1\nsq1 6\n222 3\n333 8\n333oh 5\n555 2\n666 7\n777 4\nclock 1\nminx 6\npyram 3",
+            16,
+            456,
+        ),
+    ] {
+        let words = ["sheet", "--seed", seed];
+        let sheet = run_with(&rt, &words, list.as_bytes(), 4096, [&[], &[], &[]])?;
+        assert_eq!(rt; sheet.code, 0);
+        let lines = told(&rt, rounds, scrambles, sheet.out.contents())?;
+        let load = run_with(&rt, &["load", number], b"x", 4096, [&[1], &[], &[]])?;
+        assert_eq!(rt; load.code, 0);
+        assert_eq!(rt; load.out.contents(), lines.as_slice());
+    }
+    for (call, written) in [(1, ""), (2, "rounds 1\n"), (3, "rounds 1\nscrambles 7\n")] {
+        let failed = run_with(&rt, &["load", "0"], b"", 4096, [&[], &[call], &[]])?;
+        assert_eq!(rt; failed.code, 6);
+        assert_eq!(rt; failed.out.contents(), written.as_bytes());
+    }
+    for number in ["10000", "-1", "00"] {
+        check(&rt, &["load", number], b"", 2, "", USAGE)?;
+    }
     Ok(())
 }

@@ -1,6 +1,6 @@
 -- The one table of an event among the tables of events, and why it isn't built, as a cause for a list of events.
-use Rattle.std.proofs.Common.{◌≡◌, List, [], ◌∷◌, length, inl, inr, Option, Some, None, refl, sym, ap, ◌∙◌, subst, arith, lit<}
-use Rattle.std.specs.Prelude.{Contains, IsSome, IfSome}
+use Rattle.std.proofs.Common.{◌≡◌, zero, suc, List, [], ◌∷◌, ◌++◌, length, inl, inr, Option, Some, None, refl, sym, ap, ◌∙◌, subst, arith, lit<}
+use Rattle.std.specs.Prelude.{Any, Contains, IsSome, IfSome}
 use Rattle.std.proofs.lemmas.Option.{same_Some}
 use Rattle.scr_notation.specs.declared.event.Event.{Event}
 use Rattle.scr_notation.specs.declared.event.Event.TheVariants.{C222, C333, Oh333, C555, C666, C777, Clock, Minx, Pyram, Skewb, Sq1}
@@ -12,7 +12,7 @@ use Rattle.scr_small.specs.Puzzle222.{corners_line}
 use Rattle.scr_small.specs.PuzzlePyram.{pyramid_line}
 use Rattle.scr_small.specs.PuzzleSkewb.{skewb_line}
 use Rattle.scr_small.specs.Tables.{small_line, BuiltTable, IsBuilt}
-use Rattle.scr_stages.specs.Built.{IsStageCause}
+use Rattle.scr_sq1solve.specs.Built.{IsSq1Cause}
 use Rattle.scr_slots.specs.Events.{tables_of}
 use Rattle.scr_slots.specs.Held.{HasCubes}
 use Rattle.scr_slots.specs.Tables.{IsBuildCause}
@@ -73,10 +73,36 @@ IsBuildCause-small events event asked fault small cause = by_line (small_line ev
         let P : List TableLine → Type 0 = λ lines. Contains lines line in
         IsBuildCause-line events event asked line (subst P (sym (tables_of-small event line e)) (0, lit< tt, refl)) fault c
 
--- ---- the 3x3x3
+-- ---- events with several tables
 
--- why the tables of the stages aren't built is why those of a 3x3x3 are not
-pub IsBuildCause-stages : (events : List Event) → HasCubes events → (fault : BuildFault) → IsStageCause fault → IsBuildCause events fault
+-- why one of the event's tables isn't built
+pub IsBuildCause-lines : (events : List Event) (event : Event) → Contains events event → (fault : BuildFault)
+    → Any (λ line. IsCause line.name line.coordinate line.bound fault) (tables_of event) → IsBuildCause events fault
+IsBuildCause-lines events event asked fault (k, line, inside, is, cause) = IsBuildCause-line events event asked line (k, inside, is) fault cause
+
+-- the 3x3x3, with two hands or with one
+pub IsBuildCause-cubes : (events : List Event) → HasCubes events → (fault : BuildFault)
+    → Any (λ line. IsCause line.name line.coordinate line.bound fault) (tables_of C333) → IsBuildCause events fault
 unfolding tables_of
-IsBuildCause-stages events (inl asked) fault (k, line, inside, is, cause) = IsBuildCause-line events C333 asked line (k, inside, is) fault cause
-IsBuildCause-stages events (inr asked) fault (k, line, inside, is, cause) = IsBuildCause-line events Oh333 asked line (k, inside, is) fault cause
+IsBuildCause-cubes events (inl asked) fault cause = IsBuildCause-lines events C333 asked fault cause
+IsBuildCause-cubes events (inr asked) fault cause = IsBuildCause-lines events Oh333 asked fault cause
+
+-- the Square-1
+pub IsBuildCause-sq1 : (events : List Event) → Contains events Sq1 → (fault : BuildFault) → IsSq1Cause fault → IsBuildCause events fault
+unfolding tables_of
+IsBuildCause-sq1 events asked fault cause = IsBuildCause-lines events Sq1 asked fault cause
+
+-- ---- one of several lists of tables
+
+pub Any-before : {X : Type 0} (P : X → Type 0) (xs ys : List X) → Any P xs → Any P (xs ++ ys)
+Any-before P [] ys (k, x, inside, is, holds) = absurd (omega (arith, inside))
+Any-before P (x ∷ xs) ys (zero, y, inside, is, holds) = (0, y, omega arith, is, holds)
+Any-before P (x ∷ xs) ys (suc k, y, inside, is, holds) =
+    let there = Any-before P xs ys (k, y, omega (arith, inside), is, holds) in
+    let below = there.2 in (suc there.0, there.1, omega (arith, below), there.3, there.4)
+
+pub Any-behind : {X : Type 0} (P : X → Type 0) (xs ys : List X) → Any P ys → Any P (xs ++ ys)
+Any-behind P [] ys there = there
+Any-behind P (x ∷ xs) ys there =
+    let more = Any-behind P xs ys there in
+    let below = more.2 in (suc more.0, more.1, omega (arith, below), more.3, more.4)

@@ -1,6 +1,6 @@
--- The events that lists take are drawn fairly, where their tables are built.
+-- The events are drawn fairly, where their tables are built.
 use Rattle.std.proofs.Common.{ℕ, ◌≤◌, List, inl, inr, lit≤}
-use Rattle.std.specs.Prelude.{IsTrue, Contains}
+use Rattle.std.specs.Prelude.{Contains}
 use Rattle.scr_notation.specs.declared.event.Event.{Event}
 use Rattle.scr_notation.specs.declared.event.Event.TheVariants.{C222, C333, Oh333, C555, C666, C777, Clock, Minx, Pyram, Skewb, Sq1}
 use Rattle.scr_list.specs.Events.{rules_of, greatest_of}
@@ -15,17 +15,16 @@ abbrev pub AreFair : Event → Type 0
 AreFair event = (least : ℕ) → least ≤ greatest_of (rules_of event).minima → IsDrawnFairly (scrambling_of event) least
 
 pub each_fair : (events : List Event) → ((side : ℕ) → IsSide side → AreFairTurns (cube_of side)) → AreFairBits → AreFair Clock → (Contains events C222 → AreFair C222) → (Contains events Pyram → AreFair Pyram)
-    → (Contains events Skewb → AreFair Skewb) → (HasCubes events → AreFair C333) → (event : Event) (least : ℕ) → Contains events event → IsTrue (rules_of event).built
-    → least ≤ greatest_of (rules_of event).minima → IsDrawnFairly (scrambling_of event) least
+    → (Contains events Skewb → AreFair Skewb) → (HasCubes events → AreFair C333) → (Contains events Sq1 → AreFair Sq1) → (event : Event) (least : ℕ) → Contains events event → least ≤ greatest_of (rules_of event).minima → IsDrawnFairly (scrambling_of event) least
 unfolding scrambling_of
-each_fair events moves bits clock corners pyraminx skewb cube C222 least listed built le = corners listed least le
-each_fair events moves bits clock corners pyraminx skewb cube C333 least listed built le = cube (inl listed) least le
-each_fair events moves bits clock corners pyraminx skewb cube Oh333 least listed built le = cube (inr listed) least le
-each_fair events moves bits clock corners pyraminx skewb cube C555 least listed built le = moves 5 (record { large = lit≤ tt; small = lit≤ tt })
-each_fair events moves bits clock corners pyraminx skewb cube C666 least listed built le = moves 6 (record { large = lit≤ tt; small = lit≤ tt })
-each_fair events moves bits clock corners pyraminx skewb cube C777 least listed built le = moves 7 (record { large = lit≤ tt; small = lit≤ tt })
-each_fair events moves bits clock corners pyraminx skewb cube Clock least listed built le = clock least le
-each_fair events moves bits clock corners pyraminx skewb cube Minx least listed built le = bits
-each_fair events moves bits clock corners pyraminx skewb cube Pyram least listed built le = pyraminx listed least le
-each_fair events moves bits clock corners pyraminx skewb cube Skewb least listed built le = skewb listed least le
-each_fair events moves bits clock corners pyraminx skewb cube Sq1 least listed built le = cc
+each_fair events moves bits clock corners pyraminx skewb cube square C222 least listed le = corners listed least le
+each_fair events moves bits clock corners pyraminx skewb cube square C333 least listed le = cube (inl listed) least le
+each_fair events moves bits clock corners pyraminx skewb cube square Oh333 least listed le = cube (inr listed) least le
+each_fair events moves bits clock corners pyraminx skewb cube square C555 least listed le = moves 5 (record { large = lit≤ tt; small = lit≤ tt })
+each_fair events moves bits clock corners pyraminx skewb cube square C666 least listed le = moves 6 (record { large = lit≤ tt; small = lit≤ tt })
+each_fair events moves bits clock corners pyraminx skewb cube square C777 least listed le = moves 7 (record { large = lit≤ tt; small = lit≤ tt })
+each_fair events moves bits clock corners pyraminx skewb cube square Clock least listed le = clock least le
+each_fair events moves bits clock corners pyraminx skewb cube square Minx least listed le = bits
+each_fair events moves bits clock corners pyraminx skewb cube square Pyram least listed le = pyraminx listed least le
+each_fair events moves bits clock corners pyraminx skewb cube square Skewb least listed le = skewb listed least le
+each_fair events moves bits clock corners pyraminx skewb cube square Sq1 least listed le = square listed least le

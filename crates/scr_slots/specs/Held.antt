@@ -3,7 +3,6 @@ use Rattle.std.specs.Prelude.{◌≡◌, ◌⊎◌, List, Contains, Option, IsSo
 use Rattle.scr_notation.specs.declared.event.Event.{Event}
 use Rattle.scr_notation.specs.declared.event.Event.TheVariants.{C333, Oh333}
 use Rattle.scr_small.specs.Tables.{BuiltTable}
-use Rattle.scr_stages.specs.Built.{BuiltStages}
 
 -- The table of an event that one table solves is there where one of these events is it.
 abbrev pub HoldTables : Event → List Event → Option BuiltTable → Type 0
@@ -13,6 +12,6 @@ HoldTables event events tables = Contains events event → IsSomeAnd tables (λ 
 abbrev pub HasCubes : List Event → Type 0
 HasCubes events = Contains events C333 ⊎ Contains events Oh333
 
--- Then the tables of the stages are there.
-abbrev pub HoldStages : List Event → Option BuiltStages → Type 0
-HoldStages events tables = HasCubes events → IsSome tables
+-- Where they are asked for, tables are there.
+abbrev pub HoldWhere : {Built : Type 0} → Type 0 → Option Built → Type 0
+HoldWhere Asked tables = Asked → IsSome tables

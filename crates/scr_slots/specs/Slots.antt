@@ -8,12 +8,16 @@ use Rattle.scr_play.specs.Reach.{Puzzle, IsPermitted}
 use Rattle.scr_notation.specs.declared.turn.Turn.{Turn}
 use Rattle.scr_slots.specs.declared.settings.Settings.{Settings}
 
--- What makes turns the scramble of a state: what the turns of a scramble make of the solved puzzle, how many turns a
--- scramble has at most, and which turns are the scramble of a state, where a solver has so many tries.
+-- What makes turns the scramble of a state, where a solver has so many tries: what the turns of a scramble make of the solved
+-- puzzle, how short the scramble of a state is, and which turns are its scramble.
 pub record ScrambleRule (S : Type 0) : Type 1 where
   pub played : List Turn → Option S
-  pub most_turns : ℕ
+  pub IsShort : ℕ → S → List Turn → Type 0
   pub IsScramble : ℕ → S → List Turn → Type 0
+
+-- at most so many turns, whatever the tries and the state
+abbrev pub at_most : {S : Type 0} → ℕ → ℕ → S → List Turn → Type 0
+at_most most tries state turns = length turns ≤ most
 
 -- An event whose scrambles give random states (WCA Regulations, article 4): the states that are drawn from, and their
 -- scrambles.
@@ -29,11 +33,10 @@ pub record MoveEvent : Type 1 where
   pub moves : ℕ → (ℕ → ℕ) → ℕ → Option (List Turn)
   pub AreFair : Type 0
 
--- How an event is scrambled. The events that are not on sheets yet have no scrambling.
+-- How an event is scrambled.
 pub data Scrambling : Type 1 where
   ByState : StateEvent → Scrambling
   ByMoves : MoveEvent → Scrambling
-  NotYet : Scrambling
 
 -- By random states of a puzzle, which are numbered so.
 abbrev pub by_state : {S : Type 0} → Numbered S → Puzzle S → ScrambleRule S → Scrambling
@@ -51,7 +54,7 @@ pub record IsDrawnScramble (event : StateEvent) (settings : Settings) (least str
   pub permitted : IsPermitted event.space.puzzle least state
   pub scramble : event.rule.IsScramble settings.tries state turns
   pub gives : event.rule.played turns ≡ Some state
-  pub short : length turns ≤ event.rule.most_turns
+  pub short : event.rule.IsShort settings.tries state turns
 
 -- What a slot has of random moves: those of the slot's stream of the seed, from its first word on, or none.
 abbrev pub HasMoves : MoveEvent → Settings → ℕ → Option (List Turn) → Type 0
@@ -61,20 +64,17 @@ HasMoves event settings stream moves = event.moves settings.attempts (stream_wor
 abbrev pub IsSlotScramble : Scrambling → Settings → ℕ → ℕ → List Turn → Type 0
 IsSlotScramble (ByState event) settings least stream turns = IsDrawnScramble event settings least stream turns
 IsSlotScramble (ByMoves event) settings least stream turns = HasMoves event settings stream (Some turns)
-IsSlotScramble NotYet settings least stream turns = ⊥
 
 -- A slot has no scramble: each of its attempts misses, or all those of one of its random moves are refused.
 abbrev pub HasNoScramble : Scrambling → Settings → ℕ → ℕ → Type 0
 HasNoScramble (ByState event) settings least stream = Draws event.space least (slot_numbers settings stream) None
 HasNoScramble (ByMoves event) settings least stream = HasMoves event settings stream None
-HasNoScramble NotYet settings least stream = ⊥
 
 -- What fairness says of an event: every state that turns reach and that needs so many is drawn by equally many lists of
 -- numbers. Of random moves it says only that each step takes each of its choices by equally many numbers.
 abbrev pub IsDrawnFairly : Scrambling → ℕ → Type 0
 IsDrawnFairly (ByState event) least = IsFairFor event.space least
 IsDrawnFairly (ByMoves event) least = event.AreFair
-IsDrawnFairly NotYet least = ⊥
 
 -- Slot 0 of round k of a list has this stream, both counted from 0, and slot j the stream j further on.
 abbrev pub first_stream : ℕ → ℕ

@@ -1,6 +1,6 @@
 //! The events in code: an impl and an arm for each.
 
-ghost use Rattle.std.specs.Prelude.{Contains, ◌≤◌, [], ◌∷◌, IsSome, IsTrue, MatchResult};
+ghost use Rattle.std.specs.Prelude.{Contains, ◌≤◌, [], ◌∷◌, IsSome, MatchResult};
 ghost use Rattle.scr_list.specs.Events.{rules_of, greatest_of};
 ghost use Rattle.scr_outside.specs.Change.{change_of};
 ghost use Rattle.scr_table.specs.Lines.{AreTablesOf};
@@ -13,7 +13,8 @@ ghost use Rattle.scr_slots.specs.Outcomes.{IsMissed};
 use crate::moved::{cube_scramble, megaminx_scramble};
 use crate::scrambled::{Scrambled, drawn_scramble};
 use crate::settings::Settings;
-use crate::staged_cube::StagedCube;
+use crate::solved_cube::SolvedCube;
+use crate::solved_sq1::SolvedSq1;
 use crate::tables::Tables;
 use scr_clock::{Clock, ClockNumbers, scramble_clock};
 use scr_draw::DrawLimit;
@@ -34,7 +35,7 @@ impl Scrambled for ClockNumbers {
         scramble_clock(state)
     }
 
-    ghost only = { λ _ tries. IsScrambleOf-one };
+    ghost only = { λ _ tries state turns other reached. IsScrambleOf-one state turns other };
 }
 
 impl<P: OneTable> Scrambled for SmallPuzzle<'_, P> {
@@ -47,7 +48,7 @@ impl<P: OneTable> Scrambled for SmallPuzzle<'_, P> {
         self.scramble_of(state)
     }
 
-    ghost only = { λ _ tries. IsScrambleOf-unique P.shown P.lawful };
+    ghost only = { λ _ tries state turns other reached. IsScrambleOf-unique P.shown P.lawful state turns other };
 }
 
 impl Scrambled for SmallPyram<'_> {
@@ -60,14 +61,13 @@ impl Scrambled for SmallPyram<'_> {
         self.scramble_of(state)
     }
 
-    ghost only = { λ _ tries. IsScramblePyram-unique };
+    ghost only = { λ _ tries state turns other reached. IsScramblePyram-unique state turns other };
 }
 
 /// The scramble of a slot of an event on this stream, or how many words its attempts took, where they draw no state that
 /// needs at least `least` turns, or where all those of a random move are refused.
 ///
-/// The tables are those of a list with the event, which is one that lists take; `least` is in its range, and there are at
-/// most 1,000,000 attempts.
+/// The tables are those of a list with the event; `least` is in its range, and there are at most 1,000,000 attempts.
 #[tactic(auto, unfolding(crate::specs::Events::scrambling_of))]
 pub fn slot_scramble(
     tables: &Tables,
@@ -77,7 +77,6 @@ pub fn slot_scramble(
     stream: u64,
 ) -> Result<Scramble, DrawLimit>
     requires tables { Contains tables.now event }
-    requires built { IsTrue (rules_of event).built }
     requires least { least ≤ greatest_of (rules_of event).minima }
     requires attempts { settings.now.attempts ≤ 1000000 }
     ensures { MatchResult result (λ scramble. IsSlotScramble (scrambling_of event) settings.now least stream scramble.turns)
@@ -89,7 +88,7 @@ pub fn slot_scramble(
             drawn_scramble(&cube, settings, least, stream)
         }
         Event::C333 | Event::Oh333 => {
-            let cube = StagedCube::new(tables.of_cubes());
+            let cube = SolvedCube::new(tables.of_cubes());
             drawn_scramble(&cube, settings, least, stream)
         }
         Event::C555 => cube_scramble::<5>(settings, stream),
@@ -105,7 +104,7 @@ pub fn slot_scramble(
             let skewb = SmallSkewb::new(tables.of_small(event));
             drawn_scramble(&skewb, settings, least, stream)
         }
-        Event::Sq1 => unreachable!(),
+        Event::Sq1 => drawn_scramble(&SolvedSq1::new(tables.of_sq1()), settings, least, stream),
     }
 }
 
@@ -123,8 +122,11 @@ pub fn write_tables_of<O: Sink>(tables: &Tables, event: Event, out: &mut O) -> R
             write_tables(out, &[small_table(tables, event)])
         }
         Event::C333 | Event::Oh333 => write_tables(out, &tables.of_cubes().all()),
-        Event::C555 | Event::C666 | Event::C777 | Event::Clock | Event::Minx | Event::Sq1 =>
-            write_tables(out, &[]),
+        Event::Sq1 => write_tables(out, &tables.of_sq1().all()),
+        Event::C555 | Event::C666 | Event::C777 | Event::Clock | Event::Minx => write_tables(
+            out,
+            &[],
+        ),
     }
 }
 

@@ -1,8 +1,8 @@
 //! What holds of slots whatever the code: calls that do nothing, whose contracts are the laws.
 
-ghost use Rattle.std.specs.Prelude.{Contains, ◌≡◌, ◌+◌, ◌≤◌, ◌<◌, ℕ, IsTrue};
+ghost use Rattle.std.specs.Prelude.{Contains, ◌≡◌, ◌+◌, ◌≤◌, ◌<◌, ℕ};
 ghost use Rattle.scr_notation.specs.declared.event.Event.{Event as EventOf};
-ghost use Rattle.scr_notation.specs.declared.event.Event.TheVariants.{C222, C333, Pyram, Skewb};
+ghost use Rattle.scr_notation.specs.declared.event.Event.TheVariants.{C222, C333, Pyram, Skewb, Sq1};
 ghost use Rattle.scr_list.specs.Events.{rules_of, greatest_of};
 ghost use Rattle.scr_slots.specs.Events.{scrambling_of};
 ghost use Rattle.scr_slots.specs.Held.{HasCubes};
@@ -10,7 +10,8 @@ ghost use Rattle.scr_slots.specs.Slots.{IsDrawnFairly, by_state, first_stream};
 ghost use Rattle.scr_slots.specs.Outcomes.{HasOneScramble};
 
 use crate::scrambled::Scrambled;
-use crate::staged_cube::StagedCube;
+use crate::solved_cube::SolvedCube;
+use crate::solved_sq1::SolvedSq1;
 use crate::tables::Tables;
 use scr_bigs::laws as moves;
 use scr_clock::ClockNumbers;
@@ -20,7 +21,7 @@ use scr_small::{Small222, SmallPyram, SmallSkewb};
 
 /// What a slot of an event has does not depend on how it is found: it has one scramble at most, and either that or none.
 pub fn one_scramble()
-    ensures { (event : EventOf) (least : ℕ) → IsTrue (rules_of event).built → HasOneScramble (scrambling_of event) least }
+    ensures { (event : EventOf) (least : ℕ) → HasOneScramble (scrambling_of event) least }
 {}
 
 /// The event is drawn fairly at each minimum of its range.
@@ -31,10 +32,10 @@ pub fn drawn_fairly<E: Scrambled>(event: &E)
     drawing::drawn_fairly(event);
 }
 
-/// Each event that lists take, and whose tables are built, is drawn fairly at each minimum of its range; of an event that is
+/// Each event whose tables are built is drawn fairly at each minimum of its range; of an event that is
 /// scrambled by random moves this says that each of their steps is fair, and no more.
 pub fn each_drawn_fairly(tables: &Tables)
-    ensures { (event : EventOf) (least : ℕ) → Contains tables.now event → IsTrue (rules_of event).built
+    ensures { (event : EventOf) (least : ℕ) → Contains tables.now event
         → least ≤ greatest_of (rules_of event).minima → IsDrawnFairly (scrambling_of event) least }
 {
     moves::fair_steps();
@@ -43,6 +44,7 @@ pub fn each_drawn_fairly(tables: &Tables)
     fairly_pyram(tables);
     fairly_skewb(tables);
     fairly_333(tables);
+    fairly_sq1(tables);
 }
 
 /// The 2x2x2, where its table is built.
@@ -78,10 +80,20 @@ fn fairly_skewb(tables: &Tables)
 /// The 3x3x3, with two hands or with one, where its tables are built.
 #[tactic(auto, unfolding(crate::specs::Events::scrambling_of))]
 fn fairly_333(tables: &Tables)
-    ensures { HasCubes tables.now → (least : ℕ) → least ≤ 0 → IsDrawnFairly (scrambling_of C333) least }
+    ensures { HasCubes tables.now → (least : ℕ) → least ≤ 5 → IsDrawnFairly (scrambling_of C333) least }
 {
     if tables.has(Event::C333) || tables.has(Event::Oh333) {
-        drawn_fairly(&StagedCube::new(tables.of_cubes()));
+        drawn_fairly(&SolvedCube::new(tables.of_cubes()));
+    }
+}
+
+/// The Square-1, where its tables are built.
+#[tactic(auto, unfolding(crate::specs::Events::scrambling_of))]
+fn fairly_sq1(tables: &Tables)
+    ensures { Contains tables.now Sq1 → (least : ℕ) → least ≤ 4 → IsDrawnFairly (scrambling_of Sq1) least }
+{
+    if tables.has(Event::Sq1) {
+        drawn_fairly(&SolvedSq1::new(tables.of_sq1()));
     }
 }
 

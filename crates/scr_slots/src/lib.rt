@@ -9,12 +9,14 @@
 //! and that no two slots of a list share a stream.
 #![tactic(auto)]
 
+mod cube_tables;
 mod events;
 pub mod laws;
 mod moved;
 mod scrambled;
 mod settings;
-mod staged_cube;
+mod solved_cube;
+mod solved_sq1;
 mod tables;
 
 pub use events::{slot_scramble, write_tables_of};

@@ -1,6 +1,7 @@
 //! Events whose scrambles give random states.
 
-ghost use Rattle.std.specs.Prelude.{◌≡◌, ◌*◌, ◌≤◌, ℕ, Some, List, length, MatchResult};
+ghost use Rattle.std.specs.Prelude.{◌≡◌, ◌≤◌, ℕ, Some, List, MatchResult};
+ghost use Rattle.scr_play.specs.Reach.{IsReached};
 ghost use Rattle.scr_notation.specs.declared.turn.Turn.{Turn};
 ghost use Rattle.scr_slots.specs.Slots.{ScrambleRule, IsSlotScramble, by_state};
 ghost use Rattle.scr_slots.specs.Outcomes.{IsMissed};
@@ -20,11 +21,11 @@ pub trait Scrambled: RandomState {
         requires { (Self.numbered self.now).IsValid state.now }
         ensures scramble { (rule self.now).IsScramble tries state.now result.turns }
         ensures gives { (rule self.now).played result.turns ≡ Some state.now }
-        ensures short { length result.turns ≤ (rule self.now).most_turns };
+        ensures short { (rule self.now).IsShort tries state.now result.turns };
 
-    /// A state has one scramble.
+    /// A state that turns reach has one scramble.
     ghost only: { (event : Self) (tries : ℕ) (state : Self.State) (turns other : List Turn)
-        → (rule event).IsScramble tries state turns → (rule event).IsScramble tries state other → turns ≡ other };
+        → IsReached (Self.puzzle event) state → (rule event).IsScramble tries state turns → (rule event).IsScramble tries state other → turns ≡ other };
 }
 
 /// The scramble of a slot on this stream: that of the state which the stream draws with so many attempts, one that needs at

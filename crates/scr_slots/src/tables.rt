@@ -1,15 +1,17 @@
 //! The tables of a list's events.
 
 ghost use Rattle.std.specs.Prelude.{◌≡◌, ◌≤◌, ◌↔◌, [], ◌∷◌, map, length, Contains, IfOk, IfErr, IsSome, IsSomeAnd, IsTrue};
+ghost use Rattle.scr_notation.specs.declared.event.Event.TheVariants.{Sq1};
 ghost use Rattle.scr_small.specs.Tables.{small_line};
-ghost use Rattle.scr_slots.specs.Held.{HasCubes, HoldStages, HoldTables};
+ghost use Rattle.scr_slots.specs.Held.{HasCubes, HoldTables, HoldWhere};
 ghost use Rattle.scr_slots.specs.Tables.{IsBuildCause};
 
+use crate::cube_tables::CubeTables;
 use arrayvec::ArrayVec;
 use scr_list::Round;
 use scr_notation::Event;
 use scr_small::SmallTables;
-use scr_stages::StageTables;
+use scr_sq1solve::Sq1Tables;
 use scr_table::BuildFault;
 use std::alloc::Global;
 use std::marker::Model;
@@ -18,30 +20,44 @@ use std::marker::Model;
 const MOST_ROUNDS: usize = 64;
 
 /// The tables of the events of a list, each built once, and of no others.
-#[derive(Drop)]
 pub struct Tables {
     rounds: ArrayVec<Round, MOST_ROUNDS>,
     of_222: Option<SmallTables>,
     of_pyram: Option<SmallTables>,
     of_skewb: Option<SmallTables>,
-    of_cubes: Option<StageTables>,
+    of_cubes: Option<CubeTables>,
+    of_sq1: Option<Sq1Tables>,
 }
 
 // Clauses see the events for which they are built.
 impl Model for Tables {
-    ghost use Rattle.std.specs.Prelude.{List, map};
+    ghost use Rattle.std.specs.Prelude.{List, map, Contains};
     ghost use Rattle.scr_notation.specs.declared.event.Event.{Event};
 
     ghost Value = { List Event };
 
-    ghost use Rattle.scr_notation.specs.declared.event.Event.TheVariants.{C222, Pyram, Skewb};
-    ghost use Rattle.scr_slots.specs.Held.{HoldStages, HoldTables};
+    ghost use Rattle.scr_notation.specs.declared.event.Event.TheVariants.{C222, Pyram, Skewb, Sq1};
+    ghost use Rattle.scr_slots.specs.Held.{HasCubes, HoldTables, HoldWhere};
 
     ghost view = { λ tables. map (λ round. round.event) tables.rounds.items };
 
     ghost invariant = { λ tables. let events = map (λ round. round.event) tables.rounds.items in
         HoldTables C222 events tables.of_222 × HoldTables Pyram events tables.of_pyram × HoldTables Skewb events tables.of_skewb
-        × HoldStages events tables.of_cubes };
+        × HoldWhere (HasCubes events) tables.of_cubes × HoldWhere (Contains events Sq1) tables.of_sq1 };
+}
+
+// A call wherever tables are let go, in place of all that lets go of their parts.
+impl Drop for Tables {
+    fn drop(self) {
+        let Tables {
+            rounds: _,
+            of_222: _,
+            of_pyram: _,
+            of_skewb: _,
+            of_cubes: _,
+            of_sq1: _,
+        } = self;
+    }
 }
 
 impl Tables {
@@ -59,13 +75,15 @@ impl Tables {
         let of_222 = small_tables(alloc, rounds, Event::C222)?;
         let of_pyram = small_tables(alloc, rounds, Event::Pyram)?;
         let of_skewb = small_tables(alloc, rounds, Event::Skewb)?;
-        let of_cubes = stage_tables(alloc, rounds)?;
+        let of_cubes = cube_tables(alloc, rounds)?;
+        let of_sq1 = sq1_tables(alloc, rounds)?;
         Ok(Tables {
             rounds: asked,
             of_222,
             of_pyram,
             of_skewb,
             of_cubes,
+            of_sq1,
         })
     }
 
@@ -112,11 +130,21 @@ impl Tables {
         }
     }
 
-    /// The tables of the stages, where the list has a round of a 3x3x3.
-    pub(crate) fn of_cubes(&self) -> &StageTables
+    /// The tables of a 3x3x3, where the list has a round of one.
+    pub(crate) fn of_cubes(&self) -> &CubeTables
         requires { HasCubes self.now }
     {
         match &self.of_cubes {
+            Some(tables) => tables,
+            None => unreachable!(),
+        }
+    }
+
+    /// The tables of the Square-1, where the list has a round of it.
+    pub(crate) fn of_sq1(&self) -> &Sq1Tables
+        requires { Contains self.now Sq1 }
+    {
+        match &self.of_sq1 {
             Some(tables) => tables,
             None => unreachable!(),
         }
@@ -171,13 +199,26 @@ fn has_cubes(rounds: &[Round]) -> bool
     has_round(rounds, Event::C333) || has_round(rounds, Event::Oh333)
 }
 
-/// The tables of the stages, where one of these rounds is of a 3x3x3.
-fn stage_tables(alloc: Global, rounds: &[Round]) -> Result<Option<StageTables>, BuildFault>
-    ensures built { IfOk result (HoldStages (map (λ round. round.event) rounds.now)) }
+/// The tables of a 3x3x3, where one of these rounds is of one.
+fn cube_tables(alloc: Global, rounds: &[Round]) -> Result<Option<CubeTables>, BuildFault>
+    ensures built { IfOk result (HoldWhere (HasCubes (map (λ round. round.event) rounds.now))) }
     ensures cause { IfErr result (IsBuildCause (map (λ round. round.event) rounds.now)) }
 {
     if has_cubes(rounds) {
-        let tables = StageTables::build(alloc)?;
+        let tables = CubeTables::build(alloc)?;
+        Ok(Some(tables))
+    } else {
+        Ok(None)
+    }
+}
+
+/// The tables of the Square-1, where one of these rounds is of it.
+fn sq1_tables(alloc: Global, rounds: &[Round]) -> Result<Option<Sq1Tables>, BuildFault>
+    ensures built { IfOk result (HoldWhere (Contains (map (λ round. round.event) rounds.now) Sq1)) }
+    ensures cause { IfErr result (IsBuildCause (map (λ round. round.event) rounds.now)) }
+{
+    if has_round(rounds, Event::Sq1) {
+        let tables = Sq1Tables::build(alloc)?;
         Ok(Some(tables))
     } else {
         Ok(None)

@@ -5,6 +5,7 @@ use Rattle.scr_command.specs.Command.{usual_options}
 use Rattle.scr_slots.specs.Slots.{IsSlotScramble}
 use Rattle.scr_slots.specs.Outcomes.{IsMissed}
 use Rattle.scr_slots.specs.Events.{scrambling_of}
+use Rattle.scr_outside.proofs.ChangeLemmas.{Gains-nothing}
 use Rattle.scr_sheet.specs.Sheet.{settings_of, one_part}
 use Rattle.scr_sheet.proofs.PartLaws.{IsStopped-first, IsPartText-line, IsText-one}
 use Rattle.scr_sheet.proofs.parts.write_one_line.Goals as goal
@@ -18,6 +19,7 @@ returns-in-Err-clause-ends g c =
       first = record { below = omega arith; nothing = missed.nothing; before = []; as_many = refl; each = tt };
       taken = missed.words;
     })
+    Gains-nothing
 
 pub returns-in_err-write_line-clause-ends : goal.returns-in_err-write_line-clause-ends
 returns-in_err-write_line-clause-ends g c =

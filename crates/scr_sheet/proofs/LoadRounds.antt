@@ -1,0 +1,33 @@
+-- The rounds of a number are rounds that lists take.
+use Rattle.std.proofs.Common.{◌≡◌, ℕ, zero, suc, ◌+◌, ◌*◌, ◌%◌, ◌<◌, refl, arith, map, All}
+use Rattle.std.proofs.lemmas.List.Elements.{All-nil, All-cons}
+use Rattle.std.proofs.lemmas.List.FromFn.{length-map-range_with_len}
+use Rattle.std.proofs.lemmas.Nat.{mod_below}
+use Rattle.std.specs.List.{range_with_len}
+use Rattle.scr_notation.specs.declared.event.Event.{Event}
+use Rattle.scr_list.specs.Rounds.{IsRound}
+use Rattle.scr_list.specs.RoundLists.{IsRounds}
+use Rattle.scr_list.proofs.EventLemmas.{id-IsId}
+use Rattle.scr_sheet.specs.Load.{numbered_event, usual_round, load_round, load_rounds}
+
+-- some of up to eight groups of an event
+usual_round-IsRound : (event : Event) (groups : ℕ) → groups < 8 → IsRound (usual_round event (1 + groups))
+usual_round-IsRound event groups few = record {
+  some_groups = omega arith;
+  few_groups = omega (arith, few);
+  least = (id-IsId event).usual;
+}
+
+-- so many rounds of a number, from one on
+rounds_from-IsRound : (number first count : ℕ) → All IsRound (map (load_round number) (range_with_len first count))
+rounds_from-IsRound number first zero = All-nil IsRound
+rounds_from-IsRound number first (suc count) =
+    All-cons IsRound (load_round number first) (map (load_round number) (range_with_len (first + 1) count))
+    (usual_round-IsRound (numbered_event ((number + first) % 11)) ((number + 5 * first) % 8) (mod_below (number + 5 * first) 8 (omega arith)))
+    (rounds_from-IsRound number (first + 1) count)
+
+pub load_rounds-IsRounds : (number : ℕ) → IsRounds (load_rounds number)
+load_rounds-IsRounds number =
+    let size = length-map-range_with_len (load_round number) 0 (1 + number % 16) in
+    let few = mod_below number 16 (omega arith) in
+    record { each = rounds_from-IsRound number 0 (1 + number % 16); few = omega (arith, size, few) }

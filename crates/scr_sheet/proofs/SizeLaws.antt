@@ -1,0 +1,74 @@
+-- Rounds that are made one after another and counted.
+use Rattle.std.proofs.Common.{◌≡◌, ℕ, ◌+◌, ◌<◌, List, [], ◌∷◌, ◌++◌, length, drop, get_or, Ok, Err, refl, sym, ap, ◌∙◌, length-append, arith}
+use Rattle.std.proofs.lemmas.List.Sums.{sum_by-append}
+use Rattle.std.specs.Prelude.{Some}
+use Rattle.scr_outside.specs.Change.{Change}
+use Rattle.scr_outside.proofs.ChangeLemmas.{from_to, Gains-nothing}
+use Rattle.scr_list.specs.declared.round.Round.{Round}
+use Rattle.scr_slots.specs.declared.settings.Settings.{Settings}
+use Rattle.scr_sheet.specs.declared.fault.Fault.{Fault}
+use Rattle.scr_sheet.specs.declared.load.Size.{Size}
+use Rattle.scr_sheet.specs.Sheet.{Part, round_part, round_parts}
+use Rattle.scr_sheet.specs.Outcome.{IsDone, EndsParts, EndsUnmade, gaining}
+use Rattle.scr_sheet.specs.Sizes.{IsSizeOf, IsPartSize, SizesParts}
+use Rattle.scr_sheet.proofs.PartLaws.{IsMadeUpTo, IsText-one, made-none, made-all, round-more, round-fault}
+
+-- two sizes together
+abbrev pub with_more : Size → Size → Size
+with_more size more = record { bytes = size.bytes + more.bytes; sum = size.sum + more.sum }
+
+-- all parts are counted but the rest, of which the first is part k
+pub record IsSizedUpTo (settings : Settings) (parts rest : List Part) (k : ℕ) (size : Size) : Type 0 where
+  pub sheet : List ℕ
+  pub made : IsMadeUpTo settings parts rest k (gaining sheet)
+  pub amounts : IsSizeOf sheet size
+
+-- none is counted yet
+pub sized-none : (settings : Settings) (parts : List Part) → IsSizedUpTo settings parts parts 0 (record { bytes = 0; sum = 0 })
+sized-none settings parts = record { sheet = []; made = made-none; amounts = record { counted = refl; added = refl } }
+
+IsSizeOf-append : (text more : List ℕ) (size added : Size) → IsSizeOf text size → IsSizeOf more added
+    → IsSizeOf (text ++ more) (with_more size added)
+IsSizeOf-append text more size added first second =
+    let bytes = length-append text more in
+    let sums = sum_by-append (λ x. x) text more in
+    let counted = first.counted in
+    let counted' = second.counted in
+    let sum = first.added in
+    let sum' = second.added in
+    record { counted = omega (arith, bytes, counted, counted'); added = omega (arith, sums, sum, sum') }
+
+-- one more round
+pub sized-more : {settings : Settings} {size more : Size} (rounds : List Round) (i : ℕ) (d : Round) → i < length rounds
+    → IsSizedUpTo settings (round_parts 0 rounds) (round_parts i (drop i rounds)) i size
+    → IsPartSize settings (round_part i (get_or rounds i d)) more
+    → IsSizedUpTo settings (round_parts 0 rounds) (round_parts (i + 1) (drop (i + 1) rounds)) (i + 1) (with_more size more)
+sized-more {settings} {size} {more} rounds i d there sized part =
+    let text = part.text in
+    let done : IsDone settings (round_part i (get_or rounds i d) ∷ []) (from_to (Some sized.sheet) 0 (Some (sized.sheet ++ text)) 0) = record {
+      text = text;
+      all = IsText-one settings (round_part i (get_or rounds i d)) text part.is;
+      gained = record { gained = refl; never_falls = omega arith };
+    } in
+    record {
+      sheet = sized.sheet ++ text;
+      made = round-more rounds i d (Some (sized.sheet ++ text)) 0 there sized.made done;
+      amounts = IsSizeOf-append sized.sheet text size more sized.amounts part.amounts;
+    }
+
+-- a round that was not made
+pub sized-fault : {settings : Settings} {size : Size} (rounds : List Round) (i : ℕ) (d : Round) (fault : Fault) → i < length rounds
+    → IsSizedUpTo settings (round_parts 0 rounds) (round_parts i (drop i rounds)) i size
+    → EndsUnmade settings i (get_or rounds i d) fault → SizesParts settings (round_parts 0 rounds) (Err fault)
+sized-fault rounds i d fault there sized ends = record {
+  sheet = sized.sheet;
+  ends =
+      round-fault rounds i d (Some sized.sheet) 0 fault there sized.made
+      (ends (from_to (Some sized.sheet) 0 (Some sized.sheet) 0) Gains-nothing);
+  amounts = tt;
+}
+
+-- no round is left
+pub sized-all : {settings : Settings} {parts : List Part} {k : ℕ} {size : Size} → IsSizedUpTo settings parts [] k size
+    → SizesParts settings parts (Ok size)
+sized-all sized = record { sheet = sized.sheet; ends = made-all sized.made; amounts = sized.amounts }

@@ -1,0 +1,53 @@
+-- The command `load`: a list of rounds that follows from a number, and what is told of its sheet. Both are our own choice.
+use Rattle.std.specs.Prelude.{ℕ, ◌+◌, ◌*◌, ◌%◌, List, [], ◌∷◌, ◌++◌, codes, length, map, sum, sum_by, replicate}
+use Rattle.std.specs.List.{range_with_len, slice_index_or}
+use Rattle.std.specs.Int.{w64, to_le_bytes}
+use Rattle.std.specs.Fmt.{decimal}
+use Rattle.scr_text.specs.Lines.{text_of_lines}
+use Rattle.scr_words.specs.declared.seed.Seed.{Seed}
+use Rattle.scr_notation.specs.declared.event.Event.{Event}
+use Rattle.scr_notation.specs.declared.event.Event.TheVariants.{C222}
+use Rattle.scr_notation.specs.Event.{events}
+use Rattle.scr_list.specs.declared.round.Round.{Round}
+use Rattle.scr_list.specs.Events.{rules_of, usual_of}
+use Rattle.scr_round.specs.Round.{slots_of}
+
+-- ---- the list of a number
+
+-- its seed: the number in eight bytes, the least first, and then zeros
+abbrev pub load_seed : ℕ → Seed
+load_seed number = record { 0 = to_le_bytes w64 number ++ replicate 24 0 }
+
+-- the event with this number, from 0 to 10
+abbrev pub numbered_event : ℕ → Event
+numbered_event number = slice_index_or events number C222
+
+-- so many groups of an event, with its usual minimum
+abbrev pub usual_round : Event → ℕ → Round
+usual_round event groups = record { event = event; groups = groups; least = usual_of (rules_of event).minima }
+
+-- its round k, counted from 0: the events come in turn, and the numbers of groups from 1 to 8 in steps of five
+abbrev pub load_round : ℕ → ℕ → Round
+load_round number k = usual_round (numbered_event ((number + k) % 11)) (1 + (number + 5 * k) % 8)
+
+-- its rounds, of which there are 1 to 16
+abbrev pub load_rounds : ℕ → List Round
+load_rounds number = map (load_round number) (range_with_len 0 (1 + number % 16))
+
+-- ---- what is told of a sheet
+
+-- how many slots these rounds have
+abbrev pub slots_of_all : List Round → ℕ
+slots_of_all rounds = sum_by slots_of rounds
+
+-- four lines with these numbers
+abbrev pub four_lines : ℕ → ℕ → ℕ → ℕ → List ℕ
+four_lines rounds scrambles bytes total = text_of_lines (
+    (codes "rounds " ++ decimal rounds) ∷
+    (codes "scrambles " ++ decimal scrambles) ∷
+    (codes "bytes " ++ decimal bytes) ∷
+    (codes "sum " ++ decimal total) ∷ [])
+
+-- the lines on the sheet of these rounds: how many rounds and slots it has, how many bytes, and what these add up to
+abbrev pub load_text : List Round → List ℕ → List ℕ
+load_text rounds sheet = four_lines (length rounds) (slots_of_all rounds) (length sheet) (sum sheet)

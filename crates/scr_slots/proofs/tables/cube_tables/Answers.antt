@@ -1,0 +1,12 @@
+use Rattle.std.proofs.Common.{map}
+use Rattle.scr_list.specs.declared.round.Round.{Round}
+use Rattle.scr_small.proofs.Pairs.{IfErr-handed}
+use Rattle.scr_slots.specs.Tables.{IsBuildCause}
+use Rattle.scr_slots.proofs.BuildCauses.{IsBuildCause-cubes}
+use Rattle.scr_slots.proofs.tables.cube_tables.Goals as goal
+
+pub returns-in_err-tables-clause-cause : goal.returns-in_err-tables-clause-cause
+returns-in_err-tables-clause-cause c =
+    let events = map (λ (round : Round). round.event) c.args.rounds.now in
+    IfErr-handed (IsBuildCause events) c.in_err-tables.field-0.0 c.from_residual.result c.from_residual.ensures.1
+    (IsBuildCause-cubes events (c.has_cubes.ensures.0 c.if-has_cubes.true) c.in_err-tables.field-0.0 c.in_err-tables.ensures)

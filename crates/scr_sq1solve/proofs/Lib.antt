@@ -1,0 +1,11 @@
+mod Joins
+mod Walks
+mod LetterWords
+mod Filled
+mod ShownTables
+mod ShapeSteps
+mod Ends
+mod Codes
+mod CodeMovesLaws
+mod ListSteps
+mod KeptLetters

@@ -1,0 +1,8 @@
+use Rattle.scr_sq1solve.specs.Proofs.CodeSteps.{IsKept-home, IsKept-quarters}
+use Rattle.scr_sq1solve.proofs.code_moves.SquareMoves.build.Goals as goal
+
+pub build-requires : goal.build-requires
+build-requires c = IsKept-home
+
+pub build-requires-2 : goal.build-requires-2
+build-requires-2 c = IsKept-quarters

@@ -1,0 +1,11 @@
+use Rattle.std.proofs.Common.{◌≡◌, false, take}
+use Rattle.std.specs.List.{list_any}
+use Rattle.scr_play.specs.Play.{play}
+use Rattle.scr_sq1.specs.Units.{sq1_after, solved_sq1}
+use Rattle.scr_sq1solve.specs.Stages.{quarter_words}
+use Rattle.scr_sq1solve.specs.Tables.{square_index, square_state, has_index}
+use Rattle.scr_sq1solve.proofs.code_moves.SquareMovesCoord.is_goal.Given as goal
+
+abbrev pub invariant-loop-number : goal.invariant-loop-number
+invariant-loop-number l =
+    list_any (λ word. has_index square_index (square_index solved_sq1) (play sq1_after (square_state l.position) word)) (take l.number quarter_words) ≡ false

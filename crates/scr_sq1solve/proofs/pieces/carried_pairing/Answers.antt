@@ -1,0 +1,23 @@
+use Rattle.std.proofs.Common.{slice_index, sym, ◌∙◌, subst, arith}
+use Rattle.scr_combinatorics.specs.Pairings.{IsPairing}
+use Rattle.scr_combinatorics.specs.Permutations.{place_of}
+use Rattle.scr_combinatorics.proofs.PermutationLaws.{at-permutation}
+use Rattle.scr_sq1solve.specs.Tables.{carried_pairing}
+use Rattle.scr_sq1solve.specs.Proofs.Pairs.{IsPairing-carried}
+use Rattle.scr_sq1solve.proofs.Filled.{mapped_all}
+use Rattle.scr_sq1solve.proofs.pieces.carried_pairing.Goals as goal
+
+pub returns-clause-value : goal.returns-clause-value
+unfolding carried_pairing
+returns-clause-value c =
+    let places = c.args.places.now in
+    let partners = c.args.partners.now in
+    mapped_all (λ place. place_of (slice_index partners place) places) places c.loop-place.carried
+    (c.loop-place.invariant.size ∙ sym c.requires.places.size) (λ k lt. c.loop-place.invariant.filled k (omega (arith, c.requires.places.size)))
+
+pub returns-clause-valid : goal.returns-clause-valid
+returns-clause-valid c =
+    subst (IsPairing 8) (sym (returns-clause-value c)) (IsPairing-carried c.args.partners.now c.args.places.now c.requires.partners c.requires.places)
+
+pub bounds-partners-from : goal.bounds-partners-from
+bounds-partners-from c = omega (arith, c.from.ensures, at-permutation 8 c.args.places.now c.requires.places c.loop-place.place (omega arith))

@@ -1,0 +1,49 @@
+-- The letters of the stages, and the turns that end them, each kind by its name.
+use Rattle.std.specs.Prelude.{◌≡◌, ℕ, ◌/◌, ◌%◌, pos, neg_ℤ, List, map}
+use Rattle.scr_combinatorics.specs.Lists.{numbers_from}
+use Rattle.scr_play.specs.Tidy.{tidy}
+use Rattle.scr_notation.specs.declared.turn.Turn.{Turn}
+use Rattle.scr_notation.specs.Turning.{turn_merging}
+use Rattle.scr_sq1.specs.Units.{Sq1State}
+use Rattle.scr_sq1solve.specs.Stages.{Stage, IsStageWord, IsSolution, IsNormal, HasSolvedLayers, turn_word, quarter_word, turns_of, shape_letter, pairing_letter, home_letter}
+use Rattle.scr_sq1solve.specs.declared.stage_letters.Letters.{Letters}
+use Rattle.scr_sq1solve.specs.declared.stage_letters.Letters.TheVariants.{OfShapes, OfPairings, OfHome, Squarings, Quarters}
+
+-- number n, below 4, of the turns of which one ends the first stage
+unfoldable pub squaring_word : ℕ → List Turn
+squaring_word n = turn_word (neg_ℤ (pos (n % 2))) (pos (n / 2))
+
+-- the word of the letter, or of the turn, with this number
+abbrev pub letter_of : Letters → ℕ → List Turn
+letter_of OfShapes = shape_letter
+letter_of OfPairings = pairing_letter
+letter_of OfHome = home_letter
+letter_of Squarings = squaring_word
+letter_of Quarters = quarter_word
+
+-- how many turns end a stage
+abbrev pub end_count : Letters → ℕ
+end_count Squarings = 4
+end_count Quarters = 16
+end_count _ = 0
+
+abbrev pub end_words : Letters → List (List Turn)
+end_words letters = map (letter_of letters) (numbers_from 0 (end_count letters))
+
+-- what holds where one of them has ended it
+abbrev pub IsEnded : Letters → Sq1State → Type 0
+IsEnded Squarings s = IsNormal s
+IsEnded _ s = HasSolvedLayers s
+
+-- The turns of a stage's word from a state, and where they lead.
+pub record IsWalk (stage : Stage) (s : Sq1State) (turns : List Turn) (end : Sq1State) : Type 0 where
+  pub word : List ℕ
+  pub is : IsStageWord stage s word
+  pub turns_are : turns ≡ turns_of stage.letter word
+  pub end_is : is.first.leads.end ≡ end
+
+-- The solution of a state, tidied.
+pub record IsTidiedSolution (s : Sq1State) (tidied : List Turn) : Type 0 where
+  pub solution : List Turn
+  pub is : IsSolution s solution
+  pub tidied_is : tidied ≡ tidy turn_merging solution

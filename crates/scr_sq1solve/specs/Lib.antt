@@ -1,0 +1,9 @@
+pub mod Stages
+pub mod Tables
+pub mod Counts
+pub mod Letters
+pub mod Codes
+pub mod Placed
+pub mod Built
+pub mod Minima
+pub mod Proofs

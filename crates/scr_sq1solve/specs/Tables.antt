@@ -1,0 +1,153 @@
+-- The tables of the stages: what each is a table of, and how far it may reach.
+use Rattle.std.specs.Prelude.{ℕ, ◌+◌, ◌*◌, ◌/◌, ◌%◌, ◌==◌, Bool, false, if◌then◌else◌, List, [], ◌∷◌, map, slice_index, unwrap_or, Option, Some, None}
+use Rattle.std.specs.Option.{option_map}
+use Rattle.std.specs.List.{list_any}
+use Rattle.scr_combinatorics.specs.Lists.{numbers_from, pick, total}
+use Rattle.scr_combinatorics.specs.Permutations.{permutation_number, permutation_at, place_of}
+use Rattle.scr_combinatorics.specs.Digits.{mixed_number, mixed_digits}
+use Rattle.scr_combinatorics.specs.Pairings.{pairing_number, pairing_at}
+use Rattle.scr_orbit.specs.Orbits.{Rearrangement}
+use Rattle.scr_play.specs.Play.{play}
+use Rattle.scr_coord.specs.Coordinates.{Coordinate}
+use Rattle.scr_coord.specs.Products.{product}
+use Rattle.scr_coord.specs.Projections.{ListView, projection}
+use Rattle.scr_notation.specs.declared.turn.Turn.{Turn}
+use Rattle.scr_table.specs.declared.name.TableName.TheVariants.{Shapes, Pairings, Square}
+use Rattle.scr_table.specs.Lines.{TableLine}
+use Rattle.scr_sq1.specs.Units.{Sq1State, solved_sq1, sq1_after}
+use Rattle.scr_sq1.specs.Shapes.{shape_of, shape_number, shape_at}
+use Rattle.scr_sq1.specs.Numbers.{corners_of, edges_of, laid, shape_word}
+use Rattle.scr_sq1solve.specs.Stages.{after_letter, shape_letter, oddness, squaring_words, shape_stage, mates, pairing_letter, pairing_stage, home_letter, quarter_words, home_stage}
+
+-- ---- states by an index
+
+-- a state, if there is one, has this index
+abbrev pub has_index : (Sq1State → ℕ) → ℕ → Option Sq1State → Bool
+has_index index_of i None = false
+has_index index_of i (Some s) = index_of s == i
+
+-- What a search sees that knows of a state its index alone: the letters lead from the index of a state to that of the state
+-- that they make of it, and the goals are the indexes of which one of some words leads to that of the solved state. Which
+-- state stands for an index makes no difference.
+abbrev pub indexed_coordinate : ℕ → (Sq1State → ℕ) → (ℕ → Sq1State) → ℕ → (ℕ → List Turn) → List (List Turn) → Coordinate
+indexed_coordinate count index_of state_at letters letter ends = record {
+  count = count;
+  turns = letters;
+  after = λ i n. option_map index_of (after_letter letters letter (state_at i) n);
+  is_goal = λ i. list_any (λ word. has_index index_of (index_of solved_sq1) (play sq1_after (state_at i) word)) ends;
+}
+
+-- ---- the shapes
+
+-- the shape's number, above whether the lists of corners and of edges differ in parity
+unfoldable pub shapes_index : Sq1State → ℕ
+shapes_index s = oddness s + 2 * shape_number (shape_of s.units)
+
+-- eight pieces in order, or with the first two exchanged, so that the list is odd
+abbrev pub pieces_of_parity : ℕ → List ℕ
+pieces_of_parity odd = if odd == 0 then numbers_from 0 8 else 1 ∷ 0 ∷ numbers_from 2 6
+
+unfoldable pub shapes_state : ℕ → Sq1State
+shapes_state i = record { units = laid (shape_word (shape_at (i / 2))) (numbers_from 0 8) (pieces_of_parity (i % 2)); equator = false }
+
+abbrev pub shapes_coordinate : Coordinate
+shapes_coordinate = indexed_coordinate 7356 shapes_index shapes_state 144 shape_letter squaring_words
+
+-- ---- the pairings
+
+-- The lists of corners and of edges that a letter makes of the solved state: a letter of the later stages moves the pieces of
+-- each normal state by these places.
+unfoldable pub units_after : (ℕ → List Turn) → ℕ → List ℕ
+units_after letter n = (unwrap_or (play sq1_after solved_sq1 (letter n)) solved_sq1).units
+
+abbrev pub letters_by : (List ℕ → List ℕ) → (ℕ → List Turn) → List Rearrangement
+letters_by pieces_of letter = map (λ n. let r : Rearrangement = record { places = pieces_of (units_after letter n); added = [] } in r) (numbers_from 0 32)
+
+-- partners when pieces are moved, where each place gets the piece of a named place
+unfoldable pub carried_pairing : List ℕ → List ℕ → List ℕ
+carried_pairing partners places = map (λ place. place_of (slice_index partners place) places) places
+
+abbrev pub pairings_view : ListView
+pairings_view = record {
+  count = 105;
+  list_at = pairing_at 4;
+  number_of = pairing_number 4;
+  turned = λ partners turn. carried_pairing partners turn.places;
+  goal = mates;
+}
+
+abbrev pub pairings_coordinate : Coordinate
+pairings_coordinate = product (projection pairings_view (letters_by corners_of pairing_letter)) (projection pairings_view (letters_by edges_of pairing_letter))
+
+-- ---- the square
+
+-- which pair of mates a piece is of, from 0, and whether it is the larger of the two; of places it is the same
+abbrev pub pair_of : List ℕ
+pair_of = 0 ∷ 1 ∷ 0 ∷ 1 ∷ 2 ∷ 3 ∷ 2 ∷ 3 ∷ []
+
+abbrev pub is_larger : List ℕ
+is_larger = 0 ∷ 0 ∷ 1 ∷ 1 ∷ 0 ∷ 0 ∷ 1 ∷ 1 ∷ []
+
+-- the smaller place of each pair of places, which are also the smaller pieces of the pairs
+abbrev pub smaller : List ℕ
+smaller = 0 ∷ 1 ∷ 4 ∷ 5 ∷ []
+
+-- which pair of mates stands on each pair of places, as the number of that list
+unfoldable pub pairs_number : List ℕ → ℕ
+pairs_number pieces = permutation_number (pick pair_of (pick pieces smaller))
+
+-- for each pair of places a bit, which is 1 where the smaller place has the larger piece: the first is the least digit
+unfoldable pub bits_number : List ℕ → ℕ
+bits_number pieces = mixed_number (2 ∷ 2 ∷ 2 ∷ 2 ∷ []) (pick is_larger (pick pieces smaller))
+
+-- the pieces of which these are the numbers of the bits and of the list of pairs
+unfoldable pub paired_at : ℕ → ℕ → List ℕ
+paired_at bits pairs =
+    let standing : List ℕ = permutation_at 4 pairs in
+    let turned : List ℕ = mixed_digits (2 ∷ 2 ∷ 2 ∷ 2 ∷ []) bits in
+    map (λ place. let pair : ℕ = slice_index pair_of place in
+    slice_index smaller (slice_index standing pair) + 2 * ((slice_index turned pair + slice_index is_larger place) % 2))
+    (numbers_from 0 8)
+
+-- The edges' bits of the first three pairs, their list of pairs, the corners' bits and their list of pairs. The edges' last bit is
+-- told by the others, since both lists have one parity.
+abbrev pub square_bases : List ℕ
+square_bases = 8 ∷ 24 ∷ 16 ∷ 24 ∷ []
+
+unfoldable pub square_index : Sq1State → ℕ
+square_index s =
+    let cs : List ℕ = corners_of s.units in
+    let es : List ℕ = edges_of s.units in
+    mixed_number square_bases (bits_number es % 8 ∷ pairs_number es ∷ bits_number cs ∷ pairs_number cs ∷ [])
+
+-- the bit that makes a list of bits even
+abbrev pub last_bit : ℕ → ℕ → ℕ
+last_bit edge_bits corner_bits =
+    (total (mixed_digits (2 ∷ 2 ∷ 2 ∷ []) edge_bits) + total (mixed_digits (2 ∷ 2 ∷ 2 ∷ 2 ∷ []) corner_bits)) % 2
+
+unfoldable pub square_state : ℕ → Sq1State
+square_state i =
+    let ds : List ℕ = mixed_digits square_bases i in
+    let bits : ℕ = slice_index ds 0 + 8 * last_bit (slice_index ds 0) (slice_index ds 2) in
+    record {
+      units = laid (shape_word (shape_of solved_sq1.units)) (paired_at (slice_index ds 2) (slice_index ds 3)) (paired_at bits (slice_index ds 1));
+      equator = false;
+    }
+
+abbrev pub square_coordinate : Coordinate
+square_coordinate = indexed_coordinate 73728 square_index square_state 32 home_letter quarter_words
+
+-- ---- the tables
+
+abbrev pub shapes_line : TableLine
+shapes_line = record { name = Shapes; coordinate = shapes_coordinate; bound = shape_stage.bound }
+
+abbrev pub pairings_line : TableLine
+pairings_line = record { name = Pairings; coordinate = pairings_coordinate; bound = pairing_stage.bound }
+
+abbrev pub square_line : TableLine
+square_line = record { name = Square; coordinate = square_coordinate; bound = home_stage.bound }
+
+-- in the order in which they are built
+abbrev pub sq1_lines : List TableLine
+sq1_lines = shapes_line ∷ pairings_line ∷ square_line ∷ []

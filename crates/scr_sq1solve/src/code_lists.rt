@@ -1,0 +1,60 @@
+//! Lists of pieces in which mates stand opposite to each other, as a coordinate.
+ghost use Rattle.std.specs.Prelude.{◌≡◌, All, length};
+ghost use Rattle.std.proofs.Props.{props};
+ghost use Rattle.scr_sq1solve.specs.Placed.{KeepsMates};
+
+use crate::pieces::{code_of, pieces_at};
+use scr_coord::Coord;
+use scr_orbit::pick_into;
+
+/// These lists, by their codes. The goal is the list in order.
+#[derive(Drop)]
+pub(crate) struct CodeLists<'a> {
+    letters: &'a [[u8; 8]; 32],
+    ghost size: { length letters.now ≡ 32 },
+    ghost valid: { All KeepsMates letters.now } by { Prim.hlevel props },
+}
+
+impl<'a> CodeLists<'a> {
+    /// The coordinate of 32 letters, each told by the places from which the places get their pieces, which keep mates
+    /// opposite to each other.
+    pub fn new(letters: &'a [[u8; 8]; 32]) -> CodeLists<'a>
+        requires { All KeepsMates letters.now }
+        ensures { result.letters.now ≡ letters.now }
+    {
+        CodeLists { letters }
+    }
+}
+
+impl Coord for CodeLists<'_> {
+    ghost use Rattle.scr_coord.specs.Projections.{projection};
+    ghost use Rattle.scr_sq1solve.specs.Codes.{codes_view};
+    ghost use Rattle.scr_sq1solve.specs.Placed.{moves_of};
+    ghost use Rattle.scr_sq1solve.specs.Proofs.ListCoordinates.{StaysBelow-code_lists};
+
+    ghost coordinate = { λ t. projection codes_view (moves_of t.letters.now) };
+
+    fn count(&self) -> u32 {
+        384
+    }
+
+    fn turns(&self) -> u32 {
+        self.letters.len() as u32
+    }
+
+    fn after(&self, position: u32, turn: u32) -> Option<u32> {
+        let mut pieces = [0; 8];
+        pick_into(
+            &pieces_at(position)[..],
+            &self.letters[turn as usize][..],
+            &mut pieces[..],
+        );
+        Some(code_of(&pieces))
+    }
+
+    fn is_goal(&self, position: u32) -> bool {
+        position == 0
+    }
+
+    ghost law = { λ t. StaysBelow-code_lists t.letters.now t.valid };
+}

@@ -1,0 +1,136 @@
+//! Where letters lead from states in which mates stand opposite to each other.
+ghost use Rattle.std.specs.Prelude.{◌≡◌, ◌+◌, ◌*◌, ◌<◌, ◌%◌, ◌/◌, IfOk, map};
+ghost use Rattle.std.specs.Option.{option_map};
+ghost use Rattle.std.specs.List.{list_any};
+ghost use Rattle.scr_coord.specs.Moves.{moves_coordinate};
+ghost use Rattle.scr_coord.specs.SearchSpaces.{ShowsSame};
+ghost use Rattle.scr_play.specs.Play.{play};
+ghost use Rattle.scr_sq1.specs.Numbers.{corners_of, edges_of};
+ghost use Rattle.scr_sq1.specs.Units.{sq1_after, solved_sq1};
+ghost use Rattle.scr_sq1solve.specs.declared.stage_letters.Letters.TheVariants.{OfHome, Quarters};
+ghost use Rattle.scr_sq1solve.specs.Codes.{codes_coordinate};
+ghost use Rattle.scr_sq1solve.specs.Letters.{letter_of};
+ghost use Rattle.scr_sq1solve.specs.Stages.{after_letter, quarter_words};
+ghost use Rattle.scr_sq1solve.specs.Tables.{square_index, square_state, has_index, last_bit};
+ghost use Rattle.scr_sq1solve.specs.Proofs.CodeSteps.{IsKept};
+
+use crate::code_lists::CodeLists;
+use crate::indexes::position_of;
+use crate::letter_places::letter_places;
+use crate::stage_letters::Letters;
+use scr_coord::{Coord, MoveTable};
+use std::alloc::{AllocError, Global};
+
+/// Where 32 letters lead from the lists of corners and from those of edges.
+#[derive(Drop)]
+pub(crate) struct CodeMoves {
+    corners: MoveTable,
+    edges: MoveTable,
+    letters: Letters,
+    ghost shows_corners: { ShowsSame (codes_coordinate corners_of (letter_of letters)) (moves_coordinate corners) },
+    ghost shows_edges: { ShowsSame (codes_coordinate edges_of (letter_of letters)) (moves_coordinate edges) },
+    ghost kept: { IsKept (letter_of letters) },
+}
+
+impl CodeMoves {
+    /// The moves of letters that keep mates opposite to each other. Only memory can be wanting.
+    pub fn build(alloc: Global, letters: Letters) -> Result<CodeMoves, AllocError>
+        requires { IsKept (letter_of letters) }
+        ensures { IfOk result (λ moves. moves.letters ≡ letters) }
+    {
+        let places = letter_places(letters);
+        let corners = MoveTable::build(alloc, &CodeLists::new(&places.corners))?;
+        let edges = MoveTable::build(alloc, &CodeLists::new(&places.edges))?;
+        Ok(CodeMoves {
+            corners,
+            edges,
+            letters,
+        })
+    }
+
+    /// The position after a letter.
+    #[inline]
+    pub fn after(&self, position: u32, turn: u32) -> Option<u32>
+        requires position { position < 73728 }
+        requires turn { turn < 32 }
+        ensures { result ≡ option_map square_index (after_letter 32 (letter_of self.now.letters) (square_state position) turn) }
+    {
+        let corners = self.corners.after(position / 192, turn)?;
+        let edges = self.edges.after(edges_code(position), turn)?;
+        Some(position_of(edges, corners))
+    }
+}
+
+/// The code of the list of edges at a position: the last bit is the one that makes both lists even or both odd.
+#[inline]
+fn edges_code(position: u32) -> u32
+    requires { position < 73728 }
+    ensures value { result ≡ position % 8 + 8 * last_bit (position % 8) (position / 192 % 16) + 16 * (position / 8 % 24) }
+    ensures below { result < 384 }
+{
+    let low = position % 8;
+    let corners = position / 192 % 16;
+    let last = low % 2
+        + low / 2 % 2
+        + low / 2 / 2 % 2
+        + corners % 2
+        + corners / 2 % 2
+        + corners / 2 / 2 % 2
+        + corners / 2 / 2 / 2 % 2;
+    low + 8 * (last % 2) + 16 * (position / 8 % 24)
+}
+
+/// The moves of the table `square`, built of small ones.
+#[derive(Drop)]
+pub(crate) struct SquareMoves {
+    home: CodeMoves,
+    quarters: CodeMoves,
+    ghost of_home: { home.letters ≡ OfHome },
+    ghost of_quarters: { quarters.letters ≡ Quarters },
+}
+
+impl SquareMoves {
+    /// The moves. Only memory can be wanting.
+    pub fn build(alloc: Global) -> Result<SquareMoves, AllocError> {
+        Ok(SquareMoves {
+            home: CodeMoves::build(alloc, Letters::OfHome)?,
+            quarters: CodeMoves::build(alloc, Letters::Quarters)?,
+        })
+    }
+}
+
+impl Coord for SquareMoves {
+    ghost use Rattle.scr_sq1solve.specs.Tables.{square_coordinate};
+    ghost use Rattle.scr_sq1solve.specs.Proofs.HomeStage.{StaysBelow-square};
+
+    ghost coordinate = { λ _. square_coordinate };
+
+    fn count(&self) -> u32 {
+        73_728
+    }
+
+    fn turns(&self) -> u32 {
+        32
+    }
+
+    #[inline]
+    fn after(&self, position: u32, turn: u32) -> Option<u32> {
+        self.home.after(position, turn)
+    }
+
+    fn is_goal(&self, position: u32) -> bool {
+        for number in 0..16 {
+            match self.quarters.after(position, number) {
+                Some(end) => {
+                    if end == 0 {
+                        return true;
+                    }
+                }
+                None => {}
+            }
+        }
+        false
+    }
+
+    ghost law = { λ _. StaysBelow-square };
+}

@@ -1,0 +1,48 @@
+//! The indexes of a state in the tables.
+ghost use Rattle.std.specs.Prelude.{◌≡◌, ◌+◌, ◌*◌, ◌/◌, ◌%◌, ◌<◌};
+ghost use Rattle.scr_sq1solve.specs.Tables.{shapes_index, square_index};
+ghost use Rattle.scr_sq1solve.specs.Proofs.PairingStage.{pairings_index};
+
+use crate::pieces::{code_of, pairing_of};
+use scr_rank::Pairing8;
+use scr_rank::permutations::is_odd;
+use scr_sq1::{Sq1, shape_number};
+
+/// The index in the table `shapes`, below 7,356.
+#[inline]
+pub(crate) fn shapes_index(state: &Sq1) -> u32
+    ensures value { result ≡ shapes_index state.now }
+    ensures below { result < 7356 }
+{
+    let odd = u32::from(is_odd(&state.corners()[..])) + u32::from(is_odd(&state.edges()[..]));
+    odd % 2 + 2 * shape_number(&state.shape())
+}
+
+/// The index of a normal state in the table `pairings`, below 11,025.
+pub(crate) fn pairings_index(state: &Sq1) -> u32
+    ensures value { result ≡ pairings_index state.now }
+    ensures below { result < 11025 }
+{
+    let corners = Pairing8::rank(&pairing_of(&state.corners())) as u32;
+    let edges = Pairing8::rank(&pairing_of(&state.edges())) as u32;
+    corners + 105 * edges
+}
+
+/// The index in the table `square`, below 73,728, of a normal state in which mates stand opposite to each other.
+pub(crate) fn square_index(state: &Sq1) -> u32
+    ensures value { result ≡ square_index state.now }
+    ensures below { result < 73728 }
+{
+    position_of(code_of(&state.edges()), code_of(&state.corners()))
+}
+
+/// The position of a list of edges and one of corners with these codes: the edges' last bit is told by the others.
+#[inline]
+pub(crate) fn position_of(edges: u32, corners: u32) -> u32
+    requires edges { edges < 384 }
+    requires corners { corners < 384 }
+    ensures value { result ≡ edges % 8 + 8 * (edges / 16 + 24 * corners) }
+    ensures below { result < 73728 }
+{
+    edges % 8 + 8 * (edges / 16 + 24 * corners)
+}

@@ -1,0 +1,72 @@
+//! The minimum of a Square-1, by looking at all short words.
+ghost use Rattle.std.specs.Prelude.{◌≡◌, ◌≤◌, ◌↔◌, IsTrue};
+ghost use Rattle.scr_play.specs.Reach.{Needs};
+ghost use Rattle.scr_sq1.specs.Units.{solved_sq1, sq1_puzzle};
+ghost use Rattle.scr_sq1solve.specs.Minima.{needs_test};
+
+use scr_sq1::Sq1;
+use scr_table::{Moves, no_shorter};
+
+/// How many turns there are: one for each two amounts of twelfths from -5 to 6, but that the twist stands in the place of the
+/// one by which neither layer is turned.
+const TURNS: u32 = 144;
+
+/// The number of the twist.
+const TWIST: u32 = 65;
+
+/// Whether no word of fewer than `least` turns, of the layers and twists, brings a Square-1 to solved. `least` is at most 4.
+pub fn needs_sq1(state: &Sq1, least: u32) -> bool
+    requires { least ≤ 4 }
+    ensures exact { IsTrue result ↔ Needs sq1_puzzle state.now least }
+    ensures tested { result ≡ needs_test state.now least }
+{
+    let _units = state.units();
+    no_shorter(&Sq1Moves, state, least)
+}
+
+/// The turns of the layers and the twist, by their numbers.
+struct Sq1Moves;
+
+impl Moves for Sq1Moves {
+    ghost use Rattle.scr_sq1solve.specs.Minima.{sq1_moves};
+
+    type State = Sq1;
+
+    ghost moves = { λ _. sq1_moves };
+
+    fn count(&self) -> u32 {
+        TURNS
+    }
+
+    #[inline]
+    fn after(&self, state: &Sq1, turn: u32) -> Option<Sq1> {
+        let _units = state.units();
+        if turn == TWIST {
+            Some(state.twist())
+        } else {
+            state.turn((turn / 12) as i8 - 5, (turn % 12) as i8 - 5)
+        }
+    }
+
+    #[inline]
+    fn is_solved(&self, state: &Sq1) -> bool {
+        is_solved(state)
+    }
+
+    #[inline]
+    fn is_idle(&self, first: u32, second: u32) -> bool {
+        if first == TWIST {
+            second == TWIST
+        } else {
+            second != TWIST
+        }
+    }
+}
+
+/// Whether all pieces are home, and the equator too.
+#[inline]
+fn is_solved(state: &Sq1) -> bool
+    ensures { IsTrue result ↔ (state.now ≡ solved_sq1) }
+{
+    !state.equator() && state.units() == Sq1::solved().units()
+}

@@ -1,0 +1,59 @@
+//! Where mates stand, as a coordinate.
+ghost use Rattle.std.specs.Prelude.{◌≡◌, All, length};
+ghost use Rattle.std.proofs.Props.{props};
+ghost use Rattle.scr_combinatorics.specs.Permutations.{IsPermutation};
+
+use crate::pieces::carried_pairing;
+use scr_coord::Coord;
+use scr_rank::Pairing8;
+
+/// The number of the pairing in which each place is paired with the opposite one in its layer.
+const HOME: u32 = 16;
+
+/// The pairings of eight places, by their numbers. The goal is that in which opposite places are partners.
+#[derive(Drop)]
+pub(crate) struct PairingLists<'a> {
+    letters: &'a [[u8; 8]; 32],
+    ghost size: { length letters.now ≡ 32 },
+    ghost valid: { All (IsPermutation 8) letters.now } by { Prim.hlevel props },
+}
+
+impl<'a> PairingLists<'a> {
+    /// The coordinate of 32 letters, each told by the places from which the places get their pieces.
+    pub fn new(letters: &'a [[u8; 8]; 32]) -> PairingLists<'a>
+        requires { All (IsPermutation 8) letters.now }
+        ensures { result.letters.now ≡ letters.now }
+    {
+        PairingLists { letters }
+    }
+}
+
+impl Coord for PairingLists<'_> {
+    ghost use Rattle.std.specs.Prelude.{map};
+    ghost use Rattle.scr_coord.specs.Projections.{projection};
+    ghost use Rattle.scr_sq1solve.specs.Tables.{pairings_view};
+    ghost use Rattle.scr_sq1solve.specs.Placed.{moves_of};
+    ghost use Rattle.scr_sq1solve.specs.Proofs.ListCoordinates.{StaysBelow-pairing_lists};
+
+    ghost coordinate = { λ t. projection pairings_view (moves_of t.letters.now) };
+
+    fn count(&self) -> u32 {
+        105
+    }
+
+    fn turns(&self) -> u32 {
+        self.letters.len() as u32
+    }
+
+    fn after(&self, position: u32, turn: u32) -> Option<u32> {
+        let partners = Pairing8::unrank(u128::from(position));
+        let carried = carried_pairing(&partners, &self.letters[turn as usize]);
+        Some(Pairing8::rank(&carried) as u32)
+    }
+
+    fn is_goal(&self, position: u32) -> bool {
+        position == HOME
+    }
+
+    ghost law = { λ t. StaysBelow-pairing_lists t.letters.now t.valid };
+}

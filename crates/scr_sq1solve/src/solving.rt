@@ -1,0 +1,177 @@
+//! The solution of a Square-1 by stages, and the scramble that it gives.
+ghost use Rattle.std.specs.Prelude.{◌≡◌, ◌+◌, ◌*◌, ◌<◌, ◌≤◌, ◌↔◌, ◌++◌, List, Some, All, IsSome, IsTrue, length};
+ghost use Rattle.scr_play.specs.Play.{play};
+ghost use Rattle.scr_play.specs.Tidy.{tidy};
+ghost use Rattle.scr_notation.specs.declared.event.Event.TheVariants.{Sq1 as EventSq1};
+ghost use Rattle.scr_notation.specs.declared.turn.Turn.{Turn as Letter};
+ghost use Rattle.scr_notation.specs.Turning.{turn_merging};
+ghost use Rattle.scr_sq1.specs.Units.{IsSq1, solved_sq1, sq1_after};
+ghost use Rattle.scr_sq1solve.specs.declared.stage_letters.Letters.TheVariants.{OfShapes, OfPairings, OfHome, Squarings, Quarters};
+ghost use Rattle.scr_sq1solve.specs.Counts.{twists_in};
+ghost use Rattle.scr_sq1solve.specs.Letters.{letter_of, end_count, end_words, IsEnded, IsWalk, IsTidiedSolution};
+ghost use Rattle.scr_sq1solve.specs.Stages.{EndsIn, IsEnd, HasSolvedLayers, IsNormal, IsScrambleSq1, IsPaired, shape_stage, pairing_stage, home_stage, turns_of, equator_word};
+ghost use Rattle.scr_sq1solve.specs.Proofs.Letters.{IsNormalSq1};
+ghost use Rattle.scr_sq1solve.specs.Proofs.HomeStage.{IsPairedSq1};
+
+use crate::indexes::{pairings_index, shapes_index, square_index};
+use crate::shape_states::NORMAL;
+use crate::stage_letters::{Letters, equator_word, letter, push_turn, word_of};
+use crate::tables::Sq1Tables;
+use scr_notation::{Event, Scramble, inverse, tidy};
+use scr_sq1::Sq1;
+
+/// The scramble of a Square-1, of at most 76 twists and 153 turns: its solution by the three stages, in which neighbouring
+/// turns of the layers and neighbouring twists are merged, taken back. There is no refusal, and no memory is taken.
+pub fn scramble_sq1(tables: &Sq1Tables, state: &Sq1) -> Scramble
+    ensures event { result.event ≡ EventSq1 }
+    ensures twists { twists_in result.turns ≤ 76 }
+    ensures at_most { length result.turns ≤ 153 }
+    ensures scramble { IsScrambleSq1 state.now result.turns }
+    ensures only { (turns : List Letter) → IsScrambleSq1 state.now turns → turns ≡ result.turns }
+    ensures played { play sq1_after solved_sq1 result.turns ≡ Some state.now }
+{
+    let _units = state.units();
+    inverse(&tidied_solution(tables, state))
+}
+
+/// The turns of a stage's word, and the state where they lead.
+#[derive(Drop)]
+struct Walk {
+    turns: Scramble,
+    end: Sq1,
+}
+
+/// The solution, tidied. It is joined from its end, and each part is tidied when it is joined.
+fn tidied_solution(tables: &Sq1Tables, state: &Sq1) -> Scramble
+    requires { IsSq1 state.now }
+    ensures event { result.event ≡ EventSq1 }
+    ensures solution { IsTidiedSolution state.now result.turns }
+{
+    let shaped = shape_walk(tables, state);
+    let squared = end_walk(Letters::Squarings, &shaped.end);
+    let paired = pairing_walk(tables, &squared.end);
+    let homed = home_walk(tables, &paired.end);
+    let last = end_walk(Letters::Quarters, &homed.end);
+    let homing = joined(&homed.turns, &last.turns);
+    let pairing = joined(&paired.turns, &homing);
+    let squaring = joined(&squared.turns, &pairing);
+    let shaping = joined(&shaped.turns, &squaring);
+    if last.end.equator() {
+        joined(&equator_word(), &shaping)
+    } else {
+        shaping
+    }
+}
+
+/// The word of the first stage.
+fn shape_walk(tables: &Sq1Tables, state: &Sq1) -> Walk
+    requires { IsSq1 state.now }
+    ensures walk { IsWalk shape_stage state.now result.turns.turns result.end }
+    ensures event { result.turns.event ≡ EventSq1 }
+{
+    let word = tables.shapes_word(shapes_index(state));
+    followed(Letters::OfShapes, &word[..], state)
+}
+
+/// The word of the second stage, from a normal state.
+fn pairing_walk(tables: &Sq1Tables, state: &Sq1) -> Walk
+    requires { IsNormalSq1 state.now }
+    ensures walk { IsWalk pairing_stage state.now result.turns.turns result.end }
+    ensures event { result.turns.event ≡ EventSq1 }
+{
+    let word = tables.pairings_word(pairings_index(state));
+    followed(Letters::OfPairings, &word[..], state)
+}
+
+/// The word of the third stage, from a normal state in which mates stand opposite to each other.
+fn home_walk(tables: &Sq1Tables, state: &Sq1) -> Walk
+    requires { IsPairedSq1 state.now }
+    ensures walk { IsWalk home_stage state.now result.turns.turns result.end }
+    ensures event { result.turns.event ≡ EventSq1 }
+{
+    let word = tables.square_word(square_index(state));
+    followed(Letters::OfHome, &word[..], state)
+}
+
+/// The turns of letters, and where they lead from a state that bars none of them.
+fn followed(letters: Letters, numbers: &[u8], state: &Sq1) -> Walk
+    requires numbers { All (λ number. number < 144) numbers.now }
+    requires few { length numbers.now ≤ 24 }
+    requires defined { IsSome (play sq1_after state.now (turns_of (letter_of letters) numbers.now)) }
+    ensures turns { result.turns ≡ record { event = EventSq1; turns = turns_of (letter_of letters) numbers.now } }
+    ensures end { play sq1_after state.now result.turns.turns ≡ Some result.end }
+{
+    let turns = word_of(letters, numbers);
+    match state.play(&turns) {
+        Some(end) => Walk { turns, end },
+        None => unreachable!(),
+    }
+}
+
+/// The turn that ends a stage, and where it leads.
+fn end_walk(letters: Letters, state: &Sq1) -> Walk
+    requires { EndsIn (IsEnded letters) (end_words letters) state.now }
+    ensures event { result.turns.event ≡ EventSq1 }
+    ensures end { IsEnd (IsEnded letters) (end_words letters) state.now result.turns.turns result.end }
+{
+    for number in 0..end_count(letters) {
+        let turns = letter(letters, number);
+        if let Some(end) = state.play(&turns) {
+            if is_ended(letters, &end) {
+                return Walk { turns, end };
+            }
+        }
+    }
+    unreachable!()
+}
+
+/// How many turns may end a stage.
+fn end_count(letters: Letters) -> u8
+    ensures { result ≡ end_count letters }
+{
+    match letters {
+        Letters::Squarings => 4,
+        Letters::Quarters => 16,
+        Letters::OfShapes | Letters::OfPairings | Letters::OfHome => 0,
+    }
+}
+
+/// Whether a stage has ended: the state is normal, or the layers are solved.
+fn is_ended(letters: Letters, state: &Sq1) -> bool
+    ensures { IsTrue result ↔ IsEnded letters state.now }
+{
+    let units = state.units();
+    match letters {
+        Letters::Squarings => shapes_index(state) == NORMAL,
+        Letters::OfShapes | Letters::OfPairings | Letters::OfHome | Letters::Quarters => {
+            units == Sq1::solved().units()
+        }
+    }
+}
+
+/// Two words one after the other, tidied. Together they have at most 160 turns.
+fn joined(first: &Scramble, second: &Scramble) -> Scramble
+    requires first { first.now.event ≡ EventSq1 }
+    requires second { second.now.event ≡ EventSq1 }
+    requires room { length first.now.turns + length second.now.turns ≤ 160 }
+    ensures word { result ≡ record { event = EventSq1; turns = tidy turn_merging (first.now.turns ++ second.now.turns) } }
+    ensures twists { twists_in result.turns ≤ twists_in first.now.turns + twists_in second.now.turns }
+    ensures short { length result.turns ≤ 2 * twists_in result.turns + 1 }
+{
+    let mut both = Scramble::new(Event::Sq1);
+    push_all(&mut both, first);
+    push_all(&mut both, second);
+    tidy(&both)
+}
+
+/// Adds the turns of a word to another, which has room for them.
+fn push_all(word: &mut Scramble, more: &Scramble)
+    requires event { word.old.event ≡ EventSq1 }
+    requires more { more.now.event ≡ EventSq1 }
+    requires room { length word.old.turns + length more.now.turns ≤ 160 }
+    ensures { word.new ≡ record { event = EventSq1; turns = word.old.turns ++ more.now.turns } }
+{
+    for turn in more.turns() {
+        push_turn(word, *turn);
+    }
+}

@@ -1,0 +1,14 @@
+pub mod Tries
+pub mod Spaces
+pub mod Orderly
+pub mod BitSets
+pub mod OutlookLaws
+pub mod StayLaws
+pub mod BuiltLaws
+pub mod Admissible
+pub mod Outcomes
+pub mod FirstSteps
+pub mod SecondSteps
+pub mod SecondLaws
+pub mod WordSteps
+pub mod PartLaws

@@ -1,0 +1,36 @@
+-- The turns of a word in an array; which turns may stand behind it.
+use Rattle.std.proofs.Common.{◌≡◌, ℕ, ◌+◌, ◌-◌, ◌/◌, ◌%◌, ◌<◌, ◌≤◌, Bool, true, false, List, [], ◌∷◌, ◌++◌, length, take, set, get_or, Option, Some, None, refl, sym, ap, ◌∙◌, subst, arith, eq-eqb, eqb-true}
+use Rattle.std.specs.Prelude.{◌==◌, ◌&&◌, slice_get, All}
+use Rattle.std.specs.List.{list_all}
+use Rattle.std.specs.Int.{bit_at}
+use Rattle.std.proofs.lemmas.List.{length-take-le, take_more_set, get_or-take}
+use Rattle.std.proofs.lemmas.Option.{slice_get-get_or}
+use Rattle.scr_stages.proofs.FiniteTests.{agree, agree-same, passes_below, test-below}
+use Rattle.scr_twophase.specs.TwoParts.{may_precede, is_side_quarter}
+use Rattle.scr_twophase.specs.TurnSets.{has_turn}
+
+-- the last turn of so many
+pub last-taken : (count : ℕ) (turns : List ℕ) → count ≤ length turns → 0 < count
+    → slice_get (take count turns) (length (take count turns) - 1) ≡ Some (get_or turns (count - 1) 0)
+last-taken count turns le some =
+    let size : length (take count turns) ≡ count = length-take-le count turns le in
+    ap (λ n. slice_get (take count turns) (n - 1)) size
+    ∙ slice_get-get_or (take count turns) (count - 1) 0 (omega (arith, size))
+    ∙ ap Some (get_or-take count turns (count - 1) 0 (omega arith))
+
+-- each of the turns behind a turn of a face
+unfoldable pub behind_bits : List ℕ
+behind_bits = 262136 ∷ 262087 ∷ 261695 ∷ 258552 ∷ 233415 ∷ 32319 ∷ []
+
+are_behind : ℕ → Bool
+are_behind last = passes_below (λ t. agree (has_turn (get_or behind_bits (last / 3) 0) t) (may_precede last t)) 18
+
+all_behind : passes_below are_behind 18 ≡ true
+unfolding are_behind passes_below agree behind_bits may_precede
+all_behind = refl
+
+pub behind-turn : (last t : ℕ) → last < 18 → t < 18 → has_turn (get_or behind_bits (last / 3) 0) t ≡ may_precede last t
+unfolding are_behind
+behind-turn last t a b =
+    agree-same (has_turn (get_or behind_bits (last / 3) 0) t) (may_precede last t)
+    (test-below (λ u. agree (has_turn (get_or behind_bits (last / 3) 0) u) (may_precede last u)) 18 t (test-below are_behind 18 last all_behind a) b)

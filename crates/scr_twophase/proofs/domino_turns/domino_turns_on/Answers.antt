@@ -1,0 +1,43 @@
+use Rattle.std.proofs.Common.{◌≡◌, ℕ, ◌+◌, ◌<◌, ◌≤◌, List, [], ◌∷◌, ◌++◌, map, length, take, set, get_or, refl, sym, ap, ◌∙◌, arith}
+use Rattle.std.proofs.lemmas.List.{map-append, take_more, take_more_set, take_all, get_or-map, length-map, length-set}
+use Rattle.scr_orbit.specs.PlaceTurns.{rearrangement_of}
+use Rattle.scr_orbit.specs.Orbits.{Rearrangement}
+use Rattle.scr_stages.specs.Tables.{block_turn, block_turns}
+use Rattle.scr_twophase.specs.TwoParts.{domino_turns}
+use Rattle.scr_twophase.proofs.SecondSteps.{domino_turn-lt}
+use Rattle.scr_twophase.proofs.domino_turns.domino_turns_on.Goals as goal
+
+-- one more is filled
+filled_more : {X Y : Type 0} (f : X → Y) (g : ℕ → Y) (out : List X) (numbers : List ℕ) (at : ℕ) (y : X) → at < length out → at < length numbers
+    → map f (take at out) ≡ map g (take at numbers) → f y ≡ g (get_or numbers at 0) → map f (take (at + 1) (set out at y)) ≡ map g (take (at + 1) numbers)
+filled_more f g out numbers at y lt more so_far e =
+    ap (map f) (take_more_set out at y lt) ∙ map-append f (take at out) (y ∷ [])
+    ∙ ap (λ xs. xs ++ f y ∷ []) so_far ∙ ap (λ z. map g (take at numbers) ++ z ∷ []) e
+    ∙ sym (map-append g (take at numbers) (get_or numbers at 0 ∷ [])) ∙ ap (map g) (sym (take_more numbers at 0 more))
+
+pub loop-at-preserved : goal.loop-at-preserved
+unfolding domino_turns
+loop-at-preserved g c =
+    let turns = c.args.turns.now in
+    let block = c.args.block.now in
+    let at = c.loop-at.at in
+    let lt = c.loop-at-test.true in
+    let number : ℕ = get_or domino_turns at 0 in
+    let turn = c.index-turns-from.result in
+    let still : Rearrangement = record { places = []; added = [] } in
+    let below : number < 18 = domino_turn-lt at 0 lt in
+    let read : rearrangement_of turn ≡ get_or (map rearrangement_of turns) number still =
+    ap rearrangement_of (c.index-turns-from.is ∙ ap (λ t. get_or turns t turn) c.from.ensures)
+    ∙ sym (get_or-map rearrangement_of turns number turn still (omega (arith, below, c.requires.turns))) in (
+      filled_more rearrangement_of (λ t. block_turn block (get_or (map rearrangement_of turns) t still)) c.loop-at.out domino_turns at c.turn_on.result
+          (omega (arith, c.loop-at.invariant.1, lt)) lt c.loop-at.invariant.0 (c.turn_on.ensures ∙ ap (block_turn block) read),
+      length-set c.loop-at.out at c.turn_on.result ∙ c.loop-at.invariant.1,
+    )
+
+pub returns : goal.returns
+unfolding domino_turns
+returns g c =
+    let all = c.loop-at-test.false in
+    let block = block_turns c.args.block.now (map rearrangement_of c.args.turns.now) in
+    ap (map rearrangement_of) (sym (take_all c.loop-at.at c.loop-at.out (omega (arith, c.loop-at.invariant.1, all))))
+    ∙ c.loop-at.invariant.0 ∙ ap block (take_all c.loop-at.at domino_turns all)

@@ -1,0 +1,51 @@
+use Rattle.scr_coord.specs.Moves.{moves_coordinate}
+use Rattle.scr_coord.specs.Projections.{pieces_view}
+use Rattle.scr_stages.specs.Stages.{middle_edges, tetrads_stage}
+use Rattle.scr_stages.specs.Tables.{block_turn, corners_by, edges_by, outer_places}
+use Rattle.std.proofs.Common.{map, get_or}
+use Rattle.scr_twophase.specs.Tables.{corners_of, outer_edges_of, middle_edges_of, corners_coordinate, outer_edges_coordinate, middle_edges_coordinate}
+use Rattle.scr_twophase.proofs.Admissible.{leads-shown}
+use Rattle.scr_twophase.proofs.SecondLaws.{second_step, IsDominoCube-turned, position-shown}
+use Rattle.scr_twophase.proofs.Spaces.{AreCornersHome, AreOuterHome, AreMiddleHome, Follows-corners, Follows-outer_edges, Follows-middle_edges}
+use Rattle.scr_twophase.proofs.second.SecondTables.after.Goals as goal
+
+pub step-requires-clause-leads : goal.step-requires-clause-leads
+step-requires-clause-leads c =
+    leads-shown (pieces_view 8) (corners_by tetrads_stage.turns) (moves_coordinate c.args.self.now.corners) c.args.self.now.corners_shown c.args.at.corners c.args.place
+    c.requires.at.corners c.requires.place
+
+pub step-requires-2-clause-leads : goal.step-requires-2-clause-leads
+step-requires-2-clause-leads c =
+    leads-shown (pieces_view 8) (map (block_turn outer_places) (edges_by tetrads_stage.turns)) (moves_coordinate c.args.self.now.outer) c.args.self.now.outer_shown
+    c.args.at.outer c.args.place c.requires.at.outer c.requires.place
+
+pub step-requires-3-clause-leads : goal.step-requires-3-clause-leads
+step-requires-3-clause-leads c =
+    leads-shown (pieces_view 4) (map (block_turn middle_edges) (edges_by tetrads_stage.turns)) (moves_coordinate c.args.self.now.middle) c.args.self.now.middle_shown
+    c.args.at.middle c.args.place c.requires.at.middle c.requires.place
+
+pub returns-clause-shows : goal.returns-clause-shows
+returns-clause-shows c = λ cube turned shows to.
+    let self = c.args.self.now in
+    let place = c.args.place in
+    let lt = c.requires.place in
+    record {
+      domino = IsDominoCube-turned cube turned place shows.domino lt to;
+      corners = second_step corners_coordinate (moves_coordinate self.corners) corners_of AreCornersHome Follows-corners self.corners_shown cube turned c.args.at.corners place
+          c.step.result shows.domino shows.corners lt lt to c.step.ensures;
+      outer = second_step outer_edges_coordinate (moves_coordinate self.outer) outer_edges_of AreOuterHome Follows-outer_edges self.outer_shown cube turned c.args.at.outer place
+          c.step-2.result shows.domino shows.outer lt lt to c.step-2.ensures;
+      middle = second_step middle_edges_coordinate (moves_coordinate self.middle) middle_edges_of AreMiddleHome Follows-middle_edges self.middle_shown cube turned
+          c.args.at.middle place c.step-3.result shows.domino shows.middle lt lt to c.step-3.ensures;
+    }
+
+pub returns-clause-position : goal.returns-clause-position
+returns-clause-position c =
+    let self = c.args.self.now in
+    let place = c.args.place in
+    let lt = c.requires.place in
+    record {
+      corners = position-shown corners_coordinate self.corners self.corners_shown c.args.at.corners place c.step.result c.requires.at.corners lt c.step.ensures;
+      outer = position-shown outer_edges_coordinate self.outer self.outer_shown c.args.at.outer place c.step-2.result c.requires.at.outer lt c.step-2.ensures;
+      middle = position-shown middle_edges_coordinate self.middle self.middle_shown c.args.at.middle place c.step-3.result c.requires.at.middle lt c.step-3.ensures;
+    }

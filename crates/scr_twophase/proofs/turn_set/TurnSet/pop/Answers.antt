@@ -1,0 +1,13 @@
+use Rattle.std.proofs.Common.{◌<◌, ap, ◌∙◌, arith}
+use Rattle.scr_twophase.specs.TurnSets.{turns_in}
+use Rattle.scr_twophase.proofs.BitSets.{turns_in-none, turns_in-lowest, lowest-lt}
+use Rattle.scr_twophase.proofs.turn_set.TurnSet.pop.Goals as goal
+
+pub returns-then-self-eq0-clause-first : goal.returns-then-self-eq0-clause-first
+returns-then-self-eq0-clause-first c = ap turns_in c.if-self-eq0.true ∙ turns_in-none
+
+pub returns-clause-first : goal.returns-clause-first
+returns-clause-first c = turns_in-lowest c.args.self.now.bits (omega (arith, c.if-self-eq0.false)) c.requires
+
+pub returns-clause-below : goal.returns-clause-below
+returns-clause-below c = lowest-lt c.args.self.now.bits (omega (arith, c.if-self-eq0.false)) c.requires

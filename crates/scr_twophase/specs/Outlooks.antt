@@ -1,0 +1,28 @@
+-- Which turns may go on a word of so many turns to the goal of a pruning table.
+use Rattle.std.specs.Prelude.{◌≡◌, ℕ, ◌+◌, ◌-◌, ◌/◌, ◌%◌, ◌^◌, ◌<◌, ◌==◌, nat_le, IsTrue, if◌then◌else◌, List, length, slice_index, slice_index_or, Some}
+use Rattle.scr_coord.specs.Coordinates.{Coordinate, moved}
+use Rattle.scr_table.specs.Lines.{TableLine, IsTableOf}
+use Rattle.scr_twophase.specs.declared.outlook.Outlook.{Outlook}
+use Rattle.scr_twophase.specs.declared.pruning.PruningTable.{PruningTable}
+use Rattle.scr_twophase.specs.TurnSets.{has_turn}
+
+-- The turns that an outlook leaves where so many turns may still be made: those that lead nearer to the goal, if it is as far as
+-- that; those that lead no farther, if it is nearer by one; else all.
+unfoldable pub turns_within : Outlook → ℕ → ℕ
+turns_within o left =
+    if nat_le left (o.nearer / 2 ^ 18) then o.nearer % 2 ^ 18
+    else (if left == o.nearer / 2 ^ 18 + 1 then o.no_farther % 2 ^ 18 else 2 ^ 18 - 1)
+
+-- An outlook leaves each turn of its position that leads to where the table has fewer turns than may still be made.
+pub record IsOutlook (c : Coordinate) (distances : List ℕ) (p : ℕ) (o : Outlook) : Type 0 where
+  pub kept : (t q left : ℕ) → moved c p t ≡ Some q → slice_index distances q < left → IsTrue (has_turn (turns_within o left) t)
+
+-- There is one for each position.
+pub record AreOutlooks (c : Coordinate) (distances : List ℕ) (all : List Outlook) : Type 0 where
+  pub size : length all ≡ c.count
+  pub each : (p : ℕ) (o : Outlook) → p < c.count → IsOutlook c distances p (slice_index_or all p o)
+
+-- A pruning table is that of a line, with its outlooks.
+pub record IsPruningTable (line : TableLine) (table : PruningTable) : Type 0 where
+  pub distances : IsTableOf line table.distances
+  pub outlooks : AreOutlooks line.coordinate table.distances.distances table.outlooks.items

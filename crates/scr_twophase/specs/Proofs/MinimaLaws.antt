@@ -1,0 +1,182 @@
+-- The test of a minimum is exact.
+use Rattle.std.proofs.Common.{◌≡◌, ℕ, zero, suc, ◌+◌, ◌<◌, ◌≤◌, Bool, true, false, cond, not, IsTrue, List, [], ◌∷◌, map, length, get_or, inl, inr, Option, Some, None, refl, sym, ap, ◌∙◌, subst, arith}
+use Rattle.std.specs.Prelude.{All, Any, Contains, ◌↔◌, nat_lt, option_and_then, slice_index_or}
+use Rattle.std.specs.List.{flat_map, list_any}
+use Rattle.std.proofs.lemmas.Bool.{false≢true, cases_lt, ltb-false}
+use Rattle.std.proofs.lemmas.List.{length-map, get_or-map, get_or_default}
+use Rattle.std.proofs.lemmas.List.Elements.{All-nil, All-cons, All-head, All-tail, All-weaker, All-contains, All-from_get_or, Contains-append_left, Contains-append_right}
+use Rattle.std.proofs.lemmas.List.Folds.{Any-from_list_any, list_any-from_Any}
+use Rattle.scr_combinatorics.specs.Lists.{numbers_from, pick}
+use Rattle.scr_combinatorics.proofs.Picks.{length-numbers_from, numbers_from-at, length-pick, All-pick}
+use Rattle.scr_play.specs.Play.{play, count_in}
+use Rattle.scr_play.specs.Reach.{Needs}
+use Rattle.scr_play.proofs.PlayLaws.{play-empty, play-first, play-parts, Needs-zero}
+use Rattle.scr_orbit.proofs.Minima.{count_once}
+use Rattle.scr_notation.specs.declared.turn.Turn.{Turn}
+use Rattle.scr_notation.specs.TurnNumbers.{face_turn_at}
+use Rattle.scr_turning.specs.PowerPuzzles.{after_letter, power_puzzle}
+use Rattle.scr_cube.specs.Cube333.{CubeState, cube_powers, solved_cube}
+use Rattle.scr_cube.proofs.Laws333.{lawful_cube}
+use Rattle.scr_twophase.specs.Words.{words_of, words_within}
+use Rattle.scr_twophase.specs.TwoParts.{after_turn, all_turns, is_solved, leads}
+use Rattle.scr_table.specs.Moves.{turned, NeedsTurns}
+use Rattle.scr_twophase.specs.Minima.{cube_moves, needs_turns}
+use Rattle.scr_twophase.specs.Proofs.CubeTests.{IsSolved-test, leads-parts, leads-played}
+use Rattle.scr_twophase.specs.Proofs.WordLists.{IsWordOf, words_of-each, All-flat_map}
+
+-- ---- words of letters and words of numbers
+
+same_rest : (o : Option CubeState) (w : List ℕ)
+    → ((d : CubeState) → play (after_letter cube_powers) d (map face_turn_at w) ≡ play after_turn d w)
+    → option_and_then (λ d. play (after_letter cube_powers) d (map face_turn_at w)) o ≡ option_and_then (λ d. play after_turn d w) o
+same_rest None w h = refl
+same_rest (Some d) w h = h d
+
+pub play-spelled : (c : CubeState) (w : List ℕ) → play (after_letter cube_powers) c (map face_turn_at w) ≡ play after_turn c w
+unfolding play
+play-spelled c [] = refl
+play-spelled c (t ∷ w) = same_rest (after_turn c t) w (λ d. play-spelled d w)
+
+-- a word of turn numbers that leads somewhere
+record IsNumbered (c d : CubeState) (turns : List Turn) (w : List ℕ) : Type 0 where
+  played : play after_turn c w ≡ Some d
+  size : length w ≡ length turns
+  below : All (λ t. t < 18) w
+
+-- each word of letters that leads somewhere is one of numbers
+numbered : (c d : CubeState) (turns : List Turn) → play (after_letter cube_powers) c turns ≡ Some d → (w : List ℕ) × IsNumbered c d turns w
+numbered c d [] e =
+    ([], record { played = play-empty after_turn c ∙ sym (play-empty (after_letter cube_powers) c) ∙ e; size = refl; below = All-nil (λ t. t < 18) })
+numbered c d (letter ∷ turns) e =
+    let parts = play-parts (after_letter cube_powers) c d letter turns e in
+    let number = lawful_cube.numbers c parts.0 letter parts.1 in
+    let others = numbered parts.0 d turns parts.2 in (
+      number.0 ∷ others.0,
+      record {
+        played = play-first after_turn c parts.0 number.0 others.0 (ap (after_letter cube_powers c) number.2 ∙ parts.1) ∙ others.1.played;
+        size = ap suc others.1.size;
+        below = All-cons (λ t. t < 18) number.0 others.0 number.1 others.1.below;
+      },
+    )
+
+-- ---- all words of turns are in the lists
+
+Contains-flat_map : {X A : Type 0} (f : X → List A) (xs : List X) (x : X) (a : A) → Contains xs x → Contains (f x) a → Contains (flat_map f xs) a
+Contains-flat_map f [] x a (k, lt, e) h = absurd (omega arith)
+Contains-flat_map f (y ∷ xs) x a (zero, lt, e) h =
+    Contains-append_left (f y) (flat_map f xs) a (subst (λ z. Contains (f z) a) (sym e) h)
+Contains-flat_map f (y ∷ xs) x a (suc k, lt, e) h =
+    Contains-append_right (f y) (flat_map f xs) a (Contains-flat_map f xs x a (k, omega arith, e) h)
+
+Contains-map : {X A : Type 0} (f : X → A) (xs : List X) (x : X) → Contains xs x → Contains (map f xs) (f x)
+Contains-map f xs x (k, lt, e) = (k, omega (arith, length-map xs f), get_or-map f xs k x (f x) lt ∙ ap f e)
+
+Contains-numbers : (n k : ℕ) → k < n → Contains (numbers_from 0 n) k
+Contains-numbers n k lt =
+    let inside : k < length (numbers_from 0 n) = omega (arith, length-numbers_from 0 n) in
+    (k, inside, get_or_default (numbers_from 0 n) k k 0 inside ∙ numbers_from-at 0 n k lt ∙ omega arith)
+
+pub Contains-words_of : (n : ℕ) (w : List ℕ) → length w ≡ n → All (λ t. t < 18) w → Contains (words_of all_turns n) w
+unfolding words_of all_turns
+Contains-words_of zero [] e below = (0, omega arith, refl)
+Contains-words_of zero (t ∷ w) e below = absurd (omega arith)
+Contains-words_of (suc n) [] e below = absurd (omega arith)
+Contains-words_of (suc n) (t ∷ w) e below =
+    Contains-flat_map (λ u. map (λ v. u ∷ v) (words_of all_turns n)) all_turns t (t ∷ w) (Contains-numbers 18 t (All-head (λ u. u < 18) t w below))
+    (Contains-map (λ v. t ∷ v) (words_of all_turns n) w (Contains-words_of n w (omega arith) (All-tail (λ u. u < 18) t w below)))
+
+-- and all words in the lists are such
+below_18 : All (λ t. t < 18) all_turns
+unfolding all_turns
+below_18 =
+    All-from_get_or (λ t. t < 18) (numbers_from 0 18) 0 (λ k lt.
+    let at : get_or (numbers_from 0 18) k 0 ≡ 0 + k = numbers_from-at 0 18 k lt in
+    omega (arith, at, lt))
+
+pub IsWord-listed : (n : ℕ) (w : List ℕ) → Contains (words_of all_turns n) w → (length w ≡ n) × All (λ t. t < 18) w
+IsWord-listed n w there =
+    let h = All-contains (IsWordOf all_turns n) (words_of all_turns n) w (words_of-each all_turns n) there in (
+      ap length h.is ∙ length-pick all_turns h.places ∙ h.size,
+      subst (All (λ t. t < 18)) (sym h.is) (All-pick (λ t. t < 18) all_turns h.places below_18 h.below),
+    )
+
+Contains-words_within : (most : ℕ) (w : List ℕ) → length w ≤ most → All (λ t. t < 18) w → Contains (words_within all_turns most) w
+unfolding words_within
+Contains-words_within most w le below =
+    Contains-flat_map (words_of all_turns) (numbers_from 0 (most + 1)) (length w) w (Contains-numbers (most + 1) (length w) (omega arith))
+    (Contains-words_of (length w) w refl below)
+
+each_short : (turns : List ℕ) (most : ℕ) → All (λ w. length w ≤ most) (words_within turns most)
+unfolding words_within
+each_short turns most =
+    All-flat_map (λ w. length w ≤ most) (words_of turns) (numbers_from 0 (most + 1)) (λ k d lt.
+    let n : ℕ = get_or (numbers_from 0 (most + 1)) k d in
+    let inside : k < most + 1 = omega (arith, length-numbers_from 0 (most + 1)) in
+    let is : n ≡ 0 + k = get_or_default (numbers_from 0 (most + 1)) k d 0 lt ∙ numbers_from-at 0 (most + 1) k inside in
+    All-weaker (IsWordOf turns n) (λ w. length w ≤ most)
+    (λ w h. omega (arith, ap length h.is, length-pick turns h.places, h.size, is, inside)) (words_of turns n) (words_of-each turns n))
+
+-- ---- the test
+
+refuted : (b : Bool) → not b ≡ true → b ≡ true → ⊥
+refuted true e h = false≢true e
+refuted false e h = false≢true h
+
+holds_unless : (b : Bool) → (b ≡ true → ⊥) → not b ≡ true
+holds_unless true h = absurd (h refl)
+holds_unless false h = refl
+
+pub Needs-tested : (c : CubeState) (least : ℕ) → IsTrue (needs_turns c least) ↔ Needs (power_puzzle cube_powers) c least
+unfolding needs_turns
+Needs-tested c zero = (λ e. Needs-zero (power_puzzle cube_powers) c, λ h. refl)
+Needs-tested c (suc most) =
+    let words = words_within all_turns most in (
+      λ e turns end few played solved.
+          let word = numbered c end turns played in
+          let short : length word.0 ≤ most = omega (arith, few, count_once turns, word.1.size) in
+          let there = Contains-words_within most word.0 short word.1.below in
+          let way = leads-played is_solved c end word.0 word.1.played ∙ (IsSolved-test end).1 solved in
+          refuted (list_any (leads is_solved c) words) e (list_any-from_Any (leads is_solved c) words (there.0, word.0, there.1, there.2, way)),
+      λ needs.
+          holds_unless (list_any (leads is_solved c) words) (λ e.
+          let found = Any-from_list_any (leads is_solved c) words e in
+          let to = leads-parts is_solved c found.1 found.4 in
+          let short : length found.1 ≤ most = subst (λ w. length w ≤ most) found.3 (each_short all_turns most found.0 found.1 found.2) in
+          needs (map face_turn_at found.1) to.0 (omega (arith, count_once (map face_turn_at found.1), length-map found.1 face_turn_at))
+          (play-spelled c found.1 ∙ to.1) ((IsSolved-test to.0).0 to.2)),
+    )
+
+-- ---- over the turns by their numbers
+
+turned_by : (c : CubeState) (t : ℕ) (b : Bool) → nat_lt t 18 ≡ b → cond b (after_turn c t) None ≡ after_turn c t
+turned_by c t true e = refl
+turned_by c t false e = sym (lawful_cube.no_more c t (ltb-false t 18 e))
+
+turned-turn : (c : CubeState) (t : ℕ) → turned cube_moves c t ≡ after_turn c t
+turned-turn c t = turned_by c t (nat_lt t 18) refl
+
+play-turned : (c : CubeState) (w : List ℕ) → play (turned cube_moves) c w ≡ play after_turn c w
+unfolding play
+play-turned c [] = refl
+play-turned c (t ∷ w) =
+    ap (option_and_then (λ d. play (turned cube_moves) d w)) (turned-turn c t) ∙ others (after_turn c t) (λ d. play-turned d w)
+  where
+    others : (o : Option CubeState) → ((d : CubeState) → play (turned cube_moves) d w ≡ play after_turn d w)
+        → option_and_then (λ d. play (turned cube_moves) d w) o ≡ option_and_then (λ d. play after_turn d w) o
+    others None h = refl
+    others (Some d) h = h d
+
+pub NeedsTurns-iff : (c : CubeState) (least : ℕ) → NeedsTurns cube_moves c least ↔ Needs (power_puzzle cube_powers) c least
+NeedsTurns-iff c least = (
+  λ h turns end few played solved.
+      let word = numbered c end turns played in
+      let long = h word.0 (record { end = end; played = play-turned c word.0 ∙ word.1.played; goal = (IsSolved-test end).1 solved }) in
+      omega (arith, few, count_once turns, word.1.size, long),
+  λ needs w leads.
+      elim (cases_lt (length w) least) [
+        | inl less ↦
+            absurd (needs (map face_turn_at w) leads.end (omega (arith, less, count_once (map face_turn_at w), length-map w face_turn_at))
+            (play-spelled c w ∙ sym (play-turned c w) ∙ leads.played) ((IsSolved-test leads.end).0 leads.goal))
+        | inr le ↦ le
+      ],
+)

@@ -1,0 +1,125 @@
+-- The two parts by which a 3x3x3 is solved (after Kociemba's two-phase algorithm), and the scramble that they give.
+--
+-- A turn is told by its number: U U2 U' R R2 R' F F2 F' D D2 D' L L2 L' B B2 B' are 0 to 17.
+use Rattle.std.specs.Prelude.{◌≡◌, ℕ, ◌-◌, ◌/◌, ◌%◌, ◌==◌, ◌&&◌, nat_lt, not, Bool, true, false, if◌then◌else◌, List, [], ◌∷◌, ◌++◌, map, length, take, filter, find, slice_get, Option, Some, None}
+use Rattle.std.specs.List.{filter_map}
+use Rattle.std.specs.Option.{option_map, option_map_or}
+use Rattle.std.specs.Str.{bytes_eq}
+use Rattle.scr_combinatorics.specs.Lists.{numbers_from}
+use Rattle.scr_play.specs.Play.{play}
+use Rattle.scr_play.specs.Back.{back}
+use Rattle.scr_orbit.specs.Orbits.{zeros}
+use Rattle.scr_notation.specs.declared.turn.Turn.{Turn}
+use Rattle.scr_notation.specs.TurnNumbers.{face_turn_at}
+use Rattle.scr_notation.specs.Turning.{opposite}
+use Rattle.scr_coord.specs.Projections.{marked_places, stands_in}
+use Rattle.scr_turning.specs.PowerPuzzles.{after_letter}
+use Rattle.scr_cube.specs.Cube333.{CubeState, cube_powers}
+use Rattle.scr_stages.specs.Stages.{middle_edges, tetrads_stage, IsStageScramble}
+use Rattle.scr_twophase.specs.Words.{words_within}
+
+-- ---- orderly words
+
+-- The face of a turn, of U R F D L B, and its axis: up and down, right and left, or front and back.
+abbrev pub face_of : ℕ → ℕ
+face_of t = t / 3
+
+abbrev pub axis_of : ℕ → ℕ
+axis_of t = face_of t % 3
+
+-- One turn may stand right before another unless both are of one face, or of opposite faces with the higher number first.
+unfoldable pub may_precede : ℕ → ℕ → Bool
+may_precede first second = if axis_of first == axis_of second then nat_lt (face_of first) (face_of second) else true
+
+-- a turn may stand right before the first letter of a word, if it has one
+unfoldable pub may_begin : ℕ → List ℕ → Bool
+may_begin t [] = true
+may_begin t (u ∷ w) = may_precede t u
+
+-- Of each two neighbours the first may precede the second.
+unfoldable pub is_orderly : List ℕ → Bool
+is_orderly [] = true
+is_orderly (t ∷ w) = may_begin t w && is_orderly w
+
+-- ---- what turns lead to
+
+-- what the turn with a number makes of a cube, or nothing where there is no such turn
+abbrev pub after_turn : CubeState → ℕ → Option CubeState
+after_turn c t = after_letter cube_powers c (face_turn_at t)
+
+-- the word leads to a cube that passes a test
+abbrev pub leads : (CubeState → Bool) → CubeState → List ℕ → Bool
+leads test c word = option_map_or test (play after_turn c word) false
+
+-- the test of a domino: no flips, no twists, and the edges of the middle layer in it
+unfoldable pub is_domino : CubeState → Bool
+is_domino c =
+    (bytes_eq c.edges.digits (zeros 12) && bytes_eq c.corners.digits (zeros 8))
+    && bytes_eq (marked_places (stands_in middle_edges) c.edges.pieces) middle_edges
+
+-- the test of the solved cube
+unfoldable pub is_solved : CubeState → Bool
+is_solved c =
+    (bytes_eq c.corners.pieces (numbers_from 0 8) && bytes_eq c.corners.digits (zeros 8))
+    && (bytes_eq c.edges.pieces (numbers_from 0 12) && bytes_eq c.edges.digits (zeros 12))
+
+-- ---- first parts
+
+unfoldable pub all_turns : List ℕ
+all_turns = numbers_from 0 18
+
+-- a quarter turn of R, L, F or B
+abbrev pub is_side_quarter : ℕ → Bool
+is_side_quarter t = not (axis_of t == 0) && not (t % 3 == 1)
+
+-- the word is empty, or its last letter is such a turn
+unfoldable pub ends_in_quarter : List ℕ → Bool
+ends_in_quarter word = option_map_or is_side_quarter (slice_get word (length word - 1)) true
+
+-- A first part: an orderly word that is empty or ends in a quarter turn of R, L, F or B, and leads to a domino.
+unfoldable pub is_first_part : CubeState → List ℕ → Bool
+is_first_part c word = (is_orderly word && ends_in_quarter word) && leads is_domino c word
+
+-- those of at most 12 turns, in the order of words
+unfoldable pub first_parts : CubeState → List (List ℕ)
+first_parts c = filter (is_first_part c) (words_within all_turns 12)
+
+-- ---- second parts
+
+-- the ten turns that keep a domino: U U2 U' R2 F2 D D2 D' L2 B2
+unfoldable pub domino_turns : List ℕ
+domino_turns = tetrads_stage.turns
+
+-- an orderly word that leads to solved
+unfoldable pub is_solution : CubeState → List ℕ → Bool
+is_solution c word = is_orderly word && leads is_solved c word
+
+-- The second part for a first part: the first of the words of at most 10 of these turns that leads on to solved, where the joined
+-- word is orderly.
+unfoldable pub second_part : CubeState → List ℕ → Option (List ℕ)
+second_part c first = find (λ word. is_solution c (first ++ word)) (words_within domino_turns 10)
+
+-- a first part joined with its second part, if it has one
+unfoldable pub joined : CubeState → List ℕ → Option (List ℕ)
+joined c first = option_map (λ word. first ++ word) (second_part c first)
+
+-- ---- both
+
+-- The first of some first parts that has a second part, joined with it. So many of them are tried.
+unfoldable pub first_joined : CubeState → ℕ → List (List ℕ) → Option (List ℕ)
+first_joined c tries parts = slice_get (filter_map (joined c) (take tries parts)) 0
+
+-- The two parts of a cube, or none where none of its first so many first parts has a second part.
+unfoldable pub two_parts : CubeState → ℕ → Option (List ℕ)
+two_parts c tries = first_joined c tries (first_parts c)
+
+-- ---- the scramble
+
+-- The word taken back; and where there is none, the scramble by stages.
+abbrev pub IsScrambleBy : Option (List ℕ) → CubeState → List Turn → Type 0
+IsScrambleBy (Some word) c turns = turns ≡ back opposite (map face_turn_at word)
+IsScrambleBy None c turns = IsStageScramble c turns
+
+-- The scramble of a cube, where so many first parts are tried.
+abbrev pub IsScramble333 : ℕ → CubeState → List Turn → Type 0
+IsScramble333 tries c turns = IsScrambleBy (two_parts c tries) c turns

@@ -1,0 +1,216 @@
+//! The first part: what a search for it sees of a cube, and where turns lead.
+ghost use Rattle.std.specs.Prelude.{◌≡◌, ◌+◌, ◌<◌, ◌^◌, ◌∷◌, [], ℕ, IfErr, IfOk, IsSome, Some};
+ghost use Rattle.scr_combinatorics.specs.Permutations.{IsPermutation};
+ghost use Rattle.scr_combinatorics.specs.PlaceSets.{IsPlaceSet};
+ghost use Rattle.scr_coord.specs.Moves.{moves_coordinate};
+ghost use Rattle.scr_coord.specs.SearchSpaces.{ShowsSame};
+ghost use Rattle.scr_coord.specs.Projections.{marked_places, stands_in};
+ghost use Rattle.scr_cube.specs.Cube333.{CubeState, IsCube};
+ghost use Rattle.scr_stages.specs.Stages.{middle_edges};
+ghost use Rattle.scr_stages.specs.Tables.{flips_coordinate};
+ghost use Rattle.scr_table.specs.declared.name.TableName.TheVariants.{FlipSlice, TwistSlice};
+ghost use Rattle.scr_table.specs.Causes.{IsCause};
+ghost use Rattle.scr_twophase.specs.Outlooks.{IsPruningTable};
+ghost use Rattle.scr_twophase.specs.Search.{ShowsFirst, IsFirstPosition, KeepsWays, is_domino_position};
+ghost use Rattle.scr_twophase.specs.TwoParts.{after_turn};
+ghost use Rattle.scr_twophase.specs.Tables.{twists_coordinate, middle_set_coordinate, flipslice_coordinate, twistslice_coordinate, flipslice_line, twistslice_line};
+
+use crate::pruning::PruningTable;
+use crate::turn_set::TurnSet;
+use scr_coord::{Coord, MoveTable, PlaceSet, Product, Twists, places_of};
+use scr_cube::{Cube, corner_turns, edge_turns};
+use scr_rank::{Choose, TwistRank};
+use scr_table::{BuildFault, TableName};
+use std::alloc::{AllocError, Global};
+
+/// The edges of the middle layer, FR FL BL BR, and their places.
+const MIDDLE: [u8; 4] = [8, 9, 10, 11];
+
+/// How many flips there are.
+const FLIPS: u32 = 2048;
+
+/// How many twists there are.
+const TWISTS: u32 = 2187;
+
+/// The numbers of a cube's flips, of its twists, and of the set of the places of the edges of the middle layer.
+#[derive(Clone, Copy)]
+pub(crate) struct FirstPosition {
+    /// Below 2,048.
+    pub flips: u32,
+    /// Below 2,187.
+    pub twists: u32,
+    /// Below 495.
+    pub middle: u32,
+}
+
+impl FirstPosition {
+    /// The position of a cube.
+    pub fn of(cube: &Cube) -> FirstPosition
+        ensures { ShowsFirst cube.now result }
+    {
+        FirstPosition {
+            flips: TwistRank::<12, 2>::rank(&cube.flips()) as u32,
+            twists: TwistRank::<8, 3>::rank(&cube.twists()) as u32,
+            middle: Choose::<12, 4>::rank(&middle_places(&cube.edges())) as u32,
+        }
+    }
+
+    /// Whether it is that of a domino: no flips, no twists, and the edges of the middle layer in it.
+    #[inline]
+    pub fn is_domino(self) -> bool
+        ensures { result ≡ is_domino_position self }
+    {
+        self.flips == 0 && self.twists == 0 && self.middle == 494
+    }
+}
+
+/// What the search for a first part goes by: where turns lead, and the two pruning tables.
+#[derive(Drop)]
+pub(crate) struct FirstTables {
+    flips: MoveTable,
+    twists: MoveTable,
+    middle: MoveTable,
+    pub flipslice: PruningTable,
+    pub twistslice: PruningTable,
+    ghost flips_shown: { ShowsSame flips_coordinate (moves_coordinate flips) },
+    ghost twists_shown: { ShowsSame twists_coordinate (moves_coordinate twists) },
+    ghost middle_shown: { ShowsSame middle_set_coordinate (moves_coordinate middle) },
+    ghost flipslice_is: { IsPruningTable flipslice_line flipslice },
+    ghost twistslice_is: { IsPruningTable twistslice_line twistslice },
+}
+
+impl FirstTables {
+    ghost use Rattle.scr_twophase.specs.Search.{IsCauseOf};
+
+    /// The tables, or why one isn't built.
+    pub fn build(alloc: Global) -> Result<FirstTables, BuildFault>
+        ensures cause { IfErr result (IsCauseOf (flipslice_line ∷ twistslice_line ∷ [])) }
+    {
+        let flips = flip_moves(alloc)?;
+        let twists = twist_moves(alloc)?;
+        let middle = middle_moves(alloc)?;
+        let flipslice = build_flipslice(alloc, &flips, &middle)?;
+        let twistslice = build_twistslice(alloc, &twists, &middle)?;
+        Ok(FirstTables {
+            flips,
+            twists,
+            middle,
+            flipslice,
+            twistslice,
+        })
+    }
+
+    /// Where a turn, below 18, leads from a position.
+    #[inline]
+    pub fn after(&self, at: FirstPosition, turn: u32) -> FirstPosition
+        requires at { IsFirstPosition at }
+        requires turn { turn < 18 }
+        ensures { (c d : CubeState) → ShowsFirst c at → after_turn c turn ≡ Some d → ShowsFirst d result }
+    {
+        FirstPosition {
+            flips: step(&self.flips, at.flips, turn),
+            twists: step(&self.twists, at.twists, turn),
+            middle: step(&self.middle, at.middle, turn),
+        }
+    }
+
+    /// The turns of which one may be the next of a word of `left` turns to a domino.
+    #[inline]
+    pub fn turns_from(&self, at: FirstPosition, left: u32) -> TurnSet
+        requires { IsFirstPosition at }
+        ensures kept { (c : CubeState) (more : ℕ) → left ≡ more + 1 → ShowsFirst c at → KeepsWays c more result.bits }
+        ensures few { result.bits < 2 ^ 18 }
+    {
+        let by_flips = self
+            .flipslice
+            .turns_within(at.flips + FLIPS * at.middle, left);
+        let by_twists = self
+            .twistslice
+            .turns_within(at.twists + TWISTS * at.middle, left);
+        by_flips.and(by_twists)
+    }
+}
+
+/// Where a turn leads, which is barred nowhere.
+#[inline]
+pub(crate) fn step(moves: &MoveTable, position: u32, turn: u32) -> u32
+    requires position { position < moves.now.count }
+    requires turn { turn < moves.now.turns }
+    requires leads { IsSome ((moves_coordinate moves.now).after position turn) }
+    ensures { (moves_coordinate moves.now).after position turn ≡ Some result }
+{
+    let Some(next) = moves.after(position, turn) else {
+        unreachable!()
+    };
+    next
+}
+
+/// Where turns lead from the flips.
+fn flip_moves(alloc: Global) -> Result<MoveTable, AllocError>
+    ensures { IfOk result (λ table. ShowsSame flips_coordinate (moves_coordinate table)) }
+{
+    MoveTable::build(alloc, &Twists::<12, 2>::new(edge_turns()))
+}
+
+/// Where turns lead from the twists.
+fn twist_moves(alloc: Global) -> Result<MoveTable, AllocError>
+    ensures { IfOk result (λ table. ShowsSame twists_coordinate (moves_coordinate table)) }
+{
+    MoveTable::build(alloc, &Twists::<8, 3>::new(corner_turns()))
+}
+
+/// Where turns lead from the sets of the places of the edges of the middle layer.
+fn middle_moves(alloc: Global) -> Result<MoveTable, AllocError>
+    ensures { IfOk result (λ table. ShowsSame middle_set_coordinate (moves_coordinate table)) }
+{
+    MoveTable::build(alloc, &PlaceSet::<12, 4>::new(edge_turns(), MIDDLE))
+}
+
+/// The pruning table of the flips beside these sets.
+fn build_flipslice(
+    alloc: Global,
+    flips: &MoveTable,
+    middle: &MoveTable,
+) -> Result<PruningTable, BuildFault>
+    requires flips { ShowsSame flips_coordinate (moves_coordinate flips.now) }
+    requires middle { ShowsSame middle_set_coordinate (moves_coordinate middle.now) }
+    ensures table { IfOk result (IsPruningTable flipslice_line) }
+    ensures cause { IfErr result (IsCause FlipSlice flipslice_coordinate 12) }
+{
+    PruningTable::build(
+        alloc,
+        TableName::FlipSlice,
+        &Product::new(flips, middle),
+        12,
+    )
+}
+
+/// The pruning table of the twists beside these sets.
+fn build_twistslice(
+    alloc: Global,
+    twists: &MoveTable,
+    middle: &MoveTable,
+) -> Result<PruningTable, BuildFault>
+    requires twists { ShowsSame twists_coordinate (moves_coordinate twists.now) }
+    requires middle { ShowsSame middle_set_coordinate (moves_coordinate middle.now) }
+    ensures table { IfOk result (IsPruningTable twistslice_line) }
+    ensures cause { IfErr result (IsCause TwistSlice twistslice_coordinate 12) }
+{
+    PruningTable::build(
+        alloc,
+        TableName::TwistSlice,
+        &Product::new(twists, middle),
+        12,
+    )
+}
+
+/// The places of the edges of the middle layer, in increasing order.
+fn middle_places(edges: &[u8; 12]) -> [u8; 4]
+    requires { IsPermutation 12 edges.now }
+    ensures places { result ≡ marked_places (stands_in middle_edges) edges.now }
+    ensures valid { IsPlaceSet 12 4 result }
+{
+    let mut places = [0; 4];
+    places_of(&MIDDLE[..], &edges[..], &mut places[..]);
+    places
+}

@@ -1,0 +1,55 @@
+//! Pruning tables.
+ghost use Rattle.std.specs.Prelude.{◌≡◌, ◌<◌, ◌≤◌, ◌^◌, ℕ, IfOk, IfErr, IsTrue, Some, length, slice_index_or};
+ghost use Rattle.scr_coord.specs.Coordinates.{Coordinate, moved};
+ghost use Rattle.scr_table.specs.Causes.{IsCause};
+ghost use Rattle.scr_table.specs.Distances.{Measures};
+ghost use Rattle.scr_twophase.specs.Outlooks.{AreOutlooks, turns_within};
+ghost use Rattle.scr_twophase.specs.TurnSets.{has_turn};
+
+use crate::outlook::{Outlook, outlooks};
+use crate::turn_set::TurnSet;
+use scr_coord::Coord;
+use scr_table::{BuildFault, DistanceTable, TableName};
+use std::alloc::Global;
+
+/// A distance table, with the outlook of each position.
+#[derive(Drop)]
+pub(crate) struct PruningTable {
+    pub distances: DistanceTable,
+    pub outlooks: Vec<Outlook>,
+}
+
+impl PruningTable {
+    /// The table of a coordinate of at most 18 turns. `bound` is at most 24.
+    pub fn build<C: Coord>(
+        alloc: Global,
+        name: TableName,
+        coord: &C,
+        bound: u32,
+    ) -> Result<PruningTable, BuildFault>
+        requires bound { bound ≤ 24 }
+        requires turns { (C.coordinate coord.now).turns ≤ 18 }
+        ensures named { IfOk result (λ table. table.distances.name ≡ name) }
+        ensures bounded { IfOk result (λ table. table.distances.bound ≡ bound) }
+        ensures measures { IfOk result (λ table. Measures (C.coordinate coord.now) table.distances) }
+        ensures outlooks { IfOk result (λ table. AreOutlooks (C.coordinate coord.now) table.distances.distances table.outlooks.items) }
+        ensures cause { IfErr result (IsCause name (C.coordinate coord.now) bound) }
+    {
+        let distances = DistanceTable::build(alloc, name, coord, bound)?;
+        let outlooks = outlooks(alloc, coord, &distances)?;
+        Ok(PruningTable {
+            distances,
+            outlooks,
+        })
+    }
+
+    /// The turns of which one may be the next from a position where `left` turns may still be made.
+    #[inline]
+    pub fn turns_within(&self, position: u32, left: u32) -> TurnSet
+        requires { position < length self.now.outlooks.items }
+        ensures turns { (o : Outlook) → result.bits ≡ turns_within (slice_index_or self.now.outlooks.items position o) left }
+        ensures few { result.bits < 2 ^ 18 }
+    {
+        self.outlooks[position as usize].turns_within(left)
+    }
+}

@@ -1,0 +1,256 @@
+//! The second part: what a search for it sees of a domino, and where turns lead.
+ghost use Rattle.std.specs.Prelude.{◌≡◌, ◌+◌, ◌<◌, ◌≤◌, ℕ, Contains, IfErr, IfOk, IsTrue, List, Some, [], ◌∷◌, length, map, slice_get, slice_index};
+ghost use Rattle.std.specs.Option.{option_map};
+ghost use Rattle.scr_combinatorics.specs.Permutations.{IsPermutation, permutation_number};
+ghost use Rattle.scr_coord.specs.Moves.{moves_coordinate};
+ghost use Rattle.scr_coord.specs.SearchSpaces.{ShowsSame};
+ghost use Rattle.scr_cube.specs.Cube333.{CubeState};
+ghost use Rattle.scr_stages.specs.Numbers.{IsDominoCube};
+ghost use Rattle.scr_stages.specs.Stages.{middle_edges};
+ghost use Rattle.scr_stages.specs.Tables.{outer_places};
+ghost use Rattle.scr_stages.specs.Tetrads.{in_block};
+ghost use Rattle.scr_play.specs.Play.{play};
+ghost use Rattle.scr_table.specs.Causes.{IsCause};
+ghost use Rattle.scr_table.specs.Lines.{IsTableOf};
+ghost use Rattle.scr_table.specs.declared.name.TableName.TheVariants.{CornerSlice, EdgeSlice};
+ghost use Rattle.scr_twophase.specs.Search.{ShowsSecond, IsSecondPosition, is_solved_position};
+ghost use Rattle.scr_twophase.specs.Tables.{corners_coordinate, outer_edges_coordinate, middle_edges_coordinate, cornerslice_coordinate, edgeslice_coordinate, cornerslice_line, edgeslice_line};
+ghost use Rattle.scr_twophase.specs.TwoParts.{after_turn, domino_turns, leads, is_orderly, is_solution, is_solved, joined};
+ghost use Rattle.scr_twophase.specs.Words.{words_behind, words_of};
+
+use crate::domino_turns::{
+    DOMINO_TURNS, MIDDLE, OUTER, corners_turned, middle_turned, outer_turned,
+};
+use crate::first::step;
+use crate::turn_set::TurnSet;
+use crate::word::Word;
+use scr_coord::{Coord, Lists, MoveTable, Product};
+use scr_cube::Cube;
+use scr_rank::PermRank;
+use scr_stages::pieces_in_block;
+use scr_table::{BuildFault, DistanceTable, TableName};
+use std::alloc::{AllocError, Global};
+
+/// How many lists of the edges of the middle layer there are.
+const MIDDLES: u32 = 24;
+
+/// The numbers of a domino's list of corners, of the list of its edges above and below, and of that of the edges of the middle
+/// layer.
+#[derive(Clone, Copy)]
+pub(crate) struct SecondPosition {
+    /// Below 40,320.
+    pub corners: u32,
+    /// Below 40,320.
+    pub outer: u32,
+    /// Below 24.
+    pub middle: u32,
+}
+
+impl SecondPosition {
+    /// The position of a domino.
+    pub fn of(cube: &Cube) -> SecondPosition
+        requires { IsDominoCube cube.now }
+        ensures { ShowsSecond cube.now result }
+    {
+        let edges = cube.edges();
+        SecondPosition {
+            corners: PermRank::<8>::rank(&cube.corners()) as u32,
+            outer: outer_number(&edges),
+            middle: middle_number(&edges),
+        }
+    }
+
+    /// Whether it is that of the solved cube.
+    #[inline]
+    pub fn is_solved(self) -> bool
+        ensures { result ≡ is_solved_position self }
+    {
+        self.corners == 0 && self.outer == 0 && self.middle == 0
+    }
+}
+
+/// What the search for a second part goes by: where turns lead, and the two pruning tables.
+#[derive(Drop)]
+pub(crate) struct SecondTables {
+    corners: MoveTable,
+    outer: MoveTable,
+    middle: MoveTable,
+    pub cornerslice: DistanceTable,
+    pub edgeslice: DistanceTable,
+    ghost corners_shown: { ShowsSame corners_coordinate (moves_coordinate corners) },
+    ghost outer_shown: { ShowsSame outer_edges_coordinate (moves_coordinate outer) },
+    ghost middle_shown: { ShowsSame middle_edges_coordinate (moves_coordinate middle) },
+    ghost cornerslice_is: { IsTableOf cornerslice_line cornerslice },
+    ghost edgeslice_is: { IsTableOf edgeslice_line edgeslice },
+}
+
+impl SecondTables {
+    ghost use Rattle.scr_twophase.specs.Search.{letters, IsAtSecond, IsCauseOf};
+
+    /// The tables, or why one isn't built.
+    pub fn build(alloc: Global) -> Result<SecondTables, BuildFault>
+        ensures cause { IfErr result (IsCauseOf (cornerslice_line ∷ edgeslice_line ∷ [])) }
+    {
+        let corners = corner_moves(alloc)?;
+        let outer = outer_moves(alloc)?;
+        let middle = middle_moves(alloc)?;
+        let cornerslice = build_cornerslice(alloc, &middle, &corners)?;
+        let edgeslice = build_edgeslice(alloc, &middle, &outer)?;
+        Ok(SecondTables {
+            corners,
+            outer,
+            middle,
+            cornerslice,
+            edgeslice,
+        })
+    }
+
+    /// A first part, which leads to this domino, joined with its second part, if it has one.
+    pub fn joined(&self, domino: &Cube, word: &Word) -> Option<Word>
+        requires domino { IsDominoCube domino.now }
+        requires orderly { IsTrue (is_orderly (letters word.now)) }
+        requires few { length (letters word.now) ≤ 12 }
+        ensures { (c : CubeState) → play after_turn c (letters word.now) ≡ Some domino.now
+            → option_map letters result ≡ joined c (letters word.now) }
+    {
+        let at = SecondPosition::of(domino);
+        for turns in 0..11 {
+            if let Some(joined) = self.solution_behind(at, word, turns) {
+                return Some(joined);
+            }
+        }
+        None
+    }
+
+    /// The first solution that goes on from a word by `left` of the ten turns more.
+    fn solution_behind(&self, at: SecondPosition, word: &Word, left: u32) -> Option<Word>
+        requires at { IsSecondPosition at }
+        requires orderly { IsTrue (is_orderly (letters word.now)) }
+        requires few { length (letters word.now) + left ≤ 22 }
+        ensures { (c : CubeState) → IsAtSecond c (letters word.now) at
+            → option_map letters result ≡ slice_get (words_behind domino_turns (is_solution c) (letters word.now) left) 0 }
+    {
+        if self.least_turns(at) > left {
+            return None;
+        }
+        if left == 0 {
+            return if at.is_solved() { Some(*word) } else { None };
+        }
+        let behind = TurnSet::behind(word);
+        for place in 0..10 {
+            let turn = DOMINO_TURNS[place];
+            if behind.has(turn) {
+                let next = self.after(at, place as u32);
+                if let Some(solution) = self.solution_behind(next, &word.with(turn), left - 1) {
+                    return Some(solution);
+                }
+            }
+        }
+        None
+    }
+
+    /// Where the turn at a place of the ten leads from a position.
+    #[inline]
+    pub fn after(&self, at: SecondPosition, place: u32) -> SecondPosition
+        requires at { IsSecondPosition at }
+        requires place { place < 10 }
+        ensures shows { (c d : CubeState) → ShowsSecond c at → after_turn c (slice_index domino_turns place) ≡ Some d → ShowsSecond d result }
+        ensures position { IsSecondPosition result }
+    {
+        SecondPosition {
+            corners: step(&self.corners, at.corners, place),
+            outer: step(&self.outer, at.outer, place),
+            middle: step(&self.middle, at.middle, place),
+        }
+    }
+
+    /// How many turns a word to solved has at least.
+    #[inline]
+    pub fn least_turns(&self, at: SecondPosition) -> u32
+        requires { IsSecondPosition at }
+        ensures { (c : CubeState) (v : List ℕ) (n : ℕ) → ShowsSecond c at → Contains (words_of domino_turns n) v → IsTrue (leads is_solved c v) → result ≤ n }
+    {
+        let by_corners = self.cornerslice.distance(at.middle + MIDDLES * at.corners);
+        let by_edges = self.edgeslice.distance(at.middle + MIDDLES * at.outer);
+        by_corners.max(by_edges)
+    }
+}
+
+/// The number of the list of the edges at the eight places above and below, all of which are of these.
+fn outer_number(edges: &[u8; 12]) -> u32
+    requires { IsPermutation 8 (in_block outer_places edges.now) }
+    ensures { result ≡ permutation_number (in_block outer_places edges.now) }
+{
+    let mut pieces = [0; 8];
+    pieces_in_block(&edges[..], &OUTER[..], &mut pieces[..]);
+    PermRank::<8>::rank(&pieces) as u32
+}
+
+/// The number of the list of the edges at the four places of the middle layer, all of which are of these.
+fn middle_number(edges: &[u8; 12]) -> u32
+    requires { IsPermutation 4 (in_block middle_edges edges.now) }
+    ensures { result ≡ permutation_number (in_block middle_edges edges.now) }
+{
+    let mut pieces = [0; 4];
+    pieces_in_block(&edges[..], &MIDDLE[..], &mut pieces[..]);
+    PermRank::<4>::rank(&pieces) as u32
+}
+
+/// Where the ten turns lead from the lists of corners.
+fn corner_moves(alloc: Global) -> Result<MoveTable, AllocError>
+    ensures { IfOk result (λ table. ShowsSame corners_coordinate (moves_coordinate table)) }
+{
+    MoveTable::build(alloc, &Lists::<8>::new(&corners_turned()[..]))
+}
+
+/// Where they lead from the lists of the edges above and below.
+fn outer_moves(alloc: Global) -> Result<MoveTable, AllocError>
+    ensures { IfOk result (λ table. ShowsSame outer_edges_coordinate (moves_coordinate table)) }
+{
+    MoveTable::build(alloc, &Lists::<8>::new(&outer_turned()[..]))
+}
+
+/// Where they lead from the lists of the edges of the middle layer.
+fn middle_moves(alloc: Global) -> Result<MoveTable, AllocError>
+    ensures { IfOk result (λ table. ShowsSame middle_edges_coordinate (moves_coordinate table)) }
+{
+    MoveTable::build(alloc, &Lists::<4>::new(&middle_turned()[..]))
+}
+
+/// The pruning table of the edges of the middle layer beside the corners.
+fn build_cornerslice(
+    alloc: Global,
+    middle: &MoveTable,
+    corners: &MoveTable,
+) -> Result<DistanceTable, BuildFault>
+    requires middle { ShowsSame middle_edges_coordinate (moves_coordinate middle.now) }
+    requires corners { ShowsSame corners_coordinate (moves_coordinate corners.now) }
+    ensures table { IfOk result (IsTableOf cornerslice_line) }
+    ensures cause { IfErr result (IsCause CornerSlice cornerslice_coordinate 18) }
+{
+    DistanceTable::build(
+        alloc,
+        TableName::CornerSlice,
+        &Product::new(middle, corners),
+        18,
+    )
+}
+
+/// The pruning table of the edges of the middle layer beside the other edges.
+fn build_edgeslice(
+    alloc: Global,
+    middle: &MoveTable,
+    outer: &MoveTable,
+) -> Result<DistanceTable, BuildFault>
+    requires middle { ShowsSame middle_edges_coordinate (moves_coordinate middle.now) }
+    requires outer { ShowsSame outer_edges_coordinate (moves_coordinate outer.now) }
+    ensures table { IfOk result (IsTableOf edgeslice_line) }
+    ensures cause { IfErr result (IsCause EdgeSlice edgeslice_coordinate 18) }
+{
+    DistanceTable::build(
+        alloc,
+        TableName::EdgeSlice,
+        &Product::new(middle, outer),
+        18,
+    )
+}
