@@ -7,7 +7,7 @@ use Rattle.std.specs.Prelude.{◌≡◌, ℕ, ◌+◌, ◌-◌, ◌%◌, ◌<◌
 use Rattle.std.specs.List.{range_with_len}
 use Rattle.scr_play.specs.Reach.{Puzzle}
 
--- Fourteen dials, each of which shows an hour from 0 to 11.
+-- Fourteen dials, each of which shows an hour from 0 to 11, counted clockwise as seen from the dial's own side.
 pub record IsClock (dials : List ℕ) : Type 0 where
   pub fourteen : length dials ≡ 14
   pub below : All (λ d. d < 12) dials

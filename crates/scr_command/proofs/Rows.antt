@@ -3,7 +3,7 @@ use Rattle.std.proofs.Common.{◌≡◌, ◌∙◌, refl, sym, ap, cond, List, [
 use Rattle.std.specs.List.{find}
 use Rattle.std.specs.Str.{bytes_eq}
 use Rattle.scr_command.specs.OptionWords.{OptionName, Seed, Workers, Tries, Attempts, Text, is_name}
-use Rattle.scr_command.proofs.Slots.{Slots, no_slots, set_slot, slot, other_slot, own_slot}
+use Rattle.scr_command.proofs.Slots.{Slots, no_slots, set_slot, slot, other_slot, own_slot, same_name}
 use Rattle.scr_command.proofs.SheetRules.{row_for, rule_for, used_is}
 use Rattle.scr_command.specs.SheetCommand.{option_id}
 use Rattle.clap.specs.Walk.{Row, at_row, first_of, has_row, more_values, used, with_values, without}
@@ -98,24 +98,6 @@ apart Attempts Workers v = refl
 apart Attempts Tries v = refl
 apart Attempts Attempts v = refl
 
-same_row : (j k : OptionName) (v : Text) → is_name j k ≡ true → row_for k v ≡ row_for j v
-same_row Seed Seed v h = refl
-same_row Seed Workers v h = cc
-same_row Seed Tries v h = cc
-same_row Seed Attempts v h = cc
-same_row Workers Seed v h = cc
-same_row Workers Workers v h = refl
-same_row Workers Tries v h = cc
-same_row Workers Attempts v h = cc
-same_row Tries Seed v h = cc
-same_row Tries Workers v h = cc
-same_row Tries Tries v h = refl
-same_row Tries Attempts v h = cc
-same_row Attempts Seed v h = cc
-same_row Attempts Workers v h = cc
-same_row Attempts Tries v h = cc
-same_row Attempts Attempts v h = refl
-
 -- a first use fills the option's slot
 pub first_use_holds : (rows : List Row) (s : Slots) (k : OptionName) (v : Text) → RowsHold rows s → slot k s ≡ None → RowsHold (used (rule_for k) (v ∷ []) rows) (set_slot k v s)
 first_use_holds rows s k v holds free j =
@@ -125,5 +107,5 @@ first_use_holds rows s k v holds free j =
     go true e =
         let own = own_slot k j v s e in
         let none : row_of (option_id j) rows ≡ None = holds j ∙ rw (own.1, free) refl in
-        row_of-push (option_id j) rows (row_for k v) none ∙ rw (apart j k v, e, own.0) (ap Some (same_row j k v e))
+        row_of-push (option_id j) rows (row_for k v) none ∙ rw (apart j k v, e, own.0) (ap (λ n. Some (row_for n v)) (sym (same_name k j e)))
     go false e = row_of-other (option_id j) rows (row_for k v) (apart j k v ∙ e) ∙ holds j ∙ ap (option_map (row_for j)) (sym (other_slot k j v s e))

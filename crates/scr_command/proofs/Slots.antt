@@ -118,23 +118,35 @@ other_slot Attempts Workers v s h = refl
 other_slot Attempts Tries v s h = refl
 other_slot Attempts Attempts v s h = cc
 
-pub own_slot : (name other : OptionName) (v : Text) (s : Slots) → is_name other name ≡ true → (slot other (set_slot name v s) ≡ Some v) × (slot other s ≡ slot name s)
-own_slot Seed Seed v s h = (refl, refl)
-own_slot Seed Workers v s h = cc
-own_slot Seed Tries v s h = cc
-own_slot Seed Attempts v s h = cc
-own_slot Workers Seed v s h = cc
-own_slot Workers Workers v s h = (refl, refl)
-own_slot Workers Tries v s h = cc
-own_slot Workers Attempts v s h = cc
-own_slot Tries Seed v s h = cc
-own_slot Tries Workers v s h = cc
-own_slot Tries Tries v s h = (refl, refl)
-own_slot Tries Attempts v s h = cc
-own_slot Attempts Seed v s h = cc
-own_slot Attempts Workers v s h = cc
-own_slot Attempts Tries v s h = cc
-own_slot Attempts Attempts v s h = (refl, refl)
+pub same_name : (name other : OptionName) → is_name other name ≡ true → other ≡ name
+same_name Seed Seed h = refl
+same_name Seed Workers h = cc
+same_name Seed Tries h = cc
+same_name Seed Attempts h = cc
+same_name Workers Seed h = cc
+same_name Workers Workers h = refl
+same_name Workers Tries h = cc
+same_name Workers Attempts h = cc
+same_name Tries Seed h = cc
+same_name Tries Workers h = cc
+same_name Tries Tries h = refl
+same_name Tries Attempts h = cc
+same_name Attempts Seed h = cc
+same_name Attempts Workers h = cc
+same_name Attempts Tries h = cc
+same_name Attempts Attempts h = refl
+
+slot-set : (name : OptionName) (v : Text) (s : Slots) → slot name (set_slot name v s) ≡ Some v
+slot-set Seed v s = refl
+slot-set Workers v s = refl
+slot-set Tries v s = refl
+slot-set Attempts v s = refl
+
+pub own_slot : (name other : OptionName) (v : Text) (s : Slots) → is_name other name ≡ true
+    → (slot other (set_slot name v s) ≡ Some v) × (slot other s ≡ slot name s)
+own_slot name other v s e =
+    let same = same_name name other e in
+    (ap (λ n. slot n (set_slot name v s)) same ∙ slot-set name v s, ap (λ n. slot n s) same)
 
 first_held : (given : List Given) (s : Slots) (name : OptionName) (v : Text) → Holds given s → slot name s ≡ None
     → Holds (given ++ record { name = name; value = v } ∷ []) (set_slot name v s)

@@ -31,3 +31,30 @@ pub trait Coord {
     /// Turns lead from positions to positions.
     ghost law: { (coord : Self) → StaysBelow (coordinate coord) };
 }
+
+// A coordinate that is borrowed is one.
+impl<C: Coord> Coord for &C {
+    ghost coordinate = { λ borrowed. C.coordinate borrowed.now };
+
+    #[inline]
+    fn count(&self) -> u32 {
+        (**self).count()
+    }
+
+    #[inline]
+    fn turns(&self) -> u32 {
+        (**self).turns()
+    }
+
+    #[inline]
+    fn after(&self, position: u32, turn: u32) -> Option<u32> {
+        (**self).after(position, turn)
+    }
+
+    #[inline]
+    fn is_goal(&self, position: u32) -> bool {
+        (**self).is_goal(position)
+    }
+
+    ghost law = { λ borrowed. C.law borrowed.now };
+}

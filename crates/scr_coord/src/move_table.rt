@@ -12,12 +12,23 @@ use std::marker::Model;
 const BARRED: u32 = u32::MAX;
 
 /// The moves of a coordinate, and its goals: a step is one look into a list. It shows the same coordinate.
-#[derive(Drop)]
 pub struct MoveTable {
     count: u32,
     turns: u32,
     targets: Vec<u32>,
     goals: Vec<bool>,
+}
+
+// A call wherever one is let go, in place of all that lets go of its parts.
+impl Drop for MoveTable {
+    fn drop(self) {
+        let MoveTable {
+            count: _,
+            turns: _,
+            targets: _,
+            goals: _,
+        } = self;
+    }
 }
 
 // Clauses see what it holds.

@@ -1,37 +1,67 @@
 //! Two coordinates side by side as one.
-ghost use Rattle.std.specs.Prelude.{◌≡◌, ◌*◌, ◌^◌, ◌<◌};
+ghost use Rattle.std.specs.Prelude.{◌≡◌, ◌*◌, ◌^◌, ◌<◌, IfOk};
+ghost use Rattle.scr_coord.specs.Moves.{moves_coordinate};
+ghost use Rattle.scr_coord.specs.Products.{product};
+ghost use Rattle.scr_coord.specs.SearchSpaces.{ShowsSame};
 
-use crate::Coord;
+use crate::{Coord, MoveTable};
+use std::alloc::{AllocError, Global};
 
 /// Two coordinates side by side: position `low + low_count * high` stands for one position of each. A turn moves both, and
 /// is barred where either bars it; a goal is where both have one.
-#[derive(Drop)]
-pub struct Product<'a, L: Coord, H: Coord> {
+pub struct Product<L: Coord, H: Coord> {
     /// The coordinate whose positions follow each other.
-    pub low: &'a L,
+    pub low: L,
     /// The other.
-    pub high: &'a H,
-    ghost same_turns: { (H.coordinate high.now).turns ≡ (L.coordinate low.now).turns },
-    ghost fits: { (L.coordinate low.now).count * (H.coordinate high.now).count < 2 ^ 32 },
+    pub high: H,
+    ghost same_turns: { (H.coordinate high).turns ≡ (L.coordinate low).turns },
+    ghost fits: { (L.coordinate low).count * (H.coordinate high).count < 2 ^ 32 },
 }
 
-impl<'a, L: Coord, H: Coord> Product<'a, L, H> {
+// A call wherever one is let go, in place of all that lets go of its parts.
+impl<L: Coord + Drop, H: Coord + Drop> Drop for Product<L, H> {
+    fn drop(self) {
+        let Product { low: _, high: _ } = self;
+    }
+}
+
+impl<L: Coord, H: Coord> Product<L, H> {
     /// The product of two coordinates that have the same turns, and fewer than 2^32 pairs of positions.
-    pub fn new(low: &'a L, high: &'a H) -> Product<'a, L, H>
-        requires same_turns { (H.coordinate high.now).turns ≡ (L.coordinate low.now).turns }
-        requires fits { (L.coordinate low.now).count * (H.coordinate high.now).count < 2 ^ 32 }
-        ensures low { result.low.now ≡ low.now }
-        ensures high { result.high.now ≡ high.now }
+    pub fn new(low: L, high: H) -> Product<L, H>
+        requires same_turns { (H.coordinate high).turns ≡ (L.coordinate low).turns }
+        requires fits { (L.coordinate low).count * (H.coordinate high).count < 2 ^ 32 }
+        ensures low { result.low ≡ low }
+        ensures high { result.high ≡ high }
     {
         Product { low, high }
     }
 }
 
-impl<L: Coord, H: Coord> Coord for Product<'_, L, H> {
+impl Product<MoveTable, MoveTable> {
+    /// The moves of two coordinates that have the same turns, and fewer than 2^32 pairs of positions. Only memory can be
+    /// wanting.
+    pub fn of_moves<L: Coord, H: Coord>(
+        alloc: Global,
+        low: &L,
+        high: &H,
+    ) -> Result<Product<MoveTable, MoveTable>, AllocError>
+        requires same_turns { (H.coordinate high.now).turns ≡ (L.coordinate low.now).turns }
+        requires fits { (L.coordinate low.now).count * (H.coordinate high.now).count < 2 ^ 32 }
+        ensures { let c = product (L.coordinate low.now) (H.coordinate high.now) in
+            IfOk result (λ pair. ShowsSame c (product (moves_coordinate pair.low) (moves_coordinate pair.high))) }
+    {
+        Ok(Product {
+            low: MoveTable::build(alloc, low)?,
+            high: MoveTable::build(alloc, high)?,
+        })
+    }
+}
+
+impl<L: Coord, H: Coord> Coord for Product<L, H> {
     ghost use Rattle.scr_coord.specs.Products.{product};
     ghost use Rattle.scr_coord.specs.StaysBelowLaws.{StaysBelow-product};
 
-    ghost coordinate = { λ p. product (L.coordinate p.low.now) (H.coordinate p.high.now) };
+    ghost coordinate = { λ p. product (L.coordinate p.low) (H.coordinate p.high) };
 
     fn count(&self) -> u32 {
         self.low.count() * self.high.count()
@@ -57,5 +87,5 @@ impl<L: Coord, H: Coord> Coord for Product<'_, L, H> {
         self.low.is_goal(position % low_count) && self.high.is_goal(position / low_count)
     }
 
-    ghost law = { λ p. StaysBelow-product (L.coordinate p.low.now) (H.coordinate p.high.now) p.same_turns (L.law p.low.now) (H.law p.high.now) };
+    ghost law = { λ p. StaysBelow-product (L.coordinate p.low) (H.coordinate p.high) p.same_turns (L.law p.low) (H.law p.high) };
 }

@@ -4,7 +4,7 @@ use Rattle.std.proofs.Common.{◌≡◌, ℕ, ◌+◌, ◌<◌, List, [], ◌∷
 use Rattle.std.specs.Prelude.{Option, codes}
 use Rattle.scr_notation.specs.Written.{Written}
 use Rattle.scr_notation.specs.Spelling.{text_of}
-use Rattle.scr_outside.specs.Change.{Change, Gains}
+use Rattle.scr_outside.specs.Change.{Change, Gains, Falters}
 use Rattle.scr_outside.proofs.ChangeLemmas.{from_to, Gains-nothing, Gains-append, Falters-after}
 use Rattle.scr_notation.specs.declared.event.Event.{Event}
 use Rattle.scr_notation.specs.declared.turn.Turn.{Turn}
@@ -18,7 +18,7 @@ use Rattle.scr_round.specs.Round.{round_text}
 use Rattle.scr_round.specs.Made.{Made, turns_of_each}
 use Rattle.scr_sheet.specs.Making.{IsRoundMade}
 use Rattle.scr_sheet.specs.Sheet.{IsLimit, Part, round_part, round_parts, one_part, AreScrambles, IsPartText, IsText}
-use Rattle.scr_sheet.specs.Outcome.{IsUnwritten, IsLed, IsDone, IsStopped, IsCutShort, EndsParts}
+use Rattle.scr_sheet.specs.Outcome.{IsUnwritten, IsLed, SomeLed, IsDone, IsStopped, IsCutShort, EndsParts}
 
 -- ---- scrambles and texts
 
@@ -116,6 +116,17 @@ IsLed-after {settings} {led = led} {rest' = rest'} {text = text} rest made befor
   has = IsText-append settings made.led led made.text text made.before.has before.has;
 }
 
+SomeLed-after : {settings : Settings} {parts more : List Part} {k : ℕ} {out : Change} (rest : List Part) (P Q : List ℕ → Type 0)
+    (made : IsMadeUpTo settings parts (more ++ rest) k out) → ((text : List ℕ) → P text → Q (made.text ++ text))
+    → SomeLed settings more P → SomeLed settings parts Q
+SomeLed-after rest P Q made after ends = record {
+  led = made.led ++ ends.led;
+  rest = ends.rest ++ rest;
+  text = made.text ++ ends.text;
+  before = IsLed-after rest made ends.before;
+  of_text = after ends.text ends.of_text;
+}
+
 -- a part that ends the command
 pub made-fault : {settings : Settings} {parts rest : List Part} {part : Part} {k : ℕ} {held held' : Option (List ℕ)}
     {faults faults' : ℕ} (held'' : Option (List ℕ)) (faults'' : ℕ) (f : Fault) → IsMadeUpTo settings parts (part ∷ rest) k (from_to held faults held' faults')
@@ -140,20 +151,14 @@ made-fault {rest = rest} held'' faults'' (fault.DrawLimit number slot words) mad
       limit = ends.limit;
       gained = Gains-append made.gained ends.gained;
     }
-made-fault {rest = rest} held'' faults'' fault.Write made ends = record {
-  led = made.led ++ ends.led;
-  rest = ends.rest ++ rest;
-  text = made.text ++ ends.text;
-  before = IsLed-after rest made ends.before;
-  faltered = Falters-after made.gained ends.faltered;
-}
-made-fault {rest = rest} held'' faults'' fault.NoMemory made ends = record {
-  led = made.led ++ ends.led;
-  rest = ends.rest ++ rest;
-  text = made.text ++ ends.text;
-  before = IsLed-after rest made ends.before;
-  gained = Gains-append made.gained ends.gained;
-}
+made-fault {rest = rest} {held = held} {held' = held'} {faults = faults} {faults' = faults'} held'' faults'' fault.Write made ends =
+    let piece = from_to held' faults' held'' faults'' in
+    let whole = from_to held faults held'' faults'' in
+    SomeLed-after rest (Falters piece) (Falters whole) made (λ text. Falters-after made.gained) ends
+made-fault {rest = rest} {held = held} {held' = held'} {faults = faults} {faults' = faults'} held'' faults'' fault.NoMemory made ends =
+    let piece = from_to held' faults' held'' faults'' in
+    let whole = from_to held faults held'' faults'' in
+    SomeLed-after rest (Gains piece) (Gains whole) made (λ text. Gains-append made.gained) ends
 
 -- ---- the rounds of a list
 
@@ -225,5 +230,5 @@ IsCutShort-first {part = part} unwritten = record {
   rest = part ∷ [];
   text = [];
   before = record { are = refl; has = refl };
-  gained = unwritten;
+  of_text = unwritten;
 }

@@ -1,16 +1,14 @@
 -- What runs must end with, and that a list has one sheet.
 use Rattle.std.proofs.lemmas.List.Elements.{All-nil, All-head, All-tail, All-cons, All-contains_itself, Contains-get_or}
 use Rattle.scr_list.proofs.RoundLemmas.{rounds_of-long}
-use Rattle.scr_list.proofs.RoundFacts.{rounds_of-IsRounds}
 use Rattle.std.proofs.Common.{◌≡◌, ◌⊎◌, ℕ, zero, suc, ◌+◌, ◌≤◌, ◌<◌, List, [], ◌∷◌, ◌++◌, length, length-append, Ok, Err, inl, inr, refl, sym, ap, subst, ◌∙◌, arith, All}
-use Rattle.std.specs.Prelude.{Result, IsTrue, Option, Some, None, Contains, map}
+use Rattle.std.specs.Prelude.{Result, Option, Some, None, Contains, map}
 use Rattle.scr_outside.specs.Bytes.{put_back}
 use Rattle.scr_list.specs.declared.fault.ListFault.{ListFault}
 use Rattle.scr_list.specs.declared.fault.ListFault.TheVariants as list
 use Rattle.scr_list.specs.Reading.{ReadsList, ReadsNoList}
 use Rattle.scr_command.specs.declared.command.Command.{Command}
 use Rattle.scr_command.specs.declared.command.Command.TheVariants.{One, Sheet, Tables, Load}
-use Rattle.scr_command.specs.Command.{command_of}
 use Rattle.scr_command.specs.declared.command.UsageFault.{UsageFault}
 use Rattle.scr_sheet.specs.declared.status.Status.{Status}
 use Rattle.scr_outside.specs.Change.{Change}
@@ -30,8 +28,6 @@ use Rattle.scr_sheet.specs.declared.status.Status.TheVariants as status
 use Rattle.scr_sheet.specs.Sheet.{Part, round_part, round_parts, one_part, AreScrambles, IsPartText, IsText, IsFirstWithout}
 use Rattle.scr_table.specs.declared.fault.BuildFault.{BuildFault}
 use Rattle.scr_table.specs.declared.fault.BuildFault.TheVariants as build
-use Rattle.scr_sheet.specs.Load.{load_rounds}
-use Rattle.scr_sheet.proofs.LoadRounds.{load_rounds-IsRounds}
 use Rattle.scr_sheet.specs.Outcome.{EndsParts, EndsMaking, EndsCommand, EndsTelling, Ends, LacksTables, gaining, fault_of_build, status_of}
 use Rattle.scr_sheet.specs.Task.{IsTask, IsUnhindered, LacksScramble, EndsWith}
 
@@ -123,7 +119,7 @@ EndsParts-done settings parts out (Err (fault.Usage usage)) ends written each = 
 EndsParts-done settings parts out (Err (fault.List list)) ends written each = absurd ends
 EndsParts-done settings parts out (Err (fault.DrawLimit number slot words)) ends written each =
     absurd (each (record { led = ends.led; part = ends.failing; rest = ends.rest; are = ends.before.are; slot = ends.j; first = ends.limit.first }))
-EndsParts-done settings parts out (Err fault.Write) ends written each = absurd (written ends.faltered.rose)
+EndsParts-done settings parts out (Err fault.Write) ends written each = absurd (written ends.of_text.rose)
 EndsParts-done settings parts out (Err fault.NoMemory) ends written each = inr (inl refl)
 EndsParts-done settings parts out (Err (fault.Gap table index)) ends written each = absurd ends
 
@@ -137,7 +133,7 @@ EndsParts-limit settings parts out (Ok u) ends written decided lacks =
 EndsParts-limit settings parts out (Err (fault.Usage usage)) ends written decided lacks = absurd ends
 EndsParts-limit settings parts out (Err (fault.List list)) ends written decided lacks = absurd ends
 EndsParts-limit settings parts out (Err (fault.DrawLimit number slot words)) ends written decided lacks = inl refl
-EndsParts-limit settings parts out (Err fault.Write) ends written decided lacks = absurd (written ends.faltered.rose)
+EndsParts-limit settings parts out (Err fault.Write) ends written decided lacks = absurd (written ends.of_text.rose)
 EndsParts-limit settings parts out (Err fault.NoMemory) ends written decided lacks = inr (inl refl)
 EndsParts-limit settings parts out (Err (fault.Gap table index)) ends written decided lacks = absurd ends
 

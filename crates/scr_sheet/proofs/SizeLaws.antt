@@ -1,15 +1,14 @@
 -- Rounds that are made one after another and counted.
-use Rattle.std.proofs.Common.{◌≡◌, ℕ, ◌+◌, ◌<◌, List, [], ◌∷◌, ◌++◌, length, drop, get_or, Ok, Err, refl, sym, ap, ◌∙◌, length-append, arith}
+use Rattle.std.proofs.Common.{ℕ, ◌+◌, ◌<◌, List, [], ◌∷◌, ◌++◌, length, drop, get_or, Ok, Err, refl, length-append, arith}
 use Rattle.std.proofs.lemmas.List.Sums.{sum_by-append}
 use Rattle.std.specs.Prelude.{Some}
-use Rattle.scr_outside.specs.Change.{Change}
 use Rattle.scr_outside.proofs.ChangeLemmas.{from_to, Gains-nothing}
 use Rattle.scr_list.specs.declared.round.Round.{Round}
 use Rattle.scr_slots.specs.declared.settings.Settings.{Settings}
 use Rattle.scr_sheet.specs.declared.fault.Fault.{Fault}
 use Rattle.scr_sheet.specs.declared.load.Size.{Size}
 use Rattle.scr_sheet.specs.Sheet.{Part, round_part, round_parts}
-use Rattle.scr_sheet.specs.Outcome.{IsDone, EndsParts, EndsUnmade, gaining}
+use Rattle.scr_sheet.specs.Outcome.{IsDone, EndsUnmade, gaining}
 use Rattle.scr_sheet.specs.Sizes.{IsSizeOf, IsPartSize, SizesParts}
 use Rattle.scr_sheet.proofs.PartLaws.{IsMadeUpTo, IsText-one, made-none, made-all, round-more, round-fault}
 

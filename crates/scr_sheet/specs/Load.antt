@@ -1,4 +1,5 @@
--- The command `load`: a list of rounds that follows from a number, and what is told of its sheet. Both are our own choice.
+-- The command `load`: a list of rounds that follows from a number, and what is told of its sheet. Both are our own
+-- choice.
 use Rattle.std.specs.Prelude.{ℕ, ◌+◌, ◌*◌, ◌%◌, List, [], ◌∷◌, ◌++◌, codes, length, map, sum, sum_by, replicate}
 use Rattle.std.specs.List.{range_with_len, slice_index_or}
 use Rattle.std.specs.Int.{w64, to_le_bytes}

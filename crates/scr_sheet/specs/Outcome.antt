@@ -57,21 +57,21 @@ pub record IsStopped (settings : Settings) (k : ℕ) (parts : List Part) (out : 
   pub limit : IsLimit settings failing j words
   pub gained : Gains out text
 
--- The output failed: a first part was written of the text of some leading parts, all of which have their scrambles.
-pub record IsBroken (settings : Settings) (parts : List Part) (out : Change) : Type 0 where
+-- Some leading parts, all of which have their scrambles, have a text of which this is so.
+pub record SomeLed (settings : Settings) (parts : List Part) (Is : List ℕ → Type 0) : Type 0 where
   pub led : List Part
   pub rest : List Part
   pub text : List ℕ
   pub before : IsLed settings parts led rest text
-  pub faltered : Falters out text
+  pub of_text : Is text
+
+-- The output failed: a first part was written of the text of some leading parts.
+abbrev pub IsBroken : Settings → List Part → Change → Type 0
+IsBroken settings parts out = SomeLed settings parts (Falters out)
 
 -- Memory was wanting: some leading parts were written.
-pub record IsCutShort (settings : Settings) (parts : List Part) (out : Change) : Type 0 where
-  pub led : List Part
-  pub rest : List Part
-  pub text : List ℕ
-  pub before : IsLed settings parts led rest text
-  pub gained : Gains out text
+abbrev pub IsCutShort : Settings → List Part → Change → Type 0
+IsCutShort settings parts out = SomeLed settings parts (Gains out)
 
 -- how the parts end that are made and written one after another
 abbrev pub EndsParts : Settings → ℕ → List Part → Change → Result (Unit {0}) Fault → Type 0
@@ -114,8 +114,8 @@ EndsTables event out (Err (fault.Gap table index)) = ⊥
 
 -- ---- the commands
 
--- The tables of the parts' events were built, so that each part is drawn fairly (of random moves: each of their steps is); and
--- so end the parts.
+-- The tables of the parts' events were built, so that each part is drawn fairly (of random moves: each of their steps
+-- is); and so end the parts.
 pub record IsMaking (settings : Settings) (parts : List Part) (out : Change) (ended : Result (Unit {0}) Fault) : Type 0 where
   pub fair : All (λ part. IsDrawnFairly (scrambling_of part.event) part.least) parts
   pub ends : EndsParts settings 0 parts out ended
@@ -186,8 +186,8 @@ TakesMemory (Ok (Tables event)) = HasTables event
 TakesMemory (Ok (Load number)) = Unit {0}
 TakesMemory (Err usage) = ⊥
 
--- What a run on these words does before it tells how it ended. Only words that begin with `sheet`, and what needs tables
--- or makes rounds, take memory.
+-- What a run on these words does before it tells how it ended. Only words that begin with `sheet`, and what needs
+-- tables or makes rounds, take memory.
 pub record IsPerformed (words : List (List ℕ)) (source out : Change) (ended : Result (Unit {0}) Fault) : Type 0 where
   pub ends : Ends (command_of words) source out ended ⊎ IsOutOfMemory source out ended
   pub memory : ended ≡ Err fault.NoMemory → AsksForSheet words ⊎ TakesMemory (command_of words)

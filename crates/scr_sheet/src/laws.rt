@@ -38,8 +38,8 @@ pub fn completeness()
     list_laws::lists_that_were_read();
 }
 
-/// The rounds that follow from a number are rounds that lists take. Those of 0 are one with 7 slots, and those of 15 are 16
-/// with 456.
+/// The rounds that follow from a number are rounds that lists take. Those of 0 are one with 7 slots, and those of 15
+/// are 16 with 456.
 pub fn load_lists()
     ensures each { (number : ℕ) → IsRounds (load_rounds number) }
     ensures first { (length (load_rounds 0) ≡ 1) × (slots_of_all (load_rounds 0) ≡ 7) }

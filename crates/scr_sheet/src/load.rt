@@ -1,6 +1,7 @@
 //! The command `load`: a sheet is made whose list follows from a number, and told is what it amounts to.
 //!
-//! The sheet is not written, and never held whole: each round is made, written to a sink of its own, counted and dropped.
+//! The sheet is not written, and never held whole: each round is made, written to a sink of its own, counted and
+//! dropped.
 
 ghost use Rattle.std.specs.Prelude.{◌≡◌, ◌*◌, ◌<◌, ◌≤◌, ℕ, List, ◌++◌, codes, length, map, Contains, MatchResult, IfOk};
 ghost use Rattle.std.specs.Fmt.{decimal};

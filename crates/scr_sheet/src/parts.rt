@@ -49,7 +49,8 @@ fn make_sheet<O: Sink>(
 ) -> Result<(), Fault>
     requires rounds { IsRounds rounds.now }
     requires attempts { options.now.attempts ≤ 1000000 }
-    ensures { EndsMaking (settings_of seed.now options.now) (round_parts 0 rounds.now) (change_of O.held O.faults out.old out.new) result }
+    ensures { EndsMaking (settings_of seed.now options.now) (round_parts 0 rounds.now)
+        (change_of O.held O.faults out.old out.new) result }
 {
     let tables = Tables::build(alloc, rounds)?;
     laws::each_drawn_fairly(&tables);
@@ -68,7 +69,8 @@ fn write_rounds<O: Sink>(
     requires tables { tables.now ≡ map (λ round. round.event) rounds.now }
     requires rounds { IsRounds rounds.now }
     requires attempts { options.now.attempts ≤ 1000000 }
-    ensures { EndsParts (settings_of seed.now options.now) 0 (round_parts 0 rounds.now) (change_of O.held O.faults out.old out.new) result }
+    ensures { EndsParts (settings_of seed.now options.now) 0 (round_parts 0 rounds.now)
+        (change_of O.held O.faults out.old out.new) result }
 {
     for (index, round) in rounds.iter().enumerate() {
         write_one_round(alloc, tables, seed, options, index as u32, round, out)?;
@@ -132,7 +134,8 @@ pub(crate) fn write_one<O: Sink>(
     seed: &Seed,
     out: &mut O,
 ) -> Result<(), Fault>
-    ensures ends { EndsMaking (settings_of seed.now usual_options) (one_part event ∷ []) (change_of O.held O.faults out.old out.new) result }
+    ensures ends { EndsMaking (settings_of seed.now usual_options) (one_part event ∷ [])
+        (change_of O.held O.faults out.old out.new) result }
     ensures memory { result ≡ Err NoMemory → HasTables event }
 {
     let tables = Tables::of_event(alloc, event)?;
@@ -148,7 +151,8 @@ fn write_one_line<O: Sink>(
     out: &mut O,
 ) -> Result<(), Fault>
     requires tables { Contains tables.now event }
-    ensures ends { EndsParts (settings_of seed.now usual_options) 0 (one_part event ∷ []) (change_of O.held O.faults out.old out.new) result }
+    ensures ends { EndsParts (settings_of seed.now usual_options) 0 (one_part event ∷ [])
+        (change_of O.held O.faults out.old out.new) result }
     ensures memory { result ≢ Err NoMemory }
 {
     let settings = settings(seed, &Options::default());

@@ -15,7 +15,23 @@ use std::alloc::Global;
 /// Does all that the program does, on its words without its own name: reads the round list from `source` where they ask
 /// for a sheet, writes what they ask for to `out`, tells on `err` what goes wrong, and gives the status.
 ///
-/// It takes memory only where the first word is `sheet`, where tables are needed, or where rounds are made for `load`. A fault of `err` changes no status.
+/// Whatever the number of workers says, it writes exactly the sheet that the definitions give for its seed and round
+/// list, or the named part of it at a refusal; every state of an event of random states that turns reach and that needs
+/// at least the set number of turns is drawn by equally many lists of words; every printed scramble of such a state,
+/// played on the solved puzzle, gives it within the puzzle's bound:
+///
+/// | event | bound |
+/// |---|---|
+/// | 222, skewb | 11 turns |
+/// | pyram | 15 turns, tips included |
+/// | clock | 14 amounts |
+/// | 333, 333oh | 22 turns where the search for two parts finds them, else 52 |
+/// | sq1 | 76 twists |
+///
+/// For minx, 555, 666 and 777 no state is drawn: each random move is taken by equally many words.
+///
+/// It takes memory only where the first word is `sheet`, where tables are needed, or where rounds are made for `load`.
+/// A fault of `err` changes no status.
 pub fn run<'w, S: Source, O: Sink, E: Sink>(
     alloc: Global,
     words: &'w [&'w str],
@@ -23,8 +39,9 @@ pub fn run<'w, S: Source, O: Sink, E: Sink>(
     out: &mut O,
     err: &mut E,
 ) -> Status
-    // What `source` gave, what `out` and `err` gained, and the status, are those of an end that the definitions allow; and
-    // wherever scrambles are made, each of their rounds is drawn fairly; of random moves each step is.
+    // What `source` gave, what `out` and `err` gained, and the status, are those of an end that the definitions allow;
+    // and wherever scrambles are made, each of their rounds is drawn fairly, and each scramble gives its state within
+    // its bound; of random moves each step is fair.
     ensures whole { IsRun (texts words.now) result (change_of S.left S.faults source.old source.new)
         (change_of O.held O.faults out.old out.new) (change_of E.held E.faults err.old err.new) }
 {

@@ -1,6 +1,6 @@
 -- The one table of an event among the tables of events, and why it isn't built, as a cause for a list of events.
 use Rattle.std.proofs.Common.{◌≡◌, zero, suc, List, [], ◌∷◌, ◌++◌, length, inl, inr, Option, Some, None, refl, sym, ap, ◌∙◌, subst, arith, lit<}
-use Rattle.std.specs.Prelude.{Any, Contains, IsSome, IfSome}
+use Rattle.std.specs.Prelude.{Any, Contains, IsSome, IfSome, Result, Ok, Err, IfErr, IsErrAnd}
 use Rattle.std.proofs.lemmas.Option.{same_Some}
 use Rattle.scr_notation.specs.declared.event.Event.{Event}
 use Rattle.scr_notation.specs.declared.event.Event.TheVariants.{C222, C333, Oh333, C555, C666, C777, Clock, Minx, Pyram, Skewb, Sq1}
@@ -16,6 +16,11 @@ use Rattle.scr_sq1solve.specs.Built.{IsSq1Cause}
 use Rattle.scr_slots.specs.Events.{tables_of}
 use Rattle.scr_slots.specs.Held.{HasCubes}
 use Rattle.scr_slots.specs.Tables.{IsBuildCause}
+
+-- what is so of an error is so of it where it is handed on
+pub IfErr-handed : {A E : Type 0} (P : E → Type 0) (e : E) (r : Result A E) → IsErrAnd r (λ f. f ≡ e) → P e → IfErr r P
+IfErr-handed P e (Ok a) h p = tt
+IfErr-handed P e (Err f) h p = subst P (sym h) p
 
 -- a list with an element isn't empty
 some_element : {X : Type 0} (xs : List X) (x : X) → Contains xs x → xs ≡ [] → ⊥

@@ -1,4 +1,5 @@
--- What each event is: the one place that says by event what a slot draws, what its scramble is, and which tables it needs.
+-- What each event is: the one place that says by event what a slot draws, what its scramble is, and which tables it
+-- needs.
 use Rattle.std.specs.Prelude.{ℕ, ◌≤◌, List, [], ◌∷◌, ◌++◌, length, IsTrue, is_some}
 use Rattle.scr_notation.specs.declared.event.Event.{Event}
 use Rattle.scr_notation.specs.declared.event.Event.TheVariants.{C222, C333, Oh333, C555, C666, C777, Clock, Minx, Pyram, Skewb, Sq1}
@@ -47,8 +48,8 @@ skewb_rule = small_rule numbered_puzzle_skewb 11
 abbrev pub pyram_rule : ScrambleRule PyramState
 pyram_rule = record { played = play (after_letter pyram_powers) solved_pyram; IsShort = at_most 15; IsScramble = λ tries. IsScramblePyram }
 
--- the 3x3x3: its two parts, where one of so many first parts has a second, in at most 22 turns; and else the words of the four
--- stages, tidied, in at most 52; taken back
+-- the 3x3x3: its two parts, where one of so many first parts has a second, in at most 22 turns; and else the words of
+-- the four stages, tidied, in at most 52; taken back
 abbrev pub rule_333 : ScrambleRule CubeState
 rule_333 = record {
   played = play (after_letter cube_powers) solved_cube;

@@ -8,7 +8,7 @@ use Rattle.scr_small.specs.Tables.{BuiltTable}
 abbrev pub HoldTables : Event → List Event → Option BuiltTable → Type 0
 HoldTables event events tables = Contains events event → IsSomeAnd tables (λ built. built.event ≡ event)
 
--- One of these events is a 3x3x3, which goes by stages.
+-- One of these events is a 3x3x3, with two hands or with one.
 abbrev pub HasCubes : List Event → Type 0
 HasCubes events = Contains events C333 ⊎ Contains events Oh333
 

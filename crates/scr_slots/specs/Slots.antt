@@ -8,8 +8,8 @@ use Rattle.scr_play.specs.Reach.{Puzzle, IsPermitted}
 use Rattle.scr_notation.specs.declared.turn.Turn.{Turn}
 use Rattle.scr_slots.specs.declared.settings.Settings.{Settings}
 
--- What makes turns the scramble of a state, where a solver has so many tries: what the turns of a scramble make of the solved
--- puzzle, how short the scramble of a state is, and which turns are its scramble.
+-- What makes turns the scramble of a state, where a solver has so many tries: what the turns of a scramble make of the
+-- solved puzzle, how short the scramble of a state is, and which turns are its scramble.
 pub record ScrambleRule (S : Type 0) : Type 1 where
   pub played : List Turn → Option S
   pub IsShort : ℕ → S → List Turn → Type 0
@@ -26,9 +26,9 @@ pub record StateEvent : Type 1 where
   pub space : StateSpace State
   pub rule : ScrambleRule State
 
--- An event whose scrambles are random moves (WCA Regulations, article 4): the turns that words give from a place on, where
--- each turn has so many attempts, and what is promised of how they are chosen. Nothing is promised of the states that they
--- lead to.
+-- An event whose scrambles are random moves (WCA Regulations, article 4): the turns that words give from a place on,
+-- where each turn has so many attempts, and what is promised of how they are chosen. Nothing is promised of the states
+-- that they lead to.
 pub record MoveEvent : Type 1 where
   pub moves : ℕ → (ℕ → ℕ) → ℕ → Option (List Turn)
   pub AreFair : Type 0
@@ -46,8 +46,8 @@ by_state {S} n puzzle rule = ByState (record { State = S; space = space_of n puz
 abbrev pub slot_numbers : Settings → ℕ → List ℕ
 slot_numbers settings stream = attempt_values (stream_word settings.seed.0 stream) 0 settings.attempts
 
--- The turns of a slot's scramble: those of the state that the slot draws, which turns reach and which needs so many. Played
--- on the solved puzzle they give it.
+-- The turns of a slot's scramble: those of the state that the slot draws, which turns reach and which needs so many.
+-- Played on the solved puzzle they give it.
 pub record IsDrawnScramble (event : StateEvent) (settings : Settings) (least stream : ℕ) (turns : List Turn) : Type 0 where
   pub state : event.State
   pub draws : Draws event.space least (slot_numbers settings stream) (Some state)

@@ -64,8 +64,8 @@ impl Scrambled for SmallPyram<'_> {
     ghost only = { λ _ tries state turns other reached. IsScramblePyram-unique state turns other };
 }
 
-/// The scramble of a slot of an event on this stream, or how many words its attempts took, where they draw no state that
-/// needs at least `least` turns, or where all those of a random move are refused.
+/// The scramble of a slot of an event on this stream, or how many words its attempts took, where they draw no state
+/// that needs at least `least` turns, or where all those of a random move are refused.
 ///
 /// The tables are those of a list with the event; `least` is in its range, and there are at most 1,000,000 attempts.
 #[tactic(auto, unfolding(crate::specs::Events::scrambling_of))]
@@ -108,8 +108,8 @@ pub fn slot_scramble(
     }
 }
 
-/// Writes how many positions each table of an event has at each distance, or that the event has no tables. At `Failed`, which
-/// comes only where the sink's count of faults rose, a first part of it was written.
+/// Writes how many positions each table of an event has at each distance, or that the event has no tables. At `Failed`,
+/// which comes only where the sink's count of faults rose, a first part of it was written.
 ///
 /// The tables are those of a list with the event.
 #[tactic(auto, unfolding(crate::specs::Events::tables_of))]

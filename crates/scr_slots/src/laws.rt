@@ -19,7 +19,8 @@ use scr_draw::laws as drawing;
 use scr_notation::Event;
 use scr_small::{Small222, SmallPyram, SmallSkewb};
 
-/// What a slot of an event has does not depend on how it is found: it has one scramble at most, and either that or none.
+/// What a slot of an event has does not depend on how it is found: it has one scramble at most, and either that or
+/// none.
 pub fn one_scramble()
     ensures { (event : EventOf) (least : ℕ) → HasOneScramble (scrambling_of event) least }
 {}

@@ -12,8 +12,8 @@ use scr_draw::DrawLimit;
 use scr_notation::Scramble;
 use scr_words::ChaChaWords;
 
-/// The scramble of a slot of a cube with `SIDE` layers on this stream, or how many words the attempts of one turn took, where
-/// all of them are refused.
+/// The scramble of a slot of a cube with `SIDE` layers on this stream, or how many words the attempts of one turn took,
+/// where all of them are refused.
 ///
 /// There are at most 1,000,000 attempts.
 pub(crate) fn cube_scramble<const SIDE: usize>(

@@ -25,11 +25,12 @@ pub trait Scrambled: RandomState {
 
     /// A state that turns reach has one scramble.
     ghost only: { (event : Self) (tries : ℕ) (state : Self.State) (turns other : List Turn)
-        → IsReached (Self.puzzle event) state → (rule event).IsScramble tries state turns → (rule event).IsScramble tries state other → turns ≡ other };
+        → IsReached (Self.puzzle event) state → (rule event).IsScramble tries state turns
+        → (rule event).IsScramble tries state other → turns ≡ other };
 }
 
-/// The scramble of a slot on this stream: that of the state which the stream draws with so many attempts, one that needs at
-/// least `least` turns; or how many words the attempts took, where they draw none.
+/// The scramble of a slot on this stream: that of the state which the stream draws with so many attempts, one that
+/// needs at least `least` turns; or how many words the attempts took, where they draw none.
 ///
 /// `least` is in the event's range, and there are at most 1,000,000 attempts.
 pub fn drawn_scramble<E: Scrambled>(

@@ -10,8 +10,8 @@ use scr_draw::{Numbering, Permit, RandomState};
 use scr_notation::Scramble;
 use scr_twophase::{Draw333, scramble_333};
 
-/// The 3x3x3, with two hands or with one, by the tables of its four stages, by which each of its states is reached, and those
-/// of the search for two parts.
+/// The 3x3x3, with two hands or with one, by the tables of its four stages, by which each of its states is reached, and
+/// those of the search for two parts.
 #[derive(Drop)]
 pub(crate) struct SolvedCube<'a> {
     tables: &'a CubeTables,

@@ -61,8 +61,8 @@ impl Drop for Tables {
 }
 
 impl Tables {
-    /// Builds the tables of the events of these rounds, of which there are at most 64. A gap comes only where one of their
-    /// tables has one; memory can be wanting only where one of them needs a table.
+    /// Builds the tables of the events of these rounds, of which there are at most 64. A gap comes only where one of
+    /// their tables has one; memory can be wanting only where one of them needs a table.
     pub fn build(alloc: Global, rounds: &[Round]) -> Result<Tables, BuildFault>
         requires few { length rounds.now ≤ 64 }
         ensures events { IfOk result (λ tables. tables ≡ map (λ round. round.event) rounds.now) }

@@ -6,12 +6,10 @@ use Rattle.scr_play.specs.Back.{back}
 use Rattle.scr_play.specs.FirstWord.{LeadsTo, IsFirstWord}
 use Rattle.scr_play.proofs.FirstWordLaws.{LeadsTo-parts}
 use Rattle.scr_coord.specs.Coordinates.{Coordinate, moved, IsGoal}
-use Rattle.scr_coord.specs.SearchSpaces.{positions, ShowsSame}
-use Rattle.scr_coord.proofs.SearchLaws.{FindsTheSame-follows, Follows-same}
 use Rattle.scr_table.proofs.StepLaws.{moved-turn}
 use Rattle.scr_small.specs.NumberedPuzzles.{NumberedPuzzle, state_coordinate, IsScrambleOf}
 use Rattle.scr_small.specs.LawfulPuzzles.{IsNumberedPuzzle}
-use Rattle.scr_small.specs.PuzzleLaws.{finds_the_same, StaysBelow-states}
+use Rattle.scr_small.specs.PuzzleLaws.{finds_the_same}
 
 -- a word that is defined is of the coordinate's turns
 pub All-turns : (c : Coordinate) (p : ℕ) (w : List ℕ) → LeadsTo (moved c) (IsGoal c) p w → All (λ t. t < c.turns) w
@@ -21,16 +19,13 @@ All-turns c p (t ∷ w) l =
     All-cons (λ t. t < c.turns) t w (moved-turn c p t parts.0 parts.1).0 (All-turns c parts.0 w parts.2)
 
 -- the first word from a state's position is the first that solves the state
-pub IsScrambleOf-walked : {S T : Type 0} (p : NumberedPuzzle S T) → IsNumberedPuzzle p → (shown : Coordinate) → ShowsSame (state_coordinate p) shown
-    → (s : S) → p.numbered.IsValid s → (i : ℕ) → i ≡ p.numbered.number_of s → (w : List ℕ) → IsFirstWord (moved shown) (IsGoal shown) i w
+pub IsScrambleOf-walked : {S T : Type 0} (p : NumberedPuzzle S T) → IsNumberedPuzzle p → (s : S) → p.numbered.IsValid s
+    → (i : ℕ) → i ≡ p.numbered.number_of s → (w : List ℕ) → IsFirstWord (moved (state_coordinate p)) (IsGoal (state_coordinate p)) i w
     → IsScrambleOf p s (back p.opposite (map p.letter_at w))
-IsScrambleOf-walked p l shown same s valid i here w first =
-    let c = state_coordinate p in
-    let alike = FindsTheSame-follows (positions c) (positions shown) (λ k. k) (Follows-same c shown (StaysBelow-states p l) same) in
-    let P : ℕ → Type 0 = λ k. IsFirstWord (moved shown) (IsGoal shown) k w in
-    let at : p.numbered.number_of s < p.numbered.count = l.numbering.one_to_one.below s valid in
+IsScrambleOf-walked p l s valid i here w first =
+    let P : ℕ → Type 0 = λ k. IsFirstWord (moved (state_coordinate p)) (IsGoal (state_coordinate p)) k w in
     record {
       solution = w;
-      first = ((finds_the_same p l).first_words s w valid).1 ((alike.first_words (p.numbered.number_of s) w at).1 (subst P here first));
+      first = ((finds_the_same p l).first_words s w valid).1 (subst P here first);
       taken_back = refl;
     }

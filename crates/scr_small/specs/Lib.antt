@@ -3,6 +3,7 @@ pub mod LawfulPuzzles
 pub mod PuzzleLaws
 pub mod StateParts
 pub mod PartLaws
+pub mod DigitParts
 pub mod Puzzle222
 pub mod Lawful222
 pub mod PuzzleSkewb

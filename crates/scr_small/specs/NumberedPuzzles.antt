@@ -7,11 +7,14 @@ use Rattle.scr_play.specs.Back.{back}
 use Rattle.scr_play.specs.FirstWord.{IsFirstWord}
 use Rattle.scr_play.specs.Reach.{Puzzle}
 use Rattle.scr_coord.specs.Coordinates.{Coordinate}
+use Rattle.scr_notation.specs.declared.turn.Turn.{Turn}
+use Rattle.scr_notation.specs.Turning.{opposite as opposite_turn}
+use Rattle.scr_turning.specs.PowerPuzzles.{PowerPuzzle, after_letter, turn_count}
 use Rattle.scr_table.specs.declared.name.TableName.{TableName}
 use Rattle.scr_table.specs.Lines.{TableLine}
 
--- Numbered states; what a letter makes of one, or nothing where it is no turn of the puzzle; which state is solved; how many
--- turns there are, and the letter of each number below that; and the letter that takes a letter's turn back.
+-- Numbered states; what a letter makes of one, or nothing where it is no turn of the puzzle; which state is solved; how
+-- many turns there are, and the letter of each number below that; and the letter that takes a letter's turn back.
 pub record NumberedPuzzle (S T : Type 0) : Type 1 where
   pub numbered : Numbered S
   pub after : S → T → Option S
@@ -19,6 +22,17 @@ pub record NumberedPuzzle (S T : Type 0) : Type 1 where
   pub turns : ℕ
   pub letter_at : ℕ → T
   pub opposite : T → T
+
+-- Numbered states that are turned by powers of generators: the letters have the numbers of the powers.
+abbrev pub numbered_powers : {S R : Type 0} → Numbered S → PowerPuzzle S R → NumberedPuzzle S Turn
+numbered_powers n p = record {
+  numbered = n;
+  after = (after_letter p);
+  solved = p.solved;
+  turns = turn_count p;
+  letter_at = p.letters.letter_at;
+  opposite = opposite_turn;
+}
 
 -- The puzzle that it is: each turn counts once (WCA Regulations, article 4).
 abbrev pub puzzle_of : {S T : Type 0} → NumberedPuzzle S T → Puzzle S
@@ -28,8 +42,8 @@ puzzle_of {T = T} p = record { Turn = T; after = p.after; IsSolved = λ s. s ≡
 abbrev pub after_number : {S T : Type 0} → NumberedPuzzle S T → S → ℕ → Option S
 after_number p s n = p.after s (p.letter_at n)
 
--- The puzzle as a coordinate: the positions are the numbers of the states, a turn leads from a state's number to that of the
--- turned state, and the goal is the number of the solved state.
+-- The puzzle as a coordinate: the positions are the numbers of the states, a turn leads from a state's number to that
+-- of the turned state, and the goal is the number of the solved state.
 abbrev pub state_coordinate : {S T : Type 0} → NumberedPuzzle S T → Coordinate
 state_coordinate p = record {
   count = p.numbered.count;
@@ -42,7 +56,8 @@ state_coordinate p = record {
 abbrev pub state_line : {S T : Type 0} → NumberedPuzzle S T → TableName → ℕ → TableLine
 state_line p name bound = record { name = name; coordinate = state_coordinate p; bound = bound }
 
--- The first word of turn numbers that leads from a state to solved, in the order of words: by length, and then by numbers.
+-- The first word of turn numbers that leads from a state to solved, in the order of words: by length, and then by
+-- numbers.
 abbrev pub IsFirstSolution : {S T : Type 0} → NumberedPuzzle S T → S → List ℕ → Type 0
 IsFirstSolution p s word = IsFirstWord (after_number p) (λ r. r ≡ p.solved) s word
 

@@ -1,5 +1,5 @@
--- What one table says of a numbered puzzle: its valid states are those that turns reach, what each needs, and its scramble.
--- No puzzle stands here. (The proofs stand in specs/, since laws of the code's types cite them.)
+-- What one table says of a numbered puzzle: its valid states are those that turns reach, what each needs, and its
+-- scramble. No puzzle stands here. (The proofs stand in specs/, since laws of the code's types cite them.)
 use Rattle.std.proofs.Common.{◌≡◌, ℕ, suc, ◌<◌, ◌≤◌, Bool, true, false, cond, IsTrue, List, [], ◌∷◌, map, length, get_or, inl, inr, Option, Some, None, refl, sym, ap, ◌∙◌, subst, arith}
 use Rattle.std.specs.Prelude.{nat_lt, nat_le, ◌↔◌, option_and_then}
 use Rattle.std.specs.Option.{option_map}

@@ -1,5 +1,5 @@
--- What the table of the Pyraminx without tips says of the Pyraminx: its valid states are those that turns reach, what each
--- needs, and its scramble. (The proofs stand in specs/, since laws of the code's types cite them.)
+-- What the table of the Pyraminx without tips says of the Pyraminx: its valid states are those that turns reach, what
+-- each needs, and its scramble. (The proofs stand in specs/, since laws of the code's types cite them.)
 use Rattle.std.proofs.Common.{◌≡◌, ℕ, ◌+◌, ◌/◌, ◌≤◌, Bool, true, false, cond, IsTrue, List, [], ◌∷◌, ◌++◌, map, length, get_or, inl, inr, Some, refl, sym, ap, ◌∙◌, arith, lit≤, lit<}
 use Rattle.std.specs.Prelude.{nat_le, ◌==◌, ◌↔◌}
 use Rattle.std.proofs.lemmas.Bool.{cases_lt}

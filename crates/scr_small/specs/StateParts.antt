@@ -1,12 +1,13 @@
--- Puzzles whose states are two parts that turns move each by itself, and the coordinate of each part. No puzzle stands here.
+-- Puzzles whose states are two parts that turns move each by itself, and the coordinate of each part. No puzzle stands
+-- here.
 use Rattle.std.specs.Prelude.{◌≡◌, ℕ, ◌*◌, ◌/◌, ◌%◌, ◌==◌, Option, Some}
 use Rattle.std.specs.Option.{option_map}
 use Rattle.scr_coord.specs.Coordinates.{Coordinate}
 use Rattle.scr_small.specs.NumberedPuzzles.{NumberedPuzzle, after_number}
 
--- Turns move two parts of a state each by itself. The number of a state is low + low_count * high, where low is the number
--- of one part, below low_count, and high that of the other, below high_count: states that agree in a part agree in it after
--- a turn, and a turn that does something to one state does something to each.
+-- Turns move two parts of a state each by itself. The number of a state is low + low_count * high, where low is the
+-- number of one part, below low_count, and high that of the other, below high_count: states that agree in a part agree
+-- in it after a turn, and a turn that does something to one state does something to each.
 pub record MovesByParts {S T : Type 0} (p : NumberedPuzzle S T) (low_count high_count : ℕ) : Type 0 where
   pub pairs : p.numbered.count ≡ low_count * high_count
   pub low : (s r s' r' : S) (t : T) → p.numbered.IsValid s → p.numbered.IsValid r → p.after s t ≡ Some s' → p.after r t ≡ Some r'

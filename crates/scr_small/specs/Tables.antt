@@ -1,8 +1,5 @@
 -- The tables of the puzzles that one table solves.
 use Rattle.std.specs.Prelude.{◌≡◌, Option, Some, None}
-use Rattle.scr_coord.specs.Moves.{Moves, moves_coordinate}
-use Rattle.scr_coord.specs.Products.{product}
-use Rattle.scr_coord.specs.SearchSpaces.{ShowsSame}
 use Rattle.scr_notation.specs.declared.event.Event.{Event}
 use Rattle.scr_notation.specs.declared.event.Event.TheVariants.{C222, C333, Oh333, C555, C666, C777, Clock, Minx, Pyram, Skewb, Sq1}
 use Rattle.scr_table.specs.Distances.{Distances}
@@ -35,9 +32,3 @@ pub record IsBuilt (built : BuiltTable) : Type 0 where
   pub line : TableLine
   pub of_event : small_line built.event ≡ Some line
   pub table : IsTableOf line built.distances
-
--- The moves of two coordinates side by side show what the event's table is a table of.
-pub record ShowsEvent (event : Event) (low high : Moves) : Type 0 where
-  pub line : TableLine
-  pub of_event : small_line event ≡ Some line
-  pub shows : ShowsSame line.coordinate (product (moves_coordinate low) (moves_coordinate high))

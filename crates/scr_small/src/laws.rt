@@ -8,7 +8,8 @@ ghost use Rattle.scr_coord.specs.Products.{product};
 ghost use Rattle.scr_coord.specs.SearchSpaces.{ShowsSame};
 ghost use Rattle.scr_table.specs.Distances.{Distances, Measures};
 ghost use Rattle.scr_turning.specs.PowerPuzzles.{after_letter, power_puzzle};
-ghost use Rattle.scr_tetra.specs.Pyraminx.{numbered_tetraminx, numbered_pyram, PyramState, IsPyram, pyram_powers, solved_pyram};
+ghost use Rattle.scr_tetra.specs.Pyraminx.{numbered_tetraminx, numbered_pyram, PyramState, IsPyram};
+ghost use Rattle.scr_tetra.specs.Pyraminx.{pyram_powers, solved_pyram};
 ghost use Rattle.scr_tetra.specs.PyramParts.{turned_count};
 ghost use Rattle.scr_small.specs.LawfulPuzzles.{IsNumberedPuzzle};
 ghost use Rattle.scr_small.specs.NumberedPuzzles.{puzzle_of, state_coordinate, IsScrambleOf};
@@ -19,18 +20,19 @@ ghost use Rattle.scr_small.specs.PuzzleSkewb.{coordinate_skewb};
 
 use crate::one_table::OneTable;
 
-/// Such a puzzle is a numbered one. Turns move the two parts of its states each by itself, so that the coordinates of the
-/// parts, side by side, show it.
+/// Such a puzzle is a numbered one. Turns move the two parts of its states each by itself, so that the coordinates of
+/// the parts, side by side, show it.
 pub fn shown_by_parts<P: OneTable>()
     ensures numbered { IsNumberedPuzzle P.shown }
     ensures stays { StaysBelow (state_coordinate P.shown) }
     ensures parts { MovesByParts P.shown P.LOW P.HIGH }
-    ensures shown { ShowsSame (state_coordinate P.shown) (product (low_part P.shown P.LOW) (high_part P.shown P.LOW P.HIGH)) }
+    ensures shown { let parts = product (low_part P.shown P.LOW) (high_part P.shown P.LOW P.HIGH) in
+        ShowsSame (state_coordinate P.shown) parts }
 {}
 
-/// Where a table measures the coordinate of such a puzzle, its valid states are those that turns reach, a state needs as many
-/// turns as its distance and no more, and each valid state has a scramble, which has so many turns and leads to it from
-/// solved. With or without a table it has no two.
+/// Where a table measures the coordinate of such a puzzle, its valid states are those that turns reach, a state needs
+/// as many turns as its distance and no more, and each valid state has a scramble, which has so many turns and leads to
+/// it from solved. With or without a table it has no two.
 pub fn measured<P: OneTable>()
     ensures reached { (table : Distances) → Measures (state_coordinate P.shown) table
         → (s : P.State) → P.shown.numbered.IsValid s ↔ IsReached (puzzle_of P.shown) s }
@@ -46,12 +48,13 @@ pub fn measured<P: OneTable>()
         → IsScrambleOf P.shown s some → IsScrambleOf P.shown s other → some ≡ other }
 {}
 
-/// Where a table measures the Pyraminx without tips, the valid states of the Pyraminx are those that turns reach; a state needs
-/// as many turns as its distance without tips and one for each tip that stands turned, and no more; and each valid state has
-/// a scramble, which leads to it from solved. With or without a table it has no two. A state's position in the table is its
-/// number over 81, rounded down.
+/// Where a table measures the Pyraminx without tips, the valid states of the Pyraminx are those that turns reach; a
+/// state needs as many turns as its distance without tips and one for each tip that stands turned, and no more; and
+/// each valid state has a scramble, which leads to it from solved. With or without a table it has no two. A state's
+/// position in the table is its number over 81, rounded down.
 pub fn measured_pyram()
-    ensures position { (s : PyramState) → IsPyram s → numbered_pyram.number_of s / 81 ≡ numbered_tetraminx.number_of s.body }
+    ensures position { (s : PyramState) → IsPyram s
+        → numbered_pyram.number_of s / 81 ≡ numbered_tetraminx.number_of s.body }
     ensures reached { (table : Distances) → Measures coordinate_tetraminx table
         → (s : PyramState) → IsPyram s ↔ IsReached (power_puzzle pyram_powers) s }
     ensures needs { (table : Distances) → Measures coordinate_tetraminx table
@@ -66,8 +69,8 @@ pub fn measured_pyram()
         → IsScramblePyram s some → IsScramblePyram s other → some ≡ other }
 {}
 
-/// The coordinate of the 2x2x2 at worked positions: it has 3,674,160; U leads from solved to number 1574640, and U' back;
-/// there is no tenth turn; solved alone is the goal.
+/// The coordinate of the 2x2x2 at worked positions: it has 3,674,160; U leads from solved to number 1574640, and U'
+/// back; there is no tenth turn; solved alone is the goal.
 #[tactic(auto, unfolding(crate::proofs::OnLiterals::positions_on_literals))]
 pub fn rows_222()
     ensures count { coordinate_222.count ≡ 3674160 }
@@ -78,8 +81,8 @@ pub fn rows_222()
     ensures unsolved { coordinate_222.is_goal 1574640 ≡ false }
 {}
 
-/// That of the Pyraminx without tips: it has 933,120; U leads from solved to number 186625, and U' back; there is no ninth
-/// turn; solved alone is the goal.
+/// That of the Pyraminx without tips: it has 933,120; U leads from solved to number 186625, and U' back; there is no
+/// ninth turn; solved alone is the goal.
 #[tactic(auto, unfolding(crate::proofs::OnLiterals::positions_on_literals))]
 pub fn rows_pyram()
     ensures count { coordinate_tetraminx.count ≡ 933120 }
@@ -90,8 +93,8 @@ pub fn rows_pyram()
     ensures unsolved { coordinate_tetraminx.is_goal 186625 ≡ false }
 {}
 
-/// That of the Skewb: it has 3,149,280; B leads from solved to number 9423, and U from there to number 1718795; B' leads back;
-/// there is no ninth turn; solved alone is the goal.
+/// That of the Skewb: it has 3,149,280; B leads from solved to number 9423, and U from there to number 1718795; B'
+/// leads back; there is no ninth turn; solved alone is the goal.
 #[tactic(auto, unfolding(crate::proofs::OnLiterals::positions_on_literals))]
 pub fn rows_skewb()
     ensures count { coordinate_skewb.count ≡ 3149280 }

@@ -1,23 +1,24 @@
 //! Puzzles that one table solves: the 2x2x2, the Pyraminx and the Skewb.
 //!
 //! What such a puzzle is stands in `specs/NumberedPuzzles.antt`, with no puzzle's name in it: numbered states, numbered
-//! turns, the coordinate of the states' numbers, and the scramble of a state, which is the first word that solves it, taken
-//! back. `specs/PuzzleLaws.antt` says what a table that measures the coordinate tells of any such puzzle: its valid states
-//! are those that turns reach, a state needs as many turns as its distance, and each has one scramble, which leads to it
-//! from solved. `specs/Puzzle222.antt`, `specs/PuzzlePyram.antt` and `specs/PuzzleSkewb.antt` have the puzzles' data. The
-//! table of the Pyraminx is over its states without tips: `specs/PyramLaws.antt` says what it tells of those with tips.
+//! turns, the coordinate of the states' numbers, and the scramble of a state, which is the first word that solves it,
+//! taken back. `specs/PuzzleLaws.antt` says what a table that measures the coordinate tells of any such puzzle: its
+//! valid states are those that turns reach, a state needs as many turns as its distance, and each has one scramble,
+//! which leads to it from solved. `specs/Puzzle222.antt`, `specs/PuzzlePyram.antt` and `specs/PuzzleSkewb.antt` have
+//! the puzzles' data. The table of the Pyraminx is over its states without tips: `specs/PyramLaws.antt` says what it
+//! tells of those with tips.
 //!
-//! A state is two parts that turns move each by itself (`specs/StateParts.antt`), so that a table is filled over two move
-//! tables side by side. [`OneTable`] is what a puzzle gives: its numbers and turns in code, and these laws. [`SmallTables`]
-//! is the built table of an event; [`scramble_222`], [`scramble_pyram`], [`scramble_skewb`] and the tests of minima walk and
-//! read it; [`SmallPuzzle`] and [`SmallPyram`] are the events that fair drawing takes, whose law is that the states it draws
-//! are those that turns reach.
+//! A state is two parts that turns move each by itself (`specs/StateParts.antt`), so that a table is filled over two
+//! move tables side by side. [`OneTable`] is what a puzzle gives beside its numbering and its turns, with these laws.
+//! [`SmallTables`] is the built table of an event; [`scramble_222`], [`scramble_pyram`], [`scramble_skewb`] and the
+//! tests of minima walk and read it; [`SmallPuzzle`] and [`SmallPyram`] are the events that fair drawing takes, whose
+//! law is that the states it draws are those that turns reach.
 #![tactic(auto)]
 
 pub mod laws;
 mod one_table;
-mod pair_table;
 mod parts;
+mod parts_line;
 mod scrambles;
 mod small_222;
 mod small_puzzle;

@@ -1,14 +1,14 @@
 //! What a puzzle is that one table solves.
 
+use scr_draw::Numbering;
 use scr_notation::{Event, Turn};
 use scr_table::TableName;
+use scr_turning::{Letters, PowerTurned};
 
-/// A puzzle with numbered states and turns, whose states are two parts that turns move each by itself. It is a type without
-/// values to tell apart.
-pub trait OneTable {
+/// A puzzle with numbered states and turns, whose states are two parts that turns move each by itself.
+pub trait OneTable: Numbering<State: PowerTurned> + Copy {
     ghost use Rattle.std.specs.Prelude.{ℕ, ◌≡◌, ◌*◌, ◌^◌, ◌<◌, ◌≤◌, Some, IsTrue};
     ghost use Rattle.scr_notation.specs.declared.event.Event.{Event as EventOf};
-    ghost use Rattle.scr_notation.specs.declared.event.Event.TheVariants.{Clock};
     ghost use Rattle.scr_notation.specs.declared.turn.Turn.{Turn as Letter};
     ghost use Rattle.scr_notation.specs.Turning.{opposite};
     ghost use Rattle.scr_notation.specs.Turns.{permits};
@@ -17,9 +17,6 @@ pub trait OneTable {
     ghost use Rattle.scr_small.specs.LawfulPuzzles.{IsNumberedPuzzle};
     ghost use Rattle.scr_small.specs.StateParts.{MovesByParts};
     ghost use Rattle.scr_small.specs.Tables.{small_line};
-
-    /// A state, which is valid.
-    type State: Drop;
 
     /// What it shows.
     ghost shown: { NumberedPuzzle Self.State Letter };
@@ -49,24 +46,16 @@ pub trait OneTable {
 
     const HIGH: u32;
 
-    /// The state with a number.
-    fn state_at(number: u32) -> Self::State
-        requires { number < shown.numbered.count }
-        ensures { result ≡ shown.numbered.state_at number };
+    /// The numbering of its states.
+    fn numbers() -> Self
+        ensures count { (Self.numbered result).count ≡ shown.numbered.count }
+        ensures states { (Self.numbered result).state_at ≡ shown.numbered.state_at }
+        ensures numbers { (Self.numbered result).number_of ≡ shown.numbered.number_of }
+        ensures valid { (state : Self.State) → shown.numbered.IsValid state → (Self.numbered result).IsValid state };
 
-    /// The number of a state.
-    fn number_of(state: &Self::State) -> u32
-        ensures number { result ≡ shown.numbered.number_of state.now }
-        ensures valid { shown.numbered.IsValid state.now };
-
-    /// How many turns there are.
-    fn turns() -> u32
-        ensures { result ≡ shown.turns };
-
-    /// The state after the turn with this number.
-    fn turned(state: &Self::State, number: u32) -> Self::State
-        requires { number < shown.turns }
-        ensures { shown.after state.now (shown.letter_at number) ≡ Some result };
+    /// Does nothing: each state is valid.
+    fn is_valid(state: &Self::State)
+        ensures { shown.numbered.IsValid state.now };
 
     /// The turn with this number.
     fn letter(number: u8) -> Turn
@@ -74,12 +63,14 @@ pub trait OneTable {
         ensures letter { result ≡ shown.letter_at number }
         ensures of_event { IsTrue (permits EVENT result) };
 
+    /// Its turns are those of the states.
+    ghost turned_by: { (shown.after ≡ Self.State.after) × (shown.letter_at ≡ Self.State.Kind.letters.letter_at)
+        × (shown.turns ≡ Self.State.Kind.POWERS * Self.State.GENERATORS) };
+
     /// It is a numbered puzzle, whose letters are taken back by the notation's opposites.
     ghost lawful: { IsNumberedPuzzle shown };
 
     ghost taken_back: { shown.opposite ≡ opposite };
-
-    ghost not_clock: { EVENT ≡ Clock → ⊥ };
 
     /// Its states are two parts, and the solved one has the number 0.
     ghost by_parts: { MovesByParts shown LOW HIGH };
@@ -94,4 +85,36 @@ pub trait OneTable {
     ghost of_event: { small_line EVENT ≡ Some (state_line shown NAME BOUND) };
 
     ghost near: { BOUND ≤ 24 };
+
+    /// The state with a number.
+    final fn state_with(number: u32) -> Self::State
+        requires { number < shown.numbered.count }
+        ensures { result ≡ shown.numbered.state_at number }
+    {
+        Self::numbers().state_at(u128::from(number))
+    }
+
+    /// The number of a state.
+    final fn number(state: &Self::State) -> u32
+        ensures number { result ≡ shown.numbered.number_of state.now }
+        ensures valid { shown.numbered.IsValid state.now }
+    {
+        Self::is_valid(state);
+        Self::numbers().number_of(state) as u32
+    }
+
+    /// How many turns there are.
+    final fn turns() -> u32
+        ensures { result ≡ shown.turns }
+    {
+        u32::from(<Self::State as PowerTurned>::Kind::POWERS) * u32::from(Self::State::GENERATORS)
+    }
+
+    /// The state after the turn with this number.
+    final fn turned(state: &Self::State, number: u32) -> Self::State
+        requires { number < shown.turns }
+        ensures { shown.after state.now (shown.letter_at number) ≡ Some result }
+    {
+        state.turned(number as usize)
+    }
 }

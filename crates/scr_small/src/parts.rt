@@ -6,8 +6,8 @@ use crate::one_table::OneTable;
 use scr_coord::Coord;
 use std::marker::PhantomData;
 
-/// The part whose numbers follow each other. A step finds the state, turns it, and numbers it, so that tables of moves are
-/// to be made of it.
+/// The part whose numbers follow each other. A step finds the state, turns it, and numbers it, so that tables of moves
+/// are to be made of it.
 #[derive(Drop)]
 pub(crate) struct LowPart<P: OneTable> {
     puzzle: PhantomData<P>,
@@ -33,8 +33,8 @@ impl<P: OneTable> Coord for LowPart<P> {
     }
 
     fn after(&self, position: u32, turn: u32) -> Option<u32> {
-        let turned = P::turned(&P::state_at(position), turn);
-        Some(P::number_of(&turned) % P::LOW)
+        let turned = P::turned(&P::state_with(position), turn);
+        Some(P::number(&turned) % P::LOW)
     }
 
     fn is_goal(&self, position: u32) -> bool {
@@ -70,8 +70,8 @@ impl<P: OneTable> Coord for HighPart<P> {
     }
 
     fn after(&self, position: u32, turn: u32) -> Option<u32> {
-        let turned = P::turned(&P::state_at(P::LOW * position), turn);
-        Some(P::number_of(&turned) / P::LOW)
+        let turned = P::turned(&P::state_with(P::LOW * position), turn);
+        Some(P::number(&turned) / P::LOW)
     }
 
     fn is_goal(&self, position: u32) -> bool {

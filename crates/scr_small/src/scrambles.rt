@@ -19,7 +19,7 @@ pub(crate) fn scramble_of<P: OneTable>(tables: &SmallTables, state: &P::State) -
     ensures only { (turns : List Letter) → IsScrambleOf P.shown state.now turns → turns ≡ result.turns }
     ensures played { play P.shown.after P.shown.solved result.turns ≡ Some state.now }
 {
-    let word = tables.pair().descend(P::number_of(state));
+    let word = tables.descend(P::number(state));
     inverse(&spelled::<P>(&word))
 }
 
@@ -31,7 +31,7 @@ pub(crate) fn distance_of<P: OneTable>(tables: &SmallTables, state: &P::State) -
     ensures exact { (least : ℕ) → (least ≤ result) ↔ Needs (puzzle_of P.shown) state.now least }
     ensures measures { Measures (state_coordinate P.shown) tables.now.distances }
 {
-    tables.pair().distances.distance(P::number_of(state))
+    tables.only().distance(P::number(state))
 }
 
 /// Whether no word of fewer than `least` turns brings a state to solved. The tables are those of the puzzle's event.

@@ -12,8 +12,7 @@ use crate::one_table::OneTable;
 use crate::scrambles::{needs_of, scramble_of};
 use crate::small_puzzle::SmallPuzzle;
 use crate::tables::SmallTables;
-use scr_cube::{Corners222, Numbers222, PowerTurned};
-use scr_draw::Numbering;
+use scr_cube::{Corners222, Numbers222};
 use scr_notation::{Event, Scramble, Turn};
 use scr_table::TableName;
 
@@ -23,12 +22,9 @@ pub type Small222<'a> = SmallPuzzle<'a, Numbers222>;
 impl OneTable for Numbers222 {
     ghost use Rattle.std.specs.Prelude.{refl};
     ghost use Rattle.std.proofs.Common.{lit≤, lit<};
-    ghost use Rattle.scr_notation.specs.declared.event.Event.TheVariants.{C222};
     ghost use Rattle.scr_table.specs.declared.name.TableName.TheVariants.{Corners};
     ghost use Rattle.scr_small.specs.Puzzle222.{numbered_puzzle_222};
     ghost use Rattle.scr_small.specs.Lawful222.{lawful_puzzle_222, parts_222, first_222};
-
-    type State = Corners222;
 
     ghost shown = { numbered_puzzle_222 };
 
@@ -54,21 +50,12 @@ impl OneTable for Numbers222 {
 
     const HIGH: u32 = 5040;
 
-    fn state_at(number: u32) -> Corners222 {
-        Numbers222.state_at(u128::from(number))
+    fn numbers() -> Numbers222 {
+        Numbers222
     }
 
-    fn number_of(state: &Corners222) -> u32 {
+    fn is_valid(state: &Corners222) {
         let [..] = state.twists();
-        Numbers222.number_of(state) as u32
-    }
-
-    fn turns() -> u32 {
-        9
-    }
-
-    fn turned(state: &Corners222, number: u32) -> Corners222 {
-        state.turned(number as usize)
     }
 
     #[tactic(auto, unfolding(scr_notation::specs::TurnNumbers::face_turn_at))]
@@ -80,11 +67,11 @@ impl OneTable for Numbers222 {
         }
     }
 
+    ghost turned_by = { (refl, refl, refl) };
+
     ghost lawful = { lawful_puzzle_222 };
 
     ghost taken_back = { refl };
-
-    ghost not_clock = { λ e. Prim.cc };
 
     ghost by_parts = { parts_222 };
 
@@ -99,8 +86,8 @@ impl OneTable for Numbers222 {
     ghost near = { lit≤ tt };
 }
 
-/// The scramble of a 2x2x2, of at most 11 turns: the first word of turns that solves it, taken back. The tables are those
-/// of 222.
+/// The scramble of a 2x2x2, of at most 11 turns: the first word of turns that solves it, taken back. The tables are
+/// those of 222.
 pub fn scramble_222(tables: &SmallTables, state: &Corners222) -> Scramble
     requires { tables.now.event ≡ C222 }
     ensures event { result.event ≡ C222 }
@@ -116,7 +103,8 @@ pub fn scramble_222(tables: &SmallTables, state: &Corners222) -> Scramble
 pub fn needs_222(tables: &SmallTables, state: &Corners222, least: u32) -> bool
     requires { tables.now.event ≡ C222 }
     ensures exact { IsTrue result ↔ Needs (power_puzzle powers_222) state.now least }
-    ensures tested { result ≡ nat_le least (slice_index tables.now.distances.distances (numbered_222.number_of state.now)) }
+    ensures tested { let entries = tables.now.distances.distances in
+        result ≡ nat_le least (slice_index entries (numbered_222.number_of state.now)) }
 {
     needs_of::<Numbers222>(tables, state, least)
 }

@@ -26,7 +26,7 @@ impl<'a, P: OneTable> SmallPuzzle<'a, P> {
     pub fn new(tables: &'a SmallTables) -> SmallPuzzle<'a, P>
         requires { tables.now.event ≡ P.EVENT }
     {
-        let _pair = tables.pair();
+        let _table = tables.only();
         SmallPuzzle {
             tables,
             puzzle: PhantomData,
@@ -52,15 +52,15 @@ impl<P: OneTable> Numbering for SmallPuzzle<'_, P> {
     ghost law = { λ _. P.lawful.numbering };
 
     fn count(&self) -> u128 {
-        u128::from(P::LOW * P::HIGH)
+        P::numbers().count()
     }
 
     fn state_at(&self, number: u128) -> P::State {
-        P::state_at(number as u32)
+        P::numbers().state_at(number)
     }
 
     fn number_of(&self, state: &P::State) -> u128 {
-        u128::from(P::number_of(state))
+        P::numbers().number_of(state)
     }
 }
 
@@ -81,7 +81,8 @@ impl<P: OneTable> Permit<P::State> for SmallPuzzle<'_, P> {
     }
 
     ghost exact = { λ small s least range reached.
-        tested-iff P.shown P.lawful small.tables.now.distances small.measures s least (IsValid-reached P.shown P.lawful s reached) };
+        tested-iff P.shown P.lawful small.tables.now.distances small.measures s least
+        (IsValid-reached P.shown P.lawful s reached) };
 }
 
 impl<P: OneTable> RandomState for SmallPuzzle<'_, P> {

@@ -1,5 +1,6 @@
 //! The Pyraminx: its scrambles, its minima, and how it is drawn. The table is that of the Pyraminx without tips.
-ghost use Rattle.std.specs.Prelude.{◌≡◌, ◌+◌, ◌<◌, ◌≤◌, ◌↔◌, ◌++◌, nat_le, All, List, Some, IsTrue, length, slice_index};
+ghost use Rattle.std.specs.Prelude.{◌≡◌, ◌+◌, ◌<◌, ◌≤◌, ◌↔◌, ◌++◌};
+ghost use Rattle.std.specs.Prelude.{nat_le, All, List, Some, IsTrue, length, slice_index};
 ghost use Rattle.scr_play.specs.Play.{play};
 ghost use Rattle.scr_play.specs.Reach.{Needs};
 ghost use Rattle.scr_notation.specs.declared.event.Event.TheVariants.{Pyram};
@@ -16,17 +17,14 @@ use crate::tables::SmallTables;
 use scr_draw::{Numbering, Permit, RandomState};
 use scr_notation::{Event, Scramble, Turn};
 use scr_table::TableName;
-use scr_tetra::{PowerTurned, PyramNumbers, Pyraminx, Tetraminx, TetraminxNumbers};
+use scr_tetra::{PyramNumbers, Pyraminx, Tetraminx, TetraminxNumbers};
 
 impl OneTable for TetraminxNumbers {
     ghost use Rattle.std.specs.Prelude.{refl};
     ghost use Rattle.std.proofs.Common.{lit≤, lit<};
-    ghost use Rattle.scr_notation.specs.declared.event.Event.TheVariants.{Pyram};
     ghost use Rattle.scr_table.specs.declared.name.TableName.TheVariants.{Pyramid};
     ghost use Rattle.scr_small.specs.PuzzlePyram.{numbered_puzzle_tetraminx};
     ghost use Rattle.scr_small.specs.LawfulTetraminx.{lawful_puzzle_tetraminx, parts_tetraminx, first_tetraminx};
-
-    type State = Tetraminx;
 
     ghost shown = { numbered_puzzle_tetraminx };
 
@@ -52,21 +50,12 @@ impl OneTable for TetraminxNumbers {
 
     const HIGH: u32 = 360;
 
-    fn state_at(number: u32) -> Tetraminx {
-        TetraminxNumbers.state_at(u128::from(number))
+    fn numbers() -> TetraminxNumbers {
+        TetraminxNumbers
     }
 
-    fn number_of(state: &Tetraminx) -> u32 {
+    fn is_valid(state: &Tetraminx) {
         let [..] = state.edges();
-        TetraminxNumbers.number_of(state) as u32
-    }
-
-    fn turns() -> u32 {
-        8
-    }
-
-    fn turned(state: &Tetraminx, number: u32) -> Tetraminx {
-        state.turned(number as usize)
     }
 
     #[tactic(auto, unfolding(scr_notation::specs::TurnNumbers::axis_turn_at))]
@@ -77,11 +66,11 @@ impl OneTable for TetraminxNumbers {
         }
     }
 
+    ghost turned_by = { (refl, refl, refl) };
+
     ghost lawful = { lawful_puzzle_tetraminx };
 
     ghost taken_back = { refl };
-
-    ghost not_clock = { λ e. Prim.cc };
 
     ghost by_parts = { parts_tetraminx };
 
@@ -96,8 +85,8 @@ impl OneTable for TetraminxNumbers {
     ghost near = { lit≤ tt };
 }
 
-/// The scramble of a Pyraminx, of at most 15 turns: the first word of large turns that solves it without its tips, taken back,
-/// and then the tips. The tables are those of pyram.
+/// The scramble of a Pyraminx, of at most 15 turns: the first word of large turns that solves it without its tips,
+/// taken back, and then the tips. The tables are those of pyram.
 pub fn scramble_pyram(tables: &SmallTables, state: &Pyraminx) -> Scramble
     requires { tables.now.event ≡ Pyram }
     ensures event { result.event ≡ Pyram }
@@ -128,8 +117,8 @@ fn push_tips(scramble: &mut Scramble, tips: &[u8])
     }
 }
 
-/// Whether no word of fewer than `least` turns brings a Pyraminx to solved, where a turn of a tip counts as a large one does.
-/// The tables are those of pyram.
+/// Whether no word of fewer than `least` turns brings a Pyraminx to solved, where a turn of a tip counts as a large one
+/// does. The tables are those of pyram.
 pub fn needs_pyram(tables: &SmallTables, state: &Pyraminx, least: u32) -> bool
     requires { tables.now.event ≡ Pyram }
     ensures exact { IsTrue result ↔ Needs (power_puzzle pyram_powers) state.now least }
@@ -168,7 +157,7 @@ impl<'a> SmallPyram<'a> {
     pub fn new(tables: &'a SmallTables) -> SmallPyram<'a>
         requires { tables.now.event ≡ Pyram }
     {
-        let _pair = tables.pair();
+        let _table = tables.only();
         SmallPyram { tables }
     }
 
@@ -214,7 +203,8 @@ impl Permit<Pyraminx> for SmallPyram<'_> {
     ghost greatest = { λ _. 15 };
 
     ghost needs = { λ small s least.
-        nat_le least (slice_index small.tables.now.distances.distances (numbered_tetraminx.number_of s.body) + turned_count s.tips) };
+        let entries = small.tables.now.distances.distances in
+        nat_le least (slice_index entries (numbered_tetraminx.number_of s.body) + turned_count s.tips) };
 
     fn needs_at_least(&self, state: &Pyraminx, least: u32) -> bool {
         needs_pyram(self.tables, state, least)

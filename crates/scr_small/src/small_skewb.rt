@@ -12,10 +12,9 @@ use crate::one_table::OneTable;
 use crate::scrambles::{needs_of, scramble_of};
 use crate::small_puzzle::SmallPuzzle;
 use crate::tables::SmallTables;
-use scr_draw::Numbering;
 use scr_notation::{Event, Scramble, Turn};
 use scr_table::TableName;
-use scr_tetra::{PowerTurned, Skewb, SkewbNumbers};
+use scr_tetra::{Skewb, SkewbNumbers};
 
 /// The Skewb as an event that states are drawn of, by its built table.
 pub type SmallSkewb<'a> = SmallPuzzle<'a, SkewbNumbers>;
@@ -23,12 +22,9 @@ pub type SmallSkewb<'a> = SmallPuzzle<'a, SkewbNumbers>;
 impl OneTable for SkewbNumbers {
     ghost use Rattle.std.specs.Prelude.{refl};
     ghost use Rattle.std.proofs.Common.{lit≤, lit<};
-    ghost use Rattle.scr_notation.specs.declared.event.Event.TheVariants.{Skewb as EventSkewb};
     ghost use Rattle.scr_table.specs.declared.name.TableName.TheVariants.{Skewb as TableSkewb};
     ghost use Rattle.scr_small.specs.PuzzleSkewb.{numbered_puzzle_skewb};
     ghost use Rattle.scr_small.specs.LawfulSkewb.{lawful_puzzle_skewb, parts_skewb, first_skewb};
-
-    type State = Skewb;
 
     ghost shown = { numbered_puzzle_skewb };
 
@@ -54,21 +50,12 @@ impl OneTable for SkewbNumbers {
 
     const HIGH: u32 = 360;
 
-    fn state_at(number: u32) -> Skewb {
-        SkewbNumbers.state_at(u128::from(number))
+    fn numbers() -> SkewbNumbers {
+        SkewbNumbers
     }
 
-    fn number_of(state: &Skewb) -> u32 {
+    fn is_valid(state: &Skewb) {
         let [..] = state.centres();
-        SkewbNumbers.number_of(state) as u32
-    }
-
-    fn turns() -> u32 {
-        8
-    }
-
-    fn turned(state: &Skewb, number: u32) -> Skewb {
-        state.turned(number as usize)
     }
 
     #[tactic(auto, unfolding(scr_notation::specs::TurnNumbers::axis_turn_at))]
@@ -79,11 +66,11 @@ impl OneTable for SkewbNumbers {
         }
     }
 
+    ghost turned_by = { (refl, refl, refl) };
+
     ghost lawful = { lawful_puzzle_skewb };
 
     ghost taken_back = { refl };
-
-    ghost not_clock = { λ e. Prim.cc };
 
     ghost by_parts = { parts_skewb };
 
@@ -98,8 +85,8 @@ impl OneTable for SkewbNumbers {
     ghost near = { lit≤ tt };
 }
 
-/// The scramble of a Skewb, of at most 11 turns: the first word of turns that solves it, taken back. The tables are those of
-/// skewb.
+/// The scramble of a Skewb, of at most 11 turns: the first word of turns that solves it, taken back. The tables are
+/// those of skewb.
 pub fn scramble_skewb(tables: &SmallTables, state: &Skewb) -> Scramble
     requires { tables.now.event ≡ EventSkewb }
     ensures event { result.event ≡ EventSkewb }
@@ -115,7 +102,8 @@ pub fn scramble_skewb(tables: &SmallTables, state: &Skewb) -> Scramble
 pub fn needs_skewb(tables: &SmallTables, state: &Skewb, least: u32) -> bool
     requires { tables.now.event ≡ EventSkewb }
     ensures exact { IsTrue result ↔ Needs (power_puzzle skewb_powers) state.now least }
-    ensures tested { result ≡ nat_le least (slice_index tables.now.distances.distances (skewb_numbered.number_of state.now)) }
+    ensures tested { let entries = tables.now.distances.distances in
+        result ≡ nat_le least (slice_index entries (skewb_numbered.number_of state.now)) }
 {
     needs_of::<SkewbNumbers>(tables, state, least)
 }

@@ -1,35 +1,52 @@
 //! The built table of an event.
-ghost use Rattle.std.specs.Prelude.{◌≡◌, ◌↔◌, IfOk, IfErr, IfSome, IsSome};
+ghost use Rattle.std.specs.Prelude.{◌≡◌, ◌↔◌, ◌<◌, IfOk, IfErr, IfSome, IsSome};
+ghost use Rattle.scr_coord.specs.Coordinates.{moved, IsGoal};
+ghost use Rattle.scr_play.specs.FirstWord.{IsFirstWord};
 ghost use Rattle.scr_table.specs.Causes.{IsCause};
-ghost use Rattle.scr_small.specs.Tables.{small_line, IsBuilt, ShowsEvent};
+ghost use Rattle.scr_small.specs.Tables.{small_line, IsBuilt};
 
-use crate::one_table::OneTable;
-use crate::pair_table::PairTable;
-use crate::parts::{HighPart, LowPart};
+use crate::parts_line::PartsLine;
+use arrayvec::ArrayVec;
 use scr_cube::Numbers222;
 use scr_notation::Event;
-use scr_table::{BuildFault, DistanceTable, TableName};
+use scr_table::{BuildFault, DistanceTable, LineTable, TableName};
 use scr_tetra::{SkewbNumbers, TetraminxNumbers};
 use std::alloc::Global;
 use std::marker::Model;
 
 /// The one table of an event whose states it solves, with the moves by which it is walked down.
-#[derive(Drop)]
 pub struct SmallTables {
-    event: Event,
-    table: PairTable,
+    held: Held,
+}
+
+/// The table of one of the puzzles.
+#[derive(Drop)]
+enum Held {
+    Corners(LineTable<PartsLine<Numbers222>>),
+    Pyramid(LineTable<PartsLine<TetraminxNumbers>>),
+    Skewb(LineTable<PartsLine<SkewbNumbers>>),
+}
+
+// A call wherever one is let go, in place of all that lets go of its parts.
+impl Drop for SmallTables {
+    fn drop(self) {
+        let SmallTables { held: _ } = self;
+    }
 }
 
 // Clauses see whose table it is, and what stands in it.
 impl Model for SmallTables {
-    ghost use Rattle.scr_small.specs.Tables.{BuiltTable, IsBuilt, ShowsEvent};
+    ghost use Rattle.scr_notation.specs.declared.event.Event.TheVariants.{C222, Pyram, Skewb as EventSkewb};
+    ghost use Rattle.scr_small.specs.declared.tables.Held.TheVariants.{Corners, Pyramid, Skewb};
+    ghost use Rattle.scr_small.specs.Tables.{BuiltTable};
 
     ghost Value = { BuiltTable };
 
-    ghost view = { λ t. record { event = t.event; distances = t.table.distances } };
-
-    ghost invariant = { λ t. IsBuilt (record { event = t.event; distances = t.table.distances })
-        × ShowsEvent t.event t.table.low t.table.high };
+    ghost view = { λ t. elim t.held [
+      | Corners table ↦ record { event = C222; distances = table.distances }
+      | Pyramid table ↦ record { event = Pyram; distances = table.distances }
+      | Skewb table ↦ record { event = EventSkewb; distances = table.distances }
+    ] };
 }
 
 impl SmallTables {
@@ -41,8 +58,20 @@ impl SmallTables {
         ensures cause { IfErr result (λ fault.
             IfSome (small_line event) (λ line. IsCause line.name line.coordinate line.bound fault)) }
     {
-        let table = table_of_event(alloc, event)?;
-        Ok(SmallTables { event, table })
+        let held = match event {
+            Event::C222 => Held::Corners(LineTable::build(alloc)?),
+            Event::Pyram => Held::Pyramid(LineTable::build(alloc)?),
+            Event::Skewb => Held::Skewb(LineTable::build(alloc)?),
+            Event::C333
+            | Event::Oh333
+            | Event::C555
+            | Event::C666
+            | Event::C777
+            | Event::Clock
+            | Event::Minx
+            | Event::Sq1 => unreachable!(),
+        };
+        Ok(SmallTables { held })
     }
 
     /// The built table of this name. `None` comes exactly where it isn't the table of this event.
@@ -51,7 +80,7 @@ impl SmallTables {
         ensures value { IfSome result (λ table. table.now ≡ self.now.distances) }
         ensures built { IsBuilt self.now }
     {
-        let table = &self.table.distances;
+        let table = self.only();
         if table.name() == name {
             Some(table)
         } else {
@@ -64,50 +93,24 @@ impl SmallTables {
         ensures same { result.now ≡ self.now.distances }
         ensures built { IsBuilt self.now }
     {
-        &self.table.distances
+        match &self.held {
+            Held::Corners(table) => &table.distances,
+            Held::Pyramid(table) => &table.distances,
+            Held::Skewb(table) => &table.distances,
+        }
     }
 
-    /// The table, with the moves by which it is walked down.
-    pub(crate) fn pair(&self) -> &PairTable
-        ensures same { result.now.distances ≡ self.now.distances }
+    /// The first word from a position, below the number of positions, to a goal.
+    pub(crate) fn descend(&self, position: u32) -> ArrayVec<u8, 24>
+        requires { IfSome (small_line self.now.event) (λ line. position < line.coordinate.count) }
+        ensures first { IfSome (small_line self.now.event) (λ line.
+            IsFirstWord (moved line.coordinate) (IsGoal line.coordinate) position result.items) }
         ensures built { IsBuilt self.now }
-        ensures shows { ShowsEvent self.now.event result.now.low result.now.high }
     {
-        &self.table
+        match &self.held {
+            Held::Corners(table) => table.descend(position),
+            Held::Pyramid(table) => table.descend(position),
+            Held::Skewb(table) => table.descend(position),
+        }
     }
-}
-
-/// The table of an event that one table solves.
-fn table_of_event(alloc: Global, event: Event) -> Result<PairTable, BuildFault>
-    requires { IsSome (small_line event) }
-    ensures table { IfOk result (λ table. IsBuilt (record { event = event; distances = table.distances })) }
-    ensures shows { IfOk result (λ table. ShowsEvent event table.low table.high) }
-    ensures cause { IfErr result (λ fault.
-        IfSome (small_line event) (λ line. IsCause line.name line.coordinate line.bound fault)) }
-{
-    match event {
-        Event::C222 => table_of::<Numbers222>(alloc),
-        Event::Pyram => table_of::<TetraminxNumbers>(alloc),
-        Event::Skewb => table_of::<SkewbNumbers>(alloc),
-        Event::C333
-        | Event::Oh333
-        | Event::C555
-        | Event::C666
-        | Event::C777
-        | Event::Clock
-        | Event::Minx
-        | Event::Sq1 => unreachable!(),
-    }
-}
-
-/// The table of a puzzle, over its two parts side by side.
-fn table_of<P: OneTable>(alloc: Global) -> Result<PairTable, BuildFault>
-    ensures table { IfOk result (λ table. IsBuilt (record { event = P.EVENT; distances = table.distances })) }
-    ensures shows { IfOk result (λ table. ShowsEvent P.EVENT table.low table.high) }
-    ensures cause { IfErr result (λ fault.
-        IfSome (small_line P.EVENT) (λ line. IsCause line.name line.coordinate line.bound fault)) }
-{
-    let low = LowPart::<P>::new();
-    let high = HighPart::<P>::new();
-    PairTable::build(alloc, P::NAME, &low, &high, P::BOUND)
 }

@@ -6,17 +6,13 @@ use Rattle.scr_combinatorics.specs.Lists.{numbers_from}
 use Rattle.scr_combinatorics.specs.Permutations.{IsPermutation}
 use Rattle.scr_combinatorics.proofs.Picks.{numbers_from-at, length-numbers_from}
 use Rattle.scr_notation.specs.declared.turn.Turn.{Turn}
-use Rattle.scr_sq1.specs.Units.{solved_sq1}
 use Rattle.scr_sq1.specs.Numbers.{corners_of, edges_of}
-use Rattle.scr_sq1.specs.Proofs.Pieces.{StatePieces-valid}
-use Rattle.scr_sq1.proofs.Lawful.{IsSq1-solved}
-use Rattle.scr_sq1solve.specs.Stages.{pairing_of, pairing_letter}
-use Rattle.scr_sq1solve.specs.Tables.{units_after, carried_pairing}
+use Rattle.scr_sq1solve.specs.Stages.{pairing_letter}
+use Rattle.scr_sq1solve.specs.Tables.{units_after}
 use Rattle.scr_sq1solve.specs.Placed.{KeepsMates}
 use Rattle.scr_sq1solve.specs.Proofs.Letters.{corners-permutation, edges-permutation}
-use Rattle.scr_sq1solve.specs.Proofs.Pairs.{pairing_of-pick}
 use Rattle.scr_sq1solve.specs.Proofs.PairingStage.{pairing_letters_normal}
-use Rattle.scr_sq1solve.specs.Proofs.HomeStage.{IsPaired-moved, IsPairedSq1-solved}
+use Rattle.scr_sq1solve.specs.Proofs.HomeStage.{mates-kept}
 use Rattle.scr_sq1solve.specs.Proofs.CodeSteps.{IsKept}
 
 -- what holds at each of 32 numbers holds of all lists
@@ -31,28 +27,16 @@ all_of P at each = λ n d lt.
 module _ (letter : ℕ → List Turn) (kept : IsKept letter) where
   pub kept-corners : All KeepsMates (map (λ n. corners_of (units_after letter n)) (numbers_from 0 32))
   kept-corners =
-      all_of KeepsMates (λ n. corners_of (units_after letter n)) (λ n lt.
-      let ks : List ℕ = corners_of (units_after letter n) in
-      let q = corners-permutation letter kept.normal n lt in
-      let m = IsPaired-moved letter kept.normal kept.opposite solved_sq1 n IsPairedSq1-solved lt in
-      let p = (StatePieces-valid solved_sq1 IsSq1-solved).corners in
-      record {
-        permutation = q;
-        mates_kept = ap (λ ps. carried_pairing ps ks) (sym IsPairedSq1-solved.paired.0)
-            ∙ sym (pairing_of-pick (corners_of solved_sq1.units) p ks q) ∙ ap pairing_of (sym m.0.corners) ∙ m.1.paired.0;
+      all_of KeepsMates (λ n. corners_of (units_after letter n)) (λ n lt. record {
+        permutation = corners-permutation letter kept.normal n lt;
+        mates_kept = (mates-kept letter kept.normal kept.opposite n lt).0;
       })
 
   pub kept-edges : All KeepsMates (map (λ n. edges_of (units_after letter n)) (numbers_from 0 32))
   kept-edges =
-      all_of KeepsMates (λ n. edges_of (units_after letter n)) (λ n lt.
-      let ks : List ℕ = edges_of (units_after letter n) in
-      let q = edges-permutation letter kept.normal n lt in
-      let m = IsPaired-moved letter kept.normal kept.opposite solved_sq1 n IsPairedSq1-solved lt in
-      let p = (StatePieces-valid solved_sq1 IsSq1-solved).edges in
-      record {
-        permutation = q;
-        mates_kept = ap (λ ps. carried_pairing ps ks) (sym IsPairedSq1-solved.paired.1)
-            ∙ sym (pairing_of-pick (edges_of solved_sq1.units) p ks q) ∙ ap pairing_of (sym m.0.edges) ∙ m.1.paired.1;
+      all_of KeepsMates (λ n. edges_of (units_after letter n)) (λ n lt. record {
+        permutation = edges-permutation letter kept.normal n lt;
+        mates_kept = (mates-kept letter kept.normal kept.opposite n lt).1;
       })
 
 pub moved-corners : All (IsPermutation 8) (map (λ n. corners_of (units_after pairing_letter n)) (numbers_from 0 32))

@@ -2,7 +2,6 @@ mod Joins
 mod Walks
 mod LetterWords
 mod Filled
-mod ShownTables
 mod ShapeSteps
 mod Ends
 mod Codes

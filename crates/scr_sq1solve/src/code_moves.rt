@@ -22,7 +22,6 @@ use scr_coord::{Coord, MoveTable};
 use std::alloc::{AllocError, Global};
 
 /// Where 32 letters lead from the lists of corners and from those of edges.
-#[derive(Drop)]
 pub(crate) struct CodeMoves {
     corners: MoveTable,
     edges: MoveTable,
@@ -30,6 +29,17 @@ pub(crate) struct CodeMoves {
     ghost shows_corners: { ShowsSame (codes_coordinate corners_of (letter_of letters)) (moves_coordinate corners) },
     ghost shows_edges: { ShowsSame (codes_coordinate edges_of (letter_of letters)) (moves_coordinate edges) },
     ghost kept: { IsKept (letter_of letters) },
+}
+
+// A call wherever one is let go, in place of all that lets go of its parts.
+impl Drop for CodeMoves {
+    fn drop(self) {
+        let CodeMoves {
+            corners: _,
+            edges: _,
+            letters: _,
+        } = self;
+    }
 }
 
 impl CodeMoves {

@@ -10,8 +10,8 @@ ghost use Rattle.scr_sq1solve.specs.Stages.{IsSolution, IsScrambleSq1};
 ghost use Rattle.scr_sq1solve.specs.Counts.{twists_in, turned_over, stage_twists, IsWithinBounds};
 ghost use Rattle.scr_sq1solve.specs.Tables.{shapes_line, pairings_line, square_line};
 
-/// Each valid state has a solution wherever the three tables can be built, and so is reached; it has but one, which leads to
-/// solved. So the scramble is one, and leads from solved to the state.
+/// Each valid state has a solution wherever the three tables can be built, and so is reached; it has but one, which
+/// leads to solved. So the scramble is one, and leads from solved to the state.
 pub fn solutions()
     ensures some { (shapes pairings square : Distances) → IsTableOf shapes_line shapes → IsTableOf pairings_line pairings
         → IsTableOf square_line square → (s : Sq1State) → IsSq1 s → (w : List Letter) × IsSolution s w }
@@ -28,8 +28,8 @@ pub fn bounds()
     ensures scramble { (s : Sq1State) (w : List Letter) → IsSq1 s → IsScrambleSq1 s w → IsWithinBounds w }
 {}
 
-/// In a solution the word that turns the equator is wanted exactly where the equator of the state, turned over once for each
-/// twist of the words of the three stages, stands turned. A word turns it over once for each of its twists.
+/// In a solution the word that turns the equator is wanted exactly where the equator of the state, turned over once for
+/// each twist of the words of the three stages, stands turned. A word turns it over once for each of its twists.
 pub fn equator()
     ensures counted { (s : Sq1State) (w : List Letter) → IsSq1 s → (h : IsSolution s w)
         → h.home.equator ≡ turned_over (stage_twists h.shape h.pairing h.homing) s.equator }

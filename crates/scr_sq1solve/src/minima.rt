@@ -7,14 +7,15 @@ ghost use Rattle.scr_sq1solve.specs.Minima.{needs_test};
 use scr_sq1::Sq1;
 use scr_table::{Moves, no_shorter};
 
-/// How many turns there are: one for each two amounts of twelfths from -5 to 6, but that the twist stands in the place of the
-/// one by which neither layer is turned.
+/// How many turns there are: one for each two amounts of twelfths from -5 to 6, but that the twist stands in the place
+/// of the one by which neither layer is turned.
 const TURNS: u32 = 144;
 
 /// The number of the twist.
 const TWIST: u32 = 65;
 
-/// Whether no word of fewer than `least` turns, of the layers and twists, brings a Square-1 to solved. `least` is at most 4.
+/// Whether no word of fewer than `least` turns, of the layers and twists, brings a Square-1 to solved. `least` is at
+/// most 4.
 pub fn needs_sq1(state: &Sq1, least: u32) -> bool
     requires { least ≤ 4 }
     ensures exact { IsTrue result ↔ Needs sq1_puzzle state.now least }

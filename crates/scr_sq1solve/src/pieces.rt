@@ -40,12 +40,7 @@ pub(crate) fn pairing_of(pieces: &[u8; 8]) -> [u8; 8]
     ensures value { result ≡ pairing_of pieces.now }
     ensures valid { IsPairing 8 result }
 {
-    let mut partners = [0; 8];
-    for place in 0..8 {
-        let mate = MATES[usize::from(pieces[place])];
-        partners[place] = place_of(mate, pieces);
-    }
-    partners
+    carried_pairing(&MATES, pieces)
 }
 
 /// Partners when pieces are moved, where each place gets the piece of a named place.
@@ -63,8 +58,8 @@ pub(crate) fn carried_pairing(partners: &[u8; 8], places: &[u8; 8]) -> [u8; 8]
     carried
 }
 
-/// The code of a list of pieces: for each pair of places a bit, which is 1 where the smaller place has the larger piece, and
-/// above the bits the number of the list of the pairs.
+/// The code of a list of pieces: for each pair of places a bit, which is 1 where the smaller place has the larger
+/// piece, and above the bits the number of the list of the pairs.
 pub(crate) fn code_of(pieces: &[u8; 8]) -> u32
     requires { IsPermutation 8 pieces.now }
     ensures value { result ≡ code_number pieces.now }

@@ -53,7 +53,8 @@ impl ShapeStates {
     }
 }
 
-/// The state that stands for an index: the corners are in order, and so are the edges, but for two where the index is odd.
+/// The state that stands for an index: the corners are in order, and so are the edges, but for two where the index is
+/// odd.
 fn state_of(index: u32) -> Sq1
     requires { index < 7356 }
     ensures { result ≡ shapes_state index }

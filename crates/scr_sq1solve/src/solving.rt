@@ -1,27 +1,27 @@
 //! The solution of a Square-1 by stages, and the scramble that it gives.
-ghost use Rattle.std.specs.Prelude.{◌≡◌, ◌+◌, ◌*◌, ◌<◌, ◌≤◌, ◌↔◌, ◌++◌, List, Some, All, IsSome, IsTrue, length};
+ghost use Rattle.std.specs.Prelude.{◌≡◌, ◌+◌, ◌*◌, ◌≤◌, ◌↔◌, ◌++◌, [], if◌then◌else◌, List, Some, IsTrue, length};
 ghost use Rattle.scr_play.specs.Play.{play};
 ghost use Rattle.scr_play.specs.Tidy.{tidy};
 ghost use Rattle.scr_notation.specs.declared.event.Event.TheVariants.{Sq1 as EventSq1};
 ghost use Rattle.scr_notation.specs.declared.turn.Turn.{Turn as Letter};
 ghost use Rattle.scr_notation.specs.Turning.{turn_merging};
 ghost use Rattle.scr_sq1.specs.Units.{IsSq1, solved_sq1, sq1_after};
-ghost use Rattle.scr_sq1solve.specs.declared.stage_letters.Letters.TheVariants.{OfShapes, OfPairings, OfHome, Squarings, Quarters};
 ghost use Rattle.scr_sq1solve.specs.Counts.{twists_in};
-ghost use Rattle.scr_sq1solve.specs.Letters.{letter_of, end_count, end_words, IsEnded, IsWalk, IsTidiedSolution};
-ghost use Rattle.scr_sq1solve.specs.Stages.{EndsIn, IsEnd, HasSolvedLayers, IsNormal, IsScrambleSq1, IsPaired, shape_stage, pairing_stage, home_stage, turns_of, equator_word};
-ghost use Rattle.scr_sq1solve.specs.Proofs.Letters.{IsNormalSq1};
-ghost use Rattle.scr_sq1solve.specs.Proofs.HomeStage.{IsPairedSq1};
+ghost use Rattle.scr_sq1solve.specs.Letters.{end_count, end_words, IsEnded, IsWalk, IsTidiedSolution};
+ghost use Rattle.scr_sq1solve.specs.Stages.{EndsIn, IsEnd, IsScrambleSq1, IsStageWord, equator_word};
 
-use crate::indexes::{pairings_index, shapes_index, square_index};
+use crate::indexes::shapes_index;
 use crate::shape_states::NORMAL;
 use crate::stage_letters::{Letters, equator_word, letter, push_turn, word_of};
+use crate::stages::StageLine;
 use crate::tables::Sq1Tables;
 use scr_notation::{Event, Scramble, inverse, tidy};
 use scr_sq1::Sq1;
+use scr_table::LineTable;
 
-/// The scramble of a Square-1, of at most 76 twists and 153 turns: its solution by the three stages, in which neighbouring
-/// turns of the layers and neighbouring twists are merged, taken back. There is no refusal, and no memory is taken.
+/// The scramble of a Square-1, of at most 76 twists and 153 turns: its solution by the three stages, in which
+/// neighbouring turns of the layers and neighbouring twists are merged, taken back. There is no refusal, and no memory
+/// is taken.
 pub fn scramble_sq1(tables: &Sq1Tables, state: &Sq1) -> Scramble
     ensures event { result.event ≡ EventSq1 }
     ensures twists { twists_in result.turns ≤ 76 }
@@ -47,61 +47,53 @@ fn tidied_solution(tables: &Sq1Tables, state: &Sq1) -> Scramble
     ensures event { result.event ≡ EventSq1 }
     ensures solution { IsTidiedSolution state.now result.turns }
 {
-    let shaped = shape_walk(tables, state);
+    let shaped = stage_walk(&tables.shapes, state);
     let squared = end_walk(Letters::Squarings, &shaped.end);
-    let paired = pairing_walk(tables, &squared.end);
-    let homed = home_walk(tables, &paired.end);
+    let paired = stage_walk(&tables.pairings, &squared.end);
+    let homed = stage_walk(&tables.square, &paired.end);
     let last = end_walk(Letters::Quarters, &homed.end);
     let homing = joined(&homed.turns, &last.turns);
     let pairing = joined(&paired.turns, &homing);
     let squaring = joined(&squared.turns, &pairing);
     let shaping = joined(&shaped.turns, &squaring);
-    if last.end.equator() {
-        joined(&equator_word(), &shaping)
+    joined(&equator_part(&last.end), &shaping)
+}
+
+/// The word that turns the equator alone, where it stands turned.
+#[tactic(auto, unfolding(scr_play::specs::Play::count_in))]
+fn equator_part(state: &Sq1) -> Scramble
+    ensures event { result.event ≡ EventSq1 }
+    ensures turns { result.turns ≡ (if state.now.equator then equator_word else []) }
+    ensures twists { twists_in result.turns ≤ 3 }
+{
+    if state.equator() {
+        equator_word()
     } else {
-        shaping
+        Scramble::new(Event::Sq1)
     }
 }
 
-/// The word of the first stage.
-fn shape_walk(tables: &Sq1Tables, state: &Sq1) -> Walk
-    requires { IsSq1 state.now }
-    ensures walk { IsWalk shape_stage state.now result.turns.turns result.end }
+/// The word of a stage, from a state that it starts from.
+fn stage_walk<L: StageLine>(table: &LineTable<L>, state: &Sq1) -> Walk
+    requires { L.starts state.now }
     ensures event { result.turns.event ≡ EventSq1 }
+    ensures walk { IsWalk L.stage state.now result.turns.turns result.end }
+    ensures goal { L.stage.IsGoal result.end }
+    ensures kept { L.starts result.end }
+    ensures at_most { length result.turns.turns ≤ L.most_turns }
+    ensures twists { twists_in result.turns.turns ≤ L.most_twists }
 {
-    let word = tables.shapes_word(shapes_index(state));
-    followed(Letters::OfShapes, &word[..], state)
+    let word = table.descend(L::index_of(state));
+    followed::<L>(&word[..], state)
 }
 
-/// The word of the second stage, from a normal state.
-fn pairing_walk(tables: &Sq1Tables, state: &Sq1) -> Walk
-    requires { IsNormalSq1 state.now }
-    ensures walk { IsWalk pairing_stage state.now result.turns.turns result.end }
+/// The turns of a stage's word, and where they lead.
+fn followed<L: StageLine>(numbers: &[u8], state: &Sq1) -> Walk
+    requires { IsStageWord L.stage state.now numbers.now }
     ensures event { result.turns.event ≡ EventSq1 }
+    ensures walk { IsWalk L.stage state.now result.turns.turns result.end }
 {
-    let word = tables.pairings_word(pairings_index(state));
-    followed(Letters::OfPairings, &word[..], state)
-}
-
-/// The word of the third stage, from a normal state in which mates stand opposite to each other.
-fn home_walk(tables: &Sq1Tables, state: &Sq1) -> Walk
-    requires { IsPairedSq1 state.now }
-    ensures walk { IsWalk home_stage state.now result.turns.turns result.end }
-    ensures event { result.turns.event ≡ EventSq1 }
-{
-    let word = tables.square_word(square_index(state));
-    followed(Letters::OfHome, &word[..], state)
-}
-
-/// The turns of letters, and where they lead from a state that bars none of them.
-fn followed(letters: Letters, numbers: &[u8], state: &Sq1) -> Walk
-    requires numbers { All (λ number. number < 144) numbers.now }
-    requires few { length numbers.now ≤ 24 }
-    requires defined { IsSome (play sq1_after state.now (turns_of (letter_of letters) numbers.now)) }
-    ensures turns { result.turns ≡ record { event = EventSq1; turns = turns_of (letter_of letters) numbers.now } }
-    ensures end { play sq1_after state.now result.turns.turns ≡ Some result.end }
-{
-    let turns = word_of(letters, numbers);
+    let turns = word_of(L::letters(), numbers);
     match state.play(&turns) {
         Some(end) => Walk { turns, end },
         None => unreachable!(),
@@ -113,6 +105,8 @@ fn end_walk(letters: Letters, state: &Sq1) -> Walk
     requires { EndsIn (IsEnded letters) (end_words letters) state.now }
     ensures event { result.turns.event ≡ EventSq1 }
     ensures end { IsEnd (IsEnded letters) (end_words letters) state.now result.turns.turns result.end }
+    ensures at_most { length result.turns.turns ≤ 1 }
+    ensures twists { twists_in result.turns.turns ≡ 0 }
 {
     for number in 0..end_count(letters) {
         let turns = letter(letters, number);
@@ -154,7 +148,8 @@ fn joined(first: &Scramble, second: &Scramble) -> Scramble
     requires first { first.now.event ≡ EventSq1 }
     requires second { second.now.event ≡ EventSq1 }
     requires room { length first.now.turns + length second.now.turns ≤ 160 }
-    ensures word { result ≡ record { event = EventSq1; turns = tidy turn_merging (first.now.turns ++ second.now.turns) } }
+    ensures event { result.event ≡ EventSq1 }
+    ensures word { result.turns ≡ tidy turn_merging (first.now.turns ++ second.now.turns) }
     ensures twists { twists_in result.turns ≤ twists_in first.now.turns + twists_in second.now.turns }
     ensures short { length result.turns ≤ 2 * twists_in result.turns + 1 }
 {

@@ -127,8 +127,8 @@ fn push_home_letter(word: &mut Scramble, number: u8)
     }
 }
 
-/// Adds a turn of the bottom by a twelfth back, a twist, a turn by `top` and `bottom`, a twist and a turn by `last_top` and
-/// `last_bottom`.
+/// Adds a turn of the bottom by a twelfth back, a twist, a turn by `top` and `bottom`, a twist and a turn by `last_top`
+/// and `last_bottom`.
 fn push_exchange(word: &mut Scramble, top: i16, bottom: i16, last_top: i16, last_bottom: i16)
     requires event { word.old.event ≡ EventSq1 }
     requires room { length word.old.turns + 5 ≤ 160 }
@@ -169,7 +169,8 @@ fn push_quarters(word: &mut Scramble, number: u8)
     push_layers(word, (3 * (number / 4)) as i16, (3 * (number % 4)) as i16);
 }
 
-/// Adds a turn of the layers by so many twelfths, of which whole turns are dropped: where none is left, there is no turn.
+/// Adds a turn of the layers by so many twelfths, of which whole turns are dropped: where none is left, there is no
+/// turn.
 fn push_layers(word: &mut Scramble, top: i16, bottom: i16)
     requires event { word.old.event ≡ EventSq1 }
     requires room { length word.old.turns < 160 }

@@ -1,18 +1,18 @@
 -- The pieces of a block, as a tetrad of corners, wherever they stand.
-use Rattle.std.proofs.Common.{◌≡◌, ℕ, zero, suc, ◌+◌, ◌<◌, ◌≤◌, Bool, true, false, not, cond, eqb, List, [], ◌∷◌, ◌++◌, map, length, slice_index, inl, inr, refl, sym, ap, ◌∙◌, subst, arith}
+use Rattle.std.proofs.Common.{◌≡◌, ℕ, zero, suc, ◌+◌, ◌<◌, Bool, true, false, not, cond, eqb, List, [], ◌∷◌, ◌++◌, map, length, slice_index, inl, inr, refl, sym, ap, ◌∙◌, subst, arith}
 use Rattle.std.specs.Prelude.{All, ◌||◌}
-use Rattle.std.proofs.lemmas.Bool.{cases_eq, eq-eqb, eqb-true, ne_eqb}
+use Rattle.std.proofs.lemmas.Bool.{cases_eq, eq-eqb, ne_eqb}
 use Rattle.std.proofs.lemmas.List.{length-map, length-append, get_or-map, get_or_default, map-append}
 use Rattle.std.proofs.lemmas.List.Elements.{All-nil, All-cons, All-head, All-tail, All-map, All-weaker}
 use Rattle.scr_combinatorics.specs.Lists.{occurrences, numbers_from, pick}
 use Rattle.scr_combinatorics.specs.Permutations.{IsPermutation, place_of, inverse}
 use Rattle.scr_combinatorics.specs.PlaceSets.{IsPlaceSetFrom, IsPlaceSet}
 use Rattle.scr_combinatorics.proofs.Counts.{occurrences-at, one_if-other, occurrences-here}
-use Rattle.scr_combinatorics.proofs.PermutationLaws.{at-permutation, All-permutation, IsPermutation-numbers_from, IsPermutation-from_each, IsPermutation-inverse, length-inverse, pick-inverse, place_of-lt, at-place_of}
-use Rattle.scr_combinatorics.proofs.Picks.{length-pick, pick-at, pick-in_order, pick-pick, length-numbers_from, numbers_from-at}
+use Rattle.scr_combinatorics.proofs.PermutationLaws.{All-permutation, IsPermutation-from_each, IsPermutation-inverse, pick-inverse, place_of-lt, at-place_of}
+use Rattle.scr_combinatorics.proofs.Picks.{length-pick, pick-at, pick-in_order, pick-pick}
 use Rattle.scr_coord.specs.Projections.{marked_from, marked_places, stands_in}
-use Rattle.scr_coord.specs.MarkedLaws.{marked-own, marked-same, IsPlaceSetFrom-marked}
-use Rattle.scr_coord.proofs.MarkedPieces.{stands_in-marked, marked-map, IsPlaceSet-marked}
+use Rattle.scr_coord.specs.MarkedLaws.{marked-own, IsPlaceSetFrom-marked}
+use Rattle.scr_coord.proofs.MarkedPieces.{stands_in-marked, IsPlaceSet-marked}
 
 -- ---- what stands in a list
 
@@ -88,8 +88,8 @@ pick-places block (x ∷ xs) h =
     ap (λ y. y ∷ pick block (map (λ z. place_of z block) xs)) (at-place_of x block (occurs-stands_in x block (All-head (λ z. stands_in block z ≡ true) x xs h)))
     ∙ ap (λ ys. x ∷ ys) (pick-places block xs (All-tail (λ z. stands_in block z ≡ true) x xs h))
 
--- the places at which the pieces of a block stand, and these pieces in the order of their places, told by their places in the
--- block
+-- the places at which the pieces of a block stand, and these pieces in the order of their places, told by their places
+-- in the block
 abbrev pub places_in : List ℕ → List ℕ → List ℕ
 places_in block xs = marked_places (stands_in block) xs
 

@@ -1,31 +1,29 @@
 -- Dominoes, and the turns that keep them.
-use Rattle.std.proofs.Common.{◌≡◌, ℕ, zero, suc, ◌+◌, ◌*◌, ◌<◌, ◌≤◌, Bool, true, false, not, cond, eqb-true, ltb-true, ltb-false, lt-ltb, List, [], ◌∷◌, ◌++◌, map, length, get_or, slice_index, refl, sym, ap, ◌∙◌, subst, lit<, lit≤, arith}
+use Rattle.std.proofs.Common.{◌≡◌, ℕ, suc, ◌+◌, ◌<◌, ◌≤◌, Bool, true, false, not, cond, eqb-true, ltb-true, ltb-false, lt-ltb, List, [], ◌∷◌, ◌++◌, map, length, get_or, slice_index, refl, sym, ap, ◌∙◌, subst, lit<, arith}
 use Rattle.std.specs.Prelude.{All, ◌&&◌, ◌||◌, ◌==◌, nat_lt}
 use Rattle.std.proofs.lemmas.Bool.{false≢true, and_parts, ne_eqb}
 use Rattle.std.proofs.lemmas.List.{append-nil}
-use Rattle.std.proofs.lemmas.List.Elements.{All-nil, All-cons, All-head, All-tail, All-weaker}
-use Rattle.scr_combinatorics.specs.Lists.{occurrences, numbers_from, pick}
+use Rattle.std.proofs.lemmas.List.Elements.{All-head, All-tail}
+use Rattle.scr_combinatorics.specs.Lists.{numbers_from, pick}
 use Rattle.scr_combinatorics.specs.Permutations.{IsPermutation, place_of}
-use Rattle.scr_combinatorics.specs.PlaceSets.{IsPlaceSetFrom, IsPlaceSet, place_set_number, binomial}
-use Rattle.scr_combinatorics.proofs.PermutationLaws.{at-permutation, All-permutation, at-place_of}
-use Rattle.scr_combinatorics.proofs.PlaceSets.{place_set_number-lt, place_set_number-injective}
-use Rattle.scr_combinatorics.proofs.Picks.{length-pick, pick-at, pick-in_order, All-pick, numbers_from-at}
-use Rattle.scr_orbit.specs.Orbits.{Orbit, Rearrangement, turned_orbit, added_digits, zeros, solved_orbit}
+use Rattle.scr_combinatorics.specs.PlaceSets.{IsPlaceSetFrom, IsPlaceSet}
+use Rattle.scr_combinatorics.proofs.PermutationLaws.{at-permutation, All-permutation}
+use Rattle.scr_combinatorics.proofs.Picks.{pick-in_order, All-pick}
+use Rattle.scr_orbit.specs.Orbits.{Orbit, Rearrangement, turned_orbit, added_digits, zeros}
 use Rattle.scr_orbit.proofs.DigitLaws.{added_digits-to_zeros, All-zeros, length-zeros}
 use Rattle.scr_orbit.proofs.OrbitLaws.{places_in as places_below}
 use Rattle.scr_coord.specs.Projections.{marked_from, marked_places, stands_in, turned_set}
 use Rattle.scr_coord.proofs.MarkedPieces.{marked-turned, IsPlaceSet-marked}
 use Rattle.scr_coord.proofs.MarkedSteps.{marked-append}
-use Rattle.scr_cube.specs.Cube333.{CubeState, IsCube, CubeTurn, IsCubeTurn, cube_action, solved_cube}
+use Rattle.scr_cube.specs.Cube333.{CubeState, IsCube, CubeTurn, cube_action}
 use Rattle.scr_cube.proofs.Laws333.{cube_laws}
 use Rattle.scr_stages.specs.Stages.{HasNoFlips, middle_edges, IsDomino}
 use Rattle.scr_stages.specs.Numbers.{first_edges, second_edges, IsDominoCube}
 use Rattle.scr_stages.specs.Tables.{outer_places, block_turn}
-use Rattle.scr_stages.specs.Tetrads.{first_tetrad, second_tetrad, in_block, corner_index, corners_at}
-use Rattle.scr_stages.proofs.Blocks.{stands_in-at, occurs-stands_in, All-place_set, All-marked, All-marked-below, places_in, pick-append}
-use Rattle.scr_stages.proofs.KeptBlocks.{places_from-kept, kept_from-places, All-kept}
-use Rattle.scr_stages.proofs.FiniteTests.{passes_below, test-below, agree, agree-same}
-use Rattle.scr_stages.proofs.TurnFacts.{IsSliceTurn, KeepsBlock, IsDominoTurn, IsHalfTurn}
+use Rattle.scr_stages.proofs.Blocks.{All-place_set, All-marked, places_in, pick-append}
+use Rattle.scr_stages.proofs.KeptBlocks.{places_from-kept, All-kept}
+use Rattle.scr_stages.proofs.FiniteTests.{All-from_test, IsPlaceSet-from_test, passes_below, test-below, agree, agree-same}
+use Rattle.scr_stages.proofs.TurnFacts.{IsSliceTurn, IsDominoTurn}
 
 -- ---- digits that stay 0
 
@@ -61,28 +59,16 @@ IsDominoCube-turned c r h t =
 -- ---- sets of places
 
 pub IsPlaceSet-middle : IsPlaceSet 12 4 middle_edges
-IsPlaceSet-middle = record {
-  size = refl;
-  increasing = (lit≤ tt, lit< tt, (lit≤ tt, lit< tt, (lit≤ tt, lit< tt, (lit≤ tt, lit< tt, tt))));
-}
+IsPlaceSet-middle = IsPlaceSet-from_test 12 4 middle_edges refl refl
 
 pub IsPlaceSet-first_edges : IsPlaceSet 12 4 first_edges
-IsPlaceSet-first_edges = record {
-  size = refl;
-  increasing = (lit≤ tt, lit< tt, (lit≤ tt, lit< tt, (lit≤ tt, lit< tt, (lit≤ tt, lit< tt, tt))));
-}
+IsPlaceSet-first_edges = IsPlaceSet-from_test 12 4 first_edges refl refl
 
 pub IsPlaceSet-second_edges : IsPlaceSet 12 4 second_edges
-IsPlaceSet-second_edges = record {
-  size = refl;
-  increasing = (lit≤ tt, lit< tt, (lit≤ tt, lit< tt, (lit≤ tt, lit< tt, (lit≤ tt, lit< tt, tt))));
-}
+IsPlaceSet-second_edges = IsPlaceSet-from_test 12 4 second_edges refl refl
 
 pub IsPlaceSet-outer : IsPlaceSet 8 4 first_edges
-IsPlaceSet-outer = record {
-  size = refl;
-  increasing = (lit≤ tt, lit< tt, (lit≤ tt, lit< tt, (lit≤ tt, lit< tt, (lit≤ tt, lit< tt, tt))));
-}
+IsPlaceSet-outer = IsPlaceSet-from_test 8 4 first_edges refl refl
 
 -- places below a lower bound
 IsPlaceSetFrom-below : (low n m : ℕ) (xs : List ℕ) → IsPlaceSetFrom low n xs → All (λ x. x < m) xs → IsPlaceSetFrom low m xs
@@ -202,7 +188,7 @@ turned_set-outer set r h t =
     ∙ ap (λ ys. marked_places (stands_in set) outer ++ ys) (marked-none (stands_in set) (0 + length outer) middle none) ∙ append-nil (marked_places (stands_in set) outer))
   where
     lit_below : All (λ k. k < 12) outer_places
-    lit_below = All-place_set 0 12 outer_places (lit≤ tt, lit< tt, (lit≤ tt, lit< tt, (lit≤ tt, lit< tt, (lit≤ tt, lit< tt, (lit≤ tt, lit< tt, (lit≤ tt, lit< tt, (lit≤ tt, lit< tt, (lit≤ tt, lit< tt, tt))))))))
+    lit_below = All-from_test (λ k. nat_lt k 12) (λ k. k < 12) (λ k. ltb-true k 12) outer_places refl
 
     All-picked : (ks js : List ℕ) → IsPermutation 12 ks → All (λ k. k < 12) js → All (λ x. x < 12) (pick ks js)
     All-picked ks js is below = All-pick (λ x. x < 12) ks js (All-permutation 12 ks is) (subst (λ n. All (λ k. k < n) js) (sym is.size) below)

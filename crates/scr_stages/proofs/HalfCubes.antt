@@ -1,6 +1,6 @@
 -- Dominoes with the tetrads number of solved are numbered one to one, and half turns keep them.
-use Rattle.std.proofs.Common.{◌≡◌, ℕ, ◌+◌, ◌*◌, ◌/◌, ◌%◌, ◌<◌, ◌≤◌, Bool, not, List, [], ◌∷◌, ◌++◌, map, length, get_or, slice_index, refl, sym, ap, ◌∙◌, subst, lit<, lit≤, arith}
-use Rattle.std.specs.Prelude.{All, ◌&&◌}
+use Rattle.std.proofs.Common.{◌≡◌, ℕ, ◌+◌, ◌*◌, ◌/◌, ◌%◌, ◌<◌, not, List, [], ◌∷◌, ◌++◌, map, slice_index, refl, sym, ap, ◌∙◌, subst, lit<, lit≤, arith}
+use Rattle.std.specs.Prelude.{◌&&◌}
 use Rattle.std.proofs.lemmas.Nat.{mod_below}
 use Rattle.scr_combinatorics.specs.Lists.{numbers_from, pick}
 use Rattle.scr_combinatorics.specs.Digits.{AreDigits}
@@ -9,27 +9,26 @@ use Rattle.scr_combinatorics.specs.Permutations.{IsPermutation, factorial, place
 use Rattle.scr_combinatorics.specs.PlaceSets.{place_set_number}
 use Rattle.scr_combinatorics.proofs.Digits.{by_four_digits}
 use Rattle.scr_combinatorics.proofs.Halves.{half_lt, IsHalf-half_at, half_at-number}
-use Rattle.scr_combinatorics.proofs.Numberings.{GivesState, HasDigits, numbering_by_digits}
-use Rattle.scr_combinatorics.proofs.PermutationLaws.{at-permutation, All-permutation, IsPermutation-numbers_from}
+use Rattle.scr_combinatorics.proofs.Numberings.{GivesState, numbering_by_digits}
+use Rattle.scr_combinatorics.proofs.PermutationLaws.{at-permutation, IsPermutation-numbers_from}
 use Rattle.scr_combinatorics.proofs.PermutationNumbers.{permutation_number-lt, IsPermutation-at, permutation_number-at, permutation_at-number}
-use Rattle.scr_combinatorics.proofs.Picks.{length-pick, pick-in_order}
+use Rattle.scr_combinatorics.proofs.Picks.{pick-in_order}
 use Rattle.scr_combinatorics.proofs.PlaceSets.{place_set_number-injective}
-use Rattle.scr_orbit.specs.Orbits.{Orbit, zeros, solved_orbit, IsZeroSumOrbit}
+use Rattle.scr_orbit.specs.Orbits.{zeros, solved_orbit, IsZeroSumOrbit}
 use Rattle.scr_orbit.proofs.OrbitLaws.{same_orbit, IsZeroSumOrbit-solved}
-use Rattle.scr_coord.specs.Projections.{marked_places, stands_in}
-use Rattle.scr_cube.specs.Cube333.{CubeState, IsCube, CubeTurn, cube_action, solved_cube}
+use Rattle.scr_coord.specs.Projections.{stands_in}
+use Rattle.scr_cube.specs.Cube333.{CubeState, IsCube}
 use Rattle.scr_cube.proofs.Laws333.{same_cube}
 use Rattle.scr_stages.specs.Stages.{middle_edges, IsDomino}
-use Rattle.scr_stages.specs.Numbers.{IsDominoCube, first_edges, second_edges, tetrads_number, IsHalfCube, half_bases, half_digits, half_cube_of_digits, half_cubes, edges_of_blocks}
+use Rattle.scr_stages.specs.Numbers.{IsDominoCube, first_edges, second_edges, IsHalfCube, half_bases, half_digits, half_cube_of_digits, half_cubes, edges_of_blocks}
 use Rattle.scr_stages.specs.Tetrads.{first_tetrad, second_tetrad, corner_index, corners_at, relation_of, in_block, other_places, half_corners_number, half_corners_at}
-use Rattle.scr_stages.proofs.Blocks.{places_in, order_in, pick-places, IsPermutation-order_in, pick-append, pick-arranged}
+use Rattle.scr_stages.proofs.Blocks.{places_in, pick-places, IsPermutation-order_in, pick-append, pick-arranged}
 use Rattle.scr_stages.proofs.KeptBlocks.{kept_from-places, places_from-kept, kept_from-picked, in_block-picked, All-kept}
 use Rattle.scr_stages.proofs.EdgeBlocks.{AreOrders, block_places, IsPermutation-block_places, PicksBlocks-edges, IsPermutation-edges, parity-edges}
 use Rattle.scr_stages.proofs.TetradTests.{IsHalfList-at, corners_at-solved, corner_index-solved}
-use Rattle.scr_stages.proofs.TetradLaws.{IsPlaceSet-first, IsPlaceSet-places, relation-lt, other_places-are, first_order, second_order, label_of, label-lt, corners-relabelled}
-use Rattle.scr_stages.proofs.DominoLaws.{Blocks-of, middle-at, IsPlaceSet-middle, IsPlaceSet-first_edges, IsPlaceSet-second_edges, IsDominoCube-turned, places-turned}
+use Rattle.scr_stages.proofs.TetradLaws.{IsPlaceSet-first, IsPlaceSet-places, relation-lt, other_places-are, first_order, label_of, label-lt, corners-relabelled}
+use Rattle.scr_stages.proofs.DominoLaws.{Blocks-of, middle-at, IsPlaceSet-middle, IsPlaceSet-first_edges, IsPlaceSet-second_edges}
 use Rattle.scr_stages.proofs.StageSpaces.{same_parts, IsTetradsHome, IsTetradsHome-iff}
-use Rattle.scr_stages.proofs.TurnFacts.{IsHalfTurn}
 
 -- ---- the corners
 

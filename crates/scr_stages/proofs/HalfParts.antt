@@ -1,23 +1,22 @@
 -- The parts of the numbers of half cubes go along with half turns, each by itself.
-use Rattle.std.proofs.Common.{◌≡◌, ℕ, ◌+◌, ◌*◌, ◌<◌, ◌≤◌, Bool, true, List, [], ◌∷◌, map, length, Option, Some, None, refl, sym, ap, ◌∙◌, subst, lit<, arith}
-use Rattle.std.specs.Prelude.{All, ◌==◌, slice_get}
-use Rattle.std.specs.Option.{option_map}
+use Rattle.std.proofs.Common.{◌≡◌, ℕ, ◌<◌, true, List, length, sym, ap, ◌∙◌, subst}
+use Rattle.std.specs.Prelude.{All, slice_get}
 use Rattle.std.proofs.lemmas.List.Elements.{All-map}
 use Rattle.scr_combinatorics.specs.Lists.{numbers_from, pick}
-use Rattle.scr_combinatorics.specs.Permutations.{IsPermutation, factorial, permutation_number, permutation_at}
+use Rattle.scr_combinatorics.specs.Permutations.{IsPermutation, permutation_number}
 use Rattle.scr_combinatorics.specs.PlaceSets.{IsPlaceSet}
 use Rattle.scr_combinatorics.proofs.PermutationLaws.{IsPermutation-pick}
-use Rattle.scr_combinatorics.proofs.PermutationNumbers.{permutation_number-lt, permutation_at-number}
+use Rattle.scr_combinatorics.proofs.PermutationNumbers.{permutation_at-number}
 use Rattle.scr_orbit.specs.Orbits.{Rearrangement, turned_orbit}
 use Rattle.scr_orbit.proofs.ActionLaws.{map-some}
 use Rattle.scr_orbit.proofs.PowerLaws.{All-got}
-use Rattle.scr_coord.specs.Coordinates.{Coordinate, StaysBelow}
-use Rattle.scr_coord.specs.Projections.{projection, pieces_view, stands_in}
+use Rattle.scr_coord.specs.Coordinates.{StaysBelow}
+use Rattle.scr_coord.specs.Projections.{pieces_view, stands_in}
 use Rattle.scr_coord.specs.SearchSpaces.{positions, Follows}
-use Rattle.scr_cube.specs.Cube333.{CubeState, CubeTurn, cube_action, cube_powers}
+use Rattle.scr_cube.specs.Cube333.{CubeState, CubeTurn, cube_action}
 use Rattle.scr_stages.specs.Stages.{half_turns, after_of, middle_edges}
 use Rattle.scr_stages.specs.Numbers.{first_edges, second_edges, IsHalfCube}
-use Rattle.scr_stages.specs.Tables.{turns_of, corners_by, edges_by, block_turn, half_corners_coordinate, half_block_coordinate}
+use Rattle.scr_stages.specs.Tables.{turns_of, corners_by, block_turn, half_corners_coordinate, half_block_coordinate}
 use Rattle.scr_stages.specs.Tetrads.{corner_index, in_block, half_corners_number, half_corners_at, half_corners_view}
 use Rattle.scr_stages.proofs.Blocks.{All-place_set}
 use Rattle.scr_stages.proofs.KeptBlocks.{in_block-turned}
@@ -40,9 +39,6 @@ corners_turns =
     All-map IsCornersTurn (λ r. r.corners) (turns_of half_turns) (λ k d lt.
     let turn = halves_turns k d lt in
     record { places = turn.domino.slice.valid.corners.places; index = turn.index })
-
-pub half_corners_moves : All (λ r. IsPermutation 8 r.places) (corners_by half_turns)
-half_corners_moves k d lt = (corners_turns k d lt).places
 
 pub StaysBelow-half_corners : StaysBelow half_corners_coordinate
 StaysBelow-half_corners p t q at turn e =

@@ -1,11 +1,10 @@
 -- A half turn of a half cube by its number: the four parts are turned each by itself.
-use Rattle.std.proofs.Common.{◌≡◌, ℕ, ◌+◌, ◌*◌, ◌/◌, ◌%◌, ◌<◌, ◌≤◌, Bool, true, false, cond, List, [], ◌∷◌, map, length, slice_index, Option, Some, None, refl, sym, ap, ◌∙◌, subst, lit<, arith, eqb-true, lt-ltb}
+use Rattle.std.proofs.Common.{◌≡◌, ℕ, ◌+◌, ◌*◌, ◌/◌, ◌%◌, ◌<◌, Bool, true, cond, List, slice_index, Option, Some, None, refl, sym, ap, ◌∙◌, lit<, arith, eqb-true, lt-ltb}
 use Rattle.std.specs.Prelude.{◌==◌, nat_lt}
 use Rattle.std.specs.Option.{option_map}
-use Rattle.std.proofs.lemmas.Nat.{mod_below}
 use Rattle.std.proofs.lemmas.Option.{same_Some}
-use Rattle.scr_combinatorics.specs.Digits.{AreDigits, mixed_number, mixed_digits}
-use Rattle.scr_combinatorics.specs.Permutations.{parity, inversions, permutation_number, permutation_at}
+use Rattle.scr_combinatorics.specs.Digits.{mixed_digits}
+use Rattle.scr_combinatorics.specs.Permutations.{parity, permutation_number, permutation_at}
 use Rattle.scr_combinatorics.proofs.Digits.{mixed_digits-mixed_number}
 use Rattle.scr_combinatorics.proofs.PermutationNumbers.{permutation_at-number}
 use Rattle.scr_coord.specs.Coordinates.{Coordinate}
@@ -14,14 +13,13 @@ use Rattle.scr_coord.specs.SearchSpaces.{positions, Follows, ShowsSame}
 use Rattle.scr_coord.specs.StaysBelowLaws.{StaysBelow-moves}
 use Rattle.scr_cube.specs.Cube333.{CubeState}
 use Rattle.scr_stages.specs.Stages.{half_turns, after_of, middle_edges}
-use Rattle.scr_stages.specs.Numbers.{first_edges, second_edges, IsHalfCube, AreParts, half_bases, half_digits, half_cubes}
+use Rattle.scr_stages.specs.Numbers.{first_edges, second_edges, IsHalfCube, AreParts, ArePartNumbers, half_bases, half_digits, half_cubes}
 use Rattle.scr_stages.specs.Tables.{half_corners_coordinate, half_block_coordinate, halves_coordinate}
 use Rattle.scr_stages.specs.Tetrads.{in_block, half_corners_number, half_corners_at}
 use Rattle.scr_stages.specs.declared.half_moves.HalfMoves.{HalfMoves}
-use Rattle.scr_stages.specs.declared.half_moves.HalfParts.{HalfParts}
-use Rattle.scr_stages.proofs.EdgeBlocks.{AreOrders}
+use Rattle.scr_stages.specs.declared.half_parts.HalfParts.{HalfParts}
 use Rattle.scr_stages.proofs.FiniteTests.{passes_below, test-below}
-use Rattle.scr_stages.proofs.HalfCubes.{number-lt, half_corners_number-lt, AreDigits-half, AreOrders-blocks, IsDominoCube-half, IsTetradsHome-half, half_corners_at-number, half_cubes-numbered, parity-middle}
+use Rattle.scr_stages.proofs.HalfCubes.{number-lt, AreDigits-half, AreOrders-blocks, IsDominoCube-half, IsTetradsHome-half, half_corners_at-number, half_cubes-numbered, parity-middle}
 use Rattle.scr_stages.proofs.HalfParts.{IsHalfBlock, IsHalfBlock-first, IsHalfBlock-second, IsHalfBlock-middle, Follows-half_corners, Follows-half_block}
 
 -- ---- the number of the middle edges, by its half and by parities
@@ -136,16 +134,21 @@ module _ (c : CubeState) (half : IsHalfCube c) (t : ℕ) (lt : t < 6) where
   block_after block b q e = part_after (half_block_coordinate block) _ (λ d. permutation_number (in_block block d.edges.pieces)) q (Follows-half_block block b) e lt
 
 -- the parts of the turned cube are told by what the parts' turns tell
-together : (o : Option CubeState) (third second first corners : ℕ)
+together : (o : Option CubeState) (third second first corners n : ℕ)
+    → ((c : CubeState) → AreParts c third second first corners → n ≡ half_cubes.number_of c)
     → option_map (λ d. permutation_number (in_block middle_edges d.edges.pieces)) o ≡ Some third
     → option_map (λ d. permutation_number (in_block second_edges d.edges.pieces)) o ≡ Some second
     → option_map (λ d. permutation_number (in_block first_edges d.edges.pieces)) o ≡ Some first
     → option_map (λ d. half_corners_number d.corners.pieces) o ≡ Some corners
-    → Some (third / 2 + 12 * (second + 24 * (first + 24 * corners))) ≡ option_map half_cubes.number_of o
-unfolding half_digits
-together None third second first corners a b c d = absurd Prim.cc
-together (Some r) third second first corners a b c d =
-    ap Some (omega (arith, same_Some _ _ a, same_Some _ _ b, same_Some _ _ c, same_Some _ _ d))
+    → Some n ≡ option_map half_cubes.number_of o
+together None third second first corners n by a b c d = absurd Prim.cc
+together (Some r) third second first corners n by a b c d =
+    ap Some (by r (record {
+      middle_is = sym (same_Some _ _ a);
+      second_is = sym (same_Some _ _ b);
+      first_is = sym (same_Some _ _ c);
+      corners_is = sym (same_Some _ _ d);
+    }))
 
 none_by : {A B : Type 0} (view : CubeState → A) (other : CubeState → B) (o : Option CubeState) → option_map view o ≡ None → None ≡ option_map other o
 none_by view other None e = refl
@@ -163,96 +166,66 @@ module _ (part : Coordinate) (moves : Moves) (shows : ShowsSame part (moves_coor
       omega (arith, shows.count, StaysBelow-moves moves q t r (omega (arith, shows.count, at)) (omega (arith, shows.turns, turn)) (sym e))
 
 module _ (me : HalfMoves) (p : ℕ) (at : p < 663552) (parts : HalfParts)
-    (is : AreParts (half_cubes.state_at p) parts.middle parts.second parts.first parts.corners) (t : ℕ) (lt : t < 6) where
+    (is : AreParts (half_cubes.state_at p) parts.middle parts.second parts.first parts.corners)
+    (below : ArePartNumbers parts.middle parts.second parts.first parts.corners) (t : ℕ) (lt : t < 6) where
   abbrev start : CubeState
   start = half_cubes.state_at p
 
-  half_start : IsHalfCube (half_cubes.state_at p)
-  half_start = half p at
-
-  orders : AreOrders (in_block first_edges (half_cubes.state_at p).edges.pieces) (in_block second_edges (half_cubes.state_at p).edges.pieces)
-      (in_block middle_edges (half_cubes.state_at p).edges.pieces)
-  orders = AreOrders-blocks (half_cubes.state_at p) (IsDominoCube-half start half_start) (IsTetradsHome-half start half_start)
-
-  -- the parts are positions
-  middle_lt : parts.middle < 24
-  middle_lt = omega (arith, is.middle_is, number-lt (in_block middle_edges start.edges.pieces) orders.third)
-
-  second_lt : parts.second < 24
-  second_lt = omega (arith, is.second_is, number-lt (in_block second_edges start.edges.pieces) orders.second)
-
-  first_lt : parts.first < 24
-  first_lt = omega (arith, is.first_is, number-lt (in_block first_edges start.edges.pieces) orders.first)
-
-  corners_lt : parts.corners < 96
-  corners_lt =
-      omega (arith, is.corners_is, half_corners_number-lt start.corners.pieces half_start.cube.corners.pieces (IsTetradsHome-half start half_start).corners)
-
-  pub middle_at : parts.middle < me.middle.count
-  middle_at = omega (arith, me.shows_middle.count, middle_lt)
-
-  pub second_at : parts.second < me.second.count
-  second_at = omega (arith, me.shows_second.count, second_lt)
-
-  pub first_at : parts.first < me.first.count
-  first_at = omega (arith, me.shows_first.count, first_lt)
-
-  pub corners_at : parts.corners < me.corners.count
-  corners_at = omega (arith, me.shows_corners.count, corners_lt)
+  block_leads : (block : List ℕ) → IsHalfBlock block → (moves : Moves) → ShowsSame (half_block_coordinate block) (moves_coordinate moves)
+      → (q : ℕ) → q ≡ permutation_number (in_block block start.edges.pieces) → q < 24 → (r : Option ℕ) → r ≡ (moves_coordinate moves).after q t
+      → option_map (λ d. permutation_number (in_block block d.edges.pieces)) (after_of half_turns start t) ≡ r
+  block_leads block b moves shows q of q_lt r e =
+      sym (block_after start (half p at) t lt block b q of) ∙ shown_after (half_block_coordinate block) moves shows q t q_lt lt r e
 
   middle_leads : (r : Option ℕ) → r ≡ (moves_coordinate me.middle).after parts.middle t
       → option_map (λ d. permutation_number (in_block middle_edges d.edges.pieces)) (after_of half_turns start t) ≡ r
-  middle_leads r e =
-      sym (block_after start half_start t lt middle_edges IsHalfBlock-middle parts.middle is.middle_is)
-      ∙ shown_after (half_block_coordinate middle_edges) me.middle me.shows_middle parts.middle t middle_lt lt r e
+  middle_leads = block_leads middle_edges IsHalfBlock-middle me.middle me.shows_middle parts.middle is.middle_is below.middle_below
 
   second_leads : (r : Option ℕ) → r ≡ (moves_coordinate me.second).after parts.second t
       → option_map (λ d. permutation_number (in_block second_edges d.edges.pieces)) (after_of half_turns start t) ≡ r
-  second_leads r e =
-      sym (block_after start half_start t lt second_edges IsHalfBlock-second parts.second is.second_is)
-      ∙ shown_after (half_block_coordinate second_edges) me.second me.shows_second parts.second t second_lt lt r e
+  second_leads = block_leads second_edges IsHalfBlock-second me.second me.shows_second parts.second is.second_is below.second_below
 
   first_leads : (r : Option ℕ) → r ≡ (moves_coordinate me.first).after parts.first t
       → option_map (λ d. permutation_number (in_block first_edges d.edges.pieces)) (after_of half_turns start t) ≡ r
-  first_leads r e =
-      sym (block_after start half_start t lt first_edges IsHalfBlock-first parts.first is.first_is)
-      ∙ shown_after (half_block_coordinate first_edges) me.first me.shows_first parts.first t first_lt lt r e
+  first_leads = block_leads first_edges IsHalfBlock-first me.first me.shows_first parts.first is.first_is below.first_below
 
   corners_lead : (r : Option ℕ) → r ≡ (moves_coordinate me.corners).after parts.corners t
       → option_map (λ d. half_corners_number d.corners.pieces) (after_of half_turns start t) ≡ r
   corners_lead r e =
-      sym (corners_after start half_start t lt parts.corners is.corners_is)
-      ∙ shown_after half_corners_coordinate me.corners me.shows_corners parts.corners t corners_lt lt r e
-
-  pub step : (middle second first corners : ℕ) → Some middle ≡ (moves_coordinate me.middle).after parts.middle t
-      → Some second ≡ (moves_coordinate me.second).after parts.second t → Some first ≡ (moves_coordinate me.first).after parts.first t
-      → Some corners ≡ (moves_coordinate me.corners).after parts.corners t
-      → Some (middle / 2 + 12 * (second + 24 * (first + 24 * corners))) ≡ halves_coordinate.after p t
-  step middle second first corners a b c d =
-      together (after_of half_turns start t) middle second first corners (middle_leads (Some middle) a) (second_leads (Some second) b)
-      (first_leads (Some first) c) (corners_lead (Some corners) d)
-
-  -- it is a position
-  pub fits : (middle second first corners : ℕ) → Some middle ≡ (moves_coordinate me.middle).after parts.middle t
-      → Some second ≡ (moves_coordinate me.second).after parts.second t → Some first ≡ (moves_coordinate me.first).after parts.first t
-      → Some corners ≡ (moves_coordinate me.corners).after parts.corners t
-      → (middle < 24) × (second < 24) × (first < 24) × (corners < 96)
-  fits middle second first corners a b c d = (
-    shown_below (half_block_coordinate middle_edges) me.middle me.shows_middle parts.middle t middle_lt lt middle a,
-    shown_below (half_block_coordinate second_edges) me.second me.shows_second parts.second t second_lt lt second b,
-    shown_below (half_block_coordinate first_edges) me.first me.shows_first parts.first t first_lt lt first c,
-    shown_below half_corners_coordinate me.corners me.shows_corners parts.corners t corners_lt lt corners d,
-  )
+      sym (corners_after start (half p at) t lt parts.corners is.corners_is)
+      ∙ shown_after half_corners_coordinate me.corners me.shows_corners parts.corners t below.corners_below lt r e
 
   -- where one part has no turn, there is none
+  pub no_part : {A : Type 0} (view : CubeState → A) → option_map view (after_of half_turns start t) ≡ None → None ≡ halves_coordinate.after p t
+  no_part view e = none_by view half_cubes.number_of (after_of half_turns start t) e
+
   pub no_middle : None ≡ (moves_coordinate me.middle).after parts.middle t → None ≡ halves_coordinate.after p t
-  no_middle e = none_by (λ d. permutation_number (in_block middle_edges d.edges.pieces)) half_cubes.number_of (after_of half_turns start t) (middle_leads None e)
+  no_middle e = no_part _ (middle_leads None e)
 
   pub no_second : None ≡ (moves_coordinate me.second).after parts.second t → None ≡ halves_coordinate.after p t
-  no_second e = none_by (λ d. permutation_number (in_block second_edges d.edges.pieces)) half_cubes.number_of (after_of half_turns start t) (second_leads None e)
+  no_second e = no_part _ (second_leads None e)
 
   pub no_first : None ≡ (moves_coordinate me.first).after parts.first t → None ≡ halves_coordinate.after p t
-  no_first e = none_by (λ d. permutation_number (in_block first_edges d.edges.pieces)) half_cubes.number_of (after_of half_turns start t) (first_leads None e)
+  no_first e = no_part _ (first_leads None e)
 
   pub no_corners : None ≡ (moves_coordinate me.corners).after parts.corners t → None ≡ halves_coordinate.after p t
-  no_corners e = none_by (λ d. half_corners_number d.corners.pieces) half_cubes.number_of (after_of half_turns start t) (corners_lead None e)
+  no_corners e = no_part _ (corners_lead None e)
+
+  module _ (turned : HalfParts) (a : Some turned.middle ≡ (moves_coordinate me.middle).after parts.middle t)
+      (b : Some turned.second ≡ (moves_coordinate me.second).after parts.second t)
+      (c : Some turned.first ≡ (moves_coordinate me.first).after parts.first t)
+      (d : Some turned.corners ≡ (moves_coordinate me.corners).after parts.corners t) where
+    pub turned_below : ArePartNumbers turned.middle turned.second turned.first turned.corners
+    turned_below = record {
+      middle_below = shown_below (half_block_coordinate middle_edges) me.middle me.shows_middle parts.middle t below.middle_below lt turned.middle a;
+      second_below = shown_below (half_block_coordinate second_edges) me.second me.shows_second parts.second t below.second_below lt turned.second b;
+      first_below = shown_below (half_block_coordinate first_edges) me.first me.shows_first parts.first t below.first_below lt turned.first c;
+      corners_below = shown_below half_corners_coordinate me.corners me.shows_corners parts.corners t below.corners_below lt turned.corners d;
+    }
+
+    pub turned_number : (n : ℕ)
+        → ((cube : CubeState) → AreParts cube turned.middle turned.second turned.first turned.corners → n ≡ half_cubes.number_of cube)
+        → Some n ≡ halves_coordinate.after p t
+    turned_number n by =
+        together (after_of half_turns start t) turned.middle turned.second turned.first turned.corners n by (middle_leads (Some turned.middle) a)
+        (second_leads (Some turned.second) b) (first_leads (Some turned.first) c) (corners_lead (Some turned.corners) d)

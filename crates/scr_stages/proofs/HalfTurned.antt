@@ -1,24 +1,20 @@
 -- What half turns reach of solved: dominoes with the tetrads number of solved, where a table measures the halves.
-use Rattle.std.proofs.Common.{◌≡◌, ℕ, ◌+◌, ◌<◌, ◌≤◌, List, [], ◌∷◌, ◌++◌, Option, Some, None, length, get_or, reverse, refl, sym, ap, ◌∙◌, subst, lit<, arith}
+use Rattle.std.proofs.Common.{◌≡◌, ℕ, ◌≤◌, List, [], ◌∷◌, Option, Some, None, reverse, refl, sym, ap, ◌∙◌}
 use Rattle.std.specs.Prelude.{All, ◌↔◌, option_and_then, slice_get}
-use Rattle.std.specs.Option.{option_map}
 use mathlib.Core.List.{reverse-cons}
 use Rattle.std.proofs.lemmas.List.Elements.{All-from_recursion}
-use Rattle.std.proofs.lemmas.Option.{slice_get_past, same_Some}
+use Rattle.std.proofs.lemmas.Option.{slice_get_past}
 use Rattle.scr_combinatorics.specs.Lists.{numbers_from, pick}
 use Rattle.scr_combinatorics.specs.Permutations.{IsPermutation}
 use Rattle.scr_combinatorics.proofs.PermutationLaws.{All-permutation}
 use Rattle.scr_combinatorics.proofs.Picks.{pick-from_order}
 use Rattle.scr_play.specs.Play.{play}
-use Rattle.scr_play.specs.Back.{back}
-use Rattle.scr_play.specs.FirstWord.{LeadsTo}
 use Rattle.scr_play.proofs.PlayLaws.{play-empty, play-parts, play-append, play-one, play-keeps, and_then-some}
 use Rattle.scr_orbit.specs.Orbits.{solved_orbit, turned_orbit}
-use Rattle.scr_orbit.proofs.ActionLaws.{map-some}
 use Rattle.scr_orbit.proofs.PowerLaws.{All-got}
 use Rattle.scr_notation.specs.TurnNumbers.{face_turn_at}
 use Rattle.scr_notation.specs.Turning.{opposite}
-use Rattle.scr_coord.specs.Coordinates.{StaysBelow, moved, IsGoal}
+use Rattle.scr_coord.specs.Coordinates.{StaysBelow}
 use Rattle.scr_coord.specs.Projections.{turned_set}
 use Rattle.scr_coord.specs.SearchSpaces.{SearchSpace, positions, Follows}
 use Rattle.scr_coord.proofs.SearchLaws.{FindsTheSame-follows}
@@ -26,9 +22,8 @@ use Rattle.scr_table.specs.Distances.{Distances, Measures}
 use Rattle.scr_table.proofs.FoundWords.{first_word}
 use Rattle.scr_turning.specs.PowerPuzzles.{after_letter}
 use Rattle.scr_cube.specs.Cube333.{CubeState, IsCube, CubeTurn, cube_action, cube_powers, solved_cube}
-use Rattle.scr_cube.specs.Numbered333.{cube_numbering}
 use Rattle.scr_cube.proofs.Laws333.{lawful_cube}
-use Rattle.scr_stages.specs.Stages.{IsDomino, IsHalfTurned, half_turns, after_of}
+use Rattle.scr_stages.specs.Stages.{IsHalfTurned, half_turns, after_of}
 use Rattle.scr_stages.specs.Numbers.{IsDominoCube, first_edges, tetrads_number, IsHalfCube, half_cubes}
 use Rattle.scr_stages.specs.Tables.{turns_of, halves_coordinate}
 use Rattle.scr_stages.specs.Tetrads.{corner_index, corners_at}
@@ -37,7 +32,7 @@ use Rattle.scr_stages.proofs.TurnFacts.{after_of-turns, IsHalfTurn, halves_numbe
 use Rattle.scr_stages.proofs.TetradTests.{corners_at-solved, corner_index-solved}
 use Rattle.scr_stages.proofs.TetradLaws.{corner_index-turned}
 use Rattle.scr_stages.proofs.DominoLaws.{IsDominoCube-turned, places-turned}
-use Rattle.scr_stages.proofs.StageSpaces.{IsTetradsHome, IsTetradsHome-iff}
+use Rattle.scr_stages.proofs.StageSpaces.{IsTetradsHome-iff}
 use Rattle.scr_stages.proofs.HalfCubes.{IsDominoCube-half, IsTetradsHome-half, half_cubes-numbered}
 
 -- ---- half turns keep them

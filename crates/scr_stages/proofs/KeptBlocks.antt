@@ -1,17 +1,17 @@
 -- Blocks of places that hold their own pieces.
-use Rattle.std.proofs.Common.{◌≡◌, ℕ, zero, suc, ◌+◌, ◌<◌, Bool, true, false, List, [], ◌∷◌, ◌++◌, map, length, get_or, slice_index, refl, sym, ap, ◌∙◌, subst, arith}
+use Rattle.std.proofs.Common.{◌≡◌, ℕ, ◌+◌, ◌<◌, Bool, true, false, List, [], ◌∷◌, map, length, get_or, slice_index, refl, sym, ap, ◌∙◌, subst, arith}
 use Rattle.std.specs.Prelude.{All}
-use Rattle.std.proofs.lemmas.List.{length-map, get_or-map}
+use Rattle.std.proofs.lemmas.List.{get_or-map}
 use Rattle.std.proofs.lemmas.List.Elements.{All-head, All-tail, All-map}
 use Rattle.scr_combinatorics.specs.Lists.{occurrences, numbers_from, pick}
-use Rattle.scr_combinatorics.specs.Permutations.{IsPermutation, place_of, inverse}
+use Rattle.scr_combinatorics.specs.Permutations.{IsPermutation, place_of}
 use Rattle.scr_combinatorics.specs.PlaceSets.{IsPlaceSet}
-use Rattle.scr_combinatorics.proofs.PermutationLaws.{at-permutation, All-permutation, injective-permutation, IsPermutation-numbers_from, IsPermutation-inverse, inverse-pick, place_of-lt, at-place_of}
-use Rattle.scr_combinatorics.proofs.Picks.{length-pick, pick-at, pick-in_order, pick-pick, length-numbers_from, numbers_from-at}
-use Rattle.scr_coord.specs.Projections.{marked_from, marked_places, stands_in}
+use Rattle.scr_combinatorics.proofs.PermutationLaws.{at-permutation, All-permutation, injective-permutation, IsPermutation-numbers_from, place_of-lt, at-place_of}
+use Rattle.scr_combinatorics.proofs.Picks.{length-pick, pick-at, pick-in_order, pick-pick}
+use Rattle.scr_coord.specs.Projections.{marked_places, stands_in}
 use Rattle.scr_coord.specs.MarkedLaws.{marked-own, marked-same}
 use Rattle.scr_coord.proofs.MarkedPieces.{stands_in-marked, marked-map}
-use Rattle.scr_stages.specs.Tetrads.{in_block, arranged}
+use Rattle.scr_stages.specs.Tetrads.{in_block}
 use Rattle.scr_stages.proofs.Blocks.{stands_in-at, occurs-stands_in, place_of-own, pick-places, places_in, All-marked, All-place_set}
 
 -- places whose pieces are marked where places are

@@ -15,7 +15,6 @@ pub mod ParitySteps
 pub mod HalfParts
 pub mod HalfSteps
 pub mod StageWords
-pub mod ShownLines
 pub mod SolutionLaws
 pub mod FollowSteps
 pub mod PlaceSteps

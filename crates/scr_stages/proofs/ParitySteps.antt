@@ -1,5 +1,5 @@
 -- Lists that are filled place by place, and parities as they are told.
-use Rattle.std.proofs.Common.{◌≡◌, ◌≢◌, ℕ, ◌+◌, ◌<◌, Bool, true, false, IsTrue, List, length, get_or, set, refl, sym, ap, ◌∙◌, lit<, arith, get_or-set_other, get_or-set_same, below_more}
+use Rattle.std.proofs.Common.{◌≡◌, ◌≢◌, ℕ, ◌+◌, ◌<◌, Bool, true, false, IsTrue, List, length, get_or, set, refl, sym, ◌∙◌, lit<, arith, get_or-set_other, get_or-set_same, below_more}
 use Rattle.std.specs.Prelude.{◌↔◌}
 use mir.Val.{bool_byte}
 use Rattle.std.proofs.lemmas.Nat.{mod_below}

@@ -1,5 +1,5 @@
 -- Solutions by stages, and the scrambles that they give.
-use Rattle.std.proofs.Common.{◌≡◌, ℕ, ◌+◌, ◌<◌, ◌≤◌, List, [], ◌∷◌, ◌++◌, map, length, slice_index, Option, Some, None, refl, sym, ap, ◌∙◌, subst, arith}
+use Rattle.std.proofs.Common.{◌≡◌, ℕ, ◌+◌, ◌≤◌, List, [], ◌∷◌, ◌++◌, map, length, slice_index, Some, refl, sym, ap, ◌∙◌, subst, arith}
 use Rattle.std.specs.Prelude.{slice_get, ◌↔◌}
 use Rattle.std.proofs.lemmas.List.{length-append, length-map, length-reverse}
 use Rattle.std.proofs.lemmas.Option.{same_Some, get_or_from_slice_get}
@@ -8,7 +8,6 @@ use Rattle.scr_combinatorics.proofs.Picks.{length-pick}
 use Rattle.scr_play.specs.Play.{play}
 use Rattle.scr_play.specs.Back.{back}
 use Rattle.scr_play.specs.Tidy.{tidy}
-use Rattle.scr_play.specs.FirstWord.{LeadsTo}
 use Rattle.scr_play.specs.Reach.{IsReached}
 use Rattle.scr_play.proofs.FirstWordLaws.{IsFirstWord-unique}
 use Rattle.scr_play.proofs.PlayLaws.{play-empty, play-first, play-parts, play-append, play-keeps, and_then-some}
@@ -19,7 +18,7 @@ use Rattle.scr_notation.specs.Turning.{opposite, turn_merging}
 use Rattle.scr_turning.specs.PowerPuzzles.{after_letter, power_puzzle}
 use Rattle.scr_cube.specs.Cube333.{CubeState, IsCube, cube_powers, solved_cube}
 use Rattle.scr_cube.proofs.Laws333.{lawful_cube}
-use Rattle.scr_stages.specs.Stages.{after_of, letters_of, Stage, IsStageWord, IsSolution, stages, IsStageScramble, flips_stage, slice_stage, tetrads_stage, halves_stage}
+use Rattle.scr_stages.specs.Stages.{after_of, letters_of, Stage, IsSolution, stages, IsStageScramble, flips_stage, slice_stage, tetrads_stage, halves_stage}
 use Rattle.scr_stages.specs.Numbers.{flips_number, slice_number, tetrads_number, half_cubes, IsUnflippedCube, IsDominoCube, IsHalfCube}
 use Rattle.scr_stages.specs.Tables.{flips_line, slice_line, tetrads_line, halves_line}
 use Rattle.scr_stages.specs.Built.{BuiltStages, AreBuilt}

@@ -1,7 +1,6 @@
 -- The numbers of cubes go along with the turns of their stages.
-use Rattle.std.proofs.Common.{◌≡◌, ℕ, ◌+◌, ◌*◌, ◌<◌, ◌≤◌, List, map, refl, sym, ap, ◌∙◌, subst, lit<, arith}
-use Rattle.std.specs.Prelude.{◌↔◌, All}
-use Rattle.std.proofs.lemmas.List.Elements.{All-weaker}
+use Rattle.std.proofs.Common.{◌≡◌, ℕ, ◌+◌, ◌*◌, ◌<◌, List, map, refl, sym, ap, ◌∙◌, lit<, arith}
+use Rattle.std.specs.Prelude.{◌↔◌}
 use Rattle.std.proofs.Math.Nat.{mul_comm}
 use Rattle.std.proofs.lemmas.Nat.{same_from_place}
 use Rattle.scr_combinatorics.specs.Lists.{numbers_from, pick}
@@ -11,16 +10,16 @@ use Rattle.scr_combinatorics.proofs.PlaceSets.{place_set_number-lt, place_set_nu
 use Rattle.scr_combinatorics.proofs.Twists.{twists_number-lt, twists_number-injective, twists_at-number}
 use Rattle.scr_orbit.specs.Orbits.{zeros, turned_orbit, added_digits, solved_orbit}
 use Rattle.scr_orbit.proofs.OrbitLaws.{IsZeroSumOrbit-solved}
-use Rattle.scr_coord.specs.Projections.{ListView, projection, twists_view, place_set_view, stands_in, turned_set}
-use Rattle.scr_coord.specs.SearchSpaces.{SearchSpace, positions, Follows}
+use Rattle.scr_coord.specs.Projections.{projection, twists_view, place_set_view, stands_in, turned_set}
+use Rattle.scr_coord.specs.SearchSpaces.{positions, Follows}
 use Rattle.scr_coord.proofs.MarkedPieces.{IsPlaceSet-marked}
 use Rattle.scr_coord.proofs.ProductLaws.{Follows-product}
-use Rattle.scr_cube.specs.Cube333.{CubeState, IsCube, CubeTurn, IsCubeTurn, cube_action, solved_cube}
+use Rattle.scr_cube.specs.Cube333.{CubeState, IsCube, IsCubeTurn, cube_action, solved_cube}
 use Rattle.scr_cube.proofs.Laws333.{cube_laws}
-use Rattle.scr_stages.specs.Stages.{HasNoFlips, IsDomino, middle_edges, after_of, half_turns, flips_stage, slice_stage, tetrads_stage}
+use Rattle.scr_stages.specs.Stages.{HasNoFlips, IsDomino, middle_edges, after_of, flips_stage, slice_stage, tetrads_stage}
 use Rattle.scr_stages.specs.Numbers.{flips_number, slice_number, first_edges, tetrads_number, IsUnflippedCube, IsDominoCube}
 use Rattle.scr_stages.specs.Tables.{turns_of, corners_by, edges_by, block_turn, outer_places, flips_coordinate, slice_coordinate, tetrads_coordinate}
-use Rattle.scr_stages.specs.Tetrads.{corner_index, corners_at, tetrads_view}
+use Rattle.scr_stages.specs.Tetrads.{corner_index, tetrads_view}
 use Rattle.scr_stages.proofs.Blocks.{places_in}
 use Rattle.scr_stages.proofs.ViewLaws.{TurnsStates, Follows-viewed, Follows-goals}
 use Rattle.scr_stages.proofs.TurnFacts.{after_of-turns, IsSliceTurn, IsDominoTurn, flips_numbers, flips_turns, slice_numbers, slice_turns, tetrads_numbers, tetrads_turns}

@@ -1,8 +1,8 @@
 -- The words of the stages, by their tables.
-use Rattle.std.proofs.Common.{◌≡◌, ℕ, ◌+◌, ◌*◌, ◌/◌, ◌%◌, ◌<◌, ◌≤◌, List, ◌++◌, map, length, get_or, Some, refl, sym, ap, ◌∙◌, subst, lit<, arith}
+use Rattle.std.proofs.Common.{◌≡◌, ℕ, ◌/◌, ◌%◌, ◌<◌, List, ◌++◌, map, length, get_or, refl, subst, lit<, arith}
 use Rattle.std.specs.Prelude.{All, slice_get}
 use Rattle.std.proofs.lemmas.Nat.{mod_below}
-use Rattle.std.proofs.lemmas.List.Elements.{All-map, All-weaker}
+use Rattle.std.proofs.lemmas.List.Elements.{All-map}
 use Rattle.scr_combinatorics.specs.Lists.{pick}
 use Rattle.scr_combinatorics.specs.Permutations.{IsPermutation, inverse}
 use Rattle.scr_combinatorics.specs.PlaceSets.{IsPlaceSet, place_set_at}
@@ -14,26 +14,26 @@ use Rattle.scr_play.proofs.FirstWordLaws.{IsDistance-unique, IsDistance-first}
 use Rattle.scr_orbit.specs.Orbits.{Rearrangement, IsZeroSumRearrangement}
 use Rattle.scr_orbit.proofs.ActionLaws.{map-some}
 use Rattle.scr_orbit.proofs.PowerLaws.{All-got}
-use Rattle.scr_coord.specs.Coordinates.{Coordinate, StaysBelow, moved, IsGoal}
+use Rattle.scr_coord.specs.Coordinates.{StaysBelow, moved, IsGoal}
 use Rattle.scr_coord.specs.Projections.{projection, twists_view, place_set_view}
 use Rattle.scr_coord.specs.SearchSpaces.{SearchSpace, positions, Follows}
 use Rattle.scr_coord.specs.StaysBelowLaws.{StaysBelow-product, StaysBelow-projection, IsListView-twists, IsListView-place_sets}
 use Rattle.scr_coord.proofs.SearchLaws.{FindsTheSame-follows}
-use Rattle.scr_table.specs.Distances.{Distances, Measures}
+use Rattle.scr_table.specs.Distances.{Distances}
 use Rattle.scr_table.specs.Lines.{TableLine, IsTableOf}
 use Rattle.scr_table.proofs.FoundWords.{first_word}
 use Rattle.scr_cube.specs.Cube333.{CubeState, IsCube, CubeTurn}
-use Rattle.scr_stages.specs.Stages.{after_of, Stage, IsStageWord, middle_edges, flips_stage, slice_stage, tetrads_stage, halves_stage, IsHalfTurned}
-use Rattle.scr_stages.specs.Numbers.{flips_number, slice_number, tetrads_number, first_edges, IsUnflippedCube, IsDominoCube, IsHalfCube, half_cubes}
-use Rattle.scr_stages.specs.Tables.{turns_of, corners_by, edges_by, outer_places, block_turn, flips_coordinate, slice_coordinate, tetrads_coordinate, flips_line, slice_line, tetrads_line, halves_line}
+use Rattle.scr_stages.specs.Stages.{after_of, Stage, IsStageWord, middle_edges, flips_stage, slice_stage, tetrads_stage, IsHalfTurned}
+use Rattle.scr_stages.specs.Numbers.{tetrads_number, first_edges, IsDominoCube}
+use Rattle.scr_stages.specs.Tables.{turns_of, corners_by, edges_by, outer_places, block_turn, flips_coordinate, slice_coordinate, tetrads_coordinate, halves_line}
 use Rattle.scr_stages.specs.Tetrads.{corner_index, corners_at, corners_related, other_places, tetrads_view}
-use Rattle.scr_stages.proofs.TurnFacts.{IsSliceTurn, IsDominoTurn, flips_turns, slice_turns, tetrads_turns}
+use Rattle.scr_stages.proofs.TurnFacts.{flips_turns, slice_turns, tetrads_turns}
 use Rattle.scr_stages.proofs.TetradTests.{IsPermutation-related}
 use Rattle.scr_stages.proofs.TetradLaws.{IsPermutation-places, corner_index-lt}
 use Rattle.scr_stages.proofs.DominoLaws.{IsPlaceSet-middle, IsPlaceSet-outer}
 use Rattle.scr_stages.proofs.ViewLaws.{Follows-goals}
-use Rattle.scr_stages.proofs.StageSpaces.{Follows-flips, Follows-slice, Follows-tetrads}
-use Rattle.scr_stages.proofs.HalfTurned.{Follows-halves, StaysBelow-halves, tetrads_number-half_turned}
+use Rattle.scr_stages.proofs.StageSpaces.{Follows-tetrads}
+use Rattle.scr_stages.proofs.HalfTurned.{tetrads_number-half_turned}
 
 -- ---- turns lead from positions to positions
 

@@ -1,34 +1,29 @@
--- The index of a list of corners. Relabelling the corners by a list with the index of solved keeps it, and each list is made so of
--- the one that is kept for its index. So the index after a turn depends on the index alone, and a list with the index of solved
--- is told by its number.
-use Rattle.std.proofs.Common.{◌≡◌, ℕ, ◌+◌, ◌*◌, ◌/◌, ◌%◌, ◌<◌, Bool, true, not, List, [], ◌∷◌, ◌++◌, map, length, get_or, slice_index, refl, sym, ap, ◌∙◌, subst, lit<, lit≤, arith}
+-- The index of a list of corners. Relabelling the corners by a list with the index of solved keeps it, and each list is
+-- made so of the one that is kept for its index. So the index after a turn depends on the index alone, and a list with
+-- the index of solved is told by its number.
+use Rattle.std.proofs.Common.{◌≡◌, ℕ, ◌+◌, ◌*◌, ◌/◌, ◌%◌, ◌<◌, not, List, ◌++◌, map, length, get_or, slice_index, refl, sym, ap, ◌∙◌, subst, lit<, arith}
 use Rattle.std.specs.Prelude.{All}
 use Rattle.std.proofs.lemmas.List.{length-map, length-append}
 use Rattle.scr_combinatorics.specs.Lists.{numbers_from, pick}
-use Rattle.scr_combinatorics.specs.Permutations.{IsPermutation, factorial, place_of, inverse, permutation_number, permutation_at}
+use Rattle.scr_combinatorics.specs.Permutations.{IsPermutation, factorial, place_of, inverse, permutation_number}
 use Rattle.scr_combinatorics.specs.PlaceSets.{IsPlaceSet, place_set_number, place_set_at}
 use Rattle.scr_combinatorics.proofs.PermutationLaws.{All-permutation, at-permutation, IsPermutation-pick, IsPermutation-inverse, IsPermutation-numbers_from}
 use Rattle.scr_combinatorics.proofs.PermutationNumbers.{permutation_number-lt}
 use Rattle.scr_combinatorics.proofs.PlaceSets.{place_set_number-lt, place_set_at-number}
-use Rattle.scr_combinatorics.proofs.Picks.{length-pick, pick-in_order, pick-pick}
-use Rattle.scr_coord.specs.Projections.{marked_from, marked_places, stands_in}
+use Rattle.scr_combinatorics.proofs.Picks.{pick-in_order, pick-pick}
+use Rattle.scr_coord.specs.Projections.{marked_places, stands_in}
 use Rattle.scr_coord.specs.MarkedLaws.{marked-own, marked-same}
 use Rattle.scr_coord.proofs.MarkedPieces.{marked-map, stands_in-marked, IsPlaceSet-marked}
 use Rattle.scr_stages.specs.Tetrads.{first_tetrad, second_tetrad, axes_of, relation_number, relation_of, corner_index, arranged, other_places, corners_related, corners_at, half_corners_at}
+use Rattle.scr_stages.proofs.FiniteTests.{IsPlaceSet-from_test}
 use Rattle.scr_stages.proofs.Blocks.{places_in, order_in, pick-order_in, IsPermutation-order_in, IsPermutation-both, All-marked-below, pick-arranged, pick-append}
-use Rattle.scr_stages.proofs.TetradTests.{in_orders, relation_in_orders, label_number, in_orders-relabelled, IsPermutation-axes, relation_number-kept, stands_in-half, TurnsAxes-half, IsHalfList-at, IsPermutation-related, stands_in-second, corners_at-solved, corner_index-solved}
+use Rattle.scr_stages.proofs.TetradTests.{relation_in_orders, label_number, in_orders-relabelled, IsPermutation-axes, relation_number-kept, stands_in-half, TurnsAxes-half, IsHalfList-at, IsPermutation-related, stands_in-second}
 
 pub IsPlaceSet-first : IsPlaceSet 8 4 first_tetrad
-IsPlaceSet-first = record {
-  size = refl;
-  increasing = (lit≤ tt, lit< tt, (lit≤ tt, lit< tt, (lit≤ tt, lit< tt, (lit≤ tt, lit< tt, tt))));
-}
+IsPlaceSet-first = IsPlaceSet-from_test 8 4 first_tetrad refl refl
 
 pub IsPlaceSet-second : IsPlaceSet 8 4 second_tetrad
-IsPlaceSet-second = record {
-  size = refl;
-  increasing = (lit≤ tt, lit< tt, (lit≤ tt, lit< tt, (lit≤ tt, lit< tt, (lit≤ tt, lit< tt, tt))));
-}
+IsPlaceSet-second = IsPlaceSet-from_test 8 4 second_tetrad refl refl
 
 -- ---- places of a tetrad and the others
 
@@ -180,29 +175,30 @@ module _ (p : List ℕ) (h : IsPermutation 8 p) where
         let below : x < 8 = All-corners k d lt in
         stands_in-second (slice_index g x) (at-permutation 8 g is.permutation x below) ∙ ap not (stands_in-half q x lq below) ∙ sym (stands_in-second x below))
 
-    -- their axes are exchanged alike
+    -- the axes of a tetrad are exchanged
+    axes-relabelled : (tetrad turn : List ℕ) → places_in tetrad (pick (half_corners_at q) p) ≡ places_in tetrad p
+        → axes_of (pick (half_corners_at q) (pick tetrad (order_in tetrad p))) ≡ pick turn (axes_of (pick tetrad (order_in tetrad p)))
+        → axes_of (pick (pick (half_corners_at q) p) (places_in tetrad (pick (half_corners_at q) p))) ≡ pick turn (axes_of (pick p (places_in tetrad p)))
+    axes-relabelled tetrad turn same turned =
+        let g = half_corners_at q in
+        ap (λ places. axes_of (pick (pick g p) places)) same
+        ∙ ap axes_of (pick-pick g p (places_in tetrad p) (All-marked-below (stands_in tetrad) p))
+        ∙ ap (λ xs. axes_of (pick g xs)) (sym (pick-order_in tetrad p))
+        ∙ turned
+        ∙ ap (λ xs. pick turn (axes_of xs)) (pick-order_in tetrad p)
+
+    -- those of both alike
     relation-relabelled : relation_of (pick (half_corners_at q) p) ≡ relation_of p
     unfolding relation_of
     relation-relabelled =
         let g = half_corners_at q in
         let t = TurnsAxes-half q lq in
-        let first = places_in first_tetrad p in
-        let second = places_in second_tetrad p in
-        let axes : axes_of (pick (pick g p) (places_in first_tetrad (pick g p))) ≡ pick t.turn (axes_of (pick p first)) =
-        ap (λ places. axes_of (pick (pick g p) places)) places-relabelled
-        ∙ ap axes_of (pick-pick g p first (All-marked-below (stands_in first_tetrad) p))
-        ∙ ap (λ xs. axes_of (pick g xs)) (sym (pick-order_in first_tetrad p))
-        ∙ t.first first_order IsPermutation-first
-        ∙ ap (λ xs. pick t.turn (axes_of xs)) (pick-order_in first_tetrad p) in
-        let others : axes_of (pick (pick g p) (places_in second_tetrad (pick g p))) ≡ pick t.turn (axes_of (pick p second)) =
-        ap (λ places. axes_of (pick (pick g p) places)) second-relabelled
-        ∙ ap axes_of (pick-pick g p second (All-marked-below (stands_in second_tetrad) p))
-        ∙ ap (λ xs. axes_of (pick g xs)) (sym (pick-order_in second_tetrad p))
-        ∙ t.second second_order IsPermutation-second
-        ∙ ap (λ xs. pick t.turn (axes_of xs)) (pick-order_in second_tetrad p) in
-        ap (λ xs. relation_number xs (axes_of (pick (pick g p) (places_in second_tetrad (pick g p))))) axes
-        ∙ ap (relation_number (pick t.turn (axes_of (pick p first)))) others
-        ∙ relation_number-kept t.turn (axes_of (pick p first)) (axes_of (pick p second)) t.is axes_first axes_second
+        let first = axes_of (pick p (places_in first_tetrad p)) in
+        let second = axes_of (pick p (places_in second_tetrad p)) in
+        ap (λ xs. relation_number xs (axes_of (pick (pick g p) (places_in second_tetrad (pick g p)))))
+        (axes-relabelled first_tetrad t.turn places-relabelled (t.first first_order IsPermutation-first))
+        ∙ ap (relation_number (pick t.turn first)) (axes-relabelled second_tetrad t.turn second-relabelled (t.second second_order IsPermutation-second))
+        ∙ relation_number-kept t.turn first second t.is axes_first axes_second
 
     pub corner_index-relabelled : corner_index (pick (half_corners_at q) p) ≡ corner_index p
     unfolding corner_index

@@ -1,10 +1,8 @@
 -- Finite facts of tetrads, which the checker computes.
-use Rattle.std.proofs.Common.{◌≡◌, ℕ, ◌+◌, ◌*◌, ◌<◌, Bool, true, false, not, List, ◌++◌, refl, sym, ap, ◌∙◌, eqb-true}
+use Rattle.std.proofs.Common.{◌≡◌, ℕ, ◌+◌, ◌*◌, ◌<◌, Bool, true, not, List, ◌++◌, refl, eqb-true}
 use Rattle.std.specs.Prelude.{◌&&◌, ◌==◌, slice_index}
-use Rattle.std.specs.List.{list_all}
 use Rattle.std.specs.Str.{bytes_eq}
 use Rattle.std.proofs.lemmas.Bool.{and_parts}
-use Rattle.std.proofs.lemmas.Slice.Eq.{bytes_eq-Decides}
 use Rattle.scr_combinatorics.specs.Lists.{numbers_from, pick}
 use Rattle.scr_combinatorics.specs.Permutations.{IsPermutation, is_permutation, permutation_number, permutation_at, inverse}
 use Rattle.scr_combinatorics.specs.PlaceSets.{place_set_at}
@@ -23,8 +21,8 @@ in_orders s t = pick first_tetrad s ++ pick second_tetrad t
 abbrev pub relation_in_orders : List ℕ → List ℕ → ℕ
 relation_in_orders s t = relation_number (axes_of (pick first_tetrad s)) (axes_of (pick second_tetrad t))
 
--- Of the lists of corners that have the index of solved, the number of that which makes both tetrads in these orders of those
--- with the same relation in order.
+-- Of the lists of corners that have the index of solved, the number of that which makes both tetrads in these orders of
+-- those with the same relation in order.
 abbrev pub label_number : List ℕ → List ℕ → ℕ
 label_number s t = slice_index t 0 + 4 * permutation_number s
 

@@ -1,14 +1,13 @@
 -- The turns of the stages: what each does, and what it keeps.
-use Rattle.std.proofs.Common.{◌≡◌, ℕ, ◌+◌, ◌<◌, ◌≤◌, Bool, true, List, [], ◌∷◌, map, length, get_or, Option, Some, None, refl, sym, ap, ◌∙◌, subst, lit<, arith, eqb-true, ltb-true}
+use Rattle.std.proofs.Common.{◌≡◌, ℕ, ◌<◌, Bool, true, List, length, Option, Some, None, refl, sym, ap, ◌∙◌, arith, eqb-true, ltb-true}
 use Rattle.std.specs.Prelude.{All, ◌==◌, ◌&&◌, nat_lt, slice_get, slice_index_or, option_and_then}
 use Rattle.std.specs.Option.{option_map}
 use Rattle.std.specs.List.{list_all}
 use Rattle.std.specs.Str.{bytes_eq}
 use Rattle.std.proofs.lemmas.Bool.{and_parts}
-use Rattle.std.proofs.lemmas.List.Elements.{All-weaker, All-head, All-tail}
+use Rattle.std.proofs.lemmas.List.Elements.{All-map}
 use Rattle.std.proofs.lemmas.List.Sums.{AllPass-from_list_all}
 use Rattle.std.proofs.lemmas.Option.{slice_get-map, slice_get-get_or}
-use Rattle.std.proofs.lemmas.Slice.Eq.{bytes_eq-Decides}
 use Rattle.scr_combinatorics.specs.Lists.{numbers_from, pick}
 use Rattle.scr_combinatorics.specs.Permutations.{IsPermutation, is_permutation, parity}
 use Rattle.scr_combinatorics.proofs.PermutationLaws.{IsPermutation-from_test}
@@ -19,12 +18,12 @@ use Rattle.scr_orbit.proofs.TableTests.{is_zero_sum_turn, IsZeroSumRearrangement
 use Rattle.scr_notation.specs.TurnNumbers.{face_turn_at}
 use Rattle.scr_coord.specs.Projections.{marked_places, stands_in}
 use Rattle.scr_turning.specs.PowerPuzzles.{after_letter, all_turns}
-use Rattle.scr_cube.specs.Cube333.{CubeState, CubeTurn, IsCubeTurn, cube_quarters, cube_action, cube_powers}
+use Rattle.scr_cube.specs.Cube333.{CubeState, CubeTurn, IsCubeTurn, cube_action, cube_powers}
 use Rattle.scr_cube.proofs.Laws333.{lawful_cube}
 use Rattle.scr_stages.proofs.FiniteTests.{same_list, All-from_test}
 use Rattle.scr_stages.specs.Stages.{middle_edges, after_of, half_turns, flips_stage, slice_stage, tetrads_stage}
 use Rattle.scr_stages.specs.Numbers.{first_edges, second_edges}
-use Rattle.scr_stages.specs.Tables.{turns_of, outer_places, block_turn}
+use Rattle.scr_stages.specs.Tables.{turns_of, outer_places}
 use Rattle.scr_stages.specs.Tetrads.{in_block, shared_axis, axes_of, relation_number, relation_of, corner_index}
 
 -- ---- the turn at a place of a list
@@ -67,6 +66,15 @@ IsCubeTurn-from_test r e =
       edges = IsZeroSumRearrangement-from_test 12 2 r.edges both.1;
       same_parity = eqb-true (parity r.corners.places) (parity r.edges.places) whole.1;
     }
+
+cube_turns : All IsCubeTurn (all_turns cube_powers)
+unfolding all_turns all_powers power composed identity added_digits is_cube_turn
+cube_turns = All-from_test is_cube_turn IsCubeTurn IsCubeTurn-from_test (all_turns cube_powers) refl
+
+pub All-turns : (numbers : List ℕ) → All (λ t. t < 18) numbers → All IsCubeTurn (turns_of numbers)
+All-turns numbers below =
+    All-map IsCubeTurn (λ t. slice_index_or (all_turns cube_powers) t cube_action.identity) numbers
+    (λ k d lt. cube_turns (slice_index_or numbers k d) cube_action.identity (omega (arith, length-turns, below k d lt)))
 
 -- ---- turns that flip no edge
 
@@ -192,8 +200,7 @@ unfolding are_numbers
 halves_numbers = All-numbers half_turns refl
 
 pub flips_turns : All IsCubeTurn (turns_of flips_stage.turns)
-unfolding all_turns all_powers power composed identity added_digits is_cube_turn
-flips_turns = All-from_test is_cube_turn IsCubeTurn IsCubeTurn-from_test (turns_of flips_stage.turns) refl
+flips_turns = All-turns flips_stage.turns flips_numbers
 
 pub slice_turns : All IsSliceTurn (turns_of slice_stage.turns)
 unfolding all_turns all_powers power composed identity added_digits is_cube_turn is_slice_turn

@@ -1,23 +1,22 @@
--- Views of states by numbers go along with turns, where the number of a turned state is that which the turn makes of the list that is
--- kept for the number. No puzzle stands here.
-use Rattle.std.proofs.Common.{◌≡◌, ℕ, ◌<◌, ◌≤◌, Bool, true, false, cond, IsTrue, List, map, length, Option, Some, None, refl, sym, ap, ◌∙◌, subst}
+-- Views of states by numbers go along with turns, where the number of a turned state is that which the turn makes of
+-- the list that is kept for the number. No puzzle stands here.
+use Rattle.std.proofs.Common.{◌≡◌, ℕ, ◌<◌, ◌≤◌, Bool, true, false, cond, List, map, length, Option, Some, None, refl, sym, ap, ◌∙◌, subst}
 use Rattle.std.specs.Prelude.{All, nat_lt, slice_get, ◌↔◌}
 use Rattle.std.specs.Option.{option_map}
 use Rattle.std.proofs.lemmas.Bool.{eq-eqb, eqb-true, ltb-false}
-use Rattle.std.proofs.lemmas.List.{length-map}
 use Rattle.std.proofs.lemmas.Option.{slice_get-map, slice_get_past}
 use Rattle.scr_combinatorics.specs.Numbered.{Numbered}
 use Rattle.scr_combinatorics.specs.Numbering.{IsOneToOne}
 use Rattle.scr_orbit.specs.Orbits.{Rearrangement}
 use Rattle.scr_orbit.proofs.ActionLaws.{map-some}
 use Rattle.scr_orbit.proofs.PowerLaws.{All-got}
-use Rattle.scr_coord.specs.Coordinates.{Coordinate, StaysBelow, moved}
+use Rattle.scr_coord.specs.Coordinates.{Coordinate, StaysBelow}
 use Rattle.scr_coord.specs.Projections.{ListView, projection}
-use Rattle.scr_coord.specs.SearchSpaces.{SearchSpace, positions, Follows}
+use Rattle.scr_coord.specs.SearchSpaces.{positions, Follows}
 use Rattle.scr_stages.specs.Tables.{numbered_coordinate}
 
--- What turns make of states, which of them are valid, and turns that are asked for: the turn of a number is at that place of a
--- list, and keeps states valid.
+-- What turns make of states, which of them are valid, and turns that are asked for: the turn of a number is at that
+-- place of a list, and keeps states valid.
 pub record TurnsStates {S R : Type 0} (turned : S → R → S) (turns : List R) (after : S → ℕ → Option S) (IsValid : S → Type 0) (IsTurn : R → Type 0) : Type 0 where
   pub each : All IsTurn turns
   pub after_is : (s : S) (t : ℕ) → after s t ≡ option_map (turned s) (slice_get turns t)

@@ -1,9 +1,8 @@
 -- What the tables of the stages see of a cube, as numbers (after Thistlethwaite).
 --
--- Edges are numbered 0 UR, 1 UF, 2 UL, 3 UB, 4 DR, 5 DF, 6 DL, 7 DB, 8 FR, 9 FL, 10 BL, 11 BR, places and pieces alike. Half turns
--- carry the edges of each of three blocks among their places.
-use Rattle.std.specs.Prelude.{◌≡◌, ℕ, ◌+◌, ◌*◌, ◌/◌, ◌%◌, List, [], ◌∷◌, ◌++◌, slice_index}
-use Rattle.scr_combinatorics.specs.Digits.{mixed_number}
+-- Edges are numbered 0 UR, 1 UF, 2 UL, 3 UB, 4 DR, 5 DF, 6 DL, 7 DB, 8 FR, 9 FL, 10 BL, 11 BR, places and pieces alike.
+-- Half turns carry the edges of each of three blocks among their places.
+use Rattle.std.specs.Prelude.{◌≡◌, ℕ, ◌+◌, ◌*◌, ◌/◌, ◌%◌, ◌<◌, List, [], ◌∷◌, ◌++◌, slice_index}
 use Rattle.scr_combinatorics.specs.Lists.{pick}
 use Rattle.scr_combinatorics.specs.Numbered.{Numbered, numbered_by_digits}
 use Rattle.scr_combinatorics.specs.Permutations.{parity, permutation_number, permutation_at, half_at}
@@ -43,7 +42,8 @@ first_edges = 0 ∷ 2 ∷ 4 ∷ 6 ∷ []
 abbrev pub second_edges : List ℕ
 second_edges = 1 ∷ 3 ∷ 5 ∷ 7 ∷ []
 
--- Of a domino: the set of the places of the first edges among the eight places above and below, and the index of the corners.
+-- Of a domino: the set of the places of the first edges among the eight places above and below, and the index of the
+-- corners.
 abbrev pub tetrads_number : CubeState → ℕ
 tetrads_number c =
     place_set_number 8 (marked_places (stands_in first_edges) c.edges.pieces) + 70 * corner_index c.corners.pieces
@@ -59,8 +59,9 @@ pub record IsHalfCube (c : CubeState) : Type 0 where
 abbrev pub half_bases : List ℕ
 half_bases = 12 ∷ 24 ∷ 24 ∷ 96 ∷ []
 
--- The half of the number of the middle edges, the numbers of the second and of the first edges, and that of the corners. Of two
--- lists of middle edges with one half the cube has the one that makes edges and corners both even or both odd.
+-- The half of the number of the middle edges, the numbers of the second and of the first edges, and that of the
+-- corners. Of two lists of middle edges with one half the cube has the one that makes edges and corners both even or
+-- both odd.
 unfoldable pub half_digits : CubeState → List ℕ
 half_digits c =
     permutation_number (in_block middle_edges c.edges.pieces) / 2 ∷ permutation_number (in_block second_edges c.edges.pieces)
@@ -77,6 +78,13 @@ pub record AreParts (c : CubeState) (middle second first corners : ℕ) : Type 0
   pub second_is : second ≡ permutation_number (in_block second_edges c.edges.pieces)
   pub first_is : first ≡ permutation_number (in_block first_edges c.edges.pieces)
   pub corners_is : corners ≡ half_corners_number c.corners.pieces
+
+-- such numbers: of lists of four, and of a list of corners
+pub record ArePartNumbers (middle second first corners : ℕ) : Type 0 where
+  pub middle_below : middle < 24
+  pub second_below : second < 24
+  pub first_below : first < 24
+  pub corners_below : corners < 96
 
 -- The cube with these four numbers.
 unfoldable pub half_cube_of_digits : List ℕ → CubeState

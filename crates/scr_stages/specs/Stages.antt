@@ -15,8 +15,9 @@ use Rattle.scr_cube.specs.Cube333.{CubeState, cube_powers, solved_cube}
 
 -- ---- words of a stage
 
--- What the turn at a place of a list of turns makes of a cube, or nothing where the list has no such place. Turns are told by
--- their numbers: U U2 U' R R2 R' F F2 F' D D2 D' L L2 L' B B2 B' are 0 to 17. Over this, words of places are played.
+-- What the turn at a place of a list of turns makes of a cube, or nothing where the list has no such place. Turns are
+-- told by their numbers: U U2 U' R R2 R' F F2 F' D D2 D' L L2 L' B B2 B' are 0 to 17. Over this, words of places are
+-- played.
 abbrev pub after_of : List ℕ → CubeState → ℕ → Option CubeState
 after_of turns c place = option_and_then (λ t. (after_letter cube_powers) c (face_turn_at t)) (slice_get turns place)
 
@@ -24,14 +25,15 @@ after_of turns c place = option_and_then (λ t. (after_letter cube_powers) c (fa
 abbrev pub letters_of : List ℕ → List ℕ → List Turn
 letters_of turns word = map face_turn_at (pick turns word)
 
--- A stage: the numbers of its turns, in order; its goal; and how many turns lead there from wherever the stage before may end.
+-- A stage: the numbers of its turns, in order; its goal; and how many turns lead there from wherever the stage before
+-- may end.
 pub record Stage : Type 1 where
   pub turns : List ℕ
   pub IsGoal : CubeState → Type 0
   pub bound : ℕ
 
--- The word of a stage: the first word of its turns to its goal, by length and then by turn numbers. It is no longer than the
--- bound.
+-- The word of a stage: the first word of its turns to its goal, by length and then by turn numbers. It is no longer
+-- than the bound.
 pub record IsStageWord (stage : Stage) (c : CubeState) (word : List ℕ) : Type 0 where
   pub first : IsFirstWord (after_of stage.turns) stage.IsGoal c word
   pub within : length word ≤ stage.bound
@@ -46,8 +48,9 @@ HasNoFlips c = c.edges.digits ≡ zeros 12
 abbrev pub middle_edges : List ℕ
 middle_edges = 8 ∷ 9 ∷ 10 ∷ 11 ∷ []
 
--- Second, by all turns but quarter turns of F and B: besides, no corner is twisted, and the edges of the middle layer are in it.
--- What turns may then lead to solved by U and D alone, and by half turns of the other faces, is called a domino.
+-- Second, by all turns but quarter turns of F and B: besides, no corner is twisted, and the edges of the middle layer
+-- are in it. What turns may then lead to solved by U and D alone, and by half turns of the other faces, is called a
+-- domino.
 pub record IsDomino (c : CubeState) : Type 0 where
   pub no_flips : HasNoFlips c
   pub no_twists : c.corners.digits ≡ zeros 8

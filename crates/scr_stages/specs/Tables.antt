@@ -11,7 +11,7 @@ use Rattle.scr_table.specs.declared.name.TableName.TheVariants.{Flips, Slice, Te
 use Rattle.scr_table.specs.Lines.{TableLine}
 use Rattle.scr_turning.specs.PowerPuzzles.{all_turns}
 use Rattle.scr_cube.specs.Cube333.{CubeTurn, cube_action, cube_powers, solved_cube}
-use Rattle.scr_stages.specs.Stages.{middle_edges, after_of, half_turns, Stage, flips_stage, slice_stage, tetrads_stage, halves_stage}
+use Rattle.scr_stages.specs.Stages.{middle_edges, after_of, half_turns, flips_stage, slice_stage, tetrads_stage, halves_stage}
 use Rattle.scr_stages.specs.Tetrads.{in_block, tetrads_view, half_corners_view}
 use Rattle.scr_stages.specs.Numbers.{first_edges, half_cubes}
 
@@ -52,8 +52,8 @@ tetrads_coordinate =
     product (projection (place_set_view 8 4 first_edges) (map (block_turn outer_places) (edges_by tetrads_stage.turns)))
     (projection tetrads_view (corners_by tetrads_stage.turns))
 
--- Numbered states as a coordinate: a turn leads from a state's number to that of the turned state, and the goal is the number of
--- the solved one.
+-- Numbered states as a coordinate: a turn leads from a state's number to that of the turned state, and the goal is the
+-- number of the solved one.
 abbrev pub numbered_coordinate : {S : Type 0} → Numbered S → ℕ → (S → ℕ → Option S) → S → Coordinate
 numbered_coordinate n turns after solved = record {
   count = n.count;

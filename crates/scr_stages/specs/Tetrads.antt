@@ -1,12 +1,15 @@
--- The corners of a 3x3x3 by tetrads, and what tells whether half turns alone carry them to their places (after Thistlethwaite).
+-- The corners of a 3x3x3 by tetrads, and what tells whether half turns alone carry them to their places (after
+-- Thistlethwaite).
 --
--- A tetrad is four corners of which each two are at one face together. Half turns carry a corner to places of its own tetrad
--- alone. Corners are numbered 0 URF, 1 UFL, 2 ULB, 3 UBR, 4 DFR, 5 DLF, 6 DBL, 7 DRB, places and pieces alike.
+-- A tetrad is four corners of which each two are at one face together. Half turns carry a corner to places of its own
+-- tetrad alone. Corners are numbered 0 URF, 1 UFL, 2 ULB, 3 UBR, 4 DFR, 5 DLF, 6 DBL, 7 DRB, places and pieces alike.
 use Rattle.std.specs.Prelude.{ℕ, ◌+◌, ◌*◌, ◌/◌, ◌%◌, ◌==◌, ◌&&◌, not, List, [], ◌∷◌, ◌++◌, map, find, unwrap_or, slice_index, slice_index_or}
 use Rattle.scr_combinatorics.specs.Lists.{numbers_from, pick}
 use Rattle.scr_combinatorics.specs.Permutations.{place_of, inverse, permutation_number, permutation_at}
 use Rattle.scr_combinatorics.specs.PlaceSets.{place_set_number, place_set_at}
-use Rattle.scr_coord.specs.Projections.{ListView, marked_places, stands_in}
+use Rattle.scr_orbit.specs.Orbits.{Rearrangement}
+use Rattle.scr_coord.specs.Coordinates.{Coordinate}
+use Rattle.scr_coord.specs.Projections.{ListView, projection, marked_places, stands_in}
 use Rattle.scr_cube.specs.Stickers.{corner_faces}
 
 abbrev pub first_tetrad : List ℕ
@@ -15,7 +18,8 @@ first_tetrad = 0 ∷ 2 ∷ 5 ∷ 7 ∷ []
 abbrev pub second_tetrad : List ℕ
 second_tetrad = 1 ∷ 3 ∷ 4 ∷ 6 ∷ []
 
--- The axis of two corners of a tetrad: that of the face at which both are. Up and down is 0, right and left 1, front and back 2.
+-- The axis of two corners of a tetrad: that of the face at which both are. Up and down is 0, right and left 1, front
+-- and back 2.
 unfoldable pub shared_axis : ℕ → ℕ → ℕ
 shared_axis a b = unwrap_or (find (stands_in (slice_index_or corner_faces b [])) (slice_index_or corner_faces a [])) 0 % 3
 
@@ -31,13 +35,13 @@ places_of_tetrad tetrad corners = marked_places (stands_in tetrad) corners
 abbrev pub corners_of_tetrad : List ℕ → List ℕ → List ℕ
 corners_of_tetrad tetrad corners = pick corners (places_of_tetrad tetrad corners)
 
--- How the axes of two lists are to one another: the number of the list of the places at which the first list's stand in the
--- second.
+-- How the axes of two lists are to one another: the number of the list of the places at which the first list's stand in
+-- the second.
 unfoldable pub relation_number : List ℕ → List ℕ → ℕ
 relation_number axes others = permutation_number (map (λ axis. place_of axis others) axes)
 
--- The relation of a list of corners: that of the axes of both tetrads. Half turns of solved leave it as it is, since they
--- exchange the axes of both tetrads alike.
+-- The relation of a list of corners: that of the axes of both tetrads. Half turns of solved leave it as it is, since
+-- they exchange the axes of both tetrads alike.
 unfoldable pub relation_of : List ℕ → ℕ
 relation_of corners =
     relation_number (axes_of (corners_of_tetrad first_tetrad corners)) (axes_of (corners_of_tetrad second_tetrad corners))
@@ -75,15 +79,23 @@ corners_at index =
     let places = place_set_at 8 4 (index / 6) in
     arranged (places ++ other_places places) (corners_related (index % 6))
 
--- Lists of corners by their indexes.
-abbrev pub tetrads_view : ListView
-tetrads_view = record {
-  count = 420;
-  list_at = corners_at;
-  number_of = corner_index;
+-- Lists of corners by so many numbers; turns go by their places, and the goal is the list in order.
+abbrev pub corners_view : ℕ → (ℕ → List ℕ) → (List ℕ → ℕ) → ListView
+corners_view count list_at number_of = record {
+  count = count;
+  list_at = list_at;
+  number_of = number_of;
   turned = λ corners turn. pick corners turn.places;
   goal = numbers_from 0 8;
 }
+
+-- as a coordinate
+abbrev pub corners_coordinate : ℕ → (ℕ → List ℕ) → (List ℕ → ℕ) → List Rearrangement → Coordinate
+corners_coordinate count list_at number_of turns = projection (corners_view count list_at number_of) turns
+
+-- by their indexes
+abbrev pub tetrads_view : ListView
+tetrads_view = corners_view 420 corners_at corner_index
 
 -- ---- the lists of corners with the index of solved
 
@@ -103,10 +115,4 @@ half_corners_at number =
     arranged (first_tetrad ++ second_tetrad) (first ++ second_with (slice_index second_tetrad (number % 4)) (axes_of first))
 
 abbrev pub half_corners_view : ListView
-half_corners_view = record {
-  count = 96;
-  list_at = half_corners_at;
-  number_of = half_corners_number;
-  turned = λ corners turn. pick corners turn.places;
-  goal = numbers_from 0 8;
-}
+half_corners_view = corners_view 96 half_corners_at half_corners_number

@@ -1,24 +1,18 @@
 //! The index of a list of corners: their relation, and the set of the places of the first tetrad.
-ghost use Rattle.std.specs.Prelude.{◌≡◌, ◌<◌, map};
+ghost use Rattle.std.specs.Prelude.{◌≡◌, ◌<◌};
 ghost use Rattle.scr_combinatorics.specs.Lists.{pick};
-ghost use Rattle.std.proofs.Props.{props};
 ghost use Rattle.scr_combinatorics.specs.Permutations.{IsPermutation};
 ghost use Rattle.scr_combinatorics.specs.PlaceSets.{IsPlaceSet};
-ghost use Rattle.scr_orbit.specs.PlaceTurns.{rearrangement_of};
-ghost use Rattle.scr_coord.specs.Coordinates.{StaysBelow};
-ghost use Rattle.scr_coord.specs.Projections.{AreTurns, projection};
-ghost use Rattle.scr_stages.specs.Tetrads.{axes_of, corner_index, other_places, corners_at, places_of_tetrad, tetrads_view};
+ghost use Rattle.scr_stages.specs.Tetrads.{axes_of, corner_index, other_places, corners_at, places_of_tetrad};
 
+use crate::corner_lists::CornerNumbers;
 use crate::places::arrange;
 use crate::tetrads::{
     FIRST_TETRAD, SECOND_TETRAD, axes_of, corners_related, joined, relation_number,
 };
-use scr_coord::{Coord, places_of};
-use scr_orbit::{PlaceTurn, pick_into};
+use scr_coord::places_of;
+use scr_orbit::pick_into;
 use scr_rank::Choose;
-
-/// Each corner at its place.
-const SOLVED: [u8; 8] = [0, 1, 2, 3, 4, 5, 6, 7];
 
 /// The index of a list of corners, below 420.
 pub(crate) fn corner_index(corners: &[u8; 8]) -> u32
@@ -88,54 +82,27 @@ fn corners_at(index: u32) -> [u8; 8]
     corners
 }
 
-/// The lists of corners of a 3x3x3 by their index, as a coordinate. The goal is the list in order.
-#[derive(Drop)]
-pub(crate) struct TetradCorners<'a> {
-    turns: &'a [PlaceTurn<8>],
-    ghost valid: { AreTurns (λ turn. IsPermutation 8 turn.places) turns.now } by { Prim.hlevel props },
-    ghost stays: { StaysBelow (projection tetrads_view (map rearrangement_of turns.now)) } by { Prim.hlevel props },
-}
+/// The lists of corners by their index.
+pub(crate) struct CornerIndexes;
 
-impl<'a> TetradCorners<'a> {
-    /// The coordinate of 1 to 256 turns, each a permutation of the places.
-    pub fn new(turns: &'a [PlaceTurn<8>]) -> TetradCorners<'a>
-        requires { AreTurns (λ turn. IsPermutation 8 turn.places) turns.now }
-        ensures { result.turns.now ≡ turns.now }
-    {
-        TetradCorners { turns }
-    }
-}
+impl CornerNumbers for CornerIndexes {
+    ghost use Rattle.scr_stages.specs.Tetrads.{corner_index, corners_at};
 
-impl Coord for TetradCorners<'_> {
-    ghost use Rattle.std.specs.Prelude.{map};
-    ghost use Rattle.scr_orbit.specs.PlaceTurns.{rearrangement_of};
-    ghost use Rattle.scr_coord.specs.Projections.{projection};
-    ghost use Rattle.scr_stages.specs.Tetrads.{tetrads_view};
+    ghost numbers = { 420 };
 
-    ghost coordinate = { λ t. projection tetrads_view (map rearrangement_of t.turns.now) };
+    ghost list = { corners_at };
 
-    fn count(&self) -> u32 {
+    ghost number = { corner_index };
+
+    fn count() -> u32 {
         420
     }
 
-    fn turns(&self) -> u32 {
-        self.turns.len() as u32
+    fn list_at(position: u32) -> [u8; 8] {
+        corners_at(position)
     }
 
-    fn after(&self, position: u32, turn: u32) -> Option<u32> {
-        let turn = &self.turns[turn as usize];
-        let mut corners = [0; 8];
-        pick_into(
-            &corners_at(position)[..],
-            &turn.places[..],
-            &mut corners[..],
-        );
-        Some(corner_index(&corners))
+    fn number_of(corners: &[u8; 8]) -> u32 {
+        corner_index(corners)
     }
-
-    fn is_goal(&self, position: u32) -> bool {
-        position == corner_index(&SOLVED)
-    }
-
-    ghost law = { λ t. t.stays };
 }

@@ -1,18 +1,12 @@
 //! The lists of corners that half turns alone lead to, by their numbers.
-ghost use Rattle.std.specs.Prelude.{◌≡◌, ◌<◌, map};
-ghost use Rattle.std.proofs.Props.{props};
+ghost use Rattle.std.specs.Prelude.{◌≡◌, ◌<◌};
 ghost use Rattle.scr_combinatorics.specs.Permutations.{IsPermutation};
-ghost use Rattle.scr_orbit.specs.PlaceTurns.{rearrangement_of};
-ghost use Rattle.scr_coord.specs.Coordinates.{StaysBelow};
-ghost use Rattle.scr_coord.specs.Projections.{AreTurns, projection};
-ghost use Rattle.scr_stages.specs.Stages.{half_turns};
-ghost use Rattle.scr_stages.specs.Tables.{corners_by};
-ghost use Rattle.scr_stages.specs.Tetrads.{half_corners_number, half_corners_at, half_corners_view};
+ghost use Rattle.scr_stages.specs.Tetrads.{half_corners_number, half_corners_at};
 
+use crate::corner_lists::CornerNumbers;
 use crate::places::{arrange, pieces_in_block, place_of};
 use crate::tetrads::{FIRST_TETRAD, SECOND_TETRAD, axes_of, joined, second_with};
-use scr_coord::Coord;
-use scr_orbit::{PlaceTurn, pick_into};
+use scr_orbit::pick_into;
 use scr_rank::PermRank;
 use scr_rank::permutations::rank_permutation;
 
@@ -45,54 +39,27 @@ pub(crate) fn half_corners_at(number: u32) -> [u8; 8]
     corners
 }
 
-/// These lists of corners, as a coordinate. The goal is the list in order.
-#[derive(Drop)]
-pub(crate) struct HalfCorners<'a> {
-    turns: &'a [PlaceTurn<8>],
-    ghost valid: { AreTurns (λ turn. IsPermutation 8 turn.places) turns.now } by { Prim.hlevel props },
-    ghost stays: { StaysBelow (projection half_corners_view (map rearrangement_of turns.now)) } by { Prim.hlevel props },
-}
+/// These lists of corners by their numbers.
+pub(crate) struct HalfCorners;
 
-impl<'a> HalfCorners<'a> {
-    /// The coordinate. The turns are the half turns.
-    pub fn new(turns: &'a [PlaceTurn<8>]) -> HalfCorners<'a>
-        requires { map rearrangement_of turns.now ≡ corners_by half_turns }
-        ensures { result.turns.now ≡ turns.now }
-    {
-        HalfCorners { turns }
-    }
-}
+impl CornerNumbers for HalfCorners {
+    ghost use Rattle.scr_stages.specs.Tetrads.{half_corners_number, half_corners_at};
 
-impl Coord for HalfCorners<'_> {
-    ghost use Rattle.std.specs.Prelude.{map};
-    ghost use Rattle.scr_orbit.specs.PlaceTurns.{rearrangement_of};
-    ghost use Rattle.scr_coord.specs.Projections.{projection};
-    ghost use Rattle.scr_stages.specs.Tetrads.{half_corners_view};
+    ghost numbers = { 96 };
 
-    ghost coordinate = { λ t. projection half_corners_view (map rearrangement_of t.turns.now) };
+    ghost list = { half_corners_at };
 
-    fn count(&self) -> u32 {
+    ghost number = { half_corners_number };
+
+    fn count() -> u32 {
         96
     }
 
-    fn turns(&self) -> u32 {
-        self.turns.len() as u32
+    fn list_at(position: u32) -> [u8; 8] {
+        half_corners_at(position)
     }
 
-    fn after(&self, position: u32, turn: u32) -> Option<u32> {
-        let turn = &self.turns[turn as usize];
-        let mut corners = [0; 8];
-        pick_into(
-            &half_corners_at(position)[..],
-            &turn.places[..],
-            &mut corners[..],
-        );
-        Some(half_corners_number(&corners))
+    fn number_of(corners: &[u8; 8]) -> u32 {
+        half_corners_number(corners)
     }
-
-    fn is_goal(&self, position: u32) -> bool {
-        position == 0
-    }
-
-    ghost law = { λ t. t.stays };
 }

@@ -6,29 +6,21 @@ ghost use Rattle.scr_coord.specs.Coordinates.{StaysBelow};
 ghost use Rattle.scr_coord.specs.Moves.{moves_coordinate};
 ghost use Rattle.scr_coord.specs.SearchSpaces.{ShowsSame};
 ghost use Rattle.scr_stages.specs.Stages.{half_turns, middle_edges};
-ghost use Rattle.scr_stages.specs.Numbers.{first_edges, second_edges, AreParts, half_cubes};
+ghost use Rattle.scr_stages.specs.Numbers.{first_edges, second_edges, AreParts, ArePartNumbers, half_cubes};
 ghost use Rattle.scr_stages.specs.Tables.{block_turn, edges_by, halves_coordinate, half_corners_coordinate, half_block_coordinate};
 ghost use Rattle.scr_stages.specs.Tetrads.{half_corners_at};
 
+use crate::corner_lists::CornerLists;
 use crate::half_corners::{HalfCorners, half_corners_at};
-use crate::stage_turns::{half_block_turns, half_corner_turns};
+use crate::half_parts::{FIRST_EDGES, HalfParts, MIDDLE_EDGES, SECOND_EDGES};
+use crate::stage_turns::{HALF_TURNS, block_edges_turned, corners_turned};
 use scr_coord::{Coord, Lists, MoveTable};
 use scr_rank::PermRank;
 use scr_rank::permutations::is_odd;
 use std::alloc::{AllocError, Global};
 
-/// The edges UR UL DR DL.
-pub(crate) const FIRST_EDGES: [u8; 4] = [0, 2, 4, 6];
-
-/// UF UB DF DB.
-pub(crate) const SECOND_EDGES: [u8; 4] = [1, 3, 5, 7];
-
-/// FR FL BL BR.
-pub(crate) const MIDDLE_EDGES: [u8; 4] = [8, 9, 10, 11];
-
-/// The moves of the corners, of each block of edges, and the parities of their lists, 1 where a list is odd. Together they
-/// are the coordinate of the cubes that half turns solve.
-#[derive(Drop)]
+/// The moves of the corners, of each block of edges, and the parities of their lists, 1 where a list is odd. Together
+/// they are the coordinate of the cubes that half turns solve.
 pub(crate) struct HalfMoves {
     corners: MoveTable,
     first: MoveTable,
@@ -45,13 +37,30 @@ pub(crate) struct HalfMoves {
     ghost stays: { StaysBelow halves_coordinate } by { Prim.hlevel props },
 }
 
+// A call wherever one is let go, in place of all that lets go of its parts.
+impl Drop for HalfMoves {
+    fn drop(self) {
+        let HalfMoves {
+            corners: _,
+            first: _,
+            second: _,
+            middle: _,
+            odd_corners: _,
+            odd: _,
+        } = self;
+    }
+}
+
 /// The moves of a block of edges, among whose places half turns carry its edges.
 fn block_moves(alloc: Global, block: &[u8; 4]) -> Result<MoveTable, AllocError>
     requires places { All (λ place. place < 12) block.now }
     requires kept { All (λ r. IsPermutation 4 r.places) (map (block_turn block.now) (edges_by half_turns)) }
     ensures { IfOk result (λ table. ShowsSame (half_block_coordinate block.now) (moves_coordinate table)) }
 {
-    MoveTable::build(alloc, &Lists::<4>::new(&half_block_turns(block)[..]))
+    MoveTable::build(
+        alloc,
+        &Lists::<4>::new(&block_edges_turned(block, &HALF_TURNS)[..]),
+    )
 }
 
 /// The parity of each list of four, by its number.
@@ -76,20 +85,13 @@ fn corner_parities() -> [u8; 96]
     odd
 }
 
-/// The numbers of the parts of a cube: of its middle edges, second edges, first edges, and corners.
-#[derive(Clone, Copy)]
-struct HalfParts {
-    middle: u32,
-    second: u32,
-    first: u32,
-    corners: u32,
-}
-
 impl HalfMoves {
     /// The moves. Only memory can be wanting.
     pub fn build(alloc: Global) -> Result<HalfMoves, AllocError> {
+        let turns = corners_turned(&HALF_TURNS);
+        let corners = CornerLists::<HalfCorners>::new(&turns[..]);
         Ok(HalfMoves {
-            corners: MoveTable::build(alloc, &HalfCorners::new(&half_corner_turns()[..]))?,
+            corners: MoveTable::build(alloc, &corners)?,
             first: block_moves(alloc, &FIRST_EDGES)?,
             second: block_moves(alloc, &SECOND_EDGES)?,
             middle: block_moves(alloc, &MIDDLE_EDGES)?,
@@ -98,12 +100,13 @@ impl HalfMoves {
         })
     }
 
-    /// The parts of the cube with a number. Of two lists of middle edges with one half the cube has the one that makes edges
-    /// and corners both even or both odd.
+    /// The parts of the cube with a number. Of two lists of middle edges with one half the cube has the one that makes
+    /// edges and corners both even or both odd.
     #[inline]
     fn parts(&self, position: u32) -> HalfParts
         requires { position < 663552 }
-        ensures { AreParts (half_cubes.state_at position) result.middle result.second result.first result.corners }
+        ensures parts { AreParts (half_cubes.state_at position) result.middle result.second result.first result.corners }
+        ensures below { ArePartNumbers result.middle result.second result.first result.corners }
     {
         let half = position % 12;
         let rest = position / 12;
@@ -141,11 +144,13 @@ impl Coord for HalfMoves {
     #[inline]
     fn after(&self, position: u32, turn: u32) -> Option<u32> {
         let parts = self.parts(position);
-        let middle = self.middle.after(parts.middle, turn)?;
-        let second = self.second.after(parts.second, turn)?;
-        let first = self.first.after(parts.first, turn)?;
-        let corners = self.corners.after(parts.corners, turn)?;
-        Some(middle / 2 + 12 * (second + 24 * (first + 24 * corners)))
+        let turned = HalfParts {
+            middle: self.middle.after(parts.middle, turn)?,
+            second: self.second.after(parts.second, turn)?,
+            first: self.first.after(parts.first, turn)?,
+            corners: self.corners.after(parts.corners, turn)?,
+        };
+        Some(turned.number())
     }
 
     #[inline]

@@ -10,8 +10,9 @@ ghost use Rattle.scr_stages.specs.Stages.{IsStageScramble};
 ghost use Rattle.scr_stages.specs.Built.{BuiltStages, AreBuilt};
 ghost use Rattle.scr_stages.specs.Tetrads.{corner_index};
 
-/// Where the four tables are built, each valid cube has a scramble by stages, and so the valid cubes are those that turns
-/// reach. With or without tables a cube has no two, and each has at most 52 turns and leads to the cube from solved.
+/// Where the four tables are built, each valid cube has a scramble by stages, and so the valid cubes are those that
+/// turns reach. With or without tables a cube has no two, and each has at most 52 turns and leads to the cube from
+/// solved.
 pub fn stages()
     ensures some { (tables : BuiltStages) → AreBuilt tables
         → (c : CubeState) → IsCube c → (turns : List Letter) × IsStageScramble c turns }

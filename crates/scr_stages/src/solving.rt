@@ -15,8 +15,8 @@ use crate::words::{flips_word, halves_word, slice_word, tetrads_word};
 use scr_cube::{Cube, PowerTurned};
 use scr_notation::{Event, Scramble, Turn, inverse, tidy};
 
-/// The solution of a cube by the four stages, of at most 52 turns: the first word of each stage's turns to its goal, one
-/// after another.
+/// The solution of a cube by the four stages, of at most 52 turns: the first word of each stage's turns to its goal,
+/// one after another.
 pub fn solve_stages(tables: &StageTables, cube: &Cube) -> Scramble
     ensures event { result.event ≡ C333 }
     ensures at_most { length result.turns ≤ 52 }
@@ -37,8 +37,8 @@ pub fn solve_stages(tables: &StageTables, cube: &Cube) -> Scramble
     solution
 }
 
-/// The scramble of a cube by stages, of at most 52 turns: its solution, in which neighbouring turns of one face are merged,
-/// taken back.
+/// The scramble of a cube by stages, of at most 52 turns: its solution, in which neighbouring turns of one face are
+/// merged, taken back.
 pub fn scramble_by_stages(tables: &StageTables, cube: &Cube) -> Scramble
     ensures event { result.event ≡ C333 }
     ensures at_most { length result.turns ≤ 52 }
@@ -67,9 +67,9 @@ fn follow(cube: &Cube, turns: &[u8], word: &[u8], solution: &mut Scramble) -> Cu
     state
 }
 
-/// The turn with a number, below 18.
+/// The turn of the 3x3x3 with a number, below 18: U U2 U' R R2 R' F F2 F' D D2 D' L L2 L' B B2 B'.
 #[tactic(auto, unfolding(scr_notation::specs::TurnNumbers::face_turn_at))]
-fn letter(number: u8) -> Turn
+pub fn letter(number: u8) -> Turn
     requires { number < 18 }
     ensures letter { result ≡ face_turn_at number }
     ensures of_event { IsTrue (permits C333 result) }

@@ -1,11 +1,10 @@
-//! The turns of the stages, as what they do to corners, to edges, and to the edges of a block.
+//! The turns of the stages, and what turns do to corners, to edges, and to the edges of a block.
 ghost use Rattle.std.specs.Prelude.{◌≡◌, ◌<◌, ◌≤◌, All, map};
 ghost use Rattle.scr_combinatorics.specs.Permutations.{IsPermutation};
 ghost use Rattle.scr_orbit.specs.Orbits.{IsZeroSumRearrangement};
 ghost use Rattle.scr_orbit.specs.PlaceTurns.{rearrangement_of};
 ghost use Rattle.scr_coord.specs.Projections.{AreTurns};
-ghost use Rattle.scr_stages.specs.Stages.{half_turns, slice_stage, tetrads_stage};
-ghost use Rattle.scr_stages.specs.Tables.{block_turn, corners_by, edges_by, outer_places};
+ghost use Rattle.scr_stages.specs.Tables.{block_turn, corners_by, edges_by};
 
 use crate::block_turns::block_turns;
 use scr_cube::{corner_turns, edge_turns};
@@ -31,52 +30,44 @@ const CORNERS: [u8; 8] = [0, 1, 2, 3, 4, 5, 6, 7];
 /// All places of edges.
 const EDGES: [u8; 12] = [0, 1, 2, 3, 4, 5, 6, 7, 8, 9, 10, 11];
 
-/// The places of edges above and below.
-const OUTER_PLACES: [u8; 8] = [0, 1, 2, 3, 4, 5, 6, 7];
-
-/// What the turns of the second stage do to corners.
-pub(crate) fn slice_corners() -> [PlaceTurn<8>; 14]
-    ensures turns { map rearrangement_of result ≡ corners_by slice_stage.turns }
+/// What the turns with these numbers, each below 18, do to corners. There are 1 to 256.
+pub fn corners_turned<const K: usize>(numbers: &[u8; K]) -> [PlaceTurn<8>; K]
+    requires some { 1 ≤ K }
+    requires few { K ≤ 256 }
+    requires numbers { All (λ t. t < 18) numbers.now }
+    ensures turns { map rearrangement_of result ≡ corners_by numbers.now }
     ensures valid { AreTurns (λ turn. IsZeroSumRearrangement 8 3 (rearrangement_of turn)) result }
+    ensures places { AreTurns (λ turn. IsPermutation 8 turn.places) result }
 {
-    block_turns(corner_turns(), &CORNERS, &SLICE_TURNS)
+    block_turns(corner_turns(), &CORNERS, numbers)
 }
 
-/// What they do to edges.
-pub(crate) fn slice_edges() -> [PlaceTurn<12>; 14]
-    ensures turns { map rearrangement_of result ≡ edges_by slice_stage.turns }
-    ensures valid { AreTurns (λ turn. IsPermutation 12 turn.places) result }
+/// What the turns with these numbers, each below 18, do to edges. There are 1 to 256.
+pub fn edges_turned<const K: usize>(numbers: &[u8; K]) -> [PlaceTurn<12>; K]
+    requires some { 1 ≤ K }
+    requires few { K ≤ 256 }
+    requires numbers { All (λ t. t < 18) numbers.now }
+    ensures turns { map rearrangement_of result ≡ edges_by numbers.now }
+    ensures valid { AreTurns (λ turn. IsZeroSumRearrangement 12 2 (rearrangement_of turn)) result }
+    ensures places { AreTurns (λ turn. IsPermutation 12 turn.places) result }
 {
-    block_turns(edge_turns(), &EDGES, &SLICE_TURNS)
+    block_turns(edge_turns(), &EDGES, numbers)
 }
 
-/// What the turns of the third stage do to corners.
-pub(crate) fn tetrads_corners() -> [PlaceTurn<8>; 10]
-    ensures turns { map rearrangement_of result ≡ corners_by tetrads_stage.turns }
-    ensures valid { AreTurns (λ turn. IsPermutation 8 turn.places) result }
+/// What the turns with these numbers, each below 18, do to the edges at the places of a block, which they carry among
+/// these. There are 1 to 256 turns, and at most 255 places.
+pub fn block_edges_turned<const M: usize, const K: usize>(
+    block: &[u8; M],
+    numbers: &[u8; K],
+) -> [PlaceTurn<M>; K]
+    requires small { M ≤ 255 }
+    requires some { 1 ≤ K }
+    requires few { K ≤ 256 }
+    requires block { All (λ place. place < 12) block.now }
+    requires numbers { All (λ t. t < 18) numbers.now }
+    requires kept { All (λ r. IsPermutation M r.places) (map (block_turn block.now) (edges_by numbers.now)) }
+    ensures turns { map rearrangement_of result ≡ map (block_turn block.now) (edges_by numbers.now) }
+    ensures places { AreTurns (λ turn. IsPermutation M turn.places) result }
 {
-    block_turns(corner_turns(), &CORNERS, &TETRADS_TURNS)
-}
-
-/// What they do to the edges above and below.
-pub(crate) fn tetrads_edges() -> [PlaceTurn<8>; 10]
-    ensures turns { map rearrangement_of result ≡ map (block_turn outer_places) (edges_by tetrads_stage.turns) }
-    ensures valid { AreTurns (λ turn. IsPermutation 8 turn.places) result }
-{
-    block_turns(edge_turns(), &OUTER_PLACES, &TETRADS_TURNS)
-}
-
-/// What half turns do to corners.
-pub(crate) fn half_corner_turns() -> [PlaceTurn<8>; 6]
-    ensures { map rearrangement_of result ≡ corners_by half_turns }
-{
-    block_turns(corner_turns(), &CORNERS, &HALF_TURNS)
-}
-
-/// What half turns do to the edges of a block, among whose places they carry them.
-pub(crate) fn half_block_turns(block: &[u8; 4]) -> [PlaceTurn<4>; 6]
-    requires { All (λ place. place < 12) block.now }
-    ensures { map rearrangement_of result ≡ map (block_turn block.now) (edges_by half_turns) }
-{
-    block_turns(edge_turns(), block, &HALF_TURNS)
+    block_turns(edge_turns(), block, numbers)
 }

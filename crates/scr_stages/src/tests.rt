@@ -26,8 +26,8 @@ const SLICE: [u32; 11] = [
     1, 2, 17, 134, 1065, 8190, 54694, 267576, 560568, 187204, 3114,
 ];
 
-/// Words that lead to cubes from solved, the last but two to the one with all edges flipped in place; the cubes' solutions by
-/// stages; their scrambles.
+/// Words that lead to cubes from solved, the last but two to the one with all edges flipped in place; the cubes'
+/// solutions by stages; their scrambles.
 const CUBES: [(&str, &str, &str); 6] = [
     ("U", "U U2", "U"),
     ("U2", "U2", "U2"),

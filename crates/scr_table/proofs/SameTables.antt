@@ -1,6 +1,8 @@
--- A table of a coordinate is one of each that shows the same, and so are a gap and the cause of a refused build.
-use Rattle.std.proofs.Common.{ℕ, ◌<◌, get_or, ◌∙◌, arith}
-use Rattle.scr_coord.specs.Coordinates.{Coordinate, StaysBelow}
+-- A coordinate, and one that shows the same: the tables of the one are those of the other, and so are gaps, the causes of
+-- refused builds, and first words.
+use Rattle.std.proofs.Common.{ℕ, ◌<◌, List, get_or, sym, ◌∙◌, arith}
+use Rattle.scr_play.specs.FirstWord.{IsFirstWord}
+use Rattle.scr_coord.specs.Coordinates.{Coordinate, StaysBelow, moved, IsGoal}
 use Rattle.scr_coord.specs.SearchSpaces.{positions, FindsTheSame, ShowsSame}
 use Rattle.scr_coord.proofs.SearchLaws.{FindsTheSame-follows, Follows-same}
 use Rattle.scr_table.specs.declared.name.TableName.{TableName}
@@ -9,9 +11,15 @@ use Rattle.scr_table.specs.declared.fault.BuildFault.TheVariants.{NoMemory, Gap}
 use Rattle.scr_table.specs.Causes.{IsCause}
 use Rattle.scr_table.specs.Distances.{Distances, Measures, IsGap}
 
-module _ (c shown : Coordinate) (stays : StaysBelow c) (same : ShowsSame c shown) where
+module _ (c shown : Coordinate) (below : StaysBelow shown) (same : ShowsSame c shown) where
+  pub StaysBelow-same : StaysBelow c
+  StaysBelow-same p t q at turn leads =
+      let q_below : q < shown.count =
+      below p t q (omega (arith, at, same.count)) (omega (arith, turn, same.turns)) (same.after p t at turn ∙ leads) in
+      omega (arith, q_below, same.count)
+
   finds_the_same : FindsTheSame (positions c) (positions shown) (λ p. p)
-  finds_the_same = FindsTheSame-follows (positions c) (positions shown) (λ p. p) (Follows-same c shown stays same)
+  finds_the_same = FindsTheSame-follows (positions c) (positions shown) (λ p. p) (Follows-same c shown StaysBelow-same same)
 
   -- what measures the one measures the other
   pub Measures-same : (table : Distances) → Measures shown table → Measures c table
@@ -19,6 +27,13 @@ module _ (c shown : Coordinate) (stays : StaysBelow c) (same : ShowsSame c shown
     positions = m.positions ∙ same.count;
     exact = λ p at. (finds_the_same.distances p (get_or table.distances p 0) at).1 (m.exact p (omega (arith, same.count)));
     within = λ p at. m.within p (omega (arith, same.count));
+  }
+
+  pub Measures-shown : (table : Distances) → Measures c table → Measures shown table
+  Measures-shown table m = record {
+    positions = m.positions ∙ sym same.count;
+    exact = λ p at. (finds_the_same.distances p (get_or table.distances p 0) (omega (arith, at, same.count))).0 (m.exact p (omega (arith, at, same.count)));
+    within = λ p at. m.within p (omega (arith, at, same.count));
   }
 
   -- a gap of the one is a gap of the other
@@ -34,3 +49,7 @@ module _ (c shown : Coordinate) (stays : StaysBelow c) (same : ShowsSame c shown
   pub IsCause-same : (name : TableName) (bound : ℕ) (fault : BuildFault) → IsCause name shown bound fault → IsCause name c bound fault
   IsCause-same name bound NoMemory cause = tt
   IsCause-same name bound (Gap table index) cause = (cause.0, IsGap-same bound index cause.1)
+
+  -- a first word of the one is one of the other
+  pub IsFirstWord-same : (p : ℕ) (word : List ℕ) → p < c.count → IsFirstWord (moved shown) (IsGoal shown) p word → IsFirstWord (moved c) (IsGoal c) p word
+  IsFirstWord-same p word at first = (finds_the_same.first_words p word at).1 first

@@ -1,5 +1,5 @@
-//! Filling the entries of a table. A fast fill that nothing is proved of pushes the distances forward from the goals, and
-//! one pass then checks that each entry agrees with those around it, from which it follows that all are exact. Where they
+//! Filling the entries of a table. A fast fill that nothing is proved of spreads the distances from the goals, and one pass
+//! then checks that each entry agrees with those around it, from which it follows that all are exact. Where they
 //! don't agree, as where turns can't be undone, the entries are filled level by level.
 
 ghost use Rattle.std.specs.Prelude.{◌≡◌, ◌≢◌, ℕ, ◌+◌, ◌<◌, ◌≤◌, Some, IsTrue, IfSome, length, slice_index};
@@ -12,15 +12,19 @@ use scr_coord::Coord;
 /// What stands at a position whose distance is not known yet. It is greater than any bound.
 pub(crate) const UNKNOWN: u8 = 255;
 
+/// Where a barred turn leads: to no position.
+const BARRED: u32 = u32::MAX;
+
 /// Fills the entries, one for each position: with the position's distance, or with `UNKNOWN` where no word of at most
 /// `bound` turns leads to a goal. `bound` is at most 24.
 pub(crate) fn fill<C: Coord>(coord: &C, entries: &mut [u8], bound: u8)
     requires entries { length entries.old ≡ (C.coordinate coord.now).count }
+    requires few_turns { (C.coordinate coord.now).turns ≤ 256 }
     requires bound { bound ≤ 24 }
     ensures { AreKnown (C.coordinate coord.now) bound entries.new }
 {
     mark_goals(coord, entries);
-    push_forward(coord, entries, bound);
+    spread(coord, entries, bound);
     if !are_consistent(coord, entries) {
         mark_goals(coord, entries);
         sweep_levels(coord, entries, bound);
@@ -37,38 +41,85 @@ fn mark_goals<C: Coord>(coord: &C, entries: &mut [u8])
     }
 }
 
-/// Pushes the distances from the goals forward along turns, until no position is left or one level beyond `bound` is
-/// reached. This gives the distances to the goals where turns can be undone. No clause says so, and none needs to.
-fn push_forward<C: Coord>(coord: &C, entries: &mut [u8], bound: u8)
+/// Spreads the distances from the goals along turns, until no position is left or one level beyond `bound` is reached. This
+/// gives the distances to the goals where turns can be undone. No clause says so, and none needs to.
+fn spread<C: Coord>(coord: &C, entries: &mut [u8], bound: u8)
     requires entries { length entries.old ≡ (C.coordinate coord.now).count }
+    requires few_turns { (C.coordinate coord.now).turns ≤ 256 }
     requires bound { bound ≤ 24 }
 {
+    let mut left = coord.count();
+    let mut reached = 0;
     for level in 0..bound + 1 {
-        if !push_level(coord, entries, level) {
+        // the cheaper of the two ways
+        reached = if left < reached {
+            pull_level(coord, entries, level)
+        } else {
+            push_level(coord, entries, level)
+        };
+        if reached == 0 {
             return;
         }
+        left = left.saturating_sub(reached);
     }
 }
 
-/// Enters the next level where a turn leads to from this one, and tells whether there is such a position.
-fn push_level<C: Coord>(coord: &C, entries: &mut [u8], level: u8) -> bool
+/// Enters the next level where a turn leads to from this one, and counts the entries.
+fn push_level<C: Coord>(coord: &C, entries: &mut [u8], level: u8) -> u32
     requires entries { length entries.old ≡ (C.coordinate coord.now).count }
+    requires few_turns { (C.coordinate coord.now).turns ≤ 256 }
     requires level { level ≤ 24 }
 {
-    let mut reached = false;
+    let turns = coord.turns();
+    let mut row = [BARRED; 256];
+    let mut reached: u32 = 0;
     for position in 0..coord.count() {
         if entries[position as usize] == level {
-            for turn in 0..coord.turns() {
-                if let Some(next) = step(coord, position, turn) {
-                    let entry = entries[next as usize];
-                    let is_new = entry == UNKNOWN;
-                    reached |= is_new;
-                    entries[next as usize] = if is_new { level + 1 } else { entry };
+            // All turns are asked before anything is entered, so that what they have in common is asked once.
+            for turn in 0..turns {
+                row[turn as usize] = step(coord, position, turn).unwrap_or(BARRED);
+            }
+            for turn in 0..turns {
+                let next = row[turn as usize] as usize;
+                if next < entries.len() && entries[next] == UNKNOWN {
+                    entries[next] = level + 1;
+                    reached = reached.wrapping_add(1);
                 }
             }
         }
     }
     reached
+}
+
+/// Enters the next level where a turn leads to this one, and counts the entries.
+fn pull_level<C: Coord>(coord: &C, entries: &mut [u8], level: u8) -> u32
+    requires entries { length entries.old ≡ (C.coordinate coord.now).count }
+    requires level { level ≤ 24 }
+{
+    let mut reached: u32 = 0;
+    for position in 0..coord.count() {
+        if entries[position as usize] == UNKNOWN && leads_to(coord, entries, position, level) {
+            entries[position as usize] = level + 1;
+            reached = reached.wrapping_add(1);
+        }
+    }
+    reached
+}
+
+/// Whether a turn leads from a position to one with this entry.
+#[inline]
+fn leads_to<C: Coord>(coord: &C, entries: &[u8], position: u32, entry: u8) -> bool
+    requires entries { length entries.now ≡ (C.coordinate coord.now).count }
+    requires position { position < (C.coordinate coord.now).count }
+{
+    for turn in 0..coord.turns() {
+        if let Some(next) = step(coord, position, turn) {
+            if entries[next as usize] == entry {
+                return true;
+            }
+        }
+    }
+    false
 }
 
 /// Whether each entry agrees with those that turns lead to. Where it answers false, nothing is said of the entries.

@@ -2,7 +2,8 @@
 //!
 //! A [`DistanceTable`] is built over any [`Coord`](scr_coord::Coord), with no puzzle's name in it. What is so of a built
 //! table is one record, `Measures` of `specs/Distances.antt`, over distances and first words as `scr_play` defines them;
-//! how a table is filled and how its entries are stored stands in no definition. Walking down a table gives first words.
+//! how a table is filled and how its entries are stored stands in no definition. Walking down a table gives first words. A
+//! [`Line`] says what a table is called, what it is of and by which moves; its [`LineTable`] keeps them together.
 //! [`no_shorter`] tests minima over any [`Moves`], with no table. The contracts of the module `laws` say what callers need
 //! of distances and first words.
 #![tactic(auto)]
@@ -12,13 +13,17 @@ mod fault;
 mod fill;
 pub mod laws;
 mod levels;
+mod line_table;
 mod moves;
 mod name;
+mod named;
 mod table;
 
 pub use fault::BuildFault;
+pub use line_table::{Line, LineTable};
 pub use moves::{Moves, no_shorter};
 pub use name::TableName;
+pub use named::table_named;
 pub use table::DistanceTable;
 
 #[cfg(test)]

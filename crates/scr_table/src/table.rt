@@ -16,11 +16,21 @@ use std::alloc::Global;
 use std::marker::Model;
 
 /// At each position of a coordinate the least number of turns to a goal.
-#[derive(Drop)]
 pub struct DistanceTable {
     name: TableName,
     bound: u32,
     entries: Entries,
+}
+
+// A call wherever one is let go, in place of all that lets go of its parts.
+impl Drop for DistanceTable {
+    fn drop(self) {
+        let DistanceTable {
+            name: _,
+            bound: _,
+            entries: _,
+        } = self;
+    }
 }
 
 impl Model for DistanceTable {

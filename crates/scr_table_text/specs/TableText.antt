@@ -1,5 +1,5 @@
--- The text of an event's tables: of each its head, and how many positions it has at each distance. The layout is our own
--- choice.
+-- The text of an event's tables: of each its head, and how many positions it has at each distance. The layout is our
+-- own choice.
 use Rattle.std.specs.Prelude.{◌≡◌, ℕ, ◌+◌, ◌<◌, List, [], ◌∷◌, ◌++◌, codes, length, slice_index}
 use Rattle.std.specs.Fmt.{decimal}
 use Rattle.scr_text.specs.Lines.{text_of_lines}

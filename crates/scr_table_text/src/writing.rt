@@ -16,8 +16,8 @@ use scr_outside::{Failed, Sink, write_line};
 use scr_table::{DistanceTable, TableName};
 use scr_text::decimal;
 
-/// Writes the texts of an event's tables, one after another, or the line of an event that has none. At `Failed`, which comes
-/// only where the sink's count of faults rose, a first part of it was written.
+/// Writes the texts of an event's tables, one after another, or the line of an event that has none. At `Failed`, which
+/// comes only where the sink's count of faults rose, a first part of it was written.
 pub fn write_tables<O: Sink>(out: &mut O, tables: &[&DistanceTable]) -> Result<(), Failed>
     ensures { (lines : List TableLine) → AreTablesOf lines (tables_in tables.now)
         → WritesTables lines (change_of O.held O.faults out.old out.new) result }
@@ -43,8 +43,8 @@ fn write_each<O: Sink>(out: &mut O, tables: &[&DistanceTable]) -> Result<(), Fai
 }
 
 /// Writes the text of a table, one piece a line: its name, how many positions it has and its bound, and then a line for
-/// each distance from 0 to the greatest that occurs, with how many positions have it. At `Failed`, which comes only where
-/// the sink's count of faults rose, a first part of it was written.
+/// each distance from 0 to the greatest that occurs, with how many positions have it. At `Failed`, which comes only
+/// where the sink's count of faults rose, a first part of it was written.
 pub fn write_table<O: Sink>(out: &mut O, table: &DistanceTable) -> Result<(), Failed>
     ensures { (counts : List ℕ) × AreEntryCounts table.now.distances counts
         × Writes (change_of O.held O.faults out.old out.new) (counted_text table.now counts) result }

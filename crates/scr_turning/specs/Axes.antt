@@ -1,4 +1,4 @@
--- Turns about axes as powers of thirds, .
+-- Turns about axes as powers of turns by a third, clockwise as seen from the axis' corner.
 use Rattle.std.specs.Prelude.{◌+◌, ◌-◌, ◌&&◌, nat_lt, if◌then◌else◌, Option, Some, None}
 use Rattle.scr_orbit.specs.Actions.{Power}
 use Rattle.scr_notation.specs.Amounts.{is_amount}

@@ -1,17 +1,16 @@
 -- No pruning table says that a goal is farther than it is.
-use Rattle.std.proofs.Common.{◌≡◌, ℕ, ◌+◌, ◌*◌, ◌<◌, ◌≤◌, Bool, true, cond, IsTrue, List, [], ◌∷◌, length, get_or, slice_index, Option, Some, None, inl, inr, refl, sym, ap, ◌∙◌, subst, arith}
+use Rattle.std.proofs.Common.{◌≡◌, ℕ, ◌+◌, ◌<◌, ◌≤◌, true, cond, IsTrue, List, [], ◌∷◌, length, get_or, Option, Some, None, inl, inr, refl, sym, ap, ◌∙◌, subst, arith}
 use Rattle.std.specs.Prelude.{Contains, IsSome}
 use Rattle.std.specs.Option.{option_map}
 use Rattle.std.proofs.lemmas.Bool.{lt-ltb, cases_lt}
 use Rattle.std.proofs.lemmas.List.Elements.{All-contains}
 use Rattle.std.proofs.lemmas.Option.{same_Some, slice_get-get_or}
-use Rattle.scr_combinatorics.specs.Lists.{numbers_from, pick}
 use Rattle.scr_combinatorics.proofs.Picks.{numbers_from-at}
 use Rattle.scr_orbit.specs.Orbits.{Rearrangement}
 use Rattle.scr_coord.specs.Projections.{ListView, projection}
 use Rattle.scr_play.specs.Play.{play}
 use Rattle.scr_play.proofs.PlayLaws.{play-parts}
-use Rattle.scr_coord.specs.Coordinates.{Coordinate, StaysBelow, moved, IsGoal}
+use Rattle.scr_coord.specs.Coordinates.{Coordinate, moved, IsGoal}
 use Rattle.scr_coord.specs.SearchSpaces.{SearchSpace, positions, Follows, ShowsSame}
 use Rattle.scr_coord.proofs.SearchLaws.{FindsTheSame-follows}
 use Rattle.scr_table.specs.Distances.{Distances, Measures}
@@ -28,6 +27,7 @@ use Rattle.scr_twophase.specs.TurnSets.{has_turn}
 use Rattle.scr_twophase.specs.Outlooks.{turns_within, IsPruningTable}
 use Rattle.scr_twophase.specs.Proofs.CubeTests.{IsDomino-test, leads-parts, after_of-place, play-places}
 use Rattle.scr_twophase.specs.Proofs.WordLists.{IsWordOf, words_of-each}
+use Rattle.scr_twophase.proofs.Spaces.{cubes_to}
 
 -- ---- any views
 
@@ -65,10 +65,10 @@ pub IsCube-turned : (c d : CubeState) (t : ℕ) → IsCube c → after_turn c t 
 IsCube-turned c d t h e = lawful_cube.lawful.kept c d (face_turn_at t) h e
 
 pub first_step : (coordinate shown : Coordinate) (number : CubeState → ℕ) (IsGoal : CubeState → Type 0)
-    → Follows (record { IsValid = IsCube; after = after_of flips_stage.turns; IsGoal = IsGoal }) (positions coordinate) number → ShowsSame coordinate shown
+    → Follows (cubes_to IsGoal) (positions coordinate) number → ShowsSame coordinate shown
     → (c d : CubeState) (p t q : ℕ) → IsCube c → p ≡ number c → t < 18 → t < coordinate.turns → after_turn c t ≡ Some d → shown.after p t ≡ Some q → q ≡ number d
 first_step coordinate shown number IsGoal f same c d p t q h at lt few to leads =
-    step-shown (record { IsValid = IsCube; after = after_of flips_stage.turns; IsGoal = IsGoal }) coordinate shown number f same c d p t q h at few
+    step-shown (cubes_to IsGoal) coordinate shown number f same c d p t q h at few
     (all_turn-place c t lt ∙ to) leads
 
 no_state : (o : Option CubeState) (d : CubeState) → o ≡ None → o ≡ Some d → ⊥
@@ -83,7 +83,7 @@ turn-below c d t e =
 
 -- A turn with which a word leads to a domino is left by the outlook of a cube's position.
 pub kept-way : (line : TableLine) (table : PruningTable) → IsPruningTable line table → (number : CubeState → ℕ) (IsGoal : CubeState → Type 0)
-    → Follows (record { IsValid = IsCube; after = after_of flips_stage.turns; IsGoal = IsGoal }) (positions line.coordinate) number
+    → Follows (cubes_to IsGoal) (positions line.coordinate) number
     → ((e : CubeState) → IsDomino e → IsGoal e) → line.coordinate.turns ≡ 18
     → (c : CubeState) (p more left t : ℕ) (v : List ℕ) (o : Outlook) → IsCube c → p ≡ number c → left ≡ more + 1 → Contains (words_of all_turns more) v
     → IsTrue (leads is_domino c (t ∷ v)) → has_turn (turns_within (get_or table.outlooks.items p o) left) t ≡ true
@@ -95,7 +95,7 @@ kept-way line table is number IsGoal f domino turns c p more left t v o h at one
     let lt : t < 18 = turn-below c d t parts.1 in
     let valid = IsCube-turned c d t h parts.1 in
     let word = All-contains (IsWordOf all_turns more) (words_of all_turns more) v (words_of-each all_turns more) there in
-    let space : SearchSpace CubeState = record { IsValid = IsCube; after = after_of flips_stage.turns; IsGoal = IsGoal } in
+    let space = cubes_to IsGoal in
     let played : play (after_of flips_stage.turns) d word.places ≡ Some to.0 =
     play-places flips_stage.turns d word.places word.below ∙ ap (play after_turn d) (sym word.is) ∙ parts.2 in
     let near = least-of space line.coordinate number f table.distances is.distances.measures d to.0 word.places valid played (domino to.0 ((IsDomino-test to.0).0 to.2)) in

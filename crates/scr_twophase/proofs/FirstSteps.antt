@@ -1,5 +1,5 @@
 -- The search for first parts, turn by turn.
-use Rattle.std.proofs.Common.{◌≡◌, ℕ, zero, suc, ◌+◌, ◌-◌, ◌^◌, ◌<◌, ◌≤◌, Bool, true, false, cond, IsTrue, List, [], ◌∷◌, ◌++◌, length, get_or, Option, Some, None, refl, sym, ap, ◌∙◌, subst, arith, lit<, eqb-true, eq-eqb}
+use Rattle.std.proofs.Common.{◌≡◌, ℕ, suc, ◌+◌, ◌-◌, ◌^◌, ◌<◌, Bool, true, false, cond, IsTrue, List, [], ◌∷◌, ◌++◌, length, get_or, Option, Some, None, refl, sym, ap, ◌∙◌, subst, arith, eqb-true, eq-eqb}
 use Rattle.std.specs.Prelude.{All, Contains, IfNone, filter, ◌&&◌, ◌==◌, ◌↔◌}
 use Rattle.std.specs.List.{flat_map}
 use Rattle.std.specs.Option.{option_map, option_map_or}
@@ -228,13 +228,6 @@ module _ (c : CubeState) (word : List ℕ) (at : FirstPosition) (h : IsAtFirst c
   one_part e = at_end true e
 
 -- ---- what one word comes to
-
-pub none_and : (a b : Bool) → b ≡ false → (a && b) ≡ false
-none_and true b e = e
-none_and false b e = refl
-
-pub and_none : (a b : Bool) → a ≡ false → (a && b) ≡ false
-and_none a b e = ap (λ x. x && b) e
 
 -- a position of dominoes is that of one
 pub domino_there : (c : CubeState) (at : FirstPosition) → ShowsFirst c at → is_domino_position at ≡ true → IsDominoCube c

@@ -3,7 +3,6 @@ pub mod Spaces
 pub mod Orderly
 pub mod BitSets
 pub mod OutlookLaws
-pub mod StayLaws
 pub mod BuiltLaws
 pub mod Admissible
 pub mod Outcomes

@@ -1,10 +1,9 @@
 -- Orderly words, letter by letter.
-use Rattle.std.proofs.Common.{◌≡◌, ℕ, zero, suc, ◌+◌, ◌-◌, ◌<◌, Bool, true, false, cond, List, [], ◌∷◌, ◌++◌, length, Option, Some, None, refl, sym, ap, ◌∙◌, subst, arith}
+use Rattle.std.proofs.Common.{◌≡◌, ℕ, suc, ◌-◌, Bool, true, false, List, [], ◌∷◌, ◌++◌, length, Some, refl, sym, ap, ◌∙◌, arith}
 use Rattle.std.specs.Prelude.{◌&&◌, slice_get}
 use Rattle.std.specs.Option.{option_map_or}
 use Rattle.std.proofs.lemmas.Bool.{and_parts, and_from}
-use Rattle.std.proofs.lemmas.List.{length-append}
-use Rattle.scr_twophase.specs.TwoParts.{may_precede, may_begin, is_orderly, ends_in_quarter, is_side_quarter}
+use Rattle.scr_twophase.specs.TwoParts.{may_precede, may_begin, is_orderly}
 use Rattle.scr_twophase.specs.Search.{may_end}
 
 -- ---- the last letter

@@ -1,11 +1,11 @@
 -- What the turns from a position come to, one after another.
-use Rattle.std.proofs.Common.{◌≡◌, ℕ, ◌+◌, ◌-◌, ◌*◌, ◌/◌, ◌%◌, ◌^◌, ◌<◌, ◌≤◌, Bool, true, false, cond, List, [], ◌∷◌, ◌++◌, length, get_or, Option, Some, None, inl, inr, refl, sym, ap, ◌∙◌, subst, arith}
-use Rattle.std.specs.Prelude.{◌==◌, ◌&&◌, ◌||◌, nat_lt, nat_le, IsTrue}
+use Rattle.std.proofs.Common.{◌≡◌, ℕ, ◌+◌, ◌-◌, ◌*◌, ◌/◌, ◌%◌, ◌^◌, ◌<◌, ◌≤◌, Bool, true, false, cond, List, length, get_or, Some, refl, sym, subst, arith}
+use Rattle.std.specs.Prelude.{◌==◌, nat_le}
 use Rattle.std.proofs.lemmas.Bool.{leb-true, eqb-true}
 use Rattle.scr_table.proofs.StepLaws.{moved-turn}
-use Rattle.scr_coord.specs.Coordinates.{Coordinate, StaysBelow, moved}
+use Rattle.scr_coord.specs.Coordinates.{Coordinate, moved}
 use Rattle.scr_twophase.specs.TurnSets.{has_turn}
-use Rattle.scr_twophase.specs.Outlooks.{turns_within, IsOutlook, AreOutlooks}
+use Rattle.scr_twophase.specs.Outlooks.{turns_within, IsOutlook}
 use Rattle.scr_twophase.proofs.BitSets.{has_turn-all}
 use Rattle.scr_twophase.specs.declared.outlook.Outlook.{Outlook}
 

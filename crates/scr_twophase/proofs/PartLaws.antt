@@ -1,6 +1,6 @@
 -- Two parts solve a cube, and their scramble leads to it.
-use Rattle.std.proofs.Common.{◌≡◌, ℕ, ◌<◌, ◌≤◌, Bool, true, false, cond, IsTrue, List, [], ◌∷◌, ◌++◌, map, length, take, Option, Some, None, refl, sym, ap, ◌∙◌, subst, arith}
-use Rattle.std.specs.Prelude.{find, slice_get, is_some}
+use Rattle.std.proofs.Common.{◌≡◌, ℕ, Bool, true, false, cond, List, [], ◌∷◌, ◌++◌, map, length, take, Option, Some, None, refl, sym, ap, ◌∙◌}
+use Rattle.std.specs.Prelude.{find, slice_get}
 use Rattle.std.specs.List.{filter_map, cons_option}
 use Rattle.std.specs.Option.{option_map}
 use Rattle.std.proofs.lemmas.Bool.{and_parts}
@@ -15,10 +15,9 @@ use Rattle.scr_notation.specs.Turning.{opposite}
 use Rattle.scr_turning.specs.PowerPuzzles.{after_letter}
 use Rattle.scr_cube.specs.Cube333.{CubeState, IsCube, cube_powers, solved_cube}
 use Rattle.scr_cube.proofs.Laws333.{lawful_cube}
-use Rattle.scr_stages.specs.Stages.{IsStageScramble}
-use Rattle.scr_stages.proofs.SolutionLaws.{IsStageScramble-unique, scramble-at_most, scramble-played}
+use Rattle.scr_stages.proofs.SolutionLaws.{IsStageScramble-unique}
 use Rattle.scr_twophase.specs.Words.{words_within}
-use Rattle.scr_twophase.specs.TwoParts.{after_turn, domino_turns, first_joined, first_parts, is_orderly, is_solution, is_solved, joined, leads, second_part, two_parts, IsScrambleBy, IsScramble333}
+use Rattle.scr_twophase.specs.TwoParts.{after_turn, domino_turns, first_joined, first_parts, is_orderly, is_solution, is_solved, joined, leads, second_part, two_parts, IsScrambleBy}
 use Rattle.scr_twophase.specs.Proofs.CubeTests.{IsSolved-test, leads-parts}
 use Rattle.scr_twophase.specs.Proofs.MinimaLaws.{play-spelled}
 

@@ -1,17 +1,15 @@
 -- The search for a second part, turn by turn.
-use Rattle.std.proofs.Common.{◌≡◌, ℕ, zero, suc, ◌+◌, ◌-◌, ◌<◌, ◌≤◌, Bool, true, false, cond, IsTrue, List, [], ◌∷◌, ◌++◌, length, get_or, Option, Some, None, refl, sym, ap, ◌∙◌, subst, append_assoc, arith, lit<}
-use Rattle.std.specs.Prelude.{All, Contains, ◌&&◌, ◌==◌, ◌↔◌, slice_get, slice_index}
+use Rattle.std.proofs.Common.{◌≡◌, ℕ, suc, ◌-◌, ◌<◌, ◌≤◌, true, false, cond, List, [], ◌∷◌, ◌++◌, length, get_or, Some, None, refl, sym, ap, ◌∙◌, append_assoc, arith}
+use Rattle.std.specs.Prelude.{Contains, ◌&&◌, ◌==◌, slice_get}
 use Rattle.std.specs.List.{flat_map}
 use Rattle.std.proofs.lemmas.Bool.{and_parts, and_from, false≢true}
-use Rattle.std.proofs.lemmas.List.Elements.{All-contains}
 use Rattle.scr_combinatorics.specs.Lists.{numbers_from, pick}
 use Rattle.scr_combinatorics.specs.Permutations.{permutation_number}
 use Rattle.scr_combinatorics.proofs.Picks.{pick-in_order, numbers_from-at}
-use Rattle.scr_play.specs.Play.{play}
 use Rattle.scr_coord.proofs.GoalNumbers.{permutation_number-in_order}
 use Rattle.scr_cube.specs.Cube333.{CubeState, solved_cube}
-use Rattle.scr_orbit.specs.Orbits.{zeros, solved_orbit}
-use Rattle.scr_stages.specs.Stages.{middle_edges, tetrads_stage, after_of}
+use Rattle.scr_orbit.specs.Orbits.{solved_orbit}
+use Rattle.scr_stages.specs.Stages.{middle_edges}
 use Rattle.scr_stages.specs.Numbers.{IsDominoCube}
 use Rattle.scr_stages.specs.Tables.{outer_places}
 use Rattle.scr_stages.specs.Tetrads.{in_block}
@@ -24,10 +22,10 @@ use Rattle.scr_twophase.specs.Words.{words_of, words_behind}
 use Rattle.scr_twophase.specs.TwoParts.{after_turn, domino_turns, is_solved, is_solution, is_orderly, joined, leads, second_part}
 use Rattle.scr_twophase.specs.Tables.{corners_of, outer_edges_of, middle_edges_of}
 use Rattle.scr_twophase.specs.Search.{may_end, ShowsSecond, IsSecondPosition, IsAtSecond, is_solved_position}
-use Rattle.scr_twophase.specs.Proofs.CubeTests.{same_cube, IsSolved-test, leads-played, leads-parts, after_of-place}
+use Rattle.scr_twophase.specs.Proofs.CubeTests.{same_cube, IsSolved-test, leads-played}
 use Rattle.scr_twophase.proofs.FirstSteps.{turn_leads, leads-behind, played_more, not_so, same_test, goal_number}
 use Rattle.scr_twophase.proofs.Orderly.{may_end-orderly}
-use Rattle.scr_twophase.proofs.Outcomes.{flat_map-first, flat_map-none, none-first}
+use Rattle.scr_twophase.proofs.Outcomes.{flat_map-first, flat_map-none}
 use Rattle.scr_twophase.proofs.Spaces.{AreCornersHome, AreOuterHome, AreMiddleHome, IsPlaceSet-outer_places, outer-kept, Follows-corners, Follows-outer_edges, Follows-middle_edges}
 use Rattle.scr_twophase.specs.Proofs.WordLists.{words_behind-none, words_behind-turns, words_behind-end, words_behind-found}
 

@@ -1,6 +1,6 @@
 -- What the pruning tables see goes along with turns.
-use Rattle.std.proofs.Common.{◌≡◌, ℕ, ◌+◌, ◌*◌, ◌<◌, ◌≤◌, not, List, map, length, slice_index, refl, sym, ap, ◌∙◌, subst, lit<, lit≤, arith}
-use Rattle.std.specs.Prelude.{All, nat_lt, ◌↔◌}
+use Rattle.std.proofs.Common.{◌≡◌, ℕ, ◌+◌, ◌*◌, ◌<◌, not, true, List, map, length, slice_index, refl, sym, ap, ◌∙◌, subst, lit<, lit≤}
+use Rattle.std.specs.Prelude.{All, ◌↔◌}
 use Rattle.scr_combinatorics.specs.Lists.{numbers_from, pick}
 use Rattle.scr_combinatorics.specs.Permutations.{IsPermutation, factorial, permutation_number}
 use Rattle.scr_combinatorics.specs.PlaceSets.{IsPlaceSet, place_set_number}
@@ -9,8 +9,10 @@ use Rattle.scr_combinatorics.proofs.PermutationNumbers.{permutation_number-lt, p
 use Rattle.scr_combinatorics.proofs.PlaceSets.{place_set_number-lt, place_set_number-injective, place_set_at-number}
 use Rattle.scr_combinatorics.proofs.Twists.{twists_number-lt}
 use Rattle.scr_orbit.specs.Orbits.{zeros, turned_orbit}
-use Rattle.scr_coord.specs.Projections.{twists_view, place_set_view, pieces_view, stands_in, turned_set}
-use Rattle.scr_coord.specs.SearchSpaces.{positions, Follows}
+use Rattle.scr_coord.specs.Coordinates.{Coordinate}
+use Rattle.scr_coord.specs.Products.{product}
+use Rattle.scr_coord.specs.Projections.{projection, twists_view, place_set_view, pieces_view, stands_in, turned_set}
+use Rattle.scr_coord.specs.SearchSpaces.{SearchSpace, positions, Follows}
 use Rattle.scr_coord.proofs.ProductLaws.{Follows-product}
 use Rattle.scr_cube.specs.Cube333.{CubeState, IsCube, CubeTurn, IsCubeTurn, cube_action}
 use Rattle.scr_stages.specs.Stages.{HasNoFlips, middle_edges, after_of, flips_stage, tetrads_stage}
@@ -26,6 +28,13 @@ use Rattle.scr_stages.proofs.TurnFacts.{IsDominoTurn}
 use Rattle.scr_stages.proofs.ViewLaws.{Follows-viewed}
 use Rattle.scr_twophase.specs.Tables.{twists_of, middle_set_of, twists_coordinate, middle_set_coordinate, flipslice_coordinate, twistslice_coordinate, corners_of, outer_edges_of, middle_edges_of, corners_coordinate, outer_edges_coordinate, middle_edges_coordinate, cornerslice_coordinate, edgeslice_coordinate}
 
+-- cubes by all turns, and dominoes by the turns that keep them, to a goal
+abbrev pub cubes_to : (CubeState → Type 0) → SearchSpace CubeState
+cubes_to IsGoal = record { IsValid = IsCube; after = after_of flips_stage.turns; IsGoal = IsGoal }
+
+abbrev pub dominoes_to : (CubeState → Type 0) → SearchSpace CubeState
+dominoes_to IsGoal = record { IsValid = IsDominoCube; after = after_of tetrads_stage.turns; IsGoal = IsGoal }
+
 -- ---- the first part
 
 abbrev pub IsUntwisted : CubeState → Type 0
@@ -34,7 +43,7 @@ IsUntwisted c = c.corners.digits ≡ zeros 8
 abbrev pub IsInMiddle : CubeState → Type 0
 IsInMiddle c = places_in middle_edges c.edges.pieces ≡ middle_edges
 
-pub Follows-twists : Follows (record { IsValid = IsCube; after = after_of flips_stage.turns; IsGoal = IsUntwisted }) (positions twists_coordinate) twists_of
+pub Follows-twists : Follows (cubes_to IsUntwisted) (positions twists_coordinate) twists_of
 unfolding turned_orbit
 Follows-twists =
     Follows-viewed cube_action.turned (turns_of flips_stage.turns) (after_of flips_stage.turns) IsCube IsCubeTurn flips_moves (twists_view 8 3)
@@ -42,7 +51,7 @@ Follows-twists =
     (λ c r h t. twists-turned 8 3 c.corners.digits r.corners.places r.corners.added (lit< tt) (lit< tt) h.corners.digits)
     (λ c h. twists-goal 8 3 c.corners.digits (lit< tt) (lit< tt) h.corners.digits)
 
-pub Follows-middle_set : Follows (record { IsValid = IsCube; after = after_of flips_stage.turns; IsGoal = IsInMiddle }) (positions middle_set_coordinate) middle_set_of
+pub Follows-middle_set : Follows (cubes_to IsInMiddle) (positions middle_set_coordinate) middle_set_of
 unfolding turned_orbit
 Follows-middle_set =
     Follows-viewed cube_action.turned (turns_of flips_stage.turns) (after_of flips_stage.turns) IsCube IsCubeTurn flips_moves (place_set_view 12 4 middle_edges)
@@ -56,12 +65,12 @@ Follows-middle_set =
       λ e. place_set_number-injective 12 4 (places_in middle_edges c.edges.pieces) middle_edges (IsPlaceSet-middle_places c h) IsPlaceSet-middle e,
     ))
 
-pub Follows-flipslice : Follows (record { IsValid = IsCube; after = after_of flips_stage.turns; IsGoal = λ c. HasNoFlips c × IsInMiddle c })
+pub Follows-flipslice : Follows (cubes_to (λ c. HasNoFlips c × IsInMiddle c))
     (positions flipslice_coordinate) (λ c. flips_number c + 2048 * middle_set_of c)
 Follows-flipslice =
     Follows-product IsCube HasNoFlips IsInMiddle (after_of flips_stage.turns) flips_coordinate middle_set_coordinate flips_number middle_set_of refl Follows-flips Follows-middle_set
 
-pub Follows-twistslice : Follows (record { IsValid = IsCube; after = after_of flips_stage.turns; IsGoal = λ c. IsUntwisted c × IsInMiddle c })
+pub Follows-twistslice : Follows (cubes_to (λ c. IsUntwisted c × IsInMiddle c))
     (positions twistslice_coordinate) (λ c. twists_of c + 2187 * middle_set_of c)
 Follows-twistslice =
     Follows-product IsCube IsUntwisted IsInMiddle (after_of flips_stage.turns) twists_coordinate middle_set_coordinate twists_of middle_set_of refl Follows-twists Follows-middle_set
@@ -107,7 +116,7 @@ AreOuterHome c = in_block outer_places c.edges.pieces ≡ numbers_from 0 8
 abbrev pub AreMiddleHome : CubeState → Type 0
 AreMiddleHome c = in_block middle_edges c.edges.pieces ≡ numbers_from 0 4
 
-pub Follows-corners : Follows (record { IsValid = IsDominoCube; after = after_of tetrads_stage.turns; IsGoal = AreCornersHome }) (positions corners_coordinate) corners_of
+pub Follows-corners : Follows (dominoes_to AreCornersHome) (positions corners_coordinate) corners_of
 unfolding turned_orbit
 Follows-corners =
     Follows-viewed cube_action.turned (turns_of tetrads_stage.turns) (after_of tetrads_stage.turns) IsDominoCube IsDominoTurn tetrads_moves (pieces_view 8)
@@ -116,45 +125,40 @@ Follows-corners =
     (λ c r h t. ap (λ xs. permutation_number (pick xs r.corners.places)) (permutation_at-number 8 c.corners.pieces h.cube.corners.pieces))
     (λ c h. in_order 8 c.corners.pieces h.cube.corners.pieces)
 
--- the list of a block after a turn
-block-turned : (k : ℕ) (block : List ℕ) (c : CubeState) (r : CubeTurn) → IsPlaceSet 12 k block → IsDominoCube c → IsDominoTurn r
-    → IsPermutation k (in_block block c.edges.pieces) → All (λ x. stands_in block x ≡ Rattle.std.proofs.Common.true) (pick r.edges.places block)
-    → permutation_number (pick (Rattle.scr_combinatorics.specs.Permutations.permutation_at k (permutation_number (in_block block c.edges.pieces))) (in_block block r.edges.places))
-    ≡ permutation_number (in_block block (pick c.edges.pieces r.edges.places))
-block-turned k block c r set h t order kept =
-    let p = c.edges.pieces in
+-- The list of the edges of a block, which are those of a solved one, and which the turns carry among its places.
+Follows-block : (k : ℕ) (block : List ℕ) → IsPlaceSet 12 k block → ((c : CubeState) → IsDominoCube c → IsPermutation k (in_block block c.edges.pieces))
+    → ((r : CubeTurn) → IsDominoTurn r → All (λ x. stands_in block x ≡ true) (pick r.edges.places block))
+    → Follows (dominoes_to (λ c. in_block block c.edges.pieces ≡ numbers_from 0 k))
+    (positions (projection (pieces_view k) (map (λ r. block_turn block r.edges) (turns_of tetrads_stage.turns)))) (λ c. permutation_number (in_block block c.edges.pieces))
+unfolding turned_orbit
+Follows-block k block set order kept =
+    let listed : CubeState → List ℕ = λ c. in_block block c.edges.pieces in
+    Follows-viewed cube_action.turned (turns_of tetrads_stage.turns) (after_of tetrads_stage.turns) IsDominoCube IsDominoTurn tetrads_moves (pieces_view k)
+    (λ r. block_turn block r.edges) (λ c. permutation_number (listed c)) (λ c. listed c ≡ numbers_from 0 k)
+    (λ c h. number-lt k (listed c) (order c h))
+    (λ c r h t.
     let ks = r.edges.places in
     let below : All (λ j. j < length ks) block =
     subst (λ n. All (λ j. j < n) block) (sym t.slice.valid.edges.places.size) (All-place_set 0 12 block set.increasing) in
-    ap (λ xs. permutation_number (pick xs (in_block block ks))) (permutation_at-number k (in_block block p) order)
-    ∙ ap permutation_number (sym (in_block-turned 12 k block set p ks h.cube.edges.pieces.size kept below))
+    ap (λ xs. permutation_number (pick xs (in_block block ks))) (permutation_at-number k (listed c) (order c h))
+    ∙ ap permutation_number (sym (in_block-turned 12 k block set c.edges.pieces ks h.cube.edges.pieces.size (kept r t) below)))
+    (λ c h. in_order k (listed c) (order c h))
 
-pub Follows-outer_edges : Follows (record { IsValid = IsDominoCube; after = after_of tetrads_stage.turns; IsGoal = AreOuterHome }) (positions outer_edges_coordinate) outer_edges_of
-unfolding turned_orbit
-Follows-outer_edges =
-    Follows-viewed cube_action.turned (turns_of tetrads_stage.turns) (after_of tetrads_stage.turns) IsDominoCube IsDominoTurn tetrads_moves (pieces_view 8)
-    (λ r. block_turn outer_places r.edges) outer_edges_of AreOuterHome
-    (λ c h. number-lt 8 (in_block outer_places c.edges.pieces) (IsPermutation-outer c h))
-    (λ c r h t. block-turned 8 outer_places c r IsPlaceSet-outer_places h t (IsPermutation-outer c h) t.outer.kept)
-    (λ c h. in_order 8 (in_block outer_places c.edges.pieces) (IsPermutation-outer c h))
+pub Follows-outer_edges : Follows (dominoes_to AreOuterHome) (positions outer_edges_coordinate) outer_edges_of
+Follows-outer_edges = Follows-block 8 outer_places IsPlaceSet-outer_places IsPermutation-outer (λ r t. t.outer.kept)
 
-pub Follows-middle_edges : Follows (record { IsValid = IsDominoCube; after = after_of tetrads_stage.turns; IsGoal = AreMiddleHome }) (positions middle_edges_coordinate) middle_edges_of
-unfolding turned_orbit
+pub Follows-middle_edges : Follows (dominoes_to AreMiddleHome) (positions middle_edges_coordinate) middle_edges_of
 Follows-middle_edges =
-    Follows-viewed cube_action.turned (turns_of tetrads_stage.turns) (after_of tetrads_stage.turns) IsDominoCube IsDominoTurn tetrads_moves (pieces_view 4)
-    (λ r. block_turn middle_edges r.edges) middle_edges_of AreMiddleHome
-    (λ c h. number-lt 4 (in_block middle_edges c.edges.pieces) (IsPermutation-middle c h))
-    (λ c r h t. block-turned 4 middle_edges c r IsPlaceSet-middle h t (IsPermutation-middle c h) (All-kept 12 4 middle_edges IsPlaceSet-middle r.edges.places t.middle))
-    (λ c h. in_order 4 (in_block middle_edges c.edges.pieces) (IsPermutation-middle c h))
+    Follows-block 4 middle_edges IsPlaceSet-middle IsPermutation-middle (λ r t. All-kept 12 4 middle_edges IsPlaceSet-middle r.edges.places t.middle)
 
-pub Follows-cornerslice : Follows (record { IsValid = IsDominoCube; after = after_of tetrads_stage.turns; IsGoal = λ c. AreMiddleHome c × AreCornersHome c })
-    (positions cornerslice_coordinate) (λ c. middle_edges_of c + 24 * corners_of c)
-Follows-cornerslice =
-    Follows-product IsDominoCube AreMiddleHome AreCornersHome (after_of tetrads_stage.turns) middle_edges_coordinate corners_coordinate middle_edges_of corners_of refl
-    Follows-middle_edges Follows-corners
+-- the edges of the middle layer beside something else
+Follows-beside_middle : (high : Coordinate) (u : CubeState → ℕ) (IsHigh : CubeState → Type 0) → high.turns ≡ 10 → Follows (dominoes_to IsHigh) (positions high) u
+    → Follows (dominoes_to (λ c. AreMiddleHome c × IsHigh c)) (positions (product middle_edges_coordinate high)) (λ c. middle_edges_of c + 24 * u c)
+Follows-beside_middle high u IsHigh turns follows =
+    Follows-product IsDominoCube AreMiddleHome IsHigh (after_of tetrads_stage.turns) middle_edges_coordinate high middle_edges_of u turns Follows-middle_edges follows
 
-pub Follows-edgeslice : Follows (record { IsValid = IsDominoCube; after = after_of tetrads_stage.turns; IsGoal = λ c. AreMiddleHome c × AreOuterHome c })
-    (positions edgeslice_coordinate) (λ c. middle_edges_of c + 24 * outer_edges_of c)
-Follows-edgeslice =
-    Follows-product IsDominoCube AreMiddleHome AreOuterHome (after_of tetrads_stage.turns) middle_edges_coordinate outer_edges_coordinate middle_edges_of outer_edges_of refl
-    Follows-middle_edges Follows-outer_edges
+pub Follows-cornerslice : Follows (dominoes_to (λ c. AreMiddleHome c × AreCornersHome c)) (positions cornerslice_coordinate) (λ c. middle_edges_of c + 24 * corners_of c)
+Follows-cornerslice = Follows-beside_middle corners_coordinate corners_of AreCornersHome refl Follows-corners
+
+pub Follows-edgeslice : Follows (dominoes_to (λ c. AreMiddleHome c × AreOuterHome c)) (positions edgeslice_coordinate) (λ c. middle_edges_of c + 24 * outer_edges_of c)
+Follows-edgeslice = Follows-beside_middle outer_edges_coordinate outer_edges_of AreOuterHome refl Follows-outer_edges

@@ -1,12 +1,10 @@
 -- The turns of a word in an array; which turns may stand behind it.
-use Rattle.std.proofs.Common.{◌≡◌, ℕ, ◌+◌, ◌-◌, ◌/◌, ◌%◌, ◌<◌, ◌≤◌, Bool, true, false, List, [], ◌∷◌, ◌++◌, length, take, set, get_or, Option, Some, None, refl, sym, ap, ◌∙◌, subst, arith, eq-eqb, eqb-true}
-use Rattle.std.specs.Prelude.{◌==◌, ◌&&◌, slice_get, All}
-use Rattle.std.specs.List.{list_all}
-use Rattle.std.specs.Int.{bit_at}
-use Rattle.std.proofs.lemmas.List.{length-take-le, take_more_set, get_or-take}
+use Rattle.std.proofs.Common.{◌≡◌, ℕ, ◌-◌, ◌/◌, ◌<◌, ◌≤◌, Bool, true, List, [], ◌∷◌, length, take, get_or, Some, refl, ap, ◌∙◌, arith}
+use Rattle.std.specs.Prelude.{slice_get}
+use Rattle.std.proofs.lemmas.List.{length-take-le, get_or-take}
 use Rattle.std.proofs.lemmas.Option.{slice_get-get_or}
 use Rattle.scr_stages.proofs.FiniteTests.{agree, agree-same, passes_below, test-below}
-use Rattle.scr_twophase.specs.TwoParts.{may_precede, is_side_quarter}
+use Rattle.scr_twophase.specs.TwoParts.{may_precede}
 use Rattle.scr_twophase.specs.TurnSets.{has_turn}
 
 -- the last turn of so many

@@ -1,5 +1,5 @@
 -- How many turns a 3x3x3 needs, as a test.
-use Rattle.std.specs.Prelude.{ℕ, not, Bool, true, List}
+use Rattle.std.specs.Prelude.{ℕ, not, Bool, true}
 use Rattle.std.specs.List.{list_any}
 use Rattle.std.proofs.Common.{zero, suc}
 use Rattle.scr_table.specs.Moves.{MoveSet}

@@ -1,5 +1,5 @@
 -- What a search for two parts goes by.
-use Rattle.std.specs.Prelude.{◌≡◌, ℕ, ◌+◌, ◌-◌, ◌<◌, Any, Contains, ◌==◌, ◌&&◌, Bool, true, IsTrue, List, ◌∷◌, length, take, slice_get, Some}
+use Rattle.std.specs.Prelude.{◌≡◌, ℕ, ◌-◌, ◌<◌, Any, Contains, ◌==◌, ◌&&◌, Bool, true, IsTrue, List, ◌∷◌, length, take, slice_get, Some}
 use Rattle.std.specs.Option.{option_map_or}
 use Rattle.scr_table.specs.declared.fault.BuildFault.{BuildFault}
 use Rattle.scr_table.specs.Causes.{IsCause}

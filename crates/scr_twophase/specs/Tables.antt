@@ -1,5 +1,5 @@
 -- The pruning tables: what each is a table of, and how far it may reach.
-use Rattle.std.specs.Prelude.{ℕ, ◌+◌, ◌*◌, List, [], ◌∷◌, map}
+use Rattle.std.specs.Prelude.{ℕ, List, [], ◌∷◌, map}
 use Rattle.scr_combinatorics.specs.Permutations.{permutation_number}
 use Rattle.scr_combinatorics.specs.PlaceSets.{place_set_number}
 use Rattle.scr_combinatorics.specs.Twists.{twists_number}

@@ -1,27 +1,29 @@
 //! The first part: what a search for it sees of a cube, and where turns lead.
-ghost use Rattle.std.specs.Prelude.{◌≡◌, ◌+◌, ◌<◌, ◌^◌, ◌∷◌, [], ℕ, IfErr, IfOk, IsSome, Some};
+ghost use Rattle.std.specs.Prelude.{◌≡◌, ◌+◌, ◌<◌, ◌^◌, ℕ, IfErr, IfOk, IsSome, Some};
 ghost use Rattle.scr_combinatorics.specs.Permutations.{IsPermutation};
 ghost use Rattle.scr_combinatorics.specs.PlaceSets.{IsPlaceSet};
 ghost use Rattle.scr_coord.specs.Moves.{moves_coordinate};
 ghost use Rattle.scr_coord.specs.SearchSpaces.{ShowsSame};
 ghost use Rattle.scr_coord.specs.Projections.{marked_places, stands_in};
-ghost use Rattle.scr_cube.specs.Cube333.{CubeState, IsCube};
+ghost use Rattle.scr_cube.specs.Cube333.{CubeState};
 ghost use Rattle.scr_stages.specs.Stages.{middle_edges};
 ghost use Rattle.scr_stages.specs.Tables.{flips_coordinate};
-ghost use Rattle.scr_table.specs.declared.name.TableName.TheVariants.{FlipSlice, TwistSlice};
-ghost use Rattle.scr_table.specs.Causes.{IsCause};
 ghost use Rattle.scr_twophase.specs.Outlooks.{IsPruningTable};
 ghost use Rattle.scr_twophase.specs.Search.{ShowsFirst, IsFirstPosition, KeepsWays, is_domino_position};
 ghost use Rattle.scr_twophase.specs.TwoParts.{after_turn};
-ghost use Rattle.scr_twophase.specs.Tables.{twists_coordinate, middle_set_coordinate, flipslice_coordinate, twistslice_coordinate, flipslice_line, twistslice_line};
+ghost use Rattle.scr_twophase.specs.Tables.{twists_coordinate, middle_set_coordinate, flipslice_line, twistslice_line, prune_lines};
 
 use crate::pruning::PruningTable;
 use crate::turn_set::TurnSet;
-use scr_coord::{Coord, MoveTable, PlaceSet, Product, Twists, places_of};
-use scr_cube::{Cube, corner_turns, edge_turns};
+use scr_coord::{Coord, MoveTable, PlaceSet, Twists, places_of};
+use scr_cube::Cube;
 use scr_rank::{Choose, TwistRank};
+use scr_stages::{corners_turned, edges_turned};
 use scr_table::{BuildFault, TableName};
 use std::alloc::{AllocError, Global};
+
+/// The numbers of all turns: U U2 U' R R2 R' F F2 F' D D2 D' L L2 L' B B2 B'.
+const TURNS: [u8; 18] = [0, 1, 2, 3, 4, 5, 6, 7, 8, 9, 10, 11, 12, 13, 14, 15, 16, 17];
 
 /// The edges of the middle layer, FR FL BL BR, and their places.
 const MIDDLE: [u8; 4] = [8, 9, 10, 11];
@@ -65,7 +67,6 @@ impl FirstPosition {
 }
 
 /// What the search for a first part goes by: where turns lead, and the two pruning tables.
-#[derive(Drop)]
 pub(crate) struct FirstTables {
     flips: MoveTable,
     twists: MoveTable,
@@ -79,18 +80,31 @@ pub(crate) struct FirstTables {
     ghost twistslice_is: { IsPruningTable twistslice_line twistslice },
 }
 
+// A call wherever one is let go, in place of all that lets go of its parts.
+impl Drop for FirstTables {
+    fn drop(self) {
+        let FirstTables {
+            flips: _,
+            twists: _,
+            middle: _,
+            flipslice: _,
+            twistslice: _,
+        } = self;
+    }
+}
+
 impl FirstTables {
     ghost use Rattle.scr_twophase.specs.Search.{IsCauseOf};
 
     /// The tables, or why one isn't built.
     pub fn build(alloc: Global) -> Result<FirstTables, BuildFault>
-        ensures cause { IfErr result (IsCauseOf (flipslice_line ∷ twistslice_line ∷ [])) }
+        ensures cause { IfErr result (IsCauseOf prune_lines) }
     {
         let flips = flip_moves(alloc)?;
         let twists = twist_moves(alloc)?;
         let middle = middle_moves(alloc)?;
-        let flipslice = build_flipslice(alloc, &flips, &middle)?;
-        let twistslice = build_twistslice(alloc, &twists, &middle)?;
+        let flipslice = PruningTable::build(alloc, TableName::FlipSlice, &flips, &middle, 12)?;
+        let twistslice = PruningTable::build(alloc, TableName::TwistSlice, &twists, &middle, 12)?;
         Ok(FirstTables {
             flips,
             twists,
@@ -149,59 +163,22 @@ pub(crate) fn step(moves: &MoveTable, position: u32, turn: u32) -> u32
 fn flip_moves(alloc: Global) -> Result<MoveTable, AllocError>
     ensures { IfOk result (λ table. ShowsSame flips_coordinate (moves_coordinate table)) }
 {
-    MoveTable::build(alloc, &Twists::<12, 2>::new(edge_turns()))
+    MoveTable::build(alloc, &Twists::<12, 2>::new(&edges_turned(&TURNS)[..]))
 }
 
 /// Where turns lead from the twists.
 fn twist_moves(alloc: Global) -> Result<MoveTable, AllocError>
     ensures { IfOk result (λ table. ShowsSame twists_coordinate (moves_coordinate table)) }
 {
-    MoveTable::build(alloc, &Twists::<8, 3>::new(corner_turns()))
+    MoveTable::build(alloc, &Twists::<8, 3>::new(&corners_turned(&TURNS)[..]))
 }
 
 /// Where turns lead from the sets of the places of the edges of the middle layer.
 fn middle_moves(alloc: Global) -> Result<MoveTable, AllocError>
     ensures { IfOk result (λ table. ShowsSame middle_set_coordinate (moves_coordinate table)) }
 {
-    MoveTable::build(alloc, &PlaceSet::<12, 4>::new(edge_turns(), MIDDLE))
-}
-
-/// The pruning table of the flips beside these sets.
-fn build_flipslice(
-    alloc: Global,
-    flips: &MoveTable,
-    middle: &MoveTable,
-) -> Result<PruningTable, BuildFault>
-    requires flips { ShowsSame flips_coordinate (moves_coordinate flips.now) }
-    requires middle { ShowsSame middle_set_coordinate (moves_coordinate middle.now) }
-    ensures table { IfOk result (IsPruningTable flipslice_line) }
-    ensures cause { IfErr result (IsCause FlipSlice flipslice_coordinate 12) }
-{
-    PruningTable::build(
-        alloc,
-        TableName::FlipSlice,
-        &Product::new(flips, middle),
-        12,
-    )
-}
-
-/// The pruning table of the twists beside these sets.
-fn build_twistslice(
-    alloc: Global,
-    twists: &MoveTable,
-    middle: &MoveTable,
-) -> Result<PruningTable, BuildFault>
-    requires twists { ShowsSame twists_coordinate (moves_coordinate twists.now) }
-    requires middle { ShowsSame middle_set_coordinate (moves_coordinate middle.now) }
-    ensures table { IfOk result (IsPruningTable twistslice_line) }
-    ensures cause { IfErr result (IsCause TwistSlice twistslice_coordinate 12) }
-{
-    PruningTable::build(
-        alloc,
-        TableName::TwistSlice,
-        &Product::new(twists, middle),
-        12,
-    )
+    let edges = edges_turned(&TURNS);
+    MoveTable::build(alloc, &PlaceSet::<12, 4>::new(&edges[..], MIDDLE))
 }
 
 /// The places of the edges of the middle layer, in increasing order.

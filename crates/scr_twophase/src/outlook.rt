@@ -1,6 +1,5 @@
 //! Which turns lead nearer to the goal of a pruning table, and which lead no farther.
-ghost use Rattle.std.specs.Prelude.{◌≡◌, ◌+◌, ◌*◌, ◌^◌, ◌<◌, ◌≤◌, IfOk, length};
-ghost use Rattle.scr_coord.specs.Coordinates.{Coordinate};
+ghost use Rattle.std.specs.Prelude.{◌≡◌, ◌+◌, ◌^◌, ◌<◌, ◌≤◌, IfOk, length};
 ghost use Rattle.scr_twophase.specs.Outlooks.{turns_within, IsOutlook, AreOutlooks};
 
 use crate::turn_set::TurnSet;
@@ -43,8 +42,8 @@ impl Outlook {
     }
 }
 
-/// The outlooks of the positions of a table, in order. The coordinate has at most 18 turns, and as many positions as the
-/// table.
+/// The outlooks of the positions of a table, in order. The coordinate has at most 18 turns, and as many positions as
+/// the table.
 pub(crate) fn outlooks<C: Coord>(
     alloc: Global,
     coord: &C,

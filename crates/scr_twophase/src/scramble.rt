@@ -1,11 +1,10 @@
 //! The two parts of a cube, and the scramble that they give.
-ghost use Rattle.std.specs.Prelude.{◌≡◌, ◌<◌, ◌≤◌, ℕ, All, IfSome, IsTrue, List, Some, is_some, length, map};
+ghost use Rattle.std.specs.Prelude.{◌≡◌, ◌<◌, ◌≤◌, All, IfSome, IsTrue, List, Some, is_some, length, map};
 ghost use Rattle.std.specs.Option.{option_map};
 ghost use Rattle.scr_play.specs.Play.{play};
 ghost use Rattle.scr_notation.specs.declared.event.Event.TheVariants.{C333};
 ghost use Rattle.scr_notation.specs.declared.turn.Turn.{Turn as Letter};
 ghost use Rattle.scr_notation.specs.TurnNumbers.{face_turn_at};
-ghost use Rattle.scr_notation.specs.Turns.{permits};
 ghost use Rattle.scr_turning.specs.PowerPuzzles.{after_letter};
 ghost use Rattle.scr_cube.specs.Cube333.{IsCube, cube_powers, solved_cube};
 ghost use Rattle.scr_twophase.specs.TwoParts.{two_parts, IsScramble333};
@@ -13,11 +12,11 @@ ghost use Rattle.scr_twophase.specs.TwoParts.{two_parts, IsScramble333};
 use crate::search::joined_parts;
 use crate::tables::PruneTables;
 use scr_cube::Cube;
-use scr_notation::{Event, Scramble, Turn, inverse};
-use scr_stages::{StageTables, scramble_by_stages};
+use scr_notation::{Event, Scramble, inverse};
+use scr_stages::{StageTables, letter, scramble_by_stages};
 
-/// The two parts of a cube, joined: the first of its first parts that has a second part, and that. At most `tries` first
-/// parts are looked at, and `None` comes exactly where none of these has a second part.
+/// The two parts of a cube, joined: the first of its first parts that has a second part, and that. At most `tries`
+/// first parts are looked at, and `None` comes exactly where none of these has a second part.
 pub fn two_parts(tables: &PruneTables, cube: &Cube, tries: u32) -> Option<Scramble>
     ensures event { IfSome result (λ s. s.event ≡ C333) }
     ensures parts { option_map (λ s. s.turns) result ≡ option_map (map face_turn_at) (two_parts cube.now tries) }
@@ -31,8 +30,8 @@ pub fn two_parts(tables: &PruneTables, cube: &Cube, tries: u32) -> Option<Scramb
     }
 }
 
-/// The scramble of a cube, for two hands or one: its two parts taken back, of at most 22 turns; and where none of its first
-/// `tries` first parts has a second part, the scramble by stages, of at most 52.
+/// The scramble of a cube, for two hands or one: its two parts taken back, of at most 22 turns; and where none of its
+/// first `tries` first parts has a second part, the scramble by stages, of at most 52.
 pub fn scramble_333(prune: &PruneTables, stages: &StageTables, cube: &Cube, tries: u32) -> Scramble
     ensures event { result.event ≡ C333 }
     ensures scramble { IsScramble333 tries cube.now result.turns }
@@ -58,18 +57,4 @@ fn spelled(turns: &[u8]) -> Scramble
         scramble.push(letter(*turn));
     }
     scramble
-}
-
-/// The turn with a number, below 18.
-#[tactic(auto, unfolding(scr_notation::specs::TurnNumbers::face_turn_at))]
-fn letter(number: u8) -> Turn
-    requires { number < 18 }
-    ensures letter { result ≡ face_turn_at number }
-    ensures of_event { IsTrue (permits C333 result) }
-{
-    Turn::Face {
-        face: number / 3,
-        depth: 1,
-        amount: number % 3 + 1,
-    }
 }

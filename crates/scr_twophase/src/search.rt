@@ -1,9 +1,9 @@
 //! The search for two parts.
-ghost use Rattle.std.specs.Prelude.{◌≡◌, ◌+◌, ◌-◌, ◌<◌, ◌≤◌, All, IfNone, IsTrue, Some, length};
+ghost use Rattle.std.specs.Prelude.{◌≡◌, ◌+◌, ◌-◌, ◌<◌, ◌≤◌, ◌&&◌, All, IfNone, IsTrue, Some, length};
 ghost use Rattle.std.specs.Option.{option_map};
 ghost use Rattle.scr_play.specs.Play.{play};
 ghost use Rattle.scr_cube.specs.Cube333.{IsCube};
-ghost use Rattle.scr_twophase.specs.Search.{letters, IsAtFirst};
+ghost use Rattle.scr_twophase.specs.Search.{letters, IsAtFirst, is_domino_position};
 ghost use Rattle.scr_twophase.specs.TwoParts.{after_turn, all_turns, ends_in_quarter, first_joined, is_first_part, is_orderly, two_parts};
 ghost use Rattle.scr_twophase.specs.Words.{words_behind};
 
@@ -35,8 +35,8 @@ pub(crate) fn joined_parts(tables: &PartTables, cube: &Cube, tries: u32) -> Opti
     None
 }
 
-/// The first joined word of the first parts that go on from a word by `left` turns more. Each of them counts one try, and
-/// none is made once `tries` are.
+/// The first joined word of the first parts that go on from a word by `left` turns more. Each of them counts one try,
+/// and none is made once `tries` are.
 fn joined_behind(
     tables: &PartTables,
     cube: &Cube,
@@ -87,15 +87,20 @@ fn joined_with(
     ensures tried { IfNone result (tries.new
         ≡ tries.old - length (words_behind all_turns (is_first_part cube.now) (letters word.now) 0)) }
 {
-    if !at.is_domino() {
-        return None;
-    }
-    if !ends_in_quarter(word) {
+    if !is_first_part(word, at) {
         return None;
     }
     *tries -= 1;
     let domino = turned_by(cube, word.turns());
     tables.second.joined(&domino, word)
+}
+
+/// Whether an orderly word is a first part, by the position that it leads to.
+#[inline]
+fn is_first_part(word: &Word, at: FirstPosition) -> bool
+    ensures { result ≡ (ends_in_quarter (letters word.now) && is_domino_position at) }
+{
+    ends_in_quarter(word) && at.is_domino()
 }
 
 /// Whether a word is empty or ends in a quarter turn of R, L, F or B.

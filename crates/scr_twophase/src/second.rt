@@ -1,41 +1,47 @@
 //! The second part: what a search for it sees of a domino, and where turns lead.
-ghost use Rattle.std.specs.Prelude.{◌≡◌, ◌+◌, ◌<◌, ◌≤◌, ℕ, Contains, IfErr, IfOk, IsTrue, List, Some, [], ◌∷◌, length, map, slice_get, slice_index};
+ghost use Rattle.std.specs.Prelude.{◌≡◌, ◌+◌, ◌^◌, ◌<◌, ◌≤◌, ℕ, All, Contains, IfErr, IfOk, IsTrue, List, Some, length, map, slice_get, slice_index};
 ghost use Rattle.std.specs.Option.{option_map};
-ghost use Rattle.scr_combinatorics.specs.Permutations.{IsPermutation, permutation_number};
+ghost use Rattle.scr_combinatorics.specs.Permutations.{IsPermutation, factorial, permutation_number};
 ghost use Rattle.scr_coord.specs.Moves.{moves_coordinate};
+ghost use Rattle.scr_coord.specs.Projections.{projection, pieces_view};
 ghost use Rattle.scr_coord.specs.SearchSpaces.{ShowsSame};
 ghost use Rattle.scr_cube.specs.Cube333.{CubeState};
 ghost use Rattle.scr_stages.specs.Numbers.{IsDominoCube};
-ghost use Rattle.scr_stages.specs.Stages.{middle_edges};
-ghost use Rattle.scr_stages.specs.Tables.{outer_places};
+ghost use Rattle.scr_stages.specs.Stages.{middle_edges, tetrads_stage};
+ghost use Rattle.scr_stages.specs.Tables.{block_turn, edges_by, outer_places};
 ghost use Rattle.scr_stages.specs.Tetrads.{in_block};
 ghost use Rattle.scr_play.specs.Play.{play};
-ghost use Rattle.scr_table.specs.Causes.{IsCause};
 ghost use Rattle.scr_table.specs.Lines.{IsTableOf};
-ghost use Rattle.scr_table.specs.declared.name.TableName.TheVariants.{CornerSlice, EdgeSlice};
 ghost use Rattle.scr_twophase.specs.Search.{ShowsSecond, IsSecondPosition, is_solved_position};
-ghost use Rattle.scr_twophase.specs.Tables.{corners_coordinate, outer_edges_coordinate, middle_edges_coordinate, cornerslice_coordinate, edgeslice_coordinate, cornerslice_line, edgeslice_line};
+ghost use Rattle.scr_twophase.specs.Tables.{corners_coordinate, outer_edges_coordinate, middle_edges_coordinate, cornerslice_line, edgeslice_line, prune_lines};
 ghost use Rattle.scr_twophase.specs.TwoParts.{after_turn, domino_turns, leads, is_orderly, is_solution, is_solved, joined};
 ghost use Rattle.scr_twophase.specs.Words.{words_behind, words_of};
 
-use crate::domino_turns::{
-    DOMINO_TURNS, MIDDLE, OUTER, corners_turned, middle_turned, outer_turned,
-};
 use crate::first::step;
+use crate::pruning::pair_table;
 use crate::turn_set::TurnSet;
 use crate::word::Word;
-use scr_coord::{Coord, Lists, MoveTable, Product};
+use scr_coord::{Coord, Lists, MoveTable};
 use scr_cube::Cube;
 use scr_rank::PermRank;
-use scr_stages::pieces_in_block;
+use scr_stages::{block_edges_turned, corners_turned, pieces_in_block};
 use scr_table::{BuildFault, DistanceTable, TableName};
 use std::alloc::{AllocError, Global};
+
+/// The numbers of the turns that keep a domino: U U2 U' R2 F2 D D2 D' L2 B2.
+const DOMINO_TURNS: [u8; 10] = [0, 1, 2, 4, 7, 9, 10, 11, 13, 16];
+
+/// The places of the edges above and below.
+const OUTER: [u8; 8] = [0, 1, 2, 3, 4, 5, 6, 7];
+
+/// The places of the edges of the middle layer.
+const MIDDLE: [u8; 4] = [8, 9, 10, 11];
 
 /// How many lists of the edges of the middle layer there are.
 const MIDDLES: u32 = 24;
 
-/// The numbers of a domino's list of corners, of the list of its edges above and below, and of that of the edges of the middle
-/// layer.
+/// The numbers of a domino's list of corners, of the list of its edges above and below, and of that of the edges of the
+/// middle layer.
 #[derive(Clone, Copy)]
 pub(crate) struct SecondPosition {
     /// Below 40,320.
@@ -70,7 +76,6 @@ impl SecondPosition {
 }
 
 /// What the search for a second part goes by: where turns lead, and the two pruning tables.
-#[derive(Drop)]
 pub(crate) struct SecondTables {
     corners: MoveTable,
     outer: MoveTable,
@@ -84,18 +89,31 @@ pub(crate) struct SecondTables {
     ghost edgeslice_is: { IsTableOf edgeslice_line edgeslice },
 }
 
+// A call wherever one is let go, in place of all that lets go of its parts.
+impl Drop for SecondTables {
+    fn drop(self) {
+        let SecondTables {
+            corners: _,
+            outer: _,
+            middle: _,
+            cornerslice: _,
+            edgeslice: _,
+        } = self;
+    }
+}
+
 impl SecondTables {
     ghost use Rattle.scr_twophase.specs.Search.{letters, IsAtSecond, IsCauseOf};
 
     /// The tables, or why one isn't built.
     pub fn build(alloc: Global) -> Result<SecondTables, BuildFault>
-        ensures cause { IfErr result (IsCauseOf (cornerslice_line ∷ edgeslice_line ∷ [])) }
+        ensures cause { IfErr result (IsCauseOf prune_lines) }
     {
         let corners = corner_moves(alloc)?;
-        let outer = outer_moves(alloc)?;
-        let middle = middle_moves(alloc)?;
-        let cornerslice = build_cornerslice(alloc, &middle, &corners)?;
-        let edgeslice = build_edgeslice(alloc, &middle, &outer)?;
+        let outer = edge_moves(alloc, &OUTER)?;
+        let middle = edge_moves(alloc, &MIDDLE)?;
+        let cornerslice = pair_table(alloc, TableName::CornerSlice, &middle, &corners, 18)?;
+        let edgeslice = pair_table(alloc, TableName::EdgeSlice, &middle, &outer, 18)?;
         Ok(SecondTables {
             corners,
             outer,
@@ -154,7 +172,8 @@ impl SecondTables {
     pub fn after(&self, at: SecondPosition, place: u32) -> SecondPosition
         requires at { IsSecondPosition at }
         requires place { place < 10 }
-        ensures shows { (c d : CubeState) → ShowsSecond c at → after_turn c (slice_index domino_turns place) ≡ Some d → ShowsSecond d result }
+        ensures shows { (c d : CubeState) → ShowsSecond c at
+            → after_turn c (slice_index domino_turns place) ≡ Some d → ShowsSecond d result }
         ensures position { IsSecondPosition result }
     {
         SecondPosition {
@@ -168,7 +187,8 @@ impl SecondTables {
     #[inline]
     pub fn least_turns(&self, at: SecondPosition) -> u32
         requires { IsSecondPosition at }
-        ensures { (c : CubeState) (v : List ℕ) (n : ℕ) → ShowsSecond c at → Contains (words_of domino_turns n) v → IsTrue (leads is_solved c v) → result ≤ n }
+        ensures { (c : CubeState) (v : List ℕ) (n : ℕ) → ShowsSecond c at → Contains (words_of domino_turns n) v
+            → IsTrue (leads is_solved c v) → result ≤ n }
     {
         let by_corners = self.cornerslice.distance(at.middle + MIDDLES * at.corners);
         let by_edges = self.edgeslice.distance(at.middle + MIDDLES * at.outer);
@@ -200,57 +220,20 @@ fn middle_number(edges: &[u8; 12]) -> u32
 fn corner_moves(alloc: Global) -> Result<MoveTable, AllocError>
     ensures { IfOk result (λ table. ShowsSame corners_coordinate (moves_coordinate table)) }
 {
-    MoveTable::build(alloc, &Lists::<8>::new(&corners_turned()[..]))
+    MoveTable::build(alloc, &Lists::<8>::new(&corners_turned(&DOMINO_TURNS)[..]))
 }
 
-/// Where they lead from the lists of the edges above and below.
-fn outer_moves(alloc: Global) -> Result<MoveTable, AllocError>
-    ensures { IfOk result (λ table. ShowsSame outer_edges_coordinate (moves_coordinate table)) }
+/// Where they lead from the lists of the edges of a block of 1 to 12 places, among which they carry these.
+fn edge_moves<const N: usize>(alloc: Global, block: &[u8; N]) -> Result<MoveTable, AllocError>
+    requires size { (1 ≤ N) × (N ≤ 12) }
+    requires fits { factorial N < 2 ^ 32 }
+    requires places { All (λ place. place < 12) block.now }
+    requires kept { All (λ r. IsPermutation N r.places) (map (block_turn block.now) (edges_by tetrads_stage.turns)) }
+    ensures { IfOk result (λ table.
+        ShowsSame (projection (pieces_view N) (map (block_turn block.now) (edges_by tetrads_stage.turns))) (moves_coordinate table)) }
 {
-    MoveTable::build(alloc, &Lists::<8>::new(&outer_turned()[..]))
-}
-
-/// Where they lead from the lists of the edges of the middle layer.
-fn middle_moves(alloc: Global) -> Result<MoveTable, AllocError>
-    ensures { IfOk result (λ table. ShowsSame middle_edges_coordinate (moves_coordinate table)) }
-{
-    MoveTable::build(alloc, &Lists::<4>::new(&middle_turned()[..]))
-}
-
-/// The pruning table of the edges of the middle layer beside the corners.
-fn build_cornerslice(
-    alloc: Global,
-    middle: &MoveTable,
-    corners: &MoveTable,
-) -> Result<DistanceTable, BuildFault>
-    requires middle { ShowsSame middle_edges_coordinate (moves_coordinate middle.now) }
-    requires corners { ShowsSame corners_coordinate (moves_coordinate corners.now) }
-    ensures table { IfOk result (IsTableOf cornerslice_line) }
-    ensures cause { IfErr result (IsCause CornerSlice cornerslice_coordinate 18) }
-{
-    DistanceTable::build(
+    MoveTable::build(
         alloc,
-        TableName::CornerSlice,
-        &Product::new(middle, corners),
-        18,
-    )
-}
-
-/// The pruning table of the edges of the middle layer beside the other edges.
-fn build_edgeslice(
-    alloc: Global,
-    middle: &MoveTable,
-    outer: &MoveTable,
-) -> Result<DistanceTable, BuildFault>
-    requires middle { ShowsSame middle_edges_coordinate (moves_coordinate middle.now) }
-    requires outer { ShowsSame outer_edges_coordinate (moves_coordinate outer.now) }
-    ensures table { IfOk result (IsTableOf edgeslice_line) }
-    ensures cause { IfErr result (IsCause EdgeSlice edgeslice_coordinate 18) }
-{
-    DistanceTable::build(
-        alloc,
-        TableName::EdgeSlice,
-        &Product::new(middle, outer),
-        18,
+        &Lists::<N>::new(&block_edges_turned(block, &DOMINO_TURNS)[..]),
     )
 }

@@ -6,7 +6,7 @@ ghost use Rattle.scr_twophase.specs.Built.{AreBuilt, listed};
 use crate::first::FirstTables;
 use crate::search::PartTables;
 use crate::second::SecondTables;
-use scr_table::{BuildFault, DistanceTable, TableName};
+use scr_table::{BuildFault, DistanceTable, TableName, table_named};
 use std::alloc::Global;
 use std::marker::Model;
 
@@ -46,8 +46,8 @@ impl Model for PruneTables {
 impl PruneTables {
     ghost use Rattle.scr_twophase.specs.Search.{IsCauseOf};
 
-    /// The tables `flipslice`, `twistslice`, `cornerslice` and `edgeslice`, built in this order, or why one isn't: there is
-    /// no memory for it, or it has a gap, which its line rules out where the bounds are right.
+    /// The tables `flipslice`, `twistslice`, `cornerslice` and `edgeslice`, built in this order, or why one isn't:
+    /// there is no memory for it, or it has a gap, which its line rules out where the bounds are right.
     pub fn build(alloc: Global) -> Result<PruneTables, BuildFault>
         ensures built { IfOk result AreBuilt }
         ensures cause { IfErr result (IsCauseOf prune_lines) }
@@ -66,13 +66,7 @@ impl PruneTables {
             Any (λ other. (other.name ≡ name) × (table.now ≡ other)) (listed self.now)) }
         ensures built { AreBuilt self.now }
     {
-        match name {
-            TableName::FlipSlice => Some(&self.parts.first.flipslice.distances),
-            TableName::TwistSlice => Some(&self.parts.first.twistslice.distances),
-            TableName::CornerSlice => Some(&self.parts.second.cornerslice),
-            TableName::EdgeSlice => Some(&self.parts.second.edgeslice),
-            _ => None,
-        }
+        table_named(&self.all()[..], name)
     }
 
     /// The four tables, in the order in which they are built.

@@ -5,8 +5,8 @@ ghost use Rattle.scr_twophase.specs.TurnSets.{has_turn, turns_in};
 
 use crate::word::Word;
 
-/// For each face of U R F D L B, the turns that may stand right behind one of it: those of its own are left out, and behind D,
-/// L and B those of the opposite face too.
+/// For each face of U R F D L B, the turns that may stand right behind one of it: those of its own are left out, and
+/// behind D, L and B those of the opposite face too.
 const BEHIND: [u32; 6] = [0x3_fff8, 0x3_ffc7, 0x3_fe3f, 0x3_f1f8, 0x3_8fc7, 0x0_7e3f];
 
 /// Some of the 18 turns, each a bit at its number.

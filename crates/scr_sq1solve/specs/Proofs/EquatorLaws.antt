@@ -8,10 +8,11 @@ use Rattle.scr_notation.specs.declared.turn.Turn.{Turn}
 use Rattle.scr_notation.specs.declared.turn.Turn.TheVariants.{Layers, Twist}
 use Rattle.scr_sq1.specs.Units.{Sq1State, IsSq1, turned, twisted, sq1_after}
 use Rattle.scr_sq1.proofs.Lawful.{sq1_after-layers, sq1_after-twist}
-use Rattle.scr_sq1solve.specs.Stages.{IsSolution, turns_of, shape_letter, pairing_letter, home_letter, squaring_words, quarter_words}
+use Rattle.scr_sq1solve.specs.Stages.{IsSolution, turns_of, shape_letter, pairing_letter, home_letter}
 use Rattle.scr_sq1solve.specs.Counts.{twists_of, twists_in, turned_over, stage_twists}
 use Rattle.scr_sq1solve.specs.Proofs.Solutions.{stages_of, play-stages}
-use Rattle.scr_sq1solve.specs.Proofs.Bounds.{one_of, squaring_still, quarters_still}
+use Rattle.scr_sq1solve.specs.Proofs.Lengths.{Costs-squaring, Costs-end}
+use Rattle.scr_sq1solve.specs.declared.stage_letters.Letters.TheVariants.{Quarters}
 
 turned_over-not : (n : ℕ) (b : Bool) → turned_over n (not b) ≡ not (turned_over n b)
 unfolding turned_over
@@ -60,7 +61,7 @@ equator-solution s w valid h =
       add ((x ++ h.squaring) ++ y) z,
       add (x ++ h.squaring) y,
       add x h.squaring,
-      one_of (λ v. twists_in v ≡ 0) squaring_words h.squaring squaring_still h.is_squaring.one,
-      one_of (λ v. twists_in v ≡ 0) quarter_words h.last quarters_still h.is_last.one,
+      (Costs-squaring h.squaring h.is_squaring.one).twists,
+      (Costs-end Quarters h.last h.is_last.one).twists,
     ) in
     equator-played s h.home (stages_of s valid w h) (play-stages s valid w h) ∙ ap (λ n. turned_over n s.equator) counted

@@ -1,35 +1,32 @@
 -- The third stage: a state in which mates stand together is told by its index, but for the equator, and so its index goes along
 -- with words.
-use Rattle.std.proofs.Common.{◌≡◌, ℕ, ◌+◌, ◌*◌, ◌/◌, ◌%◌, ◌<◌, Bool, false, IsTrue, List, ◌++◌, map, slice_index, Option, Some, None, refl, sym, ap, ◌∙◌, subst, arith}
+use Rattle.std.proofs.Common.{◌≡◌, ℕ, ◌+◌, ◌*◌, ◌/◌, ◌%◌, ◌<◌, Bool, false, IsTrue, List, map, slice_index, Option, Some, None, refl, sym, ap, ◌∙◌, subst, arith}
 use Rattle.std.specs.Prelude.{◌&&◌, Any}
 use Rattle.std.specs.Option.{option_map}
 use Rattle.std.proofs.lemmas.Bool.{and_parts, and_from}
 use Rattle.std.proofs.lemmas.List.{get_or-map}
 use Rattle.scr_combinatorics.specs.Lists.{numbers_from, pick}
-use Rattle.scr_combinatorics.specs.Permutations.{parity}
+use Rattle.scr_combinatorics.specs.Permutations.{IsPermutation, parity}
 use Rattle.scr_combinatorics.proofs.Picks.{numbers_from-at, pick-from_order}
 use Rattle.scr_combinatorics.proofs.PermutationLaws.{All-permutation}
 use Rattle.scr_orbit.proofs.ActionLaws.{map-some}
 use Rattle.scr_play.specs.Play.{play}
-use Rattle.scr_play.specs.Back.{back}
-use Rattle.scr_play.proofs.PlayLaws.{play-append}
 use Rattle.scr_coord.specs.Coordinates.{StaysBelow}
 use Rattle.scr_coord.specs.SearchSpaces.{SearchSpace, positions, Follows}
 use Rattle.scr_notation.specs.declared.turn.Turn.{Turn}
-use Rattle.scr_notation.specs.Turning.{opposite}
 use Rattle.scr_notation.proofs.Below.{all_below, at_below, same, same-refl}
 use Rattle.scr_sq1.specs.Units.{Sq1State, IsSq1, solved_sq1, sq1_after, turn_places, twist_places, turned, after_layers, twisted}
 use Rattle.scr_sq1.specs.Shapes.{half_words, half_word, half_bits, half_of, halves_in, shape_of, halves_number, ways, corner_count, corner_counts, shape_number}
 use Rattle.scr_sq1.specs.Numbers.{corners_of, edges_of, laid, shape_word}
 use Rattle.scr_sq1.specs.Proofs.InHalves.{IsSq1-halves}
 use Rattle.scr_sq1.specs.Proofs.Pieces.{StatePieces-valid, LaidState-pieces}
-use Rattle.scr_sq1.proofs.Lawful.{IsSq1-solved, sq1_taken_back}
+use Rattle.scr_sq1.proofs.Lawful.{IsSq1-solved}
 use Rattle.scr_sq1solve.specs.Stages.{EndsIn, IsEnd, IsNormal, IsPaired, HasSolvedLayers, oddness, turn_word, quarter_word, quarter_words, mates, pairing_of, home_letter}
 use Rattle.scr_sq1solve.specs.Tables.{shapes_index, units_after, carried_pairing, pairs_number, bits_number, paired_at, last_bit, square_index, square_state, square_coordinate}
 use Rattle.scr_sq1solve.specs.Proofs.Renamed.{Names, named, renamed}
 use Rattle.scr_sq1solve.specs.Proofs.Bases.{in_order, names_of, AreNames-valid, corners_of-named, edges_of-named, keeps_sq1}
 use Rattle.scr_sq1solve.specs.Proofs.Indexed.{stage_space, IsIndex, Follows-index, StaysBelow-index}
-use Rattle.scr_sq1solve.specs.Proofs.OneWord.{are_apart, one_word}
+use Rattle.scr_sq1solve.specs.Proofs.OneWord.{are_apart, one_end}
 use Rattle.scr_sq1solve.specs.Proofs.ShapeStage.{oddness-solved, play-normal}
 use Rattle.scr_sq1solve.specs.Proofs.Letters.{IsNormalSq1, are_normal, IsMovedBy, IsMovedBy-normal, IsMovedBy-is, corners-permutation, edges-permutation}
 use Rattle.scr_sq1solve.specs.Proofs.Pairs.{pairing_of-pick}
@@ -48,22 +45,36 @@ keeps_mates letter n =
 unfoldable pub keep_mates : (ℕ → List Turn) → Bool
 keep_mates letter = all_below (keeps_mates letter) 32
 
+-- mates stand opposite to each other again where the places from which pieces come keep them so
+moved_mates : (xs ys ks : List ℕ) → IsPermutation 8 xs → IsPermutation 8 ks → ys ≡ pick xs ks → pairing_of xs ≡ mates
+    → carried_pairing mates ks ≡ mates → pairing_of ys ≡ mates
+moved_mates xs ys ks p q are paired kept =
+    ap pairing_of are ∙ pairing_of-pick xs p ks q ∙ ap (λ ps. carried_pairing ps ks) paired ∙ kept
+
 module _ (letter : ℕ → List Turn) (tested : IsTrue (are_normal letter)) (mates_tested : IsTrue (keep_mates letter)) where
-  pub IsPaired-moved : (s : Sq1State) (n : ℕ) → IsPairedSq1 s → n < 32 → (m : IsMovedBy letter tested s n) × IsPairedSq1 m.state
+  pub mates-kept : (n : ℕ) → n < 32
+      → (carried_pairing mates (corners_of (units_after letter n)) ≡ mates) × (carried_pairing mates (edges_of (units_after letter n)) ≡ mates)
   unfolding keep_mates
+  mates-kept n lt =
+      let cs : List ℕ = carried_pairing mates (corners_of (units_after letter n)) in
+      let es : List ℕ = carried_pairing mates (edges_of (units_after letter n)) in
+      let both = and_parts (same cs mates) (same es mates) (at_below (keeps_mates letter) 32 n mates_tested lt) in
+      (same-true cs mates both.0, same-true es mates both.1)
+
+  pub IsPaired-moved : (s : Sq1State) (n : ℕ) → IsPairedSq1 s → n < 32 → (m : IsMovedBy letter tested s n) × IsPairedSq1 m.state
   IsPaired-moved s n h lt =
       let m = IsMovedBy-normal letter tested s n h.normal lt in
       let p = StatePieces-valid s h.normal.valid in
-      let cs : List ℕ = corners_of (units_after letter n) in
-      let es : List ℕ = edges_of (units_after letter n) in
-      let both = and_parts (same (carried_pairing mates cs) mates) (same (carried_pairing mates es) mates) (at_below (keeps_mates letter) 32 n mates_tested lt) in
-      let corners : pairing_of (corners_of m.state.units) ≡ mates =
-      ap pairing_of m.corners ∙ pairing_of-pick (corners_of s.units) p.corners cs (corners-permutation letter tested n lt)
-      ∙ ap (λ xs. carried_pairing xs cs) h.paired.0 ∙ same-true (carried_pairing mates cs) mates both.0 in
-      let edges : pairing_of (edges_of m.state.units) ≡ mates =
-      ap pairing_of m.edges ∙ pairing_of-pick (edges_of s.units) p.edges es (edges-permutation letter tested n lt)
-      ∙ ap (λ xs. carried_pairing xs es) h.paired.1 ∙ same-true (carried_pairing mates es) mates both.1 in
-      (m, record { normal = m.are; paired = (corners, edges) })
+      let kept = mates-kept n lt in (
+        m,
+        record {
+          normal = m.are;
+          paired = (
+            moved_mates (corners_of s.units) (corners_of m.state.units) (corners_of (units_after letter n)) p.corners (corners-permutation letter tested n lt) m.corners h.paired.0 kept.0,
+            moved_mates (edges_of s.units) (edges_of m.state.units) (edges_of (units_after letter n)) p.edges (edges-permutation letter tested n lt) m.edges h.paired.1 kept.1,
+          );
+        },
+      )
 
   pub IsPaired-after : (s r : Sq1State) (n : ℕ) → IsPairedSq1 s → n < 32 → play sq1_after s (letter n) ≡ Some r → IsPairedSq1 r
   IsPaired-after s r n h lt e =
@@ -268,6 +279,11 @@ edges-solved : edges_of solved_sq1.units ≡ in_order
 unfolding edges_of
 edges-solved = refl
 
+-- what picks from pieces in order, and leaves them in order, is in order
+again : (xs ys : List ℕ) → IsPermutation 8 xs → ys ≡ in_order → pick ys xs ≡ in_order → xs ≡ in_order
+again xs ys p is picked =
+    sym (pick-from_order 8 xs (All-permutation 8 xs p)) ∙ ap (λ zs. pick zs xs) (sym is) ∙ picked
+
 home_word : (r q : Sq1State) (w : List Turn) → IsSq1 r → HasSolvedLayers r → play sq1_after r w ≡ Some q → HasSolvedLayers q
     → IsTrue (is_home (play sq1_after solved_sq1 w))
 unfolding oddness
@@ -282,22 +298,14 @@ home_word r q w valid hr e hq =
     let b : Sq1State = made.0 in
     let vb = keeps_sq1 solved_sq1 b w IsSq1-solved made.1 in
     let p = StatePieces-valid b vb in
-    let corners : corners_of b.units ≡ in_order =
-    sym (pick-from_order 8 (corners_of b.units) (All-permutation 8 (corners_of b.units) p.corners))
-    ∙ ap (λ xs. pick xs (corners_of b.units)) (sym (ap corners_of hr ∙ corners-solved))
-    ∙ sym (corners_of-named n are b.units) ∙ ap (λ x. corners_of x.units) made.2 ∙ ap corners_of hq ∙ corners-solved in
-    let edges : edges_of b.units ≡ in_order =
-    sym (pick-from_order 8 (edges_of b.units) (All-permutation 8 (edges_of b.units) p.edges))
-    ∙ ap (λ xs. pick xs (edges_of b.units)) (sym (ap edges_of hr ∙ edges-solved))
-    ∙ sym (edges_of-named n are b.units) ∙ ap (λ x. edges_of x.units) made.2 ∙ ap edges_of hq ∙ edges-solved in
+    let corners = again (corners_of b.units) (corners_of r.units) p.corners (ap corners_of hr ∙ corners-solved)
+    (sym (corners_of-named n are b.units) ∙ ap (λ x. corners_of x.units) made.2 ∙ ap corners_of hq ∙ corners-solved) in
+    let edges = again (edges_of b.units) (edges_of r.units) p.edges (ap edges_of hr ∙ edges-solved)
+    (sym (edges_of-named n are b.units) ∙ ap (λ x. edges_of x.units) made.2 ∙ ap edges_of hq ∙ edges-solved) in
     ap is_home made.1
     ∙ and_from (same (corners_of b.units) in_order) (same (edges_of b.units) in_order)
     (ap (λ xs. same xs in_order) corners ∙ same-refl in_order) (ap (λ xs. same xs in_order) edges ∙ same-refl in_order)
 
 -- The turn that brings the layers home is the only one of the sixteen.
 pub one_last : (s r q : Sq1State) (v w : List Turn) → IsSq1 s → IsEnd HasSolvedLayers quarter_words s v r → IsEnd HasSolvedLayers quarter_words s w q → v ≡ w
-one_last s r q v w valid a b =
-    let rv = keeps_sq1 s r v valid a.played in
-    let again : play sq1_after r (back opposite v) ≡ Some s = sq1_taken_back s r v valid a.played in
-    one_word quarter_words is_home solved_sq1 quarters_apart v w a.one b.one
-    (home_word r q (back opposite v ++ w) rv a.holds (play-append sq1_after r s (back opposite v) w again ∙ b.played) b.holds)
+one_last = one_end HasSolvedLayers quarter_words is_home quarters_apart home_word

@@ -1,101 +1,145 @@
 -- How many twists and turns a scramble has at most.
-use Rattle.std.proofs.Common.{◌≡◌, ℕ, suc, ◌+◌, ◌*◌, ◌≤◌, Bool, true, false, cond, List, [], ◌∷◌, ◌++◌, map, length, Option, Some, None, refl, sym, ap, ◌∙◌, arith}
-use Rattle.std.specs.Prelude.{ℤ, reverse, nat_lt, ◌%◌, ◌/◌, ◌==◌, pos, ◌-ℤ◌, ◌+ℤ◌, neg_ℤ}
-use Rattle.std.proofs.Math.Nat.{suc-mul}
+use Rattle.std.proofs.Common.{◌≡◌, ℕ, ◌+◌, ◌*◌, ◌<◌, ◌≤◌, Bool, true, false, cond, IsTrue, List, [], ◌∷◌, ◌++◌, map, length, slice_index, Option, Some, None, refl, sym, ap, ◌∙◌, subst, arith}
+use Rattle.std.specs.Prelude.{ℤ, reverse, nat_lt, ◌%◌, ◌/◌, ◌==◌, pos, ◌-ℤ◌, ◌+ℤ◌, neg_ℤ, All, Any}
+use Rattle.std.proofs.Math.Nat.{suc-mul, mul-le-mul_right}
 use Rattle.std.proofs.lemmas.Bool.{false≢true}
-use Rattle.std.proofs.lemmas.List.{length-reverse, length-map, reverse-append}
+use Rattle.std.proofs.lemmas.List.{length-append, length-reverse, length-map, reverse-append, get_or-map}
+use Rattle.std.proofs.lemmas.List.Elements.{All-nil, All-cons, All-head, All-tail}
+use Rattle.scr_combinatorics.specs.Lists.{numbers_from}
+use Rattle.scr_combinatorics.proofs.Picks.{numbers_from-at, length-numbers_from}
 use Rattle.scr_play.specs.Play.{play, count_in}
 use Rattle.scr_play.specs.Back.{back}
 use Rattle.scr_play.specs.Tidy.{word_of, with_turn, tidy, begins_alike, IsTidy}
 use Rattle.scr_play.proofs.PlayLaws.{count_in-append, play-parts}
 use Rattle.scr_play.proofs.TidyLaws.{IsTidy-apart, IsTidy-rest}
+use Rattle.scr_notation.specs.declared.event.Event.TheVariants.{Sq1}
 use Rattle.scr_notation.specs.declared.turn.Turn.{Turn}
 use Rattle.scr_notation.specs.declared.turn.Turn.TheVariants.{Face, Axis, Tip, Layers, Twist, Pins, Over, Wide}
 use Rattle.scr_notation.specs.Layers.{twelfths, are_still}
 use Rattle.scr_notation.specs.Turning.{opposite, are_alike, turns_merged, turn_merging}
+use Rattle.scr_notation.specs.Turns.{permits}
 use Rattle.scr_sq1.specs.Units.{Sq1State, sq1_after}
-use Rattle.scr_sq1solve.specs.Stages.{turn_word, quarters, quarter_word, turns_of, shape_letter, pairing_letter, home_letter, edge_word, corner_word}
+use Rattle.scr_sq1solve.specs.declared.stage_letters.Letters.{Letters}
+use Rattle.scr_sq1solve.specs.declared.stage_letters.Letters.TheVariants.{OfShapes, OfPairings, OfHome, Squarings, Quarters}
+use Rattle.scr_sq1solve.specs.Stages.{turn_word, quarters, quarter_word, turns_of, squaring_words, shape_letter, pairing_letter, home_letter, equator_word}
+use Rattle.scr_sq1solve.specs.Letters.{squaring_word, letter_of, end_count, end_words}
 use Rattle.scr_sq1solve.specs.Counts.{twists_of, twists_in}
 
--- ---- twists of letters
+-- ---- turns and twists of letters
+
+-- A word has at most so many turns, and at most so many twists.
+pub record Costs (w : List Turn) (most_turns most_twists : ℕ) : Type 0 where
+  pub turns : length w ≤ most_turns
+  pub twists : twists_in w ≤ most_twists
 
 twists-append : (v w : List Turn) → twists_in (v ++ w) ≡ twists_in v + twists_in w
 twists-append v w = count_in-append twists_of v w
 
-pub twists-turn_word : (x y : ℤ) → twists_in (turn_word x y) ≡ 0
+-- words one after the other
+Costs-append : {v w : List Turn} {a b c d : ℕ} → Costs v a b → Costs w c d → Costs (v ++ w) (a + c) (b + d)
+Costs-append {v} {w} h k = record {
+  turns = omega (arith, length-append v w, h.turns, k.turns);
+  twists = omega (arith, twists-append v w, h.twists, k.twists);
+}
+
+Costs-either : (b : Bool) {v w : List Turn} {turns twists : ℕ} → Costs v turns twists → Costs w turns twists
+    → Costs (let u : List Turn = cond b v w in u) turns twists
+Costs-either true h k = h
+Costs-either false h k = k
+
+Costs-twist : Costs (Twist ∷ []) 1 1
+unfolding count_in
+Costs-twist = record { turns = omega arith; twists = omega arith }
+
+Costs-turn_word : (x y : ℤ) → Costs (turn_word x y) 1 0
 unfolding turn_word count_in
-twists-turn_word x y = none (are_still (twelfths x) (twelfths y))
+Costs-turn_word x y = one (are_still (twelfths x) (twelfths y))
   where
-    none : (b : Bool) → twists_in (let w : List Turn = cond b [] (Layers (twelfths x) (twelfths y) ∷ []) in w) ≡ 0
-    none true = refl
-    none false = refl
+    one : (b : Bool) → Costs (let w : List Turn = cond b [] (Layers (twelfths x) (twelfths y) ∷ []) in w) 1 0
+    one true = record { turns = omega arith; twists = omega arith }
+    one false = record { turns = omega arith; twists = omega arith }
 
--- a turn of the layers before a word adds none
-behind : (x y : ℤ) (w : List Turn) → twists_in (turn_word x y ++ w) ≡ twists_in w
-behind x y w = omega (arith, twists-append (turn_word x y) w, twists-turn_word x y)
+-- a turn, a twist and a turn
+three : (a b c d : ℤ) → Costs (turn_word a b ++ Twist ∷ turn_word c d) 3 1
+three a b c d = let whole = Costs-append (Costs-turn_word a b) (Costs-append Costs-twist (Costs-turn_word c d)) in whole
 
--- and a twist one
-twist_first : (w : List Turn) → twists_in (Twist ∷ w) ≡ suc (twists_in w)
-unfolding count_in
-twist_first w = omega arith
+-- and a twist and a turn more
+five : (a b c d e f : ℤ) → Costs (turn_word a b ++ Twist ∷ turn_word c d ++ Twist ∷ turn_word e f) 5 2
+five a b c d e f = let whole = Costs-append (three a b c d) (Costs-append Costs-twist (Costs-turn_word e f)) in whole
 
-no_twist : twists_in [] ≡ 0
-unfolding count_in
-no_twist = refl
-
-either : (b : Bool) (v w : List Turn) (k : ℕ) → twists_in v ≡ k → twists_in w ≡ k → twists_in (let u : List Turn = cond b v w in u) ≡ k
-either true v w k a b = a
-either false v w k a b = b
-
-pub twists-shape : (n : ℕ) → twists_in (shape_letter n) ≡ 1
+pub Costs-shape : (n : ℕ) → Costs (shape_letter n) 2 1
 unfolding shape_letter
-twists-shape n = behind (pos (n / 12) -ℤ pos 5) (pos (n % 12) -ℤ pos 5) (Twist ∷ []) ∙ twist_first [] ∙ ap suc no_twist
+Costs-shape n = let whole = Costs-append (Costs-turn_word (pos (n / 12) -ℤ pos 5) (pos (n % 12) -ℤ pos 5)) Costs-twist in whole
 
-pub twists-pairing : (n : ℕ) → twists_in (pairing_letter n) ≡ 1
+pub Costs-pairing : (n : ℕ) → Costs (pairing_letter n) 3 1
 unfolding pairing_letter
-twists-pairing n =
+Costs-pairing n =
     let top : ℤ = quarters (n / 4 % 4) in
     let bottom : ℤ = quarters (n % 4) in
-    either (nat_lt n 16) (turn_word top (bottom -ℤ pos 1) ++ Twist ∷ turn_word (pos 0) (pos 1))
-    (turn_word (top +ℤ pos 1) bottom ++ Twist ∷ turn_word (neg_ℤ (pos 1)) (pos 0)) 1
-    (behind top (bottom -ℤ pos 1) (Twist ∷ turn_word (pos 0) (pos 1)) ∙ twist_first (turn_word (pos 0) (pos 1)) ∙ ap suc (twists-turn_word (pos 0) (pos 1)))
-    (behind (top +ℤ pos 1) bottom (Twist ∷ turn_word (neg_ℤ (pos 1)) (pos 0)) ∙ twist_first (turn_word (neg_ℤ (pos 1)) (pos 0))
-    ∙ ap suc (twists-turn_word (neg_ℤ (pos 1)) (pos 0)))
+    Costs-either (nat_lt n 16) (three top (bottom -ℤ pos 1) (pos 0) (pos 1)) (three (top +ℤ pos 1) bottom (neg_ℤ (pos 1)) (pos 0))
 
--- a turn, a twist, a turn, a twist and a turn
-two_twists : (a b c d e f : ℤ) → twists_in (turn_word a b ++ Twist ∷ turn_word c d ++ Twist ∷ turn_word e f) ≡ 2
-two_twists a b c d e f =
-    let second : List Turn = Twist ∷ turn_word c d in
-    let third : List Turn = Twist ∷ turn_word e f in
-    omega (
-      arith,
-      twists-append (turn_word a b ++ second) third,
-      twists-append (turn_word a b) second,
-      twist_first (turn_word c d),
-      twist_first (turn_word e f),
-      twists-turn_word a b,
-      twists-turn_word c d,
-      twists-turn_word e f,
-    )
-
-pub twists-quarter : (n : ℕ) → twists_in (quarter_word n) ≡ 0
+Costs-quarter : (n : ℕ) → Costs (quarter_word n) 1 0
 unfolding quarter_word
-twists-quarter n = twists-turn_word (quarters (n / 4)) (quarters (n % 4))
+Costs-quarter n = Costs-turn_word (quarters (n / 4)) (quarters (n % 4))
 
-pub twists-home : (n : ℕ) → twists_in (home_letter n) ≡ 2
+pub Costs-home : (n : ℕ) → Costs (home_letter n) 6 2
 unfolding home_letter
-twists-home n =
-    let exchange : List Turn = cond (nat_lt n 16) edge_word corner_word in
-    let two : twists_in exchange ≡ 2 =
-    either (nat_lt n 16) edge_word corner_word 2 (two_twists (pos 0) (neg_ℤ (pos 1)) (pos 1) (pos 1) (neg_ℤ (pos 1)) (pos 0))
-    (two_twists (pos 0) (neg_ℤ (pos 1)) (neg_ℤ (pos 2)) (neg_ℤ (pos 2)) (pos 2) (pos 3)) in
-    omega (arith, twists-append (quarter_word (n % 16)) exchange, twists-quarter (n % 16), two)
+Costs-home n =
+    let exchange =
+    Costs-either (nat_lt n 16) (five (pos 0) (neg_ℤ (pos 1)) (pos 1) (pos 1) (neg_ℤ (pos 1)) (pos 0))
+    (five (pos 0) (neg_ℤ (pos 1)) (neg_ℤ (pos 2)) (neg_ℤ (pos 2)) (pos 2) (pos 3)) in
+    let whole = Costs-append (Costs-quarter (n % 16)) exchange in
+    whole
 
-pub twists-letters : (letter : ℕ → List Turn) (k : ℕ) → ((n : ℕ) → twists_in (letter n) ≡ k) → (w : List ℕ) → twists_in (turns_of letter w) ≡ length w * k
-twists-letters letter k each [] = no_twist ∙ omega arith
-twists-letters letter k each (n ∷ w) =
-    twists-append (letter n) (turns_of letter w)
-    ∙ omega (arith, each n, twists-letters letter k each w, suc-mul (length w) k)
+Costs-letters : (letter : ℕ → List Turn) (turns twists : ℕ) → ((n : ℕ) → Costs (letter n) turns twists) → (w : List ℕ)
+    → Costs (turns_of letter w) (length w * turns) (length w * twists)
+unfolding count_in
+Costs-letters letter turns twists each [] = record { turns = omega arith; twists = omega arith }
+Costs-letters letter turns twists each (n ∷ w) =
+    let whole = Costs-append (each n) (Costs-letters letter turns twists each w) in
+    record {
+      turns = omega (arith, whole.turns, suc-mul (length w) turns);
+      twists = omega (arith, whole.twists, suc-mul (length w) twists);
+    }
+
+-- a word of at most so many letters
+pub Costs-word : (letter : ℕ → List Turn) (turns twists bound : ℕ) → ((n : ℕ) → Costs (letter n) turns twists) → (w : List ℕ) → length w ≤ bound
+    → Costs (turns_of letter w) (bound * turns) (bound * twists)
+Costs-word letter turns twists bound each w le =
+    let whole = Costs-letters letter turns twists each w in
+    record {
+      turns = omega (arith, whole.turns, mul-le-mul_right turns le);
+      twists = omega (arith, whole.twists, mul-le-mul_right twists le);
+    }
+
+Costs-ending : (letters : Letters) (n : ℕ) → n < end_count letters → Costs (letter_of letters n) 1 0
+unfolding squaring_word
+Costs-ending OfShapes n lt = absurd (omega (arith, lt))
+Costs-ending OfPairings n lt = absurd (omega (arith, lt))
+Costs-ending OfHome n lt = absurd (omega (arith, lt))
+Costs-ending Squarings n lt = Costs-turn_word (neg_ℤ (pos (n % 2))) (pos (n / 2))
+Costs-ending Quarters n lt = Costs-quarter n
+
+pub Costs-equator : (b : Bool) → Costs (let e : List Turn = cond b equator_word [] in e) 6 3
+unfolding count_in
+Costs-equator true = record { turns = omega arith; twists = omega arith }
+Costs-equator false = record { turns = omega arith; twists = omega arith }
+
+-- one of the words that end a stage is one turn at most, and no twist
+pub Costs-end : (letters : Letters) (w : List Turn) → Any (λ other. other ≡ w) (end_words letters) → Costs w 1 0
+Costs-end letters w one =
+    let n : ℕ = one.0 in
+    let numbers : List ℕ = numbers_from 0 (end_count letters) in
+    let inside : n < length numbers = omega (arith, one.2, length-map numbers (letter_of letters)) in
+    let lt : n < end_count letters = omega (arith, inside, length-numbers_from 0 (end_count letters)) in
+    let at : slice_index numbers n ≡ n = omega (arith, numbers_from-at 0 (end_count letters) n lt) in
+    let is : letter_of letters n ≡ w =
+    sym (get_or-map (letter_of letters) numbers n 0 one.1 inside ∙ ap (letter_of letters) at) ∙ one.3 ∙ one.4 in
+    subst (λ v. Costs v 1 0) is (Costs-ending letters n lt)
+
+pub Costs-squaring : (w : List Turn) → Any (λ other. other ≡ w) squaring_words → Costs w 1 0
+unfolding squaring_word
+Costs-squaring w one = Costs-end Squarings w one
 
 -- ---- tidying adds no twists
 
@@ -148,76 +192,51 @@ twists-tidy (t ∷ w) = omega (arith, twists-with_turn t (tidy turn_merging w), 
 
 -- ---- a tidy word has a twist at every second place at least
 
-no_letter : (s r q : Sq1State) (t : Turn) → sq1_after s t ≡ None → sq1_after s t ≡ Some r → ⊥
-no_letter s r q t a b = cc
+-- a turn of the layers, or a twist
+abbrev pub OfSq1 : Turn → Type 0
+OfSq1 (Layers top bottom) = Unit {0}
+OfSq1 Twist = Unit {0}
+OfSq1 _ = ⊥
 
-pub length-tidy_word : (s r : Sq1State) (w : List Turn) → IsTidy turn_merging w → play sq1_after s w ≡ Some r → length w ≤ 2 * twists_in w + 1
-unfolding count_in sq1_after begins_alike
-length-tidy_word s r [] h e = omega arith
-length-tidy_word s r (Twist ∷ w) h e =
-    let parts = play-parts sq1_after s r Twist w e in
-    omega (arith, length-tidy_word parts.0 r w (IsTidy-rest turn_merging Twist w h) parts.2)
-length-tidy_word s r (Layers x y ∷ []) h e = omega arith
-length-tidy_word s r (Layers x y ∷ (Twist ∷ w)) h e =
-    let parts = play-parts sq1_after s r (Layers x y) (Twist ∷ w) e in
-    let more = play-parts sq1_after parts.0 r Twist w parts.2 in
+OfSq1-led : (s r : Sq1State) (t : Turn) → sq1_after s t ≡ Some r → OfSq1 t
+unfolding sq1_after
+OfSq1-led s r (Layers x y) e = tt
+OfSq1-led s r Twist e = tt
+OfSq1-led s r (Face a b c) e = absurd (cc)
+OfSq1-led s r (Axis a b) e = absurd (cc)
+OfSq1-led s r (Tip a b) e = absurd (cc)
+OfSq1-led s r (Pins a b) e = absurd (cc)
+OfSq1-led s r Over e = absurd (cc)
+OfSq1-led s r (Wide a b) e = absurd (cc)
+
+-- the turns of a word that leads somewhere
+pub OfSq1-played : (s r : Sq1State) (w : List Turn) → play sq1_after s w ≡ Some r → All OfSq1 w
+OfSq1-played s r [] e = All-nil OfSq1
+OfSq1-played s r (t ∷ w) e =
+    let parts = play-parts sq1_after s r t w e in
+    All-cons OfSq1 t w (OfSq1-led s parts.0 t parts.1) (OfSq1-played parts.0 r w parts.2)
+
+pub OfSq1-permitted : (t : Turn) → IsTrue (permits Sq1 t) → OfSq1 t
+OfSq1-permitted (Layers x y) e = tt
+OfSq1-permitted Twist e = tt
+OfSq1-permitted (Face a b c) e = absurd (false≢true e)
+OfSq1-permitted (Axis a b) e = absurd (false≢true e)
+OfSq1-permitted (Tip a b) e = absurd (false≢true e)
+OfSq1-permitted (Pins a b) e = absurd (false≢true e)
+OfSq1-permitted Over e = absurd (false≢true e)
+OfSq1-permitted (Wide a b) e = absurd (false≢true e)
+
+pub length-tidy : (w : List Turn) → IsTidy turn_merging w → All OfSq1 w → length w ≤ 2 * twists_in w + 1
+unfolding count_in begins_alike
+length-tidy [] h a = omega arith
+length-tidy (Twist ∷ w) h a = omega (arith, length-tidy w (IsTidy-rest turn_merging Twist w h) (All-tail OfSq1 Twist w a))
+length-tidy (Layers x y ∷ []) h a = omega arith
+length-tidy (Layers x y ∷ (Twist ∷ w)) h a =
     let rest = IsTidy-rest turn_merging (Layers x y) (Twist ∷ w) h in
-    omega (arith, length-tidy_word more.0 r w (IsTidy-rest turn_merging Twist w rest) more.2)
-length-tidy_word s r (Layers x y ∷ (Layers u v ∷ w)) h e = absurd (false≢true (sym (IsTidy-apart turn_merging (Layers x y) (Layers u v ∷ w) h)))
-length-tidy_word s r (Layers x y ∷ (Face a b c ∷ w)) h e =
-    let parts = play-parts sq1_after s r (Layers x y) (Face a b c ∷ w) e in
-    let more = play-parts sq1_after parts.0 r (Face a b c) w parts.2 in
-    let one = more.1 in
-    absurd (cc)
-length-tidy_word s r (Layers x y ∷ (Axis a b ∷ w)) h e =
-    let parts = play-parts sq1_after s r (Layers x y) (Axis a b ∷ w) e in
-    let more = play-parts sq1_after parts.0 r (Axis a b) w parts.2 in
-    let one = more.1 in
-    absurd (cc)
-length-tidy_word s r (Layers x y ∷ (Tip a b ∷ w)) h e =
-    let parts = play-parts sq1_after s r (Layers x y) (Tip a b ∷ w) e in
-    let more = play-parts sq1_after parts.0 r (Tip a b) w parts.2 in
-    let one = more.1 in
-    absurd (cc)
-length-tidy_word s r (Layers x y ∷ (Pins a b ∷ w)) h e =
-    let parts = play-parts sq1_after s r (Layers x y) (Pins a b ∷ w) e in
-    let more = play-parts sq1_after parts.0 r (Pins a b) w parts.2 in
-    let one = more.1 in
-    absurd (cc)
-length-tidy_word s r (Layers x y ∷ (Over ∷ w)) h e =
-    let parts = play-parts sq1_after s r (Layers x y) (Over ∷ w) e in
-    let more = play-parts sq1_after parts.0 r Over w parts.2 in
-    let one = more.1 in
-    absurd (cc)
-length-tidy_word s r (Layers x y ∷ (Wide a b ∷ w)) h e =
-    let parts = play-parts sq1_after s r (Layers x y) (Wide a b ∷ w) e in
-    let more = play-parts sq1_after parts.0 r (Wide a b) w parts.2 in
-    let one = more.1 in
-    absurd (cc)
-length-tidy_word s r (Face a b c ∷ w) h e =
-    let parts = play-parts sq1_after s r (Face a b c) w e in
-    let one = parts.1 in
-    absurd (cc)
-length-tidy_word s r (Axis a b ∷ w) h e =
-    let parts = play-parts sq1_after s r (Axis a b) w e in
-    let one = parts.1 in
-    absurd (cc)
-length-tidy_word s r (Tip a b ∷ w) h e =
-    let parts = play-parts sq1_after s r (Tip a b) w e in
-    let one = parts.1 in
-    absurd (cc)
-length-tidy_word s r (Pins a b ∷ w) h e =
-    let parts = play-parts sq1_after s r (Pins a b) w e in
-    let one = parts.1 in
-    absurd (cc)
-length-tidy_word s r (Over ∷ w) h e =
-    let parts = play-parts sq1_after s r Over w e in
-    let one = parts.1 in
-    absurd (cc)
-length-tidy_word s r (Wide a b ∷ w) h e =
-    let parts = play-parts sq1_after s r (Wide a b) w e in
-    let one = parts.1 in
-    absurd (cc)
+    omega (arith, length-tidy w (IsTidy-rest turn_merging Twist w rest) (All-tail OfSq1 Twist w (All-tail OfSq1 (Layers x y) (Twist ∷ w) a)))
+length-tidy (Layers x y ∷ (Layers u v ∷ w)) h a = absurd (false≢true (sym (IsTidy-apart turn_merging (Layers x y) (Layers u v ∷ w) h)))
+length-tidy (Layers x y ∷ (t ∷ w)) h a = absurd (All-head OfSq1 t w (All-tail OfSq1 (Layers x y) (t ∷ w) a))
+length-tidy (t ∷ w) h a = absurd (All-head OfSq1 t w a)
 
 -- ---- a word taken back has as many
 

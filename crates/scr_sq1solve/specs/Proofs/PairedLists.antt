@@ -1,5 +1,5 @@
 -- Lists of pieces in which mates stand where they stand when solved: each is told by its bits and its list of pairs.
-use Rattle.std.proofs.Common.{◌≡◌, ℕ, zero, suc, ◌+◌, ◌*◌, ◌%◌, ◌<◌, inl, inr, Bool, IsTrue, List, [], ◌∷◌, length, slice_index, refl, sym, ap, ◌∙◌, subst, arith, eqb-true, eq-eqb, ltb-true, lit<}
+use Rattle.std.proofs.Common.{◌≡◌, ℕ, ◌+◌, ◌*◌, ◌%◌, ◌<◌, inl, inr, Bool, IsTrue, List, [], ◌∷◌, length, slice_index, refl, sym, ap, ◌∙◌, subst, arith, eqb-true, eq-eqb, ltb-true, lit<}
 use Rattle.std.specs.Prelude.{◌==◌, ◌&&◌, ◌||◌, not, nat_lt}
 use Rattle.std.proofs.lemmas.Bool.{and_parts, and_from, or_cases, false≢true}
 use Rattle.scr_combinatorics.specs.Lists.{total}
@@ -75,48 +75,9 @@ list_test a b c d = not (is_permutation 8 (filled a b c d)) || has_code (filled 
 abbrev lists_test : ℕ → Bool
 lists_test a = all_below (λ b. all_below (λ c. all_below (λ d. list_test a b c d) 8) 8) 8
 
-lists_tested_0 : IsTrue (lists_test 0)
+lists_tested : IsTrue (all_below lists_test 8)
 unfolding all_below same paired_at bits_number pairs_number permutation_at
-lists_tested_0 = refl
-
-lists_tested_1 : IsTrue (lists_test 1)
-unfolding all_below same paired_at bits_number pairs_number permutation_at
-lists_tested_1 = refl
-
-lists_tested_2 : IsTrue (lists_test 2)
-unfolding all_below same paired_at bits_number pairs_number permutation_at
-lists_tested_2 = refl
-
-lists_tested_3 : IsTrue (lists_test 3)
-unfolding all_below same paired_at bits_number pairs_number permutation_at
-lists_tested_3 = refl
-
-lists_tested_4 : IsTrue (lists_test 4)
-unfolding all_below same paired_at bits_number pairs_number permutation_at
-lists_tested_4 = refl
-
-lists_tested_5 : IsTrue (lists_test 5)
-unfolding all_below same paired_at bits_number pairs_number permutation_at
-lists_tested_5 = refl
-
-lists_tested_6 : IsTrue (lists_test 6)
-unfolding all_below same paired_at bits_number pairs_number permutation_at
-lists_tested_6 = refl
-
-lists_tested_7 : IsTrue (lists_test 7)
-unfolding all_below same paired_at bits_number pairs_number permutation_at
-lists_tested_7 = refl
-
-lists_tested : (a : ℕ) → a < 8 → IsTrue (lists_test a)
-lists_tested zero lt = lists_tested_0
-lists_tested (suc zero) lt = lists_tested_1
-lists_tested (suc (suc zero)) lt = lists_tested_2
-lists_tested (suc (suc (suc zero))) lt = lists_tested_3
-lists_tested (suc (suc (suc (suc zero)))) lt = lists_tested_4
-lists_tested (suc (suc (suc (suc (suc zero))))) lt = lists_tested_5
-lists_tested (suc (suc (suc (suc (suc (suc zero)))))) lt = lists_tested_6
-lists_tested (suc (suc (suc (suc (suc (suc (suc zero))))))) lt = lists_tested_7
-lists_tested (suc (suc (suc (suc (suc (suc (suc (suc a)))))))) lt = absurd (omega arith)
+lists_tested = refl
 
 pub record HasCode (xs : List ℕ) : Type 0 where
   pub bits : bits_number xs < 16
@@ -136,7 +97,7 @@ HasCode-test xs t =
 HasCode-filled : (a b c d : ℕ) → a < 8 → b < 8 → c < 8 → d < 8 → IsPermutation 8 (filled a b c d) → HasCode (filled a b c d)
 HasCode-filled a b c d la lb lc ld p =
     let xs : List ℕ = filled a b c d in
-    let at_b = at_below (λ j. all_below (λ k. all_below (λ l. list_test a j k l) 8) 8) 8 b (lists_tested a la) lb in
+    let at_b = at_below (λ j. all_below (λ k. all_below (λ l. list_test a j k l) 8) 8) 8 b (at_below lists_test 8 a lists_tested la) lb in
     let at_c = at_below (λ k. all_below (λ l. list_test a b k l) 8) 8 c at_b lc in
     let at_d = at_below (λ l. list_test a b c l) 8 d at_c ld in
     elim (or_cases (not (is_permutation 8 xs)) (has_code xs) at_d) [

@@ -1,16 +1,13 @@
 -- The first stage: words go along with the index of shape and parity, and one of the four turns at its end makes a state normal.
-use Rattle.std.proofs.Common.{◌≡◌, ℕ, zero, suc, ◌+◌, ◌*◌, ◌/◌, ◌%◌, ◌<◌, Bool, false, IsTrue, List, ◌++◌, Option, Some, None, refl, sym, ap, ◌∙◌, arith, eq-eqb}
+use Rattle.std.proofs.Common.{◌≡◌, ℕ, zero, suc, ◌+◌, ◌*◌, ◌/◌, ◌%◌, ◌<◌, Bool, false, IsTrue, List, Option, Some, None, refl, sym, ap, ◌∙◌, arith, eq-eqb}
 use Rattle.std.specs.Prelude.{◌↔◌, ◌==◌}
 use Rattle.std.specs.Option.{option_map}
 use Rattle.scr_combinatorics.specs.Permutations.{IsPermutation, parity}
 use Rattle.scr_combinatorics.proofs.PermutationLaws.{IsPermutation-numbers_from, IsPermutation-from_test}
 use Rattle.scr_play.specs.Play.{play}
-use Rattle.scr_play.specs.Back.{back}
-use Rattle.scr_play.proofs.PlayLaws.{play-append}
 use Rattle.scr_coord.specs.Coordinates.{StaysBelow}
 use Rattle.scr_coord.specs.SearchSpaces.{SearchSpace, positions, Follows}
 use Rattle.scr_notation.specs.declared.turn.Turn.{Turn}
-use Rattle.scr_notation.specs.Turning.{opposite}
 use Rattle.scr_notation.proofs.Below.{all_below}
 use Rattle.scr_orbit.proofs.ActionLaws.{map-some}
 use Rattle.scr_sq1.specs.Units.{Sq1State, IsSq1, solved_sq1, sq1_after, turn_places, twist_places, turned, after_layers, twisted}
@@ -19,13 +16,13 @@ use Rattle.scr_sq1.specs.Numbers.{corners_of, edges_of, laid, shape_word}
 use Rattle.scr_sq1.specs.Proofs.HalfNumbers.{shapes_one_to_one}
 use Rattle.scr_sq1.specs.Proofs.InHalves.{IsSq1-halves}
 use Rattle.scr_sq1.specs.Proofs.Pieces.{StatePieces-valid, LaidState-pieces}
-use Rattle.scr_sq1.proofs.Lawful.{IsSq1-solved, sq1_taken_back}
+use Rattle.scr_sq1.proofs.Lawful.{IsSq1-solved}
 use Rattle.scr_sq1solve.specs.Stages.{EndsIn, IsEnd, IsNormal, oddness, turn_word, shape_letter, squaring_words}
 use Rattle.scr_sq1solve.specs.Tables.{shapes_index, shapes_state, pieces_of_parity, shapes_coordinate}
 use Rattle.scr_sq1solve.specs.Proofs.Renamed.{Names, AreNames, renamed}
 use Rattle.scr_sq1solve.specs.Proofs.Bases.{in_order, base_of, names_of, AreNames-valid, IsBase-shape, shape_of-named, play-base, keeps_sq1, oddness-lt, oddness-renamed}
 use Rattle.scr_sq1solve.specs.Proofs.Indexed.{stage_space, IsIndex, Follows-index, StaysBelow-index}
-use Rattle.scr_sq1solve.specs.Proofs.OneWord.{are_apart, one_word}
+use Rattle.scr_sq1solve.specs.Proofs.OneWord.{are_apart, one_end}
 
 -- ---- the index of states of one shape
 
@@ -181,8 +178,4 @@ normal_word r q w valid nr e nq =
 
 -- The turn that makes the end of the first stage normal is the only one of the four.
 pub one_squaring : (s r q : Sq1State) (v w : List Turn) → IsSq1 s → IsEnd IsNormal squaring_words s v r → IsEnd IsNormal squaring_words s w q → v ≡ w
-one_squaring s r q v w valid a b =
-    let rv = keeps_sq1 s r v valid a.played in
-    let again : play sq1_after r (back opposite v) ≡ Some s = sq1_taken_back s r v valid a.played in
-    one_word squaring_words is_square solved_sq1 squaring_apart v w a.one b.one
-    (normal_word r q (back opposite v ++ w) rv a.holds (play-append sq1_after r s (back opposite v) w again ∙ b.played) b.holds)
+one_squaring = one_end IsNormal squaring_words is_square squaring_apart normal_word

@@ -1,21 +1,21 @@
 -- The test of a minimum is exact.
 use Rattle.std.proofs.Common.{◌≡◌, ℕ, zero, suc, ◌+◌, ◌<◌, ◌≤◌, Bool, true, false, cond, not, IsTrue, List, [], ◌∷◌, map, length, get_or, inl, inr, Option, Some, None, refl, sym, ap, ◌∙◌, subst, arith}
-use Rattle.std.specs.Prelude.{All, Any, Contains, ◌↔◌, nat_lt, option_and_then, slice_index_or}
+use Rattle.std.specs.Prelude.{All, Contains, ◌↔◌, nat_lt, option_and_then}
 use Rattle.std.specs.List.{flat_map, list_any}
 use Rattle.std.proofs.lemmas.Bool.{false≢true, cases_lt, ltb-false}
 use Rattle.std.proofs.lemmas.List.{length-map, get_or-map, get_or_default}
 use Rattle.std.proofs.lemmas.List.Elements.{All-nil, All-cons, All-head, All-tail, All-weaker, All-contains, All-from_get_or, Contains-append_left, Contains-append_right}
 use Rattle.std.proofs.lemmas.List.Folds.{Any-from_list_any, list_any-from_Any}
-use Rattle.scr_combinatorics.specs.Lists.{numbers_from, pick}
+use Rattle.scr_combinatorics.specs.Lists.{numbers_from}
 use Rattle.scr_combinatorics.proofs.Picks.{length-numbers_from, numbers_from-at, length-pick, All-pick}
-use Rattle.scr_play.specs.Play.{play, count_in}
+use Rattle.scr_play.specs.Play.{play}
 use Rattle.scr_play.specs.Reach.{Needs}
 use Rattle.scr_play.proofs.PlayLaws.{play-empty, play-first, play-parts, Needs-zero}
 use Rattle.scr_orbit.proofs.Minima.{count_once}
 use Rattle.scr_notation.specs.declared.turn.Turn.{Turn}
 use Rattle.scr_notation.specs.TurnNumbers.{face_turn_at}
 use Rattle.scr_turning.specs.PowerPuzzles.{after_letter, power_puzzle}
-use Rattle.scr_cube.specs.Cube333.{CubeState, cube_powers, solved_cube}
+use Rattle.scr_cube.specs.Cube333.{CubeState, cube_powers}
 use Rattle.scr_cube.proofs.Laws333.{lawful_cube}
 use Rattle.scr_twophase.specs.Words.{words_of, words_within}
 use Rattle.scr_twophase.specs.TwoParts.{after_turn, all_turns, is_solved, leads}

@@ -1,4 +1,4 @@
-use Rattle.std.proofs.Common.{Ok, Err, refl, subst}
+use Rattle.std.proofs.Common.{Err, refl}
 use Rattle.std.proofs.lemmas.Result.{err_from_is_err_and}
 use Rattle.scr_outside.proofs.ChangeLemmas.{Gains-nothing}
 use Rattle.scr_sheet.proofs.load.write_load.Goals as goal

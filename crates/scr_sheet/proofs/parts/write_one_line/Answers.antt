@@ -34,7 +34,7 @@ returns-in_err-write_line-clause-ends g c =
       rest = [];
       text = c.as_str.result.now ++ codes "\n";
       before = record { are = refl; has = IsText-one _ part _ (IsPartText-line c.in-Ok.scramble.turns slot (c.as_str.ensures.value ∙ c.print.ensures)) };
-      faltered = c.in_err-write_line.ensures;
+      of_text = c.in_err-write_line.ensures;
     })
 
 pub returns-clause-ends : goal.returns-clause-ends

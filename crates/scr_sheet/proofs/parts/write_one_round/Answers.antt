@@ -20,7 +20,7 @@ returns-in_err-write_round g c =
       rest = [];
       text = _;
       before = record { are = refl; has = IsText-one _ part _ (IsPartText-made c.in_ok-made.ensures) };
-      faltered = c.in_err-write_round.ensures;
+      of_text = c.in_err-write_round.ensures;
     })
 
 pub returns : goal.returns

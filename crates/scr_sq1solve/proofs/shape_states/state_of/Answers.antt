@@ -4,9 +4,6 @@ use Rattle.scr_sq1.specs.Numbers.{sq1_bases, sq1_of_digits}
 use Rattle.scr_sq1solve.proofs.ShapeSteps.{index_state_number, state-of_index}
 use Rattle.scr_sq1solve.proofs.shape_states.state_of.Goals as goal
 
-pub state_at-requires : goal.state_at-requires
-state_at-requires c = omega (arith, c.from.ensures, c.from-edges.ensures, c.requires)
-
 pub returns : goal.returns
 returns c =
     c.state_at.ensures

@@ -1,5 +1,5 @@
-use Rattle.std.proofs.Common.{◌≡◌, ℕ, ◌+◌, ◌<◌, ◌≤◌, List, [], ◌∷◌, ◌++◌, map, length, take, set, get_or, sym, ap, ◌∙◌, arith}
-use Rattle.std.proofs.lemmas.List.{map-append, take_more, take_more_set, take_all, get_or-map, get_or_default, length-map}
+use Rattle.std.proofs.Common.{◌≡◌, ℕ, ◌+◌, ◌<◌, List, [], ◌∷◌, ◌++◌, map, length, take, set, get_or, sym, ap, ◌∙◌, arith}
+use Rattle.std.proofs.lemmas.List.{map-append, take_more, take_more_set, take_all, get_or-map}
 use Rattle.scr_orbit.specs.PlaceTurns.{rearrangement_of}
 use Rattle.scr_orbit.specs.Orbits.{Rearrangement}
 use Rattle.scr_stages.specs.Tables.{block_turn, block_turns}

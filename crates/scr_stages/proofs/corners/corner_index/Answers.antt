@@ -1,7 +1,7 @@
-use Rattle.std.proofs.Common.{◌≡◌, ℕ, ◌+◌, ◌*◌, sym, ap, subst, ◌∙◌}
+use Rattle.std.proofs.Common.{◌≡◌, ◌+◌, ◌*◌, ap, ◌∙◌}
 use Rattle.scr_combinatorics.specs.Lists.{pick}
 use Rattle.scr_combinatorics.specs.PlaceSets.{place_set_number}
-use Rattle.scr_stages.specs.Tetrads.{corner_index, relation_of, relation_number, axes_of, places_of_tetrad, first_tetrad, second_tetrad}
+use Rattle.scr_stages.specs.Tetrads.{corner_index, relation_of, relation_number, axes_of, places_of_tetrad, first_tetrad}
 use Rattle.scr_stages.proofs.corners.corner_index.Goals as goal
 
 pub returns-clause-value : goal.returns-clause-value

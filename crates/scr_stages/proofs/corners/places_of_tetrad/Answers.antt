@@ -1,6 +1,5 @@
 use Rattle.std.proofs.Common.{sym, subst}
 use Rattle.scr_combinatorics.specs.PlaceSets.{IsPlaceSet}
-use Rattle.scr_coord.specs.Projections.{stands_in}
 use Rattle.scr_stages.proofs.Blocks.{length-places, IsPlaceSet-places_in}
 use Rattle.scr_stages.proofs.corners.places_of_tetrad.Goals as goal
 

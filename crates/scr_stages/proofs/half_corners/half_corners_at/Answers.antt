@@ -1,10 +1,10 @@
-use Rattle.std.proofs.Common.{◌≡◌, ℕ, ◌+◌, ◌*◌, ◌/◌, ◌%◌, ◌<◌, ◌++◌, slice_index, ap, sym, ◌∙◌, subst}
+use Rattle.std.proofs.Common.{◌≡◌, ◌/◌, ◌%◌, ◌<◌, ◌++◌, slice_index, ap, sym, ◌∙◌, subst}
 use Rattle.std.specs.Prelude.{All}
 use Rattle.scr_combinatorics.specs.Lists.{pick}
 use Rattle.scr_combinatorics.specs.Permutations.{IsPermutation, permutation_at}
 use Rattle.scr_combinatorics.proofs.PermutationLaws.{All-permutation}
 use Rattle.scr_combinatorics.proofs.Picks.{All-pick}
-use Rattle.scr_stages.specs.Tetrads.{half_corners_at, in_block, first_tetrad, second_tetrad, arranged, axes_of, second_with}
+use Rattle.scr_stages.specs.Tetrads.{half_corners_at, first_tetrad, second_tetrad, arranged, axes_of, second_with}
 use Rattle.scr_stages.proofs.TetradLaws.{IsPlaceSet-first}
 use Rattle.scr_stages.proofs.TetradTables.{All-axes}
 use Rattle.scr_stages.proofs.TetradTests.{IsHalfList-at}

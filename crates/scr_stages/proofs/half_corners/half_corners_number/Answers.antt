@@ -1,4 +1,4 @@
-use Rattle.std.proofs.Common.{◌≡◌, ℕ, ◌+◌, ◌*◌, slice_index, ap, ◌∙◌}
+use Rattle.std.proofs.Common.{◌+◌, ◌*◌, slice_index, ap, ◌∙◌}
 use Rattle.scr_combinatorics.specs.Permutations.{permutation_number, place_of}
 use Rattle.scr_stages.specs.Tetrads.{half_corners_number, second_tetrad}
 use Rattle.scr_stages.proofs.half_corners.half_corners_number.Goals as goal

@@ -1,4 +1,4 @@
-use Rattle.std.proofs.Common.{◌≡◌, length, ap, ◌∙◌, arith}
+use Rattle.std.proofs.Common.{ap, ◌∙◌, arith}
 use Rattle.std.proofs.lemmas.List.{length-set}
 use Rattle.scr_combinatorics.specs.Permutations.{parity, permutation_at}
 use Rattle.scr_stages.proofs.ParitySteps.{filled_place, parity-byte}

@@ -1,4 +1,4 @@
-use Rattle.std.proofs.Common.{length, arith, subst, ap, ◌≡◌, get_or, set, ℕ, ◌<◌, ◌+◌, sym}
+use Rattle.std.proofs.Common.{length, arith, subst, ◌≡◌, get_or, set, ℕ, ◌<◌, ◌+◌, sym}
 use Rattle.scr_combinatorics.proofs.PermutationLaws.{at-permutation}
 use Rattle.scr_stages.proofs.PlaceSteps.{arranged-more, arranged-all}
 use Rattle.scr_stages.proofs.places.arrange.Goals as goal

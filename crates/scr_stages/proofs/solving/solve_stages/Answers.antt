@@ -1,8 +1,8 @@
 use Rattle.std.proofs.Common.{◌≡◌, ◌<◌, ◌++◌, [], ◌∷◌, refl, sym, ap, ◌∙◌, subst}
 use Rattle.std.specs.Prelude.{All}
-use Rattle.scr_stages.specs.Stages.{Stage, IsStageWord, IsSolution, letters_of, stages, flips_stage, slice_stage, tetrads_stage, halves_stage}
+use Rattle.scr_stages.specs.Stages.{IsStageWord, IsSolution, letters_of, stages, flips_stage, slice_stage, tetrads_stage, halves_stage}
 use Rattle.scr_stages.proofs.HalfTurned.{IsHalfCube-half_turned}
-use Rattle.scr_stages.proofs.SolutionLaws.{IsSolution-unique, solution-at_most, solution-played}
+use Rattle.scr_stages.proofs.SolutionLaws.{IsSolution-unique, solution-played}
 use Rattle.scr_stages.proofs.FollowSteps.{All-stage_word, stage_goal, solution_step, four_joined}
 use Rattle.scr_stages.proofs.solving.solve_stages.Goals as goal
 

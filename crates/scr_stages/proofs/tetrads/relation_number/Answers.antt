@@ -1,6 +1,4 @@
 use Rattle.std.proofs.Common.{get_or, arith}
-use Rattle.scr_combinatorics.proofs.PermutationNumbers.{permutation_number-lt}
-use Rattle.std.proofs.Common.{[], ◌∷◌}
 use Rattle.scr_stages.proofs.PlaceSteps.{place_of-le}
 use Rattle.scr_stages.proofs.TetradTables.{relation_number-read}
 use Rattle.scr_stages.proofs.tetrads.relation_number.Goals as goal

@@ -13,9 +13,8 @@ use Rattle.scr_stages.proofs.words.flips_word.Goals as goal
 pub returns-clause-word : goal.returns-clause-word
 returns-clause-word c =
     let cube = c.args.cube.now in
-    let tables = c.args.tables.now in
-    let word = c.flips_word.result.items in
-    IsStageWord-first flips_stage IsCube flips_line flips_number Follows-flips StaysBelow-flips refl tables.flips c.flips_word.ensures.built.flips cube
+    let word = c.descend.result.items in
+    IsStageWord-first flips_stage IsCube flips_line flips_number Follows-flips StaysBelow-flips refl _ c.descend.ensures.table cube
     c.flips.ensures.valid word
     (subst (λ p. IsFirstWord (moved flips_coordinate) (IsGoal flips_coordinate) p word) (c.rank-number.ensures.number ∙ ap (twists_number 2) c.flips.ensures.same)
-    c.flips_word.ensures.first)
+    c.descend.ensures.first)

@@ -1,4 +1,4 @@
-use Rattle.std.proofs.Common.{◌≡◌, ◌+◌, ◌*◌, length, refl, sym, ap, ◌∙◌, subst, lit<, lit≤}
+use Rattle.std.proofs.Common.{◌+◌, ◌*◌, length, refl, sym, ap, ◌∙◌, subst, lit<, lit≤}
 use Rattle.scr_combinatorics.specs.PlaceSets.{IsPlaceSet, place_set_number}
 use Rattle.scr_combinatorics.specs.Twists.{twists_number}
 use Rattle.scr_play.specs.FirstWord.{IsFirstWord}
@@ -24,12 +24,11 @@ rank-places-requires c =
 pub returns : goal.returns
 returns c =
     let cube = c.args.cube.now in
-    let tables = c.args.tables.now in
-    let word = c.slice_word.result.items in
+    let word = c.descend.result.items in
     let places = c.places_of.ensures ∙ ap (marked_places (stands_in middle_edges)) c.edges.ensures.same in
     let twists = c.rank-twists.ensures.number ∙ ap (twists_number 3) c.twists.ensures.same in
     let number = ap (λ n. n + 2187 * c.rank-places.result) twists
     ∙ ap (λ n. twists_number 3 cube.corners.digits + 2187 * n) (c.rank-places.ensures.number ∙ ap (place_set_number 12) places) in
-    IsStageWord-first slice_stage IsUnflippedCube slice_line slice_number Follows-slice StaysBelow-slice refl tables.slice c.slice_word.ensures.built.slice cube
+    IsStageWord-first slice_stage IsUnflippedCube slice_line slice_number Follows-slice StaysBelow-slice refl _ c.descend.ensures.table cube
     c.requires word
-    (subst (λ p. IsFirstWord (moved slice_coordinate) (IsGoal slice_coordinate) p word) number c.slice_word.ensures.first)
+    (subst (λ p. IsFirstWord (moved slice_coordinate) (IsGoal slice_coordinate) p word) number c.descend.ensures.first)

@@ -1,4 +1,4 @@
-use Rattle.std.proofs.Common.{◌≡◌, ◌+◌, ◌*◌, length, refl, sym, ap, ◌∙◌, subst, lit<, lit≤}
+use Rattle.std.proofs.Common.{◌+◌, ◌*◌, length, refl, sym, ap, ◌∙◌, subst, lit<, lit≤}
 use Rattle.scr_combinatorics.specs.PlaceSets.{IsPlaceSet, place_set_number}
 use Rattle.scr_play.specs.FirstWord.{IsFirstWord}
 use Rattle.scr_coord.specs.Coordinates.{moved, IsGoal}
@@ -24,12 +24,9 @@ rank-places-requires c =
 pub returns : goal.returns
 returns c =
     let cube = c.args.cube.now in
-    let tables = c.args.tables.now in
-    let word = c.tetrads_word.result.items in
+    let word = c.descend.result.items in
     let places = c.places_of.ensures ∙ ap (marked_places (stands_in first_edges)) c.edges.ensures.same in
     let number = ap (λ n. n + 70 * c.corner_index.result) (c.rank-places.ensures.number ∙ ap (place_set_number 8) places)
     ∙ ap (λ n. place_set_number 8 (marked_places (stands_in first_edges) cube.edges.pieces) + 70 * n) (c.corner_index.ensures.value ∙ ap corner_index c.corners.ensures.same) in
-    let built = c.tetrads_word.ensures.built in
-    IsStageWord-first tetrads_stage IsDominoCube tetrads_line tetrads_number (Follows-half_turned tables.halves built.halves) StaysBelow-tetrads refl tables.tetrads
-    built.tetrads cube c.requires word
-    (subst (λ p. IsFirstWord (moved tetrads_coordinate) (IsGoal tetrads_coordinate) p word) number c.tetrads_word.ensures.first)
+    IsStageWord-first tetrads_stage IsDominoCube tetrads_line tetrads_number (Follows-half_turned _ c.tables.inside.halves.is) StaysBelow-tetrads refl _ c.descend.ensures.table cube c.requires word
+    (subst (λ p. IsFirstWord (moved tetrads_coordinate) (IsGoal tetrads_coordinate) p word) number c.descend.ensures.first)

@@ -1,5 +1,3 @@
-use Rattle.std.proofs.Common.{◌≤◌, arith}
-use Rattle.std.specs.Prelude.{IsTrue, ◌↔◌}
 use Rattle.scr_twophase.specs.Minima.{needs_turns}
 use Rattle.scr_twophase.specs.Proofs.MinimaLaws.{Needs-tested, NeedsTurns-iff}
 use Rattle.scr_twophase.proofs.FirstSteps.{same_test}

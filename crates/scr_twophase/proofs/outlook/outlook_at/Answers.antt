@@ -1,5 +1,5 @@
-use Rattle.std.proofs.Common.{◌<◌, ◌≤◌, arith}
-use Rattle.scr_twophase.proofs.OutlookLaws.{AreFound, IsOutlook-found}
+use Rattle.std.proofs.Common.{arith}
+use Rattle.scr_twophase.proofs.OutlookLaws.{IsOutlook-found}
 use Rattle.scr_twophase.proofs.outlook.outlook_at.Goals as goal
 
 pub returns : goal.returns

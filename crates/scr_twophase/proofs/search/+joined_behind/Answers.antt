@@ -1,7 +1,6 @@
-use Rattle.std.proofs.Common.{◌≡◌, ℕ, ◌+◌, ◌-◌, ◌<◌, ◌≤◌, true, List, [], ◌∷◌, ◌++◌, Some, None, length, length-append, sym, ap, ◌∙◌, subst, arith}
+use Rattle.std.proofs.Common.{◌≡◌, ℕ, ◌-◌, true, [], ◌∷◌, length, length-append, sym, ap, ◌∙◌, subst, arith}
 use Rattle.std.specs.Prelude.{IfNone}
 use Rattle.scr_twophase.specs.Search.{letters, IsAtFirst}
-use Rattle.scr_twophase.specs.TurnSets.{turns_in}
 use Rattle.scr_twophase.specs.TwoParts.{all_turns, first_joined, is_first_part, is_orderly}
 use Rattle.scr_twophase.specs.Words.{words_behind}
 use Rattle.scr_twophase.proofs.FirstSteps.{IsFirstPosition-shown, IsAtFirst-turned, IsUnderWay-begin, IsUnderWay-next, IsUnderWay-found, IsUnderWay-none, IsUnderWay-used, turn_open}

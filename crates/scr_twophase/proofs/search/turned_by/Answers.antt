@@ -1,4 +1,4 @@
-use Rattle.std.proofs.Common.{get_or, ap, ◌∙◌, arith, sym}
+use Rattle.std.proofs.Common.{ap, ◌∙◌, arith, sym}
 use Rattle.scr_play.proofs.PlayLaws.{play-empty}
 use Rattle.scr_play.proofs.StepLaws.{play-more, play-whole}
 use Rattle.scr_twophase.specs.TwoParts.{after_turn}

@@ -3,11 +3,10 @@ use Rattle.scr_table.specs.declared.fault.BuildFault.{BuildFault}
 use Rattle.scr_table.specs.Causes.{IsCause}
 use Rattle.scr_table.specs.Lines.{TableLine}
 use Rattle.scr_notation.specs.declared.event.Event.TheVariants.{C333}
-use Rattle.scr_small.proofs.Pairs.{IfErr-handed}
 use Rattle.scr_stages.specs.Tables.{stage_lines}
 use Rattle.scr_twophase.specs.Tables.{prune_lines}
 use Rattle.scr_slots.specs.Events.{tables_of}
-use Rattle.scr_slots.proofs.BuildCauses.{Any-before, Any-behind}
+use Rattle.scr_slots.proofs.BuildCauses.{IfErr-handed, Any-before, Any-behind}
 use Rattle.scr_slots.proofs.cube_tables.CubeTables.build.Goals as goal
 
 abbrev IsOneCause : BuildFault → Type 0

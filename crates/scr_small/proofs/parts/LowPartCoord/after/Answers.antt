@@ -1,7 +1,7 @@
 use Rattle.scr_small.specs.PartLaws.{low_place}
 use Rattle.scr_small.proofs.parts.LowPartCoord.after.Goals as goal
 
-pub state_at-requires : goal.state_at-requires
-state_at-requires g c =
+pub state_with-requires : goal.state_with-requires
+state_with-requires g c =
     let parts = g.met.P.OneTable.by_parts in
     low_place g.P.OneTable.LOW g.P.OneTable.HIGH _ c.args.position parts.pairs g.met.P.OneTable.lawful.numbering.some c.requires.position

@@ -1,4 +1,4 @@
-use Rattle.std.proofs.Common.{◌++◌, ◌∷◌, [], sym, ap, ◌∙◌, arith}
+use Rattle.std.proofs.Common.{◌++◌, ◌∷◌, [], sym, ap, ◌∙◌}
 use Rattle.scr_coord.specs.Moves.{each_below}
 use Rattle.scr_coord.proofs.MoveLaws.{each_below-none, each_below-more}
 use Rattle.scr_sq1solve.specs.Tables.{shapes_state}
@@ -12,6 +12,3 @@ loop-index-preserved c =
     let index = c.loop-index.index in
     c.in_ok-push.ensures.items ∙ ap (λ xs. xs ++ c.state_of.result ∷ []) c.loop-index.invariant
     ∙ ap (λ s. each_below shapes_state index ++ s ∷ []) c.state_of.ensures ∙ sym (each_below-more shapes_state index)
-
-pub invariant_of-result : goal.invariant_of-result
-invariant_of-result c = record { each = c.loop-index.invariant ∙ ap (each_below shapes_state) {y = 7356} (omega arith) }

@@ -1,12 +1,18 @@
-use Rattle.std.proofs.Common.{map, ap, ◌∙◌, subst}
+use Rattle.std.proofs.Common.{map, sym, ap, ◌∙◌, subst}
 use Rattle.scr_orbit.specs.PlaceTurns.{rearrangement_of}
+use Rattle.scr_coord.specs.Coordinates.{StaysBelow}
 use Rattle.scr_coord.specs.Moves.{moves_coordinate}
 use Rattle.scr_coord.specs.Projections.{projection}
 use Rattle.scr_coord.specs.SearchSpaces.{ShowsSame}
 use Rattle.scr_stages.specs.Tetrads.{half_corners_view}
 use Rattle.scr_stages.proofs.TurnArrays.{first_moves, second_moves, middle_moves}
+use Rattle.scr_stages.proofs.HalfParts.{StaysBelow-half_corners}
 use Rattle.scr_stages.proofs.HalfTurned.{StaysBelow-halves}
 use Rattle.scr_stages.proofs.half_moves.HalfMoves.build.Goals as goal
+
+pub new-corners-requires-clause-stays : goal.new-corners-requires-clause-stays
+new-corners-requires-clause-stays c =
+    subst (λ moves. StaysBelow (projection half_corners_view moves)) (sym c.corners_turned-turns.ensures.turns) StaysBelow-half_corners
 
 pub block_moves-requires-clause-kept : goal.block_moves-requires-clause-kept
 block_moves-requires-clause-kept c = first_moves
@@ -20,7 +26,7 @@ block_moves-requires-3-clause-kept c = middle_moves
 pub invariant_of-result : goal.invariant_of-result
 invariant_of-result c = record {
   shows_corners = subst (λ moves. ShowsSame (projection half_corners_view moves) (moves_coordinate c.in_ok-build.field-0))
-      (ap (map rearrangement_of) c.new.ensures ∙ c.half_corner_turns.ensures) c.in_ok-build.ensures;
+      (ap (map rearrangement_of) c.new-corners.ensures ∙ c.corners_turned-turns.ensures.turns) c.in_ok-build.ensures;
   shows_first = c.in_ok-block_moves.ensures;
   shows_second = c.in_ok-block_moves-2.ensures;
   shows_middle = c.in_ok-block_moves-3.ensures;

@@ -4,8 +4,8 @@ use Rattle.scr_stages.specs.Numbers.{AreParts, half_cubes}
 use Rattle.scr_stages.proofs.HalfSteps.{AreParts-at}
 use Rattle.scr_stages.proofs.half_moves.HalfMoves.parts.Goals as goal
 
-pub returns : goal.returns
-returns c =
+pub returns-clause-parts : goal.returns-clause-parts
+returns-clause-parts c =
     let p = c.args.position in
     let me = c.args.self.now in
     let sum = get_or me.odd_corners (p / 12 / 24 / 24) 0 + get_or me.odd (p / 12 / 24 % 24) 0 + get_or me.odd (p / 12 % 24) 0

@@ -1,66 +1,58 @@
-use Rattle.std.proofs.Common.{◌≡◌, Some, None, sym, ◌∙◌, arith}
-use Rattle.scr_stages.proofs.HalfSteps.{middle_at, second_at, first_at, corners_at, step, fits, no_middle, no_second, no_first, no_corners}
+use Rattle.std.proofs.Common.{sym, ◌∙◌}
+use Rattle.scr_stages.specs.declared.half_parts.HalfParts.{HalfParts}
+use Rattle.scr_stages.proofs.HalfSteps.{no_middle, no_second, no_first, no_corners, turned_below, turned_number}
 use Rattle.scr_stages.proofs.half_moves.HalfMovesCoord.after.Goals as goal
 
-pub after-requires-clause-position : goal.after-requires-clause-position
-after-requires-clause-position c =
-    middle_at c.args.self.now c.args.position c.requires.position c.parts-parts.result c.parts-parts.ensures c.args.turn c.requires.turn
-
-pub after-requires-2-clause-position : goal.after-requires-2-clause-position
-after-requires-2-clause-position c =
-    second_at c.args.self.now c.args.position c.requires.position c.parts-parts.result c.parts-parts.ensures c.args.turn c.requires.turn
-
-pub after-requires-3-clause-position : goal.after-requires-3-clause-position
-after-requires-3-clause-position c =
-    first_at c.args.self.now c.args.position c.requires.position c.parts-parts.result c.parts-parts.ensures c.args.turn c.requires.turn
-
-pub after-requires-4-clause-position : goal.after-requires-4-clause-position
-after-requires-4-clause-position c =
-    corners_at c.args.self.now c.args.position c.requires.position c.parts-parts.result c.parts-parts.ensures c.args.turn c.requires.turn
-
-pub returns-in_err-middle : goal.returns-in_err-middle
-returns-in_err-middle c =
+pub returns-in_err-after : goal.returns-in_err-after
+returns-in_err-after c =
+    let parts = c.parts-parts in
     c.from_residual.ensures
-    ∙ no_middle c.args.self.now c.args.position c.requires.position c.parts-parts.result c.parts-parts.ensures c.args.turn c.requires.turn
-    (sym (c.in_err-middle.was) ∙ c.after.ensures)
+    ∙ no_middle c.args.self.now c.args.position c.requires.position parts.result parts.ensures.parts parts.ensures.below c.args.turn c.requires.turn
+    (sym (c.in_err-after.was) ∙ c.after.ensures)
 
-pub returns-in_err-second : goal.returns-in_err-second
-returns-in_err-second c =
-    c.from_residual-in_err-second.ensures
-    ∙ no_second c.args.self.now c.args.position c.requires.position c.parts-parts.result c.parts-parts.ensures c.args.turn c.requires.turn
-    (sym (c.in_err-second.was) ∙ c.after-2.ensures)
+pub returns-in_err-after-2 : goal.returns-in_err-after-2
+returns-in_err-after-2 c =
+    let parts = c.parts-parts in
+    c.from_residual-in_err-after-2.ensures
+    ∙ no_second c.args.self.now c.args.position c.requires.position parts.result parts.ensures.parts parts.ensures.below c.args.turn c.requires.turn
+    (sym (c.in_err-after-2.was) ∙ c.after-2.ensures)
 
-pub returns-in_err-first : goal.returns-in_err-first
-returns-in_err-first c =
-    c.from_residual-in_err-first.ensures
-    ∙ no_first c.args.self.now c.args.position c.requires.position c.parts-parts.result c.parts-parts.ensures c.args.turn c.requires.turn
-    (sym (c.in_err-first.was) ∙ c.after-3.ensures)
+pub returns-in_err-after-3 : goal.returns-in_err-after-3
+returns-in_err-after-3 c =
+    let parts = c.parts-parts in
+    c.from_residual-in_err-after-3.ensures
+    ∙ no_first c.args.self.now c.args.position c.requires.position parts.result parts.ensures.parts parts.ensures.below c.args.turn c.requires.turn
+    (sym (c.in_err-after-3.was) ∙ c.after-3.ensures)
 
-pub returns-in_err-corners : goal.returns-in_err-corners
-returns-in_err-corners c =
-    c.from_residual-in_err-corners.ensures
-    ∙ no_corners c.args.self.now c.args.position c.requires.position c.parts-parts.result c.parts-parts.ensures c.args.turn c.requires.turn
-    (sym (c.in_err-corners.was) ∙ c.after-4.ensures)
+pub returns-in_err-after-4 : goal.returns-in_err-after-4
+returns-in_err-after-4 c =
+    let parts = c.parts-parts in
+    c.from_residual-in_err-after-4.ensures
+    ∙ no_corners c.args.self.now c.args.position c.requires.position parts.result parts.ensures.parts parts.ensures.below c.args.turn c.requires.turn
+    (sym (c.in_err-after-4.was) ∙ c.after-4.ensures)
 
-pub overflow_mul-result-3 : goal.overflow_mul-result-3
-overflow_mul-result-3 c =
-    let below = fits c.args.self.now c.args.position c.requires.position c.parts-parts.result c.parts-parts.ensures c.args.turn c.requires.turn
-    c.in_ok-middle.middle c.in_ok-second.second c.in_ok-first.first c.in_ok-corners.corners
-    (sym (c.in_ok-middle.was) ∙ c.after.ensures) (sym (c.in_ok-second.was) ∙ c.after-2.ensures) (sym (c.in_ok-first.was) ∙ c.after-3.ensures)
-    (sym (c.in_ok-corners.was) ∙ c.after-4.ensures) in
-    omega (arith, below.1, below.2, below.3)
-
-pub overflow_add-result-2 : goal.overflow_add-result-2
-overflow_add-result-2 c =
-    let below = fits c.args.self.now c.args.position c.requires.position c.parts-parts.result c.parts-parts.ensures c.args.turn c.requires.turn
-    c.in_ok-middle.middle c.in_ok-second.second c.in_ok-first.first c.in_ok-corners.corners
-    (sym (c.in_ok-middle.was) ∙ c.after.ensures) (sym (c.in_ok-second.was) ∙ c.after-2.ensures) (sym (c.in_ok-first.was) ∙ c.after-3.ensures)
-    (sym (c.in_ok-corners.was) ∙ c.after-4.ensures) in
-    omega (arith, below.0, below.1, below.2, below.3)
+pub number-requires : goal.number-requires
+number-requires c =
+    let parts = c.parts-parts in
+    let turned : HalfParts = record {
+      middle = c.in_ok-after.field-0;
+      second = c.in_ok-after-2.field-0;
+      first = c.in_ok-after-3.field-0;
+      corners = c.in_ok-after-4.field-0;
+    } in
+    turned_below c.args.self.now c.args.position c.requires.position parts.result parts.ensures.parts parts.ensures.below c.args.turn c.requires.turn
+    turned (sym (c.in_ok-after.was) ∙ c.after.ensures) (sym (c.in_ok-after-2.was) ∙ c.after-2.ensures) (sym (c.in_ok-after-3.was) ∙ c.after-3.ensures)
+    (sym (c.in_ok-after-4.was) ∙ c.after-4.ensures)
 
 pub returns : goal.returns
 returns c =
-    step c.args.self.now c.args.position c.requires.position c.parts-parts.result c.parts-parts.ensures c.args.turn c.requires.turn
-    c.in_ok-middle.middle c.in_ok-second.second c.in_ok-first.first c.in_ok-corners.corners
-    (sym (c.in_ok-middle.was) ∙ c.after.ensures) (sym (c.in_ok-second.was) ∙ c.after-2.ensures) (sym (c.in_ok-first.was) ∙ c.after-3.ensures)
-    (sym (c.in_ok-corners.was) ∙ c.after-4.ensures)
+    let parts = c.parts-parts in
+    let turned : HalfParts = record {
+      middle = c.in_ok-after.field-0;
+      second = c.in_ok-after-2.field-0;
+      first = c.in_ok-after-3.field-0;
+      corners = c.in_ok-after-4.field-0;
+    } in
+    turned_number c.args.self.now c.args.position c.requires.position parts.result parts.ensures.parts parts.ensures.below c.args.turn c.requires.turn
+    turned (sym (c.in_ok-after.was) ∙ c.after.ensures) (sym (c.in_ok-after-2.was) ∙ c.after-2.ensures) (sym (c.in_ok-after-3.was) ∙ c.after-3.ensures)
+    (sym (c.in_ok-after-4.was) ∙ c.after-4.ensures) c.number.result c.number.ensures.number

@@ -1,6 +1,5 @@
-use Rattle.std.proofs.Common.{◌≡◌, ℕ, ◌+◌, ◌-◌, ◌<◌, ◌≤◌, true, false, Some, None, List, [], ◌∷◌, ◌++◌, length, get_or, sym, ap, ◌∙◌, subst, arith, below_more, length-append}
+use Rattle.std.proofs.Common.{◌≡◌, ℕ, ◌-◌, ◌<◌, true, [], ◌∷◌, ◌++◌, length, get_or, sym, ap, ◌∙◌, subst, arith, below_more, length-append}
 use Rattle.std.specs.Prelude.{slice_get}
-use Rattle.scr_cube.specs.Cube333.{CubeState}
 use Rattle.scr_twophase.specs.Search.{letters, may_end, IsAtSecond}
 use Rattle.scr_twophase.specs.TwoParts.{domino_turns, is_orderly, is_solution}
 use Rattle.scr_twophase.specs.Words.{words_behind}

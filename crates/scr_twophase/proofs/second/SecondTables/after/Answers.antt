@@ -2,7 +2,7 @@ use Rattle.scr_coord.specs.Moves.{moves_coordinate}
 use Rattle.scr_coord.specs.Projections.{pieces_view}
 use Rattle.scr_stages.specs.Stages.{middle_edges, tetrads_stage}
 use Rattle.scr_stages.specs.Tables.{block_turn, corners_by, edges_by, outer_places}
-use Rattle.std.proofs.Common.{map, get_or}
+use Rattle.std.proofs.Common.{map}
 use Rattle.scr_twophase.specs.Tables.{corners_of, outer_edges_of, middle_edges_of, corners_coordinate, outer_edges_coordinate, middle_edges_coordinate}
 use Rattle.scr_twophase.proofs.Admissible.{leads-shown}
 use Rattle.scr_twophase.proofs.SecondLaws.{second_step, IsDominoCube-turned, position-shown}

@@ -1,8 +1,6 @@
-use Rattle.std.proofs.Common.{◌≡◌, Some, None, [], sym, below_more}
-use Rattle.scr_play.specs.Play.{play}
-use Rattle.scr_cube.specs.Cube333.{CubeState}
+use Rattle.std.proofs.Common.{◌≡◌, [], sym, below_more}
 use Rattle.scr_twophase.specs.Search.{letters, IsAtSecond}
-use Rattle.scr_twophase.specs.TwoParts.{after_turn, domino_turns, is_solution}
+use Rattle.scr_twophase.specs.TwoParts.{domino_turns, is_solution}
 use Rattle.scr_twophase.specs.Words.{words_behind}
 use Rattle.scr_twophase.proofs.Outcomes.{none-first}
 use Rattle.scr_twophase.proofs.SecondSteps.{IsSecondPosition-shown, joined_at, joined_nowhere}

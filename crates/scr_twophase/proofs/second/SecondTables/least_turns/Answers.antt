@@ -1,6 +1,6 @@
-use Rattle.std.proofs.Common.{◌≡◌, ℕ, ◌+◌, ◌*◌, ◌<◌, ◌≤◌, length, get_or, refl, sym, ap, ◌∙◌, arith}
+use Rattle.std.proofs.Common.{◌+◌, ◌*◌, refl, ap, ◌∙◌, arith}
 use Rattle.scr_orbit.specs.Orbits.{solved_orbit}
-use Rattle.scr_cube.specs.Cube333.{CubeState, solved_cube}
+use Rattle.scr_cube.specs.Cube333.{solved_cube}
 use Rattle.scr_twophase.specs.Tables.{corners_of, outer_edges_of, middle_edges_of, cornerslice_line, edgeslice_line}
 use Rattle.scr_twophase.proofs.SecondLaws.{least-second}
 use Rattle.scr_twophase.proofs.Spaces.{AreCornersHome, AreOuterHome, AreMiddleHome, Follows-cornerslice, Follows-edgeslice}

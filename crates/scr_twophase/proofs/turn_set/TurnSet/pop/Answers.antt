@@ -1,4 +1,4 @@
-use Rattle.std.proofs.Common.{◌<◌, ap, ◌∙◌, arith}
+use Rattle.std.proofs.Common.{ap, ◌∙◌, arith}
 use Rattle.scr_twophase.specs.TurnSets.{turns_in}
 use Rattle.scr_twophase.proofs.BitSets.{turns_in-none, turns_in-lowest, lowest-lt}
 use Rattle.scr_twophase.proofs.turn_set.TurnSet.pop.Goals as goal

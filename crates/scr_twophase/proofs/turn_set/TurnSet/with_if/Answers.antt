@@ -1,5 +1,4 @@
-use Rattle.std.proofs.Common.{◌*◌, ◌%◌, ◌^◌, ◌<◌}
-use Rattle.std.specs.Prelude.{◌==◌, ◌&&◌, ◌||◌}
+use Rattle.std.proofs.Common.{◌*◌, ◌%◌, ◌^◌}
 use Rattle.std.proofs.lemmas.Nat.{or_lt}
 use Rattle.scr_twophase.proofs.BitSets.{has_turn-with, power_below}
 use Rattle.scr_twophase.proofs.turn_set.TurnSet.with_if.Goals as goal

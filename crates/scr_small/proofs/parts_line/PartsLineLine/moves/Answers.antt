@@ -1,0 +1,16 @@
+use Rattle.std.proofs.lemmas.Result.{IfOk-weaker}
+use Rattle.scr_coord.proofs.SearchLaws.{ShowsSame-through}
+use Rattle.scr_coord.specs.Products.{product}
+use Rattle.scr_small.specs.NumberedPuzzles.{state_coordinate}
+use Rattle.scr_small.specs.StateParts.{low_part, high_part}
+use Rattle.scr_small.proofs.ShownByParts.{ShowsSame-parts}
+use Rattle.scr_small.proofs.parts_line.PartsLineLine.moves.Goals as goal
+
+pub returns : goal.returns
+returns g c =
+    let p = g.P.OneTable in
+    let l = g.met.P.OneTable in
+    IfOk-weaker c.of_moves.result _ _
+    (λ moves shows.
+    ShowsSame-through (state_coordinate p.shown) (product (low_part p.shown p.LOW) (high_part p.shown p.LOW p.HIGH)) _
+    (ShowsSame-parts p.shown l.lawful p.LOW p.HIGH l.by_parts) shows) c.of_moves.ensures

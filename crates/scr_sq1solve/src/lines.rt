@@ -1,0 +1,94 @@
+//! What the tables of the stages are called, what each is a table of, and how far it may reach.
+
+use crate::code_moves::SquareMoves;
+use crate::letter_places::letter_places;
+use crate::pairing_lists::PairingLists;
+use crate::shape_states::ShapeStates;
+use crate::stage_letters::Letters;
+use scr_coord::{MoveTable, Product};
+use scr_table::{Line, TableName};
+use std::alloc::{AllocError, Global};
+
+/// The table of shapes and parities.
+pub(crate) struct ShapesLine;
+
+impl Line for ShapesLine {
+    ghost use Rattle.scr_sq1solve.specs.Tables.{shapes_line};
+    ghost use Rattle.std.proofs.Common.{lit≤};
+
+    ghost line = { shapes_line };
+
+    fn name() -> TableName {
+        TableName::Shapes
+    }
+
+    fn bound() -> u32 {
+        13
+    }
+
+    type Moves = MoveTable;
+
+    fn moves(alloc: Global) -> Result<MoveTable, AllocError> {
+        let states = ShapeStates::build(alloc)?;
+        MoveTable::build(alloc, &states)
+    }
+
+    ghost few_turns = { lit≤ tt };
+}
+
+/// The table of the pairings of corners, which follow each other in its positions, beside those of edges.
+pub(crate) struct PairingsLine;
+
+impl Line for PairingsLine {
+    ghost use Rattle.scr_sq1solve.specs.Tables.{pairings_line};
+    ghost use Rattle.std.proofs.Common.{lit≤};
+
+    ghost line = { pairings_line };
+
+    fn name() -> TableName {
+        TableName::Pairings
+    }
+
+    fn bound() -> u32 {
+        20
+    }
+
+    type Moves = MoveTable;
+
+    fn moves(alloc: Global) -> Result<MoveTable, AllocError> {
+        let places = letter_places(Letters::OfPairings);
+        let corners = PairingLists::new(&places.corners);
+        let edges = PairingLists::new(&places.edges);
+        let pair = Product::of_moves(alloc, &corners, &edges)?;
+        MoveTable::build(alloc, &pair)
+    }
+
+    ghost few_turns = { lit≤ tt };
+}
+
+/// The table of the states in which mates stand opposite to each other.
+pub(crate) struct SquareLine;
+
+impl Line for SquareLine {
+    ghost use Rattle.scr_sq1solve.specs.Tables.{square_line};
+    ghost use Rattle.std.proofs.Common.{lit≤};
+
+    ghost line = { square_line };
+
+    fn name() -> TableName {
+        TableName::Square
+    }
+
+    fn bound() -> u32 {
+        20
+    }
+
+    type Moves = MoveTable;
+
+    fn moves(alloc: Global) -> Result<MoveTable, AllocError> {
+        let moves = SquareMoves::build(alloc)?;
+        MoveTable::build(alloc, &moves)
+    }
+
+    ghost few_turns = { lit≤ tt };
+}
