@@ -12,9 +12,8 @@ ghost use Rattle.scr_bigs.specs.CubeMoves.{cube_moves, attempts_read};
 ghost use Rattle.scr_bigs.specs.LeftOut.{without};
 
 use crate::choosing::choose;
-use crate::turns::push_turn;
 use scr_draw::DrawLimit;
-use scr_notation::{Event, Scramble, Turn};
+use scr_notation::{Event, Scramble, Turn, push_turn};
 use scr_words::Words;
 
 /// The scramble of a cube with `SIDE` layers, from 5 to 7, that words give: 60, 80 or 100 turns. Each turn is one of those
@@ -39,24 +38,7 @@ pub fn big_cube<W: Words, const SIDE: usize>(
         W.taken words.new ≡ W.taken words.old + 3 * read }
     ensures same_words { W.word_at words.new ≡ W.word_at words.old }
 {
-    random_moves(words, SIDE as u8, attempts)
-}
-
-/// The same, of a cube with so many layers.
-fn random_moves<W: Words>(words: &mut W, side: u8, attempts: u32) -> Result<Scramble, DrawLimit>
-    requires side { IsSide side }
-    requires few { attempts ≤ 1000000 }
-    requires room { W.taken words.old ≤ 2 ^ 62 }
-    ensures event { IfOk result (λ scramble. scramble.event ≡ (cube_of side).event) }
-    ensures turns { IfOk result (λ scramble.
-        cube_moves (cube_of side) attempts (W.word_at words.old) (W.taken words.old) ≡ Some scramble.turns) }
-    ensures refused { OnErr result (cube_moves (cube_of side) attempts (W.word_at words.old) (W.taken words.old) ≡ None) }
-    ensures limit { IfErr result (λ limit. limit.words ≡ 3 * attempts) }
-    ensures taken { let cube = cube_of side in
-        let read = attempts_read cube attempts (W.word_at words.old) (all_turns cube) (W.taken words.old) cube.turns in
-        W.taken words.new ≡ W.taken words.old + 3 * read }
-    ensures same_words { W.word_at words.new ≡ W.word_at words.old }
-{
+    let side = SIDE as u8;
     let mut scramble = Scramble::new(event_of(side));
     let mut left_out = LeftOut { first: 0, count: 0 };
     for made in 0..turn_count(side) {

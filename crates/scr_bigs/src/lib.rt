@@ -14,10 +14,6 @@ mod choosing;
 mod cube_moves;
 pub mod laws;
 mod megaminx_moves;
-mod turns;
 
 pub use cube_moves::big_cube;
 pub use megaminx_moves::megaminx;
-
-#[cfg(test)]
-mod tests;

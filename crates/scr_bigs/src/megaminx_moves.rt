@@ -5,9 +5,8 @@ ghost use Rattle.scr_combinatorics.specs.Digits.{mixed_digits};
 ghost use Rattle.scr_notation.specs.declared.event.Event.TheVariants.{Minx};
 ghost use Rattle.scr_bigs.specs.Megaminx.{row_turns, megaminx_moves};
 
-use crate::turns::push_turn;
 use scr_draw::next_number;
-use scr_notation::{Event, Scramble, Turn};
+use scr_notation::{Event, Scramble, Turn, push_turn};
 use scr_words::Words;
 
 /// The letters of wide turns: R is 0, D is 1, U is 2.

@@ -23,6 +23,3 @@ pub use clock::Clock;
 pub use least::needs_at_least;
 pub use numbers::ClockNumbers;
 pub use scramble::scramble_clock;
-
-#[cfg(test)]
-mod tests;

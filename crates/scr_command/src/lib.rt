@@ -12,8 +12,6 @@ mod command;
 pub mod laws;
 mod options;
 mod splitting;
-#[cfg(test)]
-mod tests;
 
 pub use command::{Command, CommandFault, UsageFault, read_command};
 pub use options::Options;

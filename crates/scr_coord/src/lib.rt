@@ -28,6 +28,3 @@ pub use move_table::MoveTable;
 pub use place_set::{PlaceSet, places_of};
 pub use product::Product;
 pub use twists::Twists;
-
-#[cfg(test)]
-mod tests;

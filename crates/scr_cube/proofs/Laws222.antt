@@ -3,16 +3,12 @@ use Rattle.std.proofs.Common.{refl, lit<, lit≤}
 use Rattle.scr_orbit.specs.Actions.{power}
 use Rattle.scr_orbit.specs.Orbits.{IsZeroSumRearrangement, composed, identity, added_digits}
 use Rattle.scr_orbit.proofs.OrbitLaws.{zero_sum_laws, IsZeroSumOrbit-solved}
-use Rattle.scr_orbit.proofs.Orders.{TellsIdentity}
-use Rattle.scr_orbit.proofs.TableTests.{is_still, still, is_zero_sum_turn, IsZeroSumRearrangement-from_test}
+use Rattle.scr_orbit.proofs.Orders.{tells_orbit}
+use Rattle.scr_orbit.proofs.TableTests.{is_still, is_zero_sum_turn, IsZeroSumRearrangement-from_test}
 use Rattle.scr_turning.specs.PowerPuzzles.{IsPowerPuzzle}
 use Rattle.scr_turning.specs.Proofs.FaceLaws.{face_powers, faces_numbered}
 use Rattle.scr_turning.proofs.PowerPuzzleLaws.{IsPowerPuzzle-from_test}
 use Rattle.scr_cube.specs.Cube222.{IsCorners222, powers_222, solved_222}
-
-pub tells_222 : TellsIdentity powers_222.action (is_still 7)
-unfolding identity
-tells_222 = record { shows = still 7; passes = refl }
 
 pub lawful_222 : IsPowerPuzzle powers_222 IsCorners222 (IsZeroSumRearrangement 7 3)
 unfolding power composed identity added_digits solved_222
@@ -20,4 +16,4 @@ lawful_222 =
     IsPowerPuzzle-from_test powers_222 IsCorners222 (IsZeroSumRearrangement 7 3)
     (record { numbered = faces_numbered; powers = face_powers; few = lit≤ tt })
     (zero_sum_laws 7 3 (lit< tt)) (IsZeroSumOrbit-solved 7 3 (lit< tt))
-    (is_still 7) tells_222 (is_zero_sum_turn 7 3) (IsZeroSumRearrangement-from_test 7 3) refl
+    (is_still 7) (tells_orbit 7 3) (is_zero_sum_turn 7 3) (IsZeroSumRearrangement-from_test 7 3) refl

@@ -7,7 +7,7 @@ use Rattle.scr_combinatorics.specs.Permutations.{permutation_number, permutation
 use Rattle.scr_combinatorics.specs.Twists.{twists_number, twists_at}
 use Rattle.scr_combinatorics.specs.Numbered.{Numbered, numbered_by_digits}
 use Rattle.scr_orbit.specs.Actions.{Action}
-use Rattle.scr_orbit.specs.Orbits.{Orbit, Rearrangement, IsZeroSumOrbit, solved_orbit, orbit_action}
+use Rattle.scr_orbit.specs.Orbits.{Orbit, Rearrangement, IsZeroSumOrbit, zeros, solved_orbit, orbit_action}
 use Rattle.scr_turning.specs.Faces.{face_letters}
 use Rattle.scr_turning.specs.PowerPuzzles.{PowerPuzzle}
 
@@ -18,7 +18,7 @@ IsCorners222 = IsZeroSumOrbit 7 3
 -- The quarter turns of U, R and F: which place's corner comes to each place, and the twist added.
 abbrev pub quarters_222 : List Rearrangement
 quarters_222 =
-    record { places = 3 ∷ 0 ∷ 1 ∷ 2 ∷ 4 ∷ 5 ∷ 6 ∷ []; added = 0 ∷ 0 ∷ 0 ∷ 0 ∷ 0 ∷ 0 ∷ 0 ∷ [] }
+    record { places = 3 ∷ 0 ∷ 1 ∷ 2 ∷ 4 ∷ 5 ∷ 6 ∷ []; added = zeros 7 }
     ∷ record { places = 4 ∷ 1 ∷ 2 ∷ 0 ∷ 6 ∷ 5 ∷ 3 ∷ []; added = 2 ∷ 0 ∷ 0 ∷ 1 ∷ 1 ∷ 0 ∷ 2 ∷ [] }
     ∷ record { places = 1 ∷ 5 ∷ 2 ∷ 3 ∷ 0 ∷ 4 ∷ 6 ∷ []; added = 1 ∷ 2 ∷ 0 ∷ 0 ∷ 2 ∷ 1 ∷ 0 ∷ [] }
     ∷ []

@@ -2,13 +2,12 @@
 //! they are drawn fairly.
 //!
 //! A cube is two orbits, of corners and of edges, and a 2x2x2 one; a puzzle is the table of its quarter turns over them
-//! (`specs/Cube333.antt`, `specs/Cube222.antt`), and all else follows by the one theory of
-//! `scr_turning`. [`corner_turns`],
-//! [`edge_turns`] and [`turns_222`] are all turns as single rearrangements, for searches and coordinates; a wrong entry is
-//! refused. Both are turned by faces and by scrambles ([`PowerTurned`]). `laws` has what holds of both: that turns are lawful, that
-//! the numberings are one to one, and what ties the tables to the puzzles themselves: stickers that are carried, mirror
-//! images, orders, known words and known numbers. The crate stands on puzzles of pieces, on orbits, on the numbers of
-//! lists and on fair drawing.
+//! (`specs/Cube333.antt`, `specs/Cube222.antt`), and all else follows by the one theory of `scr_turning`.
+//! [`corner_turns`], [`edge_turns`] and [`turns_222`] are all turns as single rearrangements, for searches and
+//! coordinates; a wrong entry is refused. Both are turned by faces and by scrambles ([`PowerTurned`]). `laws` has what
+//! holds of both: that turns are lawful, that the numberings are one to one, and what ties the tables to the puzzles
+//! themselves: stickers that are carried, mirror images, orders, known words and known numbers. The crate stands on
+//! puzzles of pieces, on orbits, on the numbers of lists and on fair drawing.
 #![tactic(auto)]
 
 mod corners;
@@ -23,6 +22,3 @@ pub use cube::Cube;
 pub use numbers::{CubeNumbers, Numbers222};
 pub use scr_turning::PowerTurned;
 pub use tables::{corner_turns, edge_turns, turns_222};
-
-#[cfg(test)]
-mod tests;

@@ -1,7 +1,7 @@
 //! The numbers of cubes, by which they are drawn.
 ghost use Rattle.std.specs.Prelude.{◌≡◌};
-ghost use Rattle.scr_cube.specs.Cube333.{IsCube, cube_bases, cube_digits, cube_numbered};
-ghost use Rattle.scr_cube.specs.Cube222.{bases_222, numbered_222};
+ghost use Rattle.scr_cube.specs.Cube333.{IsCube, cube_digits, cube_numbered};
+ghost use Rattle.scr_cube.specs.Cube222.{numbered_222};
 ghost use Rattle.scr_cube.specs.Numbered333.{cube_numbering};
 ghost use Rattle.scr_cube.specs.Numbered222.{numbering_222};
 
@@ -21,18 +21,11 @@ pub struct CubeNumbers;
 #[derive(Clone, Copy)]
 pub struct Numbers222;
 
-/// How many cubes there are.
-const CUBES: u128 = 43_252_003_274_489_856_000;
-
-/// How many states of a 2x2x2 there are.
-const STATES_222: u128 = 3_674_160;
-
 /// How many flips, twists, lists of corners and lists of edges of one parity there are.
-fn cube_radix() -> MixedRadix<4>
-    ensures { result ≡ cube_bases }
-{
-    MixedRadix::new([2048, 2187, 40_320, 239_500_800])
-}
+const CUBE_BASES: [u128; 4] = [2048, 2187, 40_320, 239_500_800];
+
+/// How many twists and lists of corners there are.
+const BASES_222: [u128; 2] = [729, 5040];
 
 /// The numbers of a cube's flips, of its twists, of its list of corners, and half the number of its list of edges.
 fn digits_of(cube: &Cube) -> [u128; 4]
@@ -47,13 +40,6 @@ fn digits_of(cube: &Cube) -> [u128; 4]
     ]
 }
 
-/// How many twists and lists of corners there are.
-fn radix_222() -> MixedRadix<2>
-    ensures { result ≡ bases_222 }
-{
-    MixedRadix::new([729, 5040])
-}
-
 impl Numbering for CubeNumbers {
     type State = Cube;
 
@@ -62,7 +48,7 @@ impl Numbering for CubeNumbers {
     ghost law = { λ _. cube_numbering };
 
     fn state_at(&self, number: u128) -> Cube {
-        let [flips, twists, corners, edge_half] = cube_radix().unrank(number);
+        let [flips, twists, corners, edge_half] = MixedRadix::new(CUBE_BASES).unrank(number);
         let corners = PermRank::<8>::unrank(corners);
         let mut edges = [0; 12];
         unrank_with_parity(edge_half as u64, is_odd(&corners), &mut edges);
@@ -73,12 +59,12 @@ impl Numbering for CubeNumbers {
     }
 
     fn number_of(&self, state: &Cube) -> u128 {
-        cube_radix().rank(&digits_of(state))
+        MixedRadix::new(CUBE_BASES).rank(&digits_of(state))
     }
 
     // 2^11 flips, 3^7 twists, 8! lists of corners, and 12!/2 lists of edges, those of the corners' parity.
     fn count(&self) -> u128 {
-        CUBES
+        MixedRadix::new(CUBE_BASES).count()
     }
 }
 
@@ -90,7 +76,7 @@ impl Numbering for Numbers222 {
     ghost law = { λ _. numbering_222 };
 
     fn state_at(&self, number: u128) -> Corners222 {
-        let [twists, corners] = radix_222().unrank(number);
+        let [twists, corners] = MixedRadix::new(BASES_222).unrank(number);
         Corners222::of_valid(Placed::new(
             PermRank::<7>::unrank(corners),
             TwistRank::<7, 3>::unrank(twists),
@@ -98,13 +84,13 @@ impl Numbering for Numbers222 {
     }
 
     fn number_of(&self, state: &Corners222) -> u128 {
-        radix_222().rank(&[
+        MixedRadix::new(BASES_222).rank(&[
             TwistRank::<7, 3>::rank(&state.twists()),
             PermRank::<7>::rank(&state.corners()),
         ])
     }
 
     fn count(&self) -> u128 {
-        STATES_222
+        MixedRadix::new(BASES_222).count()
     }
 }

@@ -1,10 +1,9 @@
 //! Turns of both cubes. The faces U R F D L B are the generators 0 to 5.
 ghost use Rattle.std.proofs.Common.{lit≤};
-ghost use Rattle.scr_orbit.proofs.PowerLaws.{after-no_power};
-ghost use Rattle.scr_turning.specs.Faces.{quarters_of};
 ghost use Rattle.scr_turning.specs.PowerPuzzles.{after_letter};
-ghost use Rattle.scr_cube.specs.Cube333.{cube_quarters, cube_action, cube_powers};
-ghost use Rattle.scr_cube.specs.Cube222.{quarters_222, action_222, powers_222};
+ghost use Rattle.scr_turning.proofs.TurnedAt.{HasGenerators-puzzle};
+ghost use Rattle.scr_cube.specs.Cube333.{cube_powers};
+ghost use Rattle.scr_cube.specs.Cube222.{powers_222};
 
 use crate::corners::Corners222;
 use crate::cube::Cube;
@@ -28,9 +27,7 @@ impl PowerTurned for Cube {
         )
     }
 
-    ghost few = { lit≤ tt };
-
-    ghost barred = { after-no_power cube_action cube_quarters quarters_of };
+    ghost generators = { HasGenerators-puzzle cube_powers (lit≤ tt) };
 }
 
 impl PowerTurned for Corners222 {
@@ -46,7 +43,5 @@ impl PowerTurned for Corners222 {
         Corners222::of_valid(self.orbit().turned(&turns_222()[number], 3))
     }
 
-    ghost few = { lit≤ tt };
-
-    ghost barred = { after-no_power action_222 quarters_222 quarters_of };
+    ghost generators = { HasGenerators-puzzle powers_222 (lit≤ tt) };
 }

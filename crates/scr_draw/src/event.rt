@@ -59,3 +59,57 @@ pub trait RandomState: Numbering + Permit<<Self as Numbering>::State> {
     ghost reached: { (event : Self) (s : Self.State)
         → (Self.numbered event).IsValid s ↔ IsReached (Self.puzzle event) s };
 }
+
+/// A puzzle whose turns reach exactly the valid states of a numbering.
+pub trait Reaches<N: Numbering>: Permit<N::State> {
+    /// The valid states are those that turns reach.
+    ghost reached: { (puzzle : Self) (numbers : N) (s : N.State)
+        → (N.numbered numbers).IsValid s ↔ IsReached (Self.puzzle puzzle) s };
+}
+
+/// An event in two parts: the numbers of its states, and its puzzle with the test of minima.
+#[derive(Clone, Copy, Drop)]
+pub struct NumberedEvent<N, P> {
+    /// The numbers of its states.
+    pub numbers: N,
+    /// Its puzzle.
+    pub puzzle: P,
+}
+
+impl<N: Numbering, P> Numbering for NumberedEvent<N, P> {
+    type State = N::State;
+
+    ghost numbered = { λ event. N.numbered event.numbers };
+
+    ghost law = { λ event. N.law event.numbers };
+
+    fn count(&self) -> u128 {
+        self.numbers.count()
+    }
+
+    fn state_at(&self, number: u128) -> N::State {
+        self.numbers.state_at(number)
+    }
+
+    fn number_of(&self, state: &N::State) -> u128 {
+        self.numbers.number_of(state)
+    }
+}
+
+impl<N: Numbering, P: Permit<N::State>> Permit<N::State> for NumberedEvent<N, P> {
+    ghost puzzle = { λ event. P.puzzle event.puzzle };
+
+    ghost greatest = { λ event. P.greatest event.puzzle };
+
+    ghost needs = { λ event. P.needs event.puzzle };
+
+    fn needs_at_least(&self, state: &N::State, least: u32) -> bool {
+        self.puzzle.needs_at_least(state, least)
+    }
+
+    ghost exact = { λ event. P.exact event.puzzle };
+}
+
+impl<N: Numbering, P: Reaches<N>> RandomState for NumberedEvent<N, P> {
+    ghost reached = { λ event. P.reached event.puzzle event.numbers };
+}

@@ -12,8 +12,6 @@ mod fault;
 pub mod laws;
 mod read;
 mod round;
-#[cfg(test)]
-mod tests;
 
 pub use event::{EventRules, Minima, event_named, event_rules};
 pub use fault::{ListCause, ListFault};

@@ -55,7 +55,7 @@ struct EventRow {
 }
 
 /// The events, in the order of their numbers.
-const EVENTS: [Event; 11] = [
+pub const EVENTS: [Event; 11] = [
     Event::C222,
     Event::C333,
     Event::Oh333,

@@ -42,6 +42,7 @@ pub fn known_texts()
 {}
 
 /// The turns with these numbers, which order the words of a search.
+#[tactic(auto, unfolding(crate::specs::Spelling::spelling, crate::specs::Spelling::hours_text, crate::specs::TurnNumbers::face_turn_at, crate::specs::TurnNumbers::axis_turn_at, crate::specs::TurnNumbers::layer_turn_at, crate::specs::TurnNumbers::clock_turn_at, crate::specs::TurnNumbers::wide_turn_at))]
 pub fn known_numbers()
     ensures outer_layers { text_of (map face_turn_at
         (0 ∷ 1 ∷ 2 ∷ 3 ∷ 4 ∷ 5 ∷ 6 ∷ 7 ∷ 8 ∷ 9 ∷ 10 ∷ 11 ∷ 12 ∷ 13 ∷ 14 ∷ 15 ∷ 16 ∷ 17 ∷ []))

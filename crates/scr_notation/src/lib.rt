@@ -19,12 +19,9 @@ mod spelling;
 mod turn;
 mod turning;
 
-pub use event::{Event, Kind};
+pub use event::{EVENTS, Event, Kind};
 pub use printing::print;
 pub use reading::{NotationFault, parse};
-pub use scramble::{MOST_TURNS, Scramble};
-pub use turn::{PIN_SETS, Turn};
+pub use scramble::{MOST_TURNS, Scramble, push_turn};
+pub use turn::{PIN_SETS, Turn, turn_at, turn_count};
 pub use turning::{inverse, tidy};
-
-#[cfg(test)]
-mod tests;

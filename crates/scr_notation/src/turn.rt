@@ -156,7 +156,7 @@ fn is_wide_turn(turn: Turn) -> bool
 }
 
 /// How many turns a kind has.
-pub(crate) fn turn_count(kind: Kind) -> u8
+pub fn turn_count(kind: Kind) -> u8
     requires { IsKind kind }
     ensures { result ≡ turn_count kind }
 {
@@ -171,7 +171,7 @@ pub(crate) fn turn_count(kind: Kind) -> u8
 
 /// The turn of a kind with this number, below the count.
 #[tactic(auto, using(crate::proofs::NumberLaws::has_turn_at), unfolding(crate::specs::TurnNumbers::turn_at))]
-pub(crate) fn turn_at(kind: Kind, number: u8) -> Turn
+pub fn turn_at(kind: Kind, number: u8) -> Turn
     requires kind { IsKind kind }
     requires below { number < turn_count kind }
     ensures value { result ≡ turn_at kind number }

@@ -1,10 +1,14 @@
 -- Laws of pieces that turn at their places.
-use Rattle.std.proofs.Common.{◌≡◌, ℕ, ◌<◌, List, sym, ap, ◌∙◌}
+use Rattle.std.proofs.Common.{◌≡◌, ℕ, ◌<◌, List, Some, length, get_or, sym, ap, ◌∙◌}
+use Rattle.std.specs.Prelude.{slice_get}
+use Rattle.std.specs.Option.{option_map}
+use Rattle.std.proofs.lemmas.Option.{slice_get-get_or}
 use Rattle.scr_combinatorics.specs.Lists.{numbers_from, pick}
 use Rattle.scr_combinatorics.proofs.Picks.{pick-in_order, length-numbers_from}
 use Rattle.scr_orbit.specs.Actions.{IsAction}
 use Rattle.scr_orbit.specs.Orbits.{added_digits, zeros}
 use Rattle.scr_orbit.specs.InPlace.{AreDigitsInPlace, in_place_action}
+use Rattle.scr_orbit.proofs.Parts.{IsMadeAt}
 use Rattle.scr_orbit.proofs.DigitLaws.{length-added_digits, All-added_digits, added_digits-assoc, length-zeros, All-zeros, added_digits-zeros, added_digits-to_zeros}
 
 AreDigitsInPlace-added : (n m : ℕ) (ds es : List ℕ) → 0 < m → AreDigitsInPlace n m ds → AreDigitsInPlace n m es → AreDigitsInPlace n m (added_digits m ds es)
@@ -34,4 +38,14 @@ in_place_laws n m pos = record {
   nothing_after = added_digits-still n m;
   turned_by_none = added_digits-still n m;
   turned_by_both = λ ds es fs a b c. sym (added_digits-assoc m ds es fs);
+}
+
+-- a row of a table, and the digits after a turn that is read from it
+row-at : (rows all : List (List ℕ)) (k : ℕ) (d : List ℕ) → rows ≡ all → k < length rows → slice_get all k ≡ Some (get_or rows k d)
+row-at rows all k d e lt = ap (λ xs. slice_get xs k) (sym e) ∙ slice_get-get_or rows k d lt
+
+pub added-at : {all : List (List ℕ)} {ds from to : List ℕ} (m : ℕ) (rows : List (List ℕ)) (k : ℕ) (d : List ℕ) → from ≡ ds → rows ≡ all → k < length rows
+    → to ≡ added_digits m from (get_or rows k d) → IsMadeAt all k (added_digits m ds) to
+added-at {all = all} {ds = ds} m rows k d same e lt made = record {
+  is = ap (option_map (added_digits m ds)) (row-at rows all k d e lt) ∙ ap Some (sym (made ∙ ap (λ x. added_digits m x (get_or rows k d)) same));
 }

@@ -2,16 +2,45 @@
 use Rattle.std.proofs.Common.{◌≡◌, ℕ, zero, suc, ◌+◌, ◌-◌, ◌<◌, Bool, true, false, not, List, [], ◌∷◌, Option, Some, None, map, refl, subst, sym, ap, ◌∙◌, arith, ltb-true}
 use Rattle.std.specs.Prelude.{All, ◌&&◌, nat_lt, slice_get}
 use Rattle.std.specs.List.{list_all}
+use Rattle.std.specs.Str.{bytes_eq}
+use Rattle.std.specs.Cmp.Derive.{both_true}
 use Rattle.std.proofs.lemmas.Bool.{and_parts, false≢true}
 use Rattle.std.proofs.lemmas.Option.{same_Some}
+use Rattle.std.proofs.lemmas.Slice.Eq.{bytes_eq-Decides}
+use Rattle.scr_combinatorics.specs.Lists.{numbers_from}
 use Rattle.scr_orbit.specs.Actions.{Action, power, composed_word, IsOrder, IsWordOrder}
 use Rattle.scr_orbit.proofs.PowerLaws.{IsGenerator}
-use Rattle.scr_orbit.proofs.TableTests.{All-from_test}
+use Rattle.scr_orbit.specs.Orbits.{identity, zeros, orbit_action}
+use Rattle.scr_orbit.specs.InPlace.{in_place_action}
+use Rattle.scr_orbit.proofs.Parts.{ap_both, pair, pair_action, IsSeenAs}
+use Rattle.scr_orbit.proofs.TableTests.{All-from_test, is_still, still, zeros_only}
 
 -- A test of the rearrangement that moves nothing, which no other one passes.
 pub record TellsIdentity {S R : Type 0} (a : Action S R) (test : R → Bool) : Type 0 where
   pub shows : (r : R) → test r ≡ true → r ≡ a.identity
   pub passes : test a.identity ≡ true
+
+pub tells_orbit : (n m : ℕ) → TellsIdentity (orbit_action n m) (is_still n)
+unfolding identity
+tells_orbit n m = record { shows = still n; passes = both_true (equal_lists (numbers_from 0 n)) (equal_lists (zeros n)) }
+  where
+    equal_lists : (xs : List ℕ) → bytes_eq xs xs ≡ true
+    equal_lists xs = (bytes_eq-Decides xs xs).1 refl
+
+-- so it is with digits of pieces that stay at their places
+pub tells_in_place : (n m : ℕ) → TellsIdentity (in_place_action n m) (λ ds. bytes_eq ds (zeros n))
+tells_in_place n m = record { shows = zeros_only n; passes = (bytes_eq-Decides (zeros n) (zeros n)).1 refl }
+
+-- and with two parts, each of which has a test
+pub tells_both : {S R T Q U P : Type 0} (a : Action S R) (b : Action T Q) (c : Action U P) (state : S → T × U) (turn : R → Q × P)
+    → IsSeenAs a (pair_action b c) state turn → (test : Q → Bool) (other : P → Bool) → TellsIdentity b test → TellsIdentity c other
+    → TellsIdentity a (λ r. test (turn r).0 && other (turn r).1)
+tells_both a b c state turn seen test other first second = record {
+  shows = λ r h.
+      let both = and_parts (test (turn r).0) (other (turn r).1) h in
+      seen.same_turn r a.identity (ap_both pair (first.shows (turn r).0 both.0) (second.shows (turn r).1 both.1) ∙ sym seen.identity);
+  passes = ap (λ p. test p.0 && other p.1) seen.identity ∙ both_true first.passes second.passes;
+}
 
 -- a test fails at the next powers
 abbrev pub apart : {S R : Type 0} → Action S R → (R → Bool) → R → ℕ → R → Bool

@@ -13,6 +13,7 @@ use Rattle.scr_combinatorics.proofs.Counts.{occurrences-at, one_if-other}
 use Rattle.scr_combinatorics.proofs.Picks.{length-pick, pick-at, All-pick}
 use Rattle.scr_orbit.specs.Orbits.{Orbit, Rearrangement, added_digits, turned_orbit}
 use Rattle.scr_orbit.proofs.OrbitLaws.{same_orbit}
+use Rattle.scr_orbit.proofs.Parts.{IsMadeAt}
 
 -- a list that has at each place what is picked there
 pub pick_by_places : (xs ks ys : List ℕ) → length ys ≡ length ks → ((k : ℕ) → k < length ks → get_or ys k 0 ≡ get_or xs (get_or ks k 0) 0) → ys ≡ pick xs ks
@@ -69,3 +70,11 @@ pub turn-at : {n : ℕ} (ts : List (PlaceTurn n)) (all : List Rearrangement) (k 
     → slice_get all k ≡ Some (rearrangement_of (get_or ts k d))
 turn-at ts all k d e lt =
     ap (λ rs. slice_get rs k) (sym e) ∙ slice_get-map rearrangement_of ts k ∙ ap (option_map rearrangement_of) (slice_get-get_or ts k d lt)
+
+-- and the orbit after it
+pub turned-at : {n : ℕ} {all : List Rearrangement} {o from to : Orbit} (m : ℕ) (ts : List (PlaceTurn n)) (k : ℕ) (d : PlaceTurn n) → from ≡ o
+    → map rearrangement_of ts ≡ all → k < length ts → to ≡ turned_orbit m from (rearrangement_of (get_or ts k d)) → IsMadeAt all k (turned_orbit m o) to
+turned-at {all = all} {o = o} m ts k d same e lt made = record {
+  is = ap (option_map (turned_orbit m o)) (turn-at ts all k d e lt)
+      ∙ ap Some (sym (made ∙ ap (λ x. turned_orbit m x (rearrangement_of (get_or ts k d))) same));
+}

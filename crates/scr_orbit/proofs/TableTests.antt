@@ -20,6 +20,13 @@ use Rattle.scr_orbit.proofs.Parts.{ap_both}
 pub All-from_test : {X : Type 0} (p : X → Bool) (P : X → Type 0) → ((x : X) → p x ≡ true → P x) → (xs : List X) → list_all p xs ≡ true → All P xs
 All-from_test p P shows xs h = All-weaker (λ x. p x ≡ true) P shows xs (AllPass-from_list_all p xs h)
 
+-- what three tests show
+pub and_three : (a b c : Bool) → (a && (b && c)) ≡ true → (a ≡ true) × (b ≡ true) × (c ≡ true)
+and_three a b c h =
+    let parts = and_parts a (b && c) h in
+    let more = and_parts b c parts.1 in
+    (parts.0, more.0, more.1)
+
 -- a rearrangement of n places, as a test
 abbrev pub is_rearrangement : ℕ → ℕ → Rearrangement → Bool
 is_rearrangement n modulus r =

@@ -18,6 +18,3 @@ mod validity;
 pub use placed::{PlaceTurn, Placed};
 pub use turning::{add_digits, pick_into};
 pub use validity::{are_completed, are_twists, is_permutation};
-
-#[cfg(test)]
-mod tests;

@@ -1,8 +1,7 @@
 -- One change of a source or sink after another.
 use Rattle.std.proofs.Common.{◌≡◌, ℕ, ◌≤◌, Option, List, [], ◌++◌, Result, Ok, Err, refl, sym, ap, ◌∙◌, append_assoc, append-nil, arith, inl, inr}
 use Rattle.scr_outside.specs.Bytes.{appended, put_back, IsFirstPart}
-use Rattle.scr_outside.specs.Change.{Change, Gains, Falters, Gives}
-use Rattle.scr_outside.specs.Calls.{Fails, Writes}
+use Rattle.scr_outside.specs.Change.{Change, Gains, Falters, Gives, Fails, Writes}
 use Rattle.scr_outside.specs.Faults.{Rose}
 use Rattle.scr_outside.proofs.BytesLemmas.{appended-nil, appended-append, put_back-nil, put_back-append}
 

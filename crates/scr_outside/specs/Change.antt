@@ -1,5 +1,5 @@
 -- What a call changed outside, at a sink or a source: a contract says it in one of these words.
-use Rattle.std.specs.Prelude.{ℕ, ◌≡◌, ◌≤◌, Option, List}
+use Rattle.std.specs.Prelude.{ℕ, ◌≡◌, ◌≤◌, Option, List, Result, Ok, Err}
 use Rattle.scr_outside.specs.Bytes.{appended, put_back, IsFirstPart}
 use Rattle.scr_outside.specs.Faults.{Rose}
 
@@ -41,3 +41,14 @@ pub record Falters (change : Change) (bytes : List ℕ) : Type 0 where
 pub record Gives (change : Change) (bytes : List ℕ) : Type 0 where
   pub given : change.bytes_before ≡ put_back bytes change.bytes_after
   pub never_falls : change.faults_before ≤ change.faults_after
+
+-- the count of faults rose, and no byte was written or read
+pub record Fails (change : Change) : Type 0 where
+  pub bytes : change.bytes_after ≡ change.bytes_before
+  pub rose : Rose change.faults_before change.faults_after
+  pub never_falls : change.faults_before ≤ change.faults_after
+
+-- a text was written, or a first part of it, where the sink failed
+abbrev pub Writes : {E : Type 0} → Change → List ℕ → Result (Unit {0}) E → Type 0
+Writes change text (Ok _) = Gains change text
+Writes change text (Err _) = Falters change text

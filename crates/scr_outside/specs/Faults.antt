@@ -1,5 +1,5 @@
 -- Counts of faults. A count never falls and is at most 2 ^ 64 - 1, where it stays.
-use Rattle.std.specs.Prelude.{ℕ, ◌≡◌, ◌<◌, ◌-◌, ◌^◌, ◌⊎◌}
+use Rattle.std.specs.Prelude.{ℕ, ◌≡◌, ◌<◌, ◌+◌, ◌-◌, ◌^◌, ◌⊎◌, min}
 
 -- the greatest count of faults
 abbrev pub last_count : ℕ
@@ -8,3 +8,7 @@ last_count = 2 ^ 64 - 1
 -- the count rose: it is greater than before, or stands at its last value
 abbrev pub Rose : ℕ → ℕ → Type 0
 Rose before after = (before < after) ⊎ (after ≡ last_count)
+
+-- a count one higher, which stays at the last value
+abbrev pub raised : ℕ → ℕ
+raised count = min (count + 1) last_count

@@ -1,57 +1,70 @@
 -- Sources and sinks in memory. Calls are numbered from 1 on, and some numbers stand in a list of calls that fail.
 use Rattle.std.specs.Prelude.{ℕ, ◌≤◌, ◌⊎◌, Some, List, length, Contains}
 use Rattle.scr_outside.specs.Change.{Change, change_of}
-use Rattle.scr_outside.specs.Calls.{raised}
+use Rattle.scr_outside.specs.Faults.{raised}
 
--- a source: the bytes that it has left, at most how many it gives at once, the calls that fail, how many calls
--- there were, and how many faults
+-- the calls of a source or a sink: which fail, how many there were, and how many failed; both counts stay at 2 ^ 64 - 1
+pub record CallsMade : Type 0 where
+  pub fails : List ℕ
+  pub made : ℕ
+  pub faults : ℕ
+
+-- no call so far
+abbrev pub no_calls : List ℕ → CallsMade
+no_calls fails = record { fails = fails; made = 0; faults = 0 }
+
+-- one call more
+abbrev pub counted : CallsMade → CallsMade
+counted calls = record calls { made = raised calls.made }
+
+-- one that failed
+abbrev pub failed : CallsMade → CallsMade
+failed calls = record calls { faults = raised calls.faults }
+
+-- the next call is one of those that fail
+abbrev pub NextFails : CallsMade → Type 0
+NextFails calls = Contains calls.fails (raised calls.made)
+
+-- a source: the bytes that it has left, at most how many it gives at once, and its calls
 pub record SourceMemory : Type 0 where
   pub left : List ℕ
   pub most : ℕ
-  pub fails : List ℕ
-  pub calls : ℕ
-  pub faults : ℕ
+  pub calls : CallsMade
 
--- a sink: the bytes that it holds, for how many it has room, and the same
+-- a sink: the bytes that it holds, for how many it has room, at most how many it takes at once, and its calls
 pub record SinkMemory : Type 0 where
   pub held : List ℕ
   pub room : ℕ
   pub most : ℕ
-  pub fails : List ℕ
-  pub calls : ℕ
-  pub faults : ℕ
+  pub calls : CallsMade
 
 -- what a call changed at a source, and at a sink
 abbrev pub source_change : SourceMemory → SourceMemory → Change
-source_change = change_of (λ s. Some s.left) (λ s. s.faults)
+source_change = change_of (λ s. Some s.left) (λ s. s.calls.faults)
 
 abbrev pub sink_change : SinkMemory → SinkMemory → Change
-sink_change = change_of (λ s. Some s.held) (λ s. s.faults)
-
--- the number of the call after so many calls; the count of calls stays at 2 ^ 64 - 1
-abbrev pub next_call : ℕ → ℕ
-next_call calls = raised calls
+sink_change = change_of (λ s. Some s.held) (λ s. s.calls.faults)
 
 -- the next read fails
 abbrev pub ReadFails : SourceMemory → Type 0
-ReadFails s = Contains s.fails (next_call s.calls)
+ReadFails s = NextFails s.calls
 
 -- the next write fails
 abbrev pub WriteFails : SinkMemory → Type 0
-WriteFails s = Contains s.fails (next_call s.calls) ⊎ (s.room ≤ length s.held)
+WriteFails s = NextFails s.calls ⊎ (s.room ≤ length s.held)
 
--- a source after a read that gave these bytes
+-- a source after a read that left these bytes
 abbrev pub after_read : SourceMemory → List ℕ → SourceMemory
-after_read s left = record s { left = left; calls = next_call s.calls }
+after_read s left = record s { left = left; calls = counted s.calls }
 
 -- a source after a read that failed
 abbrev pub after_failed_read : SourceMemory → SourceMemory
-after_failed_read s = record s { calls = next_call s.calls; faults = raised s.faults }
+after_failed_read s = record s { calls = failed (counted s.calls) }
 
--- a sink after a write that appended these bytes
+-- a sink after a write, with these bytes
 abbrev pub after_write : SinkMemory → List ℕ → SinkMemory
-after_write s held = record s { held = held; calls = next_call s.calls }
+after_write s held = record s { held = held; calls = counted s.calls }
 
 -- a sink after a write that failed
 abbrev pub after_failed_write : SinkMemory → SinkMemory
-after_failed_write s = record s { calls = next_call s.calls; faults = raised s.faults }
+after_failed_write s = record s { calls = failed (counted s.calls) }

@@ -1,23 +1,47 @@
 //! The calls of a source or a sink in memory.
 
-ghost use Rattle.std.specs.Prelude.{◌≡◌, ◌↔◌, Contains, IsTrue};
-ghost use Rattle.scr_outside.specs.Calls.{raised};
+ghost use Rattle.std.specs.Prelude.{◌≡◌, ◌^◌, ◌<◌, ◌↔◌, Contains, IsTrue};
+ghost use Rattle.scr_outside.specs.Memory.{no_calls, counted, failed, NextFails};
 
 use crate::faults::raised;
+use std::marker::Model;
 
 /// How many calls there were, which of them fail, and how many failed. Both counts stay at 2^64 - 1.
 #[derive(Drop)]
 pub(crate) struct Calls {
-    pub(crate) fails: Vec<u32>,
-    pub(crate) made: u64,
-    pub(crate) faults: u64,
+    fails: Vec<u32>,
+    made: u64,
+    faults: u64,
+}
+
+impl Model for Calls {
+    ghost use Rattle.std.specs.Prelude.{◌^◌, ◌<◌};
+    ghost use Rattle.scr_outside.specs.Memory.{CallsMade};
+
+    ghost Value = { CallsMade };
+
+    ghost view = { λ c. record { fails = c.fails.items; made = c.made; faults = c.faults } };
+
+    ghost invariant = { λ c. c.faults < 2 ^ 64 };
 }
 
 impl Calls {
-    /// Counts a call, and says whether its number stands among those that fail.
+    /// No call so far, where those with these numbers, from 1, fail.
+    pub(crate) fn new(fails: Vec<u32>) -> Calls
+        ensures { result ≡ no_calls fails.items }
+    {
+        Calls {
+            fails,
+            made: 0,
+            faults: 0,
+        }
+    }
+
+    /// Counts a call, and says whether it is one of those that fail.
     pub(crate) fn count(&mut self) -> bool
-        ensures fails { IsTrue result ↔ Contains self.old.fails.items (raised self.old.made) }
-        ensures counted { self.new ≡ record self.old { made = raised self.old.made } }
+        ensures fails { IsTrue result ↔ NextFails self.old }
+        ensures counted { self.new ≡ counted self.old }
+        ensures at_most { self.new.faults < 2 ^ 64 }
     {
         self.made = raised(self.made);
         stands_in(&self.fails, self.made)
@@ -25,7 +49,8 @@ impl Calls {
 
     /// Counts a fault.
     pub(crate) fn raise(&mut self)
-        ensures { self.new ≡ record self.old { faults = raised self.old.faults } }
+        ensures failed { self.new ≡ failed self.old }
+        ensures at_most { self.new.faults < 2 ^ 64 }
     {
         self.faults = raised(self.faults);
     }

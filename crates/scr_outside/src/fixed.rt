@@ -2,8 +2,7 @@
 
 ghost use Rattle.std.specs.Prelude.{◌≡◌, ℕ, ◌^◌, ◌<◌, ◌≤◌, Some, None, List, length, take, drop, min, IsOk, OnErr, IfOk};
 ghost use Rattle.scr_outside.specs.Bytes.{IsSpent};
-ghost use Rattle.scr_outside.specs.Change.{change_of, Gains, Gives};
-ghost use Rattle.scr_outside.specs.Calls.{Fails};
+ghost use Rattle.scr_outside.specs.Change.{change_of, Gains, Gives, Fails};
 
 use crate::sink::{Failed, Sink};
 use crate::source::Source;

@@ -3,8 +3,7 @@
 
 ghost use Rattle.std.specs.Prelude.{◌≡◌, ℕ, ◌<◌, Some, List, ◌∷◌, take, length};
 ghost use Rattle.scr_outside.specs.Bytes.{IsFirstPart, IsSpent};
-ghost use Rattle.scr_outside.specs.Change.{Change, Falters, IsUnchanged};
-ghost use Rattle.scr_outside.specs.Calls.{Fails};
+ghost use Rattle.scr_outside.specs.Change.{Change, Falters, IsUnchanged, Fails};
 ghost use Rattle.scr_outside.specs.Faults.{Rose, last_count};
 
 /// A count of faults that rose is higher than it was, but at its last value. So a count of 3 that

@@ -2,9 +2,9 @@
 //!
 //! The program reads and writes through two traits, `Source` and `Sink`. Their contracts say what a call
 //! changed: the bytes that a sink gained or a source gave, where these are known, and a count of faults
-//! that never falls (`specs/Change.antt`, one word for each change). Below the standard library and
-//! `arrayvec` it stands on nothing. Its theorem is that of `write_all` and `write_line`: the whole text
-//! was appended, or a first part of it and the count of faults rose. The adapters over the system's
+//! that never falls (`specs/Change.antt`, one word for each change). It stands on the standard library
+//! and `arrayvec` alone. Its theorem is that of `write_all` and `write_line`: the whole text was
+//! appended, or a first part of it and the count of faults rose. The adapters over the system's
 //! readers and writers are tied to these by what they say of their bytes. `laws` says what the words of
 //! the contracts refuse.
 #![tactic(auto)]
@@ -18,12 +18,10 @@ mod memory;
 mod sink;
 mod source;
 mod standard;
-#[cfg(test)]
-mod tests;
 
 pub use fixed::{NullSink, SliceSource};
 pub use line::{LINE_ROOM, write_line};
 pub use memory::{MemSink, MemSource};
 pub use sink::{Failed, NoMemory, Sink, write_all};
 pub use source::Source;
-pub use standard::{StdSink, StdSource};
+pub use standard::{Adapter, StdSink, StdSource};

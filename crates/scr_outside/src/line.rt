@@ -1,8 +1,7 @@
 //! Lines, each written as one piece.
 
 ghost use Rattle.std.specs.Prelude.{◌+◌, ◌<◌, ◌++◌, length, codes};
-ghost use Rattle.scr_outside.specs.Change.{change_of};
-ghost use Rattle.scr_outside.specs.Calls.{Writes};
+ghost use Rattle.scr_outside.specs.Change.{change_of, Writes};
 
 use crate::sink::{Failed, Sink, write_all};
 use arrayvec::ArrayString;

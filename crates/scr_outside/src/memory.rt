@@ -3,9 +3,8 @@
 ghost use Rattle.std.specs.Prelude.{◌≡◌, ◌-◌, ◌^◌, ◌<◌, ◌≤◌, ◌↔◌, Some, [], ◌++◌, length, take, drop, min, IsErr, OnErr, IfOk};
 ghost use Rattle.std.specs.Vec.{vec_len, vec_capacity};
 ghost use Rattle.scr_outside.specs.Bytes.{IsSpent};
-ghost use Rattle.scr_outside.specs.Change.{Gains, Gives};
-ghost use Rattle.scr_outside.specs.Calls.{Fails};
-ghost use Rattle.scr_outside.specs.Memory.{SourceMemory, SinkMemory, source_change, sink_change, ReadFails, WriteFails, after_read, after_failed_read, after_write, after_failed_write};
+ghost use Rattle.scr_outside.specs.Change.{Gains, Gives, Fails};
+ghost use Rattle.scr_outside.specs.Memory.{SourceMemory, SinkMemory, source_change, sink_change, no_calls, ReadFails, WriteFails, after_read, after_failed_read, after_write, after_failed_write};
 
 use crate::calls::Calls;
 use crate::sink::{Failed, NoMemory, Sink};
@@ -28,9 +27,7 @@ impl Model for MemSource {
     ghost view = { λ s. record {
       left = drop s.place s.bytes.items;
       most = s.most;
-      fails = s.calls.fails.items;
-      calls = s.calls.made;
-      faults = s.calls.faults;
+      calls = s.calls;
     } };
 
     ghost invariant = { λ s. (s.place ≤ vec_len s.bytes) × (0 < s.most) };
@@ -41,23 +38,19 @@ impl MemSource {
     /// number, from 1, stands in `fails`; calls after number 4,294,967,295 stand in no list.
     pub fn new(bytes: Vec<u8>, most: usize, fails: Vec<u32>) -> MemSource
         requires { 0 < most }
-        ensures { result ≡ record { left = bytes.items; most = most; fails = fails.items; calls = 0; faults = 0 } }
+        ensures { result ≡ record { left = bytes.items; most = most; calls = no_calls fails.items } }
     {
         MemSource {
             bytes,
             place: 0,
             most,
-            calls: Calls {
-                fails,
-                made: 0,
-                faults: 0,
-            },
+            calls: Calls::new(fails),
         }
     }
 }
 
 impl Source for MemSource {
-    ghost faults = { λ s. s.faults };
+    ghost faults = { λ s. s.calls.faults };
 
     ghost left = { λ s. Some s.left };
 
@@ -73,7 +66,7 @@ impl Source for MemSource {
         ensures ok { IfOk result (λ n. Gives (source_change self.old self.new) (take n buffer.new)) }
         ensures end { IfOk result (λ n. n ≡ 0 → IsSpent (Some self.new.left)) }
         ensures err { OnErr result (Fails (source_change self.old self.new)) }
-        ensures at_most { self.new.faults < 2 ^ 64 }
+        ensures at_most { self.new.calls.faults < 2 ^ 64 }
     {
         if self.calls.count() {
             self.calls.raise();
@@ -103,9 +96,7 @@ impl Model for MemSink {
       held = s.held.items;
       room = s.room;
       most = s.most;
-      fails = s.calls.fails.items;
-      calls = s.calls.made;
-      faults = s.calls.faults;
+      calls = s.calls;
     } };
 
     ghost invariant = { λ s. (0 < s.most) × (vec_len s.held ≤ s.room) × (s.room ≤ vec_capacity s.held) };
@@ -122,18 +113,14 @@ impl MemSink {
         fails: Vec<u32>,
     ) -> Result<MemSink, NoMemory>
         requires { 0 < most }
-        ensures { IfOk result (λ s. s ≡ record { held = []; room = room; most = most; fails = fails.items; calls = 0; faults = 0 }) }
+        ensures { IfOk result (λ s. s ≡ record { held = []; room = room; most = most; calls = no_calls fails.items }) }
     {
         match Vec::with_capacity(alloc, room) {
             Ok(held) => Ok(MemSink {
                 held,
                 room,
                 most,
-                calls: Calls {
-                    fails,
-                    made: 0,
-                    faults: 0,
-                },
+                calls: Calls::new(fails),
             }),
             Err(_) => Err(NoMemory),
         }
@@ -148,7 +135,7 @@ impl MemSink {
 }
 
 impl Sink for MemSink {
-    ghost faults = { λ s. s.faults };
+    ghost faults = { λ s. s.calls.faults };
 
     ghost held = { λ s. Some s.held };
 
@@ -163,7 +150,7 @@ impl Sink for MemSink {
         ensures within { IfOk result (λ n. n ≤ length piece.now) }
         ensures ok { IfOk result (λ n. Gains (sink_change self.old self.new) (take n piece.now)) }
         ensures err { OnErr result (Fails (sink_change self.old self.new)) }
-        ensures at_most { self.new.faults < 2 ^ 64 }
+        ensures at_most { self.new.calls.faults < 2 ^ 64 }
     {
         let listed = self.calls.count();
         let free = self.room - self.held.len();

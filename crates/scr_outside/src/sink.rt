@@ -1,8 +1,7 @@
 //! What the program writes to.
 
 ghost use Rattle.std.specs.Prelude.{ℕ, ◌^◌, ◌<◌, ◌≤◌, Option, List, length, take, OnErr, IfOk};
-ghost use Rattle.scr_outside.specs.Change.{change_of, Gains};
-ghost use Rattle.scr_outside.specs.Calls.{Fails, Writes};
+ghost use Rattle.scr_outside.specs.Change.{change_of, Gains, Fails, Writes};
 
 /// A call that failed. The count of faults of the source or sink tells that it did.
 #[derive(Clone, Copy, Debug, PartialEq, Eq)]

@@ -2,8 +2,7 @@
 
 ghost use Rattle.std.specs.Prelude.{◌≡◌, ℕ, ◌^◌, ◌<◌, ◌≤◌, Option, List, length, take, OnErr, IfOk};
 ghost use Rattle.scr_outside.specs.Bytes.{IsSpent};
-ghost use Rattle.scr_outside.specs.Change.{change_of, Gives};
-ghost use Rattle.scr_outside.specs.Calls.{Fails};
+ghost use Rattle.scr_outside.specs.Change.{change_of, Gives, Fails};
 
 use crate::sink::Failed;
 

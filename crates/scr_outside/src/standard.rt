@@ -4,8 +4,8 @@
 ghost use Rattle.std.specs.Prelude.{◌≡◌, ℕ, ◌^◌, ◌<◌, ◌≤◌, None, length, take, OnOk, OnErr, IfOk};
 ghost use Rattle.std.specs.Io.KnownBytes.{ReadConsumes, WriteAppends};
 ghost use Rattle.scr_outside.specs.Bytes.{IsSpent};
-ghost use Rattle.scr_outside.specs.Change.{Gains, Gives};
-ghost use Rattle.scr_outside.specs.Calls.{Fails, raised};
+ghost use Rattle.scr_outside.specs.Change.{Gains, Gives, Fails};
+ghost use Rattle.scr_outside.specs.Faults.{raised};
 ghost use Rattle.scr_outside.specs.Standard.{Adapted, adapter_change};
 
 use crate::faults::raised;
@@ -14,31 +14,38 @@ use crate::source::Source;
 use std::io::{Read, Write};
 use std::marker::Model;
 
-/// A source over a reader. Each error of the reader is a fault, an interrupted call too.
+/// A reader or a writer, and how often it failed.
 #[derive(Drop)]
-pub struct StdSource<R: Read> {
-    pub(crate) inner: R,
-    pub(crate) faults: u64,
+pub struct Adapter<X: Drop> {
+    pub(crate) inner: X,
+    faults: u64,
 }
 
-impl<R: Read> Model for StdSource<R> {
-    ghost Value = { Adapted R };
+impl<X: Drop> Model for Adapter<X> {
+    ghost Value = { Adapted X };
 
     ghost view = { λ s. record { inner = s.inner; faults = s.faults } };
 
     ghost invariant = { λ s. s.faults < 2 ^ 64 };
 }
 
-impl<R: Read> StdSource<R> {
-    /// A source over this reader, with no fault so far.
-    pub fn new(inner: R) -> StdSource<R>
+impl<X: Drop> Adapter<X> {
+    /// An adapter over this reader or writer, with no fault so far.
+    pub fn new(inner: X) -> Adapter<X>
         ensures { result ≡ record { inner = inner; faults = 0 } }
     {
-        StdSource { inner, faults: 0 }
+        Adapter { inner, faults: 0 }
     }
 }
 
-impl<R: Read> Source for StdSource<R> {
+/// A source over a reader. Each error of the reader is a fault, an interrupted call too.
+pub type StdSource<R> = Adapter<R>;
+
+/// A sink over a writer. Each error of the writer is a fault, an interrupted call too, and so is a
+/// write that took nothing.
+pub type StdSink<W> = Adapter<W>;
+
+impl<R: Read + Drop> Source for Adapter<R> {
     ghost faults = { λ s. s.faults };
 
     ghost left = { λ _. None };
@@ -66,32 +73,7 @@ impl<R: Read> Source for StdSource<R> {
     }
 }
 
-/// A sink over a writer. Each error of the writer is a fault, an interrupted call too, and so is a
-/// write that took nothing.
-#[derive(Drop)]
-pub struct StdSink<W: Write> {
-    pub(crate) inner: W,
-    pub(crate) faults: u64,
-}
-
-impl<W: Write> Model for StdSink<W> {
-    ghost Value = { Adapted W };
-
-    ghost view = { λ s. record { inner = s.inner; faults = s.faults } };
-
-    ghost invariant = { λ s. s.faults < 2 ^ 64 };
-}
-
-impl<W: Write> StdSink<W> {
-    /// A sink over this writer, with no fault so far.
-    pub fn new(inner: W) -> StdSink<W>
-        ensures { result ≡ record { inner = inner; faults = 0 } }
-    {
-        StdSink { inner, faults: 0 }
-    }
-}
-
-impl<W: Write> Sink for StdSink<W> {
+impl<W: Write + Drop> Sink for Adapter<W> {
     ghost faults = { λ s. s.faults };
 
     ghost held = { λ _. None };

@@ -2,23 +2,16 @@
 use Rattle.std.proofs.Common.{◌≡◌, ℕ, suc, ◌+◌, ◌<◌, ◌≤◌, List, [], ◌∷◌, length, ◌⊎◌, inl, inr, Option, Some, refl, sym, ap, ◌∙◌, subst, arith}
 use Rattle.std.proofs.Math.Logic.{∥∥₁_elim, ∥∥₁_map}
 use Rattle.std.proofs.lemmas.Bool.{cases_order, cases_lt}
-use Rattle.scr_play.specs.FirstWord.{LeadsTo, IsLower, IsEarlier, IsFirstWord, IsDistance, LowersFirst}
+use Rattle.scr_combinatorics.proofs.Orders.{ComesBefore-asymmetric}
+use Rattle.scr_play.specs.FirstWord.{LeadsTo, IsEarlier, IsFirstWord, IsDistance, LowersFirst}
 use Rattle.scr_play.proofs.PlayLaws.{play-empty, play-first, play-parts}
 
 -- no two words come before one another
-IsLower-asymmetric : (v w : List ℕ) → IsLower v w → IsLower w v → ⊥
-IsLower-asymmetric [] w a b = a
-IsLower-asymmetric (t ∷ v) [] a b = a
-IsLower-asymmetric (t ∷ v) (u ∷ w) (inl a) (inl b) = omega arith
-IsLower-asymmetric (t ∷ v) (u ∷ w) (inl a) (inr b) = omega (arith, b.0)
-IsLower-asymmetric (t ∷ v) (u ∷ w) (inr a) (inl b) = omega (arith, a.0)
-IsLower-asymmetric (t ∷ v) (u ∷ w) (inr a) (inr b) = IsLower-asymmetric v w a.1 b.1
-
 pub IsEarlier-asymmetric : (v w : List ℕ) → IsEarlier v w → IsEarlier w v → ⊥
 IsEarlier-asymmetric v w (inl a) (inl b) = omega arith
 IsEarlier-asymmetric v w (inl a) (inr b) = omega (arith, b.0)
 IsEarlier-asymmetric v w (inr a) (inl b) = omega (arith, a.0)
-IsEarlier-asymmetric v w (inr a) (inr b) = IsLower-asymmetric v w a.1 b.1
+IsEarlier-asymmetric v w (inr a) (inr b) = ComesBefore-asymmetric v w a.1 b.1
 
 module _ {S : Type 0} (after : S → ℕ → Option S) (IsGoal : S → Type 0) where
   -- the empty word leads from goals

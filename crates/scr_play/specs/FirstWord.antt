@@ -1,5 +1,6 @@
 -- The first word to a goal. Words are lists of turn numbers.
-use Rattle.std.specs.Prelude.{◌≡◌, ℕ, ◌<◌, ◌≤◌, List, [], ◌∷◌, length, ◌⊎◌, Option, Some}
+use Rattle.std.specs.Prelude.{◌≡◌, ℕ, ◌<◌, ◌≤◌, List, length, ◌⊎◌, Option, Some}
+use Rattle.scr_combinatorics.specs.Lists.{ComesBefore}
 use Rattle.scr_play.specs.Play.{play}
 
 -- A word is defined from this state, and ends where the goal holds.
@@ -8,15 +9,9 @@ pub record LeadsTo {S : Type 0} (after : S → ℕ → Option S) (IsGoal : S →
   pub played : play after s w ≡ Some end
   pub goal : IsGoal end
 
--- of two words of one length, the first has the lower number at the first place where they differ
-abbrev pub IsLower : List ℕ → List ℕ → Type 0
-IsLower [] w = ⊥
-IsLower (t ∷ v) [] = ⊥
-IsLower (t ∷ v) (u ∷ w) = (t < u) ⊎ ((t ≡ u) × IsLower v w)
-
 -- the order of words: by length, then by turn numbers from the first turn
 abbrev pub IsEarlier : List ℕ → List ℕ → Type 0
-IsEarlier v w = (length v < length w) ⊎ ((length v ≡ length w) × IsLower v w)
+IsEarlier v w = (length v < length w) ⊎ ((length v ≡ length w) × ComesBefore v w)
 
 -- The first word from this state to the goal: it leads there, and each other that does comes later.
 pub record IsFirstWord {S : Type 0} (after : S → ℕ → Option S) (IsGoal : S → Type 0) (s : S) (w : List ℕ) : Type 0 where

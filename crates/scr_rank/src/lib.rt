@@ -21,6 +21,3 @@ pub use mixed::{MixedRadix, in_bytes};
 pub use pairings::Pairing8;
 pub use permutations::{EvenPermRank, PermRank};
 pub use place_sets::Choose;
-
-#[cfg(test)]
-mod tests;

@@ -3,8 +3,7 @@
 ghost use Rattle.std.specs.Prelude.{◌≡◌, ◌+◌, ◌*◌, ◌≤◌, ◌<◌, [], ◌∷◌, ◌++◌, length, codes};
 ghost use Rattle.std.specs.Fmt.{decimal};
 ghost use Rattle.arrayvec.specs.ArrayString.{array_string_len};
-ghost use Rattle.scr_outside.specs.Change.{change_of};
-ghost use Rattle.scr_outside.specs.Calls.{Writes};
+ghost use Rattle.scr_outside.specs.Change.{change_of, Writes};
 ghost use Rattle.scr_text.specs.Lines.{text_of_lines};
 ghost use Rattle.scr_notation.specs.Event.{name_of};
 ghost use Rattle.scr_notation.specs.Spelling.{text_of};

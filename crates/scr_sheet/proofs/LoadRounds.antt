@@ -8,7 +8,7 @@ use Rattle.scr_notation.specs.declared.event.Event.{Event}
 use Rattle.scr_list.specs.Rounds.{IsRound}
 use Rattle.scr_list.specs.RoundLists.{IsRounds}
 use Rattle.scr_list.proofs.EventLemmas.{id-IsId}
-use Rattle.scr_sheet.specs.Load.{numbered_event, usual_round, load_round, load_rounds}
+use Rattle.scr_sheet.specs.Load.{event_in_turn, usual_round, load_round, load_rounds}
 
 -- some of up to eight groups of an event
 usual_round-IsRound : (event : Event) (groups : ℕ) → groups < 8 → IsRound (usual_round event (1 + groups))
@@ -23,7 +23,7 @@ rounds_from-IsRound : (number first count : ℕ) → All IsRound (map (load_roun
 rounds_from-IsRound number first zero = All-nil IsRound
 rounds_from-IsRound number first (suc count) =
     All-cons IsRound (load_round number first) (map (load_round number) (range_with_len (first + 1) count))
-    (usual_round-IsRound (numbered_event ((number + first) % 11)) ((number + 5 * first) % 8) (mod_below (number + 5 * first) 8 (omega arith)))
+    (usual_round-IsRound (event_in_turn (number + first)) ((number + 5 * first) % 8) (mod_below (number + 5 * first) 8 (omega arith)))
     (rounds_from-IsRound number (first + 1) count)
 
 pub load_rounds-IsRounds : (number : ℕ) → IsRounds (load_rounds number)

@@ -19,17 +19,17 @@ use Rattle.scr_round.specs.Round.{slots_of}
 abbrev pub load_seed : ℕ → Seed
 load_seed number = record { 0 = to_le_bytes w64 number ++ replicate 24 0 }
 
--- the event with this number, from 0 to 10
-abbrev pub numbered_event : ℕ → Event
-numbered_event number = slice_index_or events number C222
+-- the event with this number, where they come in turn, again and again
+abbrev pub event_in_turn : ℕ → Event
+event_in_turn number = slice_index_or events (number % length events) C222
 
 -- so many groups of an event, with its usual minimum
 abbrev pub usual_round : Event → ℕ → Round
 usual_round event groups = record { event = event; groups = groups; least = usual_of (rules_of event).minima }
 
--- its round k, counted from 0: the events come in turn, and the numbers of groups from 1 to 8 in steps of five
+-- its round k, counted from 0: of the events in turn, with numbers of groups from 1 to 8 in steps of five
 abbrev pub load_round : ℕ → ℕ → Round
-load_round number k = usual_round (numbered_event ((number + k) % 11)) (1 + (number + 5 * k) % 8)
+load_round number k = usual_round (event_in_turn (number + k)) (1 + (number + 5 * k) % 8)
 
 -- its rounds, of which there are 1 to 16
 abbrev pub load_rounds : ℕ → List Round

@@ -15,8 +15,6 @@ mod making;
 mod parts;
 mod program;
 mod status;
-#[cfg(test)]
-mod tests;
 mod text_sink;
 
 pub use fault::Fault;

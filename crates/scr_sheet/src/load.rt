@@ -5,13 +5,12 @@
 
 ghost use Rattle.std.specs.Prelude.{◌≡◌, ◌*◌, ◌<◌, ◌≤◌, ℕ, List, ◌++◌, codes, length, map, Contains, MatchResult, IfOk};
 ghost use Rattle.std.specs.Fmt.{decimal};
-ghost use Rattle.scr_outside.specs.Change.{change_of};
-ghost use Rattle.scr_outside.specs.Calls.{Writes};
+ghost use Rattle.scr_outside.specs.Change.{change_of, Writes};
 ghost use Rattle.scr_list.specs.Rounds.{IsRound};
 ghost use Rattle.scr_list.specs.RoundLists.{IsRounds};
 ghost use Rattle.scr_command.specs.Command.{usual_options};
 ghost use Rattle.scr_sheet.specs.Sheet.{settings_of, round_part, round_parts};
-ghost use Rattle.scr_sheet.specs.Load.{load_seed, load_round, load_rounds, numbered_event, slots_of_all, four_lines, load_text};
+ghost use Rattle.scr_sheet.specs.Load.{load_seed, load_round, load_rounds, slots_of_all, four_lines, load_text};
 ghost use Rattle.scr_sheet.specs.Outcome.{EndsLoad, EndsUnmade};
 ghost use Rattle.scr_sheet.specs.Sizes.{IsSizeOf, IsPartSize, SizesMaking, SizesParts};
 
@@ -21,7 +20,7 @@ use crate::text_sink::{TEXT_ROOM, TextSink};
 use arrayvec::ArrayVec;
 use scr_command::Options;
 use scr_list::{Round, event_rules};
-use scr_notation::Event;
+use scr_notation::EVENTS;
 use scr_outside::{Failed, Sink, write_line};
 use scr_round::{slots, write_round};
 use scr_slots::{Tables, laws};
@@ -78,7 +77,7 @@ fn load_round(number: u32, k: u32) -> Round
     requires k { k < 16 }
     ensures { result ≡ load_round number k }
 {
-    let event = numbered_event((number + k) % 11);
+    let event = EVENTS[(number + k) as usize % EVENTS.len()];
     let least = match event_rules(event).minima {
         Some(minima) => minima.usual,
         None => 0,
@@ -87,26 +86,6 @@ fn load_round(number: u32, k: u32) -> Round
         event,
         groups: (1 + (number + 5 * k) % 8) as u8,
         least,
-    }
-}
-
-/// The event with this number.
-fn numbered_event(number: u32) -> Event
-    requires { number < 11 }
-    ensures { result ≡ numbered_event number }
-{
-    match number {
-        0 => Event::C222,
-        1 => Event::C333,
-        2 => Event::Oh333,
-        3 => Event::C555,
-        4 => Event::C666,
-        5 => Event::C777,
-        6 => Event::Clock,
-        7 => Event::Minx,
-        8 => Event::Pyram,
-        9 => Event::Skewb,
-        _ => Event::Sq1,
     }
 }
 

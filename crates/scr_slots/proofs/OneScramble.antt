@@ -16,13 +16,12 @@ use Rattle.scr_cube.specs.Cube222.{numbered_222, powers_222}
 use Rattle.scr_cube.specs.Cube333.{cube_numbered, cube_powers}
 use Rattle.scr_twophase.specs.TwoParts.{two_parts}
 use Rattle.scr_twophase.proofs.PartLaws.{IsScrambleBy-unique}
-use Rattle.scr_small.specs.Puzzle222.{numbered_puzzle_222}
+use Rattle.scr_small.specs.Puzzles.{numbered_puzzle_222, numbered_puzzle_skewb}
 use Rattle.scr_small.specs.Lawful222.{lawful_puzzle_222}
 use Rattle.scr_small.specs.PuzzleLaws.{IsScrambleOf-unique}
 use Rattle.scr_tetra.specs.Pyraminx.{numbered_pyram, pyram_powers}
 use Rattle.scr_tetra.specs.Skewb.{skewb_numbered, skewb_powers}
 use Rattle.scr_small.specs.PyramLaws.{IsScramblePyram-unique}
-use Rattle.scr_small.specs.PuzzleSkewb.{numbered_puzzle_skewb}
 use Rattle.scr_small.specs.LawfulSkewb.{lawful_puzzle_skewb}
 use Rattle.scr_sq1.specs.Units.{sq1_puzzle}
 use Rattle.scr_sq1.specs.Numbers.{sq1_numbered}

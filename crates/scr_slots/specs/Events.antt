@@ -16,9 +16,7 @@ use Rattle.scr_twophase.specs.Tables.{prune_lines}
 use Rattle.scr_tetra.specs.Pyraminx.{PyramState, pyram_powers, solved_pyram, numbered_pyram}
 use Rattle.scr_tetra.specs.Skewb.{SkewbState, skewb_numbered, skewb_powers}
 use Rattle.scr_small.specs.NumberedPuzzles.{NumberedPuzzle, IsScrambleOf}
-use Rattle.scr_small.specs.Puzzle222.{numbered_puzzle_222, corners_line}
-use Rattle.scr_small.specs.PuzzlePyram.{IsScramblePyram, pyramid_line}
-use Rattle.scr_small.specs.PuzzleSkewb.{numbered_puzzle_skewb, skewb_line}
+use Rattle.scr_small.specs.Puzzles.{numbered_puzzle_222, numbered_puzzle_skewb, corners_line, pyramid_line, skewb_line, IsScramblePyram}
 use Rattle.scr_sq1.specs.Units.{Sq1State, solved_sq1, sq1_after, sq1_puzzle}
 use Rattle.scr_sq1.specs.Numbers.{sq1_numbered}
 use Rattle.scr_sq1solve.specs.Stages.{IsScrambleSq1}

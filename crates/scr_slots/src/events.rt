@@ -1,11 +1,11 @@
 //! The events in code: an impl and an arm for each.
 
 ghost use Rattle.std.specs.Prelude.{Contains, ◌≤◌, [], ◌∷◌, IsSome, MatchResult};
-ghost use Rattle.scr_list.specs.Events.{rules_of, greatest_of};
 ghost use Rattle.scr_outside.specs.Change.{change_of};
 ghost use Rattle.scr_table.specs.Lines.{AreTablesOf};
-ghost use Rattle.scr_small.specs.Tables.{small_line};
+ghost use Rattle.scr_list.specs.Events.{rules_of, greatest_of};
 ghost use Rattle.scr_table_text.specs.Counted.{WritesTables};
+ghost use Rattle.scr_small.specs.Tables.{small_line};
 ghost use Rattle.scr_slots.specs.Events.{scrambling_of, tables_of};
 ghost use Rattle.scr_slots.specs.Slots.{IsSlotScramble};
 ghost use Rattle.scr_slots.specs.Outcomes.{IsMissed};
@@ -17,13 +17,15 @@ use crate::solved_cube::SolvedCube;
 use crate::solved_sq1::SolvedSq1;
 use crate::tables::Tables;
 use scr_clock::{Clock, ClockNumbers, scramble_clock};
-use scr_draw::DrawLimit;
+use scr_draw::{DrawLimit, NumberedEvent};
 use scr_notation::{Event, Scramble};
 use scr_outside::{Failed, Sink};
-use scr_small::{OneTable, Small222, SmallPuzzle, SmallPyram, SmallSkewb};
+use scr_small::{
+    OneTable, Small222, SmallPuzzle, SmallPyram, SmallSkewb, scramble_of, scramble_pyram,
+};
 use scr_table::DistanceTable;
 use scr_table_text::write_tables;
-use scr_tetra::Pyraminx;
+use scr_tetra::{PyramNumbers, Pyraminx};
 
 impl Scrambled for ClockNumbers {
     ghost use Rattle.scr_clock.specs.Proofs.AmountLaws.{IsScrambleOf-one};
@@ -38,27 +40,27 @@ impl Scrambled for ClockNumbers {
     ghost only = { λ _ tries state turns other reached. IsScrambleOf-one state turns other };
 }
 
-impl<P: OneTable> Scrambled for SmallPuzzle<'_, P> {
+impl<P: OneTable> Scrambled for NumberedEvent<P, SmallPuzzle<'_, P>> {
     ghost use Rattle.scr_small.specs.PuzzleLaws.{IsScrambleOf-unique};
     ghost use Rattle.scr_slots.specs.Events.{small_rule};
 
-    ghost rule = { λ _. small_rule P.shown P.BOUND };
+    ghost rule = { λ _. small_rule P.shown P.TABLE.bound };
 
     fn scramble(&self, state: &P::State, _tries: u32) -> Scramble {
-        self.scramble_of(state)
+        scramble_of::<P>(self.puzzle.tables, state)
     }
 
-    ghost only = { λ _ tries state turns other reached. IsScrambleOf-unique P.shown P.lawful state turns other };
+    ghost only = { λ _ tries state turns other reached. IsScrambleOf-unique P.shown P.by_table.lawful state turns other };
 }
 
-impl Scrambled for SmallPyram<'_> {
+impl Scrambled for NumberedEvent<PyramNumbers, SmallPyram<'_>> {
     ghost use Rattle.scr_small.specs.PyramLaws.{IsScramblePyram-unique};
     ghost use Rattle.scr_slots.specs.Events.{pyram_rule};
 
     ghost rule = { λ _. pyram_rule };
 
     fn scramble(&self, state: &Pyraminx, _tries: u32) -> Scramble {
-        self.scramble_of(state)
+        scramble_pyram(self.puzzle.tables, state)
     }
 
     ghost only = { λ _ tries state turns other reached. IsScramblePyram-unique state turns other };
@@ -84,11 +86,11 @@ pub fn slot_scramble(
 {
     match event {
         Event::C222 => {
-            let cube = Small222::new(tables.of_small(event));
+            let cube = Small222::event(tables.of_small(event));
             drawn_scramble(&cube, settings, least, stream)
         }
         Event::C333 | Event::Oh333 => {
-            let cube = SolvedCube::new(tables.of_cubes());
+            let cube = SolvedCube::event(tables.of_cubes());
             drawn_scramble(&cube, settings, least, stream)
         }
         Event::C555 => cube_scramble::<5>(settings, stream),
@@ -97,14 +99,14 @@ pub fn slot_scramble(
         Event::Clock => drawn_scramble(&ClockNumbers, settings, least, stream),
         Event::Minx => Ok(megaminx_scramble(settings, stream)),
         Event::Pyram => {
-            let pyraminx = SmallPyram::new(tables.of_small(event));
+            let pyraminx = SmallPyram::event(tables.of_small(event));
             drawn_scramble(&pyraminx, settings, least, stream)
         }
         Event::Skewb => {
-            let skewb = SmallSkewb::new(tables.of_small(event));
+            let skewb = SmallSkewb::event(tables.of_small(event));
             drawn_scramble(&skewb, settings, least, stream)
         }
-        Event::Sq1 => drawn_scramble(&SolvedSq1::new(tables.of_sq1()), settings, least, stream),
+        Event::Sq1 => drawn_scramble(&SolvedSq1::event(tables.of_sq1()), settings, least, stream),
     }
 }
 

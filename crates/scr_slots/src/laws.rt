@@ -54,7 +54,7 @@ fn fairly_222(tables: &Tables)
     ensures { Contains tables.now C222 → (least : ℕ) → least ≤ 11 → IsDrawnFairly (scrambling_of C222) least }
 {
     if tables.has(Event::C222) {
-        drawn_fairly(&Small222::new(tables.of_small(Event::C222)));
+        drawn_fairly(&Small222::event(tables.of_small(Event::C222)));
     }
 }
 
@@ -64,7 +64,7 @@ fn fairly_pyram(tables: &Tables)
     ensures { Contains tables.now Pyram → (least : ℕ) → least ≤ 15 → IsDrawnFairly (scrambling_of Pyram) least }
 {
     if tables.has(Event::Pyram) {
-        drawn_fairly(&SmallPyram::new(tables.of_small(Event::Pyram)));
+        drawn_fairly(&SmallPyram::event(tables.of_small(Event::Pyram)));
     }
 }
 
@@ -74,7 +74,7 @@ fn fairly_skewb(tables: &Tables)
     ensures { Contains tables.now Skewb → (least : ℕ) → least ≤ 11 → IsDrawnFairly (scrambling_of Skewb) least }
 {
     if tables.has(Event::Skewb) {
-        drawn_fairly(&SmallSkewb::new(tables.of_small(Event::Skewb)));
+        drawn_fairly(&SmallSkewb::event(tables.of_small(Event::Skewb)));
     }
 }
 
@@ -84,7 +84,7 @@ fn fairly_333(tables: &Tables)
     ensures { HasCubes tables.now → (least : ℕ) → least ≤ 5 → IsDrawnFairly (scrambling_of C333) least }
 {
     if tables.has(Event::C333) || tables.has(Event::Oh333) {
-        drawn_fairly(&SolvedCube::new(tables.of_cubes()));
+        drawn_fairly(&SolvedCube::event(tables.of_cubes()));
     }
 }
 
@@ -94,7 +94,7 @@ fn fairly_sq1(tables: &Tables)
     ensures { Contains tables.now Sq1 → (least : ℕ) → least ≤ 4 → IsDrawnFairly (scrambling_of Sq1) least }
 {
     if tables.has(Event::Sq1) {
-        drawn_fairly(&SolvedSq1::new(tables.of_sq1()));
+        drawn_fairly(&SolvedSq1::event(tables.of_sq1()));
     }
 }
 

@@ -1,48 +1,30 @@
 //! The Square-1 as an event that states are drawn of.
-ghost use Rattle.scr_sq1solve.specs.Built.{AreBuilt};
+ghost use Rattle.scr_table.specs.Lines.{AreTablesOf};
+ghost use Rattle.scr_table.proofs.LineLaws.{AreTablesOf-prop};
+ghost use Rattle.scr_sq1solve.specs.Tables.{sq1_lines};
 ghost use Rattle.scr_sq1.specs.Units.{sq1_puzzle};
 
 use crate::scrambled::Scrambled;
-use scr_draw::{Numbering, Permit, RandomState};
+use scr_draw::{NumberedEvent, Permit, Reaches};
 use scr_notation::Scramble;
-use scr_sq1::Sq1;
-use scr_sq1solve::{DrawSq1, Sq1Tables, scramble_sq1};
+use scr_sq1::{Sq1, Sq1Numbers};
+use scr_sq1solve::{Sq1Tables, needs_sq1, scramble_sq1};
 
 /// The Square-1, by the tables of its three stages, by which each of its states is reached.
 #[derive(Drop)]
 pub(crate) struct SolvedSq1<'a> {
     tables: &'a Sq1Tables,
-    ghost built: { AreBuilt tables.now },
+    ghost built: { AreTablesOf sq1_lines tables.now } by { AreTablesOf-prop sq1_lines tables.now },
 }
 
 impl<'a> SolvedSq1<'a> {
     /// The event.
-    pub fn new(tables: &'a Sq1Tables) -> SolvedSq1<'a> {
+    pub fn event(tables: &'a Sq1Tables) -> NumberedEvent<Sq1Numbers, SolvedSq1<'a>> {
         let _all = tables.all();
-        SolvedSq1 { tables }
-    }
-}
-
-impl Numbering for SolvedSq1<'_> {
-    ghost use Rattle.scr_sq1.specs.Numbers.{sq1_numbered};
-    ghost use Rattle.scr_sq1.specs.Proofs.Numbering.{sq1_numbering};
-
-    type State = Sq1;
-
-    ghost numbered = { λ _. sq1_numbered };
-
-    ghost law = { λ _. sq1_numbering };
-
-    fn count(&self) -> u128 {
-        DrawSq1::new().count()
-    }
-
-    fn state_at(&self, number: u128) -> Sq1 {
-        DrawSq1::new().state_at(number)
-    }
-
-    fn number_of(&self, state: &Sq1) -> u128 {
-        DrawSq1::new().number_of(state)
+        NumberedEvent {
+            numbers: Sq1Numbers,
+            puzzle: SolvedSq1 { tables },
+        }
     }
 }
 
@@ -54,22 +36,22 @@ impl Permit<Sq1> for SolvedSq1<'_> {
 
     ghost greatest = { λ _. 4 };
 
-    ghost needs = { λ _ s least. needs_test s least };
+    ghost needs = { λ _. needs_test };
 
     fn needs_at_least(&self, state: &Sq1, least: u32) -> bool {
-        DrawSq1::new().needs_at_least(state, least)
+        needs_sq1(state, least)
     }
 
-    ghost exact = { λ _ s least range reached. needs-reached s least reached };
+    ghost exact = { λ _ s least range. needs-reached s least };
 }
 
-impl RandomState for SolvedSq1<'_> {
+impl Reaches<Sq1Numbers> for SolvedSq1<'_> {
     ghost use Rattle.scr_sq1solve.specs.Proofs.Reached.{IsReached-iff};
 
-    ghost reached = { λ solved s. IsReached-iff solved.tables.now solved.built s };
+    ghost reached = { λ solved _. IsReached-iff solved.tables.now solved.built };
 }
 
-impl Scrambled for SolvedSq1<'_> {
+impl Scrambled for NumberedEvent<Sq1Numbers, SolvedSq1<'_>> {
     ghost use Rattle.scr_sq1.proofs.Lawful.{IsSq1-reached};
     ghost use Rattle.scr_sq1solve.specs.Proofs.Solutions.{one_scramble};
     ghost use Rattle.scr_slots.specs.Events.{sq1_rule};
@@ -77,7 +59,7 @@ impl Scrambled for SolvedSq1<'_> {
     ghost rule = { λ _. sq1_rule };
 
     fn scramble(&self, state: &Sq1, _tries: u32) -> Scramble {
-        scramble_sq1(self.tables, state)
+        scramble_sq1(self.puzzle.tables, state)
     }
 
     ghost only = { λ _ tries state turns other reached. one_scramble state turns other (IsSq1-reached state reached) };

@@ -119,14 +119,7 @@ impl Tables {
             Event::C222 => held(&self.of_222, event),
             Event::Pyram => held(&self.of_pyram, event),
             Event::Skewb => held(&self.of_skewb, event),
-            Event::C333
-            | Event::Oh333
-            | Event::C555
-            | Event::C666
-            | Event::C777
-            | Event::Clock
-            | Event::Minx
-            | Event::Sq1 => unreachable!(),
+            _ => unreachable!(),
         }
     }
 

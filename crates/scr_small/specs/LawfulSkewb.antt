@@ -1,17 +1,20 @@
 -- The Skewb is a numbered puzzle, whose corners and centres turns move each by themselves. (The proof stands in specs/,
 -- since laws of the code's types cite it.)
-use Rattle.std.proofs.Common.{lit<, ◌++◌, ◌≡◌, ◌/◌, [], ◌∷◌, refl, ap}
+use Rattle.std.proofs.Common.{lit≤, lit<, ◌++◌, ◌/◌, [], ◌∷◌, refl, ap}
 use Rattle.scr_combinatorics.specs.Permutations.{permutation_number}
 use Rattle.scr_combinatorics.specs.Digits.{mixed_number}
+use Rattle.scr_notation.specs.TurnNumbers.{turn_at}
 use Rattle.scr_orbit.specs.Orbits.{Orbit, turned_orbit, solved_orbit}
 use Rattle.scr_tetra.specs.Skewb.{SkewbState, IsSkewb, IsSkewbTurn, skewb_powers, skewb_numbered, skewb_digits, skewb_of_digits, solved_skewb}
 use Rattle.scr_tetra.specs.NumberedSkewb.{skewb_numbering, AreDigits-skewb}
 use Rattle.scr_tetra.proofs.SkewbLaws.{lawful_skewb}
 use Rattle.scr_small.specs.LawfulPuzzles.{IsNumberedPuzzle, IsNumberedPuzzle-powers}
-use Rattle.scr_small.specs.PuzzleSkewb.{numbered_puzzle_skewb}
+use Rattle.scr_small.specs.Puzzles.{numbered_puzzle_skewb}
 use Rattle.scr_small.specs.StateParts.{MovesByParts}
 use Rattle.scr_small.specs.PartLaws.{AreParts, MovesByParts-powers}
 use Rattle.scr_small.specs.DigitParts.{AreParts-digits}
+use Rattle.scr_small.specs.Tables.{table_skewb}
+use Rattle.scr_small.specs.SolvedByTable.{IsSolvedByTable, IsSolvedByTable-powers}
 
 pub lawful_puzzle_skewb : IsNumberedPuzzle numbered_puzzle_skewb
 lawful_puzzle_skewb = IsNumberedPuzzle-powers skewb_numbered skewb_powers IsSkewbTurn skewb_numbering lawful_skewb
@@ -38,7 +41,10 @@ parts_skewb =
     (λ s r x e. ap (λ (q : Orbit × Orbit). (turned_orbit 3 q.0 x.four, turned_orbit 3 q.1 x.three)) e)
     (λ s r x e. ap (λ o. turned_orbit 1 o x.centres) e)
 
--- solved has the first number
-pub first_skewb : skewb_numbered.number_of solved_skewb ≡ 0
-unfolding solved_skewb solved_orbit skewb_digits
-first_skewb = refl
+-- ---- its table
+
+pub solved_by_table_skewb : IsSolvedByTable numbered_puzzle_skewb table_skewb
+unfolding turn_at solved_skewb solved_orbit skewb_digits
+solved_by_table_skewb =
+    IsSolvedByTable-powers skewb_numbered skewb_powers table_skewb lawful_puzzle_skewb parts_skewb refl (λ k. refl) refl
+    (lit≤ tt, lit≤ tt, lit< tt, lit≤ tt)

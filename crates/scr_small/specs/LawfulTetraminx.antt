@@ -1,18 +1,21 @@
 -- The Pyraminx without tips is a numbered puzzle: turns move its axial pieces and flips by themselves, and its list of
 -- edges. (The proof stands in specs/, since laws of the code's types cite it.)
-use Rattle.std.proofs.Common.{lit<, ◌++◌, ◌≡◌, ℕ, ◌/◌, List, [], ◌∷◌, refl, ap}
+use Rattle.std.proofs.Common.{lit≤, lit<, ◌++◌, ℕ, ◌/◌, List, [], ◌∷◌, refl, ap}
 use Rattle.scr_combinatorics.specs.Lists.{pick}
 use Rattle.scr_combinatorics.specs.Permutations.{permutation_number}
 use Rattle.scr_combinatorics.specs.Twists.{twists_number}
+use Rattle.scr_notation.specs.TurnNumbers.{turn_at}
 use Rattle.scr_orbit.specs.Orbits.{turned_orbit, solved_orbit, added_digits}
 use Rattle.scr_tetra.specs.Pyraminx.{TetraminxState, IsTetraminx, IsTetraminxTurn, tetraminx_powers, solved_tetraminx, numbered_tetraminx, tetraminx_digits, tetraminx_of_digits, thirds_number}
 use Rattle.scr_tetra.specs.NumberedPyram.{tetraminx_numbering, tetraminx_has_three}
 use Rattle.scr_tetra.proofs.PyramLaws.{lawful_tetraminx}
 use Rattle.scr_small.specs.LawfulPuzzles.{IsNumberedPuzzle, IsNumberedPuzzle-powers}
-use Rattle.scr_small.specs.PuzzlePyram.{numbered_puzzle_tetraminx}
+use Rattle.scr_small.specs.Puzzles.{numbered_puzzle_tetraminx}
 use Rattle.scr_small.specs.StateParts.{MovesByParts}
 use Rattle.scr_small.specs.PartLaws.{AreParts, MovesByParts-powers}
 use Rattle.scr_small.specs.DigitParts.{AreParts-digits}
+use Rattle.scr_small.specs.Tables.{table_tetraminx}
+use Rattle.scr_small.specs.SolvedByTable.{IsSolvedByTable, IsSolvedByTable-powers}
 
 pub lawful_puzzle_tetraminx : IsNumberedPuzzle numbered_puzzle_tetraminx
 lawful_puzzle_tetraminx = IsNumberedPuzzle-powers numbered_tetraminx tetraminx_powers IsTetraminxTurn tetraminx_numbering lawful_tetraminx
@@ -40,7 +43,10 @@ parts_tetraminx =
     (λ s r x e. ap (λ (q : List ℕ × List ℕ). (added_digits 3 q.0 x.axials, added_digits 2 (pick q.1 x.edges.places) x.edges.added)) e)
     (λ s r x e. ap (λ ps. pick ps x.edges.places) e)
 
--- solved has the first number
-pub first_tetraminx : numbered_tetraminx.number_of solved_tetraminx ≡ 0
-unfolding solved_tetraminx solved_orbit tetraminx_digits
-first_tetraminx = refl
+-- ---- its table
+
+pub solved_by_table_tetraminx : IsSolvedByTable numbered_puzzle_tetraminx table_tetraminx
+unfolding turn_at solved_tetraminx solved_orbit tetraminx_digits
+solved_by_table_tetraminx =
+    IsSolvedByTable-powers numbered_tetraminx tetraminx_powers table_tetraminx lawful_puzzle_tetraminx parts_tetraminx refl (λ k. refl) refl
+    (lit≤ tt, lit≤ tt, lit< tt, lit≤ tt)

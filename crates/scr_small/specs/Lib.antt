@@ -4,11 +4,11 @@ pub mod PuzzleLaws
 pub mod StateParts
 pub mod PartLaws
 pub mod DigitParts
-pub mod Puzzle222
+pub mod Puzzles
+pub mod Tables
+pub mod SolvedByTable
 pub mod Lawful222
-pub mod PuzzleSkewb
 pub mod LawfulSkewb
-pub mod PuzzlePyram
 pub mod LawfulTetraminx
 pub mod PyramLaws
-pub mod Tables
+pub mod Rows

@@ -22,7 +22,7 @@ use Rattle.scr_tetra.proofs.PyramLaws.{lawful_pyram, IsTetraminx-solved}
 use Rattle.scr_tetra.proofs.PyramTips.{tips_word-played, length-tips_word}
 use Rattle.scr_tetra.proofs.PyramWords.{by_parts, with_tips}
 use Rattle.scr_small.specs.PuzzleLaws.{tested_by, numbered_word, IsDistance-state, length-scramble, play-scrambled, scrambled, IsScrambleOf-unique}
-use Rattle.scr_small.specs.PuzzlePyram.{numbered_puzzle_tetraminx, coordinate_tetraminx, IsScramblePyram}
+use Rattle.scr_small.specs.Puzzles.{numbered_puzzle_tetraminx, coordinate_tetraminx, IsScramblePyram}
 use Rattle.scr_small.specs.LawfulTetraminx.{lawful_puzzle_tetraminx}
 
 -- no more tips stand turned than there are

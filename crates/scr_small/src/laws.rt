@@ -14,9 +14,8 @@ ghost use Rattle.scr_tetra.specs.PyramParts.{turned_count};
 ghost use Rattle.scr_small.specs.LawfulPuzzles.{IsNumberedPuzzle};
 ghost use Rattle.scr_small.specs.NumberedPuzzles.{puzzle_of, state_coordinate, IsScrambleOf};
 ghost use Rattle.scr_small.specs.StateParts.{MovesByParts, low_part, high_part};
-ghost use Rattle.scr_small.specs.Puzzle222.{coordinate_222};
-ghost use Rattle.scr_small.specs.PuzzlePyram.{coordinate_tetraminx, IsScramblePyram};
-ghost use Rattle.scr_small.specs.PuzzleSkewb.{coordinate_skewb};
+ghost use Rattle.scr_small.specs.Puzzles.{numbered_puzzle_222, numbered_puzzle_skewb, coordinate_tetraminx, IsScramblePyram};
+ghost use Rattle.scr_small.specs.Rows.{HasRow};
 
 use crate::one_table::OneTable;
 
@@ -25,8 +24,8 @@ use crate::one_table::OneTable;
 pub fn shown_by_parts<P: OneTable>()
     ensures numbered { IsNumberedPuzzle P.shown }
     ensures stays { StaysBelow (state_coordinate P.shown) }
-    ensures parts { MovesByParts P.shown P.LOW P.HIGH }
-    ensures shown { let parts = product (low_part P.shown P.LOW) (high_part P.shown P.LOW P.HIGH) in
+    ensures parts { MovesByParts P.shown P.TABLE.low P.TABLE.high }
+    ensures shown { let parts = product (low_part P.shown P.TABLE.low) (high_part P.shown P.TABLE.low P.TABLE.high) in
         ShowsSame (state_coordinate P.shown) parts }
 {}
 
@@ -69,39 +68,23 @@ pub fn measured_pyram()
         → IsScramblePyram s some → IsScramblePyram s other → some ≡ other }
 {}
 
-/// The coordinate of the 2x2x2 at worked positions: it has 3,674,160; U leads from solved to number 1574640, and U'
-/// back; there is no tenth turn; solved alone is the goal.
+/// The 2x2x2 at worked positions: it has 3,674,160; U leads from solved to number 1574640, and U' back; there is no
+/// tenth turn.
 #[tactic(auto, unfolding(crate::proofs::OnLiterals::positions_on_literals))]
 pub fn rows_222()
-    ensures count { coordinate_222.count ≡ 3674160 }
-    ensures turned { coordinate_222.after 0 0 ≡ Some 1574640 }
-    ensures turned_back { coordinate_222.after 1574640 2 ≡ Some 0 }
-    ensures no_tenth { coordinate_222.after 0 9 ≡ None }
-    ensures solved { coordinate_222.is_goal 0 ≡ true }
-    ensures unsolved { coordinate_222.is_goal 1574640 ≡ false }
+    ensures { HasRow (state_coordinate numbered_puzzle_222) (record { count = 3674160; turns = 9; turn = 0; to = 1574640; back = 2 }) }
 {}
 
-/// That of the Pyraminx without tips: it has 933,120; U leads from solved to number 186625, and U' back; there is no
-/// ninth turn; solved alone is the goal.
+/// The Pyraminx without tips: it has 933,120; U leads from solved to number 186625, and U' back; there is no ninth turn.
 #[tactic(auto, unfolding(crate::proofs::OnLiterals::positions_on_literals))]
 pub fn rows_pyram()
-    ensures count { coordinate_tetraminx.count ≡ 933120 }
-    ensures turned { coordinate_tetraminx.after 0 0 ≡ Some 186625 }
-    ensures turned_back { coordinate_tetraminx.after 186625 1 ≡ Some 0 }
-    ensures no_ninth { coordinate_tetraminx.after 0 8 ≡ None }
-    ensures solved { coordinate_tetraminx.is_goal 0 ≡ true }
-    ensures unsolved { coordinate_tetraminx.is_goal 186625 ≡ false }
+    ensures { HasRow coordinate_tetraminx (record { count = 933120; turns = 8; turn = 0; to = 186625; back = 1 }) }
 {}
 
-/// That of the Skewb: it has 3,149,280; B leads from solved to number 9423, and U from there to number 1718795; B'
-/// leads back; there is no ninth turn; solved alone is the goal.
+/// The Skewb: it has 3,149,280; B leads from solved to number 9423, B' back, and U on to number 1718795; there is no
+/// ninth turn.
 #[tactic(auto, unfolding(crate::proofs::OnLiterals::positions_on_literals))]
 pub fn rows_skewb()
-    ensures count { coordinate_skewb.count ≡ 3149280 }
-    ensures turned { coordinate_skewb.after 0 6 ≡ Some 9423 }
-    ensures turned_again { coordinate_skewb.after 9423 0 ≡ Some 1718795 }
-    ensures turned_back { coordinate_skewb.after 9423 7 ≡ Some 0 }
-    ensures no_ninth { coordinate_skewb.after 0 8 ≡ None }
-    ensures solved { coordinate_skewb.is_goal 0 ≡ true }
-    ensures unsolved { coordinate_skewb.is_goal 9423 ≡ false }
+    ensures row { HasRow (state_coordinate numbered_puzzle_skewb) (record { count = 3149280; turns = 8; turn = 6; to = 9423; back = 7 }) }
+    ensures on { (state_coordinate numbered_puzzle_skewb).after 9423 0 ≡ Some 1718795 }
 {}

@@ -4,15 +4,15 @@
 //! turns, the coordinate of the states' numbers, and the scramble of a state, which is the first word that solves it,
 //! taken back. `specs/PuzzleLaws.antt` says what a table that measures the coordinate tells of any such puzzle: its
 //! valid states are those that turns reach, a state needs as many turns as its distance, and each has one scramble,
-//! which leads to it from solved. `specs/Puzzle222.antt`, `specs/PuzzlePyram.antt` and `specs/PuzzleSkewb.antt` have
-//! the puzzles' data. The table of the Pyraminx is over its states without tips: `specs/PyramLaws.antt` says what it
-//! tells of those with tips.
+//! which leads to it from solved. `specs/Puzzles.antt` has the puzzles' data, and `specs/Tables.antt` that of
+//! their tables. The table of the Pyraminx is over its states without tips: `specs/PyramLaws.antt` says what it tells of
+//! those with tips.
 //!
 //! A state is two parts that turns move each by itself (`specs/StateParts.antt`), so that a table is filled over two
 //! move tables side by side. [`OneTable`] is what a puzzle gives beside its numbering and its turns, with these laws.
 //! [`SmallTables`] is the built table of an event; [`scramble_222`], [`scramble_pyram`], [`scramble_skewb`] and the
-//! tests of minima walk and read it; [`SmallPuzzle`] and [`SmallPyram`] are the events that fair drawing takes, whose
-//! law is that the states it draws are those that turns reach.
+//! tests of minima walk and read it; [`SmallPuzzle`] and [`SmallPyram`] are the puzzles of the events that fair drawing
+//! takes, whose law is that turns reach the states that are numbered.
 #![tactic(auto)]
 
 pub mod laws;
@@ -24,14 +24,14 @@ mod small_222;
 mod small_puzzle;
 mod small_pyram;
 mod small_skewb;
+mod state_table;
 mod tables;
 
 pub use one_table::OneTable;
+pub use scrambles::scramble_of;
 pub use small_222::{Small222, needs_222, scramble_222};
 pub use small_puzzle::SmallPuzzle;
 pub use small_pyram::{SmallPyram, needs_pyram, scramble_pyram};
 pub use small_skewb::{SmallSkewb, needs_skewb, scramble_skewb};
+pub use state_table::StateTable;
 pub use tables::SmallTables;
-
-#[cfg(test)]
-mod tests;

@@ -1,90 +1,47 @@
 //! What a puzzle is that one table solves.
 
+use crate::state_table::StateTable;
 use scr_draw::Numbering;
-use scr_notation::{Event, Turn};
-use scr_table::TableName;
+use scr_notation::{Turn, turn_at};
 use scr_turning::{Letters, PowerTurned};
 
 /// A puzzle with numbered states and turns, whose states are two parts that turns move each by itself.
 pub trait OneTable: Numbering<State: PowerTurned> + Copy {
-    ghost use Rattle.std.specs.Prelude.{ℕ, ◌≡◌, ◌*◌, ◌^◌, ◌<◌, ◌≤◌, Some, IsTrue};
-    ghost use Rattle.scr_notation.specs.declared.event.Event.{Event as EventOf};
+    ghost use Rattle.std.specs.Prelude.{◌≡◌, ◌*◌, ◌<◌, ◌↔◌, Some, IsTrue};
     ghost use Rattle.scr_notation.specs.declared.turn.Turn.{Turn as Letter};
-    ghost use Rattle.scr_notation.specs.Turning.{opposite};
     ghost use Rattle.scr_notation.specs.Turns.{permits};
-    ghost use Rattle.scr_table.specs.declared.name.TableName.{TableName as NameOfTable};
-    ghost use Rattle.scr_small.specs.NumberedPuzzles.{NumberedPuzzle, state_line};
-    ghost use Rattle.scr_small.specs.LawfulPuzzles.{IsNumberedPuzzle};
-    ghost use Rattle.scr_small.specs.StateParts.{MovesByParts};
-    ghost use Rattle.scr_small.specs.Tables.{small_line};
+    ghost use Rattle.scr_small.specs.declared.state_table.StateTable.{StateTable as TableOf};
+    ghost use Rattle.scr_small.specs.NumberedPuzzles.{NumberedPuzzle};
+    ghost use Rattle.scr_small.specs.SolvedByTable.{IsSolvedByTable};
 
     /// What it shows.
     ghost shown: { NumberedPuzzle Self.State Letter };
 
-    /// The event that its table solves.
-    ghost EVENT: { EventOf };
+    /// Its table.
+    ghost TABLE: { TableOf };
 
-    const EVENT: Event;
-
-    /// What its table is called.
-    ghost NAME: { NameOfTable };
-
-    const NAME: TableName;
-
-    /// How many turns a state is at most from solved.
-    ghost BOUND: { ℕ };
-
-    const BOUND: u32;
-
-    /// How many positions the part has whose numbers follow each other.
-    ghost LOW: { ℕ };
-
-    const LOW: u32;
-
-    /// How many the other part has.
-    ghost HIGH: { ℕ };
-
-    const HIGH: u32;
+    const TABLE: StateTable;
 
     /// The numbering of its states.
     fn numbers() -> Self
         ensures count { (Self.numbered result).count ≡ shown.numbered.count }
         ensures states { (Self.numbered result).state_at ≡ shown.numbered.state_at }
-        ensures numbers { (Self.numbered result).number_of ≡ shown.numbered.number_of }
-        ensures valid { (state : Self.State) → shown.numbered.IsValid state → (Self.numbered result).IsValid state };
+        ensures numbers { (Self.numbered result).number_of ≡ shown.numbered.number_of };
 
     /// Does nothing: each state is valid.
     fn is_valid(state: &Self::State)
         ensures { shown.numbered.IsValid state.now };
 
-    /// The turn with this number.
-    fn letter(number: u8) -> Turn
-        requires { number < shown.turns }
-        ensures letter { result ≡ shown.letter_at number }
-        ensures of_event { IsTrue (permits EVENT result) };
-
     /// Its turns are those of the states.
     ghost turned_by: { (shown.after ≡ Self.State.after) × (shown.letter_at ≡ Self.State.Kind.letters.letter_at)
         × (shown.turns ≡ Self.State.Kind.POWERS * Self.State.GENERATORS) };
 
-    /// It is a numbered puzzle, whose letters are taken back by the notation's opposites.
-    ghost lawful: { IsNumberedPuzzle shown };
+    /// Its valid states are those of the numbering.
+    ghost same_valid: { (numbers : Self) (state : Self.State)
+        → (Self.numbered numbers).IsValid state ↔ shown.numbered.IsValid state };
 
-    ghost taken_back: { shown.opposite ≡ opposite };
-
-    /// Its states are two parts, and the solved one has the number 0.
-    ghost by_parts: { MovesByParts shown LOW HIGH };
-
-    ghost first: { shown.numbered.number_of shown.solved ≡ 0 };
-
-    ghost fits: { LOW * HIGH < 2 ^ 32 };
-
-    ghost few: { shown.turns ≤ 256 };
-
-    /// Its table is that of the event.
-    ghost of_event: { small_line EVENT ≡ Some (state_line shown NAME BOUND) };
-
-    ghost near: { BOUND ≤ 24 };
+    /// One table solves it.
+    ghost by_table: { IsSolvedByTable shown TABLE };
 
     /// The state with a number.
     final fn state_with(number: u32) -> Self::State
@@ -108,6 +65,15 @@ pub trait OneTable: Numbering<State: PowerTurned> + Copy {
         ensures { result ≡ shown.turns }
     {
         u32::from(<Self::State as PowerTurned>::Kind::POWERS) * u32::from(Self::State::GENERATORS)
+    }
+
+    /// The turn with this number.
+    final fn letter(number: u8) -> Turn
+        requires { number < shown.turns }
+        ensures letter { result ≡ shown.letter_at number }
+        ensures of_event { IsTrue (permits TABLE.event result) }
+    {
+        turn_at(Self::TABLE.event.kind(), number)
     }
 
     /// The state after the turn with this number.

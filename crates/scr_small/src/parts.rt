@@ -22,10 +22,10 @@ impl<P: OneTable> LowPart<P> {
 }
 
 impl<P: OneTable> Coord for LowPart<P> {
-    ghost coordinate = { λ _. low_part P.shown P.LOW };
+    ghost coordinate = { λ _. low_part P.shown P.TABLE.low };
 
     fn count(&self) -> u32 {
-        P::LOW
+        P::TABLE.low
     }
 
     fn turns(&self) -> u32 {
@@ -34,14 +34,14 @@ impl<P: OneTable> Coord for LowPart<P> {
 
     fn after(&self, position: u32, turn: u32) -> Option<u32> {
         let turned = P::turned(&P::state_with(position), turn);
-        Some(P::number(&turned) % P::LOW)
+        Some(P::number(&turned) % P::TABLE.low)
     }
 
     fn is_goal(&self, position: u32) -> bool {
         position == 0
     }
 
-    ghost law = { λ _. StaysBelow-low P.shown P.LOW };
+    ghost law = { λ _. StaysBelow-low P.shown P.TABLE.low };
 }
 
 /// The other part. A step does as much.
@@ -59,10 +59,10 @@ impl<P: OneTable> HighPart<P> {
 }
 
 impl<P: OneTable> Coord for HighPart<P> {
-    ghost coordinate = { λ _. high_part P.shown P.LOW P.HIGH };
+    ghost coordinate = { λ _. high_part P.shown P.TABLE.low P.TABLE.high };
 
     fn count(&self) -> u32 {
-        P::HIGH
+        P::TABLE.high
     }
 
     fn turns(&self) -> u32 {
@@ -70,13 +70,13 @@ impl<P: OneTable> Coord for HighPart<P> {
     }
 
     fn after(&self, position: u32, turn: u32) -> Option<u32> {
-        let turned = P::turned(&P::state_with(P::LOW * position), turn);
-        Some(P::number(&turned) / P::LOW)
+        let turned = P::turned(&P::state_with(P::TABLE.low * position), turn);
+        Some(P::number(&turned) / P::TABLE.low)
     }
 
     fn is_goal(&self, position: u32) -> bool {
         position == 0
     }
 
-    ghost law = { λ _. StaysBelow-high P.shown P.lawful P.LOW P.HIGH P.by_parts };
+    ghost law = { λ _. StaysBelow-high P.shown P.by_table.lawful P.TABLE.low P.TABLE.high P.by_table.by_parts };
 }

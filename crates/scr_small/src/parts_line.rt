@@ -1,5 +1,5 @@
 //! The table of a puzzle, over the two parts of its states side by side.
-ghost use Rattle.scr_small.specs.NumberedPuzzles.{state_line};
+ghost use Rattle.scr_small.specs.Tables.{table_line};
 
 use crate::one_table::OneTable;
 use crate::parts::{HighPart, LowPart};
@@ -14,14 +14,14 @@ pub(crate) struct PartsLine<P: OneTable> {
 }
 
 impl<P: OneTable> Line for PartsLine<P> {
-    ghost line = { state_line P.shown P.NAME P.BOUND };
+    ghost line = { table_line P.shown P.TABLE };
 
     fn name() -> TableName {
-        P::NAME
+        P::TABLE.name
     }
 
     fn bound() -> u32 {
-        P::BOUND
+        P::TABLE.bound
     }
 
     type Moves = Product<MoveTable, MoveTable>;
@@ -30,5 +30,5 @@ impl<P: OneTable> Line for PartsLine<P> {
         Product::of_moves(alloc, &LowPart::<P>::new(), &HighPart::<P>::new())
     }
 
-    ghost few_turns = { P.few };
+    ghost few_turns = { P.by_table.few };
 }

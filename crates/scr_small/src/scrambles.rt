@@ -11,10 +11,10 @@ use crate::tables::SmallTables;
 use scr_notation::{Scramble, inverse};
 
 /// The scramble of a state: the first word that solves it, taken back. The tables are those of the puzzle's event.
-pub(crate) fn scramble_of<P: OneTable>(tables: &SmallTables, state: &P::State) -> Scramble
-    requires { tables.now.event ≡ P.EVENT }
-    ensures event { result.event ≡ P.EVENT }
-    ensures at_most { length result.turns ≤ P.BOUND }
+pub fn scramble_of<P: OneTable>(tables: &SmallTables, state: &P::State) -> Scramble
+    requires { tables.now.event ≡ P.TABLE.event }
+    ensures event { result.event ≡ P.TABLE.event }
+    ensures at_most { length result.turns ≤ P.TABLE.bound }
     ensures scramble { IsScrambleOf P.shown state.now result.turns }
     ensures only { (turns : List Letter) → IsScrambleOf P.shown state.now turns → turns ≡ result.turns }
     ensures played { play P.shown.after P.shown.solved result.turns ≡ Some state.now }
@@ -25,9 +25,9 @@ pub(crate) fn scramble_of<P: OneTable>(tables: &SmallTables, state: &P::State) -
 
 /// How many turns a state is from solved, and so how many it needs. The tables are those of the puzzle's event.
 pub(crate) fn distance_of<P: OneTable>(tables: &SmallTables, state: &P::State) -> u32
-    requires { tables.now.event ≡ P.EVENT }
+    requires { tables.now.event ≡ P.TABLE.event }
     ensures entry { result ≡ slice_index tables.now.distances.distances (P.shown.numbered.number_of state.now) }
-    ensures at_most { result ≤ P.BOUND }
+    ensures at_most { result ≤ P.TABLE.bound }
     ensures exact { (least : ℕ) → (least ≤ result) ↔ Needs (puzzle_of P.shown) state.now least }
     ensures measures { Measures (state_coordinate P.shown) tables.now.distances }
 {
@@ -36,7 +36,7 @@ pub(crate) fn distance_of<P: OneTable>(tables: &SmallTables, state: &P::State) -
 
 /// Whether no word of fewer than `least` turns brings a state to solved. The tables are those of the puzzle's event.
 pub(crate) fn needs_of<P: OneTable>(tables: &SmallTables, state: &P::State, least: u32) -> bool
-    requires { tables.now.event ≡ P.EVENT }
+    requires { tables.now.event ≡ P.TABLE.event }
     ensures exact { IsTrue result ↔ Needs (puzzle_of P.shown) state.now least }
     ensures tested { let entries = tables.now.distances.distances in
         result ≡ nat_le least (slice_index entries (P.shown.numbered.number_of state.now)) }
@@ -48,9 +48,9 @@ pub(crate) fn needs_of<P: OneTable>(tables: &SmallTables, state: &P::State, leas
 fn spelled<P: OneTable>(numbers: &[u8]) -> Scramble
     requires few { length numbers.now ≤ 24 }
     requires turns { All (λ n. n < P.shown.turns) numbers.now }
-    ensures { result ≡ record { event = P.EVENT; turns = map P.shown.letter_at numbers.now } }
+    ensures { result ≡ record { event = P.TABLE.event; turns = map P.shown.letter_at numbers.now } }
 {
-    let mut scramble = Scramble::new(P::EVENT);
+    let mut scramble = Scramble::new(P::TABLE.event);
     for k in 0..numbers.len() {
         scramble.push(P::letter(numbers[k]));
     }

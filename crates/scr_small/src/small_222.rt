@@ -6,49 +6,37 @@ ghost use Rattle.scr_notation.specs.declared.event.Event.TheVariants.{C222};
 ghost use Rattle.scr_notation.specs.declared.turn.Turn.{Turn as Letter};
 ghost use Rattle.scr_turning.specs.PowerPuzzles.{after_letter, power_puzzle};
 ghost use Rattle.scr_cube.specs.Cube222.{powers_222, numbered_222, solved_222};
-ghost use Rattle.scr_small.specs.Puzzle222.{IsScramble222};
+ghost use Rattle.scr_small.specs.Puzzles.{IsScramble222};
 
 use crate::one_table::OneTable;
 use crate::scrambles::{needs_of, scramble_of};
 use crate::small_puzzle::SmallPuzzle;
+use crate::state_table::StateTable;
 use crate::tables::SmallTables;
 use scr_cube::{Corners222, Numbers222};
-use scr_notation::{Event, Scramble, Turn};
+use scr_notation::{Event, Scramble};
 use scr_table::TableName;
 
-/// The 2x2x2 as an event that states are drawn of, by its built table.
+/// The 2x2x2 with its built table.
 pub type Small222<'a> = SmallPuzzle<'a, Numbers222>;
 
 impl OneTable for Numbers222 {
     ghost use Rattle.std.specs.Prelude.{refl};
-    ghost use Rattle.std.proofs.Common.{lit≤, lit<};
-    ghost use Rattle.scr_table.specs.declared.name.TableName.TheVariants.{Corners};
-    ghost use Rattle.scr_small.specs.Puzzle222.{numbered_puzzle_222};
-    ghost use Rattle.scr_small.specs.Lawful222.{lawful_puzzle_222, parts_222, first_222};
+    ghost use Rattle.scr_small.specs.Puzzles.{numbered_puzzle_222};
+    ghost use Rattle.scr_small.specs.Tables.{table_222};
+    ghost use Rattle.scr_small.specs.Lawful222.{solved_by_table_222};
 
     ghost shown = { numbered_puzzle_222 };
 
-    ghost EVENT = { C222 };
+    ghost TABLE = { table_222 };
 
-    const EVENT: Event = Event::C222;
-
-    ghost NAME = { Corners };
-
-    const NAME: TableName = TableName::Corners;
-
-    ghost BOUND = { 11 };
-
-    const BOUND: u32 = 11;
-
-    // 3^6 twists
-    ghost LOW = { 729 };
-
-    const LOW: u32 = 729;
-
-    // 7! lists of corners
-    ghost HIGH = { 5040 };
-
-    const HIGH: u32 = 5040;
+    const TABLE: StateTable = StateTable {
+        event: Event::C222,
+        name: TableName::Corners,
+        bound: 11,
+        low: 729,
+        high: 5040,
+    };
 
     fn numbers() -> Numbers222 {
         Numbers222
@@ -58,32 +46,11 @@ impl OneTable for Numbers222 {
         let [..] = state.twists();
     }
 
-    #[tactic(auto, unfolding(scr_notation::specs::TurnNumbers::face_turn_at))]
-    fn letter(number: u8) -> Turn {
-        Turn::Face {
-            face: number / 3,
-            depth: 1,
-            amount: number % 3 + 1,
-        }
-    }
-
     ghost turned_by = { (refl, refl, refl) };
 
-    ghost lawful = { lawful_puzzle_222 };
+    ghost same_valid = { λ _ _. (λ valid. valid, λ valid. valid) };
 
-    ghost taken_back = { refl };
-
-    ghost by_parts = { parts_222 };
-
-    ghost first = { first_222 };
-
-    ghost fits = { lit< tt };
-
-    ghost few = { lit≤ tt };
-
-    ghost of_event = { refl };
-
-    ghost near = { lit≤ tt };
+    ghost by_table = { solved_by_table_222 };
 }
 
 /// The scramble of a 2x2x2, of at most 11 turns: the first word of turns that solves it, taken back. The tables are

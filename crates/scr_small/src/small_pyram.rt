@@ -9,46 +9,34 @@ ghost use Rattle.scr_table.specs.Distances.{Measures};
 ghost use Rattle.scr_turning.specs.PowerPuzzles.{after_letter, power_puzzle};
 ghost use Rattle.scr_tetra.specs.PyramParts.{tips_word, turned_count};
 ghost use Rattle.scr_tetra.specs.Pyraminx.{numbered_tetraminx, pyram_powers, solved_pyram};
-ghost use Rattle.scr_small.specs.PuzzlePyram.{coordinate_tetraminx, IsScramblePyram};
+ghost use Rattle.scr_small.specs.Puzzles.{coordinate_tetraminx, IsScramblePyram};
 
 use crate::one_table::OneTable;
 use crate::scrambles::{distance_of, scramble_of};
+use crate::state_table::StateTable;
 use crate::tables::SmallTables;
-use scr_draw::{Numbering, Permit, RandomState};
+use scr_draw::{NumberedEvent, Permit, Reaches};
 use scr_notation::{Event, Scramble, Turn};
 use scr_table::TableName;
 use scr_tetra::{PyramNumbers, Pyraminx, Tetraminx, TetraminxNumbers};
 
 impl OneTable for TetraminxNumbers {
     ghost use Rattle.std.specs.Prelude.{refl};
-    ghost use Rattle.std.proofs.Common.{lit≤, lit<};
-    ghost use Rattle.scr_table.specs.declared.name.TableName.TheVariants.{Pyramid};
-    ghost use Rattle.scr_small.specs.PuzzlePyram.{numbered_puzzle_tetraminx};
-    ghost use Rattle.scr_small.specs.LawfulTetraminx.{lawful_puzzle_tetraminx, parts_tetraminx, first_tetraminx};
+    ghost use Rattle.scr_small.specs.Puzzles.{numbered_puzzle_tetraminx};
+    ghost use Rattle.scr_small.specs.Tables.{table_tetraminx};
+    ghost use Rattle.scr_small.specs.LawfulTetraminx.{solved_by_table_tetraminx};
 
     ghost shown = { numbered_puzzle_tetraminx };
 
-    ghost EVENT = { Pyram };
+    ghost TABLE = { table_tetraminx };
 
-    const EVENT: Event = Event::Pyram;
-
-    ghost NAME = { Pyramid };
-
-    const NAME: TableName = TableName::Pyramid;
-
-    ghost BOUND = { 11 };
-
-    const BOUND: u32 = 11;
-
-    // 81 digits of axial pieces, and 32 flips
-    ghost LOW = { 2592 };
-
-    const LOW: u32 = 2592;
-
-    // 6!/2 even lists of edges
-    ghost HIGH = { 360 };
-
-    const HIGH: u32 = 360;
+    const TABLE: StateTable = StateTable {
+        event: Event::Pyram,
+        name: TableName::Pyramid,
+        bound: 11,
+        low: 2592,
+        high: 360,
+    };
 
     fn numbers() -> TetraminxNumbers {
         TetraminxNumbers
@@ -58,31 +46,11 @@ impl OneTable for TetraminxNumbers {
         let [..] = state.edges();
     }
 
-    #[tactic(auto, unfolding(scr_notation::specs::TurnNumbers::axis_turn_at))]
-    fn letter(number: u8) -> Turn {
-        Turn::Axis {
-            axis: number / 2,
-            amount: number % 2 + 1,
-        }
-    }
-
     ghost turned_by = { (refl, refl, refl) };
 
-    ghost lawful = { lawful_puzzle_tetraminx };
+    ghost same_valid = { λ _ _. (λ valid. valid, λ valid. valid) };
 
-    ghost taken_back = { refl };
-
-    ghost by_parts = { parts_tetraminx };
-
-    ghost first = { first_tetraminx };
-
-    ghost fits = { lit< tt };
-
-    ghost few = { lit≤ tt };
-
-    ghost of_event = { refl };
-
-    ghost near = { lit≤ tt };
+    ghost by_table = { solved_by_table_tetraminx };
 }
 
 /// The scramble of a Pyraminx, of at most 15 turns: the first word of large turns that solves it without its tips,
@@ -144,54 +112,25 @@ fn count_turned(digits: &[u8]) -> u32
     turned
 }
 
-/// The Pyraminx as an event that states are drawn of, by its built table.
+/// The Pyraminx, with its built table, by which each of its states is reached.
 #[derive(Drop)]
 pub struct SmallPyram<'a> {
-    tables: &'a SmallTables,
+    /// Its table.
+    pub tables: &'a SmallTables,
     ghost event: { tables.now.event ≡ Pyram },
     ghost measures: { Measures coordinate_tetraminx tables.now.distances },
 }
 
 impl<'a> SmallPyram<'a> {
     /// The event. The tables are those of pyram.
-    pub fn new(tables: &'a SmallTables) -> SmallPyram<'a>
+    pub fn event(tables: &'a SmallTables) -> NumberedEvent<PyramNumbers, SmallPyram<'a>>
         requires { tables.now.event ≡ Pyram }
     {
         let _table = tables.only();
-        SmallPyram { tables }
-    }
-
-    /// The scramble of a state.
-    pub fn scramble_of(&self, state: &Pyraminx) -> Scramble
-        ensures event { result.event ≡ Pyram }
-        ensures at_most { length result.turns ≤ 15 }
-        ensures scramble { IsScramblePyram state.now result.turns }
-        ensures played { play (after_letter pyram_powers) solved_pyram result.turns ≡ Some state.now }
-    {
-        scramble_pyram(self.tables, state)
-    }
-}
-
-impl Numbering for SmallPyram<'_> {
-    ghost use Rattle.scr_tetra.specs.Pyraminx.{numbered_pyram};
-    ghost use Rattle.scr_tetra.specs.NumberedPyram.{pyram_numbering};
-
-    type State = Pyraminx;
-
-    ghost numbered = { λ _. numbered_pyram };
-
-    ghost law = { λ _. pyram_numbering };
-
-    fn count(&self) -> u128 {
-        PyramNumbers.count()
-    }
-
-    fn state_at(&self, number: u128) -> Pyraminx {
-        PyramNumbers.state_at(number)
-    }
-
-    fn number_of(&self, state: &Pyraminx) -> u128 {
-        PyramNumbers.number_of(state)
+        NumberedEvent {
+            numbers: PyramNumbers,
+            puzzle: SmallPyram { tables },
+        }
     }
 }
 
@@ -214,8 +153,8 @@ impl Permit<Pyraminx> for SmallPyram<'_> {
         tested_pyram small.tables.now.distances small.measures s least (IsPyram-reached s reached) };
 }
 
-impl RandomState for SmallPyram<'_> {
+impl Reaches<PyramNumbers> for SmallPyram<'_> {
     ghost use Rattle.scr_small.specs.PyramLaws.{IsReached-pyram};
 
-    ghost reached = { λ small s. IsReached-pyram small.tables.now.distances small.measures s };
+    ghost reached = { λ small _. IsReached-pyram small.tables.now.distances small.measures };
 }

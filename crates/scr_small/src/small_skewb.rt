@@ -6,49 +6,37 @@ ghost use Rattle.scr_notation.specs.declared.event.Event.TheVariants.{Skewb as E
 ghost use Rattle.scr_notation.specs.declared.turn.Turn.{Turn as Letter};
 ghost use Rattle.scr_turning.specs.PowerPuzzles.{after_letter, power_puzzle};
 ghost use Rattle.scr_tetra.specs.Skewb.{skewb_powers, skewb_numbered, solved_skewb};
-ghost use Rattle.scr_small.specs.PuzzleSkewb.{IsScrambleSkewb};
+ghost use Rattle.scr_small.specs.Puzzles.{IsScrambleSkewb};
 
 use crate::one_table::OneTable;
 use crate::scrambles::{needs_of, scramble_of};
 use crate::small_puzzle::SmallPuzzle;
+use crate::state_table::StateTable;
 use crate::tables::SmallTables;
-use scr_notation::{Event, Scramble, Turn};
+use scr_notation::{Event, Scramble};
 use scr_table::TableName;
 use scr_tetra::{Skewb, SkewbNumbers};
 
-/// The Skewb as an event that states are drawn of, by its built table.
+/// The Skewb with its built table.
 pub type SmallSkewb<'a> = SmallPuzzle<'a, SkewbNumbers>;
 
 impl OneTable for SkewbNumbers {
     ghost use Rattle.std.specs.Prelude.{refl};
-    ghost use Rattle.std.proofs.Common.{lit≤, lit<};
-    ghost use Rattle.scr_table.specs.declared.name.TableName.TheVariants.{Skewb as TableSkewb};
-    ghost use Rattle.scr_small.specs.PuzzleSkewb.{numbered_puzzle_skewb};
-    ghost use Rattle.scr_small.specs.LawfulSkewb.{lawful_puzzle_skewb, parts_skewb, first_skewb};
+    ghost use Rattle.scr_small.specs.Puzzles.{numbered_puzzle_skewb};
+    ghost use Rattle.scr_small.specs.Tables.{table_skewb};
+    ghost use Rattle.scr_small.specs.LawfulSkewb.{solved_by_table_skewb};
 
     ghost shown = { numbered_puzzle_skewb };
 
-    ghost EVENT = { EventSkewb };
+    ghost TABLE = { table_skewb };
 
-    const EVENT: Event = Event::Skewb;
-
-    ghost NAME = { TableSkewb };
-
-    const NAME: TableName = TableName::Skewb;
-
-    ghost BOUND = { 11 };
-
-    const BOUND: u32 = 11;
-
-    // 81 twists of the four, 9 of the three, and 12 even lists of the four
-    ghost LOW = { 8748 };
-
-    const LOW: u32 = 8748;
-
-    // 6!/2 even lists of the centres
-    ghost HIGH = { 360 };
-
-    const HIGH: u32 = 360;
+    const TABLE: StateTable = StateTable {
+        event: Event::Skewb,
+        name: TableName::Skewb,
+        bound: 11,
+        low: 8748,
+        high: 360,
+    };
 
     fn numbers() -> SkewbNumbers {
         SkewbNumbers
@@ -58,31 +46,11 @@ impl OneTable for SkewbNumbers {
         let [..] = state.centres();
     }
 
-    #[tactic(auto, unfolding(scr_notation::specs::TurnNumbers::axis_turn_at))]
-    fn letter(number: u8) -> Turn {
-        Turn::Axis {
-            axis: number / 2,
-            amount: number % 2 + 1,
-        }
-    }
-
     ghost turned_by = { (refl, refl, refl) };
 
-    ghost lawful = { lawful_puzzle_skewb };
+    ghost same_valid = { λ _ _. (λ valid. valid, λ valid. valid) };
 
-    ghost taken_back = { refl };
-
-    ghost by_parts = { parts_skewb };
-
-    ghost first = { first_skewb };
-
-    ghost fits = { lit< tt };
-
-    ghost few = { lit≤ tt };
-
-    ghost of_event = { refl };
-
-    ghost near = { lit≤ tt };
+    ghost by_table = { solved_by_table_skewb };
 }
 
 /// The scramble of a Skewb, of at most 11 turns: the first word of turns that solves it, taken back. The tables are

@@ -62,14 +62,7 @@ impl SmallTables {
             Event::C222 => Held::Corners(LineTable::build(alloc)?),
             Event::Pyram => Held::Pyramid(LineTable::build(alloc)?),
             Event::Skewb => Held::Skewb(LineTable::build(alloc)?),
-            Event::C333
-            | Event::Oh333
-            | Event::C555
-            | Event::C666
-            | Event::C777
-            | Event::Clock
-            | Event::Minx
-            | Event::Sq1 => unreachable!(),
+            _ => unreachable!(),
         };
         Ok(SmallTables { held })
     }

@@ -10,7 +10,7 @@ use Rattle.scr_sq1.specs.Shapes.{half_words, half_word, corners_among, corner_co
 use Rattle.scr_sq1.specs.Numbers.{every_second, corners_of, edges_of, shape_word}
 use Rattle.scr_sq1.specs.Proofs.HalfWords.{same_word, same_word-true}
 use Rattle.scr_sq1.specs.Proofs.HalfByHalf.{shape_word-cons}
-use Rattle.scr_sq1.specs.Proofs.Pieces.{corners_among-shape, units_among-shape}
+use Rattle.scr_sq1.specs.Proofs.Pieces.{AreCounted-halves}
 
 -- ---- the words of the halves
 
@@ -59,8 +59,8 @@ length_word (false ∷ w) = omega (arith, length_word w)
 
 pub length-shape_word : (hs : List ℕ) → IsShape hs → length (shape_word hs) ≡ 16
 length-shape_word hs shape =
-    let w = shape_word hs in
-    omega (arith, length_word w, corners_among-shape hs shape.below, units_among-shape hs shape.below, shape.corners, shape.size)
+    let counted = AreCounted-halves hs shape.below in
+    omega (arith, length_word (shape_word hs), counted.corners, counted.units, shape.corners, shape.size)
 
 -- the word of the halves from a place on
 pub shape_word-drop : (hs : List ℕ) (i : ℕ) → i < length hs → shape_word (drop i hs) ≡ half_word (slice_index hs i) ++ shape_word (drop (i + 1) hs)

@@ -22,6 +22,3 @@ mod validity;
 pub use numbers::Sq1Numbers;
 pub use shapes::{Shape, shape_at, shape_number};
 pub use state::Sq1;
-
-#[cfg(test)]
-mod tests;

@@ -1,7 +1,7 @@
 //! The numbers of the states of a Square-1, by which they are drawn.
 ghost use Rattle.std.specs.Prelude.{◌≡◌, ◌<◌};
 ghost use Rattle.scr_sq1.specs.Units.{IsSq1};
-ghost use Rattle.scr_sq1.specs.Numbers.{sq1_bases, sq1_digits, sq1_numbered};
+ghost use Rattle.scr_sq1.specs.Numbers.{sq1_digits, sq1_numbered};
 ghost use Rattle.scr_sq1.specs.Proofs.Numbering.{sq1_numbering};
 
 use crate::pieces::units_of;
@@ -10,15 +10,8 @@ use crate::state::Sq1;
 use scr_draw::Numbering;
 use scr_rank::{MixedRadix, PermRank};
 
-/// How many states there are.
-const STATES: u128 = 11_958_666_854_400;
-
 /// How many digits of the equator, of lists of corners, of lists of edges and of shapes there are.
-fn sq1_radix() -> MixedRadix<4>
-    ensures { result ≡ sq1_bases }
-{
-    MixedRadix::new([2, 40320, 40320, 3678])
-}
+const SQ1_BASES: [u128; 4] = [2, 40320, 40320, 3678];
 
 /// The equator, the numbers of the list of corners and of the list of edges, and the number of the shape.
 fn digits_of(state: &Sq1) -> [u128; 4]
@@ -47,7 +40,7 @@ impl Numbering for Sq1Numbers {
     ghost law = { λ _. sq1_numbering };
 
     fn state_at(&self, number: u128) -> Sq1 {
-        let [equator, corners, edges, shape] = sq1_radix().unrank(number);
+        let [equator, corners, edges, shape] = MixedRadix::new(SQ1_BASES).unrank(number);
         let units = units_of(
             &shape_at(shape as u32).halves(),
             &PermRank::<8>::unrank(corners),
@@ -57,10 +50,10 @@ impl Numbering for Sq1Numbers {
     }
 
     fn number_of(&self, state: &Sq1) -> u128 {
-        sq1_radix().rank(&digits_of(state))
+        MixedRadix::new(SQ1_BASES).rank(&digits_of(state))
     }
 
     fn count(&self) -> u128 {
-        STATES
+        MixedRadix::new(SQ1_BASES).count()
     }
 }

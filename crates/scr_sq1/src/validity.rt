@@ -1,7 +1,7 @@
 //! Tests of what makes a state valid.
 ghost use Rattle.std.specs.Prelude.{◌≡◌, ℕ, ◌<◌, ◌↔◌, IsTrue, slice_index};
 ghost use Rattle.scr_combinatorics.specs.Lists.{occurrences};
-ghost use Rattle.scr_sq1.specs.Units.{is_corner, next_unit, previous_unit, fills_neighbour, are_of_one_corner, is_open, units_filled};
+ghost use Rattle.scr_sq1.specs.Units.{is_corner, fills_neighbour, are_of_one_corner, is_open, units_filled};
 
 use crate::turning::UNITS;
 
@@ -65,36 +65,20 @@ pub(crate) fn are_corners_whole(units: &[u8; UNITS]) -> bool
     true
 }
 
-/// Whether a unit's piece fills a neighbouring unit too.
+/// Whether a unit's piece fills a neighbouring unit too: the one behind it or the one before it, round its layer.
 fn fills_neighbour(units: &[u8; UNITS], unit: usize) -> bool
     requires { unit < 24 }
     ensures { result ≡ fills_neighbour units.now unit }
 {
-    units[next_unit(unit)] == units[unit] || units[previous_unit(unit)] == units[unit]
-}
-
-/// The unit behind a unit, round its layer.
-fn next_unit(unit: usize) -> usize
-    requires { unit < 24 }
-    ensures value { result ≡ next_unit unit }
-    ensures below { result < 24 }
-{
-    match unit {
+    let next = match unit {
         11 => 0,
         23 => 12,
         _ => unit + 1,
-    }
-}
-
-/// The unit before a unit, round its layer.
-fn previous_unit(unit: usize) -> usize
-    requires { unit < 24 }
-    ensures value { result ≡ previous_unit unit }
-    ensures below { result < 24 }
-{
-    match unit {
+    };
+    let previous = match unit {
         0 => 11,
         12 => 23,
         _ => unit - 1,
-    }
+    };
+    units[next] == units[unit] || units[previous] == units[unit]
 }

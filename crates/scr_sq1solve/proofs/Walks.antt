@@ -1,5 +1,5 @@
 -- The words of the stages, as they are found and played, and the solution that they are joined to.
-use Rattle.std.proofs.Common.{◌≡◌, ℕ, ◌+◌, ◌<◌, ◌≤◌, cond, List, [], ◌∷◌, ◌++◌, length, take, Option, Some, sym, ap, ◌∙◌, subst, arith, append_assoc, ltb-true}
+use Rattle.std.proofs.Common.{◌≡◌, ℕ, ◌+◌, ◌*◌, ◌<◌, ◌≤◌, cond, List, [], ◌∷◌, ◌++◌, length, take, Option, Some, sym, ap, ◌∙◌, subst, arith, append_assoc, ltb-true}
 use Rattle.std.specs.Prelude.{slice_index, All}
 use Rattle.std.proofs.lemmas.Grind.{flat_map-append}
 use Rattle.std.proofs.lemmas.List.{append-nil, take_more}
@@ -15,7 +15,7 @@ use Rattle.scr_sq1.specs.Units.{Sq1State, sq1_after}
 use Rattle.scr_sq1solve.specs.declared.stage_letters.Letters.TheVariants.{Squarings, Quarters}
 use Rattle.scr_sq1solve.specs.Stages.{Stage, IsStageWord, EndsIn, IsEnd, IsSolution, IsNormal, HasSolvedLayers, after_letter, turns_of, squaring_words, quarter_words, shape_letter, pairing_letter, shape_stage, pairing_stage, home_stage, equator_word}
 use Rattle.scr_sq1solve.specs.Letters.{squaring_word, end_words, IsEnded, IsWalk, IsTidiedSolution}
-use Rattle.scr_sq1solve.specs.Proofs.Lengths.{Costs}
+use Rattle.scr_sq1solve.specs.Proofs.Lengths.{Costs, Costs-word}
 use Rattle.scr_sq1solve.specs.Proofs.Indexed.{stage_space, after_letter-parts}
 use Rattle.scr_table.specs.Distances.{Distances}
 use Rattle.scr_table.specs.Lines.{TableLine, IsTableOf}
@@ -47,9 +47,11 @@ IsWalk-played stage s end word turns is are played =
 
 -- what is so where a stage's word has led
 module _ {stage : Stage} {s end : Sq1State} {turns : List Turn} (w : IsWalk stage s turns end) where
-  pub walk-costs : (most_turns most_twists : ℕ)
-      → ((word : List ℕ) → length word ≤ stage.bound → Costs (turns_of stage.letter word) most_turns most_twists) → Costs turns most_turns most_twists
-  walk-costs most_turns most_twists costs = subst (λ ts. Costs ts most_turns most_twists) (sym w.turns_are) (costs w.word w.is.within)
+  pub walk-costs : (each_turns each_twists : ℕ) → ((n : ℕ) → Costs (stage.letter n) each_turns each_twists)
+      → Costs turns (stage.bound * each_turns) (stage.bound * each_twists)
+  walk-costs each_turns each_twists costs =
+      subst (λ ts. Costs ts (stage.bound * each_turns) (stage.bound * each_twists)) (sym w.turns_are)
+      (Costs-word stage.letter each_turns each_twists stage.bound costs w.word w.is.within)
 
   pub walk-kept : (IsValid : Sq1State → Type 0) (c : Coordinate) (view : Sq1State → ℕ)
       → Follows (stage_space IsValid stage.letters stage.letter stage.IsGoal) (positions c) view → IsValid s → IsValid end

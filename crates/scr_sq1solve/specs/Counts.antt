@@ -13,6 +13,11 @@ twists_of _ = 0
 abbrev pub twists_in : List Turn → ℕ
 twists_in word = count_in twists_of word
 
+-- so many turns, and so many twists
+pub record Cost : Type 0 where
+  pub turns : ℕ
+  pub twists : ℕ
+
 -- the equator, turned over so many times
 unfoldable pub turned_over : ℕ → Bool → Bool
 turned_over zero equator = equator

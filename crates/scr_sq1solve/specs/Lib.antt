@@ -4,6 +4,5 @@ pub mod Counts
 pub mod Letters
 pub mod Codes
 pub mod Placed
-pub mod Built
 pub mod Minima
 pub mod Proofs

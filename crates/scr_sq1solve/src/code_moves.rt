@@ -2,9 +2,9 @@
 ghost use Rattle.std.specs.Prelude.{◌≡◌, ◌+◌, ◌*◌, ◌<◌, ◌%◌, ◌/◌, IfOk, map};
 ghost use Rattle.std.specs.Option.{option_map};
 ghost use Rattle.std.specs.List.{list_any};
+ghost use Rattle.scr_play.specs.Play.{play};
 ghost use Rattle.scr_coord.specs.Moves.{moves_coordinate};
 ghost use Rattle.scr_coord.specs.SearchSpaces.{ShowsSame};
-ghost use Rattle.scr_play.specs.Play.{play};
 ghost use Rattle.scr_sq1.specs.Numbers.{corners_of, edges_of};
 ghost use Rattle.scr_sq1.specs.Units.{sq1_after, solved_sq1};
 ghost use Rattle.scr_sq1solve.specs.declared.stage_letters.Letters.TheVariants.{OfHome, Quarters};
@@ -22,6 +22,7 @@ use scr_coord::{Coord, MoveTable};
 use std::alloc::{AllocError, Global};
 
 /// Where 32 letters lead from the lists of corners and from those of edges.
+#[derive(Drop)]
 pub(crate) struct CodeMoves {
     corners: MoveTable,
     edges: MoveTable,
@@ -29,17 +30,6 @@ pub(crate) struct CodeMoves {
     ghost shows_corners: { ShowsSame (codes_coordinate corners_of (letter_of letters)) (moves_coordinate corners) },
     ghost shows_edges: { ShowsSame (codes_coordinate edges_of (letter_of letters)) (moves_coordinate edges) },
     ghost kept: { IsKept (letter_of letters) },
-}
-
-// A call wherever one is let go, in place of all that lets go of its parts.
-impl Drop for CodeMoves {
-    fn drop(self) {
-        let CodeMoves {
-            corners: _,
-            edges: _,
-            letters: _,
-        } = self;
-    }
 }
 
 impl CodeMoves {

@@ -2,21 +2,21 @@
 ghost use Rattle.std.specs.Prelude.{◌≡◌, ◌≤◌, List, Some};
 ghost use Rattle.scr_play.specs.Play.{play};
 ghost use Rattle.scr_play.specs.Reach.{IsReached};
-ghost use Rattle.scr_notation.specs.declared.turn.Turn.{Turn as Letter};
 ghost use Rattle.scr_table.specs.Distances.{Distances};
-ghost use Rattle.scr_table.specs.Lines.{IsTableOf};
+ghost use Rattle.scr_table.specs.Lines.{AreTablesOf};
+ghost use Rattle.scr_notation.specs.declared.turn.Turn.{Turn as Letter};
 ghost use Rattle.scr_sq1.specs.Units.{Sq1State, IsSq1, solved_sq1, sq1_after, sq1_puzzle};
 ghost use Rattle.scr_sq1solve.specs.Stages.{IsSolution, IsScrambleSq1};
 ghost use Rattle.scr_sq1solve.specs.Counts.{twists_in, turned_over, stage_twists, IsWithinBounds};
-ghost use Rattle.scr_sq1solve.specs.Tables.{shapes_line, pairings_line, square_line};
+ghost use Rattle.scr_sq1solve.specs.Tables.{sq1_lines};
 
-/// Each valid state has a solution wherever the three tables can be built, and so is reached; it has but one, which
+/// Each valid state has a solution where the three tables are built, and so is reached; it has but one, which
 /// leads to solved. So the scramble is one, and leads from solved to the state.
 pub fn solutions()
-    ensures some { (shapes pairings square : Distances) → IsTableOf shapes_line shapes → IsTableOf pairings_line pairings
-        → IsTableOf square_line square → (s : Sq1State) → IsSq1 s → (w : List Letter) × IsSolution s w }
-    ensures reached { (shapes pairings square : Distances) → IsTableOf shapes_line shapes → IsTableOf pairings_line pairings
-        → IsTableOf square_line square → (s : Sq1State) → IsSq1 s → IsReached sq1_puzzle s }
+    ensures some { (tables : List Distances) → AreTablesOf sq1_lines tables
+        → (s : Sq1State) → IsSq1 s → (w : List Letter) × IsSolution s w }
+    ensures reached { (tables : List Distances) → AreTablesOf sq1_lines tables
+        → (s : Sq1State) → IsSq1 s → IsReached sq1_puzzle s }
     ensures one { (s : Sq1State) (v w : List Letter) → IsSq1 s → IsSolution s v → IsSolution s w → v ≡ w }
     ensures solved { (s : Sq1State) (w : List Letter) → IsSq1 s → IsSolution s w → play sq1_after s w ≡ Some solved_sq1 }
     ensures scramble { (s : Sq1State) (w : List Letter) → IsSq1 s → IsScrambleSq1 s w → play sq1_after solved_sq1 w ≡ Some s }

@@ -13,8 +13,8 @@ use std::alloc::{AllocError, Global};
 pub(crate) struct ShapesLine;
 
 impl Line for ShapesLine {
-    ghost use Rattle.scr_sq1solve.specs.Tables.{shapes_line};
     ghost use Rattle.std.proofs.Common.{lit≤};
+    ghost use Rattle.scr_sq1solve.specs.Tables.{shapes_line};
 
     ghost line = { shapes_line };
 
@@ -40,8 +40,8 @@ impl Line for ShapesLine {
 pub(crate) struct PairingsLine;
 
 impl Line for PairingsLine {
-    ghost use Rattle.scr_sq1solve.specs.Tables.{pairings_line};
     ghost use Rattle.std.proofs.Common.{lit≤};
+    ghost use Rattle.scr_sq1solve.specs.Tables.{pairings_line};
 
     ghost line = { pairings_line };
 
@@ -70,8 +70,8 @@ impl Line for PairingsLine {
 pub(crate) struct SquareLine;
 
 impl Line for SquareLine {
-    ghost use Rattle.scr_sq1solve.specs.Tables.{square_line};
     ghost use Rattle.std.proofs.Common.{lit≤};
+    ghost use Rattle.scr_sq1solve.specs.Tables.{square_line};
 
     ghost line = { square_line };
 

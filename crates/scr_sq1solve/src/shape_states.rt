@@ -1,8 +1,8 @@
 //! A state for each index of the table `shapes`, as a coordinate.
 ghost use Rattle.std.specs.Prelude.{◌≡◌, ◌<◌, true};
 ghost use Rattle.std.specs.List.{list_any};
-ghost use Rattle.scr_coord.specs.Moves.{each_below};
 ghost use Rattle.scr_play.specs.Play.{play};
+ghost use Rattle.scr_coord.specs.Moves.{each_below};
 ghost use Rattle.scr_sq1.specs.Units.{sq1_after, solved_sq1};
 ghost use Rattle.scr_sq1solve.specs.Stages.{shape_letter, squaring_words};
 ghost use Rattle.scr_sq1solve.specs.Tables.{shapes_state, shapes_index, has_index};

@@ -12,10 +12,10 @@ ghost use Rattle.scr_sq1solve.specs.Stages.{EndsIn, IsEnd, IsScrambleSq1, IsStag
 
 use crate::indexes::shapes_index;
 use crate::shape_states::NORMAL;
-use crate::stage_letters::{Letters, equator_word, letter, push_turn, word_of};
+use crate::stage_letters::{Letters, equator_word, letter, word_of};
 use crate::stages::StageLine;
 use crate::tables::Sq1Tables;
-use scr_notation::{Event, Scramble, inverse, tidy};
+use scr_notation::{Event, Scramble, inverse, push_turn, tidy};
 use scr_sq1::Sq1;
 use scr_table::LineTable;
 
@@ -80,8 +80,8 @@ fn stage_walk<L: StageLine>(table: &LineTable<L>, state: &Sq1) -> Walk
     ensures walk { IsWalk L.stage state.now result.turns.turns result.end }
     ensures goal { L.stage.IsGoal result.end }
     ensures kept { L.starts result.end }
-    ensures at_most { length result.turns.turns ≤ L.most_turns }
-    ensures twists { twists_in result.turns.turns ≤ L.most_twists }
+    ensures at_most { length result.turns.turns ≤ L.stage.bound * L.each.turns }
+    ensures twists { twists_in result.turns.turns ≤ L.stage.bound * L.each.twists }
 {
     let word = table.descend(L::index_of(state));
     followed::<L>(&word[..], state)

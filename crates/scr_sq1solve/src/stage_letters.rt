@@ -1,13 +1,11 @@
 //! The letters of the stages, and the turns that end them, as words of turns.
-ghost use Rattle.std.specs.Prelude.{◌≡◌, ◌+◌, ◌<◌, ◌≤◌, ◌∷◌, [], ◌++◌, pos, neg_ℤ, All, IsTrue, length};
+ghost use Rattle.std.specs.Prelude.{◌≡◌, ◌+◌, ◌<◌, ◌≤◌, ◌∷◌, [], ◌++◌, All, flat_map, length};
 ghost use Rattle.scr_notation.specs.declared.event.Event.TheVariants.{Sq1 as EventSq1};
-ghost use Rattle.scr_notation.specs.declared.turn.Turn.TheVariants.{Twist};
 ghost use Rattle.scr_notation.specs.Layers.{twelfths, are_still};
-ghost use Rattle.scr_notation.specs.Turns.{permits};
-ghost use Rattle.scr_sq1solve.specs.Stages.{turn_word, quarter_word, turns_of, shape_letter, pairing_letter, home_letter, equator_word};
-ghost use Rattle.scr_sq1solve.specs.Letters.{squaring_word, letter_of};
+ghost use Rattle.scr_sq1solve.specs.Stages.{turn_word, turns_of, equator_word};
+ghost use Rattle.scr_sq1solve.specs.Letters.{step_word, first_word, letter_of};
 
-use scr_notation::{Event, Scramble, Turn};
+use scr_notation::{Event, Scramble, Turn, push_turn};
 
 /// Which letters, or which turns that end a stage.
 #[derive(Clone, Copy, Debug, PartialEq, Eq)]
@@ -23,6 +21,52 @@ pub(crate) enum Letters {
     /// The sixteen turns by quarters, of which one ends the third.
     Quarters,
 }
+
+/// What letters are made of.
+#[derive(Clone, Copy)]
+pub(crate) enum Step {
+    /// The top and the bottom turned by so many twelfths.
+    Turned(i16, i16),
+    /// A twist.
+    Twisted,
+}
+
+/// What stands behind the turn of a letter of the first stage.
+static TWIST: [Step; 1] = [Step::Twisted];
+
+/// Of a letter of the second stage with a number below 16.
+static TWIST_AND_BOTTOM: [Step; 2] = [Step::Twisted, Step::Turned(0, 1)];
+
+/// Of the others.
+static TWIST_AND_TOP: [Step; 2] = [Step::Twisted, Step::Turned(-1, 0)];
+
+/// Of a letter of the third stage that exchanges edges.
+static EDGES_EXCHANGED: [Step; 5] = [
+    Step::Turned(0, -1),
+    Step::Twisted,
+    Step::Turned(1, 1),
+    Step::Twisted,
+    Step::Turned(-1, 0),
+];
+
+/// Of one that exchanges corners.
+static CORNERS_EXCHANGED: [Step; 5] = [
+    Step::Turned(0, -1),
+    Step::Twisted,
+    Step::Turned(-2, -2),
+    Step::Twisted,
+    Step::Turned(2, 3),
+];
+
+/// What turns the equator alone.
+static EQUATOR_TURNED: [Step; 6] = [
+    Step::Twisted,
+    Step::Turned(6, 0),
+    Step::Twisted,
+    Step::Turned(6, 0),
+    Step::Twisted,
+    Step::Turned(6, 0),
+];
 
 /// The word of the letter with a number, which is below 144.
 pub(crate) fn letter(letters: Letters, number: u8) -> Scramble
@@ -52,12 +96,7 @@ pub(crate) fn equator_word() -> Scramble
     ensures { result ≡ record { event = EventSq1; turns = equator_word } }
 {
     let mut word = Scramble::new(Event::Sq1);
-    push_twist(&mut word);
-    push_layers(&mut word, 6, 0);
-    push_twist(&mut word);
-    push_layers(&mut word, 6, 0);
-    push_twist(&mut word);
-    push_layers(&mut word, 6, 0);
+    push_steps(&mut word, &EQUATOR_TURNED[..]);
     word
 }
 
@@ -69,104 +108,81 @@ fn push_letter(word: &mut Scramble, letters: Letters, number: u8)
     ensures word { word.new ≡ record { event = EventSq1; turns = word.old.turns ++ letter_of letters number } }
     ensures few { length word.new.turns ≤ length word.old.turns + 6 }
 {
-    match letters {
-        Letters::OfShapes => push_shape_letter(word, number),
-        Letters::OfPairings => push_pairing_letter(word, number),
-        Letters::OfHome => push_home_letter(word, number),
-        Letters::Squarings => push_squaring(word, number),
-        Letters::Quarters => push_quarters(word, number),
-    }
-}
-
-/// Adds a letter of the first stage.
-fn push_shape_letter(word: &mut Scramble, number: u8)
-    requires number { number < 144 }
-    requires event { word.old.event ≡ EventSq1 }
-    requires room { length word.old.turns + 6 ≤ 160 }
-    ensures word { word.new ≡ record { event = EventSq1; turns = word.old.turns ++ shape_letter number } }
-    ensures few { length word.new.turns ≤ length word.old.turns + 6 }
-{
-    push_layers(word, (number / 12) as i16 - 5, (number % 12) as i16 - 5);
-    push_twist(word);
-}
-
-/// Adds a letter of the second stage.
-fn push_pairing_letter(word: &mut Scramble, number: u8)
-    requires number { number < 144 }
-    requires event { word.old.event ≡ EventSq1 }
-    requires room { length word.old.turns + 6 ≤ 160 }
-    ensures word { word.new ≡ record { event = EventSq1; turns = word.old.turns ++ pairing_letter number } }
-    ensures few { length word.new.turns ≤ length word.old.turns + 6 }
-{
-    let top = (3 * (number / 4 % 4)) as i16;
-    let bottom = (3 * (number % 4)) as i16;
-    if number < 16 {
-        push_layers(word, top, bottom - 1);
-        push_twist(word);
-        push_layers(word, 0, 1);
-    } else {
-        push_layers(word, top + 1, bottom);
-        push_twist(word);
-        push_layers(word, -1, 0);
-    }
-}
-
-/// Adds a letter of the third stage.
-fn push_home_letter(word: &mut Scramble, number: u8)
-    requires number { number < 144 }
-    requires event { word.old.event ≡ EventSq1 }
-    requires room { length word.old.turns + 6 ≤ 160 }
-    ensures word { word.new ≡ record { event = EventSq1; turns = word.old.turns ++ home_letter number } }
-    ensures few { length word.new.turns ≤ length word.old.turns + 6 }
-{
-    push_quarters(word, number % 16);
-    if number < 16 {
-        push_exchange(word, 1, 1, -1, 0);
-    } else {
-        push_exchange(word, -2, -2, 2, 3);
-    }
-}
-
-/// Adds a turn of the bottom by a twelfth back, a twist, a turn by `top` and `bottom`, a twist and a turn by `last_top`
-/// and `last_bottom`.
-fn push_exchange(word: &mut Scramble, top: i16, bottom: i16, last_top: i16, last_bottom: i16)
-    requires event { word.old.event ≡ EventSq1 }
-    requires room { length word.old.turns + 5 ≤ 160 }
-    ensures word { let first = turn_word (pos 0) (neg_ℤ (pos 1)) in
-        word.new ≡ record {
-          event = EventSq1;
-          turns = word.old.turns
-              ++ (first ++ Twist ∷ turn_word top bottom ++ Twist ∷ turn_word last_top last_bottom);
-        } }
-    ensures few { length word.new.turns ≤ length word.old.turns + 5 }
-{
-    push_layers(word, 0, -1);
-    push_twist(word);
+    let (top, bottom) = first_turn(letters, number);
     push_layers(word, top, bottom);
-    push_twist(word);
-    push_layers(word, last_top, last_bottom);
+    push_steps(word, later_steps(letters, number));
 }
 
-/// Adds one of the turns of which one ends the first stage.
-fn push_squaring(word: &mut Scramble, number: u8)
-    requires number { number < 144 }
-    requires event { word.old.event ≡ EventSq1 }
-    requires room { length word.old.turns < 160 }
-    ensures word { word.new ≡ record { event = EventSq1; turns = word.old.turns ++ squaring_word number } }
-    ensures few { length word.new.turns ≤ length word.old.turns + 1 }
+/// By how many twelfths the letter with a number turns the top and the bottom at first.
+fn first_turn(letters: Letters, number: u8) -> (i16, i16)
+    requires { number < 144 }
+    ensures { turn_word result.0 result.1 ≡ first_word letters number }
 {
-    push_layers(word, -((number % 2) as i16), (number / 2) as i16);
+    let top = (3 * (number % 16 / 4)) as i16;
+    let bottom = (3 * (number % 4)) as i16;
+    match letters {
+        Letters::OfShapes => ((number / 12) as i16 - 5, (number % 12) as i16 - 5),
+        Letters::OfPairings => {
+            if number < 16 {
+                (top, bottom - 1)
+            } else {
+                (top + 1, bottom)
+            }
+        }
+        Letters::OfHome => (top, bottom),
+        Letters::Squarings => (-((number % 2) as i16), (number / 2) as i16),
+        Letters::Quarters => ((3 * (number / 4)) as i16, bottom),
+    }
 }
 
-/// Adds a turn by quarters.
-fn push_quarters(word: &mut Scramble, number: u8)
-    requires number { number < 144 }
+/// The steps of the letter with a number behind its first turn.
+fn later_steps(letters: Letters, number: u8) -> &'static [Step]
+    ensures letter { letter_of letters number ≡ first_word letters number ++ flat_map step_word result.now }
+    ensures few { length result.now ≤ 5 }
+{
+    match letters {
+        Letters::OfShapes => &TWIST[..],
+        Letters::OfPairings => {
+            if number < 16 {
+                &TWIST_AND_BOTTOM[..]
+            } else {
+                &TWIST_AND_TOP[..]
+            }
+        }
+        Letters::OfHome => {
+            if number < 16 {
+                &EDGES_EXCHANGED[..]
+            } else {
+                &CORNERS_EXCHANGED[..]
+            }
+        }
+        Letters::Squarings | Letters::Quarters => &[],
+    }
+}
+
+/// Adds steps to a word that has room for them.
+fn push_steps(word: &mut Scramble, steps: &[Step])
+    requires event { word.old.event ≡ EventSq1 }
+    requires room { length word.old.turns + length steps.now ≤ 160 }
+    ensures word { word.new ≡ record { event = EventSq1; turns = word.old.turns ++ flat_map step_word steps.now } }
+    ensures few { length word.new.turns ≤ length word.old.turns + length steps.now }
+{
+    for place in 0..steps.len() {
+        push_step(word, steps[place]);
+    }
+}
+
+/// Adds a step.
+fn push_step(word: &mut Scramble, step: Step)
     requires event { word.old.event ≡ EventSq1 }
     requires room { length word.old.turns < 160 }
-    ensures word { word.new ≡ record { event = EventSq1; turns = word.old.turns ++ quarter_word number } }
+    ensures word { word.new ≡ record { event = EventSq1; turns = word.old.turns ++ step_word step } }
     ensures few { length word.new.turns ≤ length word.old.turns + 1 }
 {
-    push_layers(word, (3 * (number / 4)) as i16, (3 * (number % 4)) as i16);
+    match step {
+        Step::Turned(top, bottom) => push_layers(word, top, bottom),
+        Step::Twisted => push_turn(word, Turn::Twist),
+    }
 }
 
 /// Adds a turn of the layers by so many twelfths, of which whole turns are dropped: where none is left, there is no
@@ -191,27 +207,6 @@ pub(crate) fn are_still(top: i8, bottom: i8) -> bool
     ensures { result ≡ are_still top bottom }
 {
     top == 0 && bottom == 0
-}
-
-/// Adds a twist.
-fn push_twist(word: &mut Scramble)
-    requires event { word.old.event ≡ EventSq1 }
-    requires room { length word.old.turns < 160 }
-    ensures word { word.new ≡ record { event = EventSq1; turns = word.old.turns ++ Twist ∷ [] } }
-    ensures few { length word.new.turns ≤ length word.old.turns + 1 }
-{
-    push_turn(word, Turn::Twist);
-}
-
-/// Adds a turn that the event has to a word that has room.
-pub(crate) fn push_turn(word: &mut Scramble, turn: Turn)
-    requires room { length word.old.turns < 160 }
-    requires of_event { IsTrue (permits word.old.event turn) }
-    ensures { word.new ≡ record { event = word.old.event; turns = word.old.turns ++ turn ∷ [] } }
-{
-    if !word.push(turn) {
-        unreachable!();
-    }
 }
 
 /// Twelfths of a turn, modulo 12, from -5 to 6.

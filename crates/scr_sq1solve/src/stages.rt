@@ -8,11 +8,12 @@ use scr_table::Line;
 
 /// A stage by the line of its table: a state's index tells the first word of its letters to its goal.
 pub(crate) trait StageLine: Line {
-    ghost use Rattle.std.specs.Prelude.{◌≡◌, ℕ, ◌<◌, ◌≤◌, List, length};
+    ghost use Rattle.std.specs.Prelude.{◌≡◌, ℕ};
     ghost use Rattle.scr_coord.specs.SearchSpaces.{positions, Follows};
     ghost use Rattle.scr_sq1.specs.Units.{Sq1State};
-    ghost use Rattle.scr_sq1solve.specs.Stages.{Stage, turns_of};
-    ghost use Rattle.scr_sq1solve.specs.Letters.{letter_of};
+    ghost use Rattle.scr_sq1solve.specs.Stages.{Stage};
+    ghost use Rattle.scr_sq1solve.specs.Counts.{Cost};
+    ghost use Rattle.scr_sq1solve.specs.Letters.{letter_of, IsInReach};
     ghost use Rattle.scr_sq1solve.specs.Proofs.Indexed.{stage_space};
     ghost use Rattle.scr_sq1solve.specs.Proofs.Lengths.{Costs};
 
@@ -25,11 +26,8 @@ pub(crate) trait StageLine: Line {
     /// The index of a state in the table.
     ghost index: { Sq1State → ℕ };
 
-    /// How many turns one of its words has at most.
-    ghost most_turns: { ℕ };
-
-    /// And how many twists.
-    ghost most_twists: { ℕ };
+    /// How many turns one of its letters has at most, and how many twists.
+    ghost each: { Cost };
 
     /// Its letters.
     fn letters() -> Letters
@@ -43,25 +41,18 @@ pub(crate) trait StageLine: Line {
     ghost follows: { Follows (stage_space starts stage.letters stage.letter stage.IsGoal)
         (positions Self.line.coordinate) index };
 
-    /// The table reaches no farther than the stage.
-    ghost within: { Self.line.bound ≤ stage.bound };
+    /// The table reaches no farther than the stage, whose words and letters are few.
+    ghost in_reach: { IsInReach stage Self.line.bound };
 
-    /// Its words have at most 24 letters.
-    ghost short: { stage.bound ≤ 24 };
-
-    /// It has at most 144 letters.
-    ghost few_letters: { stage.letters ≤ 144 };
-
-    /// A word has no more turns and twists than the most.
-    ghost costs: { (word : List ℕ) → length word ≤ stage.bound
-        → Costs (turns_of stage.letter word) most_turns most_twists };
+    /// A letter has no more.
+    ghost costs: { (number : ℕ) → Costs (stage.letter number) each.turns each.twists };
 }
 
 impl StageLine for ShapesLine {
     ghost use Rattle.std.proofs.Common.{lit≤};
     ghost use Rattle.scr_sq1.specs.Units.{IsSq1};
-    ghost use Rattle.scr_sq1solve.specs.Stages.{shape_stage, shape_letter};
-    ghost use Rattle.scr_sq1solve.specs.Proofs.Lengths.{Costs-word, Costs-shape};
+    ghost use Rattle.scr_sq1solve.specs.Stages.{shape_stage};
+    ghost use Rattle.scr_sq1solve.specs.Proofs.Lengths.{Costs-shape};
     ghost use Rattle.scr_sq1solve.specs.Tables.{shapes_index};
     ghost use Rattle.scr_sq1solve.specs.Proofs.ShapeStage.{Follows-shapes};
 
@@ -71,9 +62,7 @@ impl StageLine for ShapesLine {
 
     ghost index = { shapes_index };
 
-    ghost most_turns = { 26 };
-
-    ghost most_twists = { 13 };
+    ghost each = { record { turns = 2; twists = 1 } };
 
     fn letters() -> Letters {
         Letters::OfShapes
@@ -85,19 +74,15 @@ impl StageLine for ShapesLine {
 
     ghost follows = { Follows-shapes };
 
-    ghost within = { lit≤ tt };
+    ghost in_reach = { record { within = lit≤ tt; short = lit≤ tt; few_letters = lit≤ tt } };
 
-    ghost short = { lit≤ tt };
-
-    ghost few_letters = { lit≤ tt };
-
-    ghost costs = { Costs-word shape_letter 2 1 13 Costs-shape };
+    ghost costs = { Costs-shape };
 }
 
 impl StageLine for PairingsLine {
     ghost use Rattle.std.proofs.Common.{lit≤};
-    ghost use Rattle.scr_sq1solve.specs.Stages.{pairing_stage, pairing_letter};
-    ghost use Rattle.scr_sq1solve.specs.Proofs.Lengths.{Costs-word, Costs-pairing};
+    ghost use Rattle.scr_sq1solve.specs.Stages.{pairing_stage};
+    ghost use Rattle.scr_sq1solve.specs.Proofs.Lengths.{Costs-pairing};
     ghost use Rattle.scr_sq1solve.specs.Proofs.Letters.{IsNormalSq1};
     ghost use Rattle.scr_sq1solve.specs.Proofs.PairingStage.{Follows-pairings, pairings_index};
 
@@ -107,9 +92,7 @@ impl StageLine for PairingsLine {
 
     ghost index = { pairings_index };
 
-    ghost most_turns = { 60 };
-
-    ghost most_twists = { 20 };
+    ghost each = { record { turns = 3; twists = 1 } };
 
     fn letters() -> Letters {
         Letters::OfPairings
@@ -121,19 +104,15 @@ impl StageLine for PairingsLine {
 
     ghost follows = { Follows-pairings };
 
-    ghost within = { lit≤ tt };
+    ghost in_reach = { record { within = lit≤ tt; short = lit≤ tt; few_letters = lit≤ tt } };
 
-    ghost short = { lit≤ tt };
-
-    ghost few_letters = { lit≤ tt };
-
-    ghost costs = { Costs-word pairing_letter 3 1 20 Costs-pairing };
+    ghost costs = { Costs-pairing };
 }
 
 impl StageLine for SquareLine {
     ghost use Rattle.std.proofs.Common.{lit≤};
-    ghost use Rattle.scr_sq1solve.specs.Stages.{home_stage, home_letter};
-    ghost use Rattle.scr_sq1solve.specs.Proofs.Lengths.{Costs-word, Costs-home};
+    ghost use Rattle.scr_sq1solve.specs.Stages.{home_stage};
+    ghost use Rattle.scr_sq1solve.specs.Proofs.Lengths.{Costs-home};
     ghost use Rattle.scr_sq1solve.specs.Tables.{square_index};
     ghost use Rattle.scr_sq1solve.specs.Proofs.HomeStage.{IsPairedSq1, Follows-square};
 
@@ -143,9 +122,7 @@ impl StageLine for SquareLine {
 
     ghost index = { square_index };
 
-    ghost most_turns = { 120 };
-
-    ghost most_twists = { 40 };
+    ghost each = { record { turns = 6; twists = 2 } };
 
     fn letters() -> Letters {
         Letters::OfHome
@@ -157,11 +134,7 @@ impl StageLine for SquareLine {
 
     ghost follows = { Follows-square };
 
-    ghost within = { lit≤ tt };
+    ghost in_reach = { record { within = lit≤ tt; short = lit≤ tt; few_letters = lit≤ tt } };
 
-    ghost short = { lit≤ tt };
-
-    ghost few_letters = { lit≤ tt };
-
-    ghost costs = { Costs-word home_letter 6 2 20 Costs-home };
+    ghost costs = { Costs-home };
 }

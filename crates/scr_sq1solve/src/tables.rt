@@ -1,6 +1,8 @@
 //! The tables of the stages.
-ghost use Rattle.std.specs.Prelude.{◌≡◌, ◌↔◌, map, Any, IfOk, IfErr, IfSome, IsSome};
-ghost use Rattle.scr_sq1solve.specs.Built.{AreBuilt, IsSq1Cause, listed};
+ghost use Rattle.std.specs.Prelude.{◌≡◌, ◌↔◌, map, IfOk, IfErr, IfSome, IsSome};
+ghost use Rattle.scr_table.specs.Causes.{IsCauseOf};
+ghost use Rattle.scr_table.specs.Lines.{AreTablesOf, HasNamed, IsNamed};
+ghost use Rattle.scr_sq1solve.specs.Tables.{sq1_lines};
 
 use crate::lines::{PairingsLine, ShapesLine, SquareLine};
 use scr_table::{BuildFault, DistanceTable, LineTable, TableName, table_named};
@@ -8,67 +10,50 @@ use std::alloc::Global;
 use std::marker::Model;
 
 /// The tables of the three stages, with the moves by which they are walked down.
+#[derive(Drop)]
 pub struct Sq1Tables {
     pub(crate) shapes: LineTable<ShapesLine>,
     pub(crate) pairings: LineTable<PairingsLine>,
     pub(crate) square: LineTable<SquareLine>,
 }
 
-// A call wherever one is let go, in place of all that lets go of its parts.
-impl Drop for Sq1Tables {
-    fn drop(self) {
-        let Sq1Tables {
-            shapes: _,
-            pairings: _,
-            square: _,
-        } = self;
-    }
-}
-
 // Clauses see what stands in the tables.
 impl Model for Sq1Tables {
-    ghost use Rattle.scr_sq1solve.specs.Built.{BuiltSq1};
+    ghost use Rattle.std.specs.Prelude.{List, [], ◌∷◌};
+    ghost use Rattle.scr_table.specs.Distances.{Distances};
 
-    ghost Value = { BuiltSq1 };
+    ghost Value = { List Distances };
 
-    ghost view = { λ t. record {
-      shapes = t.shapes.distances;
-      pairings = t.pairings.distances;
-      square = t.square.distances;
-    } };
+    ghost view = { λ t. t.shapes.distances ∷ t.pairings.distances ∷ t.square.distances ∷ [] };
 }
 
 impl Sq1Tables {
     /// The tables `shapes`, `pairings` and `square`, built in this order, or why one isn't: there is no memory for it,
     /// or it has a gap, which its line rules out where the bounds are right.
     pub fn build(alloc: Global) -> Result<Sq1Tables, BuildFault>
-        ensures built { IfOk result AreBuilt }
-        ensures cause { IfErr result IsSq1Cause }
+        ensures built { IfOk result (AreTablesOf sq1_lines) }
+        ensures cause { IfErr result (IsCauseOf sq1_lines) }
     {
-        let shapes = LineTable::build(alloc)?;
-        let pairings = LineTable::build(alloc)?;
-        let square = LineTable::build(alloc)?;
         Ok(Sq1Tables {
-            shapes,
-            pairings,
-            square,
+            shapes: LineTable::build(alloc)?,
+            pairings: LineTable::build(alloc)?,
+            square: LineTable::build(alloc)?,
         })
     }
 
     /// The built table of this name. `None` comes exactly where none of the three has it.
     pub fn table(&self, name: TableName) -> Option<&DistanceTable>
-        ensures found { IsSome result ↔ Any (λ table. table.name ≡ name) (listed self.now) }
-        ensures value { IfSome result (λ table.
-            Any (λ other. (other.name ≡ name) × (table.now ≡ other)) (listed self.now)) }
-        ensures built { AreBuilt self.now }
+        ensures found { IsSome result ↔ HasNamed self.now name }
+        ensures value { IfSome result (λ found. IsNamed self.now name found.now) }
+        ensures built { AreTablesOf sq1_lines self.now }
     {
         table_named(&self.all()[..], name)
     }
 
     /// The three tables, in the order in which they are built.
     pub fn all(&self) -> [&DistanceTable; 3]
-        ensures same { map (λ table. table.now) result ≡ listed self.now }
-        ensures built { AreBuilt self.now }
+        ensures same { map (λ table. table.now) result ≡ self.now }
+        ensures built { AreTablesOf sq1_lines self.now }
     {
         [
             &self.shapes.distances,

@@ -1,5 +1,5 @@
 -- Solutions by stages, and the scrambles that they give.
-use Rattle.std.proofs.Common.{◌≡◌, ℕ, ◌+◌, ◌≤◌, List, [], ◌∷◌, ◌++◌, map, length, slice_index, Some, refl, sym, ap, ◌∙◌, subst, arith}
+use Rattle.std.proofs.Common.{◌≡◌, ℕ, ◌+◌, ◌≤◌, List, [], ◌∷◌, ◌++◌, map, length, slice_index, Some, refl, sym, ap, ◌∙◌, subst, arith, lit<}
 use Rattle.std.specs.Prelude.{slice_get, ◌↔◌}
 use Rattle.std.proofs.lemmas.List.{length-append, length-map, length-reverse}
 use Rattle.std.proofs.lemmas.Option.{same_Some, get_or_from_slice_get}
@@ -16,12 +16,14 @@ use Rattle.scr_notation.specs.declared.turn.Turn.{Turn}
 use Rattle.scr_notation.specs.TurnNumbers.{face_turn_at}
 use Rattle.scr_notation.specs.Turning.{opposite, turn_merging}
 use Rattle.scr_turning.specs.PowerPuzzles.{after_letter, power_puzzle}
+use Rattle.scr_table.specs.Distances.{Distances}
+use Rattle.scr_table.specs.Lines.{IsTableOf, AreTablesOf}
+use Rattle.scr_table.proofs.LineLaws.{table_of_line}
 use Rattle.scr_cube.specs.Cube333.{CubeState, IsCube, cube_powers, solved_cube}
 use Rattle.scr_cube.proofs.Laws333.{lawful_cube}
 use Rattle.scr_stages.specs.Stages.{after_of, letters_of, Stage, IsSolution, stages, IsStageScramble, flips_stage, slice_stage, tetrads_stage, halves_stage}
 use Rattle.scr_stages.specs.Numbers.{flips_number, slice_number, tetrads_number, half_cubes, IsUnflippedCube, IsDominoCube, IsHalfCube}
-use Rattle.scr_stages.specs.Tables.{flips_line, slice_line, tetrads_line, halves_line}
-use Rattle.scr_stages.specs.Built.{BuiltStages, AreBuilt}
+use Rattle.scr_stages.specs.Tables.{flips_line, slice_line, tetrads_line, halves_line, stage_lines}
 use Rattle.scr_stages.proofs.StageSpaces.{Follows-flips, Follows-slice}
 use Rattle.scr_stages.proofs.HalfTurned.{IsHalfCube-half_turned, Follows-halves, StaysBelow-halves}
 use Rattle.scr_stages.proofs.StageWords.{StaysBelow-flips, StaysBelow-slice, StaysBelow-tetrads, stage_word, Follows-half_turned}
@@ -118,23 +120,24 @@ solution-played c s a =
     leads.played ∙ ap Some leads.goal
 
 -- Where the tables are built, each cube has a solution.
-module _ (tables : BuiltStages) (built : AreBuilt tables) (c : CubeState) (h : IsCube c) where
-  pub solution : (s : List Turn) × IsSolution stages c s
-  solution =
-      let flips = stage_word flips_stage IsCube flips_line flips_number Follows-flips StaysBelow-flips refl tables.flips built.flips c h in
+module _ (of_flips of_slice of_tetrads of_halves : Distances) (is_flips : IsTableOf flips_line of_flips) (is_slice : IsTableOf slice_line of_slice)
+    (is_tetrads : IsTableOf tetrads_line of_tetrads) (is_halves : IsTableOf halves_line of_halves) (c : CubeState) (h : IsCube c) where
+  solution_by : (s : List Turn) × IsSolution stages c s
+  solution_by =
+      let flips = stage_word flips_stage IsCube flips_line flips_number Follows-flips StaysBelow-flips refl of_flips is_flips c h in
       let first = flips.1.first.leads in
       let second_valid : IsUnflippedCube first.end =
       record { cube = IsCube-played c first.end flips_stage.turns flips.0 h first.played; no_flips = first.goal } in
-      let slice = stage_word slice_stage IsUnflippedCube slice_line slice_number Follows-slice StaysBelow-slice refl tables.slice built.slice first.end second_valid in
+      let slice = stage_word slice_stage IsUnflippedCube slice_line slice_number Follows-slice StaysBelow-slice refl of_slice is_slice first.end second_valid in
       let second = slice.1.first.leads in
       let third_valid : IsDominoCube second.end =
       record { cube = IsCube-played first.end second.end slice_stage.turns slice.0 second_valid.cube second.played; domino = second.goal } in
       let tetrads =
-      stage_word tetrads_stage IsDominoCube tetrads_line tetrads_number (Follows-half_turned tables.halves built.halves) StaysBelow-tetrads refl tables.tetrads built.tetrads
+      stage_word tetrads_stage IsDominoCube tetrads_line tetrads_number (Follows-half_turned of_halves is_halves) StaysBelow-tetrads refl of_tetrads is_tetrads
       second.end third_valid in
       let third = tetrads.1.first.leads in
       let halves =
-      stage_word halves_stage IsHalfCube halves_line half_cubes.number_of Follows-halves StaysBelow-halves refl tables.halves built.halves third.end
+      stage_word halves_stage IsHalfCube halves_line half_cubes.number_of Follows-halves StaysBelow-halves refl of_halves is_halves third.end
       (IsHalfCube-half_turned third.end third.goal) in
       let last = letters_of halves_stage.turns halves.0 ++ [] in
       let later = letters_of tetrads_stage.turns tetrads.0 ++ last in
@@ -142,6 +145,15 @@ module _ (tables : BuiltStages) (built : AreBuilt tables) (c : CubeState) (h : I
         letters_of flips_stage.turns flips.0 ++ rest,
         (flips.0, rest, flips.1, (slice.0, later, slice.1, (tetrads.0, last, tetrads.1, (halves.0, [], halves.1, refl, refl), refl), refl), refl),
       )
+
+pub solution : (tables : List Distances) → AreTablesOf stage_lines tables → (c : CubeState) → IsCube c → (s : List Turn) × IsSolution stages c s
+solution tables built c h =
+    let table = table_of_line stage_lines tables built in
+    let flips = table flips_line (0, lit< tt, refl) in
+    let slice = table slice_line (1, lit< tt, refl) in
+    let tetrads = table tetrads_line (2, lit< tt, refl) in
+    let halves = table halves_line (3, lit< tt, refl) in
+    solution_by flips.0 slice.0 tetrads.0 halves.0 flips.1 slice.1 tetrads.1 halves.1 c h
 
 -- ---- scrambles
 
@@ -168,7 +180,7 @@ scramble-played c s h a =
     (lawful_cube.lawful.kept_by_tidy c solved_cube a.solution h (solution-played c a.solution a.is))
 
 -- Where the tables are built, each cube has one, and so is reached.
-module _ (tables : BuiltStages) (built : AreBuilt tables) where
+module _ (tables : List Distances) (built : AreTablesOf stage_lines tables) where
   pub stage_scramble : (c : CubeState) → IsCube c → (s : List Turn) × IsStageScramble c s
   stage_scramble c h =
       let found = solution tables built c h in

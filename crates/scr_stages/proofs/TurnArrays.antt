@@ -12,6 +12,7 @@ use Rattle.scr_orbit.specs.Orbits.{IsZeroSumRearrangement, Rearrangement, added_
 use Rattle.scr_orbit.specs.declared.placed.PlaceTurn.{PlaceTurn}
 use Rattle.scr_orbit.specs.PlaceTurns.{rearrangement_of}
 use Rattle.scr_coord.specs.Projections.{AreTurns}
+use Rattle.scr_coord.proofs.ProjectionLaws.{AreTurns-places}
 use Rattle.scr_turning.specs.PowerPuzzles.{all_turns}
 use Rattle.scr_cube.specs.Cube333.{CubeTurn, IsCubeTurn, cube_action, cube_powers}
 use Rattle.scr_stages.specs.Stages.{half_turns, middle_edges}
@@ -80,23 +81,30 @@ pub edges_whole : map (block_turn (numbers_from 0 12)) (map (λ r. r.edges) (all
 unfolding all_turns all_powers power composed identity added_digits
 edges_whole = refl
 
+-- what is so of them: they are these, and they are turns
+pub record AreTurned (n base : ℕ) (moves : List Rearrangement) (turned : List (PlaceTurn n)) : Type 0 where
+  pub turns : map rearrangement_of turned ≡ moves
+  pub valid : AreTurns (λ turn. IsZeroSumRearrangement n base (rearrangement_of turn)) turned
+  pub places : AreTurns (λ (turn : PlaceTurn n). IsPermutation n turn.places) turned
+
 module _ (n base : ℕ) (part : CubeTurn → Rearrangement)
     (whole : map (block_turn (numbers_from 0 n)) (map part (all_turns cube_powers)) ≡ map part (all_turns cube_powers))
     (turns : List (PlaceTurn n)) (table : List (PlaceTurn n)) (defined : map rearrangement_of table ≡ map part (all_turns cube_powers))
     (numbers : List ℕ) (below : All (λ t. t < 18) numbers)
     (are : map rearrangement_of turns ≡ block_turns (numbers_from 0 n) (map rearrangement_of table) numbers) where
-  pub turned-by : map rearrangement_of turns ≡ map part (turns_of numbers)
+  turned-by : map rearrangement_of turns ≡ map part (turns_of numbers)
   turned-by =
       are ∙ ap (λ all. block_turns (numbers_from 0 n) all numbers) defined
       ∙ block_turns-parts part (numbers_from 0 n) numbers below ∙ whole_turns part (numbers_from 0 n) whole numbers below
 
-  pub turned-valid : ((r : CubeTurn) → IsCubeTurn r → IsZeroSumRearrangement n base (part r)) → (number : ℕ) → length numbers ≡ number
-      → 1 ≤ number → number ≤ 256 → AreTurns (λ turn. IsZeroSumRearrangement n base (rearrangement_of turn)) turns
-  turned-valid valid number size some few =
+  pub AreTurned-whole : ((r : CubeTurn) → IsCubeTurn r → IsZeroSumRearrangement n base (part r)) → (number : ℕ) → length numbers ≡ number
+      → 1 ≤ number → number ≤ 256 → AreTurned n base (map part (turns_of numbers)) turns
+  AreTurned-whole valid number size some few =
       let IsMove = IsZeroSumRearrangement n base in
-      AreTurns-moves IsMove turns (map part (turns_of numbers)) turned-by
+      let are_valid = AreTurns-moves IsMove turns (map part (turns_of numbers)) turned-by
       (All-map IsMove part (turns_of numbers) (λ k d lt. let r = slice_index_or (turns_of numbers) k d in valid r (All-turns numbers below k d lt)))
-      number (length-turned part numbers ∙ size) some few
+      number (length-turned part numbers ∙ size) some few in
+      record { turns = turned-by; valid = are_valid; places = AreTurns-places base turns are_valid }
 
 -- ---- half turns carry the edges of a block among its places
 

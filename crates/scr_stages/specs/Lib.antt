@@ -2,4 +2,3 @@ pub mod Stages
 pub mod Tetrads
 pub mod Numbers
 pub mod Tables
-pub mod Built

@@ -16,32 +16,27 @@ const SOLVED: [u8; 8] = [0, 1, 2, 3, 4, 5, 6, 7];
 
 /// Some lists of corners by numbers. It is a type without values.
 pub(crate) trait CornerNumbers {
-    ghost use Rattle.std.specs.Prelude.{◌≡◌, ℕ, ◌<◌, List};
+    ghost use Rattle.std.specs.Prelude.{◌≡◌, ◌<◌};
     ghost use Rattle.scr_combinatorics.specs.Permutations.{IsPermutation};
+    ghost use Rattle.scr_coord.specs.Projections.{ListView};
 
-    /// How many numbers there are.
-    ghost numbers: { ℕ };
-
-    /// The list with each.
-    ghost list: { ℕ → List ℕ };
-
-    /// The number of each list.
-    ghost number: { List ℕ → ℕ };
+    /// How many numbers there are, the list with each, and the number of each list.
+    ghost view: { ListView };
 
     /// How many numbers there are.
     fn count() -> u32
-        ensures { result ≡ numbers };
+        ensures { result ≡ view.count };
 
     /// The list with a number.
     fn list_at(position: u32) -> [u8; 8]
-        requires { position < numbers }
-        ensures same { result ≡ list position }
+        requires { position < view.count }
+        ensures same { result ≡ view.list_at position }
         ensures valid { IsPermutation 8 result };
 
     /// The number of a list.
     fn number_of(corners: &[u8; 8]) -> u32
         requires { IsPermutation 8 corners.now }
-        ensures { result ≡ number corners.now };
+        ensures { result ≡ view.number_of corners.now };
 }
 
 /// These lists as a coordinate. The goal is the list in order.
@@ -50,7 +45,7 @@ pub(crate) struct CornerLists<'a, V: CornerNumbers> {
     turns: &'a [PlaceTurn<8>],
     by: PhantomData<V>,
     ghost valid: { AreTurns (λ turn. IsPermutation 8 turn.places) turns.now } by { Prim.hlevel props },
-    ghost stays: { StaysBelow (corners_coordinate V.numbers V.list V.number (map rearrangement_of turns.now)) } by { Prim.hlevel props },
+    ghost stays: { StaysBelow (corners_coordinate V.view.count V.view.list_at V.view.number_of (map rearrangement_of turns.now)) } by { Prim.hlevel props },
 }
 
 impl<'a, V: CornerNumbers> CornerLists<'a, V> {
@@ -58,7 +53,7 @@ impl<'a, V: CornerNumbers> CornerLists<'a, V> {
     /// lists.
     pub fn new(turns: &'a [PlaceTurn<8>]) -> CornerLists<'a, V>
         requires valid { AreTurns (λ turn. IsPermutation 8 turn.places) turns.now }
-        requires stays { StaysBelow (corners_coordinate V.numbers V.list V.number (map rearrangement_of turns.now)) }
+        requires stays { StaysBelow (corners_coordinate V.view.count V.view.list_at V.view.number_of (map rearrangement_of turns.now)) }
         ensures { result.turns.now ≡ turns.now }
     {
         CornerLists {
@@ -73,7 +68,7 @@ impl<V: CornerNumbers> Coord for CornerLists<'_, V> {
     ghost use Rattle.scr_orbit.specs.PlaceTurns.{rearrangement_of};
     ghost use Rattle.scr_stages.specs.Tetrads.{corners_coordinate};
 
-    ghost coordinate = { λ t. corners_coordinate V.numbers V.list V.number (map rearrangement_of t.turns.now) };
+    ghost coordinate = { λ t. corners_coordinate V.view.count V.view.list_at V.view.number_of (map rearrangement_of t.turns.now) };
 
     fn count(&self) -> u32 {
         V::count()

@@ -86,13 +86,9 @@ fn corners_at(index: u32) -> [u8; 8]
 pub(crate) struct CornerIndexes;
 
 impl CornerNumbers for CornerIndexes {
-    ghost use Rattle.scr_stages.specs.Tetrads.{corner_index, corners_at};
+    ghost use Rattle.scr_stages.specs.Tetrads.{tetrads_view};
 
-    ghost numbers = { 420 };
-
-    ghost list = { corners_at };
-
-    ghost number = { corner_index };
+    ghost view = { tetrads_view };
 
     fn count() -> u32 {
         420

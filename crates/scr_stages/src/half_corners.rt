@@ -43,13 +43,9 @@ pub(crate) fn half_corners_at(number: u32) -> [u8; 8]
 pub(crate) struct HalfCorners;
 
 impl CornerNumbers for HalfCorners {
-    ghost use Rattle.scr_stages.specs.Tetrads.{half_corners_number, half_corners_at};
+    ghost use Rattle.scr_stages.specs.Tetrads.{half_corners_view};
 
-    ghost numbers = { 96 };
-
-    ghost list = { half_corners_at };
-
-    ghost number = { half_corners_number };
+    ghost view = { half_corners_view };
 
     fn count() -> u32 {
         96

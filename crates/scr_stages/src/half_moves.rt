@@ -21,6 +21,7 @@ use std::alloc::{AllocError, Global};
 
 /// The moves of the corners, of each block of edges, and the parities of their lists, 1 where a list is odd. Together
 /// they are the coordinate of the cubes that half turns solve.
+#[derive(Drop)]
 pub(crate) struct HalfMoves {
     corners: MoveTable,
     first: MoveTable,
@@ -35,20 +36,6 @@ pub(crate) struct HalfMoves {
     ghost corner_parities: { (q : ℕ) → q < 96 → slice_index odd_corners q ≡ parity (half_corners_at q) } by { Prim.hlevel props },
     ghost parities: { (k : ℕ) → k < 24 → slice_index odd k ≡ parity (permutation_at 4 k) } by { Prim.hlevel props },
     ghost stays: { StaysBelow halves_coordinate } by { Prim.hlevel props },
-}
-
-// A call wherever one is let go, in place of all that lets go of its parts.
-impl Drop for HalfMoves {
-    fn drop(self) {
-        let HalfMoves {
-            corners: _,
-            first: _,
-            second: _,
-            middle: _,
-            odd_corners: _,
-            odd: _,
-        } = self;
-    }
 }
 
 /// The moves of a block of edges, among whose places half turns carry its edges.

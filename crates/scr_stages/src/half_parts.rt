@@ -1,6 +1,6 @@
 //! The parts of a cube that half turns solve, by numbers: its edges by blocks of four, and its corners.
-ghost use Rattle.std.specs.Prelude.{◌≡◌, ◌<◌, All};
-ghost use Rattle.scr_combinatorics.specs.Permutations.{permutation_number};
+ghost use Rattle.std.specs.Prelude.{◌≡◌, ◌^◌, ◌<◌, ◌≤◌, All};
+ghost use Rattle.scr_combinatorics.specs.Permutations.{factorial, permutation_number};
 ghost use Rattle.scr_cube.specs.Cube333.{CubeState};
 ghost use Rattle.scr_stages.specs.Numbers.{AreParts, ArePartNumbers, IsHalfCube, half_cubes};
 ghost use Rattle.scr_stages.specs.Tetrads.{in_block};
@@ -17,10 +17,10 @@ pub(crate) const FIRST_EDGES: [u8; 4] = [0, 2, 4, 6];
 pub(crate) const SECOND_EDGES: [u8; 4] = [1, 3, 5, 7];
 
 /// Both, in the order of their places: those above and below.
-pub(crate) const OUTER_EDGES: [u8; 8] = [0, 1, 2, 3, 4, 5, 6, 7];
+pub const OUTER_EDGES: [u8; 8] = [0, 1, 2, 3, 4, 5, 6, 7];
 
 /// FR FL BL BR.
-pub(crate) const MIDDLE_EDGES: [u8; 4] = [8, 9, 10, 11];
+pub const MIDDLE_EDGES: [u8; 4] = [8, 9, 10, 11];
 
 /// The numbers of the parts of a cube: of its middle edges, second edges, first edges, and corners.
 #[derive(Clone, Copy)]
@@ -64,13 +64,15 @@ impl HalfParts {
     }
 }
 
-/// The number of the list of the edges at the places of a block, told by their places in it.
-fn block_number(block: &[u8; 4], edges: &[u8; 12]) -> u32
-    requires { All (λ place. place < 12) block.now }
+/// The number of the list of the edges at the places of a block, of at most 12, told by their places in it.
+pub fn block_number<const N: usize>(block: &[u8; N], edges: &[u8; 12]) -> u32
+    requires few { N ≤ 12 }
+    requires fits { factorial N < 2 ^ 32 }
+    requires places { All (λ place. place < 12) block.now }
     ensures number { result ≡ permutation_number (in_block block.now edges.now) }
-    ensures below { result < 24 }
+    ensures below { result < factorial N }
 {
-    let mut pieces = [0; 4];
+    let mut pieces = [0; N];
     pieces_in_block(&edges[..], &block[..], &mut pieces[..]);
     rank_permutation(&pieces[..]) as u32
 }

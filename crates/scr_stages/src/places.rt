@@ -18,7 +18,7 @@ pub(crate) fn place_of(number: u8, list: &[u8]) -> usize
 
 /// Fills `out` with the pieces that stand at the places of a block, of which there are at most 255, told by their
 /// places in the block.
-pub fn pieces_in_block(pieces: &[u8], block: &[u8], out: &mut [u8])
+pub(crate) fn pieces_in_block(pieces: &[u8], block: &[u8], out: &mut [u8])
     requires same_length { length out.old ≡ length block.now }
     requires few { length block.now ≤ 255 }
     requires places { All (λ place. place < length pieces.now) block.now }

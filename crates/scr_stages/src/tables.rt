@@ -1,6 +1,8 @@
 //! The tables of the stages.
-ghost use Rattle.std.specs.Prelude.{◌≡◌, ◌↔◌, map, Any, IfOk, IfErr, IfSome, IsSome};
-ghost use Rattle.scr_stages.specs.Built.{AreBuilt, IsStageCause, listed};
+ghost use Rattle.std.specs.Prelude.{◌≡◌, ◌↔◌, map, IfOk, IfErr, IfSome, IsSome};
+ghost use Rattle.scr_table.specs.Causes.{IsCauseOf};
+ghost use Rattle.scr_table.specs.Lines.{AreTablesOf, HasNamed, IsNamed};
+ghost use Rattle.scr_stages.specs.Tables.{stage_lines};
 
 use crate::lines::{FlipsLine, HalvesLine, SliceLine, TetradsLine};
 use scr_table::{BuildFault, DistanceTable, LineTable, TableName, table_named};
@@ -8,6 +10,7 @@ use std::alloc::Global;
 use std::marker::Model;
 
 /// The tables of the four stages, with the moves by which they are walked down.
+#[derive(Drop)]
 pub struct StageTables {
     pub(crate) flips: LineTable<FlipsLine>,
     pub(crate) slice: LineTable<SliceLine>,
@@ -15,65 +18,44 @@ pub struct StageTables {
     pub(crate) halves: LineTable<HalvesLine>,
 }
 
-// A call wherever one is let go, in place of all that lets go of its parts.
-impl Drop for StageTables {
-    fn drop(self) {
-        let StageTables {
-            flips: _,
-            slice: _,
-            tetrads: _,
-            halves: _,
-        } = self;
-    }
-}
-
 // Clauses see what stands in the tables.
 impl Model for StageTables {
-    ghost use Rattle.scr_stages.specs.Built.{BuiltStages};
+    ghost use Rattle.std.specs.Prelude.{List, [], ◌∷◌};
+    ghost use Rattle.scr_table.specs.Distances.{Distances};
 
-    ghost Value = { BuiltStages };
+    ghost Value = { List Distances };
 
-    ghost view = { λ t. record {
-      flips = t.flips.distances;
-      slice = t.slice.distances;
-      tetrads = t.tetrads.distances;
-      halves = t.halves.distances;
-    } };
+    ghost view = { λ t. t.flips.distances ∷ t.slice.distances ∷ t.tetrads.distances ∷ t.halves.distances ∷ [] };
 }
 
 impl StageTables {
     /// The tables `flips`, `slice`, `tetrads` and `halves`, built in this order, or why one isn't: there is no memory
     /// for it, or it has a gap, which its line rules out where the bounds are right.
     pub fn build(alloc: Global) -> Result<StageTables, BuildFault>
-        ensures built { IfOk result AreBuilt }
-        ensures cause { IfErr result IsStageCause }
+        ensures built { IfOk result (AreTablesOf stage_lines) }
+        ensures cause { IfErr result (IsCauseOf stage_lines) }
     {
-        let flips = LineTable::build(alloc)?;
-        let slice = LineTable::build(alloc)?;
-        let tetrads = LineTable::build(alloc)?;
-        let halves = LineTable::build(alloc)?;
         Ok(StageTables {
-            flips,
-            slice,
-            tetrads,
-            halves,
+            flips: LineTable::build(alloc)?,
+            slice: LineTable::build(alloc)?,
+            tetrads: LineTable::build(alloc)?,
+            halves: LineTable::build(alloc)?,
         })
     }
 
     /// The built table of this name. `None` comes exactly where none of the four has it.
     pub fn table(&self, name: TableName) -> Option<&DistanceTable>
-        ensures found { IsSome result ↔ Any (λ table. table.name ≡ name) (listed self.now) }
-        ensures value { IfSome result (λ table.
-            Any (λ other. (other.name ≡ name) × (table.now ≡ other)) (listed self.now)) }
-        ensures built { AreBuilt self.now }
+        ensures found { IsSome result ↔ HasNamed self.now name }
+        ensures value { IfSome result (λ found. IsNamed self.now name found.now) }
+        ensures built { AreTablesOf stage_lines self.now }
     {
         table_named(&self.all()[..], name)
     }
 
     /// The four tables, in the order in which they are built.
     pub fn all(&self) -> [&DistanceTable; 4]
-        ensures same { map (λ table. table.now) result ≡ listed self.now }
-        ensures built { AreBuilt self.now }
+        ensures same { map (λ table. table.now) result ≡ self.now }
+        ensures built { AreTablesOf stage_lines self.now }
     {
         [
             &self.flips.distances,

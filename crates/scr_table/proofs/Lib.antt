@@ -6,3 +6,4 @@ pub mod MovesLaws
 pub mod FoundWords
 pub mod SameTables
 pub mod RowLaws
+pub mod LineLaws

@@ -5,3 +5,4 @@ pub mod Causes
 pub mod Filled
 pub mod Moves
 pub mod Row
+pub mod TriedWords

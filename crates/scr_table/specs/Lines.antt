@@ -1,5 +1,5 @@
 -- Tables that are asked for, and built ones.
-use Rattle.std.specs.Prelude.{◌≡◌, ℕ, List, [], ◌∷◌}
+use Rattle.std.specs.Prelude.{◌≡◌, ℕ, List, [], ◌∷◌, Any}
 use Rattle.scr_coord.specs.Coordinates.{Coordinate}
 use Rattle.scr_table.specs.declared.name.TableName.{TableName}
 use Rattle.scr_table.specs.Distances.{Distances, Measures}
@@ -22,3 +22,11 @@ AreTablesOf [] [] = Unit {0}
 AreTablesOf [] (table ∷ tables) = ⊥
 AreTablesOf (line ∷ lines) [] = ⊥
 AreTablesOf (line ∷ lines) (table ∷ tables) = IsTableOf line table × AreTablesOf lines tables
+
+-- One of some tables has this name.
+abbrev pub HasNamed : List Distances → TableName → Type 0
+HasNamed tables name = Any (λ table. table.name ≡ name) tables
+
+-- It is one of them, and has this name.
+abbrev pub IsNamed : List Distances → TableName → Distances → Type 0
+IsNamed tables name found = Any (λ table. (table.name ≡ name) × (found ≡ table)) tables

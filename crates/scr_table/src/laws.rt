@@ -2,9 +2,9 @@
 //! is the law.
 
 ghost use Rattle.std.specs.Prelude.{◌≡◌, ℕ, suc, ◌+◌, ◌≤◌, ◌↔◌, List, [], ◌∷◌, length, Some};
-ghost use Rattle.scr_coord.specs.Coordinates.{Coordinate, moved, IsGoal};
 ghost use Rattle.scr_play.specs.Reach.{Needs};
 ghost use Rattle.scr_play.specs.FirstWord.{IsEarlier, IsFirstWord, IsDistance, LowersFirst};
+ghost use Rattle.scr_coord.specs.Coordinates.{Coordinate, moved, IsGoal};
 ghost use Rattle.scr_table.specs.declared.name.TableName.TheVariants.{Corners};
 ghost use Rattle.scr_table.specs.Distances.{Distances, Measures, IsGap};
 ghost use Rattle.scr_table.specs.Moves.{NeedsTurns, puzzle_of};

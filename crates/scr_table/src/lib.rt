@@ -4,8 +4,9 @@
 //! table is one record, `Measures` of `specs/Distances.antt`, over distances and first words as `scr_play` defines them;
 //! how a table is filled and how its entries are stored stands in no definition. Walking down a table gives first words. A
 //! [`Line`] says what a table is called, what it is of and by which moves; its [`LineTable`] keeps them together.
-//! [`no_shorter`] tests minima over any [`Moves`], with no table. The contracts of the module `laws` say what callers need
-//! of distances and first words.
+//! [`no_shorter`] tests minima over any [`Moves`], with no table; `specs/TriedWords.antt` has such a test as a definition,
+//! by which puzzles say what theirs answers. The contracts of the module `laws` say what callers need of distances and
+//! first words, and that the minima of a set of moves are those of a puzzle.
 #![tactic(auto)]
 
 mod entries;
@@ -25,6 +26,3 @@ pub use moves::{Moves, no_shorter};
 pub use name::TableName;
 pub use named::table_named;
 pub use table::DistanceTable;
-
-#[cfg(test)]
-mod tests;

@@ -1,8 +1,8 @@
 //! The tables that searches go by, each a type of its own.
 ghost use Rattle.std.specs.Prelude.{◌≡◌, ◌<◌, ◌≤◌, IfOk, IfErr, length};
+ghost use Rattle.scr_play.specs.FirstWord.{IsFirstWord};
 ghost use Rattle.scr_coord.specs.Coordinates.{moved, IsGoal};
 ghost use Rattle.scr_coord.specs.SearchSpaces.{ShowsSame};
-ghost use Rattle.scr_play.specs.FirstWord.{IsFirstWord};
 ghost use Rattle.scr_table.specs.Causes.{IsCause};
 ghost use Rattle.scr_table.specs.Lines.{IsTableOf};
 

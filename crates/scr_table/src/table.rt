@@ -1,8 +1,8 @@
 //! A distance table.
 
 ghost use Rattle.std.specs.Prelude.{◌≡◌, ℕ, ◌+◌, ◌<◌, ◌≤◌, ◌==◌, All, IfOk, IfErr, IfSome, IfNone, count_by, length, slice_index};
-ghost use Rattle.scr_coord.specs.Coordinates.{moved, IsGoal};
 ghost use Rattle.scr_play.specs.FirstWord.{IsFirstWord, LowersFirst};
+ghost use Rattle.scr_coord.specs.Coordinates.{moved, IsGoal};
 ghost use Rattle.scr_table.specs.Distances.{Measures};
 ghost use Rattle.scr_table.specs.Causes.{IsCause};
 

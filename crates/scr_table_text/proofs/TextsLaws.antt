@@ -3,8 +3,7 @@ use Rattle.std.proofs.Common.{◌≡◌, ℕ, ◌≤◌, List, [], ◌∷◌, �
 use Rattle.std.proofs.Math.Seq.{take-length}
 use Rattle.std.specs.Prelude.{codes}
 use Rattle.std.specs.Borrow.{Bor}
-use Rattle.scr_outside.specs.Change.{Change, Gains, Falters}
-use Rattle.scr_outside.specs.Calls.{Writes}
+use Rattle.scr_outside.specs.Change.{Change, Gains, Falters, Writes}
 use Rattle.scr_outside.proofs.ChangeLemmas.{from_to, Gains-nothing, written-none, written-more, written-last, Falters-longer}
 use Rattle.scr_table.specs.Distances.{Distances}
 use Rattle.scr_table.specs.Lines.{TableLine, AreTablesOf}

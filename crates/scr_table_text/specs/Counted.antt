@@ -4,8 +4,7 @@ use Rattle.std.specs.Borrow.{Bor}
 use Rattle.scr_text.specs.Lines.{text_of_lines}
 use Rattle.scr_table.specs.Distances.{Distances}
 use Rattle.scr_table.specs.Lines.{TableLine}
-use Rattle.scr_outside.specs.Change.{Change}
-use Rattle.scr_outside.specs.Calls.{Writes}
+use Rattle.scr_outside.specs.Change.{Change, Writes}
 use Rattle.scr_table_text.specs.TableText.{head_text, count_lines, AreTableTexts, IsTablesText}
 
 -- how many there are of each distance, from 0 up to the greatest

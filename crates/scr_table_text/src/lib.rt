@@ -9,6 +9,3 @@ pub mod laws;
 mod writing;
 
 pub use writing::{write_table, write_tables};
-
-#[cfg(test)]
-mod tests;

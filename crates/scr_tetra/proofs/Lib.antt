@@ -1,5 +1,4 @@
 pub mod SkewbLaws
-pub mod SkewbTurns
 pub mod SkewbDigits
 pub mod SkewbOnLiterals
 pub mod SkewbKnown

@@ -15,34 +15,23 @@ use Rattle.scr_orbit.specs.Actions.{power, power_of, composed_word}
 use Rattle.scr_orbit.specs.Orbits.{composed, identity, added_digits, zeros}
 use Rattle.scr_orbit.specs.InPlace.{AreDigitsInPlace}
 use Rattle.scr_orbit.proofs.InPlaceLaws.{in_place_laws}
+use Rattle.scr_orbit.proofs.Parts.{ap_both}
 use Rattle.scr_orbit.proofs.PowerLaws.{All-got}
 use Rattle.scr_turning.specs.PowerPuzzles.{letter_table, after_letter}
-use Rattle.scr_tetra.specs.Pyraminx.{TetraminxState, IsTetraminx, PyramTurn, tip_turn, pyram_action, pyram_powers, thirds_number, tetraminx_action}
+use Rattle.scr_tetra.specs.Pyraminx.{TetraminxState, IsTetraminx, PyramTurn, tip_turn, pyram_action, pyram_powers, thirds_number}
 use Rattle.scr_tetra.specs.NumberedPyram.{thirds_one_to_one}
 use Rattle.scr_tetra.specs.PyramParts.{tips_word, turned_count}
-use Rattle.scr_tetra.proofs.PyramLaws.{same_tetraminx_turn, same_pyram_turn, same_pyram, tetraminx_laws, lawful_pyram}
+use Rattle.scr_tetra.proofs.PyramLaws.{same_pyram, moves_no_body, tells_tetraminx, tetraminx_laws, lawful_pyram}
 
 -- a turn of these tips alone, as a test
 is_tip_turn : List ℕ → PyramTurn → Bool
-is_tip_turn tips r =
-    (bytes_eq r.body.edges.places (numbers_from 0 6) && bytes_eq r.body.edges.added (zeros 6))
-    && (bytes_eq r.body.axials (zeros 4) && bytes_eq r.tips tips)
+is_tip_turn tips r = moves_no_body r.body && bytes_eq r.tips tips
 
 tip_turn-from_test : (tips : List ℕ) (r : PyramTurn) → is_tip_turn tips r ≡ true → r ≡ tip_turn tips
-unfolding is_tip_turn identity
+unfolding is_tip_turn
 tip_turn-from_test tips r h =
-    let places = bytes_eq r.body.edges.places (numbers_from 0 6) in
-    let added = bytes_eq r.body.edges.added (zeros 6) in
-    let axials = bytes_eq r.body.axials (zeros 4) in
-    let both = and_parts (places && added) (axials && bytes_eq r.tips tips) h in
-    let first = and_parts places added both.0 in
-    let second = and_parts axials (bytes_eq r.tips tips) both.1 in
-    let one = (bytes_eq-Decides r.body.edges.places (numbers_from 0 6)).0 first.0 in
-    let two = (bytes_eq-Decides r.body.edges.added (zeros 6)).0 first.1 in
-    let edges = ap (λ xs. record { places = xs; added = r.body.edges.added }) one ∙ ap (λ xs. record { places = numbers_from 0 6; added = xs }) two in
-    same_pyram_turn r (tip_turn tips)
-    (same_tetraminx_turn r.body tetraminx_action.identity edges ((bytes_eq-Decides r.body.axials (zeros 4)).0 second.0))
-    ((bytes_eq-Decides r.tips tips).0 second.1)
+    let both = and_parts (moves_no_body r.body) (bytes_eq r.tips tips) h in
+    ap_both (λ body tips. record { body = body; tips = tips }) (tells_tetraminx.shows r.body both.0) ((bytes_eq-Decides r.tips tips).0 both.1)
 
 -- a word comes to that turn, and has one letter for each tip that stands turned
 comes_to_tips : List ℕ → Option PyramTurn → Bool
@@ -54,7 +43,7 @@ is_tips_word tips =
     comes_to_tips tips (composed_word pyram_action (letter_table pyram_powers) (tips_word tips)) && (length (tips_word tips) == turned_count tips)
 
 all_tips : All (λ n. is_tips_word (mixed_digits (replicate 4 3) n) ≡ true) (numbers_from 0 81)
-unfolding is_tips_word comes_to_tips is_tip_turn tips_word composed_word power power_of composed identity added_digits
+unfolding is_tips_word comes_to_tips is_tip_turn moves_no_body tips_word composed_word power power_of composed identity added_digits
 all_tips = AllPass-from_list_all (λ n. is_tips_word (mixed_digits (replicate 4 3) n)) (numbers_from 0 81) refl
 
 each_tips : (tips : List ℕ) → AreDigitsInPlace 4 3 tips → is_tips_word tips ≡ true

@@ -176,5 +176,5 @@ with_tips b c tips (t ∷ w) own e =
     let number = lawful_tetraminx.numbers b parts.0 t parts.1 in
     let large = pyram_large (record { body = b; tips = tips }) b parts.0 tips number.0 refl refl own number.1 (ap ((after_letter tetraminx_powers) b) number.2 ∙ parts.1) in
     let first : (after_letter pyram_powers) (record { body = b; tips = tips }) t ≡ Some (record { body = parts.0; tips = tips }) =
-    ap ((after_letter pyram_powers) (record { body = b; tips = tips })) (sym number.2) ∙ large.1 in
-    play-first (after_letter pyram_powers) (record { body = b; tips = tips }) (record { body = parts.0; tips = tips }) t w first ∙ with_tips parts.0 c tips w large.0 parts.2
+    ap ((after_letter pyram_powers) (record { body = b; tips = tips })) (sym number.2) ∙ large.after in
+    play-first (after_letter pyram_powers) (record { body = b; tips = tips }) (record { body = parts.0; tips = tips }) t w first ∙ with_tips parts.0 c tips w large.valid parts.2

@@ -8,11 +8,12 @@ use Rattle.scr_orbit.specs.Actions.{IsAction, power}
 use Rattle.scr_orbit.specs.Orbits.{Orbit, Rearrangement, IsOrbit, IsRearrangement, turned_orbit, composed, identity, added_digits, solved_orbit, orbit_action}
 use Rattle.scr_orbit.proofs.OrbitLaws.{orbit_laws, IsOrbit-turned, IsOrbit-solved, total-turned, parity-turned}
 use Rattle.scr_orbit.proofs.Orders.{TellsIdentity}
-use Rattle.scr_orbit.proofs.Parts.{ap_three, pair_action, IsAction-pair, IsSeenAs, IsAction-seen}
-use Rattle.scr_orbit.proofs.TableTests.{is_still, still, is_rearrangement, IsRearrangement-from_test}
-use Rattle.scr_turning.specs.PowerPuzzles.{IsPowerPuzzle}
+use Rattle.scr_orbit.proofs.Parts.{ap_three, pair_action, IsAction-pair, IsSeenAs, IsSeenAs-whole, IsAction-two, IsMadeAt, IsMadeAt-part, IsMadeAt-both}
+use Rattle.scr_orbit.proofs.TableTests.{and_three, is_still, still, is_rearrangement, IsRearrangement-from_test}
+use Rattle.scr_turning.specs.PowerPuzzles.{IsPowerPuzzle, all_turns, part_turns}
 use Rattle.scr_turning.specs.Proofs.AxisLaws.{axis_powers, axes_numbered}
 use Rattle.scr_turning.proofs.PowerPuzzleLaws.{IsPowerPuzzle-from_test}
+use Rattle.scr_turning.proofs.TurnedAt.{IsTurned, IsTurned-seen}
 use Rattle.scr_tetra.specs.Skewb.{SkewbState, class_of, IsSkewb, SkewbTurn, made_of_solved, IsSkewbTurn, skewb_action, skewb_powers, solved_skewb}
 use Rattle.scr_combinatorics.proofs.EvenLists.{IsEvenPermutation, passes_all, test-even}
 
@@ -106,31 +107,20 @@ turn_parts_of r = (r.four, (r.three, r.centres))
 seen_by_parts : IsSeenAs skewb_action (pair_action (orbit_action 4 3) (pair_action (orbit_action 3 3) (orbit_action 6 1))) parts_of turn_parts_of
 unfolding parts_of turn_parts_of
 seen_by_parts =
-    let state : Orbit × (Orbit × Orbit) → SkewbState = λ p. record { four = p.0; three = p.1.0; centres = p.1.1 } in
-    let turn : Rearrangement × (Rearrangement × Rearrangement) → SkewbTurn = λ p. record { four = p.0; three = p.1.0; centres = p.1.1 } in
-    record {
-      turned = λ s r. refl;
-      composed = λ r q. refl;
-      identity = refl;
-      same_state = λ s t e. ap state e;
-      same_turn = λ r q e. ap turn e;
-    }
+    IsSeenAs-whole (λ p. record { four = p.0; three = p.1.0; centres = p.1.1 }) (λ p. record { four = p.0; three = p.1.0; centres = p.1.1 })
+    (λ s. refl) (λ r. refl) (λ s r. refl) (λ r q. refl) refl
 
 -- turns act on Skewbs
 pub skewb_laws : IsAction skewb_action IsSkewb IsSkewbTurn
 unfolding parts_of turn_parts_of solved_skewb solved_orbit identity composed turned_orbit
 skewb_laws =
-    IsAction-seen skewb_action (pair_action (orbit_action 4 3) (pair_action (orbit_action 3 3) (orbit_action 6 1))) parts_of turn_parts_of seen_by_parts
-    (λ p. IsOrbit 4 3 p.0 × (IsOrbit 3 3 p.1.0 × IsOrbit 6 1 p.1.1))
-    (λ p. IsRearrangement 4 3 p.0 × (IsRearrangement 3 3 p.1.0 × IsRearrangement 6 1 p.1.1))
-    (IsAction-pair (orbit_action 4 3) (pair_action (orbit_action 3 3) (orbit_action 6 1)) (IsOrbit 4 3) (IsRearrangement 4 3)
-    (λ p. IsOrbit 3 3 p.0 × IsOrbit 6 1 p.1) (λ p. IsRearrangement 3 3 p.0 × IsRearrangement 6 1 p.1)
-    (orbit_laws 4 3 (lit< tt))
+    IsAction-two skewb_action (orbit_action 4 3) (pair_action (orbit_action 3 3) (orbit_action 6 1)) parts_of turn_parts_of seen_by_parts (IsOrbit 4 3) (IsRearrangement 4 3)
+    (λ p. IsOrbit 3 3 p.0 × IsOrbit 6 1 p.1) (λ p. IsRearrangement 3 3 p.0 × IsRearrangement 6 1 p.1) (orbit_laws 4 3 (lit< tt))
     (IsAction-pair (orbit_action 3 3) (orbit_action 6 1) (IsOrbit 3 3) (IsRearrangement 3 3) (IsOrbit 6 1) (IsRearrangement 6 1)
-    (orbit_laws 3 3 (lit< tt)) (orbit_laws 6 1 (lit< tt))))
+    (orbit_laws 3 3 (lit< tt)) (orbit_laws 6 1 (lit< tt)))
     IsSkewb IsSkewbTurn (λ s h. (h.four, (h.three, h.centres)))
     (λ r h. (turn_by 4 3 r.four h.four, (turn_by 3 3 r.three h.three, turn_by 6 1 r.centres h.centres)))
-    IsSkewb-turned (λ r q h k. IsSkewb-turned (made_of_solved r) q h k) IsSkewb-solved
+    (λ s r h k a b. IsSkewb-turned s r h k) (λ r q h k a b. IsSkewb-turned (made_of_solved r) q h k) IsSkewb-solved
 
 -- ---- tests that the checker computes
 
@@ -141,10 +131,9 @@ pub tells_skewb : TellsIdentity skewb_action moves_nothing
 unfolding moves_nothing identity
 tells_skewb = record {
   shows = λ r h.
-      let parts = and_parts (is_still 4 r.four) (is_still 3 r.three && is_still 6 r.centres) h in
-      let more = and_parts (is_still 3 r.three) (is_still 6 r.centres) parts.1 in
-      ap_three (λ four three centres. record { four = four; three = three; centres = centres }) (still 4 r.four parts.0) (still 3 r.three more.0)
-      (still 6 r.centres more.1);
+      let parts = and_three (is_still 4 r.four) (is_still 3 r.three) (is_still 6 r.centres) h in
+      ap_three (λ four three centres. record { four = four; three = three; centres = centres }) (still 4 r.four parts.0) (still 3 r.three parts.1)
+      (still 6 r.centres parts.2);
   passes = refl;
 }
 
@@ -164,23 +153,20 @@ is_turn r = rearranges r && (is_even r && sums_up r)
 IsSkewbTurn-from_test : (r : SkewbTurn) → is_turn r ≡ true → IsSkewbTurn r
 unfolding is_turn rearranges is_even sums_up
 IsSkewbTurn-from_test r h =
-    let parts = and_parts (rearranges r) (is_even r && sums_up r) h in
-    let first = and_parts (is_rearrangement 4 3 r.four) (is_rearrangement 3 3 r.three && is_rearrangement 6 1 r.centres) parts.0 in
-    let others = and_parts (is_rearrangement 3 3 r.three) (is_rearrangement 6 1 r.centres) first.1 in
-    let four = IsRearrangement-from_test 4 3 r.four first.0 in
-    let three = IsRearrangement-from_test 3 3 r.three others.0 in
-    let centres = IsRearrangement-from_test 6 1 r.centres others.1 in
-    let more = and_parts (is_even r) (sums_up r) parts.1 in
-    let even = and_parts (parity r.four.places == 0) ((parity r.three.places == 0) && (parity r.centres.places == 0)) more.0 in
-    let evens = and_parts (parity r.three.places == 0) (parity r.centres.places == 0) even.1 in
-    let sums = and_parts ((total r.three.added + class_of r.four.places) % 3 == 0) ((total r.four.added + slice_index r.three.places 0) % 3 == 0) more.1 in
+    let parts = and_three (rearranges r) (is_even r) (sums_up r) h in
+    let rearranged = and_three (is_rearrangement 4 3 r.four) (is_rearrangement 3 3 r.three) (is_rearrangement 6 1 r.centres) parts.0 in
+    let four = IsRearrangement-from_test 4 3 r.four rearranged.0 in
+    let three = IsRearrangement-from_test 3 3 r.three rearranged.1 in
+    let centres = IsRearrangement-from_test 6 1 r.centres rearranged.2 in
+    let even = and_three (parity r.four.places == 0) (parity r.three.places == 0) (parity r.centres.places == 0) parts.1 in
+    let sums = and_parts ((total r.three.added + class_of r.four.places) % 3 == 0) ((total r.four.added + slice_index r.three.places 0) % 3 == 0) parts.2 in
     record {
       four = record { pieces = four.places; size = four.size; below = four.below };
       three = record { pieces = three.places; size = three.size; below = three.below };
       centres = record { pieces = centres.places; size = centres.size; below = centres.below };
       even_four = eqb-true (parity r.four.places) 0 even.0;
-      even_three = eqb-true (parity r.three.places) 0 evens.0;
-      even_centres = eqb-true (parity r.centres.places) 0 evens.1;
+      even_three = eqb-true (parity r.three.places) 0 even.1;
+      even_centres = eqb-true (parity r.centres.places) 0 even.2;
       twists_of_three = eqb-true ((total r.three.added + class_of r.four.places) % 3) 0 sums.0;
       twists_of_four = eqb-true ((total r.four.added + slice_index r.three.places 0) % 3) 0 sums.1;
     }
@@ -192,3 +178,14 @@ unfolding is_turn rearranges is_even sums_up moves_nothing power composed identi
 lawful_skewb =
     IsPowerPuzzle-from_test skewb_powers IsSkewb IsSkewbTurn (record { numbered = axes_numbered; powers = axis_powers; few = lit≤ tt })
     skewb_laws IsSkewb-solved moves_nothing tells_skewb is_turn IsSkewbTurn-from_test refl
+
+-- the Skewb after a turn, and it is valid
+pub skewb_turned : (s : SkewbState) (four three centres : Orbit) (n : ℕ) → IsSkewb s → IsMadeAt (part_turns (λ r. r.four) skewb_powers) n (turned_orbit 3 s.four) four
+    → IsMadeAt (part_turns (λ r. r.three) skewb_powers) n (turned_orbit 3 s.three) three
+    → IsMadeAt (part_turns (λ r. r.centres) skewb_powers) n (turned_orbit 1 s.centres) centres
+    → IsTurned skewb_powers IsSkewb s n (record { four = four; three = three; centres = centres })
+unfolding parts_of turn_parts_of
+skewb_turned s four three centres n own first second third =
+    IsTurned-seen skewb_powers lawful_skewb s (record { four = four; three = three; centres = centres }) n own seen_by_parts
+    (IsMadeAt-both (IsMadeAt-part (λ r. r.four) (all_turns skewb_powers) first)
+    (IsMadeAt-both (IsMadeAt-part (λ r. r.three) (all_turns skewb_powers) second) (IsMadeAt-part (λ r. r.centres) (all_turns skewb_powers) third)))

@@ -6,6 +6,7 @@
 -- the axial piece below it. Without its tips the puzzle is known as the Tetraminx, which stands here by itself, since it is
 -- what a search has to solve.
 use Rattle.std.specs.Prelude.{ℕ, ◌/◌, List, [], ◌∷◌, ◌++◌, map, replicate, slice_index}
+use Rattle.std.specs.List.{zip}
 use Rattle.scr_combinatorics.specs.Permutations.{IsEven, permutation_number, half_at}
 use Rattle.scr_combinatorics.specs.Twists.{twists_number, twists_at}
 use Rattle.scr_combinatorics.specs.Digits.{mixed_number, mixed_digits}
@@ -40,25 +41,21 @@ pub record IsTetraminxTurn (r : TetraminxTurn) : Type 0 where
   pub axials : AreDigitsInPlace 4 3 r.axials
 
 -- The turns about U, L, R and B by a third: which place's edge comes to each place, and what is added to its flip.
-abbrev pub tetraminx_thirds : List TetraminxTurn
-tetraminx_thirds =
-    record {
-      edges = record { places = 1 ∷ 2 ∷ 0 ∷ 3 ∷ 4 ∷ 5 ∷ []; added = 0 ∷ 0 ∷ 0 ∷ 0 ∷ 0 ∷ 0 ∷ [] };
-      axials = 1 ∷ 0 ∷ 0 ∷ 0 ∷ [];
-    }
-    ∷ record {
-      edges = record { places = 4 ∷ 1 ∷ 2 ∷ 0 ∷ 3 ∷ 5 ∷ []; added = 0 ∷ 0 ∷ 0 ∷ 0 ∷ 0 ∷ 0 ∷ [] };
-      axials = 0 ∷ 1 ∷ 0 ∷ 0 ∷ [];
-    }
-    ∷ record {
-      edges = record { places = 0 ∷ 3 ∷ 2 ∷ 5 ∷ 4 ∷ 1 ∷ []; added = 0 ∷ 1 ∷ 0 ∷ 1 ∷ 0 ∷ 0 ∷ [] };
-      axials = 0 ∷ 0 ∷ 1 ∷ 0 ∷ [];
-    }
-    ∷ record {
-      edges = record { places = 0 ∷ 1 ∷ 5 ∷ 3 ∷ 2 ∷ 4 ∷ []; added = 0 ∷ 0 ∷ 1 ∷ 0 ∷ 1 ∷ 0 ∷ [] };
-      axials = 0 ∷ 0 ∷ 0 ∷ 1 ∷ [];
-    }
+abbrev pub edge_thirds : List Rearrangement
+edge_thirds =
+    record { places = 1 ∷ 2 ∷ 0 ∷ 3 ∷ 4 ∷ 5 ∷ []; added = zeros 6 }
+    ∷ record { places = 4 ∷ 1 ∷ 2 ∷ 0 ∷ 3 ∷ 5 ∷ []; added = zeros 6 }
+    ∷ record { places = 0 ∷ 3 ∷ 2 ∷ 5 ∷ 4 ∷ 1 ∷ []; added = 0 ∷ 1 ∷ 0 ∷ 1 ∷ 0 ∷ 0 ∷ [] }
+    ∷ record { places = 0 ∷ 1 ∷ 5 ∷ 3 ∷ 2 ∷ 4 ∷ []; added = 0 ∷ 0 ∷ 1 ∷ 0 ∷ 1 ∷ 0 ∷ [] }
     ∷ []
+
+-- What a third about each axis adds to pieces that stay at the four axes.
+abbrev pub thirds_in_place : List (List ℕ)
+thirds_in_place = (1 ∷ 0 ∷ 0 ∷ 0 ∷ []) ∷ (0 ∷ 1 ∷ 0 ∷ 0 ∷ []) ∷ (0 ∷ 0 ∷ 1 ∷ 0 ∷ []) ∷ (0 ∷ 0 ∷ 0 ∷ 1 ∷ []) ∷ []
+
+-- Such a turn moves edges and turns the axial piece of its axis.
+abbrev pub tetraminx_thirds : List TetraminxTurn
+tetraminx_thirds = map (λ r. record { edges = r.0; axials = r.1 }) (zip edge_thirds thirds_in_place)
 
 -- Turns rearrange the edges and turn the axial pieces at once.
 abbrev pub tetraminx_action : Action TetraminxState TetraminxTurn
@@ -113,12 +110,9 @@ large_turn r = record { body = r; tips = zeros 4 }
 abbrev pub tip_turn : List ℕ → PyramTurn
 tip_turn added = record { body = tetraminx_action.identity; tips = added }
 
--- A third of each tip: u, l, r and b.
-abbrev pub tip_thirds : List (List ℕ)
-tip_thirds = (1 ∷ 0 ∷ 0 ∷ 0 ∷ []) ∷ (0 ∷ 1 ∷ 0 ∷ 0 ∷ []) ∷ (0 ∷ 0 ∷ 1 ∷ 0 ∷ []) ∷ (0 ∷ 0 ∷ 0 ∷ 1 ∷ []) ∷ []
-
+-- A third about each axis, and then a third of each tip: u, l, r and b.
 abbrev pub pyram_thirds : List PyramTurn
-pyram_thirds = map large_turn tetraminx_thirds ++ map tip_turn tip_thirds
+pyram_thirds = map large_turn tetraminx_thirds ++ map tip_turn thirds_in_place
 
 unfoldable pub solved_pyram : PyramState
 solved_pyram = record { body = solved_tetraminx; tips = zeros 4 }

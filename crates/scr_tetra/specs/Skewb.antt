@@ -3,7 +3,8 @@
 -- The corner UFR stands still. The other corners are of two orbits: the four 0 UFL, 1 UBR, 2 DFR, 3 DBL, and the three 0 ULB,
 -- 1 DLF, 2 DRB. The centres are 0 U, 1 R, 2 F, 3 D, 4 L, 5 B. Places and pieces are numbered alike. A corner's twist is how many
 -- thirds clockwise its U or D sticker stands from the U or D side; centres have no twist, so their digits, modulo 1, are 0.
-use Rattle.std.specs.Prelude.{◌≡◌, ℕ, ◌+◌, ◌-◌, ◌/◌, ◌%◌, List, [], ◌∷◌, ◌++◌, slice_index, bit_xor}
+use Rattle.std.specs.Prelude.{◌≡◌, ℕ, ◌+◌, ◌-◌, ◌/◌, ◌%◌, List, [], ◌∷◌, ◌++◌, map, slice_index, bit_xor}
+use Rattle.std.specs.List.{zip}
 use Rattle.scr_combinatorics.specs.Lists.{total}
 use Rattle.scr_combinatorics.specs.Permutations.{IsEven, permutation_number, half_at}
 use Rattle.scr_combinatorics.specs.Digits.{mixed_number, mixed_digits}
@@ -57,30 +58,36 @@ abbrev pub IsSkewbTurn : SkewbTurn → Type 0
 IsSkewbTurn r = IsSkewb (made_of_solved r)
 
 -- The clockwise turns by one third about U (the corner ULB), L (DLF), R (DRB) and B (DBL), of half of the Skewb each: which
--- place's piece comes to each place, and the twist added. UFR stands still, so each turns the half without it.
-abbrev pub skewb_thirds : List SkewbTurn
-skewb_thirds =
-    record {
-      four = record { places = 1 ∷ 3 ∷ 2 ∷ 0 ∷ []; added = 2 ∷ 2 ∷ 0 ∷ 2 ∷ [] };
-      three = record { places = 0 ∷ 1 ∷ 2 ∷ []; added = 1 ∷ 0 ∷ 0 ∷ [] };
-      centres = record { places = 5 ∷ 1 ∷ 2 ∷ 3 ∷ 0 ∷ 4 ∷ []; added = zeros 6 };
-    }
-    ∷ record {
-      four = record { places = 3 ∷ 1 ∷ 0 ∷ 2 ∷ []; added = 2 ∷ 0 ∷ 2 ∷ 2 ∷ [] };
-      three = record { places = 0 ∷ 1 ∷ 2 ∷ []; added = 0 ∷ 1 ∷ 0 ∷ [] };
-      centres = record { places = 0 ∷ 1 ∷ 4 ∷ 2 ∷ 3 ∷ 5 ∷ []; added = zeros 6 };
-    }
-    ∷ record {
-      four = record { places = 0 ∷ 2 ∷ 3 ∷ 1 ∷ []; added = 0 ∷ 2 ∷ 2 ∷ 2 ∷ [] };
-      three = record { places = 0 ∷ 1 ∷ 2 ∷ []; added = 0 ∷ 0 ∷ 1 ∷ [] };
-      centres = record { places = 0 ∷ 3 ∷ 2 ∷ 5 ∷ 4 ∷ 1 ∷ []; added = zeros 6 };
-    }
-    ∷ record {
-      four = record { places = 0 ∷ 1 ∷ 2 ∷ 3 ∷ []; added = 0 ∷ 0 ∷ 0 ∷ 1 ∷ [] };
-      three = record { places = 2 ∷ 0 ∷ 1 ∷ []; added = 2 ∷ 2 ∷ 2 ∷ [] };
-      centres = record { places = 0 ∷ 1 ∷ 2 ∷ 4 ∷ 5 ∷ 3 ∷ []; added = zeros 6 };
-    }
+-- place's piece comes to each place of the four, and the twist added. UFR stands still, so each turns the half without it.
+abbrev pub four_thirds : List Rearrangement
+four_thirds =
+    record { places = 1 ∷ 3 ∷ 2 ∷ 0 ∷ []; added = 2 ∷ 2 ∷ 0 ∷ 2 ∷ [] }
+    ∷ record { places = 3 ∷ 1 ∷ 0 ∷ 2 ∷ []; added = 2 ∷ 0 ∷ 2 ∷ 2 ∷ [] }
+    ∷ record { places = 0 ∷ 2 ∷ 3 ∷ 1 ∷ []; added = 0 ∷ 2 ∷ 2 ∷ 2 ∷ [] }
+    ∷ record { places = 0 ∷ 1 ∷ 2 ∷ 3 ∷ []; added = 0 ∷ 0 ∷ 0 ∷ 1 ∷ [] }
     ∷ []
+
+-- The same of the three.
+abbrev pub three_thirds : List Rearrangement
+three_thirds =
+    record { places = 0 ∷ 1 ∷ 2 ∷ []; added = 1 ∷ 0 ∷ 0 ∷ [] }
+    ∷ record { places = 0 ∷ 1 ∷ 2 ∷ []; added = 0 ∷ 1 ∷ 0 ∷ [] }
+    ∷ record { places = 0 ∷ 1 ∷ 2 ∷ []; added = 0 ∷ 0 ∷ 1 ∷ [] }
+    ∷ record { places = 2 ∷ 0 ∷ 1 ∷ []; added = 2 ∷ 2 ∷ 2 ∷ [] }
+    ∷ []
+
+-- And of the centres.
+abbrev pub centre_thirds : List Rearrangement
+centre_thirds =
+    record { places = 5 ∷ 1 ∷ 2 ∷ 3 ∷ 0 ∷ 4 ∷ []; added = zeros 6 }
+    ∷ record { places = 0 ∷ 1 ∷ 4 ∷ 2 ∷ 3 ∷ 5 ∷ []; added = zeros 6 }
+    ∷ record { places = 0 ∷ 3 ∷ 2 ∷ 5 ∷ 4 ∷ 1 ∷ []; added = zeros 6 }
+    ∷ record { places = 0 ∷ 1 ∷ 2 ∷ 4 ∷ 5 ∷ 3 ∷ []; added = zeros 6 }
+    ∷ []
+
+-- All three at once.
+abbrev pub skewb_thirds : List SkewbTurn
+skewb_thirds = map (λ r. record { four = r.0; three = r.1.0; centres = r.1.1 }) (zip four_thirds (zip three_thirds centre_thirds))
 
 -- Turns rearrange the three orbits at once.
 abbrev pub skewb_action : Action SkewbState SkewbTurn

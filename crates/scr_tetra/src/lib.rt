@@ -31,8 +31,3 @@ pub use skewb::Skewb;
 pub use skewb_numbers::SkewbNumbers;
 pub use skewb_tables::{centre_turns, four_turns, three_turns};
 pub use tetraminx::Tetraminx;
-
-#[cfg(test)]
-mod pyram_tests;
-#[cfg(test)]
-mod skewb_tests;

@@ -2,7 +2,7 @@
 ghost use Rattle.std.specs.Prelude.{◌≡◌, ◌<◌, replicate};
 ghost use Rattle.scr_combinatorics.specs.Digits.{mixed_digits};
 ghost use Rattle.scr_orbit.specs.InPlace.{AreDigitsInPlace};
-ghost use Rattle.scr_tetra.specs.Pyraminx.{IsTetraminx, thirds_number, tetraminx_bases, tetraminx_digits, numbered_tetraminx, pyram_bases, numbered_pyram};
+ghost use Rattle.scr_tetra.specs.Pyraminx.{IsTetraminx, thirds_number, tetraminx_digits, numbered_tetraminx, numbered_pyram};
 ghost use Rattle.scr_tetra.specs.NumberedPyram.{tetraminx_numbering, pyram_numbering};
 
 use crate::pyraminx::Pyraminx;
@@ -20,39 +20,18 @@ pub struct PyramNumbers;
 #[derive(Clone, Copy)]
 pub struct TetraminxNumbers;
 
-/// How many states there are.
-const STATES: u128 = 75_582_720;
-
-/// How many of them without tips.
-const WITHOUT_TIPS: u128 = 933_120;
-
 /// How many digits of tips and states without tips there are.
-fn pyram_radix() -> MixedRadix<2>
-    ensures { result ≡ pyram_bases }
-{
-    MixedRadix::new([81, WITHOUT_TIPS])
-}
+const PYRAM_BASES: [u128; 2] = [81, 933_120];
 
 /// How many digits of axial pieces, flips and even lists of edges there are.
-fn tetraminx_radix() -> MixedRadix<3>
-    ensures { result ≡ tetraminx_bases }
-{
-    MixedRadix::new([81, 32, 360])
-}
-
-/// Four digits in base 3.
-fn thirds_radix() -> MixedRadix<4>
-    ensures { result ≡ replicate 4 3 }
-{
-    MixedRadix::new([3; 4])
-}
+const TETRAMINX_BASES: [u128; 3] = [81, 32, 360];
 
 /// The number of four digits from 0 to 2, the first one the least.
 fn number_of_thirds(digits: &[u8; 4]) -> u128
     requires { AreDigitsInPlace 4 3 digits.now }
     ensures { result ≡ thirds_number digits.now }
 {
-    thirds_radix().rank(&digits.map(u128::from))
+    MixedRadix::new([3; 4]).rank(&digits.map(u128::from))
 }
 
 /// The four digits with a number.
@@ -60,7 +39,7 @@ fn thirds_at(number: u128) -> [u8; 4]
     requires { number < 81 }
     ensures { result ≡ mixed_digits (replicate 4 3) number }
 {
-    in_bytes(&thirds_radix().unrank(number))
+    in_bytes(&MixedRadix::new([3; 4]).unrank(number))
 }
 
 /// The numbers of the axial pieces' digits and of the flips, and half the number of the list of edges.
@@ -83,7 +62,7 @@ impl Numbering for TetraminxNumbers {
     ghost law = { λ _. tetraminx_numbering };
 
     fn state_at(&self, number: u128) -> Tetraminx {
-        let [axials, flips, edges] = tetraminx_radix().unrank(number);
+        let [axials, flips, edges] = MixedRadix::new(TETRAMINX_BASES).unrank(number);
         Tetraminx::of_valid(
             Placed::new(
                 EvenPermRank::<6>::unrank(edges),
@@ -94,11 +73,11 @@ impl Numbering for TetraminxNumbers {
     }
 
     fn number_of(&self, state: &Tetraminx) -> u128 {
-        tetraminx_radix().rank(&digits_of(state))
+        MixedRadix::new(TETRAMINX_BASES).rank(&digits_of(state))
     }
 
     fn count(&self) -> u128 {
-        WITHOUT_TIPS
+        MixedRadix::new(TETRAMINX_BASES).count()
     }
 }
 
@@ -110,16 +89,16 @@ impl Numbering for PyramNumbers {
     ghost law = { λ _. pyram_numbering };
 
     fn state_at(&self, number: u128) -> Pyraminx {
-        let [tips, body] = pyram_radix().unrank(number);
+        let [tips, body] = MixedRadix::new(PYRAM_BASES).unrank(number);
         Pyraminx::of_valid(TetraminxNumbers.state_at(body), thirds_at(tips))
     }
 
     fn number_of(&self, state: &Pyraminx) -> u128 {
         let tips = number_of_thirds(&state.tips());
-        pyram_radix().rank(&[tips, TetraminxNumbers.number_of(&state.body())])
+        MixedRadix::new(PYRAM_BASES).rank(&[tips, TetraminxNumbers.number_of(&state.body())])
     }
 
     fn count(&self) -> u128 {
-        STATES
+        MixedRadix::new(PYRAM_BASES).count()
     }
 }

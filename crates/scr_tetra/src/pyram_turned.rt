@@ -1,9 +1,8 @@
 //! Turns of a Pyraminx, without its tips and with them. The axes U L R B are the generators 0 to 3, the tips 4 to 7.
 ghost use Rattle.std.proofs.Common.{lit≤};
-ghost use Rattle.scr_orbit.proofs.PowerLaws.{after-no_power};
-ghost use Rattle.scr_turning.specs.Axes.{thirds_of};
 ghost use Rattle.scr_turning.specs.PowerPuzzles.{after_letter};
-ghost use Rattle.scr_tetra.specs.Pyraminx.{tetraminx_thirds, tetraminx_action, tetraminx_powers, pyram_thirds, pyram_action, pyram_powers};
+ghost use Rattle.scr_turning.proofs.TurnedAt.{HasGenerators-puzzle};
+ghost use Rattle.scr_tetra.specs.Pyraminx.{tetraminx_powers, pyram_powers};
 
 use crate::pyram_tables::{axial_turns, edge_turns};
 use crate::pyraminx::Pyraminx;
@@ -28,9 +27,7 @@ impl PowerTurned for Tetraminx {
         )
     }
 
-    ghost few = { lit≤ tt };
-
-    ghost barred = { after-no_power tetraminx_action tetraminx_thirds thirds_of };
+    ghost generators = { HasGenerators-puzzle tetraminx_powers (lit≤ tt) };
 }
 
 impl PowerTurned for Pyraminx {
@@ -53,7 +50,5 @@ impl PowerTurned for Pyraminx {
         }
     }
 
-    ghost few = { lit≤ tt };
-
-    ghost barred = { after-no_power pyram_action pyram_thirds thirds_of };
+    ghost generators = { HasGenerators-puzzle pyram_powers (lit≤ tt) };
 }

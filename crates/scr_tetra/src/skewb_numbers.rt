@@ -2,7 +2,7 @@
 ghost use Rattle.std.specs.Prelude.{◌≡◌, ◌+◌, ◌<◌, [], ◌∷◌, ◌++◌};
 ghost use Rattle.scr_combinatorics.specs.Lists.{total};
 ghost use Rattle.scr_combinatorics.specs.Digits.{mixed_number, mixed_digits};
-ghost use Rattle.scr_tetra.specs.Skewb.{IsSkewb, completing, skewb_bases, skewb_digits, skewb_numbered};
+ghost use Rattle.scr_tetra.specs.Skewb.{IsSkewb, completing, skewb_digits, skewb_numbered};
 ghost use Rattle.scr_tetra.specs.NumberedSkewb.{skewb_numbering};
 
 use crate::skewb::{Skewb, class_of};
@@ -16,16 +16,9 @@ use scr_rank::{EvenPermRank, MixedRadix, TwistRank};
 #[derive(Clone, Copy)]
 pub struct SkewbNumbers;
 
-/// How many states of a Skewb there are.
-const SKEWBS: u128 = 3_149_280;
-
 /// How many twists of the four, twists of the three at places 0 and 1, even lists of the four and even lists of centres there
 /// are.
-fn skewb_radix() -> MixedRadix<4>
-    ensures { result ≡ skewb_bases }
-{
-    MixedRadix::new([81, 9, 12, 360])
-}
+const SKEWB_BASES: [u128; 4] = [81, 9, 12, 360];
 
 /// The twists of the four with a number, place 0 the least digit, and the piece at place 0 of the three, which completes their
 /// sum.
@@ -82,6 +75,26 @@ fn digits_of(skewb: &Skewb) -> [u128; 4]
     ]
 }
 
+/// The four, the three and the centres of the Skewb with a number.
+fn orbits_at(number: u128) -> (Placed<4>, Placed<3>, Placed<6>)
+    requires { number < skewb_numbered.count }
+    ensures four { result.0 ≡ (skewb_numbered.state_at number).four }
+    ensures three { result.1 ≡ (skewb_numbered.state_at number).three }
+    ensures centres { result.2 ≡ (skewb_numbered.state_at number).centres }
+{
+    let [four_twists, three_twists, four, centres] = MixedRadix::new(SKEWB_BASES).unrank(number);
+    let four = EvenPermRank::<4>::unrank(four);
+    let (twists, first) = twists_of_four(four_twists);
+    let three = EvenPermRank::<3>::unrank(u128::from(first));
+    let twists_of_three = twists_of_three(three_twists, class_of(&four));
+    let centres = EvenPermRank::<6>::unrank(centres);
+    (
+        Placed::new(four, twists),
+        Placed::new(three, twists_of_three),
+        Placed::new(centres, [0; 6]),
+    )
+}
+
 impl Numbering for SkewbNumbers {
     type State = Skewb;
 
@@ -90,25 +103,16 @@ impl Numbering for SkewbNumbers {
     ghost law = { λ _. skewb_numbering };
 
     fn state_at(&self, number: u128) -> Skewb {
-        let [four_twists, three_twists, four, centres] = skewb_radix().unrank(number);
-        let four = EvenPermRank::<4>::unrank(four);
-        let (twists, first) = twists_of_four(four_twists);
-        let three = EvenPermRank::<3>::unrank(u128::from(first));
-        let twists_of_three = twists_of_three(three_twists, class_of(&four));
-        let centres = EvenPermRank::<6>::unrank(centres);
-        Skewb::of_valid(
-            Placed::new(four, twists),
-            Placed::new(three, twists_of_three),
-            Placed::new(centres, [0; 6]),
-        )
+        let (four, three, centres) = orbits_at(number);
+        Skewb::of_valid(four, three, centres)
     }
 
     fn number_of(&self, state: &Skewb) -> u128 {
-        skewb_radix().rank(&digits_of(state))
+        MixedRadix::new(SKEWB_BASES).rank(&digits_of(state))
     }
 
     // 3^4 twists of the four, 3^2 of the three, 4!/2 even lists of the four, and 6!/2 of the centres.
     fn count(&self) -> u128 {
-        SKEWBS
+        MixedRadix::new(SKEWB_BASES).count()
     }
 }

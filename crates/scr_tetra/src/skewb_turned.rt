@@ -1,9 +1,8 @@
 //! Turns of a Skewb. The axes U L R B are the generators 0 to 3.
 ghost use Rattle.std.proofs.Common.{lit≤};
-ghost use Rattle.scr_orbit.proofs.PowerLaws.{after-no_power};
-ghost use Rattle.scr_turning.specs.Axes.{thirds_of};
 ghost use Rattle.scr_turning.specs.PowerPuzzles.{after_letter};
-ghost use Rattle.scr_tetra.specs.Skewb.{skewb_thirds, skewb_action, skewb_powers};
+ghost use Rattle.scr_turning.proofs.TurnedAt.{HasGenerators-puzzle};
+ghost use Rattle.scr_tetra.specs.Skewb.{skewb_powers};
 
 use crate::skewb::Skewb;
 use crate::skewb_tables::{centre_turns, four_turns, three_turns};
@@ -27,7 +26,5 @@ impl PowerTurned for Skewb {
         )
     }
 
-    ghost few = { lit≤ tt };
-
-    ghost barred = { after-no_power skewb_action skewb_thirds thirds_of };
+    ghost generators = { HasGenerators-puzzle skewb_powers (lit≤ tt) };
 }

@@ -9,8 +9,6 @@
 pub mod laws;
 mod lines;
 mod number;
-#[cfg(test)]
-mod tests;
 
 pub use lines::{split_line, word_at};
 pub use number::{decimal, number_within};

@@ -1,2 +1,4 @@
 pub mod NumberedTurns
 pub mod PowerPuzzleLaws
+pub mod TurnedAt
+pub mod TablesOnLiterals

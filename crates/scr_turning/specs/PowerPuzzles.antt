@@ -1,7 +1,7 @@
 -- Puzzles of pieces whose turns are powers of a few generators, as a cube's are of its quarter turns.
 use Rattle.std.specs.Prelude.{◌≡◌, ℕ, ◌-◌, ◌*◌, ◌<◌, ◌≤◌, List, map, length, All, slice_get, Option, Some, None}
 use Rattle.scr_play.specs.Reach.{Puzzle}
-use Rattle.scr_orbit.specs.Actions.{Action, IsOrder, IsWordOrder, after_by, table_puzzle, power_table, all_powers}
+use Rattle.scr_orbit.specs.Actions.{Action, Power, IsOrder, IsWordOrder, after_by, table_puzzle, power_table, all_powers}
 use Rattle.scr_orbit.specs.LawfulTurns.{HasLawfulTurns}
 use Rattle.scr_notation.specs.declared.turn.Turn.{Turn}
 use Rattle.scr_notation.specs.Turning.{opposite, turn_merging}
@@ -53,3 +53,8 @@ pub record IsPowerPuzzle {S R : Type 0} (p : PowerPuzzle S R) (IsValid : S → T
   pub numbers : (s r : S) (t : Turn) → after_letter p s t ≡ Some r
       → (n : ℕ) × (n < turn_count p) × (p.letters.letter_at n ≡ t)
   pub no_more : (s : S) (n : ℕ) → turn_count p ≤ n → after_letter p s (p.letters.letter_at n) ≡ None
+
+-- So many of these letters' generators are a puzzle's: a letter that is a power of none of them makes nothing.
+pub record HasGenerators {S : Type 0} (l : PowerLetters) (count : ℕ) (after : S → Turn → Option S) : Type 0 where
+  pub few : count ≤ l.most
+  pub barred : (s : S) (t : Turn) → ((p : Power) → l.power_at t ≡ Some p → count ≤ p.generator) → after s t ≡ None

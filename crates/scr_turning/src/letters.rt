@@ -1,8 +1,10 @@
 //! Letters as powers of generators.
-ghost use Rattle.std.specs.Prelude.{◌≡◌, ◌+◌, ◌-◌, ◌≤◌, ◌<◌, IfSome};
+ghost use Rattle.std.specs.Prelude.{◌≡◌, ◌+◌, ◌-◌, ◌≤◌, ◌<◌, IfSome, refl};
 ghost use Rattle.std.specs.Option.{option_map};
-ghost use Rattle.scr_turning.specs.Axes.{thirds_of};
-ghost use Rattle.scr_turning.specs.Faces.{quarters_of};
+ghost use Rattle.scr_turning.specs.Axes.{thirds_of, axis_letters};
+ghost use Rattle.scr_turning.specs.Faces.{quarters_of, face_letters};
+ghost use Rattle.scr_turning.specs.Proofs.FaceLaws.{faces_numbered};
+ghost use Rattle.scr_turning.specs.Proofs.AxisLaws.{axes_numbered};
 
 use scr_notation::Turn;
 
@@ -36,10 +38,6 @@ pub trait Letters {
 pub struct Faces;
 
 impl Letters for Faces {
-    ghost use Rattle.std.specs.Prelude.{refl};
-    ghost use Rattle.scr_turning.specs.Faces.{face_letters};
-    ghost use Rattle.scr_turning.specs.Proofs.FaceLaws.{faces_numbered};
-
     ghost letters = { face_letters };
 
     ghost POWERS = { 3 };
@@ -66,10 +64,6 @@ impl Letters for Faces {
 pub struct Axes;
 
 impl Letters for Axes {
-    ghost use Rattle.std.specs.Prelude.{refl};
-    ghost use Rattle.scr_turning.specs.Axes.{axis_letters};
-    ghost use Rattle.scr_turning.specs.Proofs.AxisLaws.{axes_numbered};
-
     ghost letters = { axis_letters };
 
     ghost POWERS = { 2 };

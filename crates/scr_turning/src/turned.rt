@@ -8,8 +8,8 @@ use scr_notation::{Scramble, Turn};
 /// A state of a puzzle whose turns are powers of a few generators, as of cubes those of quarter turns.
 pub trait PowerTurned: Copy {
     ghost use Rattle.std.specs.Prelude.{◌≡◌, ◌*◌, ◌<◌, ◌≤◌, ℕ, Option, Some, None};
-    ghost use Rattle.scr_orbit.specs.Actions.{Power};
     ghost use Rattle.scr_notation.specs.declared.turn.Turn.{Turn as Letter};
+    ghost use Rattle.scr_turning.specs.PowerPuzzles.{HasGenerators};
 
     /// The letters of its turns.
     type Kind: Letters;
@@ -27,12 +27,8 @@ pub trait PowerTurned: Copy {
         requires { number < Self.Kind.POWERS * GENERATORS }
         ensures { after self.now (Self.Kind.letters.letter_at number) ≡ Some result };
 
-    /// The letters name as many generators.
-    ghost few: { GENERATORS ≤ Self.Kind.letters.most };
-
-    /// No other letter makes anything.
-    ghost barred: { (state : Self) (letter : Letter)
-        → ((p : Power) → Self.Kind.letters.power_at letter ≡ Some p → GENERATORS ≤ p.generator) → after state letter ≡ None };
+    /// The letters name as many generators, and no other letter makes anything.
+    ghost generators: { HasGenerators Self.Kind.letters GENERATORS after };
 
     /// The state after a generator, so many times: after a turn of a face clockwise by `exponent` quarters, from 1 to 3, or
     /// about an axis by `exponent` thirds, 1 or 2.

@@ -23,7 +23,7 @@ use Rattle.scr_twophase.specs.declared.first.FirstPosition.{FirstPosition}
 use Rattle.scr_twophase.specs.Words.{words_of, words_behind}
 use Rattle.scr_twophase.specs.TwoParts.{after_turn, all_turns, ends_in_quarter, first_joined, is_domino, is_first_part, is_orderly, joined, leads}
 use Rattle.scr_twophase.specs.TurnSets.{has_turn, turns_in}
-use Rattle.scr_twophase.specs.Search.{may_end, ShowsFirst, IsFirstPosition, IsAtFirst, is_domino_position, KeepsWays}
+use Rattle.scr_twophase.specs.Search.{may_end, ShowsFirst, IsFirstPosition, IsAt, is_domino_position, KeepsWays}
 use Rattle.scr_twophase.specs.Tables.{twists_of, middle_set_of}
 use Rattle.scr_twophase.specs.Proofs.CubeTests.{IsDomino-test, leads-played}
 use Rattle.scr_twophase.proofs.Orderly.{may_end-orderly}
@@ -53,9 +53,9 @@ pub played_more : (c there d : CubeState) (word : List ℕ) (t : ℕ) → play a
 played_more c there d word t played to = play-append after_turn c there word (t ∷ []) played ∙ play-one after_turn there t ∙ to
 
 -- one turn more
-pub IsAtFirst-turned : (c : CubeState) (word : List ℕ) (at next : FirstPosition) (t : ℕ) → t < 18 → IsAtFirst c word at
-    → ((d e : CubeState) → ShowsFirst d at → after_turn d t ≡ Some e → ShowsFirst e next) → IsAtFirst c (word ++ t ∷ []) next
-IsAtFirst-turned c word at next t lt h f =
+pub IsAt-turned : {At : Type 0} (Shows : CubeState → At → Type 0) (c : CubeState) (word : List ℕ) (at next : At) (t : ℕ) → t < 18 → IsAt Shows c word at
+    → ((d e : CubeState) → Shows d at → after_turn d t ≡ Some e → Shows e next) → IsAt Shows c (word ++ t ∷ []) next
+IsAt-turned Shows c word at next t lt h f =
     let to = turn_leads h.there t lt in
     record { there = to.0; played = played_more c h.there to.0 word t h.played to.1; shows = f h.there to.0 h.shows to.1 }
 
@@ -151,7 +151,7 @@ pub record IsUnderWay (c : CubeState) (word : List ℕ) (turns tries bits left :
   pub may_stand : All (λ t. may_end word t ≡ true) (turns_in bits)
   pub few : bits < 2 ^ 18
 
-pub IsUnderWay-begin : (c : CubeState) (word : List ℕ) (at : FirstPosition) (turns tries by_tables behind both : ℕ) → IsAtFirst c word at → (turns ≡ 0 → ⊥)
+pub IsUnderWay-begin : (c : CubeState) (word : List ℕ) (at : FirstPosition) (turns tries by_tables behind both : ℕ) → IsAt ShowsFirst c word at → (turns ≡ 0 → ⊥)
     → ((d : CubeState) (more : ℕ) → turns ≡ more + 1 → ShowsFirst d at → KeepsWays d more by_tables)
     → ((t : ℕ) → t < 18 → has_turn behind t ≡ may_end word t) → ((t : ℕ) → has_turn both t ≡ (has_turn by_tables t && has_turn behind t))
     → both < 2 ^ 18 → IsUnderWay c word turns tries both tries
@@ -211,7 +211,7 @@ module _ (c : CubeState) (word : List ℕ) (turns tries bits left : ℕ) (h : Is
 
 -- ---- at the end of a word
 
-module _ (c : CubeState) (word : List ℕ) (at : FirstPosition) (h : IsAtFirst c word at) (orderly : is_orderly word ≡ true) where
+module _ (c : CubeState) (word : List ℕ) (at : FirstPosition) (h : IsAt ShowsFirst c word at) (orderly : is_orderly word ≡ true) where
   test_is : is_first_part c word ≡ (ends_in_quarter word && is_domino_position at)
   unfolding is_first_part
   test_is =

@@ -19,11 +19,11 @@ use Rattle.scr_stages.proofs.HalfCubes.{pick-in_block}
 use Rattle.scr_stages.proofs.TurnFacts.{tetrads_numbers}
 use Rattle.scr_twophase.specs.declared.second.SecondPosition.{SecondPosition}
 use Rattle.scr_twophase.specs.Words.{words_of, words_behind}
-use Rattle.scr_twophase.specs.TwoParts.{after_turn, domino_turns, is_solved, is_solution, is_orderly, joined, leads, second_part}
+use Rattle.scr_twophase.specs.TwoParts.{domino_turns, is_solved, is_solution, is_orderly, joined, leads, second_part}
 use Rattle.scr_twophase.specs.Tables.{corners_of, outer_edges_of, middle_edges_of}
-use Rattle.scr_twophase.specs.Search.{may_end, ShowsSecond, IsSecondPosition, IsAtSecond, is_solved_position}
+use Rattle.scr_twophase.specs.Search.{may_end, ShowsSecond, IsSecondPosition, IsAt, is_solved_position}
 use Rattle.scr_twophase.specs.Proofs.CubeTests.{same_cube, IsSolved-test, leads-played}
-use Rattle.scr_twophase.proofs.FirstSteps.{turn_leads, leads-behind, played_more, not_so, same_test, goal_number}
+use Rattle.scr_twophase.proofs.FirstSteps.{leads-behind, not_so, same_test, goal_number}
 use Rattle.scr_twophase.proofs.Orderly.{may_end-orderly}
 use Rattle.scr_twophase.proofs.Outcomes.{flat_map-first, flat_map-none}
 use Rattle.scr_twophase.proofs.Spaces.{AreCornersHome, AreOuterHome, AreMiddleHome, IsPlaceSet-outer_places, outer-kept, Follows-corners, Follows-outer_edges, Follows-middle_edges}
@@ -42,14 +42,6 @@ IsSecondPosition-shown c at h = record {
 pub domino_turn-lt : (place d : ℕ) → place < 10 → get_or domino_turns place d < 18
 unfolding domino_turns
 domino_turn-lt place d lt = tetrads_numbers place d lt
-
-pub IsAtSecond-turned : (c : CubeState) (word : List ℕ) (at next : SecondPosition) (place : ℕ) → place < 10 → IsAtSecond c word at
-    → ((d e : CubeState) → ShowsSecond d at → after_turn d (get_or domino_turns place 0) ≡ Some e → ShowsSecond e next)
-    → IsAtSecond c (word ++ get_or domino_turns place 0 ∷ []) next
-IsAtSecond-turned c word at next place lt h f =
-    let t : ℕ = get_or domino_turns place 0 in
-    let to = turn_leads h.there t (domino_turn-lt place 0 lt) in
-    record { there = to.0; played = played_more c h.there to.0 word t h.played to.1; shows = f h.there to.0 h.shows to.1 }
 
 -- ---- tests
 
@@ -95,7 +87,7 @@ solution_from : (c : CubeState) (w : List ℕ) → is_orderly w ≡ true → is_
 unfolding is_solution
 solution_from c w e = ap (λ b. b && leads is_solved c w) e
 
-module _ (c : CubeState) (word : List ℕ) (at : SecondPosition) (h : IsAtSecond c word at) where
+module _ (c : CubeState) (word : List ℕ) (at : SecondPosition) (h : IsAt ShowsSecond c word at) where
   -- none of fewer turns than there must be leads to solved
   pub too_few : (left least : ℕ) → ((d : CubeState) (v : List ℕ) (n : ℕ) → ShowsSecond d at → Contains (words_of domino_turns n) v → leads is_solved d v ≡ true → least ≤ n)
       → left < least → words_behind domino_turns (is_solution c) word left ≡ []

@@ -1,9 +1,6 @@
 -- What a search for two parts goes by.
-use Rattle.std.specs.Prelude.{◌≡◌, ℕ, ◌-◌, ◌<◌, Any, Contains, ◌==◌, ◌&&◌, Bool, true, IsTrue, List, ◌∷◌, length, take, slice_get, Some}
+use Rattle.std.specs.Prelude.{◌≡◌, ℕ, ◌-◌, ◌<◌, Contains, ◌==◌, ◌&&◌, Bool, true, IsTrue, List, ◌∷◌, length, take, slice_get, Some}
 use Rattle.std.specs.Option.{option_map_or}
-use Rattle.scr_table.specs.declared.fault.BuildFault.{BuildFault}
-use Rattle.scr_table.specs.Causes.{IsCause}
-use Rattle.scr_table.specs.Lines.{TableLine}
 use Rattle.scr_play.specs.Play.{play}
 use Rattle.scr_cube.specs.Cube333.{CubeState, IsCube}
 use Rattle.scr_stages.specs.Numbers.{flips_number, IsDominoCube}
@@ -19,15 +16,17 @@ use Rattle.scr_twophase.specs.TurnSets.{has_turn}
 unfoldable pub may_end : List ℕ → ℕ → Bool
 may_end word t = option_map_or (λ last. may_precede last t) (slice_get word (length word - 1)) true
 
--- why tables with these lines aren't built: the cause of one of them
-abbrev pub IsCauseOf : List TableLine → BuildFault → Type 0
-IsCauseOf lines fault = Any (λ line. IsCause line.name line.coordinate line.bound fault) lines
-
 -- ---- words
 
 -- the turns of a word that a search has written
 abbrev pub letters : Word → List ℕ
 letters w = take w.count w.turns
+
+-- A word leads from a cube to one that a position shows.
+pub record IsAt {At : Type 0} (Shows : CubeState → At → Type 0) (c : CubeState) (word : List ℕ) (at : At) : Type 0 where
+  pub there : CubeState
+  pub played : play after_turn c word ≡ Some there
+  pub shows : Shows there at
 
 -- ---- the first part
 
@@ -43,12 +42,6 @@ pub record IsFirstPosition (at : FirstPosition) : Type 0 where
   pub flips : at.flips < 2048
   pub twists : at.twists < 2187
   pub middle : at.middle < 495
-
--- a word leads from a cube to one that a position shows
-pub record IsAtFirst (c : CubeState) (word : List ℕ) (at : FirstPosition) : Type 0 where
-  pub there : CubeState
-  pub played : play after_turn c word ≡ Some there
-  pub shows : ShowsFirst there at
 
 -- The position is that of the dominoes: no flips, no twists, and the set of the places of the middle layer.
 abbrev pub is_domino_position : FirstPosition → Bool
@@ -72,12 +65,6 @@ pub record IsSecondPosition (at : SecondPosition) : Type 0 where
   pub corners : at.corners < 40320
   pub outer : at.outer < 40320
   pub middle : at.middle < 24
-
--- a word leads from a cube to a domino that a position shows
-pub record IsAtSecond (c : CubeState) (word : List ℕ) (at : SecondPosition) : Type 0 where
-  pub there : CubeState
-  pub played : play after_turn c word ≡ Some there
-  pub shows : ShowsSecond there at
 
 -- The position is that of the solved cube: all three lists are in order.
 abbrev pub is_solved_position : SecondPosition → Bool

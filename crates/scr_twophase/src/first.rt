@@ -5,6 +5,7 @@ ghost use Rattle.scr_combinatorics.specs.PlaceSets.{IsPlaceSet};
 ghost use Rattle.scr_coord.specs.Moves.{moves_coordinate};
 ghost use Rattle.scr_coord.specs.SearchSpaces.{ShowsSame};
 ghost use Rattle.scr_coord.specs.Projections.{marked_places, stands_in};
+ghost use Rattle.scr_table.specs.Causes.{IsCauseOf};
 ghost use Rattle.scr_cube.specs.Cube333.{CubeState};
 ghost use Rattle.scr_stages.specs.Stages.{middle_edges};
 ghost use Rattle.scr_stages.specs.Tables.{flips_coordinate};
@@ -15,18 +16,12 @@ ghost use Rattle.scr_twophase.specs.Tables.{twists_coordinate, middle_set_coordi
 
 use crate::pruning::PruningTable;
 use crate::turn_set::TurnSet;
-use scr_coord::{Coord, MoveTable, PlaceSet, Twists, places_of};
+use scr_coord::{Coord, MoveTable, PlaceSet, Product, Twists, places_of};
 use scr_cube::Cube;
 use scr_rank::{Choose, TwistRank};
-use scr_stages::{corners_turned, edges_turned};
+use scr_stages::{ALL_TURNS, MIDDLE_EDGES, corners_turned, edges_turned};
 use scr_table::{BuildFault, TableName};
 use std::alloc::{AllocError, Global};
-
-/// The numbers of all turns: U U2 U' R R2 R' F F2 F' D D2 D' L L2 L' B B2 B'.
-const TURNS: [u8; 18] = [0, 1, 2, 3, 4, 5, 6, 7, 8, 9, 10, 11, 12, 13, 14, 15, 16, 17];
-
-/// The edges of the middle layer, FR FL BL BR, and their places.
-const MIDDLE: [u8; 4] = [8, 9, 10, 11];
 
 /// How many flips there are.
 const FLIPS: u32 = 2048;
@@ -67,6 +62,7 @@ impl FirstPosition {
 }
 
 /// What the search for a first part goes by: where turns lead, and the two pruning tables.
+#[derive(Drop)]
 pub(crate) struct FirstTables {
     flips: MoveTable,
     twists: MoveTable,
@@ -80,22 +76,7 @@ pub(crate) struct FirstTables {
     ghost twistslice_is: { IsPruningTable twistslice_line twistslice },
 }
 
-// A call wherever one is let go, in place of all that lets go of its parts.
-impl Drop for FirstTables {
-    fn drop(self) {
-        let FirstTables {
-            flips: _,
-            twists: _,
-            middle: _,
-            flipslice: _,
-            twistslice: _,
-        } = self;
-    }
-}
-
 impl FirstTables {
-    ghost use Rattle.scr_twophase.specs.Search.{IsCauseOf};
-
     /// The tables, or why one isn't built.
     pub fn build(alloc: Global) -> Result<FirstTables, BuildFault>
         ensures cause { IfErr result (IsCauseOf prune_lines) }
@@ -103,8 +84,24 @@ impl FirstTables {
         let flips = flip_moves(alloc)?;
         let twists = twist_moves(alloc)?;
         let middle = middle_moves(alloc)?;
-        let flipslice = PruningTable::build(alloc, TableName::FlipSlice, &flips, &middle, 12)?;
-        let twistslice = PruningTable::build(alloc, TableName::TwistSlice, &twists, &middle, 12)?;
+        let flipslice = PruningTable::build(
+            alloc,
+            TableName::FlipSlice,
+            &Product {
+                low: &flips,
+                high: &middle,
+            },
+            12,
+        )?;
+        let twistslice = PruningTable::build(
+            alloc,
+            TableName::TwistSlice,
+            &Product {
+                low: &twists,
+                high: &middle,
+            },
+            12,
+        )?;
         Ok(FirstTables {
             flips,
             twists,
@@ -163,22 +160,22 @@ pub(crate) fn step(moves: &MoveTable, position: u32, turn: u32) -> u32
 fn flip_moves(alloc: Global) -> Result<MoveTable, AllocError>
     ensures { IfOk result (λ table. ShowsSame flips_coordinate (moves_coordinate table)) }
 {
-    MoveTable::build(alloc, &Twists::<12, 2>::new(&edges_turned(&TURNS)[..]))
+    MoveTable::build(alloc, &Twists::<12, 2>::new(&edges_turned(&ALL_TURNS)[..]))
 }
 
 /// Where turns lead from the twists.
 fn twist_moves(alloc: Global) -> Result<MoveTable, AllocError>
     ensures { IfOk result (λ table. ShowsSame twists_coordinate (moves_coordinate table)) }
 {
-    MoveTable::build(alloc, &Twists::<8, 3>::new(&corners_turned(&TURNS)[..]))
+    MoveTable::build(alloc, &Twists::<8, 3>::new(&corners_turned(&ALL_TURNS)[..]))
 }
 
 /// Where turns lead from the sets of the places of the edges of the middle layer.
 fn middle_moves(alloc: Global) -> Result<MoveTable, AllocError>
     ensures { IfOk result (λ table. ShowsSame middle_set_coordinate (moves_coordinate table)) }
 {
-    let edges = edges_turned(&TURNS);
-    MoveTable::build(alloc, &PlaceSet::<12, 4>::new(&edges[..], MIDDLE))
+    let edges = edges_turned(&ALL_TURNS);
+    MoveTable::build(alloc, &PlaceSet::<12, 4>::new(&edges[..], MIDDLE_EDGES))
 }
 
 /// The places of the edges of the middle layer, in increasing order.
@@ -188,6 +185,6 @@ fn middle_places(edges: &[u8; 12]) -> [u8; 4]
     ensures valid { IsPlaceSet 12 4 result }
 {
     let mut places = [0; 4];
-    places_of(&MIDDLE[..], &edges[..], &mut places[..]);
+    places_of(&MIDDLE_EDGES[..], &edges[..], &mut places[..]);
     places
 }

@@ -5,7 +5,7 @@
 //! first of the first parts, in the order of words, that has a second part, joined with the least one;
 //! `specs/TwoParts.antt` says so over the lists of all words. [`scramble_333`] takes it back, and where none of the
 //! first parts that are tried has a second part, it is the scramble by stages. [`needs_333`] tests the minima 0 to 5
-//! over all words, and [`Draw333`] draws cubes by it.
+//! over all words.
 //!
 //! The search goes depth first by rising length, over move tables, and leaves out the turns that [`PruneTables`] say
 //! lead too far from the goal: the theorem is that it finds what the lists have, and that each first part counts one
@@ -26,9 +26,6 @@ mod tables;
 mod turn_set;
 mod word;
 
-pub use needs::{Draw333, needs_333};
+pub use needs::needs_333;
 pub use scramble::{scramble_333, two_parts};
 pub use tables::PruneTables;
-
-#[cfg(test)]
-mod tests;

@@ -3,7 +3,7 @@ ghost use Rattle.std.specs.Prelude.{◌≡◌, ◌+◌, ◌-◌, ◌<◌, ◌≤
 ghost use Rattle.std.specs.Option.{option_map};
 ghost use Rattle.scr_play.specs.Play.{play};
 ghost use Rattle.scr_cube.specs.Cube333.{IsCube};
-ghost use Rattle.scr_twophase.specs.Search.{letters, IsAtFirst, is_domino_position};
+ghost use Rattle.scr_twophase.specs.Search.{letters, IsAt, ShowsFirst, is_domino_position};
 ghost use Rattle.scr_twophase.specs.TwoParts.{after_turn, all_turns, ends_in_quarter, first_joined, is_first_part, is_orderly, two_parts};
 ghost use Rattle.scr_twophase.specs.Words.{words_behind};
 
@@ -45,7 +45,7 @@ fn joined_behind(
     left: u32,
     tries: &mut u32,
 ) -> Option<Word>
-    requires at { IsAtFirst cube.now (letters word.now) at }
+    requires at { IsAt ShowsFirst cube.now (letters word.now) at }
     requires orderly { IsTrue (is_orderly (letters word.now)) }
     requires few { length (letters word.now) + left ≤ 12 }
     ensures first { option_map letters result
@@ -78,7 +78,7 @@ fn joined_with(
     at: FirstPosition,
     tries: &mut u32,
 ) -> Option<Word>
-    requires at { IsAtFirst cube.now (letters word.now) at }
+    requires at { IsAt ShowsFirst cube.now (letters word.now) at }
     requires orderly { IsTrue (is_orderly (letters word.now)) }
     requires few { length (letters word.now) ≤ 12 }
     requires tries { 0 < tries.old }

@@ -1,41 +1,33 @@
 //! The second part: what a search for it sees of a domino, and where turns lead.
 ghost use Rattle.std.specs.Prelude.{◌≡◌, ◌+◌, ◌^◌, ◌<◌, ◌≤◌, ℕ, All, Contains, IfErr, IfOk, IsTrue, List, Some, length, map, slice_get, slice_index};
 ghost use Rattle.std.specs.Option.{option_map};
-ghost use Rattle.scr_combinatorics.specs.Permutations.{IsPermutation, factorial, permutation_number};
+ghost use Rattle.scr_combinatorics.specs.Permutations.{IsPermutation, factorial};
+ghost use Rattle.scr_play.specs.Play.{play};
 ghost use Rattle.scr_coord.specs.Moves.{moves_coordinate};
 ghost use Rattle.scr_coord.specs.Projections.{projection, pieces_view};
 ghost use Rattle.scr_coord.specs.SearchSpaces.{ShowsSame};
+ghost use Rattle.scr_table.specs.Causes.{IsCauseOf};
+ghost use Rattle.scr_table.specs.Lines.{IsTableOf};
 ghost use Rattle.scr_cube.specs.Cube333.{CubeState};
 ghost use Rattle.scr_stages.specs.Numbers.{IsDominoCube};
-ghost use Rattle.scr_stages.specs.Stages.{middle_edges, tetrads_stage};
-ghost use Rattle.scr_stages.specs.Tables.{block_turn, edges_by, outer_places};
-ghost use Rattle.scr_stages.specs.Tetrads.{in_block};
-ghost use Rattle.scr_play.specs.Play.{play};
-ghost use Rattle.scr_table.specs.Lines.{IsTableOf};
+ghost use Rattle.scr_stages.specs.Stages.{tetrads_stage};
+ghost use Rattle.scr_stages.specs.Tables.{block_turn, edges_by};
 ghost use Rattle.scr_twophase.specs.Search.{ShowsSecond, IsSecondPosition, is_solved_position};
 ghost use Rattle.scr_twophase.specs.Tables.{corners_coordinate, outer_edges_coordinate, middle_edges_coordinate, cornerslice_line, edgeslice_line, prune_lines};
 ghost use Rattle.scr_twophase.specs.TwoParts.{after_turn, domino_turns, leads, is_orderly, is_solution, is_solved, joined};
 ghost use Rattle.scr_twophase.specs.Words.{words_behind, words_of};
 
 use crate::first::step;
-use crate::pruning::pair_table;
 use crate::turn_set::TurnSet;
 use crate::word::Word;
-use scr_coord::{Coord, Lists, MoveTable};
+use scr_coord::{Coord, Lists, MoveTable, Product};
 use scr_cube::Cube;
 use scr_rank::PermRank;
-use scr_stages::{block_edges_turned, corners_turned, pieces_in_block};
+use scr_stages::{
+    MIDDLE_EDGES, OUTER_EDGES, TETRADS_TURNS, block_edges_turned, block_number, corners_turned,
+};
 use scr_table::{BuildFault, DistanceTable, TableName};
 use std::alloc::{AllocError, Global};
-
-/// The numbers of the turns that keep a domino: U U2 U' R2 F2 D D2 D' L2 B2.
-const DOMINO_TURNS: [u8; 10] = [0, 1, 2, 4, 7, 9, 10, 11, 13, 16];
-
-/// The places of the edges above and below.
-const OUTER: [u8; 8] = [0, 1, 2, 3, 4, 5, 6, 7];
-
-/// The places of the edges of the middle layer.
-const MIDDLE: [u8; 4] = [8, 9, 10, 11];
 
 /// How many lists of the edges of the middle layer there are.
 const MIDDLES: u32 = 24;
@@ -61,8 +53,8 @@ impl SecondPosition {
         let edges = cube.edges();
         SecondPosition {
             corners: PermRank::<8>::rank(&cube.corners()) as u32,
-            outer: outer_number(&edges),
-            middle: middle_number(&edges),
+            outer: block_number(&OUTER_EDGES, &edges),
+            middle: block_number(&MIDDLE_EDGES, &edges),
         }
     }
 
@@ -76,6 +68,7 @@ impl SecondPosition {
 }
 
 /// What the search for a second part goes by: where turns lead, and the two pruning tables.
+#[derive(Drop)]
 pub(crate) struct SecondTables {
     corners: MoveTable,
     outer: MoveTable,
@@ -89,31 +82,34 @@ pub(crate) struct SecondTables {
     ghost edgeslice_is: { IsTableOf edgeslice_line edgeslice },
 }
 
-// A call wherever one is let go, in place of all that lets go of its parts.
-impl Drop for SecondTables {
-    fn drop(self) {
-        let SecondTables {
-            corners: _,
-            outer: _,
-            middle: _,
-            cornerslice: _,
-            edgeslice: _,
-        } = self;
-    }
-}
-
 impl SecondTables {
-    ghost use Rattle.scr_twophase.specs.Search.{letters, IsAtSecond, IsCauseOf};
+    ghost use Rattle.scr_twophase.specs.Search.{letters, IsAt};
 
     /// The tables, or why one isn't built.
     pub fn build(alloc: Global) -> Result<SecondTables, BuildFault>
         ensures cause { IfErr result (IsCauseOf prune_lines) }
     {
         let corners = corner_moves(alloc)?;
-        let outer = edge_moves(alloc, &OUTER)?;
-        let middle = edge_moves(alloc, &MIDDLE)?;
-        let cornerslice = pair_table(alloc, TableName::CornerSlice, &middle, &corners, 18)?;
-        let edgeslice = pair_table(alloc, TableName::EdgeSlice, &middle, &outer, 18)?;
+        let outer = edge_moves(alloc, &OUTER_EDGES)?;
+        let middle = edge_moves(alloc, &MIDDLE_EDGES)?;
+        let cornerslice = DistanceTable::build(
+            alloc,
+            TableName::CornerSlice,
+            &Product {
+                low: &middle,
+                high: &corners,
+            },
+            18,
+        )?;
+        let edgeslice = DistanceTable::build(
+            alloc,
+            TableName::EdgeSlice,
+            &Product {
+                low: &middle,
+                high: &outer,
+            },
+            18,
+        )?;
         Ok(SecondTables {
             corners,
             outer,
@@ -145,7 +141,7 @@ impl SecondTables {
         requires at { IsSecondPosition at }
         requires orderly { IsTrue (is_orderly (letters word.now)) }
         requires few { length (letters word.now) + left ≤ 22 }
-        ensures { (c : CubeState) → IsAtSecond c (letters word.now) at
+        ensures { (c : CubeState) → IsAt ShowsSecond c (letters word.now) at
             → option_map letters result ≡ slice_get (words_behind domino_turns (is_solution c) (letters word.now) left) 0 }
     {
         if self.least_turns(at) > left {
@@ -156,7 +152,7 @@ impl SecondTables {
         }
         let behind = TurnSet::behind(word);
         for place in 0..10 {
-            let turn = DOMINO_TURNS[place];
+            let turn = TETRADS_TURNS[place];
             if behind.has(turn) {
                 let next = self.after(at, place as u32);
                 if let Some(solution) = self.solution_behind(next, &word.with(turn), left - 1) {
@@ -196,31 +192,11 @@ impl SecondTables {
     }
 }
 
-/// The number of the list of the edges at the eight places above and below, all of which are of these.
-fn outer_number(edges: &[u8; 12]) -> u32
-    requires { IsPermutation 8 (in_block outer_places edges.now) }
-    ensures { result ≡ permutation_number (in_block outer_places edges.now) }
-{
-    let mut pieces = [0; 8];
-    pieces_in_block(&edges[..], &OUTER[..], &mut pieces[..]);
-    PermRank::<8>::rank(&pieces) as u32
-}
-
-/// The number of the list of the edges at the four places of the middle layer, all of which are of these.
-fn middle_number(edges: &[u8; 12]) -> u32
-    requires { IsPermutation 4 (in_block middle_edges edges.now) }
-    ensures { result ≡ permutation_number (in_block middle_edges edges.now) }
-{
-    let mut pieces = [0; 4];
-    pieces_in_block(&edges[..], &MIDDLE[..], &mut pieces[..]);
-    PermRank::<4>::rank(&pieces) as u32
-}
-
 /// Where the ten turns lead from the lists of corners.
 fn corner_moves(alloc: Global) -> Result<MoveTable, AllocError>
     ensures { IfOk result (λ table. ShowsSame corners_coordinate (moves_coordinate table)) }
 {
-    MoveTable::build(alloc, &Lists::<8>::new(&corners_turned(&DOMINO_TURNS)[..]))
+    MoveTable::build(alloc, &Lists::<8>::new(&corners_turned(&TETRADS_TURNS)[..]))
 }
 
 /// Where they lead from the lists of the edges of a block of 1 to 12 places, among which they carry these.
@@ -234,6 +210,6 @@ fn edge_moves<const N: usize>(alloc: Global, block: &[u8; N]) -> Result<MoveTabl
 {
     MoveTable::build(
         alloc,
-        &Lists::<N>::new(&block_edges_turned(block, &DOMINO_TURNS)[..]),
+        &Lists::<N>::new(&block_edges_turned(block, &TETRADS_TURNS)[..]),
     )
 }

@@ -1,7 +1,8 @@
 //! The pruning tables, as callers see them.
-ghost use Rattle.std.specs.Prelude.{◌≡◌, ◌↔◌, map, Any, IfOk, IfErr, IfSome, IsSome};
+ghost use Rattle.std.specs.Prelude.{◌≡◌, ◌↔◌, map, IfOk, IfErr, IfSome, IsSome};
+ghost use Rattle.scr_table.specs.Causes.{IsCauseOf};
+ghost use Rattle.scr_table.specs.Lines.{AreTablesOf, HasNamed, IsNamed};
 ghost use Rattle.scr_twophase.specs.Tables.{prune_lines};
-ghost use Rattle.scr_twophase.specs.Built.{AreBuilt, listed};
 
 use crate::first::FirstTables;
 use crate::search::PartTables;
@@ -11,45 +12,31 @@ use std::alloc::Global;
 use std::marker::Model;
 
 /// The pruning tables of both parts, with the moves by which a search goes.
+#[derive(Drop)]
 pub struct PruneTables {
     pub(crate) parts: PartTables,
 }
 
-// A call wherever the tables are let go, in place of all that lets go of their parts.
-impl Drop for PruneTables {
-    fn drop(self) {
-        let PruneTables { parts: _ } = self;
-    }
-}
-
 // Clauses see what stands in the tables.
 impl Model for PruneTables {
-    ghost use Rattle.scr_twophase.specs.Built.{BuiltPruning, AreBuilt};
+    ghost use Rattle.std.specs.Prelude.{List};
+    ghost use Rattle.scr_table.specs.Distances.{Distances};
+    ghost use Rattle.scr_table.specs.Lines.{AreTablesOf};
+    ghost use Rattle.scr_twophase.specs.Tables.{prune_lines};
+    ghost use Rattle.scr_twophase.specs.Built.{distances_of};
 
-    ghost Value = { BuiltPruning };
+    ghost Value = { List Distances };
 
-    ghost view = { λ t. record {
-      flipslice = t.parts.first.flipslice.distances;
-      twistslice = t.parts.first.twistslice.distances;
-      cornerslice = t.parts.second.cornerslice;
-      edgeslice = t.parts.second.edgeslice;
-    } };
+    ghost view = { λ t. distances_of t.parts };
 
-    ghost invariant = { λ t. AreBuilt (record {
-      flipslice = t.parts.first.flipslice.distances;
-      twistslice = t.parts.first.twistslice.distances;
-      cornerslice = t.parts.second.cornerslice;
-      edgeslice = t.parts.second.edgeslice;
-    }) };
+    ghost invariant = { λ t. AreTablesOf prune_lines (distances_of t.parts) };
 }
 
 impl PruneTables {
-    ghost use Rattle.scr_twophase.specs.Search.{IsCauseOf};
-
     /// The tables `flipslice`, `twistslice`, `cornerslice` and `edgeslice`, built in this order, or why one isn't:
     /// there is no memory for it, or it has a gap, which its line rules out where the bounds are right.
     pub fn build(alloc: Global) -> Result<PruneTables, BuildFault>
-        ensures built { IfOk result AreBuilt }
+        ensures built { IfOk result (AreTablesOf prune_lines) }
         ensures cause { IfErr result (IsCauseOf prune_lines) }
     {
         let first = FirstTables::build(alloc)?;
@@ -61,18 +48,17 @@ impl PruneTables {
 
     /// The built table of this name. `None` comes exactly where none of the four has it.
     pub fn table(&self, name: TableName) -> Option<&DistanceTable>
-        ensures found { IsSome result ↔ Any (λ table. table.name ≡ name) (listed self.now) }
-        ensures value { IfSome result (λ table.
-            Any (λ other. (other.name ≡ name) × (table.now ≡ other)) (listed self.now)) }
-        ensures built { AreBuilt self.now }
+        ensures found { IsSome result ↔ HasNamed self.now name }
+        ensures value { IfSome result (λ found. IsNamed self.now name found.now) }
+        ensures built { AreTablesOf prune_lines self.now }
     {
         table_named(&self.all()[..], name)
     }
 
     /// The four tables, in the order in which they are built.
     pub fn all(&self) -> [&DistanceTable; 4]
-        ensures same { map (λ table. table.now) result ≡ listed self.now }
-        ensures built { AreBuilt self.now }
+        ensures same { map (λ table. table.now) result ≡ self.now }
+        ensures built { AreTablesOf prune_lines self.now }
     {
         [
             &self.parts.first.flipslice.distances,

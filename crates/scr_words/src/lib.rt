@@ -16,6 +16,3 @@ pub use chacha::ChaChaWords;
 pub use list::ListWords;
 pub use seed::{Seed, SeedFault, read_seed};
 pub use words::Words;
-
-#[cfg(test)]
-mod tests;

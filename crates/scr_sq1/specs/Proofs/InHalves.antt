@@ -95,42 +95,27 @@ previous_unit-inside j lt inside =
     cond-false (suc j == 0) 11 (cond (suc j == 12) 23 (suc j - 1)) (ne_eqb (suc j) 0 (λ e. omega arith))
     ∙ cond-false (suc j == 12) 23 (suc j - 1) (ne_eqb (suc j) 12 (λ e. omega arith)) ∙ omega arith
 
--- the last units of the halves
-module _ (P : ℕ → Type 0) (top_right : P 5) (top_left : P 11) (bottom_right : P 17) (bottom_left : P 23) where
-  by_last : (k : ℕ) → k < 24 → 5 ≤ k % 6 → P k
-  by_last k lt last =
-      elim (cases_eq k 5) [
+-- the units that are so far on in their halves
+module _ (P : ℕ → Type 0) (d : ℕ) (top_right : P d) (top_left : P (6 + d)) (bottom_right : P (12 + d)) (bottom_left : P (18 + d)) where
+  by_half : (k : ℕ) → k < 24 → k % 6 ≡ d → P k
+  by_half k lt there =
+      elim (cases_eq k d) [
         | inl e ↦ subst P (sym e) top_right
-        | inr a ↦ elim (cases_eq k 11) [
+        | inr a ↦ elim (cases_eq k (6 + d)) [
           | inl e ↦ subst P (sym e) top_left
-          | inr b ↦ elim (cases_eq k 17) [
+          | inr b ↦ elim (cases_eq k (12 + d)) [
             | inl e ↦ subst P (sym e) bottom_right
-            | inr c ↦ subst P {x = 23} (omega arith) bottom_left
-          ]
-        ]
-      ]
-
--- the first units
-module _ (P : ℕ → Type 0) (top_right : P 0) (top_left : P 6) (bottom_right : P 12) (bottom_left : P 18) where
-  by_first : (k : ℕ) → k < 24 → k % 6 ≡ 0 → P k
-  by_first k lt first =
-      elim (cases_eq k 0) [
-        | inl e ↦ subst P (sym e) top_right
-        | inr a ↦ elim (cases_eq k 6) [
-          | inl e ↦ subst P (sym e) top_left
-          | inr b ↦ elim (cases_eq k 12) [
-            | inl e ↦ subst P (sym e) bottom_right
-            | inr c ↦ subst P {x = 18} (omega arith) bottom_left
+            | inr c ↦ subst P {x = 18 + d} (omega arith) bottom_left
           ]
         ]
       ]
 
 module _ (s : Sq1State) (h : IsSq1 s) where
   -- no corner goes on across the cut
-  not_behind : (k : ℕ) → k < 24 → 5 ≤ k % 6 → slice_index s.units k < 8 → slice_index s.units (next_unit k) ≡ slice_index s.units k → ⊥
+  not_behind : (k : ℕ) → k < 24 → k % 6 ≡ 5 → slice_index s.units k < 8 → slice_index s.units (next_unit k) ≡ slice_index s.units k → ⊥
   not_behind =
       let o = IsOpen-test s.units h.opened in
-      by_last (λ k. slice_index s.units k < 8 → slice_index s.units (next_unit k) ≡ slice_index s.units k → ⊥)
+      by_half (λ k. slice_index s.units k < 8 → slice_index s.units (next_unit k) ≡ slice_index s.units k → ⊥) 5
       (λ c e. o.top_front (one_corner s.units 5 6 c e))
       (λ c e. o.top_back (one_corner s.units 11 0 c e))
       (λ c e. o.bottom_back (one_corner s.units 17 18 c e))
@@ -139,7 +124,7 @@ module _ (s : Sq1State) (h : IsSq1 s) where
   not_before : (k : ℕ) → k < 24 → k % 6 ≡ 0 → slice_index s.units k < 8 → slice_index s.units (previous_unit k) ≡ slice_index s.units k → ⊥
   not_before =
       let o = IsOpen-test s.units h.opened in
-      by_first (λ k. slice_index s.units k < 8 → slice_index s.units (previous_unit k) ≡ slice_index s.units k → ⊥)
+      by_half (λ k. slice_index s.units k < 8 → slice_index s.units (previous_unit k) ≡ slice_index s.units k → ⊥) 0
       (λ c e. o.top_back (one_corner s.units 11 0 (omega arith) (sym e)))
       (λ c e. o.top_front (one_corner s.units 5 6 (omega arith) (sym e)))
       (λ c e. o.bottom_front (one_corner s.units 23 12 (omega arith) (sym e)))
@@ -149,7 +134,7 @@ module _ (s : Sq1State) (h : IsSq1 s) where
   behind k lt corner e =
       elim (cases_lt (k % 6) 5) [
         | inl inside ↦ inl (inside, ap (λ i. slice_index s.units i) (sym (next_unit-inside k lt inside)) ∙ e)
-        | inr last ↦ absurd (not_behind k lt last corner e)
+        | inr last ↦ absurd (not_behind k lt (omega arith) corner e)
       ]
 
   before : (k : ℕ) → k < 24 → slice_index s.units k < 8 → slice_index s.units (previous_unit k) ≡ slice_index s.units k → HasPartner s.units k

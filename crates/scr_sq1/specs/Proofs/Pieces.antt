@@ -87,30 +87,23 @@ StatePieces-valid s h = StatePieces-halves s.units (InHalves-valid s h)
 
 -- ---- the units of pieces
 
-pub corners_among-shape : (hs : List ℕ) → All (λ h. h < 13) hs → corners_among (shape_word hs) ≡ total (map corner_count hs)
-unfolding shape_word
-corners_among-shape [] below = refl
-corners_among-shape (h ∷ hs) below =
-    let known = IsKnownHalf-below h (All-head (λ x. x < 13) h hs below) in
-    omega (
-      arith,
-      corners_among-append (half_word h) (shape_word hs),
-      known.corners,
-      corners_among-shape hs (All-tail (λ x. x < 13) h hs below),
-    )
+-- how many corners and how many units the pieces of some halves have
+pub record AreCounted (hs : List ℕ) : Type 0 where
+  pub corners : corners_among (shape_word hs) ≡ total (map corner_count hs)
+  pub units : units_among (shape_word hs) ≡ 6 * length hs
 
-pub units_among-shape : (hs : List ℕ) → All (λ h. h < 13) hs → units_among (shape_word hs) ≡ 6 * length hs
+pub AreCounted-halves : (hs : List ℕ) → All (λ h. h < 13) hs → AreCounted hs
 unfolding shape_word
-units_among-shape [] below = refl
-units_among-shape (h ∷ hs) below =
+AreCounted-halves [] below = record { corners = refl; units = refl }
+AreCounted-halves (h ∷ hs) below =
     let known = IsKnownHalf-below h (All-head (λ x. x < 13) h hs below) in
-    omega (
-      arith,
-      corners_among-append (half_word h) (shape_word hs),
-      edges_among-append (half_word h) (shape_word hs),
-      known.six,
-      units_among-shape hs (All-tail (λ x. x < 13) h hs below),
-    )
+    let others = AreCounted-halves hs (All-tail (λ x. x < 13) h hs below) in
+    let corners = corners_among-append (half_word h) (shape_word hs) in
+    let edges = edges_among-append (half_word h) (shape_word hs) in
+    record {
+      corners = omega (arith, corners, known.corners, others.corners);
+      units = omega (arith, corners, edges, known.six, others.units);
+    }
 
 -- a shape's pieces
 pub record LaidState (hs cs es : List ℕ) : Type 0 where
@@ -124,8 +117,9 @@ pub LaidState-pieces : (hs cs es : List ℕ) → IsShape hs → IsPermutation 8 
 unfolding shape_of
 LaidState-pieces hs cs es shape corners edges =
     let w = shape_word hs in
-    let all_corners : corners_among w ≡ 8 = corners_among-shape hs shape.below ∙ shape.corners in
-    let all_units : units_among w ≡ 24 = omega (arith, units_among-shape hs shape.below, shape.size) in
+    let counted = AreCounted-halves hs shape.below in
+    let all_corners : corners_among w ≡ 8 = counted.corners ∙ shape.corners in
+    let all_units : units_among w ≡ 24 = omega (arith, counted.units, shape.size) in
     let fits : Fits w cs es = record { corners = all_corners ∙ sym corners.size; edges = omega (arith, all_corners, all_units, edges.size) } in
     let below = All-permutation 8 cs corners in
     let units = ShapeUnits-laid hs cs es shape.below below fits in

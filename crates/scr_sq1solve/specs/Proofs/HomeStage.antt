@@ -255,10 +255,10 @@ abbrev pub square_space : SearchSpace Sq1State
 square_space = stage_space IsPairedSq1 32 home_letter (EndsIn HasSolvedLayers quarter_words)
 
 pub Follows-square : Follows square_space (positions square_coordinate) square_index
-Follows-square = Follows-index IsPairedSq1 73728 square_index square_state 32 home_letter HasSolvedLayers quarter_words IsIndex-square
+Follows-square = Follows-index IsIndex-square
 
 pub StaysBelow-square : StaysBelow square_coordinate
-StaysBelow-square = StaysBelow-index IsPairedSq1 73728 square_index square_state 32 home_letter HasSolvedLayers quarter_words IsIndex-square
+StaysBelow-square = StaysBelow-index IsIndex-square
 
 -- ---- exactly one turn by quarters brings the layers home
 

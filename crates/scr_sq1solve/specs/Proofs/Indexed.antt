@@ -42,8 +42,8 @@ pub record IsIndex (IsValid : Sq1State → Type 0) (count : ℕ) (index_of : Sq1
   pub ended : (s r : Sq1State) (w : List Turn) → IsValid s → Any (λ other. other ≡ w) ends → play sq1_after s w ≡ Some r
       → IsEnd r ↔ (index_of r ≡ index_of solved_sq1)
 
-module _ (IsValid : Sq1State → Type 0) (count : ℕ) (index_of : Sq1State → ℕ) (state_at : ℕ → Sq1State) (letters : ℕ)
-    (letter : ℕ → List Turn) (IsEnd : Sq1State → Type 0) (ends : List (List Turn))
+module _ {IsValid : Sq1State → Type 0} {count : ℕ} {index_of : Sq1State → ℕ} {state_at : ℕ → Sq1State} {letters : ℕ}
+    {letter : ℕ → List Turn} {IsEnd : Sq1State → Type 0} {ends : List (List Turn)}
     (h : IsIndex IsValid count index_of state_at letters letter IsEnd ends) where
   -- a guard before two words that do the same
   guarded_alike : (b : Bool) (o p : Option Sq1State) → option_map index_of o ≡ option_map index_of p

@@ -1,18 +1,14 @@
 -- The test of a minimum is exact, and so is a search that leaves out turns of the layers right after each other, and twists.
-use Rattle.std.proofs.Common.{◌≡◌, ℕ, zero, suc, ◌+◌, ◌%◌, ◌/◌, ◌<◌, ◌≤◌, inl, inr, Bool, true, false, IsTrue, cond, List, [], ◌∷◌, length, Option, Some, None, refl, sym, ap, ◌∙◌, subst, arith, eq-eqb, eqb-true}
-use Rattle.std.specs.Prelude.{◌↔◌, All, ◌==◌, ◌&&◌, ◌||◌, not, nat_lt, ℤ, pos, ◌+ℤ◌, ◌-ℤ◌}
-use Rattle.std.specs.List.{list_any}
-use Rattle.std.proofs.lemmas.Bool.{cases_eq, cases_lt, cond-true, cond-false, lt-ltb, ne_eqb, and_parts, or_cases, false≢true}
-use Rattle.std.proofs.lemmas.List.Folds.{list_any_at, Any-from_list_any}
-use Rattle.scr_combinatorics.specs.Lists.{numbers_from, pick}
+use Rattle.std.proofs.Common.{◌≡◌, ℕ, suc, ◌+◌, ◌%◌, ◌/◌, ◌<◌, ◌≤◌, inl, inr, Bool, true, false, IsTrue, cond, List, [], ◌∷◌, length, Option, Some, None, refl, sym, ap, ◌∙◌, subst, arith, eq-eqb, eqb-true}
+use Rattle.std.specs.Prelude.{◌↔◌, All, ◌==◌, ◌&&◌, not, nat_lt, ℤ, pos, ◌+ℤ◌, ◌-ℤ◌}
+use Rattle.std.proofs.lemmas.Bool.{cases_eq, cases_lt, cond-true, cond-false, lt-ltb, ne_eqb, and_parts, false≢true}
+use Rattle.scr_combinatorics.specs.Lists.{pick}
 use Rattle.scr_combinatorics.specs.Permutations.{IsPermutation}
 use Rattle.scr_combinatorics.proofs.PermutationLaws.{All-permutation}
-use Rattle.scr_combinatorics.proofs.Picks.{numbers_from-at, length-numbers_from, pick-pick}
+use Rattle.scr_combinatorics.proofs.Picks.{pick-pick}
 use Rattle.scr_play.specs.Play.{play, count_in}
 use Rattle.scr_play.specs.Reach.{IsReached, Needs}
-use Rattle.scr_play.specs.FirstWord.{LeadsTo}
-use Rattle.scr_play.proofs.PlayLaws.{play-empty, play-first, play-one, play-parts, Needs-zero}
-use Rattle.scr_play.proofs.FirstWordLaws.{IsGoal-empty, LeadsTo-cons, LeadsTo-parts}
+use Rattle.scr_play.proofs.PlayLaws.{play-empty, play-first, play-one, play-parts}
 use Rattle.scr_notation.specs.declared.event.Kind.TheVariants.{LayersAndTwist}
 use Rattle.scr_notation.specs.declared.turn.Turn.{Turn}
 use Rattle.scr_notation.specs.declared.turn.Turn.TheVariants.{Layers, Twist}
@@ -21,14 +17,15 @@ use Rattle.scr_notation.specs.TurnNumbers.{layer_turn_at, turn_at}
 use Rattle.scr_notation.proofs.Below.{same}
 use Rattle.scr_notation.proofs.LayersLaws.{AreTwelfths-twelfths, IsTwelfths, are_still-first, are_still-second, layers_of_parts, twelfths-own}
 use Rattle.scr_notation.proofs.NumberLaws.{numbered, has_turn_at}
-use Rattle.scr_table.specs.Moves.{turned as number_turned, IsSolved, NeedsTurns, NeverHelps, HasWordWithin}
-use Rattle.scr_table.proofs.MovesLaws.{turned-turn, HasWordWithin-solved}
+use Rattle.scr_table.specs.Moves.{turned as number_turned, NeedsTurns, NeverHelps}
+use Rattle.scr_table.proofs.MovesLaws.{turned-turn}
 use Rattle.scr_table.proofs.StepLaws.{taken_where}
+use Rattle.scr_table.specs.TriedWords.{needs_test-iff as tried-iff}
 use Rattle.scr_sq1.specs.Units.{Sq1State, IsSq1, is_open, after_layers, solved_sq1, clockwise, turn_places, turned, twisted, sq1_after, sq1_puzzle}
 use Rattle.scr_sq1.proofs.Places.{IsTurnTable-turn, turn_places-both, turn_places-none}
 use Rattle.scr_sq1.proofs.Clockwise.{clockwise-lt, clockwise-twelfths, clockwise-sum}
 use Rattle.scr_sq1.proofs.Lawful.{pick_nothing, sq1_after-layers, sq1_after-by_layers, sq1_after-twist, twisted-twice, IsLawful-sq1, IsSq1-reached}
-use Rattle.scr_sq1solve.specs.Minima.{is_solved, sq1_moves, passes, leads_within, needs_test}
+use Rattle.scr_sq1solve.specs.Minima.{is_solved, sq1_moves, needs_test}
 use Rattle.scr_sq1solve.specs.Proofs.PairedLists.{same-true}
 
 -- ---- solved states
@@ -210,70 +207,11 @@ NeedsTurns-iff s least valid = (
 
 -- ---- the test
 
-any_number : (p : ℕ → Bool) (n t : ℕ) → t < n → IsTrue (p t) → IsTrue (list_any p (numbers_from 0 n))
-any_number p n t lt passed =
-    list_any_at p (numbers_from 0 n) t 0 (omega (arith, lt, length-numbers_from 0 n))
-    (ap p {y = t} (omega (arith, numbers_from-at 0 n t lt)) ∙ passed)
-
-number_of_any : (p : ℕ → Bool) (n : ℕ) → IsTrue (list_any p (numbers_from 0 n)) → (t : ℕ) × IsTrue (p t)
-number_of_any p n any = let found = Any-from_list_any p (numbers_from 0 n) any in (found.1, found.4)
-
-passed : (test : Sq1State → Bool) (o : Option Sq1State) → IsTrue (passes test o) → (r : Sq1State) × (o ≡ Some r) × IsTrue (test r)
-passed test None t = absurd (false≢true t)
-passed test (Some r) t = (r, refl, t)
-
-or_second : (a b : Bool) → IsTrue b → IsTrue (a || b)
-or_second true b t = refl
-or_second false b t = t
-
-or_first : (a b : Bool) → IsTrue a → IsTrue (a || b)
-or_first true b t = refl
-or_first false b t = absurd (false≢true t)
-
-word-leads : (n : ℕ) (s : Sq1State) → IsTrue (leads_within n s) → HasWordWithin sq1_moves s n
-unfolding leads_within
-word-leads zero s t = HasWordWithin-solved sq1_moves s 0 t
-word-leads (suc n) s t =
-    let tries : ℕ → Bool = λ turn. passes (leads_within n) (number_turned sq1_moves s turn) in
-    elim (or_cases (is_solved s) (list_any tries (numbers_from 0 144)) t) [
-      | inl here ↦ HasWordWithin-solved sq1_moves s (suc n) here
-      | inr later ↦
-          let found = number_of_any tries 144 later in
-          let made = passed (leads_within n) (number_turned sq1_moves s found.0) found.1 in
-          let rest = word-leads n made.0 made.2 in
-          (found.0 ∷ rest.0, LeadsTo-cons (number_turned sq1_moves) (IsSolved sq1_moves) s made.0 found.0 rest.0 made.1 rest.1, omega (arith, rest.2))
-    ]
-
-leads-word : (n : ℕ) (s : Sq1State) (w : List ℕ) → LeadsTo (number_turned sq1_moves) (IsSolved sq1_moves) s w → length w ≤ n → IsTrue (leads_within n s)
-unfolding leads_within
-leads-word zero s [] l le = IsGoal-empty (number_turned sq1_moves) (IsSolved sq1_moves) s l
-leads-word zero s (t ∷ w) l le = absurd (omega arith)
-leads-word (suc n) s [] l le =
-    or_first (is_solved s) (list_any (λ turn. passes (leads_within n) (number_turned sq1_moves s turn)) (numbers_from 0 144))
-    (IsGoal-empty (number_turned sq1_moves) (IsSolved sq1_moves) s l)
-leads-word (suc n) s (t ∷ w) l le =
-    let tries : ℕ → Bool = λ turn. passes (leads_within n) (number_turned sq1_moves s turn) in
-    let parts = LeadsTo-parts (number_turned sq1_moves) (IsSolved sq1_moves) s t w l in
-    let rest = leads-word n parts.0 w parts.2 (omega arith) in
-    or_second (is_solved s) (list_any tries (numbers_from 0 144))
-    (any_number tries 144 t (IsMoved-turned s parts.0 t parts.1).below (ap (passes (leads_within n)) parts.1 ∙ rest))
-
-none_found : (b : Bool) → (IsTrue b → ⊥) → IsTrue (not b)
-none_found true no_word = absurd (no_word refl)
-none_found false no_word = refl
-
 pub needs_test-iff : (s : Sq1State) (least : ℕ) → IsSq1 s → IsTrue (needs_test s least) ↔ Needs sq1_puzzle s least
-unfolding needs_test
-needs_test-iff s zero valid = (λ t. Needs-zero sq1_puzzle s, λ n. refl)
-needs_test-iff s (suc fewer) valid = (
-  λ t. (NeedsTurns-iff s (suc fewer) valid).0 (λ w l. elim (cases_lt (length w) (suc fewer)) [
-    | inl short ↦ absurd (false≢true (sym (ap not (leads-word fewer s w l (omega arith))) ∙ t))
-    | inr le ↦ le
-  ]),
-  λ needs. none_found (leads_within fewer s) (λ t.
-      let word = word-leads fewer s t in
-      omega (arith, word.2, (NeedsTurns-iff s (suc fewer) valid).1 needs word.0 word.1)),
-)
+needs_test-iff s least valid =
+    let tried = tried-iff 144 (number_turned sq1_moves) is_solved (λ r q t e. (turned-turn sq1_moves r q t e).0) s least in
+    let same = NeedsTurns-iff s least valid in
+    (λ t. same.0 (tried.0 t), λ needs. tried.1 (same.1 needs))
 
 -- of a state that turns reach
 pub needs-reached : (s : Sq1State) (least : ℕ) → IsReached sq1_puzzle s → IsTrue (needs_test s least) ↔ Needs sq1_puzzle s least
@@ -298,9 +236,3 @@ after-number s n o valid lt apart made =
     ∙ sym (cond-true (length s.units == 24) (sq1_after s (layer_turn_at n)) None (eq-eqb (length s.units) 24 valid.size)
     ∙ ap (sq1_after s) (layers_number n apart)
     ∙ cond-true (is_layer_turn (Layers (top_of n) (bottom_of n))) (after_layers s (top_of n) (bottom_of n)) None letter)
-
--- two truths that hold of the same are the same
-pub same_truth : (P : Type 0) (a b : Bool) → IsTrue a ↔ P → IsTrue b ↔ P → a ≡ b
-same_truth P true b f g = sym (g.1 (f.0 refl))
-same_truth P false true f g = f.1 (g.0 refl)
-same_truth P false false f g = refl

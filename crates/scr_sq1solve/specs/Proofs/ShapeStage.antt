@@ -138,10 +138,10 @@ abbrev pub shapes_space : SearchSpace Sq1State
 shapes_space = stage_space IsSq1 144 shape_letter (EndsIn IsNormal squaring_words)
 
 pub Follows-shapes : Follows shapes_space (positions shapes_coordinate) shapes_index
-Follows-shapes = Follows-index IsSq1 7356 shapes_index shapes_state 144 shape_letter IsNormal squaring_words IsIndex-shapes
+Follows-shapes = Follows-index IsIndex-shapes
 
 pub StaysBelow-shapes : StaysBelow shapes_coordinate
-StaysBelow-shapes = StaysBelow-index IsSq1 7356 shapes_index shapes_state 144 shape_letter IsNormal squaring_words IsIndex-shapes
+StaysBelow-shapes = StaysBelow-index IsIndex-shapes
 
 -- ---- exactly one turn makes the end normal
 

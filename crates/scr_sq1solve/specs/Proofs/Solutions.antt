@@ -1,5 +1,5 @@
 -- Where the tables are built, each state has exactly one solution, which leads to solved.
-use Rattle.std.proofs.Common.{◌≡◌, ℕ, Bool, true, false, cond, List, [], ◌++◌, Option, Some, refl, sym, ap, ◌∙◌, subst, append_assoc, arith}
+use Rattle.std.proofs.Common.{◌≡◌, ℕ, Bool, true, false, cond, List, [], ◌++◌, Option, Some, refl, sym, ap, ◌∙◌, subst, append_assoc, arith, lit<}
 use Rattle.std.specs.Prelude.{not}
 use Rattle.scr_play.specs.Play.{play}
 use Rattle.scr_play.specs.Back.{back}
@@ -9,11 +9,12 @@ use Rattle.scr_play.proofs.PlayLaws.{play-append}
 use Rattle.scr_notation.specs.declared.turn.Turn.{Turn}
 use Rattle.scr_notation.specs.Turning.{opposite, turn_merging}
 use Rattle.scr_table.specs.Distances.{Distances}
-use Rattle.scr_table.specs.Lines.{IsTableOf}
+use Rattle.scr_table.specs.Lines.{IsTableOf, AreTablesOf}
+use Rattle.scr_table.proofs.LineLaws.{table_of_line}
 use Rattle.scr_sq1.specs.Units.{Sq1State, IsSq1, solved_sq1, sq1_after, sq1_puzzle}
 use Rattle.scr_sq1.proofs.Lawful.{sq1_taken_back, sq1_kept_by_tidy}
 use Rattle.scr_sq1solve.specs.Stages.{Stage, after_letter, turns_of, IsStageWord, IsEnd, EndsIn, IsNormal, HasSolvedLayers, squaring_words, quarter_words, shape_letter, pairing_letter, home_letter, shape_stage, pairing_stage, home_stage, equator_word, IsSolution, IsScrambleSq1}
-use Rattle.scr_sq1solve.specs.Tables.{shapes_line, pairings_line, square_line, shapes_coordinate, pairings_coordinate, square_coordinate, shapes_index, square_index}
+use Rattle.scr_sq1solve.specs.Tables.{shapes_line, pairings_line, square_line, sq1_lines, shapes_coordinate, pairings_coordinate, square_coordinate, shapes_index, square_index}
 use Rattle.scr_sq1solve.specs.Proofs.Bases.{keeps_sq1}
 use Rattle.scr_sq1solve.specs.Proofs.ShapeStage.{Follows-shapes, StaysBelow-shapes, one_squaring}
 use Rattle.scr_sq1solve.specs.Proofs.Letters.{IsNormalSq1}
@@ -110,8 +111,8 @@ module _ (s : Sq1State) (valid : IsSq1 s) (w : List Turn) (h : IsSolution s w) w
 -- ---- there is one
 
 module _ (shapes pairings square : Distances) (a : IsTableOf shapes_line shapes) (b : IsTableOf pairings_line pairings) (c : IsTableOf square_line square) where
-  pub solution : (s : Sq1State) → IsSq1 s → (w : List Turn) × IsSolution s w
-  solution s valid =
+  solution_by : (s : Sq1State) → IsSq1 s → (w : List Turn) × IsSolution s w
+  solution_by s valid =
       let first = stage_word shape_stage IsSq1 shapes_coordinate shapes_index Follows-shapes shapes StaysBelow-shapes a.measures (omega (arith, a.bound)) s valid in
       let squared : Sq1State = first.1.first.leads.end in
       let squared_valid = end_valid shape_stage IsSq1 shapes_coordinate shapes_index Follows-shapes s first.0 valid first.1 in
@@ -146,6 +147,15 @@ module _ (shapes pairings square : Distances) (a : IsTableOf shapes_line shapes)
           joined = refl;
         },
       )
+
+module _ (tables : List Distances) (built : AreTablesOf sq1_lines tables) where
+  pub solution : (s : Sq1State) → IsSq1 s → (w : List Turn) × IsSolution s w
+  solution s valid =
+      let table = table_of_line sq1_lines tables built in
+      let shapes = table shapes_line (0, lit< tt, refl) in
+      let pairings = table pairings_line (1, lit< tt, refl) in
+      let square = table square_line (2, lit< tt, refl) in
+      solution_by shapes.0 pairings.0 square.0 shapes.1 pairings.1 square.1 s valid
 
   -- so turns reach exactly the valid states
   pub IsReached-sq1 : (s : Sq1State) → IsSq1 s → IsReached sq1_puzzle s

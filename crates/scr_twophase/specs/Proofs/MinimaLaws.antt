@@ -1,28 +1,29 @@
 -- The test of a minimum is exact.
-use Rattle.std.proofs.Common.{◌≡◌, ℕ, zero, suc, ◌+◌, ◌<◌, ◌≤◌, Bool, true, false, cond, not, IsTrue, List, [], ◌∷◌, map, length, get_or, inl, inr, Option, Some, None, refl, sym, ap, ◌∙◌, subst, arith}
+use Rattle.std.proofs.Common.{◌≡◌, ℕ, zero, suc, ◌+◌, ◌<◌, Bool, true, false, cond, IsTrue, List, [], ◌∷◌, map, length, get_or, inl, inr, Option, Some, None, refl, sym, ap, ◌∙◌, subst, arith}
 use Rattle.std.specs.Prelude.{All, Contains, ◌↔◌, nat_lt, option_and_then}
-use Rattle.std.specs.List.{flat_map, list_any}
-use Rattle.std.proofs.lemmas.Bool.{false≢true, cases_lt, ltb-false}
+use Rattle.std.specs.List.{flat_map}
+use Rattle.std.proofs.lemmas.Bool.{cases_lt, ltb-false}
 use Rattle.std.proofs.lemmas.List.{length-map, get_or-map, get_or_default}
-use Rattle.std.proofs.lemmas.List.Elements.{All-nil, All-cons, All-head, All-tail, All-weaker, All-contains, All-from_get_or, Contains-append_left, Contains-append_right}
-use Rattle.std.proofs.lemmas.List.Folds.{Any-from_list_any, list_any-from_Any}
+use Rattle.std.proofs.lemmas.List.Elements.{All-nil, All-cons, All-head, All-tail, All-contains, All-from_get_or, Contains-append_left, Contains-append_right}
 use Rattle.scr_combinatorics.specs.Lists.{numbers_from}
 use Rattle.scr_combinatorics.proofs.Picks.{length-numbers_from, numbers_from-at, length-pick, All-pick}
 use Rattle.scr_play.specs.Play.{play}
 use Rattle.scr_play.specs.Reach.{Needs}
-use Rattle.scr_play.proofs.PlayLaws.{play-empty, play-first, play-parts, Needs-zero}
+use Rattle.scr_play.proofs.PlayLaws.{play-empty, play-first, play-parts}
 use Rattle.scr_orbit.proofs.Minima.{count_once}
 use Rattle.scr_notation.specs.declared.turn.Turn.{Turn}
 use Rattle.scr_notation.specs.TurnNumbers.{face_turn_at}
 use Rattle.scr_turning.specs.PowerPuzzles.{after_letter, power_puzzle}
 use Rattle.scr_cube.specs.Cube333.{CubeState, cube_powers}
 use Rattle.scr_cube.proofs.Laws333.{lawful_cube}
-use Rattle.scr_twophase.specs.Words.{words_of, words_within}
-use Rattle.scr_twophase.specs.TwoParts.{after_turn, all_turns, is_solved, leads}
+use Rattle.scr_twophase.specs.Words.{words_of}
+use Rattle.scr_twophase.specs.TwoParts.{after_turn, all_turns, is_solved}
+use Rattle.scr_table.specs.TriedWords.{needs_test-iff}
 use Rattle.scr_table.specs.Moves.{turned, NeedsTurns}
+use Rattle.scr_table.proofs.MovesLaws.{turned-turn}
 use Rattle.scr_twophase.specs.Minima.{cube_moves, needs_turns}
-use Rattle.scr_twophase.specs.Proofs.CubeTests.{IsSolved-test, leads-parts, leads-played}
-use Rattle.scr_twophase.specs.Proofs.WordLists.{IsWordOf, words_of-each, All-flat_map}
+use Rattle.scr_twophase.specs.Proofs.CubeTests.{IsSolved-test}
+use Rattle.scr_twophase.specs.Proofs.WordLists.{IsWordOf, words_of-each}
 
 -- ---- words of letters and words of numbers
 
@@ -100,66 +101,20 @@ IsWord-listed n w there =
       subst (All (λ t. t < 18)) (sym h.is) (All-pick (λ t. t < 18) all_turns h.places below_18 h.below),
     )
 
-Contains-words_within : (most : ℕ) (w : List ℕ) → length w ≤ most → All (λ t. t < 18) w → Contains (words_within all_turns most) w
-unfolding words_within
-Contains-words_within most w le below =
-    Contains-flat_map (words_of all_turns) (numbers_from 0 (most + 1)) (length w) w (Contains-numbers (most + 1) (length w) (omega arith))
-    (Contains-words_of (length w) w refl below)
-
-each_short : (turns : List ℕ) (most : ℕ) → All (λ w. length w ≤ most) (words_within turns most)
-unfolding words_within
-each_short turns most =
-    All-flat_map (λ w. length w ≤ most) (words_of turns) (numbers_from 0 (most + 1)) (λ k d lt.
-    let n : ℕ = get_or (numbers_from 0 (most + 1)) k d in
-    let inside : k < most + 1 = omega (arith, length-numbers_from 0 (most + 1)) in
-    let is : n ≡ 0 + k = get_or_default (numbers_from 0 (most + 1)) k d 0 lt ∙ numbers_from-at 0 (most + 1) k inside in
-    All-weaker (IsWordOf turns n) (λ w. length w ≤ most)
-    (λ w h. omega (arith, ap length h.is, length-pick turns h.places, h.size, is, inside)) (words_of turns n) (words_of-each turns n))
-
--- ---- the test
-
-refuted : (b : Bool) → not b ≡ true → b ≡ true → ⊥
-refuted true e h = false≢true e
-refuted false e h = false≢true h
-
-holds_unless : (b : Bool) → (b ≡ true → ⊥) → not b ≡ true
-holds_unless true h = absurd (h refl)
-holds_unless false h = refl
-
-pub Needs-tested : (c : CubeState) (least : ℕ) → IsTrue (needs_turns c least) ↔ Needs (power_puzzle cube_powers) c least
-unfolding needs_turns
-Needs-tested c zero = (λ e. Needs-zero (power_puzzle cube_powers) c, λ h. refl)
-Needs-tested c (suc most) =
-    let words = words_within all_turns most in (
-      λ e turns end few played solved.
-          let word = numbered c end turns played in
-          let short : length word.0 ≤ most = omega (arith, few, count_once turns, word.1.size) in
-          let there = Contains-words_within most word.0 short word.1.below in
-          let way = leads-played is_solved c end word.0 word.1.played ∙ (IsSolved-test end).1 solved in
-          refuted (list_any (leads is_solved c) words) e (list_any-from_Any (leads is_solved c) words (there.0, word.0, there.1, there.2, way)),
-      λ needs.
-          holds_unless (list_any (leads is_solved c) words) (λ e.
-          let found = Any-from_list_any (leads is_solved c) words e in
-          let to = leads-parts is_solved c found.1 found.4 in
-          let short : length found.1 ≤ most = subst (λ w. length w ≤ most) found.3 (each_short all_turns most found.0 found.1 found.2) in
-          needs (map face_turn_at found.1) to.0 (omega (arith, count_once (map face_turn_at found.1), length-map found.1 face_turn_at))
-          (play-spelled c found.1 ∙ to.1) ((IsSolved-test to.0).0 to.2)),
-    )
-
 -- ---- over the turns by their numbers
 
 turned_by : (c : CubeState) (t : ℕ) (b : Bool) → nat_lt t 18 ≡ b → cond b (after_turn c t) None ≡ after_turn c t
 turned_by c t true e = refl
 turned_by c t false e = sym (lawful_cube.no_more c t (ltb-false t 18 e))
 
-turned-turn : (c : CubeState) (t : ℕ) → turned cube_moves c t ≡ after_turn c t
-turned-turn c t = turned_by c t (nat_lt t 18) refl
+turned-after : (c : CubeState) (t : ℕ) → turned cube_moves c t ≡ after_turn c t
+turned-after c t = turned_by c t (nat_lt t 18) refl
 
 play-turned : (c : CubeState) (w : List ℕ) → play (turned cube_moves) c w ≡ play after_turn c w
 unfolding play
 play-turned c [] = refl
 play-turned c (t ∷ w) =
-    ap (option_and_then (λ d. play (turned cube_moves) d w)) (turned-turn c t) ∙ others (after_turn c t) (λ d. play-turned d w)
+    ap (option_and_then (λ d. play (turned cube_moves) d w)) (turned-after c t) ∙ others (after_turn c t) (λ d. play-turned d w)
   where
     others : (o : Option CubeState) → ((d : CubeState) → play (turned cube_moves) d w ≡ play after_turn d w)
         → option_and_then (λ d. play (turned cube_moves) d w) o ≡ option_and_then (λ d. play after_turn d w) o
@@ -180,3 +135,11 @@ NeedsTurns-iff c least = (
         | inr le ↦ le
       ],
 )
+
+-- ---- the test
+
+pub Needs-tested : (c : CubeState) (least : ℕ) → IsTrue (needs_turns c least) ↔ Needs (power_puzzle cube_powers) c least
+Needs-tested c least =
+    let tried = needs_test-iff 18 (turned cube_moves) is_solved (λ s r t e. (turned-turn cube_moves s r t e).0) c least in
+    let same = NeedsTurns-iff c least in
+    (λ e. same.0 (tried.0 e), λ needs. tried.1 (same.1 needs))

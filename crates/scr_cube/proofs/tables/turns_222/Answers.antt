@@ -1,11 +1,9 @@
 use Rattle.std.proofs.Common.{refl}
-use Rattle.scr_orbit.specs.Actions.{power, all_powers}
-use Rattle.scr_orbit.specs.Orbits.{composed, identity, added_digits}
 use Rattle.scr_orbit.proofs.TableTests.{All-zero_sum_turns}
-use Rattle.scr_turning.specs.PowerPuzzles.{all_turns}
+use Rattle.scr_turning.proofs.TablesOnLiterals.{turns_on_literals}
 use Rattle.scr_cube.specs.declared.tables.TheConstants.{TABLE_222}
 use Rattle.scr_cube.proofs.tables.turns_222.Goals as goal
 
 pub returns : goal.returns
-unfolding all_turns all_powers power composed identity added_digits
+unfolding turns_on_literals
 returns c = record { count = refl; defined = refl; valid = All-zero_sum_turns 7 3 TABLE_222 refl }

@@ -1,7 +1,8 @@
 use Rattle.std.proofs.Common.{map}
+use Rattle.scr_table.proofs.LineLaws.{IfErr-handed}
 use Rattle.scr_list.specs.declared.round.Round.{Round}
 use Rattle.scr_slots.specs.Tables.{IsBuildCause}
-use Rattle.scr_slots.proofs.BuildCauses.{IfErr-handed, IsBuildCause-small}
+use Rattle.scr_slots.proofs.BuildCauses.{IsBuildCause-small}
 use Rattle.scr_slots.proofs.tables.small_tables.Goals as goal
 
 pub returns-in_err-tables-clause-cause : goal.returns-in_err-tables-clause-cause

@@ -2,7 +2,7 @@ use Rattle.std.proofs.Common.{sym, ap, ◌∙◌, subst, arith}
 use Rattle.scr_combinatorics.proofs.PermutationLaws.{All-permutation}
 use Rattle.scr_sq1.specs.Shapes.{units_among}
 use Rattle.scr_sq1.specs.Proofs.LaidLaws.{Fits}
-use Rattle.scr_sq1.specs.Proofs.Pieces.{units_among-shape, LaidState-pieces}
+use Rattle.scr_sq1.specs.Proofs.Pieces.{AreCounted-halves, LaidState-pieces}
 use Rattle.scr_sq1.proofs.pieces.units_of.Goals as goal
 
 pub laid-requires-clause-fits : goal.laid-requires-clause-fits
@@ -15,7 +15,7 @@ laid-requires-clause-fits c =
 pub laid-requires-clause-units : goal.laid-requires-clause-units
 laid-requires-clause-units c =
     ap units_among c.shape_word.ensures
-    ∙ omega (arith, units_among-shape c.args.halves.now c.requires.shape.below, c.requires.shape.size)
+    ∙ omega (arith, (AreCounted-halves c.args.halves.now c.requires.shape.below).units, c.requires.shape.size)
 
 pub laid-requires-clause-edges : goal.laid-requires-clause-edges
 laid-requires-clause-edges c = All-permutation 8 c.args.edges.now c.requires.edges

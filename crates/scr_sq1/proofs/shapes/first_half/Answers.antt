@@ -10,21 +10,16 @@ run_is : (others corners half from run : ℕ) → run ≡ ways_after others corn
 run_is others corners half from run e f =
     e ∙ ap (λ i. ways_after others corners (get_or CORNERS i 0)) f ∙ ap (ways_after others corners) (corners_table-listed half)
 
-pub returns-then-rest-run-clause-half : goal.returns-then-rest-run-clause-half
-returns-then-rest-run-clause-half c =
+pub returns-then-rest-run : goal.returns-then-rest-run
+returns-then-rest-run c =
     let f = ways_after c.args.others c.args.corners in
     let half = c.loop-half.half in
     let run = run_is c.args.others c.args.corners half c.from.result c.ways_after-run.result c.ways_after-run.ensures.value c.from.ensures in
     let found = run_of-found f corner_counts half c.loop-half.rest (omega (arith, length-corner_counts)) (omega (arith, c.if-rest-run.true, run)) in
-    omega (arith, c.loop-half.invariant.half, ap (λ p. p.0) found)
-
-pub returns-then-rest-run-clause-rest : goal.returns-then-rest-run-clause-rest
-returns-then-rest-run-clause-rest c =
-    let f = ways_after c.args.others c.args.corners in
-    let half = c.loop-half.half in
-    let run = run_is c.args.others c.args.corners half c.from.result c.ways_after-run.result c.ways_after-run.ensures.value c.from.ensures in
-    let found = run_of-found f corner_counts half c.loop-half.rest (omega (arith, length-corner_counts)) (omega (arith, c.if-rest-run.true, run)) in
-    sym (c.loop-half.invariant.rest ∙ ap (λ p. p.1) found)
+    record {
+      half = omega (arith, c.loop-half.invariant.half, ap (λ p. p.0) found);
+      rest = sym (c.loop-half.invariant.rest ∙ ap (λ p. p.1) found);
+    }
 
 pub loop-half-preserved : goal.loop-half-preserved
 loop-half-preserved c =
@@ -38,14 +33,11 @@ loop-half-preserved c =
       rest = c.loop-half.invariant.rest ∙ ap (λ p. p.1) next ∙ ap (λ p. p.1) left;
     }
 
-pub returns-clause-half : goal.returns-clause-half
-returns-clause-half c =
+pub returns : goal.returns
+returns c =
     let f = ways_after c.args.others c.args.corners in
     let end = run_of-end f corner_counts c.loop-half.half c.loop-half.rest (omega (arith, length-corner_counts)) in
-    omega (arith, c.loop-half.invariant.half, ap (λ p. p.0) end)
-
-pub returns-clause-rest : goal.returns-clause-rest
-returns-clause-rest c =
-    let f = ways_after c.args.others c.args.corners in
-    let end = run_of-end f corner_counts c.loop-half.half c.loop-half.rest (omega (arith, length-corner_counts)) in
-    sym (c.loop-half.invariant.rest ∙ ap (λ p. p.1) end)
+    record {
+      half = omega (arith, c.loop-half.invariant.half, ap (λ p. p.0) end);
+      rest = sym (c.loop-half.invariant.rest ∙ ap (λ p. p.1) end);
+    }

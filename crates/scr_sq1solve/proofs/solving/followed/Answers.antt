@@ -7,7 +7,7 @@ use Rattle.scr_sq1solve.proofs.solving.followed.Goals as goal
 
 pub word_of-turns-requires-clause-numbers : goal.word_of-turns-requires-clause-numbers
 word_of-turns-requires-clause-numbers g c =
-    below-word g.L.StageLine.stage c.args.state.now c.args.numbers.now c.requires g.met.L.StageLine.few_letters
+    below-word g.L.StageLine.stage c.args.state.now c.args.numbers.now c.requires g.met.L.StageLine.in_reach.few_letters
 
 pub unreachable-requires : goal.unreachable-requires
 unreachable-requires g c =

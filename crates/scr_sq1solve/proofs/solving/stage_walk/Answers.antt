@@ -5,7 +5,7 @@ pub followed-requires : goal.followed-requires
 followed-requires g c =
     let t = g.L.StageLine in
     let met = g.met.L.StageLine in
-    IsStageWord-found t.stage t.starts g.L.Line.line t.index met.follows met.within c.args.table.now.distances c.descend-word.ensures.table c.args.state.now
+    IsStageWord-found t.stage t.starts g.L.Line.line t.index met.follows met.in_reach.within c.args.table.now.distances c.descend-word.ensures.table c.args.state.now
     c.index_of.result c.descend-word.result.items c.deref.result.now c.requires c.index_of.ensures c.deref.ensures.0 c.descend-word.ensures.first
 
 pub returns-clause-kept : goal.returns-clause-kept
@@ -16,9 +16,9 @@ returns-clause-kept g c =
 pub returns-clause-at_most : goal.returns-clause-at_most
 returns-clause-at_most g c =
     let t = g.L.StageLine in
-    (walk-costs c.followed.ensures.walk t.most_turns t.most_twists g.met.L.StageLine.costs).turns
+    (walk-costs c.followed.ensures.walk t.each.turns t.each.twists g.met.L.StageLine.costs).turns
 
 pub returns-clause-twists : goal.returns-clause-twists
 returns-clause-twists g c =
     let t = g.L.StageLine in
-    (walk-costs c.followed.ensures.walk t.most_turns t.most_twists g.met.L.StageLine.costs).twists
+    (walk-costs c.followed.ensures.walk t.each.turns t.each.twists g.met.L.StageLine.costs).twists

@@ -1,10 +1,9 @@
-use Rattle.std.proofs.Common.{ap, ◌∙◌}
-use Rattle.scr_sq1solve.proofs.LetterWords.{written, equator-written, thrice-pushed}
+use Rattle.std.proofs.Common.{◌++◌, ap, ◌∙◌}
+use Rattle.scr_notation.specs.Written.{Written}
+use Rattle.scr_sq1solve.specs.Stages.{turn_word, equator_word}
+use Rattle.scr_sq1solve.proofs.LetterWords.{written}
 use Rattle.scr_sq1solve.proofs.stage_letters.equator_word.Goals as goal
 
 pub returns : goal.returns
-returns c =
-    thrice-pushed _ c.new-word.result c.push_twist.new.word c.push_layers.new.word c.push_twist-2.new.word c.push_layers-2.new.word c.push_twist-3.new.word
-    c.push_layers-3.new.word c.new-word.ensures.value c.push_twist.ensures.word c.push_layers.ensures.word c.push_twist-2.ensures.word c.push_layers-2.ensures.word
-    c.push_twist-3.ensures.word c.push_layers-3.ensures.word
-    ∙ ap written equator-written
+unfolding turn_word
+returns c = c.push_steps.ensures.word ∙ ap (λ (w : Written). written (w.turns ++ equator_word)) c.new-word.ensures.value

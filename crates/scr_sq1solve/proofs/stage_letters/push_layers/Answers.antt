@@ -20,7 +20,7 @@ returns-clause-word c =
     let bottom = c.ranges.bottom in
     let made_top : SFits w8 c.twelfths-top.result = search rules in
     let made_bottom : SFits w8 c.twelfths-bottom.result = search rules in
-    layers-written c.args.word.now c.push_turn.new.word c.args.top c.args.bottom c.twelfths-top.result c.twelfths-bottom.result c.requires.event
+    layers-written c.args.word.now c.push_turn.new.scramble c.args.top c.args.bottom c.twelfths-top.result c.twelfths-bottom.result c.requires.event
     (simp to_z-of_z at c.twelfths-top.ensures) (simp to_z-of_z at c.twelfths-bottom.ensures) (sym (simp to_z-of_z at c.are_still.ensures) ∙ c.if-are_still.false)
     (simp to_z-of_z at c.push_turn.ensures)
 

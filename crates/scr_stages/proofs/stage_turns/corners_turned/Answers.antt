@@ -1,16 +1,9 @@
-use Rattle.scr_coord.proofs.ProjectionLaws.{AreTurns-places}
-use Rattle.scr_stages.proofs.TurnArrays.{turned-by, turned-valid, corners_whole}
+use Rattle.scr_stages.proofs.TurnArrays.{AreTurned-whole, corners_whole}
 use Rattle.scr_stages.proofs.stage_turns.corners_turned.Goals as goal
 
-pub returns-clause-turns : goal.returns-clause-turns
-returns-clause-turns g c =
-    turned-by 8 3 (λ r. r.corners) corners_whole c.block_turns.result c.corner_turns.result.now c.corner_turns.ensures.defined c.args.numbers.now c.requires.numbers
-    c.block_turns.ensures
-
-pub returns-clause-valid : goal.returns-clause-valid
-returns-clause-valid g c =
-    turned-valid 8 3 (λ r. r.corners) corners_whole c.block_turns.result c.corner_turns.result.now c.corner_turns.ensures.defined c.args.numbers.now c.requires.numbers
-    c.block_turns.ensures (λ r valid. valid.corners) _ c.told-numbers c.requires.some c.requires.few
-
-pub returns-clause-places : goal.returns-clause-places
-returns-clause-places g c = AreTurns-places 3 c.block_turns.result (returns-clause-valid g c)
+pub returns : goal.returns
+returns g c =
+    let turned =
+    AreTurned-whole 8 3 (λ r. r.corners) corners_whole c.block_turns.result c.corner_turns.result.now c.corner_turns.ensures.defined c.args.numbers.now c.requires.numbers
+    c.block_turns.ensures (λ r valid. valid.corners) _ c.told-numbers c.requires.some c.requires.few in
+    record { turns = turned.turns; valid = turned.valid; places = turned.places }

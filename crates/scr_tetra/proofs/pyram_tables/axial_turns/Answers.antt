@@ -1,14 +1,12 @@
 use Rattle.std.proofs.Common.{refl}
-use Rattle.scr_orbit.specs.Actions.{power, all_powers}
-use Rattle.scr_orbit.specs.Orbits.{composed, identity, added_digits}
-use Rattle.scr_turning.specs.PowerPuzzles.{all_turns}
+use Rattle.scr_turning.proofs.TablesOnLiterals.{turns_on_literals}
 use Rattle.scr_tetra.specs.declared.pyram_tables.TheConstants.{AXIAL_TABLE}
 use Rattle.scr_orbit.specs.InPlace.{AreDigitsInPlace}
 use Rattle.scr_orbit.proofs.TableTests.{All-from_test, are_in_place, AreDigitsInPlace-from_test}
 use Rattle.scr_tetra.proofs.pyram_tables.axial_turns.Goals as goal
 
 pub returns-clause-defined : goal.returns-clause-defined
-unfolding all_turns all_powers power composed identity added_digits
+unfolding turns_on_literals
 returns-clause-defined c = refl
 
 pub returns-clause-valid : goal.returns-clause-valid

@@ -9,6 +9,6 @@ returns-then-generator-GENERATORS g c =
 
 pub returns-else-generator-GENERATORS : goal.returns-else-generator-GENERATORS
 returns-else-generator-GENERATORS g c =
-    sym (g.met.S.PowerTurned.barred c.args.state.now c.args.letter
+    sym (g.met.S.PowerTurned.generators.barred c.args.state.now c.args.letter
     (barred_generator g.S.Kind.Letters.letters g.met.S.Kind.Letters.numbered c.args.letter c.in_ok-generator.generator c.in_ok-generator.exponent
     g.S.PowerTurned.GENERATORS c.in_ok-generator.ensures.exact (omega arith)))

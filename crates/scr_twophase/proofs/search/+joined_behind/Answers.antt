@@ -1,9 +1,9 @@
 use Rattle.std.proofs.Common.{◌≡◌, ℕ, ◌-◌, true, [], ◌∷◌, length, length-append, sym, ap, ◌∙◌, subst, arith}
 use Rattle.std.specs.Prelude.{IfNone}
-use Rattle.scr_twophase.specs.Search.{letters, IsAtFirst}
+use Rattle.scr_twophase.specs.Search.{letters, IsAt, ShowsFirst}
 use Rattle.scr_twophase.specs.TwoParts.{all_turns, first_joined, is_first_part, is_orderly}
 use Rattle.scr_twophase.specs.Words.{words_behind}
-use Rattle.scr_twophase.proofs.FirstSteps.{IsFirstPosition-shown, IsAtFirst-turned, IsUnderWay-begin, IsUnderWay-next, IsUnderWay-found, IsUnderWay-none, IsUnderWay-used, turn_open}
+use Rattle.scr_twophase.proofs.FirstSteps.{IsFirstPosition-shown, IsAt-turned, IsUnderWay-begin, IsUnderWay-next, IsUnderWay-found, IsUnderWay-none, IsUnderWay-used, turn_open}
 use Rattle.scr_twophase.proofs.Orderly.{is_orderly-push}
 use Rattle.scr_twophase.proofs.Tries.{first_joined-spent}
 use Rattle.scr_twophase.proofs.search.+joined_behind.Goals as goal
@@ -81,8 +81,8 @@ joined_behind-requires t c =
     turn_open cube word c.args.left c.args.tries.now c.loop-turn.turns.bits c.loop-turn.tries c.loop-turn.invariant turn c.pop.new.self.bits c.in-Some.ensures.first in (
       omega (arith, c.decreases, c.if-left-eq0.false),
       (
-        subst (λ w. IsAtFirst cube w c.after-next.result) (sym c.with-longer.ensures)
-            (IsAtFirst-turned cube word c.args.at c.after-next.result turn c.in-Some.ensures.below c.requires.at c.after-next.ensures),
+        subst (λ w. IsAt ShowsFirst cube w c.after-next.result) (sym c.with-longer.ensures)
+            (IsAt-turned ShowsFirst cube word c.args.at c.after-next.result turn c.in-Some.ensures.below c.requires.at c.after-next.ensures),
         (
           subst (λ w. is_orderly w ≡ true) (sym c.with-longer.ensures) (is_orderly-push word turn c.requires.orderly may),
           omega (arith, ap length c.with-longer.ensures, length-append word (turn ∷ []), c.requires.few, c.if-left-eq0.false),

@@ -3,7 +3,7 @@ use Rattle.std.specs.List.{flat_map}
 use Rattle.scr_combinatorics.specs.Lists.{numbers_from}
 use Rattle.scr_play.proofs.PlayLaws.{play-empty}
 use Rattle.scr_cube.specs.Cube333.{CubeState}
-use Rattle.scr_twophase.specs.Search.{letters, IsAtFirst}
+use Rattle.scr_twophase.specs.Search.{letters, IsAt, ShowsFirst}
 use Rattle.scr_twophase.specs.TwoParts.{after_turn, all_turns, first_joined, first_parts, is_first_part, is_orderly, two_parts}
 use Rattle.scr_twophase.specs.Words.{words_behind}
 use Rattle.scr_twophase.specs.Proofs.WordLists.{words_behind-empty}
@@ -22,7 +22,7 @@ loop-turns-init c =
 
 pub joined_behind-requires-clause-at : goal.joined_behind-requires-clause-at
 joined_behind-requires-clause-at c =
-    subst (λ w. IsAtFirst c.args.cube.now w c.of-at.result) (sym c.empty.ensures)
+    subst (λ w. IsAt ShowsFirst c.args.cube.now w c.of-at.result) (sym c.empty.ensures)
     (record { there = c.args.cube.now; played = play-empty after_turn c.args.cube.now; shows = c.of-at.ensures })
 
 pub joined_behind-requires-clause-orderly : goal.joined_behind-requires-clause-orderly

@@ -7,4 +7,4 @@ use Rattle.scr_cube.proofs.numbers.CubeNumbersNumbering.number_of.Goals as goal
 pub rank-requires : goal.rank-requires
 rank-requires c =
     let digits = subst (AreDigits cube_bases) (sym c.digits_of.ensures) (AreDigits-cube c.args.state.now c.requires) in
-    (lit< tt, (lit< tt, subst (λ bases. AreDigits bases c.digits_of.result) (sym c.cube_radix.ensures) digits))
+    (lit< tt, (lit< tt, subst (λ bases. AreDigits bases c.digits_of.result) (sym c.new.ensures) digits))

@@ -12,5 +12,5 @@ returns c =
     let corners = c.rank-2.ensures.number ∙ ap permutation_number c.corners.ensures.same in
     let digits : c.rank.result ∷ c.rank-2.result ∷ [] ≡ digits_222 c.args.state.now = cc in
     c.rank-3.ensures.number
-    ∙ ap (λ bases. mixed_number bases (c.rank.result ∷ c.rank-2.result ∷ [])) c.radix_222.ensures
+    ∙ ap (λ bases. mixed_number bases (c.rank.result ∷ c.rank-2.result ∷ [])) c.new.ensures
     ∙ ap (mixed_number bases_222) digits

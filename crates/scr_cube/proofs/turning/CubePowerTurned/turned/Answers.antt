@@ -1,16 +1,17 @@
 use Rattle.std.proofs.Common.{Some, ap, ◌∙◌, sym, arith}
-use Rattle.scr_cube.proofs.Turned.{cube_turned}
+use Rattle.scr_orbit.proofs.Places.{turned-at}
+use Rattle.scr_cube.proofs.Laws333.{cube_turned}
 use Rattle.scr_cube.proofs.turning.CubePowerTurned.turned.Goals as goal
 
 pub of_valid-requires : goal.of_valid-requires
 of_valid-requires c =
-    (cube_turned c.args.self.now c.orbits-corners.result.0 c.orbits-corners.result.1 c.orbits-corners.ensures.corners c.orbits-corners.ensures.edges c.orbits-corners.ensures.valid c.args.number
-    c.corner_turns.result.now c.edge_turns.result.now _ _ c.turned.result c.turned-2.result
-    c.corner_turns.ensures.defined c.edge_turns.ensures.defined (omega arith) (omega arith) c.turned.ensures c.turned-2.ensures).0
+    (cube_turned c.args.self.now c.turned.result c.turned-2.result c.args.number c.orbits-corners.ensures.valid
+    (turned-at 3 c.corner_turns.result.now c.args.number _ c.orbits-corners.ensures.corners c.corner_turns.ensures.defined (omega arith) c.turned.ensures)
+    (turned-at 2 c.edge_turns.result.now c.args.number _ c.orbits-corners.ensures.edges c.edge_turns.ensures.defined (omega arith) c.turned-2.ensures)).valid
 
 pub returns : goal.returns
 returns c =
-    (cube_turned c.args.self.now c.orbits-corners.result.0 c.orbits-corners.result.1 c.orbits-corners.ensures.corners c.orbits-corners.ensures.edges c.orbits-corners.ensures.valid c.args.number
-    c.corner_turns.result.now c.edge_turns.result.now _ _ c.turned.result c.turned-2.result
-    c.corner_turns.ensures.defined c.edge_turns.ensures.defined (omega arith) (omega arith) c.turned.ensures c.turned-2.ensures).1
+    (cube_turned c.args.self.now c.turned.result c.turned-2.result c.args.number c.orbits-corners.ensures.valid
+    (turned-at 3 c.corner_turns.result.now c.args.number _ c.orbits-corners.ensures.corners c.corner_turns.ensures.defined (omega arith) c.turned.ensures)
+    (turned-at 2 c.edge_turns.result.now c.args.number _ c.orbits-corners.ensures.edges c.edge_turns.ensures.defined (omega arith) c.turned-2.ensures)).after
     ∙ ap Some (sym c.of_valid.ensures)

@@ -9,8 +9,8 @@ use Rattle.scr_small.proofs.parts_line.PartsLineLine.moves.Goals as goal
 pub returns : goal.returns
 returns g c =
     let p = g.P.OneTable in
-    let l = g.met.P.OneTable in
+    let l = g.met.P.OneTable.by_table in
     IfOk-weaker c.of_moves.result _ _
     (λ moves shows.
-    ShowsSame-through (state_coordinate p.shown) (product (low_part p.shown p.LOW) (high_part p.shown p.LOW p.HIGH)) _
-    (ShowsSame-parts p.shown l.lawful p.LOW p.HIGH l.by_parts) shows) c.of_moves.ensures
+    ShowsSame-through (state_coordinate p.shown) (product (low_part p.shown p.TABLE.low) (high_part p.shown p.TABLE.low p.TABLE.high)) _
+    (ShowsSame-parts p.shown l.lawful p.TABLE.low p.TABLE.high l.by_parts) shows) c.of_moves.ensures

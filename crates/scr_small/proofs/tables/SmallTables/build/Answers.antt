@@ -1,7 +1,5 @@
 use Rattle.std.proofs.Common.{refl}
-use Rattle.scr_small.specs.Puzzle222.{corners_line}
-use Rattle.scr_small.specs.PuzzlePyram.{pyramid_line}
-use Rattle.scr_small.specs.PuzzleSkewb.{skewb_line}
+use Rattle.scr_small.specs.Puzzles.{corners_line, pyramid_line, skewb_line}
 use Rattle.scr_small.proofs.tables.SmallTables.build.Goals.{in-C222+in_ok-build-in-C222, in-Pyram+in_ok-build-in-Pyram}
 use Rattle.scr_small.proofs.tables.SmallTables.build.Goals.{in-Skewb+in_ok-build-in-Skewb}
 use Rattle.scr_small.proofs.tables.SmallTables.build.Goals as goal

@@ -1,7 +1,5 @@
 use Rattle.std.proofs.Common.{refl}
-use Rattle.scr_small.specs.Puzzle222.{corners_line}
-use Rattle.scr_small.specs.PuzzlePyram.{pyramid_line}
-use Rattle.scr_small.specs.PuzzleSkewb.{skewb_line}
+use Rattle.scr_small.specs.Puzzles.{corners_line, pyramid_line, skewb_line}
 use Rattle.scr_small.proofs.tables.SmallTables.only.Goals as goal
 
 pub returns-in-Corners-clause-built : goal.returns-in-Corners-clause-built

@@ -10,7 +10,7 @@ rank-requires c =
       lit< tt,
       (
         lit< tt,
-        subst (λ bases. AreDigits bases c.digits_of.result) (sym c.sq1_radix.ensures)
+        subst (λ bases. AreDigits bases c.digits_of.result) (sym c.new.ensures)
             (subst (AreDigits sq1_bases) (sym c.digits_of.ensures) digits.below),
       ),
     )

@@ -31,7 +31,7 @@ pub returns : goal.returns
 unfolding sq1_of_digits
 returns c =
     let digits : c.unrank.result ≡ mixed_digits sq1_bases c.args.number =
-    c.unrank.ensures.list ∙ ap (λ bases. mixed_digits bases c.args.number) c.sq1_radix.ensures in
+    c.unrank.ensures.list ∙ ap (λ bases. mixed_digits bases c.args.number) c.new.ensures in
     c.of_valid.ensures
     ∙ ap (λ us. let s : Sq1State = record { units = us; equator = nat_eq (get_or c.unrank.result 0 0) 1 } in s) c.units_of-units.ensures
     ∙ same_laid _ _ _ _ _ _ _ _

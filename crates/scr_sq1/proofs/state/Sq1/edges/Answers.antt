@@ -1,15 +1,10 @@
 use Rattle.std.proofs.Common.{sym, subst}
 use Rattle.scr_combinatorics.specs.Permutations.{IsPermutation}
-use Rattle.scr_sq1.specs.Units.{Sq1State}
 use Rattle.scr_sq1.specs.Proofs.Pieces.{StatePieces-valid}
 use Rattle.scr_sq1.proofs.state.Sq1.edges.Goals as goal
 
 pub edges_in-requires : goal.edges_in-requires
-edges_in-requires c =
-    let s : Sq1State = record { units = c.self.inside.units; equator = c.self.inside.equator } in
-    (StatePieces-valid s c.self.invariant).edges.size
+edges_in-requires c = (StatePieces-valid _ c.self.invariant).edges.size
 
 pub returns-clause-valid : goal.returns-clause-valid
-returns-clause-valid c =
-    let s : Sq1State = record { units = c.self.inside.units; equator = c.self.inside.equator } in
-    subst (IsPermutation 8) (sym c.edges_in.ensures) (StatePieces-valid s c.self.invariant).edges
+returns-clause-valid c = subst (IsPermutation 8) (sym c.edges_in.ensures) (StatePieces-valid _ c.self.invariant).edges

@@ -31,6 +31,6 @@ number_of-requires g c =
 
 pub returns : goal.returns
 returns g c =
-    let v = g.V.CornerNumbers in
-    after_read (corners_view v.numbers v.list v.number) c.args.self.now.turns.now c.args.position c.args.turn c.number_of.result none c.list_at.result
-    c.requires.turn c.list_at.ensures.same (c.number_of.ensures ∙ ap v.number c.pick_into.ensures)
+    let v = g.V.CornerNumbers.view in
+    after_read (corners_view v.count v.list_at v.number_of) c.args.self.now.turns.now c.args.position c.args.turn c.number_of.result none c.list_at.result
+    c.requires.turn c.list_at.ensures.same (c.number_of.ensures ∙ ap v.number_of c.pick_into.ensures)

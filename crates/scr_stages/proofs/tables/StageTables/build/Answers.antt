@@ -1,19 +1,19 @@
 use Rattle.std.proofs.Common.{refl, lit<}
-use Rattle.std.proofs.lemmas.Result.{err_from_is_err_and}
-use Rattle.scr_stages.specs.Tables.{slice_line, tetrads_line, halves_line}
+use Rattle.scr_table.proofs.LineLaws.{IfErr-cause}
+use Rattle.scr_stages.specs.Tables.{slice_line, tetrads_line, halves_line, stage_lines}
 use Rattle.scr_stages.proofs.tables.StageTables.build.Goals as goal
 
-pub returns-in_err-slice-clause-cause : goal.returns-in_err-slice-clause-cause
-returns-in_err-slice-clause-cause c =
-    let p = err_from_is_err_and c.from_residual-in_err-slice.result c.from_residual-in_err-slice.ensures.1 in
-    rw (p.1, p.2) (1, slice_line, lit< tt, refl, c.in_err-slice.ensures.cause)
+pub returns-in_err-build-2-clause-cause : goal.returns-in_err-build-2-clause-cause
+returns-in_err-build-2-clause-cause c =
+    IfErr-cause stage_lines 1 slice_line (lit< tt) refl c.in_err-build-2.field-0.0 c.from_residual-in_err-build-2.result c.from_residual-in_err-build-2.ensures.1
+    c.in_err-build-2.ensures.cause
 
-pub returns-in_err-tetrads-clause-cause : goal.returns-in_err-tetrads-clause-cause
-returns-in_err-tetrads-clause-cause c =
-    let p = err_from_is_err_and c.from_residual-in_err-tetrads.result c.from_residual-in_err-tetrads.ensures.1 in
-    rw (p.1, p.2) (2, tetrads_line, lit< tt, refl, c.in_err-tetrads.ensures.cause)
+pub returns-in_err-build-3-clause-cause : goal.returns-in_err-build-3-clause-cause
+returns-in_err-build-3-clause-cause c =
+    IfErr-cause stage_lines 2 tetrads_line (lit< tt) refl c.in_err-build-3.field-0.0 c.from_residual-in_err-build-3.result c.from_residual-in_err-build-3.ensures.1
+    c.in_err-build-3.ensures.cause
 
-pub returns-in_err-halves-clause-cause : goal.returns-in_err-halves-clause-cause
-returns-in_err-halves-clause-cause c =
-    let p = err_from_is_err_and c.from_residual-in_err-halves.result c.from_residual-in_err-halves.ensures.1 in
-    rw (p.1, p.2) (3, halves_line, lit< tt, refl, c.in_err-halves.ensures.cause)
+pub returns-in_err-build-4-clause-cause : goal.returns-in_err-build-4-clause-cause
+returns-in_err-build-4-clause-cause c =
+    IfErr-cause stage_lines 3 halves_line (lit< tt) refl c.in_err-build-4.field-0.0 c.from_residual-in_err-build-4.result c.from_residual-in_err-build-4.ensures.1
+    c.in_err-build-4.ensures.cause

@@ -11,7 +11,7 @@ rank-requires c =
     let body = c.number_of.ensures ∙ ap numbered_tetraminx.number_of c.body.ensures.same in
     let same : c.number_of_thirds-tips.result ∷ c.number_of.result ∷ [] ≡ pyram_digits c.args.state.now = cc in
     let digits = subst (AreDigits pyram_bases) (sym same) (pyram_has_two c.args.state.now c.requires).below in
-    (lit< tt, (lit< tt, subst (λ bases. AreDigits bases (c.number_of_thirds-tips.result ∷ c.number_of.result ∷ [])) (sym c.pyram_radix.ensures) digits))
+    (lit< tt, (lit< tt, subst (λ bases. AreDigits bases (c.number_of_thirds-tips.result ∷ c.number_of.result ∷ [])) (sym c.new.ensures) digits))
 
 pub returns : goal.returns
 unfolding pyram_digits
@@ -20,5 +20,5 @@ returns c =
     let body = c.number_of.ensures ∙ ap numbered_tetraminx.number_of c.body.ensures.same in
     let same : c.number_of_thirds-tips.result ∷ c.number_of.result ∷ [] ≡ pyram_digits c.args.state.now = cc in
     c.rank.ensures.number
-    ∙ ap (λ bases. mixed_number bases (c.number_of_thirds-tips.result ∷ c.number_of.result ∷ [])) c.pyram_radix.ensures
+    ∙ ap (λ bases. mixed_number bases (c.number_of_thirds-tips.result ∷ c.number_of.result ∷ [])) c.new.ensures
     ∙ ap (mixed_number pyram_bases) same

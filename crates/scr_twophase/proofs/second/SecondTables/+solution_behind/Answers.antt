@@ -1,11 +1,12 @@
 use Rattle.std.proofs.Common.{◌≡◌, ℕ, ◌-◌, ◌<◌, true, [], ◌∷◌, ◌++◌, length, get_or, sym, ap, ◌∙◌, subst, arith, below_more, length-append}
 use Rattle.std.specs.Prelude.{slice_get}
-use Rattle.scr_twophase.specs.Search.{letters, may_end, IsAtSecond}
+use Rattle.scr_twophase.specs.Search.{letters, may_end, IsAt, ShowsSecond}
 use Rattle.scr_twophase.specs.TwoParts.{domino_turns, is_orderly, is_solution}
 use Rattle.scr_twophase.specs.Words.{words_behind}
 use Rattle.scr_twophase.proofs.Orderly.{is_orderly-push}
 use Rattle.scr_twophase.proofs.Outcomes.{none-first}
-use Rattle.scr_twophase.proofs.SecondSteps.{domino_turn-lt, IsAtSecond-turned, too_few, at_solved, at_unsolved, none_behind, found_at, found_nowhere}
+use Rattle.scr_twophase.proofs.FirstSteps.{IsAt-turned}
+use Rattle.scr_twophase.proofs.SecondSteps.{domino_turn-lt, too_few, at_solved, at_unsolved, none_behind, found_at, found_nowhere}
 use Rattle.scr_twophase.proofs.second.SecondTables.+solution_behind.Goals as goal
 use Rattle.scr_twophase.proofs.second.SecondTables.+solution_behind.Goals.{then-has+in_default, else-has}
 
@@ -52,8 +53,8 @@ unfolding domino_turns
 returns-in-Some t c = λ cube h.
     let word = letters c.args.word.now in
     let place = c.loop-place.place in
-    let next = IsAtSecond-turned cube word c.args.at c.after-next.result place c.loop-place-test.true h c.after-next.ensures.shows in
-    let found = c.in-Some.ensures cube (subst (λ w. IsAtSecond cube w c.after-next.result) (sym c.with.ensures) next) in
+    let next = IsAt-turned ShowsSecond cube word c.args.at c.after-next.result (get_or domino_turns place 0) (domino_turn-lt place 0 c.loop-place-test.true) h c.after-next.ensures.shows in
+    let found = c.in-Some.ensures cube (subst (λ w. IsAt ShowsSecond cube w c.after-next.result) (sym c.with.ensures) next) in
     sym (found_at cube word c.args.left c.if-left-eq0.false place (letters c.in-Some.solution) c.loop-place-test.true (c.loop-place.invariant cube h)
     (sym (found ∙ ap (λ w. slice_get (words_behind domino_turns (is_solution cube) w (c.args.left - 1)) 0) c.with.ensures)))
 
@@ -68,8 +69,8 @@ loop-place-preserved t c = λ cube h.
     (c.loop-place.invariant cube h)
     (elim c.if-has.branch [
       | then-has+in_default w ↦
-          let next = IsAtSecond-turned cube word c.args.at w.after-next.result place lt h w.after-next.ensures.shows in
-          let none = w.in_default.ensures cube (subst (λ v. IsAtSecond cube v w.after-next.result) (sym w.with.ensures) next) in
+          let next = IsAt-turned ShowsSecond cube word c.args.at w.after-next.result turn (domino_turn-lt place 0 lt) h w.after-next.ensures.shows in
+          let none = w.in_default.ensures cube (subst (λ v. IsAt ShowsSecond cube v w.after-next.result) (sym w.with.ensures) next) in
           none-first (words_behind domino_turns (is_solution cube) (word ++ turn ∷ []) (c.args.left - 1))
           (sym (none ∙ ap (λ v. slice_get (words_behind domino_turns (is_solution cube) v (c.args.left - 1)) 0) w.with.ensures))
       | else-has w ↦

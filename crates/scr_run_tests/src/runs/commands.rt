@@ -1,0 +1,128 @@
+//! Commands, lists and messages.
+
+use super::expected::{BY_TABLES, SCRAMBLE, SCRAMBLE_MINX};
+use super::{NO_444, USAGE, ZEROS, check};
+use scr_sheet::{Fault, ListCause, ListFault, Status, UsageFault};
+use scr_table::TableName;
+use std::process::Abort;
+use std::test::Fail;
+
+#[test]
+fn words_and_lists(rt: HostRuntime) -> Result<(), Fail> {
+    let joined = "--seed=0000000000000000000000000000000000000000000000000000000000000000";
+    let runs: [(&[&str], &str, &str); 6] = [
+        (&["one", "clock", ZEROS], "", SCRAMBLE),
+        (&["one", "minx", ZEROS], "", SCRAMBLE_MINX),
+        (&["tables", "clock"], "", "no tables\n"),
+        (&["tables", "777"], "", "no tables\n"),
+        (&["sheet", joined, "--workers=64"], "", ""),
+        (&["sheet", joined], " \n\t\r\n", ""),
+    ];
+    for (words, list, out) in runs {
+        check(&rt, words, list.as_bytes(), 0, out, "")?;
+    }
+    Ok(())
+}
+
+#[test]
+fn words_and_lists_refused(rt: HostRuntime) -> Result<(), Fail> {
+    let digit = "000000000000000000000000000000000000000000000000000000000000000g";
+    let joined = "--seed=0000000000000000000000000000000000000000000000000000000000000000";
+    let equals = "--seed==0000000000000000000000000000000000000000000000000000000000000000";
+    let not_a_digit = "scramble: seed has no hexadecimal digit at 63\n";
+    let of_two = "scramble: seed has 2 characters, not 64\n";
+    let of_none = "scramble: seed has 0 characters, not 64\n";
+    let of_65 = "scramble: seed has 65 characters, not 64\n";
+    let runs: [(&[&str], &str); 14] = [
+        (&["tables", "444"], NO_444),
+        (&["tables", "magic"], USAGE),
+        (&["one", "clock", digit], not_a_digit),
+        (&["one", "clock", "-x"], of_two),
+        (&["one", "clock", ""], of_none),
+        (&["one", "444", ZEROS], NO_444),
+        (&["one", "magic", ZEROS], USAGE),
+        (&["one", "clock"], USAGE),
+        (&["one", "clock", ZEROS, ZEROS], USAGE),
+        (&[], USAGE),
+        (&["sheet"], USAGE),
+        (&["sheet", equals], of_65),
+        (&["sheet", joined, "--workers", "65"], USAGE),
+        (&["sheet", joined, "--attempts", "1000001"], USAGE),
+    ];
+    for (words, err) in runs {
+        check(&rt, words, b"", 2, "", err)?;
+    }
+    for (list, err) in [
+        ("444 1", "scramble: line 1: 444 is not supported\n"),
+        ("\nclock 27", "scramble: line 2: groups\n"),
+        ("333", "scramble: line 1: words\n"),
+        ("444bf 1", "scramble: line 1: unknown event\n"),
+        ("clock 1 4", "scramble: line 1: minimum\n"),
+    ] {
+        check(&rt, &["sheet", joined], list.as_bytes(), 3, "", err)?;
+    }
+    Ok(())
+}
+
+#[test]
+fn events_with_tables(rt: HostRuntime) -> Result<(), Fail> {
+    for (event, scramble, tables) in BY_TABLES {
+        check(&rt, &["one", event, ZEROS], b"", 0, scramble, "")?;
+        check(&rt, &["tables", event], b"", 0, tables, "")?;
+    }
+    check(&rt, &["one", "333oh", ZEROS], b"", 0, BY_TABLES[3].1, "")?;
+    // of the Pyraminx, two of the tips of its first draw aren't turned, so that it needs 13 turns at most
+    let missed = "scramble: round 1 slot 1: no permitted state in 3 words\n";
+    for list in ["222 1 11", "pyram 1 15"] {
+        let words = ["sheet", "--seed", ZEROS, "--attempts=1"];
+        check(&rt, &words, list.as_bytes(), 4, "", missed)?;
+    }
+    Ok(())
+}
+
+#[test]
+fn faults_are_told(rt: HostRuntime) {
+    let rounds = ListFault::Line {
+        number: 65,
+        cause: ListCause::Rounds,
+    };
+    let gap = Fault::Gap {
+        table: TableName::CornerSlice,
+        index: 17,
+    };
+    let limit = Fault::DrawLimit {
+        round: 3,
+        slot: 182,
+        words: 3_000_000,
+    };
+    for (fault, code, message) in [
+        (Fault::Usage(UsageFault::Grammar), 2, USAGE),
+        (
+            Fault::List(rounds),
+            3,
+            "scramble: line 65: too many rounds\n",
+        ),
+        (
+            Fault::List(ListFault::TooLong),
+            3,
+            "scramble: list is longer than 4096 bytes\n",
+        ),
+        (
+            limit,
+            4,
+            "scramble: round 3 slot 182: no permitted state in 3000000 words\n",
+        ),
+        (
+            Fault::List(ListFault::Read),
+            5,
+            "scramble: input could not be read\n",
+        ),
+        (Fault::Write, 6, "scramble: output could not be written\n"),
+        (Fault::NoMemory, 7, "scramble: out of memory\n"),
+        (gap, 8, "scramble: table cornerslice has a gap at 17\n"),
+    ] {
+        assert_eq!(rt; fault.message().as_str(), message);
+        assert_eq!(rt; Status::of(Err(fault)).code(), code);
+    }
+    assert_eq!(rt; Status::of(Ok(())).code(), 0);
+}

@@ -1,0 +1,179 @@
+//! Words that are taken and words that are refused, each by a table.
+
+use scr_command::*;
+use scr_notation::Event;
+use scr_words::{Seed, SeedFault};
+use std::alloc::Global;
+use std::process::Abort;
+
+const ZEROS: &str = "0000000000000000000000000000000000000000000000000000000000000000";
+
+const BAD_DIGIT: &str = "000000000000000000000000000000000000000000000000000000000000000g";
+
+fn takes<'w>(rt: &impl Abort, alloc: Global, words: &'w [&'w str], expected: SheetWords<'w>) {
+    assert_eq!(rt; split_options(alloc, words), Ok(expected));
+}
+
+fn with_seed(seed: &str) -> SheetWords<'_> {
+    SheetWords {
+        seed,
+        workers: None,
+        tries: None,
+        attempts: None,
+    }
+}
+
+#[test]
+fn options_taken(rt: HostRuntime) {
+    let alloc = rt.alloc();
+    takes(&rt, alloc, &["--seed", "abc"], with_seed("abc"));
+    takes(&rt, alloc, &["--seed", ""], with_seed(""));
+    takes(&rt, alloc, &["--seed="], with_seed(""));
+    takes(&rt, alloc, &["--seed==Z"], with_seed("=Z"));
+    takes(&rt, alloc, &["--seed=-x"], with_seed("-x"));
+    takes(&rt, alloc, &["--seed=--seed=Z"], with_seed("--seed=Z"));
+    let all = SheetWords {
+        seed: "Z",
+        workers: Some("+1"),
+        tries: Some("01"),
+        attempts: Some(""),
+    };
+    let own_words = [
+        "--attempts",
+        "",
+        "--workers",
+        "+1",
+        "--seed",
+        "Z",
+        "--tries",
+        "01",
+    ];
+    let one_word = ["--tries=01", "--attempts=", "--seed=Z", "--workers=+1"];
+    takes(&rt, alloc, &own_words, all);
+    takes(&rt, alloc, &one_word, all);
+}
+
+fn reads(rt: &impl Abort, alloc: Global, words: &[&str], expected: Result<Command, CommandFault>) {
+    assert_eq!(rt; read_command(alloc, words), expected);
+}
+
+#[test]
+fn commands_read(rt: HostRuntime) {
+    let alloc = rt.alloc();
+    let zeros = Seed([0; 32]);
+    let sheet = |options| Ok(Command::Sheet(zeros, options));
+    reads(
+        &rt,
+        alloc,
+        &["one", "clock", ZEROS],
+        Ok(Command::One(Event::Clock, zeros)),
+    );
+    reads(
+        &rt,
+        alloc,
+        &["tables", "222"],
+        Ok(Command::Tables(Event::C222)),
+    );
+    for (number, word) in [(0, "0"), (15, "15"), (9999, "9999")] {
+        reads(&rt, alloc, &["load", word], Ok(Command::Load(number)));
+    }
+    reads(
+        &rt,
+        alloc,
+        &["sheet", "--seed", ZEROS],
+        sheet(Options {
+            workers: 1,
+            tries: 2000,
+            attempts: 1000,
+        }),
+    );
+    let most = Options {
+        workers: 64,
+        tries: 100_000,
+        attempts: 1_000_000,
+    };
+    let words = [
+        "sheet",
+        "--workers",
+        "64",
+        "--attempts",
+        "1000000",
+        "--tries",
+        "100000",
+        "--seed",
+        ZEROS,
+    ];
+    reads(&rt, alloc, &words, sheet(most));
+}
+
+#[test]
+fn commands_refused(rt: HostRuntime) {
+    let alloc = rt.alloc();
+    let length = |got| UsageFault::NoSeed(SeedFault::Length { got });
+    let digit = UsageFault::NoSeed(SeedFault::Digit { place: 63 });
+    for (words, fault) in [
+        (["one", "444", ZEROS], UsageFault::No444),
+        (["one", "444", "x"], UsageFault::No444),
+        (["one", "444bf", ZEROS], UsageFault::Grammar),
+        (["one", "clock", "-x"], length(2)),
+        (["one", "clock", ""], length(0)),
+        (["one", "clock", BAD_DIGIT], digit),
+        (["sheet", "--seed", "abc"], length(3)),
+        (["sheet", "--seed", BAD_DIGIT], digit),
+        (["sheet", "--workers=1", "--seed=-x"], length(2)),
+        (["sheet", "--workers=0", "--seed=-x"], UsageFault::Grammar),
+        (["sheet", "--seed", "-x"], UsageFault::Grammar),
+        (["sheet", "--seed", "-"], UsageFault::Grammar),
+        (["sheet", "--seed", "--workers=2"], UsageFault::Grammar),
+        (["sheet", "--seed", "--"], UsageFault::Grammar),
+        (["sheet", "--workers", "2"], UsageFault::Grammar),
+        (["tables", "222", ZEROS], UsageFault::Grammar),
+        (["load", "15", "15"], UsageFault::Grammar),
+        (["Sheet", "--seed", ZEROS], UsageFault::Grammar),
+    ] {
+        let [command, second, third] = words;
+        let words = [command, second, third];
+        reads(&rt, alloc, &words, Err(CommandFault::Usage(fault)));
+    }
+    let usage = Err(CommandFault::Usage(UsageFault::Grammar));
+    for last in [
+        "--workers=0",
+        "--workers=65",
+        "--workers=01",
+        "--workers=+1",
+        "--workers",
+        "--tries=100001",
+        "--attempts=0",
+        "--attempts=1000001",
+        "--attempts=",
+        "--seed=x",
+        "--",
+        "-",
+        "",
+        "x",
+        "--help",
+        "-h",
+        "--version",
+        "-V",
+        "--se=x",
+        "--seeds=x",
+        "--SEED=x",
+        "-s",
+        "--=2",
+    ] {
+        reads(&rt, alloc, &["sheet", "--seed", ZEROS, last], usage);
+        reads(&rt, alloc, &["sheet", last, "--seed", ZEROS], usage);
+    }
+    reads(&rt, alloc, &[], usage);
+    reads(&rt, alloc, &["one", "444"], usage);
+    reads(&rt, alloc, &["tables"], usage);
+    reads(&rt, alloc, &["tables", "magic"], usage);
+    let no_444 = Err(CommandFault::Usage(UsageFault::No444));
+    reads(&rt, alloc, &["tables", "444"], no_444);
+    reads(&rt, alloc, &["one", "clock", ZEROS, ZEROS], usage);
+    reads(&rt, alloc, &["sheet"], usage);
+    reads(&rt, alloc, &["load"], usage);
+    for number in ["10000", "015", "+15", "-1", "", "x"] {
+        reads(&rt, alloc, &["load", number], usage);
+    }
+}

@@ -1,0 +1,57 @@
+//! States of a Pyraminx that are known from elsewhere.
+
+use crate::numbered::is_number;
+use scr_draw::Numbering;
+use scr_notation::{Event, parse};
+use scr_tetra::{PowerTurned, PyramNumbers, Pyraminx, Tetraminx, TetraminxNumbers};
+use std::test::Fail;
+
+const IN_PLACE: [u8; 6] = [0, 1, 2, 3, 4, 5];
+
+#[test]
+fn known_states(rt: HostRuntime) {
+    let last = [5, 4, 3, 2, 0, 1];
+    for (number, edges, flips, axials, tips) in [
+        (0, IN_PLACE, [0; 6], [0; 4], [0; 4]),
+        (55, IN_PLACE, [0; 6], [0; 4], [1, 0, 0, 2]),
+        (19683, IN_PLACE, [1, 1, 0, 0, 0, 0], [0; 4], [0; 4]),
+        (75582719, last, [1; 6], [2; 4], [2; 4]),
+    ] {
+        assert!(rt; number < PyramNumbers.count());
+        let state = Pyraminx::from_lists(edges, flips, axials, tips);
+        is_number(&rt, &PyramNumbers, number, state);
+    }
+    let up = Pyraminx::solved().turn(0, 1);
+    is_number(&rt, &PyramNumbers, 15116625, Some(up));
+    let lists = Pyraminx::from_lists(up.edges(), up.flips(), up.axials(), up.tips());
+    assert!(rt; lists == Some(up));
+    assert!(rt; PyramNumbers.count() == 75582720 && TetraminxNumbers.count() == 933120);
+    assert!(rt; Pyraminx::solved().is_solved() && !up.is_solved());
+}
+
+// A flipped edge, two exchanged edges, an edge twice, an axial piece and a tip turned by three thirds.
+#[test]
+fn what_no_turns_reach(rt: HostRuntime) {
+    let flipped = [1, 0, 0, 0, 0, 0];
+    assert!(rt; Pyraminx::from_lists(IN_PLACE, flipped, [0; 4], [0; 4]).is_none());
+    let exchanged = [1, 0, 2, 3, 4, 5];
+    assert!(rt; Pyraminx::from_lists(exchanged, [0; 6], [0; 4], [0; 4]).is_none());
+    let twice = [0, 0, 2, 3, 4, 5];
+    assert!(rt; Pyraminx::from_lists(twice, [0; 6], [0; 4], [0; 4]).is_none());
+    assert!(rt; Pyraminx::from_lists(IN_PLACE, [0; 6], [3, 0, 0, 0], [0; 4]).is_none());
+    assert!(rt; Pyraminx::from_lists(IN_PLACE, [0; 6], [0; 4], [0, 0, 3, 0]).is_none());
+}
+
+#[test]
+fn scrambles_played(rt: HostRuntime) -> Result<(), Fail> {
+    let text = "R' L R L' U L' U' L u b'";
+    let scramble = parse(Event::Pyram, text)?;
+    let flips = [1, 1, 0, 0, 0, 0];
+    let played = Pyraminx::solved().play(&scramble);
+    assert!(rt; played == Pyraminx::from_lists(IN_PLACE, flips, [0; 4], [1, 0, 0, 2]));
+    assert!(rt; Tetraminx::solved().play(&scramble).is_none());
+    let large = Pyraminx::solved().play(&parse(Event::Pyram, "B L' r")?);
+    assert!(rt; large == Some(Pyraminx::solved().turn(3, 1).turn(1, 2).tip(2, 1)));
+    assert!(rt; Pyraminx::solved().play(&parse(Event::C222, "U")?).is_none());
+    Ok(())
+}

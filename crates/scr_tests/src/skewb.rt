@@ -1,0 +1,61 @@
+//! States of the Skewb that are known from elsewhere.
+
+use crate::numbered::is_number;
+use scr_draw::Numbering;
+use scr_notation::{Event, parse};
+use scr_tetra::{PowerTurned, Skewb, SkewbNumbers};
+use std::test::Fail;
+
+const IN_PLACE: [u8; 6] = [0, 1, 2, 3, 4, 5];
+
+#[test]
+fn known_skewbs(rt: HostRuntime) -> Result<(), Fail> {
+    let solved = Skewb::solved();
+    let after_b_u = (
+        [1, 3, 2, 0],
+        [2, 0, 0, 2],
+        [2, 0, 1],
+        [0, 2, 2],
+        [3, 1, 2, 4, 0, 5],
+    );
+    for (number, (four, four_twists, three, three_twists, centres)) in [
+        (0, ([0, 1, 2, 3], [0; 4], [0, 1, 2], [0; 3], IN_PLACE)),
+        (1718795, after_b_u),
+        (
+            3149279,
+            ([3, 2, 1, 0], [2; 4], [1, 2, 0], [2; 3], [5, 4, 3, 2, 0, 1]),
+        ),
+    ] {
+        assert!(rt; number < SkewbNumbers.count());
+        let skewb = Skewb::from_lists(four, four_twists, three, three_twists, centres);
+        is_number(&rt, &SkewbNumbers, number, skewb);
+    }
+    let up = solved.turn(0, 1);
+    let four = (up.four(), up.four_twists());
+    let three = (up.three(), up.three_twists());
+    assert!(rt; Skewb::from_lists(four.0, four.1, three.0, three.1, up.centres()) == Some(up));
+    assert!(rt; SkewbNumbers.count() == 3149280);
+    let played = solved.play(&parse(Event::Skewb, "B U")?);
+    assert!(rt; played == Some(SkewbNumbers.state_at(1718795)));
+    assert!(rt; played == Some(solved.turn(3, 1).turn(0, 1)));
+    let other = solved.play(&parse(Event::Skewb, "B R")?);
+    assert!(rt; other == Some(SkewbNumbers.state_at(351357)));
+    assert!(rt; solved.play(&parse(Event::Pyram, "B u")?).is_none());
+    Ok(())
+}
+
+// Two exchanged centres, two exchanged corners, a corner twice, a twisted corner of the four, one of the three, and the four in
+// another class.
+#[test]
+fn what_no_turns_reach(rt: HostRuntime) {
+    let four = [0, 1, 2, 3];
+    let three = [0, 1, 2];
+    let none = [0; 3];
+    assert!(rt; Skewb::from_lists(four, [0; 4], three, none, IN_PLACE).is_some());
+    assert!(rt; Skewb::from_lists(four, [0; 4], three, none, [1, 0, 2, 3, 4, 5]).is_none());
+    assert!(rt; Skewb::from_lists([1, 0, 2, 3], [0; 4], three, none, IN_PLACE).is_none());
+    assert!(rt; Skewb::from_lists([0, 0, 2, 3], [0; 4], three, none, IN_PLACE).is_none());
+    assert!(rt; Skewb::from_lists(four, [1, 0, 0, 0], three, none, IN_PLACE).is_none());
+    assert!(rt; Skewb::from_lists(four, [0; 4], three, [1, 0, 0], IN_PLACE).is_none());
+    assert!(rt; Skewb::from_lists([1, 2, 0, 3], [0; 4], three, none, IN_PLACE).is_none());
+}

@@ -1,0 +1,202 @@
+//! Draws and scrambles known from elsewhere: found by another solver.
+ghost use Rattle.std.specs.Prelude.{◌≡◌, ◌^◌, ◌≤◌};
+ghost use Rattle.scr_notation.specs.declared.event.Event.TheVariants.{C222, Pyram, Skewb as EventSkewb};
+
+use scr_cube::{Corners222, Numbers222, PowerTurned};
+use scr_draw::{Numbering, RandomState, draw_permitted};
+use scr_notation::{Event, print};
+use scr_small::{
+    Small222, SmallPyram, SmallSkewb, SmallTables, laws, needs_222, needs_pyram, needs_skewb,
+    scramble_222, scramble_pyram, scramble_skewb,
+};
+use scr_table::TableName;
+use scr_tetra::{PyramNumbers, Pyraminx, Skewb, SkewbNumbers, TetraminxNumbers};
+use scr_words::{ChaChaWords, ListWords, Seed, Words};
+use std::process::Abort;
+use std::test::Fail;
+
+/// Numbers of 2x2x2s, how many turns each needs, and its scramble.
+const CUBES: [(u32, u32, &str); 4] = [
+    (0, 0, ""),
+    (1574640, 1, "U"),
+    (3015702, 9, "R2 U R' F U2 F' U R U"),
+    (3674159, 9, "U2 F' R2 U R F2 R' U R2"),
+];
+
+/// Numbers of Pyraminxes, how many turns each needs, and its scramble.
+const PYRAMINXES: [(u32, u32, &str); 6] = [
+    (0, 0, ""),
+    (55, 2, "u b'"),
+    (15116625, 1, "U"),
+    (52354422, 9, "R L' U' R B' U B' r' b'"),
+    (75582719, 12, "B R' U L B' L B' U u' l' r' b'"),
+    (3644, 15, "B L B L U' L B' R U L' U' u' l' r' b'"),
+];
+
+/// The words of number 55.
+const TWO_TIPS: [u32; 3] = [55, 0, 0];
+
+/// Numbers of Skewbs, how many turns each needs, and its scramble.
+const SKEWBS: [(u32, u32, &str); 6] = [
+    (0, 0, ""),
+    (9423, 1, "B"),
+    (1718795, 2, "B U"),
+    (1965942, 7, "B R' L' R L U R'"),
+    (3149279, 9, "U' B' R' U B' R' B L U"),
+    (44, 11, "B R U' L B' U' L U R L U'"),
+];
+
+/// The words of number 9423.
+const AFTER_B: [u32; 3] = [9423, 0, 0];
+
+/// A list of no words, whose words are zeros.
+const NO_WORDS: [u32; 0] = [];
+
+/// The number of the state after U.
+const AFTER_U: [u32; 3] = [1574640, 0, 0];
+
+/// The least number that is refused, then the greatest that is accepted.
+const LAST: [u32; 6] = [
+    0xfff1_c980,
+    0xffff_ffff,
+    0xffff_ffff,
+    0xfff1_c97f,
+    0xffff_ffff,
+    0xffff_ffff,
+];
+
+/// The 2x2x2s of these numbers need just so many turns, and have these scrambles, which lead to them from solved.
+fn scrambled_cubes(rt: &impl Abort, tables: &SmallTables, rows: &[(u32, u32, &str)])
+    requires { tables.now.event ≡ C222 }
+{
+    for &(number, turns, text) in rows {
+        assert!(rt; number < 3674160 && turns < 12);
+        let state = Numbers222.state_at(u128::from(number));
+        let scramble = scramble_222(tables, &state);
+        assert_eq!(rt; print(&scramble).as_str(), text);
+        assert!(rt; Corners222::solved().play(&scramble) == Some(state));
+        assert!(rt; needs_222(tables, &state, turns) && !needs_222(tables, &state, turns + 1));
+    }
+}
+
+/// The Pyraminxes of these numbers need just so many turns, and have these scrambles, which lead to them from solved.
+fn scrambled_pyraminxes(rt: &impl Abort, tables: &SmallTables, rows: &[(u32, u32, &str)])
+    requires { tables.now.event ≡ Pyram }
+{
+    for &(number, turns, text) in rows {
+        assert!(rt; number < 75582720 && turns < 16);
+        let state = PyramNumbers.state_at(u128::from(number));
+        let scramble = scramble_pyram(tables, &state);
+        assert_eq!(rt; print(&scramble).as_str(), text);
+        assert!(rt; Pyraminx::solved().play(&scramble) == Some(state));
+        assert!(rt; needs_pyram(tables, &state, turns) && !needs_pyram(tables, &state, turns + 1));
+    }
+}
+
+/// The Skewbs of these numbers need just so many turns, and have these scrambles, which lead to them from solved.
+fn scrambled_skewbs(rt: &impl Abort, tables: &SmallTables, rows: &[(u32, u32, &str)])
+    requires { tables.now.event ≡ EventSkewb }
+{
+    for &(number, turns, text) in rows {
+        assert!(rt; number < 3149280 && turns < 12);
+        let state = SkewbNumbers.state_at(u128::from(number));
+        let scramble = scramble_skewb(tables, &state);
+        assert_eq!(rt; print(&scramble).as_str(), text);
+        assert!(rt; Skewb::solved().play(&scramble) == Some(state));
+        assert!(rt; needs_skewb(tables, &state, turns) && !needs_skewb(tables, &state, turns + 1));
+    }
+}
+
+/// Drawing from these words at a minimum gives the state of a number, or none.
+fn expect_draw<W: Words, P: RandomState>(
+    rt: &impl Abort,
+    puzzle: &P,
+    words: &mut W,
+    least: u32,
+    attempts: u32,
+    drawn: Option<u128>,
+)
+    requires least { least ≤ P.greatest puzzle.now }
+    requires attempts { attempts ≤ 1000000 }
+    requires room { W.taken words.old ≤ 2 ^ 62 }
+{
+    let number = match draw_permitted(words, puzzle, least, attempts) {
+        Ok(state) => Some(puzzle.number_of(&state)),
+        Err(limit) => {
+            assert_eq!(rt; limit.words, 3 * attempts);
+            None
+        }
+    };
+    assert!(rt; number == drawn);
+}
+
+/// The same from a list of words, and then zeros.
+fn expect_listed<P: RandomState>(
+    rt: &impl Abort,
+    puzzle: &P,
+    list: &[u32],
+    least: u32,
+    attempts: u32,
+    drawn: Option<u128>,
+)
+    requires least { least ≤ P.greatest puzzle.now }
+    requires attempts { attempts ≤ 1000000 }
+{
+    let mut words = ListWords::new(list);
+    expect_draw(rt, puzzle, &mut words, least, attempts, drawn);
+}
+
+#[test]
+fn scrambles_of_222(rt: HostRuntime) -> Result<(), Fail> {
+    let tables = SmallTables::build(rt.alloc(), Event::C222)?;
+    assert!(rt;
+        tables.table(TableName::Corners).is_some() && tables.table(TableName::Flips).is_none()
+    );
+    scrambled_cubes(&rt, &tables, &CUBES);
+    Ok(())
+}
+
+#[test]
+fn draws_of_222(rt: HostRuntime) -> Result<(), Fail> {
+    let tables = SmallTables::build(rt.alloc(), Event::C222)?;
+    let cube = Small222::event(&tables);
+    let mut zeros = ChaChaWords::new(&Seed([0; 32]), 0);
+    expect_draw(&rt, &cube, &mut zeros, 0, 1, Some(3015702));
+    expect_listed(&rt, &cube, &LAST, 0, 2, Some(3674159));
+    expect_listed(&rt, &cube, &LAST, 0, 1, None);
+    // the state after U needs one turn, and not four
+    expect_listed(&rt, &cube, &AFTER_U, 1, 1, Some(1574640));
+    expect_listed(&rt, &cube, &AFTER_U, 4, 1, None);
+    expect_listed(&rt, &cube, &NO_WORDS, 1, 5, None);
+    expect_listed(&rt, &cube, &NO_WORDS, 0, 1, Some(0));
+    laws::measured::<Numbers222>();
+    Ok(())
+}
+
+#[test]
+fn scrambles_of_pyram(rt: HostRuntime) -> Result<(), Fail> {
+    let tables = SmallTables::build(rt.alloc(), Event::Pyram)?;
+    assert!(rt;
+        tables.table(TableName::Pyramid).is_some() && tables.table(TableName::Flips).is_none()
+    );
+    scrambled_pyraminxes(&rt, &tables, &PYRAMINXES);
+    let pyraminx = SmallPyram::event(&tables);
+    expect_listed(&rt, &pyraminx, &TWO_TIPS, 2, 1, Some(55));
+    expect_listed(&rt, &pyraminx, &TWO_TIPS, 3, 1, None);
+    laws::shown_by_parts::<TetraminxNumbers>();
+    Ok(())
+}
+
+#[test]
+fn scrambles_of_skewb(rt: HostRuntime) -> Result<(), Fail> {
+    let tables = SmallTables::build(rt.alloc(), Event::Skewb)?;
+    assert!(rt;
+        tables.table(TableName::Skewb).is_some() && tables.table(TableName::Flips).is_none()
+    );
+    scrambled_skewbs(&rt, &tables, &SKEWBS);
+    let skewb = SmallSkewb::event(&tables);
+    expect_listed(&rt, &skewb, &AFTER_B, 1, 1, Some(9423));
+    expect_listed(&rt, &skewb, &AFTER_B, 2, 1, None);
+    laws::shown_by_parts::<SkewbNumbers>();
+    Ok(())
+}

@@ -1,0 +1,248 @@
+ghost use Rattle.std.specs.Prelude.{◌<◌, ◌≤◌};
+ghost use Rattle.scr_table.specs.Distances.{Measures};
+ghost use Rattle.scr_table.specs.Row.{row};
+
+use arrayvec::ArrayVec;
+use scr_coord::Coord;
+use scr_table::{BuildFault, DistanceTable, Moves, TableName, laws, no_shorter};
+use std::alloc::Global;
+use std::process::Abort;
+
+/// A row of positions: from each but the first, one turn leads to the position before, and the first is the goal. The turn
+/// can't be undone.
+#[derive(Clone, Copy)]
+struct Row(u32);
+
+impl Coord for Row {
+    ghost use Rattle.scr_table.specs.Row.{row, row_stays};
+
+    ghost coordinate = { λ r. row r.0 };
+
+    fn count(&self) -> u32 {
+        self.0
+    }
+
+    fn turns(&self) -> u32 {
+        1
+    }
+
+    fn after(&self, position: u32, _turn: u32) -> Option<u32> {
+        if position == 0 {
+            None
+        } else {
+            Some(position - 1)
+        }
+    }
+
+    fn is_goal(&self, position: u32) -> bool {
+        position == 0
+    }
+
+    ghost law = { λ r. row_stays r.0 };
+}
+
+/// A circle of positions, and steps by powers of 4 both ways: turns that can be undone.
+struct Circle;
+
+const SIZE: u32 = 1048576;
+
+const STEPS: [u32; 20] = [
+    1, 1048575, 4, 1048572, 16, 1048560, 64, 1048512, 256, 1048320, 1024, 1047552, 4096, 1044480,
+    16384, 1032192, 65536, 983040, 262144, 786432,
+];
+
+impl Coord for Circle {
+    ghost use Rattle.std.specs.Prelude.{◌+◌, ◌%◌, ◌==◌, Some, slice_index};
+    ghost use Rattle.std.proofs.Common.{arith};
+    ghost use Rattle.scr_tests.specs.declared.table.TheConstants.{STEPS};
+
+    ghost coordinate = { λ _. record {
+      count = 1048576;
+      turns = 20;
+      after = λ p t. Some ((p + slice_index STEPS t) % 1048576);
+      is_goal = λ p. p == 0;
+    } };
+
+    fn count(&self) -> u32 {
+        SIZE
+    }
+
+    fn turns(&self) -> u32 {
+        20
+    }
+
+    fn after(&self, position: u32, turn: u32) -> Option<u32> {
+        let moved = u64::from(position) + u64::from(STEPS[turn as usize]);
+        Some((moved % u64::from(SIZE)) as u32)
+    }
+
+    fn is_goal(&self, position: u32) -> bool {
+        position == 0
+    }
+
+    ghost law = { λ _ p t q position turn leads. Prim.grind arith };
+}
+
+/// A table that is known to measure a row, so that it can be walked down wherever it is handed to.
+#[derive(Drop)]
+struct Measured {
+    table: DistanceTable,
+    ghost measures: { Measures (row 21) table },
+}
+
+fn walked(measured: &Measured, position: u32) -> ArrayVec<u8, 24>
+    requires { position < 21 }
+{
+    measured.table.descend(&Row(21), position)
+}
+
+/// Two lamps. The first turn switches the first lamp; the second turn switches the second lamp, and is refused where the
+/// first is on. Solved is both off.
+struct Lamps;
+
+impl Moves for Lamps {
+    ghost use Rattle.std.specs.Prelude.{◌==◌, not, ◌&&◌, Some, None, if◌then◌else◌};
+
+    type State = (bool, bool);
+
+    ghost moves = { λ _. record {
+      count = 2;
+      after = λ s t. if t == 0 then Some (record { 0 = not s.0; 1 = s.1 })
+          else if s.0 then None else Some (record { 0 = s.0; 1 = not s.1 });
+      is_solved = λ s. not s.0 && not s.1;
+    } };
+
+    fn count(&self) -> u32 {
+        2
+    }
+
+    fn after(&self, state: &(bool, bool), turn: u32) -> Option<(bool, bool)> {
+        if turn == 0 {
+            Some((!state.0, state.1))
+        } else if state.0 {
+            None
+        } else {
+            Some((state.0, !state.1))
+        }
+    }
+
+    fn is_solved(&self, state: &(bool, bool)) -> bool {
+        !state.0 && !state.1
+    }
+
+    // A switch turned twice is as it was.
+    fn is_idle(&self, first: u32, second: u32) -> bool {
+        first == second
+    }
+}
+
+/// A number: the first turn takes one away, and is refused at 0; the second halves it, and is refused where it is odd.
+struct Halving;
+
+impl Moves for Halving {
+    ghost use Rattle.std.specs.Prelude.{◌-◌, ◌/◌, ◌%◌, ◌==◌, Some, None, if◌then◌else◌};
+
+    type State = u32;
+
+    ghost moves = { λ _. record {
+      count = 2;
+      after = λ s t. if t == 0 then (if s == 0 then None else Some (s - 1))
+          else if s % 2 == 0 then Some (s / 2) else None;
+      is_solved = λ s. s == 0;
+    } };
+
+    fn count(&self) -> u32 {
+        2
+    }
+
+    fn after(&self, state: &u32, turn: u32) -> Option<u32> {
+        if turn == 0 {
+            state.checked_sub(1)
+        } else if state % 2 == 0 {
+            Some(state / 2)
+        } else {
+            None
+        }
+    }
+
+    fn is_solved(&self, state: &u32) -> bool {
+        *state == 0
+    }
+}
+
+/// The table of a row has the distances from 0 on, and `greatest` is the last.
+fn expect_row(rt: &impl Abort, alloc: Global, count: u32, bound: u32, greatest: u32)
+    requires some { 0 < count }
+    requires bound { bound ≤ 24 }
+{
+    match DistanceTable::build(alloc, TableName::Square, &Row(count), bound) {
+        Ok(table) => {
+            assert_eq!(rt; table.name(), TableName::Square);
+            assert_eq!(rt; [table.bound(), table.positions()], [bound, count]);
+            assert_eq!(rt; table.distance(count - 1), greatest);
+            assert_eq!(rt;
+                table.descend(&Row(count), count - 1).len(),
+                greatest as usize
+            );
+            let counts = table.counts();
+            for distance in 0..25 {
+                assert_eq!(rt; counts[distance as usize], u32::from(distance <= greatest));
+            }
+        }
+        Err(_) => assert!(rt; false, "{count} positions at bound {bound}"),
+    }
+}
+
+fn expect_gap(rt: &impl Abort, alloc: Global, count: u32, bound: u32, index: u32)
+    requires { bound ≤ 24 }
+{
+    let fault = DistanceTable::build(alloc, TableName::Square, &Row(count), bound).err();
+    let table = TableName::Square;
+    assert_eq!(rt; fault, Some(BuildFault::Gap { table, index }));
+}
+
+#[test]
+fn rows(rt: HostRuntime) {
+    expect_row(&rt, rt.alloc(), 21, 20, 20);
+    expect_row(&rt, rt.alloc(), 25, 24, 24);
+    expect_row(&rt, rt.alloc(), 1, 0, 0);
+    expect_gap(&rt, rt.alloc(), 22, 20, 21);
+    expect_gap(&rt, rt.alloc(), 2, 0, 1);
+    if let Ok(table) = DistanceTable::build(rt.alloc(), TableName::Skewb, &Row(21), 24) {
+        let measured = Measured { table };
+        assert_eq!(rt; walked(&measured, 7).as_slice(), [0; 7].as_slice());
+    }
+}
+
+#[test]
+fn a_circle(rt: HostRuntime) {
+    match DistanceTable::build(rt.alloc(), TableName::Corners, &Circle, 20) {
+        Ok(table) => {
+            let counts = table.counts();
+            assert_eq!(rt; [counts[0], counts[1], table.distance(2)], [1, 20, 2]);
+            assert_eq!(rt; table.descend(&Circle, 3).as_slice(), [0, 3].as_slice());
+        }
+        Err(_) => assert!(rt; false),
+    }
+    assert_eq!(rt; TableName::CornerSlice.text(), "cornerslice");
+}
+
+#[test]
+fn minima(rt: HostRuntime) {
+    for (state, needs) in [
+        ((false, false), 0),
+        ((true, false), 1),
+        ((false, true), 1),
+        ((true, true), 2),
+    ] {
+        for least in 0..6 {
+            assert_eq!(rt; no_shorter(&Lamps, &state, least), least <= needs);
+        }
+    }
+    for (state, needs) in [(0, 0), (3, 3), (8, 4), (16, 5), (24, 6)] {
+        for least in 0..6 {
+            assert_eq!(rt; no_shorter(&Halving, &state, least), least <= needs);
+        }
+    }
+    laws::minima(&Lamps);
+}

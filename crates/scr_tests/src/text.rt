@@ -1,0 +1,59 @@
+//! Texts read and written, each by a table.
+
+use scr_text::*;
+
+#[test]
+fn numbers(rt: HostRuntime) {
+    for (number, text) in [
+        (0, "0"),
+        (9, "9"),
+        (10, "10"),
+        (1_000_000, "1000000"),
+        (u32::MAX, "4294967295"),
+    ] {
+        assert_eq!(rt; decimal(number).as_str(), text);
+        assert_eq!(rt; number_within(text.as_bytes(), 0, u32::MAX), Some(number));
+    }
+    for text in [
+        "",
+        "00",
+        "01",
+        "+1",
+        "-1",
+        "1 ",
+        "1\u{660}",
+        "4294967296",
+        "99999999999999999999",
+    ] {
+        assert_eq!(rt; number_within(text.as_bytes(), 0, u32::MAX), None);
+    }
+    for (text, number) in [("1", Some(1)), ("26", Some(26)), ("0", None), ("27", None)] {
+        assert_eq!(rt; number_within(text.as_bytes(), 1, 26), number);
+    }
+}
+
+#[test]
+fn lines_and_words(rt: HostRuntime) {
+    for (text, line, rest) in [
+        ("", "", None),
+        ("\n", "", Some("")),
+        ("a 1\r\nb\n", "a 1", Some("b\n")),
+        ("a\r\r\n", "a\r", Some("")),
+        ("a\r", "a", None),
+    ] {
+        let (first, others) = split_line(text.as_bytes());
+        assert_eq!(rt; first, line.as_bytes());
+        match (others, rest) {
+            (Some(others), Some(rest)) => assert_eq!(rt; others, rest.as_bytes()),
+            (others, rest) => assert!(rt; others.is_none() && rest.is_none()),
+        }
+    }
+    for (place, wanted) in ["clock", "26", "\u{fe}"].iter().enumerate() {
+        match word_at("\tclock \t26  \u{fe} ".as_bytes(), place) {
+            Some(word) => assert_eq!(rt; word, wanted.as_bytes()),
+            None => assert!(rt; false),
+        }
+    }
+    assert!(rt; word_at(b" a\t", 1).is_none());
+    assert!(rt; word_at(b" \t", 0).is_none());
+}

@@ -1,0 +1,103 @@
+//! Cubes known from elsewhere: solved by another program of the same two parts.
+
+use crate::read;
+use scr_cube::{Cube, CubeNumbers, PowerTurned};
+use scr_draw::{Numbering, attempt};
+use scr_notation::print;
+use scr_stages::StageTables;
+use scr_table::TableName;
+use scr_twophase::{PruneTables, needs_333, scramble_333, two_parts};
+use scr_words::{ChaChaWords, Seed};
+use std::process::Abort;
+use std::test::Fail;
+
+/// Words that lead to cubes from solved, how many tries are made, and the two parts of these cubes, if there are any.
+const CUBES: [(&str, u32, Option<&str>); 10] = [
+    ("", 2000, Some("")),
+    ("", 0, None),
+    ("U", 2000, Some("U'")),
+    ("U2", 2000, Some("U2")),
+    ("R U F", 1, Some("F' U' R U2 D2 R2 L2 U2 D2 L2")),
+    (
+        "R U R' F' D2 B L2 U' F R2 D' L B2 U F2",
+        66,
+        Some("U' B D R2 F' U R' D2 B' U F' L2 D' R2 U' L2 U2 L2 D B2 U2"),
+    ),
+    ("R U R' F' D2 B L2 U' F R2 D' L B2 U F2", 65, None),
+    (
+        "U2 F2 U R2 B2 U' B2 D2 U B2 R D2 R2 D B F2 D' U2 F L",
+        2000,
+        Some("L' F' U2 D F2 B' D' R2 D2 R' B2 U' D2 B2 U B2 R2 U' F2 U2"),
+    ),
+    (
+        "U2 F2 U R2 B2 U' B2 D2 U B2 R D2 R2 D B F2 D' U2 F L",
+        35,
+        None,
+    ),
+    (
+        "U R2 F B R B2 R U2 L B2 R U' D' R2 F R' L B2 U2 F2",
+        2000,
+        None,
+    ),
+];
+
+/// The cubes to which these words lead have these two parts, and their scrambles lead to them.
+fn are_solved(
+    rt: &impl Abort,
+    prune: &PruneTables,
+    stages: &StageTables,
+    rows: &[(&str, u32, Option<&str>)],
+) {
+    for &(word, tries, expected) in rows {
+        let cube = read::cube(rt, word);
+        match (two_parts(prune, &cube, tries), expected) {
+            (Some(parts), Some(text)) => assert_eq!(rt; print(&parts).as_str(), text),
+            (None, None) => {}
+            _ => assert!(rt; false, "{word}"),
+        }
+        let scramble = scramble_333(prune, stages, &cube, tries);
+        assert!(rt; Cube::solved().play(&scramble) == Some(cube));
+        assert!(rt; scramble.turns().len() <= if expected.is_some() { 22 } else { 52 });
+    }
+}
+
+/// The cubes above are solved as they say, and so is the one that a seed gives.
+fn are_known(rt: &impl Abort, prune: &PruneTables, stages: &StageTables) {
+    assert!(rt;
+        prune.table(TableName::EdgeSlice).is_some() && prune.table(TableName::Flips).is_none()
+    );
+    are_solved(rt, prune, stages, &CUBES);
+    // The cube that the seed of zeros gives first.
+    let mut words = ChaChaWords::new(&Seed([0; 32]), 0);
+    match attempt(&mut words, CubeNumbers.count()) {
+        Some(number) => {
+            let cube = CubeNumbers.state_at(number);
+            assert!(rt; needs_333(&cube, 5));
+            assert_eq!(rt;
+                print(&scramble_333(prune, stages, &cube, 2000)).as_str(),
+                "U2 F2 U R2 B2 U' B2 D2 U B2 R D2 R2 D B F2 D' U2 F L"
+            );
+        }
+        None => assert!(rt; false),
+    }
+}
+
+#[test]
+fn tables_and_cubes(rt: HostRuntime) -> Result<(), Fail> {
+    let prune = PruneTables::build(rt.alloc())?;
+    let stages = StageTables::build(rt.alloc())?;
+    are_known(&rt, &prune, &stages);
+    Ok(())
+}
+
+/// A cube that one turn solves needs one, and no more; the one with all edges flipped in place needs five.
+#[test]
+fn minima(rt: HostRuntime) {
+    let flipped = CubeNumbers.state_at(2047);
+    assert!(rt; needs_333(&flipped, 5) && needs_333(&flipped, 4));
+    let turned = Cube::solved().turned(7);
+    assert!(rt; needs_333(&turned, 1) && !needs_333(&turned, 2));
+    assert!(rt; needs_333(&Cube::solved(), 0) && !needs_333(&Cube::solved(), 1));
+    assert_eq!(rt; CubeNumbers.number_of(&flipped), 2047);
+    assert_eq!(rt; CubeNumbers.count(), 43_252_003_274_489_856_000);
+}

@@ -1,5 +1,0 @@
-use Rattle.std.proofs.Common.{◌≡◌, ◌+◌}
-use Rattle.scr_words.proofs.tests.expect_words.Given as goal
-
-abbrev pub invariant-loop-word : goal.invariant-loop-word
-invariant-loop-word g l = g.W.Words.taken l.words ≡ g.W.Words.taken l.initial.words + l.word-index
