@@ -6,3 +6,4 @@ pub mod StepLaws
 pub mod BitLaws
 pub mod RowLaws
 pub mod FollowingLaws
+pub mod OnLiterals

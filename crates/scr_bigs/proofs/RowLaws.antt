@@ -1,11 +1,13 @@
 -- The turns of a Megaminx's scramble, by their places.
-use Rattle.std.proofs.Common.{◌≡◌, ℕ, zero, suc, ◌+◌, ◌-◌, ◌*◌, ◌/◌, ◌%◌, ◌^◌, ◌<◌, ◌≤◌, ◌==◌, Some, List, [], ◌∷◌, ◌++◌, length, replicate, slice_index, refl, sym, ap, ◌∙◌, length-append, pow-add, arith}
+use Rattle.std.proofs.Common.{◌≡◌, ℕ, zero, suc, ◌+◌, ◌-◌, ◌*◌, ◌/◌, ◌%◌, ◌^◌, ◌<◌, ◌≤◌, ◌==◌, Bool, Option, Some, None, List, [], ◌∷◌, ◌++◌, length, replicate, slice_index, refl, sym, ap, ◌∙◌, length-append, pow-add, lit<, arith}
 use Rattle.std.specs.Prelude.{slice_get, option_map}
 use Rattle.std.proofs.Math.Nat.{div-div-eq-div-mul, div-one, pow-suc, mul_comm}
 use Rattle.scr_combinatorics.specs.Digits.{mixed_digits}
 use Rattle.scr_combinatorics.proofs.Digits.{length-mixed_digits}
+use Rattle.scr_draw.specs.Attempt.{answer, attempt_value}
+use Rattle.scr_notation.specs.declared.turn.Turn.{Turn}
 use Rattle.scr_notation.specs.declared.turn.Turn.TheVariants.{Wide}
-use Rattle.scr_bigs.specs.Megaminx.{bits_of, wide_turns, row_turns, rows_turns}
+use Rattle.scr_bigs.specs.Megaminx.{bits_of, wide_turns, row_turns, rows_turns, megaminx_moves}
 use Rattle.scr_bigs.specs.Following.{AreMegaminxTurns}
 use Rattle.scr_bigs.proofs.ListLaws.{slice_get-append_left, slice_get-append_right}
 use Rattle.scr_bigs.proofs.BitLaws.{rows-step, rows_turns-end, last-bit}
@@ -121,3 +123,26 @@ seven-rows v = record {
 pub megaminx-turns : (v : ℕ) → AreMegaminxTurns v (rows_turns 7 (bits_of v))
 unfolding bits_of
 megaminx-turns v = seven-rows v
+
+-- ---- what the turns of a scramble are like
+
+-- what a number gives, where it gives something, are 77 turns
+given-count : (given : Option ℕ) (turns : List Turn)
+    → option_map (λ number. rows_turns 7 (bits_of number)) given ≡ Some turns → length turns ≡ 77
+given-count None turns gives = absurd (cc)
+given-count (Some v) turns gives =
+    let same : rows_turns 7 (bits_of v) ≡ turns = cc in ap length (sym same) ∙ (megaminx-turns v).count
+
+pub megaminx-count : (word : ℕ → ℕ) (place : ℕ) (turns : List Turn) → megaminx_moves word place ≡ Some turns → length turns ≡ 77
+unfolding megaminx_moves
+megaminx-count word place turns gives = given-count (answer (2 ^ 70) (attempt_value word place)) turns gives
+
+-- the last turn of a row goes the way of the turn of D before it
+pub last-turn : (v row : ℕ) (plus : Bool) → row < 7
+    → slice_get (rows_turns 7 (bits_of v)) (11 * row + 9) ≡ Some (Wide 1 plus)
+    → slice_get (rows_turns 7 (bits_of v)) (11 * row + 10) ≡ Some (Wide 2 plus)
+last-turn v row plus low turned =
+    let turns = megaminx-turns v in
+    let before : Some (Wide 1 (v / 2 ^ (10 * row + 9) % 2 == 1)) ≡ Some (Wide 1 plus) = sym (turns.turn row 9 low (lit< tt)) ∙ turned in
+    let way : (v / 2 ^ (10 * row + 9) % 2 == 1) ≡ plus = cc in
+    turns.last row low ∙ ap (λ to. Some (Wide 2 to)) way

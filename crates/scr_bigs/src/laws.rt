@@ -1,9 +1,11 @@
 //! What holds of random moves whatever the code: calls that do nothing, whose contracts are the laws.
 
-ghost use Rattle.std.specs.Prelude.{◌≡◌, ℕ, ◌-◌, ◌*◌, ◌^◌, ◌<◌, ◌↔◌, Some, None, IsTrue, List, codes};
+ghost use Rattle.std.specs.Prelude.{◌≡◌, ℕ, ◌+◌, ◌-◌, ◌*◌, ◌^◌, ◌<◌, ◌↔◌, Some, None, Bool, IsTrue};
+ghost use Rattle.std.specs.Prelude.{List, [], ◌∷◌, ◌++◌, codes, length, option_map, slice_get, slice_index};
 ghost use Rattle.scr_draw.specs.Attempt.{answer, is_accepted, quotient};
+ghost use Rattle.scr_notation.specs.declared.event.Event.TheVariants.{C555, C666, C777};
 ghost use Rattle.scr_notation.specs.declared.turn.Turn.{Turn};
-ghost use Rattle.scr_notation.specs.declared.turn.Turn.TheVariants.{Face};
+ghost use Rattle.scr_notation.specs.declared.turn.Turn.TheVariants.{Face, Wide};
 ghost use Rattle.scr_notation.specs.Spelling.{text_of};
 ghost use Rattle.scr_bigs.specs.BigCubes.{IsSide, cube_of, slab, all_turns, may_follow};
 ghost use Rattle.scr_bigs.specs.CubeMoves.{cube_moves};
@@ -30,6 +32,46 @@ pub fn random_turns()
     ensures cubes { (side attempts place : ℕ) (word : ℕ → ℕ) (turns : List Turn)
         → cube_moves (cube_of side) attempts word place ≡ Some turns → AreCubeTurns (cube_of side) turns }
     ensures megaminx { (v : ℕ) → AreMegaminxTurns v (rows_turns 7 (bits_of v)) }
+{}
+
+/// A scramble of a 5x5x5 has 60 turns, of a 6x6x6 80 and of a 7x7x7 100; that of a Megaminx has 77.
+pub fn turn_counts()
+    ensures of_555 { (attempts place : ℕ) (word : ℕ → ℕ) (turns : List Turn)
+        → cube_moves (cube_of 5) attempts word place ≡ Some turns → length turns ≡ 60 }
+    ensures of_666 { (attempts place : ℕ) (word : ℕ → ℕ) (turns : List Turn)
+        → cube_moves (cube_of 6) attempts word place ≡ Some turns → length turns ≡ 80 }
+    ensures of_777 { (attempts place : ℕ) (word : ℕ → ℕ) (turns : List Turn)
+        → cube_moves (cube_of 7) attempts word place ≡ Some turns → length turns ≡ 100 }
+    ensures of_megaminx { (place : ℕ) (word : ℕ → ℕ) (turns : List Turn)
+        → megaminx_moves word place ≡ Some turns → length turns ≡ 77 }
+{}
+
+/// The cubes of five, six and seven layers are those of their events.
+pub fn events()
+    ensures of_555 { (cube_of 5).event ≡ C555 }
+    ensures of_666 { (cube_of 6).event ≡ C666 }
+    ensures of_777 { (cube_of 7).event ≡ C777 }
+{}
+
+/// Each row of a Megaminx ends with a turn of U the way of its last turn of D.
+pub fn last_turns()
+    ensures { (v row : ℕ) (plus : Bool) → row < 7
+        → slice_get (rows_turns 7 (bits_of v)) (11 * row + 9) ≡ Some (Wide 1 plus)
+        → slice_get (rows_turns 7 (bits_of v)) (11 * row + 10) ≡ Some (Wide 2 plus) }
+{}
+
+/// The Megaminx of the first three words of the stream of zeros of ChaCha20, row by row as it is spelled.
+#[tactic(auto, unfolding(crate::proofs::OnLiterals::megaminx_on_literals))]
+pub fn known_megaminx()
+    ensures { let words = 0xade0b876 ∷ 0x903df1a0 ∷ 0xe56a5d40 ∷ [] in
+        option_map text_of (megaminx_moves (slice_index words) 0)
+        ≡ Some (codes "R-- D++ R++ D-- R++ D++ R++ D-- R-- D-- U' "
+        ++ codes "R-- D++ R++ D++ R-- D++ R-- D-- R-- D-- U' "
+        ++ codes "R-- D++ R++ D++ R++ D-- R++ D++ R-- D++ U "
+        ++ codes "R-- D++ R-- D-- R-- D-- R-- D++ R-- D++ U "
+        ++ codes "R++ D-- R-- D-- R++ D++ R++ D++ R++ D-- U' "
+        ++ codes "R++ D++ R++ D++ R-- D-- R-- D-- R-- D-- U' "
+        ++ codes "R++ D-- R-- D++ R-- D-- R-- D-- R-- D-- U'") }
 {}
 
 /// Every number of a Megaminx is accepted.

@@ -1,3 +1,8 @@
+pub mod DialTurns
+pub mod Hours
+pub mod HeldLaws
+pub mod AmountLaws
+pub mod Reached
 pub mod SideLaws
 pub mod ScrambleLaws
 pub mod OverLaws

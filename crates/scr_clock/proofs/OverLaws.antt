@@ -2,7 +2,7 @@
 use Rattle.std.proofs.Common.{◌≡◌, ℕ, ◌+◌, ◌-◌, ◌%◌, ◌<◌, Bool, true, false, cond, List, refl, arith}
 use Rattle.scr_clock.specs.Dials.{IsClock, gain_at, turned, dial_turn}
 use Rattle.scr_clock.specs.Known.{turned_over}
-use Rattle.scr_clock.specs.Proofs.Hours.{clock_by_dials, cons_same}
+use Rattle.scr_clock.proofs.Hours.{clock_by_dials, cons_same}
 
 -- minus what a corner comes to by minus an amount is what minus the corner comes to by that amount
 corner : (b : Bool) (d a : ℕ) → d < 12 → a < 12 → (12 - (d + cond b 0 (12 - a)) % 12) % 12 ≡ ((12 - d) % 12 + cond b 0 a) % 12

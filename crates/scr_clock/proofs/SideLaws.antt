@@ -5,8 +5,8 @@ use Rattle.std.proofs.lemmas.Bool.{false≢true, cond-false, ne_eqb, cases_cond,
 use Rattle.scr_clock.specs.Dials.{IsClock, gain_at, turned, solved, dial_turn}
 use Rattle.scr_clock.specs.Least.{turns_lead}
 use Rattle.scr_clock.specs.Sides.{Setting, turn_by, SomeTurn, SidesLead, OfOthers, IsOtherSolved, centre_amount, AreBackEdgesCarried}
-use Rattle.scr_clock.specs.Proofs.Hours.{hour_at}
-use Rattle.scr_clock.specs.Proofs.TurnLaws.{turned-at, turned_swap, IsClock-turned}
+use Rattle.scr_clock.specs.Proofs.TurnLaws.{hour_at, IsClock-turned}
+use Rattle.scr_clock.proofs.DialTurns.{turned-at, turned_swap}
 use Rattle.scr_clock.specs.Proofs.LeastLaws.{solved_from_all_twelve, turns_lead-from, turns_lead-gives}
 
 -- ---- what a turn of one side leaves alone

@@ -3,7 +3,7 @@ ghost use Rattle.std.specs.Prelude.{◌≡◌, ℕ, ◌≤◌, replicate};
 
 use crate::clock::Clock;
 use crate::least::needs_at_least;
-use scr_draw::{Numbering, Permit, RandomState};
+use scr_draw::{NumberedStates, Numbering, Permit};
 use scr_rank::{MixedRadix, in_bytes};
 
 /// How many Clocks there are: 12^14.
@@ -28,13 +28,16 @@ fn digits(dials: &[u8; 14]) -> [u128; 14]
 #[derive(Clone, Copy)]
 pub struct ClockNumbers;
 
-impl Numbering for ClockNumbers {
+impl NumberedStates<Clock> for ClockNumbers {
     ghost use Rattle.scr_clock.specs.Numbers.{clock_numbered};
+
+    ghost numbered = { λ _. clock_numbered };
+}
+
+impl Numbering for ClockNumbers {
     ghost use Rattle.scr_clock.specs.Proofs.Numbering.{clock_numbering};
 
     type State = Clock;
-
-    ghost numbered = { λ _. clock_numbered };
 
     ghost law = { λ _. clock_numbering };
 
@@ -56,7 +59,6 @@ impl Permit<Clock> for ClockNumbers {
     ghost use Rattle.scr_clock.specs.Dials.{clock_puzzle};
     ghost use Rattle.scr_clock.specs.Least.{needs_test};
     ghost use Rattle.scr_clock.specs.Proofs.LeastLaws.{needs_test-iff};
-    ghost use Rattle.scr_clock.specs.Proofs.Reached.{IsClock-reached};
 
     ghost puzzle = { λ _. clock_puzzle };
 
@@ -68,11 +70,5 @@ impl Permit<Clock> for ClockNumbers {
         needs_at_least(state, least)
     }
 
-    ghost exact = { λ _ dials least range reached. needs_test-iff dials least (IsClock-reached dials reached) };
-}
-
-impl RandomState for ClockNumbers {
-    ghost use Rattle.scr_clock.specs.Proofs.Reached.{IsClock-iff};
-
-    ghost reached = { λ _. IsClock-iff };
+    ghost exact = { λ _ dials least range. needs_test-iff dials least };
 }

@@ -1,7 +1,8 @@
+pub mod EachOption
 pub mod Ordinary
 pub mod Parsed
 pub mod Rows
-pub mod SheetRules
+pub mod OptionRules
 pub mod Slots
 pub mod SpellingLaws
 pub mod Turns

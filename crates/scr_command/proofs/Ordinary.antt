@@ -10,7 +10,9 @@ use Rattle.std.proofs.lemmas.List.{get_or_default}
 use Rattle.std.proofs.lemmas.Bool.Decides.{nat_tests}
 use Rattle.std.proofs.lemmas.Str.{IsUtf8-past_char, encode_ascii, encodes-chars}
 use Rattle.scr_command.specs.Hyphens.{IsOrdinary, is_bare}
-use Rattle.scr_command.specs.OptionWords.{OptionName, Text, attached_value, begins_with_hyphen, option_name_of, option_read, options_in, options_of, options_read, option_spelling, with_given}
+use Rattle.scr_command.specs.declared.options.OptionName.{OptionName}
+use Rattle.scr_command.specs.OptionTable.{Text}
+use Rattle.scr_command.specs.OptionWords.{attached_value, begins_with_hyphen, option_read, options_of, options_read, option_spelling, spelled_option, values_in, with_given, with_own}
 use Rattle.scr_command.specs.Words.{texts}
 use Rattle.scr_command.proofs.Walked.{AreLeft, IsLeft}
 
@@ -59,16 +61,16 @@ all_left (w ∷ words) h = (left_of w.now (h 0 w (omega arith)), all_left words 
 
 -- ---- a lone hyphen or two are never in the grammar
 
-bare_word : (word : Text) → is_bare word ≡ true → (begins_with_hyphen word ≡ true) × (option_name_of (option_spelling word) ≡ None)
+bare_word : (word : Text) → is_bare word ≡ true → (begins_with_hyphen word ≡ true) × (spelled_option (option_spelling word) ≡ None)
 bare_word word h = go (bytes_eq word (codes "-")) refl
   where
-    one : word ≡ codes "-" → (begins_with_hyphen word ≡ true) × (option_name_of (option_spelling word) ≡ None)
-    one e = subst (λ w. (begins_with_hyphen w ≡ true) × (option_name_of (option_spelling w) ≡ None)) (sym e) (refl, refl)
+    one : word ≡ codes "-" → (begins_with_hyphen word ≡ true) × (spelled_option (option_spelling word) ≡ None)
+    one e = subst (λ w. (begins_with_hyphen w ≡ true) × (spelled_option (option_spelling w) ≡ None)) (sym e) (refl, refl)
 
-    two : word ≡ codes "--" → (begins_with_hyphen word ≡ true) × (option_name_of (option_spelling word) ≡ None)
-    two e = subst (λ w. (begins_with_hyphen w ≡ true) × (option_name_of (option_spelling w) ≡ None)) (sym e) (refl, refl)
+    two : word ≡ codes "--" → (begins_with_hyphen word ≡ true) × (spelled_option (option_spelling word) ≡ None)
+    two e = subst (λ w. (begins_with_hyphen w ≡ true) × (spelled_option (option_spelling w) ≡ None)) (sym e) (refl, refl)
 
-    go : (t : Bool) → bytes_eq word (codes "-") ≡ t → (begins_with_hyphen word ≡ true) × (option_name_of (option_spelling word) ≡ None)
+    go : (t : Bool) → bytes_eq word (codes "-") ≡ t → (begins_with_hyphen word ≡ true) × (spelled_option (option_spelling word) ≡ None)
     go true e = one ((bytes_eq-Decides word (codes "-")).0 e)
     go false e = two ((bytes_eq-Decides word (codes "--")).0 (ap (λ t. t || bytes_eq word (codes "--")) (sym e) ∙ h))
 
@@ -79,7 +81,7 @@ refused_here word rest (Some k) h = ap (λ t. cond t None (with_given k word (op
 
 refused_later : (word : Text) (rest : List Text) (waiting : Option OptionName) → ((w : Option OptionName) → options_read w rest ≡ None) → options_read waiting (word ∷ rest) ≡ None
 unfolding options_read
-refused_later word rest None h = go (option_name_of (option_spelling word)) (attached_value word)
+refused_later word rest None h = go (spelled_option (option_spelling word)) (attached_value word)
   where
     go : (o : Option OptionName) (v : Option Text) → option_read o v (λ w. options_read w rest) ≡ None
     go None v = refl
@@ -99,8 +101,8 @@ none_read (word ∷ rest) h waiting = go (is_bare word) refl (none_read rest)
     go true e later = refused_here word rest waiting e
     go false e later = refused_later word rest waiting (later (ap (λ t. t || list_any is_bare rest) (sym e) ∙ h))
 
-pub bare_refused : (words : List Text) → list_any is_bare words ≡ true → options_of words ≡ None
-bare_refused words h = ap (option_and_then options_in) (none_read words h None)
+pub bare_refused : (own : List OptionName) (words : List Text) → list_any is_bare words ≡ true → options_of own words ≡ None
+bare_refused own words h = ap (λ o. option_and_then (with_own own) (option_and_then values_in o)) (none_read words h None)
 
 -- ---- the loop that looks for them
 

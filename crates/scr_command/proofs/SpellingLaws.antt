@@ -1,24 +1,25 @@
 -- The words of a list of options are read as these, and no others are.
-use Rattle.std.proofs.Common.{◌≡◌, ◌∙◌, refl, sym, ap, subst, cond, List, [], ◌∷◌, ◌++◌, Bool, true, false, Option, Some, None, codes, arith}
+use Rattle.std.proofs.Common.{◌≡◌, ◌∙◌, refl, sym, ap, subst, cond, List, [], ◌∷◌, ◌++◌, map, Bool, true, false, Option, Some, None, arith}
 use Rattle.std.specs.Prelude.{unwrap_or}
-use Rattle.std.specs.Str.{bytes_eq}
 use Rattle.std.proofs.lemmas.Bool.Decides.{nat_tests}
-use Rattle.std.proofs.lemmas.Slice.Eq.{bytes_eq-Decides}
-use Rattle.scr_command.specs.OptionWords.{Given, OptionName, Seed, Workers, Tries, Attempts, Text, attached_value, begins_with_hyphen, is_equals, option_name_of, option_read, options_read, option_spelling, with_given}
-use Rattle.scr_command.specs.Spelling.{AllFit, ReadsBack, ReadsNothingElse, WrittenOption, flag_of, options_in_order, option_words, written_options}
+use Rattle.scr_command.specs.declared.options.OptionName.{OptionName}
+use Rattle.scr_command.specs.OptionTable.{Text, flag_of}
+use Rattle.scr_command.specs.OptionWords.{Given, attached_value, begins_with_hyphen, is_equals, option_read, options_read, option_spelling, spelled_option, with_given}
+use Rattle.scr_command.specs.Spelling.{AllFit, ReadsBack, ReadsNothingElse, WrittenOption, option_words, written_options}
+use Rattle.scr_command.proofs.EachOption.{each_alike, spelled}
 use Rattle.scr_command.proofs.WordForms.{attached-cons, option_spelling-cons, option_spelling-equals}
 
-one_word : (k : OptionName) (v : Text) → (option_name_of (option_spelling (flag_of k ++ 61 ∷ v)) ≡ Some k) × (attached_value (flag_of k ++ 61 ∷ v) ≡ Some v)
-one_word Seed v = (refl, refl)
-one_word Workers v = (refl, refl)
-one_word Tries v = (refl, refl)
-one_word Attempts v = (refl, refl)
+one_word : (k : OptionName) (v : Text) → (spelled_option (option_spelling (flag_of k ++ 61 ∷ v)) ≡ Some k) × (attached_value (flag_of k ++ 61 ∷ v) ≡ Some v)
+one_word k v = (
+  each_alike (λ k. spelled_option (option_spelling (flag_of k ++ 61 ∷ v))) (λ k. Some k) refl k,
+  each_alike (λ k. attached_value (flag_of k ++ 61 ∷ v)) (λ k. Some v) refl k,
+)
 
-alone : (k : OptionName) → (option_name_of (option_spelling (flag_of k)) ≡ Some k) × (attached_value (flag_of k) ≡ None)
-alone Seed = (refl, refl)
-alone Workers = (refl, refl)
-alone Tries = (refl, refl)
-alone Attempts = (refl, refl)
+alone : (k : OptionName) → (spelled_option (option_spelling (flag_of k)) ≡ Some k) × (attached_value (flag_of k) ≡ None)
+alone k = (
+  each_alike (λ k. spelled_option (option_spelling (flag_of k))) (λ k. Some k) refl k,
+  each_alike (λ k. attached_value (flag_of k)) (λ k. None) refl k,
+)
 
 read_first : (t : Bool) (k : OptionName) (v : Text) (rest : List Text) → (t ≡ false → begins_with_hyphen v ≡ false)
     → options_read None (option_words t k v rest) ≡ with_given k v (options_read None rest)
@@ -31,11 +32,14 @@ read_first false k v rest fits =
     (λ i. option_read (f.0 i) (f.1 i) (λ w. options_read w (v ∷ rest)))
     ∙ ap (λ b. cond b None (with_given k v (options_read None rest))) (fits refl)
 
-pub reads_back : ReadsBack
+written_read : (ws : List WrittenOption) → AllFit ws → options_read None (written_options ws) ≡ Some (map (λ w. w.given) ws)
 unfolding options_read
-reads_back [] fits = refl
-reads_back (w ∷ rest) fits =
-    read_first w.in_one_word w.given.name w.given.value (written_options rest) fits.0 ∙ ap (with_given w.given.name w.given.value) (reads_back rest fits.1)
+written_read [] fits = refl
+written_read (w ∷ rest) fits =
+    read_first w.in_one_word w.given.option w.given.value (written_options rest) fits.0 ∙ ap (with_given w.given.option w.given.value) (written_read rest fits.1)
+
+pub reads_back : ReadsBack
+reads_back words given it = ap (options_read None) (sym it.words_are) ∙ written_read it.written it.fit ∙ ap Some it.given_are
 
 -- ---- the other way
 
@@ -62,25 +66,8 @@ split_word (c ∷ rest) v h = go (is_equals c) refl (split_word rest v)
         (λ i. byte i ∷ unwrap_or (same i) rest) ∙ ap (λ t. t ++ 61 ∷ v) (sym (option_spelling-equals c rest e))
     go false e later = ap (λ t. c ∷ t) (later (sym (attached-cons c rest e) ∙ h)) ∙ ap (λ t. t ++ 61 ∷ v) (sym (option_spelling-cons c rest e))
 
--- only its spelling names an option
-spelled : (text : Text) (k : OptionName) → option_name_of text ≡ Some k → text ≡ flag_of k
-spelled text k h = go (bytes_eq (codes "--seed") text) (bytes_eq (codes "--workers") text) (bytes_eq (codes "--tries") text) (bytes_eq (codes "--attempts") text) refl refl refl refl
-  where
-    is : (j : OptionName) → bytes_eq (flag_of j) text ≡ true → option_name_of text ≡ Some j → text ≡ flag_of k
-    is j same named = sym ((bytes_eq-Decides (flag_of j) text).0 same) ∙ ap (λ o. flag_of (unwrap_or o j)) (sym named ∙ h)
-
-    go : (a b c d : Bool) → bytes_eq (codes "--seed") text ≡ a → bytes_eq (codes "--workers") text ≡ b → bytes_eq (codes "--tries") text ≡ c → bytes_eq (codes "--attempts") text ≡ d
-        → text ≡ flag_of k
-    go true b c d p q r s = is Seed p (rw p refl)
-    go false true c d p q r s = is Workers q (rw (p, q) refl)
-    go false false true d p q r s = is Tries r (rw (p, q, r) refl)
-    go false false false true p q r s = is Attempts s (rw (p, q, r, s) refl)
-    go false false false false p q r s =
-        let none : option_name_of text ≡ None = rw (p, q, r, s) refl in
-        cc
-
 abbrev Spells : List Text → List Given → Type 0
-Spells words given = (ws : List WrittenOption) × AllFit ws × (written_options ws ≡ words) × (options_in_order ws ≡ given)
+Spells words given = (ws : List WrittenOption) × AllFit ws × (written_options ws ≡ words) × (map (λ w. w.given) ws ≡ given)
 
 -- one option more, written before words that spell the rest
 with_first : (t : Bool) (k : OptionName) (v : Text) (words rest : List Text) (given : List Given) (o : Option (List Given)) → with_given k v o ≡ Some given
@@ -88,11 +75,11 @@ with_first : (t : Bool) (k : OptionName) (v : Text) (words rest : List Text) (gi
 with_first t k v words rest given None read are fits spells = cc
 with_first t k v words rest given (Some later) read are fits spells =
     let s = spells later refl in
-    let first : WrittenOption = record { given = record { name = k; value = v }; in_one_word = t } in (
+    let first : WrittenOption = record { given = record { option = k; value = v }; in_one_word = t } in (
       first ∷ s.0,
       (fits, s.1),
       ap (option_words t k v) s.2 ∙ sym are,
-      ap (λ gs. record { name = k; value = v } ∷ gs) s.3 ∙ ap (λ o. unwrap_or o given) read,
+      ap (λ gs. record { option = k; value = v } ∷ gs) s.3 ∙ ap (λ o. unwrap_or o given) read,
     )
 
 -- the words with the spelling of the option that waits before them
@@ -113,9 +100,9 @@ reads (word ∷ rest) (Some k) given h = go (begins_with_hyphen word) refl (read
     go false e later =
         let read : with_given k word (options_read None rest) ≡ Some given = rw e at h in
         with_first false k word (flag_of k ∷ word ∷ rest) rest given (options_read None rest) read refl (λ _. e) later
-reads (word ∷ rest) None given h = go (option_name_of (option_spelling word)) (attached_value word) refl refl (reads rest)
+reads (word ∷ rest) None given h = go (spelled_option (option_spelling word)) (attached_value word) refl refl (reads rest)
   where
-    go : (o : Option OptionName) (v : Option Text) → option_name_of (option_spelling word) ≡ o → attached_value word ≡ v
+    go : (o : Option OptionName) (v : Option Text) → spelled_option (option_spelling word) ≡ o → attached_value word ≡ v
         → ((w : Option OptionName) (later : List Given) → options_read w rest ≡ Some later → Reads w rest later) → Spells (word ∷ rest) given
     go None v e a later =
         let none : None ≡ Some given = ap (λ o. option_read o (attached_value word) (λ w. options_read w rest)) (sym e) ∙ h in
@@ -130,4 +117,6 @@ reads (word ∷ rest) None given h = go (option_name_of (option_spelling word)) 
         subst (λ t. Spells (t ∷ rest) given) (sym is) (later (Some k) given read)
 
 pub reads_nothing_else : ReadsNothingElse
-reads_nothing_else words given h = reads words None given h
+reads_nothing_else words given h =
+    let it = reads words None given h in
+    record { written = it.0; fit = it.1; words_are = it.2; given_are = it.3 }

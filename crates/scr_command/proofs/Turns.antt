@@ -1,8 +1,10 @@
 -- What the parser makes of one word.
 use Rattle.std.proofs.Common.{length, ◌≡◌, ◌∙◌, refl, ap, cond, ℕ, ◌==◌, List, [], ◌∷◌, Bool, true, false, Option, Some, None}
-use Rattle.scr_command.specs.OptionWords.{OptionName, Seed, Workers, Tries, Attempts, Text, attached_value, begins_with_hyphen, option_spelling}
-use Rattle.scr_command.proofs.SheetRules.{rule_for, rules, shape}
-use Rattle.scr_command.specs.SheetCommand.{option_id}
+use Rattle.scr_command.specs.declared.options.OptionName.{OptionName}
+use Rattle.scr_command.specs.OptionTable.{Text, name_of}
+use Rattle.scr_command.specs.OptionWords.{attached_value, begins_with_hyphen, option_spelling}
+use Rattle.scr_command.proofs.EachOption.{each_alike}
+use Rattle.scr_command.proofs.OptionRules.{rule_for, rules, shape}
 use Rattle.std.specs.Prelude.{option_and_then, slice_get}
 use Rattle.std.specs.Option.{option_map_or}
 use Rattle.std.specs.Str.{bytes_eq, chars}
@@ -23,21 +25,15 @@ or_else-nil (k ∷ ks) = refl
 
 -- an option with its values so far
 abbrev pub pending : OptionName → List Text → Held → Held
-pending k values h = record h { pending = Some (option_id k, values) }
+pending k values h = record h { pending = Some (name_of k, values) }
 
 pub pending_fault : (k : OptionName) (values : List Text) (h : Held) → settle_fault rules false (pending k values h) ≡ use_fault false (rule_for k) values h.rows
 unfolding rule_for
-pending_fault Seed values h = refl
-pending_fault Workers values h = refl
-pending_fault Tries values h = refl
-pending_fault Attempts values h = refl
+pending_fault k values h = each_alike (λ k. settle_fault rules false (pending k values h)) (λ k. use_fault false (rule_for k) values h.rows) refl k
 
 pub pending_settled : (k : OptionName) (values : List Text) (h : Held) → (settled rules (pending k values h)).rows ≡ used (rule_for k) values h.rows
 unfolding rule_for
-pending_settled Seed values h = refl
-pending_settled Workers values h = refl
-pending_settled Tries values h = refl
-pending_settled Attempts values h = refl
+pending_settled k values h = each_alike (λ k. (settled rules (pending k values h)).rows) (λ k. used (rule_for k) values h.rows) refl k
 
 -- ---- a word that doesn't begin with a hyphen
 
@@ -111,28 +107,22 @@ stray_word h word e =
     any_turn idle h word ∙ (λ i. other_turn (f.0 i) (f.1 i) (f.2 i) idle word h) ∙ stray_turn h word
 
 module _ (h : Held) (word : Text) where
-  value_turn : (k : OptionName) → other_turn false None None (option (option_id k)) word (pending k [] h) ≡ []
+  value_turn : (k : OptionName) → other_turn false None None (option (name_of k)) word (pending k [] h) ≡ []
   unfolding rule_for
-  value_turn Seed = refl
-  value_turn Workers = refl
-  value_turn Tries = refl
-  value_turn Attempts = refl
+  value_turn k = each_alike (λ k. other_turn false None None (option (name_of k)) word (pending k [] h)) (λ k. []) refl k
 
-  value_walked : (k : OptionName) → other_walked false None None (option (option_id k)) word (pending k [] h) ≡ at_word (pending k (word ∷ []) h) idle
+  value_walked : (k : OptionName) → other_walked false None None (option (name_of k)) word (pending k [] h) ≡ at_word (pending k (word ∷ []) h) idle
   unfolding rule_for
-  value_walked Seed = refl
-  value_walked Workers = refl
-  value_walked Tries = refl
-  value_walked Attempts = refl
+  value_walked k = each_alike (λ k. other_walked false None None (option (name_of k)) word (pending k [] h)) (λ k. at_word (pending k (word ∷ []) h) idle) refl k
 
 -- where one waits it is its value
 pub value_word : (k : OptionName) (h : Held) (word : Text) → begins_with_hyphen word ≡ false
-    → (turn_fault shape [] (at_word (pending k [] h) (option (option_id k))) word ≡ [])
-    × (walked rules [] (at_word (pending k [] h) (option (option_id k))) word ≡ at_word (pending k (word ∷ []) h) idle)
+    → (turn_fault shape [] (at_word (pending k [] h) (option (name_of k))) word ≡ [])
+    × (walked rules [] (at_word (pending k [] h) (option (name_of k))) word ≡ at_word (pending k (word ∷ []) h) idle)
 value_word k h word e =
     let f = plain_facts word e in (
-      any_turn (option (option_id k)) (pending k [] h) word ∙ (λ i. other_turn (f.0 i) (f.1 i) (f.2 i) (option (option_id k)) word (pending k [] h)) ∙ value_turn h word k,
-      waiting_walked (option_id k) (pending k [] h) word ∙ (λ i. other_walked (f.0 i) (f.1 i) (f.2 i) (option (option_id k)) word (pending k [] h)) ∙ value_walked h word k,
+      any_turn (option (name_of k)) (pending k [] h) word ∙ (λ i. other_turn (f.0 i) (f.1 i) (f.2 i) (option (name_of k)) word (pending k [] h)) ∙ value_turn h word k,
+      waiting_walked (name_of k) (pending k [] h) word ∙ (λ i. other_walked (f.0 i) (f.1 i) (f.2 i) (option (name_of k)) word (pending k [] h)) ∙ value_walked h word k,
     )
 
 -- ---- a word of one hyphen and more
@@ -197,17 +187,11 @@ module _ (waiting : Waiting) (h : Held) (c : ℕ) (rest : Text) where
   given_turn : (k : OptionName) (v : Text) → long_turn (Some (rule_for k)) (Some v) waiting (long_word c rest) h
       ≡ or_else (settle_fault rules false h) (use_fault false (rule_for k) (v ∷ []) (settled rules h).rows)
   unfolding rule_for
-  given_turn Seed v = or_else-nil _
-  given_turn Workers v = or_else-nil _
-  given_turn Tries v = or_else-nil _
-  given_turn Attempts v = or_else-nil _
+  given_turn k v = or_else-nil _
 
   given_walked : (k : OptionName) (v : Text) → long_walked (Some (rule_for k)) (Some v) waiting (long_word c rest) h ≡ at_word (reacted rules (rule_for k) (v ∷ []) h) idle
   unfolding rule_for
-  given_walked Seed v = refl
-  given_walked Workers v = refl
-  given_walked Tries v = refl
-  given_walked Attempts v = refl
+  given_walked k v = refl
 
   -- an option with its value
   pub given_option : (k : OptionName) (v : Text) → arg_by_long rules (option_spelling (c ∷ rest)) ≡ Some (rule_for k) → attached_value (c ∷ rest) ≡ Some v
@@ -220,22 +204,16 @@ module _ (waiting : Waiting) (h : Held) (c : ℕ) (rest : Text) where
 
   waits_turn : (k : OptionName) → long_turn (Some (rule_for k)) None waiting (long_word c rest) h ≡ settle_fault rules false h
   unfolding rule_for
-  waits_turn Seed = or_else-nil _
-  waits_turn Workers = or_else-nil _
-  waits_turn Tries = or_else-nil _
-  waits_turn Attempts = or_else-nil _
+  waits_turn k = or_else-nil _
 
-  waits_walked : (k : OptionName) → long_walked (Some (rule_for k)) None waiting (long_word c rest) h ≡ at_word (pending k [] (settled rules h)) (option (option_id k))
+  waits_walked : (k : OptionName) → long_walked (Some (rule_for k)) None waiting (long_word c rest) h ≡ at_word (pending k [] (settled rules h)) (option (name_of k))
   unfolding rule_for
-  waits_walked Seed = refl
-  waits_walked Workers = refl
-  waits_walked Tries = refl
-  waits_walked Attempts = refl
+  waits_walked k = refl
 
   -- an option that waits for its value
   pub waiting_option : (k : OptionName) → arg_by_long rules (option_spelling (c ∷ rest)) ≡ Some (rule_for k) → attached_value (c ∷ rest) ≡ None
       → (turn_fault shape [] (at_word h waiting) (long_word c rest) ≡ settle_fault rules false h)
-      × (walked rules [] (at_word h waiting) (long_word c rest) ≡ at_word (pending k [] (settled rules h)) (option (option_id k)))
+      × (walked rules [] (at_word h waiting) (long_word c rest) ≡ at_word (pending k [] (settled rules h)) (option (name_of k)))
   waiting_option k found has = (
     turn_is waiting h c rest ∙ (λ i. long_turn (found i) (has i) waiting (long_word c rest) h) ∙ waits_turn k,
     walked_is waiting h c rest ∙ (λ i. long_walked (found i) (has i) waiting (long_word c rest) h) ∙ waits_walked k,

@@ -1,5 +1,6 @@
 -- What the words of the command line ask for.
-use Rattle.std.specs.Prelude.{◌≡◌, ℕ, if◌then◌else◌, true, List, [], ◌∷◌, codes, Option, Some, None, Result, Ok, Err, ok_or}
+use Rattle.std.specs.Prelude.{◌≡◌, ℕ, if◌then◌else◌, true, List, [], ◌∷◌, codes, Option, Some, None, Result, Ok, Err}
+use Rattle.std.specs.Prelude.{ok_or}
 use Rattle.std.specs.Str.{bytes_eq}
 use Rattle.scr_words.specs.declared.seed.Seed.{Seed}
 use Rattle.scr_words.specs.declared.seed.SeedFault.{SeedFault}
@@ -12,18 +13,28 @@ use Rattle.scr_command.specs.declared.command.Command.{Command}
 use Rattle.scr_command.specs.declared.command.Command.TheVariants.{One, Sheet, Tables, Load}
 use Rattle.scr_command.specs.declared.command.UsageFault.{UsageFault}
 use Rattle.scr_command.specs.declared.command.UsageFault.TheVariants.{No444, NoSeed, Grammar}
-use Rattle.scr_command.specs.OptionWords.{SplitOptions, options_of}
+use Rattle.scr_command.specs.declared.options.OptionName.{OptionName}
+use Rattle.scr_command.specs.declared.options.OptionName.TheVariants.{Workers, Tries, Attempts}
+use Rattle.scr_command.specs.declared.options.OptionName.TheVariants as option
+use Rattle.scr_command.specs.declared.options.Range.{Range}
+use Rattle.scr_command.specs.OptionTable.{row_of, usual_of, sheet_options}
+use Rattle.scr_command.specs.OptionWords.{Values, options_of}
 
 -- ---- the numbers of a run
 
 -- those of a sheet whose words say nothing of them
 abbrev pub usual_options : Options
-usual_options = record { workers = 1; tries = 2000; attempts = 1000 }
+usual_options = record {
+  workers = usual_of (row_of Workers).range;
+  tries = usual_of (row_of Tries).range;
+  attempts = usual_of (row_of Attempts).range;
+}
 
--- an option's number in a range, or the usual one where the option isn't there
-abbrev pub setting : ℕ → ℕ → ℕ → Option (List ℕ) → Option ℕ
-setting low high usual None = Some usual
-setting low high usual (Some text) = number_between low high text
+-- the number that an option sets in its range, or the usual one where the option isn't there
+abbrev pub setting : Option Range → Option (List ℕ) → Option ℕ
+setting range None = Some (usual_of range)
+setting None (Some text) = None
+setting (Some range) (Some text) = number_between range.least range.greatest text
 
 -- the three numbers, where each is one
 abbrev pub settings_of : Option ℕ → Option ℕ → Option ℕ → Option Options
@@ -33,10 +44,13 @@ settings_of None tries attempts = None
 settings_of (Some workers) None attempts = None
 settings_of (Some workers) (Some tries) None = None
 
--- the numbers of options as they were split
-abbrev pub settings_in : SplitOptions → Option Options
-settings_in split = settings_of (setting 1 64 usual_options.workers split.workers)
-    (setting 0 100000 usual_options.tries split.tries) (setting 1 1000000 usual_options.attempts split.attempts)
+-- the number of an option, by the values that were given
+abbrev pub number_in : Values → OptionName → Option ℕ
+number_in values option = setting (row_of option).range (values option)
+
+-- the numbers of the options of a sheet
+abbrev pub settings_in : Values → Option Options
+settings_in values = settings_of (number_in values Workers) (number_in values Tries) (number_in values Attempts)
 
 -- ---- a seed
 
@@ -66,14 +80,15 @@ one_of (event ∷ seed ∷ more ∷ others) = Err Grammar
 -- ---- `sheet --seed HEX [--workers N] [--tries N] [--attempts N]`
 
 -- the command, where its numbers are in their ranges: only then can the seed alone be amiss
-abbrev pub sheet_for : Option Options → List ℕ → Result Command UsageFault
+abbrev pub sheet_for : Option Options → Option (List ℕ) → Result Command UsageFault
 sheet_for None seed = Err Grammar
-sheet_for (Some options) seed = seeded (λ s. Sheet s options) (seed_of seed)
+sheet_for (Some options) None = Err Grammar
+sheet_for (Some options) (Some seed) = seeded (λ s. Sheet s options) (seed_of seed)
 
--- the command of options as they were split
-abbrev pub sheet_of : Option SplitOptions → Result Command UsageFault
+-- the command of the values that its options were given
+abbrev pub sheet_of : Option Values → Result Command UsageFault
 sheet_of None = Err Grammar
-sheet_of (Some split) = sheet_for (settings_in split) split.seed
+sheet_of (Some values) = sheet_for (settings_in values) (values option.Seed)
 
 -- ---- `tables EVENT`
 
@@ -108,7 +123,7 @@ load_of (number ∷ more ∷ others) = Err Grammar
 abbrev pub command_of : List (List ℕ) → Result Command UsageFault
 command_of [] = Err Grammar
 command_of (command ∷ words) =
-    if bytes_eq command (codes "sheet") then sheet_of (options_of words)
+    if bytes_eq command (codes "sheet") then sheet_of (options_of sheet_options words)
     else if bytes_eq command (codes "one") then one_of words
     else if bytes_eq command (codes "tables") then tables_of words
     else if bytes_eq command (codes "load") then load_of words

@@ -1,8 +1,10 @@
-pub mod Hyphens
+pub mod OptionTable
 pub mod OptionWords
-pub mod SheetCommand
+pub mod Hyphens
+pub mod OptionsCommand
 pub mod Spelling
 pub mod Words
 pub mod Command
 pub mod Reading
 pub mod Split
+pub mod SheetRows

@@ -5,16 +5,16 @@ use Rattle.scr_command.specs.declared.command.Command.{Command}
 use Rattle.scr_command.specs.declared.command.Command.TheVariants.{One, Sheet, Tables, Load}
 use Rattle.scr_command.specs.declared.command.CommandFault.{CommandFault}
 use Rattle.scr_command.specs.declared.command.CommandFault.TheVariants as refusal
+use Rattle.scr_command.specs.declared.options.OptionName.TheVariants.{Workers, Tries, Attempts}
+use Rattle.scr_command.specs.OptionTable.{row_of, sheet_options, IsSettable}
 use Rattle.scr_command.specs.OptionWords.{options_of}
 use Rattle.scr_command.specs.Command.{command_of, sheet_of, AsksForSheet}
 
--- numbers that words can set: 1 to 64 workers, up to 100,000 tries, 1 to 1,000,000 attempts
+-- numbers that words can set
 pub record AreOptions (options : Options) : Type 0 where
-  pub some_workers : 1 ≤ options.workers
-  pub few_workers : options.workers ≤ 64
-  pub few_tries : options.tries ≤ 100000
-  pub some_attempts : 1 ≤ options.attempts
-  pub few_attempts : options.attempts ≤ 1000000
+  pub workers : IsSettable (row_of Workers).range options.workers
+  pub tries : IsSettable (row_of Tries).range options.tries
+  pub attempts : IsSettable (row_of Attempts).range options.attempts
 
 -- a command that words can ask for: its numbers are in their ranges
 abbrev pub IsCommand : Command → Type 0
@@ -30,5 +30,5 @@ IsRefusal words refusal.NoMemory = AsksForSheet words
 
 -- the same, for the words after `sheet`
 abbrev pub IsSheetRefusal : List (List ℕ) → CommandFault → Type 0
-IsSheetRefusal words (refusal.Usage usage) = sheet_of (options_of words) ≡ Err usage
+IsSheetRefusal words (refusal.Usage usage) = sheet_of (options_of sheet_options words) ≡ Err usage
 IsSheetRefusal words refusal.NoMemory = Unit {0}

@@ -3,14 +3,16 @@
 ghost use Rattle.std.specs.Prelude.{◌≡◌, ◌≤◌, [], ◌∷◌, IsTrue, Option, Some, MatchResult, option_map, Ok, IfOk, IfSome};
 ghost use Rattle.scr_command.specs.declared.command.UsageFault.TheVariants.{Grammar, NoSeed};
 ghost use Rattle.scr_command.specs.declared.command.CommandFault.TheVariants.{Usage, NoMemory};
+ghost use Rattle.scr_command.specs.OptionTable.{row_of, sheet_options, IsSettable};
 ghost use Rattle.scr_command.specs.OptionWords.{options_of};
+ghost use Rattle.scr_command.specs.Split.{found_values};
 ghost use Rattle.scr_command.specs.Words.{texts};
-ghost use Rattle.scr_command.specs.Split.{options_in_words};
-ghost use Rattle.scr_command.specs.Command.{command_of, sheet_of, one_of, tables_of, load_of, event_for, setting, settings_in};
+ghost use Rattle.scr_command.specs.Command.{command_of, sheet_of, one_of, tables_of, load_of, event_for, number_in};
+ghost use Rattle.scr_command.specs.Command.{settings_in};
 ghost use Rattle.scr_command.specs.Reading.{IsRefusal, IsSheetRefusal, IsCommand, AreOptions};
 
-use crate::options::Options;
-use crate::splitting::{OptionsFault, SheetWords, split_options};
+use crate::options::{OptionName, Options, SHEET_OPTIONS, usual};
+use crate::splitting::{OptionsFault, SplitOptions, split_options};
 use scr_list::event_named;
 use scr_notation::Event;
 use scr_text::number_within;
@@ -146,11 +148,11 @@ fn read_event(event: &str) -> Result<Event, UsageFault>
 
 /// Reads the words after `sheet`.
 fn read_sheet(alloc: Global, words: &[&str]) -> Result<Command, CommandFault>
-    ensures answer { MatchResult result (λ command. sheet_of (options_of (texts words.now)) ≡ Ok command)
+    ensures answer { MatchResult result (λ command. sheet_of (options_of sheet_options (texts words.now)) ≡ Ok command)
         (IsSheetRefusal (texts words.now)) }
     ensures command { IfOk result IsCommand }
 {
-    match split_options(alloc, words) {
+    match split_options(alloc, &SHEET_OPTIONS, words) {
         Ok(split) => Ok(read_options(&split)?),
         Err(OptionsFault::Usage) => Err(CommandFault::Usage(UsageFault::Grammar)),
         Err(OptionsFault::NoMemory) => Err(CommandFault::NoMemory),
@@ -158,24 +160,24 @@ fn read_sheet(alloc: Global, words: &[&str]) -> Result<Command, CommandFault>
 }
 
 /// Reads the options of `sheet`, which are split.
-fn read_options(split: &SheetWords<'_>) -> Result<Command, UsageFault>
-    ensures answer { result ≡ sheet_of (Some (options_in_words split.now)) }
+fn read_options(split: &SplitOptions<'_>) -> Result<Command, UsageFault>
+    ensures answer { result ≡ sheet_of (Some (found_values split.now)) }
     ensures command { IfOk result IsCommand }
 {
     let options = read_numbers(split).ok_or(UsageFault::Grammar)?;
-    let seed = read_seed(split.seed)?;
+    let seed = split.value(OptionName::Seed).ok_or(UsageFault::Grammar)?;
+    let seed = read_seed(seed)?;
     Ok(Command::Sheet(seed, options))
 }
 
 /// Reads the numbers among the options.
-fn read_numbers(split: &SheetWords<'_>) -> Option<Options>
-    ensures answer { result ≡ settings_in (options_in_words split.now) }
+fn read_numbers(split: &SplitOptions<'_>) -> Option<Options>
+    ensures answer { result ≡ settings_in (found_values split.now) }
     ensures range { IfSome result AreOptions }
 {
-    let usual = Options::default();
-    let workers = read_setting(split.workers, 1, 64, usual.workers)?;
-    let tries = read_setting(split.tries, 0, 100_000, usual.tries)?;
-    let attempts = read_setting(split.attempts, 1, 1_000_000, usual.attempts)?;
+    let workers = read_number(split, OptionName::Workers)?;
+    let tries = read_number(split, OptionName::Tries)?;
+    let attempts = read_number(split, OptionName::Attempts)?;
     Some(Options {
         workers,
         tries,
@@ -183,15 +185,14 @@ fn read_numbers(split: &SheetWords<'_>) -> Option<Options>
     })
 }
 
-/// Reads an option's number in a range; the usual one stands where the option isn't there.
-fn read_setting(text: Option<&str>, low: u32, high: u32, usual: u32) -> Option<u32>
-    requires low { low ≤ usual }
-    requires high { usual ≤ high }
-    ensures answer { result ≡ setting low high usual (option_map (λ t. t.now) text.entry) }
-    ensures range { IfSome result (λ number. (low ≤ number) × (number ≤ high)) }
+/// Reads an option's number in its range; the usual one stands where the option isn't there.
+fn read_number(split: &SplitOptions<'_>, option: OptionName) -> Option<u32>
+    ensures answer { result ≡ number_in (found_values split.now) option }
+    ensures range { IfSome result (IsSettable (row_of option).range) }
 {
-    match text {
-        Some(text) => number_within(text.as_bytes(), low, high),
-        None => Some(usual),
+    match (split.value(option), option.range()) {
+        (Some(text), Some(range)) => number_within(text.as_bytes(), range.least, range.greatest),
+        (Some(_), None) => None,
+        (None, _) => Some(usual(option)),
     }
 }

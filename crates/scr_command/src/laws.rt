@@ -1,5 +1,11 @@
 //! What the grammar is, apart from the order in which it reads words.
+
+ghost use Rattle.std.specs.Prelude.{◌≡◌, List, [], ◌∷◌, codes, Err};
+ghost use Rattle.scr_command.specs.declared.command.UsageFault.TheVariants.{Grammar};
+ghost use Rattle.scr_command.specs.OptionTable.{Text};
 ghost use Rattle.scr_command.specs.Spelling.{ReadsBack, ReadsNothingElse};
+ghost use Rattle.scr_command.specs.Command.{AsksForSheet, command_of};
+ghost use Rattle.scr_command.specs.SheetRows.{Sets, IsRefused};
 
 /// Words are read as a list of options exactly where they are a way to write that list: each option
 /// in one word with an `=` before its value, or in two, of which the second doesn't begin with a
@@ -7,4 +13,32 @@ ghost use Rattle.scr_command.specs.Spelling.{ReadsBack, ReadsNothingElse};
 pub fn words_write_what_is_read()
     ensures back { ReadsBack }
     ensures nothing_else { ReadsNothingElse }
+{}
+
+/// The numbers of a sheet: the usual ones, the least and the greatest, and those just outside.
+pub fn numbers_of_a_sheet()
+    ensures usual { Sets [] (record { workers = 1; tries = 2000; attempts = 1000 }) }
+    ensures least { Sets (codes "--workers=1" ∷ codes "--tries=0" ∷ codes "--attempts=1" ∷ [])
+        (record { workers = 1; tries = 0; attempts = 1 }) }
+    ensures greatest { Sets (codes "--attempts=1000000" ∷ codes "--tries=100000" ∷ codes "--workers=64" ∷ [])
+        (record { workers = 64; tries = 100000; attempts = 1000000 }) }
+    ensures workers { IsRefused (codes "--workers=0" ∷ []) × IsRefused (codes "--workers=65" ∷ []) }
+    ensures tries { IsRefused (codes "--tries=100001" ∷ []) }
+    ensures attempts { IsRefused (codes "--attempts=0" ∷ []) × IsRefused (codes "--attempts=1000001" ∷ []) }
+{}
+
+/// Words that are no command: options twice, short, cut off, or of no name, values that are missing, and no words.
+pub fn words_that_are_refused()
+    ensures twice { IsRefused (codes "--tries=1" ∷ codes "--tries=1" ∷ []) × IsRefused (codes "--seed=0" ∷ []) }
+    ensures short { IsRefused (codes "-w" ∷ codes "1" ∷ []) × IsRefused (codes "--work=1" ∷ []) }
+    ensures unknown { IsRefused (codes "--help" ∷ []) × IsRefused (codes "1" ∷ []) × IsRefused (codes "--" ∷ []) }
+    ensures without_value { IsRefused (codes "--tries" ∷ []) × IsRefused (codes "--tries" ∷ codes "--workers=1" ∷ []) }
+    ensures without_seed { command_of (codes "sheet" ∷ codes "--tries=1" ∷ []) ≡ Err Grammar }
+    ensures none { command_of [] ≡ Err Grammar }
+{}
+
+/// Only words of which the first is `sheet` ask for a sheet.
+pub fn words_that_ask_for_a_sheet()
+    ensures first { (first : Text) (others : List Text) → AsksForSheet (first ∷ others) → first ≡ codes "sheet" }
+    ensures none { ¬ (AsksForSheet []) }
 {}

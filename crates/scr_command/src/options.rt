@@ -1,4 +1,104 @@
-//! The numbers that a run is made with.
+//! The options of commands, and the numbers that a run is made with.
+
+ghost use Rattle.std.specs.Prelude.{◌≡◌, Some};
+ghost use Rattle.scr_command.specs.OptionTable.{row_of, usual_of, all_options, sheet_options};
+
+/// An option of a command.
+#[derive(Clone, Copy, Debug, PartialEq, Eq)]
+pub enum OptionName {
+    /// The seed of the draws.
+    Seed,
+    /// How many workers draw.
+    Workers,
+    /// How many first parts the solver of a 3x3x3 tries.
+    Tries,
+    /// How many attempts the draw of a slot has.
+    Attempts,
+}
+
+/// The numbers that an option may set.
+#[derive(Clone, Copy, Debug, PartialEq, Eq)]
+pub struct Range {
+    /// The least.
+    pub least: u32,
+    /// The greatest.
+    pub greatest: u32,
+    /// The number where the option isn't there.
+    pub usual: u32,
+}
+
+/// What the table of options has of one.
+#[derive(Clone, Copy)]
+struct OptionRow {
+    name: &'static str,
+    range: Option<Range>,
+}
+
+/// All options.
+pub(crate) const OPTIONS: [OptionName; 4] = [
+    OptionName::Seed,
+    OptionName::Workers,
+    OptionName::Tries,
+    OptionName::Attempts,
+];
+
+/// The options of the command `sheet`.
+pub const SHEET_OPTIONS: [OptionName; 4] = [
+    OptionName::Seed,
+    OptionName::Workers,
+    OptionName::Tries,
+    OptionName::Attempts,
+];
+
+impl OptionName {
+    /// Its name, which words spell behind two hyphens.
+    pub fn name(self) -> &'static str
+        ensures { result.now ≡ (row_of self).name }
+    {
+        self.row().name
+    }
+
+    /// The numbers that it may set; `None` for the seed, which is no number.
+    pub fn range(self) -> Option<Range>
+        ensures { result ≡ (row_of self).range }
+    {
+        self.row().range
+    }
+
+    /// Its row in the table of options.
+    fn row(self) -> OptionRow
+        ensures name { result.name.now ≡ (row_of self).name }
+        ensures range { result.range ≡ (row_of self).range }
+    {
+        let (name, range) = match self {
+            OptionName::Seed => ("seed", None),
+            OptionName::Workers => ("workers", from_to(1, 64, 1)),
+            OptionName::Tries => ("tries", from_to(0, 100_000, 2000)),
+            OptionName::Attempts => ("attempts", from_to(1, 1_000_000, 1000)),
+        };
+        OptionRow { name, range }
+    }
+}
+
+fn from_to(least: u32, greatest: u32, usual: u32) -> Option<Range>
+    ensures { result ≡ Some (record { least = least; greatest = greatest; usual = usual }) }
+{
+    Some(Range {
+        least,
+        greatest,
+        usual,
+    })
+}
+
+/// The number of an option that isn't there; 0 for the seed.
+pub(crate) fn usual(option: OptionName) -> u32
+    ensures { result ≡ usual_of (row_of option).range }
+{
+    match option.range() {
+        Some(range) => range.usual,
+        None => 0,
+    }
+}
 
 /// How a sheet is made. The numbers never change a state that is drawn, but for the attempts, which may end a draw.
 #[derive(Clone, Copy, Debug, PartialEq, Eq)]
@@ -20,9 +120,9 @@ impl Default for Options {
     /// One worker, 2,000 tries, 1,000 attempts.
     fn default() -> Options {
         Options {
-            workers: 1,
-            tries: 2000,
-            attempts: 1000,
+            workers: usual(OptionName::Workers),
+            tries: usual(OptionName::Tries),
+            attempts: usual(OptionName::Attempts),
         }
     }
 }

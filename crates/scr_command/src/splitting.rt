@@ -1,36 +1,65 @@
-//! The options of the command `sheet`: the words after it, split into values as text.
+//! The options of a command: the words after it, split into values as text.
 //!
 //! The grammar is a definition of our own (`specs/OptionWords.antt`), and the contract of
 //! `split_options` says exactly which words are taken and what the value of each option is. The
-//! splitting is done by `clap`: a proof goes over the words and relates what it holds after each of
-//! them to what the grammar has read. The two words on which they differ, `-` and `--`, are refused
-//! before.
+//! splitting is done by `clap`, for all options of the table: a proof goes over the words and relates
+//! what it holds after each of them to what the grammar has read. The two words on which they differ,
+//! `-` and `--`, are refused before; options that the command doesn't have, after.
 
-ghost use Rattle.std.specs.Prelude.{◌≡◌, ◌<◌, ℕ, IfOk, Some, None, [], length, true, false};
+ghost use Rattle.std.specs.Prelude.{◌≡◌, ◌<◌, ℕ, Bool, List, IfOk, Some, None, [], length, true, false, map};
+ghost use Rattle.std.specs.Prelude.{option_map, is_some};
 ghost use Rattle.std.specs.List.{list_any, slice_index_or};
 ghost use Rattle.std.specs.Str.{IsUtf8};
-ghost use Rattle.clap.specs.Words.{FailsBy, app_of, fault_of, found_of, matches_of, rows_of, rule_of};
+ghost use Rattle.clap.specs.Words.{FailsBy, app_of, fault_of, found_of, matches_of, rows_of, rule_of, with_rule};
 ghost use Rattle.scr_command.specs.Hyphens.{IsOrdinary, is_bare};
-ghost use Rattle.scr_command.specs.OptionWords.{options_of};
-ghost use Rattle.scr_command.specs.SheetCommand.{app_with, given_rule, sheet_app};
+ghost use Rattle.scr_command.specs.OptionTable.{is_option};
+ghost use Rattle.scr_command.specs.OptionWords.{options_of, is_own};
+ghost use Rattle.scr_command.specs.OptionsCommand.{app_with, given_rule, options_app, raw_rule};
+ghost use Rattle.scr_command.specs.Split.{found_values};
 ghost use Rattle.scr_command.specs.Words.{texts};
-ghost use Rattle.scr_command.specs.Split.{options_in_words};
 
+use crate::options::{OPTIONS, OptionName};
 use clap::error::ErrorKind;
 use clap::{Arg, ArgAction, ArgMatches, Command, Error};
-use std::alloc::Global;
+use std::alloc::{AllocError, Global};
+use std::marker::Model;
 
-/// The values of the options of `sheet`, as they were written.
-#[derive(Debug, Clone, Copy, PartialEq, Eq)]
-pub struct SheetWords<'w> {
-    /// The value of `--seed`.
-    pub seed: &'w str,
-    /// The value of `--workers`, if it was given.
-    pub workers: Option<&'w str>,
-    /// The value of `--tries`, if it was given.
-    pub tries: Option<&'w str>,
-    /// The value of `--attempts`, if it was given.
-    pub attempts: Option<&'w str>,
+/// The values of a command's options, as they were written.
+#[derive(Drop)]
+pub struct SplitOptions<'w> {
+    matches: ArgMatches<'w>,
+}
+
+impl<'w> Model for SplitOptions<'w> {
+    ghost use Rattle.clap.specs.Words.{found_of};
+    ghost use Rattle.clap.specs.declared.parser.matches.Found.{Found};
+
+    ghost Value = { Found };
+
+    ghost view = { λ s. found_of s.matches };
+}
+
+impl<'w> SplitOptions<'w> {
+    /// The value of an option, if it was given.
+    pub fn value(&self, option: OptionName) -> Option<&'w str>
+        ensures { option_map (λ text. text.now) result ≡ found_values self.now option }
+    {
+        self.matches.get_str(option.name())
+    }
+
+    /// Whether no option was given but these.
+    fn is_own(&self, own: &[OptionName]) -> bool
+        ensures { result ≡ is_own own.now (found_values self.now) }
+    {
+        OPTIONS.iter().all(|option| has_option(own, *option) || self.value(*option).is_none())
+    }
+}
+
+/// Whether an option stands among these.
+fn has_option(own: &[OptionName], option: OptionName) -> bool
+    ensures { result ≡ list_any (is_option option) own.now }
+{
+    own.iter().any(|other| *other == option)
 }
 
 /// Why words give no options.
@@ -42,19 +71,20 @@ pub enum OptionsFault {
     NoMemory,
 }
 
-/// Splits the words after `sheet` into the values of its options.
+/// Splits the words after a command into the values of its options.
 ///
-/// The options are `--seed`, which must be given, `--workers`, `--tries` and `--attempts`, in any
-/// order, each at most once. A value is the next word, which doesn't begin with a hyphen, or stands
-/// in the same word after the first `=`, and is then anything. A value may be empty.
+/// The options are those in `own`, in any order, each at most once, and `--seed` must be given. A
+/// value is the next word, which doesn't begin with a hyphen, or stands in the same word after the
+/// first `=`, and is then anything. A value may be empty.
 ///
 /// Words outside of this grammar are refused as `Usage`. Want of memory may come with any words.
 pub fn split_options<'w>(
     alloc: Global,
+    own: &[OptionName],
     words: &'w [&'w str],
-) -> Result<SheetWords<'w>, OptionsFault>
-    ensures ok { IfOk result (λ r. options_of (texts words.entry.now) ≡ Some (options_in_words r)) }
-    ensures usage { result ≡ Err OptionsFault.Usage → options_of (texts words.entry.now) ≡ None }
+) -> Result<SplitOptions<'w>, OptionsFault>
+    ensures ok { IfOk result (λ values. options_of own.entry.now (texts words.entry.now) ≡ Some (found_values values)) }
+    ensures usage { result ≡ Err OptionsFault.Usage → options_of own.entry.now (texts words.entry.now) ≡ None }
 {
     if has_bare_hyphens(words) {
         return Err(OptionsFault::Usage);
@@ -68,51 +98,69 @@ pub fn split_options<'w>(
             });
         }
     };
-    let Some(seed) = matches.get_str("seed") else {
+    let split = SplitOptions { matches };
+    if split.value(OptionName::Seed).is_none() {
         return Err(OptionsFault::Usage);
-    };
-    Ok(SheetWords {
-        seed,
-        workers: matches.get_str("workers"),
-        tries: matches.get_str("tries"),
-        attempts: matches.get_str("attempts"),
-    })
+    }
+    if !split.is_own(own) {
+        return Err(OptionsFault::Usage);
+    }
+    Ok(split)
 }
 
-// Splits words by the parser of command lines. Its own help and version flags are off.
+// Splits words by the parser of command lines, which knows all options.
 fn parse<'w>(alloc: Global, words: &'w [&'w str]) -> Result<ArgMatches<'w>, Error>
-    ensures kinds { FailsBy (fault_of sheet_app (texts words.entry.now)) result }
+    ensures kinds { FailsBy (fault_of options_app (texts words.entry.now)) result }
     ensures rows { IfOk result (λ m.
-        rows_of (found_of m) ≡ matches_of sheet_app (texts words.entry.now)) }
+        rows_of (found_of m) ≡ matches_of options_app (texts words.entry.now)) }
 {
-    let seed = value_option(alloc, "seed").required(true);
-    let workers = value_option(alloc, "workers");
-    let tries = value_option(alloc, "tries");
-    let attempts = value_option(alloc, "attempts");
-    let command = empty_command(alloc)
-        .arg(seed)?
-        .arg(workers)?
-        .arg(tries)?
-        .arg(attempts)?;
+    let command = options_command(alloc)?;
     command.try_get_matches_from(words)
 }
 
-// The command before its options. The first word is no program's name.
+// The command with all options.
+fn options_command<'w>(alloc: Global) -> Result<Command<'w>, AllocError>
+    ensures { IfOk result (λ command. app_of command ≡ options_app) }
+{
+    let mut command = empty_command(alloc);
+    for option in OPTIONS {
+        command = with_option(alloc, command, option)?;
+    }
+    Ok(command)
+}
+
+// The command with one option more, which must be given where no usual number stands for it.
+fn with_option<'w>(
+    alloc: Global,
+    command: Command<'w>,
+    option: OptionName,
+) -> Result<Command<'w>, AllocError>
+    ensures { IfOk result (λ more. app_of more ≡ with_rule (app_of command.entry) (raw_rule option)) }
+{
+    let id: &'w str = option.name();
+    command.arg(value_option(alloc, id, option.range().is_none()))
+}
+
+// The command before its options. The first word is no program's name, and its own help and version
+// flags are off.
 fn empty_command<'w>(alloc: Global) -> Command<'w>
     ensures { app_of result ≡ app_with [] }
 {
-    Command::new(alloc, "sheet")
+    Command::new(alloc, "options")
         .no_binary_name(true)
         .disable_help_flag(true)
         .disable_version_flag(true)
 }
 
 // An option with one value, whose long name is its id.
-fn value_option<'w>(alloc: Global, id: &'w str) -> Arg<'w>
-    ensures rule { rule_of result ≡ given_rule false id.entry.now }
+fn value_option<'w>(alloc: Global, id: &'w str, required: bool) -> Arg<'w>
+    ensures rule { rule_of result ≡ given_rule required id.entry.now }
     ensures local { result.global ≡ false }
 {
-    Arg::new(alloc, id).long(id).action(ArgAction::Set)
+    Arg::new(alloc, id)
+        .long(id)
+        .action(ArgAction::Set)
+        .required(required)
 }
 
 // Whether a word is a lone hyphen, which the parser takes as a value, or two, which it takes as the

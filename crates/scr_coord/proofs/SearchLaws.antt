@@ -1,6 +1,6 @@
 -- A search finds the same from a state and from its view: laws of any search spaces, for puzzles' crates to state.
 use Rattle.std.proofs.Common.{◌≡◌, ℕ, ◌<◌, Bool, true, false, cond, IsTrue, List, [], ◌∷◌, Option, Some, None, refl, sym, ap, ◌∙◌, subst, arith}
-use Rattle.std.specs.Prelude.{option_and_then, nat_lt}
+use Rattle.std.specs.Prelude.{option_and_then, nat_lt, Result, IfOk}
 use Rattle.std.specs.Option.{option_map}
 use Rattle.std.proofs.Math.Logic.{∥∥₁_map}
 use Rattle.std.proofs.lemmas.Bool.{ltb-true}
@@ -126,3 +126,8 @@ ShowsSame-through c middle shown f g = record {
   after = λ p t at turn. g.after p t (omega (arith, f.count)) (omega (arith, f.turns)) ∙ f.after p t at turn;
   is_goal = λ p at. g.is_goal p (omega (arith, f.count)) ∙ f.is_goal p at;
 }
+
+-- what moves show of a coordinate, they show of another name for it
+pub IfOk-shows : {A E : Type 0} (r : Result A E) (moves : A → Coordinate) (c named : Coordinate) → c ≡ named
+    → IfOk r (λ a. ShowsSame c (moves a)) → IfOk r (λ a. ShowsSame named (moves a))
+IfOk-shows r moves c named same shows = subst (λ d. IfOk r (λ a. ShowsSame d (moves a))) same shows

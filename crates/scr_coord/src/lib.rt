@@ -27,4 +27,5 @@ pub use lists::Lists;
 pub use move_table::MoveTable;
 pub use place_set::{PlaceSet, places_of};
 pub use product::Product;
+pub use scr_orbit::PlaceTurn;
 pub use twists::Twists;

@@ -1,8 +1,9 @@
 //! The pieces of an orbit, as a coordinate.
-ghost use Rattle.std.specs.Prelude.{◌≡◌, ◌^◌, ◌<◌, ◌≤◌};
+ghost use Rattle.std.specs.Prelude.{◌≡◌, ◌^◌, ◌<◌, ◌≤◌, map};
 ghost use Rattle.std.proofs.Props.{props};
 ghost use Rattle.scr_combinatorics.specs.Permutations.{IsPermutation, factorial};
-ghost use Rattle.scr_coord.specs.Projections.{AreTurns};
+ghost use Rattle.scr_orbit.specs.PlaceTurns.{rearrangement_of};
+ghost use Rattle.scr_coord.specs.Projections.{AreTurns, projection, pieces_view};
 
 use crate::Coord;
 use scr_orbit::{PlaceTurn, pick_into};
@@ -13,7 +14,7 @@ use scr_rank::permutations::count_permutations;
 #[derive(Drop)]
 pub struct Lists<'a, const N: usize> {
     /// The turns, each at its number.
-    pub turns: &'a [PlaceTurn<N>],
+    turns: &'a [PlaceTurn<N>],
     ghost size: { (1 ≤ N) × (N ≤ 12) },
     ghost valid: { AreTurns (λ turn. IsPermutation N turn.places) turns.now } by { Prim.hlevel props },
     ghost fits: { factorial N < 2 ^ 32 },
@@ -26,7 +27,8 @@ impl<'a, const N: usize> Lists<'a, N> {
         requires size { (1 ≤ N) × (N ≤ 12) }
         requires valid { AreTurns (λ turn. IsPermutation N turn.places) turns.now }
         requires fits { factorial N < 2 ^ 32 }
-        ensures { result.turns.now ≡ turns.now }
+        ensures { ⟦<Lists<'a, N> as Coord>⟧.coordinate result
+            ≡ projection (pieces_view N) (map rearrangement_of turns.now) }
     {
         Lists { turns }
     }

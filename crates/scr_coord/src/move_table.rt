@@ -1,10 +1,11 @@
 //! Move tables: where each turn leads from each position of a coordinate, in one flat list.
-ghost use Rattle.std.specs.Prelude.{◌≡◌, ◌+◌, ◌*◌, ◌^◌, ◌<◌, ◌++◌, IfOk, OnOk, length};
+ghost use Rattle.std.specs.Prelude.{◌≡◌, ◌+◌, ◌*◌, ◌^◌, ◌<◌, ◌++◌, ◌∷◌, [], IfOk, OnOk, length};
 ghost use Rattle.scr_coord.specs.Coordinates.{Coordinate, StaysBelow};
 ghost use Rattle.scr_coord.specs.SearchSpaces.{ShowsSame};
 ghost use Rattle.scr_coord.specs.Moves.{Moves, moves_coordinate, row_of};
 
 use crate::Coord;
+use scr_outside::NoMemory;
 use std::alloc::{AllocError, Global};
 use std::marker::Model;
 
@@ -45,7 +46,7 @@ impl Model for MoveTable {
 
 impl MoveTable {
     /// The moves of a coordinate, which is asked for each turn of each position. Only memory can be wanting.
-    pub fn build<C: Coord>(alloc: Global, coord: &C) -> Result<MoveTable, AllocError>
+    pub fn build<C: Coord>(alloc: Global, coord: &C) -> Result<MoveTable, NoMemory>
         ensures { IfOk result (λ table. ShowsSame (C.coordinate coord.now) (moves_coordinate table)) }
     {
         let count = coord.count();
@@ -53,8 +54,7 @@ impl MoveTable {
         let mut targets = Vec::with_capacity(alloc, count as usize * turns as usize)?;
         let mut goals = Vec::with_capacity(alloc, count as usize)?;
         for position in 0..count {
-            push_row(&mut targets, coord, position)?;
-            goals.push(coord.is_goal(position))?;
+            push_position(&mut targets, &mut goals, coord, position)?;
         }
         Ok(MoveTable {
             count,
@@ -65,15 +65,23 @@ impl MoveTable {
     }
 }
 
-/// Adds the entries of one position's turns.
-fn push_row<C: Coord>(targets: &mut Vec<u32>, coord: &C, position: u32) -> Result<(), AllocError>
+/// Adds a position: the entries of its turns, and whether it is a goal.
+fn push_position<C: Coord>(
+    targets: &mut Vec<u32>,
+    goals: &mut Vec<bool>,
+    coord: &C,
+    position: u32,
+) -> Result<(), AllocError>
     requires { position < (C.coordinate coord.now).count }
-    ensures { let c = C.coordinate coord.now in
+    ensures targets { let c = C.coordinate coord.now in
         OnOk result (targets.new.items ≡ targets.old.items ++ row_of c position c.turns) }
+    ensures goals { let c = C.coordinate coord.now in
+        OnOk result (goals.new.items ≡ goals.old.items ++ c.is_goal position ∷ []) }
 {
     for turn in 0..coord.turns() {
         targets.push(coord.after(position, turn).unwrap_or(BARRED))?;
     }
+    goals.push(coord.is_goal(position))?;
     Ok(())
 }
 

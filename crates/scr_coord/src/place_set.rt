@@ -1,10 +1,11 @@
 //! The places of marked pieces of an orbit, as a coordinate.
-ghost use Rattle.std.specs.Prelude.{◌≡◌, ◌^◌, ◌<◌, ◌≤◌, length};
+ghost use Rattle.std.specs.Prelude.{◌≡◌, ◌^◌, ◌<◌, ◌≤◌, length, map};
 ghost use Rattle.std.proofs.Props.{props};
 ghost use Rattle.scr_combinatorics.specs.Permutations.{IsPermutation};
 ghost use Rattle.scr_combinatorics.specs.PlaceSets.{IsPlaceSet, binomial};
 ghost use Rattle.scr_coord.specs.MarkedLaws.{IsPlaceSet-prop};
-ghost use Rattle.scr_coord.specs.Projections.{AreTurns, marked_places, stands_in};
+ghost use Rattle.scr_orbit.specs.PlaceTurns.{rearrangement_of};
+ghost use Rattle.scr_coord.specs.Projections.{AreTurns, projection, place_set_view, marked_places, stands_in};
 
 use crate::Coord;
 use scr_orbit::PlaceTurn;
@@ -15,9 +16,9 @@ use scr_rank::place_sets::count_sets;
 #[derive(Drop)]
 pub struct PlaceSet<'a, const N: usize, const K: usize> {
     /// The turns, each at its number.
-    pub turns: &'a [PlaceTurn<N>],
+    turns: &'a [PlaceTurn<N>],
     /// The places at which the pieces are at home, in increasing order.
-    pub home: [u8; K],
+    home: [u8; K],
     ghost size: { (1 ≤ N) × (N ≤ 12) },
     ghost valid: { AreTurns (λ turn. IsPermutation N turn.places) turns.now } by { Prim.hlevel props },
     ghost fits: { binomial N K < 2 ^ 32 },
@@ -32,8 +33,8 @@ impl<'a, const N: usize, const K: usize> PlaceSet<'a, N, K> {
         requires valid { AreTurns (λ turn. IsPermutation N turn.places) turns.now }
         requires fits { binomial N K < 2 ^ 32 }
         requires home { IsPlaceSet N K home }
-        ensures turns { result.turns.now ≡ turns.now }
-        ensures home { result.home ≡ home.entry }
+        ensures { ⟦<PlaceSet<'a, N, K> as Coord>⟧.coordinate result
+            ≡ projection (place_set_view N K home.entry) (map rearrangement_of turns.now) }
     {
         PlaceSet { turns, home }
     }

@@ -1,19 +1,19 @@
 //! Two coordinates side by side as one.
 ghost use Rattle.std.specs.Prelude.{◌≡◌, ◌*◌, ◌^◌, ◌<◌, IfOk};
-ghost use Rattle.scr_coord.specs.Moves.{moves_coordinate};
 ghost use Rattle.scr_coord.specs.Products.{product};
 ghost use Rattle.scr_coord.specs.SearchSpaces.{ShowsSame};
 
 use crate::{Coord, MoveTable};
-use std::alloc::{AllocError, Global};
+use scr_outside::NoMemory;
+use std::alloc::Global;
 
 /// Two coordinates side by side: position `low + low_count * high` stands for one position of each. A turn moves both, and
 /// is barred where either bars it; a goal is where both have one.
 pub struct Product<L: Coord, H: Coord> {
     /// The coordinate whose positions follow each other.
-    pub low: L,
+    low: L,
     /// The other.
-    pub high: H,
+    high: H,
     ghost same_turns: { (H.coordinate high).turns ≡ (L.coordinate low).turns },
     ghost fits: { (L.coordinate low).count * (H.coordinate high).count < 2 ^ 32 },
 }
@@ -30,8 +30,7 @@ impl<L: Coord, H: Coord> Product<L, H> {
     pub fn new(low: L, high: H) -> Product<L, H>
         requires same_turns { (H.coordinate high).turns ≡ (L.coordinate low).turns }
         requires fits { (L.coordinate low).count * (H.coordinate high).count < 2 ^ 32 }
-        ensures low { result.low ≡ low }
-        ensures high { result.high ≡ high }
+        ensures { ⟦<Product<L, H> as Coord>⟧.coordinate result ≡ product (L.coordinate low) (H.coordinate high) }
     {
         Product { low, high }
     }
@@ -44,11 +43,11 @@ impl Product<MoveTable, MoveTable> {
         alloc: Global,
         low: &L,
         high: &H,
-    ) -> Result<Product<MoveTable, MoveTable>, AllocError>
+    ) -> Result<Product<MoveTable, MoveTable>, NoMemory>
         requires same_turns { (H.coordinate high.now).turns ≡ (L.coordinate low.now).turns }
         requires fits { (L.coordinate low.now).count * (H.coordinate high.now).count < 2 ^ 32 }
         ensures { let c = product (L.coordinate low.now) (H.coordinate high.now) in
-            IfOk result (λ pair. ShowsSame c (product (moves_coordinate pair.low) (moves_coordinate pair.high))) }
+            IfOk result (λ pair. ShowsSame c (⟦<Product<MoveTable, MoveTable> as Coord>⟧.coordinate pair)) }
     {
         Ok(Product {
             low: MoveTable::build(alloc, low)?,

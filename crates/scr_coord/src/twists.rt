@@ -1,9 +1,9 @@
 //! The digits of an orbit, as a coordinate.
-ghost use Rattle.std.specs.Prelude.{◌≡◌, ◌-◌, ◌^◌, ◌<◌, ◌≤◌};
+ghost use Rattle.std.specs.Prelude.{◌≡◌, ◌-◌, ◌^◌, ◌<◌, ◌≤◌, map};
 ghost use Rattle.std.proofs.Props.{props};
 ghost use Rattle.scr_orbit.specs.Orbits.{IsZeroSumRearrangement};
 ghost use Rattle.scr_orbit.specs.PlaceTurns.{rearrangement_of};
-ghost use Rattle.scr_coord.specs.Projections.{AreTurns};
+ghost use Rattle.scr_coord.specs.Projections.{AreTurns, projection, twists_view};
 
 use crate::Coord;
 use scr_orbit::{PlaceTurn, add_digits, pick_into};
@@ -14,7 +14,7 @@ use scr_rank::TwistRank;
 #[derive(Drop)]
 pub struct Twists<'a, const N: usize, const BASE: usize> {
     /// The turns, each at its number.
-    pub turns: &'a [PlaceTurn<N>],
+    turns: &'a [PlaceTurn<N>],
     ghost size: { (1 ≤ N) × (N ≤ 12) },
     ghost base: { (1 ≤ BASE) × (BASE ≤ 12) },
     ghost valid: { AreTurns (λ turn. IsZeroSumRearrangement N BASE (rearrangement_of turn)) turns.now } by { Prim.hlevel props },
@@ -29,7 +29,8 @@ impl<'a, const N: usize, const BASE: usize> Twists<'a, N, BASE> {
         requires base { (1 ≤ BASE) × (BASE ≤ 12) }
         requires valid { AreTurns (λ turn. IsZeroSumRearrangement N BASE (rearrangement_of turn)) turns.now }
         requires fits { BASE ^ (N - 1) < 2 ^ 32 }
-        ensures { result.turns.now ≡ turns.now }
+        ensures { ⟦<Twists<'a, N, BASE> as Coord>⟧.coordinate result
+            ≡ projection (twists_view N BASE) (map rearrangement_of turns.now) }
     {
         Twists { turns }
     }

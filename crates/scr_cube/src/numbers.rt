@@ -7,7 +7,7 @@ ghost use Rattle.scr_cube.specs.Numbered222.{numbering_222};
 
 use crate::corners::Corners222;
 use crate::cube::Cube;
-use scr_draw::Numbering;
+use scr_draw::{NumberedStates, Numbering};
 use scr_orbit::Placed;
 use scr_rank::permutations::{is_odd, rank_permutation, unrank_with_parity};
 use scr_rank::{MixedRadix, PermRank, TwistRank};
@@ -40,10 +40,12 @@ fn digits_of(cube: &Cube) -> [u128; 4]
     ]
 }
 
+impl NumberedStates<Cube> for CubeNumbers {
+    ghost numbered = { λ _. cube_numbered };
+}
+
 impl Numbering for CubeNumbers {
     type State = Cube;
-
-    ghost numbered = { λ _. cube_numbered };
 
     ghost law = { λ _. cube_numbering };
 
@@ -68,10 +70,12 @@ impl Numbering for CubeNumbers {
     }
 }
 
+impl NumberedStates<Corners222> for Numbers222 {
+    ghost numbered = { λ _. numbered_222 };
+}
+
 impl Numbering for Numbers222 {
     type State = Corners222;
-
-    ghost numbered = { λ _. numbered_222 };
 
     ghost law = { λ _. numbering_222 };
 

@@ -134,48 +134,57 @@ module _ {S : Type 0} (n : Numbered S) (puzzle : Puzzle S) (least : ℕ) (number
   unfolding f
   first_hits values s d = first_of d.test d.tells values s d.drawn_is
 
-  -- where the numbered states are those that turns reach, and a test is exact for those
-  module _ (reached : (s : S) → n.IsValid s ↔ IsReached puzzle s) (test : S → Bool)
-      (exact : (s : S) → IsReached puzzle s → IsTrue (test s) ↔ Needs puzzle s least) where
-    reached_at : (i : ℕ) → i < n.count → IsReached puzzle (n.state_at i)
-    reached_at i below = (reached _).0 (numbering.one_to_one.valid i below)
-
-    -- the test tells
+  -- where a test is exact on the numbered states
+  module _ (test : S → Bool) (exact : (s : S) → n.IsValid s → IsTrue (test s) ↔ Needs puzzle s least) where
+    -- it tells
     pub TellsNeed-exact : TellsNeed (space_of n puzzle) least test
-    TellsNeed-exact i below = exact (n.state_at i) (reached_at i below)
+    TellsNeed-exact i below = exact (n.state_at i) (numbering.one_to_one.valid i below)
 
-    -- there is one outcome
-    pub HasOneOutcome-random : HasOneOutcome (space_of n puzzle) least
-    unfolding f
-    HasOneOutcome-random = record {
-      one = Draws-one (space_of n puzzle) least numbering.some;
-      first = λ values s. (
-        first_hits values s,
-        λ h. record {
-          test = test;
-          tells = TellsNeed-exact;
-          drawn_is = ap (drawn (f test TellsNeed-exact)) h.values_are
-              ∙ drawn_before test TellsNeed-exact h.before h.after h.number s h.missed (some-f test TellsNeed-exact h.number s h.hits);
-        },
-      );
-      none = λ values. (
-        λ d. all_missed d.test d.tells values d.drawn_is,
-        λ all. record { test = test; tells = TellsNeed-exact; drawn_is = none_drawn test TellsNeed-exact values all },
-      );
-      permitted = λ values s d.
-          let first = first_hits values s d in
-          (subst (IsReached puzzle) first.hits.state (reached_at (first.number % n.count) (below_count first.number)), first.hits.needs);
-    }
+    -- what the test draws is drawn
+    pub Draws-exact : (values : List ℕ) (o : Option S) → drawn (hit n.count n.state_at test) values ≡ o
+        → Draws (space_of n puzzle) least values o
+    Draws-exact values o e = record { test = test; tells = TellsNeed-exact; drawn_is = e }
 
-    -- and drawing is fair
-    pub IsFairFor-random : IsFairFor (space_of n puzzle) least
-    IsFairFor-random = record {
-      test = test;
-      tells = TellsNeed-exact;
-      fair = fair_for (λ s. n.IsValid s × IsTrue (test s)) (IsPermitted puzzle least)
-          (λ s. (
-            λ h. let own = (reached s).0 h.0 in (own, (exact s own).0 h.1),
-            λ h. ((reached s).1 h.0, (exact s h.0).1 h.1),
-          ))
-          (fair n numbering test);
-    }
+    -- and where they are those that turns reach
+    module _ (reached : (s : S) → n.IsValid s ↔ IsReached puzzle s) where
+      reached_at : (i : ℕ) → i < n.count → IsReached puzzle (n.state_at i)
+      reached_at i below = (reached _).0 (numbering.one_to_one.valid i below)
+
+      -- there is one outcome
+      pub HasOneOutcome-random : HasOneOutcome (space_of n puzzle) least
+      unfolding f
+      HasOneOutcome-random = record {
+        one = Draws-one (space_of n puzzle) least numbering.some;
+        first = λ values s. (
+          first_hits values s,
+          λ h. record {
+            test = test;
+            tells = TellsNeed-exact;
+            drawn_is =
+                let hits = some-f test TellsNeed-exact h.number s h.hits in
+                ap (drawn (f test TellsNeed-exact)) h.values_are
+                ∙ drawn_before test TellsNeed-exact h.before h.after h.number s h.missed hits;
+          },
+        );
+        none = λ values. (
+          λ d. all_missed d.test d.tells values d.drawn_is,
+          λ all. record { test = test; tells = TellsNeed-exact; drawn_is = none_drawn test TellsNeed-exact values all },
+        );
+        permitted = λ values s d.
+            let first = first_hits values s d in
+            let at = reached_at (first.number % n.count) (below_count first.number) in
+            (subst (IsReached puzzle) first.hits.state at, first.hits.needs);
+      }
+
+      -- and drawing is fair
+      pub IsFairFor-random : IsFairFor (space_of n puzzle) least
+      IsFairFor-random = record {
+        test = test;
+        tells = TellsNeed-exact;
+        fair = fair_for (λ s. n.IsValid s × IsTrue (test s)) (IsPermitted puzzle least)
+            (λ s. (
+              λ h. ((reached s).0 h.0, (exact s h.0).0 h.1),
+              λ h. let valid = (reached s).1 h.0 in (valid, (exact s valid).1 h.1),
+            ))
+            (fair n numbering test);
+      }

@@ -1,11 +1,12 @@
 -- A row of positions, which tests draw from: a turn leads one position down or to any further up, and position 0 is
--- solved. So a position needs as many turns as its number. (Its laws stand here, since the laws of an impl cite them.)
-use Rattle.std.specs.Prelude.{◌≡◌, ℕ, zero, suc, ◌+◌, ◌<◌, ◌≤◌, ◌↔◌, ◌&&◌, nat_lt, nat_le, Bool, true, false, IsTrue, if◌then◌else◌, List, [], ◌∷◌, Option, Some, None}
+-- solved. So a position needs as many turns as its number. (That law stands here, since the law of an impl cites it.)
+use Rattle.std.specs.Prelude.{◌≡◌, ℕ, zero, suc, ◌+◌, ◌<◌, ◌≤◌, ◌↔◌, ◌&&◌, nat_lt, nat_le}
+use Rattle.std.specs.Prelude.{Bool, true, false, IsTrue, if◌then◌else◌, List, [], ◌∷◌, Option, Some, None}
 use Rattle.std.proofs.Common.{refl, ap, ◌∙◌, inl, inr, arith}
 use Rattle.std.proofs.lemmas.Bool.{cases_lt, and_parts, and_from, lt-ltb, ltb-true, le-leb, leb-true}
 use Rattle.scr_play.specs.Play.{play, count_in}
-use Rattle.scr_play.specs.Reach.{Puzzle, IsReached, Needs}
-use Rattle.scr_play.proofs.PlayLaws.{play-empty, play-first, play-one, play-parts, IsReached-keeps}
+use Rattle.scr_play.specs.Reach.{Puzzle, Needs}
+use Rattle.scr_play.proofs.PlayLaws.{play-empty, play-first, play-parts}
 
 -- what a turn to position t makes of position s, in a row of so many
 abbrev pub moved : ℕ → ℕ → ℕ → Option ℕ
@@ -18,7 +19,7 @@ when_some : (b : Bool) (t r : ℕ) → (if b then Some t else None) ≡ Some r �
 when_some true t r e = (refl, cc e)
 when_some false t r e = cc e
 
-moved-parts : (count s r t : ℕ) → moved count s t ≡ Some r → (r < count) × (s ≤ r + 1)
+pub moved-parts : (count s r t : ℕ) → moved count s t ≡ Some r → (r < count) × (s ≤ r + 1)
 moved-parts count s r t e =
     let both = when_some (nat_lt t count && nat_le s (t + 1)) t r e in
     let parts = and_parts (nat_lt t count) (nat_le s (t + 1)) both.0 in
@@ -27,9 +28,10 @@ moved-parts count s r t e =
     let same = both.1 in
     (omega arith, omega arith)
 
-moved-from : (count s t : ℕ) → t < count → s ≤ t + 1 → moved count s t ≡ Some t
+pub moved-from : (count s t : ℕ) → t < count → s ≤ t + 1 → moved count s t ≡ Some t
 moved-from count s t below near =
-    ap (λ b. if b then Some t else None) (and_from (nat_lt t count) (nat_le s (t + 1)) (lt-ltb t count below) (le-leb s (t + 1) near))
+    let both = and_from (nat_lt t count) (nat_le s (t + 1)) (lt-ltb t count below) (le-leb s (t + 1) near) in
+    ap (λ b. if b then Some t else None) both
 
 -- a word of so many turns leads no further down
 no_further : (count s r : ℕ) (w : List ℕ) → play (moved count) s w ≡ Some r → s ≤ r + count_in (λ t. 1) w
@@ -51,28 +53,21 @@ down-leads : (count s : ℕ) → s < count → play (moved count) s (down s) ≡
 unfolding down
 down-leads count zero below = play-empty (moved count) 0
 down-leads count (suc s) below =
-    play-first (moved count) (suc s) s s (down s) (moved-from count (suc s) s (omega arith) (omega arith)) ∙ down-leads count s (omega arith)
+    play-first (moved count) (suc s) s s (down s) (moved-from count (suc s) s (omega arith) (omega arith))
+    ∙ down-leads count s (omega arith)
 
 down-counted : (s : ℕ) → count_in (λ t. 1) (down s) ≡ s
 unfolding down count_in
 down-counted zero = refl
 down-counted (suc s) = omega (arith, down-counted s)
 
--- the positions of the row are those that turns reach
-pub row_reached : (count s : ℕ) → 0 < count → (s < count) ↔ IsReached (row count) s
-row_reached count s some = (
-  λ below. (s ∷ [], 0, refl, play-one (moved count) 0 s ∙ moved-from count 0 s below (omega arith)),
-  λ h. IsReached-keeps (row count) (λ r. r < count) (λ r e. omega arith) (λ a b t low e. (moved-parts count a b t e).0) s h,
-)
-
--- and each needs as many turns as its number
-pub row_exact : (count s least : ℕ) → 0 < count → IsReached (row count) s → IsTrue (nat_le least s) ↔ Needs (row count) s least
-row_exact count s least some reached = (
+-- each position needs as many turns as its number
+pub row_exact : (count s least : ℕ) → s < count → IsTrue (nat_le least s) ↔ Needs (row count) s least
+row_exact count s least below = (
   λ h w end few leads solved. let le = leb-true least s h in let near = no_further count s end w leads in omega arith,
   λ needs. elim (cases_lt s least) [
     | inl fewer ↦
-        let counted = down-counted s in
-        absurd (needs (down s) 0 (omega arith) (down-leads count s ((row_reached count s some).1 reached)) refl)
+        let counted = down-counted s in absurd (needs (down s) 0 (omega arith) (down-leads count s below) refl)
     | inr enough ↦ le-leb least s enough
   ],
 )

@@ -5,11 +5,11 @@ ghost use Rattle.std.specs.Result.{result_ok};
 ghost use Rattle.scr_draw.specs.Attempt.{attempt_values};
 ghost use Rattle.scr_draw.specs.Drawn.{drawn, hit};
 ghost use Rattle.scr_draw.specs.FirstHit.{numbers_read};
-ghost use Rattle.scr_play.specs.Reach.{IsPermitted};
+ghost use Rattle.scr_play.specs.Reach.{Needs};
 ghost use Rattle.scr_draw.specs.StateSpace.{Draws, space_of};
 
 use crate::rejection::{attempt_within, limit_of};
-use crate::{Numbering, Permit, RandomState};
+use crate::{Numbering, Permit};
 use scr_words::Words;
 
 /// No attempt gave a permitted state.
@@ -37,12 +37,18 @@ pub fn draw<W: Words, P: Numbering + Permit<P::State>>(
         let hits = hit n.count n.state_at (λ s. P.needs puzzle.now s least) in
         let values = attempt_values (W.word_at words.old) (W.taken words.old) attempts in
         result ≡ ok_or (drawn hits values) (record { words = 3 * attempts }) }
-    ensures permitted { IfOk result (λ s. (P.numbered puzzle.now).IsValid s × IsTrue (P.needs puzzle.now s least)) }
+    ensures draws { let space = space_of (P.numbered puzzle.now) (P.puzzle puzzle.now) in
+        let values = attempt_values (W.word_at words.old) (W.taken words.old) attempts in
+        Draws space least values (result_ok result) }
+    ensures valid { IfOk result (P.numbered puzzle.now).IsValid }
+    ensures needs { IfOk result (λ s. Needs (P.puzzle puzzle.now) s least) }
+    ensures passes { IfOk result (λ s. IsTrue (P.needs puzzle.now s least)) }
     ensures taken { let n = P.numbered puzzle.now in
         let hits = hit n.count n.state_at (λ s. P.needs puzzle.now s least) in
         let values = attempt_values (W.word_at words.old) (W.taken words.old) attempts in
         W.taken words.new ≡ W.taken words.old + 3 * numbers_read hits values }
     ensures at_most { W.taken words.new ≤ W.taken words.old + 3 * attempts }
+    ensures limit { IfErr result (λ limit. limit.words ≡ 3 * attempts) }
     ensures all_taken { IfErr result (λ limit. W.taken words.new ≡ W.taken words.old + limit.words) }
     ensures same_words { W.word_at words.new ≡ W.word_at words.old }
 {
@@ -59,25 +65,4 @@ pub fn draw<W: Words, P: Numbering + Permit<P::State>>(
     Err(DrawLimit {
         words: 3 * attempts,
     })
-}
-
-/// The same for an event whose numbered states are those that turns reach: what is drawn is a state that turns reach and that
-/// needs at least `least` turns, the first that the attempts hit.
-pub fn draw_permitted<W: Words, P: RandomState>(
-    words: &mut W,
-    event: &P,
-    least: u32,
-    attempts: u32,
-) -> Result<P::State, DrawLimit>
-    requires least_in_range { least ≤ P.greatest event.now }
-    requires few { attempts ≤ 1000000 }
-    requires room { W.taken words.old ≤ 2 ^ 62 }
-    ensures draws { let space = space_of (P.numbered event.now) (P.puzzle event.now) in
-        let values = attempt_values (W.word_at words.old) (W.taken words.old) attempts in
-        Draws space least values (result_ok result) }
-    ensures valid { IfOk result (P.numbered event.now).IsValid }
-    ensures permitted { IfOk result (IsPermitted (P.puzzle event.now) least) }
-    ensures limit { IfErr result (λ limit. limit.words ≡ 3 * attempts) }
-{
-    draw(words, event, least, attempts)
 }

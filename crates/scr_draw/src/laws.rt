@@ -1,8 +1,10 @@
 //! Why drawing is fair: calls that do nothing, whose contracts are the laws.
 
-ghost use Rattle.std.specs.Prelude.{◌≡◌, ℕ, suc, ◌+◌, ◌*◌, ◌%◌, ◌^◌, ◌<◌, ◌≤◌, ◌↔◌, ◌==◌, All, IsTrue, Some, None, unwrap_or, if◌then◌else◌, length, replicate, slice_index};
+ghost use Rattle.std.specs.Prelude.{◌≡◌, ℕ, suc, ◌+◌, ◌*◌, ◌%◌, ◌^◌, ◌<◌, ◌≤◌, ◌↔◌, ◌==◌};
+ghost use Rattle.std.specs.Prelude.{All, IsTrue, Some, None, unwrap_or, if◌then◌else◌, length, replicate, slice_index};
 ghost use Rattle.scr_combinatorics.specs.Digits.{mixed_digits, mixed_number};
 ghost use Rattle.scr_combinatorics.specs.Numbering.{IsOneToOne};
+ghost use Rattle.scr_play.specs.Reach.{IsReached};
 ghost use Rattle.scr_words.specs.Stream.{stream_word};
 ghost use Rattle.scr_draw.specs.Attempt.{is_accepted, quotient, answer, attempt_value, attempt_values};
 ghost use Rattle.scr_draw.specs.Count.{IsCount, count_below};
@@ -12,7 +14,7 @@ ghost use Rattle.scr_draw.specs.Fair.{IsFair, ways};
 ghost use Rattle.scr_draw.specs.StateSpace.{IsFairFor, space_of};
 ghost use Rattle.scr_draw.specs.OneOutcome.{HasOneOutcome};
 
-use crate::{Numbering, Permit, RandomState};
+use crate::{Numbering, Permit};
 
 /// Three words of 32 bits spell each number below 2^96, each number once.
 pub fn each_number_once()
@@ -41,9 +43,10 @@ pub fn same_ways<P: Numbering + Permit<P::State>>(puzzle: &P, least: u32)
         (λ s. n.IsValid s × IsTrue (P.needs puzzle.now s least)) }
 {}
 
-/// Where the valid states are those that turns reach, the states that are drawn are those that turns reach and that need
-/// a minimum of the event's range, each by the same number of lists.
-pub fn drawn_fairly<P: RandomState>(event: &P)
+/// Where the valid states are those that turns reach, the states that are drawn are those that turns reach and that
+/// need a minimum of the event's range, each by the same number of lists.
+pub fn drawn_fairly<P: Numbering + Permit<P::State>>(event: &P)
+    requires reached { (s : P.State) → (P.numbered event.now).IsValid s ↔ IsReached (P.puzzle event.now) s }
     ensures { let space = space_of (P.numbered event.now) (P.puzzle event.now) in
         (least : ℕ) → least ≤ P.greatest event.now → IsFairFor space least }
 {}
@@ -73,9 +76,11 @@ pub fn first_hit<P: Numbering + Permit<P::State>>(puzzle: &P, least: u32)
         → numbers_read hits (attempt_values word place all) ≡ suc tried }
 {}
 
-/// Numbers have one outcome at each minimum of the event's range, whichever test tells what states need: the state that the
-/// first number which doesn't miss hits, and it is permitted; or none, where each misses.
-pub fn one_outcome<P: RandomState>(event: &P)
+/// Where the valid states are those that turns reach, numbers have one outcome at each minimum of the event's range,
+/// whichever test tells what states need: the state that the first number which doesn't miss hits, and it is permitted;
+/// or none, where each misses.
+pub fn one_outcome<P: Numbering + Permit<P::State>>(event: &P)
+    requires reached { (s : P.State) → (P.numbered event.now).IsValid s ↔ IsReached (P.puzzle event.now) s }
     ensures { let space = space_of (P.numbered event.now) (P.puzzle event.now) in
         (least : ℕ) → least ≤ P.greatest event.now → HasOneOutcome space least }
 {}
@@ -95,8 +100,8 @@ pub fn rows()
         (answer (12 ^ 14) value ≡ Some 985395116423286) × (answer 3674160 value ≡ Some 3015702)
         × (answer 81 value ≡ Some 72) }
 
-    // four numbers in place of 2 ^ 96, of which number 0 hits state 7, number 1 state 8, and two miss: of the 64 lists of
-    // three numbers 28 draw state 7, by `ways` and counted one by one
+    // four numbers in place of 2 ^ 96, of which number 0 hits state 7, number 1 state 8, and two miss: of the 64 lists
+    // of three numbers 28 draw state 7, by `ways` and counted one by one
     ensures ways_of_few { ways 4 1 2 3 ≡ 28 }
     ensures counted_of_few { let hits = λ (v : ℕ). if v == 0 then Some 7 else if v == 1 then Some 8 else None in
         count_below (λ n. unwrap_or (drawn hits (mixed_digits (replicate 3 4) n)) 0 == 7) 64 ≡ 28 }

@@ -9,10 +9,10 @@ use Rattle.std.proofs.lemmas.List.Sums.{AllPass-from_list_all}
 use Rattle.std.proofs.lemmas.Slice.Eq.{bytes_eq-Decides}
 use borrow.Author.Tests.{ltb-true, leb-true}
 use Rattle.scr_notation.specs.declared.event.Event.{Event}
-use Rattle.scr_notation.specs.declared.event.Event.TheVariants.{C222, C333, Oh333, C555, C666, C777, Clock, Minx, Pyram, Skewb, Sq1}
-use Rattle.scr_notation.specs.Event.{id_of, events, event_of}
 use Rattle.scr_text.specs.Lines.{has_bytes}
-use Rattle.scr_list.specs.Events.{rules_of, greatest_of, usual_of, event_named}
+use Rattle.scr_notation.specs.Event.{id_of, events, event_of, greatest_of, usual_of}
+use Rattle.scr_notation.proofs.EachEvent.{each_alike, each_passes}
+use Rattle.scr_list.specs.Events.{event_named}
 
 -- what an event's id is, and its minima
 pub record IsId (e : Event) : Type 0 where
@@ -22,14 +22,14 @@ pub record IsId (e : Event) : Type 0 where
   pub short : length (id_of e) ≤ 5
   pub finds : event_of (id_of e) ≡ Some e
   pub not_444 : bytes_eq (id_of e) (codes "444") ≡ false
-  pub range : greatest_of (rules_of e).minima ≤ 15
-  pub usual : usual_of (rules_of e).minima ≤ greatest_of (rules_of e).minima
+  pub range : greatest_of e ≤ 15
+  pub usual : usual_of e ≤ greatest_of e
 
 -- each row is computed
 is_id : Event → Bool
 is_id e =
     list_all (λ b. nat_lt 32 b && nat_lt b 128) (id_of e) && has_bytes (id_of e) && nat_le (length (id_of e)) 5
-    && nat_le (greatest_of (rules_of e).minima) 15 && nat_le (usual_of (rules_of e).minima) (greatest_of (rules_of e).minima)
+    && nat_le (greatest_of e) 15 && nat_le (usual_of e) (greatest_of e)
 
 parts : (a b : Bool) → (a && b) ≡ true → (a ≡ true) × (b ≡ true)
 parts true b is = (refl, is)
@@ -52,23 +52,15 @@ id-facts e test finds not_444 =
       short = leb-true (length (id_of e)) 5 third.1;
       finds = finds;
       not_444 = not_444;
-      range = leb-true (greatest_of (rules_of e).minima) 15 fourth.1;
-      usual = leb-true (usual_of (rules_of e).minima) (greatest_of (rules_of e).minima) last.1;
+      range = leb-true (greatest_of e) 15 fourth.1;
+      usual = leb-true (usual_of e) (greatest_of e) last.1;
     }
 
 pub id-IsId : (e : Event) → IsId e
 unfolding is_id
-id-IsId C222 = id-facts C222 refl refl refl
-id-IsId C333 = id-facts C333 refl refl refl
-id-IsId Oh333 = id-facts Oh333 refl refl refl
-id-IsId C555 = id-facts C555 refl refl refl
-id-IsId C666 = id-facts C666 refl refl refl
-id-IsId C777 = id-facts C777 refl refl refl
-id-IsId Clock = id-facts Clock refl refl refl
-id-IsId Minx = id-facts Minx refl refl refl
-id-IsId Pyram = id-facts Pyram refl refl refl
-id-IsId Skewb = id-facts Skewb refl refl refl
-id-IsId Sq1 = id-facts Sq1 refl refl refl
+id-IsId e =
+    id-facts e (each_passes is_id refl e) (each_alike (λ x. event_of (id_of x)) Some refl e)
+    (each_alike (λ x. bytes_eq (id_of x) (codes "444")) (λ x. false) refl e)
 
 -- what a search finds passes its test
 passes-at : {X : Type 0} (p : X → Bool) (ys : List X) (x y : X) (b : Bool) → p y ≡ b →

@@ -13,9 +13,10 @@ use Rattle.scr_text.specs.Parts.{IsLine, IsWord}
 use Rattle.scr_text.specs.Numbers.{number_between}
 use Rattle.scr_text.proofs.NumberLaws.{in_range-some, number_of_text-decimal}
 use Rattle.scr_text.proofs.LineLaws.{lines_of-text_of_lines, line_words-join_with_byte, join_with_byte-plain, IsWord-plain, IsLine-plain, IsWord-decimal, decimal-plain}
-use Rattle.scr_list.specs.declared.event.Minima.{Minima}
+use Rattle.scr_notation.specs.declared.event.Minima.{Minima}
+use Rattle.scr_list.specs.Limits.{lists}
 use Rattle.scr_list.specs.declared.round.Round.{Round}
-use Rattle.scr_list.specs.Events.{rules_of, greatest_of, usual_of}
+use Rattle.scr_notation.specs.Event.{minima_of, greatest_in, usual_in}
 use Rattle.scr_list.specs.Rounds.{IsRound, least_of, set_least, named_round, some_round, round_of_words, rounds_of}
 use Rattle.scr_list.specs.RoundLists.{IsRounds}
 use Rattle.scr_list.specs.Printed.{least_words, round_words, round_line, text_of_rounds}
@@ -45,28 +46,28 @@ decimal-IsShortWord n low =
 
 -- a line has two or three of them
 round_words-short : (round : Round) → IsRound round → All IsShortWord (round_words round)
-round_words-short round it = at (rules_of round.event).minima it.least (id-IsId round.event).range
+round_words-short round it = at (minima_of round.event) it.least (id-IsId round.event).range
   where
-    at : (minima : Option Minima) → round.least ≤ greatest_of minima → greatest_of minima ≤ 15 →
+    at : (minima : Option Minima) → round.least ≤ greatest_in minima → greatest_in minima ≤ 15 →
         All IsShortWord (id_of round.event ∷ decimal round.groups ∷ least_words minima round.least)
     at minima few range =
         All-cons IsShortWord (id_of round.event) (decimal round.groups ∷ least_words minima round.least) (id-IsShortWord round.event)
         (All-cons IsShortWord (decimal round.groups) (least_words minima round.least)
         (decimal-IsShortWord round.groups (let g = it.few_groups in omega arith)) (last minima few range))
       where
-        last : (minima : Option Minima) → round.least ≤ greatest_of minima → greatest_of minima ≤ 15 →
+        last : (minima : Option Minima) → round.least ≤ greatest_in minima → greatest_in minima ≤ 15 →
             All IsShortWord (least_words minima round.least)
         last None few range = All-nil IsShortWord
         last (Some minima) few range =
             All-cons IsShortWord (decimal round.least) [] (decimal-IsShortWord round.least (omega arith)) (All-nil IsShortWord)
 
 -- the words of its line are read as the round
-named-round : (before : ℕ) (round : Round) (least : Option (List ℕ)) → before < 64 → IsRound round →
-    least_of (rules_of round.event).minima least ≡ Some round.least →
+named-round : (before : ℕ) (round : Round) (least : Option (List ℕ)) → before < lists.most_rounds → IsRound round →
+    least_of (minima_of round.event) least ≡ Some round.least →
     some_round (named_round before (id_of round.event) (decimal round.groups) least) ≡ Ok (Some round)
 named-round before round least low it set =
     let few = it.few_groups in
-    let fits : nat_lt before 64 ≡ true = lt-ltb before 64 low in
+    let fits : nat_lt before lists.most_rounds ≡ true = lt-ltb before lists.most_rounds low in
     rw (
       (id-IsId round.event).not_444,
       event_named-id round.event,
@@ -75,16 +76,16 @@ named-round before round least low it set =
       fits,
     ) refl
 
-round_words-named : (before : ℕ) (round : Round) → before < 64 → IsRound round → round_of_words before (round_words round) ≡ Ok (Some round)
+round_words-named : (before : ℕ) (round : Round) → before < lists.most_rounds → IsRound round → round_of_words before (round_words round) ≡ Ok (Some round)
 unfolding round_of_words
-round_words-named before round low it = at (rules_of round.event).minima refl it.least (id-IsId round.event).range (id-IsId round.event).usual
+round_words-named before round low it = at (minima_of round.event) refl it.least (id-IsId round.event).range (id-IsId round.event).usual
   where
-    at : (minima : Option Minima) → (rules_of round.event).minima ≡ minima → round.least ≤ greatest_of minima → greatest_of minima ≤ 15 →
-        usual_of minima ≤ greatest_of minima →
+    at : (minima : Option Minima) → (minima_of round.event) ≡ minima → round.least ≤ greatest_in minima → greatest_in minima ≤ 15 →
+        usual_in minima ≤ greatest_in minima →
         round_of_words before (id_of round.event ∷ decimal round.groups ∷ least_words minima round.least) ≡ Ok (Some round)
     at None is few range usual =
         let none : 0 ≡ round.least = omega arith in
-        named-round before round None low it (ap Some (ap usual_of is ∙ none))
+        named-round before round None low it (ap Some (ap usual_in is ∙ none))
     at (Some minima) is few range usual =
         named-round before round (Some (decimal round.least)) low it
         (ap (λ m. set_least m (decimal round.least)) is ∙ number_between-decimal 0 minima.greatest round.least (omega arith) (omega arith) few)
@@ -102,7 +103,7 @@ join-short (word ∷ next ∷ words) all =
     omega (arith, here, more, joined)
 
 length-round_words : (round : Round) → length (round_words round) ≤ 3
-length-round_words round = at (rules_of round.event).minima
+length-round_words round = at (minima_of round.event)
   where
     at : (minima : Option Minima) → length (id_of round.event ∷ decimal round.groups ∷ least_words minima round.least) ≤ 3
     at None = omega arith
@@ -128,7 +129,7 @@ text_of_rounds-short (round ∷ rest) all =
     let joined = length-append (round_line round) (10 ∷ text_of_rounds rest) in
     omega (arith, line, few, more, joined)
 
-lines-read : (done : List Round) (number : ℕ) (rounds : List Round) → All IsRound rounds → length done + length rounds ≤ 64 →
+lines-read : (done : List Round) (number : ℕ) (rounds : List Round) → All IsRound rounds → length done + length rounds ≤ lists.most_rounds →
     read_on done number (map round_line rounds ++ [] ∷ []) ≡ Ok (done ++ rounds)
 unfolding round_of_words line_words
 lines-read done number [] all few =

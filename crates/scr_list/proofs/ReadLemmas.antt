@@ -5,8 +5,8 @@ use Rattle.std.proofs.lemmas.List.{take-append-le}
 use Rattle.std.proofs.Math.Seq.{take-append-add}
 use borrow.Rule.Slice.PartMut.{put_mid, post_of}
 use Rattle.arrayvec.specs.ArrayVec.{ArrayVec}
-use Rattle.scr_outside.specs.Bytes.{IsSpent}
-use Rattle.scr_outside.specs.Change.{Change, Gives}
+use Rattle.scr_outside.specs.Change.{Change, Gives, TellsEnd}
+use Rattle.scr_list.specs.Limits.{lists}
 use Rattle.scr_list.specs.declared.round.Round.{Round}
 use Rattle.scr_list.specs.declared.fault.ListFault.{ListFault}
 use Rattle.scr_list.specs.declared.fault.ListFault.TheVariants.{TooLong, Line, Read}
@@ -26,30 +26,30 @@ take-put_mid buffer next filled size n inside few =
     take_past filled n (take filled buffer) next (post_of filled size buffer) (length-take-le filled buffer inside) few
 
 -- the bytes that were read, of which there are too few to fill the buffer where they are no more than a list has
-unfilled : (buffer : List ℕ) (filled : ℕ) → length buffer ≡ 4097 → filled ≤ 4097 → length (take filled buffer) ≤ 4096 → filled < 4097
+unfilled : (buffer : List ℕ) (filled : ℕ) → length buffer ≡ lists.most_bytes + 1 → filled ≤ lists.most_bytes + 1 → length (take filled buffer) ≤ lists.most_bytes → filled < lists.most_bytes + 1
 unfilled buffer filled size within short = omega (arith, length-take-le filled buffer (omega arith))
 
 answer-by : (change : Change) (buffer : List ℕ) (filled : ℕ) (r : Result (ArrayVec Round) ListFault) →
-    length buffer ≡ 4097 → filled ≤ 4097 → Gives change (take filled buffer) → (filled < 4097 → IsSpent change.bytes_after) →
+    length buffer ≡ lists.most_bytes + 1 → filled ≤ lists.most_bytes + 1 → Gives change (take filled buffer) → (filled < lists.most_bytes + 1 → TellsEnd change) → (filled ≡ lists.most_bytes + 1 → change.ends_after ≡ change.ends_before) →
     listed r ≡ rounds_of (take filled buffer) → TellsLength (take filled buffer) (listed r) →
     IfOk r (λ rounds. ReadsList change (Ok rounds.items)) × IfErr r (λ fault. ReadsNoList change fault)
-answer-by change buffer filled (Ok rounds) size within taken end answer tells = (
-  record { bytes = take filled buffer; gives = taken; spent = end (unfilled buffer filled size within tells); says = sym answer },
+answer-by change buffer filled (Ok rounds) size within taken end no_end answer tells = (
+  record { bytes = take filled buffer; gives = taken; end = end (unfilled buffer filled size within tells); says = sym answer },
   tt,
 )
-answer-by change buffer filled (Err TooLong) size within taken end answer tells =
+answer-by change buffer filled (Err TooLong) size within taken end no_end answer tells =
     let count = length-take-le filled buffer (omega arith) in
-    (tt, record { bytes = take filled buffer; gives = taken; many = omega arith })
-answer-by change buffer filled (Err (Line number cause)) size within taken end answer tells = (
+    (tt, record { bytes = take filled buffer; gives = taken; no_end = no_end (omega arith); many = omega arith })
+answer-by change buffer filled (Err (Line number cause)) size within taken end no_end answer tells = (
   tt,
-  record { bytes = take filled buffer; gives = taken; spent = end (unfilled buffer filled size within tells); says = sym answer },
+  record { bytes = take filled buffer; gives = taken; end = end (unfilled buffer filled size within tells); says = sym answer },
 )
-answer-by change buffer filled (Err Read) size within taken end answer tells = absurd tells
+answer-by change buffer filled (Err Read) size within taken end no_end answer tells = absurd tells
 
 pub read-answer : (change : Change) (buffer : List ℕ) (filled : ℕ) (r : Result (ArrayVec Round) ListFault) →
-    length buffer ≡ 4097 → filled ≤ 4097 → Gives change (take filled buffer) → (filled < 4097 → IsSpent change.bytes_after) →
+    length buffer ≡ lists.most_bytes + 1 → filled ≤ lists.most_bytes + 1 → Gives change (take filled buffer) → (filled < lists.most_bytes + 1 → TellsEnd change) → (filled ≡ lists.most_bytes + 1 → change.ends_after ≡ change.ends_before) →
     listed r ≡ rounds_of (take filled buffer) →
     IfOk r (λ rounds. ReadsList change (Ok rounds.items)) × IfErr r (λ fault. ReadsNoList change fault)
-read-answer change buffer filled r size within taken end answer =
-    answer-by change buffer filled r size within taken end answer
+read-answer change buffer filled r size within taken end no_end answer =
+    answer-by change buffer filled r size within taken end no_end answer
     (subst (TellsLength (take filled buffer)) (sym answer) (rounds_of-TellsLength (take filled buffer)))

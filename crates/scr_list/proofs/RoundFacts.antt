@@ -6,11 +6,13 @@ use Rattle.std.proofs.lemmas.List.Elements.{All-cons, All-nil}
 use borrow.Author.Tests.{ltb-true, leb-true}
 use Rattle.scr_text.specs.Lines.{lines_of, line_words}
 use Rattle.scr_text.specs.Numbers.{in_range, number_of_text, number_between}
-use Rattle.scr_list.specs.declared.event.Minima.{Minima}
+use Rattle.scr_notation.specs.declared.event.Minima.{Minima}
+use Rattle.scr_list.specs.Limits.{lists}
 use Rattle.scr_list.specs.declared.round.Round.{Round}
 use Rattle.scr_list.specs.declared.fault.ListCause.{ListCause}
 use Rattle.scr_list.specs.declared.fault.ListFault.{ListFault}
-use Rattle.scr_list.specs.Events.{rules_of, greatest_of, usual_of, event_named}
+use Rattle.scr_notation.specs.Event.{minima_of, greatest_in, usual_in}
+use Rattle.scr_list.specs.Events.{event_named}
 use Rattle.scr_list.specs.Rounds.{IsRound, least_of, or_cause, named_round, some_round, round_of_words, then_rounds, rounds_of_lines, rounds_of}
 use Rattle.scr_list.specs.RoundLists.{IsRounds}
 use Rattle.scr_list.proofs.EventLemmas.{id-IsId}
@@ -33,9 +35,9 @@ number_between-range least greatest text n found = at (number_of_text text) foun
     at None is = cc
     at (Some m) is = tests m (nat_le least m) (nat_le m greatest) refl refl is
 
-least_of-le : (minima : Option Minima) (word : Option (List ℕ)) (least : ℕ) → usual_of minima ≤ greatest_of minima →
-    least_of minima word ≡ Some least → least ≤ greatest_of minima
-least_of-le minima None least usual is = let same : usual_of minima ≡ least = cc in subst (λ x. x ≤ greatest_of minima) same usual
+least_of-le : (minima : Option Minima) (word : Option (List ℕ)) (least : ℕ) → usual_in minima ≤ greatest_in minima →
+    least_of minima word ≡ Some least → least ≤ greatest_in minima
+least_of-le minima None least usual is = let same : usual_in minima ≡ least = cc in subst (λ x. x ≤ greatest_in minima) same usual
 least_of-le None (Some word) least usual is = cc
 least_of-le (Some minima) (Some word) least usual is = (number_between-range 0 minima.greatest word least is).1
 
@@ -54,9 +56,9 @@ not_past : {Y : Type 0} (b : Bool) (why : ListCause) (x y : Y) → cond b (Ok x)
 not_past true why x y is = (refl, cc)
 not_past false why x y is = cc
 
--- a round stands after fewer than 64 others, and is one that a list can name
+-- a round stands after fewer others than a list may have, and is one that a list can name
 pub record IsPlaced (before : ℕ) (round : Round) : Type 0 where
-  pub few : before < 64
+  pub few : before < lists.most_rounds
   pub is_round : IsRound round
 
 named-is : (before : ℕ) (event groups : List ℕ) (least : Option (List ℕ)) (round : Round) →
@@ -64,16 +66,16 @@ named-is : (before : ℕ) (event groups : List ℕ) (least : Option (List ℕ)) 
 named-is before event groups least round found =
     let known = or_cause-part _ (event_named event) _ round (not_fault (bytes_eq event (codes "444")) _ _ round found).1 in
     let grouped = or_cause-part _ (number_between 1 26 groups) _ round known.2 in
-    let set = or_cause-part _ (least_of (rules_of known.0).minima least) _ round grouped.2 in
-    let placed = not_past (nat_lt before 64) _ _ round set.2 in
+    let set = or_cause-part _ (least_of (minima_of known.0) least) _ round grouped.2 in
+    let placed = not_past (nat_lt before lists.most_rounds) _ _ round set.2 in
     let range = number_between-range 1 26 groups grouped.0 grouped.1 in
     let P : Round → Type 0 = λ r. IsPlaced before r in
     subst P placed.1 (record {
-      few = ltb-true before 64 placed.0;
+      few = ltb-true before lists.most_rounds placed.0;
       is_round = record {
         some_groups = range.0;
         few_groups = range.1;
-        least = least_of-le (rules_of known.0).minima least set.0 (id-IsId known.0).usual set.1;
+        least = least_of-le (minima_of known.0) least set.0 (id-IsId known.0).usual set.1;
       };
     })
 
@@ -95,7 +97,7 @@ round_of_words-IsPlaced before (event ∷ groups ∷ least ∷ more ∷ others) 
 -- the rounds of lines
 record AreLeft (before : ℕ) (rounds : List Round) : Type 0 where
   each : All IsRound rounds
-  few : (length rounds ≡ 0) ⊎ (before + length rounds ≤ 64)
+  few : (length rounds ≡ 0) ⊎ (before + length rounds ≤ lists.most_rounds)
 
 abbrev IfLeft : ℕ → Result (List Round) ListFault → Type 0
 IfLeft before (Ok rounds) = AreLeft before rounds
@@ -108,7 +110,7 @@ rounds_of_lines-AreLeft before number (line ∷ lines) =
     at (round_of_words before (line_words line)) (λ round. round_of_words-IsPlaced before (line_words line) round)
     (λ stand. rounds_of_lines-AreLeft stand (number + 1) lines)
   where
-    count : (size : ℕ) → (size ≡ 0) ⊎ (before + 1 + size ≤ 64) → before < 64 → before + (size + 1) ≤ 64
+    count : (size : ℕ) → (size ≡ 0) ⊎ (before + 1 + size ≤ lists.most_rounds) → before < lists.most_rounds → before + (size + 1) ≤ lists.most_rounds
     count size (inl none) low = omega arith
     count size (inr some) low = omega arith
 
@@ -129,7 +131,7 @@ rounds_of_lines-AreLeft before number (line ∷ lines) =
 
 pub rounds_of-IsRounds : (bytes : List ℕ) (rounds : List Round) → rounds_of bytes ≡ Ok rounds → IsRounds rounds
 unfolding rounds_of
-rounds_of-IsRounds bytes rounds found = at (nat_lt 4096 (length bytes)) found
+rounds_of-IsRounds bytes rounds found = at (nat_lt lists.most_bytes (length bytes)) found
   where
     at : (b : Bool) → cond b (Err Rattle.scr_list.specs.declared.fault.ListFault.TheVariants.TooLong) (rounds_of_lines 0 1 (lines_of bytes)) ≡ Ok rounds → IsRounds rounds
     at true is = cc

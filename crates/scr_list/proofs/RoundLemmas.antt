@@ -4,6 +4,7 @@ use Rattle.std.specs.Prelude.{slice_get, nat_lt, option_copied, IfSome}
 use borrow.Author.Tests.{lt-ltb, le-ltb, ltb-true, ltb-false}
 use Rattle.scr_text.specs.Lines.{lines_of, line_words}
 use Rattle.scr_text.specs.Parts.{more_lines}
+use Rattle.scr_list.specs.Limits.{lists}
 use Rattle.scr_list.specs.declared.round.Round.{Round}
 use Rattle.scr_list.specs.declared.fault.ListCause.{ListCause}
 use Rattle.scr_list.specs.declared.fault.ListCause.TheVariants.{Words}
@@ -71,26 +72,26 @@ unfolding rounds_of_lines
 read_on-end done number = ap Ok (append-nil done)
 
 -- a list that isn't too long, and one that is
-pub rounds_of-start : (bytes : List ℕ) → length bytes ≤ 4096 → rounds_of bytes ≡ read_on [] 1 (lines_of bytes)
+pub rounds_of-start : (bytes : List ℕ) → length bytes ≤ lists.most_bytes → rounds_of bytes ≡ read_on [] 1 (lines_of bytes)
 unfolding rounds_of
 rounds_of-start bytes short =
-    let fits : nat_lt 4096 (length bytes) ≡ false = le-ltb 4096 (length bytes) short in
+    let fits : nat_lt lists.most_bytes (length bytes) ≡ false = le-ltb lists.most_bytes (length bytes) short in
     rw fits (after_rounds-none (rounds_of_lines 0 1 (lines_of bytes)))
 
-pub rounds_of-long : (bytes : List ℕ) → 4096 < length bytes → rounds_of bytes ≡ Err TooLong
+pub rounds_of-long : (bytes : List ℕ) → lists.most_bytes < length bytes → rounds_of bytes ≡ Err TooLong
 unfolding rounds_of
 rounds_of-long bytes long =
-    let more : nat_lt 4096 (length bytes) ≡ true = lt-ltb 4096 (length bytes) long in
+    let more : nat_lt lists.most_bytes (length bytes) ≡ true = lt-ltb lists.most_bytes (length bytes) long in
     rw more refl
 
 -- what an answer tells of the bytes: too many are refused as such, and only they, and `Read` never comes
 abbrev pub TellsLength : List ℕ → Result (List Round) ListFault → Type 0
-TellsLength bytes (Ok rounds) = length bytes ≤ 4096
-TellsLength bytes (Err TooLong) = 4096 < length bytes
-TellsLength bytes (Err (Line number cause)) = length bytes ≤ 4096
+TellsLength bytes (Ok rounds) = length bytes ≤ lists.most_bytes
+TellsLength bytes (Err TooLong) = lists.most_bytes < length bytes
+TellsLength bytes (Err (Line number cause)) = length bytes ≤ lists.most_bytes
 TellsLength bytes (Err Read) = ⊥
 
-lines-TellsLength : (bytes : List ℕ) (before number : ℕ) (lines : List (List ℕ)) → length bytes ≤ 4096 →
+lines-TellsLength : (bytes : List ℕ) (before number : ℕ) (lines : List (List ℕ)) → length bytes ≤ lists.most_bytes →
     TellsLength bytes (rounds_of_lines before number lines)
 unfolding rounds_of_lines
 lines-TellsLength bytes before number [] short = short
@@ -109,12 +110,12 @@ lines-TellsLength bytes before number (line ∷ lines) short =
 
 pub rounds_of-TellsLength : (bytes : List ℕ) → TellsLength bytes (rounds_of bytes)
 unfolding rounds_of
-rounds_of-TellsLength bytes = at (nat_lt 4096 (length bytes)) refl
+rounds_of-TellsLength bytes = at (nat_lt lists.most_bytes (length bytes)) refl
   where
-    at : (b : Bool) → nat_lt 4096 (length bytes) ≡ b →
+    at : (b : Bool) → nat_lt lists.most_bytes (length bytes) ≡ b →
         TellsLength bytes (cond b (Err TooLong) (rounds_of_lines 0 1 (lines_of bytes)))
-    at true long = ltb-true 4096 (length bytes) long
-    at false short = lines-TellsLength bytes 0 1 (lines_of bytes) (ltb-false 4096 (length bytes) short)
+    at true long = ltb-true lists.most_bytes (length bytes) long
+    at false short = lines-TellsLength bytes 0 1 (lines_of bytes) (ltb-false lists.most_bytes (length bytes) short)
 
 -- how many bytes are left, and one more for the line that they are
 abbrev pub left_of : Option (Bor (List ℕ)) → ℕ

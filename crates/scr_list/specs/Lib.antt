@@ -1,4 +1,5 @@
 pub mod Events
+pub mod Limits
 pub mod Rounds
 pub mod RoundLists
 pub mod Reading

@@ -4,9 +4,9 @@ use Rattle.std.specs.Fmt.{decimal}
 use Rattle.std.specs.List.{join_with_byte}
 use Rattle.scr_notation.specs.Event.{id_of}
 use Rattle.scr_text.specs.Lines.{text_of_lines}
-use Rattle.scr_list.specs.declared.event.Minima.{Minima}
+use Rattle.scr_notation.specs.declared.event.Minima.{Minima}
 use Rattle.scr_list.specs.declared.round.Round.{Round}
-use Rattle.scr_list.specs.Events.{rules_of}
+use Rattle.scr_notation.specs.Event.{minima_of}
 
 -- the third word of a line, where its event has minima
 abbrev pub least_words : Option Minima → ℕ → List (List ℕ)
@@ -16,7 +16,7 @@ least_words (Some minima) least = decimal least ∷ []
 -- the words of the line of a round
 abbrev pub round_words : Round → List (List ℕ)
 round_words round =
-    id_of round.event ∷ decimal round.groups ∷ least_words (rules_of round.event).minima round.least
+    id_of round.event ∷ decimal round.groups ∷ least_words (minima_of round.event) round.least
 
 -- the line of a round, without its line feed
 abbrev pub round_line : Round → List ℕ

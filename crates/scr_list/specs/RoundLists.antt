@@ -1,9 +1,10 @@
 -- What lists name.
 use Rattle.std.specs.Prelude.{◌≤◌, List, length, All}
 use Rattle.scr_list.specs.declared.round.Round.{Round}
-use Rattle.scr_list.specs.Rounds.{IsRound, most_rounds}
+use Rattle.scr_list.specs.Rounds.{IsRound}
+use Rattle.scr_list.specs.Limits.{lists}
 
 -- rounds that a list can name
 pub record IsRounds (rounds : List Round) : Type 0 where
   pub each : All IsRound rounds
-  pub few : length rounds ≤ most_rounds
+  pub few : length rounds ≤ lists.most_rounds

@@ -1,29 +1,24 @@
 -- The round list: what rounds a competition's list names, as a function of its bytes. The grammar is our own choice.
-use Rattle.std.specs.Prelude.{ℕ, ◌+◌, ◌≤◌, if◌then◌else◌, nat_lt, Option, Some, None, List, [], ◌∷◌, Result, Ok, Err, codes, length}
+use Rattle.std.specs.Prelude.{ℕ, ◌+◌, ◌≤◌, if◌then◌else◌, nat_lt, Option, Some, None, List, [], ◌∷◌, Result, Ok, Err}
+use Rattle.std.specs.Prelude.{codes, length}
 use Rattle.std.specs.Str.{bytes_eq}
 use Rattle.scr_text.specs.Lines.{lines_of, line_words}
 use Rattle.scr_text.specs.Numbers.{number_between}
-use Rattle.scr_list.specs.declared.event.Minima.{Minima}
+use Rattle.scr_notation.specs.declared.event.Minima.{Minima}
 use Rattle.scr_list.specs.declared.round.Round.{Round}
 use Rattle.scr_list.specs.declared.fault.ListCause.{ListCause}
 use Rattle.scr_list.specs.declared.fault.ListFault.{ListFault}
 use Rattle.scr_list.specs.declared.fault.ListFault.TheVariants.{TooLong, Line}
 use Rattle.scr_list.specs.declared.fault.ListCause.TheVariants as cause
-use Rattle.scr_list.specs.Events.{rules_of, greatest_of, usual_of, event_named}
-
--- the most bytes of a list
-abbrev pub most_bytes : ℕ
-most_bytes = 4096
-
--- the most rounds of a list
-abbrev pub most_rounds : ℕ
-most_rounds = 64
+use Rattle.scr_notation.specs.Event.{minima_of, greatest_of, usual_in}
+use Rattle.scr_list.specs.Events.{event_named}
+use Rattle.scr_list.specs.Limits.{lists}
 
 -- a round that a list can name
 pub record IsRound (round : Round) : Type 0 where
   pub some_groups : 1 ≤ round.groups
   pub few_groups : round.groups ≤ 26
-  pub least : round.least ≤ greatest_of (rules_of round.event).minima
+  pub least : round.least ≤ greatest_of round.event
 
 -- ---- a line
 
@@ -34,7 +29,7 @@ set_least (Some minima) word = number_between 0 minima.greatest word
 
 -- the minimum of a round: that of its line's third word, and the usual one where the line has none
 abbrev pub least_of : Option Minima → Option (List ℕ) → Option ℕ
-least_of minima None = Some (usual_of minima)
+least_of minima None = Some (usual_in minima)
 least_of minima (Some word) = set_least minima word
 
 -- what follows from a part that a line has, or the cause why it lacks it
@@ -44,7 +39,7 @@ or_cause why (Some part) next = next part
 
 -- a round, where fewer rounds than a list may have stand before it
 abbrev pub placed_round : ℕ → Round → Result Round ListCause
-placed_round before round = if nat_lt before most_rounds then Ok round else Err cause.Rounds
+placed_round before round = if nat_lt before lists.most_rounds then Ok round else Err cause.Rounds
 
 -- The round that a first, a second and maybe a third word name where this many rounds stand before it, or the first
 -- cause why they name none.
@@ -53,7 +48,7 @@ named_round before event groups least =
     if bytes_eq event (codes "444") then Err cause.No444
     else or_cause cause.Event (event_named event) (λ e.
     or_cause cause.Groups (number_between 1 26 groups) (λ g.
-    or_cause cause.Minimum (least_of (rules_of e).minima least) (λ m.
+    or_cause cause.Minimum (least_of (minima_of e) least) (λ m.
     placed_round before (record { event = e; groups = g; least = m }))))
 
 -- the round of a line that has one
@@ -87,9 +82,10 @@ then_rounds before number (Ok (Some round)) others = with_round round (others (b
 unfoldable pub rounds_of_lines : ℕ → ℕ → List (List ℕ) → Result (List Round) ListFault
 rounds_of_lines before number [] = Ok []
 rounds_of_lines before number (line ∷ lines) =
-    then_rounds before number (round_of_words before (line_words line)) (λ stand. rounds_of_lines stand (number + 1) lines)
+    then_rounds before number (round_of_words before (line_words line))
+    (λ stand. rounds_of_lines stand (number + 1) lines)
 
 -- The rounds that a list names, or why it is none: it's too long, or a line is at fault. Lines are counted from 1.
 unfoldable pub rounds_of : List ℕ → Result (List Round) ListFault
 rounds_of bytes =
-    if nat_lt most_bytes (length bytes) then Err TooLong else rounds_of_lines 0 1 (lines_of bytes)
+    if nat_lt lists.most_bytes (length bytes) then Err TooLong else rounds_of_lines 0 1 (lines_of bytes)

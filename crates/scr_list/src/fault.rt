@@ -19,14 +19,14 @@ pub enum ListCause {
     Groups,
     /// Its third word is no number in the event's range, or the event takes none.
     Minimum,
-    /// 64 rounds stand before it.
+    /// As many rounds stand before it as a list may have.
     Rounds,
 }
 
 /// Why a list is refused, or was not read.
 #[derive(Clone, Copy, Debug, PartialEq, Eq)]
 pub enum ListFault {
-    /// It has more than 4,096 bytes.
+    /// It has more bytes than a list may have.
     TooLong,
     /// The first line at fault.
     Line {

@@ -8,10 +8,11 @@ ghost use Rattle.scr_list.specs.Rounds.{rounds_of, round_of_words, named_round, 
 ghost use Rattle.scr_list.specs.RoundLists.{IsRounds};
 ghost use Rattle.scr_list.specs.Reading.{listed};
 
-use crate::event::{Minima, event_named, event_rules};
+use crate::event::event_named;
 use crate::fault::{ListCause, ListFault};
+use crate::limits::{LISTS, ROUND_ROOM};
 use arrayvec::ArrayVec;
-use scr_notation::Event;
+use scr_notation::{Event, Minima};
 use scr_text::{number_within, split_line, word_at};
 
 /// A round of an event.
@@ -43,12 +44,12 @@ impl Default for Round {
 
 /// The rounds that a list names, in its order, or why it is refused: `TooLong` and `Line` exactly by
 /// the grammar; `Read` never comes. It takes no memory.
-pub fn parse_rounds(bytes: &[u8]) -> Result<ArrayVec<Round, 64>, ListFault>
+pub fn parse_rounds(bytes: &[u8]) -> Result<ArrayVec<Round, ROUND_ROOM>, ListFault>
     ensures answer { listed result ≡ rounds_of bytes.now }
     ensures rounds { IfOk result (λ rounds. IsRounds rounds.items) }
     ensures no_read { IfErr result (λ fault. fault ≢ Read) }
 {
-    if bytes.len() > 4096 {
+    if bytes.len() > LISTS.most_bytes {
         return Err(ListFault::TooLong);
     }
     let mut rounds = ArrayVec::new();
@@ -97,7 +98,7 @@ fn named(
     }
     let event = event_named(event).ok_or(ListCause::Event)?;
     let groups = group_count(groups).ok_or(ListCause::Groups)?;
-    let least = minimum(event_rules(event).minima, least).ok_or(ListCause::Minimum)?;
+    let least = minimum(event.minima(), least).ok_or(ListCause::Minimum)?;
     placed(
         before,
         Round {
@@ -108,11 +109,11 @@ fn named(
     )
 }
 
-/// A round, where fewer than 64 rounds stand before it.
+/// A round, where fewer rounds than a list may have stand before it.
 fn placed(before: usize, round: Round) -> Result<Round, ListCause>
     ensures { result ≡ placed_round before round }
 {
-    if before < 64 {
+    if before < LISTS.most_rounds {
         Ok(round)
     } else {
         Err(ListCause::Rounds)

@@ -1,5 +1,6 @@
 pub mod WrittenLaws
 pub mod Below
+pub mod EachEvent
 pub mod LayersLaws
 pub mod NumberLaws
 pub mod SpellingLaws

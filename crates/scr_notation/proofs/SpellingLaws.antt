@@ -4,31 +4,17 @@ use Rattle.std.specs.Prelude.{◌&&◌, ◌==◌, not, nat_le, All}
 use Rattle.std.specs.List.{list_all}
 use Rattle.std.proofs.lemmas.Bool.{not-true, cases_lt}
 use Rattle.scr_notation.specs.declared.event.Event.{Event}
-use Rattle.scr_notation.specs.declared.event.Event.TheVariants.{C222, C333, Oh333, C555, C666, C777, Clock, Minx, Pyram, Skewb, Sq1}
 use Rattle.scr_notation.specs.declared.event.Kind.{Kind}
 use Rattle.scr_notation.specs.declared.event.Kind.TheVariants.{Faces, Axes, LayersAndTwist, PinSets, WideTurns}
 use Rattle.scr_notation.specs.declared.turn.Turn.{Turn}
 use Rattle.scr_notation.specs.Event.{kind_of}
 use Rattle.scr_notation.specs.Kinds.{IsKind}
+use Rattle.scr_notation.proofs.EachEvent.{IsKind-kind_of}
 use Rattle.scr_notation.specs.Turns.{permits}
 use Rattle.scr_notation.specs.TurnNumbers.{turn_count, turn_at, face_turn_at, axis_turn_at, layer_turn_at, clock_turn_at, wide_turn_at}
 use Rattle.scr_notation.specs.Spelling.{hours_text, spelling}
 use Rattle.scr_notation.proofs.Below.{and_first, and_second, all_below, at_below, same, not_same, All-from_test}
 use Rattle.scr_notation.proofs.NumberLaws.{numbered}
-
--- each event's turns are of a kind
-pub IsKind-kind_of : (e : Event) → IsKind (kind_of e)
-IsKind-kind_of C222 = record { few = lit≤ tt; near_first = lit≤ tt; at_most_one_more = lit≤ tt }
-IsKind-kind_of C333 = record { few = lit≤ tt; near_first = lit≤ tt; at_most_one_more = lit≤ tt }
-IsKind-kind_of Oh333 = record { few = lit≤ tt; near_first = lit≤ tt; at_most_one_more = lit≤ tt }
-IsKind-kind_of C555 = record { few = lit≤ tt; near_first = lit≤ tt; at_most_one_more = lit≤ tt }
-IsKind-kind_of C666 = record { few = lit≤ tt; near_first = lit≤ tt; at_most_one_more = lit≤ tt }
-IsKind-kind_of C777 = record { few = lit≤ tt; near_first = lit≤ tt; at_most_one_more = lit≤ tt }
-IsKind-kind_of Clock = tt
-IsKind-kind_of Minx = tt
-IsKind-kind_of Pyram = tt
-IsKind-kind_of Skewb = tt
-IsKind-kind_of Sq1 = tt
 
 -- ---- computed over the numbered turns
 

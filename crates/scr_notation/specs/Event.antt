@@ -1,33 +1,65 @@
--- The events, with the id, the name and the turns of each (WCA Regulations, articles 9 and 12).
-use Rattle.std.specs.Prelude.{ℕ, List, [], ◌∷◌, codes, Option, find, true, false}
+-- The events and the one table of them: how each is named, what its turns are, how many scrambles a group has, how far from
+-- solved its states may be asked to be, and which tables its scrambles are found by. (WCA Regulations, articles 9 and 12 for
+-- ids, names and turns, 4b3 and 9b for scrambles; the range of minima and what is usual are our own choice.)
+use Rattle.std.specs.Prelude.{ℕ, List, [], ◌∷◌, codes, Option, Some, None, find, true, false}
 use Rattle.std.specs.Str.{bytes_eq}
 use Rattle.scr_notation.specs.declared.event.Event.{Event}
 use Rattle.scr_notation.specs.declared.event.Event.TheVariants.{C222, C333, Oh333, C555, C666, C777, Clock, Minx, Pyram, Skewb, Sq1}
 use Rattle.scr_notation.specs.declared.event.Kind.{Kind}
 use Rattle.scr_notation.specs.declared.event.Kind.TheVariants.{Faces, Axes, LayersAndTwist, PinSets, WideTurns}
+use Rattle.scr_notation.specs.declared.event.Minima.{Minima}
+use Rattle.scr_notation.specs.declared.event.Family.{Family}
+use Rattle.scr_notation.specs.declared.event.Family.TheVariants as family
 
 -- the events, in the order of their numbers
 abbrev pub events : List Event
 events = C222 ∷ C333 ∷ Oh333 ∷ C555 ∷ C666 ∷ C777 ∷ Clock ∷ Minx ∷ Pyram ∷ Skewb ∷ Sq1 ∷ []
 
--- how lists and commands name an event, how a sheet names it, and what its turns are
+-- How lists and commands name an event, how a sheet names it, and what its turns are; the scrambles of a group without the
+-- two extra ones; the minima of its rounds, where its states are drawn and not its moves; the family of its tables, if it
+-- has any.
 pub record EventRow : Type 0 where
   pub id : List ℕ
   pub name : List ℕ
   pub kind : Kind
+  pub per_group : ℕ
+  pub minima : Option Minima
+  pub family : Option Family
+
+-- an event of random states, whose minimum is from 0 to the greatest
+abbrev pub by_states : List ℕ → List ℕ → Kind → ℕ → ℕ → ℕ → Option Family → EventRow
+by_states id name kind per_group usual greatest family = record {
+  id = id;
+  name = name;
+  kind = kind;
+  per_group = per_group;
+  family = family;
+  minima = Some (record { usual = usual; greatest = greatest });
+}
+
+-- an event of random moves
+abbrev pub by_moves : List ℕ → List ℕ → Kind → ℕ → EventRow
+by_moves id name kind per_group = record {
+  id = id;
+  name = name;
+  kind = kind;
+  per_group = per_group;
+  minima = None;
+  family = None;
+}
 
 abbrev pub row_of : Event → EventRow
-row_of C222 = record { id = codes "222"; name = codes "2x2x2 Cube"; kind = Faces 1 0 }
-row_of C333 = record { id = codes "333"; name = codes "3x3x3 Cube"; kind = Faces 1 1 }
-row_of Oh333 = record { id = codes "333oh"; name = codes "3x3x3 One-Handed"; kind = Faces 1 1 }
-row_of C555 = record { id = codes "555"; name = codes "5x5x5 Cube"; kind = Faces 2 2 }
-row_of C666 = record { id = codes "666"; name = codes "6x6x6 Cube"; kind = Faces 3 2 }
-row_of C777 = record { id = codes "777"; name = codes "7x7x7 Cube"; kind = Faces 3 3 }
-row_of Clock = record { id = codes "clock"; name = codes "Clock"; kind = PinSets }
-row_of Minx = record { id = codes "minx"; name = codes "Megaminx"; kind = WideTurns }
-row_of Pyram = record { id = codes "pyram"; name = codes "Pyraminx"; kind = Axes true }
-row_of Skewb = record { id = codes "skewb"; name = codes "Skewb"; kind = Axes false }
-row_of Sq1 = record { id = codes "sq1"; name = codes "Square-1"; kind = LayersAndTwist }
+row_of C222 = by_states (codes "222") (codes "2x2x2 Cube") (Faces 1 0) 5 4 11 (Some family.Cube222)
+row_of C333 = by_states (codes "333") (codes "3x3x3 Cube") (Faces 1 1) 5 2 5 (Some family.Cube333)
+row_of Oh333 = by_states (codes "333oh") (codes "3x3x3 One-Handed") (Faces 1 1) 5 2 5 (Some family.Cube333)
+row_of C555 = by_moves (codes "555") (codes "5x5x5 Cube") (Faces 2 2) 5
+row_of C666 = by_moves (codes "666") (codes "6x6x6 Cube") (Faces 3 2) 3
+row_of C777 = by_moves (codes "777") (codes "7x7x7 Cube") (Faces 3 3) 3
+row_of Clock = by_states (codes "clock") (codes "Clock") PinSets 5 2 3 None
+row_of Minx = by_moves (codes "minx") (codes "Megaminx") WideTurns 5
+row_of Pyram = by_states (codes "pyram") (codes "Pyraminx") (Axes true) 5 6 15 (Some family.Pyraminx)
+row_of Skewb = by_states (codes "skewb") (codes "Skewb") (Axes false) 5 7 11 (Some family.Skewb)
+row_of Sq1 = by_states (codes "sq1") (codes "Square-1") LayersAndTwist 5 2 4 (Some family.Square1)
 
 abbrev pub id_of : Event → List ℕ
 id_of event = (row_of event).id
@@ -37,6 +69,31 @@ name_of event = (row_of event).name
 
 abbrev pub kind_of : Event → Kind
 kind_of event = (row_of event).kind
+
+abbrev pub per_group_of : Event → ℕ
+per_group_of event = (row_of event).per_group
+
+abbrev pub minima_of : Event → Option Minima
+minima_of event = (row_of event).minima
+
+abbrev pub family_of : Event → Option Family
+family_of event = (row_of event).family
+
+-- the greatest minimum of a round; 0 where it has none
+abbrev pub greatest_in : Option Minima → ℕ
+greatest_in None = 0
+greatest_in (Some minima) = minima.greatest
+
+-- the minimum of a round that sets none
+abbrev pub usual_in : Option Minima → ℕ
+usual_in None = 0
+usual_in (Some minima) = minima.usual
+
+abbrev pub greatest_of : Event → ℕ
+greatest_of event = greatest_in (minima_of event)
+
+abbrev pub usual_of : Event → ℕ
+usual_of event = usual_in (minima_of event)
 
 -- the event that has an id
 abbrev pub event_of : List ℕ → Option Event

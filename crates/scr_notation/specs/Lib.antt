@@ -1,4 +1,5 @@
 pub mod Event
+pub mod EventSets
 pub mod Kinds
 pub mod Amounts
 pub mod Faces

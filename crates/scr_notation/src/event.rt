@@ -1,8 +1,11 @@
 //! The events.
 
-ghost use Rattle.std.specs.Prelude.{◌≡◌, ◌↔◌, IfSome, IsNone, Some};
-ghost use Rattle.scr_notation.specs.Event.{row_of, id_of, name_of, kind_of, event_of};
+ghost use Rattle.std.specs.Prelude.{◌≡◌, ◌≤◌, IfSome, Some, slice_get};
+ghost use Rattle.scr_notation.specs.Event.{events, row_of, id_of, name_of, kind_of, per_group_of, minima_of, family_of, event_of};
 ghost use Rattle.scr_notation.specs.Kinds.{IsKind};
+ghost use Rattle.scr_notation.specs.declared.event.Kind.TheVariants.{Faces, Axes};
+
+use Family::{Cube222, Cube333, Pyraminx, Skewb, Square1};
 
 /// An event (WCA Regulations, article 9), in the order of the events' numbers from 0.
 #[derive(Clone, Copy, Debug, PartialEq, Eq)]
@@ -46,12 +49,39 @@ pub enum Kind {
     WideTurns,
 }
 
+/// How many turns from solved each state of a round is at least.
+#[derive(Clone, Copy, Debug, PartialEq, Eq)]
+pub struct Minima {
+    /// Where the round doesn't say.
+    pub usual: u8,
+    /// The greatest that a round may set, at most 15; the least is 0.
+    pub greatest: u8,
+}
+
+/// A family of events: those whose scrambles are found by the same tables, which are built and printed in this order.
+#[derive(Clone, Copy, Debug, PartialEq, Eq)]
+pub enum Family {
+    /// The 2x2x2.
+    Cube222,
+    /// The 3x3x3.
+    Cube333,
+    /// The Pyraminx.
+    Pyraminx,
+    /// The Skewb.
+    Skewb,
+    /// The Square-1.
+    Square1,
+}
+
 /// What the table of events has of one.
 #[derive(Clone, Copy)]
 struct EventRow {
     id: &'static str,
     name: &'static str,
     kind: Kind,
+    per_group: u8,
+    minima: Option<Minima>,
+    family: Option<Family>,
 }
 
 /// The events, in the order of their numbers.
@@ -92,6 +122,36 @@ impl Event {
         self.row().kind
     }
 
+    /// How many scrambles a group has, without the two extra ones.
+    pub fn per_group(self) -> u8
+        ensures value { result ≡ per_group_of self }
+        ensures few { result ≤ 5 }
+    {
+        self.row().per_group
+    }
+
+    /// The minima of its rounds; `None` for an event that is scrambled by random moves.
+    pub fn minima(self) -> Option<Minima>
+        ensures value { result ≡ minima_of self }
+        ensures range { IfSome result (λ minima. (minima.usual ≤ minima.greatest) × (minima.greatest ≤ 15)) }
+    {
+        self.row().minima
+    }
+
+    /// The family of its tables; `None` where its scrambles need no table.
+    pub fn family(self) -> Option<Family>
+        ensures { result ≡ family_of self }
+    {
+        self.row().family
+    }
+
+    /// Its number, which is its place among the events, from 0.
+    pub fn number(self) -> u8
+        ensures { slice_get events result ≡ Some self }
+    {
+        self as u8
+    }
+
     /// The event that has this id; `None` exactly where no event has it.
     pub fn from_id(text: &str) -> Option<Event>
         ensures { result ≡ event_of text.now }
@@ -104,20 +164,86 @@ impl Event {
         ensures id { result.id.now ≡ (row_of self).id }
         ensures name { result.name.now ≡ (row_of self).name }
         ensures kind { result.kind ≡ (row_of self).kind }
+        ensures per_group { result.per_group ≡ (row_of self).per_group }
+        ensures minima { result.minima ≡ (row_of self).minima }
+        ensures family { result.family ≡ (row_of self).family }
     {
-        let (id, name, kind) = match self {
-            Event::C222 => ("222", "2x2x2 Cube", Kind::Faces { near: 1, far: 0 }),
-            Event::C333 => ("333", "3x3x3 Cube", Kind::Faces { near: 1, far: 1 }),
-            Event::Oh333 => ("333oh", "3x3x3 One-Handed", Kind::Faces { near: 1, far: 1 }),
-            Event::C555 => ("555", "5x5x5 Cube", Kind::Faces { near: 2, far: 2 }),
-            Event::C666 => ("666", "6x6x6 Cube", Kind::Faces { near: 3, far: 2 }),
-            Event::C777 => ("777", "7x7x7 Cube", Kind::Faces { near: 3, far: 3 }),
-            Event::Clock => ("clock", "Clock", Kind::PinSets),
-            Event::Minx => ("minx", "Megaminx", Kind::WideTurns),
-            Event::Pyram => ("pyram", "Pyraminx", Kind::Axes { tips: true }),
-            Event::Skewb => ("skewb", "Skewb", Kind::Axes { tips: false }),
-            Event::Sq1 => ("sq1", "Square-1", Kind::LayersAndTwist),
+        let (id, name, kind, per_group, minima, family) = match self {
+            Event::C222 => (
+                "222",
+                "2x2x2 Cube",
+                faces(1, 0),
+                5,
+                up_to(11, 4),
+                Some(Cube222),
+            ),
+            Event::C333 => (
+                "333",
+                "3x3x3 Cube",
+                faces(1, 1),
+                5,
+                up_to(5, 2),
+                Some(Cube333),
+            ),
+            Event::Oh333 => (
+                "333oh",
+                "3x3x3 One-Handed",
+                faces(1, 1),
+                5,
+                up_to(5, 2),
+                Some(Cube333),
+            ),
+            Event::C555 => ("555", "5x5x5 Cube", faces(2, 2), 5, None, None),
+            Event::C666 => ("666", "6x6x6 Cube", faces(3, 2), 3, None, None),
+            Event::C777 => ("777", "7x7x7 Cube", faces(3, 3), 3, None, None),
+            Event::Clock => ("clock", "Clock", Kind::PinSets, 5, up_to(3, 2), None),
+            Event::Minx => ("minx", "Megaminx", Kind::WideTurns, 5, None, None),
+            Event::Pyram => (
+                "pyram",
+                "Pyraminx",
+                axes(true),
+                5,
+                up_to(15, 6),
+                Some(Pyraminx),
+            ),
+            Event::Skewb => ("skewb", "Skewb", axes(false), 5, up_to(11, 7), Some(Skewb)),
+            Event::Sq1 => (
+                "sq1",
+                "Square-1",
+                Kind::LayersAndTwist,
+                5,
+                up_to(4, 2),
+                Some(Square1),
+            ),
         };
-        EventRow { id, name, kind }
+        EventRow {
+            id,
+            name,
+            kind,
+            per_group,
+            minima,
+            family,
+        }
     }
+}
+
+/// Turns of so many layers at the near and at the far faces.
+fn faces(near: u8, far: u8) -> Kind
+    ensures { result ≡ Faces near far }
+{
+    Kind::Faces { near, far }
+}
+
+/// Turns about axes, with tips or without.
+fn axes(tips: bool) -> Kind
+    ensures { result ≡ Axes tips }
+{
+    Kind::Axes { tips }
+}
+
+/// Minima up to the greatest, with the usual one.
+fn up_to(greatest: u8, usual: u8) -> Option<Minima>
+    ensures { result ≡ Some (record { usual = usual; greatest = greatest }) }
+{
+    Some(Minima { usual, greatest })
 }

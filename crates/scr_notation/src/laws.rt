@@ -1,17 +1,57 @@
 //! Laws of turns, spellings and texts. The functions do nothing: what each ensures is the law.
 ghost use Rattle.std.specs.Prelude.{◌≡◌, ℕ, ◌<◌, pos, neg_ℤ, true, false, List, [], ◌∷◌, map, All, IsTrue, codes};
+ghost use Rattle.std.specs.List.{join_with_byte, range_with_len};
 ghost use Rattle.scr_play.specs.Lawful.{IsMerging};
 ghost use Rattle.scr_play.specs.Tidy.{tidy, IsTidy, Merges, MergesTo};
 ghost use Rattle.scr_notation.specs.declared.event.Event.{Event};
+ghost use Rattle.scr_notation.specs.declared.event.Event.TheVariants.{C222, C666, Skewb};
 ghost use Rattle.scr_notation.specs.declared.turn.Turn.{Turn};
 ghost use Rattle.scr_notation.specs.declared.turn.Turn.TheVariants.{Face, Axis, Tip, Layers, Twist, Pins, Over, Wide};
 ghost use Rattle.scr_notation.specs.declared.reading.NotationFault.{NotationFault};
-ghost use Rattle.scr_notation.specs.Event.{kind_of};
+ghost use Rattle.scr_notation.specs.Event.{events, id_of, name_of, kind_of, per_group_of, greatest_of, usual_of};
 ghost use Rattle.scr_notation.specs.Turns.{permits};
 ghost use Rattle.scr_notation.specs.TurnNumbers.{turn_count, turn_at, face_turn_at, axis_turn_at, layer_turn_at, clock_turn_at, wide_turn_at};
 ghost use Rattle.scr_notation.specs.Spelling.{spelling, text_of};
 ghost use Rattle.scr_notation.specs.Turning.{opposite, turn_merging, has_merging};
 ghost use Rattle.scr_notation.specs.Reading.{IsFirstFault};
+
+/// The events in the order of their numbers: how they are named, how many scrambles a group has, and how many turns from
+/// solved states are at least, usually and at most (0 for events without minima).
+pub fn known_events()
+    ensures ids { join_with_byte 32 (map id_of events)
+        ≡ codes "222 333 333oh 555 666 777 clock minx pyram skewb sq1" }
+    ensures names { join_with_byte 44 (map name_of events)
+        ≡ codes "2x2x2 Cube,3x3x3 Cube,3x3x3 One-Handed,5x5x5 Cube,6x6x6 Cube,7x7x7 Cube,Clock,Megaminx,Pyraminx,Skewb,Square-1" }
+    ensures groups { map per_group_of events ≡ 5 ∷ 5 ∷ 5 ∷ 5 ∷ 3 ∷ 3 ∷ 5 ∷ 5 ∷ 5 ∷ 5 ∷ 5 ∷ [] }
+    ensures usual { map usual_of events ≡ 4 ∷ 2 ∷ 2 ∷ 0 ∷ 0 ∷ 0 ∷ 2 ∷ 0 ∷ 6 ∷ 7 ∷ 2 ∷ [] }
+    ensures greatest { map greatest_of events ≡ 11 ∷ 5 ∷ 5 ∷ 0 ∷ 0 ∷ 0 ∷ 3 ∷ 0 ∷ 15 ∷ 11 ∷ 4 ∷ [] }
+{}
+
+/// Which turns the events have: how many, and those by which like events differ.
+#[tactic(auto, unfolding(crate::specs::Spelling::spelling, crate::specs::TurnNumbers::turn_at, crate::specs::TurnNumbers::face_turn_at, crate::specs::TurnNumbers::axis_turn_at))]
+pub fn known_turns()
+    ensures counts { map (λ event. turn_count (kind_of event)) events
+        ≡ 9 ∷ 18 ∷ 18 ∷ 36 ∷ 45 ∷ 54 ∷ 109 ∷ 6 ∷ 16 ∷ 8 ∷ 144 ∷ [] }
+    ensures small_cube { text_of (map (turn_at (kind_of C222)) (range_with_len 0 9)) ≡ codes "U U2 U' R R2 R' F F2 F'" }
+    ensures three_layers { text_of (map (turn_at (kind_of C666)) (range_with_len 36 9))
+        ≡ codes "3Uw 3Uw2 3Uw' 3Rw 3Rw2 3Rw' 3Fw 3Fw2 3Fw'" }
+    ensures no_tips { text_of (map (turn_at (kind_of Skewb)) (range_with_len 0 8)) ≡ codes "U U' L L' R R' B B'" }
+{}
+
+/// Turns that undo these, and words that are tidied.
+#[tactic(auto, unfolding(crate::specs::Spelling::spelling, scr_play::specs::Tidy::tidy, scr_play::specs::Tidy::with_turn, scr_play::specs::Tidy::word_of))]
+pub fn known_words()
+    ensures faces { text_of (map opposite (Face 0 1 1 ∷ Face 1 2 2 ∷ Face 2 3 3 ∷ [])) ≡ codes "U' Rw2 3Fw" }
+    ensures axes { text_of (map opposite (Axis 0 1 ∷ Axis 1 2 ∷ Tip 2 1 ∷ Tip 3 2 ∷ [])) ≡ codes "U' L r' b" }
+    ensures layers { text_of (map opposite (Layers (pos 1) (neg_ℤ (pos 5)) ∷ Twist ∷ Layers (pos 6) (pos 0) ∷ []))
+        ≡ codes "(-1,5) / (6,0)" }
+    ensures wide { text_of (map opposite (Wide 0 true ∷ Wide 1 false ∷ Wide 2 true ∷ Wide 0 false ∷ Wide 1 true ∷ Wide 2 false ∷ []))
+        ≡ codes "R-- D++ U' R++ D-- U" }
+    ensures half_turn { text_of (tidy turn_merging (Face 1 1 1 ∷ Face 0 1 1 ∷ Face 0 1 3 ∷ Face 1 1 1 ∷ [])) ≡ codes "R2" }
+    ensures no_neighbours { text_of (tidy turn_merging (Face 1 1 1 ∷ Face 4 1 1 ∷ Face 1 1 3 ∷ [])) ≡ codes "R L R'" }
+    ensures layers_added { text_of (tidy turn_merging (Layers (pos 3) (pos 0) ∷ Layers (neg_ℤ (pos 3)) (pos 6) ∷ [])) ≡ codes "(0,6)" }
+    ensures nothing { tidy turn_merging (Layers (pos 1) (pos 0) ∷ Twist ∷ Twist ∷ Layers (neg_ℤ (pos 1)) (pos 0) ∷ []) ≡ [] }
+{}
 
 /// The spellings of an event's turns differ.
 pub fn one_turn_for_each_spelling()

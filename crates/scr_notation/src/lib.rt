@@ -11,6 +11,7 @@
 #![tactic(auto)]
 
 mod event;
+mod event_set;
 pub mod laws;
 mod printing;
 mod reading;
@@ -19,7 +20,8 @@ mod spelling;
 mod turn;
 mod turning;
 
-pub use event::{EVENTS, Event, Kind};
+pub use event::{EVENTS, Event, Family, Kind, Minima};
+pub use event_set::EventSet;
 pub use printing::print;
 pub use reading::{NotationFault, parse};
 pub use scramble::{MOST_TURNS, Scramble, push_turn};

@@ -1,81 +1,89 @@
 -- One change of a source or sink after another.
-use Rattle.std.proofs.Common.{◌≡◌, ℕ, ◌≤◌, Option, List, [], ◌++◌, Result, Ok, Err, refl, sym, ap, ◌∙◌, append_assoc, append-nil, arith, inl, inr}
+use Rattle.std.proofs.Common.{◌≡◌, ℕ, zero, suc, ◌<◌, ◌≤◌, Option, List, [], ◌++◌, Result, Ok, Err, refl, sym, ap, subst, ◌∙◌, append_assoc, append-nil, arith}
 use Rattle.scr_outside.specs.Bytes.{appended, put_back, IsFirstPart}
 use Rattle.scr_outside.specs.Change.{Change, Gains, Falters, Gives, Fails, Writes}
-use Rattle.scr_outside.specs.Faults.{Rose}
+use Rattle.scr_outside.specs.Faults.{Rose, raised, ends_told}
 use Rattle.scr_outside.proofs.BytesLemmas.{appended-nil, appended-append, put_back-nil, put_back-append}
 
--- the change from these bytes and faults to those
-abbrev pub from_to : Option (List ℕ) → ℕ → Option (List ℕ) → ℕ → Change
-from_to bytes faults bytes' faults' = record {
+-- the change of a source, which also tells how often it told its end
+abbrev pub read_from_to : Option (List ℕ) → ℕ → ℕ → Option (List ℕ) → ℕ → ℕ → Change
+read_from_to bytes faults ends bytes' faults' ends' = record {
   bytes_before = bytes;
   bytes_after = bytes';
   faults_before = faults;
   faults_after = faults';
+  ends_before = ends;
+  ends_after = ends';
 }
 
-Rose-after : (faults faults' faults'' : ℕ) → faults ≤ faults' → Rose faults' faults'' → Rose faults faults''
-Rose-after faults faults' faults'' never_falls (inl higher) = inl (omega arith)
-Rose-after faults faults' faults'' never_falls (inr last) = inr last
+-- the change of a sink from these bytes and faults to those
+abbrev pub from_to : Option (List ℕ) → ℕ → Option (List ℕ) → ℕ → Change
+from_to bytes faults bytes' faults' = read_from_to bytes faults 0 bytes' faults' 0
+
+-- a count of ends after a read that gave bytes, and after one that gave none
+pub ends_told-some : (n ends : ℕ) → 0 < n → ends_told n ends ≡ ends
+ends_told-some zero ends some = absurd (omega arith)
+ends_told-some (suc n) ends some = refl
+
+pub ends_told-none : (n ends : ℕ) → n ≡ 0 → ends_told n ends ≡ raised ends
+ends_told-none zero ends none = refl
+ends_told-none (suc n) ends none = absurd (omega arith)
 
 -- ---- what a source gives
 
-pub Gives-nothing : {left : Option (List ℕ)} {faults : ℕ} → Gives (from_to left faults left faults) []
-Gives-nothing {left} {faults} = record { given = sym (put_back-nil left); never_falls = omega arith }
+pub Gives-nothing : {left : Option (List ℕ)} {faults ends : ℕ} → Gives (read_from_to left faults ends left faults ends) []
+Gives-nothing {left} = record { given = sym (put_back-nil left); no_fault = refl }
 
-pub Gives-append : {left left' left'' : Option (List ℕ)} {faults faults' faults'' : ℕ} {bytes more : List ℕ} →
-    Gives (from_to left faults left' faults') bytes → Gives (from_to left' faults' left'' faults'') more →
-    Gives (from_to left faults left'' faults'') (bytes ++ more)
-Gives-append {left'' = left''} {bytes = bytes} {more = more} first second =
-    let low = first.never_falls in
-    let high = second.never_falls in
-    record {
-      given = first.given ∙ ap (put_back bytes) second.given ∙ put_back-append left'' bytes more;
-      never_falls = omega (arith, low, high);
-    }
+pub Gives-append : {left left' left'' : Option (List ℕ)} {faults faults' faults'' ends ends' ends'' : ℕ} {bytes more : List ℕ} →
+    Gives (read_from_to left faults ends left' faults' ends') bytes → Gives (read_from_to left' faults' ends' left'' faults'' ends'') more →
+    Gives (read_from_to left faults ends left'' faults'' ends'') (bytes ++ more)
+Gives-append {left'' = left''} {bytes = bytes} {more = more} first second = record {
+  given = first.given ∙ ap (put_back bytes) second.given ∙ put_back-append left'' bytes more;
+  no_fault = second.no_fault ∙ first.no_fault;
+}
 
 -- ---- what a sink gains
 
 pub Gains-nothing : {held : Option (List ℕ)} {faults : ℕ} → Gains (from_to held faults held faults) []
-Gains-nothing {held} {faults} = record { gained = sym (appended-nil held); never_falls = omega arith }
+Gains-nothing {held} = record { gained = sym (appended-nil held); no_fault = refl }
+
+gained-append : (held : Option (List ℕ)) {held' held'' : Option (List ℕ)} (bytes more : List ℕ) → held' ≡ appended held bytes → held'' ≡ appended held' more →
+    held'' ≡ appended held (bytes ++ more)
+gained-append held bytes more first second = second ∙ ap (λ h. appended h more) first ∙ appended-append held bytes more
 
 pub Gains-append : {held held' held'' : Option (List ℕ)} {faults faults' faults'' : ℕ} {bytes more : List ℕ} →
     Gains (from_to held faults held' faults') bytes → Gains (from_to held' faults' held'' faults'') more →
     Gains (from_to held faults held'' faults'') (bytes ++ more)
-Gains-append {held} {bytes = bytes} {more = more} first second =
-    let low = first.never_falls in
-    let high = second.never_falls in
-    record {
-      gained = second.gained ∙ ap (λ h. appended h more) first.gained ∙ appended-append held bytes more;
-      never_falls = omega (arith, low, high);
-    }
+Gains-append {held} {bytes = bytes} {more = more} first second = record {
+  gained = gained-append held bytes more first.gained second.gained;
+  no_fault = second.no_fault ∙ first.no_fault;
+}
 
 -- a first part was written, and then the sink failed
 pub Falters-failed : {held held' held'' : Option (List ℕ)} {faults faults' faults'' : ℕ} {part whole : List ℕ} →
     Gains (from_to held faults held' faults') part → IsFirstPart part whole →
     Fails (from_to held' faults' held'' faults'') → Falters (from_to held faults held'' faults'') whole
-Falters-failed {faults = faults} {faults' = faults'} {faults'' = faults''} {part = part} gains first fails =
-    let low = gains.never_falls in
-    let high = fails.never_falls in
-    record {
-      part = part;
-      first = first;
-      gains = record { gained = fails.bytes ∙ gains.gained; never_falls = omega (arith, low, high) };
-      rose = Rose-after faults faults' faults'' low fails.rose;
-    }
+Falters-failed {faults'' = faults''} {part = part} gains first fails = record {
+  part = part;
+  first = first;
+  gained = fails.bytes ∙ gains.gained;
+  rose = subst (λ n. Rose n faults'') gains.no_fault fails.rose;
+  never_falls = subst (λ n. n ≤ faults'') gains.no_fault fails.never_falls;
+}
 
 -- these bytes were written, and then a first part of more
 pub Falters-after : {held held' held'' : Option (List ℕ)} {faults faults' faults'' : ℕ} {bytes more : List ℕ} →
     Gains (from_to held faults held' faults') bytes → Falters (from_to held' faults' held'' faults'') more →
     Falters (from_to held faults held'' faults'') (bytes ++ more)
-Falters-after {faults = faults} {faults' = faults'} {faults'' = faults''} {bytes = bytes} gains falters = record {
+Falters-after {held} {faults'' = faults''} {bytes = bytes} gains falters = record {
   part = bytes ++ falters.part;
   first = record {
     rest = falters.first.rest;
     parts = ap (λ x. bytes ++ x) falters.first.parts ∙ sym (append_assoc bytes falters.part falters.first.rest);
   };
-  gains = Gains-append gains falters.gains;
-  rose = Rose-after faults faults' faults'' gains.never_falls falters.rose;
+  gained = gained-append held bytes falters.part gains.gained falters.gained;
+  rose = subst (λ n. Rose n faults'') gains.no_fault falters.rose;
+  never_falls = subst (λ n. n ≤ faults'') gains.no_fault falters.never_falls;
 }
 
 -- a first part of these bytes is one of more
@@ -86,8 +94,9 @@ Falters-longer more falters = record {
     rest = falters.first.rest ++ more;
     parts = ap (λ x. x ++ more) falters.first.parts ∙ append_assoc falters.part falters.first.rest more;
   };
-  gains = falters.gains;
+  gained = falters.gained;
   rose = falters.rose;
+  never_falls = falters.never_falls;
 }
 
 -- ---- a text that is written piece by piece

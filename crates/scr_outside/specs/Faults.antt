@@ -1,7 +1,7 @@
--- Counts of faults. A count never falls and is at most 2 ^ 64 - 1, where it stays.
-use Rattle.std.specs.Prelude.{ℕ, ◌≡◌, ◌<◌, ◌+◌, ◌-◌, ◌^◌, ◌⊎◌, min}
+-- Counts of faults, and of ends that were told. A count never falls and is at most 2 ^ 64 - 1, where it stays.
+use Rattle.std.specs.Prelude.{ℕ, zero, suc, ◌≡◌, ◌<◌, ◌+◌, ◌-◌, ◌^◌, ◌⊎◌, min}
 
--- the greatest count of faults
+-- the greatest count
 abbrev pub last_count : ℕ
 last_count = 2 ^ 64 - 1
 
@@ -12,3 +12,8 @@ Rose before after = (before < after) ⊎ (after ≡ last_count)
 -- a count one higher, which stays at the last value
 abbrev pub raised : ℕ → ℕ
 raised count = min (count + 1) last_count
+
+-- how often a source told its end, after a read that gave so many bytes: none mean the end
+abbrev pub ends_told : ℕ → ℕ → ℕ
+ends_told zero ends = raised ends
+ends_told (suc n) ends = ends

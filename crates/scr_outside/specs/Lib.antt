@@ -1,5 +1,6 @@
 pub mod Faults
 pub mod Bytes
 pub mod Change
+pub mod Fixed
 pub mod Memory
 pub mod Standard

@@ -1,7 +1,7 @@
 -- Sources and sinks in memory. Calls are numbered from 1 on, and some numbers stand in a list of calls that fail.
-use Rattle.std.specs.Prelude.{ℕ, ◌≤◌, ◌⊎◌, Some, List, length, Contains}
-use Rattle.scr_outside.specs.Change.{Change, change_of}
-use Rattle.scr_outside.specs.Faults.{raised}
+use Rattle.std.specs.Prelude.{ℕ, ◌≤◌, ◌⊎◌, Some, List, drop, length, Contains}
+use Rattle.scr_outside.specs.Change.{Change, change_of, intake_of}
+use Rattle.scr_outside.specs.Faults.{raised, ends_told}
 
 -- the calls of a source or a sink: which fail, how many there were, and how many failed; both counts stay at 2 ^ 64 - 1
 pub record CallsMade : Type 0 where
@@ -25,10 +25,11 @@ failed calls = record calls { faults = raised calls.faults }
 abbrev pub NextFails : CallsMade → Type 0
 NextFails calls = Contains calls.fails (raised calls.made)
 
--- a source: the bytes that it has left, at most how many it gives at once, and its calls
+-- a source: the bytes that it has left, at most how many it gives at once, how often it told its end, and its calls
 pub record SourceMemory : Type 0 where
   pub left : List ℕ
   pub most : ℕ
+  pub ends : ℕ
   pub calls : CallsMade
 
 -- a sink: the bytes that it holds, for how many it has room, at most how many it takes at once, and its calls
@@ -40,7 +41,7 @@ pub record SinkMemory : Type 0 where
 
 -- what a call changed at a source, and at a sink
 abbrev pub source_change : SourceMemory → SourceMemory → Change
-source_change = change_of (λ s. Some s.left) (λ s. s.calls.faults)
+source_change = intake_of (λ s. Some s.left) (λ s. s.calls.faults) (λ s. s.ends)
 
 abbrev pub sink_change : SinkMemory → SinkMemory → Change
 sink_change = change_of (λ s. Some s.held) (λ s. s.calls.faults)
@@ -53,9 +54,9 @@ ReadFails s = NextFails s.calls
 abbrev pub WriteFails : SinkMemory → Type 0
 WriteFails s = NextFails s.calls ⊎ (s.room ≤ length s.held)
 
--- a source after a read that left these bytes
-abbrev pub after_read : SourceMemory → List ℕ → SourceMemory
-after_read s left = record s { left = left; calls = counted s.calls }
+-- a source after a read that gave its next n bytes
+abbrev pub after_read : SourceMemory → ℕ → SourceMemory
+after_read s n = record s { left = drop n s.left; ends = ends_told n s.ends; calls = counted s.calls }
 
 -- a source after a read that failed
 abbrev pub after_failed_read : SourceMemory → SourceMemory

@@ -1,9 +1,13 @@
 //! A source and a sink that never fail.
 
-ghost use Rattle.std.specs.Prelude.{◌≡◌, ℕ, ◌^◌, ◌<◌, ◌≤◌, Some, None, List, length, take, drop, min, IsOk, OnErr, IfOk};
+ghost use Rattle.std.specs.Prelude.{◌≡◌, ℕ, ◌^◌, ◌<◌, ◌≤◌, Some, None, List, length, take, drop, min, IsOk, OnErr};
+ghost use Rattle.std.specs.Prelude.{IfOk};
 ghost use Rattle.scr_outside.specs.Bytes.{IsSpent};
 ghost use Rattle.scr_outside.specs.Change.{change_of, Gains, Gives, Fails};
+ghost use Rattle.scr_outside.specs.Faults.{ends_told};
+ghost use Rattle.scr_outside.specs.Fixed.{slice_change, slice_after};
 
+use crate::faults::ends_told;
 use crate::sink::{Failed, Sink};
 use crate::source::Source;
 use std::marker::Model;
@@ -12,45 +16,55 @@ use std::marker::Model;
 #[derive(Drop)]
 pub struct SliceSource<'a> {
     left: &'a [u8],
+    ends: u64,
 }
 
 impl<'a> Model for SliceSource<'a> {
-    ghost Value = { List ℕ };
+    ghost use Rattle.scr_outside.specs.Fixed.{SliceLeft};
 
-    ghost view = { λ s. s.left.now };
+    ghost Value = { SliceLeft };
+
+    ghost view = { λ s. record { left = s.left.now; ends = s.ends } };
 }
 
 impl<'a> SliceSource<'a> {
     /// A source that gives these bytes, as many in a call as the buffer takes.
     pub fn new(bytes: &'a [u8]) -> SliceSource<'a>
-        ensures { result ≡ bytes.now }
+        ensures { result ≡ record { left = bytes.now; ends = 0 } }
     {
-        SliceSource { left: bytes }
+        SliceSource {
+            left: bytes,
+            ends: 0,
+        }
     }
 }
 
 impl<'a> Source for SliceSource<'a> {
     ghost faults = { λ _. 0 };
 
-    ghost left = { λ s. Some s };
+    ghost left = { λ s. Some s.left };
+
+    ghost ends = { λ s. s.ends };
 
     fn read(&mut self, buffer: &mut [u8]) -> Result<usize, Failed>
         requires { 0 < length buffer.old }
         ensures never { IsOk result }
-        ensures count { IfOk result (λ n. n ≡ min (length buffer.old) (length self.old)) }
-        ensures bytes { IfOk result (λ n. take n buffer.new ≡ take n self.old) }
-        ensures after { IfOk result (λ n. self.new ≡ drop n self.old) }
+        ensures count { IfOk result (λ n. n ≡ min (length buffer.old) (length self.old.left)) }
+        ensures bytes { IfOk result (λ n. take n buffer.new ≡ take n self.old.left) }
+        ensures after { IfOk result (λ n. self.new ≡ slice_after self.old n) }
         // What the trait says.
         ensures within { IfOk result (λ n. n ≤ length buffer.old) }
-        ensures ok { IfOk result (λ n. Gives (change_of (λ s. Some s) (λ _. 0) self.old self.new) (take n buffer.new)) }
-        ensures end { IfOk result (λ n. n ≡ 0 → IsSpent (Some self.new)) }
-        ensures err { OnErr result (Fails (change_of (λ s. Some s) (λ _. 0) self.old self.new)) }
+        ensures ok { IfOk result (λ n. Gives (slice_change self.old self.new) (take n buffer.new)) }
+        ensures end { IfOk result (λ n. n ≡ 0 → IsSpent (Some self.new.left)) }
+        ensures ends { IfOk result (λ n. self.new.ends ≡ ends_told n self.old.ends) }
+        ensures err { OnErr result (Fails (slice_change self.old self.new)) }
         ensures at_most { 0 < 2 ^ 64 }
     {
         let n = buffer.len().min(self.left.len());
         let (given, rest) = self.left.split_at(n);
         buffer[..n].copy_from_slice(given);
         self.left = rest;
+        self.ends = ends_told(n, self.ends);
         Ok(n)
     }
 }

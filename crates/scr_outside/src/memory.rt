@@ -1,12 +1,17 @@
 //! Sources and sinks in memory, whose bytes are known and which fail where they are told to.
 
-ghost use Rattle.std.specs.Prelude.{◌≡◌, ◌-◌, ◌^◌, ◌<◌, ◌≤◌, ◌↔◌, Some, [], ◌++◌, length, take, drop, min, IsErr, OnErr, IfOk};
+ghost use Rattle.std.specs.Prelude.{◌≡◌, ◌-◌, ◌^◌, ◌<◌, ◌≤◌, ◌↔◌, Some, [], ◌++◌, length, take, drop, min, IsErr};
+ghost use Rattle.std.specs.Prelude.{OnErr, IfOk};
 ghost use Rattle.std.specs.Vec.{vec_len, vec_capacity};
 ghost use Rattle.scr_outside.specs.Bytes.{IsSpent};
 ghost use Rattle.scr_outside.specs.Change.{Gains, Gives, Fails};
-ghost use Rattle.scr_outside.specs.Memory.{SourceMemory, SinkMemory, source_change, sink_change, no_calls, ReadFails, WriteFails, after_read, after_failed_read, after_write, after_failed_write};
+ghost use Rattle.scr_outside.specs.Faults.{ends_told};
+ghost use Rattle.scr_outside.specs.Memory.{SourceMemory, SinkMemory, source_change, sink_change, no_calls, ReadFails};
+ghost use Rattle.scr_outside.specs.Memory.{WriteFails, after_read, after_failed_read, after_write};
+ghost use Rattle.scr_outside.specs.Memory.{after_failed_write};
 
 use crate::calls::Calls;
+use crate::faults::ends_told;
 use crate::sink::{Failed, NoMemory, Sink};
 use crate::source::Source;
 use std::alloc::Global;
@@ -18,6 +23,7 @@ pub struct MemSource {
     bytes: Vec<u8>,
     place: usize,
     most: usize,
+    ends: u64,
     calls: Calls,
 }
 
@@ -27,6 +33,7 @@ impl Model for MemSource {
     ghost view = { λ s. record {
       left = drop s.place s.bytes.items;
       most = s.most;
+      ends = s.ends;
       calls = s.calls;
     } };
 
@@ -38,12 +45,13 @@ impl MemSource {
     /// number, from 1, stands in `fails`; calls after number 4,294,967,295 stand in no list.
     pub fn new(bytes: Vec<u8>, most: usize, fails: Vec<u32>) -> MemSource
         requires { 0 < most }
-        ensures { result ≡ record { left = bytes.items; most = most; calls = no_calls fails.items } }
+        ensures { result ≡ record { left = bytes.items; most = most; ends = 0; calls = no_calls fails.items } }
     {
         MemSource {
             bytes,
             place: 0,
             most,
+            ends: 0,
             calls: Calls::new(fails),
         }
     }
@@ -54,17 +62,20 @@ impl Source for MemSource {
 
     ghost left = { λ s. Some s.left };
 
+    ghost ends = { λ s. s.ends };
+
     fn read(&mut self, buffer: &mut [u8]) -> Result<usize, Failed>
         requires { 0 < length buffer.old }
         ensures fails { IsErr result ↔ ReadFails self.old }
         ensures count { IfOk result (λ n. n ≡ min (length buffer.old) (min self.old.most (length self.old.left))) }
         ensures bytes { IfOk result (λ n. take n buffer.new ≡ take n self.old.left) }
-        ensures after { IfOk result (λ n. self.new ≡ after_read self.old (drop n self.old.left)) }
+        ensures after { IfOk result (λ n. self.new ≡ after_read self.old n) }
         ensures after_fault { OnErr result (self.new ≡ after_failed_read self.old) }
         // What the trait says.
         ensures within { IfOk result (λ n. n ≤ length buffer.old) }
         ensures ok { IfOk result (λ n. Gives (source_change self.old self.new) (take n buffer.new)) }
         ensures end { IfOk result (λ n. n ≡ 0 → IsSpent (Some self.new.left)) }
+        ensures ends { IfOk result (λ n. self.new.ends ≡ ends_told n self.old.ends) }
         ensures err { OnErr result (Fails (source_change self.old self.new)) }
         ensures at_most { self.new.calls.faults < 2 ^ 64 }
     {
@@ -76,6 +87,7 @@ impl Source for MemSource {
         let n = buffer.len().min(self.most).min(rest.len());
         buffer[..n].copy_from_slice(&rest[..n]);
         self.place += n;
+        self.ends = ends_told(n, self.ends);
         Ok(n)
     }
 }
@@ -142,7 +154,8 @@ impl Sink for MemSink {
     fn write(&mut self, piece: &[u8]) -> Result<usize, Failed>
         requires { 0 < length piece.now }
         ensures fails { IsErr result ↔ WriteFails self.old }
-        ensures count { IfOk result (λ n. n ≡ min (length piece.now) (min self.old.most (self.old.room - length self.old.held))) }
+        ensures count { IfOk result (λ n.
+            n ≡ min (length piece.now) (min self.old.most (self.old.room - length self.old.held))) }
         ensures after { IfOk result (λ n. self.new ≡ after_write self.old (self.old.held ++ take n piece.now)) }
         ensures after_fault { OnErr result (self.new ≡ after_failed_write self.old) }
         // What the trait says.

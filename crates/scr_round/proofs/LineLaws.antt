@@ -1,97 +1,160 @@
--- The lines of a group, one after another.
-use Rattle.std.proofs.Common.{◌≡◌, ℕ, suc, ◌+◌, ◌-◌, ◌*◌, ◌<◌, List, [], ◌∷◌, ◌++◌, length, drop, take, get_or, refl, sym, ap, ◌∙◌, append_assoc, arith, drop-cons, add-one, suc-mul}
-use Rattle.std.proofs.lemmas.List.{take-map, drop-map}
-use Rattle.std.specs.Prelude.{codes}
+-- The lines of a round, by their numbers.
+use Rattle.std.proofs.Common.{◌≡◌, ℕ, zero, suc, ◌+◌, ◌-◌, ◌*◌, ◌<◌, ◌≤◌, Some, List, [], ◌∷◌, ◌++◌, map, drop, length, refl, sym, ap, ◌∙◌, arith, length-append, suc-mul}
+use Rattle.std.specs.Prelude.{codes, slice_get}
 use Rattle.std.specs.Fmt.{decimal}
 use Rattle.scr_text.specs.Lines.{text_of_lines}
-use Rattle.scr_text.proofs.WrittenLines.{line_of, first_line, text_of_lines-append}
+use Rattle.scr_text.proofs.WrittenLines.{first_line}
+use Rattle.scr_outside.specs.Change.{Change}
+use Rattle.scr_outside.proofs.ChangeLemmas.{IsWrittenUpTo}
 use Rattle.scr_notation.specs.Written.{Written}
-use Rattle.scr_notation.specs.Spelling.{text_of}
-use Rattle.scr_round.specs.Round.{labelled, labels_from, group_lines}
+use Rattle.scr_list.specs.declared.round.Round.{Round}
 use Rattle.scr_round.specs.Made.{turns_of_each}
+use Rattle.scr_round.specs.Round.{round_text, Line, Fixed, Slot, labels_from, slot_lines, group_lines, groups_lines, IsBelow}
 
--- ---- the scrambles of a group
+-- ---- the text of the lines that are left
 
--- the lines that are left before one of a group's own scrambles
-abbrev pub left_at : List Written → ℕ → ℕ → List (List ℕ)
-left_at scrambles own number = labelled (labels_from (number + 1) (own - number)) (turns_of_each (drop number scrambles))
+pub text_left-next : {X : Type 0} (f : X → List ℕ) (xs : List X) (i : ℕ) (x : X) → slice_get xs i ≡ Some x →
+    text_of_lines (map f (drop i xs)) ≡ (f x ++ codes "\n") ++ text_of_lines (map f (drop (i + 1) xs))
+text_left-next f [] i x is = cc
+text_left-next f (y ∷ xs) zero x is =
+    let same : y ≡ x = cc in
+    ap (λ z. text_of_lines (f z ∷ map f xs)) same ∙ first_line (f x) (map f xs)
+text_left-next f (y ∷ xs) (suc i) x is =
+    let same : suc (i + 1) ≡ suc i + 1 = omega arith in
+    text_left-next f xs i x is ∙ ap (λ n. (f x ++ codes "\n") ++ text_of_lines (map f (drop n (y ∷ xs)))) same
 
--- none was written yet
-pub left_at-first : (scrambles : List Written) (own : ℕ) → left_at scrambles own 0 ≡ labelled (labels_from 1 own) (turns_of_each scrambles)
-left_at-first scrambles own = let all : own - 0 ≡ own = omega arith in rw all refl
+-- the round that is written, said in another way
+pub written_round : {change : Change} {left : List ℕ} (i i' : ℕ) (r r' : Round) (s s' : List Written) → i ≡ i' → r ≡ r' → s ≡ s' →
+    IsWrittenUpTo change (round_text i r (turns_of_each s)) left → IsWrittenUpTo change (round_text i' r' (turns_of_each s')) left
+written_round i i' r r' s s' same_index same_round same_scrambles written = record {
+  text = written.text;
+  gains = written.gains;
+  parts = sym (λ j. round_text (same_index j) (same_round j) (turns_of_each (same_scrambles j))) ∙ written.parts;
+}
 
--- the scramble that stands next
-pub left_at-next : (scrambles : List Written) (own number : ℕ) (here : Written) → here ≡ get_or scrambles number here
-    → number < own → number < length scrambles
-    → text_of_lines (left_at scrambles own number)
-    ≡ line_of (decimal (number + 1) ++ codes ". ") (text_of here.turns) ++ text_of_lines (left_at scrambles own (number + 1))
-left_at-next scrambles own number here is more there =
-    let count : own - number ≡ suc (own - (number + 1)) = omega arith in
-    let lines : left_at scrambles own number ≡ ((decimal (number + 1) ++ codes ". ") ++ text_of here.turns) ∷ left_at scrambles own (number + 1) =
-    rw (count, drop-cons scrambles number here, sym is, add-one number) refl in
-    ap text_of_lines lines ∙ first_line ((decimal (number + 1) ++ codes ". ") ++ text_of here.turns) (left_at scrambles own (number + 1))
+-- ---- an element of two lists in a row
 
--- the line of the second extra one
-abbrev pub last_left : List Written → ℕ → List (List ℕ)
-last_left scrambles own = labelled (codes "E2. " ∷ []) (turns_of_each (drop (suc own) scrambles))
+slice_get-left : {X : Type 0} (xs ys : List X) (i : ℕ) → i < length xs → slice_get (xs ++ ys) i ≡ slice_get xs i
+slice_get-left [] ys i below = absurd (omega arith)
+slice_get-left (x ∷ xs) ys zero below = refl
+slice_get-left (x ∷ xs) ys (suc i) below = slice_get-left xs ys i (omega arith)
 
--- the first extra one stands next
-pub left_at-extra : (scrambles : List Written) (own : ℕ) (here : Written) → length scrambles ≡ own + 2 → here ≡ get_or scrambles own here
-    → text_of_lines (left_at scrambles own own) ≡ line_of (codes "E1. ") (text_of here.turns) ++ text_of_lines (last_left scrambles own)
-left_at-extra scrambles own here size is =
-    let below : own < length scrambles = omega arith in
-    let count : own - own ≡ 0 = omega arith in
-    let lines : left_at scrambles own own ≡ (codes "E1. " ++ text_of here.turns) ∷ last_left scrambles own =
-    rw (count, drop-cons scrambles own here, sym is) refl in
-    ap text_of_lines lines ∙ first_line (codes "E1. " ++ text_of here.turns) (last_left scrambles own)
+slice_get-right : {X : Type 0} (xs ys : List X) (i n : ℕ) → n ≡ length xs + i → slice_get (xs ++ ys) n ≡ slice_get ys i
+slice_get-right [] ys i n is = ap (slice_get ys) (let e : n ≡ i = omega arith in e)
+slice_get-right (x ∷ xs) ys i zero is = absurd (omega arith)
+slice_get-right (x ∷ xs) ys i (suc n) is = slice_get-right xs ys i n (omega arith)
 
--- and the second one last
-pub last_left-line : (scrambles : List Written) (own : ℕ) (here : Written) → length scrambles ≡ own + 2 → here ≡ get_or scrambles (own + 1) here
-    → text_of_lines (last_left scrambles own) ≡ line_of (codes "E2. ") (text_of here.turns)
-last_left-line scrambles own here size is =
-    let below : suc own < length scrambles = omega arith in
-    let is-next : here ≡ get_or scrambles (suc own) here = is ∙ ap (λ n. get_or scrambles n here) (add-one own) in
-    rw (drop-cons scrambles (suc own) here, sym is-next) refl
+-- ---- labels
 
--- the text of a group: its first line, its scrambles, an empty line
-pub group_parts : (letter : List ℕ) (lines : List (List ℕ)) →
-    text_of_lines (letter ∷ lines ++ [] ∷ []) ≡ (letter ++ codes "\n") ++ (text_of_lines lines ++ (([] ++ []) ++ codes "\n"))
-group_parts letter lines =
-    first_line letter (lines ++ [] ∷ []) ∙ ap (λ t. (letter ++ codes "\n") ++ t) (text_of_lines-append lines ([] ∷ []))
+pub length-labels_from : (number own : ℕ) → length (labels_from number own) ≡ own + 2
+length-labels_from number zero = refl
+length-labels_from number (suc own) = let rest = length-labels_from (number + 1) own in omega (arith, rest)
 
--- ---- the groups of a round
+pub labels_from-own : (number own i : ℕ) → i < own → slice_get (labels_from number own) i ≡ Some (decimal (number + i) ++ codes ". ")
+labels_from-own number zero i below = absurd (omega arith)
+labels_from-own number (suc own) zero below = let same : number ≡ number + 0 = omega arith in ap (λ n. Some (decimal n ++ codes ". ")) same
+labels_from-own number (suc own) (suc i) below =
+    let same : number + 1 + i ≡ number + suc i = omega arith in
+    labels_from-own (number + 1) own i (omega arith) ∙ ap (λ n. Some (decimal n ++ codes ". ")) same
 
--- the lines that are left before one of a round's groups, where these scrambles are left
-abbrev pub groups_left : List Written → ℕ → ℕ → ℕ → List (List ℕ)
-groups_left scrambles own groups group = group_lines own (groups - group) (65 + group) (turns_of_each scrambles)
+-- the two extra ones
+pub labels_from-extra : (number own : ℕ) →
+    (slice_get (labels_from number own) own ≡ Some (codes "E1. ")) × (slice_get (labels_from number own) (suc own) ≡ Some (codes "E2. "))
+labels_from-extra number zero = (refl, refl)
+labels_from-extra number (suc own) = labels_from-extra (number + 1) own
 
-pub groups_left-next : (scrambles : List Written) (own groups group : ℕ) → group < groups →
-    text_of_lines (groups_left scrambles own groups group)
-    ≡ text_of_lines ((codes "Group " ++ (65 + group) ∷ []) ∷ labelled (labels_from 1 own) (turns_of_each (take (own + 2) scrambles)) ++ [] ∷ [])
-    ++ text_of_lines (groups_left (drop (own + 2) scrambles) own groups (group + 1))
-groups_left-next scrambles own groups group more =
-    let count : groups - group ≡ suc (groups - (group + 1)) = omega arith in
-    let letter : 65 + group + 1 ≡ 65 + (group + 1) = omega arith in
-    let name = codes "Group " ++ (65 + group) ∷ [] in
-    let own_lines = labelled (labels_from 1 own) (turns_of_each (take (own + 2) scrambles)) in
-    let others = groups_left (drop (own + 2) scrambles) own groups (group + 1) in
-    let lines : groups_left scrambles own groups group ≡ (name ∷ own_lines ++ [] ∷ []) ++ others =
-    rw (count, take-map (λ s. s.turns) (own + 2) scrambles, drop-map (λ s. s.turns) (own + 2) scrambles, letter)
-    (sym (append_assoc (name ∷ own_lines) ([] ∷ []) others)) in
-    ap text_of_lines lines ∙ text_of_lines-append (name ∷ own_lines ++ [] ∷ []) others
+-- ---- slots
 
--- no group is left
-pub groups_left-none : (scrambles : List Written) (own groups : ℕ) → groups_left scrambles own groups groups ≡ []
-groups_left-none scrambles own groups = let none : groups - groups ≡ 0 = omega arith in rw none refl
+pub length-slot_lines : (labels : List (List ℕ)) (slot : ℕ) → length (slot_lines labels slot) ≡ length labels
+length-slot_lines [] slot = refl
+length-slot_lines (label ∷ labels) slot = ap suc (length-slot_lines labels (slot + 1))
 
-pub groups_left-all : (scrambles : List Written) (own groups : ℕ) → groups_left scrambles own groups 0 ≡ group_lines own groups 65 (turns_of_each scrambles)
-groups_left-all scrambles own groups = let all : groups - 0 ≡ groups = omega arith in rw all refl
+slot_lines-at : (labels : List (List ℕ)) (slot i : ℕ) (label : List ℕ) → slice_get labels i ≡ Some label →
+    slice_get (slot_lines labels slot) i ≡ Some (Slot label (slot + i))
+slot_lines-at [] slot i label is = cc
+slot_lines-at (first ∷ labels) slot zero label is =
+    let same : slot ≡ slot + 0 = omega arith in
+    let one : first ≡ label = cc in
+    ap (λ l. Some (Slot l slot)) one ∙ ap (λ n. Some (Slot label n)) same
+slot_lines-at (first ∷ labels) slot (suc i) label is =
+    let same : slot + 1 + i ≡ slot + suc i = omega arith in
+    slot_lines-at labels (slot + 1) i label is ∙ ap (λ n. Some (Slot label n)) same
 
--- one group less is left
-pub one_less : (s groups group rest before : ℕ) → group < groups → before ≡ (groups - group) * s → rest + s ≡ before
-    → rest ≡ (groups - (group + 1)) * s
-one_less s groups group rest before more all cut =
-    let count : groups - group ≡ suc (groups - (group + 1)) = omega arith in
-    let product = suc-mul (groups - (group + 1)) s in
-    let all' : before ≡ suc (groups - (group + 1)) * s = rw (← count) all in
-    omega (arith, product)
+-- ---- a group
+
+pub length-group_lines : (own letter slot : ℕ) → length (group_lines own letter slot) ≡ own + 4
+length-group_lines own letter slot =
+    let lines = slot_lines (labels_from 1 own) slot in
+    let all = length-append lines (Fixed [] ∷ []) in
+    omega (arith, all, length-slot_lines (labels_from 1 own) slot, length-labels_from 1 own)
+
+pub group_lines-slot : (own letter slot i : ℕ) (label : List ℕ) → i < own + 2 → slice_get (labels_from 1 own) i ≡ Some label →
+    slice_get (group_lines own letter slot) (suc i) ≡ Some (Slot label (slot + i))
+group_lines-slot own letter slot i label below is =
+    let size = length-slot_lines (labels_from 1 own) slot in
+    let count = length-labels_from 1 own in
+    slice_get-left (slot_lines (labels_from 1 own) slot) (Fixed [] ∷ []) i (omega (arith, size, count))
+    ∙ slot_lines-at (labels_from 1 own) slot i label is
+
+pub group_lines-last : (own letter slot : ℕ) → slice_get (group_lines own letter slot) (own + 3) ≡ Some (Fixed [])
+group_lines-last own letter slot =
+    let size = length-slot_lines (labels_from 1 own) slot in
+    let count = length-labels_from 1 own in
+    let place : own + 3 ≡ suc (own + 2) = omega arith in
+    ap (slice_get (group_lines own letter slot)) place
+    ∙ slice_get-right (slot_lines (labels_from 1 own) slot) (Fixed [] ∷ []) 0 (own + 2) (omega (arith, size, count))
+
+-- ---- all groups
+
+pub length-groups_lines : (own groups letter slot : ℕ) → length (groups_lines own groups letter slot) ≡ groups * (own + 4)
+length-groups_lines own zero letter slot = omega arith
+length-groups_lines own (suc more) letter slot =
+    let all = length-append (group_lines own letter slot) (groups_lines own more (letter + 1) (slot + (own + 2))) in
+    let one = length-group_lines own letter slot in
+    let rest = length-groups_lines own more (letter + 1) (slot + (own + 2)) in
+    let product = suc-mul more (own + 4) in
+    omega (arith, all, one, rest, product)
+
+-- a line of one of the groups
+pub groups_lines-at : (own groups letter slot group place : ℕ) → group < groups → place < own + 4 →
+    slice_get (groups_lines own groups letter slot) (group * (own + 4) + place)
+    ≡ slice_get (group_lines own (letter + group) (slot + group * (own + 2))) place
+groups_lines-at own zero letter slot group place below within = absurd (omega arith)
+groups_lines-at own (suc more) letter slot zero place below within =
+    let size = length-group_lines own letter slot in
+    let number : 0 * (own + 4) + place ≡ place = omega arith in
+    let same_letter : letter ≡ letter + 0 = omega arith in
+    let same_slot : slot ≡ slot + 0 * (own + 2) = omega arith in
+    ap (slice_get (groups_lines own (suc more) letter slot)) number
+    ∙ slice_get-left (group_lines own letter slot) (groups_lines own more (letter + 1) (slot + (own + 2))) place (omega (arith, size))
+    ∙ ap (λ l. slice_get (group_lines own l slot) place) same_letter
+    ∙ ap (λ s. slice_get (group_lines own (letter + 0) s) place) same_slot
+groups_lines-at own (suc more) letter slot (suc group) place below within =
+    let size = length-group_lines own letter slot in
+    let product = suc-mul group (own + 4) in
+    let slots = suc-mul group (own + 2) in
+    let same_letter : letter + 1 + group ≡ letter + suc group = omega arith in
+    let same_slot : slot + (own + 2) + group * (own + 2) ≡ slot + suc group * (own + 2) = omega (arith, slots) in
+    slice_get-right (group_lines own letter slot) (groups_lines own more (letter + 1) (slot + (own + 2))) (group * (own + 4) + place)
+    (suc group * (own + 4) + place) (omega (arith, size, product))
+    ∙ groups_lines-at own more (letter + 1) (slot + (own + 2)) group place (omega arith) within
+    ∙ ap (λ l. slice_get (group_lines own l (slot + (own + 2) + group * (own + 2))) place) same_letter
+    ∙ ap (λ s. slice_get (group_lines own (letter + suc group) s) place) same_slot
+
+-- a line of a round behind its head
+pub round_lines-at : (own groups group place line : ℕ) (lines : List Line) (head : Line) → ¬ (line ≡ 0) →
+    line - 1 ≡ group * (own + 4) + place → group < groups → place < own + 4 →
+    lines ≡ head ∷ groups_lines own groups 65 0 → slice_get lines line ≡ slice_get (group_lines own (65 + group) (group * (own + 2))) place
+round_lines-at own groups group place line lines head later number below within is =
+    let next : line ≡ suc (line - 1) = omega arith in
+    let no_slot : 0 + group * (own + 2) ≡ group * (own + 2) = omega arith in
+    ap (λ l. slice_get l line) is
+    ∙ ap (slice_get (head ∷ groups_lines own groups 65 0)) next
+    ∙ ap (slice_get (groups_lines own groups 65 0)) number
+    ∙ groups_lines-at own groups 65 0 group place below within
+    ∙ ap (λ s. slice_get (group_lines own (65 + group) s) place) no_slot
+
+-- one slot of so many is one of more
+pub IsBelow-more : (few many : ℕ) (line : Line) → few ≤ many → IsBelow few line → IsBelow many line
+IsBelow-more few many (Fixed text) more it = tt
+IsBelow-more few many (Slot label slot) more it = omega arith

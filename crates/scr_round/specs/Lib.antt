@@ -1,2 +1,4 @@
 pub mod Round
+pub mod Rows
+pub mod SheetLine
 pub mod Made

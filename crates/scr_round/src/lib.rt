@@ -1,9 +1,13 @@
-//! One round of a sheet, made, and its text. The crate says how a round is laid out, and writes it line by line; which
-//! scrambles its slots have is for the crates above.
+//! One round of a sheet, made, and its text. A round is laid out as a list of lines (`specs/Round.antt`), each a fixed
+//! text or a label before the scramble of a slot: `line_at` gives any of them, and `write_round` writes one after
+//! another. Which scrambles the slots have is for the crates above. `laws` has whole rounds as text.
 #![tactic(auto)]
 
+pub mod laws;
+mod layout;
 mod made;
 mod writing;
 
+pub use layout::{SheetLine, line_at, line_count, slots};
 pub use made::RoundResult;
-pub use writing::{slots, write_round};
+pub use writing::write_round;

@@ -1,67 +1,112 @@
 -- Parts made and written one after another.
-use Rattle.std.proofs.lemmas.List.{length-map, map-append}
-use Rattle.std.proofs.Common.{◌≡◌, ℕ, ◌+◌, ◌<◌, List, [], ◌∷◌, ◌++◌, length, drop, get_or, Err, refl, sym, ap, subst, ◌∙◌, append_assoc, append-nil, length-append, drop-cons, add-one, arith}
-use Rattle.std.specs.Prelude.{Option, codes}
+use Rattle.std.proofs.lemmas.List.{length-map}
+use Rattle.std.proofs.Common.{◌≡◌, ℕ, ◌+◌, ◌<◌, List, [], ◌∷◌, ◌++◌, length, map, drop, get_or, Err, refl, sym, ap, subst, ◌∙◌, append_assoc, append-nil, length-append, drop-cons, add-one, arith}
+use Rattle.std.specs.Prelude.{Option, Some, None, codes}
 use Rattle.scr_notation.specs.Written.{Written}
 use Rattle.scr_notation.specs.Spelling.{text_of}
 use Rattle.scr_outside.specs.Change.{Change, Gains, Falters}
 use Rattle.scr_outside.proofs.ChangeLemmas.{from_to, Gains-nothing, Gains-append, Falters-after}
 use Rattle.scr_notation.specs.declared.event.Event.{Event}
-use Rattle.scr_notation.specs.declared.turn.Turn.{Turn}
 use Rattle.scr_list.specs.declared.round.Round.{Round}
 use Rattle.scr_slots.specs.declared.settings.Settings.{Settings}
-use Rattle.scr_slots.specs.Slots.{IsSlotScramble}
+use Rattle.scr_slots.specs.Slots.{Scrambling, IsSlotAnswer, IsSlotScramble, HasNoScramble}
 use Rattle.scr_slots.specs.Events.{scrambling_of}
 use Rattle.scr_sheet.specs.declared.fault.Fault.{Fault}
 use Rattle.scr_sheet.specs.declared.fault.Fault.TheVariants as fault
 use Rattle.scr_round.specs.Round.{round_text}
 use Rattle.scr_round.specs.Made.{Made, turns_of_each}
-use Rattle.scr_sheet.specs.Making.{IsRoundMade}
-use Rattle.scr_sheet.specs.Sheet.{IsLimit, Part, round_part, round_parts, one_part, AreScrambles, IsPartText, IsText}
-use Rattle.scr_sheet.specs.Outcome.{IsUnwritten, IsLed, SomeLed, IsDone, IsStopped, IsCutShort, EndsParts}
+use Rattle.scr_sheet.specs.Making.{AreAnswers, IsFirstNone, IsRoundMade}
+use Rattle.scr_sheet.specs.Sheet.{IsLimit, IsFirstWithout, Part, round_part, round_parts, one_part, EachSlot, ArePartScrambles, IsPartText, IsText}
+use Rattle.scr_sheet.specs.Outcome.{IsUnwritten, IsLed, IsDone, IsStopped, IsBroken, IsCutShort, EndsParts}
 
--- ---- scrambles and texts
+-- ---- slots one after another
 
--- one more scramble behind others
-pub AreScrambles-push : (settings : Settings) (event : Event) (least stream : ℕ) (scrambles : List (List Turn)) (turns : List Turn)
-    → AreScrambles settings event least stream scrambles
-    → IsSlotScramble (scrambling_of event) settings least (stream + length scrambles) turns
-    → AreScrambles settings event least stream (scrambles ++ turns ∷ [])
-AreScrambles-push settings event least stream [] turns each next =
+-- one more behind others
+pub EachSlot-push : {X : Type 0} (Is : ℕ → X → Type 0) (stream : ℕ) (xs : List X) (x : X) → EachSlot Is stream xs
+    → Is (stream + length xs) x → EachSlot Is stream (xs ++ x ∷ [])
+EachSlot-push Is stream [] x each next =
     let here : stream + 0 ≡ stream = omega arith in
-    (subst (λ s. IsSlotScramble (scrambling_of event) settings least s turns) here next, tt)
-AreScrambles-push settings event least stream (first ∷ others) turns each next =
-    let place : stream + length (first ∷ others) ≡ stream + 1 + length others = omega arith in (
-      each.0,
-      AreScrambles-push settings event least (stream + 1) others turns each.1
-          (subst (λ s. IsSlotScramble (scrambling_of event) settings least s turns) place next),
-    )
+    (subst (λ s. Is s x) here next, tt)
+EachSlot-push Is stream (first ∷ others) x each next =
+    let place : stream + length (first ∷ others) ≡ stream + 1 + length others = omega arith in
+    (each.0, EachSlot-push Is (stream + 1) others x each.1 (subst (λ s. Is s x) place next))
 
--- one more scramble of a round that is being made
-pub AreScrambles-made : {slot : ℕ} (settings : Settings) (event : Event) (least stream : ℕ) (made : List Written) (scramble : Written)
-    → AreScrambles settings event least stream (turns_of_each made) → length made ≡ slot
-    → IsSlotScramble (scrambling_of event) settings least (stream + slot) scramble.turns
-    → AreScrambles settings event least stream (turns_of_each (made ++ scramble ∷ []))
-AreScrambles-made settings event least stream made scramble each count next =
-    let size = length-map made (λ (s : Written). s.turns) in
-    let place : _ ≡ stream + length (turns_of_each made) = ap (λ n. stream + n) (sym (size ∙ count)) in
-    let P : ℕ → Type 0 = λ n. IsSlotScramble (scrambling_of event) settings least n scramble.turns in
-    rw (map-append (λ (s : Written). s.turns) made (scramble ∷ []))
-    (AreScrambles-push settings event least stream (turns_of_each made) scramble.turns each (subst P place next))
+-- the first ones of some, and the one behind them
+pub EachSlot-before : {X : Type 0} (Is : ℕ → X → Type 0) (stream : ℕ) (xs ys : List X) → EachSlot Is stream (xs ++ ys) → EachSlot Is stream xs
+EachSlot-before Is stream [] ys each = tt
+EachSlot-before Is stream (x ∷ xs) ys each = (each.0, EachSlot-before Is (stream + 1) xs ys each.1)
+
+pub EachSlot-behind : {X : Type 0} (Is : ℕ → X → Type 0) (stream : ℕ) (xs : List X) (y : X) (ys : List X) → EachSlot Is stream (xs ++ y ∷ ys)
+    → Is (stream + length xs) y
+EachSlot-behind Is stream [] y ys each = let here : stream ≡ stream + 0 = omega arith in subst (λ s. Is s y) here each.0
+EachSlot-behind Is stream (x ∷ xs) y ys each =
+    let place : stream + 1 + length xs ≡ stream + length (x ∷ xs) = omega arith in
+    subst (λ s. Is s y) place (EachSlot-behind Is (stream + 1) xs y ys each.1)
+
+-- what is so of each is so of what is made of each
+pub EachSlot-map : {X Y : Type 0} (Is : ℕ → X → Type 0) (So : ℕ → Y → Type 0) (f : X → Y) → ((s : ℕ) (x : X) → Is s x → So s (f x))
+    → (stream : ℕ) (xs : List X) → EachSlot Is stream xs → EachSlot So stream (map f xs)
+EachSlot-map Is So f so stream [] each = tt
+EachSlot-map Is So f so stream (x ∷ xs) each = (so stream x each.0, EachSlot-map Is So f so (stream + 1) xs each.1)
+
+-- ---- answers and scrambles
+
+-- answers that all are scrambles
+pub scrambles_of_answers : (scrambling : Scrambling) (settings : Settings) (least stream : ℕ) (scrambles : List Written)
+    → EachSlot (IsSlotAnswer scrambling settings least) stream (map Some scrambles)
+    → EachSlot (IsSlotScramble scrambling settings least) stream scrambles
+scrambles_of_answers scrambling settings least stream [] each = tt
+scrambles_of_answers scrambling settings least stream (scramble ∷ scrambles) each =
+    (each.0, scrambles_of_answers scrambling settings least (stream + 1) scrambles each.1)
+
+-- so a part has its scrambles
+pub ArePartScrambles-all : (settings : Settings) (part : Part) (answers : List (Option Written)) (scrambles : List Written)
+    → AreAnswers settings part answers → map Some scrambles ≡ answers → ArePartScrambles settings part scrambles
+ArePartScrambles-all settings part answers scrambles are same =
+    let P : List (Option Written) → Type 0 = λ all. EachSlot (IsSlotAnswer (scrambling_of part.event) settings part.least) part.first_stream all in
+    record {
+      each_slot = sym (length-map scrambles Some) ∙ ap length same ∙ are.each_slot;
+      each = scrambles_of_answers (scrambling_of part.event) settings part.least part.first_stream scrambles (subst P (sym same) are.each);
+    }
+
+-- and one of which an answer is none has a first slot without
+pub IsFirstWithout-none : (settings : Settings) (part : Part) (answers : List (Option Written)) (place : ℕ) → AreAnswers settings part answers
+    → IsFirstNone answers place → IsFirstWithout settings part place
+IsFirstWithout-none settings part answers place are first =
+    let scrambling = scrambling_of part.event in
+    let Is : ℕ → Option Written → Type 0 = IsSlotAnswer scrambling settings part.least in
+    let P : List (Option Written) → Type 0 = λ all. EachSlot Is part.first_stream all in
+    let each = subst P first.are are.each in
+    let some = length-map first.before (λ (w : Written). Some w) in
+    let size = length-append (map Some first.before) (None ∷ first.behind) in
+    let whole : length answers ≡ length (map Some first.before ++ None ∷ first.behind) = ap length first.are in
+    let there : part.first_stream + length (map Some first.before) ≡ part.first_stream + place =
+    ap (λ n. part.first_stream + n) (some ∙ first.as_many) in
+    let Q : ℕ → Type 0 = λ s. HasNoScramble scrambling settings part.least s in
+    record {
+      below = omega (arith, are.each_slot, some, size, whole, first.as_many);
+      nothing = subst Q there (EachSlot-behind Is part.first_stream (map Some first.before) None first.behind each);
+      before = first.before;
+      as_many = first.as_many;
+      each = scrambles_of_answers scrambling settings part.least part.first_stream first.before
+          (EachSlot-before Is part.first_stream (map Some first.before) (None ∷ first.behind) each);
+    }
+
+-- ---- texts
 
 -- the text of one part
-pub IsText-one : (settings : Settings) (part : Part) (text : List ℕ) → IsPartText settings part text → IsText settings (part ∷ []) text
-IsText-one settings part text is = (text, [], is, refl, sym (append-nil text))
+pub IsText-one : (IsOne : Part → List ℕ → Type 0) (part : Part) (text : List ℕ) → IsOne part text → IsText IsOne (part ∷ []) text
+IsText-one IsOne part text is = (text, [], is, refl, sym (append-nil text))
 
 -- the text of parts behind others
-pub IsText-append : (settings : Settings) (parts more : List Part) (text next : List ℕ) → IsText settings parts text
-    → IsText settings more next → IsText settings (parts ++ more) (text ++ next)
-IsText-append settings [] more text next none after = subst (λ t. IsText settings more (t ++ next)) (sym none) after
-IsText-append settings (part ∷ parts) more text next before after = (
+pub IsText-append : (IsOne : Part → List ℕ → Type 0) (parts more : List Part) (text next : List ℕ) → IsText IsOne parts text
+    → IsText IsOne more next → IsText IsOne (parts ++ more) (text ++ next)
+IsText-append IsOne [] more text next none after = subst (λ t. IsText IsOne more (t ++ next)) (sym none) after
+IsText-append IsOne (part ∷ parts) more text next before after = (
   before.0,
   before.1 ++ next,
   before.2,
-  IsText-append settings parts more before.1 next before.3 after,
+  IsText-append IsOne parts more before.1 next before.3 after,
   ap (λ t. t ++ next) before.4 ∙ append_assoc before.0 before.1 next,
 )
 
@@ -90,7 +135,7 @@ made-more {settings = settings} {rest = rest} {part = part} made done = record {
   text = made.text ++ done.text;
   before = record {
     are = made.before.are ∙ sym (append_assoc made.led (part ∷ []) rest);
-    has = IsText-append settings made.led (part ∷ []) made.text done.text made.before.has done.all;
+    has = IsText-append (IsPartText settings) made.led (part ∷ []) made.text done.text made.before.has done.all;
   };
   place = ap (λ n. n + 1) made.place ∙ sym (length-append made.led (part ∷ []));
   gained = Gains-append made.gained done.gained;
@@ -101,7 +146,7 @@ pub made-all : {settings : Settings} {parts : List Part} {k : ℕ} {out : Change
     → IsDone settings parts out
 made-all {settings = settings} made = record {
   text = made.text;
-  all = subst (λ p. IsText settings p made.text) (sym (made.before.are ∙ append-nil made.led)) made.before.has;
+  all = subst (λ p. IsText (IsPartText settings) p made.text) (sym (made.before.are ∙ append-nil made.led)) made.before.has;
   gained = made.gained;
 }
 
@@ -113,18 +158,7 @@ IsLed-after {settings} {led = led} {rest' = rest'} {text = text} rest made befor
   are =
       made.before.are ∙ ap (λ p. made.led ++ (p ++ rest)) before.are ∙ ap (λ p. made.led ++ p) (append_assoc led rest' rest)
       ∙ sym (append_assoc made.led led (rest' ++ rest));
-  has = IsText-append settings made.led led made.text text made.before.has before.has;
-}
-
-SomeLed-after : {settings : Settings} {parts more : List Part} {k : ℕ} {out : Change} (rest : List Part) (P Q : List ℕ → Type 0)
-    (made : IsMadeUpTo settings parts (more ++ rest) k out) → ((text : List ℕ) → P text → Q (made.text ++ text))
-    → SomeLed settings more P → SomeLed settings parts Q
-SomeLed-after rest P Q made after ends = record {
-  led = made.led ++ ends.led;
-  rest = ends.rest ++ rest;
-  text = made.text ++ ends.text;
-  before = IsLed-after rest made ends.before;
-  of_text = after ends.text ends.of_text;
+  has = IsText-append (IsPartText settings) made.led led made.text text made.before.has before.has;
 }
 
 -- a part that ends the command
@@ -151,14 +185,21 @@ made-fault {rest = rest} held'' faults'' (fault.DrawLimit number slot words) mad
       limit = ends.limit;
       gained = Gains-append made.gained ends.gained;
     }
-made-fault {rest = rest} {held = held} {held' = held'} {faults = faults} {faults' = faults'} held'' faults'' fault.Write made ends =
-    let piece = from_to held' faults' held'' faults'' in
-    let whole = from_to held faults held'' faults'' in
-    SomeLed-after rest (Falters piece) (Falters whole) made (λ text. Falters-after made.gained) ends
-made-fault {rest = rest} {held = held} {held' = held'} {faults = faults} {faults' = faults'} held'' faults'' fault.NoMemory made ends =
-    let piece = from_to held' faults' held'' faults'' in
-    let whole = from_to held faults held'' faults'' in
-    SomeLed-after rest (Gains piece) (Gains whole) made (λ text. Gains-append made.gained) ends
+made-fault {rest = rest} held'' faults'' fault.Write made ends = record {
+  led = made.led ++ ends.led;
+  rest = ends.rest ++ rest;
+  text = made.text ++ ends.text;
+  before = IsLed-after rest made ends.before;
+  faltered = Falters-after made.gained ends.faltered;
+}
+made-fault {rest = rest} held'' faults'' fault.NoMemory made ends = record {
+  led = made.led ++ ends.led;
+  wanting = ends.wanting;
+  rest = ends.rest ++ rest;
+  text = made.text ++ ends.text;
+  before = IsLed-after rest made ends.before;
+  gained = Gains-append made.gained ends.gained;
+}
 
 -- ---- the rounds of a list
 
@@ -191,18 +232,18 @@ round-fault {settings} {held} {held'} {faults} {faults'} rounds i d held'' fault
 pub IsPartText-made : {settings : Settings} {k : ℕ} {round : Round} {made : Made} → IsRoundMade settings k round made
     → IsPartText settings (round_part k round) (round_text made.index made.round (turns_of_each made.scrambles))
 IsPartText-made {k = k} {made = made} is = record {
-  scrambles = turns_of_each made.scrambles;
+  scrambles = made.scrambles;
   all = is.scrambles;
   is = ap (λ i. round_text i made.round (turns_of_each made.scrambles)) is.same_index
       ∙ ap (λ r. round_text k r (turns_of_each made.scrambles)) is.same_round;
 }
 
 -- the line of a scramble
-pub IsPartText-line : {settings : Settings} {event : Event} {line : List ℕ} (turns : List Turn)
-    → IsSlotScramble (scrambling_of event) settings 0 0 turns → line ≡ text_of turns
+pub IsPartText-line : {settings : Settings} {event : Event} {line : List ℕ} (scramble : Written)
+    → IsSlotScramble (scrambling_of event) settings 0 0 scramble → line ≡ text_of scramble.turns
     → IsPartText settings (one_part event) (line ++ codes "\n")
-IsPartText-line turns slot is = record {
-  scrambles = turns ∷ [];
+IsPartText-line scramble slot is = record {
+  scrambles = scramble ∷ [];
   all = record { each_slot = refl; each = (slot, tt) };
   is = ap (λ l. l ++ codes "\n") is;
 }
@@ -227,8 +268,29 @@ IsStopped-first {part = part} k j limit unwritten = record {
 pub IsCutShort-first : {settings : Settings} {part : Part} {out : Change} → IsUnwritten out → IsCutShort settings (part ∷ []) out
 IsCutShort-first {part = part} unwritten = record {
   led = [];
-  rest = part ∷ [];
+  wanting = part;
+  rest = [];
   text = [];
   before = record { are = refl; has = refl };
-  of_text = unwritten;
+  gained = unwritten;
+}
+
+-- a part that stands alone was written in part
+pub IsBroken-first : {settings : Settings} {part : Part} {text : List ℕ} {out : Change} → IsPartText settings part text → Falters out text
+    → IsBroken settings (part ∷ []) out
+IsBroken-first {settings = settings} {part = part} {text = text} is faltered = record {
+  led = part ∷ [];
+  rest = [];
+  text = text;
+  before = record { are = refl; has = IsText-one (IsPartText settings) part text is };
+  faltered = faltered;
+}
+
+-- and whole
+pub IsDone-first : {settings : Settings} {part : Part} {text : List ℕ} {out : Change} → IsPartText settings part text → Gains out text
+    → IsDone settings (part ∷ []) out
+IsDone-first {settings = settings} {part = part} {text = text} is gained = record {
+  text = text;
+  all = IsText-one (IsPartText settings) part text is;
+  gained = gained;
 }

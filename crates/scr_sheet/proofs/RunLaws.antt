@@ -1,34 +1,40 @@
 -- What runs must end with, and that a list has one sheet.
-use Rattle.std.proofs.lemmas.List.Elements.{All-nil, All-head, All-tail, All-cons, All-contains_itself, Contains-get_or}
-use Rattle.scr_list.proofs.RoundLemmas.{rounds_of-long}
-use Rattle.std.proofs.Common.{◌≡◌, ◌⊎◌, ℕ, zero, suc, ◌+◌, ◌≤◌, ◌<◌, List, [], ◌∷◌, ◌++◌, length, length-append, Ok, Err, inl, inr, refl, sym, ap, subst, ◌∙◌, arith, All}
-use Rattle.std.specs.Prelude.{Result, Option, Some, None, Contains, map}
+use Rattle.std.proofs.lemmas.List.{length-map}
+use Rattle.std.proofs.lemmas.List.Elements.{All-nil, All-head, All-tail, All-cons, All-weaker, All-contains_itself}
+use Rattle.std.proofs.lemmas.Option.{same_Some}
+use Rattle.std.proofs.Math.ListN.{get_or-map}
+use Rattle.std.proofs.Common.{◌≡◌, ◌⊎◌, ℕ, zero, suc, ◌+◌, ◌≤◌, ◌<◌, Bool, List, [], ◌∷◌, ◌++◌, length, length-append, Ok, Err, inl, inr, refl, sym, ap, subst, ◌∙◌, arith, All}
+use Rattle.std.specs.Prelude.{Result, Option, Some, None, Contains, map, ◌↔◌}
 use Rattle.scr_outside.specs.Bytes.{put_back}
-use Rattle.scr_list.specs.declared.fault.ListFault.{ListFault}
-use Rattle.scr_list.specs.declared.fault.ListFault.TheVariants as list
-use Rattle.scr_list.specs.Reading.{ReadsList, ReadsNoList}
-use Rattle.scr_command.specs.declared.command.Command.{Command}
-use Rattle.scr_command.specs.declared.command.Command.TheVariants.{One, Sheet, Tables, Load}
-use Rattle.scr_command.specs.declared.command.UsageFault.{UsageFault}
-use Rattle.scr_sheet.specs.declared.status.Status.{Status}
 use Rattle.scr_outside.specs.Change.{Change}
 use Rattle.scr_outside.specs.Faults.{Rose}
 use Rattle.scr_notation.specs.declared.event.Event.{Event}
-use Rattle.scr_notation.specs.declared.turn.Turn.{Turn}
+use Rattle.scr_notation.specs.Event.{greatest_of}
+use Rattle.scr_notation.specs.EventSets.{Has}
+use Rattle.scr_notation.specs.Written.{Written}
+use Rattle.scr_list.specs.declared.fault.ListFault.{ListFault}
+use Rattle.scr_list.specs.declared.fault.ListFault.TheVariants as list
 use Rattle.scr_list.specs.declared.round.Round.{Round}
-use Rattle.scr_list.specs.Events.{rules_of, greatest_of}
-use Rattle.scr_list.specs.Rounds.{IsRound, rounds_of, most_bytes}
+use Rattle.scr_list.specs.Reading.{ReadsList, ReadsNoList}
+use Rattle.scr_list.specs.Limits.{lists}
+use Rattle.scr_list.specs.Rounds.{IsRound, rounds_of}
+use Rattle.scr_list.proofs.RoundLemmas.{rounds_of-long}
+use Rattle.scr_command.specs.declared.command.Command.{Command}
+use Rattle.scr_command.specs.declared.command.Command.TheVariants.{One, Sheet, Tables, Load}
+use Rattle.scr_command.specs.declared.command.UsageFault.{UsageFault}
+use Rattle.scr_table.specs.declared.fault.BuildFault.{BuildFault}
+use Rattle.scr_table.specs.declared.fault.BuildFault.TheVariants as build
+use Rattle.scr_round.specs.Made.{turns_of_each}
 use Rattle.scr_slots.specs.declared.settings.Settings.{Settings}
-use Rattle.scr_slots.specs.Slots.{IsSlotScramble, IsDrawnFairly}
-use Rattle.scr_slots.specs.Outcomes.{HasOneScramble}
+use Rattle.scr_slots.specs.Slots.{Scrambling, IsSlotScramble, IsDrawnFairly}
+use Rattle.scr_slots.specs.Outcomes.{HasOneAnswer}
 use Rattle.scr_slots.specs.Events.{scrambling_of}
 use Rattle.scr_sheet.specs.declared.fault.Fault.{Fault}
 use Rattle.scr_sheet.specs.declared.fault.Fault.TheVariants as fault
+use Rattle.scr_sheet.specs.declared.status.Status.{Status}
 use Rattle.scr_sheet.specs.declared.status.Status.TheVariants as status
-use Rattle.scr_sheet.specs.Sheet.{Part, round_part, round_parts, one_part, AreScrambles, IsPartText, IsText, IsFirstWithout}
-use Rattle.scr_table.specs.declared.fault.BuildFault.{BuildFault}
-use Rattle.scr_table.specs.declared.fault.BuildFault.TheVariants as build
-use Rattle.scr_sheet.specs.Outcome.{EndsParts, EndsMaking, EndsCommand, EndsTelling, Ends, LacksTables, gaining, fault_of_build, status_of}
+use Rattle.scr_sheet.specs.Sheet.{Part, round_part, round_parts, one_part, part_text, EachSlot, IsPartText, IsText, IsFirstWithout}
+use Rattle.scr_sheet.specs.Outcome.{EndsParts, EndsMaking, EndsCommand, EndsTables, EndsTelling, Ends, LacksTables, gaining, fault_of_build, status_of}
 use Rattle.scr_sheet.specs.Task.{IsTask, IsUnhindered, LacksScramble, EndsWith}
 
 -- the events of a list's parts are those of its rounds
@@ -39,32 +45,32 @@ events_of_parts k (round ∷ rounds) = ap (λ events. round.event ∷ events) (e
 
 -- ---- one text
 
--- a slot of the part has one scramble at most, and either that or none
+-- a slot of the part has one answer
 abbrev pub IsDecided : Part → Type 0
-IsDecided part = HasOneScramble (scrambling_of part.event) part.least
+IsDecided part = HasOneAnswer (scrambling_of part.event) part.least
 
-AreScrambles-one : (settings : Settings) (event : Event) (least stream : ℕ) (some other : List (List Turn))
-    → HasOneScramble (scrambling_of event) least → length some ≡ length other → AreScrambles settings event least stream some
-    → AreScrambles settings event least stream other → some ≡ other
-AreScrambles-one settings event least stream [] [] decided size first second = refl
-AreScrambles-one settings event least stream [] (y ∷ ys) decided size first second = absurd (omega (arith, size))
-AreScrambles-one settings event least stream (x ∷ xs) [] decided size first second = absurd (omega (arith, size))
-AreScrambles-one settings event least stream (x ∷ xs) (y ∷ ys) decided size first second =
-    let same : x ≡ y = decided.one settings stream x y first.0 second.0 in
-    let fewer : length xs ≡ length ys = omega (arith, size) in
-    let others : xs ≡ ys = AreScrambles-one settings event least (stream + 1) xs ys decided fewer first.1 second.1 in
-    cc
+module _ (settings : Settings) (scrambling : Scrambling) (least : ℕ) (decided : HasOneAnswer scrambling least) where
+  EachSlot-one : (stream : ℕ) (some other : List Written) → length some ≡ length other
+      → EachSlot (IsSlotScramble scrambling settings least) stream some → EachSlot (IsSlotScramble scrambling settings least) stream other → some ≡ other
+  EachSlot-one stream [] [] size first second = refl
+  EachSlot-one stream [] (y ∷ ys) size first second = absurd (omega (arith, size))
+  EachSlot-one stream (x ∷ xs) [] size first second = absurd (omega (arith, size))
+  EachSlot-one stream (x ∷ xs) (y ∷ ys) size first second =
+      let same : x ≡ y = same_Some x y (decided settings stream (Some x) (Some y) first.0 second.0) in
+      let fewer : length xs ≡ length ys = omega (arith, size) in
+      let others : xs ≡ ys = EachSlot-one (stream + 1) xs ys fewer first.1 second.1 in
+      cc
 
 IsPartText-one : (settings : Settings) (part : Part) (text other : List ℕ) → IsDecided part → IsPartText settings part text
     → IsPartText settings part other → text ≡ other
 IsPartText-one settings part text other decided first second =
     let same =
-    AreScrambles-one settings part.event part.least part.first_stream first.scrambles second.scrambles decided
+    EachSlot-one settings (scrambling_of part.event) part.least decided part.first_stream first.scrambles second.scrambles
     (first.all.each_slot ∙ sym second.all.each_slot) first.all.each second.all.each in
-    first.is ∙ ap part.text same ∙ sym second.is
+    first.is ∙ ap (λ scrambles. part_text part (turns_of_each scrambles)) same ∙ sym second.is
 
-pub IsText-one_text : (settings : Settings) (parts : List Part) (text other : List ℕ) → All IsDecided parts → IsText settings parts text
-    → IsText settings parts other → text ≡ other
+pub IsText-one_text : (settings : Settings) (parts : List Part) (text other : List ℕ) → All IsDecided parts
+    → IsText (IsPartText settings) parts text → IsText (IsPartText settings) parts other → text ≡ other
 IsText-one_text settings [] text other decided first second = first ∙ sym second
 IsText-one_text settings (part ∷ parts) text other decided first second =
     let here = IsPartText-one settings part first.0 second.0 (All-head IsDecided part parts decided) first.2 second.2 in
@@ -73,7 +79,7 @@ IsText-one_text settings (part ∷ parts) text other decided first second =
 
 -- each event has decided slots
 abbrev pub AreDecided : Type 0
-AreDecided = (event : Event) (least : ℕ) → HasOneScramble (scrambling_of event) least
+AreDecided = (event : Event) (least : ℕ) → HasOneAnswer (scrambling_of event) least
 
 -- and so has each part
 pub all_decided : AreDecided → (parts : List Part) → All IsDecided parts
@@ -82,19 +88,18 @@ all_decided decided (part ∷ parts) = All-cons IsDecided part parts (decided pa
 
 -- ---- the ends of parts
 
--- a slot of scrambles has its own
-AreScrambles-at : (settings : Settings) (event : Event) (least stream : ℕ) (scrambles : List (List Turn)) (j : ℕ)
-    → AreScrambles settings event least stream scrambles → j < length scrambles
-    → (turns : List Turn) × IsSlotScramble (scrambling_of event) settings least (stream + j) turns
-AreScrambles-at settings event least stream [] j each below = absurd (omega (arith, below))
-AreScrambles-at settings event least stream (turns ∷ others) zero each below =
+-- a slot of some has its own
+EachSlot-at : {X : Type 0} (Is : ℕ → X → Type 0) (stream : ℕ) (xs : List X) (j : ℕ) → EachSlot Is stream xs → j < length xs
+    → (x : X) × Is (stream + j) x
+EachSlot-at Is stream [] j each below = absurd (omega (arith, below))
+EachSlot-at Is stream (x ∷ xs) zero each below =
     let place : stream ≡ stream + 0 = omega arith in
-    (turns, subst (λ s. IsSlotScramble (scrambling_of event) settings least s turns) place each.0)
-AreScrambles-at settings event least stream (turns ∷ others) (suc j) each below =
-    let fewer : j < length others = omega (arith, below) in
+    (x, subst (λ s. Is s x) place each.0)
+EachSlot-at Is stream (x ∷ xs) (suc j) each below =
+    let fewer : j < length xs = omega (arith, below) in
     let place : stream + 1 + j ≡ stream + suc j = omega arith in
-    let there = AreScrambles-at settings event least (stream + 1) others j each.1 fewer in
-    (there.0, subst (λ s. IsSlotScramble (scrambling_of event) settings least s there.0) place there.1)
+    let there = EachSlot-at Is (stream + 1) xs j each.1 fewer in
+    (there.0, subst (λ s. Is s there.0) place there.1)
 
 -- a part with a text lacks no scramble
 IsPartText-apart : (settings : Settings) (part : Part) (text : List ℕ) (j : ℕ) → IsDecided part → IsPartText settings part text
@@ -102,11 +107,12 @@ IsPartText-apart : (settings : Settings) (part : Part) (text : List ℕ) (j : �
 IsPartText-apart settings part text j decided is lacks =
     let size = is.all.each_slot in
     let below : j < length is.scrambles = omega (arith, size, lacks.below) in
-    let there = AreScrambles-at settings part.event part.least part.first_stream is.scrambles j is.all.each below in
-    decided.apart settings (part.first_stream + j) there.0 there.1 lacks.nothing
+    let there = EachSlot-at (IsSlotScramble (scrambling_of part.event) settings part.least) part.first_stream is.scrambles j is.all.each below in
+    let none = decided settings (part.first_stream + j) (Some there.0) None there.1 lacks.nothing in
+    cc
 
 IsText-apart : (settings : Settings) (led : List Part) (part : Part) (rest : List Part) (text : List ℕ) (j : ℕ)
-    → All IsDecided (led ++ part ∷ rest) → IsText settings (led ++ part ∷ rest) text → IsFirstWithout settings part j → ⊥
+    → All IsDecided (led ++ part ∷ rest) → IsText (IsPartText settings) (led ++ part ∷ rest) text → IsFirstWithout settings part j → ⊥
 IsText-apart settings [] part rest text j decided is lacks = IsPartText-apart settings part is.0 j (All-head IsDecided part rest decided) is.2 lacks
 IsText-apart settings (other ∷ led) part rest text j decided is lacks = IsText-apart settings led part rest is.1 j (All-tail IsDecided other (led ++ part ∷ rest) decided) is.3 lacks
 
@@ -119,7 +125,7 @@ EndsParts-done settings parts out (Err (fault.Usage usage)) ends written each = 
 EndsParts-done settings parts out (Err (fault.List list)) ends written each = absurd ends
 EndsParts-done settings parts out (Err (fault.DrawLimit number slot words)) ends written each =
     absurd (each (record { led = ends.led; part = ends.failing; rest = ends.rest; are = ends.before.are; slot = ends.j; first = ends.limit.first }))
-EndsParts-done settings parts out (Err fault.Write) ends written each = absurd (written ends.of_text.rose)
+EndsParts-done settings parts out (Err fault.Write) ends written each = absurd (written ends.faltered.rose)
 EndsParts-done settings parts out (Err fault.NoMemory) ends written each = inr (inl refl)
 EndsParts-done settings parts out (Err (fault.Gap table index)) ends written each = absurd ends
 
@@ -129,11 +135,11 @@ EndsParts-limit : (settings : Settings) (parts : List Part) (out : Change) (ende
     → EndsWith (status_of ended) status.DrawLimit
 EndsParts-limit settings parts out (Ok u) ends written decided lacks =
     absurd (IsText-apart settings lacks.led lacks.part lacks.rest ends.text lacks.slot (subst (All IsDecided) lacks.are decided)
-    (subst (λ p. IsText settings p ends.text) lacks.are ends.all) lacks.first)
+    (subst (λ p. IsText (IsPartText settings) p ends.text) lacks.are ends.all) lacks.first)
 EndsParts-limit settings parts out (Err (fault.Usage usage)) ends written decided lacks = absurd ends
 EndsParts-limit settings parts out (Err (fault.List list)) ends written decided lacks = absurd ends
 EndsParts-limit settings parts out (Err (fault.DrawLimit number slot words)) ends written decided lacks = inl refl
-EndsParts-limit settings parts out (Err fault.Write) ends written decided lacks = absurd (written ends.of_text.rose)
+EndsParts-limit settings parts out (Err fault.Write) ends written decided lacks = absurd (written ends.faltered.rose)
 EndsParts-limit settings parts out (Err fault.NoMemory) ends written decided lacks = inr (inl refl)
 EndsParts-limit settings parts out (Err (fault.Gap table index)) ends written decided lacks = absurd ends
 
@@ -159,7 +165,7 @@ IsList-read : (source : Change) (bytes : List ℕ) (rounds : List Round) (refusa
 IsList-read source bytes rounds list.TooLong whole is input read refused =
     let short = given-length bytes refused.bytes source.bytes_after (sym input ∙ refused.gives.given) in
     let size = refused.many in
-    let long : most_bytes < length bytes = omega (arith, short, size) in
+    let long : lists.most_bytes < length bytes = omega (arith, short, size) in
     let again : rounds_of bytes ≡ Err list.TooLong = rounds_of-long bytes long in
     let none : ⊥ = cc in
     absurd none
@@ -177,18 +183,30 @@ LacksTables-ends events out ended wanted lacks = at lacks.why lacks.is
     at build.NoMemory is = inr (inl (ap status_of is))
     at (build.Gap table index) is = inr (inr (ap status_of is))
 
--- A run ended as the making of its parts did, for a sink that didn't fail.
+-- A run ended as the making of its parts did, or as tables that were not built, for a sink that didn't fail.
 record IsWell (settings : Settings) (parts : List Part) (ended : Result (Unit {0}) Fault) : Type 0 where
   sink : Change
   made : Result (Unit {0}) Fault
-  making : EndsMaking settings parts sink made
+  making : EndsParts settings 0 parts sink made ⊎ ((events : List Event) × LacksTables events sink made)
   whole : ¬ (Rose sink.faults_before sink.faults_after)
   same : ended ≡ made
+
+-- parts that are made
+made_parts : (settings : Settings) (parts : List Part) (out : Change) (ended : Result (Unit {0}) Fault) → EndsMaking settings parts out ended
+    → EndsParts settings 0 parts out ended ⊎ ((events : List Event) × LacksTables events out ended)
+made_parts settings parts out ended making =
+    elim making [ inl making ↦ inl making.ends | inr lacks ↦ inr (map (λ (part : Part). part.event) parts, lacks) ]
 
 -- parts that are written
 IsWell-written : (settings : Settings) (parts : List Part) (out : Change) (ended : Result (Unit {0}) Fault) → ¬ (Rose out.faults_before out.faults_after)
     → EndsMaking settings parts out ended → IsWell settings parts ended
-IsWell-written settings parts out ended written making = record { sink = out; made = ended; making = making; whole = written; same = refl }
+IsWell-written settings parts out ended written making = record {
+  sink = out;
+  made = ended;
+  making = made_parts settings parts out ended making;
+  whole = written;
+  same = refl;
+}
 
 -- a sheet that is told of and not written
 EndsTelling-same : (made : Result (Unit {0}) Fault) (lines : List ℕ) (out : Change) (ended : Result (Unit {0}) Fault)
@@ -200,6 +218,30 @@ EndsTelling-same (Err f) lines out ended written told = told.0
 not_risen : ¬ (Rose 0 0)
 not_risen (inl higher) = absurd (omega (arith, higher))
 not_risen (inr last) = absurd (omega (arith, last))
+
+-- tables are told with no parts at all
+tables_as_parts : (settings : Settings) (event : Event) (out : Change) (ended : Result (Unit {0}) Fault) → ¬ (Rose out.faults_before out.faults_after)
+    → EndsTables event out ended ⊎ LacksTables (event ∷ []) out ended → IsWell settings [] ended
+tables_as_parts settings event out (Ok u) written (inl ends) = record {
+  sink = gaining [];
+  made = Ok u;
+  making = inl (record { text = []; all = refl; gained = record { gained = refl; no_fault = refl } });
+  whole = not_risen;
+  same = refl;
+}
+tables_as_parts settings event out (Err (fault.Usage usage)) written (inl ends) = absurd ends
+tables_as_parts settings event out (Err (fault.List list)) written (inl ends) = absurd ends
+tables_as_parts settings event out (Err (fault.DrawLimit number slot words)) written (inl ends) = absurd ends
+tables_as_parts settings event out (Err fault.Write) written (inl ends) = absurd (written ends.2.rose)
+tables_as_parts settings event out (Err fault.NoMemory) written (inl ends) = absurd ends
+tables_as_parts settings event out (Err (fault.Gap table index)) written (inl ends) = absurd ends
+tables_as_parts settings event out ended written (inr lacks) = record {
+  sink = out;
+  made = ended;
+  making = inr (event ∷ [], lacks);
+  whole = written;
+  same = refl;
+}
 
 EndsCommand-parts : (command : Command) (list : List ℕ) (settings : Settings) (parts : List Part) (source out : Change)
     (ended : Result (Unit {0}) Fault) → ReadWhole → IsTask command list settings parts → source.bytes_before ≡ Some list
@@ -215,11 +257,12 @@ EndsCommand-parts (Sheet seed options) list settings parts source out ended whol
     IsWell-written settings parts out ended written (rw (task.2, same_parts) ends.2)
 EndsCommand-parts (Sheet seed options) list settings parts source out ended whole task input read written (inr refused) =
     absurd (IsList-read source list task.0 refused.list whole task.1 input read refused.cause)
-EndsCommand-parts (Tables event) list settings parts source out ended whole task input read written ends = absurd task
+EndsCommand-parts (Tables event) list settings parts source out ended whole task input read written ends =
+    rw task (tables_as_parts settings event out ended written ends.1)
 EndsCommand-parts (Load number) list settings parts source out ended whole task input read written ends = record {
   sink = gaining ends.1.sheet;
   made = ends.1.made;
-  making = rw (task.0, task.1) ends.1.making;
+  making = rw (task.0, task.1) (made_parts _ _ (gaining ends.1.sheet) ends.1.made ends.1.making);
   whole = not_risen;
   same = EndsTelling-same ends.1.made _ out ended written ends.1.told;
 }
@@ -247,8 +290,8 @@ unhindered-with {parts = parts} wanted whole run each =
       | inl well ↦
           rw well.same
           (elim well.making [
-            | inl making ↦ each well.sink well.made making.ends well.whole
-            | inr lacks ↦ LacksTables-ends (map (λ (part : Part). part.event) parts) well.sink well.made wanted lacks
+            | inl ends ↦ each well.sink well.made ends well.whole
+            | inr lacks ↦ LacksTables-ends lacks.0 well.sink well.made wanted lacks.1
           ])
       | inr wanting ↦ inr (inl (ap status_of wanting))
     ])
@@ -272,27 +315,32 @@ IsUnhindered-limit {settings = settings} {parts = parts} whole run decided lacks
 abbrev pub IsFairPart : Part → Type 0
 IsFairPart part = IsDrawnFairly (scrambling_of part.event) part.least
 
--- each of these events is, at each minimum of its range
-abbrev pub AreFairlyDrawn : List Event → Type 0
-AreFairlyDrawn events = (event : Event) (least : ℕ) → Contains events event → least ≤ greatest_of (rules_of event).minima → IsDrawnFairly (scrambling_of event) least
+-- each event of a set is, at each minimum of its range
+abbrev pub AreFairEvents : List Bool → Type 0
+AreFairEvents events = (event : Event) (least : ℕ) → Has events event → least ≤ greatest_of event → IsDrawnFairly (scrambling_of event) least
 
-pub round_parts-fair : (events : List Event) (k : ℕ) (rounds : List Round) → AreFairlyDrawn events → All IsRound rounds
-    → All (Contains events) (map (λ (round : Round). round.event) rounds) → All IsFairPart (round_parts k rounds)
+pub round_parts-fair : (events : List Bool) (k : ℕ) (rounds : List Round) → AreFairEvents events → All IsRound rounds
+    → All (λ (round : Round). Has events round.event) rounds → All IsFairPart (round_parts k rounds)
 round_parts-fair events k [] fair each asked = All-nil IsFairPart
 round_parts-fair events k (round ∷ rounds) fair each asked =
     let here = All-head IsRound round rounds each in
-    let others = map (λ (r : Round). r.event) rounds in
+    let Asked : Round → Type 0 = λ r. Has events r.event in
     All-cons IsFairPart (round_part k round) (round_parts (k + 1) rounds)
-    (fair round.event round.least (All-head (Contains events) round.event others asked) here.least)
-    (round_parts-fair events (k + 1) rounds fair (All-tail IsRound round rounds each) (All-tail (Contains events) round.event others asked))
+    (fair round.event round.least (All-head Asked round rounds asked) here.least)
+    (round_parts-fair events (k + 1) rounds fair (All-tail IsRound round rounds each) (All-tail Asked round rounds asked))
 
--- those of the rounds of a list, whose tables were built
-pub list-fair : (rounds : List Round) → AreFairlyDrawn (map (λ (round : Round). round.event) rounds) → All IsRound rounds
-    → All IsFairPart (round_parts 0 rounds)
-list-fair rounds fair each =
-    let events = map (λ (round : Round). round.event) rounds in round_parts-fair events 0 rounds fair each (All-contains_itself events)
+-- what is in a list is in the list of what is made of each
+contains_map : {X Y : Type 0} (f : X → Y) (xs : List X) (x : X) → Contains xs x → Contains (map f xs) (f x)
+contains_map f xs x (k, below, is) = (k, omega (arith, length-map xs f, below), get_or-map f xs k x ∙ ap f is)
 
--- and that of one event
-pub one-fair : (event : Event) → AreFairlyDrawn (event ∷ []) → All IsFairPart (one_part event ∷ [])
-one-fair event fair =
-    All-cons IsFairPart (one_part event) [] (fair event 0 (Contains-get_or (event ∷ []) 0 event (omega arith)) (omega arith)) (All-nil IsFairPart)
+-- the events of a list's rounds are in the set of its events
+pub each_asked : (events : List Bool) (rounds : List Round)
+    → ((event : Event) → Has events event ↔ Contains (map (λ (round : Round). round.event) rounds) event)
+    → All (λ (round : Round). Has events round.event) rounds
+each_asked events rounds same =
+    All-weaker (Contains rounds) (λ (round : Round). Has events round.event)
+    (λ round there. (same round.event).1 (contains_map (λ (r : Round). r.event) rounds round there)) rounds (All-contains_itself rounds)
+
+-- and one event
+pub one-fair : (events : List Bool) (event : Event) → AreFairEvents events → Has events event → All IsFairPart (one_part event ∷ [])
+one-fair events event fair has = All-cons IsFairPart (one_part event) [] (fair event 0 has (omega arith)) (All-nil IsFairPart)

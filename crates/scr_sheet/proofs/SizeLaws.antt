@@ -7,7 +7,7 @@ use Rattle.scr_list.specs.declared.round.Round.{Round}
 use Rattle.scr_slots.specs.declared.settings.Settings.{Settings}
 use Rattle.scr_sheet.specs.declared.fault.Fault.{Fault}
 use Rattle.scr_sheet.specs.declared.load.Size.{Size}
-use Rattle.scr_sheet.specs.Sheet.{Part, round_part, round_parts}
+use Rattle.scr_sheet.specs.Sheet.{Part, IsPartText, round_part, round_parts}
 use Rattle.scr_sheet.specs.Outcome.{IsDone, EndsUnmade, gaining}
 use Rattle.scr_sheet.specs.Sizes.{IsSizeOf, IsPartSize, SizesParts}
 use Rattle.scr_sheet.proofs.PartLaws.{IsMadeUpTo, IsText-one, made-none, made-all, round-more, round-fault}
@@ -46,8 +46,8 @@ sized-more {settings} {size} {more} rounds i d there sized part =
     let text = part.text in
     let done : IsDone settings (round_part i (get_or rounds i d) ∷ []) (from_to (Some sized.sheet) 0 (Some (sized.sheet ++ text)) 0) = record {
       text = text;
-      all = IsText-one settings (round_part i (get_or rounds i d)) text part.is;
-      gained = record { gained = refl; never_falls = omega arith };
+      all = IsText-one (IsPartText settings) (round_part i (get_or rounds i d)) text part.is;
+      gained = record { gained = refl; no_fault = refl };
     } in
     record {
       sheet = sized.sheet ++ text;

@@ -1,4 +1,5 @@
 pub mod Sheet
+pub mod Headline
 pub mod Load
 pub mod Making
 pub mod Message

@@ -1,6 +1,6 @@
 -- The command `load`: a list of rounds that follows from a number, and what is told of its sheet. Both are our own
 -- choice.
-use Rattle.std.specs.Prelude.{ℕ, ◌+◌, ◌*◌, ◌%◌, List, [], ◌∷◌, ◌++◌, codes, length, map, sum, sum_by, replicate}
+use Rattle.std.specs.Prelude.{ℕ, ◌+◌, ◌*◌, ◌%◌, List, [], ◌∷◌, ◌++◌, codes, length, map, take, sum, sum_by, replicate}
 use Rattle.std.specs.List.{range_with_len, slice_index_or}
 use Rattle.std.specs.Int.{w64, to_le_bytes}
 use Rattle.std.specs.Fmt.{decimal}
@@ -8,9 +8,8 @@ use Rattle.scr_text.specs.Lines.{text_of_lines}
 use Rattle.scr_words.specs.declared.seed.Seed.{Seed}
 use Rattle.scr_notation.specs.declared.event.Event.{Event}
 use Rattle.scr_notation.specs.declared.event.Event.TheVariants.{C222}
-use Rattle.scr_notation.specs.Event.{events}
+use Rattle.scr_notation.specs.Event.{events, usual_of}
 use Rattle.scr_list.specs.declared.round.Round.{Round}
-use Rattle.scr_list.specs.Events.{rules_of, usual_of}
 use Rattle.scr_round.specs.Round.{slots_of}
 
 -- ---- the list of a number
@@ -19,13 +18,17 @@ use Rattle.scr_round.specs.Round.{slots_of}
 abbrev pub load_seed : ℕ → Seed
 load_seed number = record { 0 = to_le_bytes w64 number ++ replicate 24 0 }
 
+-- the eleven events of such lists, which stay the same when events are added
+abbrev pub load_events : List Event
+load_events = take 11 events
+
 -- the event with this number, where they come in turn, again and again
 abbrev pub event_in_turn : ℕ → Event
-event_in_turn number = slice_index_or events (number % length events) C222
+event_in_turn number = slice_index_or load_events (number % length load_events) C222
 
 -- so many groups of an event, with its usual minimum
 abbrev pub usual_round : Event → ℕ → Round
-usual_round event groups = record { event = event; groups = groups; least = usual_of (rules_of event).minima }
+usual_round event groups = record { event = event; groups = groups; least = usual_of event }
 
 -- its round k, counted from 0: of the events in turn, with numbers of groups from 1 to 8 in steps of five
 abbrev pub load_round : ℕ → ℕ → Round

@@ -1,19 +1,34 @@
 -- What the making of a round gives.
-use Rattle.std.specs.Prelude.{◌≡◌, ℕ}
+use Rattle.std.specs.Prelude.{◌≡◌, ℕ, List, ◌∷◌, ◌++◌, Option, Some, None, length, map}
+use Rattle.scr_notation.specs.Written.{Written}
 use Rattle.scr_list.specs.declared.round.Round.{Round}
 use Rattle.scr_slots.specs.declared.settings.Settings.{Settings}
-use Rattle.scr_round.specs.Made.{Made, turns_of_each}
+use Rattle.scr_slots.specs.Slots.{IsSlotAnswer}
+use Rattle.scr_slots.specs.Events.{scrambling_of}
+use Rattle.scr_round.specs.Made.{Made}
 use Rattle.scr_sheet.specs.declared.making.RoundFault.{RoundFault}
 use Rattle.scr_sheet.specs.declared.making.RoundFault.TheVariants.{NoMemory, Limit}
-use Rattle.scr_sheet.specs.Sheet.{Part, round_part, ArePartScrambles, IsLimit}
+use Rattle.scr_sheet.specs.Sheet.{Part, EachSlot, round_part, ArePartScrambles, IsLimit}
+
+-- the answers of a part, one for each slot in order
+pub record AreAnswers (settings : Settings) (part : Part) (answers : List (Option Written)) : Type 0 where
+  pub each_slot : length answers ≡ part.slots
+  pub each : EachSlot (IsSlotAnswer (scrambling_of part.event) settings part.least) part.first_stream answers
 
 -- round k was made: each slot has its scramble
 pub record IsRoundMade (settings : Settings) (k : ℕ) (round : Round) (made : Made) : Type 0 where
   pub same_round : made.round ≡ round
   pub same_index : made.index ≡ k
-  pub scrambles : ArePartScrambles settings (round_part k round) (turns_of_each made.scrambles)
+  pub scrambles : ArePartScrambles settings (round_part k round) made.scrambles
 
 -- why the scrambles of a part were not made
 abbrev pub IsPartFault : Settings → Part → RoundFault → Type 0
 IsPartFault settings part NoMemory = Unit {0}
 IsPartFault settings part (Limit slot words) = IsLimit settings part slot words
+
+-- an answer is none, and those before it are some
+pub record IsFirstNone (answers : List (Option Written)) (place : ℕ) : Type 0 where
+  pub before : List Written
+  pub behind : List (Option Written)
+  pub are : answers ≡ map Some before ++ None ∷ behind
+  pub as_many : length before ≡ place

@@ -16,13 +16,13 @@ use Rattle.scr_table.specs.declared.fault.BuildFault.{BuildFault}
 use Rattle.scr_table.specs.declared.fault.BuildFault.TheVariants as build
 use Rattle.scr_slots.specs.declared.settings.Settings.{Settings}
 use Rattle.scr_slots.specs.Slots.{IsDrawnFairly}
-use Rattle.scr_slots.specs.Events.{scrambling_of, tables_of}
-use Rattle.scr_slots.specs.Tables.{HasTables, IsBuildCause}
+use Rattle.scr_slots.specs.Events.{scrambling_of}
+use Rattle.scr_slots.specs.Tables.{HasTables, IsBuildCause, lines_for}
 use Rattle.scr_sheet.specs.declared.fault.Fault.{Fault}
 use Rattle.scr_sheet.specs.declared.fault.Fault.TheVariants as fault
 use Rattle.scr_sheet.specs.declared.status.Status.{Status}
 use Rattle.scr_sheet.specs.declared.status.Status.TheVariants as status
-use Rattle.scr_sheet.specs.Sheet.{settings_of, IsLimit, Part, round_part, round_parts, one_part, IsText}
+use Rattle.scr_sheet.specs.Sheet.{settings_of, IsLimit, Part, round_part, round_parts, one_part, IsPartText, IsText}
 use Rattle.scr_sheet.specs.Load.{load_seed, load_rounds, load_text}
 use Rattle.scr_table_text.specs.TableText.{IsTablesText}
 use Rattle.scr_sheet.specs.Message.{message_of}
@@ -36,12 +36,12 @@ IsUnwritten out = Gains out []
 -- The leading parts have this text, and those behind them are left.
 pub record IsLed (settings : Settings) (parts led rest : List Part) (text : List ℕ) : Type 0 where
   pub are : parts ≡ led ++ rest
-  pub has : IsText settings led text
+  pub has : IsText (IsPartText settings) led text
 
 -- All parts were written.
 pub record IsDone (settings : Settings) (parts : List Part) (out : Change) : Type 0 where
   pub text : List ℕ
-  pub all : IsText settings parts text
+  pub all : IsText (IsPartText settings) parts text
   pub gained : Gains out text
 
 -- A slot has no scramble: the parts before its own were written. Its part and it are told by their numbers, from 1.
@@ -57,21 +57,22 @@ pub record IsStopped (settings : Settings) (k : ℕ) (parts : List Part) (out : 
   pub limit : IsLimit settings failing j words
   pub gained : Gains out text
 
--- Some leading parts, all of which have their scrambles, have a text of which this is so.
-pub record SomeLed (settings : Settings) (parts : List Part) (Is : List ℕ → Type 0) : Type 0 where
+-- The output failed: a first part was written of the text of some leading parts, which have their scrambles.
+pub record IsBroken (settings : Settings) (parts : List Part) (out : Change) : Type 0 where
   pub led : List Part
   pub rest : List Part
   pub text : List ℕ
   pub before : IsLed settings parts led rest text
-  pub of_text : Is text
+  pub faltered : Falters out text
 
--- The output failed: a first part was written of the text of some leading parts.
-abbrev pub IsBroken : Settings → List Part → Change → Type 0
-IsBroken settings parts out = SomeLed settings parts (Falters out)
-
--- Memory was wanting: some leading parts were written.
-abbrev pub IsCutShort : Settings → List Part → Change → Type 0
-IsCutShort settings parts out = SomeLed settings parts (Gains out)
+-- Memory was wanting for a part: the parts before it were written.
+pub record IsCutShort (settings : Settings) (parts : List Part) (out : Change) : Type 0 where
+  pub led : List Part
+  pub wanting : Part
+  pub rest : List Part
+  pub text : List ℕ
+  pub before : IsLed settings parts led (wanting ∷ rest) text
+  pub gained : Gains out text
 
 -- how the parts end that are made and written one after another
 abbrev pub EndsParts : Settings → ℕ → List Part → Change → Result (Unit {0}) Fault → Type 0
@@ -104,8 +105,8 @@ pub record LacksTables (events : List Event) (out : Change) (ended : Result (Uni
 
 -- how the text of an event's tables ends that is written
 abbrev pub EndsTables : Event → Change → Result (Unit {0}) Fault → Type 0
-EndsTables event out (Ok _) = (text : List ℕ) × IsTablesText (tables_of event) text × Gains out text
-EndsTables event out (Err fault.Write) = (text : List ℕ) × IsTablesText (tables_of event) text × Falters out text
+EndsTables event out (Ok _) = (text : List ℕ) × IsTablesText (lines_for (event ∷ [])) text × Gains out text
+EndsTables event out (Err fault.Write) = (text : List ℕ) × IsTablesText (lines_for (event ∷ [])) text × Falters out text
 EndsTables event out (Err (fault.DrawLimit number slot words)) = ⊥
 EndsTables event out (Err fault.NoMemory) = ⊥
 EndsTables event out (Err (fault.Usage usage)) = ⊥
@@ -127,7 +128,14 @@ EndsMaking settings parts out ended =
 
 -- a sink that gained this text, and did not fail
 abbrev pub gaining : List ℕ → Change
-gaining text = record { bytes_before = Some []; bytes_after = Some text; faults_before = 0; faults_after = 0 }
+gaining text = record {
+  bytes_before = Some [];
+  bytes_after = Some text;
+  faults_before = 0;
+  faults_after = 0;
+  ends_before = 0;
+  ends_after = 0;
+}
 
 -- How the telling of a sheet ends whose making ended so: where the sheet is whole, these lines on it are written.
 abbrev pub EndsTelling : Result (Unit {0}) Fault → List ℕ → Change → Result (Unit {0}) Fault → Type 0

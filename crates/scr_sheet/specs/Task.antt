@@ -14,12 +14,12 @@ use Rattle.scr_sheet.specs.Sheet.{settings_of, Part, round_parts, one_part, IsFi
 use Rattle.scr_sheet.specs.Load.{load_seed, load_rounds}
 use Rattle.scr_sheet.specs.Outcome.{IsRun}
 
--- what a command makes, and writes or sums, whose input is this list
+-- what a command makes, and writes or sums, whose input is this list; `tables` makes no parts
 abbrev pub IsTask : Command → List ℕ → Settings → List Part → Type 0
 IsTask (One event seed) list settings parts = (settings ≡ settings_of seed usual_options) × (parts ≡ one_part event ∷ [])
 IsTask (Sheet seed options) list settings parts =
     (rounds : List Round) × (rounds_of list ≡ Ok rounds) × (settings ≡ settings_of seed options) × (parts ≡ round_parts 0 rounds)
-IsTask (Tables event) list settings parts = ⊥
+IsTask (Tables event) list settings parts = parts ≡ []
 IsTask (Load number) list settings parts =
     (settings ≡ settings_of (load_seed number) usual_options) × (parts ≡ round_parts 0 (load_rounds number))
 

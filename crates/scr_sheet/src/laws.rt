@@ -1,14 +1,19 @@
 //! What holds of sheets and of runs whatever the code: calls that do nothing, whose contracts are the laws.
 
-ghost use Rattle.std.specs.Prelude.{◌≡◌, ℕ, List, [], ◌∷◌, length, IsTrue};
-ghost use Rattle.scr_outside.specs.Change.{Change};
+ghost use Rattle.std.specs.Prelude.{◌≡◌, ◌<◌, ◌⊎◌, ℕ, List, [], ◌∷◌, length, IsTrue, Ok};
+ghost use Rattle.scr_outside.specs.Change.{Change, Falters};
 ghost use Rattle.scr_notation.specs.declared.event.Event.{Event};
 ghost use Rattle.scr_list.specs.declared.round.Round.{Round};
 ghost use Rattle.scr_list.specs.RoundLists.{IsRounds};
 ghost use Rattle.scr_slots.specs.declared.settings.Settings.{Settings};
 ghost use Rattle.scr_sheet.specs.declared.status.Status.{Status};
-ghost use Rattle.scr_sheet.specs.declared.status.Status.TheVariants.{Done, DrawLimit};
-ghost use Rattle.scr_sheet.specs.Sheet.{Part, round_parts, one_part, IsText};
+ghost use Rattle.scr_command.specs.declared.command.Command.TheVariants.{Tables};
+ghost use Rattle.scr_command.specs.Command.{command_of, AsksForSheet};
+ghost use Rattle.scr_table_text.specs.TableText.{IsTablesText};
+ghost use Rattle.scr_slots.specs.Tables.{lines_for};
+ghost use Rattle.scr_sheet.specs.declared.status.Status.TheVariants.{Done, DrawLimit, ReadFault, WriteFault, NoMemory};
+ghost use Rattle.scr_sheet.specs.Outcome.{IsRun, IsUnwritten, TakesMemory};
+ghost use Rattle.scr_sheet.specs.Sheet.{Part, round_parts, one_part, IsPartText, IsText};
 ghost use Rattle.scr_sheet.specs.Load.{load_rounds, slots_of_all};
 ghost use Rattle.scr_sheet.specs.Task.{IsUnhindered, LacksScramble, EndsWith};
 
@@ -18,15 +23,15 @@ use scr_slots::laws as slot_laws;
 /// A list has one sheet, and an event one line of `one`: made with the same settings, two are the same.
 pub fn one_sheet()
     ensures sheet { (settings : Settings) (rounds : List Round) (text other : List ℕ)
-        → IsText settings (round_parts 0 rounds) text → IsText settings (round_parts 0 rounds) other → text ≡ other }
+        → IsText (IsPartText settings) (round_parts 0 rounds) text → IsText (IsPartText settings) (round_parts 0 rounds) other → text ≡ other }
     ensures line { (settings : Settings) (event : Event) (text other : List ℕ)
-        → IsText settings (one_part event ∷ []) text → IsText settings (one_part event ∷ []) other → text ≡ other }
+        → IsText (IsPartText settings) (one_part event ∷ []) text → IsText (IsPartText settings) (one_part event ∷ []) other → text ≡ other }
 {
-    slot_laws::one_scramble();
+    slot_laws::one_answer();
 }
 
-/// Which runs must end with a whole sheet: those whose words are a command and whose list names rounds, where neither
-/// input nor output fails and each slot has a scramble. Where one has none, the status is `DrawLimit` and never `Done`.
+/// Which runs must end with all that they are to write: those whose words are a command, and whose source tells its bytes,
+/// which name rounds where they are read, where neither input nor output fails and each slot has a scramble. Where one has none, the status is `DrawLimit` and never `Done`.
 /// Want of memory, and a gap in a table, are always free.
 pub fn completeness()
     ensures done { (words : List (List ℕ)) (outcome : Status) (source out err : Change) (settings : Settings) (parts : List Part)
@@ -34,9 +39,28 @@ pub fn completeness()
     ensures limit { (words : List (List ℕ)) (outcome : Status) (source out err : Change) (settings : Settings) (parts : List Part)
         → IsUnhindered words outcome source out err settings parts → LacksScramble settings parts → EndsWith outcome DrawLimit }
 {
-    slot_laws::one_scramble();
+    slot_laws::one_answer();
     list_laws::lists_that_were_read();
 }
+
+/// Where the input's count of faults rose the status is `ReadFault`, and where the output's did it is `WriteFault`.
+pub fn faults()
+    ensures input { (words : List (List ℕ)) (outcome : Status) (source out err : Change)
+        → IsRun words outcome source out err → source.faults_before < source.faults_after → outcome ≡ ReadFault }
+    ensures output { (words : List (List ℕ)) (outcome : Status) (source out err : Change)
+        → IsRun words outcome source out err → out.faults_before < out.faults_after → outcome ≡ WriteFault }
+{}
+
+/// A run that ends well tells nothing. Memory is wanted only for a sheet, for tables and for rounds. Where the output fails
+/// under the text of tables, a first part of it was written.
+pub fn ends()
+    ensures well { (words : List (List ℕ)) (source out err : Change) → IsRun words Done source out err → IsUnwritten err }
+    ensures memory { (words : List (List ℕ)) (source out err : Change) → IsRun words NoMemory source out err
+        → AsksForSheet words ⊎ TakesMemory (command_of words) }
+    ensures tables { (words : List (List ℕ)) (event : Event) (source out err : Change) → command_of words ≡ Ok (Tables event)
+        → IsRun words WriteFault source out err
+        → (text : List ℕ) × IsTablesText (lines_for (event ∷ [])) text × Falters out text }
+{}
 
 /// The rounds that follow from a number are rounds that lists take. Those of 0 are one with 7 slots, and those of 15
 /// are 16 with 456.

@@ -9,6 +9,7 @@
 #![tactic(auto)]
 
 mod fault;
+mod host;
 pub mod laws;
 mod load;
 mod making;
@@ -18,10 +19,12 @@ mod status;
 mod text_sink;
 
 pub use fault::Fault;
+pub use host::run_on_host;
 pub use making::{RoundFault, make_round};
 pub use program::run;
 pub use scr_command::{Command, CommandFault, Options, UsageFault, read_command};
 pub use scr_list::{ListCause, ListFault, Round, read_rounds};
 pub use scr_notation::Event;
 pub use scr_round::{RoundResult, write_round};
+pub use scr_slots::Tables;
 pub use status::Status;

@@ -3,7 +3,8 @@
 //! The sheet is not written, and never held whole: each round is made, written to a sink of its own, counted and
 //! dropped.
 
-ghost use Rattle.std.specs.Prelude.{◌≡◌, ◌*◌, ◌<◌, ◌≤◌, ℕ, List, ◌++◌, codes, length, map, Contains, MatchResult, IfOk};
+ghost use Rattle.std.specs.Prelude.{◌≡◌, ◌*◌, ◌<◌, ◌≤◌, ℕ, List, ◌++◌, codes, length, All, MatchResult, IfOk};
+ghost use Rattle.scr_notation.specs.EventSets.{Has};
 ghost use Rattle.std.specs.Fmt.{decimal};
 ghost use Rattle.scr_outside.specs.Change.{change_of, Writes};
 ghost use Rattle.scr_list.specs.Rounds.{IsRound};
@@ -15,11 +16,12 @@ ghost use Rattle.scr_sheet.specs.Outcome.{EndsLoad, EndsUnmade};
 ghost use Rattle.scr_sheet.specs.Sizes.{IsSizeOf, IsPartSize, SizesMaking, SizesParts};
 
 use crate::fault::Fault;
+use crate::making::Making;
 use crate::parts::made_round;
 use crate::text_sink::{TEXT_ROOM, TextSink};
 use arrayvec::ArrayVec;
 use scr_command::Options;
-use scr_list::{Round, event_rules};
+use scr_list::Round;
 use scr_notation::EVENTS;
 use scr_outside::{Failed, Sink, write_line};
 use scr_round::{slots, write_round};
@@ -30,6 +32,9 @@ use std::alloc::Global;
 
 /// The most rounds of a list that follows from a number.
 const MOST_ROUNDS: usize = 16;
+
+/// How many events such lists have: the first ones, which stay the same when events are added.
+const LOADED_EVENTS: usize = 11;
 
 /// What a text amounts to: how many bytes it has, and what they add up to.
 #[derive(Clone, Copy, Debug)]
@@ -77,8 +82,8 @@ fn load_round(number: u32, k: u32) -> Round
     requires k { k < 16 }
     ensures { result ≡ load_round number k }
 {
-    let event = EVENTS[(number + k) as usize % EVENTS.len()];
-    let least = match event_rules(event).minima {
+    let event = EVENTS[(number + k) as usize % LOADED_EVENTS];
+    let least = match event.minima() {
         Some(minima) => minima.usual,
         None => 0,
     };
@@ -97,19 +102,23 @@ fn sheet_size(alloc: Global, seed: &Seed, rounds: &[Round]) -> Result<Size, Faul
 {
     let tables = Tables::build(alloc, rounds)?;
     laws::each_drawn_fairly(&tables);
-    rounds_size(alloc, &tables, seed, rounds)
+    rounds_size(
+        &Making::new(alloc, &tables, seed, &Options::default()),
+        rounds,
+    )
 }
 
 /// The same, where the tables of the rounds' events are built.
-fn rounds_size(alloc: Global, tables: &Tables, seed: &Seed, rounds: &[Round]) -> Result<Size, Fault>
-    requires tables { tables.now ≡ map (λ round. round.event) rounds.now }
+fn rounds_size(making: &Making<'_>, rounds: &[Round]) -> Result<Size, Fault>
+    requires tables { All (λ round. Has making.now.tables.now round.event) rounds.now }
     requires rounds { IsRounds rounds.now }
     requires few { length rounds.now ≤ 16 }
-    ensures { SizesParts (settings_of seed.now usual_options) (round_parts 0 rounds.now) result }
+    requires attempts { making.now.settings.attempts ≤ 1000000 }
+    ensures { SizesParts making.now.settings (round_parts 0 rounds.now) result }
 {
     let mut size = Size { bytes: 0, sum: 0 };
     for (index, round) in rounds.iter().enumerate() {
-        let more = round_size(alloc, tables, seed, index as u32, round)?;
+        let more = round_size(making, index as u32, round)?;
         size.bytes += more.bytes;
         size.sum += more.sum;
     }
@@ -117,23 +126,18 @@ fn rounds_size(alloc: Global, tables: &Tables, seed: &Seed, rounds: &[Round]) ->
 }
 
 /// What the text of a round amounts to. Memory may be wanting for the text.
-fn round_size(
-    alloc: Global,
-    tables: &Tables,
-    seed: &Seed,
-    index: u32,
-    round: &Round,
-) -> Result<Size, Fault>
-    requires tables { Contains tables.now round.now.event }
+fn round_size(making: &Making<'_>, index: u32, round: &Round) -> Result<Size, Fault>
+    requires tables { Has making.now.tables.now round.now.event }
     requires index { index < 256 }
     requires round { IsRound round.now }
-    ensures size { let settings = settings_of seed.now usual_options in
+    requires attempts { making.now.settings.attempts ≤ 1000000 }
+    ensures size { let settings = making.now.settings in
         MatchResult result (IsPartSize settings (round_part index round.now)) (EndsUnmade settings index round.now) }
     ensures few { IfOk result (λ size. size.bytes ≤ TEXT_ROOM) }
     ensures low { IfOk result (λ size. size.sum ≤ TEXT_ROOM * 255) }
 {
-    let made = made_round(alloc, tables, seed, index, round, &Options::default())?;
-    let mut text = TextSink::new(alloc)?;
+    let made = made_round(making, index, round)?;
+    let mut text = TextSink::new(making.alloc)?;
     match write_round(&mut text, &made) {
         Ok(()) => Ok(size_of(text.text())),
         Err(_) => Err(Fault::NoMemory),

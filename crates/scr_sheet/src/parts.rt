@@ -1,29 +1,30 @@
 //! What the commands make and write.
 
-ghost use Rattle.std.specs.Prelude.{◌≡◌, ◌≢◌, ◌≤◌, ◌<◌, ◌⊎◌, [], ◌∷◌, map, Contains, IsTrue, MatchResult, Err};
-ghost use Rattle.scr_outside.specs.Change.{change_of};
+ghost use Rattle.std.specs.Prelude.{◌≡◌, ◌≢◌, ◌≤◌, ◌<◌, ◌⊎◌, [], ◌∷◌, map, All, IsTrue, MatchResult, Err};
+ghost use Rattle.scr_outside.specs.Change.{change_of, intake_of};
+ghost use Rattle.scr_notation.specs.EventSets.{Has};
 ghost use Rattle.scr_list.specs.Rounds.{IsRound};
 ghost use Rattle.scr_list.specs.RoundLists.{IsRounds};
-ghost use Rattle.scr_sheet.specs.declared.fault.Fault.TheVariants.{NoMemory};
-ghost use Rattle.scr_sheet.specs.Sheet.{settings_of, one_part, round_part, round_parts};
-ghost use Rattle.scr_slots.specs.Tables.{HasTables};
-ghost use Rattle.scr_sheet.specs.Outcome.{EndsCommand, EndsMaking, EndsParts, EndsTables, EndsUnmade, LacksTables};
-ghost use Rattle.scr_sheet.specs.Making.{IsRoundMade};
 ghost use Rattle.scr_command.specs.declared.command.Command.TheVariants.{Sheet};
 ghost use Rattle.scr_command.specs.Command.{usual_options};
+ghost use Rattle.scr_slots.specs.Tables.{HasTables};
+ghost use Rattle.scr_sheet.specs.declared.fault.Fault.TheVariants.{NoMemory};
+ghost use Rattle.scr_sheet.specs.Sheet.{settings_of, one_part, round_part, round_parts};
+ghost use Rattle.scr_sheet.specs.Outcome.{EndsCommand, EndsMaking, EndsParts, EndsTables, EndsUnmade, LacksTables};
+ghost use Rattle.scr_sheet.specs.Making.{IsRoundMade};
 
 use crate::fault::Fault;
-use crate::making::{RoundFault, make_round, settings};
+use crate::making::{Making, RoundFault};
 use scr_command::Options;
 use scr_list::{Round, read_rounds};
 use scr_notation::{Event, print};
 use scr_outside::{Sink, Source, write_line};
 use scr_round::{RoundResult, write_round};
-use scr_slots::{Tables, laws, slot_scramble, write_tables_of};
+use scr_slots::{Tables, laws, slot_answer, write_tables_of};
 use scr_words::Seed;
 use std::alloc::Global;
 
-/// Reads the round list, and makes and writes its rounds.
+/// Reads the round list, builds the tables of its events, and makes and writes its rounds.
 pub(crate) fn write_sheet<S: Source, O: Sink>(
     alloc: Global,
     seed: &Seed,
@@ -32,7 +33,7 @@ pub(crate) fn write_sheet<S: Source, O: Sink>(
     out: &mut O,
 ) -> Result<(), Fault>
     requires { options.now.attempts ≤ 1000000 }
-    ensures { EndsCommand (Sheet seed.now options.now) (change_of S.left S.faults source.old source.new)
+    ensures { EndsCommand (Sheet seed.now options.now) (intake_of S.left S.faults S.ends source.old source.new)
         (change_of O.held O.faults out.old out.new) result }
 {
     let rounds = read_rounds(source)?;
@@ -54,69 +55,56 @@ fn make_sheet<O: Sink>(
 {
     let tables = Tables::build(alloc, rounds)?;
     laws::each_drawn_fairly(&tables);
-    write_rounds(alloc, &tables, seed, options, rounds, out)
+    write_rounds(&Making::new(alloc, &tables, seed, options), rounds, out)
 }
 
 /// Makes and writes these rounds, each once all its slots have their scrambles.
-fn write_rounds<O: Sink>(
-    alloc: Global,
-    tables: &Tables,
-    seed: &Seed,
-    options: &Options,
-    rounds: &[Round],
-    out: &mut O,
-) -> Result<(), Fault>
-    requires tables { tables.now ≡ map (λ round. round.event) rounds.now }
+fn write_rounds<O: Sink>(making: &Making<'_>, rounds: &[Round], out: &mut O) -> Result<(), Fault>
+    requires tables { All (λ round. Has making.now.tables.now round.event) rounds.now }
     requires rounds { IsRounds rounds.now }
-    requires attempts { options.now.attempts ≤ 1000000 }
-    ensures { EndsParts (settings_of seed.now options.now) 0 (round_parts 0 rounds.now)
+    requires attempts { making.now.settings.attempts ≤ 1000000 }
+    ensures { EndsParts making.now.settings 0 (round_parts 0 rounds.now)
         (change_of O.held O.faults out.old out.new) result }
 {
     for (index, round) in rounds.iter().enumerate() {
-        write_one_round(alloc, tables, seed, options, index as u32, round, out)?;
+        write_one_round(making, index as u32, round, out)?;
     }
     Ok(())
 }
 
 /// Makes a round, and writes it.
 fn write_one_round<O: Sink>(
-    alloc: Global,
-    tables: &Tables,
-    seed: &Seed,
-    options: &Options,
+    making: &Making<'_>,
     index: u32,
     round: &Round,
     out: &mut O,
 ) -> Result<(), Fault>
-    requires tables { Contains tables.now round.now.event }
+    requires tables { Has making.now.tables.now round.now.event }
     requires index { index < 256 }
     requires round { IsRound round.now }
-    requires attempts { options.now.attempts ≤ 1000000 }
-    ensures { EndsParts (settings_of seed.now options.now) index (round_part index round.now ∷ [])
+    requires attempts { making.now.settings.attempts ≤ 1000000 }
+    ensures { EndsParts making.now.settings index (round_part index round.now ∷ [])
         (change_of O.held O.faults out.old out.new) result }
 {
-    let made = made_round(alloc, tables, seed, index, round, options)?;
+    let made = made_round(making, index, round)?;
     write_round(out, &made)?;
     Ok(())
 }
 
 /// Makes a round, or gives what the run ends with.
 pub(crate) fn made_round(
-    alloc: Global,
-    tables: &Tables,
-    seed: &Seed,
+    making: &Making<'_>,
     index: u32,
     round: &Round,
-    options: &Options,
 ) -> Result<RoundResult, Fault>
-    requires tables { Contains tables.now round.now.event }
+    requires tables { Has making.now.tables.now round.now.event }
     requires index { index < 256 }
     requires round { IsRound round.now }
-    requires attempts { options.now.attempts ≤ 1000000 }
-    ensures { let settings = settings_of seed.now options.now in
+    requires attempts { making.now.settings.attempts ≤ 1000000 }
+    ensures { let settings = making.now.settings in
         MatchResult result (IsRoundMade settings index round.now) (EndsUnmade settings index round.now) }
 {
-    match make_round(alloc, tables, seed, index, round, options) {
+    match making.round(index, round) {
         Ok(made) => Ok(made),
         Err(RoundFault::Limit { slot, words }) => Err(Fault::DrawLimit {
             round: index + 1,
@@ -140,35 +128,32 @@ pub(crate) fn write_one<O: Sink>(
 {
     let tables = Tables::of_event(alloc, event)?;
     laws::each_drawn_fairly(&tables);
-    write_one_line(&tables, event, seed, out)
+    write_one_line(
+        &Making::new(alloc, &tables, seed, &Options::default()),
+        event,
+        out,
+    )
 }
 
 /// The same, where the event's tables are built.
-fn write_one_line<O: Sink>(
-    tables: &Tables,
-    event: Event,
-    seed: &Seed,
-    out: &mut O,
-) -> Result<(), Fault>
-    requires tables { Contains tables.now event }
-    ensures ends { EndsParts (settings_of seed.now usual_options) 0 (one_part event ∷ [])
+fn write_one_line<O: Sink>(making: &Making<'_>, event: Event, out: &mut O) -> Result<(), Fault>
+    requires tables { Has making.now.tables.now event }
+    requires attempts { making.now.settings.attempts ≡ 1000 }
+    ensures ends { EndsParts making.now.settings 0 (one_part event ∷ [])
         (change_of O.held O.faults out.old out.new) result }
     ensures memory { result ≢ Err NoMemory }
 {
-    let settings = settings(seed, &Options::default());
-    let scramble = match slot_scramble(tables, event, &settings, 0, 0) {
-        Ok(scramble) => scramble,
-        Err(limit) => {
-            let words = limit.words;
-            return Err(Fault::DrawLimit {
-                round: 1,
-                slot: 1,
-                words,
-            });
+    match slot_answer(making.tables, event, &making.settings, 0, 0) {
+        Some(scramble) => {
+            write_line(out, "", print(&scramble).as_str())?;
+            Ok(())
         }
-    };
-    write_line(out, "", print(&scramble).as_str())?;
-    Ok(())
+        None => Err(Fault::DrawLimit {
+            round: 1,
+            slot: 1,
+            words: 3 * making.settings.attempts,
+        }),
+    }
 }
 
 /// Writes how many positions the tables of an event have at each distance.

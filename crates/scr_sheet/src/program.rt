@@ -1,8 +1,9 @@
 //! The top call.
 
-ghost use Rattle.scr_outside.specs.Change.{change_of};
+ghost use Rattle.scr_outside.specs.Change.{change_of, intake_of};
 ghost use Rattle.scr_command.specs.Words.{texts};
 ghost use Rattle.scr_sheet.specs.Outcome.{IsRun, IsPerformed, Tells};
+ghost use Rattle.scr_sheet.specs.Headline.{IsFairlyWritten, AsksForScrambles};
 
 use crate::fault::Fault;
 use crate::load::write_load;
@@ -42,8 +43,11 @@ pub fn run<'w, S: Source, O: Sink, E: Sink>(
     // What `source` gave, what `out` and `err` gained, and the status, are those of an end that the definitions allow;
     // and wherever scrambles are made, each of their rounds is drawn fairly, and each scramble gives its state within
     // its bound; of random moves each step is fair.
-    ensures whole { IsRun (texts words.now) result (change_of S.left S.faults source.old source.new)
+    ensures whole { IsRun (texts words.now) result (intake_of S.left S.faults S.ends source.old source.new)
         (change_of O.held O.faults out.old out.new) (change_of E.held E.faults err.old err.new) }
+    // Of this, what speaks of fairness and of play alone: whatever is written of scrambles is the text of rounds that are
+    // drawn fairly, and each of their scrambles gives the state that was drawn, within its puzzle's bound.
+    ensures headline { AsksForScrambles (texts words.now) → IsFairlyWritten (change_of O.held O.faults out.old out.new) }
 {
     let ended = perform(alloc, words, source, out);
     tell(err, ended);
@@ -57,7 +61,7 @@ fn perform<S: Source, O: Sink>(
     source: &mut S,
     out: &mut O,
 ) -> Result<(), Fault>
-    ensures { IsPerformed (texts words.now) (change_of S.left S.faults source.old source.new)
+    ensures { IsPerformed (texts words.now) (intake_of S.left S.faults S.ends source.old source.new)
         (change_of O.held O.faults out.old out.new) result }
 {
     match read_command(alloc, words)? {

@@ -1,105 +1,153 @@
--- The one table of an event among the tables of events, and why it isn't built, as a cause for a list of events.
-use Rattle.std.proofs.Common.{◌≡◌, zero, suc, List, [], ◌∷◌, ◌++◌, length, inl, inr, Option, Some, None, refl, sym, ap, ◌∙◌, subst, arith, lit<}
-use Rattle.std.specs.Prelude.{Any, Contains, IsSome, IfSome}
-use Rattle.std.proofs.lemmas.Option.{same_Some}
+-- What the events of a list have to do with the lines of their tables, family by family.
+use Rattle.std.proofs.Common.{◌≡◌, ℕ, zero, suc, Bool, true, false, ◌||◌, List, [], ◌∷◌, Option, Some, refl, ap, ◌∙◌, sym, subst, arith, if◌then◌else◌, inl, inr, map, take, length, get_or, ◌+◌, ◌<◌, ◌++◌, ◌↔◌, ◌⊎◌, ◌≢◌}
+use Rattle.std.proofs.Math.Seq.{take-length}
+use Rattle.std.proofs.lemmas.List.{take_more, map-append, length-map}
+use Rattle.std.proofs.Math.ListN.{get_or-map}
+use Rattle.std.proofs.lemmas.List.Elements.{All-nil, All-map, Contains-append_left, Contains-push, Contains-push_cases}
+use Rattle.std.proofs.lemmas.List.Folds.{list_any_none, list_any_at}
+use Rattle.std.specs.Prelude.{All, Contains, IsSome, IsTrue}
+use Rattle.std.specs.List.{list_any}
+use Rattle.std.specs.Option.{option_to_list}
 use Rattle.scr_notation.specs.declared.event.Event.{Event}
-use Rattle.scr_notation.specs.declared.event.Event.TheVariants.{C222, C333, Oh333, C555, C666, C777, Clock, Minx, Pyram, Skewb, Sq1}
-use Rattle.scr_table.specs.declared.fault.BuildFault.{BuildFault}
-use Rattle.scr_table.specs.declared.fault.BuildFault.TheVariants.{NoMemory, Gap}
-use Rattle.scr_table.specs.Causes.{IsCause, IsCauseOf}
-use Rattle.scr_table.specs.Lines.{TableLine, AreTablesOf}
-use Rattle.scr_small.specs.Puzzles.{corners_line, pyramid_line, skewb_line}
-use Rattle.scr_small.specs.Tables.{small_line, BuiltTable, IsBuilt}
-use Rattle.scr_sq1solve.specs.Tables.{sq1_lines}
-use Rattle.scr_slots.specs.Events.{tables_of}
-use Rattle.scr_slots.specs.Held.{HasCubes}
-use Rattle.scr_slots.specs.Tables.{IsBuildCause}
+use Rattle.scr_notation.specs.EventSets.{Has}
+use Rattle.scr_list.specs.declared.round.Round.{Round}
+use Rattle.scr_notation.specs.declared.event.Family.{Family}
+use Rattle.scr_notation.specs.declared.event.Family.TheVariants.{Cube222, Cube333, Pyraminx, Skewb, Square1}
+use Rattle.scr_notation.specs.Event.{family_of}
+use Rattle.scr_table.specs.Lines.{AreTablesOf, HasNoGap}
+use Rattle.scr_small.specs.Tables.{BuiltTable, IsBuilt, family_line, small_line, small_lines}
+use Rattle.scr_slots.specs.Events.{lines_of}
+use Rattle.scr_slots.specs.Held.{HoldsTables}
+use Rattle.scr_slots.specs.Tables.{is_family, asks_for, lines_asked, lines_for}
 
--- a list with an element isn't empty
-some_element : {X : Type 0} (xs : List X) (x : X) → Contains xs x → xs ≡ [] → ⊥
-some_element xs x there empty =
-    let none : length xs ≡ 0 = ap length empty in
-    omega (arith, there.1)
+-- ---- which families are asked for
 
--- the cause of one of the event's tables
-pub IsBuildCause-line : (events : List Event) (event : Event) → Contains events event → (line : TableLine) → Contains (tables_of event) line
-    → (fault : BuildFault) → IsCause line.name line.coordinate line.bound fault → IsBuildCause events fault
-IsBuildCause-line events event asked line listed NoMemory cause = record {
-  event = event;
-  asked = asked;
-  has = some_element (tables_of event) line listed;
-}
-IsBuildCause-line events event asked line listed (Gap name index) cause = record {
-  event = event;
-  asked = asked;
-  line = line;
-  listed = listed;
-  named = sym cause.0;
-  gap = cause.1;
-}
+is_family-same : (family : Family) → IsTrue (is_family family (Some family))
+is_family-same Cube222 = refl
+is_family-same Cube333 = refl
+is_family-same Pyraminx = refl
+is_family-same Skewb = refl
+is_family-same Square1 = refl
 
--- the table of an event that one table solves is its one table
-pub tables_of-small : (event : Event) (line : TableLine) → small_line event ≡ Some line → tables_of event ≡ line ∷ []
-unfolding tables_of
-tables_of-small C222 line e = ap (λ l. l ∷ []) (same_Some corners_line line e)
-tables_of-small C333 line e = absurd (cc)
-tables_of-small Oh333 line e = absurd (cc)
-tables_of-small C555 line e = absurd (cc)
-tables_of-small C666 line e = absurd (cc)
-tables_of-small C777 line e = absurd (cc)
-tables_of-small Clock line e = absurd (cc)
-tables_of-small Minx line e = absurd (cc)
-tables_of-small Pyram line e = ap (λ l. l ∷ []) (same_Some pyramid_line line e)
-tables_of-small Skewb line e = ap (λ l. l ∷ []) (same_Some skewb_line line e)
-tables_of-small Sq1 line e = absurd (cc)
+or_behind : (a b : Bool) → IsTrue b → IsTrue (a || b)
+or_behind true b h = refl
+or_behind false b h = h
 
--- so a built one is the table of its event
-pub AreTablesOf-small : (event : Event) (built : BuiltTable) → built.event ≡ event → IsBuilt built → AreTablesOf (tables_of event) (built.distances ∷ [])
-AreTablesOf-small event built same b =
-    let P : List TableLine → Type 0 = λ lines. AreTablesOf lines (built.distances ∷ []) in
-    subst P (sym (tables_of-small event b.line (ap small_line (sym same) ∙ b.of_event))) (b.table, tt)
+-- an event asks for its family
+pub asks_for-event : (events : List Event) (family : Family) (event : Event) → Contains events event → family_of event ≡ Some family
+    → IsTrue (asks_for events family)
+asks_for-event [] family event there of_family = absurd (omega (arith, there.1))
+asks_for-event (first ∷ events) family event (zero, inside, is) of_family =
+    let same : family_of first ≡ Some family = ap family_of is ∙ of_family in
+    ap (λ b. b || asks_for events family) (subst (λ f. IsTrue (is_family family f)) (sym same) (is_family-same family))
+asks_for-event (first ∷ events) family event (suc k, inside, is) of_family =
+    or_behind (is_family family (family_of first)) (asks_for events family)
+    (asks_for-event events family event (k, omega (arith, inside), is) of_family)
 
--- and its cause is one of the event's
-pub IsBuildCause-small : (events : List Event) (event : Event) → Contains events event → (fault : BuildFault)
-    → IsSome (small_line event) → IfSome (small_line event) (λ line. IsCause line.name line.coordinate line.bound fault) → IsBuildCause events fault
-IsBuildCause-small events event asked fault small cause = by_line (small_line event) refl small cause
-  where
-    by_line : (o : Option TableLine) → small_line event ≡ o → IsSome o → IfSome o (λ line. IsCause line.name line.coordinate line.bound fault)
-        → IsBuildCause events fault
-    by_line None e some c = absurd (cc)
-    by_line (Some line) e some c =
-        let P : List TableLine → Type 0 = λ lines. Contains lines line in
-        IsBuildCause-line events event asked line (subst P (sym (tables_of-small event line e)) (0, lit< tt, refl)) fault c
+-- the events of rounds
+abbrev pub event_list : List Round → List Event
+event_list = map (λ round. round.event)
 
--- ---- events with several tables
+-- none of these rounds asks for a family
+abbrev pub AsksNot : Family → Round → Type 0
+AsksNot family round = is_family family (family_of round.event) ≡ false
 
--- why one of the event's tables isn't built
-pub IsBuildCause-lines : (events : List Event) (event : Event) → Contains events event → (fault : BuildFault) → IsCauseOf (tables_of event) fault
-    → IsBuildCause events fault
-IsBuildCause-lines events event asked fault (k, line, inside, is, cause) = IsBuildCause-line events event asked line (k, inside, is) fault cause
+pub asks_for-none : (rounds : List Round) (family : Family) (n : ℕ) → n ≡ length rounds → All (AsksNot family) (take n rounds)
+    → asks_for (event_list rounds) family ≡ false
+asks_for-none rounds family n size none =
+    let whole : take n rounds ≡ rounds = ap (λ i. take i rounds) size ∙ take-length rounds in
+    list_any_none (λ (event : Event). is_family family (family_of event)) (event_list rounds)
+    (All-map (λ (event : Event). is_family family (family_of event) ≡ false) (λ (round : Round). round.event) rounds
+    (subst (All (AsksNot family)) whole none))
 
--- the 3x3x3, with two hands or with one
-pub IsBuildCause-cubes : (events : List Event) → HasCubes events → (fault : BuildFault) → IsCauseOf (tables_of C333) fault → IsBuildCause events fault
-unfolding tables_of
-IsBuildCause-cubes events (inl asked) fault cause = IsBuildCause-lines events C333 asked fault cause
-IsBuildCause-cubes events (inr asked) fault cause = IsBuildCause-lines events Oh333 asked fault cause
+-- and one does
+pub asks_for-at : (rounds : List Round) (family : Family) (i : ℕ) (d : Round) → i < length rounds
+    → is_family family (family_of (get_or rounds i d).event) ≡ true → asks_for (event_list rounds) family ≡ true
+asks_for-at rounds family i d there asks =
+    let size = length-map rounds (λ (round : Round). round.event) in
+    let asks_of : Event → Bool = λ event. is_family family (family_of event) in
+    list_any_at asks_of (event_list rounds) i d.event (omega (arith, size)) (ap asks_of (get_or-map (λ (round : Round). round.event) rounds i d) ∙ asks)
 
--- the Square-1
-pub IsBuildCause-sq1 : (events : List Event) → Contains events Sq1 → (fault : BuildFault) → IsCauseOf sq1_lines fault → IsBuildCause events fault
-unfolding tables_of
-IsBuildCause-sq1 events asked fault cause = IsBuildCause-lines events Sq1 asked fault cause
+-- ---- the set of the events of rounds
 
--- ---- one of several lists of tables
+-- one more round
+pub events-more : (rounds : List Round) (i : ℕ) (d : Round) (before after : List Bool) → i < length rounds
+    → ((event : Event) → Has before event ↔ Contains (event_list (take i rounds)) event)
+    → ((event : Event) → Has after event ↔ (Has before event ⊎ (event ≡ (get_or rounds i d).event)))
+    → (event : Event) → Has after event ↔ Contains (event_list (take (i + 1) rounds)) event
+events-more rounds i d before after there held inserted event =
+    let events = event_list (take i rounds) in
+    let next = (get_or rounds i d).event in
+    let more : event_list (take (i + 1) rounds) ≡ events ++ next ∷ [] =
+    ap event_list (take_more rounds i d there) ∙ map-append (λ (round : Round). round.event) (take i rounds) (get_or rounds i d ∷ []) in
+    let P : List Event → Type 0 = λ all. Contains all event in (
+      λ has.
+          subst P (sym more)
+          (elim ((inserted event).0 has) [
+            | inl old ↦ Contains-append_left events (next ∷ []) event ((held event).0 old)
+            | inr is ↦ subst (Contains (events ++ next ∷ [])) (sym is) (Contains-push events next)
+          ]),
+      λ among.
+          (inserted event).1
+          (elim (Contains-push_cases events next event (subst P more among)) [
+            | inl old ↦ inl ((held event).1 old)
+            | inr is ↦ inr (sym is)
+          ]),
+    )
 
-pub Any-before : {X : Type 0} (P : X → Type 0) (xs ys : List X) → Any P xs → Any P (xs ++ ys)
-Any-before P [] ys (k, x, inside, is, holds) = absurd (omega (arith, inside))
-Any-before P (x ∷ xs) ys (zero, y, inside, is, holds) = (0, y, omega arith, is, holds)
-Any-before P (x ∷ xs) ys (suc k, y, inside, is, holds) =
-    let there = Any-before P xs ys (k, y, omega (arith, inside), is, holds) in
-    let below = there.2 in (suc there.0, there.1, omega (arith, below), there.3, there.4)
+-- all rounds
+pub events-all : (rounds : List Round) (n : ℕ) (set : List Bool) → n ≡ length rounds
+    → ((event : Event) → Has set event ↔ Contains (event_list (take n rounds)) event)
+    → (event : Event) → Has set event ↔ Contains (event_list rounds) event
+events-all rounds n set size held =
+    let whole : take n rounds ≡ rounds = ap (λ i. take i rounds) size ∙ take-length rounds in
+    let P : List Round → Type 0 = λ all. (event : Event) → Has set event ↔ Contains (event_list all) event in
+    subst P whole held
 
-pub Any-behind : {X : Type 0} (P : X → Type 0) (xs ys : List X) → Any P ys → Any P (xs ++ ys)
-Any-behind P [] ys there = there
-Any-behind P (x ∷ xs) ys there =
-    let more = Any-behind P xs ys there in
-    let below = more.2 in (suc more.0, more.1, omega (arith, below), more.3, more.4)
+-- where a set has the events that ask for a family, its tables are there that are built where one asks
+pub HoldsTables-asked : {Built : Type 0} (events : List Event) (set : List Bool) (family : Family) (tables : Option Built)
+    → ((event : Event) → Has set event ↔ Contains events event) → (IsTrue (asks_for events family) → IsSome tables) → HoldsTables set family tables
+HoldsTables-asked events set family tables same built has =
+    built (asks_for-event events family has.event ((same has.event).0 has.has) has.of_family)
+
+-- ---- the lines of the families that are asked for
+
+pub lines_asked-of : (events : List Event) (family : Family) → IsTrue (asks_for events family) → lines_asked events family ≡ lines_of family
+lines_asked-of events family asked = ap (λ b. if b then lines_of family else []) asked
+
+pub no_gaps-unasked : (events : List Event) (family : Family) → asks_for events family ≡ false → All HasNoGap (lines_asked events family)
+no_gaps-unasked events family unasked =
+    let none : lines_asked events family ≡ [] = ap (λ b. if b then lines_of family else []) unasked in
+    subst (All HasNoGap) (sym none) (All-nil HasNoGap)
+
+small_lines-of : (family : Family) → IsSome (family_line (Some family)) → option_to_list (family_line (Some family)) ≡ lines_of family
+unfolding lines_of
+small_lines-of Cube222 some = refl
+small_lines-of Cube333 some = let none : ⊥ = cc in absurd none
+small_lines-of Pyraminx some = refl
+small_lines-of Skewb some = refl
+small_lines-of Square1 some = let none : ⊥ = cc in absurd none
+
+-- those of a family that one table solves
+pub lines_asked-small : (events : List Event) (family : Family) (event : Event) → IsSome (small_line event) → family_of event ≡ Some family
+    → IsTrue (asks_for events family) → lines_asked events family ≡ small_lines event
+lines_asked-small events family event some of_family asked =
+    lines_asked-of events family asked ∙ sym (small_lines-of family (subst (λ f. IsSome (family_line f)) of_family some))
+    ∙ ap (λ f. option_to_list (family_line f)) (sym of_family)
+
+-- the one table of a family is that of its lines
+pub small-are : (family : Family) (built : BuiltTable) → IsSome (family_line (Some family)) → family_of built.event ≡ Some family → IsBuilt built
+    → AreTablesOf (lines_of family) (built.distances ∷ [])
+small-are family built some of_family is =
+    let line : is.line ∷ [] ≡ lines_of family =
+    ap option_to_list (sym is.of_event) ∙ ap (λ f. option_to_list (family_line f)) of_family ∙ small_lines-of family some in
+    subst (λ lines. AreTablesOf lines (built.distances ∷ [])) line (is.table, tt)
+
+-- one event needs the tables of its family
+pub lines_for-one : (event : Event) (family : Family) → family_of event ≡ Some family → lines_for (event ∷ []) ≡ lines_of family
+unfolding lines_of
+lines_for-one event Cube222 is = rw is refl
+lines_for-one event Cube333 is = rw is refl
+lines_for-one event Pyraminx is = rw is refl
+lines_for-one event Skewb is = rw is refl
+lines_for-one event Square1 is = rw is refl

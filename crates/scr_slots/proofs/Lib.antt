@@ -1,3 +1,3 @@
-pub mod OneScramble
+pub mod OneAnswer
+pub mod EachEvent
 pub mod BuildCauses
-pub mod FairEvents

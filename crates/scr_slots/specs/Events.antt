@@ -1,21 +1,23 @@
--- What each event is: the one place that says by event what a slot draws, what its scramble is, and which tables it
--- needs.
+-- What each event is: the one place that says by event what a slot draws, what its scramble is and what is promised of it;
+-- and which tables its family needs.
 use Rattle.std.specs.Prelude.{ℕ, ◌≤◌, List, [], ◌∷◌, ◌++◌, length, IsTrue, is_some}
 use Rattle.scr_notation.specs.declared.event.Event.{Event}
 use Rattle.scr_notation.specs.declared.event.Event.TheVariants.{C222, C333, Oh333, C555, C666, C777, Clock, Minx, Pyram, Skewb, Sq1}
-use Rattle.scr_table.specs.Lines.{TableLine}
-use Rattle.scr_play.specs.Play.{play}
+use Rattle.scr_notation.specs.declared.event.Family.{Family}
+use Rattle.scr_notation.specs.declared.event.Family.TheVariants as family
 use Rattle.scr_notation.specs.declared.turn.Turn.{Turn}
+use Rattle.scr_play.specs.Play.{play}
+use Rattle.scr_table.specs.Lines.{TableLine}
 use Rattle.scr_orbit.specs.Orbits.{Orbit}
-use Rattle.scr_turning.specs.PowerPuzzles.{after_letter, power_puzzle}
+use Rattle.scr_turning.specs.PowerPuzzles.{PowerPuzzle, after_letter, power_puzzle}
 use Rattle.scr_cube.specs.Cube222.{numbered_222, powers_222}
-use Rattle.scr_cube.specs.Cube333.{CubeState, cube_numbered, cube_powers, solved_cube}
+use Rattle.scr_cube.specs.Cube333.{CubeState, cube_numbered, cube_powers}
 use Rattle.scr_stages.specs.Tables.{stage_lines}
 use Rattle.scr_twophase.specs.TwoParts.{two_parts, IsScramble333}
 use Rattle.scr_twophase.specs.Tables.{prune_lines}
-use Rattle.scr_tetra.specs.Pyraminx.{PyramState, pyram_powers, solved_pyram, numbered_pyram}
+use Rattle.scr_tetra.specs.Pyraminx.{PyramState, pyram_powers, numbered_pyram}
 use Rattle.scr_tetra.specs.Skewb.{SkewbState, skewb_numbered, skewb_powers}
-use Rattle.scr_small.specs.NumberedPuzzles.{NumberedPuzzle, IsScrambleOf}
+use Rattle.scr_small.specs.NumberedPuzzles.{IsScrambleOf}
 use Rattle.scr_small.specs.Puzzles.{numbered_puzzle_222, numbered_puzzle_skewb, corners_line, pyramid_line, skewb_line, IsScramblePyram}
 use Rattle.scr_sq1.specs.Units.{Sq1State, solved_sq1, sq1_after, sq1_puzzle}
 use Rattle.scr_sq1.specs.Numbers.{sq1_numbered}
@@ -30,74 +32,93 @@ use Rattle.scr_bigs.specs.BigCubes.{BigCube, cube_555, cube_666, cube_777}
 use Rattle.scr_bigs.specs.CubeMoves.{cube_moves}
 use Rattle.scr_bigs.specs.Megaminx.{megaminx_moves}
 use Rattle.scr_bigs.specs.Fairness.{AreFairTurns, AreFairBits}
-use Rattle.scr_slots.specs.Slots.{ScrambleRule, Scrambling, ByMoves, by_state, at_most}
+use Rattle.scr_slots.specs.declared.settings.Effort.{Effort}
+use Rattle.scr_slots.specs.Shown.{DrawnPuzzle, drawn_puzzle, RandomMoves, Shown, States, Moves}
+use Rattle.scr_slots.specs.Slots.{Scrambling, ByMoves, by_state}
 
--- a puzzle that one table solves: the first word that solves the state, taken back, whatever the tries
-abbrev pub small_rule : {S : Type 0} → NumberedPuzzle S Turn → ℕ → ScrambleRule S
-small_rule p most = record { played = play p.after p.solved; IsShort = at_most most; IsScramble = λ tries. IsScrambleOf p }
+-- ---- what is promised
 
-abbrev pub rule_222 : ScrambleRule Orbit
-rule_222 = small_rule numbered_puzzle_222 11
+-- at most so many turns
+abbrev pub at_most : ℕ → List Turn → Type 0
+at_most most turns = length turns ≤ most
 
-abbrev pub skewb_rule : ScrambleRule SkewbState
-skewb_rule = small_rule numbered_puzzle_skewb 11
+-- a puzzle of pieces, with scrambles of at most so many turns
+abbrev pub drawn_by_powers : {S R : Type 0} → PowerPuzzle S R → ℕ → DrawnPuzzle S
+drawn_by_powers p most = drawn_puzzle (power_puzzle p) (play (after_letter p) p.solved) (at_most most)
 
--- the Pyraminx: so without its tips, and then the tips
-abbrev pub pyram_rule : ScrambleRule PyramState
-pyram_rule = record { played = play (after_letter pyram_powers) solved_pyram; IsShort = at_most 15; IsScramble = λ tries. IsScramblePyram }
+abbrev pub drawn_222 : DrawnPuzzle Orbit
+drawn_222 = drawn_by_powers powers_222 11
 
--- the 3x3x3: its two parts, where one of so many first parts has a second, in at most 22 turns; and else the words of
--- the four stages, tidied, in at most 52; taken back
-abbrev pub rule_333 : ScrambleRule CubeState
-rule_333 = record {
-  played = play (after_letter cube_powers) solved_cube;
-  IsShort = λ tries cube turns. (length turns ≤ 52) × (IsTrue (is_some (two_parts cube tries)) → length turns ≤ 22);
-  IsScramble = IsScramble333;
-}
+abbrev pub drawn_333 : DrawnPuzzle CubeState
+drawn_333 = drawn_by_powers cube_powers 52
 
--- Clock: fourteen amounts and `y2`, whatever the tries
-abbrev pub clock_rule : ScrambleRule (List ℕ)
-clock_rule = record {
-  played = clock_after solved;
-  IsShort = at_most 15;
-  IsScramble = λ tries dials turns. IsClockScramble dials turns;
-}
+abbrev pub drawn_pyram : DrawnPuzzle PyramState
+drawn_pyram = drawn_by_powers pyram_powers 15
 
--- the Square-1: the words of the three stages, tidied and taken back, whatever the tries; at most 76 twists
-abbrev pub sq1_rule : ScrambleRule Sq1State
-sq1_rule = record { played = play sq1_after solved_sq1; IsShort = λ tries state. IsWithinBounds; IsScramble = λ tries. IsScrambleSq1 }
+abbrev pub drawn_skewb : DrawnPuzzle SkewbState
+drawn_skewb = drawn_by_powers skewb_powers 11
+
+-- Clock: fourteen amounts and `y2`
+abbrev pub drawn_clock : DrawnPuzzle (List ℕ)
+drawn_clock = drawn_puzzle clock_puzzle (clock_after solved) (at_most 15)
+
+-- the Square-1: at most 76 twists, and 153 turns
+abbrev pub drawn_sq1 : DrawnPuzzle Sq1State
+drawn_sq1 = drawn_puzzle sq1_puzzle (play sq1_after solved_sq1) IsWithinBounds
 
 -- a big cube: each turn is one of those that may follow the one before
-abbrev pub by_cube_moves : BigCube → Scrambling
-by_cube_moves cube = ByMoves (record { moves = cube_moves cube; AreFair = AreFairTurns cube })
+abbrev pub moves_of : BigCube → RandomMoves
+moves_of cube = record { moves = cube_moves cube; AreFair = AreFairTurns cube }
 
 -- a Megaminx: the seventy bits of one attempt, whatever the attempts
-abbrev pub by_megaminx_moves : Scrambling
-by_megaminx_moves = ByMoves (record { moves = λ attempts. megaminx_moves; AreFair = AreFairBits })
+abbrev pub moves_minx : RandomMoves
+moves_minx = record { moves = λ attempts. megaminx_moves; AreFair = AreFairBits }
 
+unfoldable pub shown_of : Event → Shown
+shown_of C222 = States Orbit drawn_222
+shown_of C333 = States CubeState drawn_333
+shown_of Oh333 = States CubeState drawn_333
+shown_of C555 = Moves (moves_of cube_555)
+shown_of C666 = Moves (moves_of cube_666)
+shown_of C777 = Moves (moves_of cube_777)
+shown_of Clock = States (List ℕ) drawn_clock
+shown_of Minx = Moves moves_minx
+shown_of Pyram = States PyramState drawn_pyram
+shown_of Skewb = States SkewbState drawn_skewb
+shown_of Sq1 = States Sq1State drawn_sq1
+
+-- ---- which scramble a state has
+
+-- the 3x3x3: its two parts, where one of so many first parts has a second, in at most 22 turns; and else the words of the
+-- four stages, tidied; taken back
+abbrev pub IsScramble333Within : Effort → CubeState → List Turn → Type 0
+IsScramble333Within effort cube turns =
+    IsScramble333 effort.tries cube turns × (IsTrue (is_some (two_parts cube effort.tries)) → length turns ≤ 22)
+
+-- with two hands or with one
+abbrev pub scrambling_333 : Scrambling
+scrambling_333 = by_state C333 drawn_333 cube_numbered IsScramble333Within
+
+-- Other puzzles have one scramble, whatever the effort.
 unfoldable pub scrambling_of : Event → Scrambling
-scrambling_of C222 = by_state numbered_222 (power_puzzle powers_222) rule_222
-scrambling_of C333 = by_state cube_numbered (power_puzzle cube_powers) rule_333
-scrambling_of Oh333 = by_state cube_numbered (power_puzzle cube_powers) rule_333
-scrambling_of C555 = by_cube_moves cube_555
-scrambling_of C666 = by_cube_moves cube_666
-scrambling_of C777 = by_cube_moves cube_777
-scrambling_of Clock = by_state clock_numbered clock_puzzle clock_rule
-scrambling_of Minx = by_megaminx_moves
-scrambling_of Pyram = by_state numbered_pyram (power_puzzle pyram_powers) pyram_rule
-scrambling_of Skewb = by_state skewb_numbered (power_puzzle skewb_powers) skewb_rule
-scrambling_of Sq1 = by_state sq1_numbered sq1_puzzle sq1_rule
+scrambling_of C222 = by_state C222 drawn_222 numbered_222 (λ effort. IsScrambleOf numbered_puzzle_222)
+scrambling_of C333 = scrambling_333
+scrambling_of Oh333 = scrambling_333
+scrambling_of C555 = ByMoves C555 (moves_of cube_555)
+scrambling_of C666 = ByMoves C666 (moves_of cube_666)
+scrambling_of C777 = ByMoves C777 (moves_of cube_777)
+scrambling_of Clock = by_state Clock drawn_clock clock_numbered (λ effort. IsClockScramble)
+scrambling_of Minx = ByMoves Minx moves_minx
+scrambling_of Pyram = by_state Pyram drawn_pyram numbered_pyram (λ effort. IsScramblePyram)
+scrambling_of Skewb = by_state Skewb drawn_skewb skewb_numbered (λ effort. IsScrambleOf numbered_puzzle_skewb)
+scrambling_of Sq1 = by_state Sq1 drawn_sq1 sq1_numbered (λ effort. IsScrambleSq1)
 
--- the tables of an event, in the order in which they are built and printed
-unfoldable pub tables_of : Event → List TableLine
-tables_of C222 = corners_line ∷ []
-tables_of C333 = stage_lines ++ prune_lines
-tables_of Oh333 = stage_lines ++ prune_lines
-tables_of C555 = []
-tables_of C666 = []
-tables_of C777 = []
-tables_of Clock = []
-tables_of Minx = []
-tables_of Pyram = pyramid_line ∷ []
-tables_of Skewb = skewb_line ∷ []
-tables_of Sq1 = sq1_lines
+-- ---- tables
+
+-- the tables of a family, in the order in which they are built and printed
+unfoldable pub lines_of : Family → List TableLine
+lines_of family.Cube222 = corners_line ∷ []
+lines_of family.Cube333 = stage_lines ++ prune_lines
+lines_of family.Pyraminx = pyramid_line ∷ []
+lines_of family.Skewb = skewb_line ∷ []
+lines_of family.Square1 = sq1_lines

@@ -1,17 +1,21 @@
 -- The tables that a list's events need are there.
-use Rattle.std.specs.Prelude.{◌≡◌, ◌⊎◌, List, Contains, Option, IsSome, IsSomeAnd}
+use Rattle.std.specs.Prelude.{◌≡◌, Bool, List, Option, Some, IsSome, IfSome}
 use Rattle.scr_notation.specs.declared.event.Event.{Event}
-use Rattle.scr_notation.specs.declared.event.Event.TheVariants.{C333, Oh333}
+use Rattle.scr_notation.specs.declared.event.Family.{Family}
+use Rattle.scr_notation.specs.Event.{family_of}
+use Rattle.scr_notation.specs.EventSets.{Has}
 use Rattle.scr_small.specs.Tables.{BuiltTable}
 
--- The table of an event that one table solves is there where one of these events is it.
-abbrev pub HoldTables : Event → List Event → Option BuiltTable → Type 0
-HoldTables event events tables = Contains events event → IsSomeAnd tables (λ built. built.event ≡ event)
+-- One event of a set is of this family.
+pub record HasFamily (events : List Bool) (family : Family) : Type 0 where
+  pub event : Event
+  pub has : Has events event
+  pub of_family : family_of event ≡ Some family
 
--- One of these events is a 3x3x3, with two hands or with one.
-abbrev pub HasCubes : List Event → Type 0
-HasCubes events = Contains events C333 ⊎ Contains events Oh333
+-- Where a set has an event of this family, its tables are there.
+abbrev pub HoldsTables : {Built : Type 0} → List Bool → Family → Option Built → Type 0
+HoldsTables events family tables = HasFamily events family → IsSome tables
 
--- Where they are asked for, tables are there.
-abbrev pub HoldWhere : {Built : Type 0} → Type 0 → Option Built → Type 0
-HoldWhere Asked tables = Asked → IsSome tables
+-- and so is that of a family which one table solves; it is that of this event
+abbrev pub HoldsTable : List Bool → Family → Event → Option BuiltTable → Type 0
+HoldsTable events family event tables = HoldsTables events family tables × IfSome tables (λ built. built.event ≡ event)

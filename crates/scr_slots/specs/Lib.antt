@@ -1,3 +1,4 @@
+pub mod Shown
 pub mod Slots
 pub mod Outcomes
 pub mod Events

@@ -1,10 +1,10 @@
-//! The tables of a 3x3x3: those of its four stages, and those of the search for two parts.
+//! The tables of the 3x3x3: those of its four stages, and those of the search for two parts.
 
-ghost use Rattle.std.specs.Prelude.{map, Any, IfErr};
-ghost use Rattle.scr_table.specs.Causes.{IsCause};
-ghost use Rattle.scr_table.specs.Lines.{AreTablesOf};
-ghost use Rattle.scr_notation.specs.declared.event.Event.TheVariants.{C333};
-ghost use Rattle.scr_slots.specs.Events.{tables_of};
+ghost use Rattle.std.specs.Prelude.{All, map, IfErr, IfOk};
+ghost use Rattle.scr_table.specs.Causes.{IsCauseOf};
+ghost use Rattle.scr_table.specs.Lines.{AreTablesOf, HasNoGap};
+ghost use Rattle.scr_notation.specs.declared.event.Family.TheVariants as family;
+ghost use Rattle.scr_slots.specs.Events.{lines_of};
 
 use scr_stages::StageTables;
 use scr_table::{BuildFault, DistanceTable};
@@ -31,8 +31,10 @@ impl Drop for CubeTables {
 
 impl CubeTables {
     /// All eight, or why one isn't built.
+    #[tactic(auto, unfolding(crate::specs::Events::lines_of))]
     pub fn build(alloc: Global) -> Result<CubeTables, BuildFault>
-        ensures { IfErr result (λ fault. Any (λ line. IsCause line.name line.coordinate line.bound fault) (tables_of C333)) }
+        ensures whole { IfOk result (λ _. All HasNoGap (lines_of family.Cube333)) }
+        ensures cause { IfErr result (IsCauseOf (lines_of family.Cube333)) }
     {
         let stages = StageTables::build(alloc)?;
         let prune = PruneTables::build(alloc)?;
@@ -40,9 +42,9 @@ impl CubeTables {
     }
 
     /// All eight, in the order in which they are built.
-    #[tactic(auto, unfolding(crate::specs::Events::tables_of))]
+    #[tactic(auto, unfolding(crate::specs::Events::lines_of))]
     pub fn all(&self) -> [&DistanceTable; 8]
-        ensures { AreTablesOf (tables_of C333) (map (λ table. table.now) result) }
+        ensures { AreTablesOf (lines_of family.Cube333) (map (λ table. table.now) result) }
     {
         let [flips, slice, tetrads, halves] = self.stages.all();
         let [flipslice, twistslice, cornerslice, edgeslice] = self.prune.all();

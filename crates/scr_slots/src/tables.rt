@@ -1,95 +1,93 @@
 //! The tables of a list's events.
 
-ghost use Rattle.std.specs.Prelude.{◌≡◌, ◌≤◌, ◌↔◌, [], ◌∷◌, map, length, Contains, IfOk, IfErr, IsSome, IsSomeAnd, IsTrue};
-ghost use Rattle.scr_notation.specs.declared.event.Event.TheVariants.{Sq1};
+ghost use Rattle.std.specs.Prelude.{◌≡◌, ◌↔◌, ◌∷◌, [], All, map, Contains, IfOk, IfSome, IfErr, IsSome, IsSomeAnd, IsTrue};
+ghost use Rattle.scr_notation.specs.declared.event.Event.{Event as EventOf};
+ghost use Rattle.scr_notation.specs.declared.event.Event.TheVariants.{C222, Pyram, Skewb as EventSkewb};
+ghost use Rattle.scr_notation.specs.declared.event.Family.TheVariants as family;
+ghost use Rattle.scr_notation.specs.Event.{family_of};
+ghost use Rattle.scr_notation.specs.EventSets.{Has};
+ghost use Rattle.scr_table.specs.Causes.{IsCauseOf};
+ghost use Rattle.scr_table.specs.Lines.{HasNoGap};
 ghost use Rattle.scr_small.specs.Tables.{small_line};
-ghost use Rattle.scr_slots.specs.Held.{HasCubes, HoldTables, HoldWhere};
-ghost use Rattle.scr_slots.specs.Tables.{IsBuildCause};
+ghost use Rattle.scr_slots.specs.Held.{HasFamily, HoldsTable, HoldsTables};
+ghost use Rattle.scr_slots.specs.Tables.{IsBuildCause, asks_for, is_family, lines_asked};
 
 use crate::cube_tables::CubeTables;
-use arrayvec::ArrayVec;
 use scr_list::Round;
-use scr_notation::Event;
+use scr_notation::{Event, EventSet, Family};
 use scr_small::SmallTables;
 use scr_sq1solve::Sq1Tables;
 use scr_table::BuildFault;
 use std::alloc::Global;
 use std::marker::Model;
 
-/// The most rounds of a list.
-const MOST_ROUNDS: usize = 64;
-
 /// The tables of the events of a list, each built once, and of no others.
 pub struct Tables {
-    rounds: ArrayVec<Round, MOST_ROUNDS>,
+    events: EventSet,
     of_222: Option<SmallTables>,
+    of_333: Option<CubeTables>,
     of_pyram: Option<SmallTables>,
     of_skewb: Option<SmallTables>,
-    of_cubes: Option<CubeTables>,
     of_sq1: Option<Sq1Tables>,
 }
 
-// Clauses see the events for which they are built.
+// Clauses see the set of the events for which they are built.
 impl Model for Tables {
-    ghost use Rattle.std.specs.Prelude.{List, map, Contains};
-    ghost use Rattle.scr_notation.specs.declared.event.Event.{Event};
+    ghost use Rattle.std.specs.Prelude.{List, Bool};
 
-    ghost Value = { List Event };
+    ghost Value = { List Bool };
 
-    ghost use Rattle.scr_notation.specs.declared.event.Event.TheVariants.{C222, Pyram, Skewb, Sq1};
-    ghost use Rattle.scr_slots.specs.Held.{HasCubes, HoldTables, HoldWhere};
+    ghost use Rattle.scr_notation.specs.declared.event.Event.TheVariants.{C222, Pyram, Skewb};
+    ghost use Rattle.scr_notation.specs.declared.event.Family.TheVariants as family;
+    ghost use Rattle.scr_slots.specs.Held.{HoldsTable, HoldsTables};
 
-    ghost view = { λ tables. map (λ round. round.event) tables.rounds.items };
+    ghost view = { λ tables. tables.events };
 
-    ghost invariant = { λ tables. let events = map (λ round. round.event) tables.rounds.items in
-        HoldTables C222 events tables.of_222 × HoldTables Pyram events tables.of_pyram × HoldTables Skewb events tables.of_skewb
-        × HoldWhere (HasCubes events) tables.of_cubes × HoldWhere (Contains events Sq1) tables.of_sq1 };
+    ghost invariant = { λ tables. HoldsTable tables.events family.Cube222 C222 tables.of_222
+        × HoldsTables tables.events family.Cube333 tables.of_333 × HoldsTable tables.events family.Pyraminx Pyram tables.of_pyram
+        × HoldsTable tables.events family.Skewb Skewb tables.of_skewb × HoldsTables tables.events family.Square1 tables.of_sq1 };
 }
 
 // A call wherever tables are let go, in place of all that lets go of their parts.
 impl Drop for Tables {
     fn drop(self) {
         let Tables {
-            rounds: _,
+            events: _,
             of_222: _,
+            of_333: _,
             of_pyram: _,
             of_skewb: _,
-            of_cubes: _,
             of_sq1: _,
         } = self;
     }
 }
 
 impl Tables {
-    /// Builds the tables of the events of these rounds, of which there are at most 64. A gap comes only where one of
-    /// their tables has one; memory can be wanting only where one of them needs a table.
+    /// Builds the tables of the events of these rounds, each family's once, in the order of the families. A gap is that of
+    /// the first table that has one; memory can be wanting only where one of the events needs a table.
     pub fn build(alloc: Global, rounds: &[Round]) -> Result<Tables, BuildFault>
-        requires few { length rounds.now ≤ 64 }
-        ensures events { IfOk result (λ tables. tables ≡ map (λ round. round.event) rounds.now) }
+        ensures events { IfOk result (λ tables.
+            (event : EventOf) → Has tables event ↔ Contains (map (λ round. round.event) rounds.now) event) }
         ensures cause { IfErr result (IsBuildCause (map (λ round. round.event) rounds.now)) }
     {
-        let mut asked = ArrayVec::new();
-        for round in rounds {
-            asked.push(*round);
-        }
-        let of_222 = small_tables(alloc, rounds, Event::C222)?;
-        let of_pyram = small_tables(alloc, rounds, Event::Pyram)?;
-        let of_skewb = small_tables(alloc, rounds, Event::Skewb)?;
-        let of_cubes = cube_tables(alloc, rounds)?;
+        let of_222 = small_tables(alloc, rounds, Family::Cube222, Event::C222)?;
+        let of_333 = cube_tables(alloc, rounds)?;
+        let of_pyram = small_tables(alloc, rounds, Family::Pyraminx, Event::Pyram)?;
+        let of_skewb = small_tables(alloc, rounds, Family::Skewb, Event::Skewb)?;
         let of_sq1 = sq1_tables(alloc, rounds)?;
         Ok(Tables {
-            rounds: asked,
+            events: events_of(rounds),
             of_222,
+            of_333,
             of_pyram,
             of_skewb,
-            of_cubes,
             of_sq1,
         })
     }
 
     /// The tables of one event.
     pub fn of_event(alloc: Global, event: Event) -> Result<Tables, BuildFault>
-        ensures events { IfOk result (λ tables. tables ≡ event ∷ []) }
+        ensures event { IfOk result (λ tables. Has tables event) }
         ensures cause { IfErr result (IsBuildCause (event ∷ [])) }
     {
         Tables::build(
@@ -104,80 +102,103 @@ impl Tables {
 
     /// Whether the list has a round of this event.
     pub fn has(&self, event: Event) -> bool
-        ensures { IsTrue result ↔ Contains self.now event }
+        ensures { IsTrue result ↔ Has self.now event }
     {
-        has_round(self.rounds.as_slice(), event)
+        self.events.contains(event)
     }
 
-    /// The table of an event that one table solves, where the list has a round of it.
-    pub(crate) fn of_small(&self, event: Event) -> &SmallTables
-        requires listed { Contains self.now event }
-        requires small { IsSome (small_line event) }
-        ensures { result.now.event ≡ event }
+    /// The table of the 2x2x2, where the list has a round of it.
+    pub(crate) fn of_222(&self) -> Option<&SmallTables>
+        ensures there { HasFamily self.now family.Cube222 → IsSome result }
+        ensures event { IfSome result (λ tables. tables.now.event ≡ C222) }
     {
-        match event {
-            Event::C222 => held(&self.of_222, event),
-            Event::Pyram => held(&self.of_pyram, event),
-            Event::Skewb => held(&self.of_skewb, event),
-            _ => unreachable!(),
-        }
+        self.of_222.as_ref()
     }
 
-    /// The tables of a 3x3x3, where the list has a round of one.
-    pub(crate) fn of_cubes(&self) -> &CubeTables
-        requires { HasCubes self.now }
+    /// The tables of the 3x3x3, where the list has a round of one.
+    pub(crate) fn of_333(&self) -> Option<&CubeTables>
+        ensures { HasFamily self.now family.Cube333 → IsSome result }
     {
-        match &self.of_cubes {
-            Some(tables) => tables,
-            None => unreachable!(),
-        }
+        self.of_333.as_ref()
+    }
+
+    /// The table of the Pyraminx, where the list has a round of it.
+    pub(crate) fn of_pyram(&self) -> Option<&SmallTables>
+        ensures there { HasFamily self.now family.Pyraminx → IsSome result }
+        ensures event { IfSome result (λ tables. tables.now.event ≡ Pyram) }
+    {
+        self.of_pyram.as_ref()
+    }
+
+    /// The table of the Skewb, where the list has a round of it.
+    pub(crate) fn of_skewb(&self) -> Option<&SmallTables>
+        ensures there { HasFamily self.now family.Skewb → IsSome result }
+        ensures event { IfSome result (λ tables. tables.now.event ≡ EventSkewb) }
+    {
+        self.of_skewb.as_ref()
     }
 
     /// The tables of the Square-1, where the list has a round of it.
-    pub(crate) fn of_sq1(&self) -> &Sq1Tables
-        requires { Contains self.now Sq1 }
+    pub(crate) fn of_sq1(&self) -> Option<&Sq1Tables>
+        ensures { HasFamily self.now family.Square1 → IsSome result }
     {
-        match &self.of_sq1 {
-            Some(tables) => tables,
-            None => unreachable!(),
-        }
+        self.of_sq1.as_ref()
     }
 }
 
-/// The table of this event, which is there.
-fn held(tables: &Option<SmallTables>, event: Event) -> &SmallTables
-    requires { IsSomeAnd tables.now (λ built. built.event ≡ event) }
-    ensures { result.now.event ≡ event }
+/// The events of these rounds.
+fn events_of(rounds: &[Round]) -> EventSet
+    ensures { (event : EventOf) → Has result event ↔ Contains (map (λ round. round.event) rounds.now) event }
 {
-    match tables {
-        Some(tables) => tables,
-        None => unreachable!(),
+    let mut events = EventSet::new();
+    for round in rounds {
+        events.insert(round.event);
     }
+    events
 }
 
-/// Whether one of these rounds is of this event.
-fn has_round(rounds: &[Round], event: Event) -> bool
-    ensures { IsTrue result ↔ Contains (map (λ round. round.event) rounds.now) event }
+/// Whether one of these rounds is of this family.
+fn asks_for(rounds: &[Round], family: Family) -> bool
+    ensures { result ≡ asks_for (map (λ round. round.event) rounds.now) family }
 {
     for round in rounds {
-        if round.event == event {
+        if is_of(round.event, family) {
             return true;
         }
     }
     false
 }
 
-/// The table of an event that one table solves, where one of these rounds is of it.
+/// Whether an event is of this family.
+fn is_of(event: Event, family: Family) -> bool
+    ensures { result ≡ is_family family (family_of event) }
+{
+    match (family, event.family()) {
+        (Family::Cube222, Some(Family::Cube222)) => true,
+        (Family::Cube333, Some(Family::Cube333)) => true,
+        (Family::Pyraminx, Some(Family::Pyraminx)) => true,
+        (Family::Skewb, Some(Family::Skewb)) => true,
+        (Family::Square1, Some(Family::Square1)) => true,
+        _ => false,
+    }
+}
+
+/// The table of the event of a family that one table solves, where one of these rounds is of it.
 fn small_tables(
     alloc: Global,
     rounds: &[Round],
+    family: Family,
     event: Event,
 ) -> Result<Option<SmallTables>, BuildFault>
-    requires { IsSome (small_line event) }
-    ensures built { IfOk result (HoldTables event (map (λ round. round.event) rounds.now)) }
-    ensures cause { IfErr result (IsBuildCause (map (λ round. round.event) rounds.now)) }
+    requires small { IsSome (small_line event) }
+    requires of_family { family_of event ≡ Some family }
+    ensures built { let events = map (λ round. round.event) rounds.now in
+        IfOk result (λ tables. IsTrue (asks_for events family) → IsSome tables) }
+    ensures event { IfOk result (λ tables. IfSome tables (λ built. built.event ≡ event)) }
+    ensures whole { IfOk result (λ _. All HasNoGap (lines_asked (map (λ round. round.event) rounds.now) family)) }
+    ensures cause { IfErr result (IsCauseOf (lines_asked (map (λ round. round.event) rounds.now) family)) }
 {
-    if has_round(rounds, event) {
+    if asks_for(rounds, family) {
         let tables = SmallTables::build(alloc, event)?;
         Ok(Some(tables))
     } else {
@@ -185,19 +206,14 @@ fn small_tables(
     }
 }
 
-/// Whether one of these rounds is of a 3x3x3, with two hands or with one.
-fn has_cubes(rounds: &[Round]) -> bool
-    ensures { IsTrue result ↔ HasCubes (map (λ round. round.event) rounds.now) }
-{
-    has_round(rounds, Event::C333) || has_round(rounds, Event::Oh333)
-}
-
-/// The tables of a 3x3x3, where one of these rounds is of one.
+/// The tables of the 3x3x3, where one of these rounds is of one.
 fn cube_tables(alloc: Global, rounds: &[Round]) -> Result<Option<CubeTables>, BuildFault>
-    ensures built { IfOk result (HoldWhere (HasCubes (map (λ round. round.event) rounds.now))) }
-    ensures cause { IfErr result (IsBuildCause (map (λ round. round.event) rounds.now)) }
+    ensures built { let events = map (λ round. round.event) rounds.now in
+        IfOk result (λ tables. IsTrue (asks_for events family.Cube333) → IsSome tables) }
+    ensures whole { IfOk result (λ _. All HasNoGap (lines_asked (map (λ round. round.event) rounds.now) family.Cube333)) }
+    ensures cause { IfErr result (IsCauseOf (lines_asked (map (λ round. round.event) rounds.now) family.Cube333)) }
 {
-    if has_cubes(rounds) {
+    if asks_for(rounds, Family::Cube333) {
         let tables = CubeTables::build(alloc)?;
         Ok(Some(tables))
     } else {
@@ -207,10 +223,12 @@ fn cube_tables(alloc: Global, rounds: &[Round]) -> Result<Option<CubeTables>, Bu
 
 /// The tables of the Square-1, where one of these rounds is of it.
 fn sq1_tables(alloc: Global, rounds: &[Round]) -> Result<Option<Sq1Tables>, BuildFault>
-    ensures built { IfOk result (HoldWhere (Contains (map (λ round. round.event) rounds.now) Sq1)) }
-    ensures cause { IfErr result (IsBuildCause (map (λ round. round.event) rounds.now)) }
+    ensures built { let events = map (λ round. round.event) rounds.now in
+        IfOk result (λ tables. IsTrue (asks_for events family.Square1) → IsSome tables) }
+    ensures whole { IfOk result (λ _. All HasNoGap (lines_asked (map (λ round. round.event) rounds.now) family.Square1)) }
+    ensures cause { IfErr result (IsCauseOf (lines_asked (map (λ round. round.event) rounds.now) family.Square1)) }
 {
-    if has_round(rounds, Event::Sq1) {
+    if asks_for(rounds, Family::Square1) {
         let tables = Sq1Tables::build(alloc)?;
         Ok(Some(tables))
     } else {

@@ -1,3 +1,11 @@
+pub mod TurnedByPowers
+pub mod PuzzleLaws
+pub mod PartLaws
+pub mod DigitParts
+pub mod Lawful222
+pub mod LawfulSkewb
+pub mod LawfulTetraminx
+pub mod PyramLaws
 pub mod WalkedWords
 pub mod ShownByParts
 pub mod BuiltTables

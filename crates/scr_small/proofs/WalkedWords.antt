@@ -9,7 +9,7 @@ use Rattle.scr_coord.specs.Coordinates.{Coordinate, moved, IsGoal}
 use Rattle.scr_table.proofs.StepLaws.{moved-turn}
 use Rattle.scr_small.specs.NumberedPuzzles.{NumberedPuzzle, state_coordinate, IsScrambleOf}
 use Rattle.scr_small.specs.LawfulPuzzles.{IsNumberedPuzzle}
-use Rattle.scr_small.specs.PuzzleLaws.{finds_the_same}
+use Rattle.scr_small.proofs.PuzzleLaws.{finds_the_same}
 
 -- a word that is defined is of the coordinate's turns
 pub All-turns : (c : Coordinate) (p : ℕ) (w : List ℕ) → LeadsTo (moved c) (IsGoal c) p w → All (λ t. t < c.turns) w

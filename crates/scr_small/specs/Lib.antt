@@ -1,14 +1,7 @@
 pub mod NumberedPuzzles
 pub mod LawfulPuzzles
-pub mod PuzzleLaws
 pub mod StateParts
-pub mod PartLaws
-pub mod DigitParts
 pub mod Puzzles
 pub mod Tables
 pub mod SolvedByTable
-pub mod Lawful222
-pub mod LawfulSkewb
-pub mod LawfulTetraminx
-pub mod PyramLaws
 pub mod Rows

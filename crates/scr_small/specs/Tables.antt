@@ -1,7 +1,11 @@
 -- The tables of the puzzles that one table solves.
-use Rattle.std.specs.Prelude.{◌≡◌, Option, Some, None}
+use Rattle.std.specs.Prelude.{◌≡◌, List, Option, Some, None}
+use Rattle.std.specs.Option.{option_to_list}
 use Rattle.scr_notation.specs.declared.event.Event.{Event}
-use Rattle.scr_notation.specs.declared.event.Event.TheVariants.{C222, C333, Oh333, C555, C666, C777, Clock, Minx, Pyram, Skewb, Sq1}
+use Rattle.scr_notation.specs.declared.event.Event.TheVariants.{C222, Pyram, Skewb}
+use Rattle.scr_notation.specs.declared.event.Family.{Family}
+use Rattle.scr_notation.specs.declared.event.Family.TheVariants as family
+use Rattle.scr_notation.specs.Event.{family_of}
 use Rattle.scr_table.specs.Distances.{Distances}
 use Rattle.scr_table.specs.Lines.{TableLine, IsTableOf}
 use Rattle.scr_small.specs.declared.state_table.StateTable.{StateTable}
@@ -24,19 +28,22 @@ table_skewb = record { event = Skewb; name = skewb_line.name; bound = skewb_line
 abbrev pub table_line : {S T : Type 0} → NumberedPuzzle S T → StateTable → TableLine
 table_line p table = state_line p table.name table.bound
 
--- The table of an event, where one table solves its states.
+-- The table of a family of events, where one table solves its states.
+abbrev pub family_line : Option Family → Option TableLine
+family_line None = None
+family_line (Some family.Cube222) = Some corners_line
+family_line (Some family.Cube333) = None
+family_line (Some family.Pyraminx) = Some pyramid_line
+family_line (Some family.Skewb) = Some skewb_line
+family_line (Some family.Square1) = None
+
+-- and so of an event
 abbrev pub small_line : Event → Option TableLine
-small_line C222 = Some corners_line
-small_line C333 = None
-small_line Oh333 = None
-small_line C555 = None
-small_line C666 = None
-small_line C777 = None
-small_line Clock = None
-small_line Minx = None
-small_line Pyram = Some pyramid_line
-small_line Skewb = Some skewb_line
-small_line Sq1 = None
+small_line event = family_line (family_of event)
+
+-- the lines of its tables: the one, or none
+abbrev pub small_lines : Event → List TableLine
+small_lines event = option_to_list (small_line event)
 
 -- Built tables as callers see them: whose they are, and what stands in the one table.
 pub record BuiltTable : Type 0 where

@@ -2,6 +2,7 @@
 ghost use Rattle.std.specs.Prelude.{◌≡◌, ℕ, ◌+◌, ◌/◌, ◌≤◌, ◌↔◌, List, Some, None, true, false, length, slice_index};
 ghost use Rattle.scr_play.specs.Play.{play};
 ghost use Rattle.scr_play.specs.Reach.{IsReached, Needs};
+ghost use Rattle.scr_notation.specs.declared.event.Event.TheVariants.{Pyram};
 ghost use Rattle.scr_notation.specs.declared.turn.Turn.{Turn as Letter};
 ghost use Rattle.scr_coord.specs.Coordinates.{StaysBelow};
 ghost use Rattle.scr_coord.specs.Products.{product};
@@ -18,6 +19,7 @@ ghost use Rattle.scr_small.specs.Puzzles.{numbered_puzzle_222, numbered_puzzle_s
 ghost use Rattle.scr_small.specs.Rows.{HasRow};
 
 use crate::one_table::OneTable;
+use crate::tables::SmallTables;
 
 /// Such a puzzle is a numbered one. Turns move the two parts of its states each by itself, so that the coordinates of
 /// the parts, side by side, show it.
@@ -27,7 +29,27 @@ pub fn shown_by_parts<P: OneTable>()
     ensures parts { MovesByParts P.shown P.TABLE.low P.TABLE.high }
     ensures shown { let parts = product (low_part P.shown P.TABLE.low) (high_part P.shown P.TABLE.low P.TABLE.high) in
         ShowsSame (state_coordinate P.shown) parts }
-{}
+{
+    P::is_solved_by_table();
+}
+
+/// Where its table is built, the valid states of such a puzzle are those that turns reach. The tables are those of its
+/// event.
+pub fn reached_by_table<P: OneTable>(tables: &SmallTables)
+    requires { tables.now.event ≡ P.TABLE.event }
+    ensures { (s : P.State) → P.shown.numbered.IsValid s ↔ IsReached (puzzle_of P.shown) s }
+{
+    P::is_solved_by_table();
+    let _table = tables.only();
+}
+
+/// So it is of the Pyraminx with its tips. The tables are those of pyram.
+pub fn pyram_reached_by_table(tables: &SmallTables)
+    requires { tables.now.event ≡ Pyram }
+    ensures { (s : PyramState) → IsPyram s ↔ IsReached (power_puzzle pyram_powers) s }
+{
+    let _table = tables.only();
+}
 
 /// Where a table measures the coordinate of such a puzzle, its valid states are those that turns reach, a state needs
 /// as many turns as its distance and no more, and each valid state has a scramble, which has so many turns and leads to
@@ -45,12 +67,14 @@ pub fn measured<P: OneTable>()
         × (play P.shown.after P.shown.solved turns ≡ Some s) }
     ensures one_scramble { (s : P.State) (some other : List Letter)
         → IsScrambleOf P.shown s some → IsScrambleOf P.shown s other → some ≡ other }
-{}
+{
+    P::is_solved_by_table();
+}
 
 /// Where a table measures the Pyraminx without tips, the valid states of the Pyraminx are those that turns reach; a
 /// state needs as many turns as its distance without tips and one for each tip that stands turned, and no more; and
-/// each valid state has a scramble, which leads to it from solved. With or without a table it has no two. A state's
-/// position in the table is its number over 81, rounded down.
+/// each valid state has a scramble, which leads to it from solved and has just so many turns: at most 11 large ones and
+/// 4 of tips. With or without a table it has no two. A state's position in the table is its number over 81, rounded down.
 pub fn measured_pyram()
     ensures position { (s : PyramState) → IsPyram s
         → numbered_pyram.number_of s / 81 ≡ numbered_tetraminx.number_of s.body }
@@ -62,6 +86,14 @@ pub fn measured_pyram()
         ↔ Needs (power_puzzle pyram_powers) s least }
     ensures scrambled { (table : Distances) → Measures coordinate_tetraminx table
         → (s : PyramState) → IsPyram s → (turns : List Letter) × IsScramblePyram s turns }
+    ensures as_long { (table : Distances) → Measures coordinate_tetraminx table
+        → (s : PyramState) (turns : List Letter) → IsPyram s → IsScramblePyram s turns
+        → length turns ≡ slice_index table.distances (numbered_tetraminx.number_of s.body) + turned_count s.tips }
+    ensures large { (table : Distances) → Measures coordinate_tetraminx table → table.bound ≡ 11
+        → (s : PyramState) → IsPyram s → slice_index table.distances (numbered_tetraminx.number_of s.body) ≤ 11 }
+    ensures tips { (s : PyramState) → IsPyram s → turned_count s.tips ≤ 4 }
+    ensures at_most { (table : Distances) → Measures coordinate_tetraminx table → table.bound ≡ 11
+        → (s : PyramState) (turns : List Letter) → IsPyram s → IsScramblePyram s turns → length turns ≤ 15 }
     ensures played { (s : PyramState) (turns : List Letter) → IsPyram s → IsScramblePyram s turns
         → play (after_letter pyram_powers) solved_pyram turns ≡ Some s }
     ensures one_scramble { (s : PyramState) (some other : List Letter)

@@ -7,7 +7,8 @@ use scr_turning::{Letters, PowerTurned};
 
 /// A puzzle with numbered states and turns, whose states are two parts that turns move each by itself.
 pub trait OneTable: Numbering<State: PowerTurned> + Copy {
-    ghost use Rattle.std.specs.Prelude.{◌≡◌, ◌*◌, ◌<◌, ◌↔◌, Some, IsTrue};
+    ghost use Rattle.std.specs.Prelude.{◌≡◌, ◌*◌, ◌<◌, ◌≤◌, ◌↔◌, Some, IsTrue};
+    ghost use Rattle.scr_combinatorics.specs.Numbering.{IsNumbering};
     ghost use Rattle.scr_notation.specs.declared.turn.Turn.{Turn as Letter};
     ghost use Rattle.scr_notation.specs.Turns.{permits};
     ghost use Rattle.scr_small.specs.declared.state_table.StateTable.{StateTable as TableOf};
@@ -32,6 +33,10 @@ pub trait OneTable: Numbering<State: PowerTurned> + Copy {
     fn is_valid(state: &Self::State)
         ensures { shown.numbered.IsValid state.now };
 
+    /// Does nothing: one table solves it.
+    fn is_solved_by_table()
+        ensures { IsSolvedByTable shown TABLE };
+
     /// Its turns are those of the states.
     ghost turned_by: { (shown.after ≡ Self.State.after) × (shown.letter_at ≡ Self.State.Kind.letters.letter_at)
         × (shown.turns ≡ Self.State.Kind.POWERS * Self.State.GENERATORS) };
@@ -40,8 +45,11 @@ pub trait OneTable: Numbering<State: PowerTurned> + Copy {
     ghost same_valid: { (numbers : Self) (state : Self.State)
         → (Self.numbered numbers).IsValid state ↔ shown.numbered.IsValid state };
 
-    /// One table solves it.
-    ghost by_table: { IsSolvedByTable shown TABLE };
+    /// Its numbering is one.
+    ghost numbering: { IsNumbering shown.numbered };
+
+    /// Its turns have numbers of a byte.
+    ghost few_turns: { shown.turns ≤ 256 };
 
     /// The state with a number.
     final fn state_with(number: u32) -> Self::State
@@ -57,6 +65,7 @@ pub trait OneTable: Numbering<State: PowerTurned> + Copy {
         ensures valid { shown.numbered.IsValid state.now }
     {
         Self::is_valid(state);
+        Self::is_solved_by_table();
         Self::numbers().number_of(state) as u32
     }
 
@@ -73,6 +82,7 @@ pub trait OneTable: Numbering<State: PowerTurned> + Copy {
         ensures letter { result ≡ shown.letter_at number }
         ensures of_event { IsTrue (permits TABLE.event result) }
     {
+        Self::is_solved_by_table();
         turn_at(Self::TABLE.event.kind(), number)
     }
 

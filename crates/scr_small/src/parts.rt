@@ -1,6 +1,6 @@
 //! The two parts of a puzzle's states, each as a coordinate.
+ghost use Rattle.scr_coord.specs.Coordinates.{StaysBelow};
 ghost use Rattle.scr_small.specs.StateParts.{low_part, high_part};
-ghost use Rattle.scr_small.specs.PartLaws.{StaysBelow-low, StaysBelow-high};
 
 use crate::one_table::OneTable;
 use scr_coord::Coord;
@@ -11,6 +11,7 @@ use std::marker::PhantomData;
 #[derive(Drop)]
 pub(crate) struct LowPart<P: OneTable> {
     puzzle: PhantomData<P>,
+    ghost stays: { StaysBelow (low_part P.shown P.TABLE.low) },
 }
 
 impl<P: OneTable> LowPart<P> {
@@ -33,25 +34,29 @@ impl<P: OneTable> Coord for LowPart<P> {
     }
 
     fn after(&self, position: u32, turn: u32) -> Option<u32> {
+        P::is_solved_by_table();
         let turned = P::turned(&P::state_with(position), turn);
         Some(P::number(&turned) % P::TABLE.low)
     }
 
     fn is_goal(&self, position: u32) -> bool {
+        P::is_solved_by_table();
         position == 0
     }
 
-    ghost law = { λ _. StaysBelow-low P.shown P.TABLE.low };
+    ghost law = { λ part. part.stays };
 }
 
 /// The other part. A step does as much.
 #[derive(Drop)]
 pub(crate) struct HighPart<P: OneTable> {
     puzzle: PhantomData<P>,
+    ghost stays: { StaysBelow (high_part P.shown P.TABLE.low P.TABLE.high) },
 }
 
 impl<P: OneTable> HighPart<P> {
     pub fn new() -> HighPart<P> {
+        P::is_solved_by_table();
         HighPart {
             puzzle: PhantomData,
         }
@@ -70,13 +75,15 @@ impl<P: OneTable> Coord for HighPart<P> {
     }
 
     fn after(&self, position: u32, turn: u32) -> Option<u32> {
+        P::is_solved_by_table();
         let turned = P::turned(&P::state_with(P::TABLE.low * position), turn);
         Some(P::number(&turned) / P::TABLE.low)
     }
 
     fn is_goal(&self, position: u32) -> bool {
+        P::is_solved_by_table();
         position == 0
     }
 
-    ghost law = { λ _. StaysBelow-high P.shown P.by_table.lawful P.TABLE.low P.TABLE.high P.by_table.by_parts };
+    ghost law = { λ part. part.stays };
 }

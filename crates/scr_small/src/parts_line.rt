@@ -4,8 +4,9 @@ ghost use Rattle.scr_small.specs.Tables.{table_line};
 use crate::one_table::OneTable;
 use crate::parts::{HighPart, LowPart};
 use scr_coord::{MoveTable, Product};
+use scr_outside::NoMemory;
 use scr_table::{Line, TableName};
-use std::alloc::{AllocError, Global};
+use std::alloc::Global;
 use std::marker::PhantomData;
 
 /// The table of a puzzle's states. Its moves are those of their parts.
@@ -21,14 +22,16 @@ impl<P: OneTable> Line for PartsLine<P> {
     }
 
     fn bound() -> u32 {
+        P::is_solved_by_table();
         P::TABLE.bound
     }
 
     type Moves = Product<MoveTable, MoveTable>;
 
-    fn moves(alloc: Global) -> Result<Product<MoveTable, MoveTable>, AllocError> {
+    fn moves(alloc: Global) -> Result<Product<MoveTable, MoveTable>, NoMemory> {
+        P::is_solved_by_table();
         Product::of_moves(alloc, &LowPart::<P>::new(), &HighPart::<P>::new())
     }
 
-    ghost few_turns = { P.by_table.few };
+    ghost few_turns = { P.few_turns };
 }

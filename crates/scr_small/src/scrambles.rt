@@ -19,6 +19,7 @@ pub fn scramble_of<P: OneTable>(tables: &SmallTables, state: &P::State) -> Scram
     ensures only { (turns : List Letter) → IsScrambleOf P.shown state.now turns → turns ≡ result.turns }
     ensures played { play P.shown.after P.shown.solved result.turns ≡ Some state.now }
 {
+    P::is_solved_by_table();
     let word = tables.descend(P::number(state));
     inverse(&spelled::<P>(&word))
 }
@@ -31,6 +32,7 @@ pub(crate) fn distance_of<P: OneTable>(tables: &SmallTables, state: &P::State) -
     ensures exact { (least : ℕ) → (least ≤ result) ↔ Needs (puzzle_of P.shown) state.now least }
     ensures measures { Measures (state_coordinate P.shown) tables.now.distances }
 {
+    P::is_solved_by_table();
     tables.only().distance(P::number(state))
 }
 

@@ -22,9 +22,10 @@ pub type Small222<'a> = SmallPuzzle<'a, Numbers222>;
 
 impl OneTable for Numbers222 {
     ghost use Rattle.std.specs.Prelude.{refl};
+    ghost use Rattle.std.proofs.Common.{lit≤};
+    ghost use Rattle.scr_cube.specs.Numbered222.{numbering_222};
     ghost use Rattle.scr_small.specs.Puzzles.{numbered_puzzle_222};
     ghost use Rattle.scr_small.specs.Tables.{table_222};
-    ghost use Rattle.scr_small.specs.Lawful222.{solved_by_table_222};
 
     ghost shown = { numbered_puzzle_222 };
 
@@ -46,11 +47,15 @@ impl OneTable for Numbers222 {
         let [..] = state.twists();
     }
 
+    fn is_solved_by_table() {}
+
     ghost turned_by = { (refl, refl, refl) };
 
     ghost same_valid = { λ _ _. (λ valid. valid, λ valid. valid) };
 
-    ghost by_table = { solved_by_table_222 };
+    ghost numbering = { numbering_222 };
+
+    ghost few_turns = { lit≤ tt };
 }
 
 /// The scramble of a 2x2x2, of at most 11 turns: the first word of turns that solves it, taken back. The tables are

@@ -1,45 +1,77 @@
 //! A puzzle that one table solves, as an event that states are drawn of.
-ghost use Rattle.std.specs.Prelude.{◌≡◌};
-ghost use Rattle.scr_table.specs.Distances.{Measures};
-ghost use Rattle.scr_small.specs.NumberedPuzzles.{state_coordinate};
+ghost use Rattle.std.specs.Prelude.{◌≡◌, ◌≤◌, ◌↔◌, ℕ, nat_le, IsTrue, List, Some, length, slice_index};
+ghost use Rattle.std.proofs.Props.{props};
+ghost use Rattle.scr_play.specs.Play.{play};
+ghost use Rattle.scr_play.specs.Reach.{Needs};
+ghost use Rattle.scr_notation.specs.declared.turn.Turn.{Turn as Letter};
+ghost use Rattle.scr_small.specs.NumberedPuzzles.{puzzle_of, IsScrambleOf};
 
 use crate::one_table::OneTable;
-use crate::scrambles::needs_of;
+use crate::scrambles::{needs_of, scramble_of};
 use crate::tables::SmallTables;
-use scr_draw::{NumberedEvent, Permit, Reaches};
+use scr_draw::{NumberedStates, Numbering, Permit};
+use scr_notation::Scramble;
 use std::marker::PhantomData;
 
-/// A puzzle that one table solves, with its built table, by which each of its states is reached.
+/// A puzzle that one table solves, with its built table, which tells how many turns each state needs.
 #[derive(Drop)]
 pub struct SmallPuzzle<'a, P: OneTable> {
-    /// Its table.
-    pub tables: &'a SmallTables,
+    tables: &'a SmallTables,
     puzzle: PhantomData<P>,
     ghost event: { tables.now.event ≡ P.TABLE.event },
-    ghost measures: { Measures (state_coordinate P.shown) tables.now.distances },
+    ghost exact: { (s : P.State) (least : ℕ) → P.shown.numbered.IsValid s
+        → IsTrue (nat_le least (slice_index tables.now.distances.distances (P.shown.numbered.number_of s)))
+        ↔ Needs (puzzle_of P.shown) s least } by { Prim.hlevel props },
 }
 
 impl<'a, P: OneTable> SmallPuzzle<'a, P> {
-    /// The event. The tables are those of the event.
-    pub fn event(tables: &'a SmallTables) -> NumberedEvent<P, SmallPuzzle<'a, P>>
+    /// The puzzle. The tables are those of its event.
+    pub fn new(tables: &'a SmallTables) -> SmallPuzzle<'a, P>
         requires { tables.now.event ≡ P.TABLE.event }
     {
+        P::is_solved_by_table();
         let _table = tables.only();
-        NumberedEvent {
-            numbers: P::numbers(),
-            puzzle: SmallPuzzle {
-                tables,
-                puzzle: PhantomData,
-            },
+        SmallPuzzle {
+            tables,
+            puzzle: PhantomData,
         }
+    }
+
+    /// The scramble of a state: the first word that solves it, taken back.
+    pub fn scramble(&self, state: &P::State) -> Scramble
+        ensures event { result.event ≡ P.TABLE.event }
+        ensures at_most { length result.turns ≤ P.TABLE.bound }
+        ensures scramble { IsScrambleOf P.shown state.now result.turns }
+        ensures only { (turns : List Letter) → IsScrambleOf P.shown state.now turns → turns ≡ result.turns }
+        ensures played { play P.shown.after P.shown.solved result.turns ≡ Some state.now }
+    {
+        scramble_of::<P>(self.tables, state)
+    }
+}
+
+impl<P: OneTable> NumberedStates<P::State> for SmallPuzzle<'_, P> {
+    ghost numbered = { λ _. P.shown.numbered };
+}
+
+impl<P: OneTable> Numbering for SmallPuzzle<'_, P> {
+    type State = P::State;
+
+    ghost law = { λ _. P.numbering };
+
+    fn count(&self) -> u128 {
+        P::numbers().count()
+    }
+
+    fn state_at(&self, number: u128) -> P::State {
+        P::numbers().state_at(number)
+    }
+
+    fn number_of(&self, state: &P::State) -> u128 {
+        P::numbers().number_of(state)
     }
 }
 
 impl<P: OneTable> Permit<P::State> for SmallPuzzle<'_, P> {
-    ghost use Rattle.std.specs.Prelude.{nat_le, slice_index};
-    ghost use Rattle.scr_small.specs.NumberedPuzzles.{puzzle_of};
-    ghost use Rattle.scr_small.specs.PuzzleLaws.{IsValid-reached, tested-iff};
-
     ghost puzzle = { λ _. puzzle_of P.shown };
 
     ghost greatest = { λ _. P.TABLE.bound };
@@ -51,16 +83,5 @@ impl<P: OneTable> Permit<P::State> for SmallPuzzle<'_, P> {
         needs_of::<P>(self.tables, state, least)
     }
 
-    ghost exact = { λ small s least range reached.
-        tested-iff P.shown P.by_table.lawful small.tables.now.distances small.measures s least
-        (IsValid-reached P.shown P.by_table.lawful s reached) };
-}
-
-impl<P: OneTable> Reaches<P> for SmallPuzzle<'_, P> {
-    ghost use Rattle.scr_small.specs.PuzzleLaws.{IsReached-iff};
-
-    ghost reached = { λ small numbers s.
-        let same = P.same_valid numbers s in
-        let by_table = IsReached-iff P.shown P.by_table.lawful small.tables.now.distances small.measures s in
-        (λ valid. by_table.0 (same.0 valid), λ reached. same.1 (by_table.1 reached)) };
+    ghost exact = { λ small s least range. small.exact s least };
 }

@@ -1,30 +1,32 @@
 //! The Pyraminx: its scrambles, its minima, and how it is drawn. The table is that of the Pyraminx without tips.
 ghost use Rattle.std.specs.Prelude.{◌≡◌, ◌+◌, ◌<◌, ◌≤◌, ◌↔◌, ◌++◌};
-ghost use Rattle.std.specs.Prelude.{nat_le, All, List, Some, IsTrue, length, slice_index};
+ghost use Rattle.std.specs.Prelude.{ℕ, nat_le, All, List, Some, IsTrue, length, slice_index};
+ghost use Rattle.std.proofs.Props.{props};
 ghost use Rattle.scr_play.specs.Play.{play};
 ghost use Rattle.scr_play.specs.Reach.{Needs};
 ghost use Rattle.scr_notation.specs.declared.event.Event.TheVariants.{Pyram};
 ghost use Rattle.scr_notation.specs.declared.turn.Turn.{Turn as Letter};
-ghost use Rattle.scr_table.specs.Distances.{Measures};
 ghost use Rattle.scr_turning.specs.PowerPuzzles.{after_letter, power_puzzle};
 ghost use Rattle.scr_tetra.specs.PyramParts.{tips_word, turned_count};
-ghost use Rattle.scr_tetra.specs.Pyraminx.{numbered_tetraminx, pyram_powers, solved_pyram};
-ghost use Rattle.scr_small.specs.Puzzles.{coordinate_tetraminx, IsScramblePyram};
+ghost use Rattle.scr_tetra.specs.Pyraminx.{numbered_tetraminx, numbered_pyram, PyramState, IsPyram};
+ghost use Rattle.scr_tetra.specs.Pyraminx.{pyram_powers, solved_pyram};
+ghost use Rattle.scr_small.specs.Puzzles.{IsScramblePyram};
 
 use crate::one_table::OneTable;
 use crate::scrambles::{distance_of, scramble_of};
 use crate::state_table::StateTable;
 use crate::tables::SmallTables;
-use scr_draw::{NumberedEvent, Permit, Reaches};
+use scr_draw::{NumberedStates, Numbering, Permit};
 use scr_notation::{Event, Scramble, Turn};
 use scr_table::TableName;
 use scr_tetra::{PyramNumbers, Pyraminx, Tetraminx, TetraminxNumbers};
 
 impl OneTable for TetraminxNumbers {
     ghost use Rattle.std.specs.Prelude.{refl};
+    ghost use Rattle.std.proofs.Common.{lit≤};
+    ghost use Rattle.scr_tetra.specs.NumberedPyram.{tetraminx_numbering};
     ghost use Rattle.scr_small.specs.Puzzles.{numbered_puzzle_tetraminx};
     ghost use Rattle.scr_small.specs.Tables.{table_tetraminx};
-    ghost use Rattle.scr_small.specs.LawfulTetraminx.{solved_by_table_tetraminx};
 
     ghost shown = { numbered_puzzle_tetraminx };
 
@@ -46,11 +48,15 @@ impl OneTable for TetraminxNumbers {
         let [..] = state.edges();
     }
 
+    fn is_solved_by_table() {}
+
     ghost turned_by = { (refl, refl, refl) };
 
     ghost same_valid = { λ _ _. (λ valid. valid, λ valid. valid) };
 
-    ghost by_table = { solved_by_table_tetraminx };
+    ghost numbering = { tetraminx_numbering };
+
+    ghost few_turns = { lit≤ tt };
 }
 
 /// The scramble of a Pyraminx, of at most 15 turns: the first word of large turns that solves it without its tips,
@@ -112,31 +118,64 @@ fn count_turned(digits: &[u8]) -> u32
     turned
 }
 
-/// The Pyraminx, with its built table, by which each of its states is reached.
+/// The Pyraminx, with its built table, which tells how many turns each state needs.
 #[derive(Drop)]
 pub struct SmallPyram<'a> {
-    /// Its table.
-    pub tables: &'a SmallTables,
+    tables: &'a SmallTables,
     ghost event: { tables.now.event ≡ Pyram },
-    ghost measures: { Measures coordinate_tetraminx tables.now.distances },
+    ghost exact: { (s : PyramState) (least : ℕ) → IsPyram s
+        → IsTrue (nat_le least
+        (slice_index tables.now.distances.distances (numbered_tetraminx.number_of s.body) + turned_count s.tips))
+        ↔ Needs (power_puzzle pyram_powers) s least } by { Prim.hlevel props },
 }
 
 impl<'a> SmallPyram<'a> {
-    /// The event. The tables are those of pyram.
-    pub fn event(tables: &'a SmallTables) -> NumberedEvent<PyramNumbers, SmallPyram<'a>>
+    /// The Pyraminx. The tables are those of pyram.
+    pub fn new(tables: &'a SmallTables) -> SmallPyram<'a>
         requires { tables.now.event ≡ Pyram }
     {
         let _table = tables.only();
-        NumberedEvent {
-            numbers: PyramNumbers,
-            puzzle: SmallPyram { tables },
-        }
+        SmallPyram { tables }
+    }
+
+    /// The scramble of a state: the first word of large turns that solves it without its tips, taken back, and then the
+    /// tips.
+    pub fn scramble(&self, state: &Pyraminx) -> Scramble
+        ensures event { result.event ≡ Pyram }
+        ensures at_most { length result.turns ≤ 15 }
+        ensures scramble { IsScramblePyram state.now result.turns }
+        ensures only { (turns : List Letter) → IsScramblePyram state.now turns → turns ≡ result.turns }
+        ensures played { play (after_letter pyram_powers) solved_pyram result.turns ≡ Some state.now }
+    {
+        scramble_pyram(self.tables, state)
+    }
+}
+
+impl NumberedStates<Pyraminx> for SmallPyram<'_> {
+    ghost numbered = { λ _. numbered_pyram };
+}
+
+impl Numbering for SmallPyram<'_> {
+    ghost use Rattle.scr_tetra.specs.NumberedPyram.{pyram_numbering};
+
+    type State = Pyraminx;
+
+    ghost law = { λ _. pyram_numbering };
+
+    fn count(&self) -> u128 {
+        PyramNumbers.count()
+    }
+
+    fn state_at(&self, number: u128) -> Pyraminx {
+        PyramNumbers.state_at(number)
+    }
+
+    fn number_of(&self, state: &Pyraminx) -> u128 {
+        PyramNumbers.number_of(state)
     }
 }
 
 impl Permit<Pyraminx> for SmallPyram<'_> {
-    ghost use Rattle.scr_small.specs.PyramLaws.{IsPyram-reached, tested_pyram};
-
     ghost puzzle = { λ _. (power_puzzle pyram_powers) };
 
     ghost greatest = { λ _. 15 };
@@ -149,12 +188,5 @@ impl Permit<Pyraminx> for SmallPyram<'_> {
         needs_pyram(self.tables, state, least)
     }
 
-    ghost exact = { λ small s least range reached.
-        tested_pyram small.tables.now.distances small.measures s least (IsPyram-reached s reached) };
-}
-
-impl Reaches<PyramNumbers> for SmallPyram<'_> {
-    ghost use Rattle.scr_small.specs.PyramLaws.{IsReached-pyram};
-
-    ghost reached = { λ small _. IsReached-pyram small.tables.now.distances small.measures };
+    ghost exact = { λ small s least range. small.exact s least };
 }

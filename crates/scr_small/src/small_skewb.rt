@@ -22,9 +22,10 @@ pub type SmallSkewb<'a> = SmallPuzzle<'a, SkewbNumbers>;
 
 impl OneTable for SkewbNumbers {
     ghost use Rattle.std.specs.Prelude.{refl};
+    ghost use Rattle.std.proofs.Common.{lit≤};
+    ghost use Rattle.scr_tetra.specs.NumberedSkewb.{skewb_numbering};
     ghost use Rattle.scr_small.specs.Puzzles.{numbered_puzzle_skewb};
     ghost use Rattle.scr_small.specs.Tables.{table_skewb};
-    ghost use Rattle.scr_small.specs.LawfulSkewb.{solved_by_table_skewb};
 
     ghost shown = { numbered_puzzle_skewb };
 
@@ -46,11 +47,15 @@ impl OneTable for SkewbNumbers {
         let [..] = state.centres();
     }
 
+    fn is_solved_by_table() {}
+
     ghost turned_by = { (refl, refl, refl) };
 
     ghost same_valid = { λ _ _. (λ valid. valid, λ valid. valid) };
 
-    ghost by_table = { solved_by_table_skewb };
+    ghost numbering = { skewb_numbering };
+
+    ghost few_turns = { lit≤ tt };
 }
 
 /// The scramble of a Skewb, of at most 11 turns: the first word of turns that solves it, taken back. The tables are

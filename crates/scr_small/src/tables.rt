@@ -1,9 +1,10 @@
 //! The built table of an event.
-ghost use Rattle.std.specs.Prelude.{◌≡◌, ◌↔◌, ◌<◌, IfOk, IfErr, IfSome, IsSome};
+ghost use Rattle.std.specs.Prelude.{◌≡◌, ◌↔◌, ◌<◌, All, IfOk, IfErr, IfSome, IsSome};
 ghost use Rattle.scr_coord.specs.Coordinates.{moved, IsGoal};
 ghost use Rattle.scr_play.specs.FirstWord.{IsFirstWord};
-ghost use Rattle.scr_table.specs.Causes.{IsCause};
-ghost use Rattle.scr_small.specs.Tables.{small_line, IsBuilt};
+ghost use Rattle.scr_table.specs.Causes.{IsCauseOf};
+ghost use Rattle.scr_table.specs.Lines.{HasNoGap};
+ghost use Rattle.scr_small.specs.Tables.{small_line, small_lines, IsBuilt};
 
 use crate::parts_line::PartsLine;
 use arrayvec::ArrayVec;
@@ -43,9 +44,9 @@ impl Model for SmallTables {
     ghost Value = { BuiltTable };
 
     ghost view = { λ t. elim t.held [
-      | Corners table ↦ record { event = C222; distances = table.distances }
-      | Pyramid table ↦ record { event = Pyram; distances = table.distances }
-      | Skewb table ↦ record { event = EventSkewb; distances = table.distances }
+      | Corners table ↦ record { event = C222; distances = table }
+      | Pyramid table ↦ record { event = Pyram; distances = table }
+      | Skewb table ↦ record { event = EventSkewb; distances = table }
     ] };
 }
 
@@ -55,8 +56,8 @@ impl SmallTables {
         requires { IsSome (small_line event) }
         ensures event { IfOk result (λ tables. tables.event ≡ event) }
         ensures table { IfOk result IsBuilt }
-        ensures cause { IfErr result (λ fault.
-            IfSome (small_line event) (λ line. IsCause line.name line.coordinate line.bound fault)) }
+        ensures whole { IfOk result (λ _. All HasNoGap (small_lines event)) }
+        ensures cause { IfErr result (IsCauseOf (small_lines event)) }
     {
         let held = match event {
             Event::C222 => Held::Corners(LineTable::build(alloc)?),
@@ -85,11 +86,12 @@ impl SmallTables {
     pub fn only(&self) -> &DistanceTable
         ensures same { result.now ≡ self.now.distances }
         ensures built { IsBuilt self.now }
+        ensures whole { All HasNoGap (small_lines self.now.event) }
     {
         match &self.held {
-            Held::Corners(table) => &table.distances,
-            Held::Pyramid(table) => &table.distances,
-            Held::Skewb(table) => &table.distances,
+            Held::Corners(table) => table.distances(),
+            Held::Pyramid(table) => table.distances(),
+            Held::Skewb(table) => table.distances(),
         }
     }
 

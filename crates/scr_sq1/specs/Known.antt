@@ -6,6 +6,7 @@ use Rattle.scr_notation.specs.declared.turn.Turn.{Turn}
 use Rattle.scr_notation.specs.declared.turn.Turn.TheVariants.{Layers, Twist}
 use Rattle.scr_notation.specs.Spelling.{text_of}
 use Rattle.scr_sq1.specs.Units.{Sq1State, IsSq1, solved_sq1, sq1_after}
+use Rattle.scr_sq1.specs.Shapes.{shape_of, shape_number}
 
 -- ---- words
 
@@ -76,6 +77,11 @@ impossible_units =
 -- These units are of no state.
 abbrev pub AreOfNoState : List ℕ → Type 0
 AreOfNoState units = (equator : Bool) → IsSq1 (record { units = units; equator = equator }) → ⊥
+
+-- Units whose halves have these numbers, and the number of the shape that these make.
+pub record HasShape (units halves : List ℕ) (number : ℕ) : Type 0 where
+  pub consists : shape_of units ≡ halves
+  pub numbered : shape_number halves ≡ number
 
 -- ---- turned over
 

@@ -16,7 +16,7 @@ ghost use Rattle.scr_notation.specs.Turning.{opposite, turn_merging};
 ghost use Rattle.scr_sq1.specs.Units.{Sq1State, IsSq1, is_open, solved_sq1, clockwise, twisted, sq1_after, sq1_puzzle};
 ghost use Rattle.scr_sq1.specs.Shapes.{half_word, IsShape, shape_of, ways, shape_number, shape_at, shape_count, units_among};
 ghost use Rattle.scr_sq1.specs.Numbers.{sq1_numbered};
-ghost use Rattle.scr_sq1.specs.Known.{back, slices, LeadsTo, ReturnsAfter, solved_top, solved_bottom, layers, parity_word, long_word, barred_units, impossible_units, AreOfNoState, turned_over};
+ghost use Rattle.scr_sq1.specs.Known.{back, slices, LeadsTo, ReturnsAfter, solved_top, solved_bottom, layers, parity_word, long_word, barred_units, impossible_units, AreOfNoState, HasShape, turned_over};
 
 /// The turns are lawful: they keep states valid, each is undone by its opposite, and two turns of the layers one after the other
 /// come to one or to none, as two twists come to none. So words are taken back and tidied, and what turns reach is valid.
@@ -142,4 +142,34 @@ pub fn known_numbers()
     ensures last { sq1_numbered.state_at 11958666854399 ≡ layers
         (7 ∷ 7 ∷ 6 ∷ 6 ∷ 5 ∷ 5 ∷ 4 ∷ 4 ∷ 3 ∷ 3 ∷ 2 ∷ 2 ∷ [])
         (15 ∷ 14 ∷ 1 ∷ 1 ∷ 0 ∷ 0 ∷ 13 ∷ 12 ∷ 11 ∷ 10 ∷ 9 ∷ 8 ∷ []) true }
+{}
+
+/// Shapes that are known from elsewhere, in which each of the thirteen halves stands: named by where the corner of the top right
+/// half lies, or how many corners it has.
+#[tactic(auto, unfolding(crate::proofs::OnLiterals::sq1_on_literals))]
+pub fn known_shapes()
+    ensures corner_second { HasShape
+        (8 ∷ 0 ∷ 0 ∷ 9 ∷ 10 ∷ 11 ∷ 12 ∷ 13 ∷ 1 ∷ 1 ∷ 14 ∷ 15
+        ∷ 2 ∷ 2 ∷ 3 ∷ 3 ∷ 4 ∷ 4 ∷ 5 ∷ 5 ∷ 6 ∷ 6 ∷ 7 ∷ 7 ∷ [])
+        (2 ∷ 3 ∷ 12 ∷ 12 ∷ []) 143 }
+    ensures corner_third { HasShape
+        (8 ∷ 9 ∷ 0 ∷ 0 ∷ 10 ∷ 11 ∷ 12 ∷ 1 ∷ 1 ∷ 13 ∷ 14 ∷ 15
+        ∷ 2 ∷ 2 ∷ 3 ∷ 3 ∷ 4 ∷ 4 ∷ 5 ∷ 5 ∷ 6 ∷ 6 ∷ 7 ∷ 7 ∷ [])
+        (3 ∷ 2 ∷ 12 ∷ 12 ∷ []) 265 }
+    ensures corner_first { HasShape
+        (0 ∷ 0 ∷ 8 ∷ 9 ∷ 10 ∷ 11 ∷ 12 ∷ 13 ∷ 14 ∷ 1 ∷ 1 ∷ 15
+        ∷ 2 ∷ 2 ∷ 3 ∷ 3 ∷ 4 ∷ 4 ∷ 5 ∷ 5 ∷ 6 ∷ 6 ∷ 7 ∷ 7 ∷ [])
+        (1 ∷ 4 ∷ 12 ∷ 12 ∷ []) 21 }
+    ensures corner_last { HasShape
+        (8 ∷ 9 ∷ 10 ∷ 11 ∷ 0 ∷ 0 ∷ 12 ∷ 13 ∷ 1 ∷ 1 ∷ 2 ∷ 2
+        ∷ 3 ∷ 3 ∷ 4 ∷ 4 ∷ 5 ∷ 5 ∷ 14 ∷ 6 ∷ 6 ∷ 15 ∷ 7 ∷ 7 ∷ [])
+        (5 ∷ 11 ∷ 12 ∷ 10 ∷ []) 585 }
+    ensures two_corners { HasShape
+        (0 ∷ 0 ∷ 1 ∷ 1 ∷ 8 ∷ 9 ∷ 2 ∷ 2 ∷ 10 ∷ 3 ∷ 3 ∷ 11
+        ∷ 4 ∷ 4 ∷ 12 ∷ 13 ∷ 5 ∷ 5 ∷ 14 ∷ 6 ∷ 6 ∷ 7 ∷ 7 ∷ 15 ∷ [])
+        (6 ∷ 7 ∷ 8 ∷ 9 ∷ []) 760 }
+    ensures no_corner { HasShape
+        (8 ∷ 9 ∷ 10 ∷ 11 ∷ 12 ∷ 13 ∷ 0 ∷ 0 ∷ 1 ∷ 1 ∷ 2 ∷ 2
+        ∷ 3 ∷ 3 ∷ 4 ∷ 4 ∷ 5 ∷ 5 ∷ 14 ∷ 15 ∷ 6 ∷ 6 ∷ 7 ∷ 7 ∷ [])
+        (0 ∷ 12 ∷ 12 ∷ 11 ∷ []) 17 }
 {}

@@ -7,7 +7,7 @@ ghost use Rattle.scr_sq1.specs.Proofs.Numbering.{sq1_numbering};
 use crate::pieces::units_of;
 use crate::shapes::{shape_at, shape_number};
 use crate::state::Sq1;
-use scr_draw::Numbering;
+use scr_draw::{NumberedStates, Numbering};
 use scr_rank::{MixedRadix, PermRank};
 
 /// How many digits of the equator, of lists of corners, of lists of edges and of shapes there are.
@@ -32,10 +32,12 @@ fn digits_of(state: &Sq1) -> [u128; 4]
 #[derive(Clone, Copy)]
 pub struct Sq1Numbers;
 
+impl NumberedStates<Sq1> for Sq1Numbers {
+    ghost numbered = { λ _. sq1_numbered };
+}
+
 impl Numbering for Sq1Numbers {
     type State = Sq1;
-
-    ghost numbered = { λ _. sq1_numbered };
 
     ghost law = { λ _. sq1_numbering };
 

@@ -9,7 +9,8 @@ use Rattle.scr_sq1.specs.Numbers.{corners_of, edges_of}
 use Rattle.scr_sq1solve.specs.Stages.{after_letter}
 use Rattle.scr_sq1solve.specs.Tables.{square_index, square_state}
 use Rattle.scr_sq1solve.specs.Codes.{codes_coordinate}
-use Rattle.scr_sq1solve.specs.Proofs.CodeSteps.{IsKept, edges_at, position_of, IsCodeStep, IsCodeStep-at, edges_at-lt}
+use Rattle.scr_sq1solve.specs.Placed.{IsKept}
+use Rattle.scr_sq1solve.proofs.CodeSteps.{edges_at, position_of, IsCodeStep, IsCodeStep-at, edges_at-lt}
 
 module _ {letter : ℕ → List Turn} (kept : IsKept letter) {corners edges : Coordinate}
     (f : ShowsSame (codes_coordinate corners_of letter) corners) (g : ShowsSame (codes_coordinate edges_of letter) edges)

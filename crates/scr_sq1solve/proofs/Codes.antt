@@ -10,7 +10,7 @@ use Rattle.scr_notation.proofs.Below.{all_below, at_below}
 use Rattle.scr_sq1solve.specs.Tables.{pair_of, is_larger, smaller, bits_number, pairs_number, paired_at, square_bases}
 use Rattle.scr_sq1solve.specs.Codes.{code_number, code_at}
 use Rattle.scr_sq1solve.proofs.Filled.{numbers_all}
-use Rattle.scr_sq1solve.specs.Proofs.CodeSteps.{position_of}
+use Rattle.scr_sq1solve.proofs.CodeSteps.{position_of}
 
 larger_tested : IsTrue (all_below (λ k. nat_lt (slice_index is_larger k) 2) 8)
 unfolding all_below

@@ -1,10 +1,11 @@
 -- Words of which one ends a stage, tried one after another.
-use Rattle.std.proofs.Common.{◌≡◌, ℕ, ◌+◌, ◌<◌, ◌≤◌, inl, inr, Bool, true, false, IsTrue, List, [], length, map, take, Option, Some, None, refl, sym, ap, ◌∙◌, arith}
+use Rattle.std.proofs.Common.{◌≡◌, ℕ, ◌+◌, ◌<◌, Bool, true, false, IsTrue, List, [], length, map, take, Option, Some}
+use Rattle.std.proofs.Common.{None, refl, sym, ap, ◌∙◌, arith}
 use Rattle.std.specs.Prelude.{◌==◌, ◌||◌, nat_lt, slice_index_or}
 use Rattle.std.specs.List.{list_any}
 use Rattle.std.specs.Option.{option_map}
-use Rattle.std.proofs.lemmas.Bool.{cond-true, lt-ltb, cases_eq, eq-eqb, ne_eqb}
-use Rattle.std.proofs.lemmas.List.{get_or-map, length-map, take_all}
+use Rattle.std.proofs.lemmas.Bool.{cond-true, lt-ltb, eq-eqb, ne_eqb}
+use Rattle.std.proofs.lemmas.List.{get_or-map, length-map}
 use Rattle.std.proofs.lemmas.List.Folds.{list_any_at, list_any_more}
 use Rattle.scr_combinatorics.specs.Lists.{numbers_from}
 use Rattle.scr_combinatorics.proofs.Picks.{numbers_from-at, length-numbers_from}
@@ -59,15 +60,6 @@ module _ (letters : Letters) (s : Sq1State) where
       let is : letter_of letters n ≡ a.1 = sym (word-at (letter_of letters) (end_count letters) n a.1 lt) ∙ a.3 in
       none n lt a.4.0 (ap (play sq1_after s) is ∙ a.4.1) a.4.2
 
--- one more is none
-pub NoneBefore-more : (letters : Letters) (s : Sq1State) (n : ℕ) → NoneBefore letters s n
-    → ((r : Sq1State) → play sq1_after s (letter_of letters n) ≡ Some r → IsEnded letters r → ⊥) → NoneBefore letters s (n + 1)
-NoneBefore-more letters s n before here k lt =
-    elim (cases_eq k n) [
-      | inl same ↦ λ r e ended. here r (ap (λ i. play sq1_after s (letter_of letters i)) (sym same) ∙ e) ended
-      | inr apart ↦ before k (omega (arith, lt, apart))
-    ]
-
 -- ---- tests that one of some words passes
 
 module _ (test : List Turn → Bool) (word : ℕ → List Turn) (n : ℕ) where
@@ -85,9 +77,6 @@ module _ (test : List Turn → Bool) (word : ℕ → List Turn) (n : ℕ) where
   pub some-one : (k : ℕ) → k < n → IsTrue (test (word k)) → list_any test words ≡ true
   some-one k lt passes =
       list_any_at test words k [] (omega (arith, lt, words-count word n)) (ap test (word-at word n k [] lt) ∙ passes)
-
-  pub none-all : (k : ℕ) → n ≤ k → list_any test (take k words) ≡ false → list_any test words ≡ false
-  none-all k le none = ap (list_any test) (sym (take_all k words (omega (arith, le, words-count word n)))) ∙ none
 
 -- ---- indexes
 

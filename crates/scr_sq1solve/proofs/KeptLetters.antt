@@ -10,10 +10,10 @@ use Rattle.scr_sq1.specs.Numbers.{corners_of, edges_of}
 use Rattle.scr_sq1solve.specs.Stages.{pairing_letter}
 use Rattle.scr_sq1solve.specs.Tables.{units_after}
 use Rattle.scr_sq1solve.specs.Placed.{KeepsMates}
-use Rattle.scr_sq1solve.specs.Proofs.Letters.{corners-permutation, edges-permutation}
-use Rattle.scr_sq1solve.specs.Proofs.PairingStage.{pairing_letters_normal}
-use Rattle.scr_sq1solve.specs.Proofs.HomeStage.{mates-kept}
-use Rattle.scr_sq1solve.specs.Proofs.CodeSteps.{IsKept}
+use Rattle.scr_sq1solve.proofs.NormalLetters.{corners-permutation, edges-permutation}
+use Rattle.scr_sq1solve.proofs.PairingStage.{pairing_letters_normal}
+use Rattle.scr_sq1solve.proofs.HomeStage.{mates-kept}
+use Rattle.scr_sq1solve.specs.Placed.{IsKept}
 
 -- what holds at each of 32 numbers holds of all lists
 all_of : (P : List ℕ → Type 0) (at : ℕ → List ℕ) → ((n : ℕ) → n < 32 → P (at n)) → All P (map at (numbers_from 0 32))

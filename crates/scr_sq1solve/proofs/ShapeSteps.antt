@@ -135,9 +135,6 @@ state-of_index i lt =
     ∙ ap (λ es. let s : Sq1State = record { units = laid (shape_word (shape_at (i / 2))) (numbers_from 0 8) es; equator = false } in s)
     (list-exchanged (i % 2) (omega arith))
 
-pub number-below : (i : ℕ) → i < 7356 → index_state_number i < 11958666854400
-number-below i lt = omega (arith, lt)
-
 -- ---- the normal index
 
 pub normal_index : shapes_index solved_sq1 ≡ 2344

@@ -1,8 +1,7 @@
 -- The words of the stages, as they are found and played, and the solution that they are joined to.
-use Rattle.std.proofs.Common.{◌≡◌, ℕ, ◌+◌, ◌*◌, ◌<◌, ◌≤◌, cond, List, [], ◌∷◌, ◌++◌, length, take, Option, Some, sym, ap, ◌∙◌, subst, arith, append_assoc, ltb-true}
-use Rattle.std.specs.Prelude.{slice_index, All}
-use Rattle.std.proofs.lemmas.Grind.{flat_map-append}
-use Rattle.std.proofs.lemmas.List.{append-nil, take_more}
+use Rattle.std.proofs.Common.{◌≡◌, ℕ, ◌*◌, ◌<◌, ◌≤◌, cond, List, [], ◌∷◌, ◌++◌, Option, Some, sym, ap, ◌∙◌, subst}
+use Rattle.std.proofs.Common.{arith, append_assoc, ltb-true}
+use Rattle.std.specs.Prelude.{All}
 use Rattle.std.proofs.lemmas.List.Elements.{All-nil, All-cons}
 use Rattle.scr_play.specs.Play.{play}
 use Rattle.scr_play.specs.FirstWord.{IsFirstWord}
@@ -15,12 +14,14 @@ use Rattle.scr_sq1.specs.Units.{Sq1State, sq1_after}
 use Rattle.scr_sq1solve.specs.declared.stage_letters.Letters.TheVariants.{Squarings, Quarters}
 use Rattle.scr_sq1solve.specs.Stages.{Stage, IsStageWord, EndsIn, IsEnd, IsSolution, IsNormal, HasSolvedLayers, after_letter, turns_of, squaring_words, quarter_words, shape_letter, pairing_letter, shape_stage, pairing_stage, home_stage, equator_word}
 use Rattle.scr_sq1solve.specs.Letters.{squaring_word, end_words, IsEnded, IsWalk, IsTidiedSolution}
-use Rattle.scr_sq1solve.specs.Proofs.Lengths.{Costs, Costs-word}
-use Rattle.scr_sq1solve.specs.Proofs.Indexed.{stage_space, after_letter-parts}
+use Rattle.scr_sq1solve.specs.Counts.{Costs}
+use Rattle.scr_sq1solve.proofs.Lengths.{Costs-word}
+use Rattle.scr_sq1solve.specs.Spaces.{stage_space}
+use Rattle.scr_sq1solve.proofs.Indexed.{after_letter-parts}
 use Rattle.scr_table.specs.Distances.{Distances}
 use Rattle.scr_table.specs.Lines.{TableLine, IsTableOf}
 use Rattle.scr_coord.specs.SearchSpaces.{positions, Follows}
-use Rattle.scr_sq1solve.specs.Proofs.StageWords.{play-letters, IsStageWord-first, end_valid}
+use Rattle.scr_sq1solve.proofs.StageWords.{play-letters, IsStageWord-first, end_valid}
 use Rattle.scr_sq1solve.proofs.Joins.{tidy-rest}
 
 -- ---- letters
@@ -139,11 +140,3 @@ module _ (stage : Stage) (IsValid : Sq1State → Type 0) (line : TableLine) (vie
 pub goal-squared : (s : Sq1State) → shape_stage.IsGoal s → EndsIn (IsEnded Squarings) (end_words Squarings) s
 unfolding squaring_word
 goal-squared s goal = goal
-
--- one letter more
-pub turns_of-more : (letter : ℕ → List Turn) (word : List ℕ) (k : ℕ) → k < length word
-    → turns_of letter (take (k + 1) word) ≡ turns_of letter (take k word) ++ letter (slice_index word k)
-turns_of-more letter word k lt =
-    ap (turns_of letter) (take_more word k 0 lt)
-    ∙ flat_map-append letter (take k word) (slice_index word k ∷ [])
-    ∙ ap (λ w. turns_of letter (take k word) ++ w) (append-nil (letter (slice_index word k)))

@@ -18,6 +18,11 @@ pub record Cost : Type 0 where
   pub turns : ℕ
   pub twists : ℕ
 
+-- A word has at most so many turns, and at most so many twists.
+pub record Costs (w : List Turn) (most_turns most_twists : ℕ) : Type 0 where
+  pub turns : length w ≤ most_turns
+  pub twists : twists_in w ≤ most_twists
+
 -- the equator, turned over so many times
 unfoldable pub turned_over : ℕ → Bool → Bool
 turned_over zero equator = equator

@@ -1,8 +1,8 @@
 pub mod Stages
 pub mod Tables
+pub mod Spaces
 pub mod Counts
 pub mod Letters
 pub mod Codes
 pub mod Placed
 pub mod Minima
-pub mod Proofs

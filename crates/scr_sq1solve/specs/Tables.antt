@@ -17,7 +17,8 @@ use Rattle.scr_table.specs.Lines.{TableLine}
 use Rattle.scr_sq1.specs.Units.{Sq1State, solved_sq1, sq1_after}
 use Rattle.scr_sq1.specs.Shapes.{shape_of, shape_number, shape_at}
 use Rattle.scr_sq1.specs.Numbers.{corners_of, edges_of, laid, shape_word}
-use Rattle.scr_sq1solve.specs.Stages.{after_letter, shape_letter, oddness, squaring_words, shape_stage, mates, pairing_letter, pairing_stage, home_letter, quarter_words, home_stage}
+use Rattle.scr_sq1solve.specs.Stages.{after_letter, shape_letter, oddness, squaring_words, shape_stage, mates}
+use Rattle.scr_sq1solve.specs.Stages.{pairing_of, pairing_letter, pairing_stage, home_letter, quarter_words, home_stage}
 
 -- ---- states by an index
 
@@ -66,6 +67,11 @@ letters_by pieces_of letter = map (λ n. let r : Rearrangement = record { places
 -- partners when pieces are moved, where each place gets the piece of a named place
 unfoldable pub carried_pairing : List ℕ → List ℕ → List ℕ
 carried_pairing partners places = map (λ place. place_of (slice_index partners place) places) places
+
+-- the number of the corners' pairing, and above it that of the edges'
+abbrev pub pairings_index : Sq1State → ℕ
+pairings_index s =
+    pairing_number 4 (pairing_of (corners_of s.units)) + 105 * pairing_number 4 (pairing_of (edges_of s.units))
 
 abbrev pub pairings_view : ListView
 pairings_view = record {

@@ -1,7 +1,10 @@
 //! Lists of pieces in which mates stand opposite to each other, as a coordinate.
 ghost use Rattle.std.specs.Prelude.{◌≡◌, All, length};
 ghost use Rattle.std.proofs.Props.{props};
-ghost use Rattle.scr_sq1solve.specs.Placed.{KeepsMates};
+ghost use Rattle.scr_coord.specs.Coordinates.{StaysBelow};
+ghost use Rattle.scr_coord.specs.Projections.{projection};
+ghost use Rattle.scr_sq1solve.specs.Codes.{codes_view};
+ghost use Rattle.scr_sq1solve.specs.Placed.{KeepsMates, moves_of};
 
 use crate::pieces::{code_of, pieces_at};
 use scr_coord::Coord;
@@ -13,6 +16,7 @@ pub(crate) struct CodeLists<'a> {
     letters: &'a [[u8; 8]; 32],
     ghost size: { length letters.now ≡ 32 },
     ghost valid: { All KeepsMates letters.now } by { Prim.hlevel props },
+    ghost stays: { StaysBelow (projection codes_view (moves_of letters.now)) } by { Prim.hlevel props },
 }
 
 impl<'a> CodeLists<'a> {
@@ -27,11 +31,6 @@ impl<'a> CodeLists<'a> {
 }
 
 impl Coord for CodeLists<'_> {
-    ghost use Rattle.scr_coord.specs.Projections.{projection};
-    ghost use Rattle.scr_sq1solve.specs.Codes.{codes_view};
-    ghost use Rattle.scr_sq1solve.specs.Placed.{moves_of};
-    ghost use Rattle.scr_sq1solve.specs.Proofs.ListCoordinates.{StaysBelow-code_lists};
-
     ghost coordinate = { λ t. projection codes_view (moves_of t.letters.now) };
 
     fn count(&self) -> u32 {
@@ -56,5 +55,5 @@ impl Coord for CodeLists<'_> {
         position == 0
     }
 
-    ghost law = { λ t. StaysBelow-code_lists t.letters.now t.valid };
+    ghost law = { λ t. t.stays };
 }

@@ -2,7 +2,9 @@
 ghost use Rattle.std.specs.Prelude.{◌≡◌, ◌+◌, ◌*◌, ◌<◌, ◌%◌, ◌/◌, IfOk, map};
 ghost use Rattle.std.specs.Option.{option_map};
 ghost use Rattle.std.specs.List.{list_any};
+ghost use Rattle.std.proofs.Props.{props};
 ghost use Rattle.scr_play.specs.Play.{play};
+ghost use Rattle.scr_coord.specs.Coordinates.{StaysBelow};
 ghost use Rattle.scr_coord.specs.Moves.{moves_coordinate};
 ghost use Rattle.scr_coord.specs.SearchSpaces.{ShowsSame};
 ghost use Rattle.scr_sq1.specs.Numbers.{corners_of, edges_of};
@@ -11,15 +13,16 @@ ghost use Rattle.scr_sq1solve.specs.declared.stage_letters.Letters.TheVariants.{
 ghost use Rattle.scr_sq1solve.specs.Codes.{codes_coordinate};
 ghost use Rattle.scr_sq1solve.specs.Letters.{letter_of};
 ghost use Rattle.scr_sq1solve.specs.Stages.{after_letter, quarter_words};
-ghost use Rattle.scr_sq1solve.specs.Tables.{square_index, square_state, has_index, last_bit};
-ghost use Rattle.scr_sq1solve.specs.Proofs.CodeSteps.{IsKept};
+ghost use Rattle.scr_sq1solve.specs.Tables.{square_coordinate, square_index, square_state, has_index, last_bit};
+ghost use Rattle.scr_sq1solve.specs.Placed.{IsKept};
 
 use crate::code_lists::CodeLists;
 use crate::indexes::position_of;
 use crate::letter_places::letter_places;
 use crate::stage_letters::Letters;
 use scr_coord::{Coord, MoveTable};
-use std::alloc::{AllocError, Global};
+use scr_outside::NoMemory;
+use std::alloc::Global;
 
 /// Where 32 letters lead from the lists of corners and from those of edges.
 #[derive(Drop)]
@@ -34,7 +37,7 @@ pub(crate) struct CodeMoves {
 
 impl CodeMoves {
     /// The moves of letters that keep mates opposite to each other. Only memory can be wanting.
-    pub fn build(alloc: Global, letters: Letters) -> Result<CodeMoves, AllocError>
+    pub fn build(alloc: Global, letters: Letters) -> Result<CodeMoves, NoMemory>
         requires { IsKept (letter_of letters) }
         ensures { IfOk result (λ moves. moves.letters ≡ letters) }
     {
@@ -87,11 +90,12 @@ pub(crate) struct SquareMoves {
     quarters: CodeMoves,
     ghost of_home: { home.letters ≡ OfHome },
     ghost of_quarters: { quarters.letters ≡ Quarters },
+    ghost stays: { StaysBelow square_coordinate } by { Prim.hlevel props },
 }
 
 impl SquareMoves {
     /// The moves. Only memory can be wanting.
-    pub fn build(alloc: Global) -> Result<SquareMoves, AllocError> {
+    pub fn build(alloc: Global) -> Result<SquareMoves, NoMemory> {
         Ok(SquareMoves {
             home: CodeMoves::build(alloc, Letters::OfHome)?,
             quarters: CodeMoves::build(alloc, Letters::Quarters)?,
@@ -100,9 +104,6 @@ impl SquareMoves {
 }
 
 impl Coord for SquareMoves {
-    ghost use Rattle.scr_sq1solve.specs.Tables.{square_coordinate};
-    ghost use Rattle.scr_sq1solve.specs.Proofs.HomeStage.{StaysBelow-square};
-
     ghost coordinate = { λ _. square_coordinate };
 
     fn count(&self) -> u32 {
@@ -132,5 +133,5 @@ impl Coord for SquareMoves {
         false
     }
 
-    ghost law = { λ _. StaysBelow-square };
+    ghost law = { λ moves. moves.stays };
 }

@@ -1,7 +1,6 @@
 //! The indexes of a state in the tables.
 ghost use Rattle.std.specs.Prelude.{◌≡◌, ◌+◌, ◌*◌, ◌/◌, ◌%◌, ◌<◌};
-ghost use Rattle.scr_sq1solve.specs.Tables.{shapes_index, square_index};
-ghost use Rattle.scr_sq1solve.specs.Proofs.PairingStage.{pairings_index};
+ghost use Rattle.scr_sq1solve.specs.Tables.{shapes_index, pairings_index, square_index};
 
 use crate::pieces::{code_of, pairing_of};
 use scr_rank::Pairing8;

@@ -1,5 +1,5 @@
 //! What holds of the stages whatever the code: calls that do nothing, whose contracts are the laws.
-ghost use Rattle.std.specs.Prelude.{◌≡◌, ◌≤◌, List, Some};
+ghost use Rattle.std.specs.Prelude.{◌≡◌, ◌≤◌, ◌↔◌, List, Some};
 ghost use Rattle.scr_play.specs.Play.{play};
 ghost use Rattle.scr_play.specs.Reach.{IsReached};
 ghost use Rattle.scr_table.specs.Distances.{Distances};
@@ -8,7 +8,13 @@ ghost use Rattle.scr_notation.specs.declared.turn.Turn.{Turn as Letter};
 ghost use Rattle.scr_sq1.specs.Units.{Sq1State, IsSq1, solved_sq1, sq1_after, sq1_puzzle};
 ghost use Rattle.scr_sq1solve.specs.Stages.{IsSolution, IsScrambleSq1};
 ghost use Rattle.scr_sq1solve.specs.Counts.{twists_in, turned_over, stage_twists, IsWithinBounds};
-ghost use Rattle.scr_sq1solve.specs.Tables.{sq1_lines};
+ghost use Rattle.scr_coord.specs.SearchSpaces.{positions, Follows};
+ghost use Rattle.scr_sq1.specs.Numbers.{sq1_numbered};
+ghost use Rattle.scr_sq1solve.specs.Spaces.{IsPairedSq1, shapes_space, pairings_space, square_space};
+ghost use Rattle.scr_sq1solve.specs.Tables.{shapes_index, pairings_index, square_index};
+ghost use Rattle.scr_sq1solve.specs.Tables.{shapes_line, pairings_line, square_line, sq1_lines};
+
+use crate::tables::Sq1Tables;
 
 /// Each valid state has a solution where the three tables are built, and so is reached; it has but one, which
 /// leads to solved. So the scramble is one, and leads from solved to the state.
@@ -20,6 +26,30 @@ pub fn solutions()
     ensures one { (s : Sq1State) (v w : List Letter) → IsSq1 s → IsSolution s v → IsSolution s w → v ≡ w }
     ensures solved { (s : Sq1State) (w : List Letter) → IsSq1 s → IsSolution s w → play sq1_after s w ≡ Some solved_sq1 }
     ensures scramble { (s : Sq1State) (w : List Letter) → IsSq1 s → IsScrambleSq1 s w → play sq1_after solved_sq1 w ≡ Some s }
+{}
+
+/// With built tables the valid states are those that turns reach.
+pub fn reached(tables: &Sq1Tables)
+    ensures { (s : Sq1State) → sq1_numbered.IsValid s ↔ IsReached sq1_puzzle s }
+{
+    // `all` says that they are built
+    let _built = tables.all();
+}
+
+/// From every state with an index, of those of which a table speaks, a letter of the table's stage leads to one and the
+/// same index, that to which the table's coordinate leads, or is barred as it is there; and all of them are at the
+/// stage's goal, or none.
+pub fn indexes()
+    ensures shapes { Follows shapes_space (positions shapes_line.coordinate) shapes_index }
+    ensures pairings { Follows pairings_space (positions pairings_line.coordinate) pairings_index }
+    ensures square { Follows square_space (positions square_line.coordinate) square_index }
+{}
+
+/// Two normal states in which mates stand opposite to each other have one index in `square` exactly where they are
+/// equal, up to the equator.
+pub fn layers()
+    ensures { (s r : Sq1State) → IsPairedSq1 s → IsPairedSq1 r
+        → (square_index s ≡ square_index r) ↔ (s.units ≡ r.units) }
 {}
 
 /// A solution has at most 76 twists, and a scramble no more, and at most 153 turns.

@@ -6,7 +6,7 @@
 //! stage sees of a state as a number (`specs/Tables.antt`). [`scramble_sq1`] joins the words, with the turns that end
 //! the first and the last stage and, where it is wanted, the word that turns the equator alone; it tidies the solution,
 //! and takes it back. That each state has exactly one solution, which leads to solved, is the law `laws::solutions`; so
-//! each state is reached. [`needs_sq1`] tests minima by looking at all short words.
+//! each state is reached. [`needs_sq1`] tests minima by looking at all short words, and [`DrawSq1`] draws by it.
 //!
 //! The moves of every table are built of small ones, or of a state for each position, so that no step of a build or a
 //! descent reads a state's number. Only the builds take memory. The crate stands on the Square-1 of `scr_sq1`, on
@@ -15,6 +15,7 @@
 
 mod code_lists;
 mod code_moves;
+mod draw;
 mod indexes;
 pub mod laws;
 mod letter_places;
@@ -28,6 +29,7 @@ mod stage_letters;
 mod stages;
 mod tables;
 
+pub use draw::DrawSq1;
 pub use minima::needs_sq1;
 pub use solving::scramble_sq1;
 pub use tables::Sq1Tables;

@@ -6,8 +6,9 @@ use crate::pairing_lists::PairingLists;
 use crate::shape_states::ShapeStates;
 use crate::stage_letters::Letters;
 use scr_coord::{MoveTable, Product};
+use scr_outside::NoMemory;
 use scr_table::{Line, TableName};
-use std::alloc::{AllocError, Global};
+use std::alloc::Global;
 
 /// The table of shapes and parities.
 pub(crate) struct ShapesLine;
@@ -28,7 +29,7 @@ impl Line for ShapesLine {
 
     type Moves = MoveTable;
 
-    fn moves(alloc: Global) -> Result<MoveTable, AllocError> {
+    fn moves(alloc: Global) -> Result<MoveTable, NoMemory> {
         let states = ShapeStates::build(alloc)?;
         MoveTable::build(alloc, &states)
     }
@@ -55,7 +56,7 @@ impl Line for PairingsLine {
 
     type Moves = MoveTable;
 
-    fn moves(alloc: Global) -> Result<MoveTable, AllocError> {
+    fn moves(alloc: Global) -> Result<MoveTable, NoMemory> {
         let places = letter_places(Letters::OfPairings);
         let corners = PairingLists::new(&places.corners);
         let edges = PairingLists::new(&places.edges);
@@ -85,7 +86,7 @@ impl Line for SquareLine {
 
     type Moves = MoveTable;
 
-    fn moves(alloc: Global) -> Result<MoveTable, AllocError> {
+    fn moves(alloc: Global) -> Result<MoveTable, NoMemory> {
         let moves = SquareMoves::build(alloc)?;
         MoveTable::build(alloc, &moves)
     }

@@ -2,6 +2,10 @@
 ghost use Rattle.std.specs.Prelude.{◌≡◌, All, length};
 ghost use Rattle.std.proofs.Props.{props};
 ghost use Rattle.scr_combinatorics.specs.Permutations.{IsPermutation};
+ghost use Rattle.scr_coord.specs.Coordinates.{StaysBelow};
+ghost use Rattle.scr_coord.specs.Projections.{projection};
+ghost use Rattle.scr_sq1solve.specs.Tables.{pairings_view};
+ghost use Rattle.scr_sq1solve.specs.Placed.{moves_of};
 
 use crate::pieces::carried_pairing;
 use scr_coord::Coord;
@@ -16,6 +20,7 @@ pub(crate) struct PairingLists<'a> {
     letters: &'a [[u8; 8]; 32],
     ghost size: { length letters.now ≡ 32 },
     ghost valid: { All (IsPermutation 8) letters.now } by { Prim.hlevel props },
+    ghost stays: { StaysBelow (projection pairings_view (moves_of letters.now)) } by { Prim.hlevel props },
 }
 
 impl<'a> PairingLists<'a> {
@@ -29,12 +34,6 @@ impl<'a> PairingLists<'a> {
 }
 
 impl Coord for PairingLists<'_> {
-    ghost use Rattle.std.specs.Prelude.{map};
-    ghost use Rattle.scr_coord.specs.Projections.{projection};
-    ghost use Rattle.scr_sq1solve.specs.Tables.{pairings_view};
-    ghost use Rattle.scr_sq1solve.specs.Placed.{moves_of};
-    ghost use Rattle.scr_sq1solve.specs.Proofs.ListCoordinates.{StaysBelow-pairing_lists};
-
     ghost coordinate = { λ t. projection pairings_view (moves_of t.letters.now) };
 
     fn count(&self) -> u32 {
@@ -55,5 +54,5 @@ impl Coord for PairingLists<'_> {
         position == HOME
     }
 
-    ghost law = { λ t. StaysBelow-pairing_lists t.letters.now t.valid };
+    ghost law = { λ t. t.stays };
 }

@@ -1,11 +1,13 @@
 //! A state for each index of the table `shapes`, as a coordinate.
 ghost use Rattle.std.specs.Prelude.{◌≡◌, ◌<◌, true};
 ghost use Rattle.std.specs.List.{list_any};
+ghost use Rattle.std.proofs.Props.{props};
 ghost use Rattle.scr_play.specs.Play.{play};
+ghost use Rattle.scr_coord.specs.Coordinates.{StaysBelow};
 ghost use Rattle.scr_coord.specs.Moves.{each_below};
 ghost use Rattle.scr_sq1.specs.Units.{sq1_after, solved_sq1};
 ghost use Rattle.scr_sq1solve.specs.Stages.{shape_letter, squaring_words};
-ghost use Rattle.scr_sq1solve.specs.Tables.{shapes_state, shapes_index, has_index};
+ghost use Rattle.scr_sq1solve.specs.Tables.{shapes_coordinate, shapes_state, shapes_index, has_index};
 
 use crate::indexes::shapes_index;
 use crate::stage_letters::{Letters, are_still, letter};
@@ -31,6 +33,7 @@ const EXCHANGED: u128 = 5040;
 pub(crate) struct ShapeStates {
     states: Vec<Sq1>,
     ghost each: { states.items ≡ each_below shapes_state 7356 },
+    ghost stays: { StaysBelow shapes_coordinate } by { Prim.hlevel props },
 }
 
 impl ShapeStates {
@@ -97,9 +100,6 @@ fn is_square(state: &Sq1) -> bool
 }
 
 impl Coord for ShapeStates {
-    ghost use Rattle.scr_sq1solve.specs.Tables.{shapes_coordinate};
-    ghost use Rattle.scr_sq1solve.specs.Proofs.ShapeStage.{StaysBelow-shapes};
-
     ghost coordinate = { λ _. shapes_coordinate };
 
     fn count(&self) -> u32 {
@@ -120,5 +120,5 @@ impl Coord for ShapeStates {
         is_square(self.state_at(position))
     }
 
-    ghost law = { λ _. StaysBelow-shapes };
+    ghost law = { λ states. states.stays };
 }

@@ -83,6 +83,7 @@ fn stage_walk<L: StageLine>(table: &LineTable<L>, state: &Sq1) -> Walk
     ensures at_most { length result.turns.turns ≤ L.stage.bound * L.each.turns }
     ensures twists { twists_in result.turns.turns ≤ L.stage.bound * L.each.twists }
 {
+    L::is_found_by_index();
     let word = table.descend(L::index_of(state));
     followed::<L>(&word[..], state)
 }

@@ -12,10 +12,9 @@ pub(crate) trait StageLine: Line {
     ghost use Rattle.scr_coord.specs.SearchSpaces.{positions, Follows};
     ghost use Rattle.scr_sq1.specs.Units.{Sq1State};
     ghost use Rattle.scr_sq1solve.specs.Stages.{Stage};
-    ghost use Rattle.scr_sq1solve.specs.Counts.{Cost};
+    ghost use Rattle.scr_sq1solve.specs.Counts.{Cost, Costs};
     ghost use Rattle.scr_sq1solve.specs.Letters.{letter_of, IsInReach};
-    ghost use Rattle.scr_sq1solve.specs.Proofs.Indexed.{stage_space};
-    ghost use Rattle.scr_sq1solve.specs.Proofs.Lengths.{Costs};
+    ghost use Rattle.scr_sq1solve.specs.Spaces.{stage_space};
 
     /// Its letters, its goal and its bound.
     ghost stage: { Stage };
@@ -37,24 +36,22 @@ pub(crate) trait StageLine: Line {
     fn index_of(state: &Sq1) -> u32
         ensures { result ≡ index state.now };
 
-    /// From a state and from its index a search finds the same.
-    ghost follows: { Follows (stage_space starts stage.letters stage.letter stage.IsGoal)
-        (positions Self.line.coordinate) index };
+    /// What a walk down the table rests on: from a state and from its index a search finds the same, and a letter has
+    /// no more turns and twists. The call does nothing.
+    fn is_found_by_index()
+        ensures follows { Follows (stage_space starts stage.letters stage.letter stage.IsGoal)
+            (positions Self.line.coordinate) index }
+        ensures costs { (number : ℕ) → Costs (stage.letter number) each.turns each.twists };
 
     /// The table reaches no farther than the stage, whose words and letters are few.
     ghost in_reach: { IsInReach stage Self.line.bound };
-
-    /// A letter has no more.
-    ghost costs: { (number : ℕ) → Costs (stage.letter number) each.turns each.twists };
 }
 
 impl StageLine for ShapesLine {
     ghost use Rattle.std.proofs.Common.{lit≤};
     ghost use Rattle.scr_sq1.specs.Units.{IsSq1};
     ghost use Rattle.scr_sq1solve.specs.Stages.{shape_stage};
-    ghost use Rattle.scr_sq1solve.specs.Proofs.Lengths.{Costs-shape};
     ghost use Rattle.scr_sq1solve.specs.Tables.{shapes_index};
-    ghost use Rattle.scr_sq1solve.specs.Proofs.ShapeStage.{Follows-shapes};
 
     ghost stage = { shape_stage };
 
@@ -72,19 +69,16 @@ impl StageLine for ShapesLine {
         shapes_index(state)
     }
 
-    ghost follows = { Follows-shapes };
+    fn is_found_by_index() {}
 
     ghost in_reach = { record { within = lit≤ tt; short = lit≤ tt; few_letters = lit≤ tt } };
-
-    ghost costs = { Costs-shape };
 }
 
 impl StageLine for PairingsLine {
     ghost use Rattle.std.proofs.Common.{lit≤};
     ghost use Rattle.scr_sq1solve.specs.Stages.{pairing_stage};
-    ghost use Rattle.scr_sq1solve.specs.Proofs.Lengths.{Costs-pairing};
-    ghost use Rattle.scr_sq1solve.specs.Proofs.Letters.{IsNormalSq1};
-    ghost use Rattle.scr_sq1solve.specs.Proofs.PairingStage.{Follows-pairings, pairings_index};
+    ghost use Rattle.scr_sq1solve.specs.Tables.{pairings_index};
+    ghost use Rattle.scr_sq1solve.specs.Spaces.{IsNormalSq1};
 
     ghost stage = { pairing_stage };
 
@@ -102,19 +96,16 @@ impl StageLine for PairingsLine {
         pairings_index(state)
     }
 
-    ghost follows = { Follows-pairings };
+    fn is_found_by_index() {}
 
     ghost in_reach = { record { within = lit≤ tt; short = lit≤ tt; few_letters = lit≤ tt } };
-
-    ghost costs = { Costs-pairing };
 }
 
 impl StageLine for SquareLine {
     ghost use Rattle.std.proofs.Common.{lit≤};
     ghost use Rattle.scr_sq1solve.specs.Stages.{home_stage};
-    ghost use Rattle.scr_sq1solve.specs.Proofs.Lengths.{Costs-home};
     ghost use Rattle.scr_sq1solve.specs.Tables.{square_index};
-    ghost use Rattle.scr_sq1solve.specs.Proofs.HomeStage.{IsPairedSq1, Follows-square};
+    ghost use Rattle.scr_sq1solve.specs.Spaces.{IsPairedSq1};
 
     ghost stage = { home_stage };
 
@@ -132,9 +123,7 @@ impl StageLine for SquareLine {
         square_index(state)
     }
 
-    ghost follows = { Follows-square };
+    fn is_found_by_index() {}
 
     ghost in_reach = { record { within = lit≤ tt; short = lit≤ tt; few_letters = lit≤ tt } };
-
-    ghost costs = { Costs-home };
 }

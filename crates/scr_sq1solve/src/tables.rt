@@ -1,7 +1,7 @@
 //! The tables of the stages.
-ghost use Rattle.std.specs.Prelude.{◌≡◌, ◌↔◌, map, IfOk, IfErr, IfSome, IsSome};
+ghost use Rattle.std.specs.Prelude.{◌≡◌, ◌↔◌, map, All, IfOk, IfErr, IfSome, IsSome};
 ghost use Rattle.scr_table.specs.Causes.{IsCauseOf};
-ghost use Rattle.scr_table.specs.Lines.{AreTablesOf, HasNamed, IsNamed};
+ghost use Rattle.scr_table.specs.Lines.{AreTablesOf, HasNamed, HasNoGap, IsFirstNamed};
 ghost use Rattle.scr_sq1solve.specs.Tables.{sq1_lines};
 
 use crate::lines::{PairingsLine, ShapesLine, SquareLine};
@@ -21,17 +21,22 @@ pub struct Sq1Tables {
 impl Model for Sq1Tables {
     ghost use Rattle.std.specs.Prelude.{List, [], ◌∷◌};
     ghost use Rattle.scr_table.specs.Distances.{Distances};
+    ghost use Rattle.scr_table.specs.Lines.{AreTablesOf};
+    ghost use Rattle.scr_sq1solve.specs.Tables.{sq1_lines};
 
     ghost Value = { List Distances };
 
-    ghost view = { λ t. t.shapes.distances ∷ t.pairings.distances ∷ t.square.distances ∷ [] };
+    ghost view = { λ t. t.shapes ∷ t.pairings ∷ t.square ∷ [] };
+
+    ghost invariant = { λ t. AreTablesOf sq1_lines (t.shapes ∷ t.pairings ∷ t.square ∷ []) };
 }
 
 impl Sq1Tables {
-    /// The tables `shapes`, `pairings` and `square`, built in this order, or why one isn't: there is no memory for it,
-    /// or it has a gap, which its line rules out where the bounds are right.
+    /// The tables `shapes`, `pairings` and `square`, built in this order, or why they are not: there is no
+    /// memory, or one has a gap. The first gap of the first such table is named.
     pub fn build(alloc: Global) -> Result<Sq1Tables, BuildFault>
         ensures built { IfOk result (AreTablesOf sq1_lines) }
+        ensures whole { IfOk result (λ _. All HasNoGap sq1_lines) }
         ensures cause { IfErr result (IsCauseOf sq1_lines) }
     {
         Ok(Sq1Tables {
@@ -44,7 +49,7 @@ impl Sq1Tables {
     /// The built table of this name. `None` comes exactly where none of the three has it.
     pub fn table(&self, name: TableName) -> Option<&DistanceTable>
         ensures found { IsSome result ↔ HasNamed self.now name }
-        ensures value { IfSome result (λ found. IsNamed self.now name found.now) }
+        ensures first { IfSome result (λ found. IsFirstNamed self.now name found.now) }
         ensures built { AreTablesOf sq1_lines self.now }
     {
         table_named(&self.all()[..], name)
@@ -54,11 +59,12 @@ impl Sq1Tables {
     pub fn all(&self) -> [&DistanceTable; 3]
         ensures same { map (λ table. table.now) result ≡ self.now }
         ensures built { AreTablesOf sq1_lines self.now }
+        ensures whole { All HasNoGap sq1_lines }
     {
         [
-            &self.shapes.distances,
-            &self.pairings.distances,
-            &self.square.distances,
+            self.shapes.distances(),
+            self.pairings.distances(),
+            self.square.distances(),
         ]
     }
 }

@@ -16,7 +16,7 @@ use Rattle.scr_notation.specs.TurnNumbers.{face_turn_at}
 use Rattle.scr_notation.specs.Turning.{opposite}
 use Rattle.scr_coord.specs.Coordinates.{StaysBelow}
 use Rattle.scr_coord.specs.Projections.{turned_set}
-use Rattle.scr_coord.specs.SearchSpaces.{SearchSpace, positions, Follows}
+use Rattle.scr_coord.specs.SearchSpaces.{positions, Follows}
 use Rattle.scr_coord.proofs.SearchLaws.{FindsTheSame-follows}
 use Rattle.scr_table.specs.Distances.{Distances, Measures}
 use Rattle.scr_table.proofs.FoundWords.{first_word}
@@ -25,6 +25,7 @@ use Rattle.scr_cube.specs.Cube333.{CubeState, IsCube, CubeTurn, cube_action, cub
 use Rattle.scr_cube.proofs.Laws333.{lawful_cube}
 use Rattle.scr_stages.specs.Stages.{IsHalfTurned, half_turns, after_of}
 use Rattle.scr_stages.specs.Numbers.{IsDominoCube, first_edges, tetrads_number, IsHalfCube, half_cubes}
+use Rattle.scr_stages.specs.Spaces.{halves_space}
 use Rattle.scr_stages.specs.Tables.{turns_of, halves_coordinate}
 use Rattle.scr_stages.specs.Tetrads.{corner_index, corners_at}
 use Rattle.scr_stages.proofs.ViewLaws.{TurnsStates, kept_by, Follows-numbered, StaysBelow-numbered}
@@ -90,7 +91,7 @@ no_seventh : (c : CubeState) (place : ℕ) → 6 ≤ place → after_of half_tur
 no_seventh c place le =
     ap (option_and_then (λ t. (after_letter cube_powers) c (face_turn_at t))) (slice_get_past half_turns place le)
 
-pub Follows-halves : Follows (record { IsValid = IsHalfCube; after = after_of half_turns; IsGoal = λ c. c ≡ solved_cube }) (positions halves_coordinate) half_cubes.number_of
+pub Follows-halves : Follows halves_space (positions halves_coordinate) half_cubes.number_of
 Follows-halves =
     Follows-numbered half_cubes half_cubes-numbered.one_to_one 6 (after_of half_turns) solved_cube IsHalfCube-solved IsHalfCube-after no_seventh
 
@@ -131,10 +132,11 @@ play-reversed after IsValid keeps undoes s r (t ∷ w) h e =
 -- Where a table measures the halves, such a cube is reached by half turns.
 pub IsHalfTurned-half_cube : (table : Distances) → Measures halves_coordinate table → (c : CubeState) → IsHalfCube c → IsHalfTurned c
 IsHalfTurned-half_cube table m c h =
-    let space : SearchSpace CubeState = record { IsValid = IsHalfCube; after = after_of half_turns; IsGoal = λ c. c ≡ solved_cube } in
     let number = half_cubes.number_of c in
     let found = first_word halves_coordinate StaysBelow-halves table m number (half_cubes-numbered.one_to_one.below c h) in
-    let leads = ((FindsTheSame-follows space (positions halves_coordinate) half_cubes.number_of Follows-halves).words c found.0 h).1 found.1.leads in (
+    let leads =
+    ((FindsTheSame-follows halves_space (positions halves_coordinate) half_cubes.number_of Follows-halves).words c
+    found.0 h).1 found.1.leads in (
       reverse found.0,
       play-reversed (after_of half_turns) IsHalfCube IsHalfCube-after (λ s r t k e. undone s r t k.cube e) c solved_cube found.0 h (leads.played ∙ ap Some leads.goal),
     )

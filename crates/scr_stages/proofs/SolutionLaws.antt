@@ -21,11 +21,13 @@ use Rattle.scr_table.specs.Lines.{IsTableOf, AreTablesOf}
 use Rattle.scr_table.proofs.LineLaws.{table_of_line}
 use Rattle.scr_cube.specs.Cube333.{CubeState, IsCube, cube_powers, solved_cube}
 use Rattle.scr_cube.proofs.Laws333.{lawful_cube}
-use Rattle.scr_stages.specs.Stages.{after_of, letters_of, Stage, IsSolution, stages, IsStageScramble, flips_stage, slice_stage, tetrads_stage, halves_stage}
+use Rattle.scr_stages.specs.Stages.{after_of, letters_of, Stage, IsSolution, stages, IsHalfTurned, IsStageScramble}
+use Rattle.scr_stages.specs.Stages.{flips_stage, slice_stage, tetrads_stage, halves_stage}
 use Rattle.scr_stages.specs.Numbers.{flips_number, slice_number, tetrads_number, half_cubes, IsUnflippedCube, IsDominoCube, IsHalfCube}
 use Rattle.scr_stages.specs.Tables.{flips_line, slice_line, tetrads_line, halves_line, stage_lines}
-use Rattle.scr_stages.proofs.StageSpaces.{Follows-flips, Follows-slice}
+use Rattle.scr_stages.proofs.StageSpaces.{Follows-flips, Follows-unflipped}
 use Rattle.scr_stages.proofs.HalfTurned.{IsHalfCube-half_turned, Follows-halves, StaysBelow-halves}
+use Rattle.scr_stages.proofs.HalfTurned.{tetrads_number-half_turned}
 use Rattle.scr_stages.proofs.StageWords.{StaysBelow-flips, StaysBelow-slice, StaysBelow-tetrads, stage_word, Follows-half_turned}
 
 -- ---- words of places as letters
@@ -128,7 +130,9 @@ module _ (of_flips of_slice of_tetrads of_halves : Distances) (is_flips : IsTabl
       let first = flips.1.first.leads in
       let second_valid : IsUnflippedCube first.end =
       record { cube = IsCube-played c first.end flips_stage.turns flips.0 h first.played; no_flips = first.goal } in
-      let slice = stage_word slice_stage IsUnflippedCube slice_line slice_number Follows-slice StaysBelow-slice refl of_slice is_slice first.end second_valid in
+      let slice =
+      stage_word slice_stage IsUnflippedCube slice_line slice_number Follows-unflipped StaysBelow-slice refl of_slice
+      is_slice first.end second_valid in
       let second = slice.1.first.leads in
       let third_valid : IsDominoCube second.end =
       record { cube = IsCube-played first.end second.end slice_stage.turns slice.0 second_valid.cube second.played; domino = second.goal } in
@@ -154,6 +158,13 @@ solution tables built c h =
     let tetrads = table tetrads_line (2, lit< tt, refl) in
     let halves = table halves_line (3, lit< tt, refl) in
     solution_by flips.0 slice.0 tetrads.0 halves.0 flips.1 slice.1 tetrads.1 halves.1 c h
+
+-- Where the tables are built, a domino has the index of solved exactly where half turns reach it.
+pub tetrads_number-built : (tables : List Distances) → AreTablesOf stage_lines tables → (c : CubeState) → IsDominoCube c
+    → (tetrads_number c ≡ tetrads_number solved_cube) ↔ IsHalfTurned c
+tetrads_number-built tables built =
+    let halves = table_of_line stage_lines tables built halves_line (3, lit< tt, refl) in
+    tetrads_number-half_turned halves.0 halves.1.measures
 
 -- ---- scrambles
 

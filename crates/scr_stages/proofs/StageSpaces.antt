@@ -1,8 +1,9 @@
 -- The numbers of cubes go along with the turns of their stages.
-use Rattle.std.proofs.Common.{◌≡◌, ℕ, ◌+◌, ◌*◌, ◌<◌, List, map, refl, sym, ap, ◌∙◌, lit<, arith}
-use Rattle.std.specs.Prelude.{◌↔◌}
+use Rattle.std.proofs.Common.{◌≡◌, ℕ, ◌+◌, ◌*◌, ◌<◌, List, map, length, refl, sym, ap, ◌∙◌, lit<, arith}
+use Rattle.std.specs.Prelude.{All, ◌↔◌}
 use Rattle.std.proofs.Math.Nat.{mul_comm}
 use Rattle.std.proofs.lemmas.Nat.{same_from_place}
+use Rattle.std.proofs.lemmas.List.{length-map}
 use Rattle.scr_combinatorics.specs.Lists.{numbers_from, pick}
 use Rattle.scr_combinatorics.specs.PlaceSets.{IsPlaceSet, place_set_number}
 use Rattle.scr_combinatorics.specs.Twists.{IsTwists, twists_number, twists_at}
@@ -10,6 +11,7 @@ use Rattle.scr_combinatorics.proofs.PlaceSets.{place_set_number-lt, place_set_nu
 use Rattle.scr_combinatorics.proofs.Twists.{twists_number-lt, twists_number-injective, twists_at-number}
 use Rattle.scr_orbit.specs.Orbits.{zeros, turned_orbit, added_digits, solved_orbit}
 use Rattle.scr_orbit.proofs.OrbitLaws.{IsZeroSumOrbit-solved}
+use Rattle.scr_coord.specs.Products.{product}
 use Rattle.scr_coord.specs.Projections.{projection, twists_view, place_set_view, stands_in, turned_set}
 use Rattle.scr_coord.specs.SearchSpaces.{positions, Follows}
 use Rattle.scr_coord.proofs.MarkedPieces.{IsPlaceSet-marked}
@@ -18,11 +20,13 @@ use Rattle.scr_cube.specs.Cube333.{CubeState, IsCube, IsCubeTurn, cube_action, s
 use Rattle.scr_cube.proofs.Laws333.{cube_laws}
 use Rattle.scr_stages.specs.Stages.{HasNoFlips, IsDomino, middle_edges, after_of, flips_stage, slice_stage, tetrads_stage}
 use Rattle.scr_stages.specs.Numbers.{flips_number, slice_number, first_edges, tetrads_number, IsUnflippedCube, IsDominoCube}
+use Rattle.scr_stages.specs.Spaces.{cube_space, IsUntwisted, IsInMiddle, flips_space, slice_space, tetrads_space}
 use Rattle.scr_stages.specs.Tables.{turns_of, corners_by, edges_by, block_turn, outer_places, flips_coordinate, slice_coordinate, tetrads_coordinate}
 use Rattle.scr_stages.specs.Tetrads.{corner_index, tetrads_view}
 use Rattle.scr_stages.proofs.Blocks.{places_in}
-use Rattle.scr_stages.proofs.ViewLaws.{TurnsStates, Follows-viewed, Follows-goals}
-use Rattle.scr_stages.proofs.TurnFacts.{after_of-turns, IsSliceTurn, IsDominoTurn, flips_numbers, flips_turns, slice_numbers, slice_turns, tetrads_numbers, tetrads_turns}
+use Rattle.scr_stages.proofs.ViewLaws.{TurnsStates, kept_by, Follows-viewed, Follows-goals, Follows-fewer}
+use Rattle.scr_stages.proofs.TurnFacts.{after_of-turns, All-turns, IsSliceTurn, IsDominoTurn, flips_numbers}
+use Rattle.scr_stages.proofs.TurnFacts.{slice_numbers, slice_turns, tetrads_numbers, tetrads_turns}
 use Rattle.scr_stages.proofs.TetradLaws.{corner_index-lt, corner_index-turned}
 use Rattle.scr_stages.proofs.DominoLaws.{HasNoFlips-turned, places-turned, IsDominoCube-turned, IsPlaceSet-middle, IsPlaceSet-outer, IsPlaceSet-first_places, turned_set-outer}
 
@@ -30,69 +34,111 @@ IsTwists-zeros : (n m : ℕ) → 0 < m → IsTwists n m (zeros n)
 unfolding solved_orbit
 IsTwists-zeros n m pos = (IsZeroSumOrbit-solved n m pos).digits
 
--- ---- the flips
+-- ---- all cubes, by any turns
 
-pub flips_moves : TurnsStates cube_action.turned (turns_of flips_stage.turns) (after_of flips_stage.turns) IsCube IsCubeTurn
-flips_moves = record { each = flips_turns; after_is = after_of-turns flips_stage.turns flips_numbers; keeps = cube_laws.valid }
+pub cube_moves : (numbers : List ℕ) → All (λ t. t < 18) numbers
+    → TurnsStates cube_action.turned (turns_of numbers) (after_of numbers) IsCube IsCubeTurn
+cube_moves numbers below =
+    record { each = All-turns numbers below; after_is = after_of-turns numbers below; keeps = cube_laws.valid }
 
 -- digits by their number, after a turn
-pub twists-turned : (n m : ℕ) (ds ks added : List ℕ) → 0 < n → 0 < m → IsTwists n m ds
+twists-turned : (n m : ℕ) (ds ks added : List ℕ) → 0 < n → 0 < m → IsTwists n m ds
     → twists_number m (added_digits m (pick (twists_at n m (twists_number m ds)) ks) added) ≡ twists_number m (added_digits m (pick ds ks) added)
 twists-turned n m ds ks added some pos h = ap (λ xs. twists_number m (added_digits m (pick xs ks) added)) (twists_at-number n m ds some pos h)
 
-pub twists-goal : (n m : ℕ) (ds : List ℕ) → 0 < n → 0 < m → IsTwists n m ds → (ds ≡ zeros n) ↔ (twists_number m ds ≡ twists_number m (zeros n))
+twists-goal : (n m : ℕ) (ds : List ℕ) → 0 < n → 0 < m → IsTwists n m ds
+    → (ds ≡ zeros n) ↔ (twists_number m ds ≡ twists_number m (zeros n))
 twists-goal n m ds some pos h =
     (λ e. ap (twists_number m) e, λ e. twists_number-injective n m ds (zeros n) some h (IsTwists-zeros n m pos) e)
 
-pub Follows-flips : Follows (record { IsValid = IsCube; after = after_of flips_stage.turns; IsGoal = HasNoFlips }) (positions flips_coordinate) flips_number
-unfolding turned_orbit
-Follows-flips =
-    Follows-viewed cube_action.turned (turns_of flips_stage.turns) (after_of flips_stage.turns) IsCube IsCubeTurn flips_moves (twists_view 12 2)
-    (λ r. r.edges) flips_number HasNoFlips (λ c h. twists_number-lt 12 2 c.edges.digits h.edges.digits)
-    (λ c r h t. twists-turned 12 2 c.edges.digits r.edges.places r.edges.added (lit< tt) (lit< tt) h.edges.digits)
-    (λ c h. twists-goal 12 2 c.edges.digits (lit< tt) (lit< tt) h.edges.digits)
+pub IsPlaceSet-middle_places : (c : CubeState) → IsCube c → IsPlaceSet 12 4 (places_in middle_edges c.edges.pieces)
+IsPlaceSet-middle_places c h = IsPlaceSet-marked 12 4 (stands_in middle_edges) c.edges.pieces h.edges.pieces refl
 
--- ---- twists, and the middle layer
+module _ (numbers : List ℕ) (below : All (λ t. t < 18) numbers) where
+  pub Follows-flips_by : Follows (cube_space IsCube numbers HasNoFlips)
+      (positions (projection (twists_view 12 2) (edges_by numbers))) flips_number
+  unfolding turned_orbit
+  Follows-flips_by =
+      Follows-viewed cube_action.turned (turns_of numbers) (after_of numbers) IsCube IsCubeTurn
+      (cube_moves numbers below) (twists_view 12 2)
+      (λ r. r.edges) flips_number HasNoFlips (λ c h. twists_number-lt 12 2 c.edges.digits h.edges.digits)
+      (λ c r h t. twists-turned 12 2 c.edges.digits r.edges.places r.edges.added (lit< tt) (lit< tt) h.edges.digits)
+      (λ c h. twists-goal 12 2 c.edges.digits (lit< tt) (lit< tt) h.edges.digits)
 
-slice_moves : TurnsStates cube_action.turned (turns_of slice_stage.turns) (after_of slice_stage.turns) IsUnflippedCube IsSliceTurn
-slice_moves = record {
+  pub Follows-twists_by : Follows (cube_space IsCube numbers IsUntwisted)
+      (positions (projection (twists_view 8 3) (corners_by numbers)))
+      (λ c. twists_number 3 c.corners.digits)
+  unfolding turned_orbit
+  Follows-twists_by =
+      Follows-viewed cube_action.turned (turns_of numbers) (after_of numbers) IsCube IsCubeTurn
+      (cube_moves numbers below) (twists_view 8 3)
+      (λ r. r.corners) (λ c. twists_number 3 c.corners.digits) IsUntwisted
+      (λ c h. twists_number-lt 8 3 c.corners.digits h.corners.digits)
+      (λ c r h t. twists-turned 8 3 c.corners.digits r.corners.places r.corners.added (lit< tt) (lit< tt)
+      h.corners.digits)
+      (λ c h. twists-goal 8 3 c.corners.digits (lit< tt) (lit< tt) h.corners.digits)
+
+  pub Follows-middle_by : Follows (cube_space IsCube numbers IsInMiddle)
+      (positions (projection (place_set_view 12 4 middle_edges) (edges_by numbers)))
+      (λ c. place_set_number 12 (places_in middle_edges c.edges.pieces))
+  unfolding turned_orbit
+  Follows-middle_by =
+      Follows-viewed cube_action.turned (turns_of numbers) (after_of numbers) IsCube IsCubeTurn
+      (cube_moves numbers below) (place_set_view 12 4 middle_edges)
+      (λ r. r.edges) (λ c. place_set_number 12 (places_in middle_edges c.edges.pieces)) IsInMiddle
+      (λ c h. place_set_number-lt 12 4 (places_in middle_edges c.edges.pieces) (IsPlaceSet-middle_places c h))
+      (λ c r h t.
+      ap (λ set. place_set_number 12 (turned_set set r.edges))
+      (place_set_at-number 12 4 (places_in middle_edges c.edges.pieces) (IsPlaceSet-middle_places c h))
+      ∙ ap (place_set_number 12) (sym (places-turned 12 2 middle_edges c.edges r.edges h.edges.pieces t.edges.places)))
+      (λ c h. (
+        λ e. ap (place_set_number 12) e,
+        λ e. place_set_number-injective 12 4 (places_in middle_edges c.edges.pieces) middle_edges
+            (IsPlaceSet-middle_places c h) IsPlaceSet-middle e,
+      ))
+
+  -- the twists beside the middle layer
+  pub Follows-twists_beside : Follows (cube_space IsCube numbers (λ c. IsUntwisted c × IsInMiddle c))
+      (positions
+      (product (projection (twists_view 8 3) (corners_by numbers))
+      (projection (place_set_view 12 4 middle_edges) (edges_by numbers))))
+      slice_number
+  Follows-twists_beside =
+      Follows-product IsCube IsUntwisted IsInMiddle (after_of numbers)
+      (projection (twists_view 8 3) (corners_by numbers))
+      (projection (place_set_view 12 4 middle_edges) (edges_by numbers)) (λ c. twists_number 3 c.corners.digits)
+      (λ c. place_set_number 12 (places_in middle_edges c.edges.pieces)) same_turns Follows-twists_by Follows-middle_by
+    where
+      same_turns : length (edges_by numbers) ≡ length (corners_by numbers)
+      same_turns = length-map (turns_of numbers) (λ r. r.edges) ∙ sym (length-map (turns_of numbers) (λ r. r.corners))
+
+-- ---- the first two stages
+
+pub Follows-flips : Follows flips_space (positions flips_coordinate) flips_number
+Follows-flips = Follows-flips_by flips_stage.turns flips_numbers
+
+pub Follows-slice : Follows slice_space (positions slice_coordinate) slice_number
+Follows-slice = Follows-twists_beside slice_stage.turns slice_numbers
+
+unflipped_moves : TurnsStates cube_action.turned (turns_of slice_stage.turns) (after_of slice_stage.turns)
+    IsUnflippedCube IsSliceTurn
+unflipped_moves = record {
   each = slice_turns;
   after_is = after_of-turns slice_stage.turns slice_numbers;
   keeps = λ c r h t. record { cube = cube_laws.valid c r h.cube t.valid; no_flips = HasNoFlips-turned c r h.no_flips t };
 }
 
-pub IsPlaceSet-middle_places : (c : CubeState) → IsCube c → IsPlaceSet 12 4 (places_in middle_edges c.edges.pieces)
-IsPlaceSet-middle_places c h = IsPlaceSet-marked 12 4 (stands_in middle_edges) c.edges.pieces h.edges.pieces refl
-
-pub Follows-slice : Follows (record { IsValid = IsUnflippedCube; after = after_of slice_stage.turns; IsGoal = IsDomino }) (positions slice_coordinate) slice_number
-unfolding turned_orbit
-Follows-slice =
+-- without flips it leads to dominoes
+pub Follows-unflipped : Follows (cube_space IsUnflippedCube slice_stage.turns IsDomino) (positions slice_coordinate)
+    slice_number
+Follows-unflipped =
     let after = after_of slice_stage.turns in
-    let IsNotTwisted : CubeState → Type 0 = λ c. c.corners.digits ≡ zeros 8 in
-    let IsMiddle : CubeState → Type 0 = λ c. places_in middle_edges c.edges.pieces ≡ middle_edges in
-    let low = projection (twists_view 8 3) (corners_by slice_stage.turns) in
-    let high = projection (place_set_view 12 4 middle_edges) (edges_by slice_stage.turns) in
-    let low_number = λ (c : CubeState). twists_number 3 c.corners.digits in
-    let high_number = λ (c : CubeState). place_set_number 12 (places_in middle_edges c.edges.pieces) in
-    let twists =
-    Follows-viewed cube_action.turned (turns_of slice_stage.turns) after IsUnflippedCube IsSliceTurn slice_moves (twists_view 8 3)
-    (λ r. r.corners) low_number IsNotTwisted (λ c h. twists_number-lt 8 3 c.corners.digits h.cube.corners.digits)
-    (λ c r h t. twists-turned 8 3 c.corners.digits r.corners.places r.corners.added (lit< tt) (lit< tt) h.cube.corners.digits)
-    (λ c h. twists-goal 8 3 c.corners.digits (lit< tt) (lit< tt) h.cube.corners.digits) in
-    let middle =
-    Follows-viewed cube_action.turned (turns_of slice_stage.turns) after IsUnflippedCube IsSliceTurn slice_moves (place_set_view 12 4 middle_edges)
-    (λ r. r.edges) high_number IsMiddle
-    (λ c h. place_set_number-lt 12 4 (places_in middle_edges c.edges.pieces) (IsPlaceSet-middle_places c h.cube))
-    (λ c r h t.
-    ap (λ set. place_set_number 12 (turned_set set r.edges)) (place_set_at-number 12 4 (places_in middle_edges c.edges.pieces) (IsPlaceSet-middle_places c h.cube))
-    ∙ ap (place_set_number 12) (sym (places-turned 12 2 middle_edges c.edges r.edges h.cube.edges.pieces t.valid.edges.places)))
-    (λ c h. (
-      λ e. ap (place_set_number 12) e,
-      λ e. place_set_number-injective 12 4 (places_in middle_edges c.edges.pieces) middle_edges (IsPlaceSet-middle_places c h.cube) IsPlaceSet-middle e,
-    )) in
-    Follows-goals IsUnflippedCube (λ c. IsNotTwisted c × IsMiddle c) IsDomino after slice_coordinate slice_number
+    let IsHome : CubeState → Type 0 = λ c. IsUntwisted c × IsInMiddle c in
+    Follows-goals IsUnflippedCube IsHome IsDomino after slice_coordinate slice_number
     (λ c h. (λ d. (d.no_twists, d.middle), λ d. record { no_flips = h.no_flips; no_twists = d.0; middle = d.1 }))
-    (Follows-product IsUnflippedCube IsNotTwisted IsMiddle after low high low_number high_number refl twists middle)
+    (Follows-fewer IsCube IsUnflippedCube IsHome after slice_coordinate slice_number (λ c h. h.cube)
+    (kept_by cube_action.turned (turns_of slice_stage.turns) after IsUnflippedCube IsSliceTurn unflipped_moves)
+    Follows-slice)
 
 -- ---- dominoes
 
@@ -132,8 +178,7 @@ IsTetradsHome-iff c h =
           ∙ ap (λ i. place_set_number 8 first_edges + 70 * i) home.corners ∙ sym tetrads_number-solved,
     )
 
-pub Follows-tetrads : Follows (record { IsValid = IsDominoCube; after = after_of tetrads_stage.turns; IsGoal = λ c. tetrads_number c ≡ tetrads_number solved_cube })
-    (positions tetrads_coordinate) tetrads_number
+pub Follows-tetrads : Follows tetrads_space (positions tetrads_coordinate) tetrads_number
 unfolding turned_orbit
 Follows-tetrads =
     let after = after_of tetrads_stage.turns in
@@ -143,7 +188,7 @@ Follows-tetrads =
     let high = projection tetrads_view (corners_by tetrads_stage.turns) in
     let low_number = λ (c : CubeState). place_set_number 8 (places_in first_edges c.edges.pieces) in
     let high_number = λ (c : CubeState). corner_index c.corners.pieces in
-    let first : Follows (record { IsValid = IsDominoCube; after = after; IsGoal = IsFirst }) (positions low) low_number =
+    let first : Follows (cube_space IsDominoCube tetrads_stage.turns IsFirst) (positions low) low_number =
     Follows-viewed cube_action.turned (turns_of tetrads_stage.turns) after IsDominoCube IsDominoTurn tetrads_moves (place_set_view 8 4 first_edges)
     (λ r. block_turn outer_places r.edges) low_number IsFirst
     (λ c h. place_set_number-lt 8 4 (places_in first_edges c.edges.pieces) (IsPlaceSet-first_places c h))
@@ -157,7 +202,7 @@ Follows-tetrads =
       λ e. ap (place_set_number 8) e,
       λ e. place_set_number-injective 8 4 (places_in first_edges c.edges.pieces) first_edges (IsPlaceSet-first_places c h) IsPlaceSet-outer e,
     )) in
-    let corners : Follows (record { IsValid = IsDominoCube; after = after; IsGoal = IsHome }) (positions high) high_number =
+    let corners : Follows (cube_space IsDominoCube tetrads_stage.turns IsHome) (positions high) high_number =
     Follows-viewed cube_action.turned (turns_of tetrads_stage.turns) after IsDominoCube IsDominoTurn tetrads_moves tetrads_view
     (λ r. r.corners) high_number IsHome (λ c h. corner_index-lt c.corners.pieces h.cube.corners.pieces)
     (λ c r h t. corner_index-turned c.corners.pieces r.corners.places h.cube.corners.pieces t.slice.valid.corners.places)

@@ -16,7 +16,7 @@ use Rattle.scr_orbit.proofs.ActionLaws.{map-some}
 use Rattle.scr_orbit.proofs.PowerLaws.{All-got}
 use Rattle.scr_coord.specs.Coordinates.{StaysBelow, moved, IsGoal}
 use Rattle.scr_coord.specs.Projections.{projection, twists_view, place_set_view}
-use Rattle.scr_coord.specs.SearchSpaces.{SearchSpace, positions, Follows}
+use Rattle.scr_coord.specs.SearchSpaces.{positions, Follows}
 use Rattle.scr_coord.specs.StaysBelowLaws.{StaysBelow-product, StaysBelow-projection, IsListView-twists, IsListView-place_sets}
 use Rattle.scr_coord.proofs.SearchLaws.{FindsTheSame-follows}
 use Rattle.scr_table.specs.Distances.{Distances}
@@ -25,6 +25,7 @@ use Rattle.scr_table.proofs.FoundWords.{first_word}
 use Rattle.scr_cube.specs.Cube333.{CubeState, IsCube, CubeTurn}
 use Rattle.scr_stages.specs.Stages.{after_of, Stage, IsStageWord, middle_edges, flips_stage, slice_stage, tetrads_stage, IsHalfTurned}
 use Rattle.scr_stages.specs.Numbers.{tetrads_number, first_edges, IsDominoCube}
+use Rattle.scr_stages.specs.Spaces.{cube_space}
 use Rattle.scr_stages.specs.Tables.{turns_of, corners_by, edges_by, outer_places, block_turn, flips_coordinate, slice_coordinate, tetrads_coordinate, halves_line}
 use Rattle.scr_stages.specs.Tetrads.{corner_index, corners_at, corners_related, other_places, tetrads_view}
 use Rattle.scr_stages.proofs.TurnFacts.{flips_turns, slice_turns, tetrads_turns}
@@ -101,15 +102,14 @@ StaysBelow-tetrads =
 -- ---- the word of a stage, by its table
 
 module _ (stage : Stage) (IsValid : CubeState → Type 0) (line : TableLine) (number : CubeState → ℕ)
-    (f : Follows (record { IsValid = IsValid; after = after_of stage.turns; IsGoal = stage.IsGoal }) (positions line.coordinate) number)
+    (f : Follows (cube_space IsValid stage.turns stage.IsGoal) (positions line.coordinate) number)
     (stays : StaysBelow line.coordinate) (bound : line.bound ≡ stage.bound) (table : Distances) (built : IsTableOf line table) where
   -- the first word from a cube's number is that of the cube
   pub IsStageWord-first : (c : CubeState) → IsValid c → (word : List ℕ)
       → IsFirstWord (moved line.coordinate) (IsGoal line.coordinate) (number c) word → IsStageWord stage c word
   IsStageWord-first c h word first =
       let coordinate = line.coordinate in
-      let space : SearchSpace CubeState = record { IsValid = IsValid; after = after_of stage.turns; IsGoal = stage.IsGoal } in
-      let same = FindsTheSame-follows space (positions coordinate) number f in
+      let same = FindsTheSame-follows (cube_space IsValid stage.turns stage.IsGoal) (positions coordinate) number f in
       let at = f.valid c h in
       let long = IsDistance-unique (moved coordinate) (IsGoal coordinate) (number c) (length word) (get_or table.distances (number c) 0)
       (IsDistance-first (moved coordinate) (IsGoal coordinate) (number c) word first) (built.measures.exact (number c) at) in
@@ -127,7 +127,7 @@ module _ (stage : Stage) (IsValid : CubeState → Type 0) (line : TableLine) (nu
 -- ---- dominoes, where the halves are measured
 
 pub Follows-half_turned : (halves : Distances) → IsTableOf halves_line halves
-    → Follows (record { IsValid = IsDominoCube; after = after_of tetrads_stage.turns; IsGoal = IsHalfTurned }) (positions tetrads_coordinate) tetrads_number
+    → Follows (cube_space IsDominoCube tetrads_stage.turns IsHalfTurned) (positions tetrads_coordinate) tetrads_number
 Follows-half_turned halves built =
     Follows-goals IsDominoCube (λ c. tetrads_number c ≡ tetrads_number Rattle.scr_cube.specs.Cube333.solved_cube) IsHalfTurned (after_of tetrads_stage.turns)
     tetrads_coordinate tetrads_number

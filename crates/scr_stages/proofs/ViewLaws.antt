@@ -59,7 +59,7 @@ module _ {S R : Type 0} (turned : S → R → S) (turns : List R) (after : S →
     );
   }
 
--- What goes along with turns goes along with the same goals, however they are told, and where fewer states are valid.
+-- What goes along with turns goes along with the same goals, however they are told,
 pub Follows-goals : {S : Type 0} (IsValid IsGoal IsOther : S → Type 0) (after : S → ℕ → Option S) (c : Coordinate) (view : S → ℕ)
     → ((s : S) → IsValid s → IsOther s ↔ IsGoal s)
     → Follows (record { IsValid = IsValid; after = after; IsGoal = IsGoal }) (positions c) view
@@ -69,6 +69,19 @@ Follows-goals IsValid IsGoal IsOther after c view same f = record {
   valid = f.valid;
   turned = f.turned;
   goals = λ s h. (λ g. (f.goals s h).0 ((same s h).0 g), λ e. (same s h).1 ((f.goals s h).1 e));
+}
+
+-- and from fewer states, which turns lead to such states.
+pub Follows-fewer : {S : Type 0} (IsValid IsFewer IsGoal : S → Type 0) (after : S → ℕ → Option S) (c : Coordinate)
+    (view : S → ℕ)
+    → ((s : S) → IsFewer s → IsValid s) → ((s r : S) (t : ℕ) → IsFewer s → after s t ≡ Some r → IsFewer r)
+    → Follows (record { IsValid = IsValid; after = after; IsGoal = IsGoal }) (positions c) view
+    → Follows (record { IsValid = IsFewer; after = after; IsGoal = IsGoal }) (positions c) view
+Follows-fewer IsValid IsFewer IsGoal after c view are kept f = record {
+  kept = kept;
+  valid = λ s h. f.valid s (are s h);
+  turned = λ s t h. f.turned s t (are s h);
+  goals = λ s h. f.goals s (are s h);
 }
 
 -- Numbered states go along with the coordinate of their numbers.

@@ -1,4 +1,5 @@
 pub mod Stages
 pub mod Tetrads
 pub mod Numbers
+pub mod Spaces
 pub mod Tables

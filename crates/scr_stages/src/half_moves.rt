@@ -15,9 +15,10 @@ use crate::half_corners::{HalfCorners, half_corners_at};
 use crate::half_parts::{FIRST_EDGES, HalfParts, MIDDLE_EDGES, SECOND_EDGES};
 use crate::stage_turns::{HALF_TURNS, block_edges_turned, corners_turned};
 use scr_coord::{Coord, Lists, MoveTable};
+use scr_outside::NoMemory;
 use scr_rank::PermRank;
 use scr_rank::permutations::is_odd;
-use std::alloc::{AllocError, Global};
+use std::alloc::Global;
 
 /// The moves of the corners, of each block of edges, and the parities of their lists, 1 where a list is odd. Together
 /// they are the coordinate of the cubes that half turns solve.
@@ -39,7 +40,7 @@ pub(crate) struct HalfMoves {
 }
 
 /// The moves of a block of edges, among whose places half turns carry its edges.
-fn block_moves(alloc: Global, block: &[u8; 4]) -> Result<MoveTable, AllocError>
+fn block_moves(alloc: Global, block: &[u8; 4]) -> Result<MoveTable, NoMemory>
     requires places { All (λ place. place < 12) block.now }
     requires kept { All (λ r. IsPermutation 4 r.places) (map (block_turn block.now) (edges_by half_turns)) }
     ensures { IfOk result (λ table. ShowsSame (half_block_coordinate block.now) (moves_coordinate table)) }
@@ -74,7 +75,7 @@ fn corner_parities() -> [u8; 96]
 
 impl HalfMoves {
     /// The moves. Only memory can be wanting.
-    pub fn build(alloc: Global) -> Result<HalfMoves, AllocError> {
+    pub fn build(alloc: Global) -> Result<HalfMoves, NoMemory> {
         let turns = corners_turned(&HALF_TURNS);
         let corners = CornerLists::<HalfCorners>::new(&turns[..]);
         Ok(HalfMoves {

@@ -8,8 +8,9 @@ use crate::stage_turns::{
     ALL_TURNS, SLICE_TURNS, TETRADS_TURNS, block_edges_turned, corners_turned, edges_turned,
 };
 use scr_coord::{MoveTable, PlaceSet, Product, Twists};
+use scr_outside::NoMemory;
 use scr_table::{Line, TableName};
-use std::alloc::{AllocError, Global};
+use std::alloc::Global;
 
 /// The flips.
 pub(crate) struct FlipsLine;
@@ -30,7 +31,7 @@ impl Line for FlipsLine {
 
     type Moves = MoveTable;
 
-    fn moves(alloc: Global) -> Result<MoveTable, AllocError> {
+    fn moves(alloc: Global) -> Result<MoveTable, NoMemory> {
         let edges = edges_turned(&ALL_TURNS);
         MoveTable::build(alloc, &Twists::<12, 2>::new(&edges[..]))
     }
@@ -57,7 +58,7 @@ impl Line for SliceLine {
 
     type Moves = Product<MoveTable, MoveTable>;
 
-    fn moves(alloc: Global) -> Result<Product<MoveTable, MoveTable>, AllocError> {
+    fn moves(alloc: Global) -> Result<Product<MoveTable, MoveTable>, NoMemory> {
         let corners = corners_turned(&SLICE_TURNS);
         let edges = edges_turned(&SLICE_TURNS);
         let twists = Twists::<8, 3>::new(&corners[..]);
@@ -87,7 +88,7 @@ impl Line for TetradsLine {
 
     type Moves = Product<MoveTable, MoveTable>;
 
-    fn moves(alloc: Global) -> Result<Product<MoveTable, MoveTable>, AllocError> {
+    fn moves(alloc: Global) -> Result<Product<MoveTable, MoveTable>, NoMemory> {
         let edges = block_edges_turned(&OUTER_EDGES, &TETRADS_TURNS);
         let corners = corners_turned(&TETRADS_TURNS);
         let first = PlaceSet::<8, 4>::new(&edges[..], FIRST_EDGES);
@@ -117,7 +118,7 @@ impl Line for HalvesLine {
 
     type Moves = HalfMoves;
 
-    fn moves(alloc: Global) -> Result<HalfMoves, AllocError> {
+    fn moves(alloc: Global) -> Result<HalfMoves, NoMemory> {
         HalfMoves::build(alloc)
     }
 

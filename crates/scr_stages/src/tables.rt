@@ -1,7 +1,7 @@
 //! The tables of the stages.
-ghost use Rattle.std.specs.Prelude.{◌≡◌, ◌↔◌, map, IfOk, IfErr, IfSome, IsSome};
+ghost use Rattle.std.specs.Prelude.{◌≡◌, ◌↔◌, map, All, IfOk, IfErr, IfSome, IsSome};
 ghost use Rattle.scr_table.specs.Causes.{IsCauseOf};
-ghost use Rattle.scr_table.specs.Lines.{AreTablesOf, HasNamed, IsNamed};
+ghost use Rattle.scr_table.specs.Lines.{AreTablesOf, HasNamed, HasNoGap, IsFirstNamed};
 ghost use Rattle.scr_stages.specs.Tables.{stage_lines};
 
 use crate::lines::{FlipsLine, HalvesLine, SliceLine, TetradsLine};
@@ -22,17 +22,22 @@ pub struct StageTables {
 impl Model for StageTables {
     ghost use Rattle.std.specs.Prelude.{List, [], ◌∷◌};
     ghost use Rattle.scr_table.specs.Distances.{Distances};
+    ghost use Rattle.scr_table.specs.Lines.{AreTablesOf};
+    ghost use Rattle.scr_stages.specs.Tables.{stage_lines};
 
     ghost Value = { List Distances };
 
-    ghost view = { λ t. t.flips.distances ∷ t.slice.distances ∷ t.tetrads.distances ∷ t.halves.distances ∷ [] };
+    ghost view = { λ t. t.flips ∷ t.slice ∷ t.tetrads ∷ t.halves ∷ [] };
+
+    ghost invariant = { λ t. AreTablesOf stage_lines (t.flips ∷ t.slice ∷ t.tetrads ∷ t.halves ∷ []) };
 }
 
 impl StageTables {
-    /// The tables `flips`, `slice`, `tetrads` and `halves`, built in this order, or why one isn't: there is no memory
-    /// for it, or it has a gap, which its line rules out where the bounds are right.
+    /// The tables `flips`, `slice`, `tetrads` and `halves`, built in this order, or why they are not:
+    /// there is no memory, or one has a gap. The first gap of the first such table is named.
     pub fn build(alloc: Global) -> Result<StageTables, BuildFault>
         ensures built { IfOk result (AreTablesOf stage_lines) }
+        ensures whole { IfOk result (λ _. All HasNoGap stage_lines) }
         ensures cause { IfErr result (IsCauseOf stage_lines) }
     {
         Ok(StageTables {
@@ -46,7 +51,7 @@ impl StageTables {
     /// The built table of this name. `None` comes exactly where none of the four has it.
     pub fn table(&self, name: TableName) -> Option<&DistanceTable>
         ensures found { IsSome result ↔ HasNamed self.now name }
-        ensures value { IfSome result (λ found. IsNamed self.now name found.now) }
+        ensures first { IfSome result (λ found. IsFirstNamed self.now name found.now) }
         ensures built { AreTablesOf stage_lines self.now }
     {
         table_named(&self.all()[..], name)
@@ -56,12 +61,13 @@ impl StageTables {
     pub fn all(&self) -> [&DistanceTable; 4]
         ensures same { map (λ table. table.now) result ≡ self.now }
         ensures built { AreTablesOf stage_lines self.now }
+        ensures whole { All HasNoGap stage_lines }
     {
         [
-            &self.flips.distances,
-            &self.slice.distances,
-            &self.tetrads.distances,
-            &self.halves.distances,
+            self.flips.distances(),
+            self.slice.distances(),
+            self.tetrads.distances(),
+            self.halves.distances(),
         ]
     }
 }

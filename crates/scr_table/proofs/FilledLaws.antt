@@ -7,6 +7,7 @@ use Rattle.std.proofs.lemmas.Bool.{cases_order, cases_lt}
 use Rattle.scr_coord.specs.Coordinates.{Coordinate, StaysBelow, moved, IsGoal}
 use Rattle.scr_play.specs.FirstWord.{LeadsTo, IsDistance}
 use Rattle.scr_play.proofs.FirstWordLaws.{LeadsTo-empty, IsGoal-empty, LeadsTo-cons, LeadsTo-parts, IsDistance-goal}
+use Rattle.scr_table.specs.Distances.{IsFirstGap}
 use Rattle.scr_table.specs.Filled.{IsKnown, AreKnown, Neighbours, IsConsistent}
 use Rattle.scr_table.proofs.StepLaws.{moved-below}
 
@@ -194,3 +195,31 @@ module _ (c : Coordinate) (entries : List ℕ) (p turn least : ℕ) (h : IsLeast
           let same : least ≡ new = omega arith in
           let P : ℕ → Type 0 = λ e. Neighbours c entries p e in
           subst P same (h.some (λ e. known (sym same ∙ e)))
+
+-- The first entry above the bound is that of the first gap.
+pub IsFirstGap-above : (c : Coordinate) (bound index : ℕ) (entries : List ℕ) → bound < 255 → AreKnown c bound entries
+    → index < length entries → bound < get_or entries index 0 → ((p : ℕ) → p < index → get_or entries p 0 ≤ bound)
+    → IsFirstGap c bound index
+IsFirstGap-above c bound index entries small known inside above first = record {
+  gap = record { position = at; none = λ w leads. by_entry w leads (cases_order (get_or entries index 0) 255) };
+  none_before = λ earlier less gap.
+      ∥∥₁_elim (word earlier less).reached (hlevel)
+      (λ found. omega (arith, gap.none found.0 found.1, found.2, first earlier less));
+}
+  where
+    at : index < c.count
+    at = omega (arith, inside, known.positions)
+
+    by_entry : (w : List ℕ) → LeadsTo (moved c) (IsGoal c) index w
+        → (get_or entries index 0 ≡ 255) ⊎ ((get_or entries index 0 < 255) ⊎ (255 < get_or entries index 0))
+        → bound < length w
+    by_entry w leads (inl unknown) = (known.each index at).left unknown w leads
+    by_entry w leads (inr apart) =
+        let other : get_or entries index 0 ≢ 255 =
+        elim apart [ inl less ↦ λ same. omega arith | inr more ↦ λ same. omega arith ] in
+        omega (arith, above, ((known.each index at).found other).least w leads)
+
+    -- below it each entry is a distance
+    word : (earlier : ℕ) → earlier < index → IsDistance (moved c) (IsGoal c) earlier (get_or entries earlier 0)
+    word earlier less =
+        (known.each earlier (omega (arith, at))).found (λ same. omega (arith, first earlier less))

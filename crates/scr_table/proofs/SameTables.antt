@@ -9,7 +9,7 @@ use Rattle.scr_table.specs.declared.name.TableName.{TableName}
 use Rattle.scr_table.specs.declared.fault.BuildFault.{BuildFault}
 use Rattle.scr_table.specs.declared.fault.BuildFault.TheVariants.{NoMemory, Gap}
 use Rattle.scr_table.specs.Causes.{IsCause}
-use Rattle.scr_table.specs.Distances.{Distances, Measures, IsGap}
+use Rattle.scr_table.specs.Distances.{Distances, Measures, IsGap, IsFirstGap}
 use Rattle.scr_table.specs.Lines.{IsTableOf}
 
 module _ (c shown : Coordinate) (below : StaysBelow shown) (same : ShowsSame c shown) where
@@ -50,10 +50,23 @@ module _ (c shown : Coordinate) (below : StaysBelow shown) (same : ShowsSame c s
         none = λ w leads. gap.none w ((finds_the_same.words index w at).0 leads);
       }
 
+  IsGap-shown : (bound index : ℕ) → IsGap c bound index → IsGap shown bound index
+  IsGap-shown bound index gap = record {
+    position = omega (arith, same.count, gap.position);
+    none = λ w leads. gap.none w ((finds_the_same.words index w gap.position).1 leads);
+  }
+
+  -- and the first of the one is the first of the other
+  IsFirstGap-same : (bound index : ℕ) → IsFirstGap shown bound index → IsFirstGap c bound index
+  IsFirstGap-same bound index first = record {
+    gap = IsGap-same bound index first.gap;
+    none_before = λ earlier less gap. first.none_before earlier less (IsGap-shown bound earlier gap);
+  }
+
   -- and so is why there is no table
   pub IsCause-same : (name : TableName) (bound : ℕ) (fault : BuildFault) → IsCause name shown bound fault → IsCause name c bound fault
   IsCause-same name bound NoMemory cause = tt
-  IsCause-same name bound (Gap table index) cause = (cause.0, IsGap-same bound index cause.1)
+  IsCause-same name bound (Gap table index) cause = (cause.0, IsFirstGap-same bound index cause.1)
 
   -- a first word of the one is one of the other
   pub IsFirstWord-same : (p : ℕ) (word : List ℕ) → p < c.count → IsFirstWord (moved shown) (IsGoal shown) p word → IsFirstWord (moved c) (IsGoal c) p word

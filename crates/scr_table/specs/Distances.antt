@@ -25,3 +25,8 @@ NoneWithin c p most = (w : List ℕ) → LeadsTo (moved c) (IsGoal c) p w → mo
 pub record IsGap (c : Coordinate) (bound index : ℕ) : Type 0 where
   pub position : index < c.count
   pub none : NoneWithin c index bound
+
+-- The first gap: no position below it is one.
+pub record IsFirstGap (c : Coordinate) (bound index : ℕ) : Type 0 where
+  pub gap : IsGap c bound index
+  pub none_before : (earlier : ℕ) → earlier < index → IsGap c bound earlier → ⊥

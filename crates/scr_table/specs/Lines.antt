@@ -1,14 +1,18 @@
 -- Tables that are asked for, and built ones.
-use Rattle.std.specs.Prelude.{◌≡◌, ℕ, List, [], ◌∷◌, Any}
+use Rattle.std.specs.Prelude.{◌≡◌, ◌≢◌, ℕ, List, [], ◌∷◌, ◌++◌, All, Any}
 use Rattle.scr_coord.specs.Coordinates.{Coordinate}
 use Rattle.scr_table.specs.declared.name.TableName.{TableName}
-use Rattle.scr_table.specs.Distances.{Distances, Measures}
+use Rattle.scr_table.specs.Distances.{Distances, Measures, IsGap}
 
 -- What a table is called, what it is a table of, and how far it may reach.
 pub record TableLine : Type 0 where
   pub name : TableName
   pub coordinate : Coordinate
   pub bound : ℕ
+
+-- A table with this line has no gap.
+abbrev pub HasNoGap : TableLine → Type 0
+HasNoGap line = (index : ℕ) → IsGap line.coordinate line.bound index → ⊥
 
 -- A built table is that of a line.
 pub record IsTableOf (line : TableLine) (table : Distances) : Type 0 where
@@ -27,6 +31,10 @@ AreTablesOf (line ∷ lines) (table ∷ tables) = IsTableOf line table × AreTab
 abbrev pub HasNamed : List Distances → TableName → Type 0
 HasNamed tables name = Any (λ table. table.name ≡ name) tables
 
--- It is one of them, and has this name.
-abbrev pub IsNamed : List Distances → TableName → Distances → Type 0
-IsNamed tables name found = Any (λ table. (table.name ≡ name) × (found ≡ table)) tables
+-- It is the first of some tables that has this name.
+pub record IsFirstNamed (tables : List Distances) (name : TableName) (found : Distances) : Type 0 where
+  pub before : List Distances
+  pub behind : List Distances
+  pub in_order : tables ≡ before ++ found ∷ behind
+  pub named : found.name ≡ name
+  pub none_before : All (λ table. table.name ≢ name) before

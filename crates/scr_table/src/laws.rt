@@ -1,14 +1,22 @@
 //! What is so of distances, first words and minima, which later crates rest on. The functions do nothing: what each ensures
 //! is the law.
 
-ghost use Rattle.std.specs.Prelude.{◌≡◌, ℕ, suc, ◌+◌, ◌≤◌, ◌↔◌, List, [], ◌∷◌, length, Some};
+ghost use Rattle.std.specs.Prelude.{◌≡◌, ℕ, suc, ◌+◌, ◌≤◌, ◌↔◌, List, [], ◌∷◌, ◌++◌, All, length, map, codes, Some};
+ghost use Rattle.std.specs.List.{join_with_byte};
 ghost use Rattle.scr_play.specs.Reach.{Needs};
 ghost use Rattle.scr_play.specs.FirstWord.{IsEarlier, IsFirstWord, IsDistance, LowersFirst};
 ghost use Rattle.scr_coord.specs.Coordinates.{Coordinate, moved, IsGoal};
-ghost use Rattle.scr_table.specs.declared.name.TableName.TheVariants.{Corners};
-ghost use Rattle.scr_table.specs.Distances.{Distances, Measures, IsGap};
+ghost use Rattle.scr_table.specs.declared.name.TableName.TheVariants.{Corners, Flips, Slice, Tetrads, Halves};
+ghost use Rattle.scr_table.specs.declared.name.TableName.TheVariants.{FlipSlice, TwistSlice, CornerSlice, EdgeSlice};
+ghost use Rattle.scr_table.specs.declared.name.TableName.TheVariants.{Pyramid, Skewb, Shapes, Pairings, Square};
+ghost use Rattle.scr_table.specs.declared.fault.BuildFault.{BuildFault};
+ghost use Rattle.scr_table.specs.declared.fault.BuildFault.TheVariants.{NoMemory, Gap};
+ghost use Rattle.scr_table.specs.Causes.{IsCauseOf};
+ghost use Rattle.scr_table.specs.Distances.{Distances, Measures, IsGap, IsFirstGap};
+ghost use Rattle.scr_table.specs.Lines.{TableLine, HasNoGap, AreTablesOf};
 ghost use Rattle.scr_table.specs.Moves.{NeedsTurns, puzzle_of};
-ghost use Rattle.scr_table.specs.Row.{row};
+ghost use Rattle.scr_table.specs.Names.{text_of};
+ghost use Rattle.scr_table.specs.Row.{row, row_line};
 
 use crate::moves::Moves;
 
@@ -45,6 +53,17 @@ pub fn one_table()
         → some.name ≡ other.name → some.bound ≡ other.bound → some ≡ other }
 {}
 
+/// Where tables are built one after another, the cause of the first part of them is that of all; and behind tables that
+/// are built, which have no gap, so is that of the others.
+pub fn causes()
+    ensures before { (lines more : List TableLine) (fault : BuildFault)
+        → IsCauseOf lines fault → IsCauseOf (lines ++ more) fault }
+    ensures behind { (built lines : List TableLine) (fault : BuildFault)
+        → All HasNoGap built → IsCauseOf lines fault → IsCauseOf (built ++ lines) fault }
+    ensures no_gaps { (lines : List TableLine) (tables : List Distances)
+        → AreTablesOf lines tables → All HasNoGap lines }
+{}
+
 /// Where each turn counts for one, the minima of a set of moves are those of the puzzle that they are.
 pub fn minima<M: Moves>(moves: &M)
     ensures { (s : M.State) (least : ℕ)
@@ -65,4 +84,17 @@ pub fn rows()
     ensures gap { IsGap (row 3) 1 2 }
     ensures no_gap { IsGap (row 3) 2 2 → ⊥ }
     ensures outside { IsGap (row 3) 1 3 → ⊥ }
+    ensures first_gap { IsFirstGap (row 3) 0 1 }
+    ensures no_later_gap { IsFirstGap (row 3) 0 2 → ⊥ }
+    ensures first_table { IsCauseOf (row_line 3 Corners 2 ∷ row_line 3 Flips 0 ∷ []) (Gap Flips 1) }
+    ensures no_later_table { IsCauseOf (row_line 3 Corners 0 ∷ row_line 3 Flips 0 ∷ []) (Gap Flips 1) → ⊥ }
+    ensures no_table { IsCauseOf [] NoMemory → ⊥ }
+{}
+
+/// The names of the tables: of the 2x2x2, the 3x3x3, the Pyraminx, the Skewb and the Square-1.
+pub fn known_names()
+    ensures { join_with_byte 32 (map text_of (Corners ∷ Flips ∷ Slice ∷ Tetrads ∷ Halves
+        ∷ FlipSlice ∷ TwistSlice ∷ CornerSlice ∷ EdgeSlice ∷ Pyramid ∷ Skewb ∷ Shapes ∷ Pairings ∷ Square ∷ []))
+        ≡ codes "corners flips slice tetrads halves flipslice twistslice cornerslice edgeslice pyramid skewb "
+        ++ codes "shapes pairings square" }
 {}

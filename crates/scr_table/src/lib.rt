@@ -5,8 +5,10 @@
 //! how a table is filled and how its entries are stored stands in no definition. Walking down a table gives first words. A
 //! [`Line`] says what a table is called, what it is of and by which moves; its [`LineTable`] keeps them together.
 //! [`no_shorter`] tests minima over any [`Moves`], with no table; `specs/TriedWords.antt` has such a test as a definition,
-//! by which puzzles say what theirs answers. The contracts of the module `laws` say what callers need of distances and
-//! first words, and that the minima of a set of moves are those of a puzzle.
+//! by which puzzles say what theirs answers. Why a table isn't built, and why tables that are built one after another
+//! are not, stands in `specs/Causes.antt`: the first gap of the first table that has one. The contracts of the module
+//! `laws` say what callers need of distances, first words and causes, and that the minima of a set of moves are those
+//! of a puzzle.
 #![tactic(auto)]
 
 mod entries;

@@ -4,14 +4,16 @@ ghost use Rattle.scr_play.specs.FirstWord.{IsFirstWord};
 ghost use Rattle.scr_coord.specs.Coordinates.{moved, IsGoal};
 ghost use Rattle.scr_coord.specs.SearchSpaces.{ShowsSame};
 ghost use Rattle.scr_table.specs.Causes.{IsCause};
-ghost use Rattle.scr_table.specs.Lines.{IsTableOf};
+ghost use Rattle.scr_table.specs.Lines.{HasNoGap, IsTableOf};
 
 use crate::fault::BuildFault;
 use crate::name::TableName;
 use crate::table::DistanceTable;
 use arrayvec::ArrayVec;
 use scr_coord::Coord;
-use std::alloc::{AllocError, Global};
+use scr_outside::NoMemory;
+use std::alloc::Global;
+use std::marker::Model;
 
 /// What a table is called, what it is a table of, and how far it may reach. It is a type without values, to tell tables
 /// apart.
@@ -36,7 +38,7 @@ pub trait Line {
     type Moves: Coord + Drop;
 
     /// Makes them. They show what it is a table of; only memory can be wanting.
-    fn moves(alloc: Global) -> Result<Self::Moves, AllocError>
+    fn moves(alloc: Global) -> Result<Self::Moves, NoMemory>
         ensures { IfOk result (λ moves. ShowsSame line.coordinate (Self.Moves.coordinate moves)) };
 
     /// Turns have numbers of a byte.
@@ -45,12 +47,8 @@ pub trait Line {
 
 /// The built table of a line, with the moves by which it is walked down.
 pub struct LineTable<L: Line> {
-    /// Where turns lead.
-    pub moves: L::Moves,
-    /// How far each position is from a goal.
-    pub distances: DistanceTable,
-    ghost shows: { ShowsSame L.line.coordinate (L.Moves.coordinate moves) },
-    ghost is: { IsTableOf L.line distances },
+    moves: L::Moves,
+    distances: DistanceTable,
 }
 
 // A call wherever one is let go, in place of all that lets go of its parts.
@@ -63,9 +61,24 @@ impl<L: Line> Drop for LineTable<L> {
     }
 }
 
+// Clauses see what stands in the table.
+impl<L: Line> Model for LineTable<L> {
+    ghost use Rattle.scr_table.specs.Distances.{Distances};
+    ghost use Rattle.scr_coord.specs.SearchSpaces.{ShowsSame};
+    ghost use Rattle.scr_table.specs.Lines.{IsTableOf};
+
+    ghost Value = { Distances };
+
+    ghost view = { λ t. t.distances };
+
+    ghost invariant = { λ t. ShowsSame L.line.coordinate (L.Moves.coordinate t.moves) × IsTableOf L.line t.distances };
+}
+
 impl<L: Line> LineTable<L> {
-    /// The table, or why it isn't built: there is no memory for it, or it has a gap.
+    /// The table, or why it isn't built: there is no memory for it, or it has a gap, of which the first is named.
     pub fn build(alloc: Global) -> Result<LineTable<L>, BuildFault>
+        ensures table { IfOk result (IsTableOf L.line) }
+        ensures no_gap { IfOk result (λ _. HasNoGap L.line) }
         ensures cause { IfErr result (IsCause L.line.name L.line.coordinate L.line.bound) }
     {
         let moves = L::moves(alloc)?;
@@ -73,11 +86,21 @@ impl<L: Line> LineTable<L> {
         Ok(LineTable { moves, distances })
     }
 
+    /// How far each position is from a goal.
+    #[inline]
+    pub fn distances(&self) -> &DistanceTable
+        ensures same { result.now ≡ self.now }
+        ensures table { IsTableOf L.line self.now }
+        ensures no_gap { HasNoGap L.line }
+    {
+        &self.distances
+    }
+
     /// The first word from a position, below the number of positions, to a goal.
     pub fn descend(&self, position: u32) -> ArrayVec<u8, 24>
         requires { position < L.line.coordinate.count }
         ensures first { IsFirstWord (moved L.line.coordinate) (IsGoal L.line.coordinate) position result.items }
-        ensures table { IsTableOf L.line self.now.distances }
+        ensures table { IsTableOf L.line self.now }
     {
         self.distances.descend(&self.moves, position)
     }

@@ -3,7 +3,7 @@
 ghost use Rattle.std.specs.Prelude.{◌≡◌};
 ghost use Rattle.scr_table.specs.Names.{text_of};
 
-/// A table of the product, in the order in which tables are built.
+/// A table of the product. Those of one event stand in the order in which they are built.
 #[derive(Clone, Copy, Debug, PartialEq, Eq)]
 pub enum TableName {
     /// The 2x2x2's states.

@@ -171,6 +171,7 @@ struct Descent {
 fn first_above(entries: &[u8], bound: u8) -> Option<usize>
     ensures above { IfSome result (λ index. bound < slice_index entries.now index) }
     ensures below { IfSome result (λ index. index < length entries.now) }
+    ensures first { IfSome result (λ index. (p : ℕ) → p < index → slice_index entries.now p ≤ bound) }
     ensures none { IfNone result ((p : ℕ) → slice_index entries.now p ≤ bound) }
 {
     for (index, entry) in entries.iter().enumerate() {

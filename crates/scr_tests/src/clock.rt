@@ -3,7 +3,7 @@ ghost use Rattle.std.specs.Prelude.{◌<◌};
 ghost use Rattle.scr_clock.specs.Numbers.{clock_count};
 
 use crate::read;
-use scr_clock::{Clock, ClockNumbers, needs_at_least, scramble_clock};
+use scr_clock::{Clock, ClockNumbers, laws, needs_at_least, scramble_clock};
 use scr_draw::{DrawLimit, Numbering, draw, laws as draw_laws};
 use scr_notation::{Event, print};
 use scr_words::ListWords;
@@ -99,5 +99,6 @@ fn known_draws(rt: HostRuntime) {
         Err(DrawLimit { words: 3 })
     );
     assert_eq!(rt; ClockNumbers.count(), 1283918464548864);
+    laws::each_clock_is_reached();
     draw_laws::drawn_fairly(&ClockNumbers);
 }

@@ -95,5 +95,7 @@ fn walks_of_known_order(rt: HostRuntime) -> Result<(), Fail> {
         2048 * 494,
         &[(2048 * 494 + 1, U, R, 7), (0, F, U, 7)],
     );
+    let both_moves = Product::of_moves(rt.alloc(), &flips, &slice)?;
+    try_out(&rt, &both_moves, 1013760, 2048 * 494, &[(0, F, U, 7)]);
     Ok(())
 }

@@ -1,6 +1,8 @@
-ghost use Rattle.std.specs.Prelude.{ℕ, ◌<◌, nat_le};
+ghost use Rattle.std.specs.Prelude.{ℕ, ◌<◌, ◌↔◌, nat_le};
+ghost use Rattle.scr_play.specs.Reach.{IsReached};
+ghost use Rattle.scr_draw.specs.Row.{row};
 
-use scr_draw::{DrawLimit, Numbering, Permit, RandomState, attempt, draw, laws};
+use scr_draw::{DrawLimit, NumberedStates, Numbering, Permit, attempt, draw, laws};
 use scr_words::{ChaChaWords, ListWords, Seed, Words};
 
 /// As many states as a 2x2x2 has, each shown by its number, which is also how many turns it needs.
@@ -8,17 +10,19 @@ struct Row;
 
 const STATES: u128 = 3674160;
 
-impl Numbering for Row {
-    ghost use Rattle.std.proofs.Common.{lit≤, refl};
-
-    type State = u128;
-
+impl NumberedStates<u128> for Row {
     ghost numbered = { λ _. record {
       count = 3674160;
       state_at = λ i. i;
       number_of = λ s. s;
       IsValid = λ s. s < 3674160;
     } };
+}
+
+impl Numbering for Row {
+    ghost use Rattle.std.proofs.Common.{lit≤, refl};
+
+    type State = u128;
 
     fn count(&self) -> u128 {
         STATES
@@ -45,8 +49,7 @@ impl Numbering for Row {
 }
 
 impl Permit<u128> for Row {
-    ghost use Rattle.std.proofs.Common.{lit<};
-    ghost use Rattle.scr_draw.specs.Row.{row, row_exact};
+    ghost use Rattle.scr_draw.specs.Row.{row_exact};
 
     ghost puzzle = { λ _. row 3674160 };
 
@@ -58,15 +61,13 @@ impl Permit<u128> for Row {
         u128::from(least) <= *state
     }
 
-    ghost exact = { λ _ s least range reached. row_exact 3674160 s least (lit< tt) reached };
+    ghost exact = { λ _ s least range valid. row_exact 3674160 s least valid };
 }
 
-impl RandomState for Row {
-    ghost use Rattle.std.proofs.Common.{lit<};
-    ghost use Rattle.scr_draw.specs.Row.{row_reached};
-
-    ghost reached = { λ _ s. row_reached 3674160 s (lit< tt) };
-}
+/// Does nothing: the states are those that turns reach.
+fn is_reached()
+    ensures { (s : ℕ) → (s < 3674160) ↔ IsReached (row 3674160) s }
+{}
 
 // The words of q * 3674160, with q the quotient of 2^96, which is the first number that is refused,
 // and of the number before it.
@@ -115,6 +116,7 @@ fn draws_of_a_stream(rt: HostRuntime) {
     );
     laws::each_equally(&Row);
     laws::same_ways(&Row, 2);
+    is_reached();
     laws::drawn_fairly(&Row);
     laws::first_hit(&Row, 2);
     laws::one_outcome(&Row);

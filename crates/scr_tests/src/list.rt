@@ -157,11 +157,8 @@ fn the_table_of_events(rt: HostRuntime) {
         (Event::Skewb, 5, Some((7, 11))),
         (Event::Sq1, 5, Some((2, 4))),
     ] {
-        let rules = event_rules(event);
-        assert_eq!(rt; rules.per_group, per_group);
-        assert_eq!(rt;
-            rules.minima.map(|minima| (minima.usual, minima.greatest)),
-            minima
-        );
+        assert_eq!(rt; event.per_group(), per_group);
+        let told = event.minima().map(|minima| (minima.usual, minima.greatest));
+        assert_eq!(rt; told, minima);
     }
 }

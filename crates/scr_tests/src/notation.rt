@@ -7,7 +7,8 @@ ghost use Rattle.scr_notation.specs.Turning.{has_merging};
 use crate::read;
 use arrayvec::ArrayString;
 use scr_notation::{
-    Event, NotationFault, Scramble, Turn, inverse, parse, print, tidy, turn_at, turn_count,
+    EVENTS, Event, EventSet, Family, NotationFault, Scramble, Turn, inverse, parse, print, tidy,
+    turn_at, turn_count,
 };
 use std::process::Abort;
 
@@ -182,4 +183,31 @@ fn known_events(rt: HostRuntime) {
         each_turn(&rt, event, turns);
     }
     assert_eq!(rt; Event::from_id("444"), None);
+}
+
+#[test]
+fn families_and_sets(rt: HostRuntime) {
+    let mut set = EventSet::new();
+    for event in EVENTS {
+        assert!(rt; !set.contains(event));
+    }
+    set.insert(Event::C222);
+    set.insert(Event::Sq1);
+    set.insert(Event::C222);
+    for event in EVENTS {
+        let square = event.family() == Some(Family::Square1);
+        assert_eq!(rt; set.contains(event), square || event == Event::C222);
+    }
+    for (event, family) in [
+        (Event::C222, Some(Family::Cube222)),
+        (Event::C333, Some(Family::Cube333)),
+        (Event::Oh333, Some(Family::Cube333)),
+        (Event::C777, None),
+        (Event::Clock, None),
+        (Event::Minx, None),
+        (Event::Pyram, Some(Family::Pyraminx)),
+        (Event::Skewb, Some(Family::Skewb)),
+    ] {
+        assert!(rt; event.family() == family);
+    }
 }

@@ -3,7 +3,7 @@ ghost use Rattle.std.specs.Prelude.{◌≡◌, ◌^◌, ◌≤◌};
 ghost use Rattle.scr_notation.specs.declared.event.Event.TheVariants.{C222, Pyram, Skewb as EventSkewb};
 
 use scr_cube::{Corners222, Numbers222, PowerTurned};
-use scr_draw::{Numbering, RandomState, draw_permitted};
+use scr_draw::{Numbering, Permit, draw, laws as draw_laws};
 use scr_notation::{Event, print};
 use scr_small::{
     Small222, SmallPyram, SmallSkewb, SmallTables, laws, needs_222, needs_pyram, needs_skewb,
@@ -108,7 +108,7 @@ fn scrambled_skewbs(rt: &impl Abort, tables: &SmallTables, rows: &[(u32, u32, &s
 }
 
 /// Drawing from these words at a minimum gives the state of a number, or none.
-fn expect_draw<W: Words, P: RandomState>(
+fn expect_draw<W: Words, P: Numbering + Permit<P::State>>(
     rt: &impl Abort,
     puzzle: &P,
     words: &mut W,
@@ -120,7 +120,7 @@ fn expect_draw<W: Words, P: RandomState>(
     requires attempts { attempts ≤ 1000000 }
     requires room { W.taken words.old ≤ 2 ^ 62 }
 {
-    let number = match draw_permitted(words, puzzle, least, attempts) {
+    let number = match draw(words, puzzle, least, attempts) {
         Ok(state) => Some(puzzle.number_of(&state)),
         Err(limit) => {
             assert_eq!(rt; limit.words, 3 * attempts);
@@ -131,7 +131,7 @@ fn expect_draw<W: Words, P: RandomState>(
 }
 
 /// The same from a list of words, and then zeros.
-fn expect_listed<P: RandomState>(
+fn expect_listed<P: Numbering + Permit<P::State>>(
     rt: &impl Abort,
     puzzle: &P,
     list: &[u32],
@@ -159,7 +159,7 @@ fn scrambles_of_222(rt: HostRuntime) -> Result<(), Fail> {
 #[test]
 fn draws_of_222(rt: HostRuntime) -> Result<(), Fail> {
     let tables = SmallTables::build(rt.alloc(), Event::C222)?;
-    let cube = Small222::event(&tables);
+    let cube = Small222::new(&tables);
     let mut zeros = ChaChaWords::new(&Seed([0; 32]), 0);
     expect_draw(&rt, &cube, &mut zeros, 0, 1, Some(3015702));
     expect_listed(&rt, &cube, &LAST, 0, 2, Some(3674159));
@@ -170,6 +170,8 @@ fn draws_of_222(rt: HostRuntime) -> Result<(), Fail> {
     expect_listed(&rt, &cube, &NO_WORDS, 1, 5, None);
     expect_listed(&rt, &cube, &NO_WORDS, 0, 1, Some(0));
     laws::measured::<Numbers222>();
+    laws::reached_by_table::<Numbers222>(&tables);
+    draw_laws::drawn_fairly(&cube);
     Ok(())
 }
 
@@ -180,10 +182,16 @@ fn scrambles_of_pyram(rt: HostRuntime) -> Result<(), Fail> {
         tables.table(TableName::Pyramid).is_some() && tables.table(TableName::Flips).is_none()
     );
     scrambled_pyraminxes(&rt, &tables, &PYRAMINXES);
-    let pyraminx = SmallPyram::event(&tables);
+    let pyraminx = SmallPyram::new(&tables);
     expect_listed(&rt, &pyraminx, &TWO_TIPS, 2, 1, Some(55));
     expect_listed(&rt, &pyraminx, &TWO_TIPS, 3, 1, None);
+    assert_eq!(rt;
+        print(&pyraminx.scramble(&PyramNumbers.state_at(55))).as_str(),
+        "u b'"
+    );
     laws::shown_by_parts::<TetraminxNumbers>();
+    laws::pyram_reached_by_table(&tables);
+    draw_laws::drawn_fairly(&pyraminx);
     Ok(())
 }
 
@@ -194,9 +202,13 @@ fn scrambles_of_skewb(rt: HostRuntime) -> Result<(), Fail> {
         tables.table(TableName::Skewb).is_some() && tables.table(TableName::Flips).is_none()
     );
     scrambled_skewbs(&rt, &tables, &SKEWBS);
-    let skewb = SmallSkewb::event(&tables);
+    let skewb = SmallSkewb::new(&tables);
     expect_listed(&rt, &skewb, &AFTER_B, 1, 1, Some(9423));
     expect_listed(&rt, &skewb, &AFTER_B, 2, 1, None);
+    assert_eq!(rt;
+        print(&skewb.scramble(&SkewbNumbers.state_at(9423))).as_str(),
+        "B"
+    );
     laws::shown_by_parts::<SkewbNumbers>();
     Ok(())
 }

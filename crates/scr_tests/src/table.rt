@@ -4,7 +4,7 @@ ghost use Rattle.scr_table.specs.Row.{row};
 
 use arrayvec::ArrayVec;
 use scr_coord::Coord;
-use scr_table::{BuildFault, DistanceTable, Moves, TableName, laws, no_shorter};
+use scr_table::{BuildFault, DistanceTable, Moves, TableName, laws, no_shorter, table_named};
 use std::alloc::Global;
 use std::process::Abort;
 
@@ -221,6 +221,9 @@ fn a_circle(rt: HostRuntime) {
             let counts = table.counts();
             assert_eq!(rt; [counts[0], counts[1], table.distance(2)], [1, 20, 2]);
             assert_eq!(rt; table.descend(&Circle, 3).as_slice(), [0, 3].as_slice());
+            let tables = [&table, &table];
+            assert!(rt; table_named(&tables, TableName::Corners).is_some());
+            assert!(rt; table_named(&tables, TableName::Flips).is_none());
         }
         Err(_) => assert!(rt; false),
     }

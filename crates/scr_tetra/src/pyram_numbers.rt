@@ -7,7 +7,7 @@ ghost use Rattle.scr_tetra.specs.NumberedPyram.{tetraminx_numbering, pyram_numbe
 
 use crate::pyraminx::Pyraminx;
 use crate::tetraminx::Tetraminx;
-use scr_draw::Numbering;
+use scr_draw::{NumberedStates, Numbering};
 use scr_orbit::Placed;
 use scr_rank::{EvenPermRank, MixedRadix, TwistRank, in_bytes};
 
@@ -54,10 +54,12 @@ fn digits_of(state: &Tetraminx) -> [u128; 3]
     ]
 }
 
+impl NumberedStates<Tetraminx> for TetraminxNumbers {
+    ghost numbered = { λ _. numbered_tetraminx };
+}
+
 impl Numbering for TetraminxNumbers {
     type State = Tetraminx;
-
-    ghost numbered = { λ _. numbered_tetraminx };
 
     ghost law = { λ _. tetraminx_numbering };
 
@@ -81,10 +83,12 @@ impl Numbering for TetraminxNumbers {
     }
 }
 
+impl NumberedStates<Pyraminx> for PyramNumbers {
+    ghost numbered = { λ _. numbered_pyram };
+}
+
 impl Numbering for PyramNumbers {
     type State = Pyraminx;
-
-    ghost numbered = { λ _. numbered_pyram };
 
     ghost law = { λ _. pyram_numbering };
 

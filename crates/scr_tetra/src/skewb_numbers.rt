@@ -6,7 +6,7 @@ ghost use Rattle.scr_tetra.specs.Skewb.{IsSkewb, completing, skewb_digits, skewb
 ghost use Rattle.scr_tetra.specs.NumberedSkewb.{skewb_numbering};
 
 use crate::skewb::{Skewb, class_of};
-use scr_draw::Numbering;
+use scr_draw::{NumberedStates, Numbering};
 use scr_orbit::Placed;
 use scr_rank::{EvenPermRank, MixedRadix, TwistRank};
 
@@ -95,10 +95,12 @@ fn orbits_at(number: u128) -> (Placed<4>, Placed<3>, Placed<6>)
     )
 }
 
+impl NumberedStates<Skewb> for SkewbNumbers {
+    ghost numbered = { λ _. skewb_numbered };
+}
+
 impl Numbering for SkewbNumbers {
     type State = Skewb;
-
-    ghost numbered = { λ _. skewb_numbered };
 
     ghost law = { λ _. skewb_numbering };
 

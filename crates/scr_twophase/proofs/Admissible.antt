@@ -25,9 +25,9 @@ use Rattle.scr_twophase.specs.Words.{words_of}
 use Rattle.scr_twophase.specs.TwoParts.{all_turns, after_turn, leads, is_domino}
 use Rattle.scr_twophase.specs.TurnSets.{has_turn}
 use Rattle.scr_twophase.specs.Outlooks.{turns_within, IsPruningTable}
-use Rattle.scr_twophase.specs.Proofs.CubeTests.{IsDomino-test, leads-parts, after_of-place, play-places}
-use Rattle.scr_twophase.specs.Proofs.WordLists.{IsWordOf, words_of-each}
-use Rattle.scr_twophase.proofs.Spaces.{cubes_to}
+use Rattle.scr_twophase.proofs.CubeTests.{IsDomino-test, leads-parts, after_of-place, play-places}
+use Rattle.scr_twophase.proofs.WordLists.{IsWordOf, words_of-each}
+use Rattle.scr_twophase.specs.Spaces.{cubes_to}
 
 -- ---- any views
 

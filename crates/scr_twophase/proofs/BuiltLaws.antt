@@ -1,6 +1,6 @@
 -- What is so of a table that is built over two move tables side by side, is so of the two coordinates that these show.
-use Rattle.std.proofs.Common.{◌≡◌, ℕ, ◌<◌, List, get_or, sym, ap, ◌∙◌, subst}
-use Rattle.std.specs.Prelude.{Result, IfErr, IsErrAnd}
+use Rattle.std.proofs.Common.{◌≡◌, ℕ, ◌<◌, List, ◌∷◌, ◌++◌, sym, ap, ◌∙◌, subst}
+use Rattle.std.specs.Prelude.{All, Result, IfErr, IsErrAnd}
 use Rattle.std.specs.Option.{option_map}
 use Rattle.scr_coord.specs.Coordinates.{Coordinate, StaysBelow}
 use Rattle.scr_coord.specs.Moves.{Moves, moves_coordinate}
@@ -13,35 +13,42 @@ use Rattle.scr_table.specs.declared.name.TableName.{TableName}
 use Rattle.scr_table.specs.declared.fault.BuildFault.{BuildFault}
 use Rattle.scr_table.specs.Causes.{IsCause, IsCauseOf}
 use Rattle.scr_table.specs.Distances.{Distances}
-use Rattle.scr_table.specs.Lines.{TableLine, IsTableOf}
-use Rattle.scr_table.proofs.LineLaws.{IfErr-cause}
+use Rattle.scr_table.specs.Lines.{TableLine, HasNoGap, IsTableOf}
+use Rattle.scr_table.proofs.LineLaws.{IfErr-cause, no_gap}
 use Rattle.scr_table.proofs.SameTables.{StaysBelow-same, IsTableOf-same, IsCause-same}
 use Rattle.scr_twophase.specs.declared.outlook.Outlook.{Outlook}
 use Rattle.scr_twophase.specs.declared.pruning.PruningTable.{PruningTable}
 use Rattle.scr_twophase.specs.Outlooks.{AreOutlooks, IsPruningTable}
-use Rattle.scr_twophase.specs.Tables.{prune_lines}
 
 module _ (l h : Coordinate) (low high : Moves) (turns : h.turns ≡ l.turns) (f : ShowsSame l (moves_coordinate low)) (g : ShowsSame h (moves_coordinate high))
+    (shown : Coordinate) (is : shown ≡ product (moves_coordinate low) (moves_coordinate high))
     (name : TableName) (bound : ℕ) where
-  abbrev shown : Coordinate
-  shown = product (moves_coordinate low) (moves_coordinate high)
-
   same : ShowsSame (product l h) shown
-  same = ShowsSame-product l h (moves_coordinate low) (moves_coordinate high) turns f g
+  same =
+      subst (ShowsSame (product l h)) (sym is)
+      (ShowsSame-product l h (moves_coordinate low) (moves_coordinate high) turns f g)
 
   below : StaysBelow shown
-  below = StaysBelow-product (moves_coordinate low) (moves_coordinate high) (g.turns ∙ turns ∙ sym f.turns) (StaysBelow-moves low) (StaysBelow-moves high)
+  below =
+      let pair = StaysBelow-product (moves_coordinate low) (moves_coordinate high) in
+      subst StaysBelow (sym is) (pair (g.turns ∙ turns ∙ sym f.turns) (StaysBelow-moves low) (StaysBelow-moves high))
 
   pub IsTableOf-pair : (table : Distances) → IsTableOf (record { name = name; coordinate = shown; bound = bound }) table
       → IsTableOf (record { name = name; coordinate = product l h; bound = bound }) table
   IsTableOf-pair table is = IsTableOf-same (product l h) shown below same name bound table is
 
-  pub IfErr-pair : {A : Type 0} (k : ℕ) → k < 4 → let line : TableLine = record { name = name; coordinate = product l h; bound = bound } in
-      get_or prune_lines k line ≡ line → (fault : BuildFault) (r : Result A BuildFault) → IsErrAnd r (λ f. f ≡ fault) → IsCause name shown bound fault
-      → IfErr r (IsCauseOf prune_lines)
-  IfErr-pair k inside is fault r handed cause =
+  pub no_gap-pair : (table : Distances) → IsTableOf (record { name = name; coordinate = shown; bound = bound }) table
+      → HasNoGap (record { name = name; coordinate = product l h; bound = bound })
+  no_gap-pair table is =
+      no_gap (record { name = name; coordinate = product l h; bound = bound }) table (IsTableOf-pair table is)
+
+  pub IfErr-pair : {A : Type 0} (built more : List TableLine) → All HasNoGap built → (fault : BuildFault)
+      (r : Result A BuildFault) → IsErrAnd r (λ f. f ≡ fault) → IsCause name shown bound fault
+      → IfErr r (IsCauseOf (built ++ record { name = name; coordinate = product l h; bound = bound } ∷ more))
+  IfErr-pair built more none fault r handed cause =
       let line : TableLine = record { name = name; coordinate = product l h; bound = bound } in
-      IfErr-cause prune_lines k line inside is fault r handed (IsCause-same (product l h) shown below same name bound fault cause)
+      IfErr-cause built line more none fault r handed
+      (IsCause-same (product l h) shown below same name bound fault cause)
 
   AreOutlooks-pair : (distances : List ℕ) (all : List Outlook) → AreOutlooks shown distances all → AreOutlooks (product l h) distances all
   AreOutlooks-pair distances all o = record {

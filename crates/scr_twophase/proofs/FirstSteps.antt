@@ -25,12 +25,13 @@ use Rattle.scr_twophase.specs.TwoParts.{after_turn, all_turns, ends_in_quarter, 
 use Rattle.scr_twophase.specs.TurnSets.{has_turn, turns_in}
 use Rattle.scr_twophase.specs.Search.{may_end, ShowsFirst, IsFirstPosition, IsAt, is_domino_position, KeepsWays}
 use Rattle.scr_twophase.specs.Tables.{twists_of, middle_set_of}
-use Rattle.scr_twophase.specs.Proofs.CubeTests.{IsDomino-test, leads-played}
+use Rattle.scr_twophase.proofs.CubeTests.{IsDomino-test, leads-played}
 use Rattle.scr_twophase.proofs.Orderly.{may_end-orderly}
 use Rattle.scr_twophase.proofs.Outcomes.{IsLeft, IsLeft-all, IsLeft-passed, IsLeft-found, IsLeft-none, IsLeft-used}
-use Rattle.scr_twophase.proofs.Spaces.{IsUntwisted, IsInMiddle, Follows-twists, Follows-middle_set}
+use Rattle.scr_stages.specs.Spaces.{IsUntwisted, IsInMiddle}
+use Rattle.scr_twophase.proofs.Spaces.{Follows-twists, Follows-middle_set}
 use Rattle.scr_twophase.proofs.Tries.{first_joined-one, first_joined-none}
-use Rattle.scr_twophase.specs.Proofs.WordLists.{words_behind-kept, words_behind-end}
+use Rattle.scr_twophase.proofs.WordLists.{words_behind-kept, words_behind-end}
 
 -- ---- where turns lead
 

@@ -1,3 +1,7 @@
+pub mod CubeTests
+pub mod WordLists
+pub mod ListedWords
+pub mod MinimaLaws
 pub mod Tries
 pub mod Spaces
 pub mod Orderly

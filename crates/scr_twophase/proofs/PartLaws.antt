@@ -12,14 +12,11 @@ use Rattle.scr_play.specs.Back.{back}
 use Rattle.scr_notation.specs.declared.turn.Turn.{Turn}
 use Rattle.scr_notation.specs.TurnNumbers.{face_turn_at}
 use Rattle.scr_notation.specs.Turning.{opposite}
-use Rattle.scr_turning.specs.PowerPuzzles.{after_letter}
-use Rattle.scr_cube.specs.Cube333.{CubeState, IsCube, cube_powers, solved_cube}
-use Rattle.scr_cube.proofs.Laws333.{lawful_cube}
+use Rattle.scr_cube.specs.Cube333.{CubeState, solved_cube}
 use Rattle.scr_stages.proofs.SolutionLaws.{IsStageScramble-unique}
 use Rattle.scr_twophase.specs.Words.{words_within}
 use Rattle.scr_twophase.specs.TwoParts.{after_turn, domino_turns, first_joined, first_parts, is_orderly, is_solution, is_solved, joined, leads, second_part, two_parts, IsScrambleBy}
-use Rattle.scr_twophase.specs.Proofs.CubeTests.{IsSolved-test, leads-parts}
-use Rattle.scr_twophase.specs.Proofs.MinimaLaws.{play-spelled}
+use Rattle.scr_twophase.proofs.CubeTests.{IsSolved-test, leads-parts}
 
 given_by : {X Y : Type 0} (f : X → Option Y) (x : X) (o : Option Y) (ys : List Y) (y : Y) → f x ≡ o → slice_get (cons_option o ys) 0 ≡ Some y
     → (slice_get ys 0 ≡ Some y → (z : X) × (f z ≡ Some y)) → (z : X) × (f z ≡ Some y)
@@ -54,10 +51,6 @@ two_parts-played c tries w e =
     to.1 ∙ ap Some ((IsSolved-test to.0).0 to.2)
 
 -- ---- the scramble
-
-pub parts-scramble : (c : CubeState) (w : List ℕ) → IsCube c → play after_turn c w ≡ Some solved_cube
-    → play (after_letter cube_powers) solved_cube (back opposite (map face_turn_at w)) ≡ Some c
-parts-scramble c w h played = lawful_cube.lawful.taken_back c solved_cube (map face_turn_at w) h (play-spelled c w ∙ played)
 
 pub length-back : (turns : List Turn) → length (back opposite turns) ≡ length turns
 length-back turns = length-reverse (map opposite turns) ∙ length-map turns opposite

@@ -23,9 +23,10 @@ use Rattle.scr_stages.proofs.FiniteTests.{All-from_test}
 use Rattle.scr_twophase.specs.TwoParts.{after_turn, domino_turns, is_solved, leads}
 use Rattle.scr_twophase.specs.Words.{words_of}
 use Rattle.scr_twophase.proofs.Admissible.{step-shown, least-of}
-use Rattle.scr_twophase.proofs.Spaces.{dominoes_to, Follows-corners}
-use Rattle.scr_twophase.specs.Proofs.CubeTests.{IsSolved-test, leads-parts, after_of-place, play-places}
-use Rattle.scr_twophase.specs.Proofs.WordLists.{IsWordOf, words_of-each}
+use Rattle.scr_twophase.specs.Spaces.{dominoes_to}
+use Rattle.scr_twophase.proofs.Spaces.{Follows-corners}
+use Rattle.scr_twophase.proofs.CubeTests.{IsSolved-test, leads-parts, after_of-place, play-places}
+use Rattle.scr_twophase.proofs.WordLists.{IsWordOf, words_of-each}
 
 place-turn : (c : CubeState) (place : ℕ) → place < 10 → after_of tetrads_stage.turns c place ≡ after_turn c (get_or domino_turns place 0)
 unfolding domino_turns

@@ -22,12 +22,14 @@ use Rattle.scr_twophase.specs.Words.{words_of, words_behind}
 use Rattle.scr_twophase.specs.TwoParts.{domino_turns, is_solved, is_solution, is_orderly, joined, leads, second_part}
 use Rattle.scr_twophase.specs.Tables.{corners_of, outer_edges_of, middle_edges_of}
 use Rattle.scr_twophase.specs.Search.{may_end, ShowsSecond, IsSecondPosition, IsAt, is_solved_position}
-use Rattle.scr_twophase.specs.Proofs.CubeTests.{same_cube, IsSolved-test, leads-played}
+use Rattle.scr_twophase.proofs.CubeTests.{same_cube, IsSolved-test, leads-played}
 use Rattle.scr_twophase.proofs.FirstSteps.{leads-behind, not_so, same_test, goal_number}
 use Rattle.scr_twophase.proofs.Orderly.{may_end-orderly}
 use Rattle.scr_twophase.proofs.Outcomes.{flat_map-first, flat_map-none}
-use Rattle.scr_twophase.proofs.Spaces.{AreCornersHome, AreOuterHome, AreMiddleHome, IsPlaceSet-outer_places, outer-kept, Follows-corners, Follows-outer_edges, Follows-middle_edges}
-use Rattle.scr_twophase.specs.Proofs.WordLists.{words_behind-none, words_behind-turns, words_behind-end, words_behind-found}
+use Rattle.scr_twophase.specs.Spaces.{AreCornersHome, AreOuterHome, AreMiddleHome}
+use Rattle.scr_twophase.proofs.Spaces.{IsPlaceSet-outer_places, outer-kept, Follows-corners, Follows-outer_edges}
+use Rattle.scr_twophase.proofs.Spaces.{Follows-middle_edges}
+use Rattle.scr_twophase.proofs.WordLists.{words_behind-none, words_behind-turns, words_behind-end, words_behind-found}
 
 -- ---- positions
 

@@ -3,77 +3,48 @@ use Rattle.std.proofs.Common.{◌≡◌, ℕ, ◌+◌, ◌*◌, ◌<◌, not, tr
 use Rattle.std.specs.Prelude.{All, ◌↔◌}
 use Rattle.scr_combinatorics.specs.Lists.{numbers_from, pick}
 use Rattle.scr_combinatorics.specs.Permutations.{IsPermutation, factorial, permutation_number}
-use Rattle.scr_combinatorics.specs.PlaceSets.{IsPlaceSet, place_set_number}
+use Rattle.scr_combinatorics.specs.PlaceSets.{IsPlaceSet}
 use Rattle.scr_combinatorics.proofs.PermutationLaws.{at-permutation, IsPermutation-numbers_from}
 use Rattle.scr_combinatorics.proofs.PermutationNumbers.{permutation_number-lt, permutation_number-injective, permutation_at-number}
-use Rattle.scr_combinatorics.proofs.PlaceSets.{place_set_number-lt, place_set_number-injective, place_set_at-number}
-use Rattle.scr_combinatorics.proofs.Twists.{twists_number-lt}
-use Rattle.scr_orbit.specs.Orbits.{zeros, turned_orbit}
+use Rattle.scr_orbit.specs.Orbits.{turned_orbit}
 use Rattle.scr_coord.specs.Coordinates.{Coordinate}
 use Rattle.scr_coord.specs.Products.{product}
-use Rattle.scr_coord.specs.Projections.{projection, twists_view, place_set_view, pieces_view, stands_in, turned_set}
-use Rattle.scr_coord.specs.SearchSpaces.{SearchSpace, positions, Follows}
+use Rattle.scr_coord.specs.Projections.{projection, pieces_view, stands_in}
+use Rattle.scr_coord.specs.SearchSpaces.{positions, Follows}
 use Rattle.scr_coord.proofs.ProductLaws.{Follows-product}
-use Rattle.scr_cube.specs.Cube333.{CubeState, IsCube, CubeTurn, IsCubeTurn, cube_action}
+use Rattle.scr_cube.specs.Cube333.{CubeState, IsCube, CubeTurn, cube_action}
 use Rattle.scr_stages.specs.Stages.{HasNoFlips, middle_edges, after_of, flips_stage, tetrads_stage}
 use Rattle.scr_stages.specs.Numbers.{flips_number, IsDominoCube}
 use Rattle.scr_stages.specs.Tables.{turns_of, block_turn, outer_places, flips_coordinate}
 use Rattle.scr_stages.specs.Tetrads.{in_block}
 use Rattle.scr_stages.proofs.Blocks.{places_in, All-place_set}
-use Rattle.scr_stages.proofs.DominoLaws.{IsPlaceSet-middle, places-turned, middle-at, Blocks-of}
+use Rattle.scr_stages.proofs.DominoLaws.{IsPlaceSet-middle, middle-at, Blocks-of}
 use Rattle.scr_stages.proofs.HalfCubes.{IsPermutation-in_block}
 use Rattle.scr_stages.proofs.KeptBlocks.{kept_from-places, in_block-turned, All-kept}
-use Rattle.scr_stages.proofs.StageSpaces.{flips_moves, tetrads_moves, twists-turned, twists-goal, IsPlaceSet-middle_places, Follows-flips}
-use Rattle.scr_stages.proofs.TurnFacts.{IsDominoTurn}
+use Rattle.scr_stages.proofs.StageSpaces.{tetrads_moves, Follows-flips, Follows-twists_by, Follows-middle_by}
+use Rattle.scr_stages.proofs.StageSpaces.{Follows-twists_beside}
+use Rattle.scr_stages.proofs.TurnFacts.{IsDominoTurn, flips_numbers}
 use Rattle.scr_stages.proofs.ViewLaws.{Follows-viewed}
+use Rattle.scr_stages.specs.Spaces.{IsUntwisted, IsInMiddle}
+use Rattle.scr_twophase.specs.Spaces.{cubes_to, dominoes_to, flipslice_space, twistslice_space, flipslice_number}
+use Rattle.scr_twophase.specs.Spaces.{twistslice_number, AreCornersHome, AreOuterHome, AreMiddleHome, cornerslice_space}
+use Rattle.scr_twophase.specs.Spaces.{edgeslice_space, cornerslice_number, edgeslice_number}
 use Rattle.scr_twophase.specs.Tables.{twists_of, middle_set_of, twists_coordinate, middle_set_coordinate, flipslice_coordinate, twistslice_coordinate, corners_of, outer_edges_of, middle_edges_of, corners_coordinate, outer_edges_coordinate, middle_edges_coordinate, cornerslice_coordinate, edgeslice_coordinate}
-
--- cubes by all turns, and dominoes by the turns that keep them, to a goal
-abbrev pub cubes_to : (CubeState → Type 0) → SearchSpace CubeState
-cubes_to IsGoal = record { IsValid = IsCube; after = after_of flips_stage.turns; IsGoal = IsGoal }
-
-abbrev pub dominoes_to : (CubeState → Type 0) → SearchSpace CubeState
-dominoes_to IsGoal = record { IsValid = IsDominoCube; after = after_of tetrads_stage.turns; IsGoal = IsGoal }
 
 -- ---- the first part
 
-abbrev pub IsUntwisted : CubeState → Type 0
-IsUntwisted c = c.corners.digits ≡ zeros 8
-
-abbrev pub IsInMiddle : CubeState → Type 0
-IsInMiddle c = places_in middle_edges c.edges.pieces ≡ middle_edges
-
 pub Follows-twists : Follows (cubes_to IsUntwisted) (positions twists_coordinate) twists_of
-unfolding turned_orbit
-Follows-twists =
-    Follows-viewed cube_action.turned (turns_of flips_stage.turns) (after_of flips_stage.turns) IsCube IsCubeTurn flips_moves (twists_view 8 3)
-    (λ r. r.corners) twists_of IsUntwisted (λ c h. twists_number-lt 8 3 c.corners.digits h.corners.digits)
-    (λ c r h t. twists-turned 8 3 c.corners.digits r.corners.places r.corners.added (lit< tt) (lit< tt) h.corners.digits)
-    (λ c h. twists-goal 8 3 c.corners.digits (lit< tt) (lit< tt) h.corners.digits)
+Follows-twists = Follows-twists_by flips_stage.turns flips_numbers
 
 pub Follows-middle_set : Follows (cubes_to IsInMiddle) (positions middle_set_coordinate) middle_set_of
-unfolding turned_orbit
-Follows-middle_set =
-    Follows-viewed cube_action.turned (turns_of flips_stage.turns) (after_of flips_stage.turns) IsCube IsCubeTurn flips_moves (place_set_view 12 4 middle_edges)
-    (λ r. r.edges) middle_set_of IsInMiddle
-    (λ c h. place_set_number-lt 12 4 (places_in middle_edges c.edges.pieces) (IsPlaceSet-middle_places c h))
-    (λ c r h t.
-    ap (λ set. place_set_number 12 (turned_set set r.edges)) (place_set_at-number 12 4 (places_in middle_edges c.edges.pieces) (IsPlaceSet-middle_places c h))
-    ∙ ap (place_set_number 12) (sym (places-turned 12 2 middle_edges c.edges r.edges h.edges.pieces t.edges.places)))
-    (λ c h. (
-      λ e. ap (place_set_number 12) e,
-      λ e. place_set_number-injective 12 4 (places_in middle_edges c.edges.pieces) middle_edges (IsPlaceSet-middle_places c h) IsPlaceSet-middle e,
-    ))
+Follows-middle_set = Follows-middle_by flips_stage.turns flips_numbers
 
-pub Follows-flipslice : Follows (cubes_to (λ c. HasNoFlips c × IsInMiddle c))
-    (positions flipslice_coordinate) (λ c. flips_number c + 2048 * middle_set_of c)
+pub Follows-flipslice : Follows flipslice_space (positions flipslice_coordinate) flipslice_number
 Follows-flipslice =
     Follows-product IsCube HasNoFlips IsInMiddle (after_of flips_stage.turns) flips_coordinate middle_set_coordinate flips_number middle_set_of refl Follows-flips Follows-middle_set
 
-pub Follows-twistslice : Follows (cubes_to (λ c. IsUntwisted c × IsInMiddle c))
-    (positions twistslice_coordinate) (λ c. twists_of c + 2187 * middle_set_of c)
-Follows-twistslice =
-    Follows-product IsCube IsUntwisted IsInMiddle (after_of flips_stage.turns) twists_coordinate middle_set_coordinate twists_of middle_set_of refl Follows-twists Follows-middle_set
+pub Follows-twistslice : Follows twistslice_space (positions twistslice_coordinate) twistslice_number
+Follows-twistslice = Follows-twists_beside flips_stage.turns flips_numbers
 
 -- ---- the second part
 
@@ -106,15 +77,6 @@ number-lt n xs h = subst (λ m. permutation_number xs < factorial m) h.size (per
 -- a list is in order where its number says so
 in_order : (n : ℕ) (xs : List ℕ) → IsPermutation n xs → (xs ≡ numbers_from 0 n) ↔ (permutation_number xs ≡ permutation_number (numbers_from 0 n))
 in_order n xs h = (λ e. ap permutation_number e, λ e. permutation_number-injective n xs (numbers_from 0 n) h (IsPermutation-numbers_from n) e)
-
-abbrev pub AreCornersHome : CubeState → Type 0
-AreCornersHome c = c.corners.pieces ≡ numbers_from 0 8
-
-abbrev pub AreOuterHome : CubeState → Type 0
-AreOuterHome c = in_block outer_places c.edges.pieces ≡ numbers_from 0 8
-
-abbrev pub AreMiddleHome : CubeState → Type 0
-AreMiddleHome c = in_block middle_edges c.edges.pieces ≡ numbers_from 0 4
 
 pub Follows-corners : Follows (dominoes_to AreCornersHome) (positions corners_coordinate) corners_of
 unfolding turned_orbit
@@ -157,8 +119,8 @@ Follows-beside_middle : (high : Coordinate) (u : CubeState → ℕ) (IsHigh : Cu
 Follows-beside_middle high u IsHigh turns follows =
     Follows-product IsDominoCube AreMiddleHome IsHigh (after_of tetrads_stage.turns) middle_edges_coordinate high middle_edges_of u turns Follows-middle_edges follows
 
-pub Follows-cornerslice : Follows (dominoes_to (λ c. AreMiddleHome c × AreCornersHome c)) (positions cornerslice_coordinate) (λ c. middle_edges_of c + 24 * corners_of c)
+pub Follows-cornerslice : Follows cornerslice_space (positions cornerslice_coordinate) cornerslice_number
 Follows-cornerslice = Follows-beside_middle corners_coordinate corners_of AreCornersHome refl Follows-corners
 
-pub Follows-edgeslice : Follows (dominoes_to (λ c. AreMiddleHome c × AreOuterHome c)) (positions edgeslice_coordinate) (λ c. middle_edges_of c + 24 * outer_edges_of c)
+pub Follows-edgeslice : Follows edgeslice_space (positions edgeslice_coordinate) edgeslice_number
 Follows-edgeslice = Follows-beside_middle outer_edges_coordinate outer_edges_of AreOuterHome refl Follows-outer_edges

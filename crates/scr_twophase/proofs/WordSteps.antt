@@ -1,20 +1,8 @@
 -- The turns of a word in an array; which turns may stand behind it.
-use Rattle.std.proofs.Common.{◌≡◌, ℕ, ◌-◌, ◌/◌, ◌<◌, ◌≤◌, Bool, true, List, [], ◌∷◌, length, take, get_or, Some, refl, ap, ◌∙◌, arith}
-use Rattle.std.specs.Prelude.{slice_get}
-use Rattle.std.proofs.lemmas.List.{length-take-le, get_or-take}
-use Rattle.std.proofs.lemmas.Option.{slice_get-get_or}
+use Rattle.std.proofs.Common.{◌≡◌, ℕ, ◌/◌, ◌<◌, Bool, true, List, [], ◌∷◌, get_or, refl}
 use Rattle.scr_stages.proofs.FiniteTests.{agree, agree-same, passes_below, test-below}
 use Rattle.scr_twophase.specs.TwoParts.{may_precede}
 use Rattle.scr_twophase.specs.TurnSets.{has_turn}
-
--- the last turn of so many
-pub last-taken : (count : ℕ) (turns : List ℕ) → count ≤ length turns → 0 < count
-    → slice_get (take count turns) (length (take count turns) - 1) ≡ Some (get_or turns (count - 1) 0)
-last-taken count turns le some =
-    let size : length (take count turns) ≡ count = length-take-le count turns le in
-    ap (λ n. slice_get (take count turns) (n - 1)) size
-    ∙ slice_get-get_or (take count turns) (count - 1) 0 (omega (arith, size))
-    ∙ ap Some (get_or-take count turns (count - 1) 0 (omega arith))
 
 -- each of the turns behind a turn of a face
 unfoldable pub behind_bits : List ℕ

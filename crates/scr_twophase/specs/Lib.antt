@@ -1,9 +1,9 @@
 pub mod Words
 pub mod TwoParts
 pub mod Tables
+pub mod Spaces
 pub mod Search
 pub mod TurnSets
 pub mod Outlooks
 pub mod Built
 pub mod Minima
-pub mod Proofs

@@ -1,5 +1,5 @@
 -- The pruning tables: what each is a table of, and how far it may reach.
-use Rattle.std.specs.Prelude.{ℕ, List, [], ◌∷◌, map}
+use Rattle.std.specs.Prelude.{ℕ, List, [], ◌∷◌, ◌++◌, map}
 use Rattle.scr_combinatorics.specs.Permutations.{permutation_number}
 use Rattle.scr_combinatorics.specs.PlaceSets.{place_set_number}
 use Rattle.scr_combinatorics.specs.Twists.{twists_number}
@@ -77,6 +77,12 @@ cornerslice_line = record { name = CornerSlice; coordinate = cornerslice_coordin
 abbrev pub edgeslice_line : TableLine
 edgeslice_line = record { name = EdgeSlice; coordinate = edgeslice_coordinate; bound = 18 }
 
--- in the order in which they are built
+-- those of the first part and those of the second, in the order in which they are built
+abbrev pub first_lines : List TableLine
+first_lines = flipslice_line ∷ twistslice_line ∷ []
+
+abbrev pub second_lines : List TableLine
+second_lines = cornerslice_line ∷ edgeslice_line ∷ []
+
 abbrev pub prune_lines : List TableLine
-prune_lines = flipslice_line ∷ twistslice_line ∷ cornerslice_line ∷ edgeslice_line ∷ []
+prune_lines = first_lines ++ second_lines

@@ -1,27 +1,30 @@
 //! The first part: what a search for it sees of a cube, and where turns lead.
-ghost use Rattle.std.specs.Prelude.{◌≡◌, ◌+◌, ◌<◌, ◌^◌, ℕ, IfErr, IfOk, IsSome, Some};
+ghost use Rattle.std.specs.Prelude.{◌≡◌, ◌+◌, ◌<◌, ◌^◌, ℕ, All, IfErr, IfOk, IsSome, Some};
 ghost use Rattle.scr_combinatorics.specs.Permutations.{IsPermutation};
 ghost use Rattle.scr_combinatorics.specs.PlaceSets.{IsPlaceSet};
 ghost use Rattle.scr_coord.specs.Moves.{moves_coordinate};
 ghost use Rattle.scr_coord.specs.SearchSpaces.{ShowsSame};
 ghost use Rattle.scr_coord.specs.Projections.{marked_places, stands_in};
 ghost use Rattle.scr_table.specs.Causes.{IsCauseOf};
+ghost use Rattle.scr_table.specs.Lines.{HasNoGap};
 ghost use Rattle.scr_cube.specs.Cube333.{CubeState};
 ghost use Rattle.scr_stages.specs.Stages.{middle_edges};
 ghost use Rattle.scr_stages.specs.Tables.{flips_coordinate};
 ghost use Rattle.scr_twophase.specs.Outlooks.{IsPruningTable};
 ghost use Rattle.scr_twophase.specs.Search.{ShowsFirst, IsFirstPosition, KeepsWays, is_domino_position};
 ghost use Rattle.scr_twophase.specs.TwoParts.{after_turn};
-ghost use Rattle.scr_twophase.specs.Tables.{twists_coordinate, middle_set_coordinate, flipslice_line, twistslice_line, prune_lines};
+ghost use Rattle.scr_twophase.specs.Tables.{twists_coordinate, middle_set_coordinate};
+ghost use Rattle.scr_twophase.specs.Tables.{flipslice_line, twistslice_line, first_lines};
 
 use crate::pruning::PruningTable;
 use crate::turn_set::TurnSet;
 use scr_coord::{Coord, MoveTable, PlaceSet, Product, Twists, places_of};
 use scr_cube::Cube;
+use scr_outside::NoMemory;
 use scr_rank::{Choose, TwistRank};
 use scr_stages::{ALL_TURNS, MIDDLE_EDGES, corners_turned, edges_turned};
 use scr_table::{BuildFault, TableName};
-use std::alloc::{AllocError, Global};
+use std::alloc::Global;
 
 /// How many flips there are.
 const FLIPS: u32 = 2048;
@@ -79,7 +82,8 @@ pub(crate) struct FirstTables {
 impl FirstTables {
     /// The tables, or why one isn't built.
     pub fn build(alloc: Global) -> Result<FirstTables, BuildFault>
-        ensures cause { IfErr result (IsCauseOf prune_lines) }
+        ensures whole { IfOk result (λ _. All HasNoGap first_lines) }
+        ensures cause { IfErr result (IsCauseOf first_lines) }
     {
         let flips = flip_moves(alloc)?;
         let twists = twist_moves(alloc)?;
@@ -87,19 +91,13 @@ impl FirstTables {
         let flipslice = PruningTable::build(
             alloc,
             TableName::FlipSlice,
-            &Product {
-                low: &flips,
-                high: &middle,
-            },
+            &Product::new(&flips, &middle),
             12,
         )?;
         let twistslice = PruningTable::build(
             alloc,
             TableName::TwistSlice,
-            &Product {
-                low: &twists,
-                high: &middle,
-            },
+            &Product::new(&twists, &middle),
             12,
         )?;
         Ok(FirstTables {
@@ -157,21 +155,21 @@ pub(crate) fn step(moves: &MoveTable, position: u32, turn: u32) -> u32
 }
 
 /// Where turns lead from the flips.
-fn flip_moves(alloc: Global) -> Result<MoveTable, AllocError>
+fn flip_moves(alloc: Global) -> Result<MoveTable, NoMemory>
     ensures { IfOk result (λ table. ShowsSame flips_coordinate (moves_coordinate table)) }
 {
     MoveTable::build(alloc, &Twists::<12, 2>::new(&edges_turned(&ALL_TURNS)[..]))
 }
 
 /// Where turns lead from the twists.
-fn twist_moves(alloc: Global) -> Result<MoveTable, AllocError>
+fn twist_moves(alloc: Global) -> Result<MoveTable, NoMemory>
     ensures { IfOk result (λ table. ShowsSame twists_coordinate (moves_coordinate table)) }
 {
     MoveTable::build(alloc, &Twists::<8, 3>::new(&corners_turned(&ALL_TURNS)[..]))
 }
 
 /// Where turns lead from the sets of the places of the edges of the middle layer.
-fn middle_moves(alloc: Global) -> Result<MoveTable, AllocError>
+fn middle_moves(alloc: Global) -> Result<MoveTable, NoMemory>
     ensures { IfOk result (λ table. ShowsSame middle_set_coordinate (moves_coordinate table)) }
 {
     let edges = edges_turned(&ALL_TURNS);

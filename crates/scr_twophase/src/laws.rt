@@ -1,6 +1,14 @@
 //! Laws of the two parts of a 3x3x3. The functions do nothing: what each ensures is the law.
-ghost use Rattle.std.specs.Prelude.{◌≡◌, ◌<◌, ◌↔◌, ℕ, All, Contains, List, [], ◌∷◌, length};
-ghost use Rattle.scr_twophase.specs.TwoParts.{all_turns};
+ghost use Rattle.std.specs.Prelude.{◌≡◌, ◌<◌, ◌≤◌, ◌↔◌, ℕ, All, Contains, IsSome, IsTrue, List, [], ◌∷◌, ◌++◌, Some};
+ghost use Rattle.std.specs.Prelude.{length};
+ghost use Rattle.scr_play.specs.Play.{play};
+ghost use Rattle.scr_coord.specs.SearchSpaces.{positions, Follows};
+ghost use Rattle.scr_cube.specs.Cube333.{CubeState, solved_cube};
+ghost use Rattle.scr_twophase.specs.Spaces.{flipslice_space, twistslice_space, cornerslice_space, edgeslice_space};
+ghost use Rattle.scr_twophase.specs.Spaces.{flipslice_number, twistslice_number, cornerslice_number, edgeslice_number};
+ghost use Rattle.scr_twophase.specs.Tables.{flipslice_line, twistslice_line, cornerslice_line, edgeslice_line};
+ghost use Rattle.scr_twophase.specs.TwoParts.{after_turn, all_turns, domino_turns};
+ghost use Rattle.scr_twophase.specs.TwoParts.{is_first_part, first_parts, is_solution, second_part};
 ghost use Rattle.scr_twophase.specs.Words.{words_of, words_within};
 
 /// The words of two turns, 0 and 3, in order.
@@ -14,4 +22,35 @@ pub fn known_words()
 /// The words of n turns in the lists are all lists of n of the 18 turns.
 pub fn words()
     ensures { (n : ℕ) (w : List ℕ) → Contains (words_of all_turns n) w ↔ (length w ≡ n) × All (λ t. t < 18) w }
+{}
+
+/// From every cube with an index, of those of which a table speaks, a turn leads to one and the same index, that to
+/// which the table's coordinate leads; and all of them are at the table's goal, or none.
+pub fn indexes()
+    ensures flipslice { Follows flipslice_space (positions flipslice_line.coordinate) flipslice_number }
+    ensures twistslice { Follows twistslice_space (positions twistslice_line.coordinate) twistslice_number }
+    ensures cornerslice { Follows cornerslice_space (positions cornerslice_line.coordinate) cornerslice_number }
+    ensures edgeslice { Follows edgeslice_space (positions edgeslice_line.coordinate) edgeslice_number }
+{}
+
+/// A first part has at most twelve of the 18 turns, and each word of so many that is such is one.
+pub fn first_parts()
+    ensures all { (c : CubeState) (w : List ℕ)
+        → Contains (first_parts c) w ↔ (length w ≤ 12) × All (λ t. t < 18) w × IsTrue (is_first_part c w) }
+
+    // R F L B, three times, is a first part of the cube that it solves, and one turn more makes a first part of none
+    ensures twelve { (c : CubeState)
+        → play after_turn c (3 ∷ 6 ∷ 12 ∷ 15 ∷ 3 ∷ 6 ∷ 12 ∷ 15 ∷ 3 ∷ 6 ∷ 12 ∷ 15 ∷ []) ≡ Some solved_cube
+        → Contains (first_parts c) (3 ∷ 6 ∷ 12 ∷ 15 ∷ 3 ∷ 6 ∷ 12 ∷ 15 ∷ 3 ∷ 6 ∷ 12 ∷ 15 ∷ []) }
+    ensures no_thirteen { (c : CubeState)
+        → Contains (first_parts c) (3 ∷ 6 ∷ 12 ∷ 15 ∷ 3 ∷ 6 ∷ 12 ∷ 15 ∷ 3 ∷ 6 ∷ 12 ∷ 15 ∷ 3 ∷ []) → ⊥ }
+{}
+
+/// A second part has at most ten of the turns that keep a domino, and there is one wherever a word of so many leads on
+/// to solved and is orderly behind the first part.
+pub fn second_parts()
+    ensures such { (c : CubeState) (first w : List ℕ) → second_part c first ≡ Some w
+        → (length w ≤ 10) × All (Contains domino_turns) w × IsTrue (is_solution c (first ++ w)) }
+    ensures some { (c : CubeState) (first w : List ℕ) → length w ≤ 10 → All (Contains domino_turns) w
+        → IsTrue (is_solution c (first ++ w)) → IsSome (second_part c first) }
 {}

@@ -5,7 +5,7 @@
 //! first of the first parts, in the order of words, that has a second part, joined with the least one;
 //! `specs/TwoParts.antt` says so over the lists of all words. [`scramble_333`] takes it back, and where none of the
 //! first parts that are tried has a second part, it is the scramble by stages. [`needs_333`] tests the minima 0 to 5
-//! over all words.
+//! over all words, and [`Draw333`] draws by it.
 //!
 //! The search goes depth first by rising length, over move tables, and leaves out the turns that [`PruneTables`] say
 //! lead too far from the goal: the theorem is that it finds what the lists have, and that each first part counts one
@@ -14,6 +14,7 @@
 //! distance tables.
 #![tactic(auto)]
 
+mod draw;
 mod first;
 pub mod laws;
 mod needs;
@@ -26,6 +27,7 @@ mod tables;
 mod turn_set;
 mod word;
 
+pub use draw::Draw333;
 pub use needs::needs_333;
 pub use scramble::{scramble_333, two_parts};
 pub use tables::PruneTables;

@@ -7,13 +7,14 @@ ghost use Rattle.scr_coord.specs.Moves.{moves_coordinate};
 ghost use Rattle.scr_coord.specs.Projections.{projection, pieces_view};
 ghost use Rattle.scr_coord.specs.SearchSpaces.{ShowsSame};
 ghost use Rattle.scr_table.specs.Causes.{IsCauseOf};
-ghost use Rattle.scr_table.specs.Lines.{IsTableOf};
+ghost use Rattle.scr_table.specs.Lines.{HasNoGap, IsTableOf};
 ghost use Rattle.scr_cube.specs.Cube333.{CubeState};
 ghost use Rattle.scr_stages.specs.Numbers.{IsDominoCube};
 ghost use Rattle.scr_stages.specs.Stages.{tetrads_stage};
 ghost use Rattle.scr_stages.specs.Tables.{block_turn, edges_by};
 ghost use Rattle.scr_twophase.specs.Search.{ShowsSecond, IsSecondPosition, is_solved_position};
-ghost use Rattle.scr_twophase.specs.Tables.{corners_coordinate, outer_edges_coordinate, middle_edges_coordinate, cornerslice_line, edgeslice_line, prune_lines};
+ghost use Rattle.scr_twophase.specs.Tables.{corners_coordinate, outer_edges_coordinate, middle_edges_coordinate};
+ghost use Rattle.scr_twophase.specs.Tables.{cornerslice_line, edgeslice_line, second_lines};
 ghost use Rattle.scr_twophase.specs.TwoParts.{after_turn, domino_turns, leads, is_orderly, is_solution, is_solved, joined};
 ghost use Rattle.scr_twophase.specs.Words.{words_behind, words_of};
 
@@ -22,12 +23,13 @@ use crate::turn_set::TurnSet;
 use crate::word::Word;
 use scr_coord::{Coord, Lists, MoveTable, Product};
 use scr_cube::Cube;
+use scr_outside::NoMemory;
 use scr_rank::PermRank;
 use scr_stages::{
     MIDDLE_EDGES, OUTER_EDGES, TETRADS_TURNS, block_edges_turned, block_number, corners_turned,
 };
 use scr_table::{BuildFault, DistanceTable, TableName};
-use std::alloc::{AllocError, Global};
+use std::alloc::Global;
 
 /// How many lists of the edges of the middle layer there are.
 const MIDDLES: u32 = 24;
@@ -87,7 +89,8 @@ impl SecondTables {
 
     /// The tables, or why one isn't built.
     pub fn build(alloc: Global) -> Result<SecondTables, BuildFault>
-        ensures cause { IfErr result (IsCauseOf prune_lines) }
+        ensures whole { IfOk result (λ _. All HasNoGap second_lines) }
+        ensures cause { IfErr result (IsCauseOf second_lines) }
     {
         let corners = corner_moves(alloc)?;
         let outer = edge_moves(alloc, &OUTER_EDGES)?;
@@ -95,19 +98,13 @@ impl SecondTables {
         let cornerslice = DistanceTable::build(
             alloc,
             TableName::CornerSlice,
-            &Product {
-                low: &middle,
-                high: &corners,
-            },
+            &Product::new(&middle, &corners),
             18,
         )?;
         let edgeslice = DistanceTable::build(
             alloc,
             TableName::EdgeSlice,
-            &Product {
-                low: &middle,
-                high: &outer,
-            },
+            &Product::new(&middle, &outer),
             18,
         )?;
         Ok(SecondTables {
@@ -193,14 +190,14 @@ impl SecondTables {
 }
 
 /// Where the ten turns lead from the lists of corners.
-fn corner_moves(alloc: Global) -> Result<MoveTable, AllocError>
+fn corner_moves(alloc: Global) -> Result<MoveTable, NoMemory>
     ensures { IfOk result (λ table. ShowsSame corners_coordinate (moves_coordinate table)) }
 {
     MoveTable::build(alloc, &Lists::<8>::new(&corners_turned(&TETRADS_TURNS)[..]))
 }
 
 /// Where they lead from the lists of the edges of a block of 1 to 12 places, among which they carry these.
-fn edge_moves<const N: usize>(alloc: Global, block: &[u8; N]) -> Result<MoveTable, AllocError>
+fn edge_moves<const N: usize>(alloc: Global, block: &[u8; N]) -> Result<MoveTable, NoMemory>
     requires size { (1 ≤ N) × (N ≤ 12) }
     requires fits { factorial N < 2 ^ 32 }
     requires places { All (λ place. place < 12) block.now }

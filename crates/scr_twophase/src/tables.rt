@@ -1,7 +1,7 @@
 //! The pruning tables, as callers see them.
-ghost use Rattle.std.specs.Prelude.{◌≡◌, ◌↔◌, map, IfOk, IfErr, IfSome, IsSome};
+ghost use Rattle.std.specs.Prelude.{◌≡◌, ◌↔◌, map, All, IfOk, IfErr, IfSome, IsSome};
 ghost use Rattle.scr_table.specs.Causes.{IsCauseOf};
-ghost use Rattle.scr_table.specs.Lines.{AreTablesOf, HasNamed, IsNamed};
+ghost use Rattle.scr_table.specs.Lines.{AreTablesOf, HasNamed, HasNoGap, IsFirstNamed};
 ghost use Rattle.scr_twophase.specs.Tables.{prune_lines};
 
 use crate::first::FirstTables;
@@ -33,10 +33,11 @@ impl Model for PruneTables {
 }
 
 impl PruneTables {
-    /// The tables `flipslice`, `twistslice`, `cornerslice` and `edgeslice`, built in this order, or why one isn't:
-    /// there is no memory for it, or it has a gap, which its line rules out where the bounds are right.
+    /// The tables `flipslice`, `twistslice`, `cornerslice` and `edgeslice`, built in this order, or why they are
+    /// not: there is no memory, or one has a gap. The first gap of the first such table is named.
     pub fn build(alloc: Global) -> Result<PruneTables, BuildFault>
         ensures built { IfOk result (AreTablesOf prune_lines) }
+        ensures whole { IfOk result (λ _. All HasNoGap prune_lines) }
         ensures cause { IfErr result (IsCauseOf prune_lines) }
     {
         let first = FirstTables::build(alloc)?;
@@ -49,7 +50,7 @@ impl PruneTables {
     /// The built table of this name. `None` comes exactly where none of the four has it.
     pub fn table(&self, name: TableName) -> Option<&DistanceTable>
         ensures found { IsSome result ↔ HasNamed self.now name }
-        ensures value { IfSome result (λ found. IsNamed self.now name found.now) }
+        ensures first { IfSome result (λ found. IsFirstNamed self.now name found.now) }
         ensures built { AreTablesOf prune_lines self.now }
     {
         table_named(&self.all()[..], name)
@@ -59,6 +60,7 @@ impl PruneTables {
     pub fn all(&self) -> [&DistanceTable; 4]
         ensures same { map (λ table. table.now) result ≡ self.now }
         ensures built { AreTablesOf prune_lines self.now }
+        ensures whole { All HasNoGap prune_lines }
     {
         [
             &self.parts.first.flipslice.distances,

@@ -31,4 +31,8 @@ pub fn block_vectors()
     // vector 5: the last byte of the nonce, the high byte of the stream, is 2
     ensures nonce { words_from (replicate 32 0) (0x02000000 * 2 ^ 32) 0 4
         ≡ 0x374dc6c2 ∷ 0x3736d58c ∷ 0xb904e24a ∷ 0xcd3f93ef ∷ [] }
+
+    // 2.6.2: the key 128, 129 and so on to 159, and a nonce whose last eight bytes, 0, 1 and so on to 7, are the stream
+    ensures both_words { words_from (range_with_len 128 32) 0x0706050403020100 0 8
+        ≡ 0x8ba0d58a ∷ 0xcc815f90 ∷ 0x27405081 ∷ 0x7194b24a ∷ 0x37b633a8 ∷ 0xa50dfde3 ∷ 0xe2b8db08 ∷ 0x46a6d1fd ∷ [] }
 {}

@@ -1,13 +1,13 @@
 -- Laws of turns of the dials.
-use Rattle.std.proofs.Common.{◌≡◌, ℕ, ◌+◌, ◌-◌, ◌%◌, ◌<◌, ◌⊎◌, inl, inr, Bool, true, cond, ltb, ◌&&◌, List, length, get_or, Some, None, refl, sym, arith}
+use Rattle.std.proofs.Common.{◌≡◌, ℕ, ◌+◌, ◌-◌, ◌%◌, ◌<◌, ◌⊎◌, inl, inr, Bool, true, cond, ltb, ◌&&◌}
+use Rattle.std.proofs.Common.{List, length, get_or, Some, None, refl, sym, arith}
 use Rattle.std.specs.List.{range_with_len}
 use Rattle.std.proofs.lemmas.Bool.{and_parts, and_from, ltb-true, lt-ltb, cond-true, cases_cond}
 use Rattle.std.proofs.lemmas.Option.{cond_some}
-use Rattle.std.proofs.lemmas.List.FromFn.{fill_by_all, get_or-map-range_with_len}
-use Rattle.std.proofs.lemmas.List.Elements.{All-replicate, All-map}
-use Rattle.scr_clock.specs.Dials.{IsClock, DialTurn, is_turn, gain_at, turned, solved, dials_after}
+use Rattle.std.proofs.lemmas.List.FromFn.{fill_by_all}
+use Rattle.std.proofs.lemmas.List.Elements.{All-get_or, All-map}
+use Rattle.scr_clock.specs.Dials.{IsClock, DialTurn, is_turn, gain_at, turned, dials_after}
 use Rattle.scr_clock.specs.Sides.{Setting, turn_by}
-use Rattle.scr_clock.specs.Proofs.Hours.{hour_at}
 
 -- ---- turns
 
@@ -42,6 +42,10 @@ dials_after-parts dials r t e = cond_some (is_turn t) (turned dials t) r e
 
 -- ---- dial by dial
 
+-- each dial of a Clock shows an hour
+pub hour_at : (dials : List ℕ) (k : ℕ) → IsClock dials → k < 14 → get_or dials k 0 < 12
+hour_at dials k c h = All-get_or (λ d. d < 12) dials k 0 (omega (arith, c.fourteen)) c.below
+
 -- a dial gains nothing, the amount, or what is left of it to twelve
 gain_at-cases : (t : DialTurn) (k : ℕ) → (gain_at t k ≡ 0) ⊎ ((gain_at t k ≡ 12 - t.amount) ⊎ (gain_at t k ≡ t.amount))
 unfolding gain_at
@@ -50,11 +54,6 @@ gain_at-cases t k =
       | inl z ↦ inl z
       | inr some ↦ inr (cases_cond (t.back && ltb k 9) (12 - t.amount) t.amount (gain_at t k) some)
     ]
-
--- each dial comes to the sum of its hour and what it gains
-pub turned-at : (dials : List ℕ) (t : DialTurn) (k : ℕ) → k < 14 → get_or (turned dials t) k 0 ≡ (get_or dials k 0 + gain_at t k) % 12
-unfolding turned
-turned-at dials t k l = get_or-map-range_with_len (λ j. (get_or dials j 0 + gain_at t j) % 12) 0 14 k k 0 l (omega arith)
 
 -- dials that have come to these hours are the turned ones
 pub turned_by_dials : (dials other : List ℕ) (t : DialTurn) → length other ≡ 14
@@ -69,15 +68,6 @@ IsClock-turned dials t = record {
   fourteen = refl;
   below = All-map (λ d. d < 12) (λ j. (get_or dials j 0 + gain_at t j) % 12) (range_with_len 0 14) (λ k d l. omega arith);
 }
-
-pub IsClock-solved : IsClock solved
-IsClock-solved = record { fourteen = refl; below = All-replicate (λ d. d < 12) 14 0 (omega arith) }
-
--- it doesn't matter which of two turns comes first
-pub turned_swap : (dials : List ℕ) (t u : DialTurn) → turned (turned dials t) u ≡ turned (turned dials u) t
-turned_swap dials t u =
-    turned_by_dials (turned dials u) (turned (turned dials t) u) t (IsClock-turned (turned dials t) u).fourteen
-    (λ k l. omega (arith, turned-at dials t k l, turned-at (turned dials t) u k l, turned-at dials u k l))
 
 -- a turn by 0 does nothing
 pub turned-none : (dials : List ℕ) (t : DialTurn) → IsClock dials → t.amount ≡ 0 → turned dials t ≡ dials

@@ -2,7 +2,7 @@ use Rattle.std.proofs.Common.{◌≡◌, List, ℕ, [], ◌∷◌, sym, ap, ◌�
 use Rattle.scr_clock.specs.Dials.{solved}
 use Rattle.scr_clock.specs.Held.{clock_after}
 use Rattle.scr_clock.specs.Written.{IsAmounts, written}
-use Rattle.scr_clock.specs.Proofs.AmountLaws.{amounts_of, IsAmounts-amounts_of, amounts_of-give, amounts_of-only}
+use Rattle.scr_clock.proofs.AmountLaws.{amounts_of, IsAmounts-amounts_of, amounts_of-give, amounts_of-only}
 use Rattle.scr_clock.proofs.amounts.solve.Goals as goal
 
 abbrev hours : goal.After-hour-14 → List ℕ

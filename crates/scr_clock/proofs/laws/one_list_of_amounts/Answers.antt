@@ -1,6 +1,6 @@
 use Rattle.std.proofs.Common.{sym, ◌∙◌}
-use Rattle.scr_clock.specs.Proofs.HeldLaws.{given, clock_after-written}
-use Rattle.scr_clock.specs.Proofs.AmountLaws.{amounts_of, IsAmounts-amounts_of, amounts_of-give, amounts_of-only, IsScrambleOf-one}
+use Rattle.scr_clock.proofs.HeldLaws.{given, clock_after-written}
+use Rattle.scr_clock.proofs.AmountLaws.{amounts_of, IsAmounts-amounts_of, amounts_of-give, amounts_of-only, IsScrambleOf-one}
 use Rattle.scr_clock.proofs.laws.one_list_of_amounts.Goals as goal
 
 pub returns-clause-some : goal.returns-clause-some

@@ -1,4 +1,4 @@
-use Rattle.scr_clock.specs.Proofs.TurnLaws.{turned_swap}
+use Rattle.scr_clock.proofs.DialTurns.{turned_swap}
 use Rattle.scr_clock.proofs.laws.turns_commute.Goals as goal
 
 pub returns : goal.returns

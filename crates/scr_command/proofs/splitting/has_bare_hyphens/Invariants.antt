@@ -1,7 +1,7 @@
 use Rattle.std.proofs.Common.{ℕ, ◌<◌, slice_index_or}
 use Rattle.std.specs.Borrow.{Bor}
 use Rattle.scr_command.specs.Hyphens.{IsOrdinary}
-use Rattle.scr_command.specs.OptionWords.{Text}
+use Rattle.scr_command.specs.OptionTable.{Text}
 use Rattle.scr_command.proofs.splitting.has_bare_hyphens.Given as goal
 
 -- the words before this one are ordinary

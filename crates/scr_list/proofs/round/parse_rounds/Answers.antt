@@ -4,8 +4,8 @@ use Rattle.scr_list.proofs.RoundLemmas.{read_on-none, read_on-round, read_on-fau
 use Rattle.scr_list.proofs.round.parse_rounds.Goals as goal
 use Rattle.scr_list.proofs.round.parse_rounds.Goals.{in-Some-named, in_default-named}
 
-pub returns-then-bytes-gt4096-clause-answer : goal.returns-then-bytes-gt4096-clause-answer
-returns-then-bytes-gt4096-clause-answer c = sym (rounds_of-long c.args.bytes.now (omega arith))
+pub returns-then-bytes-clause-answer : goal.returns-then-bytes-clause-answer
+returns-then-bytes-clause-answer c = sym (rounds_of-long c.args.bytes.now (omega arith))
 
 pub lines-init : goal.lines-init
 lines-init c = record {

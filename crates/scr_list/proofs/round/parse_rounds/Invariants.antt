@@ -1,6 +1,7 @@
 use Rattle.std.proofs.Common.{◌≡◌, ◌+◌, ◌≤◌}
 use Rattle.std.specs.Prelude.{option_copied}
 use Rattle.scr_text.specs.Parts.{more_lines}
+use Rattle.scr_list.specs.Limits.{lists}
 use Rattle.scr_list.specs.Rounds.{rounds_of}
 use Rattle.scr_list.proofs.RoundLemmas.{read_on, left_of}
 use Rattle.scr_list.proofs.round.parse_rounds.Given as goal
@@ -8,7 +9,7 @@ use Rattle.scr_list.proofs.round.parse_rounds.Given as goal
 abbrev pub invariant-lines : goal.invariant-lines
 invariant-lines l = record {
   answer : rounds_of l.fn.bytes ≡ read_on l.rounds.items l.number (more_lines (option_copied l.rest));
-  short : l.number + left_of l.rest ≤ 4098;
+  short : l.number + left_of l.rest ≤ lists.most_bytes + 2;
 }
 
 abbrev pub decreases-lines : goal.decreases-lines

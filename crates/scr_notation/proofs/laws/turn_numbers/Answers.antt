@@ -2,7 +2,8 @@ use Rattle.std.proofs.Common.{ap}
 use Rattle.scr_notation.specs.Spelling.{spelling}
 use Rattle.scr_notation.specs.Event.{kind_of}
 use Rattle.scr_notation.proofs.NumberLaws.{numbered, has_turn_at}
-use Rattle.scr_notation.proofs.SpellingLaws.{IsKind-kind_of, same_number}
+use Rattle.scr_notation.proofs.EachEvent.{IsKind-kind_of}
+use Rattle.scr_notation.proofs.SpellingLaws.{same_number}
 use Rattle.scr_notation.proofs.laws.turn_numbers.Goals as goal
 
 pub returns-clause-turns : goal.returns-clause-turns

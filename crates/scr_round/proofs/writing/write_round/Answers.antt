@@ -1,24 +1,34 @@
+use Rattle.std.proofs.Common.{◌≤◌, length, map, ap, arith}
+use Rattle.std.proofs.lemmas.List.{drop_all}
 use Rattle.std.proofs.lemmas.Result.{err_from_is_err_and}
-use Rattle.scr_outside.proofs.ChangeLemmas.{written-none, written-more, written-part, written-last, written-at}
-use Rattle.scr_list.specs.Events.{rules_of}
-use Rattle.scr_round.specs.Round.{group_lines, heading}
+use Rattle.scr_outside.proofs.ChangeLemmas.{written-none, written-more, written-part, written-at, written-all}
+use Rattle.scr_text.specs.Lines.{text_of_lines}
+use Rattle.scr_round.specs.Round.{line_text, round_lines}
 use Rattle.scr_round.specs.Made.{turns_of_each}
-use Rattle.scr_text.proofs.WrittenLines.{first_line}
+use Rattle.scr_round.proofs.LineLaws.{text_left-next, written_round}
 use Rattle.scr_round.proofs.writing.write_round.Goals as goal
 
-pub returns-in_err-write_heading : goal.returns-in_err-write_heading
-returns-in_err-write_heading g c =
+pub loop-line-init : goal.loop-line-init
+loop-line-init g c = written_round _ _ _ _ _ _ c.index-index.ensures.value c.round-round.ensures.value c.scrambles-scrambles.ensures.value written-none
+
+pub line_at-requires-clause-line : goal.line_at-requires-clause-line
+line_at-requires-clause-line g c = omega (arith, c.line_count-line-end.ensures.count c.index-index.result)
+
+pub returns-in_err-write_sheet_line : goal.returns-in_err-write_sheet_line
+returns-in_err-write_sheet_line g c =
     let p = err_from_is_err_and c.from_residual.result c.from_residual.ensures.1 in
-    let made = c.args.made.now in
-    let rules = rules_of made.round.event in
-    let parts = first_line (heading made.index made.round) (group_lines rules.per_group made.round.groups 65 (turns_of_each made.scrambles)) in
-    rw p.1 (written-part _ (written-at parts written-none) (rw (c.index.ensures.value, c.round-round.ensures.value) at c.in_err-write_heading.ensures))
+    let next = text_left-next (line_text (turns_of_each c.scrambles-scrambles.result.now)) _ c.loop-line.line _ c.line_at.ensures.value in
+    rw p.1 (written-part _ (written-at next c.loop-line.invariant) c.in_err-write_sheet_line.ensures)
+
+pub loop-line-preserved : goal.loop-line-preserved
+loop-line-preserved g c =
+    let next = text_left-next (line_text (turns_of_each c.scrambles-scrambles.result.now)) _ c.loop-line.line _ c.line_at.ensures.value in
+    written-more (written-at next c.loop-line.invariant) c.in_ok-write_sheet_line.ensures
 
 pub returns : goal.returns
 returns g c =
-    let made = c.args.made.now in
-    let rules = rules_of made.round.event in
-    let parts = first_line (heading made.index made.round) (group_lines rules.per_group made.round.groups 65 (turns_of_each made.scrambles)) in
-    written-last _ _ c.write_groups.result
-    (written-more (written-at parts written-none) (rw (c.index.ensures.value, c.round-round.ensures.value) at c.in_ok-write_heading.ensures))
-    (rw (c.event_rules-own.ensures, c.scrambles.ensures.value, c.round-round.ensures.value) at c.write_groups.ensures)
+    let lines = round_lines c.index-index.result c.round-round.result.now in
+    let all = c.line_count-line-end.ensures.count c.index-index.result in
+    let end : length lines ≤ c.loop-line.line = omega (arith, all) in
+    let text = line_text (turns_of_each c.scrambles-scrambles.result.now) in
+    written-all (written-at (ap (λ rest. text_of_lines (map text rest)) (drop_all c.loop-line.line lines end)) c.loop-line.invariant)

@@ -5,8 +5,8 @@ use Rattle.scr_sheet.proofs.laws.one_sheet.Goals as goal
 
 pub returns-clause-sheet : goal.returns-clause-sheet
 returns-clause-sheet c = λ settings rounds text other.
-    let parts = round_parts 0 rounds in IsText-one_text settings parts text other (all_decided c.one_scramble.ensures parts)
+    let parts = round_parts 0 rounds in IsText-one_text settings parts text other (all_decided c.one_answer.ensures parts)
 
 pub returns-clause-line : goal.returns-clause-line
 returns-clause-line c = λ settings event text other.
-    let parts = one_part event ∷ [] in IsText-one_text settings parts text other (all_decided c.one_scramble.ensures parts)
+    let parts = one_part event ∷ [] in IsText-one_text settings parts text other (all_decided c.one_answer.ensures parts)

@@ -1,12 +1,11 @@
 use Rattle.std.proofs.Common.{◌*◌, ◌≤◌, drop}
-use Rattle.scr_command.specs.Command.{usual_options}
-use Rattle.scr_sheet.specs.Sheet.{settings_of, round_parts}
+use Rattle.scr_sheet.specs.Sheet.{round_parts}
 use Rattle.scr_sheet.proofs.SizeLaws.{IsSizedUpTo}
 use Rattle.scr_sheet.proofs.load.rounds_size.Given as goal
 
 abbrev pub invariant-loop-index : goal.invariant-loop-index
 invariant-loop-index l = record {
-  sized : IsSizedUpTo (settings_of l.seed usual_options) (round_parts 0 l.rounds) (round_parts l.index (drop l.index l.rounds)) l.index l.size;
+  sized : IsSizedUpTo l.making.settings (round_parts 0 l.rounds) (round_parts l.index (drop l.index l.rounds)) l.index l.size;
   few : l.size.bytes ≤ l.index * 96360;
   low : l.size.sum ≤ l.index * 24571800;
 }

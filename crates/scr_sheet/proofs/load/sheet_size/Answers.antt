@@ -2,19 +2,26 @@ use Rattle.std.proofs.Common.{[], inl, inr, refl, sym, subst}
 use Rattle.std.proofs.lemmas.Result.{err_from_is_err_and}
 use Rattle.scr_outside.proofs.ChangeLemmas.{Gains-nothing}
 use Rattle.scr_slots.specs.Tables.{IsBuildCause}
-use Rattle.scr_sheet.proofs.RunLaws.{AreFairlyDrawn, events_of_parts, list-fair}
+use Rattle.scr_sheet.proofs.RunLaws.{events_of_parts, each_asked, round_parts-fair}
 use Rattle.scr_sheet.proofs.load.sheet_size.Goals as goal
 
+pub rounds_size-requires-clause-tables : goal.rounds_size-requires-clause-tables
+rounds_size-requires-clause-tables c =
+    rw c.new.ensures.tables (each_asked c.in_ok-tables.tables c.args.rounds.now c.in_ok-tables.ensures.events)
+
 pub returns : goal.returns
-returns c = record {
-  sheet = c.rounds_size.ensures.sheet;
-  making =
-      inl (record {
-        fair = list-fair c.args.rounds.now (subst AreFairlyDrawn c.in_ok-tables.ensures.events c.each_drawn_fairly.ensures) c.requires.rounds.each;
-        ends = c.rounds_size.ensures.ends;
-      });
-  amounts = c.rounds_size.ensures.amounts;
-}
+returns c =
+    let tables = c.in_ok-tables.tables in
+    let rounds = c.args.rounds.now in
+    record {
+      sheet = c.rounds_size.ensures.sheet;
+      making =
+          inl (record {
+            fair = round_parts-fair tables 0 rounds c.each_drawn_fairly.ensures c.requires.rounds.each (each_asked tables rounds c.in_ok-tables.ensures.events);
+            ends = rw (c.new.ensures.settings, c.default.ensures) at c.rounds_size.ensures.ends;
+          });
+      amounts = c.rounds_size.ensures.amounts;
+    }
 
 pub returns-in_err-tables : goal.returns-in_err-tables
 returns-in_err-tables c =

@@ -2,14 +2,20 @@ use Rattle.std.proofs.Common.{Err, inl, inr, sym, ap, ◌∙◌, subst}
 use Rattle.std.proofs.lemmas.Result.{err_from_is_err_and}
 use Rattle.scr_outside.proofs.ChangeLemmas.{Gains-nothing}
 use Rattle.scr_slots.specs.Tables.{IsBuildCause}
-use Rattle.scr_sheet.proofs.RunLaws.{AreFairlyDrawn, events_of_parts, list-fair}
+use Rattle.scr_sheet.proofs.RunLaws.{events_of_parts, each_asked, round_parts-fair}
 use Rattle.scr_sheet.proofs.parts.make_sheet.Goals as goal
+
+pub write_rounds-requires-clause-tables : goal.write_rounds-requires-clause-tables
+write_rounds-requires-clause-tables g c =
+    rw c.new.ensures.tables (each_asked c.in_ok-tables.tables c.args.rounds.now c.in_ok-tables.ensures.events)
 
 pub returns : goal.returns
 returns g c =
+    let tables = c.in_ok-tables.tables in
+    let rounds = c.args.rounds.now in
     inl (record {
-      fair = list-fair c.args.rounds.now (subst AreFairlyDrawn c.in_ok-tables.ensures.events c.each_drawn_fairly.ensures) c.requires.rounds.each;
-      ends = c.write_rounds.ensures;
+      fair = round_parts-fair tables 0 rounds c.each_drawn_fairly.ensures c.requires.rounds.each (each_asked tables rounds c.in_ok-tables.ensures.events);
+      ends = rw c.new.ensures.settings at c.write_rounds.ensures;
     })
 
 pub returns-in_err-tables : goal.returns-in_err-tables

@@ -16,7 +16,7 @@ by_command asks is ends memory = record { ends = inl (rw (asks, is) ends); memor
 
 pub returns-in-One : goal.returns-in-One
 returns-in-One g c =
-    by_command c.in_ok-event.ensures.answer c.in-One.is (record { bytes = refl; faults = refl }, c.write_one.ensures.ends)
+    by_command c.in_ok-event.ensures.answer c.in-One.is (record { bytes = refl; faults = refl; ends = refl }, c.write_one.ensures.ends)
     c.write_one.ensures.memory
 
 pub returns-in-Sheet : goal.returns-in-Sheet
@@ -24,9 +24,9 @@ returns-in-Sheet g c = by_command c.in_ok-event.ensures.answer c.in-Sheet.is c.w
 
 pub returns-in-Tables : goal.returns-in-Tables
 returns-in-Tables g c =
-    by_command c.in_ok-event.ensures.answer c.in-Tables.is (record { bytes = refl; faults = refl }, c.write_event_tables.ensures.ends)
+    by_command c.in_ok-event.ensures.answer c.in-Tables.is (record { bytes = refl; faults = refl; ends = refl }, c.write_event_tables.ensures.ends)
     c.write_event_tables.ensures.memory
 
 pub returns-in-Load : goal.returns-in-Load
 returns-in-Load g c =
-    by_command c.in_ok-event.ensures.answer c.in-Load.is (record { bytes = refl; faults = refl }, c.write_load.ensures) (λ wanting. tt)
+    by_command c.in_ok-event.ensures.answer c.in-Load.is (record { bytes = refl; faults = refl; ends = refl }, c.write_load.ensures) (λ wanting. tt)

@@ -1,3 +1,4 @@
+use Rattle.scr_sheet.proofs.HeadlineLaws.{fair-run}
 use Rattle.scr_sheet.proofs.program.run.Goals as goal
 
 pub returns : goal.returns
@@ -8,4 +9,5 @@ returns g c = record {
     answer = c.of.ensures;
     tells = c.tell.ensures;
   };
+  headline = fair-run _ _ _ c.perform-ended.result c.perform-ended.ensures;
 }

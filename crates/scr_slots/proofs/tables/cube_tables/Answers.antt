@@ -1,12 +1,13 @@
-use Rattle.std.proofs.Common.{map}
-use Rattle.scr_table.proofs.LineLaws.{IfErr-handed}
-use Rattle.scr_list.specs.declared.round.Round.{Round}
-use Rattle.scr_slots.specs.Tables.{IsBuildCause}
-use Rattle.scr_slots.proofs.BuildCauses.{IsBuildCause-cubes}
+use Rattle.std.proofs.Common.{◌≡◌, true, sym, ◌∙◌, subst}
+use Rattle.std.specs.Prelude.{All}
+use Rattle.scr_notation.specs.declared.event.Family.TheVariants as family
+use Rattle.scr_table.specs.Lines.{HasNoGap}
+use Rattle.scr_slots.specs.Tables.{asks_for}
+use Rattle.scr_slots.proofs.BuildCauses.{event_list, lines_asked-of}
 use Rattle.scr_slots.proofs.tables.cube_tables.Goals as goal
 
-pub returns-in_err-tables-clause-cause : goal.returns-in_err-tables-clause-cause
-returns-in_err-tables-clause-cause c =
-    let events = map (λ (round : Round). round.event) c.args.rounds.now in
-    IfErr-handed (IsBuildCause events) c.in_err-tables.field-0.0 c.from_residual.result c.from_residual.ensures.1
-    (IsBuildCause-cubes events (c.has_cubes.ensures.0 c.if-has_cubes.true) c.in_err-tables.field-0.0 c.in_err-tables.ensures)
+pub returns-in_ok-tables-clause-whole : goal.returns-in_ok-tables-clause-whole
+returns-in_ok-tables-clause-whole c =
+    let events = event_list c.args.rounds.now in
+    let asked : asks_for events family.Cube333 ≡ true = sym c.asks_for.ensures ∙ c.if-asks_for.true in
+    subst (All HasNoGap) (sym (lines_asked-of events family.Cube333 asked)) c.in_ok-tables.ensures.whole

@@ -1,12 +1,26 @@
-use Rattle.std.proofs.Common.{map}
+use Rattle.std.proofs.Common.{◌≡◌, true, sym, ◌∙◌, subst}
+use Rattle.std.specs.Prelude.{All}
+use Rattle.scr_notation.specs.declared.event.Family.TheVariants as family
+use Rattle.scr_table.specs.Causes.{IsCauseOf}
+use Rattle.scr_table.specs.Lines.{HasNoGap}
 use Rattle.scr_table.proofs.LineLaws.{IfErr-handed}
-use Rattle.scr_list.specs.declared.round.Round.{Round}
-use Rattle.scr_slots.specs.Tables.{IsBuildCause}
-use Rattle.scr_slots.proofs.BuildCauses.{IsBuildCause-sq1}
+use Rattle.scr_slots.specs.Events.{lines_of}
+use Rattle.scr_slots.specs.Tables.{asks_for, lines_asked}
+use Rattle.scr_slots.proofs.BuildCauses.{event_list, lines_asked-of}
 use Rattle.scr_slots.proofs.tables.sq1_tables.Goals as goal
 
 pub returns-in_err-tables-clause-cause : goal.returns-in_err-tables-clause-cause
+unfolding lines_of
 returns-in_err-tables-clause-cause c =
-    let events = map (λ (round : Round). round.event) c.args.rounds.now in
-    IfErr-handed (IsBuildCause events) c.in_err-tables.field-0.0 c.from_residual.result c.from_residual.ensures.1
-    (IsBuildCause-sq1 events (c.has_round.ensures.0 c.if-has_round.true) c.in_err-tables.field-0.0 c.in_err-tables.ensures.cause)
+    let events = event_list c.args.rounds.now in
+    let asked : asks_for events family.Square1 ≡ true = sym c.asks_for.ensures ∙ c.if-asks_for.true in
+    let why = c.in_err-tables.field-0.0 in
+    IfErr-handed (IsCauseOf (lines_asked events family.Square1)) why c.from_residual.result c.from_residual.ensures.1
+    (subst (λ lines. IsCauseOf lines why) (sym (lines_asked-of events family.Square1 asked)) c.in_err-tables.ensures.cause)
+
+pub returns-in_ok-tables-clause-whole : goal.returns-in_ok-tables-clause-whole
+unfolding lines_of
+returns-in_ok-tables-clause-whole c =
+    let events = event_list c.args.rounds.now in
+    let asked : asks_for events family.Square1 ≡ true = sym c.asks_for.ensures ∙ c.if-asks_for.true in
+    subst (All HasNoGap) (sym (lines_asked-of events family.Square1 asked)) c.in_ok-tables.ensures.whole

@@ -1,16 +1,18 @@
-use Rattle.scr_small.specs.PuzzleLaws.{StaysBelow-states}
+use Rattle.scr_small.proofs.PuzzleLaws.{StaysBelow-states}
 use Rattle.scr_small.proofs.ShownByParts.{ShowsSame-parts}
 use Rattle.scr_small.proofs.laws.shown_by_parts.Goals as goal
 
 pub returns-clause-numbered : goal.returns-clause-numbered
-returns-clause-numbered g c = g.met.P.OneTable.by_table.lawful
+returns-clause-numbered g c = c.is_solved_by_table.ensures.lawful
 
 pub returns-clause-stays : goal.returns-clause-stays
-returns-clause-stays g c = StaysBelow-states g.P.OneTable.shown g.met.P.OneTable.by_table.lawful
+returns-clause-stays g c = StaysBelow-states g.P.OneTable.shown c.is_solved_by_table.ensures.lawful
 
 pub returns-clause-parts : goal.returns-clause-parts
-returns-clause-parts g c = g.met.P.OneTable.by_table.by_parts
+returns-clause-parts g c = c.is_solved_by_table.ensures.by_parts
 
 pub returns-clause-shown : goal.returns-clause-shown
 returns-clause-shown g c =
-    ShowsSame-parts g.P.OneTable.shown g.met.P.OneTable.by_table.lawful g.P.OneTable.TABLE.low g.P.OneTable.TABLE.high g.met.P.OneTable.by_table.by_parts
+    let p = g.P.OneTable in
+    let l = c.is_solved_by_table.ensures in
+    ShowsSame-parts p.shown l.lawful p.TABLE.low p.TABLE.high l.by_parts

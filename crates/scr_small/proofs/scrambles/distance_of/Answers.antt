@@ -2,20 +2,19 @@ use Rattle.std.proofs.Common.{ℕ, ◌≤◌, sym, subst}
 use Rattle.std.specs.Prelude.{◌↔◌}
 use Rattle.scr_play.specs.Reach.{Needs}
 use Rattle.scr_small.specs.NumberedPuzzles.{puzzle_of}
-use Rattle.scr_small.specs.PuzzleLaws.{Needs-iff}
-use Rattle.scr_small.specs.Tables.{table_line}
+use Rattle.scr_small.proofs.PuzzleLaws.{Needs-iff}
 use Rattle.scr_small.proofs.BuiltTables.{IsTableOf-built, same_entry}
 use Rattle.scr_small.proofs.scrambles.distance_of.Goals as goal
 
 pub returns-clause-measures : goal.returns-clause-measures
 returns-clause-measures g c =
     let p = g.P.OneTable in
-    (IsTableOf-built p.TABLE.event (table_line p.shown p.TABLE) c.args.tables.now c.requires g.met.P.OneTable.by_table.of_event c.only.ensures.built).measures
+    (IsTableOf-built p.shown p.TABLE c.is_solved_by_table.ensures c.args.tables.now c.requires c.only.ensures.built).measures
 
 pub returns-clause-exact : goal.returns-clause-exact
 returns-clause-exact g c =
     let p = g.P.OneTable in
-    let l = g.met.P.OneTable.by_table in
+    let l = c.is_solved_by_table.ensures in
     let tables = c.args.tables.now in
     let s = c.args.state.now in
     let entry = same_entry c.only.result.now tables.distances c.number.result (p.shown.numbered.number_of s) c.distance.result

@@ -1,4 +1,4 @@
-use Rattle.scr_small.specs.PuzzleLaws.{tested_by}
+use Rattle.scr_small.proofs.PuzzleLaws.{tested_by}
 use Rattle.scr_small.proofs.scrambles.needs_of.Goals as goal
 
 pub returns-clause-exact : goal.returns-clause-exact

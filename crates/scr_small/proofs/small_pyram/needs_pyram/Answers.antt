@@ -4,7 +4,7 @@ use Rattle.scr_play.specs.Reach.{Needs}
 use Rattle.scr_turning.specs.PowerPuzzles.{power_puzzle}
 use Rattle.scr_tetra.specs.Pyraminx.{numbered_tetraminx, pyram_powers}
 use Rattle.scr_tetra.specs.PyramParts.{turned_count}
-use Rattle.scr_small.specs.PyramLaws.{pyram_distance, tested_pyram}
+use Rattle.scr_small.proofs.PyramLaws.{pyram_distance, tested_pyram}
 use Rattle.scr_small.proofs.small_pyram.needs_pyram.Goals as goal
 
 pub returns-clause-exact : goal.returns-clause-exact

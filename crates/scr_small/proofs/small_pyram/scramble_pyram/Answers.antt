@@ -4,7 +4,7 @@ use Rattle.scr_tetra.specs.Pyraminx.{TetraminxState}
 use Rattle.scr_tetra.specs.PyramParts.{tips_word}
 use Rattle.scr_small.specs.NumberedPuzzles.{IsScrambleOf}
 use Rattle.scr_small.specs.Puzzles.{numbered_puzzle_tetraminx}
-use Rattle.scr_small.specs.PyramLaws.{few_tips, play-scrambled_pyram, IsScramblePyram-unique}
+use Rattle.scr_small.proofs.PyramLaws.{few_tips, play-scrambled_pyram, IsScramblePyram-unique}
 use Rattle.scr_small.proofs.small_pyram.scramble_pyram.Goals as goal
 
 pub returns-clause-scramble : goal.returns-clause-scramble

@@ -3,7 +3,7 @@ use Rattle.scr_combinatorics.specs.Permutations.{IsPermutation}
 use Rattle.scr_sq1.specs.Numbers.{corners_of, edges_of}
 use Rattle.scr_sq1solve.specs.Codes.{code_number}
 use Rattle.scr_sq1solve.specs.Tables.{square_index}
-use Rattle.scr_sq1solve.specs.Proofs.CodeSteps.{position_of}
+use Rattle.scr_sq1solve.proofs.CodeSteps.{position_of}
 use Rattle.scr_sq1solve.proofs.Codes.{square-by_codes}
 use Rattle.scr_sq1solve.proofs.indexes.square_index.Goals as goal
 

@@ -1,4 +1,4 @@
-use Rattle.scr_sq1solve.specs.Proofs.Solutions.{solution, play-solution, IsReached-sq1, one_solution, play-scramble}
+use Rattle.scr_sq1solve.proofs.Solutions.{solution, play-solution, IsReached-sq1, one_solution, play-scramble}
 use Rattle.scr_sq1solve.proofs.laws.solutions.Goals as goal
 
 pub returns : goal.returns

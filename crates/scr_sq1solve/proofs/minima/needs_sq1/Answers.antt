@@ -2,7 +2,7 @@ use Rattle.scr_play.specs.Reach.{Needs}
 use Rattle.scr_table.specs.TriedWords.{same_truth}
 use Rattle.scr_sq1.specs.Units.{sq1_puzzle}
 use Rattle.scr_sq1solve.specs.Minima.{needs_test}
-use Rattle.scr_sq1solve.specs.Proofs.MinimaLaws.{NeedsTurns-iff, needs_test-iff}
+use Rattle.scr_sq1solve.proofs.MinimaLaws.{NeedsTurns-iff, needs_test-iff}
 use Rattle.scr_sq1solve.proofs.minima.needs_sq1.Goals as goal
 
 pub returns-clause-exact : goal.returns-clause-exact

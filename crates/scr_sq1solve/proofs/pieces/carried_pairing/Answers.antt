@@ -3,7 +3,7 @@ use Rattle.scr_combinatorics.specs.Pairings.{IsPairing}
 use Rattle.scr_combinatorics.specs.Permutations.{place_of}
 use Rattle.scr_combinatorics.proofs.PermutationLaws.{at-permutation}
 use Rattle.scr_sq1solve.specs.Tables.{carried_pairing}
-use Rattle.scr_sq1solve.specs.Proofs.Pairs.{IsPairing-carried}
+use Rattle.scr_sq1solve.proofs.Pairs.{IsPairing-carried}
 use Rattle.scr_sq1solve.proofs.Filled.{mapped_all}
 use Rattle.scr_sq1solve.proofs.pieces.carried_pairing.Goals as goal
 

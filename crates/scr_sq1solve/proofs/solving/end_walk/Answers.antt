@@ -4,7 +4,7 @@ use Rattle.scr_sq1.specs.Units.{sq1_after}
 use Rattle.scr_notation.specs.Written.{Written}
 use Rattle.scr_sq1solve.specs.Stages.{IsEnd}
 use Rattle.scr_sq1solve.specs.Letters.{end_words, IsEnded}
-use Rattle.scr_sq1solve.specs.Proofs.Lengths.{Costs-end}
+use Rattle.scr_sq1solve.proofs.Lengths.{Costs-end}
 use Rattle.scr_sq1solve.proofs.Ends.{IsEnd-found, some-end}
 use Rattle.scr_sq1solve.proofs.solving.end_walk.Goals as goal
 

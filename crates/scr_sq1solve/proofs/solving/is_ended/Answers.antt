@@ -1,7 +1,7 @@
 use Rattle.std.proofs.Common.{IsTrue, sym, ◌∙◌, subst, eqb-true, eq-eqb}
 use Rattle.std.specs.Prelude.{◌↔◌, ◌==◌}
 use Rattle.scr_sq1solve.specs.Letters.{IsEnded}
-use Rattle.scr_sq1solve.specs.Proofs.ShapeStage.{IsNormal-iff}
+use Rattle.scr_sq1solve.proofs.ShapeStage.{IsNormal-iff}
 use Rattle.scr_sq1solve.proofs.ShapeSteps.{normal_index}
 use Rattle.scr_sq1solve.proofs.solving.is_ended.Goals as goal
 

@@ -6,7 +6,7 @@ use Rattle.scr_notation.specs.Turning.{turn_merging}
 use Rattle.scr_notation.specs.Turns.{permits}
 use Rattle.scr_notation.specs.Written.{Written}
 use Rattle.scr_sq1solve.specs.Counts.{twists_of, twists_in}
-use Rattle.scr_sq1solve.specs.Proofs.Lengths.{twists-tidy, length-tidy, OfSq1-permitted}
+use Rattle.scr_sq1solve.proofs.Lengths.{twists-tidy, length-tidy, OfSq1-permitted}
 use Rattle.scr_sq1solve.proofs.Joins.{IsTidy-sq1}
 use Rattle.scr_sq1solve.proofs.solving.joined.Goals as goal
 

@@ -1,8 +1,8 @@
 use Rattle.std.proofs.Common.{ap, ◌∙◌}
 use Rattle.scr_play.specs.Back.{back}
 use Rattle.scr_notation.specs.Turning.{opposite}
-use Rattle.scr_sq1solve.specs.Proofs.Bounds.{IsWithinBounds-scramble}
-use Rattle.scr_sq1solve.specs.Proofs.Solutions.{one_scramble, play-scramble}
+use Rattle.scr_sq1solve.proofs.Bounds.{IsWithinBounds-scramble}
+use Rattle.scr_sq1solve.proofs.Solutions.{one_scramble, play-scramble}
 use Rattle.scr_sq1solve.proofs.solving.scramble_sq1.Goals as goal
 
 pub returns-clause-scramble : goal.returns-clause-scramble

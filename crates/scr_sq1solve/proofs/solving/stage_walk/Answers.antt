@@ -5,20 +5,22 @@ pub followed-requires : goal.followed-requires
 followed-requires g c =
     let t = g.L.StageLine in
     let met = g.met.L.StageLine in
-    IsStageWord-found t.stage t.starts g.L.Line.line t.index met.follows met.in_reach.within c.args.table.now.distances c.descend-word.ensures.table c.args.state.now
-    c.index_of.result c.descend-word.result.items c.deref.result.now c.requires c.index_of.ensures c.deref.ensures.0 c.descend-word.ensures.first
+    IsStageWord-found t.stage t.starts g.L.Line.line t.index c.is_found_by_index.ensures.follows met.in_reach.within c.args.table.now
+    c.descend-word.ensures.table c.args.state.now c.index_of.result c.descend-word.result.items c.deref.result.now
+    c.requires c.index_of.ensures c.deref.ensures.0 c.descend-word.ensures.first
 
 pub returns-clause-kept : goal.returns-clause-kept
 returns-clause-kept g c =
     let t = g.L.StageLine in
-    walk-kept c.followed.ensures.walk t.starts g.L.Line.line.coordinate t.index g.met.L.StageLine.follows c.requires
+    walk-kept c.followed.ensures.walk t.starts g.L.Line.line.coordinate t.index c.is_found_by_index.ensures.follows
+    c.requires
 
 pub returns-clause-at_most : goal.returns-clause-at_most
 returns-clause-at_most g c =
     let t = g.L.StageLine in
-    (walk-costs c.followed.ensures.walk t.each.turns t.each.twists g.met.L.StageLine.costs).turns
+    (walk-costs c.followed.ensures.walk t.each.turns t.each.twists c.is_found_by_index.ensures.costs).turns
 
 pub returns-clause-twists : goal.returns-clause-twists
 returns-clause-twists g c =
     let t = g.L.StageLine in
-    (walk-costs c.followed.ensures.walk t.each.turns t.each.twists g.met.L.StageLine.costs).twists
+    (walk-costs c.followed.ensures.walk t.each.turns t.each.twists c.is_found_by_index.ensures.costs).twists

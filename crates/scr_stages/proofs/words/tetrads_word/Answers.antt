@@ -27,6 +27,9 @@ returns c =
     let word = c.descend.result.items in
     let places = c.places_of.ensures ∙ ap (marked_places (stands_in first_edges)) c.edges.ensures.same in
     let number = ap (λ n. n + 70 * c.corner_index.result) (c.rank-places.ensures.number ∙ ap (place_set_number 8) places)
-    ∙ ap (λ n. place_set_number 8 (marked_places (stands_in first_edges) cube.edges.pieces) + 70 * n) (c.corner_index.ensures.value ∙ ap corner_index c.corners.ensures.same) in
-    IsStageWord-first tetrads_stage IsDominoCube tetrads_line tetrads_number (Follows-half_turned _ c.tables.inside.halves.is) StaysBelow-tetrads refl _ c.descend.ensures.table cube c.requires word
+    ∙ ap (λ n. place_set_number 8 (marked_places (stands_in first_edges) cube.edges.pieces) + 70 * n)
+    (c.corner_index.ensures.value ∙ ap corner_index c.corners.ensures.same) in
+    let halves = Follows-half_turned _ c.tables.invariant.1.1.1.0 in
+    IsStageWord-first tetrads_stage IsDominoCube tetrads_line tetrads_number halves StaysBelow-tetrads refl _
+    c.descend.ensures.table cube c.requires word
     (subst (λ p. IsFirstWord (moved tetrads_coordinate) (IsGoal tetrads_coordinate) p word) number c.descend.ensures.first)

@@ -1,5 +1,9 @@
-use Rattle.scr_twophase.specs.Proofs.MinimaLaws.{Contains-words_of, IsWord-listed}
+use Rattle.scr_twophase.specs.TwoParts.{all_turns}
+use Rattle.scr_twophase.proofs.ListedWords.{Contains-words_of, IsListed-listed, All-turns, All-below_18}
 use Rattle.scr_twophase.proofs.laws.words.Goals as goal
 
 pub returns : goal.returns
-returns c = λ n w. (λ there. IsWord-listed n w there, λ is. Contains-words_of n w is.0 is.1)
+returns c = λ n w. (
+  λ there. let listed = IsListed-listed all_turns n w there in (listed.size, All-below_18 w listed.each),
+  λ is. Contains-words_of all_turns n w is.0 (All-turns w is.1),
+)

@@ -6,7 +6,7 @@ use Rattle.scr_cube.specs.Cube333.{CubeState}
 use Rattle.scr_twophase.specs.Search.{letters, IsAt, ShowsFirst}
 use Rattle.scr_twophase.specs.TwoParts.{after_turn, all_turns, first_joined, first_parts, is_first_part, is_orderly, two_parts}
 use Rattle.scr_twophase.specs.Words.{words_behind}
-use Rattle.scr_twophase.specs.Proofs.WordLists.{words_behind-empty}
+use Rattle.scr_twophase.proofs.WordLists.{words_behind-empty}
 use Rattle.scr_twophase.proofs.Outcomes.{IsLeft-all, IsLeft-passed, IsLeft-found, lengths_next, lengths_end}
 use Rattle.scr_twophase.proofs.search.joined_parts.Goals as goal
 

@@ -12,9 +12,10 @@ pub loop-position-preserved : goal.loop-position-preserved
 loop-position-preserved g c =
     let show = g.C.Coord.coordinate c.args.coord.now in
     let position = c.loop-position.position in (
-      c.in_ok-push_row.ensures ∙ ap (λ xs. xs ++ row_of show position show.turns) c.loop-position.invariant.0 ∙ sym (rows_of-more show position),
-      c.in_ok-push.ensures.items ∙ ap (λ xs. xs ++ c.is_goal.result ∷ []) c.loop-position.invariant.1
-          ∙ ap (λ b. each_below show.is_goal position ++ b ∷ []) c.is_goal.ensures ∙ sym (each_below-more show.is_goal position),
+      c.in_ok-push_position.ensures.targets ∙ ap (λ xs. xs ++ row_of show position show.turns) c.loop-position.invariant.0
+          ∙ sym (rows_of-more show position),
+      c.in_ok-push_position.ensures.goals ∙ ap (λ xs. xs ++ show.is_goal position ∷ []) c.loop-position.invariant.1
+          ∙ sym (each_below-more show.is_goal position),
     )
 
 pub invariant_of-result : goal.invariant_of-result

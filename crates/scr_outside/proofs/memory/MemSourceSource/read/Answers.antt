@@ -9,5 +9,5 @@ returns-clause-ok c = record {
       ap (λ s. Some s.left) (sym c.self.view_is) ∙
       ap Some (copied-put_back c.self.inside.bytes.items c.copy_from_slice.new.self _ c.self.inside.place c.min-n.result
       (rw (take_rest, c.deref.ensures.value) at c.copy_from_slice.ensures.after) (c.copy_from_slice.ensures.len ∙ length-take _ _ ∙ omega arith));
-  never_falls = omega (arith, ap (λ calls. calls.faults) c.count.ensures.counted, ap (λ s. s.calls.faults) c.self.view_is);
+  no_fault = ap (λ calls. calls.faults) c.count.ensures.counted ∙ ap (λ s. s.calls.faults) c.self.view_is;
 }

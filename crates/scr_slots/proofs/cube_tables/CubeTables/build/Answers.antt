@@ -1,23 +1,27 @@
-use Rattle.scr_table.specs.Causes.{IsCause, IsCauseOf}
-use Rattle.scr_table.specs.Lines.{TableLine}
-use Rattle.scr_table.proofs.LineLaws.{IfErr-handed}
-use Rattle.scr_notation.specs.declared.event.Event.TheVariants.{C333}
+use Rattle.std.proofs.lemmas.List.Elements.{All-append}
+use Rattle.scr_table.specs.Causes.{IsCauseOf}
+use Rattle.scr_table.specs.Lines.{HasNoGap}
+use Rattle.scr_table.proofs.LineLaws.{IfErr-handed, IsCauseOf-before, IsCauseOf-behind}
 use Rattle.scr_stages.specs.Tables.{stage_lines}
 use Rattle.scr_twophase.specs.Tables.{prune_lines}
-use Rattle.scr_slots.specs.Events.{tables_of}
-use Rattle.scr_slots.proofs.BuildCauses.{Any-before, Any-behind}
+use Rattle.scr_notation.specs.declared.event.Family.TheVariants as family
+use Rattle.scr_slots.specs.Events.{lines_of}
 use Rattle.scr_slots.proofs.cube_tables.CubeTables.build.Goals as goal
 
-pub returns-in_err-stages : goal.returns-in_err-stages
-unfolding tables_of
-returns-in_err-stages c =
-    let fault = c.in_err-stages.field-0.0 in
-    IfErr-handed (IsCauseOf (tables_of C333)) fault c.from_residual.result c.from_residual.ensures.1
-    (Any-before (λ (line : TableLine). IsCause line.name line.coordinate line.bound fault) stage_lines prune_lines c.in_err-stages.ensures.cause)
+pub returns-in_err-stages-clause-cause : goal.returns-in_err-stages-clause-cause
+unfolding lines_of
+returns-in_err-stages-clause-cause c =
+    let why = c.in_err-stages.field-0.0 in
+    IfErr-handed (IsCauseOf (lines_of family.Cube333)) why c.from_residual.result c.from_residual.ensures.1
+    (IsCauseOf-before stage_lines prune_lines why c.in_err-stages.ensures.cause)
 
-pub returns-in_err-prune : goal.returns-in_err-prune
-unfolding tables_of
-returns-in_err-prune c =
-    let fault = c.in_err-prune.field-0.0 in
-    IfErr-handed (IsCauseOf (tables_of C333)) fault c.from_residual-in_err-prune.result c.from_residual-in_err-prune.ensures.1
-    (Any-behind (λ (line : TableLine). IsCause line.name line.coordinate line.bound fault) stage_lines prune_lines c.in_err-prune.ensures.cause)
+pub returns-in_err-prune-clause-cause : goal.returns-in_err-prune-clause-cause
+unfolding lines_of
+returns-in_err-prune-clause-cause c =
+    let why = c.in_err-prune.field-0.0 in
+    IfErr-handed (IsCauseOf (lines_of family.Cube333)) why c.from_residual-in_err-prune.result c.from_residual-in_err-prune.ensures.1
+    (IsCauseOf-behind stage_lines prune_lines why c.in_ok-stages.ensures.whole c.in_err-prune.ensures.cause)
+
+pub returns-clause-whole : goal.returns-clause-whole
+unfolding lines_of
+returns-clause-whole c = All-append HasNoGap stage_lines prune_lines c.in_ok-stages.ensures.whole c.in_ok-prune.ensures.whole

@@ -1,24 +1,75 @@
-use Rattle.std.proofs.Common.{◌≡◌, List, length, map, take, sym, ap, ◌∙◌, subst, arith}
-use Rattle.std.proofs.Math.Seq.{take-length}
-use Rattle.std.specs.Prelude.{Contains}
-use Rattle.scr_list.specs.declared.round.Round.{Round}
-use Rattle.scr_notation.specs.declared.event.Event.TheVariants.{C222, Pyram, Skewb, Sq1}
-use Rattle.scr_slots.specs.Held.{HasCubes, HoldTables, HoldWhere}
+use Rattle.std.proofs.Common.{List, ◌++◌}
+use Rattle.scr_notation.specs.declared.event.Event.{Event}
+use Rattle.scr_notation.specs.declared.event.Family.TheVariants.{Cube222, Cube333, Pyraminx, Skewb, Square1}
+use Rattle.scr_table.specs.Lines.{TableLine}
+use Rattle.scr_table.proofs.LineLaws.{IfErr-handed, IsCauseOf-before, IsCauseOf-behind}
+use Rattle.scr_slots.specs.Tables.{IsBuildCause, lines_asked}
+use Rattle.scr_slots.proofs.BuildCauses.{event_list, HoldsTables-asked}
 use Rattle.scr_slots.proofs.tables.Tables.build.Goals as goal
+
+-- the lines from one family on
+abbrev from_skewb : List Event → List TableLine
+from_skewb events = lines_asked events Skewb ++ lines_asked events Square1
+
+abbrev from_pyraminx : List Event → List TableLine
+from_pyraminx events = lines_asked events Pyraminx ++ from_skewb events
+
+abbrev from_333 : List Event → List TableLine
+from_333 events = lines_asked events Cube333 ++ from_pyraminx events
+
+pub returns-in_err-of_222-clause-cause : goal.returns-in_err-of_222-clause-cause
+returns-in_err-of_222-clause-cause c =
+    let events = event_list c.args.rounds.now in
+    let why = c.in_err-of_222.field-0.0 in
+    IfErr-handed (IsBuildCause events) why c.from_residual.result c.from_residual.ensures.1
+    (IsCauseOf-before (lines_asked events Cube222) (from_333 events) why c.in_err-of_222.ensures.cause)
+
+pub returns-in_err-of_333-clause-cause : goal.returns-in_err-of_333-clause-cause
+returns-in_err-of_333-clause-cause c =
+    let events = event_list c.args.rounds.now in
+    let why = c.in_err-of_333.field-0.0 in
+    IfErr-handed (IsBuildCause events) why c.from_residual-in_err-of_333.result c.from_residual-in_err-of_333.ensures.1
+    (IsCauseOf-behind (lines_asked events Cube222) (from_333 events) why c.in_ok-of_222.ensures.whole
+    (IsCauseOf-before (lines_asked events Cube333) (from_pyraminx events) why c.in_err-of_333.ensures.cause))
+
+pub returns-in_err-of_pyram-clause-cause : goal.returns-in_err-of_pyram-clause-cause
+returns-in_err-of_pyram-clause-cause c =
+    let events = event_list c.args.rounds.now in
+    let why = c.in_err-of_pyram.field-0.0 in
+    IfErr-handed (IsBuildCause events) why c.from_residual-in_err-of_pyram.result c.from_residual-in_err-of_pyram.ensures.1
+    (IsCauseOf-behind (lines_asked events Cube222) (from_333 events) why c.in_ok-of_222.ensures.whole
+    (IsCauseOf-behind (lines_asked events Cube333) (from_pyraminx events) why c.in_ok-of_333.ensures.whole
+    (IsCauseOf-before (lines_asked events Pyraminx) (from_skewb events) why c.in_err-of_pyram.ensures.cause)))
+
+pub returns-in_err-of_skewb-clause-cause : goal.returns-in_err-of_skewb-clause-cause
+returns-in_err-of_skewb-clause-cause c =
+    let events = event_list c.args.rounds.now in
+    let why = c.in_err-of_skewb.field-0.0 in
+    IfErr-handed (IsBuildCause events) why c.from_residual-in_err-of_skewb.result c.from_residual-in_err-of_skewb.ensures.1
+    (IsCauseOf-behind (lines_asked events Cube222) (from_333 events) why c.in_ok-of_222.ensures.whole
+    (IsCauseOf-behind (lines_asked events Cube333) (from_pyraminx events) why c.in_ok-of_333.ensures.whole
+    (IsCauseOf-behind (lines_asked events Pyraminx) (from_skewb events) why c.in_ok-of_pyram.ensures.whole
+    (IsCauseOf-before (lines_asked events Skewb) (lines_asked events Square1) why c.in_err-of_skewb.ensures.cause))))
+
+pub returns-in_err-of_sq1-clause-cause : goal.returns-in_err-of_sq1-clause-cause
+returns-in_err-of_sq1-clause-cause c =
+    let events = event_list c.args.rounds.now in
+    let why = c.in_err-of_sq1.field-0.0 in
+    IfErr-handed (IsBuildCause events) why c.from_residual-in_err-of_sq1.result c.from_residual-in_err-of_sq1.ensures.1
+    (IsCauseOf-behind (lines_asked events Cube222) (from_333 events) why c.in_ok-of_222.ensures.whole
+    (IsCauseOf-behind (lines_asked events Cube333) (from_pyraminx events) why c.in_ok-of_333.ensures.whole
+    (IsCauseOf-behind (lines_asked events Pyraminx) (from_skewb events) why c.in_ok-of_pyram.ensures.whole
+    (IsCauseOf-behind (lines_asked events Skewb) (lines_asked events Square1) why c.in_ok-of_skewb.ensures.whole
+    c.in_err-of_sq1.ensures.cause))))
 
 pub invariant_of-result : goal.invariant_of-result
 invariant_of-result c =
-    let end : c.loop-round.round-index ≡ length c.args.rounds.now = omega arith in
-    let same : c.loop-round.asked.items ≡ c.args.rounds.now =
-    c.loop-round.invariant ∙ ap (λ n. take n c.args.rounds.now) end ∙ take-length c.args.rounds.now in
-    let P : List Round → Type 0 = λ rounds. HoldTables C222 (map (λ (round : Round). round.event) rounds) c.in_ok-of_222.of_222 in
-    let Q : List Round → Type 0 = λ rounds. HoldTables Pyram (map (λ (round : Round). round.event) rounds) c.in_ok-of_pyram.of_pyram in
-    let R : List Round → Type 0 = λ rounds. HoldTables Skewb (map (λ (round : Round). round.event) rounds) c.in_ok-of_skewb.of_skewb in
-    let S : List Round → Type 0 = λ rounds. HoldWhere (HasCubes (map (λ (round : Round). round.event) rounds)) c.in_ok-of_cubes.of_cubes in
-    let T : List Round → Type 0 = λ rounds. HoldWhere (Contains (map (λ (round : Round). round.event) rounds) Sq1) c.in_ok-of_sq1.of_sq1 in (
-      subst P (sym same) c.in_ok-of_222.ensures.built,
-      subst Q (sym same) c.in_ok-of_pyram.ensures.built,
-      subst R (sym same) c.in_ok-of_skewb.ensures.built,
-      subst S (sym same) c.in_ok-of_cubes.ensures.built,
-      subst T (sym same) c.in_ok-of_sq1.ensures.built,
+    let events = event_list c.args.rounds.now in
+    let set = c.events_of.result in
+    let has = c.events_of.ensures in (
+      (HoldsTables-asked events set Cube222 c.in_ok-of_222.of_222 has c.in_ok-of_222.ensures.built, c.in_ok-of_222.ensures.event),
+      HoldsTables-asked events set Cube333 c.in_ok-of_333.of_333 has c.in_ok-of_333.ensures.built,
+      (HoldsTables-asked events set Pyraminx c.in_ok-of_pyram.of_pyram has c.in_ok-of_pyram.ensures.built, c.in_ok-of_pyram.ensures.event),
+      (HoldsTables-asked events set Skewb c.in_ok-of_skewb.of_skewb has c.in_ok-of_skewb.ensures.built, c.in_ok-of_skewb.ensures.event),
+      HoldsTables-asked events set Square1 c.in_ok-of_sq1.of_sq1 has c.in_ok-of_sq1.ensures.built,
     )

@@ -1,16 +1,50 @@
-use Rattle.std.proofs.Common.{refl}
+use Rattle.std.proofs.Common.{[], refl}
+use Rattle.std.proofs.lemmas.List.Elements.{All-nil}
+use Rattle.scr_table.specs.Lines.{HasNoGap}
+use Rattle.scr_table.proofs.LineLaws.{IfErr-cause, no_gaps-line}
 use Rattle.scr_small.specs.Puzzles.{corners_line, pyramid_line, skewb_line}
 use Rattle.scr_small.proofs.tables.SmallTables.build.Goals.{in-C222+in_ok-build-in-C222, in-Pyram+in_ok-build-in-Pyram}
 use Rattle.scr_small.proofs.tables.SmallTables.build.Goals.{in-Skewb+in_ok-build-in-Skewb}
 use Rattle.scr_small.proofs.tables.SmallTables.build.Goals as goal
 
+pub returns-in_err-build-in-C222-clause-cause : goal.returns-in_err-build-in-C222-clause-cause
+returns-in_err-build-in-C222-clause-cause c =
+    rw c.in-C222.is
+    (IfErr-cause [] corners_line [] (All-nil HasNoGap) c.in_err-build-in-C222.field-0.0 c.from_residual.result
+    c.from_residual.ensures.1 c.in_err-build-in-C222.ensures.cause)
+
+pub returns-in_err-build-in-Pyram-clause-cause : goal.returns-in_err-build-in-Pyram-clause-cause
+returns-in_err-build-in-Pyram-clause-cause c =
+    rw c.in-Pyram.is
+    (IfErr-cause [] pyramid_line [] (All-nil HasNoGap) c.in_err-build-in-Pyram.field-0.0
+    c.from_residual-in_err-build-in-Pyram.result c.from_residual-in_err-build-in-Pyram.ensures.1
+    c.in_err-build-in-Pyram.ensures.cause)
+
+pub returns-in_err-build-in-Skewb-clause-cause : goal.returns-in_err-build-in-Skewb-clause-cause
+returns-in_err-build-in-Skewb-clause-cause c =
+    rw c.in-Skewb.is
+    (IfErr-cause [] skewb_line [] (All-nil HasNoGap) c.in_err-build-in-Skewb.field-0.0
+    c.from_residual-in_err-build-in-Skewb.result c.from_residual-in_err-build-in-Skewb.ensures.1
+    c.in_err-build-in-Skewb.ensures.cause)
+
 pub returns-clause-table : goal.returns-clause-table
 returns-clause-table c =
     elim c.match-event.branch [
       | in-C222+in_ok-build-in-C222 w ↦
-          rw w.held-is (record { line = corners_line; of_event = refl; table = w.in_ok-build-in-C222.field-0.is })
+          rw w.held-is (record { line = corners_line; of_event = refl; table = w.in_ok-build-in-C222.ensures.table })
       | in-Pyram+in_ok-build-in-Pyram w ↦
-          rw w.held-is (record { line = pyramid_line; of_event = refl; table = w.in_ok-build-in-Pyram.field-0.is })
+          rw w.held-is (record { line = pyramid_line; of_event = refl; table = w.in_ok-build-in-Pyram.ensures.table })
       | in-Skewb+in_ok-build-in-Skewb w ↦
-          rw w.held-is (record { line = skewb_line; of_event = refl; table = w.in_ok-build-in-Skewb.field-0.is })
+          rw w.held-is (record { line = skewb_line; of_event = refl; table = w.in_ok-build-in-Skewb.ensures.table })
+    ]
+
+pub returns-clause-whole : goal.returns-clause-whole
+returns-clause-whole c =
+    elim c.match-event.branch [
+      | in-C222+in_ok-build-in-C222 w ↦
+          rw w.in-C222.is (no_gaps-line corners_line w.in_ok-build-in-C222.ensures.no_gap)
+      | in-Pyram+in_ok-build-in-Pyram w ↦
+          rw w.in-Pyram.is (no_gaps-line pyramid_line w.in_ok-build-in-Pyram.ensures.no_gap)
+      | in-Skewb+in_ok-build-in-Skewb w ↦
+          rw w.in-Skewb.is (no_gaps-line skewb_line w.in_ok-build-in-Skewb.ensures.no_gap)
     ]

@@ -1,4 +1,5 @@
-use Rattle.scr_sq1solve.specs.Proofs.CodeSteps.{IsKept-home, IsKept-quarters}
+use Rattle.scr_sq1solve.proofs.CodeSteps.{IsKept-home, IsKept-quarters}
+use Rattle.scr_sq1solve.proofs.HomeStage.{StaysBelow-square}
 use Rattle.scr_sq1solve.proofs.code_moves.SquareMoves.build.Goals as goal
 
 pub build-requires : goal.build-requires
@@ -6,3 +7,6 @@ build-requires c = IsKept-home
 
 pub build-requires-2 : goal.build-requires-2
 build-requires-2 c = IsKept-quarters
+
+pub invariant_of-result-clause-stays : goal.invariant_of-result-clause-stays
+invariant_of-result-clause-stays c = StaysBelow-square

@@ -1,4 +1,4 @@
-use Rattle.scr_sq1solve.specs.Proofs.MinimaLaws.{after-twist, after-number, top_of, bottom_of}
+use Rattle.scr_sq1solve.proofs.MinimaLaws.{after-twist, after-number, top_of, bottom_of}
 use Rattle.std.proofs.Common.{arith}
 use Rattle.std.proofs.lemmas.Int.{ints}
 use Rattle.scr_sq1solve.proofs.ShapeSteps.{after-amounts}

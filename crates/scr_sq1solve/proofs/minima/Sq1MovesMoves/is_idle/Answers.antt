@@ -1,6 +1,6 @@
 use Rattle.std.proofs.Common.{sym, ◌∙◌, eq-eqb}
 use Rattle.std.proofs.lemmas.Bool.{not-true, ne_eqb}
-use Rattle.scr_sq1solve.specs.Proofs.MinimaLaws.{NeverHelps-idle}
+use Rattle.scr_sq1solve.proofs.MinimaLaws.{NeverHelps-idle}
 use Rattle.scr_sq1solve.proofs.minima.Sq1MovesMoves.is_idle.Goals as goal
 
 pub returns-then-first-eq-TWIST : goal.returns-then-first-eq-TWIST

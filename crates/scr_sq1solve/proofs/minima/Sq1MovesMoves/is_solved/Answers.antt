@@ -1,7 +1,7 @@
 use Rattle.scr_table.specs.TriedWords.{same_truth}
 use Rattle.scr_sq1.specs.Units.{solved_sq1}
 use Rattle.std.proofs.Common.{◌≡◌}
-use Rattle.scr_sq1solve.specs.Proofs.MinimaLaws.{is_solved-iff}
+use Rattle.scr_sq1solve.proofs.MinimaLaws.{is_solved-iff}
 use Rattle.scr_sq1solve.specs.Minima.{is_solved}
 use Rattle.scr_sq1solve.proofs.minima.Sq1MovesMoves.is_solved.Goals as goal
 

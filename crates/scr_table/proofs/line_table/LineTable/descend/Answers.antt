@@ -3,11 +3,14 @@ use Rattle.scr_table.proofs.line_table.LineTable.descend.Goals as goal
 
 pub descend-requires-clause-measures : goal.descend-requires-clause-measures
 descend-requires-clause-measures g c =
-    let me = c.args.self.now in
-    Measures-shown g.L.Line.line.coordinate (g.L.Moves.Coord.coordinate me.moves) (g.met.L.Moves.Coord.law me.moves) me.shows me.distances me.is.measures
+    let me = c.self.inside in
+    let shown = g.L.Moves.Coord.coordinate me.moves in
+    Measures-shown g.L.Line.line.coordinate shown (g.met.L.Moves.Coord.law me.moves) c.self.invariant.0 me.distances
+    c.self.invariant.1.measures
 
 pub returns-clause-first : goal.returns-clause-first
 returns-clause-first g c =
-    let me = c.args.self.now in
-    IsFirstWord-same g.L.Line.line.coordinate (g.L.Moves.Coord.coordinate me.moves) (g.met.L.Moves.Coord.law me.moves) me.shows c.args.position
-    c.descend.result.items c.requires c.descend.ensures
+    let me = c.self.inside in
+    let shown = g.L.Moves.Coord.coordinate me.moves in
+    IsFirstWord-same g.L.Line.line.coordinate shown (g.met.L.Moves.Coord.law me.moves) c.self.invariant.0
+    c.args.position c.descend.result.items c.requires c.descend.ensures

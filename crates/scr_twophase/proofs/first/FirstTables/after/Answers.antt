@@ -6,7 +6,8 @@ use Rattle.scr_stages.specs.Tables.{corners_by, edges_by, flips_coordinate}
 use Rattle.scr_stages.proofs.StageSpaces.{Follows-flips}
 use Rattle.scr_twophase.specs.Tables.{twists_of, middle_set_of, twists_coordinate, middle_set_coordinate}
 use Rattle.scr_twophase.proofs.Admissible.{leads-shown, first_step, IsCube-turned}
-use Rattle.scr_twophase.proofs.Spaces.{IsUntwisted, IsInMiddle, Follows-twists, Follows-middle_set}
+use Rattle.scr_stages.specs.Spaces.{IsUntwisted, IsInMiddle}
+use Rattle.scr_twophase.proofs.Spaces.{Follows-twists, Follows-middle_set}
 use Rattle.scr_twophase.proofs.first.FirstTables.after.Goals as goal
 
 pub step-requires-clause-leads : goal.step-requires-clause-leads

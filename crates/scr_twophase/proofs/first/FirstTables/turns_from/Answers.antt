@@ -6,7 +6,8 @@ use Rattle.scr_twophase.specs.declared.outlook.Outlook.{Outlook}
 use Rattle.scr_twophase.specs.TurnSets.{has_turn}
 use Rattle.scr_twophase.specs.Tables.{twists_of, middle_set_of, flipslice_line, twistslice_line}
 use Rattle.scr_twophase.proofs.Admissible.{kept-way}
-use Rattle.scr_twophase.proofs.Spaces.{IsUntwisted, IsInMiddle, Follows-flipslice, Follows-twistslice}
+use Rattle.scr_stages.specs.Spaces.{IsUntwisted, IsInMiddle}
+use Rattle.scr_twophase.proofs.Spaces.{Follows-flipslice, Follows-twistslice}
 use Rattle.scr_twophase.proofs.first.FirstTables.turns_from.Goals as goal
 
 pub returns-clause-kept : goal.returns-clause-kept

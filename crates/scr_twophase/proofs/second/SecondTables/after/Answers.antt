@@ -6,7 +6,8 @@ use Rattle.std.proofs.Common.{map}
 use Rattle.scr_twophase.specs.Tables.{corners_of, outer_edges_of, middle_edges_of, corners_coordinate, outer_edges_coordinate, middle_edges_coordinate}
 use Rattle.scr_twophase.proofs.Admissible.{leads-shown}
 use Rattle.scr_twophase.proofs.SecondLaws.{second_step, IsDominoCube-turned, position-shown}
-use Rattle.scr_twophase.proofs.Spaces.{AreCornersHome, AreOuterHome, AreMiddleHome, Follows-corners, Follows-outer_edges, Follows-middle_edges}
+use Rattle.scr_twophase.specs.Spaces.{AreCornersHome, AreOuterHome, AreMiddleHome}
+use Rattle.scr_twophase.proofs.Spaces.{Follows-corners, Follows-outer_edges, Follows-middle_edges}
 use Rattle.scr_twophase.proofs.second.SecondTables.after.Goals as goal
 
 pub step-requires-clause-leads : goal.step-requires-clause-leads

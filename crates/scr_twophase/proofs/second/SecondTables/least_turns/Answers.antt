@@ -3,7 +3,8 @@ use Rattle.scr_orbit.specs.Orbits.{solved_orbit}
 use Rattle.scr_cube.specs.Cube333.{solved_cube}
 use Rattle.scr_twophase.specs.Tables.{corners_of, outer_edges_of, middle_edges_of, cornerslice_line, edgeslice_line}
 use Rattle.scr_twophase.proofs.SecondLaws.{least-second}
-use Rattle.scr_twophase.proofs.Spaces.{AreCornersHome, AreOuterHome, AreMiddleHome, Follows-cornerslice, Follows-edgeslice}
+use Rattle.scr_twophase.specs.Spaces.{AreCornersHome, AreOuterHome, AreMiddleHome}
+use Rattle.scr_twophase.proofs.Spaces.{Follows-cornerslice, Follows-edgeslice}
 use Rattle.scr_twophase.proofs.second.SecondTables.least_turns.Goals as goal
 
 corners_home : AreMiddleHome solved_cube × AreCornersHome solved_cube

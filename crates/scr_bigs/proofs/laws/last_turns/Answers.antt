@@ -1,0 +1,5 @@
+use Rattle.scr_bigs.proofs.RowLaws.{last-turn}
+use Rattle.scr_bigs.proofs.laws.last_turns.Goals as goal
+
+pub returns : goal.returns
+returns c = last-turn

@@ -1,0 +1,23 @@
+use Rattle.std.proofs.Common.{refl}
+use Rattle.scr_command.specs.OptionWords.{options_read}
+use Rattle.scr_command.proofs.laws.words_that_are_refused.Goals as goal
+
+pub returns-clause-twice : goal.returns-clause-twice
+unfolding options_read
+returns-clause-twice c = (λ digits. refl, λ digits. refl)
+
+pub returns-clause-short : goal.returns-clause-short
+unfolding options_read
+returns-clause-short c = (λ digits. refl, λ digits. refl)
+
+pub returns-clause-unknown : goal.returns-clause-unknown
+unfolding options_read
+returns-clause-unknown c = (λ digits. refl, λ digits. refl, λ digits. refl)
+
+pub returns-clause-without_value : goal.returns-clause-without_value
+unfolding options_read
+returns-clause-without_value c = (λ digits. refl, λ digits. refl)
+
+pub returns-clause-without_seed : goal.returns-clause-without_seed
+unfolding options_read
+returns-clause-without_seed c = refl

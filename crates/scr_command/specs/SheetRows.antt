@@ -1,0 +1,23 @@
+-- Words after `sheet` and a seed: which numbers they set, or that they are no command.
+use Rattle.std.specs.Prelude.{◌≡◌, List, ◌∷◌, ◌++◌, codes, Ok, Err}
+use Rattle.scr_words.specs.declared.seed.Seed.{Seed}
+use Rattle.scr_words.specs.Seed.{seed_of}
+use Rattle.scr_command.specs.declared.options.Options.{Options}
+use Rattle.scr_command.specs.declared.command.Command.TheVariants.{Sheet}
+use Rattle.scr_command.specs.declared.command.UsageFault.TheVariants.{Grammar}
+use Rattle.scr_command.specs.OptionTable.{Text}
+use Rattle.scr_command.specs.Command.{command_of}
+
+-- the command `sheet` with these digits of a seed and these words
+abbrev pub sheet_words : Text → List Text → List Text
+sheet_words digits words = codes "sheet" ∷ (codes "--seed=" ++ digits) ∷ words
+
+-- whatever the seed is, the words set these numbers
+abbrev pub Sets : List Text → Options → Type 0
+Sets words options =
+    (digits : Text) (seed : Seed) → seed_of digits ≡ Ok seed
+    → command_of (sheet_words digits words) ≡ Ok (Sheet seed options)
+
+-- whatever stands where the seed does, the words are no command
+abbrev pub IsRefused : List Text → Type 0
+IsRefused words = (digits : Text) → command_of (sheet_words digits words) ≡ Err Grammar

@@ -1,0 +1,188 @@
+-- What follows from how a run ended: what it told, and what a count of faults that rose means.
+use Rattle.std.proofs.Common.{◌≡◌, ◌⊎◌, ℕ, ◌<◌, List, [], ◌∷◌, Ok, Err, inl, inr, refl, sym, ap, subst, ◌∙◌, arith}
+use Rattle.std.specs.Prelude.{Result}
+use Rattle.scr_outside.specs.Change.{Change, IsUnchanged, Gains, Falters}
+use Rattle.scr_notation.specs.declared.event.Event.{Event}
+use Rattle.scr_list.specs.declared.fault.ListFault.{ListFault}
+use Rattle.scr_list.specs.declared.fault.ListFault.TheVariants as list
+use Rattle.scr_list.specs.Reading.{ReadsNoList}
+use Rattle.scr_command.specs.declared.command.Command.{Command}
+use Rattle.scr_command.specs.declared.command.Command.TheVariants.{One, Sheet, Tables, Load}
+use Rattle.scr_command.specs.declared.command.UsageFault.{UsageFault}
+use Rattle.scr_command.specs.Command.{command_of, AsksForSheet}
+use Rattle.scr_table.specs.declared.fault.BuildFault.{BuildFault}
+use Rattle.scr_table.specs.declared.fault.BuildFault.TheVariants as build
+use Rattle.scr_table_text.specs.TableText.{IsTablesText}
+use Rattle.scr_slots.specs.declared.settings.Settings.{Settings}
+use Rattle.scr_slots.specs.Tables.{lines_for}
+use Rattle.scr_sheet.specs.declared.fault.Fault.{Fault}
+use Rattle.scr_sheet.specs.declared.fault.Fault.TheVariants as fault
+use Rattle.scr_sheet.specs.declared.status.Status.{Status}
+use Rattle.scr_sheet.specs.declared.status.Status.TheVariants as status
+use Rattle.scr_sheet.specs.Sheet.{Part}
+use Rattle.scr_sheet.specs.Outcome.{EndsParts, EndsMaking, EndsTables, EndsTelling, EndsCommand, Ends, LacksTables, IsUnwritten, fault_of_build, IsPerformed, IsRun, Tells, status_of, TakesMemory}
+
+-- a count that stayed didn't rise
+stayed : {n m : ℕ} → m ≡ n → n < m → ⊥
+stayed same higher = omega (arith, same, higher)
+
+-- a sink that gained a text didn't fail
+gained : {out : Change} {text : List ℕ} → Gains out text → out.faults_before < out.faults_after → ⊥
+gained gains = stayed gains.no_fault
+
+-- a source that was left alone didn't fail
+unchanged : {source : Change} → IsUnchanged source → source.faults_before < source.faults_after → ⊥
+unchanged same = stayed same.faults
+
+-- ---- the output
+
+-- an output fault ends the run for just that
+abbrev IsOutputFault : Change → Result (Unit {0}) Fault → Type 0
+IsOutputFault out ended = out.faults_before < out.faults_after → status_of ended ≡ status.WriteFault
+
+parts-output : (settings : Settings) (k : ℕ) (parts : List Part) (out : Change) (ended : Result (Unit {0}) Fault)
+    → EndsParts settings k parts out ended → IsOutputFault out ended
+parts-output settings k parts out (Ok u) ends rose = absurd (gained ends.gained rose)
+parts-output settings k parts out (Err (fault.Usage usage)) ends rose = absurd ends
+parts-output settings k parts out (Err (fault.List list)) ends rose = absurd ends
+parts-output settings k parts out (Err (fault.DrawLimit number slot words)) ends rose = absurd (gained ends.gained rose)
+parts-output settings k parts out (Err fault.Write) ends rose = refl
+parts-output settings k parts out (Err fault.NoMemory) ends rose = absurd (gained ends.gained rose)
+parts-output settings k parts out (Err (fault.Gap table index)) ends rose = absurd ends
+
+making-output : (settings : Settings) (parts : List Part) (out : Change) (ended : Result (Unit {0}) Fault) → EndsMaking settings parts out ended
+    → IsOutputFault out ended
+making-output settings parts out ended making rose =
+    elim making [
+      | inl made ↦ parts-output settings 0 parts out ended made.ends rose
+      | inr lacks ↦ absurd (gained lacks.unwritten rose)
+    ]
+
+tables-output : (event : Event) (out : Change) (ended : Result (Unit {0}) Fault) → EndsTables event out ended → IsOutputFault out ended
+tables-output event out (Ok u) ends rose = absurd (gained ends.2 rose)
+tables-output event out (Err (fault.Usage usage)) ends rose = absurd ends
+tables-output event out (Err (fault.List list)) ends rose = absurd ends
+tables-output event out (Err (fault.DrawLimit number slot words)) ends rose = absurd ends
+tables-output event out (Err fault.Write) ends rose = refl
+tables-output event out (Err fault.NoMemory) ends rose = absurd ends
+tables-output event out (Err (fault.Gap table index)) ends rose = absurd ends
+
+telling-output : (made : Result (Unit {0}) Fault) (lines : List ℕ) (out : Change) (ended : Result (Unit {0}) Fault) → EndsTelling made lines out ended
+    → IsOutputFault out ended
+telling-output (Ok u) lines out (Ok v) told rose = absurd (gained told rose)
+telling-output (Ok u) lines out (Err f) told rose = ap (λ g. status_of (Err g)) told.0
+telling-output (Err f) lines out ended told rose = absurd (gained told.1 rose)
+
+command-output : (command : Command) (source out : Change) (ended : Result (Unit {0}) Fault) → EndsCommand command source out ended
+    → IsOutputFault out ended
+command-output (One event seed) source out ended ends rose = making-output _ _ out ended ends.1 rose
+command-output (Sheet seed options) source out ended (inl ends) rose = making-output _ _ out ended ends.2 rose
+command-output (Sheet seed options) source out ended (inr refused) rose = absurd (gained refused.unwritten rose)
+command-output (Tables event) source out ended (same, inl ends) rose = tables-output event out ended ends rose
+command-output (Tables event) source out ended (same, inr lacks) rose = absurd (gained lacks.unwritten rose)
+command-output (Load number) source out ended ends rose = telling-output ends.1.made _ out ended ends.1.told rose
+
+words-output : (asked : Result Command UsageFault) (source out : Change) (ended : Result (Unit {0}) Fault) → Ends asked source out ended
+    → IsOutputFault out ended
+words-output (Ok command) source out ended ends rose = command-output command source out ended ends rose
+words-output (Err usage) source out ended ends rose = absurd (gained ends.2 rose)
+
+pub run-output : (words : List (List ℕ)) (outcome : Status) (source out err : Change) → IsRun words outcome source out err
+    → out.faults_before < out.faults_after → outcome ≡ status.WriteFault
+run-output words outcome source out err run rose =
+    run.answer
+    ∙ elim run.performed.ends as (λ e. status_of run.ended ≡ status.WriteFault) [
+      | inl ends ↦ words-output (command_of words) source out run.ended ends rose
+      | inr wanting ↦ absurd (gained wanting.unwritten rose)
+    ]
+
+-- ---- the input
+
+refused-input : (source : Change) (refusal : ListFault) → ReadsNoList source refusal → source.faults_before < source.faults_after
+    → status_of (Err (fault.List refusal)) ≡ status.ReadFault
+refused-input source list.TooLong cause rose = absurd (stayed cause.gives.no_fault rose)
+refused-input source (list.Line number why) cause rose = absurd (stayed cause.gives.no_fault rose)
+refused-input source list.Read cause rose = refl
+
+command-input : (command : Command) (source out : Change) (ended : Result (Unit {0}) Fault) → EndsCommand command source out ended
+    → source.faults_before < source.faults_after → status_of ended ≡ status.ReadFault
+command-input (One event seed) source out ended ends rose = absurd (unchanged ends.0 rose)
+command-input (Sheet seed options) source out ended (inl ends) rose = absurd (stayed ends.1.gives.no_fault rose)
+command-input (Sheet seed options) source out ended (inr refused) rose = ap status_of refused.is ∙ refused-input source refused.list refused.cause rose
+command-input (Tables event) source out ended ends rose = absurd (unchanged ends.0 rose)
+command-input (Load number) source out ended ends rose = absurd (unchanged ends.0 rose)
+
+words-input : (asked : Result Command UsageFault) (source out : Change) (ended : Result (Unit {0}) Fault) → Ends asked source out ended
+    → source.faults_before < source.faults_after → status_of ended ≡ status.ReadFault
+words-input (Ok command) source out ended ends rose = command-input command source out ended ends rose
+words-input (Err usage) source out ended ends rose = absurd (unchanged ends.1 rose)
+
+pub run-input : (words : List (List ℕ)) (outcome : Status) (source out err : Change) → IsRun words outcome source out err
+    → source.faults_before < source.faults_after → outcome ≡ status.ReadFault
+run-input words outcome source out err run rose =
+    run.answer
+    ∙ elim run.performed.ends as (λ e. status_of run.ended ≡ status.ReadFault) [
+      | inl ends ↦ words-input (command_of words) source out run.ended ends rose
+      | inr wanting ↦ absurd (unchanged wanting.unread rose)
+    ]
+
+-- ---- what is told
+
+-- only a run that ended well has that status
+told-done : (err : Change) (ended : Result (Unit {0}) Fault) → status_of ended ≡ status.Done → Tells err ended → IsUnwritten err
+told-done err (Ok u) is tells = tells
+told-done err (Err (fault.Usage usage)) is tells = cc
+told-done err (Err (fault.List list.Read)) is tells = cc
+told-done err (Err (fault.List list.TooLong)) is tells = cc
+told-done err (Err (fault.List (list.Line number cause))) is tells = cc
+told-done err (Err (fault.DrawLimit number slot words)) is tells = cc
+told-done err (Err fault.Write) is tells = cc
+told-done err (Err fault.NoMemory) is tells = cc
+told-done err (Err (fault.Gap table index)) is tells = cc
+
+pub run-done : (words : List (List ℕ)) (source out err : Change) → IsRun words status.Done source out err → IsUnwritten err
+run-done words source out err run = told-done err run.ended (sym run.answer) run.tells
+
+-- only want of memory has its status
+wanting : (ended : Result (Unit {0}) Fault) → status_of ended ≡ status.NoMemory → ended ≡ Err fault.NoMemory
+wanting (Ok u) is = cc
+wanting (Err (fault.Usage usage)) is = cc
+wanting (Err (fault.List list.Read)) is = cc
+wanting (Err (fault.List list.TooLong)) is = cc
+wanting (Err (fault.List (list.Line number cause))) is = cc
+wanting (Err (fault.DrawLimit number slot words)) is = cc
+wanting (Err fault.Write) is = cc
+wanting (Err fault.NoMemory) is = refl
+wanting (Err (fault.Gap table index)) is = cc
+
+pub run-memory : (words : List (List ℕ)) (source out err : Change) → IsRun words status.NoMemory source out err
+    → AsksForSheet words ⊎ TakesMemory (command_of words)
+run-memory words source out err run = run.performed.memory (wanting run.ended (sym run.answer))
+
+-- the text of tables of which a first part was written
+abbrev pub FaltersInTables : Event → Change → Type 0
+FaltersInTables event out = (text : List ℕ) × IsTablesText (lines_for (event ∷ [])) text × Falters out text
+
+tables-broken : (event : Event) (out : Change) (ended : Result (Unit {0}) Fault) → status_of ended ≡ status.WriteFault
+    → EndsTables event out ended ⊎ LacksTables (event ∷ []) out ended → FaltersInTables event out
+tables-broken event out (Ok u) is (inl ends) = cc
+tables-broken event out (Err (fault.Usage usage)) is (inl ends) = absurd ends
+tables-broken event out (Err (fault.List list)) is (inl ends) = absurd ends
+tables-broken event out (Err (fault.DrawLimit number slot words)) is (inl ends) = absurd ends
+tables-broken event out (Err fault.Write) is (inl ends) = ends
+tables-broken event out (Err fault.NoMemory) is (inl ends) = absurd ends
+tables-broken event out (Err (fault.Gap table index)) is (inl ends) = absurd ends
+tables-broken event out ended is (inr lacks) = absurd (no_write lacks.why (ap status_of (sym lacks.is) ∙ is))
+  where
+    no_write : (why : BuildFault) → status_of (Err (fault_of_build why)) ≡ status.WriteFault → ⊥
+    no_write build.NoMemory same = cc
+    no_write (build.Gap table index) same = cc
+
+pub run-tables : (words : List (List ℕ)) (event : Event) (source out err : Change) → command_of words ≡ Ok (Tables event)
+    → IsRun words status.WriteFault source out err → FaltersInTables event out
+run-tables words event source out err asks run =
+    let P : Result Command UsageFault → Type 0 = λ asked. Ends asked source out run.ended in
+    elim run.performed.ends [
+      | inl ends ↦ tables-broken event out run.ended (sym run.answer) (subst P asks ends).1
+      | inr wanting ↦ let none : status.NoMemory ≡ status.WriteFault = ap status_of (sym wanting.is) ∙ sym run.answer in cc
+    ]

@@ -1,0 +1,113 @@
+-- What is so of each event: it has one answer a slot, is drawn fairly where its tables are built, and is shown as it is
+-- scrambled.
+use Rattle.std.proofs.Common.{◌≡◌, ℕ, ◌≤◌, Bool, List, refl, lit≤}
+use Rattle.scr_notation.specs.declared.event.Event.{Event}
+use Rattle.scr_notation.specs.declared.event.Event.TheVariants.{C222, C333, Oh333, C555, C666, C777, Clock, Minx, Pyram, Skewb, Sq1}
+use Rattle.scr_notation.specs.declared.event.Family.TheVariants as family
+use Rattle.scr_notation.specs.Event.{greatest_of}
+use Rattle.scr_notation.specs.EventSets.{Has}
+use Rattle.scr_bigs.specs.BigCubes.{IsSide, cube_of, cube_555, cube_666, cube_777}
+use Rattle.scr_bigs.specs.Fairness.{AreFairTurns, AreFairBits}
+use Rattle.scr_clock.specs.Numbers.{clock_numbered}
+use Rattle.scr_clock.proofs.AmountLaws.{IsScrambleOf-one}
+use Rattle.scr_cube.specs.Cube222.{numbered_222}
+use Rattle.scr_cube.specs.Cube333.{cube_numbered}
+use Rattle.scr_twophase.specs.TwoParts.{two_parts}
+use Rattle.scr_twophase.proofs.PartLaws.{IsScrambleBy-unique}
+use Rattle.scr_small.specs.Puzzles.{numbered_puzzle_222, numbered_puzzle_skewb}
+use Rattle.scr_small.proofs.Lawful222.{lawful_puzzle_222}
+use Rattle.scr_small.proofs.LawfulSkewb.{lawful_puzzle_skewb}
+use Rattle.scr_small.proofs.PuzzleLaws.{IsScrambleOf-unique}
+use Rattle.scr_small.proofs.PyramLaws.{IsScramblePyram-unique}
+use Rattle.scr_tetra.specs.Pyraminx.{numbered_pyram}
+use Rattle.scr_tetra.specs.Skewb.{skewb_numbered}
+use Rattle.scr_sq1.specs.Numbers.{sq1_numbered}
+use Rattle.scr_sq1.proofs.Lawful.{IsSq1-reached}
+use Rattle.scr_sq1solve.proofs.Solutions.{one_scramble}
+use Rattle.scr_slots.specs.Shown.{Shown, States, Moves}
+use Rattle.scr_slots.specs.Slots.{Scrambling, ByState, ByMoves, by_state, IsDrawnFairly}
+use Rattle.scr_slots.specs.Events.{scrambling_of, shown_of, IsScramble333Within, drawn_222, drawn_333, drawn_pyram, drawn_skewb, drawn_clock, drawn_sq1, moves_of, moves_minx}
+use Rattle.scr_slots.specs.Held.{HasFamily}
+use Rattle.scr_slots.specs.Outcomes.{HasOneAnswer}
+use Rattle.scr_slots.proofs.OneAnswer.{HasOneAnswer-state, HasOneAnswer-moves}
+
+-- ---- one answer
+
+one_333 : (least : ℕ) → HasOneAnswer (by_state C333 drawn_333 cube_numbered IsScramble333Within) least
+one_333 least =
+    HasOneAnswer-state C333 drawn_333 cube_numbered IsScramble333Within least (lit≤ tt)
+    (λ effort state turns other reached a b. IsScrambleBy-unique (two_parts state effort.tries) state turns other a.0 b.0)
+
+-- So it is for each event.
+pub each_one : (event : Event) (least : ℕ) → HasOneAnswer (scrambling_of event) least
+unfolding scrambling_of
+each_one C222 least =
+    HasOneAnswer-state C222 drawn_222 numbered_222 _ least (lit≤ tt) (λ effort state turns other reached. IsScrambleOf-unique numbered_puzzle_222 lawful_puzzle_222 state turns other)
+each_one C333 least = one_333 least
+each_one Oh333 least = one_333 least
+each_one C555 least = HasOneAnswer-moves C555 (moves_of cube_555) least
+each_one C666 least = HasOneAnswer-moves C666 (moves_of cube_666) least
+each_one C777 least = HasOneAnswer-moves C777 (moves_of cube_777) least
+each_one Clock least =
+    HasOneAnswer-state Clock drawn_clock clock_numbered _ least (lit≤ tt) (λ effort state turns other reached. IsScrambleOf-one state turns other)
+each_one Minx least = HasOneAnswer-moves Minx moves_minx least
+each_one Pyram least =
+    HasOneAnswer-state Pyram drawn_pyram numbered_pyram _ least (lit≤ tt) (λ effort state turns other reached. IsScramblePyram-unique state turns other)
+each_one Skewb least =
+    HasOneAnswer-state Skewb drawn_skewb skewb_numbered _ least (lit≤ tt) (λ effort state turns other reached. IsScrambleOf-unique numbered_puzzle_skewb lawful_puzzle_skewb state turns other)
+each_one Sq1 least =
+    HasOneAnswer-state Sq1 drawn_sq1 sq1_numbered _ least (lit≤ tt)
+    (λ effort state turns other reached. one_scramble state turns other (IsSq1-reached state reached))
+
+-- ---- fairness
+
+-- an event is drawn fairly at each minimum up to the greatest
+abbrev pub AreFair : Event → Type 0
+AreFair event = (least : ℕ) → least ≤ greatest_of event → IsDrawnFairly (scrambling_of event) least
+
+-- what is known of each family, of Clock and of random moves
+pub record FairFamilies (events : List Bool) : Type 0 where
+  pub cubes : (side : ℕ) → IsSide side → AreFairTurns (cube_of side)
+  pub bits : AreFairBits
+  pub clock : AreFair Clock
+  pub of_222 : HasFamily events family.Cube222 → AreFair C222
+  pub of_333 : HasFamily events family.Cube333 → AreFair C333
+  pub of_pyram : HasFamily events family.Pyraminx → AreFair Pyram
+  pub of_skewb : HasFamily events family.Skewb → AreFair Skewb
+  pub of_sq1 : HasFamily events family.Square1 → AreFair Sq1
+
+pub each_fair : (events : List Bool) → FairFamilies events → (event : Event) (least : ℕ) → Has events event → least ≤ greatest_of event
+    → IsDrawnFairly (scrambling_of event) least
+unfolding scrambling_of
+each_fair events fair C222 least has le = fair.of_222 (record { event = C222; has = has; of_family = refl }) least le
+each_fair events fair C333 least has le = fair.of_333 (record { event = C333; has = has; of_family = refl }) least le
+each_fair events fair Oh333 least has le = fair.of_333 (record { event = Oh333; has = has; of_family = refl }) least le
+each_fair events fair C555 least has le = fair.cubes 5 (record { large = lit≤ tt; small = lit≤ tt })
+each_fair events fair C666 least has le = fair.cubes 6 (record { large = lit≤ tt; small = lit≤ tt })
+each_fair events fair C777 least has le = fair.cubes 7 (record { large = lit≤ tt; small = lit≤ tt })
+each_fair events fair Clock least has le = fair.clock least le
+each_fair events fair Minx least has le = fair.bits
+each_fair events fair Pyram least has le = fair.of_pyram (record { event = Pyram; has = has; of_family = refl }) least le
+each_fair events fair Skewb least has le = fair.of_skewb (record { event = Skewb; has = has; of_family = refl }) least le
+each_fair events fair Sq1 least has le = fair.of_sq1 (record { event = Sq1; has = has; of_family = refl }) least le
+
+-- ---- what is promised
+
+abbrev pub shown_by : Scrambling → Shown
+shown_by (ByState S event scrambled) = States S scrambled.drawn
+shown_by (ByMoves event random) = Moves random
+
+-- an event is scrambled as it is shown
+pub same_shown : (event : Event) → shown_by (scrambling_of event) ≡ shown_of event
+unfolding scrambling_of shown_of
+same_shown C222 = refl
+same_shown C333 = refl
+same_shown Oh333 = refl
+same_shown C555 = refl
+same_shown C666 = refl
+same_shown C777 = refl
+same_shown Clock = refl
+same_shown Minx = refl
+same_shown Pyram = refl
+same_shown Skewb = refl
+same_shown Sq1 = refl

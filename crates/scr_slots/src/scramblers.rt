@@ -1,0 +1,102 @@
+//! The scramblers of the puzzles.
+
+use crate::cube_tables::CubeTables;
+use crate::scrambler::Scrambler;
+use crate::settings::Effort;
+use scr_clock::{Clock, ClockNumbers, scramble_clock};
+use scr_cube::Cube;
+use scr_notation::Scramble;
+use scr_small::{OneTable, SmallPuzzle, SmallPyram};
+use scr_sq1::Sq1;
+use scr_sq1solve::{Sq1Tables, scramble_sq1};
+use scr_tetra::Pyraminx;
+use scr_twophase::scramble_333;
+
+impl Scrambler<Clock> for ClockNumbers {
+    ghost use Rattle.scr_notation.specs.declared.event.Event.TheVariants.{Clock as EventClock};
+    ghost use Rattle.scr_clock.specs.Written.{IsScrambleOf as IsClockScramble};
+    ghost use Rattle.scr_slots.specs.Events.{drawn_clock};
+
+    ghost event = { λ _. EventClock };
+
+    ghost played = { λ _. drawn_clock.played };
+
+    ghost is_within = { λ _. drawn_clock.IsWithin };
+
+    ghost is_scramble = { λ _ _. IsClockScramble };
+
+    fn scramble(&self, state: &Clock, _effort: Effort) -> Scramble {
+        scramble_clock(state)
+    }
+}
+
+impl<P: OneTable> Scrambler<P::State> for SmallPuzzle<'_, P> {
+    ghost use Rattle.scr_play.specs.Play.{play};
+    ghost use Rattle.scr_small.specs.NumberedPuzzles.{IsScrambleOf};
+    ghost use Rattle.scr_slots.specs.Events.{at_most};
+
+    ghost event = { λ _. P.TABLE.event };
+
+    ghost played = { λ _. play P.shown.after P.shown.solved };
+
+    ghost is_within = { λ _. at_most P.TABLE.bound };
+
+    ghost is_scramble = { λ _ _. IsScrambleOf P.shown };
+
+    fn scramble(&self, state: &P::State, _effort: Effort) -> Scramble {
+        SmallPuzzle::scramble(self, state)
+    }
+}
+
+impl Scrambler<Pyraminx> for SmallPyram<'_> {
+    ghost use Rattle.scr_notation.specs.declared.event.Event.TheVariants.{Pyram};
+    ghost use Rattle.scr_small.specs.Puzzles.{IsScramblePyram};
+    ghost use Rattle.scr_slots.specs.Events.{drawn_pyram};
+
+    ghost event = { λ _. Pyram };
+
+    ghost played = { λ _. drawn_pyram.played };
+
+    ghost is_within = { λ _. drawn_pyram.IsWithin };
+
+    ghost is_scramble = { λ _ _. IsScramblePyram };
+
+    fn scramble(&self, state: &Pyraminx, _effort: Effort) -> Scramble {
+        SmallPyram::scramble(self, state)
+    }
+}
+
+impl Scrambler<Cube> for CubeTables {
+    ghost use Rattle.scr_notation.specs.declared.event.Event.TheVariants.{C333};
+    ghost use Rattle.scr_slots.specs.Events.{drawn_333, IsScramble333Within};
+
+    ghost event = { λ _. C333 };
+
+    ghost played = { λ _. drawn_333.played };
+
+    ghost is_within = { λ _. drawn_333.IsWithin };
+
+    ghost is_scramble = { λ _. IsScramble333Within };
+
+    fn scramble(&self, state: &Cube, effort: Effort) -> Scramble {
+        scramble_333(&self.prune, &self.stages, state, effort.tries)
+    }
+}
+
+impl Scrambler<Sq1> for Sq1Tables {
+    ghost use Rattle.scr_notation.specs.declared.event.Event.TheVariants.{Sq1 as EventSq1};
+    ghost use Rattle.scr_sq1solve.specs.Stages.{IsScrambleSq1};
+    ghost use Rattle.scr_slots.specs.Events.{drawn_sq1};
+
+    ghost event = { λ _. EventSq1 };
+
+    ghost played = { λ _. drawn_sq1.played };
+
+    ghost is_within = { λ _. drawn_sq1.IsWithin };
+
+    ghost is_scramble = { λ _ _. IsScrambleSq1 };
+
+    fn scramble(&self, state: &Sq1, _effort: Effort) -> Scramble {
+        scramble_sq1(self, state)
+    }
+}

@@ -1,0 +1,30 @@
+//! The text of an event's tables.
+
+ghost use Rattle.std.specs.Prelude.{[], ◌∷◌};
+ghost use Rattle.scr_outside.specs.Change.{change_of};
+ghost use Rattle.scr_notation.specs.EventSets.{Has};
+ghost use Rattle.scr_table_text.specs.Counted.{WritesTables};
+ghost use Rattle.scr_slots.specs.Tables.{lines_for};
+
+use crate::tables::Tables;
+use scr_notation::{Event, Family};
+use scr_outside::{Failed, Sink};
+use scr_table_text::write_tables;
+
+/// Writes how many positions each table of an event has at each distance, or that the event has no tables. At `Failed`,
+/// which comes only where the sink's count of faults rose, a first part of it was written.
+///
+/// The tables are those of a list with the event.
+pub fn write_tables_of<O: Sink>(tables: &Tables, event: Event, out: &mut O) -> Result<(), Failed>
+    requires { Has tables.now event }
+    ensures { WritesTables (lines_for (event ∷ [])) (change_of O.held O.faults out.old out.new) result }
+{
+    match event.family() {
+        Some(Family::Cube222) => write_tables(out, &[tables.of_222().unwrap().only()]),
+        Some(Family::Cube333) => write_tables(out, &tables.of_333().unwrap().all()),
+        Some(Family::Pyraminx) => write_tables(out, &[tables.of_pyram().unwrap().only()]),
+        Some(Family::Skewb) => write_tables(out, &[tables.of_skewb().unwrap().only()]),
+        Some(Family::Square1) => write_tables(out, &tables.of_sq1().unwrap().all()),
+        None => write_tables(out, &[]),
+    }
+}

@@ -1,0 +1,48 @@
+-- Numbered states that are turned by powers of generators are a numbered puzzle, which one table solves.
+use Rattle.std.proofs.Common.{◌≡◌, ℕ, ◌*◌, ◌^◌, ◌<◌, ◌≤◌, [], Some, refl}
+use Rattle.scr_combinatorics.specs.Numbered.{Numbered}
+use Rattle.scr_combinatorics.specs.Numbering.{IsNumbering}
+use Rattle.scr_play.proofs.PlayLaws.{play-empty}
+use Rattle.scr_notation.specs.Event.{kind_of}
+use Rattle.scr_notation.specs.TurnNumbers.{turn_at, turn_count}
+use Rattle.scr_turning.specs.PowerPuzzles.{PowerPuzzle, IsPowerPuzzle, after_letter}
+use Rattle.scr_small.specs.declared.state_table.StateTable.{StateTable}
+use Rattle.scr_small.specs.NumberedPuzzles.{numbered_powers}
+use Rattle.scr_small.specs.LawfulPuzzles.{IsNumberedPuzzle}
+use Rattle.scr_small.specs.SolvedByTable.{IsSolvedByTable}
+use Rattle.scr_small.specs.StateParts.{MovesByParts}
+use Rattle.scr_small.specs.Tables.{small_line, table_line}
+
+pub IsNumberedPuzzle-powers : {S R : Type 0} (n : Numbered S) (p : PowerPuzzle S R) (IsTurn : R → Type 0)
+    → IsNumbering n → IsPowerPuzzle p n.IsValid IsTurn → IsNumberedPuzzle (numbered_powers n p)
+IsNumberedPuzzle-powers n p IsTurn numbering powers = record {
+  numbering = numbering;
+  solved = powers.lawful.reached (λ t. 1) p.solved ([], p.solved, refl, play-empty (after_letter p) p.solved);
+  kept = powers.lawful.kept;
+  taken_back = powers.lawful.taken_back;
+  numbers = powers.numbers;
+  no_more = powers.no_more;
+}
+
+-- how many turns there are, and how large the table is
+abbrev AreSmall : ℕ → ℕ → StateTable → Type 0
+AreSmall turns all table = (turns ≤ all) × (turns ≤ 256) × (table.low * table.high < 2 ^ 32) × (table.bound ≤ 24)
+
+pub IsSolvedByTable-powers : {S R : Type 0} (n : Numbered S) (p : PowerPuzzle S R) (table : StateTable)
+    → IsNumberedPuzzle (numbered_powers n p) → MovesByParts (numbered_powers n p) table.low table.high
+    → n.number_of p.solved ≡ 0 → ((k : ℕ) → p.letters.letter_at k ≡ turn_at (kind_of table.event) k)
+    → small_line table.event ≡ Some (table_line (numbered_powers n p) table)
+    → AreSmall (numbered_powers n p).turns (turn_count (kind_of table.event)) table
+    → IsSolvedByTable (numbered_powers n p) table
+IsSolvedByTable-powers n p table lawful by_parts first letters of_event small = record {
+  lawful = lawful;
+  letters = letters;
+  own = small.0;
+  few = small.1;
+  taken_back = refl;
+  by_parts = by_parts;
+  fits = small.2;
+  first = first;
+  of_event = of_event;
+  near = small.3;
+}

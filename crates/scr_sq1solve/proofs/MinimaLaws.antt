@@ -1,0 +1,238 @@
+-- The test of a minimum is exact, and so is a search that leaves out turns of the layers right after each other, and twists.
+use Rattle.std.proofs.Common.{◌≡◌, ℕ, suc, ◌+◌, ◌%◌, ◌/◌, ◌<◌, ◌≤◌, inl, inr, Bool, true, false, IsTrue, cond, List, []}
+use Rattle.std.proofs.Common.{◌∷◌, length, Option, Some, None, refl, sym, ap, ◌∙◌, subst, arith, eq-eqb, eqb-true}
+use Rattle.std.specs.Prelude.{◌↔◌, All, ◌==◌, ◌&&◌, not, nat_lt, ℤ, pos, ◌+ℤ◌, ◌-ℤ◌}
+use Rattle.std.proofs.lemmas.Bool.{cases_eq, cases_lt, cond-true, cond-false, lt-ltb, ne_eqb, and_parts, false≢true}
+use Rattle.scr_combinatorics.specs.Lists.{pick}
+use Rattle.scr_combinatorics.specs.Permutations.{IsPermutation}
+use Rattle.scr_combinatorics.proofs.PermutationLaws.{All-permutation}
+use Rattle.scr_combinatorics.proofs.Picks.{pick-pick}
+use Rattle.scr_play.specs.Play.{play, count_in}
+use Rattle.scr_play.specs.Reach.{Needs}
+use Rattle.scr_play.proofs.PlayLaws.{play-empty, play-first, play-one, play-parts}
+use Rattle.scr_notation.specs.declared.event.Kind.TheVariants.{LayersAndTwist}
+use Rattle.scr_notation.specs.declared.turn.Turn.{Turn}
+use Rattle.scr_notation.specs.declared.turn.Turn.TheVariants.{Layers, Twist}
+use Rattle.scr_notation.specs.Layers.{twelfths, are_still, is_layer_turn}
+use Rattle.scr_notation.specs.TurnNumbers.{layer_turn_at, turn_at}
+use Rattle.scr_notation.proofs.Below.{same}
+use Rattle.scr_notation.proofs.LayersLaws.{AreTwelfths-twelfths, IsTwelfths, are_still-first, are_still-second}
+use Rattle.scr_notation.proofs.LayersLaws.{layers_of_parts, twelfths-own}
+use Rattle.scr_notation.proofs.NumberLaws.{numbered, has_turn_at}
+use Rattle.scr_table.specs.Moves.{turned as number_turned, NeedsTurns, NeverHelps}
+use Rattle.scr_table.proofs.MovesLaws.{turned-turn}
+use Rattle.scr_table.proofs.StepLaws.{taken_where}
+use Rattle.scr_table.specs.TriedWords.{needs_test-iff as tried-iff}
+use Rattle.scr_sq1.specs.Units.{Sq1State, IsSq1, is_open, after_layers, solved_sq1, clockwise, turn_places, turned}
+use Rattle.scr_sq1.specs.Units.{twisted, sq1_after, sq1_puzzle}
+use Rattle.scr_sq1.proofs.Places.{IsTurnTable-turn, turn_places-both, turn_places-none}
+use Rattle.scr_sq1.proofs.Clockwise.{clockwise-lt, clockwise-twelfths, clockwise-sum}
+use Rattle.scr_sq1.proofs.Lawful.{pick_nothing, sq1_after-layers, sq1_after-by_layers, sq1_after-twist, twisted-twice}
+use Rattle.scr_sq1.proofs.Lawful.{IsLawful-sq1}
+use Rattle.scr_sq1solve.specs.Minima.{is_solved, sq1_moves, needs_test}
+use Rattle.scr_sq1solve.proofs.PairedLists.{same-true}
+
+-- ---- solved states
+
+is_solved-solved : IsTrue (is_solved solved_sq1)
+unfolding is_solved same
+is_solved-solved = refl
+
+solved_from : (us : List ℕ) (b : Bool) → IsTrue (same us solved_sq1.units && not b)
+    → (let s : Sq1State = record { units = us; equator = b } in s ≡ solved_sq1)
+solved_from us true t = absurd (false≢true (and_parts (same us solved_sq1.units) false t).1)
+solved_from us false t =
+    ap (λ xs. let s : Sq1State = record { units = xs; equator = false } in s)
+    (same-true us solved_sq1.units (and_parts (same us solved_sq1.units) true t).0)
+
+pub is_solved-iff : (s : Sq1State) → IsTrue (is_solved s) ↔ (s ≡ solved_sq1)
+unfolding is_solved
+is_solved-iff s = (λ t. solved_from s.units s.equator t, λ e. ap is_solved e ∙ is_solved-solved)
+
+-- ---- turns by their numbers
+
+pub turned-number : (s : Sq1State) (n : ℕ) → length s.units ≡ 24 → n < 144 → number_turned sq1_moves s n ≡ sq1_after s (layer_turn_at n)
+turned-number s n size lt =
+    cond-true (nat_lt n 144) (cond (length s.units == 24) (sq1_after s (layer_turn_at n)) None) None (lt-ltb n 144 lt)
+    ∙ cond-true (length s.units == 24) (sq1_after s (layer_turn_at n)) None (eq-eqb (length s.units) 24 size)
+
+record IsMoved (s r : Sq1State) (n : ℕ) : Type 0 where
+  pub below : n < 144
+  pub size : length s.units ≡ 24
+  pub made : sq1_after s (layer_turn_at n) ≡ Some r
+
+IsMoved-turned : (s r : Sq1State) (n : ℕ) → number_turned sq1_moves s n ≡ Some r → IsMoved s r n
+IsMoved-turned s r n e =
+    let a = turned-turn sq1_moves s r n e in
+    let b = taken_where (length s.units == 24) (sq1_after s (layer_turn_at n)) r a.1 in
+    record { below = a.0; size = eqb-true (length s.units) 24 b.0; made = b.1 }
+
+abbrev pub top_of : ℕ → ℤ
+top_of n = pos (n / 12) -ℤ pos 5
+
+abbrev pub bottom_of : ℕ → ℤ
+bottom_of n = pos (n % 12) -ℤ pos 5
+
+twist_number : layer_turn_at 65 ≡ Twist
+unfolding layer_turn_at
+twist_number = refl
+
+layers_number : (n : ℕ) → (n ≡ 65 → ⊥) → layer_turn_at n ≡ Layers (top_of n) (bottom_of n)
+unfolding layer_turn_at
+layers_number n apart = cond-false (n == 65) Twist (Layers (top_of n) (bottom_of n)) (ne_eqb n 65 apart)
+
+-- ---- two turns of the layers, or two twists, right after each other
+
+turned_together : (s : Sq1State) (x y z w : ℤ) → turned (turned s x y) z w ≡ turned s (twelfths (x +ℤ z)) (twelfths (y +ℤ w))
+unfolding turned
+turned_together s x y z w =
+    let p : IsPermutation 24 (turn_places (clockwise x) (clockwise y)) = (IsTurnTable-turn (clockwise x) (clockwise y) (clockwise-lt x) (clockwise-lt y)).permutation in
+    let q = (IsTurnTable-turn (clockwise z) (clockwise w) (clockwise-lt z) (clockwise-lt w)).permutation in
+    ap (λ us. let r : Sq1State = record { units = us; equator = s.equator } in r)
+    (pick-pick s.units (turn_places (clockwise x) (clockwise y)) (turn_places (clockwise z) (clockwise w))
+    (subst (λ n. All (λ k. k < n) (turn_places (clockwise z) (clockwise w))) (sym p.size) (All-permutation 24 (turn_places (clockwise z) (clockwise w)) q))
+    ∙ ap (pick s.units) (turn_places-both (clockwise x) (clockwise y) (clockwise z) (clockwise w) (clockwise-lt x) (clockwise-lt y) (clockwise-lt z) (clockwise-lt w))
+    ∙ ap (λ n. pick s.units (turn_places n ((clockwise y + clockwise w) % 12))) (sym (clockwise-twelfths (x +ℤ z) ∙ clockwise-sum x z))
+    ∙ ap (λ m. pick s.units (turn_places (clockwise (twelfths (x +ℤ z))) m)) (sym (clockwise-twelfths (y +ℤ w) ∙ clockwise-sum y w)))
+
+turned_nothing : (s : Sq1State) (x y : ℤ) → length s.units ≡ 24 → x ≡ pos 0 → y ≡ pos 0 → turned s x y ≡ s
+unfolding turned
+turned_nothing s x y size e f =
+    ap (λ us. let r : Sq1State = record { units = us; equator = s.equator } in r)
+    (ap (λ i. pick s.units (turn_places (clockwise i) (clockwise y))) e ∙ ap (λ i. pick s.units (turn_places 0 (clockwise i))) f
+    ∙ ap (pick s.units) turn_places-none ∙ pick_nothing s.units size)
+
+-- what one word of at most one turn makes
+abbrev MadeByOne : Sq1State → Sq1State → Type 0
+MadeByOne s q = (w : List ℕ) × (length w ≤ 1) × (play (number_turned sq1_moves) s w ≡ Some q)
+
+by_none : (s q : Sq1State) → q ≡ s → MadeByOne s q
+by_none s q e = ([], omega arith, play-empty (number_turned sq1_moves) s ∙ ap Some (sym e))
+
+by_layers : (s q : Sq1State) (x y : ℤ) (b : Bool) → are_still x y ≡ b → length s.units ≡ 24 → IsTrue (is_open q.units) → q ≡ turned s x y
+    → (x ≡ twelfths x) → (y ≡ twelfths y) → MadeByOne s q
+unfolding turn_at
+by_layers s q x y true still size opened is tx ty =
+    by_none s q (is ∙ turned_nothing s x y size (are_still-first x y still) (are_still-second x y still))
+by_layers s q x y false some size opened is tx ty =
+    let within_x = AreTwelfths-twelfths x in
+    let within_y = AreTwelfths-twelfths y in
+    let letter : IsTrue (is_layer_turn (Layers x y)) =
+    layers_of_parts x y
+    (record { top_within = subst IsTwelfths (sym tx) within_x.within; bottom_within = subst IsTwelfths (sym ty) within_y.within; some = some }) in
+    let n = numbered LayersAndTwist (Layers x y) tt letter in (
+      n.0 ∷ [],
+      omega arith,
+      play-one (number_turned sq1_moves) s n.0 ∙ turned-number s n.0 size n.1 ∙ ap (sq1_after s) n.2
+          ∙ sq1_after-by_layers s x y letter (ap (λ r. is_open r.units) (sym is) ∙ opened) ∙ ap Some (sym is),
+    )
+
+pub NeverHelps-idle : (first second : ℕ) → (first == 65) ≡ (second == 65) → NeverHelps sq1_moves first second
+NeverHelps-idle first second alike = λ s r q e f.
+    let a = IsMoved-turned s r first e in
+    let b = IsMoved-turned r q second f in
+    elim (cases_eq first 65) [
+      | inl is ↦
+          let other : second ≡ 65 = eqb-true second 65 (sym alike ∙ eq-eqb first 65 is) in
+          let one : sq1_after s Twist ≡ Some r = sym (ap (sq1_after s) (ap layer_turn_at is ∙ twist_number)) ∙ a.made in
+          let two : sq1_after r Twist ≡ Some q = sym (ap (sq1_after r) (ap layer_turn_at other ∙ twist_number)) ∙ b.made in
+          by_none s q (sq1_after-twist r q two ∙ ap twisted (sq1_after-twist s r one) ∙ twisted-twice s a.size)
+      | inr apart ↦
+          let other : second ≡ 65 → ⊥ = λ is. apart (eqb-true first 65 (alike ∙ eq-eqb second 65 is)) in
+          let x = top_of first in
+          let y = bottom_of first in
+          let z = top_of second in
+          let w = bottom_of second in
+          let one = sq1_after-layers s r x y (sym (ap (sq1_after s) (layers_number first apart)) ∙ a.made) in
+          let two = sq1_after-layers r q z w (sym (ap (sq1_after r) (layers_number second other)) ∙ b.made) in
+          let top : ℤ = twelfths (x +ℤ z) in
+          let bottom : ℤ = twelfths (y +ℤ w) in
+          by_layers s q top bottom (are_still top bottom) refl a.size (ap (λ p. is_open p.units) two.is ∙ two.opened)
+          (two.is ∙ ap (λ p. turned p z w) one.is ∙ turned_together s x y z w)
+          (sym (twelfths-twelfths (x +ℤ z))) (sym (twelfths-twelfths (y +ℤ w)))
+    ]
+  where
+    twelfths-twelfths : (z : ℤ) → twelfths (twelfths z) ≡ twelfths z
+    twelfths-twelfths z = twelfths-own (twelfths z) (AreTwelfths-twelfths z).within
+
+-- ---- words of numbers and of turns
+
+turn-after : (s r : Sq1State) (t : Turn) → sq1_after s t ≡ Some r → IsTrue (is_layer_turn t)
+unfolding sq1_after
+turn-after s r (Layers x y) e = (sq1_after-layers s r x y e).letter
+turn-after s r Twist e = refl
+turn-after s r _ e = absurd (cc)
+
+numbers-of : (w : List Turn) (s end : Sq1State) → IsSq1 s → play sq1_after s w ≡ Some end
+    → (ns : List ℕ) × (length ns ≡ length w) × (play (number_turned sq1_moves) s ns ≡ Some end)
+unfolding turn_at
+numbers-of [] s end valid e =
+    let here = play-empty sq1_after s in
+    let same : Some s ≡ Some end = sym here ∙ e in
+    ([], refl, play-empty (number_turned sq1_moves) s ∙ same)
+numbers-of (t ∷ w) s end valid e =
+    let parts = play-parts sq1_after s end t w e in
+    let n = numbered LayersAndTwist t tt (turn-after s parts.0 t parts.1) in
+    let rest = numbers-of w parts.0 end (IsLawful-sq1.keeps s parts.0 t valid parts.1) parts.2 in (
+      n.0 ∷ rest.0,
+      ap suc rest.1,
+      play-first (number_turned sq1_moves) s parts.0 n.0 rest.0 (turned-number s n.0 valid.size n.1 ∙ ap (sq1_after s) n.2 ∙ parts.1) ∙ rest.2,
+    )
+
+turns-of : (ns : List ℕ) (s end : Sq1State) → play (number_turned sq1_moves) s ns ≡ Some end
+    → (w : List Turn) × (length w ≡ length ns) × (play sq1_after s w ≡ Some end)
+turns-of [] s end e =
+    let here = play-empty (number_turned sq1_moves) s in
+    let same : Some s ≡ Some end = sym here ∙ e in
+    ([], refl, play-empty sq1_after s ∙ same)
+turns-of (n ∷ ns) s end e =
+    let parts = play-parts (number_turned sq1_moves) s end n ns e in
+    let m = IsMoved-turned s parts.0 n parts.1 in
+    let rest = turns-of ns parts.0 end parts.2 in
+    (layer_turn_at n ∷ rest.0, ap suc rest.1, play-first sq1_after s parts.0 (layer_turn_at n) rest.0 m.made ∙ rest.2)
+
+counted_once : (w : List Turn) → count_in sq1_puzzle.counted w ≡ length w
+unfolding count_in
+counted_once [] = refl
+counted_once (t ∷ w) = omega (arith, counted_once w)
+
+pub NeedsTurns-iff : (s : Sq1State) (least : ℕ) → IsSq1 s → NeedsTurns sq1_moves s least ↔ Needs sq1_puzzle s least
+NeedsTurns-iff s least valid = (
+  λ needs. λ w end few played is.
+      let ns = numbers-of w s end valid played in
+      omega (arith, few, counted_once w, ns.1, needs ns.0 (record { end = end; played = ns.2; goal = (is_solved-iff end).1 is })),
+  λ needs. λ ns l. elim (cases_lt (length ns) least) [
+    | inl few ↦
+        let w = turns-of ns s l.end l.played in
+        absurd (needs w.0 l.end (omega (arith, few, counted_once w.0, w.1)) w.2 ((is_solved-iff l.end).0 l.goal))
+    | inr le ↦ le
+  ],
+)
+
+-- ---- the test
+
+pub needs_test-iff : (s : Sq1State) (least : ℕ) → IsSq1 s → IsTrue (needs_test s least) ↔ Needs sq1_puzzle s least
+needs_test-iff s least valid =
+    let tried = tried-iff 144 (number_turned sq1_moves) is_solved (λ r q t e. (turned-turn sq1_moves r q t e).0) s least in
+    let same = NeedsTurns-iff s least valid in
+    (λ t. same.0 (tried.0 t), λ needs. tried.1 (same.1 needs))
+
+-- ---- the moves, as the code makes them
+
+pub after-twist : (s r : Sq1State) (n : ℕ) → IsSq1 s → n ≡ 65 → r ≡ twisted s → Some r ≡ sq1_moves.after s n
+unfolding sq1_after
+after-twist s r n valid is made =
+    ap Some made
+    ∙ sym (cond-true (length s.units == 24) (sq1_after s (layer_turn_at n)) None (eq-eqb (length s.units) 24 valid.size)
+    ∙ ap (sq1_after s) (ap layer_turn_at is ∙ twist_number))
+
+pub after-number : (s : Sq1State) (n : ℕ) (o : Option Sq1State) → IsSq1 s → n < 144 → (n ≡ 65 → ⊥) → o ≡ after_layers s (top_of n) (bottom_of n)
+    → o ≡ sq1_moves.after s n
+unfolding sq1_after turn_at
+after-number s n o valid lt apart made =
+    let letter : IsTrue (is_layer_turn (Layers (top_of n) (bottom_of n))) =
+    subst (λ t. IsTrue (is_layer_turn t)) (layers_number n apart) (has_turn_at LayersAndTwist n tt lt) in
+    made
+    ∙ sym (cond-true (length s.units == 24) (sq1_after s (layer_turn_at n)) None (eq-eqb (length s.units) 24 valid.size)
+    ∙ ap (sq1_after s) (layers_number n apart)
+    ∙ cond-true (is_layer_turn (Layers (top_of n) (bottom_of n))) (after_layers s (top_of n) (bottom_of n)) None letter)

@@ -1,0 +1,180 @@
+-- The first stage: words go along with the index of shape and parity, and one of the four turns at its end makes a state normal.
+use Rattle.std.proofs.Common.{◌≡◌, ℕ, zero, suc, ◌+◌, ◌*◌, ◌/◌, ◌%◌, ◌<◌, Bool, false, IsTrue, List, Option, Some, None, refl, sym, ap, ◌∙◌, arith, eq-eqb}
+use Rattle.std.specs.Prelude.{◌↔◌, ◌==◌}
+use Rattle.std.specs.Option.{option_map}
+use Rattle.scr_combinatorics.specs.Permutations.{IsPermutation, parity}
+use Rattle.scr_combinatorics.proofs.PermutationLaws.{IsPermutation-numbers_from, IsPermutation-from_test}
+use Rattle.scr_play.specs.Play.{play}
+use Rattle.scr_coord.specs.Coordinates.{StaysBelow}
+use Rattle.scr_coord.specs.SearchSpaces.{positions, Follows}
+use Rattle.scr_notation.specs.declared.turn.Turn.{Turn}
+use Rattle.scr_notation.proofs.Below.{all_below}
+use Rattle.scr_orbit.proofs.ActionLaws.{map-some}
+use Rattle.scr_sq1.specs.Units.{Sq1State, IsSq1, solved_sq1, sq1_after, turn_places, twist_places, turned, after_layers, twisted}
+use Rattle.scr_sq1.specs.Shapes.{shape_of, shape_number, shape_at, half_words, half_word, half_bits, half_of, halves_in, halves_number, ways, corner_count, corner_counts}
+use Rattle.scr_sq1.specs.Numbers.{corners_of, edges_of, laid, shape_word}
+use Rattle.scr_sq1.specs.Proofs.HalfNumbers.{shapes_one_to_one}
+use Rattle.scr_sq1.specs.Proofs.InHalves.{IsSq1-halves}
+use Rattle.scr_sq1.specs.Proofs.Pieces.{StatePieces-valid, LaidState-pieces}
+use Rattle.scr_sq1.proofs.Lawful.{IsSq1-solved}
+use Rattle.scr_sq1solve.specs.Stages.{IsEnd, IsNormal, oddness, turn_word, shape_letter, squaring_words}
+use Rattle.scr_sq1solve.specs.Tables.{shapes_index, shapes_state, pieces_of_parity, shapes_coordinate}
+use Rattle.scr_sq1solve.proofs.Renamed.{Names, AreNames, renamed}
+use Rattle.scr_sq1solve.proofs.Bases.{in_order, base_of, names_of, AreNames-valid, IsBase-shape, shape_of-named}
+use Rattle.scr_sq1solve.proofs.Bases.{play-base, keeps_sq1, oddness-lt, oddness-renamed}
+use Rattle.scr_sq1solve.specs.Spaces.{shapes_space}
+use Rattle.scr_sq1solve.proofs.Indexed.{IsIndex, Follows-index, StaysBelow-index}
+use Rattle.scr_sq1solve.proofs.OneWord.{are_apart, one_end}
+
+-- ---- the index of states of one shape
+
+index_renamed : (n : Names) (b : Sq1State) → AreNames n → IsSq1 b
+    → shapes_index (renamed n b) ≡ (parity n.corners + parity n.edges + oddness b) % 2 + 2 * shape_number (shape_of b.units)
+unfolding shapes_index
+index_renamed n b h valid = omega (arith, oddness-renamed n b h valid, ap shape_number (shape_of-named n h b.units))
+
+pub record SameIndex (s r : Sq1State) : Type 0 where
+  pub odd : oddness s ≡ oddness r
+  pub shape : shape_of s.units ≡ shape_of r.units
+
+pub SameIndex-index : (s r : Sq1State) → IsSq1 s → IsSq1 r → shapes_index s ≡ shapes_index r → SameIndex s r
+unfolding shapes_index
+SameIndex-index s r vs vr e =
+    let a = oddness-lt s in
+    let b = oddness-lt r in
+    let number : shape_number (shape_of s.units) ≡ shape_number (shape_of r.units) = omega arith in
+    record {
+      odd = omega arith;
+      shape = sym (shapes_one_to_one.state_again (shape_of s.units) (StatePieces-valid s vs).shape) ∙ ap shape_at number
+          ∙ shapes_one_to_one.state_again (shape_of r.units) (StatePieces-valid r vr).shape;
+    }
+
+-- two states with names of one parity
+both_renamed : (n m : Names) (o : Option Sq1State) → AreNames n → AreNames m
+    → (parity n.corners + parity n.edges) % 2 ≡ (parity m.corners + parity m.edges) % 2 → ((b : Sq1State) → o ≡ Some b → IsSq1 b)
+    → option_map shapes_index (option_map (renamed n) o) ≡ option_map shapes_index (option_map (renamed m) o)
+both_renamed n m None hn hm e v = refl
+both_renamed n m (Some b) hn hm e v =
+    let valid = v b refl in
+    ap Some (index_renamed n b hn valid ∙ omega arith ∙ sym (index_renamed m b hm valid))
+
+names_odd : (s : Sq1State) → oddness s ≡ (parity (corners_of s.units) + parity (edges_of s.units)) % 2
+unfolding oddness
+names_odd s = refl
+
+pub shapes_alike : (s r : Sq1State) (w : List Turn) → IsSq1 s → IsSq1 r → shapes_index s ≡ shapes_index r
+    → option_map shapes_index (play sq1_after s w) ≡ option_map shapes_index (play sq1_after r w)
+shapes_alike s r w vs vr e =
+    let same = SameIndex-index s r vs vr e in
+    let base : Sq1State = base_of (shape_of s.units) in
+    let b = IsBase-shape (shape_of s.units) (StatePieces-valid s vs).shape in
+    ap (option_map shapes_index) (play-base s w vs)
+    ∙ both_renamed (names_of s) (names_of r) (play sq1_after base w) (AreNames-valid s vs) (AreNames-valid r vr)
+    (sym (names_odd s) ∙ same.odd ∙ names_odd r) (λ q p. keeps_sq1 base q w b.valid p)
+    ∙ ap (λ hs. option_map shapes_index (option_map (renamed (names_of r)) (play sq1_after (base_of hs) w))) same.shape
+    ∙ ap (option_map shapes_index) (sym (play-base r w vr))
+
+-- ---- the states that stand for the indexes
+
+IsPermutation-parity : (odd : ℕ) → odd < 2 → IsPermutation 8 (pieces_of_parity odd)
+IsPermutation-parity zero lt = IsPermutation-numbers_from 8
+IsPermutation-parity (suc zero) lt = IsPermutation-from_test 8 (pieces_of_parity 1) refl
+IsPermutation-parity (suc (suc odd)) lt = absurd (omega arith)
+
+parity-parity : (odd : ℕ) → odd < 2 → parity (pieces_of_parity odd) ≡ odd
+parity-parity zero lt = refl
+parity-parity (suc zero) lt = refl
+parity-parity (suc (suc odd)) lt = absurd (omega arith)
+
+record IsStateOf (i : ℕ) : Type 0 where
+  pub valid : IsSq1 (shapes_state i)
+  pub index : shapes_index (shapes_state i) ≡ i
+
+IsStateOf-below : (i : ℕ) → i < 7356 → IsStateOf i
+unfolding shapes_state shapes_index oddness
+IsStateOf-below i lt =
+    let hs : List ℕ = shape_at (i / 2) in
+    let es : List ℕ = pieces_of_parity (i % 2) in
+    let low : i / 2 < 3678 = omega arith in
+    let o = IsPermutation-numbers_from 8 in
+    let l = LaidState-pieces hs in_order es (shapes_one_to_one.valid (i / 2) low) o (IsPermutation-parity (i % 2) (omega arith)) in
+    let none : parity in_order ≡ 0 = refl in
+    record {
+      valid = IsSq1-halves (laid (shape_word hs) in_order es) l.halves false;
+      index = omega (
+        arith,
+        ap parity l.corners_again,
+        ap parity l.edges_again,
+        none,
+        parity-parity (i % 2) (omega arith),
+        ap shape_number l.shape_again,
+        shapes_one_to_one.number_again (i / 2) low,
+      );
+    }
+
+-- ---- normal states
+
+pub oddness-solved : oddness solved_sq1 ≡ 0
+unfolding oddness corners_of edges_of
+oddness-solved = refl
+
+pub IsNormal-iff : (s : Sq1State) → IsSq1 s → IsNormal s ↔ (shapes_index s ≡ shapes_index solved_sq1)
+unfolding shapes_index
+IsNormal-iff s valid = (
+  λ n. omega (arith, n.even, oddness-solved, ap shape_number n.shape),
+  λ e. let same = SameIndex-index s solved_sq1 valid IsSq1-solved e in record { shape = same.shape; even = same.odd ∙ oddness-solved },
+)
+
+pub IsIndex-shapes : IsIndex IsSq1 7356 shapes_index shapes_state 144 shape_letter IsNormal squaring_words
+unfolding shapes_index
+IsIndex-shapes = record {
+  valid = λ i lt. (IsStateOf-below i lt).valid;
+  again = λ i lt. (IsStateOf-below i lt).index;
+  below = λ s v. omega (arith, oddness-lt s, shapes_one_to_one.below (shape_of s.units) (StatePieces-valid s v).shape);
+  alike = shapes_alike;
+  kept = λ s r n v lt e. keeps_sq1 s r (shape_letter n) v e;
+  ended = λ s r w v one e. IsNormal-iff r (keeps_sq1 s r w v e);
+}
+
+pub Follows-shapes : Follows shapes_space (positions shapes_coordinate) shapes_index
+Follows-shapes = Follows-index IsIndex-shapes
+
+pub StaysBelow-shapes : StaysBelow shapes_coordinate
+StaysBelow-shapes = StaysBelow-index IsIndex-shapes
+
+-- ---- exactly one turn makes the end normal
+
+-- the state has the shape of the solved one
+abbrev is_square : Option Sq1State → Bool
+is_square None = false
+is_square (Some r) = shape_number (shape_of r.units) == shape_number (shape_of solved_sq1.units)
+
+-- back from a normal state by one of the four turns, and on by another, there is none of this shape
+squaring_apart : IsTrue (are_apart squaring_words is_square solved_sq1)
+unfolding are_apart all_below play turn_word sq1_after after_layers turned turn_places twisted twist_places shape_number halves_number ways corner_count corner_counts shape_of halves_in half_of half_bits half_words half_word
+squaring_apart = refl
+
+base-solved : base_of (shape_of solved_sq1.units) ≡ solved_sq1
+unfolding shape_of halves_in half_of half_bits half_words half_word shape_word
+base-solved = refl
+
+-- a word does to a normal state what it does to the solved one, but for the names of the pieces
+pub play-normal : (s : Sq1State) (w : List Turn) → IsSq1 s → IsNormal s
+    → play sq1_after s w ≡ option_map (renamed (names_of s)) (play sq1_after solved_sq1 w)
+play-normal s w valid normal =
+    let n : Names = names_of s in
+    play-base s w valid ∙ ap (λ hs. option_map (renamed n) (play sq1_after (base_of hs) w)) normal.shape
+    ∙ ap (λ b. option_map (renamed n) (play sq1_after b w)) base-solved
+
+normal_word : (r q : Sq1State) (w : List Turn) → IsSq1 r → IsNormal r → play sq1_after r w ≡ Some q → IsNormal q
+    → IsTrue (is_square (play sq1_after solved_sq1 w))
+normal_word r q w valid nr e nq =
+    let n : Names = names_of r in
+    let made = map-some (renamed n) (play sq1_after solved_sq1 w) q (sym (play-normal r w valid nr) ∙ e) in
+    let shape : shape_of made.0.units ≡ shape_of solved_sq1.units =
+    sym (shape_of-named n (AreNames-valid r valid) made.0.units) ∙ ap (λ x. shape_of x.units) made.2 ∙ nq.shape in
+    ap is_square made.1 ∙ eq-eqb (shape_number (shape_of made.0.units)) (shape_number (shape_of solved_sq1.units)) (ap shape_number shape)
+
+-- The turn that makes the end of the first stage normal is the only one of the four.
+pub one_squaring : (s r q : Sq1State) (v w : List Turn) → IsSq1 s → IsEnd IsNormal squaring_words s v r → IsEnd IsNormal squaring_words s w q → v ≡ w
+one_squaring = one_end IsNormal squaring_words is_square squaring_apart normal_word

@@ -1,0 +1,6 @@
+use Rattle.scr_stages.proofs.StageSpaces.{Follows-flips, Follows-slice, Follows-tetrads}
+use Rattle.scr_stages.proofs.HalfTurned.{Follows-halves}
+use Rattle.scr_stages.proofs.laws.indexes.Goals as goal
+
+pub returns : goal.returns
+returns c = record { flips = Follows-flips; slice = Follows-slice; tetrads = Follows-tetrads; halves = Follows-halves }

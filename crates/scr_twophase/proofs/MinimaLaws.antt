@@ -1,0 +1,100 @@
+-- The test of a minimum is exact.
+use Rattle.std.proofs.Common.{◌≡◌, ℕ, suc, ◌<◌, Bool, true, false, cond, IsTrue, List, [], ◌∷◌, map, length, inl, inr}
+use Rattle.std.proofs.Common.{Option, Some, None, refl, sym, ap, ◌∙◌, arith}
+use Rattle.std.specs.Prelude.{All, ◌↔◌, nat_lt, option_and_then}
+use Rattle.std.proofs.lemmas.Bool.{cases_lt, ltb-false}
+use Rattle.std.proofs.lemmas.List.{length-map}
+use Rattle.std.proofs.lemmas.List.Elements.{All-nil, All-cons}
+use Rattle.scr_play.specs.Play.{play}
+use Rattle.scr_play.specs.Reach.{Needs}
+use Rattle.scr_play.proofs.PlayLaws.{play-empty, play-first, play-parts}
+use Rattle.scr_orbit.proofs.Minima.{count_once}
+use Rattle.scr_notation.specs.declared.turn.Turn.{Turn}
+use Rattle.scr_notation.specs.TurnNumbers.{face_turn_at}
+use Rattle.scr_turning.specs.PowerPuzzles.{after_letter, power_puzzle}
+use Rattle.scr_cube.specs.Cube333.{CubeState, cube_powers}
+use Rattle.scr_cube.proofs.Laws333.{lawful_cube}
+use Rattle.scr_twophase.specs.TwoParts.{after_turn, is_solved}
+use Rattle.scr_table.specs.TriedWords.{needs_test-iff}
+use Rattle.scr_table.specs.Moves.{turned, NeedsTurns}
+use Rattle.scr_table.proofs.MovesLaws.{turned-turn}
+use Rattle.scr_twophase.specs.Minima.{cube_moves, needs_turns}
+use Rattle.scr_twophase.proofs.CubeTests.{IsSolved-test}
+
+-- ---- words of letters and words of numbers
+
+same_rest : (o : Option CubeState) (w : List ℕ)
+    → ((d : CubeState) → play (after_letter cube_powers) d (map face_turn_at w) ≡ play after_turn d w)
+    → option_and_then (λ d. play (after_letter cube_powers) d (map face_turn_at w)) o ≡ option_and_then (λ d. play after_turn d w) o
+same_rest None w h = refl
+same_rest (Some d) w h = h d
+
+pub play-spelled : (c : CubeState) (w : List ℕ) → play (after_letter cube_powers) c (map face_turn_at w) ≡ play after_turn c w
+unfolding play
+play-spelled c [] = refl
+play-spelled c (t ∷ w) = same_rest (after_turn c t) w (λ d. play-spelled d w)
+
+-- a word of turn numbers that leads somewhere
+record IsNumbered (c d : CubeState) (turns : List Turn) (w : List ℕ) : Type 0 where
+  played : play after_turn c w ≡ Some d
+  size : length w ≡ length turns
+  below : All (λ t. t < 18) w
+
+-- each word of letters that leads somewhere is one of numbers
+numbered : (c d : CubeState) (turns : List Turn) → play (after_letter cube_powers) c turns ≡ Some d → (w : List ℕ) × IsNumbered c d turns w
+numbered c d [] e =
+    ([], record { played = play-empty after_turn c ∙ sym (play-empty (after_letter cube_powers) c) ∙ e; size = refl; below = All-nil (λ t. t < 18) })
+numbered c d (letter ∷ turns) e =
+    let parts = play-parts (after_letter cube_powers) c d letter turns e in
+    let number = lawful_cube.numbers c parts.0 letter parts.1 in
+    let others = numbered parts.0 d turns parts.2 in (
+      number.0 ∷ others.0,
+      record {
+        played = play-first after_turn c parts.0 number.0 others.0 (ap (after_letter cube_powers c) number.2 ∙ parts.1) ∙ others.1.played;
+        size = ap suc others.1.size;
+        below = All-cons (λ t. t < 18) number.0 others.0 number.1 others.1.below;
+      },
+    )
+
+-- ---- over the turns by their numbers
+
+turned_by : (c : CubeState) (t : ℕ) (b : Bool) → nat_lt t 18 ≡ b → cond b (after_turn c t) None ≡ after_turn c t
+turned_by c t true e = refl
+turned_by c t false e = sym (lawful_cube.no_more c t (ltb-false t 18 e))
+
+turned-after : (c : CubeState) (t : ℕ) → turned cube_moves c t ≡ after_turn c t
+turned-after c t = turned_by c t (nat_lt t 18) refl
+
+play-turned : (c : CubeState) (w : List ℕ) → play (turned cube_moves) c w ≡ play after_turn c w
+unfolding play
+play-turned c [] = refl
+play-turned c (t ∷ w) =
+    ap (option_and_then (λ d. play (turned cube_moves) d w)) (turned-after c t) ∙ others (after_turn c t) (λ d. play-turned d w)
+  where
+    others : (o : Option CubeState) → ((d : CubeState) → play (turned cube_moves) d w ≡ play after_turn d w)
+        → option_and_then (λ d. play (turned cube_moves) d w) o ≡ option_and_then (λ d. play after_turn d w) o
+    others None h = refl
+    others (Some d) h = h d
+
+pub NeedsTurns-iff : (c : CubeState) (least : ℕ) → NeedsTurns cube_moves c least ↔ Needs (power_puzzle cube_powers) c least
+NeedsTurns-iff c least = (
+  λ h turns end few played solved.
+      let word = numbered c end turns played in
+      let long = h word.0 (record { end = end; played = play-turned c word.0 ∙ word.1.played; goal = (IsSolved-test end).1 solved }) in
+      omega (arith, few, count_once turns, word.1.size, long),
+  λ needs w leads.
+      elim (cases_lt (length w) least) [
+        | inl less ↦
+            absurd (needs (map face_turn_at w) leads.end (omega (arith, less, count_once (map face_turn_at w), length-map w face_turn_at))
+            (play-spelled c w ∙ sym (play-turned c w) ∙ leads.played) ((IsSolved-test leads.end).0 leads.goal))
+        | inr le ↦ le
+      ],
+)
+
+-- ---- the test
+
+pub Needs-tested : (c : CubeState) (least : ℕ) → IsTrue (needs_turns c least) ↔ Needs (power_puzzle cube_powers) c least
+Needs-tested c least =
+    let tried = needs_test-iff 18 (turned cube_moves) is_solved (λ s r t e. (turned-turn cube_moves s r t e).0) c least in
+    let same = NeedsTurns-iff c least in
+    (λ e. same.0 (tried.0 e), λ needs. tried.1 (same.1 needs))

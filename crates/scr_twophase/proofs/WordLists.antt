@@ -1,0 +1,159 @@
+-- The words behind a word: what a search goes through, turn by turn.
+use Rattle.std.proofs.Common.{◌≡◌, ℕ, zero, suc, ◌+◌, ◌<◌, Bool, true, false, cond, List, [], ◌∷◌, ◌++◌, map, length}
+use Rattle.std.proofs.Common.{get_or, Option, Some, refl, sym, ap, ◌∙◌, append_assoc}
+use Rattle.std.specs.Prelude.{All, Contains, filter, find, slice_get}
+use Rattle.std.specs.List.{flat_map}
+use Rattle.std.specs.Option.{option_map}
+use Rattle.std.proofs.lemmas.List.{append-nil, map-append, map-id, get_or_default}
+use Rattle.std.proofs.lemmas.List.Elements.{All-nil, All-cons, All-head, All-tail, All-append, All-map, All-weaker}
+use Rattle.std.proofs.lemmas.List.Elements.{All-contains_itself, filter-append}
+use Rattle.scr_combinatorics.specs.Lists.{numbers_from, pick}
+use Rattle.scr_twophase.specs.Words.{words_of, words_within, words_behind}
+
+-- ---- lists of lists
+
+filter-none : {X : Type 0} (test : X → Bool) (xs : List X) → All (λ x. test x ≡ false) xs → filter test xs ≡ []
+filter-none test [] h = refl
+filter-none test (x ∷ xs) h =
+    ap (λ b. cond b (x ∷ filter test xs) (filter test xs)) (All-head (λ y. test y ≡ false) x xs h)
+    ∙ filter-none test xs (All-tail (λ y. test y ≡ false) x xs h)
+
+filter-flat_map : {X A : Type 0} (test : A → Bool) (f : X → List A) (xs : List X) → filter test (flat_map f xs) ≡ flat_map (λ x. filter test (f x)) xs
+filter-flat_map test f [] = refl
+filter-flat_map test f (x ∷ xs) = filter-append test (f x) (flat_map f xs) ∙ ap (λ ys. filter test (f x) ++ ys) (filter-flat_map test f xs)
+
+map-flat_map : {X A B : Type 0} (g : A → B) (f : X → List A) (xs : List X) → map g (flat_map f xs) ≡ flat_map (λ x. map g (f x)) xs
+map-flat_map g f [] = refl
+map-flat_map g f (x ∷ xs) = map-append g (f x) (flat_map f xs) ∙ ap (λ ys. map g (f x) ++ ys) (map-flat_map g f xs)
+
+flat_map-same : {X A : Type 0} (f g : X → List A) → ((x : X) → f x ≡ g x) → (xs : List X) → flat_map f xs ≡ flat_map g xs
+flat_map-same f g h [] = refl
+flat_map-same f g h (x ∷ xs) = ap (λ ys. ys ++ flat_map f xs) (h x) ∙ ap (λ ys. g x ++ ys) (flat_map-same f g h xs)
+
+pub All-flat_map : {X A : Type 0} (P : A → Type 0) (f : X → List A) (xs : List X) → All (λ x. All P (f x)) xs → All P (flat_map f xs)
+All-flat_map P f [] h = All-nil P
+All-flat_map P f (x ∷ xs) h =
+    All-append P (f x) (flat_map f xs) (All-head (λ y. All P (f y)) x xs h) (All-flat_map P f xs (All-tail (λ y. All P (f y)) x xs h))
+
+kept_by : {X A : Type 0} (f : X → List A) (b : Bool) (x : X) (xs kept : List X) → (b ≡ false → f x ≡ []) → flat_map f xs ≡ flat_map f kept
+    → flat_map f (x ∷ xs) ≡ flat_map f (cond b (x ∷ kept) kept)
+kept_by f true x xs kept h e = ap (λ ys. f x ++ ys) e
+kept_by f false x xs kept h e = ap (λ ys. ys ++ flat_map f xs) (h refl) ∙ e
+
+-- elements that come to nothing can be left out
+pub flat_map-kept : {X A : Type 0} (f : X → List A) (keep : X → Bool) (xs : List X) → All (λ x. keep x ≡ false → f x ≡ []) xs
+    → flat_map f xs ≡ flat_map f (filter keep xs)
+flat_map-kept f keep [] h = refl
+flat_map-kept f keep (x ∷ xs) h =
+    kept_by f (keep x) x xs (filter keep xs) (All-head (λ y. keep y ≡ false → f y ≡ []) x xs h)
+    (flat_map-kept f keep xs (All-tail (λ y. keep y ≡ false → f y ≡ []) x xs h))
+
+found_by : {X : Type 0} (b : Bool) (x : X) (o : Option X) (xs : List X) → o ≡ slice_get xs 0 → cond b (Some x) o ≡ slice_get (cond b (x ∷ xs) xs) 0
+found_by true x o xs e = refl
+found_by false x o xs e = e
+
+-- the first that passes is the first of those that pass
+pub find-filter : {X : Type 0} (test : X → Bool) (xs : List X) → find test xs ≡ slice_get (filter test xs) 0
+find-filter test [] = refl
+find-filter test (x ∷ xs) = found_by (test x) x (find test xs) (filter test xs) (find-filter test xs)
+
+made_by : {X Y : Type 0} (made : X → Y) (b : Bool) (x : X) (o : Option X) (p : Option Y) → option_map made o ≡ p
+    → option_map made (cond b (Some x) o) ≡ cond b (Some (made x)) p
+made_by made true x o p e = refl
+made_by made false x o p e = e
+
+-- what is made of it
+find-made : {X Y : Type 0} (made : X → Y) (test : Y → Bool) (xs : List X) → option_map made (find (λ x. test (made x)) xs) ≡ find test (map made xs)
+find-made made test [] = refl
+find-made made test (x ∷ xs) =
+    made_by made (test (made x)) x (find (λ x. test (made x)) xs) (find test (map made xs)) (find-made made test xs)
+
+-- ---- words of some turns
+
+-- a word of so many of these turns, told by their places
+pub record IsWordOf (turns : List ℕ) (n : ℕ) (word : List ℕ) : Type 0 where
+  pub places : List ℕ
+  pub size : length places ≡ n
+  pub below : All (λ k. k < length turns) places
+  pub is : word ≡ pick turns places
+
+IsWordOf-empty : (turns : List ℕ) → IsWordOf turns 0 []
+IsWordOf-empty turns = record { places = []; size = refl; below = All-nil (λ k. k < length turns); is = refl }
+
+-- one turn more
+IsWordOf-turn : (turns : List ℕ) (n k t : ℕ) (word : List ℕ) → k < length turns → get_or turns k t ≡ t → IsWordOf turns n word → IsWordOf turns (suc n) (t ∷ word)
+IsWordOf-turn turns n k t word lt e h = record {
+  places = k ∷ h.places;
+  size = ap suc h.size;
+  below = All-cons (λ k. k < length turns) k h.places lt h.below;
+  is = ap (λ u. u ∷ word) (sym e ∙ get_or_default turns k t 0 lt) ∙ ap (λ w. get_or turns k 0 ∷ w) h.is;
+}
+
+pub words_of-each : (turns : List ℕ) (n : ℕ) → All (IsWordOf turns n) (words_of turns n)
+unfolding words_of
+words_of-each turns zero = All-cons (IsWordOf turns 0) [] [] (IsWordOf-empty turns) (All-nil (IsWordOf turns 0))
+words_of-each turns (suc n) =
+    All-flat_map (IsWordOf turns (suc n)) (λ t. map (λ w. t ∷ w) (words_of turns n)) turns (λ k d lt.
+    let t : ℕ = get_or turns k d in
+    All-map (IsWordOf turns (suc n)) (λ w. t ∷ w) (words_of turns n)
+    (All-weaker (IsWordOf turns n) (λ w. IsWordOf turns (suc n) (t ∷ w)) (λ w h. IsWordOf-turn turns n k t w lt (get_or_default turns k t d lt) h)
+    (words_of turns n) (words_of-each turns n)))
+
+-- ---- words behind a word
+
+module _ (turns : List ℕ) (test : List ℕ → Bool) where
+  -- no letter more
+  pub words_behind-end : (word : List ℕ) → words_behind turns test word 0 ≡ cond (test word) (word ∷ []) []
+  unfolding words_behind words_of
+  words_behind-end word = ap (λ w. cond (test w) (w ∷ []) []) (append-nil word)
+
+  -- one letter and then the others
+  pub words_behind-turns : (word : List ℕ) (more : ℕ) → words_behind turns test word (suc more) ≡ flat_map (λ t. words_behind turns test (word ++ t ∷ []) more) turns
+  unfolding words_behind words_of
+  words_behind-turns word more =
+      let ws = words_of turns more in
+      ap (filter test) (map-flat_map (λ v. word ++ v) (λ t. map (λ w. t ∷ w) ws) turns)
+      ∙ filter-flat_map test (λ t. map (λ v. word ++ v) (map (λ w. t ∷ w) ws)) turns
+      ∙ flat_map-same (λ t. filter test (map (λ v. word ++ v) (map (λ w. t ∷ w) ws))) (λ t. filter test (map (λ v. (word ++ t ∷ []) ++ v) ws))
+      (λ t. ap (filter test) (shifted t ws)) turns
+    where
+      shifted : (t : ℕ) (ws : List (List ℕ)) → map (λ v. word ++ v) (map (λ w. t ∷ w) ws) ≡ map (λ v. (word ++ t ∷ []) ++ v) ws
+      shifted t [] = refl
+      shifted t (w ∷ ws) = ap (λ v. v ∷ map (λ v. word ++ v) (map (λ w. t ∷ w) ws)) (sym (append_assoc word (t ∷ []) w)) ∙ ap (λ vs. ((word ++ t ∷ []) ++ w) ∷ vs) (shifted t ws)
+
+  -- none where none passes
+  pub words_behind-none : (word : List ℕ) (more : ℕ) → ((v : List ℕ) → Contains (words_of turns more) v → test (word ++ v) ≡ false) → words_behind turns test word more ≡ []
+  unfolding words_behind
+  words_behind-none word more h =
+      filter-none test (map (λ v. word ++ v) (words_of turns more))
+      (All-map (λ w. test w ≡ false) (λ v. word ++ v) (words_of turns more)
+      (All-weaker (Contains (words_of turns more)) (λ v. test (word ++ v) ≡ false) h (words_of turns more) (All-contains_itself (words_of turns more))))
+
+  -- Turns behind which no word passes can be left out.
+  pub words_behind-kept : (word : List ℕ) (more : ℕ) (keep : ℕ → Bool)
+      → All (λ t. keep t ≡ false → (v : List ℕ) → Contains (words_of turns more) v → test (word ++ t ∷ v) ≡ false) turns
+      → words_behind turns test word (suc more) ≡ flat_map (λ t. words_behind turns test (word ++ t ∷ []) more) (filter keep turns)
+  words_behind-kept word more keep h =
+      words_behind-turns word more
+      ∙ flat_map-kept (λ t. words_behind turns test (word ++ t ∷ []) more) keep turns (λ k d lt e.
+      words_behind-none (word ++ get_or turns k d ∷ []) more (λ v is. ap test (append_assoc word (get_or turns k d ∷ []) v) ∙ h k d lt e v is))
+
+  -- all words of at most so many letters, by their lengths
+  pub words_behind-within : (word : List ℕ) (most : ℕ)
+      → filter test (map (λ v. word ++ v) (words_within turns most)) ≡ flat_map (words_behind turns test word) (numbers_from 0 (most + 1))
+  unfolding words_within words_behind
+  words_behind-within word most =
+      ap (filter test) (map-flat_map (λ v. word ++ v) (words_of turns) (numbers_from 0 (most + 1)))
+      ∙ filter-flat_map test (λ n. map (λ v. word ++ v) (words_of turns n)) (numbers_from 0 (most + 1))
+
+  pub words_behind-empty : (most : ℕ) → filter test (words_within turns most) ≡ flat_map (words_behind turns test []) (numbers_from 0 (most + 1))
+  words_behind-empty most = ap (filter test) (sym (map-id (words_within turns most))) ∙ words_behind-within [] most
+
+  -- the first of them, behind a word
+  pub words_behind-found : (word : List ℕ) (most : ℕ)
+      → option_map (λ v. word ++ v) (find (λ v. test (word ++ v)) (words_within turns most))
+      ≡ slice_get (flat_map (words_behind turns test word) (numbers_from 0 (most + 1))) 0
+  words_behind-found word most =
+      find-made (λ v. word ++ v) test (words_within turns most)
+      ∙ find-filter test (map (λ v. word ++ v) (words_within turns most))
+      ∙ ap (λ ws. slice_get ws 0) (words_behind-within word most)
