@@ -31,8 +31,8 @@ pub fn one_sheet()
 }
 
 /// Which runs must end with all that they are to write: those whose words are a command, and whose source tells its bytes,
-/// which name rounds where they are read, where neither input nor output fails and each slot has a scramble. Where one has none, the status is `DrawLimit` and never `Done`.
-/// Want of memory, and a gap in a table, are always free.
+/// which name rounds where they are read, where neither input nor output fails and each slot has a scramble. Where one has
+/// none, the status is `DrawLimit` and never `Done`. Want of memory, and a gap in a table, are always free.
 pub fn completeness()
     ensures done { (words : List (List ℕ)) (outcome : Status) (source out err : Change) (settings : Settings) (parts : List Part)
         → IsUnhindered words outcome source out err settings parts → ¬ (LacksScramble settings parts) → EndsWith outcome Done }

@@ -138,7 +138,7 @@ pub(crate) fn write_one<O: Sink>(
 /// The same, where the event's tables are built.
 fn write_one_line<O: Sink>(making: &Making<'_>, event: Event, out: &mut O) -> Result<(), Fault>
     requires tables { Has making.now.tables.now event }
-    requires attempts { making.now.settings.attempts ≡ 1000 }
+    requires attempts { making.now.settings.attempts ≤ 1000000 }
     ensures ends { EndsParts making.now.settings 0 (one_part event ∷ [])
         (change_of O.held O.faults out.old out.new) result }
     ensures memory { result ≢ Err NoMemory }
