@@ -1,0 +1,50 @@
+use Rattle.std.proofs.Common.{◌+◌, ℕ, List, length, slice_index_or, map, drop, Some, refl, sym, ◌∙◌, ap, subst, arith}
+use Rattle.std.proofs.lemmas.List.Elements.{All-drop}
+use Rattle.scr_workers.specs.declared.lane.Lane.{Lane}
+use Rattle.scr_workers.specs.Boards.{weight_in}
+use Rattle.scr_workers.specs.Gather.{IsSpent, HoldAnswers, times, once_below}
+use Rattle.scr_workers.proofs.Ends.{sum_by-agree, list_times, hold, all_spent, set-front, some_there}
+use Rattle.scr_workers.proofs.claims.run_lanes.Goals as goal
+
+pub look-requires-clause-whole : goal.look-requires-clause-whole
+look-requires-clause-whole g c =
+    c.join_seats-seat.ensures.weight
+    ∙ (sum_by-agree (λ (l : Lane g.row.J-Out.Denot). weight_in l.seat) c.args.lanes.now c.run_workers.new.lanes c.run_workers.auto.lanes c.run_workers.ensures.weights ∙ c.requires.weights)
+
+pub gather-requires-clause-lanes : goal.gather-requires-clause-lanes
+gather-requires-clause-lanes g c κs within =
+    let A : Type 0 = Lane g.row.J-Out.Denot in
+    let weights = c.requires.weights in
+    let some = some_there (λ (l : A). weight_in l.seat) c.args.lanes.now (omega arith) in
+    let same = c.run_workers.auto.lanes in
+    subst (HoldAnswers (length c.args.out.now) (g.J.Jobs.is_answer c.args.jobs.now)) (sym c.join_seats-seat.ensures.lanes)
+    (hold c.args.table.now.table.shared.table_id (length c.args.out.now) (g.J.Jobs.is_answer c.args.jobs.now) c.run_workers.new.lanes c.run_workers.ensures.run
+    c.join_seats-seat.result.me.0.list c.look.ensures.all.0 c.join_seats-seat.ensures.list c.look.ensures.all.1 (omega arith))
+
+pub returns-clause-lanes : goal.returns-clause-lanes
+returns-clause-lanes g c =
+    let A : Type 0 = Lane g.row.J-Out.Denot in
+    let weights = c.requires.weights in
+    let some = some_there (λ (l : A). weight_in l.seat) c.args.lanes.now (omega arith) in
+    let ran = c.run_workers.auto.lanes in
+    let joined = c.join_seats-seat.auto.lanes in
+    let gathered = c.gather.auto.lanes in
+    let table = c.args.table.now.table.shared.table_id in
+    let slots : ℕ = length c.args.out.now in
+    let Is : ℕ → g.row.J-Out.Denot → Type 0 = g.J.Jobs.is_answer c.args.jobs.now in
+    let lanes : List A = c.gather.new.lanes in
+    let first : A = record { seat = Some c.look.new.seat; own = (slice_index_or lanes 0 c.index-lanes-0.result).own } in
+    let list : List ℕ = c.join_seats-seat.result.me.0.list in record {
+      first = first;
+      others = drop 1 lanes;
+      seat = c.look.new.seat;
+      lanes_are = set-front lanes first (omega arith);
+      seat_is = refl;
+      of_word = c.look.ensures.same.0 ∙ c.join_seats-seat.ensures.table.0;
+      no_answer = c.gather.ensures.own 0 c.index-lanes-0.result (omega arith);
+      spent = All-drop IsSpent 1 lanes (all_spent table slots Is lanes c.run_workers.new.lanes
+          (c.gather.ensures.seats ∙ ap (map (λ (l : A). l.seat)) c.join_seats-seat.ensures.lanes) c.gather.ensures.own);
+      once = λ x. ap (λ m. times x m.0.list) c.look.ensures.same.1
+          ∙ (list_times table slots Is c.run_workers.new.lanes c.run_workers.ensures.run list c.look.ensures.all.0 c.join_seats-seat.ensures.list c.look.ensures.all.1 (omega arith) x
+          ∙ ap (λ n. once_below x (slots + n)) ran);
+    }

@@ -1,0 +1,6 @@
+pub mod Answered
+pub mod Boards
+pub mod Gather
+pub mod Rule
+pub mod Schedules
+pub mod Work

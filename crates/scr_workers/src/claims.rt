@@ -1,0 +1,152 @@
+//! Slots claimed one by one from a shared word.
+
+ghost use Rattle.std.specs.Prelude.{◌≡◌, ℕ, ◌+◌, ◌++◌, ◌^◌, ◌<◌, [], length, slice_index_or, All, map, sum_by};
+ghost use Rattle.scr_workers.specs.Answered.{AreAnswered};
+ghost use Rattle.scr_workers.specs.Boards.{IsFresh, IsFreshLane, lane_count, weight_in};
+ghost use Rattle.scr_workers.specs.Gather.{HasRun, AreDone, IsDone, IsSeated, without_seat, list_in};
+ghost use Rattle.scr_workers.specs.Rule.{weigh, weigh_below};
+
+use crate::board::Board;
+use crate::gate::Gate;
+use crate::jobs::Jobs;
+use crate::lane::Lane;
+use crate::laws;
+use crate::rule::{Both, ClaimSeat, Look};
+use crate::table::ClaimTable;
+use std::thread::{Threads, for_each_mut};
+
+/// Answers each slot, in as many workers as the board has lanes. A worker claims its slots one by one, each by one
+/// fetch-and-add of 1 on the board's word. Afterwards each place of `out` has an answer of the slot with its number.
+///
+/// The board is as `Board::new` makes it for as many slots as `out` has places, fewer than 2^32. It comes back with as
+/// many lanes and empty own lists: the first lane has a seat, whose list has each number below the slots and the
+/// workers together exactly once, and the others have none. With one lane no thread is started, and where none can be
+/// made the workers run one after another, with the same result.
+pub fn run_claims<R: Threads + Sync, J: Jobs + Sync, G: Gate + Sync>(
+    rt: &R,
+    board: Board<J::Out>,
+    jobs: &J,
+    out: &mut [Option<J::Out>],
+    gate: &G,
+) -> Board<J::Out>
+    requires slots { length out.old ≡ J.slots jobs.now }
+    requires few { length out.old < 2 ^ 32 }
+    requires board { IsFresh (lane_count board) (length out.old) board }
+    ensures out { AreAnswered (J.is_answer jobs.now) out.new }
+    ensures board { IsDone (length out.old) board result }
+{
+    let Board { table, mut lanes } = board;
+    run_lanes(rt, &table, lanes.as_mut_slice(), jobs, out, gate);
+    Board { table, lanes }
+}
+
+/// Runs the lanes' workers, joins their seats to the first one's, and gathers their answers.
+fn run_lanes<R: Threads + Sync, J: Jobs + Sync, G: Gate + Sync>(
+    rt: &R,
+    table: &ClaimTable,
+    lanes: &mut [Lane<J::Out>],
+    jobs: &J,
+    out: &mut [Option<J::Out>],
+    gate: &G,
+)
+    requires slots { length out.old ≡ J.slots jobs.now }
+    requires few { length out.old < 2 ^ 32 }
+    requires fresh { All (IsFreshLane table.now.table.shared.table_id (length out.old)) lanes.old }
+    requires weights { sum_by (λ lane. weight_in lane.seat) lanes.old ≡ 64 }
+    ensures out { AreAnswered (J.is_answer jobs.now) out.new }
+    ensures lanes { AreDone table.now.table.shared.table_id (length out.old) (length lanes.old) lanes.new }
+{
+    let slots = out.len() as u32;
+    run_workers(rt, table, lanes, jobs, slots, gate);
+    let mut seat = join_seats(table, lanes);
+    look(table, &mut seat);
+    laws::gather(jobs, lanes, out);
+    lanes[0].seat = Some(seat);
+}
+
+/// Runs a worker in each lane.
+fn run_workers<R: Threads + Sync, J: Jobs + Sync, G: Gate + Sync>(
+    rt: &R,
+    table: &ClaimTable,
+    lanes: &mut [Lane<J::Out>],
+    jobs: &J,
+    slots: u32,
+    gate: &G,
+)
+    requires some { 0 < length lanes.old }
+    requires slots { slots ≡ J.slots jobs.now }
+    requires fresh { All (IsFreshLane table.now.table.shared.table_id slots) lanes.old }
+    ensures run { All (HasRun table.now.table.shared.table_id slots (J.is_answer jobs.now)) lanes.new }
+    ensures weights { (i : ℕ) (d : _) → i < length lanes.old
+        → weight_in (slice_index_or lanes.new i d).seat ≡ weight_in (slice_index_or lanes.old i d).seat }
+{
+    let workers = lanes.len();
+    for_each_mut(
+        rt,
+        lanes,
+        workers,
+        &|_, lane: &mut Lane<J::Out>|
+            requires { (slots ≡ J.slots jobs.now) × IsFreshLane table.now.table.shared.table_id slots lane.old }
+        { run_worker(table, lane, jobs, slots, gate) },
+    );
+}
+
+/// Runs one worker: it takes its seat from its lane, works, and puts it back.
+fn run_worker<J: Jobs + Sync, G: Gate + Sync>(
+    table: &ClaimTable,
+    lane: &mut Lane<J::Out>,
+    jobs: &J,
+    slots: u32,
+    gate: &G,
+)
+    requires slots { slots ≡ J.slots jobs.now }
+    requires fresh { IsFreshLane table.now.table.shared.table_id slots lane.old }
+    ensures run { HasRun table.now.table.shared.table_id slots (J.is_answer jobs.now) lane.new }
+    ensures weight { weight_in lane.new.seat ≡ weight_in lane.old.seat }
+{
+    if let Some(seat) = lane.seat.take() {
+        lane.seat = Some(laws::work(table, seat, jobs, &mut lane.own, slots, gate));
+    }
+}
+
+/// Joins all seats into one, which then has the whole weight.
+fn join_seats<T: Send + Drop>(table: &ClaimTable, lanes: &mut [Lane<T>]) -> ClaimSeat
+    requires some { 0 < length lanes.old }
+    requires seated { All (IsSeated table.now.table.shared.table_id) lanes.old }
+    ensures table { (result.table_id ≡ table.now.table.shared.table_id) × (result.me.1 ≡ []) }
+    ensures weight { result.me.0.weight ≡ sum_by (λ lane. weight_in lane.seat) lanes.old }
+    ensures list { (h : ℕ → ℕ) → weigh h result.me.0.list ≡ sum_by (λ lane. weigh h (list_in lane.seat)) lanes.old }
+    ensures lanes { lanes.new ≡ map without_seat lanes.old }
+{
+    let Some(mut seat) = lanes[0].seat.take() else {
+        unreachable!()
+    };
+    for k in 1..lanes.len() {
+        join_seat_of(table, &mut seat, &mut lanes[k]);
+    }
+    seat
+}
+
+/// Joins the seat of a lane to another.
+fn join_seat_of<T: Send + Drop>(table: &ClaimTable, seat: &mut ClaimSeat, lane: &mut Lane<T>)
+    requires table { seat.old.table_id ≡ table.now.table.shared.table_id }
+    requires seated { IsSeated table.now.table.shared.table_id lane.old }
+    ensures table { (seat.new.table_id ≡ seat.old.table_id) × (seat.new.me.1 ≡ seat.old.me.1) }
+    ensures weight { seat.new.me.0.weight ≡ seat.old.me.0.weight + weight_in lane.old.seat }
+    ensures list { seat.new.me.0.list ≡ seat.old.me.0.list ++ list_in lane.old.seat }
+    ensures lane { lane.new ≡ without_seat lane.old }
+{
+    if let Some(other) = lane.seat.take() {
+        table.table.shared.join_seat::<Both>(seat, other);
+    }
+}
+
+/// Loads the word: the seat that has the whole weight has each number below it exactly once.
+fn look(table: &ClaimTable, seat: &mut ClaimSeat)
+    requires table { seat.old.table_id ≡ table.now.table.shared.table_id }
+    requires whole { seat.old.me.0.weight ≡ 64 }
+    ensures same { (seat.new.table_id ≡ seat.old.table_id) × (seat.new.me ≡ seat.old.me) }
+    ensures all { (word : ℕ) × ((h : ℕ → ℕ) → weigh h seat.old.me.0.list ≡ weigh_below h word) }
+{
+    table.table.shared.load::<Look>(seat, 0);
+}

@@ -1,0 +1,77 @@
+//! What stands between the steps on the claim word: what a worker does, how answers are gathered, and what claims are.
+
+ghost use Rattle.std.specs.Prelude.{◌≡◌, ◌≤◌, ◌<◌, ℕ, [], vec_capacity, length, All, map};
+ghost use Rattle.scr_workers.specs.Answered.{AreAnswered, HasAnswer};
+ghost use Rattle.scr_workers.specs.Boards.{IsFreshSeat, own_of, seat_of, word_id};
+ghost use Rattle.scr_workers.specs.Gather.{HoldAnswers, HasSlotAnswer, times};
+ghost use Rattle.scr_workers.specs.Schedules.{EachIsClaimedOnce};
+ghost use Rattle.scr_workers.specs.Work.{HasWorked, IsSameSeat, slot_of};
+
+use crate::gate::Gate;
+use crate::jobs::Jobs;
+use crate::lane::Lane;
+use crate::rule::{Claim, ClaimSeat};
+use crate::table::ClaimTable;
+
+/// What one worker does: it claims slots one by one and answers them, until the number that it claimed is no slot.
+/// Each slot passes the gate before its job.
+///
+/// The seat is of this word and claimed nothing so far, and `own` is empty and has room for all slots.
+pub fn work<J: Jobs + Sync, G: Gate + Sync>(
+    table: &ClaimTable,
+    mut seat: ClaimSeat,
+    jobs: &J,
+    own: &mut Vec<(u32, J::Out)>,
+    slots: u32,
+    gate: &G,
+) -> ClaimSeat
+    requires seat { IsFreshSeat (word_id table.now) seat }
+    requires own { own.old.items ≡ [] }
+    requires room { slots ≤ vec_capacity own.old }
+    requires slots { slots ≡ J.slots jobs.now }
+    ensures seat { IsSameSeat seat result }
+    ensures claims { HasWorked slots (J.is_answer jobs.now) result own.new.items }
+{
+    loop {
+        let number = table.table.shared.fetch_add::<Claim>(&mut seat, 0, 1);
+        if number >= u64::from(slots) {
+            return seat;
+        }
+        let slot = number as u32;
+        gate.pass(slot);
+        own.push_reserved((slot, jobs.job(slot)));
+    }
+}
+
+/// Moves the answers of all own lists to their places. The own lists hold together each slot exactly once and no other
+/// number, each with an answer of it; afterwards they are empty, and the seats are as they were.
+pub fn gather<J: Jobs>(jobs: &J, lanes: &mut [Lane<J::Out>], out: &mut [Option<J::Out>])
+    requires slots { length out.old ≡ J.slots jobs.now }
+    requires lanes { HoldAnswers (length out.old) (J.is_answer jobs.now) lanes.old }
+    ensures out { AreAnswered (J.is_answer jobs.now) out.new }
+    ensures seats { map seat_of lanes.new ≡ map seat_of lanes.old }
+    ensures own { All (λ lane. own_of lane ≡ []) lanes.new }
+{
+    for k in 0..lanes.len() {
+        place_answers(jobs, &mut lanes[k], out);
+    }
+}
+
+/// Moves the answers of one lane to their places; places that have an answer keep one.
+fn place_answers<J: Jobs>(jobs: &J, lane: &mut Lane<J::Out>, out: &mut [Option<J::Out>])
+    requires { All (HasSlotAnswer (length out.old) (J.is_answer jobs.now)) lane.old.own.items }
+    ensures seat { lane.new.seat ≡ lane.old.seat }
+    ensures own { lane.new.own.items ≡ [] }
+    ensures kept { (k : ℕ) → HasAnswer (J.is_answer jobs.now) out.old k → HasAnswer (J.is_answer jobs.now) out.new k }
+    ensures placed { (k : ℕ) → 0 < times k (map slot_of lane.old.own.items)
+        → HasAnswer (J.is_answer jobs.now) out.new k }
+{
+    while let Some((slot, answer)) = lane.own.pop() {
+        out[slot as usize] = Some(answer);
+    }
+}
+
+/// Each slot of a complete schedule is claimed exactly once.
+pub fn schedule()
+    ensures { EachIsClaimedOnce }
+{}
