@@ -6,11 +6,13 @@ use scr_outside::{MemSink, MemSource};
 use scr_sheet::*;
 use std::process::Abort;
 use std::test::Fail;
+use std::thread::Threads;
 
 mod commands;
 mod expected;
 mod loads;
 mod sheets;
+mod workers;
 
 pub(crate) const ZEROS: &str = "0000000000000000000000000000000000000000000000000000000000000000";
 
@@ -28,8 +30,8 @@ pub(crate) struct Ran {
 }
 
 /// Runs on these words and this list, in pieces of so many bytes, where these calls fail.
-pub(crate) fn run_with(
-    rt: &impl AllocGlobal,
+pub(crate) fn run_with<R: AllocGlobal + Threads + Sync>(
+    rt: &R,
     words: &[&str],
     list: &[u8],
     most: usize,
@@ -42,7 +44,15 @@ pub(crate) fn run_with(
     let mut source = MemSource::new(list, most, source_fails.to_vec(rt.alloc())?);
     let mut out = MemSink::new(rt.alloc(), 200_000, most, out_fails.to_vec(rt.alloc())?)?;
     let mut err = MemSink::new(rt.alloc(), 256, most, err_fails.to_vec(rt.alloc())?)?;
-    let status = run(rt.alloc(), words, &mut source, &mut out, &mut err);
+    let status = run(
+        rt,
+        rt.alloc(),
+        words,
+        &mut source,
+        &mut out,
+        &mut err,
+        &OpenGate,
+    );
     Ok(Ran {
         code: status.code(),
         out,
@@ -51,8 +61,8 @@ pub(crate) fn run_with(
 }
 
 /// Runs on these words and this list, and compares what the run gave.
-pub(crate) fn check(
-    rt: &(impl Abort + AllocGlobal),
+pub(crate) fn check<R: Abort + AllocGlobal + Threads + Sync>(
+    rt: &R,
     words: &[&str],
     list: &[u8],
     code: u8,

@@ -1,7 +1,8 @@
 -- Parts made and written one after another.
+use Rattle.std.proofs.Math.Seq.{take-append_seam}
 use Rattle.std.proofs.lemmas.List.{length-map}
-use Rattle.std.proofs.Common.{◌≡◌, ℕ, ◌+◌, ◌<◌, List, [], ◌∷◌, ◌++◌, length, map, drop, get_or, Err, refl, sym, ap, subst, ◌∙◌, append_assoc, append-nil, length-append, drop-cons, add-one, arith}
-use Rattle.std.specs.Prelude.{Option, Some, None, codes}
+use Rattle.std.proofs.Common.{◌≡◌, ℕ, suc, ◌+◌, ◌<◌, List, [], ◌∷◌, ◌++◌, length, map, take, drop, get_or, Err, refl, sym, ap, subst, ◌∙◌, append_assoc, append-nil, length-append, drop-cons, add-one, arith}
+use Rattle.std.specs.Prelude.{Option, Some, None, IsSomeAnd, slice_index_or, codes}
 use Rattle.scr_notation.specs.Written.{Written}
 use Rattle.scr_notation.specs.Spelling.{text_of}
 use Rattle.scr_outside.specs.Change.{Change, Gains, Falters}
@@ -15,21 +16,12 @@ use Rattle.scr_sheet.specs.declared.fault.Fault.{Fault}
 use Rattle.scr_sheet.specs.declared.fault.Fault.TheVariants as fault
 use Rattle.scr_round.specs.Round.{round_text}
 use Rattle.scr_round.specs.Made.{Made, turns_of_each}
-use Rattle.scr_sheet.specs.Making.{AreAnswers, IsFirstNone, IsRoundMade}
+use Rattle.scr_workers.specs.Answered.{AreAnswered}
+use Rattle.scr_sheet.specs.Making.{answer_at, AreAnswers, IsFirstNone, IsRoundMade}
 use Rattle.scr_sheet.specs.Sheet.{IsLimit, IsFirstWithout, Part, round_part, round_parts, one_part, EachSlot, ArePartScrambles, IsPartText, IsText}
 use Rattle.scr_sheet.specs.Outcome.{IsUnwritten, IsLed, IsDone, IsStopped, IsBroken, IsCutShort, EndsParts}
 
 -- ---- slots one after another
-
--- one more behind others
-pub EachSlot-push : {X : Type 0} (Is : ℕ → X → Type 0) (stream : ℕ) (xs : List X) (x : X) → EachSlot Is stream xs
-    → Is (stream + length xs) x → EachSlot Is stream (xs ++ x ∷ [])
-EachSlot-push Is stream [] x each next =
-    let here : stream + 0 ≡ stream = omega arith in
-    (subst (λ s. Is s x) here next, tt)
-EachSlot-push Is stream (first ∷ others) x each next =
-    let place : stream + length (first ∷ others) ≡ stream + 1 + length others = omega arith in
-    (each.0, EachSlot-push Is (stream + 1) others x each.1 (subst (λ s. Is s x) place next))
 
 -- the first ones of some, and the one behind them
 pub EachSlot-before : {X : Type 0} (Is : ℕ → X → Type 0) (stream : ℕ) (xs ys : List X) → EachSlot Is stream (xs ++ ys) → EachSlot Is stream xs
@@ -50,6 +42,34 @@ EachSlot-map Is So f so stream [] each = tt
 EachSlot-map Is So f so stream (x ∷ xs) each = (so stream x each.0, EachSlot-map Is So f so (stream + 1) xs each.1)
 
 -- ---- answers and scrambles
+
+-- answers that stand at their places
+EachSlot-answered : (Is : ℕ → Option Written → Type 0) (stream : ℕ) (answers : List (Option (Option Written)))
+    → AreAnswered (λ slot. Is (stream + slot)) answers → EachSlot Is stream (map answer_at answers)
+EachSlot-answered Is stream [] each = tt
+EachSlot-answered Is stream (None ∷ answers) each = absurd (each 0 (omega arith))
+EachSlot-answered Is stream (Some answer ∷ answers) each =
+    let here : stream + 0 ≡ stream = omega arith in
+    let place : (slot : ℕ) → stream + suc slot ≡ stream + 1 + slot = λ slot. omega arith in (
+      subst (λ s. Is s answer) here (each 0 (omega arith)),
+      EachSlot-answered Is (stream + 1) answers (λ slot within.
+          subst (λ s. IsSomeAnd (slice_index_or answers slot None) (Is s)) (place slot) (each (suc slot) (omega arith))),
+    )
+
+-- so they are the answers of a part, where they are the first ones of a list that is kept beyond its end
+pub AreAnswers-placed : (settings : Settings) (part : Part) (n : ℕ) (answers behind : List (Option (Option Written)))
+    → length answers ≡ n → n ≡ part.slots
+    → AreAnswered (λ slot. IsSlotAnswer (scrambling_of part.event) settings part.least (part.first_stream + slot)) answers
+    → AreAnswers settings part (map answer_at (take n (answers ++ behind)))
+AreAnswers-placed settings part n answers behind as_many slots each =
+    let Is : ℕ → Option Written → Type 0 = IsSlotAnswer (scrambling_of part.event) settings part.least in
+    let here : take (length answers) (answers ++ behind) ≡ answers = take-append_seam answers behind in
+    let all : take n (answers ++ behind) ≡ answers = subst (λ k. take k (answers ++ behind) ≡ answers) as_many here in
+    let P : List (Option (Option Written)) → Type 0 = λ list. AreAnswers settings part (map answer_at list) in
+    subst P (sym all) (record {
+      each_slot = length-map answers answer_at ∙ (as_many ∙ slots);
+      each = EachSlot-answered Is part.first_stream answers each;
+    })
 
 -- answers that all are scrambles
 pub scrambles_of_answers : (scrambling : Scrambling) (settings : Settings) (least stream : ℕ) (scrambles : List Written)

@@ -10,6 +10,17 @@ use Rattle.scr_sheet.specs.declared.making.RoundFault.{RoundFault}
 use Rattle.scr_sheet.specs.declared.making.RoundFault.TheVariants.{NoMemory, Limit}
 use Rattle.scr_sheet.specs.Sheet.{Part, EachSlot, round_part, ArePartScrambles, IsLimit}
 
+-- the slots of round k of a list, counted from 0, and what they are made with
+pub record RoundSlots : Type 0 where
+  pub settings : Settings
+  pub index : ℕ
+  pub round : Round
+
+-- what stands at a place for an answer: where nothing does, there is no scramble
+abbrev pub answer_at : Option (Option Written) → Option Written
+answer_at None = None
+answer_at (Some answer) = answer
+
 -- the answers of a part, one for each slot in order
 pub record AreAnswers (settings : Settings) (part : Part) (answers : List (Option Written)) : Type 0 where
   pub each_slot : length answers ≡ part.slots

@@ -3,27 +3,38 @@
 use crate::program::run;
 use crate::status::Status;
 use scr_outside::{StdSink, StdSource};
+use scr_workers::OpenGate;
 use std::process::ExitCode;
+use std::thread::Threads;
 use std::{env, io};
 
 /// Runs on the words of the command line without the program's name, the standard input, output and error output, and gives
-/// the code of the status that the run answers; 1 where the system gives no words.
-pub fn run_on_host(rt: &HostRuntime) -> ExitCode {
-    match run_on_words(rt) {
+/// the code of the status that the run answers; 1 where the system gives no words. `rt` and `host` are the same runtime:
+/// the one starts threads, the other has the words and the streams.
+pub fn run_on_host<R: Threads + Sync>(rt: &R, host: &HostRuntime) -> ExitCode {
+    match run_on_words(rt, host) {
         Ok(status) => ExitCode::from(status.code()),
         Err(_) => ExitCode::FAILURE,
     }
 }
 
 /// The same, or why there are no words.
-fn run_on_words(rt: &HostRuntime) -> io::Result<Status> {
-    let owned: Vec<String> = env::args(rt)?.skip(1).collect(rt.alloc())?;
-    let mut words = Vec::new(rt.alloc());
+fn run_on_words<R: Threads + Sync>(rt: &R, host: &HostRuntime) -> io::Result<Status> {
+    let owned: Vec<String> = env::args(host)?.skip(1).collect(host.alloc())?;
+    let mut words = Vec::new(host.alloc());
     for word in &owned {
         words.push(word.as_str())?;
     }
-    let mut source = StdSource::new(rt.stdin());
-    let mut out = StdSink::new(rt.stdout());
-    let mut err = StdSink::new(rt.stderr());
-    Ok(run(rt.alloc(), &words, &mut source, &mut out, &mut err))
+    let mut source = StdSource::new(host.stdin());
+    let mut out = StdSink::new(host.stdout());
+    let mut err = StdSink::new(host.stderr());
+    Ok(run(
+        rt,
+        host.alloc(),
+        &words,
+        &mut source,
+        &mut out,
+        &mut err,
+        &OpenGate,
+    ))
 }

@@ -15,6 +15,7 @@ mod load;
 mod making;
 mod parts;
 mod program;
+mod slot_jobs;
 mod status;
 mod text_sink;
 
@@ -27,4 +28,5 @@ pub use scr_list::{ListCause, ListFault, Round, read_rounds};
 pub use scr_notation::Event;
 pub use scr_round::{RoundResult, write_round};
 pub use scr_slots::Tables;
+pub use scr_workers::{Gate, OpenGate};
 pub use status::Status;

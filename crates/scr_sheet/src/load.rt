@@ -28,7 +28,9 @@ use scr_round::{slots, write_round};
 use scr_slots::{Tables, laws};
 use scr_text::decimal;
 use scr_words::Seed;
+use scr_workers::Gate;
 use std::alloc::Global;
+use std::thread::Threads;
 
 /// The most rounds of a list that follows from a number.
 const MOST_ROUNDS: usize = 16;
@@ -44,12 +46,18 @@ pub(crate) struct Size {
 }
 
 /// Makes the sheet of the list of a number, and writes what it amounts to.
-pub(crate) fn write_load<O: Sink>(alloc: Global, number: u32, out: &mut O) -> Result<(), Fault>
+pub(crate) fn write_load<R: Threads + Sync, O: Sink, G: Gate + Sync>(
+    rt: &R,
+    alloc: Global,
+    number: u32,
+    out: &mut O,
+    gate: &G,
+) -> Result<(), Fault>
     requires { number ≤ 9999 }
     ensures { EndsLoad number (change_of O.held O.faults out.old out.new) result }
 {
     let rounds = load_rounds(number);
-    let size = sheet_size(alloc, &load_seed(number), &rounds)?;
+    let size = sheet_size(rt, alloc, &load_seed(number), &rounds, gate)?;
     write_size(out, &rounds, size)?;
     Ok(())
 }
@@ -95,21 +103,28 @@ fn load_round(number: u32, k: u32) -> Round
 }
 
 /// What the sheet of these rounds amounts to, with the usual options.
-fn sheet_size(alloc: Global, seed: &Seed, rounds: &[Round]) -> Result<Size, Fault>
+fn sheet_size<R: Threads + Sync, G: Gate + Sync>(
+    rt: &R,
+    alloc: Global,
+    seed: &Seed,
+    rounds: &[Round],
+    gate: &G,
+) -> Result<Size, Fault>
     requires rounds { IsRounds rounds.now }
     requires few { length rounds.now ≤ 16 }
     ensures { SizesMaking (settings_of seed.now usual_options) (round_parts 0 rounds.now) result }
 {
     let tables = Tables::build(alloc, rounds)?;
     laws::each_drawn_fairly(&tables);
-    rounds_size(
-        &Making::new(alloc, &tables, seed, &Options::default()),
-        rounds,
-    )
+    let making = Making::new(rt, alloc, &tables, seed, &Options::default(), gate);
+    rounds_size(&making, rounds)
 }
 
 /// The same, where the tables of the rounds' events are built.
-fn rounds_size(making: &Making<'_>, rounds: &[Round]) -> Result<Size, Fault>
+fn rounds_size<R: Threads + Sync, G: Gate + Sync>(
+    making: &Making<'_, R, G>,
+    rounds: &[Round],
+) -> Result<Size, Fault>
     requires tables { All (λ round. Has making.now.tables.now round.event) rounds.now }
     requires rounds { IsRounds rounds.now }
     requires few { length rounds.now ≤ 16 }
@@ -126,7 +141,11 @@ fn rounds_size(making: &Making<'_>, rounds: &[Round]) -> Result<Size, Fault>
 }
 
 /// What the text of a round amounts to. Memory may be wanting for the text.
-fn round_size(making: &Making<'_>, index: u32, round: &Round) -> Result<Size, Fault>
+fn round_size<R: Threads + Sync, G: Gate + Sync>(
+    making: &Making<'_, R, G>,
+    index: u32,
+    round: &Round,
+) -> Result<Size, Fault>
     requires tables { Has making.now.tables.now round.now.event }
     requires index { index < 256 }
     requires round { IsRound round.now }

@@ -1,21 +1,23 @@
-//! The scrambles of rounds, drawn slot by slot.
+//! The scrambles of rounds, drawn slot by slot, by workers.
 
-ghost use Rattle.std.specs.Prelude.{◌≡◌, ◌+◌, ◌<◌, ◌≤◌, ◌++◌, [], ◌∷◌, map, length, Some, Contains, MatchResult};
+ghost use Rattle.std.specs.Prelude.{◌≡◌, ◌<◌, ◌≤◌, ◌++◌, [], ◌∷◌, map, Some, IfOk, MatchResult};
 ghost use Rattle.std.specs.Vec.{vec_len, vec_capacity};
 ghost use Rattle.scr_notation.specs.EventSets.{Has};
 ghost use Rattle.scr_list.specs.Rounds.{IsRound};
-ghost use Rattle.scr_slots.specs.Events.{scrambling_of};
-ghost use Rattle.scr_slots.specs.Slots.{IsSlotAnswer, first_stream};
-ghost use Rattle.scr_sheet.specs.Making.{AreAnswers, IsRoundMade, IsPartFault, IsFirstNone};
+ghost use Rattle.scr_sheet.specs.Making.{answer_at, IsRoundMade, IsPartFault, IsFirstNone};
 ghost use Rattle.scr_sheet.specs.Sheet.{settings_of, round_part};
 
+use crate::slot_jobs::SlotJobs;
 use scr_command::Options;
 use scr_list::Round;
 use scr_notation::Scramble;
+use scr_outside::NoMemory;
 use scr_round::{RoundResult, slots};
-use scr_slots::{Effort, Settings, Tables, slot_answer};
+use scr_slots::{Effort, Settings, Tables};
 use scr_words::Seed;
+use scr_workers::{Board, Gate, run_claims};
 use std::alloc::{AllocError, Global};
+use std::thread::Threads;
 
 /// Why a round could not be made.
 #[derive(Clone, Copy, Debug, PartialEq, Eq)]
@@ -37,18 +39,35 @@ impl From<AllocError> for RoundFault {
     }
 }
 
-/// Makes round `index` of a list, counted from 0: the scramble of each slot, in order.
+impl From<NoMemory> for RoundFault {
+    ghost use Rattle.std.specs.Prelude.{◌≡◌};
+    ghost use Rattle.scr_sheet.specs.declared.making.RoundFault.TheVariants as fault;
+
+    ghost from_gives = { λ _ given. given ≡ fault.NoMemory };
+
+    fn from(_wanting: NoMemory) -> RoundFault {
+        RoundFault::NoMemory
+    }
+}
+
+/// The most workers that there are at once.
+const MOST_WORKERS: u32 = 64;
+
+/// Makes round `index` of a list, counted from 0: the scramble of each slot, in order. Workers claim the slots one by one;
+/// how many there are changes no scramble. Each slot passes the gate before it is drawn.
 ///
 /// The tables have the round's event, `index` is below 256, the round is one that a list can name, and there are at most
 /// 1,000,000 attempts. All memory is taken before the first draw. `Limit` names the first slot whose attempts give no
 /// permitted state, and comes exactly where there is one.
-pub fn make_round(
+pub fn make_round<R: Threads + Sync, G: Gate + Sync>(
+    rt: &R,
     alloc: Global,
     tables: &Tables,
     seed: &Seed,
     index: u32,
     round: &Round,
     options: &Options,
+    gate: &G,
 ) -> Result<RoundResult, RoundFault>
     requires tables { Has tables.now round.now.event }
     requires index { index < 256 }
@@ -57,40 +76,64 @@ pub fn make_round(
     ensures { let settings = settings_of seed.now options.now in
         MatchResult result (IsRoundMade settings index round.now) (IsPartFault settings (round_part index round.now)) }
 {
-    Making::new(alloc, tables, seed, options).round(index, round)
+    Making::new(rt, alloc, tables, seed, options, gate).round(index, round)
+}
+
+/// What a sheet of a seed is made with, under these options.
+pub(crate) fn settings_of(seed: &Seed, options: &Options) -> Settings
+    ensures { result ≡ settings_of seed.now options.now }
+{
+    Settings {
+        seed: *seed,
+        attempts: options.attempts,
+        effort: Effort {
+            tries: options.tries,
+        },
+    }
 }
 
 /// What the scrambles of rounds are made with.
-#[derive(Clone, Copy)]
-pub(crate) struct Making<'a> {
+#[derive(Drop)]
+pub(crate) struct Making<'a, R: Threads + Sync, G: Gate + Sync> {
+    /// What starts threads.
+    pub rt: &'a R,
     /// Where memory comes from.
     pub alloc: Global,
     /// The tables of the rounds' events.
     pub tables: &'a Tables,
     /// The seed, and how much work scrambles may take.
     pub settings: Settings,
+    /// How many workers answer the slots of a round, where it has as many.
+    pub workers: u32,
+    /// What each slot passes before it is drawn.
+    pub gate: &'a G,
 }
 
-impl<'a> Making<'a> {
+impl<'a, R: Threads + Sync, G: Gate + Sync> Making<'a, R, G> {
     /// With this seed and these options.
-    pub fn new(alloc: Global, tables: &'a Tables, seed: &Seed, options: &Options) -> Making<'a>
+    pub fn new(
+        rt: &'a R,
+        alloc: Global,
+        tables: &'a Tables,
+        seed: &Seed,
+        options: &Options,
+        gate: &'a G,
+    ) -> Making<'a, R, G>
         ensures tables { result.tables.now ≡ tables.now }
         ensures settings { result.settings ≡ settings_of seed.now options.now }
     {
         Making {
+            rt,
             alloc,
             tables,
-            settings: Settings {
-                seed: *seed,
-                attempts: options.attempts,
-                effort: Effort {
-                    tries: options.tries,
-                },
-            },
+            settings: settings_of(seed, options),
+            workers: options.workers,
+            gate,
         }
     }
 
-    /// Makes round `index` of a list: all slots are answered, and the first without a scramble is named.
+    /// Makes round `index` of a list: all slots are answered, and the first without a scramble is named. Memory is taken
+    /// before the first slot is drawn.
     pub fn round(&self, index: u32, round: &Round) -> Result<RoundResult, RoundFault>
         requires tables { Has self.now.tables.now round.now.event }
         requires index { index < 256 }
@@ -100,59 +143,48 @@ impl<'a> Making<'a> {
             MatchResult result (IsRoundMade settings index round.now) (IsPartFault settings (round_part index round.now)) }
     {
         let slots = slots(round);
+        let workers = self.workers.min(slots).clamp(1, MOST_WORKERS);
+        let board = Board::new(self.alloc, workers, slots)?;
+        let mut answers = unanswered(self.alloc, slots)?;
         let scrambles = Vec::with_capacity(self.alloc, slots as usize)?;
-        let mut answers = Vec::with_capacity(self.alloc, slots as usize)?;
-        self.answer_slots(index, round, slots, &mut answers);
+        let jobs = SlotJobs::new(self.tables, &self.settings, index, round);
+        run_claims(self.rt, board, &jobs, &mut answers, self.gate);
         match all_scrambles(answers, scrambles) {
-            Ok(scrambles) => Ok(RoundResult::new(*round, index, scrambles)),
+            Ok(all) => Ok(RoundResult::new(*round, index, all)),
             Err(slot) => Err(RoundFault::Limit {
                 slot,
                 words: 3 * self.settings.attempts,
             }),
         }
     }
+}
 
-    /// Answers the slots of a round, for which the list of answers has room.
-    fn answer_slots(
-        &self,
-        index: u32,
-        round: &Round,
-        slots: u32,
-        answers: &mut Vec<Option<Scramble>>,
-    )
-        requires tables { Has self.now.tables.now round.now.event }
-        requires index { index < 256 }
-        requires round { IsRound round.now }
-        requires attempts { self.now.settings.attempts ≤ 1000000 }
-        requires slots { slots ≡ (round_part index round.now).slots }
-        requires few { slots ≤ 182 }
-        requires empty { answers.old.items ≡ [] }
-        requires room { slots ≤ vec_capacity answers.old }
-        ensures { AreAnswers self.now.settings (round_part index round.now) answers.new.items }
-    {
-        let least = u32::from(round.least);
-        for slot in 0..slots {
-            let stream = 1024 * u64::from(index) + u64::from(slot);
-            let answer = slot_answer(self.tables, round.event, &self.settings, least, stream);
-            push_within(answers, answer);
-        }
+/// A place for the answer of each slot, with none in it yet.
+fn unanswered(alloc: Global, slots: u32) -> Result<Vec<Option<Option<Scramble>>>, AllocError>
+    ensures { IfOk result (λ answers. vec_len answers ≡ slots) }
+{
+    let mut answers = Vec::with_capacity(alloc, slots as usize)?;
+    for _slot in 0..slots {
+        push_within(&mut answers, None);
     }
+    Ok(answers)
 }
 
 /// The scrambles of answers, all of which are one, in a list that has room for them; or the first that is none.
 fn all_scrambles(
-    answers: Vec<Option<Scramble>>,
+    answers: Vec<Option<Option<Scramble>>>,
     mut scrambles: Vec<Scramble>,
 ) -> Result<Vec<Scramble>, u32>
     requires few { vec_len answers ≤ 182 }
     requires empty { scrambles.items ≡ [] }
     requires room { vec_len answers ≤ vec_capacity scrambles }
-    ensures { MatchResult result (λ all. map Some all.items ≡ answers.items) (IsFirstNone answers.items) }
+    ensures { let all_answers = map answer_at answers.items in
+        MatchResult result (λ all. map Some all.items ≡ all_answers) (IsFirstNone all_answers) }
 {
     for answer in answers {
         match answer {
-            Some(scramble) => push_within(&mut scrambles, scramble),
-            None => return Err(scrambles.len() as u32),
+            Some(Some(scramble)) => push_within(&mut scrambles, scramble),
+            _ => return Err(scrambles.len() as u32),
         }
     }
     Ok(scrambles)

@@ -14,39 +14,45 @@ ghost use Rattle.scr_sheet.specs.Outcome.{EndsCommand, EndsMaking, EndsParts, En
 ghost use Rattle.scr_sheet.specs.Making.{IsRoundMade};
 
 use crate::fault::Fault;
-use crate::making::{Making, RoundFault};
+use crate::making::{Making, RoundFault, settings_of};
 use scr_command::Options;
 use scr_list::{Round, read_rounds};
 use scr_notation::{Event, print};
 use scr_outside::{Sink, Source, write_line};
 use scr_round::{RoundResult, write_round};
-use scr_slots::{Tables, laws, slot_answer, write_tables_of};
+use scr_slots::{Settings, Tables, laws, slot_answer, write_tables_of};
 use scr_words::Seed;
+use scr_workers::Gate;
 use std::alloc::Global;
+use std::thread::Threads;
 
 /// Reads the round list, builds the tables of its events, and makes and writes its rounds.
-pub(crate) fn write_sheet<S: Source, O: Sink>(
+pub(crate) fn write_sheet<R: Threads + Sync, S: Source, O: Sink, G: Gate + Sync>(
+    rt: &R,
     alloc: Global,
     seed: &Seed,
     options: &Options,
     source: &mut S,
     out: &mut O,
+    gate: &G,
 ) -> Result<(), Fault>
     requires { options.now.attempts ≤ 1000000 }
     ensures { EndsCommand (Sheet seed.now options.now) (intake_of S.left S.faults S.ends source.old source.new)
         (change_of O.held O.faults out.old out.new) result }
 {
     let rounds = read_rounds(source)?;
-    make_sheet(alloc, seed, options, &rounds, out)
+    make_sheet(rt, alloc, seed, options, &rounds, out, gate)
 }
 
 /// Builds the tables of these rounds' events, and makes and writes the rounds.
-fn make_sheet<O: Sink>(
+fn make_sheet<R: Threads + Sync, O: Sink, G: Gate + Sync>(
+    rt: &R,
     alloc: Global,
     seed: &Seed,
     options: &Options,
     rounds: &[Round],
     out: &mut O,
+    gate: &G,
 ) -> Result<(), Fault>
     requires rounds { IsRounds rounds.now }
     requires attempts { options.now.attempts ≤ 1000000 }
@@ -55,11 +61,16 @@ fn make_sheet<O: Sink>(
 {
     let tables = Tables::build(alloc, rounds)?;
     laws::each_drawn_fairly(&tables);
-    write_rounds(&Making::new(alloc, &tables, seed, options), rounds, out)
+    let making = Making::new(rt, alloc, &tables, seed, options, gate);
+    write_rounds(&making, rounds, out)
 }
 
 /// Makes and writes these rounds, each once all its slots have their scrambles.
-fn write_rounds<O: Sink>(making: &Making<'_>, rounds: &[Round], out: &mut O) -> Result<(), Fault>
+fn write_rounds<R: Threads + Sync, O: Sink, G: Gate + Sync>(
+    making: &Making<'_, R, G>,
+    rounds: &[Round],
+    out: &mut O,
+) -> Result<(), Fault>
     requires tables { All (λ round. Has making.now.tables.now round.event) rounds.now }
     requires rounds { IsRounds rounds.now }
     requires attempts { making.now.settings.attempts ≤ 1000000 }
@@ -73,8 +84,8 @@ fn write_rounds<O: Sink>(making: &Making<'_>, rounds: &[Round], out: &mut O) -> 
 }
 
 /// Makes a round, and writes it.
-fn write_one_round<O: Sink>(
-    making: &Making<'_>,
+fn write_one_round<R: Threads + Sync, O: Sink, G: Gate + Sync>(
+    making: &Making<'_, R, G>,
     index: u32,
     round: &Round,
     out: &mut O,
@@ -92,8 +103,8 @@ fn write_one_round<O: Sink>(
 }
 
 /// Makes a round, or gives what the run ends with.
-pub(crate) fn made_round(
-    making: &Making<'_>,
+pub(crate) fn made_round<R: Threads + Sync, G: Gate + Sync>(
+    making: &Making<'_, R, G>,
     index: u32,
     round: &Round,
 ) -> Result<RoundResult, Fault>
@@ -128,22 +139,24 @@ pub(crate) fn write_one<O: Sink>(
 {
     let tables = Tables::of_event(alloc, event)?;
     laws::each_drawn_fairly(&tables);
-    write_one_line(
-        &Making::new(alloc, &tables, seed, &Options::default()),
-        event,
-        out,
-    )
+    let settings = settings_of(seed, &Options::default());
+    write_one_line(&tables, &settings, event, out)
 }
 
 /// The same, where the event's tables are built.
-fn write_one_line<O: Sink>(making: &Making<'_>, event: Event, out: &mut O) -> Result<(), Fault>
-    requires tables { Has making.now.tables.now event }
-    requires attempts { making.now.settings.attempts ≤ 1000000 }
-    ensures ends { EndsParts making.now.settings 0 (one_part event ∷ [])
+fn write_one_line<O: Sink>(
+    tables: &Tables,
+    settings: &Settings,
+    event: Event,
+    out: &mut O,
+) -> Result<(), Fault>
+    requires tables { Has tables.now event }
+    requires attempts { settings.now.attempts ≤ 1000000 }
+    ensures ends { EndsParts settings.now 0 (one_part event ∷ [])
         (change_of O.held O.faults out.old out.new) result }
     ensures memory { result ≢ Err NoMemory }
 {
-    match slot_answer(making.tables, event, &making.settings, 0, 0) {
+    match slot_answer(tables, event, settings, 0, 0) {
         Some(scramble) => {
             write_line(out, "", print(&scramble).as_str())?;
             Ok(())
@@ -151,7 +164,7 @@ fn write_one_line<O: Sink>(making: &Making<'_>, event: Event, out: &mut O) -> Re
         None => Err(Fault::DrawLimit {
             round: 1,
             slot: 1,
-            words: 3 * making.settings.attempts,
+            words: 3 * settings.attempts,
         }),
     }
 }

@@ -11,7 +11,9 @@ use crate::parts::{write_event_tables, write_one, write_sheet};
 use crate::status::Status;
 use scr_command::{Command, read_command};
 use scr_outside::{Sink, Source, write_all};
+use scr_workers::Gate;
 use std::alloc::Global;
+use std::thread::Threads;
 
 /// Does all that the program does, on its words without its own name: reads the round list from `source` where they ask
 /// for a sheet, writes what they ask for to `out`, tells on `err` what goes wrong, and gives the status.
@@ -33,12 +35,16 @@ use std::alloc::Global;
 ///
 /// It takes memory only where the first word is `sheet`, where tables are needed, or where rounds are made for `load`.
 /// A fault of `err` changes no status.
-pub fn run<'w, S: Source, O: Sink, E: Sink>(
+///
+/// The slots of a round are claimed by as many workers as the words ask for, and each passes `gate` before it is drawn.
+pub fn run<'w, R: Threads + Sync, S: Source, O: Sink, E: Sink, G: Gate + Sync>(
+    rt: &R,
     alloc: Global,
     words: &'w [&'w str],
     source: &mut S,
     out: &mut O,
     err: &mut E,
+    gate: &G,
 ) -> Status
     // What `source` gave, what `out` and `err` gained, and the status, are those of an end that the definitions allow;
     // and wherever scrambles are made, each of their rounds is drawn fairly, and each scramble gives its state within
@@ -49,26 +55,30 @@ pub fn run<'w, S: Source, O: Sink, E: Sink>(
     // drawn fairly, and each of their scrambles gives the state that was drawn, within its puzzle's bound.
     ensures headline { AsksForScrambles (texts words.now) → IsFairlyWritten (change_of O.held O.faults out.old out.new) }
 {
-    let ended = perform(alloc, words, source, out);
+    let ended = perform(rt, alloc, words, source, out, gate);
     tell(err, ended);
     Status::of(ended)
 }
 
 /// Does what the words ask for.
-fn perform<S: Source, O: Sink>(
+fn perform<R: Threads + Sync, S: Source, O: Sink, G: Gate + Sync>(
+    rt: &R,
     alloc: Global,
     words: &[&str],
     source: &mut S,
     out: &mut O,
+    gate: &G,
 ) -> Result<(), Fault>
     ensures { IsPerformed (texts words.now) (intake_of S.left S.faults S.ends source.old source.new)
         (change_of O.held O.faults out.old out.new) result }
 {
     match read_command(alloc, words)? {
         Command::One(event, seed) => write_one(alloc, event, &seed, out),
-        Command::Sheet(seed, options) => write_sheet(alloc, &seed, &options, source, out),
+        Command::Sheet(seed, options) => {
+            write_sheet(rt, alloc, &seed, &options, source, out, gate)
+        }
         Command::Tables(event) => write_event_tables(alloc, event, out),
-        Command::Load(number) => write_load(alloc, number, out),
+        Command::Load(number) => write_load(rt, alloc, number, out, gate),
     }
 }
 

@@ -51,3 +51,5 @@ mod text;
 mod twophase;
 #[cfg(test)]
 mod words;
+#[cfg(test)]
+mod workers;

@@ -1,5 +1,6 @@
 -- What follows once all workers have returned.
-use Rattle.std.proofs.Common.{◌≡◌, ℕ, zero, suc, ◌+◌, ◌<◌, ◌≤◌, List, [], ◌∷◌, ◌++◌, map, length, get_or, set, drop, suc-mul, ◌*◌, None, refl, sym, ap, ◌∙◌, subst, arith}
+use Rattle.std.proofs.Common.{◌≡◌, ℕ, zero, suc, ◌+◌, ◌<◌, ◌≤◌, List, [], ◌∷◌, ◌++◌, map, length, get_or, set, drop}
+use Rattle.std.proofs.Common.{suc-mul, ◌*◌, None, refl, sym, ap, ◌∙◌, subst, arith}
 use Rattle.std.specs.Prelude.{All, sum_by}
 use Rattle.std.proofs.lemmas.Bool.Decides.{nat_tests}
 use Rattle.std.proofs.lemmas.List.Elements.{All-head, All-tail, All-nil, All-cons, All-map}
@@ -9,7 +10,8 @@ use native.Mathlib.Decide.{dec_lt}
 use Rattle.atomic_table.specs.Seated.{TableId}
 use Rattle.scr_workers.specs.declared.lane.Lane.{Lane}
 use Rattle.scr_workers.specs.Rule.{weigh, weigh_below, from}
-use Rattle.scr_workers.specs.Gather.{only, times, once_below, list_in, without_seat, HasRun, HasSlotAnswer, HoldAnswers, IsSpent}
+use Rattle.scr_workers.specs.Gather.{only, times, once_below, list_in, without_seat, HasRun, HasSlotAnswer}
+use Rattle.scr_workers.specs.Gather.{HoldAnswers, IsSpent}
 use Rattle.scr_workers.specs.Work.{slot_of}
 use Rattle.scr_workers.proofs.Keeps.{weigh-append, not_from}
 use Rattle.scr_workers.proofs.Places.{only-other}
@@ -32,7 +34,8 @@ module _ {A : Type 0} where
       let cons = sum_by-cons f x xs in
       omega (arith, suc-mul (length xs) n)
 
-  pub sum_by-agree : (f : A → ℕ) (xs ys : List A) → length ys ≡ length xs → ((i : ℕ) (d : A) → i < length xs → f (get_or ys i d) ≡ f (get_or xs i d)) → sum_by f ys ≡ sum_by f xs
+  pub sum_by-agree : (f : A → ℕ) (xs ys : List A) → length ys ≡ length xs
+      → ((i : ℕ) (d : A) → i < length xs → f (get_or ys i d) ≡ f (get_or xs i d)) → sum_by f ys ≡ sum_by f xs
   sum_by-agree f [] [] len same = refl
   sum_by-agree f [] (y ∷ ys) len same = absurd (omega arith)
   sum_by-agree f (x ∷ xs) [] len same = absurd (omega arith)
@@ -43,7 +46,9 @@ module _ {A : Type 0} where
 
   pub sum_by-map' : {B : Type 0} (f : B → ℕ) (g : A → B) (xs : List A) → sum_by f (map g xs) ≡ sum_by (λ x. f (g x)) xs
   sum_by-map' f g [] = refl
-  sum_by-map' f g (x ∷ xs) = let r = sum_by-map' f g xs in omega (arith, sum_by-cons f (g x) (map g xs), sum_by-cons (λ x. f (g x)) x xs)
+  sum_by-map' f g (x ∷ xs) =
+      let r = sum_by-map' f g xs in
+      omega (arith, sum_by-cons f (g x) (map g xs), sum_by-cons (λ x. f (g x)) x xs)
 
 pub some_there : {A : Type 0} (f : A → ℕ) (xs : List A) → 0 < sum_by f xs → 0 < length xs
 some_there f [] h = absurd (omega arith)
@@ -90,7 +95,9 @@ is_from m x h = grind (arith, nat_tests)
 -- what holds of each element of a mapped list
 All-unmapped : {A B : Type 0} (P : B → Type 0) (f : A → B) (xs : List A) → All P (map f xs) → All (λ x. P (f x)) xs
 All-unmapped P f [] all = All-nil (λ x. P (f x))
-All-unmapped P f (x ∷ xs) all = All-cons (λ x. P (f x)) x xs (All-head P (f x) (map f xs) all) (All-unmapped P f xs (All-tail P (f x) (map f xs) all))
+All-unmapped P f (x ∷ xs) all =
+    let others = All-unmapped P f xs (All-tail P (f x) (map f xs) all) in
+    All-cons (λ x. P (f x)) x xs (All-head P (f x) (map f xs) all) others
 
 module _ {T : Type 0} (word_of : TableId) (slots : ℕ) (IsAnswer : ℕ → T → Type 0) where
   -- one number of a lane is no slot
@@ -104,7 +111,8 @@ module _ {T : Type 0} (word_of : TableId) (slots : ℕ) (IsAnswer : ℕ → T �
       omega arith
 
   -- a slot stands in the own list as often as the seat claimed it
-  own_times : (x : ℕ) → x < slots → (l : Lane T) → HasRun word_of slots IsAnswer l → times x (map slot_of l.own.items) ≡ times x (list_in l.seat)
+  own_times : (x : ℕ) → x < slots → (l : Lane T) → HasRun word_of slots IsAnswer l
+      → times x (map slot_of l.own.items) ≡ times x (list_in l.seat)
   own_times x below l run =
       let w = run.worked in
       let list : list_in l.seat ≡ w.earlier ++ w.last ∷ [] = ap list_in run.seat_is ∙ w.list_is in
@@ -114,21 +122,27 @@ module _ {T : Type 0} (word_of : TableId) (slots : ℕ) (IsAnswer : ℕ → T �
       let other = only-other x w.last (λ (s : w.last ≡ x). absurd (omega arith)) in
       omega arith
 
-  own_none : (x : ℕ) → slots ≤ x → (l : Lane T) → HasRun word_of slots IsAnswer l → times x (map slot_of l.own.items) ≡ 0
-  own_none x above l run = ap (times x) run.worked.own_slots ∙ earlier_only slots x run.worked.earlier above run.worked.below
+  own_none : (x : ℕ) → slots ≤ x → (l : Lane T) → HasRun word_of slots IsAnswer l
+      → times x (map slot_of l.own.items) ≡ 0
+  own_none x above l run =
+      let w = run.worked in
+      ap (times x) w.own_slots ∙ earlier_only slots x w.earlier above w.below
 
   own_answers : (l : Lane T) → HasRun word_of slots IsAnswer l → All (HasSlotAnswer slots IsAnswer) l.own.items
   own_answers l run =
       let w = run.worked in
-      let below : All (λ number. number < slots) (map slot_of l.own.items) = subst (All (λ number. number < slots)) (sym w.own_slots) w.below in
+      let below : All (λ number. number < slots) (map slot_of l.own.items) =
+      subst (All (λ number. number < slots)) (sym w.own_slots) w.below in
       λ k d h. (All-unmapped (λ number. number < slots) slot_of l.own.items below k d h, w.answers k d h)
 
   module _ (lanes : List (Lane T)) (run : All (HasRun word_of slots IsAnswer) lanes) (list : List ℕ) (word : ℕ)
-      (joined : (h : ℕ → ℕ) → weigh h list ≡ sum_by (λ (l : Lane T). weigh h (list_in l.seat)) lanes) (all : (h : ℕ → ℕ) → weigh h list ≡ weigh_below h word) where
+      (joined : (h : ℕ → ℕ) → weigh h list ≡ sum_by (λ (l : Lane T). weigh h (list_in l.seat)) lanes)
+      (all : (h : ℕ → ℕ) → weigh h list ≡ weigh_below h word) where
     -- the word is slots and workers
     pub word_is : 0 < length lanes → word ≡ slots + length lanes
     word_is some =
-        let each = sum_by-each (λ (l : Lane T). weigh (from slots) (list_in l.seat)) 1 lanes (λ k d h. last_one (get_or lanes k d) (run k d h)) in
+        let late_in : Lane T → ℕ = λ l. weigh (from slots) (list_in l.seat) in
+        let each = sum_by-each late_in 1 lanes (λ k d h. last_one (get_or lanes k d) (run k d h)) in
         let a = joined (from slots) in
         let b = all (from slots) in
         let exact = from_exact slots word in
@@ -141,14 +155,18 @@ module _ {T : Type 0} (word_of : TableId) (slots : ℕ) (IsAnswer : ℕ → T �
 
     pub hold : 0 < length lanes → HoldAnswers slots IsAnswer (map without_seat lanes)
     hold some = record {
-      once = λ x. sum_by-map' (λ (l : Lane T). times x (map slot_of l.own.items)) without_seat lanes ∙
+      once = λ x. let in_own : Lane T → ℕ = λ l. times x (map slot_of l.own.items) in
+          let in_list : Lane T → ℕ = λ l. times x (list_in l.seat) in
+          sum_by-map' in_own without_seat lanes ∙
           dite (dec_lt x slots)
-          (λ below. sum_by-same (λ (l : Lane T). times x (map slot_of l.own.items)) (λ (l : Lane T). times x (list_in l.seat)) lanes (λ k d h. own_times x below (get_or lanes k d) (run k d h))
-          ∙ (sym (joined (only x)) ∙ (list_times some x ∙ (once_here x (slots + length lanes) (omega arith) ∙ sym (once_here x slots below)))))
-          (λ above. let e = sum_by-each (λ (l : Lane T). times x (map slot_of l.own.items)) 0 lanes (λ k d h. own_none x (omega arith) (get_or lanes k d) (run k d h)) in
+          (λ below. let once_all = once_here x (slots + length lanes) (omega arith) in
+          sum_by-same in_own in_list lanes (λ k d h. own_times x below (get_or lanes k d) (run k d h))
+          ∙ (sym (joined (only x)) ∙ (list_times some x ∙ (once_all ∙ sym (once_here x slots below)))))
+          (λ above. let e = sum_by-each in_own 0 lanes (λ k d h. own_none x (omega arith) (get_or lanes k d) (run k d h)) in
           let z : length lanes * 0 ≡ 0 = omega arith in
           e ∙ (z ∙ sym (once_past x slots (omega arith))));
-      answers = All-map (λ (l : Lane T). All (HasSlotAnswer slots IsAnswer) l.own.items) without_seat lanes (λ k d h. own_answers (get_or lanes k d) (run k d h));
+      answers = All-map (λ (l : Lane T). All (HasSlotAnswer slots IsAnswer) l.own.items) without_seat lanes
+          (λ k d h. own_answers (get_or lanes k d) (run k d h));
     }
       where
         once_here : (x n : ℕ) → x < n → once_below x n ≡ 1
@@ -158,13 +176,16 @@ module _ {T : Type 0} (word_of : TableId) (slots : ℕ) (IsAnswer : ℕ → T �
         once_past x n h = grind (arith, nat_tests)
 
   -- no lane has a seat, and none an answer
-  pub all_spent : (ys zs : List (Lane T)) → map (λ (l : Lane T). l.seat) ys ≡ map (λ (l : Lane T). l.seat) (map without_seat zs) → All (λ (l : Lane T). l.own.items ≡ []) ys → All IsSpent ys
+  pub all_spent : (ys zs : List (Lane T))
+      → map (λ (l : Lane T). l.seat) ys ≡ map (λ (l : Lane T). l.seat) (map without_seat zs)
+      → All (λ (l : Lane T). l.own.items ≡ []) ys → All IsSpent ys
   all_spent [] zs seats own = All-nil IsSpent
   all_spent (y ∷ ys) [] seats own = absurd (cc)
   all_spent (y ∷ ys) (z ∷ zs) seats own =
       let seat : y.seat ≡ None = cc in
       let others : map (λ (l : Lane T). l.seat) ys ≡ map (λ (l : Lane T). l.seat) (map without_seat zs) = cc in
-      All-cons IsSpent y ys (seat, All-head (λ (l : Lane T). l.own.items ≡ []) y ys own) (all_spent ys zs others (All-tail (λ (l : Lane T). l.own.items ≡ []) y ys own))
+      let IsEmpty : Lane T → Type 0 = λ l. l.own.items ≡ [] in
+      All-cons IsSpent y ys (seat, All-head IsEmpty y ys own) (all_spent ys zs others (All-tail IsEmpty y ys own))
 
 pub set-front : {A : Type 0} (xs : List A) (x : A) → 0 < length xs → set xs 0 x ≡ x ∷ drop 1 xs
 set-front [] x h = absurd (omega arith)

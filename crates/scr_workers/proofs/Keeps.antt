@@ -1,5 +1,6 @@
 -- Each kind of step keeps the rule of the claim word.
-use Rattle.std.proofs.Common.{◌≡◌, ◌≢◌, ℕ, zero, suc, ◌+◌, ◌-◌, ◌%◌, ◌^◌, ◌<◌, ◌≤◌, List, [], ◌∷◌, ◌++◌, length, get_or, set, sym, refl, ap, ◌∙◌, subst, ⊎_elim, arith, length-set, get_or-set_same}
+use Rattle.std.proofs.Common.{◌≡◌, ◌≢◌, ℕ, zero, suc, ◌+◌, ◌-◌, ◌%◌, ◌^◌, ◌<◌, ◌≤◌, List, [], ◌∷◌, ◌++◌, length}
+use Rattle.std.proofs.Common.{get_or, set, sym, refl, ap, ◌∙◌, subst, ⊎_elim, arith, length-set, get_or-set_same}
 use Rattle.std.specs.Prelude.{slice_index, All}
 use Rattle.std.proofs.lemmas.List.Elements.{All-head, All-tail}
 use Rattle.std.proofs.lemmas.Bool.Decides.{nat_tests}
@@ -8,7 +9,8 @@ use lib.ListN.{get_elem?}
 use Rattle.atomic_table.specs.Table.{Me, step, keeps, Allows, Splits, Joins}
 use Rattle.atomic_table.proofs.Lists.{at_set, at_snoc, set_again, set_else}
 use Rattle.scr_workers.specs.declared.rule.Claims.{Claims}
-use Rattle.scr_workers.specs.Rule.{claims, weigh, weigh_below, from, over_views, late, IsKept, Holds, HasClaimed, HasLooked, rest_of, part_of, joined, spent}
+use Rattle.scr_workers.specs.Rule.{claims, weigh, weigh_below, from, over_views, late, IsKept, Holds, HasClaimed}
+use Rattle.scr_workers.specs.Rule.{HasLooked, rest_of, part_of, joined, spent}
 
 -- lists of numbers
 
@@ -40,23 +42,30 @@ from_one m x = grind (arith, nat_tests)
 
 -- lists of views
 
-total_set : (f : Claims → ℕ) (views : List Claims) (seat : ℕ) (v w : Claims) → get_elem? views seat ≡ some v → over_views f (set views seat w) + f v ≡ over_views f views + f w
+total_set : (f : Claims → ℕ) (views : List Claims) (seat : ℕ) (v w : Claims) → get_elem? views seat ≡ some v
+    → over_views f (set views seat w) + f v ≡ over_views f views + f w
 total_set f [] seat v w at = absurd (some-ne-none v (sym at))
 total_set f (x ∷ xs) zero v w at = let is : f x ≡ f v = ap f (some-injective x v at) in omega arith
 total_set f (x ∷ xs) (suc seat) v w at = let r = total_set f xs seat v w at in omega arith
 
-total_snoc : (f : Claims → ℕ) (views : List Claims) (v : Claims) → over_views f (views ++ v ∷ []) ≡ over_views f views + f v
+total_snoc : (f : Claims → ℕ) (views : List Claims) (v : Claims)
+    → over_views f (views ++ v ∷ []) ≡ over_views f views + f v
 total_snoc f [] v = omega arith
 total_snoc f (x ∷ xs) v = let r = total_snoc f xs v in omega arith
 
-total_at : (f : Claims → ℕ) (views : List Claims) (seat : ℕ) (v : Claims) → get_elem? views seat ≡ some v → f v ≤ over_views f views
+total_at : (f : Claims → ℕ) (views : List Claims) (seat : ℕ) (v : Claims) → get_elem? views seat ≡ some v
+    → f v ≤ over_views f views
 total_at f [] seat v at = absurd (some-ne-none v (sym at))
 total_at f (x ∷ xs) zero v at = let is : f x ≡ f v = ap f (some-injective x v at) in omega arith
 total_at f (x ∷ xs) (suc seat) v at = let r = total_at f xs seat v at in omega arith
 
-total_most : (f g : Claims → ℕ) (views : List Claims) → ((seat : ℕ) (v : Claims) → get_elem? views seat ≡ some v → f v ≤ g v) → over_views f views ≤ over_views g views
+total_most : (f g : Claims → ℕ) (views : List Claims)
+    → ((seat : ℕ) (v : Claims) → get_elem? views seat ≡ some v → f v ≤ g v) → over_views f views ≤ over_views g views
 total_most f g [] most = omega arith
-total_most f g (x ∷ xs) most = let here : f x ≤ g x = most 0 x refl in let r = total_most f g xs (λ seat. most (suc seat)) in omega arith
+total_most f g (x ∷ xs) most =
+    let here : f x ≤ g x = most 0 x refl in
+    let r = total_most f g xs (λ seat. most (suc seat)) in
+    omega arith
 
 -- the word has at most 64 numbers of 2^32 and more below it
 word_most : (words : List ℕ) (views : List Claims) → IsKept words views → slice_index words 0 ≤ 4294967296 + 64
@@ -119,12 +128,14 @@ claims_keep slots id m some_weight early s kept _ at small =
         late_most = λ seat u e.
             ⊎_elim
             (λ (x : (seat ≡ id) × (w ≡ u)). subst (λ (y : Claims). late y ≤ y.weight) x.1
-            (let more = weigh-append (from 4294967296) list (word ∷ []) in let one = from_one 4294967296 word in omega arith))
+            (let more = weigh-append (from 4294967296) list (word ∷ []) in
+            let one = from_one 4294967296 word in omega arith))
             (λ (x : (seat ≢ id) × (get_elem? s.views seat ≡ some u)). kept.late_most seat u x.1)
             (at_set s.views id seat w u e);
         idle = λ seat u e.
             ⊎_elim
-            (λ (x : (seat ≡ id) × (w ≡ u)). subst (λ (y : Claims). y.weight ≡ 0 → y.list ≡ []) x.1 (λ empty. absurd (omega arith)))
+            (λ (x : (seat ≡ id) × (w ≡ u)).
+            subst (λ (y : Claims). y.weight ≡ 0 → y.list ≡ []) x.1 (λ empty. absurd (omega arith)))
             (λ (x : (seat ≢ id) × (get_elem? s.views seat ≡ some u)). kept.idle seat u x.1)
             (at_set s.views id seat w u e);
       },
@@ -200,7 +211,8 @@ join_keeps id other v w s kept at apart there =
           (λ (x : (seat ≢ other) × (get_elem? first seat ≡ some u)).
           ⊎_elim
           (λ (y : (seat ≡ id) × (both ≡ u)). subst (λ (y : Claims). y.weight ≡ 0 → y.list ≡ []) y.1
-          (λ empty. let a : v.list ≡ [] = kept.idle id v at (omega arith) in let b : w.list ≡ [] = kept.idle other w there' (omega arith) in
+          (λ empty. let a : v.list ≡ [] = kept.idle id v at (omega arith) in
+          let b : w.list ≡ [] = kept.idle other w there' (omega arith) in
           λ i. a i ++ b i))
           (λ (y : (seat ≢ id) × (get_elem? s.views seat ≡ some u)). kept.idle seat u y.1)
           (at_set s.views id seat both u x.1))
@@ -216,7 +228,8 @@ all_idle f (x ∷ xs) empty idle =
     omega arith
 
 -- where one view has the whole weight, f of it is all, if f is nothing of a view with no weight
-alone : (f : Claims → ℕ) (views : List Claims) (seat : ℕ) (v : Claims) → get_elem? views seat ≡ some v → over_views (λ u. u.weight) views ≡ v.weight
+alone : (f : Claims → ℕ) (views : List Claims) (seat : ℕ) (v : Claims) → get_elem? views seat ≡ some v
+    → over_views (λ u. u.weight) views ≡ v.weight
     → ((k : ℕ) (u : Claims) → get_elem? views k ≡ some u → u.weight ≡ 0 → f u ≡ 0) → over_views f views ≡ f v
 alone f [] seat v at whole idle = absurd (some-ne-none v (sym at))
 alone f (x ∷ xs) zero v at whole idle =
@@ -245,7 +258,8 @@ look_keeps slots id m whole s kept _ at small =
       (
         refl,
         λ h. let f : Claims → ℕ = λ u. weigh h u.list in
-            sym (alone f s.views id m.0 at (kept.weights ∙ sym whole) (λ k u e empty. ap (weigh h) (kept.idle k u e empty))) ∙ kept.once h,
+            sym (alone f s.views id m.0 at (kept.weights ∙ sym whole)
+            (λ k u e empty. ap (weigh h) (kept.idle k u e empty))) ∙ kept.once h,
       ),
     )
 
@@ -259,4 +273,6 @@ no_late slots (x ∷ xs) most below =
     omega arith
 
 pub cut_keeps' : (id : ℕ) (v : Claims) → 2 ≤ v.weight → v.list ≡ [] → Splits Holds id v (rest_of v) (part_of v)
-cut_keeps' id v two none_yet = subst (λ (xs : List ℕ). Splits Holds id (claims v.weight xs) (claims (v.weight - 1) xs) (claims 1 [])) (sym none_yet) (cut_keeps id v.weight two)
+cut_keeps' id v two none_yet =
+    let Cuts : List ℕ → Type 0 = λ xs. Splits Holds id (claims v.weight xs) (claims (v.weight - 1) xs) (claims 1 []) in
+    subst Cuts (sym none_yet) (cut_keeps id v.weight two)

@@ -1,5 +1,6 @@
 -- One answer put in its place.
-use Rattle.std.proofs.Common.{◌≡◌, ◌≢◌, ◌⊎◌, ℕ, ◌<◌, List, [], ◌∷◌, ◌++◌, map, length, set, Some, None, inl, inr, ⊎_elim, sym, ap, subst, arith, get_or-set_same, get_or-set_other}
+use Rattle.std.proofs.Common.{◌≡◌, ◌≢◌, ◌⊎◌, ℕ, ◌<◌, List, [], ◌∷◌, ◌++◌, map, length, set, Some, None, inl, inr}
+use Rattle.std.proofs.Common.{⊎_elim, sym, ap, subst, arith, get_or-set_same, get_or-set_other}
 use Rattle.std.specs.Prelude.{Option, IsSomeAnd, All}
 use Rattle.std.proofs.lemmas.List.Elements.{All-pop}
 use Rattle.std.proofs.lemmas.Bool.Decides.{nat_tests}
@@ -23,8 +24,10 @@ All-push' P xs ys y is all = let r = All-pop P xs ys (Some y) is all in (r.0, r.
 
 module _ {T : Type 0} (IsAnswer : ℕ → T → Type 0) where
   -- the place of a slot has the answer that was put there
-  pub placed_set-here : (out : List (Option T)) (slot : ℕ) (a : T) → slot < length out → IsAnswer slot a → HasAnswer IsAnswer (set out slot (Some a)) slot
-  placed_set-here out slot a within is = subst (λ o. IsSomeAnd o (IsAnswer slot)) (sym (get_or-set_same out slot (Some a) None within)) is
+  pub placed_set-here : (out : List (Option T)) (slot : ℕ) (a : T) → slot < length out → IsAnswer slot a
+      → HasAnswer IsAnswer (set out slot (Some a)) slot
+  placed_set-here out slot a within is =
+      subst (λ o. IsSomeAnd o (IsAnswer slot)) (sym (get_or-set_same out slot (Some a) None within)) is
 
   -- a place with an answer keeps one
   pub kept_set : (out : List (Option T)) (slot : ℕ) (a : T) → slot < length out → IsAnswer slot a
@@ -35,7 +38,8 @@ module _ {T : Type 0} (IsAnswer : ℕ → T → Type 0) where
       (λ n. subst (λ o. IsSomeAnd o (IsAnswer k)) (sym (get_or-set_other out slot k (Some a) None n)) before)
 
   -- a slot that stood in a list, or whose place had an answer, does so after its last entry is put in its place
-  pub placed_set : (before after : List (ℕ × T)) (out : List (Option T)) (slot : ℕ) (a : T) → before ≡ after ++ (slot, a) ∷ [] → slot < length out → IsAnswer slot a
+  pub placed_set : (before after : List (ℕ × T)) (out : List (Option T)) (slot : ℕ) (a : T)
+      → before ≡ after ++ (slot, a) ∷ [] → slot < length out → IsAnswer slot a
       → (k : ℕ) → (0 < times k (map slot_of before)) ⊎ HasAnswer IsAnswer out k
       → (0 < times k (map slot_of after)) ⊎ HasAnswer IsAnswer (set out slot (Some a)) k
   placed_set before after out slot a within_list within is k known =

@@ -1,5 +1,6 @@
 -- Each slot of a complete schedule is claimed exactly once.
-use Rattle.std.proofs.Common.{◌≡◌, ◌≢◌, ℕ, zero, suc, ◌+◌, ◌<◌, ◌≤◌, List, [], ◌∷◌, length, refl, sym, ap, ◌∙◌, subst, arith, Bool, true, false}
+use Rattle.std.proofs.Common.{◌≡◌, ◌≢◌, ℕ, zero, suc, ◌+◌, ◌<◌, ◌≤◌, List, [], ◌∷◌, length, refl, sym, ap, ◌∙◌, subst}
+use Rattle.std.proofs.Common.{arith, Bool, true, false}
 use Rattle.std.specs.Prelude.{All, cond, nat_eq}
 use Rattle.std.proofs.lemmas.Bool.Decides.{nat_tests}
 use Rattle.std.proofs.lemmas.List.Elements.{All-head, All-tail, All-nil, All-cons, All-weaker}
@@ -47,19 +48,24 @@ weigh_below-at s a (suc w) below =
     let e : at s a w ≡ a = subst (λ j. at s a j ≡ a) is (at-same s a) in omega arith)
     (λ other. let r = weigh_below-at s a w (omega arith) in let e = at-other s a w other in omega arith)
 
-times-claims : (slot k seat s : ℕ) (ss : List ℕ) → times slot (claims_from k seat (s ∷ ss)) ≡ at s (only slot k) seat + times slot (claims_from (suc k) seat ss)
+times-claims : (slot k seat s : ℕ) (ss : List ℕ)
+    → times slot (claims_from k seat (s ∷ ss)) ≡ at s (only slot k) seat + times slot (claims_from (suc k) seat ss)
 times-claims slot k seat s ss = by (nat_eq s seat)
   where
-    by : (b : Bool) → times slot (cond b (k ∷ claims_from (suc k) seat ss) (claims_from (suc k) seat ss)) ≡ cond b (only slot k) 0 + times slot (claims_from (suc k) seat ss)
+    by : (b : Bool)
+        → times slot (cond b (k ∷ claims_from (suc k) seat ss) (claims_from (suc k) seat ss))
+        ≡ cond b (only slot k) 0 + times slot (claims_from (suc k) seat ss)
     by true = refl
     by false = omega arith
 
 abbrev together : ℕ → ℕ → ℕ → List ℕ → ℕ
 together w slot k ss = weigh_below (λ seat. times slot (claims_from k seat ss)) w
 
-together-cons : (w slot k s : ℕ) (ss : List ℕ) → s < w → together w slot k (s ∷ ss) ≡ only slot k + together w slot (suc k) ss
+together-cons : (w slot k s : ℕ) (ss : List ℕ) → s < w
+    → together w slot k (s ∷ ss) ≡ only slot k + together w slot (suc k) ss
 together-cons w slot k s ss below =
-    weigh_below-same (λ seat. times slot (claims_from k seat (s ∷ ss))) (λ seat. at s (only slot k) seat + times slot (claims_from (suc k) seat ss)) w (λ seat. times-claims slot k seat s ss)
+    weigh_below-same (λ seat. times slot (claims_from k seat (s ∷ ss)))
+    (λ seat. at s (only slot k) seat + times slot (claims_from (suc k) seat ss)) w (λ seat. times-claims slot k seat s ss)
     ∙ (weigh_below-add (at s (only slot k)) (λ seat. times slot (claims_from (suc k) seat ss)) w
     ∙ ap (λ n. n + together w slot (suc k) ss) (weigh_below-at s (only slot k) w below))
 
@@ -82,18 +88,24 @@ comes w slot k (s ∷ ss) seats from to =
     (λ other. let r = comes w slot (suc k) ss others (omega arith) (omega arith) in
     let e = only-other slot k other in omega arith)
 
-within-cons : (k n : ℕ) (rest : List ℕ) → All (λ x. x < suc k + n) rest → (b : Bool) → All (λ x. x < k + suc n) (cond b (k ∷ rest) rest)
-within-cons k n rest below true = All-cons (λ x. x < k + suc n) k rest (omega arith) (All-weaker (λ x. x < suc k + n) (λ x. x < k + suc n) (λ x h. omega arith) rest below)
+within-cons : (k n : ℕ) (rest : List ℕ) → All (λ x. x < suc k + n) rest → (b : Bool)
+    → All (λ x. x < k + suc n) (cond b (k ∷ rest) rest)
+within-cons k n rest below true =
+    let others = All-weaker (λ x. x < suc k + n) (λ x. x < k + suc n) (λ x h. omega arith) rest below in
+    All-cons (λ x. x < k + suc n) k rest (omega arith) others
 within-cons k n rest below false = All-weaker (λ x. x < suc k + n) (λ x. x < k + suc n) (λ x h. omega arith) rest below
 
 -- a claim is a place of the schedule
 within : (k seat : ℕ) (ss : List ℕ) → All (λ x. x < k + length ss) (claims_from k seat ss)
 within k seat [] = All-nil (λ x. x < k + 0)
-within k seat (s ∷ ss) = within-cons k (length ss) (claims_from (suc k) seat ss) (within (suc k) seat ss) (nat_eq s seat)
+within k seat (s ∷ ss) =
+    within-cons k (length ss) (claims_from (suc k) seat ss) (within (suc k) seat ss) (nat_eq s seat)
 
 pub each_once : EachIsClaimedOnce
 each_once w n schedule is ended slot below =
     let end = ended 0 is.some_seat in
-    let last = (All-push' (λ x. x < 0 + length schedule) (claims_of 0 schedule) end.earlier end.last end.claims_are (within 0 0 schedule)).1 in
+    let Within : ℕ → Type 0 = λ x. x < 0 + length schedule in
+    let all = within 0 0 schedule in
+    let last = (All-push' Within (claims_of 0 schedule) end.earlier end.last end.claims_are all).1 in
     let past = end.last_is in
     comes w slot 0 schedule is.seats (omega arith) (omega arith)

@@ -1,5 +1,6 @@
 -- What the workers leave, and what is gathered from it.
-use Rattle.std.specs.Prelude.{◌≡◌, ℕ, ◌+◌, ◌<◌, cond, nat_eq, nat_lt, List, [], ◌∷◌, All, IsSomeAnd, Option, Some, None, map, sum_by, vec_len}
+use Rattle.std.specs.Prelude.{◌≡◌, ℕ, ◌+◌, ◌<◌, cond, nat_eq, nat_lt, List, [], ◌∷◌, All, IsSomeAnd, Option, Some}
+use Rattle.std.specs.Prelude.{None, map, sum_by, vec_len}
 use Rattle.atomic_table.specs.Seated.{TableId}
 use Rattle.scr_workers.specs.declared.lane.Lane.{Lane}
 use Rattle.scr_workers.specs.declared.board.Board.{Board}

@@ -6,5 +6,5 @@ use scr_sheet::run_on_host;
 use std::process::ExitCode;
 
 fn main(rt: HostRuntime) -> ExitCode {
-    run_on_host(&rt)
+    run_on_host(&rt, &rt)
 }

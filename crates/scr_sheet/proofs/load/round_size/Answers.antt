@@ -3,9 +3,9 @@ use Rattle.scr_sheet.proofs.PartLaws.{IsCutShort-first}
 use Rattle.scr_sheet.proofs.load.round_size.Goals as goal
 
 pub returns-in_err-text-clause-size : goal.returns-in_err-text-clause-size
-returns-in_err-text-clause-size c =
+returns-in_err-text-clause-size g c =
     let p = err_from_is_err_and c.from_residual-in_err-text.result c.from_residual-in_err-text.ensures.1 in
     rw (p.1, p.2) (λ out unwritten. IsCutShort-first unwritten)
 
 pub returns-clause-size : goal.returns-clause-size
-returns-clause-size c = λ out unwritten. IsCutShort-first unwritten
+returns-clause-size g c = λ out unwritten. IsCutShort-first unwritten

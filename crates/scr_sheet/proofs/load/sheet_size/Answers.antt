@@ -6,11 +6,11 @@ use Rattle.scr_sheet.proofs.RunLaws.{events_of_parts, each_asked, round_parts-fa
 use Rattle.scr_sheet.proofs.load.sheet_size.Goals as goal
 
 pub rounds_size-requires-clause-tables : goal.rounds_size-requires-clause-tables
-rounds_size-requires-clause-tables c =
-    rw c.new.ensures.tables (each_asked c.in_ok-tables.tables c.args.rounds.now c.in_ok-tables.ensures.events)
+rounds_size-requires-clause-tables g c κs within =
+    rw c.new-making.ensures.tables (each_asked c.in_ok-tables.tables c.args.rounds.now c.in_ok-tables.ensures.events)
 
 pub returns : goal.returns
-returns c =
+returns g c =
     let tables = c.in_ok-tables.tables in
     let rounds = c.args.rounds.now in
     record {
@@ -18,13 +18,13 @@ returns c =
       making =
           inl (record {
             fair = round_parts-fair tables 0 rounds c.each_drawn_fairly.ensures c.requires.rounds.each (each_asked tables rounds c.in_ok-tables.ensures.events);
-            ends = rw (c.new.ensures.settings, c.default.ensures) at c.rounds_size.ensures.ends;
+            ends = rw (c.new-making.ensures.settings, c.default.ensures) at c.rounds_size.ensures.ends;
           });
       amounts = c.rounds_size.ensures.amounts;
     }
 
 pub returns-in_err-tables : goal.returns-in_err-tables
-returns-in_err-tables c =
+returns-in_err-tables g c =
     let p = err_from_is_err_and c.from_residual.result c.from_residual.ensures.1 in
     let why = c.in_err-tables.field-0.0 in
     rw (p.1, p.2)

@@ -6,8 +6,8 @@ use Rattle.scr_sheet.proofs.RunLaws.{events_of_parts, each_asked, round_parts-fa
 use Rattle.scr_sheet.proofs.parts.make_sheet.Goals as goal
 
 pub write_rounds-requires-clause-tables : goal.write_rounds-requires-clause-tables
-write_rounds-requires-clause-tables g c =
-    rw c.new.ensures.tables (each_asked c.in_ok-tables.tables c.args.rounds.now c.in_ok-tables.ensures.events)
+write_rounds-requires-clause-tables g c κs within =
+    rw c.new-making.ensures.tables (each_asked c.in_ok-tables.tables c.args.rounds.now c.in_ok-tables.ensures.events)
 
 pub returns : goal.returns
 returns g c =
@@ -15,7 +15,7 @@ returns g c =
     let rounds = c.args.rounds.now in
     inl (record {
       fair = round_parts-fair tables 0 rounds c.each_drawn_fairly.ensures c.requires.rounds.each (each_asked tables rounds c.in_ok-tables.ensures.events);
-      ends = rw c.new.ensures.settings at c.write_rounds.ensures;
+      ends = rw c.new-making.ensures.settings at c.write_rounds.ensures;
     })
 
 pub returns-in_err-tables : goal.returns-in_err-tables

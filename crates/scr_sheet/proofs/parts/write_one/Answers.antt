@@ -6,5 +6,5 @@ pub returns-clause-ends : goal.returns-clause-ends
 returns-clause-ends g c =
     inl (record {
       fair = one-fair c.in_ok-tables.tables c.args.event c.each_drawn_fairly.ensures c.in_ok-tables.ensures.event;
-      ends = rw (c.new.ensures.settings, c.default.ensures) at c.write_one_line.ensures.ends;
+      ends = rw (c.settings_of-settings.ensures, c.default.ensures) at c.write_one_line.ensures.ends;
     })

@@ -6,7 +6,9 @@ use Rattle.scr_workers.specs.Gather.{IsSeated, without_seat, list_in}
 use Rattle.scr_workers.specs.Rule.{weigh}
 use Rattle.std.proofs.lemmas.List.Sums.{sum_by_more}
 use Rattle.scr_workers.proofs.Keeps.{weigh-append}
-use Rattle.scr_workers.proofs.Steps.{length-first_done, first_done-all, step-first_done, at-first_done, start-first_done, sum_by-first}
+use Rattle.scr_workers.proofs.Steps.{length-first_done, first_done-all, step-first_done, at-first_done}
+use Rattle.scr_workers.proofs.Steps.{start-first_done}
+use Rattle.scr_workers.proofs.Steps.{sum_by-first}
 use Rattle.scr_workers.proofs.claims.join_seats.Goals as goal
 
 pub loop-k-init : goal.loop-k-init
@@ -16,12 +18,17 @@ loop-k-init g c =
     let xs : List A = c.args.lanes.now in
     let x : A = slice_index_or xs 0 d in
     let is : x.seat ≡ Some c.in-Some.seat = sym c.take.ensures.value ∙ c.in-Some.is in
-    let seated = subst (λ (o : Option Placed). IsSomeAnd o (λ (s : Placed). (s.table_id ≡ c.args.table.now.table.shared.table_id) × (s.me.1 ≡ []))) is (c.requires.seated 0 d c.requires.some) in record {
+    let word = c.args.table.now.table.shared.table_id in
+    let Seated : Option Placed → Type 0 = λ o. IsSomeAnd o (λ (s : Placed). (s.table_id ≡ word) × (s.me.1 ≡ [])) in
+    let seated = subst Seated is (c.requires.seated 0 d c.requires.some) in
+    let some = c.requires.some in record {
       of_table = seated.0;
       no_slot = seated.1;
-      weight = ap weight_in (sym is) ∙ sym (sum_by-first (λ (l : A). weight_in l.seat) xs d c.requires.some);
-      list = λ h. ap (λ o. weigh h (list_in o)) (sym is) ∙ sym (sum_by-first (λ (l : A). weigh h (list_in l.seat)) xs d c.requires.some);
-      lanes = step-first_done without_seat 0 xs xs _ d (start-first_done without_seat xs) c.requires.some (λ i. record { seat = c.take.ensures.after i; own = x.own });
+      weight = ap weight_in (sym is) ∙ sym (sum_by-first (λ (l : A). weight_in l.seat) xs d some);
+      list = λ h. let first = sym (sum_by-first (λ (l : A). weigh h (list_in l.seat)) xs d some) in
+          ap (λ o. weigh h (list_in o)) (sym is) ∙ first;
+      lanes = step-first_done without_seat 0 xs xs _ d (start-first_done without_seat xs) some
+          (λ i. record { seat = c.take.ensures.after i; own = x.own });
     }
 
 pub join_seat_of-requires-clause-seated : goal.join_seat_of-requires-clause-seated
@@ -35,7 +42,8 @@ join_seat_of-requires-clause-seated g c κs within =
     let auto = c.loop-k.auto.lanes in
     let test = c.loop-k-test.true in
     let h : c.loop-k.k < length xs = omega arith in
-    subst (IsSeated c.args.table.now.table.shared.table_id) (sym (at-first_done without_seat c.loop-k.k xs c.loop-k.lanes d inv.lanes)) (c.requires.seated c.loop-k.k d h)
+    let same_lane = sym (at-first_done without_seat c.loop-k.k xs c.loop-k.lanes d inv.lanes) in
+    subst (IsSeated c.args.table.now.table.shared.table_id) same_lane (c.requires.seated c.loop-k.k d h)
 
 pub loop-k-preserved : goal.loop-k-preserved
 loop-k-preserved g c =
@@ -55,7 +63,10 @@ loop-k-preserved g c =
       of_table = added.table.0 ∙ inv.of_table;
       no_slot = added.table.1 ∙ inv.no_slot;
       weight = let f : A → ℕ = λ l. weight_in l.seat in
-          let more = sum_by_more f xs k d h in let w = added.weight in let e : f (slice_index_or ys k d) ≡ f (slice_index_or xs k d) = ap f here in let before = inv.weight in omega arith;
+          let more = sum_by_more f xs k d h in
+          let w = added.weight in
+          let e : f (slice_index_or ys k d) ≡ f (slice_index_or xs k d) = ap f here in
+          let before = inv.weight in omega arith;
       list = λ h'. let f : A → ℕ = λ l. weigh h' (list_in l.seat) in
           let more = sum_by_more f xs k d h in
           let e : f (slice_index_or ys k d) ≡ f (slice_index_or xs k d) = ap f here in

@@ -8,8 +8,10 @@ use Rattle.scr_workers.proofs.claims.run_lanes.Goals as goal
 
 pub look-requires-clause-whole : goal.look-requires-clause-whole
 look-requires-clause-whole g c =
-    c.join_seats-seat.ensures.weight
-    ∙ (sum_by-agree (λ (l : Lane g.row.J-Out.Denot). weight_in l.seat) c.args.lanes.now c.run_workers.new.lanes c.run_workers.auto.lanes c.run_workers.ensures.weights ∙ c.requires.weights)
+    let ran = c.run_workers in
+    let weight_of : Lane g.row.J-Out.Denot → ℕ = λ l. weight_in l.seat in
+    let same = sum_by-agree weight_of c.args.lanes.now ran.new.lanes ran.auto.lanes ran.ensures.weights in
+    c.join_seats-seat.ensures.weight ∙ (same ∙ c.requires.weights)
 
 pub gather-requires-clause-lanes : goal.gather-requires-clause-lanes
 gather-requires-clause-lanes g c κs within =
@@ -17,9 +19,16 @@ gather-requires-clause-lanes g c κs within =
     let weights = c.requires.weights in
     let some = some_there (λ (l : A). weight_in l.seat) c.args.lanes.now (omega arith) in
     let same = c.run_workers.auto.lanes in
-    subst (HoldAnswers (length c.args.out.now) (g.J.Jobs.is_answer c.args.jobs.now)) (sym c.join_seats-seat.ensures.lanes)
-    (hold c.args.table.now.table.shared.table_id (length c.args.out.now) (g.J.Jobs.is_answer c.args.jobs.now) c.run_workers.new.lanes c.run_workers.ensures.run
-    c.join_seats-seat.result.me.0.list c.look.ensures.all.0 c.join_seats-seat.ensures.list c.look.ensures.all.1 (omega arith))
+    let ran = c.run_workers in
+    let joined = c.join_seats-seat in
+    let all = c.look.ensures.all in
+    let word = c.args.table.now.table.shared.table_id in
+    let slots : ℕ = length c.args.out.now in
+    let Is = g.J.Jobs.is_answer c.args.jobs.now in
+    let list = joined.result.me.0.list in
+    let held =
+    hold word slots Is ran.new.lanes ran.ensures.run list all.0 joined.ensures.list all.1 (omega arith) in
+    subst (HoldAnswers slots Is) (sym joined.ensures.lanes) held
 
 pub returns-clause-lanes : goal.returns-clause-lanes
 returns-clause-lanes g c =
@@ -32,6 +41,7 @@ returns-clause-lanes g c =
     let table = c.args.table.now.table.shared.table_id in
     let slots : ℕ = length c.args.out.now in
     let Is : ℕ → g.row.J-Out.Denot → Type 0 = g.J.Jobs.is_answer c.args.jobs.now in
+    let all = c.look.ensures.all in
     let lanes : List A = c.gather.new.lanes in
     let first : A = record { seat = Some c.look.new.seat; own = (slice_index_or lanes 0 c.index-lanes-0.result).own } in
     let list : List ℕ = c.join_seats-seat.result.me.0.list in record {
@@ -45,6 +55,6 @@ returns-clause-lanes g c =
       spent = All-drop IsSpent 1 lanes (all_spent table slots Is lanes c.run_workers.new.lanes
           (c.gather.ensures.seats ∙ ap (map (λ (l : A). l.seat)) c.join_seats-seat.ensures.lanes) c.gather.ensures.own);
       once = λ x. ap (λ m. times x m.0.list) c.look.ensures.same.1
-          ∙ (list_times table slots Is c.run_workers.new.lanes c.run_workers.ensures.run list c.look.ensures.all.0 c.join_seats-seat.ensures.list c.look.ensures.all.1 (omega arith) x
-          ∙ ap (λ n. once_below x (slots + n)) ran);
+          ∙ (list_times table slots Is c.run_workers.new.lanes c.run_workers.ensures.run list all.0
+          c.join_seats-seat.ensures.list all.1 (omega arith) x ∙ ap (λ n. once_below x (slots + n)) ran);
     }

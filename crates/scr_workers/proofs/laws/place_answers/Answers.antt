@@ -12,12 +12,15 @@ loop-slot-preserved-in-Some g c =
     let out = c.loop-slot.out in
     let before = c.loop-slot.lane.own.items in
     let after = c.pop.new.self.items in
+    let slot = c.in-Some.slot in
+    let answer = c.in-Some.answer in
     let popped = c.in-Some.ensures.items in
-    let all = All-push' (HasSlotAnswer (length out) Is) before after (c.in-Some.slot, c.in-Some.answer) popped inv.mine in record {
+    let all = All-push' (HasSlotAnswer (length out) Is) before after (slot, answer) popped inv.mine in
+    let same = sym (length-set out slot (Some answer)) in record {
       seat = inv.seat;
-      mine = subst (λ n. All (HasSlotAnswer n Is) after) (sym (length-set out c.in-Some.slot (Some c.in-Some.answer))) all.0;
-      kept = λ k h. kept_set Is out c.in-Some.slot c.in-Some.answer all.1.0 all.1.1 k (inv.kept k h);
-      placed = λ k h. placed_set Is before after out c.in-Some.slot c.in-Some.answer popped all.1.0 all.1.1 k (inv.placed k h);
+      mine = subst (λ n. All (HasSlotAnswer n Is) after) same all.0;
+      kept = λ k h. kept_set Is out slot answer all.1.0 all.1.1 k (inv.kept k h);
+      placed = λ k h. placed_set Is before after out slot answer popped all.1.0 all.1.1 k (inv.placed k h);
     }
 
 pub loop-slot-preserved : goal.loop-slot-preserved
@@ -27,10 +30,13 @@ loop-slot-preserved g c =
     let out = c.loop-slot.out in
     let before = c.loop-slot.lane.own.items in
     let after = c.pop.new.self.items in
+    let slot = c.in-Some.slot in
+    let answer = c.in-Some.answer in
     let popped = c.in-Some.ensures.items in
-    let all = All-push' (HasSlotAnswer (length out) Is) before after (c.in-Some.slot, c.in-Some.answer) popped inv.mine in record {
+    let all = All-push' (HasSlotAnswer (length out) Is) before after (slot, answer) popped inv.mine in
+    let same = sym (length-set out slot (Some answer)) in record {
       seat = inv.seat;
-      mine = subst (λ n. All (HasSlotAnswer n Is) after) (sym (length-set out c.in-Some.slot (Some c.in-Some.answer))) all.0;
-      kept = λ k h. kept_set Is out c.in-Some.slot c.in-Some.answer all.1.0 all.1.1 k (inv.kept k h);
-      placed = λ k h. placed_set Is before after out c.in-Some.slot c.in-Some.answer popped all.1.0 all.1.1 k (inv.placed k h);
+      mine = subst (λ n. All (HasSlotAnswer n Is) after) same all.0;
+      kept = λ k h. kept_set Is out slot answer all.1.0 all.1.1 k (inv.kept k h);
+      placed = λ k h. placed_set Is before after out slot answer popped all.1.0 all.1.1 k (inv.placed k h);
     }

@@ -9,8 +9,10 @@ abbrev pub invariant-loop-slot : goal.invariant-loop-slot
 invariant-loop-slot g l = record {
   seat : l.lane.seat ≡ l.initial.lane.seat;
   mine : All (HasSlotAnswer (length l.out) (g.J.Jobs.is_answer l.jobs)) l.lane.own.items;
-  kept : (k : ℕ) → HasAnswer (g.J.Jobs.is_answer l.jobs) l.initial.out k → HasAnswer (g.J.Jobs.is_answer l.jobs) l.out k;
-  placed : (k : ℕ) → 0 < times k (map slot_of l.initial.lane.own.items) → (0 < times k (map slot_of l.lane.own.items)) ⊎ HasAnswer (g.J.Jobs.is_answer l.jobs) l.out k;
+  kept : (k : ℕ) → HasAnswer (g.J.Jobs.is_answer l.jobs) l.initial.out k
+      → HasAnswer (g.J.Jobs.is_answer l.jobs) l.out k;
+  placed : (k : ℕ) → 0 < times k (map slot_of l.initial.lane.own.items)
+      → (0 < times k (map slot_of l.lane.own.items)) ⊎ HasAnswer (g.J.Jobs.is_answer l.jobs) l.out k;
 }
 
 abbrev pub decreases-loop-slot : goal.decreases-loop-slot

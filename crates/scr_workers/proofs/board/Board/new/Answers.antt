@@ -1,4 +1,4 @@
-use Rattle.std.proofs.Common.{◌≡◌, ◌+◌, ◌-◌, ◌++◌, ◌∷◌, [], ap, ◌∙◌, arith, Some}
+use Rattle.std.proofs.Common.{◌≡◌, ℕ, ◌+◌, ◌-◌, ◌++◌, ◌∷◌, [], ap, ◌∙◌, arith, Some}
 use Rattle.std.specs.Prelude.{sum_by}
 use Rattle.std.proofs.lemmas.List.Elements.{All-push}
 use Rattle.std.proofs.lemmas.List.Sums.{sum_by_push}
@@ -29,20 +29,25 @@ loop-worker-preserved g c =
     let most = c.requires.1 in
     let test = c.loop-worker-test.true in
     let split = c.split_seat-part.ensures in
-    let left : c.split_seat-part.new.seat.me.0.weight ≡ c.loop-worker.first.me.0.weight - 1 = ap (λ m. m.0.weight) split.2 in
+    let left : c.split_seat-part.new.seat.me.0.weight ≡ c.loop-worker.first.me.0.weight - 1 =
+    ap (λ m. m.0.weight) split.2 in
     let part : c.split_seat-part.result.me.0.weight ≡ 1 = ap (λ m. m.0.weight) split.4 in
     let pushed = c.push_reserved.ensures in
     let len = pushed.len in
     let capacity = pushed.capacity in
     let lane : Lane g.row.T.Denot = record { seat = Some c.split_seat-part.result; own = c.in_ok-own.own } in
-    let sum : sum_by (λ (l : Lane g.row.T.Denot). weight_in l.seat) (c.loop-worker.lanes.items ++ lane ∷ []) ≡ sum_by (λ (l : Lane g.row.T.Denot). weight_in l.seat) c.loop-worker.lanes.items + weight_in lane.seat = sum_by_push (λ (l : Lane g.row.T.Denot). weight_in l.seat) c.loop-worker.lanes.items lane in
+    let lanes = c.loop-worker.lanes.items in
+    let weight_of : Lane g.row.T.Denot → ℕ = λ l. weight_in l.seat in
+    let sum : sum_by weight_of (lanes ++ lane ∷ []) ≡ sum_by weight_of lanes + weight_in lane.seat =
+    sum_by_push weight_of lanes lane in
+    let Fresh = IsFreshLane c.in_ok-table.table.shared.table_id c.args.slots in
     let before = inv.weights in record {
       of_table = split.0 ∙ inv.of_table;
       weight_is = omega arith;
       no_claim = ap (λ m. m.0.list) split.2 ∙ inv.no_claim;
       no_slot = ap (λ m. m.1) split.2 ∙ inv.no_slot;
       count = omega arith;
-      lanes = rw pushed.items (All-push (IsFreshLane c.in_ok-table.table.shared.table_id c.args.slots) c.loop-worker.lanes.items lane inv.lanes record {
+      lanes = rw pushed.items (All-push Fresh lanes lane inv.lanes record {
         seated = record {
           of_word = split.3 ∙ inv.of_table;
           some_weight = omega arith;
@@ -69,10 +74,14 @@ returns g c =
     let pushed = c.push_reserved-2.ensures in
     let len = pushed.len in
     let lane : Lane g.row.T.Denot = record { seat = Some c.loop-worker.first; own = c.in_ok-own-2.own } in
-    let sum : sum_by (λ (l : Lane g.row.T.Denot). weight_in l.seat) (c.loop-worker.lanes.items ++ lane ∷ []) ≡ sum_by (λ (l : Lane g.row.T.Denot). weight_in l.seat) c.loop-worker.lanes.items + weight_in lane.seat = sum_by_push (λ (l : Lane g.row.T.Denot). weight_in l.seat) c.loop-worker.lanes.items lane in
+    let lanes = c.loop-worker.lanes.items in
+    let weight_of : Lane g.row.T.Denot → ℕ = λ l. weight_in l.seat in
+    let sum : sum_by weight_of (lanes ++ lane ∷ []) ≡ sum_by weight_of lanes + weight_in lane.seat =
+    sum_by_push weight_of lanes lane in
+    let Fresh = IsFreshLane c.in_ok-table.table.shared.table_id c.args.slots in
     let before = inv.weights in record {
       workers_is = omega arith;
-      lanes = rw pushed.items (All-push (IsFreshLane c.in_ok-table.table.shared.table_id c.args.slots) c.loop-worker.lanes.items lane inv.lanes record {
+      lanes = rw pushed.items (All-push Fresh lanes lane inv.lanes record {
         seated = record {
           of_word = inv.of_table;
           some_weight = omega arith;

@@ -1,0 +1,80 @@
+//! The slots of a round as jobs for workers.
+
+ghost use Rattle.std.specs.Prelude.{◌≡◌, ◌≤◌, ◌<◌};
+ghost use Rattle.scr_notation.specs.EventSets.{Has};
+ghost use Rattle.scr_list.specs.Rounds.{IsRound};
+ghost use Rattle.scr_sheet.specs.Making.{RoundSlots};
+
+use scr_list::Round;
+use scr_notation::Scramble;
+use scr_slots::{Settings, Tables, slot_answer};
+use scr_workers::Jobs;
+use std::marker::Model;
+
+/// The slots of round `index` of a list. An answer of a slot is its scramble, or that it has none.
+#[derive(Drop)]
+pub(crate) struct SlotJobs<'a> {
+    tables: &'a Tables,
+    settings: &'a Settings,
+    index: u32,
+    round: &'a Round,
+}
+
+// Clauses see which slots they are, and not by which tables they are answered.
+impl<'a> Model for SlotJobs<'a> {
+    ghost use Rattle.std.specs.Prelude.{◌<◌, ◌≤◌};
+    ghost use Rattle.scr_notation.specs.EventSets.{Has};
+    ghost use Rattle.scr_list.specs.Rounds.{IsRound};
+    ghost use Rattle.scr_sheet.specs.Making.{RoundSlots};
+
+    ghost Value = { RoundSlots };
+
+    ghost view = { λ jobs. record { settings = jobs.settings.now; index = jobs.index; round = jobs.round.now } };
+
+    ghost invariant = { λ jobs. Has jobs.tables.now jobs.round.now.event × (jobs.index < 256) × IsRound jobs.round.now
+        × (jobs.settings.now.attempts ≤ 1000000) };
+}
+
+impl<'a> SlotJobs<'a> {
+    /// The slots of a round, made with these tables and settings.
+    pub fn new(
+        tables: &'a Tables,
+        settings: &'a Settings,
+        index: u32,
+        round: &'a Round,
+    ) -> SlotJobs<'a>
+        requires tables { Has tables.now round.now.event }
+        requires index { index < 256 }
+        requires round { IsRound round.now }
+        requires attempts { settings.now.attempts ≤ 1000000 }
+        ensures { result ≡ record { settings = settings.now; index = index; round = round.now } }
+    {
+        SlotJobs {
+            tables,
+            settings,
+            index,
+            round,
+        }
+    }
+}
+
+impl<'a> Jobs for SlotJobs<'a> {
+    ghost use Rattle.std.specs.Prelude.{◌+◌};
+    ghost use Rattle.scr_round.specs.Round.{slots_of};
+    ghost use Rattle.scr_slots.specs.Events.{scrambling_of};
+    ghost use Rattle.scr_slots.specs.Slots.{IsSlotAnswer, first_stream};
+
+    type Out = Option<Scramble>;
+
+    ghost slots = { λ jobs. slots_of jobs.round };
+
+    ghost is_answer = { λ jobs slot answer.
+        IsSlotAnswer (scrambling_of jobs.round.event) jobs.settings jobs.round.least
+        (first_stream jobs.index + slot) answer };
+
+    fn job(&self, slot: u32) -> Option<Scramble> {
+        let stream = 1024 * u64::from(self.index) + u64::from(slot);
+        let least = u32::from(self.round.least);
+        slot_answer(self.tables, self.round.event, self.settings, least, stream)
+    }
+}
