@@ -12,7 +12,7 @@ use Rattle.scr_draw.specs.Drawn.{drawn}
 use Rattle.scr_draw.specs.FirstHit.{numbers_read}
 use Rattle.scr_notation.specs.declared.turn.Turn.{Turn}
 use Rattle.scr_bigs.specs.Choices.{choice_of}
-use Rattle.scr_bigs.specs.BigCubes.{BigCube, Slab, slab, slabs_of, axis_of, same_slab, slab_may_follow, all_turns, may_follow, turns_after}
+use Rattle.scr_bigs.specs.BigCubes.{BigCube, Slab, slab, slabs_of, axis_of_slab, same_slab, slab_may_follow, cube_turns, may_follow, turns_after}
 use Rattle.scr_bigs.specs.CubeMoves.{moves_from, cube_moves}
 use Rattle.scr_bigs.specs.Following.{StandsBehind, SlabMayFollow, AreCubeTurns}
 use Rattle.scr_bigs.proofs.MoveLaws.{moves-next, moves-refused, moves-end}
@@ -131,17 +131,17 @@ behind-tells slabs before next = (
 
 pub follow-tells : (cube : BigCube) (before next : Slab) → IsTrue (slab_may_follow cube before next) ↔ SlabMayFollow cube before next
 follow-tells cube before next =
-    let same : Bool = axis_of before == axis_of next in
-    let later : Bool = list_any (same_slab next) (after_first (same_slab before) (slabs_of cube (axis_of before))) in
-    let tells = behind-tells (slabs_of cube (axis_of before)) before next in (
+    let same : Bool = axis_of_slab before == axis_of_slab next in
+    let later : Bool = list_any (same_slab next) (after_first (same_slab before) (slabs_of cube (axis_of_slab before))) in
+    let tells = behind-tells (slabs_of cube (axis_of_slab before)) before next in (
       λ h.
           elim (or_cases (not same) later h) [
-            | inl apart ↦ inl (λ e. both_ways same (not-true same apart) (eq-eqb (axis_of before) (axis_of next) e))
+            | inl apart ↦ inl (λ e. both_ways same (not-true same apart) (eq-eqb (axis_of_slab before) (axis_of_slab next) e))
             | inr behind ↦ inr (tells.0 behind)
           ],
       λ h.
           elim h [
-            | inl apart ↦ or_left (not same) later (ap not (ne_eqb (axis_of before) (axis_of next) apart))
+            | inl apart ↦ or_left (not same) later (ap not (ne_eqb (axis_of_slab before) (axis_of_slab next) apart))
             | inr behind ↦ or_right (not same) later (tells.1 behind)
           ],
     )
@@ -171,7 +171,7 @@ choice-among {X} choices v x is = at (answer (length choices) v) is
 -- some turns, of which the first is one of these choices
 record IsChain (cube : BigCube) (choices : List Turn) (n : ℕ) (turns : List Turn) : Type 0 where
   count : length turns ≡ n
-  each : All (Contains (all_turns cube)) turns
+  each : All (Contains (cube_turns cube)) turns
   first : (turn : Turn) → slice_get turns 0 ≡ Some turn → Contains choices turn
   follow : (i : ℕ) (before next : Turn) → slice_get turns i ≡ Some before → slice_get turns (i + 1) ≡ Some next → IsTrue (may_follow cube before next)
 
@@ -179,7 +179,7 @@ chain-none : (cube : BigCube) (choices turns : List Turn) → Some [] ≡ Some t
 chain-none cube choices turns is =
     let none = same_Some [] turns is in
     subst (IsChain cube choices 0) none
-    (record { count = refl; each = All-nil (Contains (all_turns cube)); first = λ turn at. cc; follow = λ i before next at at_next. cc })
+    (record { count = refl; each = All-nil (Contains (cube_turns cube)); first = λ turn at. cc; follow = λ i before next at at_next. cc })
 
 follow-more : (cube : BigCube) (turn : Turn) (more : List Turn) (n : ℕ) → IsChain cube (turns_after cube turn) n more
     → (i : ℕ) (before next : Turn) → slice_get (turn ∷ more) i ≡ Some before → slice_get (turn ∷ more) (i + 1) ≡ Some next
@@ -189,26 +189,26 @@ follow-more cube turn more n chain zero before next at at_next =
     let same = same_Some turn before at in
     let among = chain.first next at_next in
     subst (λ t. IsTrue (may_follow cube t next)) same
-    (All-contains (λ t. may_follow cube turn t ≡ true) (turns_after cube turn) next (filter_passes (may_follow cube turn) (all_turns cube)) among)
+    (All-contains (λ t. may_follow cube turn t ≡ true) (turns_after cube turn) next (filter_passes (may_follow cube turn) (cube_turns cube)) among)
 follow-more cube turn more n chain (suc i) before next at at_next =
     let place : suc i + 1 ≡ suc (i + 1) = omega arith in
     chain.follow i before next at (ap (slice_get (turn ∷ more)) (sym place) ∙ at_next)
 
-chain-more : (cube : BigCube) (choices : List Turn) (turn : Turn) (more : List Turn) (n : ℕ) → All (Contains (all_turns cube)) choices
+chain-more : (cube : BigCube) (choices : List Turn) (turn : Turn) (more : List Turn) (n : ℕ) → All (Contains (cube_turns cube)) choices
     → Contains choices turn → IsChain cube (turns_after cube turn) n more → IsChain cube choices (suc n) (turn ∷ more)
 chain-more cube choices turn more n each among chain = record {
   count = ap suc chain.count;
-  each = All-cons (Contains (all_turns cube)) turn more (All-contains (Contains (all_turns cube)) choices turn each among) chain.each;
+  each = All-cons (Contains (cube_turns cube)) turn more (All-contains (Contains (cube_turns cube)) choices turn each among) chain.each;
   first = λ t at. subst (Contains choices) (same_Some turn t at) among;
   follow = follow-more cube turn more n chain;
 }
 
-all_after : (cube : BigCube) (turn : Turn) → All (Contains (all_turns cube)) (turns_after cube turn)
+all_after : (cube : BigCube) (turn : Turn) → All (Contains (cube_turns cube)) (turns_after cube turn)
 unfolding turns_after
-all_after cube turn = All-filter (may_follow cube turn) (Contains (all_turns cube)) (all_turns cube) (All-contains_itself (all_turns cube))
+all_after cube turn = All-filter (may_follow cube turn) (Contains (cube_turns cube)) (cube_turns cube) (All-contains_itself (cube_turns cube))
 
 module _ (cube : BigCube) (attempts : ℕ) (word : ℕ → ℕ) where
-  chain-of : (n : ℕ) (choices : List Turn) (place : ℕ) (turns : List Turn) → All (Contains (all_turns cube)) choices
+  chain-of : (n : ℕ) (choices : List Turn) (place : ℕ) (turns : List Turn) → All (Contains (cube_turns cube)) choices
       → moves_from cube attempts word choices place n ≡ Some turns → IsChain cube choices n turns
   chain-of zero choices place turns each is = chain-none cube choices turns (sym (moves-end cube attempts word choices place) ∙ is)
   chain-of (suc n) choices place turns each is =
@@ -237,5 +237,5 @@ module _ (cube : BigCube) (attempts : ℕ) (word : ℕ → ℕ) where
 pub moves-turns : (cube : BigCube) (attempts place : ℕ) (word : ℕ → ℕ) (turns : List Turn) → cube_moves cube attempts word place ≡ Some turns
     → AreCubeTurns cube turns
 moves-turns cube attempts place word turns is =
-    let chain = chain-of cube attempts word cube.turns (all_turns cube) place turns (All-contains_itself (all_turns cube)) is in
+    let chain = chain-of cube attempts word cube.turns (cube_turns cube) place turns (All-contains_itself (cube_turns cube)) is in
     record { count = chain.count; each = chain.each; follow = chain.follow }

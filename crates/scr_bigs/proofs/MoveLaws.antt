@@ -6,7 +6,7 @@ use Rattle.scr_draw.specs.Drawn.{drawn}
 use Rattle.scr_draw.specs.FirstHit.{numbers_read}
 use Rattle.scr_notation.specs.declared.turn.Turn.{Turn}
 use Rattle.scr_bigs.specs.Choices.{choice_of}
-use Rattle.scr_bigs.specs.BigCubes.{BigCube, all_turns, turns_after}
+use Rattle.scr_bigs.specs.BigCubes.{BigCube, cube_turns, turns_after}
 use Rattle.scr_bigs.specs.CubeMoves.{moves_from, attempts_read, cube_moves}
 
 -- turns before those that follow
@@ -54,7 +54,7 @@ module _ (cube : BigCube) (attempts : ℕ) (word : ℕ → ℕ) where
 pub record AreMade (cube : BigCube) (attempts : ℕ) (word : ℕ → ℕ) (place : ℕ) (word_now : ℕ → ℕ) (choices : List Turn) (place_now made : ℕ) (turns : List Turn) : Type 0 where
   pub same_words : word_now ≡ word
   pub moves : cube_moves cube attempts word place ≡ behind turns (moves_from cube attempts word choices place_now (cube.turns - made))
-  pub read : place + 3 * attempts_read cube attempts word (all_turns cube) place cube.turns
+  pub read : place + 3 * attempts_read cube attempts word (cube_turns cube) place cube.turns
       ≡ place_now + 3 * attempts_read cube attempts word choices place_now (cube.turns - made)
 
 behind-none : (rest : Option (List Turn)) → behind [] rest ≡ rest
@@ -67,13 +67,13 @@ behind-more turns turn None = refl
 behind-more turns turn (Some more) = ap Some (sym (append_assoc turns (turn ∷ []) more))
 
 module _ {cube : BigCube} {attempts : ℕ} {word : ℕ → ℕ} {place : ℕ} where
-  pub none-made : AreMade cube attempts word place word (all_turns cube) place 0 []
+  pub none-made : AreMade cube attempts word place word (cube_turns cube) place 0 []
   none-made = record {
     same_words = refl;
     moves =
-        ap (λ n. moves_from cube attempts word (all_turns cube) place n) (omega arith)
-        ∙ sym (behind-none (moves_from cube attempts word (all_turns cube) place (cube.turns - 0)));
-    read = ap (λ n. place + 3 * attempts_read cube attempts word (all_turns cube) place n) (omega arith);
+        ap (λ n. moves_from cube attempts word (cube_turns cube) place n) (omega arith)
+        ∙ sym (behind-none (moves_from cube attempts word (cube_turns cube) place (cube.turns - 0)));
+    read = ap (λ n. place + 3 * attempts_read cube attempts word (cube_turns cube) place n) (omega arith);
   }
 
   module _ {word_now : ℕ → ℕ} {choices : List Turn} {place_now made : ℕ} {turns : List Turn}
@@ -136,7 +136,7 @@ module _ {cube : BigCube} {attempts : ℕ} {word : ℕ → ℕ} {place : ℕ} wh
 
       pub none-more-read : (place_next : ℕ) → drawn (choice_of choices) (attempt_values word_now place_now attempts) ≡ None
           → place_next ≡ place_now + 3 * numbers_read (choice_of choices) (attempt_values word_now place_now attempts)
-          → place_next ≡ place + 3 * attempts_read cube attempts word (all_turns cube) place cube.turns
+          → place_next ≡ place + 3 * attempts_read cube attempts word (cube_turns cube) place cube.turns
       none-more-read place_next refused there =
           let place_is = place-next place_next there in
           let step =
@@ -156,7 +156,7 @@ module _ {cube : BigCube} {attempts : ℕ} {word : ℕ → ℕ} {place : ℕ} wh
           ∙ ap (behind turns) (ap (moves_from cube attempts word choices place_now) none-left ∙ moves-end cube attempts word choices place_now)
           ∙ ap Some (append-nil turns)
 
-      pub all-made-read : place_now ≡ place + 3 * attempts_read cube attempts word (all_turns cube) place cube.turns
+      pub all-made-read : place_now ≡ place + 3 * attempts_read cube attempts word (cube_turns cube) place cube.turns
       all-made-read =
           let last = ap (attempts_read cube attempts word choices place_now) none-left ∙ read-end cube attempts word choices place_now in
           let before = so_far.read in

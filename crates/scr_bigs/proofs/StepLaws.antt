@@ -8,7 +8,7 @@ use Rattle.scr_draw.specs.FirstHit.{numbers_read}
 use Rattle.scr_notation.specs.declared.turn.Turn.{Turn}
 use Rattle.scr_notation.specs.Turns.{permits}
 use Rattle.scr_bigs.specs.Choices.{choice_of, IsFairChoice}
-use Rattle.scr_bigs.specs.BigCubes.{IsSide, cube_of, all_turns, turns_after}
+use Rattle.scr_bigs.specs.BigCubes.{IsSide, cube_of, cube_turns, turns_after}
 use Rattle.scr_bigs.specs.Fairness.{AreFairTurns}
 use Rattle.scr_bigs.specs.LeftOut.{without}
 use Rattle.scr_bigs.proofs.ListLaws.{slice_get-without_before, slice_get-without_behind, length-without}
@@ -23,52 +23,52 @@ OnErr-always (Err e) p = p
 -- ---- the turns that are left when some are left out
 
 module _ (side first count : ℕ) (is : IsSide side) (within : first + count ≤ turn_count side) where
-  fits : first + count ≤ length (all_turns (cube_of side))
+  fits : first + count ≤ length (cube_turns (cube_of side))
   fits = omega (arith, length-turns side is)
 
-  pub length-left : length (without first count (all_turns (cube_of side))) ≡ turn_count side - count
-  length-left = omega (arith, length-without first count (all_turns (cube_of side)) fits, length-turns side is)
+  pub length-left : length (without first count (cube_turns (cube_of side))) ≡ turn_count side - count
+  length-left = omega (arith, length-without first count (cube_turns (cube_of side)) fits, length-turns side is)
 
   module _ (some : count < turn_count side) where
-    some-left : 1 ≤ length (without first count (all_turns (cube_of side)))
+    some-left : 1 ≤ length (without first count (cube_turns (cube_of side)))
     some-left = omega (arith, length-left)
 
     -- the turn with the number that is drawn, or none
     pub drawn-left : (values : List ℕ)
-        → drawn (choice_of (without first count (all_turns (cube_of side)))) values
-        ≡ option_and_then (slice_get (without first count (all_turns (cube_of side)))) (drawn (number_hit (turn_count side - count)) values)
+        → drawn (choice_of (without first count (cube_turns (cube_of side)))) values
+        ≡ option_and_then (slice_get (without first count (cube_turns (cube_of side)))) (drawn (number_hit (turn_count side - count)) values)
     drawn-left values =
-        drawn-choice (without first count (all_turns (cube_of side))) some-left values
-        ∙ ap (λ n. option_and_then (slice_get (without first count (all_turns (cube_of side)))) (drawn (number_hit n) values)) length-left
+        drawn-choice (without first count (cube_turns (cube_of side))) some-left values
+        ∙ ap (λ n. option_and_then (slice_get (without first count (cube_turns (cube_of side)))) (drawn (number_hit n) values)) length-left
 
     pub read-left : (values : List ℕ)
-        → numbers_read (choice_of (without first count (all_turns (cube_of side)))) values ≡ numbers_read (number_hit (turn_count side - count)) values
+        → numbers_read (choice_of (without first count (cube_turns (cube_of side)))) values ≡ numbers_read (number_hit (turn_count side - count)) values
     read-left values =
-        numbers_read-choice (without first count (all_turns (cube_of side))) some-left values
+        numbers_read-choice (without first count (cube_turns (cube_of side))) some-left values
         ∙ ap (λ n. numbers_read (number_hit n) values) length-left
 
     pub none-left : (values : List ℕ) → drawn (number_hit (turn_count side - count)) values ≡ None
-        → drawn (choice_of (without first count (all_turns (cube_of side)))) values ≡ None
+        → drawn (choice_of (without first count (cube_turns (cube_of side)))) values ≡ None
     none-left values none =
-        drawn-left values ∙ ap (option_and_then (slice_get (without first count (all_turns (cube_of side))))) none
+        drawn-left values ∙ ap (option_and_then (slice_get (without first count (cube_turns (cube_of side))))) none
 
     -- a choice below the left out turns has its own number, and one behind them its number and as many
     pub left-before : (values : List ℕ) (choice : ℕ) (turn : Turn) → drawn (number_hit (turn_count side - count)) values ≡ Some choice
-        → choice < first → slice_get (all_turns (cube_of side)) choice ≡ Some turn
-        → drawn (choice_of (without first count (all_turns (cube_of side)))) values ≡ Some turn
+        → choice < first → slice_get (cube_turns (cube_of side)) choice ≡ Some turn
+        → drawn (choice_of (without first count (cube_turns (cube_of side)))) values ≡ Some turn
     left-before values choice turn drawn_is below there =
-        drawn-left values ∙ ap (option_and_then (slice_get (without first count (all_turns (cube_of side))))) drawn_is
-        ∙ slice_get-without_before first count (all_turns (cube_of side)) choice fits below ∙ there
+        drawn-left values ∙ ap (option_and_then (slice_get (without first count (cube_turns (cube_of side))))) drawn_is
+        ∙ slice_get-without_before first count (cube_turns (cube_of side)) choice fits below ∙ there
 
     pub left-behind : (values : List ℕ) (choice : ℕ) (turn : Turn) → drawn (number_hit (turn_count side - count)) values ≡ Some choice
-        → first ≤ choice → slice_get (all_turns (cube_of side)) (choice + count) ≡ Some turn
-        → drawn (choice_of (without first count (all_turns (cube_of side)))) values ≡ Some turn
+        → first ≤ choice → slice_get (cube_turns (cube_of side)) (choice + count) ≡ Some turn
+        → drawn (choice_of (without first count (cube_turns (cube_of side)))) values ≡ Some turn
     left-behind values choice turn drawn_is past there =
-        drawn-left values ∙ ap (option_and_then (slice_get (without first count (all_turns (cube_of side))))) drawn_is
-        ∙ slice_get-without_behind first count (all_turns (cube_of side)) choice fits past ∙ there
+        drawn-left values ∙ ap (option_and_then (slice_get (without first count (cube_turns (cube_of side))))) drawn_is
+        ∙ slice_get-without_behind first count (cube_turns (cube_of side)) choice fits past ∙ there
 
 -- a turn with a number is one of the event
-pub turn-permitted : (side n : ℕ) (turn : Turn) → IsSide side → n < turn_count side → slice_get (all_turns (cube_of side)) n ≡ Some turn
+pub turn-permitted : (side n : ℕ) (turn : Turn) → IsSide side → n < turn_count side → slice_get (cube_turns (cube_of side)) n ≡ Some turn
     → IsTrue (permits (cube_of side).event turn)
 turn-permitted side n turn is below there =
     let same = same_Some _ _ (sym (turn-at side n is below) ∙ there) in
@@ -76,11 +76,11 @@ turn-permitted side n turn is below there =
 
 -- ---- fairness
 
-turns-differ : (side : ℕ) → IsSide side → Differ (all_turns (cube_of side))
+turns-differ : (side : ℕ) → IsSide side → Differ (cube_turns (cube_of side))
 turns-differ side is i j x at_i at_j =
     let size = length-turns side is in
-    let inside_i = slice_get_within (all_turns (cube_of side)) i x at_i in
-    let inside_j = slice_get_within (all_turns (cube_of side)) j x at_j in
+    let inside_i = slice_get_within (cube_turns (cube_of side)) i x at_i in
+    let inside_j = slice_get_within (cube_turns (cube_of side)) j x at_j in
     let below_i : i < turn_count side = omega (arith, inside_i, size) in
     let below_j : j < turn_count side = omega (arith, inside_j, size) in
     same-number side i j is below_i below_j
@@ -117,7 +117,7 @@ some-turns side is = let large = is.large in omega arith
 
 pub fair-turns : (side : ℕ) → IsSide side → AreFairTurns (cube_of side)
 fair-turns side is =
-    let turns = all_turns (cube_of side) in
+    let turns = cube_turns (cube_of side) in
     let size = length-turns side is in
     let some = some-turns side is in
     record {

@@ -13,7 +13,7 @@ use Rattle.scr_combinatorics.proofs.Picks.{length-numbers_from, numbers_from-at}
 use Rattle.scr_notation.specs.declared.turn.Turn.{Turn}
 use Rattle.scr_notation.specs.declared.turn.Turn.TheVariants.{Face}
 use Rattle.scr_notation.specs.Turns.{permits}
-use Rattle.scr_bigs.specs.BigCubes.{IsSide, cube_of, all_turns, may_follow, turns_after}
+use Rattle.scr_bigs.specs.BigCubes.{IsSide, cube_of, cube_turns, may_follow, turns_after}
 use Rattle.scr_bigs.specs.LeftOut.{without}
 use Rattle.scr_bigs.proofs.ListLaws.{map-without, filter-map}
 
@@ -51,9 +51,9 @@ first_left_out side n = 3 * (n / 3 - n / 3 % (side - 1))
 abbrev pub count_left_out : ℕ → ℕ → ℕ
 count_left_out side n = 3 * (n / 3 % (side - 1) + 1)
 
-pub turns_numbered : (side : ℕ) → IsSide side → all_turns (cube_of side) ≡ map (turn_numbered side) (numbers side)
-unfolding all_turns turn_numbered turn_at_place
-turns_numbered side is = by_side (λ s. all_turns (cube_of s) ≡ map (turn_numbered s) (numbers s)) side is refl refl refl
+pub turns_numbered : (side : ℕ) → IsSide side → cube_turns (cube_of side) ≡ map (turn_numbered side) (numbers side)
+unfolding cube_turns turn_numbered turn_at_place
+turns_numbered side is = by_side (λ s. cube_turns (cube_of s) ≡ map (turn_numbered s) (numbers s)) side is refl refl refl
 
 -- ---- what is computed of each turn
 
@@ -115,11 +115,11 @@ placed side n is below =
 
 -- ---- the turns by their numbers
 
-pub length-turns : (side : ℕ) → IsSide side → length (all_turns (cube_of side)) ≡ turn_count side
+pub length-turns : (side : ℕ) → IsSide side → length (cube_turns (cube_of side)) ≡ turn_count side
 length-turns side is =
     ap length (turns_numbered side is) ∙ length-map (numbers side) (turn_numbered side) ∙ length-numbers_from 0 (turn_count side)
 
-pub turn-at : (side n : ℕ) → IsSide side → n < turn_count side → slice_get (all_turns (cube_of side)) n ≡ Some (turn_numbered side n)
+pub turn-at : (side n : ℕ) → IsSide side → n < turn_count side → slice_get (cube_turns (cube_of side)) n ≡ Some (turn_numbered side n)
 turn-at side n is below =
     let size = length-numbers_from 0 (turn_count side) in
     let here = slice_get-get_or (numbers side) n 0 (omega (arith, size)) ∙ ap Some (number-at side n below) in
@@ -135,7 +135,7 @@ same-number side m n is below below' same =
 -- the turns that may follow a turn
 pub turns_after-numbered : (side n : ℕ) → IsSide side → n < turn_count side
     → turns_after (cube_of side) (turn_numbered side n)
-    ≡ without (first_left_out side n) (count_left_out side n) (all_turns (cube_of side))
+    ≡ without (first_left_out side n) (count_left_out side n) (cube_turns (cube_of side))
 unfolding turns_after
 turns_after-numbered side n is below =
     let test = may_follow (cube_of side) (turn_numbered side n) in
@@ -157,13 +157,13 @@ pub record IsNumbered (side : ℕ) (turn : Turn) : Type 0 where
   pub below : number < turn_count side
   pub is : turn ≡ turn_numbered side number
 
-pub numbered : (side : ℕ) (turn : Turn) → IsSide side → Contains (all_turns (cube_of side)) turn → IsNumbered side turn
+pub numbered : (side : ℕ) (turn : Turn) → IsSide side → Contains (cube_turns (cube_of side)) turn → IsNumbered side turn
 numbered side turn is there =
     let n : ℕ = there.0 in
     let size = length-turns side is in
     let below : n < turn_count side = omega (arith, there.1, size) in
-    let at : slice_get (all_turns (cube_of side)) n ≡ Some turn =
-    slice_get-get_or (all_turns (cube_of side)) n turn there.1 ∙ ap Some there.2 in
+    let at : slice_get (cube_turns (cube_of side)) n ≡ Some turn =
+    slice_get-get_or (cube_turns (cube_of side)) n turn there.1 ∙ ap Some there.2 in
     record { number = n; below = below; is = same_Some _ _ (sym at ∙ turn-at side n is below) }
 
 -- ---- a turn by its slab's place

@@ -54,12 +54,12 @@ abbrev pub slab_turns : Slab → List Turn
 slab_turns s = Face s.face s.depth 1 ∷ Face s.face s.depth 2 ∷ Face s.face s.depth 3 ∷ []
 
 -- all turns, in the order of axis, slab and amount
-unfoldable pub all_turns : BigCube → List Turn
-all_turns cube = flat_map (λ axis. flat_map slab_turns (slabs_of cube axis)) (0 ∷ 1 ∷ 2 ∷ [])
+unfoldable pub cube_turns : BigCube → List Turn
+cube_turns cube = flat_map (λ axis. flat_map slab_turns (slabs_of cube axis)) (0 ∷ 1 ∷ 2 ∷ [])
 
 -- the axis of a slab
-abbrev pub axis_of : Slab → ℕ
-axis_of s = s.face % 3
+abbrev pub axis_of_slab : Slab → ℕ
+axis_of_slab s = s.face % 3
 
 abbrev pub same_slab : Slab → Slab → Bool
 same_slab s t = (s.face == t.face) && (s.depth == t.depth)
@@ -67,7 +67,7 @@ same_slab s t = (s.face == t.face) && (s.depth == t.depth)
 -- a slab is on another axis than the one turned before, or on the same and behind it in the order of its slabs
 abbrev pub slab_may_follow : BigCube → Slab → Slab → Bool
 slab_may_follow cube before next =
-    not (axis_of before == axis_of next) || list_any (same_slab next) (after_first (same_slab before) (slabs_of cube (axis_of before)))
+    not (axis_of_slab before == axis_of_slab next) || list_any (same_slab next) (after_first (same_slab before) (slabs_of cube (axis_of_slab before)))
 
 -- a turn may follow another
 abbrev pub may_follow : BigCube → Turn → Turn → Bool
@@ -77,4 +77,4 @@ may_follow cube _ _ = false
 
 -- the turns that may follow a turn, in their order
 unfoldable pub turns_after : BigCube → Turn → List Turn
-turns_after cube before = filter (may_follow cube before) (all_turns cube)
+turns_after cube before = filter (may_follow cube before) (cube_turns cube)

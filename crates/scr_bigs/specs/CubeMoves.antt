@@ -6,7 +6,7 @@ use Rattle.scr_draw.specs.Drawn.{drawn}
 use Rattle.scr_draw.specs.FirstHit.{numbers_read}
 use Rattle.scr_notation.specs.declared.turn.Turn.{Turn}
 use Rattle.scr_bigs.specs.Choices.{choice_of}
-use Rattle.scr_bigs.specs.BigCubes.{BigCube, all_turns, turns_after}
+use Rattle.scr_bigs.specs.BigCubes.{BigCube, cube_turns, turns_after}
 
 -- So many turns, of which the first is one of some choices. It is the one that the first accepted of the next attempts gives;
 -- the turns that may follow it are the choices of the next turn, whose attempts follow in the words. There are none where all
@@ -29,4 +29,4 @@ attempts_read cube attempts word choices place (suc more) =
 
 -- The turns of a scramble, where each turn has so many attempts: at the start each turn is a choice.
 abbrev pub cube_moves : BigCube → ℕ → (ℕ → ℕ) → ℕ → Option (List Turn)
-cube_moves cube attempts word place = moves_from cube attempts word (all_turns cube) place cube.turns
+cube_moves cube attempts word place = moves_from cube attempts word (cube_turns cube) place cube.turns

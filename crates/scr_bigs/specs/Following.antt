@@ -2,7 +2,7 @@
 use Rattle.std.specs.Prelude.{◌≡◌, ◌≢◌, ◌⊎◌, ℕ, ◌+◌, ◌*◌, ◌/◌, ◌%◌, ◌^◌, ◌<◌, ◌==◌, Some, List, ◌∷◌, ◌++◌, All, Contains, IsTrue, length, slice_get}
 use Rattle.scr_notation.specs.declared.turn.Turn.{Turn}
 use Rattle.scr_notation.specs.declared.turn.Turn.TheVariants.{Wide}
-use Rattle.scr_bigs.specs.BigCubes.{BigCube, Slab, slabs_of, axis_of, all_turns, may_follow}
+use Rattle.scr_bigs.specs.BigCubes.{BigCube, Slab, slabs_of, axis_of_slab, cube_turns, may_follow}
 
 -- a slab stands behind another in this order
 pub record StandsBehind (slabs : List Slab) (first next : Slab) : Type 0 where
@@ -13,12 +13,12 @@ pub record StandsBehind (slabs : List Slab) (first next : Slab) : Type 0 where
 
 -- a slab is on another axis than the one turned before, or on the same and later in the order of its slabs
 abbrev pub SlabMayFollow : BigCube → Slab → Slab → Type 0
-SlabMayFollow cube before next = (axis_of before ≢ axis_of next) ⊎ StandsBehind (slabs_of cube (axis_of before)) before next
+SlabMayFollow cube before next = (axis_of_slab before ≢ axis_of_slab next) ⊎ StandsBehind (slabs_of cube (axis_of_slab before)) before next
 
 -- Turns of a big cube's scramble: so many, each one of its turns, and each may follow the one before.
 pub record AreCubeTurns (cube : BigCube) (turns : List Turn) : Type 0 where
   pub count : length turns ≡ cube.turns
-  pub each : All (Contains (all_turns cube)) turns
+  pub each : All (Contains (cube_turns cube)) turns
   pub follow : (i : ℕ) (before next : Turn) → slice_get turns i ≡ Some before → slice_get turns (i + 1) ≡ Some next
       → IsTrue (may_follow cube before next)
 

@@ -7,7 +7,7 @@ ghost use Rattle.scr_draw.specs.Attempt.{attempt_values};
 ghost use Rattle.scr_draw.specs.Drawn.{drawn};
 ghost use Rattle.scr_draw.specs.FirstHit.{numbers_read};
 ghost use Rattle.scr_bigs.specs.Choices.{choice_of};
-ghost use Rattle.scr_bigs.specs.BigCubes.{IsSide, cube_of, all_turns, turns_after};
+ghost use Rattle.scr_bigs.specs.BigCubes.{IsSide, cube_of, cube_turns, turns_after};
 ghost use Rattle.scr_bigs.specs.CubeMoves.{cube_moves, attempts_read};
 ghost use Rattle.scr_bigs.specs.LeftOut.{without};
 
@@ -34,7 +34,7 @@ pub fn big_cube<W: Words, const SIDE: usize>(
     ensures refused { OnErr result (cube_moves (cube_of SIDE) attempts (W.word_at words.old) (W.taken words.old) ≡ None) }
     ensures limit { IfErr result (λ limit. limit.words ≡ 3 * attempts) }
     ensures taken { let cube = cube_of SIDE in
-        let read = attempts_read cube attempts (W.word_at words.old) (all_turns cube) (W.taken words.old) cube.turns in
+        let read = attempts_read cube attempts (W.word_at words.old) (cube_turns cube) (W.taken words.old) cube.turns in
         W.taken words.new ≡ W.taken words.old + 3 * read }
     ensures same_words { W.word_at words.new ≡ W.word_at words.old }
 {
@@ -93,19 +93,19 @@ fn next_turn<W: Words>(
     requires some { left_out.old.count < 9 * (side - 1) }
     requires few { attempts ≤ 1000000 }
     requires room { W.taken words.old ≤ 2 ^ 62 + 300000000 }
-    ensures turn { let choices = without left_out.old.first left_out.old.count (all_turns (cube_of side)) in
+    ensures turn { let choices = without left_out.old.first left_out.old.count (cube_turns (cube_of side)) in
         let values = attempt_values (W.word_at words.old) (W.taken words.old) attempts in
         IfOk result (λ turn. drawn (choice_of choices) values ≡ Some turn) }
-    ensures refused { let choices = without left_out.old.first left_out.old.count (all_turns (cube_of side)) in
+    ensures refused { let choices = without left_out.old.first left_out.old.count (cube_turns (cube_of side)) in
         let values = attempt_values (W.word_at words.old) (W.taken words.old) attempts in
         OnErr result (drawn (choice_of choices) values ≡ None) }
     ensures limit { IfErr result (λ limit. limit.words ≡ 3 * attempts) }
     ensures after { IfOk result (λ turn.
-        turns_after (cube_of side) turn ≡ without left_out.new.first left_out.new.count (all_turns (cube_of side))) }
+        turns_after (cube_of side) turn ≡ without left_out.new.first left_out.new.count (cube_turns (cube_of side))) }
     ensures of_event { IfOk result (λ turn. IsTrue (permits (cube_of side).event turn)) }
     ensures within { left_out.new.first + left_out.new.count ≤ 9 * (side - 1) }
     ensures some { left_out.new.count < 9 * (side - 1) }
-    ensures taken { let choices = without left_out.old.first left_out.old.count (all_turns (cube_of side)) in
+    ensures taken { let choices = without left_out.old.first left_out.old.count (cube_turns (cube_of side)) in
         let values = attempt_values (W.word_at words.old) (W.taken words.old) attempts in
         W.taken words.new ≡ W.taken words.old + 3 * numbers_read (choice_of choices) values }
     ensures at_most { W.taken words.new ≤ W.taken words.old + 3 * attempts }
@@ -125,7 +125,7 @@ fn next_turn<W: Words>(
 fn turn_at(side: u8, number: u8) -> Turn
     requires side { IsSide side }
     requires below { number < 9 * (side - 1) }
-    ensures { slice_get (all_turns (cube_of side)) number ≡ Some result }
+    ensures { slice_get (cube_turns (cube_of side)) number ≡ Some result }
 {
     let slabs = side - 1;
     let near = side / 2;
@@ -151,8 +151,8 @@ fn turn_at(side: u8, number: u8) -> Turn
 fn left_out_after(side: u8, number: u8) -> LeftOut
     requires side { IsSide side }
     requires below { number < 9 * (side - 1) }
-    ensures after { (turn : Letter) → slice_get (all_turns (cube_of side)) number ≡ Some turn
-        → turns_after (cube_of side) turn ≡ without result.first result.count (all_turns (cube_of side)) }
+    ensures after { (turn : Letter) → slice_get (cube_turns (cube_of side)) number ≡ Some turn
+        → turns_after (cube_of side) turn ≡ without result.first result.count (cube_turns (cube_of side)) }
     ensures within { result.first + result.count ≤ 9 * (side - 1) }
     ensures some { result.count < 9 * (side - 1) }
 {

@@ -7,7 +7,7 @@ ghost use Rattle.scr_notation.specs.declared.event.Event.TheVariants.{C555, C666
 ghost use Rattle.scr_notation.specs.declared.turn.Turn.{Turn};
 ghost use Rattle.scr_notation.specs.declared.turn.Turn.TheVariants.{Face, Wide};
 ghost use Rattle.scr_notation.specs.Spelling.{text_of};
-ghost use Rattle.scr_bigs.specs.BigCubes.{IsSide, cube_of, slab, all_turns, may_follow};
+ghost use Rattle.scr_bigs.specs.BigCubes.{IsSide, cube_of, slab, cube_turns, may_follow};
 ghost use Rattle.scr_bigs.specs.CubeMoves.{cube_moves};
 ghost use Rattle.scr_bigs.specs.Megaminx.{bits_of, rows_turns, megaminx_moves};
 ghost use Rattle.scr_bigs.specs.Fairness.{AreFairTurns, AreFairBits};
@@ -81,13 +81,13 @@ pub fn every_number()
 {}
 
 /// The turns of big cubes in their order, and the numbers at which attempts of the first turn of a 5x5x5 begin to be refused.
-#[tactic(auto, unfolding(crate::specs::BigCubes::all_turns, scr_notation::specs::Spelling::spelling))]
+#[tactic(auto, unfolding(crate::specs::BigCubes::cube_turns, scr_notation::specs::Spelling::spelling))]
 pub fn known_turns()
-    ensures of_555 { text_of (all_turns (cube_of 5))
+    ensures of_555 { text_of (cube_turns (cube_of 5))
         ≡ codes "U U2 U' Uw Uw2 Uw' D D2 D' Dw Dw2 Dw' R R2 R' Rw Rw2 Rw' L L2 L' Lw Lw2 Lw' F F2 F' Fw Fw2 Fw' B B2 B' Bw Bw2 Bw'" }
-    ensures of_666 { text_of (all_turns (cube_of 6))
+    ensures of_666 { text_of (cube_turns (cube_of 6))
         ≡ codes "U U2 U' Uw Uw2 Uw' 3Uw 3Uw2 3Uw' D D2 D' Dw Dw2 Dw' R R2 R' Rw Rw2 Rw' 3Rw 3Rw2 3Rw' L L2 L' Lw Lw2 Lw' F F2 F' Fw Fw2 Fw' 3Fw 3Fw2 3Fw' B B2 B' Bw Bw2 Bw'" }
-    ensures of_777 { text_of (all_turns (cube_of 7))
+    ensures of_777 { text_of (cube_turns (cube_of 7))
         ≡ codes "U U2 U' Uw Uw2 Uw' 3Uw 3Uw2 3Uw' D D2 D' Dw Dw2 Dw' 3Dw 3Dw2 3Dw' R R2 R' Rw Rw2 Rw' 3Rw 3Rw2 3Rw' L L2 L' Lw Lw2 Lw' 3Lw 3Lw2 3Lw' F F2 F' Fw Fw2 Fw' 3Fw 3Fw2 3Fw' B B2 B' Bw Bw2 Bw' 3Bw 3Bw2 3Bw'" }
     ensures refused { answer 36 (2 ^ 96 - 28) ≡ None }
     ensures accepted { answer 36 (2 ^ 96 - 29) ≡ Some 35 }

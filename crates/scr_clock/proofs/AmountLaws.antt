@@ -3,9 +3,9 @@ use Rattle.std.proofs.Common.{◌≡◌, ℕ, ◌+◌, ◌*◌, ◌%◌, ◌<◌
 use Rattle.std.proofs.Math.Nat.{mod-add-mod, add-mod-mod}
 use Rattle.std.proofs.lemmas.List.Elements.{All-map}
 use Rattle.scr_notation.specs.declared.turn.Turn.{Turn}
-use Rattle.scr_clock.specs.Dials.{IsClock, gain_at, turned, solved}
+use Rattle.scr_clock.specs.Dials.{IsClock, gain_at, dials_turned, solved}
 use Rattle.scr_clock.specs.Held.{clock_after}
-use Rattle.scr_clock.specs.Written.{IsAmounts, written, IsScrambleOf}
+use Rattle.scr_clock.specs.Written.{IsAmounts, written, IsClockScramble}
 use Rattle.scr_clock.proofs.Hours.{Hours, listed, clock_by_dials, cons_same}
 use Rattle.scr_clock.proofs.HeldLaws.{side_turned, given, clock_after-written}
 
@@ -43,7 +43,7 @@ IsAmounts-amounts_of dials =
 
 -- dial by dial, an hour comes again; hours are added modulo twelve
 given_again : (h : Hours) → given (amounts_of (listed h)) ≡ listed h
-unfolding given side_turned gain_at turned amounts_of
+unfolding given side_turned gain_at dials_turned amounts_of
 given_again h =
     cons_same (simp (mod-add-mod, add-mod-mod) (omega arith)) (cons_same (simp (mod-add-mod, add-mod-mod) (omega arith))
     (cons_same (simp (mod-add-mod, add-mod-mod) (omega arith)) (cons_same (simp (mod-add-mod, add-mod-mod) (omega arith))
@@ -55,7 +55,7 @@ given_again h =
 
 -- and so amount by amount
 amounts_again : (h : Hours) → amounts_of (given (listed h)) ≡ listed h
-unfolding given side_turned gain_at turned amounts_of
+unfolding given side_turned gain_at dials_turned amounts_of
 amounts_again h =
     cons_same (simp mod-add-mod (omega arith)) (cons_same (simp mod-add-mod (omega arith)) (cons_same (simp mod-add-mod (omega arith))
     (cons_same (simp mod-add-mod (omega arith)) (cons_same (simp mod-add-mod (omega arith)) (cons_same (simp mod-add-mod (omega arith))
@@ -78,7 +78,7 @@ amounts_of-only amounts dials c e =
     sym (clock_by_dials (λ a. amounts_of (given a) ≡ a) amounts_again amounts c) ∙ ap amounts_of same
 
 -- a Clock has one scramble
-pub IsScrambleOf-one : (dials : List ℕ) (some other : List Turn) → IsScrambleOf dials some → IsScrambleOf dials other → some ≡ other
+pub IsScrambleOf-one : (dials : List ℕ) (some other : List Turn) → IsClockScramble dials some → IsClockScramble dials other → some ≡ other
 IsScrambleOf-one dials some other s o =
     s.turns_are
     ∙ ap written (amounts_of-only s.amounts dials s.hours (sym (ap (clock_after solved) s.turns_are) ∙ s.gives)

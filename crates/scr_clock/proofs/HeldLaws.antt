@@ -6,15 +6,15 @@ use Rattle.std.specs.Option.{option_map}
 use Rattle.std.proofs.lemmas.Bool.{and_parts, and_from, or_cases, eqb-true, leb-true, le-leb, lt-ltb, cond-true, false≢true}
 use Rattle.std.proofs.lemmas.Option.{cond_some}
 use Rattle.std.proofs.lemmas.List.Elements.{All-head, All-tail, All-take, All-drop}
-use Rattle.scr_play.specs.Play.{play}
-use Rattle.scr_play.proofs.PlayLaws.{play-empty, play-first, play-parts, play-append, play-one}
+use Rattle.scr_combinatorics.specs.Play.{play}
+use Rattle.scr_combinatorics.proofs.PlayLaws.{play-empty, play-first, play-parts, play-append, play-one}
 use Rattle.scr_notation.specs.declared.turn.Turn.{Turn}
 use Rattle.scr_notation.specs.declared.turn.Turn.TheVariants.{Pins, Over}
 use Rattle.scr_notation.specs.Pins.{pin_sets, is_clock_turn}
-use Rattle.scr_clock.specs.Dials.{DialTurn, is_turn, turned, solved, dials_after, dial_turn}
+use Rattle.scr_clock.specs.Dials.{DialTurn, is_turn, dials_turned, solved, dials_after, dial_turn}
 use Rattle.scr_clock.specs.Held.{HeldClock, held_after, clock_after, held_clock}
 use Rattle.scr_clock.specs.Written.{IsAmounts, pins_at, written}
-use Rattle.scr_clock.specs.Proofs.TurnLaws.{dials_after-turn}
+use Rattle.scr_clock.proofs.TurnLaws.{dials_after-turn}
 
 -- ---- written turns are turns of the dials
 
@@ -41,7 +41,7 @@ step : (held r : HeldClock) (t : Turn) → held_after held t ≡ Some r → (w :
 unfolding held_after
 step held r (Pins p a) e =
     let turn : DialTurn = dial_turn held.back p a in
-    let parts = cond_some (is_clock_turn (Pins p a)) (record held { dials = turned held.dials turn }) r e in (
+    let parts = cond_some (is_clock_turn (Pins p a)) (record held { dials = dials_turned held.dials turn }) r e in (
       turn ∷ [],
       play-one dials_after held.dials turn ∙ dials_after-turn held.dials turn (is_turn-written held.back p a parts.0)
           ∙ ap (λ x. Some x.dials) parts.1,
@@ -70,14 +70,14 @@ unfoldable pub side_turned : Bool → List ℕ → List ℕ → List ℕ → Lis
 side_turned back dials [] amounts = dials
 side_turned back dials (p ∷ sets) [] = dials
 side_turned back dials (p ∷ sets) (a ∷ amounts) =
-    side_turned back (turned dials (dial_turn back p a)) sets amounts
+    side_turned back (dials_turned dials (dial_turn back p a)) sets amounts
 
 -- what a scramble's turns make of solved
 unfoldable pub given : List ℕ → List ℕ
 given amounts = side_turned true (side_turned false solved pin_sets (take 9 amounts)) (drop 4 pin_sets) (drop 9 amounts)
 
 pub after_pins : (back : Bool) (dials : List ℕ) (p a : ℕ) → IsTrue (is_clock_turn (Pins p a))
-    → held_after (held_clock dials back) (Pins p a) ≡ Some (held_clock (turned dials (dial_turn back p a)) back)
+    → held_after (held_clock dials back) (Pins p a) ≡ Some (held_clock (dials_turned dials (dial_turn back p a)) back)
 unfolding held_after
 after_pins back dials p a h = cond-true (is_clock_turn (Pins p a)) _ None h
 
@@ -90,7 +90,7 @@ play-pins_at back dials (p ∷ sets) [] s h = play-empty held_after (held_clock 
 play-pins_at back dials (p ∷ sets) (a ∷ amounts) s h =
     let parts = and_parts (list_any (λ set. set == p) pin_sets) (list_all (λ p. list_any (λ set. set == p) pin_sets) sets) s in
     let low : a ≤ 11 = omega (arith, All-head (λ n. n < 12) a amounts h) in
-    let next = turned dials (dial_turn back p a) in
+    let next = dials_turned dials (dial_turn back p a) in
     play-first held_after (held_clock dials back) (held_clock next back) (Pins p a) (pins_at sets amounts)
     (after_pins back dials p a (and_from (list_any (λ set. set == p) pin_sets) (nat_le a 11) parts.0 (le-leb a 11 low)))
     ∙ play-pins_at back next sets amounts parts.1 (All-tail (λ n. n < 12) a amounts h)

@@ -2,7 +2,7 @@
 use Rattle.std.proofs.Common.{◌≡◌, ℕ, ◌%◌, ◌<◌, List, [], ◌∷◌, get_or, sym, subst, arith}
 use Rattle.std.proofs.lemmas.List.FromFn.{fill_by_all}
 use Rattle.scr_clock.specs.Dials.{IsClock}
-use Rattle.scr_clock.specs.Proofs.TurnLaws.{hour_at}
+use Rattle.scr_clock.proofs.TurnLaws.{hour_at}
 
 -- hours from 0 to 11, one for each place
 pub record Hours : Type 0 where

@@ -1,3 +1,6 @@
+pub mod TurnLaws
+pub mod LeastLaws
+pub mod Numbering
 pub mod DialTurns
 pub mod Hours
 pub mod HeldLaws

@@ -1,13 +1,13 @@
 -- Each Clock is reached, and nothing else.
 use Rattle.std.proofs.Common.{◌≡◌, ℕ, ◌↔◌, false, List, Option, Some, None, refl, sym, ap, ◌∙◌, subst}
 use Rattle.std.specs.Option.{option_map}
-use Rattle.scr_play.specs.Reach.{IsReached}
-use Rattle.scr_play.proofs.PlayLaws.{IsReached-keeps}
+use Rattle.scr_combinatorics.specs.Reach.{IsReached}
+use Rattle.scr_combinatorics.proofs.PlayLaws.{IsReached-keeps}
 use Rattle.scr_clock.specs.Dials.{IsClock, solved, clock_puzzle}
 use Rattle.scr_notation.specs.declared.turn.Turn.{Turn}
 use Rattle.scr_clock.specs.Held.{HeldClock, held_clock, clock_after}
 use Rattle.scr_clock.specs.Written.{written}
-use Rattle.scr_clock.specs.Proofs.TurnLaws.{IsClock-turned, dials_after-parts}
+use Rattle.scr_clock.proofs.TurnLaws.{IsClock-turned, dials_after-parts}
 use Rattle.scr_clock.proofs.DialTurns.{IsClock-solved}
 use Rattle.scr_clock.proofs.HeldLaws.{dial_word}
 use Rattle.scr_clock.proofs.AmountLaws.{amounts_of, amounts_of-give}

@@ -2,12 +2,12 @@
 use Rattle.std.proofs.Common.{◌≡◌, ℕ, zero, suc, ◌<◌, ◌↔◌, ◌⊎◌, inl, inr, Bool, true, false, cond, eqb, ltb, ltb-true, IsTrue, List, [], ◌∷◌, length, replicate, get_or, refl, sym, ap, ◌∙◌, subst, arith}
 use Rattle.std.specs.Prelude.{bit_and}
 use Rattle.std.proofs.lemmas.Bool.{false≢true, cond-false, ne_eqb, cases_cond, agree_below_at}
-use Rattle.scr_clock.specs.Dials.{IsClock, gain_at, turned, solved, dial_turn}
+use Rattle.scr_clock.specs.Dials.{IsClock, gain_at, dials_turned, solved, dial_turn}
 use Rattle.scr_clock.specs.Least.{turns_lead}
 use Rattle.scr_clock.specs.Sides.{Setting, turn_by, SomeTurn, SidesLead, OfOthers, IsOtherSolved, centre_amount, AreBackEdgesCarried}
-use Rattle.scr_clock.specs.Proofs.TurnLaws.{hour_at, IsClock-turned}
+use Rattle.scr_clock.proofs.TurnLaws.{hour_at, IsClock-turned}
 use Rattle.scr_clock.proofs.DialTurns.{turned-at, turned_swap}
-use Rattle.scr_clock.specs.Proofs.LeastLaws.{solved_from_all_twelve, turns_lead-from, turns_lead-gives}
+use Rattle.scr_clock.proofs.LeastLaws.{solved_from_all_twelve, turns_lead-from, turns_lead-gives}
 
 -- ---- what a turn of one side leaves alone
 
@@ -22,10 +22,10 @@ OfOthers-both true P Q R f p q = (f 1 p.0 q.0, f 3 p.1 q.1, f 4 p.2 q.2, f 5 p.3
 OfOthers-both false P Q R f p q = (f 9 p.0 q.0, f 10 p.1 q.1, f 11 p.2 q.2, f 12 p.3 q.3, f 13 p.4 q.4)
 
 left_alone : (back : Bool) (dials : List ℕ) (p a : ℕ) → IsClock dials
-    → IsOtherSolved back (turned dials (dial_turn back p a)) → IsOtherSolved back dials
+    → IsOtherSolved back (dials_turned dials (dial_turn back p a)) → IsOtherSolved back dials
 left_alone back dials p a c =
     let t = dial_turn back p a in
-    OfOthers-both back (λ k. IsTrue (ltb k 14) × (gain_at t k ≡ 0)) (λ k. get_or (turned dials t) k 0 ≡ 0) (λ k. get_or dials k 0 ≡ 0)
+    OfOthers-both back (λ k. IsTrue (ltb k 14) × (gain_at t k ≡ 0)) (λ k. get_or (dials_turned dials t) k 0 ≡ 0) (λ k. get_or dials k 0 ≡ 0)
     (λ k none after. let l : k < 14 = ltb-true k 14 none.0 in omega (arith, turned-at dials t k l, hour_at dials k c l, none.1, after))
     (none_gained back p a)
 
@@ -39,7 +39,7 @@ pub IsOtherSolved-led : (n : ℕ) (back : Bool) (dials : List ℕ) → IsClock d
 IsOtherSolved-led zero back dials c e = subst (λ (d : List ℕ). IsOtherSolved back d) (sym e) (IsOtherSolved-solved back)
 IsOtherSolved-led (suc n) back dials c s =
     let t = turn_by back s.setting in
-    left_alone back dials s.setting.pins s.setting.amount c (IsOtherSolved-led n back (turned dials t) (IsClock-turned dials t) s.gives)
+    left_alone back dials s.setting.pins s.setting.amount c (IsOtherSolved-led n back (dials_turned dials t) (IsClock-turned dials t) s.gives)
 
 -- ---- by how much the centre must turn
 
@@ -63,7 +63,7 @@ centre_gain false s = all_turn s.pins s.amount s.some_pin s.four_pins
 
 -- a turn after which the side's centre shows 12 is by that amount
 amount_by_centre : (back : Bool) (dials : List ℕ) (s : Setting) → IsClock dials
-    → get_or (turned dials (turn_by back s)) (centre_at back) 0 ≡ 0 → s.amount ≡ centre_amount back dials
+    → get_or (dials_turned dials (turn_by back s)) (centre_at back) 0 ≡ 0 → s.amount ≡ centre_amount back dials
 unfolding centre_amount
 amount_by_centre back dials s c e =
     let low = centre_in back in
@@ -75,9 +75,9 @@ centre_solved false = refl
 
 -- what is so after a turn is so after the turn by an equal amount
 pub by_amount : (back : Bool) (dials : List ℕ) (IsSo : List ℕ → Type 0) (s : Setting) (a : ℕ) → s.amount ≡ a
-    → IsSo (turned dials (turn_by back s))
-    → IsSo (turned dials (dial_turn back s.pins a))
-by_amount back dials IsSo s a e h = subst (λ (n : ℕ). IsSo (turned dials (dial_turn back s.pins n))) e h
+    → IsSo (dials_turned dials (turn_by back s))
+    → IsSo (dials_turned dials (dial_turn back s.pins a))
+by_amount back dials IsSo s a e h = subst (λ (n : ℕ). IsSo (dials_turned dials (dial_turn back s.pins n))) e h
 
 -- one turn to solved is by the amount of its side's centre
 pub amount_of_last : (back : Bool) (dials : List ℕ) → IsClock dials → (s : SidesLead (back ∷ []) dials)
@@ -86,9 +86,9 @@ amount_of_last back dials c s = amount_by_centre back dials s.setting c (ap (λ 
 
 -- ---- a turn of the back, and then one of the front
 
-back_solved : (dials : List ℕ) → (s : SidesLead (true ∷ false ∷ []) dials) → IsOtherSolved false (turned dials (turn_by true s.setting))
+back_solved : (dials : List ℕ) → (s : SidesLead (true ∷ false ∷ []) dials) → IsOtherSolved false (dials_turned dials (turn_by true s.setting))
 back_solved dials s =
-    IsOtherSolved-led 1 false (turned dials (turn_by true s.setting)) (IsClock-turned dials (turn_by true s.setting)) s.gives
+    IsOtherSolved-led 1 false (dials_turned dials (turn_by true s.setting)) (IsClock-turned dials (turn_by true s.setting)) s.gives
 
 -- the turn of the back is by the amount of its centre
 pub amount_of_back : (dials : List ℕ) → IsClock dials → (s : SidesLead (true ∷ false ∷ []) dials)
@@ -107,7 +107,7 @@ back_edges_carried dials c s =
     )
   where
     carried : (k : ℕ) → k < 14 → (gain_at (turn_by true s.setting) k ≡ 0) ⊎ (gain_at (turn_by true s.setting) k ≡ s.setting.amount)
-        → get_or (turned dials (turn_by true s.setting)) k 0 ≡ 0 → (get_or dials k 0 ≡ 0) ⊎ (get_or dials k 0 ≡ get_or dials 11 0)
+        → get_or (dials_turned dials (turn_by true s.setting)) k 0 ≡ 0 → (get_or dials k 0 ≡ 0) ⊎ (get_or dials k 0 ≡ get_or dials 11 0)
     carried k l g e =
         let sum = turned-at dials (turn_by true s.setting) k l in
         let low = hour_at dials k c l in
@@ -179,7 +179,7 @@ untrue n = (λ h. absurd (false≢true h), λ h. absurd (n h))
 
 -- a test that is true tells that a turn was found
 pub found : (back : Bool) (dials after : List ℕ) (IsSo : List ℕ → Type 0) (p a : ℕ) → 0 < p → p < 16 → a < 12
-    → after ≡ turned dials (dial_turn back p a) → IsSo after → IsTrue true ↔ SomeTurn back dials IsSo
+    → after ≡ dials_turned dials (dial_turn back p a) → IsSo after → IsTrue true ↔ SomeTurn back dials IsSo
 found back dials after IsSo p a pos l h e so =
     let s : Setting = record { pins = p; amount = a; some_pin = pos; four_pins = l; hours = h } in
     (λ _. record { setting = s; gives = subst IsSo e so }, λ _. refl)

@@ -5,7 +5,7 @@
 -- of the front's corner at the same pin.
 use Rattle.std.specs.Prelude.{◌≡◌, ℕ, ◌+◌, ◌-◌, ◌%◌, ◌<◌, Bool, ◌==◌, ◌&&◌, nat_lt, if◌then◌else◌, List, [], ◌∷◌, length, map, replicate, slice_index, bit_and, All, Option, Some, None}
 use Rattle.std.specs.List.{range_with_len}
-use Rattle.scr_play.specs.Reach.{Puzzle}
+use Rattle.scr_combinatorics.specs.Reach.{Puzzle}
 
 -- Fourteen dials, each of which shows an hour from 0 to 11, counted clockwise as seen from the dial's own side.
 pub record IsClock (dials : List ℕ) : Type 0 where
@@ -44,8 +44,8 @@ gain_at t k =
     if bit_and next_to t.pins == 0 then 0 else (if t.back && nat_lt k 9 then 12 - t.amount else t.amount)
 
 -- What a turn makes of the dials: each of the fourteen shows the hour that it comes to.
-unfoldable pub turned : List ℕ → DialTurn → List ℕ
-turned dials t = map (λ k. (slice_index dials k + gain_at t k) % 12) (range_with_len 0 14)
+unfoldable pub dials_turned : List ℕ → DialTurn → List ℕ
+dials_turned dials t = map (λ k. (slice_index dials k + gain_at t k) % 12) (range_with_len 0 14)
 
 -- All dials show 12, which is hour 0.
 abbrev pub solved : List ℕ
@@ -57,7 +57,7 @@ counted t = if t.amount == 0 then 0 else 1
 
 -- What a turn makes of the dials, if it is one.
 unfoldable pub dials_after : List ℕ → DialTurn → Option (List ℕ)
-dials_after dials t = if is_turn t then Some (turned dials t) else None
+dials_after dials t = if is_turn t then Some (dials_turned dials t) else None
 
 -- Clock as a puzzle.
 abbrev pub clock_puzzle : Puzzle (List ℕ)

@@ -8,7 +8,7 @@ use Rattle.scr_clock.specs.Held.{clock_after}
 use Rattle.scr_clock.specs.Written.{written}
 
 -- A number, the dials that it stands for, the amounts of the scramble that leads to them, and its text.
-pub record IsKnown (number : ℕ) (dials amounts text : List ℕ) : Type 0 where
+pub record IsKnownClock (number : ℕ) (dials amounts text : List ℕ) : Type 0 where
   pub dials_are : dials_of number ≡ dials
   pub number_is : number_of dials ≡ number
   pub gives : clock_after solved (written amounts) ≡ Some dials
@@ -25,13 +25,13 @@ abbrev pub back_cross : List ℕ
 back_cross = 9 ∷ 10 ∷ 11 ∷ 12 ∷ 13 ∷ []
 
 -- a pin as seen from the other side, where left and right are exchanged: UR and UL, DR and DL
-abbrev pub mirrored : ℕ → ℕ
-mirrored pin = if pin == 1 then 8 else (if pin == 8 then 1 else (if pin == 2 then 4 else (if pin == 4 then 2 else 0)))
+abbrev pub mirrored_dial : ℕ → ℕ
+mirrored_dial pin = if pin == 1 then 8 else (if pin == 8 then 1 else (if pin == 2 then 4 else (if pin == 4 then 2 else 0)))
 
 -- The dials of a Clock that is turned over, as seen from its new front: each corner shows the opposite of what the other
 -- side's corner at the same pin shows, and the sides' edges and centres are exchanged.
-unfoldable pub turned_over : List ℕ → List ℕ
-turned_over dials =
+unfoldable pub turned_over_clock : List ℕ → List ℕ
+turned_over_clock dials =
     let d : ℕ → ℕ = slice_index dials in
     let opposite : ℕ → ℕ = λ hour. (12 - hour) % 12 in
     opposite (d 2) ∷ d 9 ∷ opposite (d 0)

@@ -1,8 +1,7 @@
 -- Whether a Clock needs at least so many turns, as a test that tries all turns.
-use Rattle.std.specs.Prelude.{ℕ, ◌+◌, Bool, true, false, not, ◌==◌, ◌||◌, List}
+use Rattle.std.specs.Prelude.{ℕ, zero, suc, ◌+◌, Bool, true, false, not, ◌==◌, ◌||◌, List}
 use Rattle.std.specs.List.{list_all}
-use Rattle.std.proofs.Common.{zero, suc}
-use Rattle.scr_clock.specs.Dials.{DialTurn, turned, dial_turn}
+use Rattle.scr_clock.specs.Dials.{DialTurn, dials_turned, dial_turn}
 
 -- Whether some number below a bound passes a test.
 unfoldable pub some_below : ℕ → (ℕ → Bool) → Bool
@@ -25,9 +24,9 @@ all_twelve dials = list_all (λ d. d == 0) dials
 -- Whether that many turns, some of them by 0 perhaps, lead to solved.
 unfoldable pub turns_lead : ℕ → List ℕ → Bool
 turns_lead zero dials = all_twelve dials
-turns_lead (suc n) dials = some_turn (λ t. turns_lead n (turned dials t))
+turns_lead (suc n) dials = some_turn (λ t. turns_lead n (dials_turned dials t))
 
 -- Whether a Clock needs at least so many turns: no fewer lead to solved.
-unfoldable pub needs_test : List ℕ → ℕ → Bool
-needs_test dials zero = true
-needs_test dials (suc fewer) = not (turns_lead fewer dials)
+unfoldable pub needs_test_clock : List ℕ → ℕ → Bool
+needs_test_clock dials zero = true
+needs_test_clock dials (suc fewer) = not (turns_lead fewer dials)

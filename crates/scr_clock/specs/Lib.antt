@@ -5,4 +5,3 @@ pub mod Written
 pub mod Least
 pub mod Sides
 pub mod Known
-pub mod Proofs

@@ -1,6 +1,6 @@
 -- What the test of a minimum asks, side by side.
 use Rattle.std.specs.Prelude.{◌≡◌, ℕ, ◌-◌, ◌%◌, ◌<◌, Bool, true, false, ◌⊎◌, if◌then◌else◌, List, [], ◌∷◌, slice_index}
-use Rattle.scr_clock.specs.Dials.{DialTurn, turned, solved, dial_turn}
+use Rattle.scr_clock.specs.Dials.{DialTurn, dials_turned, solved, dial_turn}
 
 -- The pins and the amount of a turn of either side.
 pub record Setting : Type 0 where
@@ -17,7 +17,7 @@ turn_by back s = dial_turn back s.pins s.amount
 -- Some turn of this side makes dials of which this is so.
 pub record SomeTurn (back : Bool) (dials : List ℕ) (IsSo : List ℕ → Type 0) : Type 0 where
   pub setting : Setting
-  pub gives : IsSo (turned dials (turn_by back setting))
+  pub gives : IsSo (dials_turned dials (turn_by back setting))
 
 -- Some turns, one of each of these sides in order, lead to solved.
 abbrev pub SidesLead : List Bool → List ℕ → Type 0

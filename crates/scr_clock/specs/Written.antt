@@ -21,7 +21,7 @@ unfoldable pub written : List ℕ → List Turn
 written amounts = pins_at pin_sets (take 9 amounts) ++ Over ∷ pins_at (drop 4 pin_sets) (drop 9 amounts)
 
 -- The scramble of a Clock: the turns, by some amounts, that lead to it from solved.
-pub record IsScrambleOf (dials : List ℕ) (turns : List Turn) : Type 0 where
+pub record IsClockScramble (dials : List ℕ) (turns : List Turn) : Type 0 where
   pub amounts : List ℕ
   pub hours : IsAmounts amounts
   pub turns_are : turns ≡ written amounts

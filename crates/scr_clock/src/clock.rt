@@ -1,6 +1,6 @@
 //! The state of a Clock and its turns.
 ghost use Rattle.std.specs.Prelude.{◌≡◌, ℕ, ◌<◌, ◌≤◌, ◌↔◌, List, length, All, IsSome, IfSome};
-ghost use Rattle.scr_clock.specs.Dials.{IsClock, gain_at, turned, solved, dial_turn};
+ghost use Rattle.scr_clock.specs.Dials.{IsClock, gain_at, dials_turned, solved, dial_turn};
 ghost use Rattle.scr_clock.specs.Held.{clock_after};
 
 use scr_notation::{Scramble, Turn};
@@ -74,7 +74,7 @@ impl Clock {
         requires some_pin { 0 < pins }
         requires four_pins { pins < 16 }
         requires hours { amount < 12 }
-        ensures { result ≡ turned self.now (dial_turn back pins amount) }
+        ensures { result ≡ dials_turned self.now (dial_turn back pins amount) }
     {
         let mut dials = [0; 14];
         for dial in 0..14 {

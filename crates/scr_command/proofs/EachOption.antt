@@ -6,7 +6,7 @@ use Rattle.std.specs.Str.{bytes_eq}
 use Rattle.std.proofs.lemmas.Slice.Eq.{bytes_eq-Decides}
 use Rattle.scr_command.specs.declared.options.OptionName.{OptionName}
 use Rattle.scr_command.specs.declared.options.OptionName.TheVariants.{Seed, Workers, Tries, Attempts}
-use Rattle.scr_command.specs.OptionTable.{Text, all_options, flag_of, is_option, name_of}
+use Rattle.scr_command.specs.OptionTable.{Text, all_options, flag_of, is_option, option_name}
 use Rattle.scr_command.specs.OptionWords.{spelled_option}
 
 -- two functions that agree on the list of the options agree on each option
@@ -51,7 +51,7 @@ is_itself = each_alike (λ option. is_option option option) (λ option. true) re
 -- options of one name are the same
 pub same_option : (option other : OptionName) → is_option other option ≡ true → other ≡ option
 same_option option other same =
-    let names : name_of option ≡ name_of other = (bytes_eq-Decides (name_of option) (name_of other)).0 same in
+    let names : option_name option ≡ option_name other = (bytes_eq-Decides (option_name option) (option_name other)).0 same in
     let found : Some other ≡ Some option =
     sym (flag-spells other) ∙ ap (λ name. spelled_option (45 ∷ 45 ∷ name)) (sym names) ∙ flag-spells option in
     ap (λ o. unwrap_or o option) found

@@ -2,7 +2,7 @@
 use Rattle.std.proofs.Common.{◌≡◌, refl, cond, map, List, [], ◌∷◌, Bool, true, false, Some, None, codes}
 use Rattle.scr_command.specs.declared.options.OptionName.{OptionName}
 use Rattle.scr_command.specs.declared.options.OptionName.TheVariants.{Seed, Workers, Tries, Attempts}
-use Rattle.scr_command.specs.OptionTable.{Text, all_options, name_of}
+use Rattle.scr_command.specs.OptionTable.{Text, all_options, option_name}
 use Rattle.scr_command.specs.OptionsCommand.{raw_rule, options_app, shape_with}
 use Rattle.scr_command.proofs.EachOption.{each_alike}
 use Rattle.clap.specs.Walk.{Held, Row, Rule, arg_by_id, arg_by_index, finished, has_row, settled, used, with_values, without, with_default}
@@ -31,7 +31,7 @@ built_is = refl
 -- the row of an option with its value
 abbrev pub row_for : OptionName → Text → Row
 row_for k v = record {
-  id = name_of k;
+  id = option_name k;
   values = v ∷ [];
   count = None;
   source = Some CommandLine;
@@ -40,20 +40,20 @@ row_for k v = record {
 
 -- ---- what the rules come to
 
-pub by_id : (k : OptionName) → arg_by_id rules (name_of k) ≡ Some (rule_for k)
+pub by_id : (k : OptionName) → arg_by_id rules (option_name k) ≡ Some (rule_for k)
 unfolding rule_for
-by_id = each_alike (λ k. arg_by_id rules (name_of k)) (λ k. Some (rule_for k)) refl
+by_id = each_alike (λ k. arg_by_id rules (option_name k)) (λ k. Some (rule_for k)) refl
 
 pub no_positional : arg_by_index rules 1 ≡ None
 unfolding rule_for
 no_positional = refl
 
 -- a second use is a fault
-pub use_of_one : (k : OptionName) (v : Text) (rows : List Row) → use_fault false (rule_for k) (v ∷ []) rows ≡ cond (has_row (name_of k) rows) (kind.ArgumentConflict ∷ []) []
+pub use_of_one : (k : OptionName) (v : Text) (rows : List Row) → use_fault false (rule_for k) (v ∷ []) rows ≡ cond (has_row (option_name k) rows) (kind.ArgumentConflict ∷ []) []
 unfolding rule_for
-use_of_one k v rows = go (has_row (name_of k) rows) refl
+use_of_one k v rows = go (has_row (option_name k) rows) refl
   where
-    go : (t : Bool) → has_row (name_of k) rows ≡ t → use_fault false (rule_for k) (v ∷ []) rows ≡ cond (has_row (name_of k) rows) (kind.ArgumentConflict ∷ []) []
+    go : (t : Bool) → has_row (option_name k) rows ≡ t → use_fault false (rule_for k) (v ∷ []) rows ≡ cond (has_row (option_name k) rows) (kind.ArgumentConflict ∷ []) []
     go true e = rw e refl
     go false e = rw e refl
 
@@ -62,16 +62,16 @@ pub use_of_none : (k : OptionName) (rows : List Row) → use_fault false (rule_f
 unfolding rule_for
 use_of_none k rows = refl
 
-pub used_is : (k : OptionName) (v : Text) (rows : List Row) → used (rule_for k) (v ∷ []) rows ≡ with_values (name_of k) reading.AsWritten CommandLine (v ∷ []) (without (name_of k) rows)
+pub used_is : (k : OptionName) (v : Text) (rows : List Row) → used (rule_for k) (v ∷ []) rows ≡ with_values (option_name k) reading.AsWritten CommandLine (v ∷ []) (without (option_name k) rows)
 unfolding rule_for
 used_is k v rows = refl
 
 -- no option has a default
 no_default : (k : OptionName) (rows : List Row) → (with_default rows (rule_for k) ≡ rows) × (default_fault rows (rule_for k) ≡ [])
 unfolding rule_for
-no_default k rows = go (has_row (name_of k) rows) refl
+no_default k rows = go (has_row (option_name k) rows) refl
   where
-    go : (t : Bool) → has_row (name_of k) rows ≡ t → (with_default rows (rule_for k) ≡ rows) × (default_fault rows (rule_for k) ≡ [])
+    go : (t : Bool) → has_row (option_name k) rows ≡ t → (with_default rows (rule_for k) ≡ rows) × (default_fault rows (rule_for k) ≡ [])
     go true e = (rw e refl, rw e refl)
     go false e = (rw e refl, rw e refl)
 

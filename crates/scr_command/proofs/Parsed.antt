@@ -6,7 +6,7 @@ use Rattle.std.proofs.Math.Seq.{take-suc}
 use Rattle.std.proofs.lemmas.List.{map-append}
 use Rattle.scr_command.specs.declared.options.OptionName.{OptionName}
 use Rattle.scr_command.specs.declared.options.OptionName.TheVariants.{Seed}
-use Rattle.scr_command.specs.OptionTable.{Text, all_options, name_of}
+use Rattle.scr_command.specs.OptionTable.{Text, all_options, option_name}
 use Rattle.scr_command.specs.OptionWords.{Values, is_own, options_of, with_own, with_seed}
 use Rattle.scr_command.specs.OptionsCommand.{app_with, options_app, raw_rule}
 use Rattle.scr_command.proofs.Slots.{no_values, given_by, all_words}
@@ -60,10 +60,10 @@ no_fault_gives words left none = sym (parser_agrees words left) ∙ ap (λ ks. o
 
 -- the values that the matches have
 pub matches_give : (words : List Text) (f : Found) → AreLeft words → fault_of options_app words ≡ [] → rows_of f ≡ matches_of options_app words
-    → given_by words ≡ with_seed (λ k. first_value f (name_of k))
+    → given_by words ≡ with_seed (λ k. first_value f (option_name k))
 matches_give words f left none rows =
     let value : (id : Text) → first_of id (matches_of options_app words) ≡ first_value f id = λ id. ap (first_of id) (sym rows) ∙ sym (first_value-rows f id) in
-    no_fault_gives words left none ∙ (λ i. with_seed (λ k. value (name_of k) i))
+    no_fault_gives words left none ∙ (λ i. with_seed (λ k. value (option_name k) i))
 
 -- ---- the options of a command
 

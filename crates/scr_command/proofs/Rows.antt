@@ -3,7 +3,7 @@ use Rattle.std.proofs.Common.{◌≡◌, ◌∙◌, refl, sym, ap, cond, List, [
 use Rattle.std.specs.List.{find}
 use Rattle.std.specs.Str.{bytes_eq}
 use Rattle.scr_command.specs.declared.options.OptionName.{OptionName}
-use Rattle.scr_command.specs.OptionTable.{Text, is_option, name_of}
+use Rattle.scr_command.specs.OptionTable.{Text, is_option, option_name}
 use Rattle.scr_command.specs.OptionWords.{Values}
 use Rattle.scr_command.proofs.EachOption.{same_option}
 use Rattle.scr_command.proofs.Slots.{no_values, set_value, other_value, own_value}
@@ -27,11 +27,11 @@ at_row-none id change missing (r ∷ rows) h =
     rw both.0 (ap (λ rs. r ∷ rs) (at_row-none id change missing rows both.1))
 
 -- a first use adds a row
-first_use : (k : OptionName) (v : Text) (rows : List Row) → has_row (name_of k) rows ≡ false → used (rule_for k) (v ∷ []) rows ≡ rows ++ row_for k v ∷ []
+first_use : (k : OptionName) (v : Text) (rows : List Row) → has_row (option_name k) rows ≡ false → used (rule_for k) (v ∷ []) rows ≡ rows ++ row_for k v ∷ []
 first_use k v rows h =
-    let gone : without (name_of k) rows ≡ rows = at_row-none (name_of k) (λ _. []) [] rows h ∙ append-nil rows in
-    used_is k v rows ∙ ap (with_values (name_of k) reading.AsWritten CommandLine (v ∷ [])) gone
-    ∙ at_row-none (name_of k) (more_values CommandLine (v ∷ [])) (row_for k v ∷ []) rows h
+    let gone : without (option_name k) rows ≡ rows = at_row-none (option_name k) (λ _. []) [] rows h ∙ append-nil rows in
+    used_is k v rows ∙ ap (with_values (option_name k) reading.AsWritten CommandLine (v ∷ [])) gone
+    ∙ at_row-none (option_name k) (more_values CommandLine (v ∷ [])) (row_for k v ∷ []) rows h
 
 pub has_row-row_under : (id : Text) (rows : List Row) → has_row id rows ≡ is_some (row_under id rows)
 has_row-row_under id [] = refl
@@ -56,37 +56,37 @@ row_under-other id (x ∷ rows) r h = ap (λ o. cond (bytes_eq x.id id) (Some x)
 
 -- the rows hold the values so far
 abbrev pub RowsHold : List Row → Values → Type 0
-RowsHold rows s = (k : OptionName) → row_under (name_of k) rows ≡ option_map (row_for k) (s k)
+RowsHold rows s = (k : OptionName) → row_under (option_name k) rows ≡ option_map (row_for k) (s k)
 
 pub no_rows_hold : RowsHold [] no_values
 no_rows_hold k = refl
 
-pub held_row : (rows : List Row) (s : Values) (k : OptionName) (o : Option Text) → RowsHold rows s → s k ≡ o → has_row (name_of k) rows ≡ is_some o
-held_row rows s k None holds e = has_row-row_under (name_of k) rows ∙ rw (holds k, e) refl
-held_row rows s k (Some v) holds e = has_row-row_under (name_of k) rows ∙ rw (holds k, e) refl
+pub held_row : (rows : List Row) (s : Values) (k : OptionName) (o : Option Text) → RowsHold rows s → s k ≡ o → has_row (option_name k) rows ≡ is_some o
+held_row rows s k None holds e = has_row-row_under (option_name k) rows ∙ rw (holds k, e) refl
+held_row rows s k (Some v) holds e = has_row-row_under (option_name k) rows ∙ rw (holds k, e) refl
 
-pub held_first : (rows : List Row) (s : Values) (k : OptionName) → RowsHold rows s → first_of (name_of k) rows ≡ s k
+pub held_first : (rows : List Row) (s : Values) (k : OptionName) → RowsHold rows s → first_of (option_name k) rows ≡ s k
 held_first rows s k holds = go (s k) (holds k)
   where
-    go : (o : Option Text) → row_under (name_of k) rows ≡ option_map (row_for k) o → first_of (name_of k) rows ≡ o
+    go : (o : Option Text) → row_under (option_name k) rows ≡ option_map (row_for k) o → first_of (option_name k) rows ≡ o
     go None e = rw e refl
     go (Some v) e = rw e refl
 
-pub held_given : (rows : List Row) (s : Values) (k : OptionName) → RowsHold rows s → is_given (name_of k) rows ≡ is_some (s k)
+pub held_given : (rows : List Row) (s : Values) (k : OptionName) → RowsHold rows s → is_given (option_name k) rows ≡ is_some (s k)
 held_given rows s k holds = go (s k) (holds k)
   where
-    go : (o : Option Text) → row_under (name_of k) rows ≡ option_map (row_for k) o → is_given (name_of k) rows ≡ is_some o
+    go : (o : Option Text) → row_under (option_name k) rows ≡ option_map (row_for k) o → is_given (option_name k) rows ≡ is_some o
     go None e = rw e refl
     go (Some v) e = rw e refl
 
 -- a first use gives the option its value
 pub first_use_holds : (rows : List Row) (s : Values) (k : OptionName) (v : Text) → RowsHold rows s → s k ≡ None → RowsHold (used (rule_for k) (v ∷ []) rows) (set_value k v s)
 first_use_holds rows s k v holds free j =
-    ap (row_under (name_of j)) (first_use k v rows (held_row rows s k None holds free)) ∙ go (is_option j k) refl
+    ap (row_under (option_name j)) (first_use k v rows (held_row rows s k None holds free)) ∙ go (is_option j k) refl
   where
-    go : (t : Bool) → is_option j k ≡ t → row_under (name_of j) (rows ++ row_for k v ∷ []) ≡ option_map (row_for j) (set_value k v s j)
+    go : (t : Bool) → is_option j k ≡ t → row_under (option_name j) (rows ++ row_for k v ∷ []) ≡ option_map (row_for j) (set_value k v s j)
     go true e =
         let own = own_value k j v s e in
-        let none : row_under (name_of j) rows ≡ None = holds j ∙ rw (own.1, free) refl in
-        row_under-push (name_of j) rows (row_for k v) none ∙ rw e (ap (λ n. Some (row_for n v)) (sym (same_option k j e)))
-    go false e = row_under-other (name_of j) rows (row_for k v) e ∙ holds j ∙ ap (option_map (row_for j)) (sym (other_value k j v s e))
+        let none : row_under (option_name j) rows ≡ None = holds j ∙ rw (own.1, free) refl in
+        row_under-push (option_name j) rows (row_for k v) none ∙ rw e (ap (λ n. Some (row_for n v)) (sym (same_option k j e)))
+    go false e = row_under-other (option_name j) rows (row_for k v) e ∙ holds j ∙ ap (option_map (row_for j)) (sym (other_value k j v s e))

@@ -1,7 +1,7 @@
 -- What the parser makes of one word.
 use Rattle.std.proofs.Common.{length, ◌≡◌, ◌∙◌, refl, ap, cond, ℕ, ◌==◌, List, [], ◌∷◌, Bool, true, false, Option, Some, None}
 use Rattle.scr_command.specs.declared.options.OptionName.{OptionName}
-use Rattle.scr_command.specs.OptionTable.{Text, name_of}
+use Rattle.scr_command.specs.OptionTable.{Text, option_name}
 use Rattle.scr_command.specs.OptionWords.{attached_value, begins_with_hyphen, option_spelling}
 use Rattle.scr_command.proofs.EachOption.{each_alike}
 use Rattle.scr_command.proofs.OptionRules.{rule_for, rules, shape}
@@ -25,7 +25,7 @@ or_else-nil (k ∷ ks) = refl
 
 -- an option with its values so far
 abbrev pub pending : OptionName → List Text → Held → Held
-pending k values h = record h { pending = Some (name_of k, values) }
+pending k values h = record h { pending = Some (option_name k, values) }
 
 pub pending_fault : (k : OptionName) (values : List Text) (h : Held) → settle_fault rules false (pending k values h) ≡ use_fault false (rule_for k) values h.rows
 unfolding rule_for
@@ -107,22 +107,22 @@ stray_word h word e =
     any_turn idle h word ∙ (λ i. other_turn (f.0 i) (f.1 i) (f.2 i) idle word h) ∙ stray_turn h word
 
 module _ (h : Held) (word : Text) where
-  value_turn : (k : OptionName) → other_turn false None None (option (name_of k)) word (pending k [] h) ≡ []
+  value_turn : (k : OptionName) → other_turn false None None (option (option_name k)) word (pending k [] h) ≡ []
   unfolding rule_for
-  value_turn k = each_alike (λ k. other_turn false None None (option (name_of k)) word (pending k [] h)) (λ k. []) refl k
+  value_turn k = each_alike (λ k. other_turn false None None (option (option_name k)) word (pending k [] h)) (λ k. []) refl k
 
-  value_walked : (k : OptionName) → other_walked false None None (option (name_of k)) word (pending k [] h) ≡ at_word (pending k (word ∷ []) h) idle
+  value_walked : (k : OptionName) → other_walked false None None (option (option_name k)) word (pending k [] h) ≡ at_word (pending k (word ∷ []) h) idle
   unfolding rule_for
-  value_walked k = each_alike (λ k. other_walked false None None (option (name_of k)) word (pending k [] h)) (λ k. at_word (pending k (word ∷ []) h) idle) refl k
+  value_walked k = each_alike (λ k. other_walked false None None (option (option_name k)) word (pending k [] h)) (λ k. at_word (pending k (word ∷ []) h) idle) refl k
 
 -- where one waits it is its value
 pub value_word : (k : OptionName) (h : Held) (word : Text) → begins_with_hyphen word ≡ false
-    → (turn_fault shape [] (at_word (pending k [] h) (option (name_of k))) word ≡ [])
-    × (walked rules [] (at_word (pending k [] h) (option (name_of k))) word ≡ at_word (pending k (word ∷ []) h) idle)
+    → (turn_fault shape [] (at_word (pending k [] h) (option (option_name k))) word ≡ [])
+    × (walked rules [] (at_word (pending k [] h) (option (option_name k))) word ≡ at_word (pending k (word ∷ []) h) idle)
 value_word k h word e =
     let f = plain_facts word e in (
-      any_turn (option (name_of k)) (pending k [] h) word ∙ (λ i. other_turn (f.0 i) (f.1 i) (f.2 i) (option (name_of k)) word (pending k [] h)) ∙ value_turn h word k,
-      waiting_walked (name_of k) (pending k [] h) word ∙ (λ i. other_walked (f.0 i) (f.1 i) (f.2 i) (option (name_of k)) word (pending k [] h)) ∙ value_walked h word k,
+      any_turn (option (option_name k)) (pending k [] h) word ∙ (λ i. other_turn (f.0 i) (f.1 i) (f.2 i) (option (option_name k)) word (pending k [] h)) ∙ value_turn h word k,
+      waiting_walked (option_name k) (pending k [] h) word ∙ (λ i. other_walked (f.0 i) (f.1 i) (f.2 i) (option (option_name k)) word (pending k [] h)) ∙ value_walked h word k,
     )
 
 -- ---- a word of one hyphen and more
@@ -206,14 +206,14 @@ module _ (waiting : Waiting) (h : Held) (c : ℕ) (rest : Text) where
   unfolding rule_for
   waits_turn k = or_else-nil _
 
-  waits_walked : (k : OptionName) → long_walked (Some (rule_for k)) None waiting (long_word c rest) h ≡ at_word (pending k [] (settled rules h)) (option (name_of k))
+  waits_walked : (k : OptionName) → long_walked (Some (rule_for k)) None waiting (long_word c rest) h ≡ at_word (pending k [] (settled rules h)) (option (option_name k))
   unfolding rule_for
   waits_walked k = refl
 
   -- an option that waits for its value
   pub waiting_option : (k : OptionName) → arg_by_long rules (option_spelling (c ∷ rest)) ≡ Some (rule_for k) → attached_value (c ∷ rest) ≡ None
       → (turn_fault shape [] (at_word h waiting) (long_word c rest) ≡ settle_fault rules false h)
-      × (walked rules [] (at_word h waiting) (long_word c rest) ≡ at_word (pending k [] (settled rules h)) (option (name_of k)))
+      × (walked rules [] (at_word h waiting) (long_word c rest) ≡ at_word (pending k [] (settled rules h)) (option (option_name k)))
   waiting_option k found has = (
     turn_is waiting h c rest ∙ (λ i. long_turn (found i) (has i) waiting (long_word c rest) h) ∙ waits_turn k,
     walked_is waiting h c rest ∙ (λ i. long_walked (found i) (has i) waiting (long_word c rest) h) ∙ waits_walked k,

@@ -5,7 +5,7 @@ use Rattle.std.specs.Str.{chars}
 use Rattle.std.specs.List.{fold}
 use Rattle.scr_command.specs.declared.options.OptionName.{OptionName}
 use Rattle.scr_command.specs.declared.options.OptionName.TheVariants.{Seed}
-use Rattle.scr_command.specs.OptionTable.{Text, name_of}
+use Rattle.scr_command.specs.OptionTable.{Text, option_name}
 use Rattle.scr_command.specs.OptionWords.{Values, attached_value, begins_with_hyphen, spelled_option, option_read, options_read, option_spelling, with_given, with_seed}
 use Rattle.scr_command.proofs.Slots.{if_free, set_value, given_after, no_more_words, value_missing, with_given_after, words_after}
 use Rattle.scr_command.proofs.OptionRules.{defaults_pass, finished_is, rule_for, rules, seed_required, shape, use_of_none, use_of_one}
@@ -20,7 +20,7 @@ use Rattle.clap.specs.declared.error.kind.ErrorKind.TheVariants as kind
 
 -- what the parser gives, by its faults and its rows
 abbrev pub options_by : Kinds → List Row → Option Values
-options_by [] rows = with_seed (λ k. first_of (name_of k) rows)
+options_by [] rows = with_seed (λ k. first_of (option_name k) rows)
 options_by (k ∷ ks) rows = None
 
 abbrev walk_from : Walk → List Text → Walk
@@ -107,7 +107,7 @@ pending_fails (word ∷ rest) h left zero f = elim left.0 [
 
 abbrev walk_at : Option OptionName → Held → Walk
 walk_at None h = at_word h idle
-walk_at (Some k) h = at_word (pending k [] (settled rules h)) (option (name_of k))
+walk_at (Some k) h = at_word (pending k [] (settled rules h)) (option (option_name k))
 
 abbrev Agrees : List Text → Type 0
 Agrees words = (waiting : Option OptionName) (h : Held) (s : Values) → h.skip ≡ 0 → settle_fault rules false h ≡ [] → RowsHold (settled rules h).rows s
@@ -189,13 +189,13 @@ module _ (h : Held) (s : Values) (zero : h.skip ≡ 0) (passes : settle_fault ru
     unfolding options_read
     waiting_short k word short =
         let hyphen : begins_with_hyphen word ≡ true = ap begins_with_hyphen short.3 in
-        fails_at (walk_at (Some k) h) word rest (short_fails (option (name_of k)) (pending k [] (settled rules h)) word zero short)
+        fails_at (walk_at (Some k) h) word rest (short_fails (option (option_name k)) (pending k [] (settled rules h)) word zero short)
         ∙ ap (λ b. option_and_then (given_after s) (cond b None (with_given k word (options_read None rest)))) (sym hyphen)
 
     -- an option where one waits
     waiting_long : (k : OptionName) (c : ℕ) (t : Text) → parsed_from (walk_at (Some k) h) ((45 ∷ 45 ∷ c ∷ t) ∷ rest) ≡ words_after s (Some k) ((45 ∷ 45 ∷ c ∷ t) ∷ rest)
     unfolding options_read
-    waiting_long k c t = fails_at (walk_at (Some k) h) _ rest (long_fails (option (name_of k)) (pending k [] (settled rules h)) c t (no_value_yet k))
+    waiting_long k c t = fails_at (walk_at (Some k) h) _ rest (long_fails (option (option_name k)) (pending k [] (settled rules h)) c t (no_value_yet k))
 
     -- a value where an option waits
     waiting_plain : (k : OptionName) (word : Text) → AreLeft rest → begins_with_hyphen word ≡ false → parsed_from (walk_at (Some k) h) (word ∷ rest) ≡ words_after s (Some k) (word ∷ rest)

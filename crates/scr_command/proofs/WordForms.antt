@@ -4,7 +4,7 @@ use Rattle.std.specs.List.{find, position_or_len}
 use Rattle.std.specs.Str.{bytes_eq}
 use Rattle.std.proofs.lemmas.Bool.Decides.{nat_tests}
 use Rattle.scr_command.specs.declared.options.OptionName.{OptionName}
-use Rattle.scr_command.specs.OptionTable.{Text, all_options, flag_of, name_of}
+use Rattle.scr_command.specs.OptionTable.{Text, all_options, flag_of, option_name}
 use Rattle.scr_command.specs.OptionWords.{attached_value, begins_with_hyphen, is_equals, spelled_option, option_spelling}
 use Rattle.scr_command.proofs.OptionRules.{rule_for, rules}
 use Rattle.clap.specs.Walk.{arg_by_long}
@@ -35,9 +35,9 @@ long_attached rest = attached-cons 45 (45 ∷ rest) refl ∙ attached-cons 45 re
 long_in : (options : List OptionName) (name : Text) → arg_by_long (map rule_for options) name ≡ option_map rule_for (find (λ k. bytes_eq (flag_of k) (45 ∷ 45 ∷ name)) options)
 unfolding rule_for
 long_in [] name = refl
-long_in (k ∷ options) name = go (bytes_eq (name_of k) name) refl (long_in options name)
+long_in (k ∷ options) name = go (bytes_eq (option_name k) name) refl (long_in options name)
   where
-    go : (t : Bool) → bytes_eq (name_of k) name ≡ t
+    go : (t : Bool) → bytes_eq (option_name k) name ≡ t
         → arg_by_long (map rule_for options) name ≡ option_map rule_for (find (λ k. bytes_eq (flag_of k) (45 ∷ 45 ∷ name)) options)
         → arg_by_long (map rule_for (k ∷ options)) name ≡ option_map rule_for (find (λ k. bytes_eq (flag_of k) (45 ∷ 45 ∷ name)) (k ∷ options))
     go true e rest = rw e refl

@@ -17,7 +17,7 @@ use Rattle.scr_command.specs.declared.options.OptionName.{OptionName}
 use Rattle.scr_command.specs.declared.options.OptionName.TheVariants.{Workers, Tries, Attempts}
 use Rattle.scr_command.specs.declared.options.OptionName.TheVariants as option
 use Rattle.scr_command.specs.declared.options.Range.{Range}
-use Rattle.scr_command.specs.OptionTable.{row_of, usual_of, sheet_options}
+use Rattle.scr_command.specs.OptionTable.{option_row, usual_number, sheet_options}
 use Rattle.scr_command.specs.OptionWords.{Values, options_of}
 
 -- ---- the numbers of a run
@@ -25,32 +25,32 @@ use Rattle.scr_command.specs.OptionWords.{Values, options_of}
 -- those of a sheet whose words say nothing of them
 abbrev pub usual_options : Options
 usual_options = record {
-  workers = usual_of (row_of Workers).range;
-  tries = usual_of (row_of Tries).range;
-  attempts = usual_of (row_of Attempts).range;
+  workers = usual_number (option_row Workers).range;
+  tries = usual_number (option_row Tries).range;
+  attempts = usual_number (option_row Attempts).range;
 }
 
 -- the number that an option sets in its range, or the usual one where the option isn't there
 abbrev pub setting : Option Range → Option (List ℕ) → Option ℕ
-setting range None = Some (usual_of range)
+setting range None = Some (usual_number range)
 setting None (Some text) = None
 setting (Some range) (Some text) = number_between range.least range.greatest text
 
 -- the three numbers, where each is one
-abbrev pub settings_of : Option ℕ → Option ℕ → Option ℕ → Option Options
-settings_of (Some workers) (Some tries) (Some attempts) =
+abbrev pub options_with : Option ℕ → Option ℕ → Option ℕ → Option Options
+options_with (Some workers) (Some tries) (Some attempts) =
     Some (record { workers = workers; tries = tries; attempts = attempts })
-settings_of None tries attempts = None
-settings_of (Some workers) None attempts = None
-settings_of (Some workers) (Some tries) None = None
+options_with None tries attempts = None
+options_with (Some workers) None attempts = None
+options_with (Some workers) (Some tries) None = None
 
 -- the number of an option, by the values that were given
 abbrev pub number_in : Values → OptionName → Option ℕ
-number_in values option = setting (row_of option).range (values option)
+number_in values option = setting (option_row option).range (values option)
 
 -- the numbers of the options of a sheet
 abbrev pub settings_in : Values → Option Options
-settings_in values = settings_of (number_in values Workers) (number_in values Tries) (number_in values Attempts)
+settings_in values = options_with (number_in values Workers) (number_in values Tries) (number_in values Attempts)
 
 -- ---- a seed
 

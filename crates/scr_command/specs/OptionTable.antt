@@ -18,11 +18,11 @@ abbrev pub sets_number : Text → ℕ → ℕ → ℕ → OptionRow
 sets_number name least greatest usual =
     record { name = name; range = Some (record { least = least; greatest = greatest; usual = usual }) }
 
-abbrev pub row_of : OptionName → OptionRow
-row_of Seed = record { name = codes "seed"; range = None }
-row_of Workers = sets_number (codes "workers") 1 64 1
-row_of Tries = sets_number (codes "tries") 0 100000 2000
-row_of Attempts = sets_number (codes "attempts") 1 1000000 1000
+abbrev pub option_row : OptionName → OptionRow
+option_row Seed = record { name = codes "seed"; range = None }
+option_row Workers = sets_number (codes "workers") 1 64 1
+option_row Tries = sets_number (codes "tries") 0 100000 2000
+option_row Attempts = sets_number (codes "attempts") 1 1000000 1000
 
 -- all options, in this order
 abbrev pub all_options : List OptionName
@@ -32,21 +32,21 @@ all_options = Seed ∷ Workers ∷ Tries ∷ Attempts ∷ []
 abbrev pub sheet_options : List OptionName
 sheet_options = Seed ∷ Workers ∷ Tries ∷ Attempts ∷ []
 
-abbrev pub name_of : OptionName → Text
-name_of option = (row_of option).name
+abbrev pub option_name : OptionName → Text
+option_name option = (option_row option).name
 
 -- how words spell an option: two hyphens, and its name. There are no short forms, and a part of a spelling is none.
 abbrev pub flag_of : OptionName → Text
-flag_of option = codes "--" ++ name_of option
+flag_of option = codes "--" ++ option_name option
 
 -- an option is this one: names tell options apart
 abbrev pub is_option : OptionName → OptionName → Bool
-is_option option other = bytes_eq (name_of other) (name_of option)
+is_option option other = bytes_eq (option_name other) (option_name option)
 
 -- the number of an option that sets one and isn't there
-abbrev pub usual_of : Option Range → ℕ
-usual_of None = 0
-usual_of (Some range) = range.usual
+abbrev pub usual_number : Option Range → ℕ
+usual_number None = 0
+usual_number (Some range) = range.usual
 
 -- a number that an option may set
 abbrev pub IsSettable : Option Range → ℕ → Type 0

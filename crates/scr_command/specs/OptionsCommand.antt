@@ -4,7 +4,7 @@ use Rattle.clap.specs.Walk.{Rule}
 use Rattle.clap.specs.Simple.{App, Shape, new_rule, new_shape}
 use Rattle.clap.specs.declared.builder.action.ArgAction.TheVariants.{Set}
 use Rattle.scr_command.specs.declared.options.OptionName.{OptionName}
-use Rattle.scr_command.specs.OptionTable.{Text, all_options, name_of, row_of}
+use Rattle.scr_command.specs.OptionTable.{Text, all_options, option_name, option_row}
 
 -- an option with one value, whose long name is its id
 abbrev pub given_rule : Bool → Text → Rule
@@ -12,7 +12,7 @@ given_rule required id = record (new_rule id) { long = Some id; action = Some Se
 
 -- an option for which no usual number stands must be given: that is the seed
 abbrev pub raw_rule : OptionName → Rule
-raw_rule option = given_rule (is_none (row_of option).range) (name_of option)
+raw_rule option = given_rule (is_none (option_row option).range) (option_name option)
 
 -- the command with these options
 abbrev pub shape_with : List Rule → Shape

@@ -6,15 +6,15 @@ use Rattle.scr_command.specs.declared.command.Command.TheVariants.{One, Sheet, T
 use Rattle.scr_command.specs.declared.command.CommandFault.{CommandFault}
 use Rattle.scr_command.specs.declared.command.CommandFault.TheVariants as refusal
 use Rattle.scr_command.specs.declared.options.OptionName.TheVariants.{Workers, Tries, Attempts}
-use Rattle.scr_command.specs.OptionTable.{row_of, sheet_options, IsSettable}
+use Rattle.scr_command.specs.OptionTable.{option_row, sheet_options, IsSettable}
 use Rattle.scr_command.specs.OptionWords.{options_of}
 use Rattle.scr_command.specs.Command.{command_of, sheet_of, AsksForSheet}
 
 -- numbers that words can set
 pub record AreOptions (options : Options) : Type 0 where
-  pub workers : IsSettable (row_of Workers).range options.workers
-  pub tries : IsSettable (row_of Tries).range options.tries
-  pub attempts : IsSettable (row_of Attempts).range options.attempts
+  pub workers : IsSettable (option_row Workers).range options.workers
+  pub tries : IsSettable (option_row Tries).range options.tries
+  pub attempts : IsSettable (option_row Attempts).range options.attempts
 
 -- a command that words can ask for: its numbers are in their ranges
 abbrev pub IsCommand : Command → Type 0

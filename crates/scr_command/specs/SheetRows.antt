@@ -19,5 +19,5 @@ Sets words options =
     → command_of (sheet_words digits words) ≡ Ok (Sheet seed options)
 
 -- whatever stands where the seed does, the words are no command
-abbrev pub IsRefused : List Text → Type 0
-IsRefused words = (digits : Text) → command_of (sheet_words digits words) ≡ Err Grammar
+abbrev pub AreRefused : List Text → Type 0
+AreRefused words = (digits : Text) → command_of (sheet_words digits words) ≡ Err Grammar

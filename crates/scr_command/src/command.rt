@@ -3,7 +3,7 @@
 ghost use Rattle.std.specs.Prelude.{◌≡◌, ◌≤◌, [], ◌∷◌, IsTrue, Option, Some, MatchResult, option_map, Ok, IfOk, IfSome};
 ghost use Rattle.scr_command.specs.declared.command.UsageFault.TheVariants.{Grammar, NoSeed};
 ghost use Rattle.scr_command.specs.declared.command.CommandFault.TheVariants.{Usage, NoMemory};
-ghost use Rattle.scr_command.specs.OptionTable.{row_of, sheet_options, IsSettable};
+ghost use Rattle.scr_command.specs.OptionTable.{option_row, sheet_options, IsSettable};
 ghost use Rattle.scr_command.specs.OptionWords.{options_of};
 ghost use Rattle.scr_command.specs.Split.{found_values};
 ghost use Rattle.scr_command.specs.Words.{texts};
@@ -188,7 +188,7 @@ fn read_numbers(split: &SplitOptions<'_>) -> Option<Options>
 /// Reads an option's number in its range; the usual one stands where the option isn't there.
 fn read_number(split: &SplitOptions<'_>, option: OptionName) -> Option<u32>
     ensures answer { result ≡ number_in (found_values split.now) option }
-    ensures range { IfSome result (IsSettable (row_of option).range) }
+    ensures range { IfSome result (IsSettable (option_row option).range) }
 {
     match (split.value(option), option.range()) {
         (Some(text), Some(range)) => number_within(text.as_bytes(), range.least, range.greatest),

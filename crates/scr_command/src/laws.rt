@@ -5,7 +5,7 @@ ghost use Rattle.scr_command.specs.declared.command.UsageFault.TheVariants.{Gram
 ghost use Rattle.scr_command.specs.OptionTable.{Text};
 ghost use Rattle.scr_command.specs.Spelling.{ReadsBack, ReadsNothingElse};
 ghost use Rattle.scr_command.specs.Command.{AsksForSheet, command_of};
-ghost use Rattle.scr_command.specs.SheetRows.{Sets, IsRefused};
+ghost use Rattle.scr_command.specs.SheetRows.{Sets, AreRefused};
 
 /// Words are read as a list of options exactly where they are a way to write that list: each option
 /// in one word with an `=` before its value, or in two, of which the second doesn't begin with a
@@ -22,17 +22,17 @@ pub fn numbers_of_a_sheet()
         (record { workers = 1; tries = 0; attempts = 1 }) }
     ensures greatest { Sets (codes "--attempts=1000000" ∷ codes "--tries=100000" ∷ codes "--workers=64" ∷ [])
         (record { workers = 64; tries = 100000; attempts = 1000000 }) }
-    ensures workers { IsRefused (codes "--workers=0" ∷ []) × IsRefused (codes "--workers=65" ∷ []) }
-    ensures tries { IsRefused (codes "--tries=100001" ∷ []) }
-    ensures attempts { IsRefused (codes "--attempts=0" ∷ []) × IsRefused (codes "--attempts=1000001" ∷ []) }
+    ensures workers { AreRefused (codes "--workers=0" ∷ []) × AreRefused (codes "--workers=65" ∷ []) }
+    ensures tries { AreRefused (codes "--tries=100001" ∷ []) }
+    ensures attempts { AreRefused (codes "--attempts=0" ∷ []) × AreRefused (codes "--attempts=1000001" ∷ []) }
 {}
 
 /// Words that are no command: options twice, short, cut off, or of no name, values that are missing, and no words.
 pub fn words_that_are_refused()
-    ensures twice { IsRefused (codes "--tries=1" ∷ codes "--tries=1" ∷ []) × IsRefused (codes "--seed=0" ∷ []) }
-    ensures short { IsRefused (codes "-w" ∷ codes "1" ∷ []) × IsRefused (codes "--work=1" ∷ []) }
-    ensures unknown { IsRefused (codes "--help" ∷ []) × IsRefused (codes "1" ∷ []) × IsRefused (codes "--" ∷ []) }
-    ensures without_value { IsRefused (codes "--tries" ∷ []) × IsRefused (codes "--tries" ∷ codes "--workers=1" ∷ []) }
+    ensures twice { AreRefused (codes "--tries=1" ∷ codes "--tries=1" ∷ []) × AreRefused (codes "--seed=0" ∷ []) }
+    ensures short { AreRefused (codes "-w" ∷ codes "1" ∷ []) × AreRefused (codes "--work=1" ∷ []) }
+    ensures unknown { AreRefused (codes "--help" ∷ []) × AreRefused (codes "1" ∷ []) × AreRefused (codes "--" ∷ []) }
+    ensures without_value { AreRefused (codes "--tries" ∷ []) × AreRefused (codes "--tries" ∷ codes "--workers=1" ∷ []) }
     ensures without_seed { command_of (codes "sheet" ∷ codes "--tries=1" ∷ []) ≡ Err Grammar }
     ensures none { command_of [] ≡ Err Grammar }
 {}

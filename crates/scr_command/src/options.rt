@@ -1,7 +1,7 @@
 //! The options of commands, and the numbers that a run is made with.
 
 ghost use Rattle.std.specs.Prelude.{◌≡◌, Some};
-ghost use Rattle.scr_command.specs.OptionTable.{row_of, usual_of, all_options, sheet_options};
+ghost use Rattle.scr_command.specs.OptionTable.{option_row, usual_number, all_options, sheet_options};
 
 /// An option of a command.
 #[derive(Clone, Copy, Debug, PartialEq, Eq)]
@@ -53,22 +53,22 @@ pub const SHEET_OPTIONS: [OptionName; 4] = [
 impl OptionName {
     /// Its name, which words spell behind two hyphens.
     pub fn name(self) -> &'static str
-        ensures { result.now ≡ (row_of self).name }
+        ensures { result.now ≡ (option_row self).name }
     {
         self.row().name
     }
 
     /// The numbers that it may set; `None` for the seed, which is no number.
     pub fn range(self) -> Option<Range>
-        ensures { result ≡ (row_of self).range }
+        ensures { result ≡ (option_row self).range }
     {
         self.row().range
     }
 
     /// Its row in the table of options.
     fn row(self) -> OptionRow
-        ensures name { result.name.now ≡ (row_of self).name }
-        ensures range { result.range ≡ (row_of self).range }
+        ensures name { result.name.now ≡ (option_row self).name }
+        ensures range { result.range ≡ (option_row self).range }
     {
         let (name, range) = match self {
             OptionName::Seed => ("seed", None),
@@ -92,7 +92,7 @@ fn from_to(least: u32, greatest: u32, usual: u32) -> Option<Range>
 
 /// The number of an option that isn't there; 0 for the seed.
 pub(crate) fn usual(option: OptionName) -> u32
-    ensures { result ≡ usual_of (row_of option).range }
+    ensures { result ≡ usual_number (option_row option).range }
 {
     match option.range() {
         Some(range) => range.usual,

@@ -1,3 +1,5 @@
+pub mod MarkedLaws
+pub mod StaysBelowLaws
 pub mod MoveLaws
 pub mod MarkedSteps
 pub mod GoalNumbers
@@ -5,3 +7,4 @@ pub mod ProductLaws
 pub mod SearchLaws
 pub mod ProjectionLaws
 pub mod MarkedPieces
+pub mod IndexLaws

@@ -11,9 +11,9 @@ use Rattle.scr_combinatorics.proofs.PermutationLaws.{IsRearranged-permutations, 
 use Rattle.scr_orbit.specs.Orbits.{Rearrangement, IsOrbit, IsRearrangement, turned_orbit}
 use Rattle.scr_orbit.proofs.OrbitLaws.{places_in, orbit_laws}
 use Rattle.scr_coord.specs.Projections.{marked_from, marked_places, stands_in, turned_set, place_set_view, projection, orbit_space}
-use Rattle.scr_coord.specs.MarkedLaws.{length-marked, marked-same, stands_in-later, IsPlaceSetFrom-marked}
+use Rattle.scr_coord.proofs.MarkedLaws.{length-marked, marked-same, stands_in-later, IsPlaceSetFrom-marked}
 use Rattle.scr_coord.specs.SearchSpaces.{positions, Follows}
-use Rattle.scr_coord.specs.StaysBelowLaws.{IsListView-place_sets}
+use Rattle.scr_coord.proofs.StaysBelowLaws.{IsListView-place_sets}
 use Rattle.scr_coord.proofs.ProjectionLaws.{Follows-projection}
 
 -- a place stands among those of marked pieces exactly where its piece is marked

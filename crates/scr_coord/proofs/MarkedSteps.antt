@@ -4,7 +4,7 @@ use Rattle.std.proofs.lemmas.List.{take_more, take_more_set, length-take-le, len
 use Rattle.scr_combinatorics.specs.PlaceSets.{IsPlaceSetFrom, IsPlaceSet}
 use Rattle.scr_combinatorics.proofs.Counts.{one_if, total_by}
 use Rattle.scr_coord.specs.Projections.{marked_from, marked_places}
-use Rattle.scr_coord.specs.MarkedLaws.{length-marked}
+use Rattle.scr_coord.proofs.MarkedLaws.{length-marked}
 
 append_by : (b : Bool) (low : ℕ) (xs ys : List ℕ) → cond b (low ∷ (xs ++ ys)) (xs ++ ys) ≡ cond b (low ∷ xs) xs ++ ys
 append_by true low xs ys = refl

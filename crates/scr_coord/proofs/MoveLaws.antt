@@ -6,18 +6,18 @@ use Rattle.std.proofs.lemmas.Nat.{mul-add-lt}
 use Rattle.std.proofs.lemmas.List.{get_or_append_left, get_or-append-add, length-append}
 use Rattle.scr_coord.specs.Coordinates.{Coordinate, StaysBelow}
 use Rattle.scr_coord.specs.SearchSpaces.{ShowsSame}
-use Rattle.scr_coord.specs.Moves.{position_below, moves_coordinate, barred, each_below, row_of}
+use Rattle.scr_coord.specs.Moves.{position_below, moves_coordinate, barred, each_below, moves_row}
 
 -- the entries of the first n positions
 unfoldable pub rows_of : Coordinate → ℕ → List ℕ
 rows_of c zero = []
-rows_of c (suc n) = rows_of c n ++ row_of c n c.turns
+rows_of c (suc n) = rows_of c n ++ moves_row c n c.turns
 
 pub each_below-more : {X : Type 0} (f : ℕ → X) (n : ℕ) → each_below f (n + 1) ≡ each_below f n ++ f n ∷ []
 unfolding each_below
 each_below-more f n = rw add-one
 
-pub rows_of-more : (c : Coordinate) (n : ℕ) → rows_of c (n + 1) ≡ rows_of c n ++ row_of c n c.turns
+pub rows_of-more : (c : Coordinate) (n : ℕ) → rows_of c (n + 1) ≡ rows_of c n ++ moves_row c n c.turns
 unfolding rows_of
 rows_of-more c n = rw add-one
 
@@ -44,7 +44,7 @@ pub length-rows_of : (c : Coordinate) (n : ℕ) → length (rows_of c n) ≡ n *
 unfolding rows_of
 length-rows_of c zero = omega arith
 length-rows_of c (suc n) =
-    length-append (rows_of c n) (row_of c n c.turns)
+    length-append (rows_of c n) (moves_row c n c.turns)
     ∙ omega (arith, length-rows_of c n, length-each_below (λ t. unwrap_or (c.after n t) barred) c.turns)
 
 -- each entry stands at its place
@@ -55,19 +55,19 @@ rows_of-at c (suc n) p t lt turn =
     elim (cases_eq p n) [
       | inl e ↦
           let last : p * c.turns + t ≡ length (rows_of c n) + t = omega (arith, ap (λ k. k * c.turns) e, length-rows_of c n) in
-          ap (λ i. slice_index (rows_of c n ++ row_of c n c.turns) i) last
-          ∙ get_or-append-add (rows_of c n) (row_of c n c.turns) t 0
+          ap (λ i. slice_index (rows_of c n ++ moves_row c n c.turns) i) last
+          ∙ get_or-append-add (rows_of c n) (moves_row c n c.turns) t 0
           ∙ each_below-at (λ t. unwrap_or (c.after n t) barred) c.turns t 0 turn
           ∙ ap (λ k. unwrap_or (c.after k t) barred) (sym e)
       | inr other ↦
           let before : p < n = omega arith in
           let within : p * c.turns + t < length (rows_of c n) = omega (arith, mul-add-lt p c.turns t n before turn, length-rows_of c n) in
-          get_or_append_left (rows_of c n) (row_of c n c.turns) 0 (p * c.turns + t) within
+          get_or_append_left (rows_of c n) (moves_row c n c.turns) 0 (p * c.turns + t) within
           ∙ rows_of-at c n p t before turn
     ]
 
 -- the first entries: none
-pub row_of-none : (c : Coordinate) (p : ℕ) → row_of c p 0 ≡ []
+pub row_of-none : (c : Coordinate) (p : ℕ) → moves_row c p 0 ≡ []
 unfolding each_below
 row_of-none c p = refl
 
@@ -80,11 +80,11 @@ unfolding each_below
 each_below-none f = refl
 
 -- one more entry behind those of a row
-pub row_more : (c : Coordinate) (p t entry : ℕ) (before now new : List ℕ) → now ≡ before ++ row_of c p t → entry ≡ unwrap_or (c.after p t) barred
-    → new ≡ now ++ entry ∷ [] → new ≡ before ++ row_of c p (t + 1)
+pub row_more : (c : Coordinate) (p t entry : ℕ) (before now new : List ℕ) → now ≡ before ++ moves_row c p t → entry ≡ unwrap_or (c.after p t) barred
+    → new ≡ now ++ entry ∷ [] → new ≡ before ++ moves_row c p (t + 1)
 row_more c p t entry before now new kept e pushed =
-    pushed ∙ ap (λ xs. xs ++ entry ∷ []) kept ∙ append_assoc before (row_of c p t) (entry ∷ [])
-    ∙ ap (λ k. before ++ (row_of c p t ++ k ∷ [])) e ∙ ap (λ xs. before ++ xs) (sym (each_below-more (λ t. unwrap_or (c.after p t) barred) t))
+    pushed ∙ ap (λ xs. xs ++ entry ∷ []) kept ∙ append_assoc before (moves_row c p t) (entry ∷ [])
+    ∙ ap (λ k. before ++ (moves_row c p t ++ k ∷ [])) e ∙ ap (λ xs. before ++ xs) (sym (each_below-more (λ t. unwrap_or (c.after p t) barred) t))
 
 -- an entry is read as it was written
 position-read : (count : ℕ) (o : Option ℕ) → count ≤ barred → ((q : ℕ) → o ≡ Some q → q < count) → position_below count (unwrap_or o barred) ≡ o

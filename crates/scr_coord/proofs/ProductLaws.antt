@@ -7,9 +7,9 @@ use Rattle.std.proofs.lemmas.Bool.{and_parts}
 use Rattle.std.proofs.lemmas.Nat.{mul-add-lt, div-mul-add}
 use Rattle.std.specs.Cmp.Derive.{both_true}
 use Rattle.scr_coord.specs.Coordinates.{Coordinate, StaysBelow}
-use Rattle.scr_coord.specs.Products.{side_by_side, product}
+use Rattle.scr_coord.specs.Products.{side_by_side, product_coordinate}
 use Rattle.scr_coord.specs.SearchSpaces.{positions, Follows, ShowsSame}
-use Rattle.scr_coord.specs.StaysBelowLaws.{part_below}
+use Rattle.scr_coord.proofs.StaysBelowLaws.{part_below}
 
 -- two positions side by side are a position
 pub pair_below : (low high : Coordinate) (n p t a b : ℕ) → n ≡ low.count → high.turns ≡ low.turns → StaysBelow low → StaysBelow high
@@ -33,7 +33,7 @@ part-high n a b lt = ap (λ k. k / n) (omega arith) ∙ div-mul-add b n a lt
 -- ---- products of coordinates that show the same
 
 pub ShowsSame-product : (low high shown_low shown_high : Coordinate) → high.turns ≡ low.turns → ShowsSame low shown_low → ShowsSame high shown_high
-    → ShowsSame (product low high) (product shown_low shown_high)
+    → ShowsSame (product_coordinate low high) (product_coordinate shown_low shown_high)
 ShowsSame-product low high shown_low shown_high turns f g = record {
   count = ap (λ n. n * shown_high.count) f.count ∙ ap (λ n. low.count * n) g.count;
   turns = f.turns;
@@ -68,7 +68,7 @@ pub Follows-product : {S : Type 0} (IsValid IsLowGoal IsHighGoal : S → Type 0)
     → high.turns ≡ low.turns
     → Follows (record { IsValid = IsValid; after = after; IsGoal = IsLowGoal }) (positions low) v
     → Follows (record { IsValid = IsValid; after = after; IsGoal = IsHighGoal }) (positions high) u
-    → Follows (record { IsValid = IsValid; after = after; IsGoal = λ s. IsLowGoal s × IsHighGoal s }) (positions (product low high))
+    → Follows (record { IsValid = IsValid; after = after; IsGoal = λ s. IsLowGoal s × IsHighGoal s }) (positions (product_coordinate low high))
     (λ s. v s + low.count * u s)
 Follows-product IsValid IsLowGoal IsHighGoal after low high v u turns f g =
     let n = low.count in

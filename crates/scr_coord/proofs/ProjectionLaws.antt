@@ -17,7 +17,7 @@ use Rattle.scr_orbit.proofs.Places.{turn-at}
 use Rattle.scr_orbit.proofs.PowerLaws.{All-got}
 use Rattle.scr_coord.specs.Projections.{ListView, projection, twists_view, pieces_view, orbit_space, AreTurns}
 use Rattle.scr_coord.specs.SearchSpaces.{positions, Follows}
-use Rattle.scr_coord.specs.StaysBelowLaws.{IsListView, IsListView-twists, IsListView-pieces}
+use Rattle.scr_coord.proofs.StaysBelowLaws.{IsListView, IsListView-twists, IsListView-pieces}
 
 -- ---- turns in arrays
 

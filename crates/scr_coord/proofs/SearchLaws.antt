@@ -5,9 +5,9 @@ use Rattle.std.specs.Option.{option_map}
 use Rattle.std.proofs.Math.Logic.{∥∥₁_map}
 use Rattle.std.proofs.lemmas.Bool.{ltb-true}
 use Rattle.std.proofs.lemmas.Iterator.Adapters.{option_map_id}
-use Rattle.scr_play.specs.Play.{play}
-use Rattle.scr_play.specs.FirstWord.{LeadsTo, IsFirstWord, IsDistance}
-use Rattle.scr_play.proofs.PlayLaws.{play-keeps}
+use Rattle.scr_combinatorics.specs.Play.{play}
+use Rattle.scr_combinatorics.specs.FirstWord.{LeadsTo, IsFirstWord, IsDistance}
+use Rattle.scr_combinatorics.proofs.PlayLaws.{play-keeps}
 use Rattle.scr_orbit.proofs.ActionLaws.{map-some}
 use Rattle.scr_coord.specs.Coordinates.{Coordinate, StaysBelow, moved}
 use Rattle.scr_coord.specs.SearchSpaces.{SearchSpace, positions, Follows, FindsTheSame, ShowsSame}

@@ -3,5 +3,4 @@ pub mod SearchSpaces
 pub mod Products
 pub mod Moves
 pub mod Projections
-pub mod MarkedLaws
-pub mod StaysBelowLaws
+pub mod Indexes

@@ -1,6 +1,5 @@
 -- What a move table holds.
-use Rattle.std.specs.Prelude.{ℕ, ◌+◌, ◌*◌, Bool, false, List, [], ◌∷◌, ◌++◌, Option, Some, None, nat_lt, if◌then◌else◌, slice_index, slice_index_or, unwrap_or}
-use Rattle.std.proofs.Common.{zero, suc}
+use Rattle.std.specs.Prelude.{ℕ, zero, suc, ◌+◌, ◌*◌, Bool, false, List, [], ◌∷◌, ◌++◌, Option, Some, None, nat_lt, if◌then◌else◌, slice_index, slice_index_or, unwrap_or}
 use Rattle.scr_coord.specs.Coordinates.{Coordinate}
 
 -- For each position, in order, and for each turn, in order, the position that it leads to, or a number that is no position
@@ -34,5 +33,5 @@ each_below f zero = []
 each_below f (suc n) = each_below f n ++ f n ∷ []
 
 -- The entries of the first n turns of a position.
-abbrev pub row_of : Coordinate → ℕ → ℕ → List ℕ
-row_of c p n = each_below (λ t. unwrap_or (c.after p t) barred) n
+abbrev pub moves_row : Coordinate → ℕ → ℕ → List ℕ
+moves_row c p n = each_below (λ t. unwrap_or (c.after p t) barred) n

@@ -10,8 +10,8 @@ side_by_side low_count (Some low) (Some high) = Some (low + low_count * high)
 
 -- Position low + low_count * high stands for the position low of one coordinate and the position high of the other. Each
 -- turn moves both, and is barred where either bars it; a goal is where both have one.
-abbrev pub product : Coordinate → Coordinate → Coordinate
-product low high = record {
+abbrev pub product_coordinate : Coordinate → Coordinate → Coordinate
+product_coordinate low high = record {
   count = low.count * high.count;
   turns = low.turns;
   after = λ p t. side_by_side low.count (low.after (p % low.count) t) (high.after (p / low.count) t);

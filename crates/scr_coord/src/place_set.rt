@@ -3,7 +3,7 @@ ghost use Rattle.std.specs.Prelude.{◌≡◌, ◌^◌, ◌<◌, ◌≤◌, leng
 ghost use Rattle.std.proofs.Props.{props};
 ghost use Rattle.scr_combinatorics.specs.Permutations.{IsPermutation};
 ghost use Rattle.scr_combinatorics.specs.PlaceSets.{IsPlaceSet, binomial};
-ghost use Rattle.scr_coord.specs.MarkedLaws.{IsPlaceSet-prop};
+ghost use Rattle.scr_combinatorics.proofs.PlaceSets.{IsPlaceSet-prop};
 ghost use Rattle.scr_orbit.specs.PlaceTurns.{rearrangement_of};
 ghost use Rattle.scr_coord.specs.Projections.{AreTurns, projection, place_set_view, marked_places, stands_in};
 
@@ -59,7 +59,6 @@ impl<const N: usize, const K: usize> Coord for PlaceSet<'_, N, K> {
     ghost use Rattle.std.specs.Prelude.{map};
     ghost use Rattle.scr_orbit.specs.PlaceTurns.{rearrangement_of};
     ghost use Rattle.scr_coord.specs.Projections.{projection, place_set_view};
-    ghost use Rattle.scr_coord.specs.StaysBelowLaws.{StaysBelow-place_sets};
 
     ghost coordinate = { λ t. projection (place_set_view N K t.home) (map rearrangement_of t.turns.now) };
 
@@ -85,5 +84,6 @@ impl<const N: usize, const K: usize> Coord for PlaceSet<'_, N, K> {
         u128::from(position) == Choose::<N, K>::rank(&self.home)
     }
 
-    ghost law = { λ t. StaysBelow-place_sets N K t.home t.turns.now t.set t.valid.each };
+    #[inline]
+    fn stays_below(&self) {}
 }

@@ -1,6 +1,6 @@
 //! Two coordinates side by side as one.
 ghost use Rattle.std.specs.Prelude.{◌≡◌, ◌*◌, ◌^◌, ◌<◌, IfOk};
-ghost use Rattle.scr_coord.specs.Products.{product};
+ghost use Rattle.scr_coord.specs.Products.{product_coordinate};
 ghost use Rattle.scr_coord.specs.SearchSpaces.{ShowsSame};
 
 use crate::{Coord, MoveTable};
@@ -30,7 +30,7 @@ impl<L: Coord, H: Coord> Product<L, H> {
     pub fn new(low: L, high: H) -> Product<L, H>
         requires same_turns { (H.coordinate high).turns ≡ (L.coordinate low).turns }
         requires fits { (L.coordinate low).count * (H.coordinate high).count < 2 ^ 32 }
-        ensures { ⟦<Product<L, H> as Coord>⟧.coordinate result ≡ product (L.coordinate low) (H.coordinate high) }
+        ensures { ⟦<Product<L, H> as Coord>⟧.coordinate result ≡ product_coordinate (L.coordinate low) (H.coordinate high) }
     {
         Product { low, high }
     }
@@ -46,7 +46,7 @@ impl Product<MoveTable, MoveTable> {
     ) -> Result<Product<MoveTable, MoveTable>, NoMemory>
         requires same_turns { (H.coordinate high.now).turns ≡ (L.coordinate low.now).turns }
         requires fits { (L.coordinate low.now).count * (H.coordinate high.now).count < 2 ^ 32 }
-        ensures { let c = product (L.coordinate low.now) (H.coordinate high.now) in
+        ensures { let c = product_coordinate (L.coordinate low.now) (H.coordinate high.now) in
             IfOk result (λ pair. ShowsSame c (⟦<Product<MoveTable, MoveTable> as Coord>⟧.coordinate pair)) }
     {
         Ok(Product {
@@ -57,10 +57,9 @@ impl Product<MoveTable, MoveTable> {
 }
 
 impl<L: Coord, H: Coord> Coord for Product<L, H> {
-    ghost use Rattle.scr_coord.specs.Products.{product};
-    ghost use Rattle.scr_coord.specs.StaysBelowLaws.{StaysBelow-product};
+    ghost use Rattle.scr_coord.specs.Products.{product_coordinate};
 
-    ghost coordinate = { λ p. product (L.coordinate p.low) (H.coordinate p.high) };
+    ghost coordinate = { λ p. product_coordinate (L.coordinate p.low) (H.coordinate p.high) };
 
     fn count(&self) -> u32 {
         self.low.count() * self.high.count()
@@ -74,6 +73,8 @@ impl<L: Coord, H: Coord> Coord for Product<L, H> {
     #[inline]
     fn after(&self, position: u32, turn: u32) -> Option<u32> {
         let low_count = self.low.count();
+        self.low.stays_below();
+        self.high.stays_below();
         let low = self.low.after(position % low_count, turn)?;
         let high = self.high.after(position / low_count, turn)?;
         let both = low + low_count * high;
@@ -86,5 +87,9 @@ impl<L: Coord, H: Coord> Coord for Product<L, H> {
         self.low.is_goal(position % low_count) && self.high.is_goal(position / low_count)
     }
 
-    ghost law = { λ p. StaysBelow-product (L.coordinate p.low) (H.coordinate p.high) p.same_turns (L.law p.low) (H.law p.high) };
+    #[inline]
+    fn stays_below(&self) {
+        self.low.stays_below();
+        self.high.stays_below();
+    }
 }

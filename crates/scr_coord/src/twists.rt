@@ -39,7 +39,6 @@ impl<'a, const N: usize, const BASE: usize> Twists<'a, N, BASE> {
 impl<const N: usize, const BASE: usize> Coord for Twists<'_, N, BASE> {
     ghost use Rattle.std.specs.Prelude.{map};
     ghost use Rattle.scr_coord.specs.Projections.{projection, twists_view};
-    ghost use Rattle.scr_coord.specs.StaysBelowLaws.{StaysBelow-twists};
 
     ghost coordinate = { λ t. projection (twists_view N BASE) (map rearrangement_of t.turns.now) };
 
@@ -66,5 +65,6 @@ impl<const N: usize, const BASE: usize> Coord for Twists<'_, N, BASE> {
         position == 0
     }
 
-    ghost law = { λ t. StaysBelow-twists N BASE t.turns.now t.size.0 t.base.0 t.valid.each };
+    #[inline]
+    fn stays_below(&self) {}
 }

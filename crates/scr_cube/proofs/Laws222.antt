@@ -6,7 +6,7 @@ use Rattle.scr_orbit.proofs.OrbitLaws.{zero_sum_laws, IsZeroSumOrbit-solved}
 use Rattle.scr_orbit.proofs.Orders.{tells_orbit}
 use Rattle.scr_orbit.proofs.TableTests.{is_still, is_zero_sum_turn, IsZeroSumRearrangement-from_test}
 use Rattle.scr_turning.specs.PowerPuzzles.{IsPowerPuzzle}
-use Rattle.scr_turning.specs.Proofs.FaceLaws.{face_powers, faces_numbered}
+use Rattle.scr_turning.proofs.FaceLaws.{face_powers, faces_numbered}
 use Rattle.scr_turning.proofs.PowerPuzzleLaws.{IsPowerPuzzle-from_test}
 use Rattle.scr_cube.specs.Cube222.{IsCorners222, powers_222, solved_222}
 

@@ -9,7 +9,7 @@ use Rattle.scr_orbit.proofs.Orders.{TellsIdentity, tells_orbit, tells_both}
 use Rattle.scr_orbit.proofs.Parts.{ap_both, pair_action, IsSeenAs, IsSeenAs-whole, IsAction-two, IsMadeAt}
 use Rattle.scr_orbit.proofs.TableTests.{and_three, is_still, is_zero_sum_turn, IsZeroSumRearrangement-from_test}
 use Rattle.scr_turning.specs.PowerPuzzles.{IsPowerPuzzle, part_turns}
-use Rattle.scr_turning.specs.Proofs.FaceLaws.{face_powers, faces_numbered}
+use Rattle.scr_turning.proofs.FaceLaws.{face_powers, faces_numbered}
 use Rattle.scr_turning.proofs.PowerPuzzleLaws.{IsPowerPuzzle-from_test}
 use Rattle.scr_turning.proofs.TurnedAt.{IsTurned, IsTurned-two}
 use Rattle.scr_cube.specs.Cube333.{CubeState, IsCube, CubeTurn, IsCubeTurn, cube_action, cube_powers, solved_cube}

@@ -1,3 +1,5 @@
+pub mod Numbered222
+pub mod Numbered333
 pub mod OnLiterals
 pub mod Laws333
 pub mod Laws222

@@ -2,9 +2,9 @@
 use Rattle.std.proofs.Common.{◌≡◌, [], ◌∷◌, Some, refl, sym, ap, ◌∙◌, arith, lit<}
 use Rattle.std.specs.Prelude.{slice_index}
 use Rattle.std.proofs.lemmas.Option.{same_Some}
-use Rattle.scr_play.specs.Play.{play}
-use Rattle.scr_play.specs.Reach.{Needs}
-use Rattle.scr_play.proofs.PlayLaws.{play-one}
+use Rattle.scr_combinatorics.specs.Play.{play}
+use Rattle.scr_combinatorics.specs.Reach.{Needs}
+use Rattle.scr_combinatorics.proofs.PlayLaws.{play-one}
 use Rattle.scr_orbit.proofs.Minima.{one_needed as needs_one, enough}
 use Rattle.scr_orbit.specs.Actions.{power, power_of}
 use Rattle.scr_orbit.specs.Orbits.{Orbit, turned_orbit, composed, identity, solved_orbit, added_digits}

@@ -2,7 +2,7 @@
 use Rattle.std.specs.Prelude.{⊤}
 use Rattle.scr_combinatorics.specs.Permutations.{permutation_at, half_at}
 use Rattle.scr_combinatorics.specs.Twists.{with_sum_fixed, twists_at}
-use Rattle.scr_play.specs.Play.{play}
+use Rattle.scr_combinatorics.specs.Play.{play}
 use Rattle.scr_orbit.specs.Actions.{power, power_of}
 use Rattle.scr_orbit.specs.Orbits.{turned_orbit, composed, identity, solved_orbit, added_digits}
 use Rattle.scr_notation.specs.TurnNumbers.{face_turn_at}

@@ -8,7 +8,7 @@ use Rattle.scr_combinatorics.specs.Twists.{twists_number, twists_at}
 use Rattle.scr_combinatorics.specs.Numbered.{Numbered, numbered_by_digits}
 use Rattle.scr_orbit.specs.Actions.{Action}
 use Rattle.scr_orbit.specs.Orbits.{Orbit, Rearrangement, IsZeroSumOrbit, zeros, solved_orbit, orbit_action}
-use Rattle.scr_turning.specs.Faces.{face_letters}
+use Rattle.scr_turning.specs.Faces.{letters_of_faces}
 use Rattle.scr_turning.specs.PowerPuzzles.{PowerPuzzle}
 
 -- Seven corners that can be put together without taking the cube apart: twists sum to 0 modulo 3.
@@ -31,7 +31,7 @@ solved_222 = solved_orbit 7
 
 -- The 2x2x2 as data. Its 9 turns are U U2 U' R R2 R' F F2 F', in the order of their numbers.
 abbrev pub powers_222 : PowerPuzzle Orbit Rearrangement
-powers_222 = record { letters = face_letters; action = action_222; generators = quarters_222; solved = solved_222 }
+powers_222 = record { letters = letters_of_faces; action = action_222; generators = quarters_222; solved = solved_222 }
 
 -- ---- numbers
 

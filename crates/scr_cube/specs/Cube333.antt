@@ -11,7 +11,7 @@ use Rattle.scr_combinatorics.specs.Twists.{twists_number, twists_at}
 use Rattle.scr_combinatorics.specs.Numbered.{Numbered, numbered_by_digits}
 use Rattle.scr_orbit.specs.Actions.{Action}
 use Rattle.scr_orbit.specs.Orbits.{Orbit, Rearrangement, IsZeroSumOrbit, IsZeroSumRearrangement, turned_orbit, composed, zeros, identity, solved_orbit}
-use Rattle.scr_turning.specs.Faces.{face_letters}
+use Rattle.scr_turning.specs.Faces.{letters_of_faces}
 use Rattle.scr_turning.specs.PowerPuzzles.{PowerPuzzle}
 
 -- The corners with their twists, and the edges with their flips.
@@ -78,7 +78,7 @@ solved_cube = record { corners = solved_orbit 8; edges = solved_orbit 12 }
 
 -- The 3x3x3 as data. Its 18 turns are U U2 U' R R2 R' F F2 F' D D2 D' L L2 L' B B2 B', in the order of their numbers.
 abbrev pub cube_powers : PowerPuzzle CubeState CubeTurn
-cube_powers = record { letters = face_letters; action = cube_action; generators = cube_quarters; solved = solved_cube }
+cube_powers = record { letters = letters_of_faces; action = cube_action; generators = cube_quarters; solved = solved_cube }
 
 -- ---- numbers
 

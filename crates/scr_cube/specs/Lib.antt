@@ -3,5 +3,3 @@ pub mod Cube222
 pub mod Stickers
 pub mod Symmetry
 pub mod Known
-pub mod Numbered333
-pub mod Numbered222

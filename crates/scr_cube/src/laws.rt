@@ -3,8 +3,8 @@ ghost use Rattle.std.specs.Prelude.{◌≡◌, ℕ, ◌*◌, ◌/◌, ◌+◌, �
 ghost use Rattle.scr_combinatorics.specs.Lists.{numbers_from};
 ghost use Rattle.scr_combinatorics.specs.Permutations.{factorial};
 ghost use Rattle.scr_combinatorics.specs.Numbering.{IsNumbering};
-ghost use Rattle.scr_play.specs.Play.{play, count_in};
-ghost use Rattle.scr_play.specs.Reach.{Needs};
+ghost use Rattle.scr_combinatorics.specs.Play.{play, count_in};
+ghost use Rattle.scr_combinatorics.specs.Reach.{Needs};
 ghost use Rattle.scr_orbit.specs.Orbits.{Orbit, IsZeroSumRearrangement, zeros};
 ghost use Rattle.scr_notation.specs.declared.turn.Turn.{Turn as Letter};
 ghost use Rattle.scr_notation.specs.TurnNumbers.{face_turn_at};

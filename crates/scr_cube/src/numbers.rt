@@ -2,8 +2,6 @@
 ghost use Rattle.std.specs.Prelude.{◌≡◌};
 ghost use Rattle.scr_cube.specs.Cube333.{IsCube, cube_digits, cube_numbered};
 ghost use Rattle.scr_cube.specs.Cube222.{numbered_222};
-ghost use Rattle.scr_cube.specs.Numbered333.{cube_numbering};
-ghost use Rattle.scr_cube.specs.Numbered222.{numbering_222};
 
 use crate::corners::Corners222;
 use crate::cube::Cube;
@@ -47,8 +45,6 @@ impl NumberedStates<Cube> for CubeNumbers {
 impl Numbering for CubeNumbers {
     type State = Cube;
 
-    ghost law = { λ _. cube_numbering };
-
     fn state_at(&self, number: u128) -> Cube {
         let [flips, twists, corners, edge_half] = MixedRadix::new(CUBE_BASES).unrank(number);
         let corners = PermRank::<8>::unrank(corners);
@@ -76,8 +72,6 @@ impl NumberedStates<Corners222> for Numbers222 {
 
 impl Numbering for Numbers222 {
     type State = Corners222;
-
-    ghost law = { λ _. numbering_222 };
 
     fn state_at(&self, number: u128) -> Corners222 {
         let [twists, corners] = MixedRadix::new(BASES_222).unrank(number);

@@ -7,4 +7,4 @@ pub mod FirstHit
 pub mod Fairness
 pub mod Outcomes
 pub mod Tried
-pub mod ReachedRow
+pub mod RowLaws

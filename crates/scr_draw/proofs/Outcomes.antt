@@ -5,7 +5,7 @@ use Rattle.std.specs.Prelude.{All, IsTrue, ◌↔◌, if◌then◌else◌}
 use Rattle.std.proofs.lemmas.List.Elements.{All-nil, All-cons, All-head, All-tail}
 use Rattle.scr_combinatorics.specs.Numbered.{Numbered}
 use Rattle.scr_combinatorics.specs.Numbering.{IsNumbering}
-use Rattle.scr_play.specs.Reach.{Puzzle, IsReached, Needs, IsPermitted}
+use Rattle.scr_combinatorics.specs.Reach.{Puzzle, IsReached, Needs, IsPermitted}
 use Rattle.scr_draw.specs.Attempt.{is_accepted}
 use Rattle.scr_draw.specs.Drawn.{drawn, hit}
 use Rattle.scr_draw.specs.StateSpace.{StateSpace, TellsNeed, Draws, IsFairFor, space_of}

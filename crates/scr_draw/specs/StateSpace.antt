@@ -1,7 +1,7 @@
 -- What an event draws from, which state some numbers draw, and what makes the drawing fair.
 use Rattle.std.specs.Prelude.{ℕ, ◌≡◌, ◌<◌, ◌↔◌, Bool, IsTrue, List, Option}
 use Rattle.scr_combinatorics.specs.Numbered.{Numbered}
-use Rattle.scr_play.specs.Reach.{Puzzle, Needs, IsPermitted}
+use Rattle.scr_combinatorics.specs.Reach.{Puzzle, Needs, IsPermitted}
 use Rattle.scr_draw.specs.Drawn.{drawn, hit}
 use Rattle.scr_draw.specs.Fair.{IsFair}
 

@@ -5,7 +5,7 @@ ghost use Rattle.std.specs.Result.{result_ok};
 ghost use Rattle.scr_draw.specs.Attempt.{attempt_values};
 ghost use Rattle.scr_draw.specs.Drawn.{drawn, hit};
 ghost use Rattle.scr_draw.specs.FirstHit.{numbers_read};
-ghost use Rattle.scr_play.specs.Reach.{Needs};
+ghost use Rattle.scr_combinatorics.specs.Reach.{Needs};
 ghost use Rattle.scr_draw.specs.StateSpace.{Draws, space_of};
 
 use crate::rejection::{attempt_within, limit_of};
@@ -52,6 +52,7 @@ pub fn draw<W: Words, P: Numbering + Permit<P::State>>(
     ensures all_taken { IfErr result (λ limit. W.taken words.new ≡ W.taken words.old + limit.words) }
     ensures same_words { W.word_at words.new ≡ W.word_at words.old }
 {
+    puzzle.is_exact();
     let count = puzzle.count();
     let limit = limit_of(count);
     for tried in 0..attempts {

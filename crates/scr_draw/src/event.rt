@@ -3,7 +3,7 @@
 ghost use Rattle.std.specs.Prelude.{◌≡◌, ℕ, ◌<◌, ◌≤◌, ◌↔◌, Bool, IsTrue};
 ghost use Rattle.scr_combinatorics.specs.Numbered.{Numbered};
 ghost use Rattle.scr_combinatorics.specs.Numbering.{IsNumbering};
-ghost use Rattle.scr_play.specs.Reach.{Puzzle, Needs};
+ghost use Rattle.scr_combinatorics.specs.Reach.{Puzzle, Needs};
 
 /// Which states an event has, and their numbers. Its numbering and its test speak of the same states.
 pub trait NumberedStates<S> {
@@ -17,9 +17,10 @@ pub trait Numbering: NumberedStates<<Self as Numbering>::State> {
     /// A state.
     type State: Drop;
 
-    /// How many states there are, from 1 to 2^96.
+    /// How many states there are, from 1 to 2^96. Their numbering is one.
     fn count(&self) -> u128
-        ensures { result ≡ (Self.numbered self.now).count };
+        ensures value { result ≡ (Self.numbered self.now).count }
+        ensures numbering { IsNumbering (Self.numbered self.now) };
 
     /// The state of a number, which is below the count.
     fn state_at(&self, number: u128) -> Self::State
@@ -30,9 +31,6 @@ pub trait Numbering: NumberedStates<<Self as Numbering>::State> {
     fn number_of(&self, state: &Self::State) -> u128
         requires { (Self.numbered self.now).IsValid state.now }
         ensures { result ≡ (Self.numbered self.now).number_of state.now };
-
-    /// The two are inverse.
-    ghost law: { (event : Self) → IsNumbering (Self.numbered event) };
 }
 
 /// The test of an event's minimum. It is exact on all valid states.
@@ -51,7 +49,9 @@ pub trait Permit<S>: NumberedStates<S> {
         requires { least ≤ greatest self.now }
         ensures { result ≡ needs self.now state.now least };
 
-    /// Of a valid state the test is true exactly where no word of fewer counted turns leads from it to a solved one.
-    ghost exact: { (event : Self) (s : S) (least : ℕ) → least ≤ greatest event → (Self.numbered event).IsValid s
-        → IsTrue (needs event s least) ↔ Needs (puzzle event) s least };
+    /// Does nothing: of a valid state the test is true exactly where no word of fewer counted turns leads from it to a
+    /// solved one.
+    fn is_exact(&self)
+        ensures { (s : S) (least : ℕ) → least ≤ greatest self.now → (Self.numbered self.now).IsValid s
+            → IsTrue (needs self.now s least) ↔ Needs (puzzle self.now) s least };
 }

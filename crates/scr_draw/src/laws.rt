@@ -4,7 +4,7 @@ ghost use Rattle.std.specs.Prelude.{◌≡◌, ℕ, suc, ◌+◌, ◌*◌, ◌%�
 ghost use Rattle.std.specs.Prelude.{All, IsTrue, Some, None, unwrap_or, if◌then◌else◌, length, replicate, slice_index};
 ghost use Rattle.scr_combinatorics.specs.Digits.{mixed_digits, mixed_number};
 ghost use Rattle.scr_combinatorics.specs.Numbering.{IsOneToOne};
-ghost use Rattle.scr_play.specs.Reach.{IsReached};
+ghost use Rattle.scr_combinatorics.specs.Reach.{IsReached};
 ghost use Rattle.scr_words.specs.Stream.{stream_word};
 ghost use Rattle.scr_draw.specs.Attempt.{is_accepted, quotient, answer, attempt_value, attempt_values};
 ghost use Rattle.scr_draw.specs.Count.{IsCount, count_below};
@@ -32,7 +32,9 @@ pub fn each_equally<P: Numbering>(puzzle: &P)
     ensures states { let n = P.numbered puzzle.now in
         (s : P.State) → n.IsValid s
         → IsCount (λ v. IsTrue (is_accepted n.count v) × (n.state_at (v % n.count) ≡ s)) (2 ^ 96) (quotient n.count) }
-{}
+{
+    puzzle.count();
+}
 
 /// Drawing is fair: for each number of attempts, every valid state that needs `least` is drawn by
 /// the same number of lists of numbers below 2^96. `least` is in the event's range.
@@ -41,7 +43,9 @@ pub fn same_ways<P: Numbering + Permit<P::State>>(puzzle: &P, least: u32)
     ensures { let n = P.numbered puzzle.now in
         IsFair n.count n.state_at (hit n.count n.state_at (λ s. P.needs puzzle.now s least))
         (λ s. n.IsValid s × IsTrue (P.needs puzzle.now s least)) }
-{}
+{
+    puzzle.count();
+}
 
 /// Where the valid states are those that turns reach, the states that are drawn are those that turns reach and that
 /// need a minimum of the event's range, each by the same number of lists.
@@ -49,7 +53,10 @@ pub fn drawn_fairly<P: Numbering + Permit<P::State>>(event: &P)
     requires reached { (s : P.State) → (P.numbered event.now).IsValid s ↔ IsReached (P.puzzle event.now) s }
     ensures { let space = space_of (P.numbered event.now) (P.puzzle event.now) in
         (least : ℕ) → least ≤ P.greatest event.now → IsFairFor space least }
-{}
+{
+    event.count();
+    event.is_exact();
+}
 
 /// Each list of numbers below 2^96 stands once among the lists that are counted.
 pub fn each_list_once()
@@ -83,7 +90,10 @@ pub fn one_outcome<P: Numbering + Permit<P::State>>(event: &P)
     requires reached { (s : P.State) → (P.numbered event.now).IsValid s ↔ IsReached (P.puzzle event.now) s }
     ensures { let space = space_of (P.numbered event.now) (P.puzzle event.now) in
         (least : ℕ) → least ≤ P.greatest event.now → HasOneOutcome space least }
-{}
+{
+    event.count();
+    event.is_exact();
+}
 
 /// The definitions at worked numbers.
 #[tactic(auto, unfolding(crate::proofs::OnLiterals::draws_on_literals))]

@@ -1,10 +1,10 @@
 //! Fair drawing: attempts on words, the first permitted state, and the law that each permitted state
 //! is drawn by equally many words.
 //!
-//! It stands on the words of `scr_words`, on the numberings of `scr_combinatorics` and on the puzzles of `scr_play`.
+//! It stands on the words of `scr_words`, and on the numberings and the puzzles of `scr_combinatorics`.
 //! An event gives its states by a `Numbering` and its minimum by a `Permit`, whose test is exact for the puzzle that it
-//! names, on all states that are numbered. Whatever they are, as long as they keep their laws, the contracts of the
-//! module `laws` say that drawing is fair. Where the states that are numbered are those that turns reach, it is so of
+//! names, on all states that are numbered. Whatever they are, as long as they keep their contracts, those of the module
+//! `laws` say that drawing is fair. Where the states that are numbered are those that turns reach, it is so of
 //! the states that turns reach.
 #![tactic(auto)]
 

@@ -1,9 +1,10 @@
--- Tests computed over whole ranges.
+-- What tests that are computed over whole ranges tell.
 use Rattle.std.proofs.Common.{◌≡◌, ℕ, ◌<◌, Bool, true, false, zero, suc, IsTrue, List, [], ◌∷◌, length, refl, ap, ◌∙◌, eqb, subst, arith, eq-eqb, sym, ⊎_elim}
 use Rattle.std.specs.Prelude.{◌&&◌, ◌||◌, ◌==◌, not, All, slice_index}
 use Rattle.std.specs.List.{list_any, list_all}
 use Rattle.std.proofs.lemmas.Bool.{false≢true, cases_lt, eqb-true}
 use Rattle.std.proofs.lemmas.List.Elements.{All-nil, All-cons}
+use Rattle.scr_notation.specs.Ranges.{all_below, same}
 
 pub and_first : (a b : Bool) → IsTrue (a && b) → IsTrue a
 and_first true b h = refl
@@ -16,11 +17,7 @@ and_second false b h = absurd (false≢true h)
 pub and_true : (a b : Bool) → IsTrue a → IsTrue b → IsTrue (a && b)
 and_true a b h k = ap (λ x. x && b) h ∙ k
 
--- the test holds of each number below this one
-unfoldable pub all_below : (ℕ → Bool) → ℕ → Bool
-all_below p zero = true
-all_below p (suc n) = p n && all_below p n
-
+-- so it holds of any of them
 pub at_below : (p : ℕ → Bool) (n k : ℕ) → IsTrue (all_below p n) → k < n → IsTrue (p k)
 unfolding all_below
 at_below p zero k h l = absurd (omega arith)
@@ -28,13 +25,7 @@ at_below p (suc n) k h l =
     let Q : ℕ → Type 0 = λ i. IsTrue (p i) in
     ⊎_elim (λ b. at_below p n k (and_second (p n) (all_below p n) h) b) (λ g. let e : n ≡ k = omega arith in subst Q e (and_first (p n) (all_below p n) h)) (cases_lt k n)
 
--- two texts are the same
-unfoldable pub same : List ℕ → List ℕ → Bool
-same [] [] = true
-same [] (y ∷ ys) = false
-same (x ∷ xs) [] = false
-same (x ∷ xs) (y ∷ ys) = eqb x y && same xs ys
-
+-- a text is the same as itself
 pub same-refl : (xs : List ℕ) → IsTrue (same xs xs)
 unfolding same
 same-refl [] = refl

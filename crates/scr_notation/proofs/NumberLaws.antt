@@ -19,7 +19,8 @@ use Rattle.scr_notation.specs.Wide.{is_wide_turn}
 use Rattle.scr_notation.specs.Turns.{has_turn}
 use Rattle.scr_notation.specs.TurnNumbers.{turn_count, turn_at, face_turn_at, axis_turn_at, layer_turn_at, clock_turn_at, wide_turn_at}
 use Rattle.scr_notation.proofs.LayersLaws.{IsTwelfths, layers_parts}
-use Rattle.scr_notation.proofs.Below.{and_first, and_second, all_below, at_below, place_of}
+use Rattle.scr_notation.specs.Ranges.{all_below}
+use Rattle.scr_notation.proofs.Below.{and_first, and_second, at_below, place_of}
 
 -- ---- turns of faces
 

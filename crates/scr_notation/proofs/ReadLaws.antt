@@ -16,7 +16,7 @@ use Rattle.scr_notation.specs.declared.reading.NotationFault.TheVariants.{Spelli
 use Rattle.scr_notation.specs.Turns.{permits}
 use Rattle.scr_notation.specs.Spelling.{spelling, text_of}
 use Rattle.scr_notation.specs.Written.{Written, IsWritten, with_word}
-use Rattle.scr_notation.specs.Reading.{words_of, place_after, IsSpelling, IsFault, IsFirstFault, IsReadAs, IsReadSoFar}
+use Rattle.scr_notation.specs.Reading.{spaced_words, place_after, IsSpelling, IsFault, IsFirstFault, IsReadAs, IsReadSoFar}
 use Rattle.scr_notation.proofs.SpellingLaws.{IsWord-spelling}
 use Rattle.scr_notation.proofs.TextLaws.{words_of-some, words_of-text_of, text_of-only, joined-more, length-text_of, place_after-more, place_after-short}
 
@@ -84,7 +84,7 @@ read-as before after word t place s e w p = record {
 }
 
 -- nothing is read yet
-pub read-none : (e : Event) (text : List ℕ) (s : Written) → s ≡ record { event = e; turns = [] } → IsWritten s → IsReadSoFar e (words_of text) 0 s 0
+pub read-none : (e : Event) (text : List ℕ) (s : Written) → s ≡ record { event = e; turns = [] } → IsWritten s → IsReadSoFar e (spaced_words text) 0 s 0
 unfolding place_after
 read-none e text s h w = record {
   of_event = ap (λ x. x.event) h;
@@ -123,20 +123,20 @@ split_at words n word before l g e =
     sym (take-append-drop n words) ∙ ap (λ x. x ++ drop n words) (sym e) ∙ ap (λ x. before ++ x) rest
 
 -- a fault found at the next word is the first
-pub first-fault : (e : Event) (text : List ℕ) (n : ℕ) (s : Written) (place : ℕ) (word : List ℕ) (f : NotationFault) → IsReadSoFar e (words_of text) n s place → n < length (words_of text) → word ≡ get_or (words_of text) n word → IsFault s.event (map spelling s.turns) word f → IsFirstFault e text f
+pub first-fault : (e : Event) (text : List ℕ) (n : ℕ) (s : Written) (place : ℕ) (word : List ℕ) (f : NotationFault) → IsReadSoFar e (spaced_words text) n s place → n < length (spaced_words text) → word ≡ get_or (spaced_words text) n word → IsFault s.event (map spelling s.turns) word f → IsFirstFault e text f
 first-fault e text n s place word f r l g h = record {
   before = map spelling s.turns;
   word = word;
-  behind = drop (n + 1) (words_of text);
-  words = split_at (words_of text) n word (map spelling s.turns) l g r.spelled;
+  behind = drop (n + 1) (spaced_words text);
+  words = split_at (spaced_words text) n word (map spelling s.turns) l g r.spelled;
   spelled = spelled_of e s r.of_event r.valid;
   at_fault = let Q : Event → Type 0 = λ x. IsFault x (map spelling s.turns) word f in subst Q r.of_event h;
 }
 
 -- all words are read: the text is that of the turns
-pub read-all : (e : Event) (text : List ℕ) (s : Written) (place : ℕ) → 1 ≤ length text → IsReadSoFar e (words_of text) (length (words_of text)) s place → text_of s.turns ≡ text
+pub read-all : (e : Event) (text : List ℕ) (s : Written) (place : ℕ) → 1 ≤ length text → IsReadSoFar e (spaced_words text) (length (spaced_words text)) s place → text_of s.turns ≡ text
 read-all e text s place l r =
-    ap (join_with_byte 32) (r.spelled ∙ take_all (length (words_of text)) (words_of text) (le_refl (length (words_of text))) ∙ words_of-some text l) ∙ join_with_byte-slice_split 32 text
+    ap (join_with_byte 32) (r.spelled ∙ take_all (length (spaced_words text)) (spaced_words text) (le_refl (length (spaced_words text))) ∙ words_of-some text l) ∙ join_with_byte-slice_split 32 text
 
 fault-none : (e : Event) (before behind : List (List ℕ)) (word : List ℕ) (f : NotationFault) (ts : List Turn) → All (λ u. IsTrue (permits e u)) ts → length ts ≤ 160 → map spelling ts ≡ before ++ word ∷ behind → IsFault e before word f → ⊥
 fault-none e before behind word (Spelling place) ts a l h f =
@@ -152,7 +152,7 @@ pub no-fault : (e : Event) (text : List ℕ) (f : NotationFault) (s : Written) �
 no-fault e text f s h w v t =
     let Q : Event → Type 0 = λ x. IsFault x h.before h.word f in
     fault-none s.event h.before h.behind h.word f s.turns w.permitted w.room
-    (sym (words_of-text_of s.event s.turns w.permitted) ∙ ap words_of t ∙ h.words)
+    (sym (words_of-text_of s.event s.turns w.permitted) ∙ ap spaced_words t ∙ h.words)
     (subst Q (sym v) h.at_fault)
 
 -- and is that of no other scramble of the event
@@ -172,7 +172,7 @@ on_true true P e h = h
 on_true false P e h = absurd (false≢true e)
 
 -- the words of a text that isn't empty are those that it is split into
-pub next-word : (text : List ℕ) (n : ℕ) (word : List ℕ) → 1 ≤ length text → (n < length (slice_split (λ b. b == 32) text)) × (word ≡ get_or (slice_split (λ b. b == 32) text) n word) → (n < length (words_of text)) × (word ≡ get_or (words_of text) n word)
+pub next-word : (text : List ℕ) (n : ℕ) (word : List ℕ) → 1 ≤ length text → (n < length (slice_split (λ b. b == 32) text)) × (word ≡ get_or (slice_split (λ b. b == 32) text) n word) → (n < length (spaced_words text)) × (word ≡ get_or (spaced_words text) n word)
 next-word text n word l h =
     let Q : List (List ℕ) → Type 0 = λ ws. (n < length ws) × (word ≡ get_or ws n word) in subst Q (sym (words_of-some text l)) h
 

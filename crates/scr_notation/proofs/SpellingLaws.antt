@@ -13,7 +13,8 @@ use Rattle.scr_notation.proofs.EachEvent.{IsKind-kind_of}
 use Rattle.scr_notation.specs.Turns.{permits}
 use Rattle.scr_notation.specs.TurnNumbers.{turn_count, turn_at, face_turn_at, axis_turn_at, layer_turn_at, clock_turn_at, wide_turn_at}
 use Rattle.scr_notation.specs.Spelling.{hours_text, spelling}
-use Rattle.scr_notation.proofs.Below.{and_first, and_second, all_below, at_below, same, not_same, All-from_test}
+use Rattle.scr_notation.specs.Ranges.{all_below, same}
+use Rattle.scr_notation.proofs.Below.{and_first, and_second, at_below, not_same, All-from_test}
 use Rattle.scr_notation.proofs.NumberLaws.{numbered}
 
 -- ---- computed over the numbered turns

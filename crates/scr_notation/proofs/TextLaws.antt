@@ -9,7 +9,7 @@ use Rattle.scr_notation.specs.declared.event.Event.{Event}
 use Rattle.scr_notation.specs.declared.turn.Turn.{Turn}
 use Rattle.scr_notation.specs.Turns.{permits}
 use Rattle.scr_notation.specs.Spelling.{spelling, text_of}
-use Rattle.scr_notation.specs.Reading.{words_of, place_after}
+use Rattle.scr_notation.specs.Reading.{spaced_words, place_after}
 use Rattle.scr_notation.proofs.SpellingLaws.{IsWord, IsWord-spelling, one_spelling}
 
 -- words, joined and cut again
@@ -24,12 +24,12 @@ not_empty w [] a = (All-head IsWord w [] a).some
 not_empty w (v ∷ ws) a = omega (arith, (All-head IsWord w (v ∷ ws) a).some, length-append w (32 ∷ join_with_byte 32 (v ∷ ws)))
 
 -- a text that isn't empty is cut at its spaces
-pub words_of-some : (text : List ℕ) → 1 ≤ length text → words_of text ≡ slice_split (λ b. b == 32) text
-unfolding words_of
+pub words_of-some : (text : List ℕ) → 1 ≤ length text → spaced_words text ≡ slice_split (λ b. b == 32) text
+unfolding spaced_words
 words_of-some text l = ap (λ c. cond c [] (slice_split (λ b. b == 32) text)) (ne_eqb (length text) 0 (λ e. omega arith))
 
-words_of-joined : (ws : List (List ℕ)) → All IsWord ws → words_of (join_with_byte 32 ws) ≡ ws
-unfolding words_of
+words_of-joined : (ws : List (List ℕ)) → All IsWord ws → spaced_words (join_with_byte 32 ws) ≡ ws
+unfolding spaced_words
 words_of-joined [] a = refl
 words_of-joined (w ∷ ws) a = words_of-some (join_with_byte 32 (w ∷ ws)) (not_empty w ws a) ∙ cut w ws a
 
@@ -40,7 +40,7 @@ All-words e (t ∷ ts) a =
     All-cons IsWord (spelling t) (map spelling ts) (IsWord-spelling e t (All-head P t ts a)) (All-words e ts (All-tail P t ts a))
 
 -- the words of a text of turns are their spellings
-pub words_of-text_of : (e : Event) (ts : List Turn) → All (λ t. IsTrue (permits e t)) ts → words_of (text_of ts) ≡ map spelling ts
+pub words_of-text_of : (e : Event) (ts : List Turn) → All (λ t. IsTrue (permits e t)) ts → spaced_words (text_of ts) ≡ map spelling ts
 words_of-text_of e ts a = words_of-joined (map spelling ts) (All-words e ts a)
 
 first_same : (t u : Turn) (ts us : List Turn) → t ≡ u → ts ≡ us → t ∷ ts ≡ u ∷ us
@@ -60,7 +60,7 @@ spellings-only e (t ∷ ts) (u ∷ us) a b h =
 -- Turns of an event with one text are the same turns.
 pub text_of-only : (e : Event) (ts us : List Turn) → All (λ t. IsTrue (permits e t)) ts → All (λ t. IsTrue (permits e t)) us → text_of ts ≡ text_of us → ts ≡ us
 text_of-only e ts us a b h =
-    spellings-only e ts us a b (sym (words_of-text_of e ts a) ∙ ap words_of h ∙ words_of-text_of e us b)
+    spellings-only e ts us a b (sym (words_of-text_of e ts a) ∙ ap spaced_words h ∙ words_of-text_of e us b)
 
 -- one more word, behind a space unless it is the first
 pub joined-more : (w : List ℕ) (ws : List (List ℕ)) (x : List ℕ) → join_with_byte 32 ((w ∷ ws) ++ x ∷ []) ≡ join_with_byte 32 (w ∷ ws) ++ 32 ∷ x

@@ -7,10 +7,10 @@ use Rattle.std.proofs.Math.Nat.{le_refl}
 use Rattle.std.proofs.Math.Seq.{drop-cons}
 use Rattle.std.proofs.lemmas.List.{drop_all, length-reverse, length-map}
 use Rattle.std.proofs.lemmas.List.Elements.{All-nil, All-head, All-tail, All-push, All-get_or}
-use Rattle.scr_play.specs.Back.{back}
-use Rattle.scr_play.proofs.BackLaws.{back-first}
-use Rattle.scr_play.specs.Tidy.{word_of, with_turn, tidy, begins_alike}
-use Rattle.scr_play.proofs.TidyLaws.{with_turn-alike, with_turn-apart, All-tidy}
+use Rattle.scr_combinatorics.specs.Back.{back}
+use Rattle.scr_combinatorics.proofs.BackLaws.{back-first}
+use Rattle.scr_combinatorics.specs.Tidy.{word_of, with_turn, tidy, begins_alike}
+use Rattle.scr_combinatorics.proofs.TidyLaws.{with_turn-alike, with_turn-apart, All-tidy}
 use Rattle.scr_notation.specs.declared.event.Event.{Event}
 use Rattle.scr_notation.specs.declared.turn.Turn.{Turn}
 use Rattle.scr_notation.specs.Event.{kind_of}

@@ -13,3 +13,4 @@ pub mod Spelling
 pub mod Written
 pub mod Reading
 pub mod Turning
+pub mod Ranges

@@ -11,8 +11,8 @@ use Rattle.scr_notation.specs.Written.{Written, IsWritten}
 
 -- The words of a text: none of the empty text, and otherwise what stands between its spaces (byte 32). So two
 -- neighbouring spaces, a leading space or a trailing space make an empty word.
-unfoldable pub words_of : List ℕ → List (List ℕ)
-words_of text = if length text == 0 then [] else slice_split (λ b. b == 32) text
+unfoldable pub spaced_words : List ℕ → List (List ℕ)
+spaced_words text = if length text == 0 then [] else slice_split (λ b. b == 32) text
 
 -- the word is the spelling of one of the event's turns
 abbrev pub IsSpelling : Event → List ℕ → Type 0
@@ -35,7 +35,7 @@ pub record IsFirstFault (event : Event) (text : List ℕ) (fault : NotationFault
   pub before : List (List ℕ)
   pub word : List ℕ
   pub behind : List (List ℕ)
-  pub words : words_of text ≡ before ++ word ∷ behind
+  pub words : spaced_words text ≡ before ++ word ∷ behind
   pub spelled : All (IsSpelling event) before
   pub at_fault : IsFault event before word fault
 

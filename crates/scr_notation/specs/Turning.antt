@@ -1,6 +1,6 @@
 -- Turns taken back and merged (WCA Regulations, article 12).
 use Rattle.std.specs.Prelude.{ℕ, ◌+◌, ◌-◌, ◌%◌, ℤ, neg_ℤ, ◌+ℤ◌, Bool, true, false, not, ◌==◌, ◌&&◌, if◌then◌else◌, Option, Some, None}
-use Rattle.scr_play.specs.Tidy.{Merging}
+use Rattle.scr_combinatorics.specs.Tidy.{Merging}
 use Rattle.scr_notation.specs.declared.event.Kind.{Kind}
 use Rattle.scr_notation.specs.declared.event.Kind.TheVariants.{Faces, Axes, LayersAndTwist, PinSets, WideTurns}
 use Rattle.scr_notation.specs.declared.turn.Turn.{Turn}

@@ -1,8 +1,8 @@
 //! Laws of turns, spellings and texts. The functions do nothing: what each ensures is the law.
 ghost use Rattle.std.specs.Prelude.{◌≡◌, ℕ, ◌<◌, pos, neg_ℤ, true, false, List, [], ◌∷◌, map, All, IsTrue, codes};
 ghost use Rattle.std.specs.List.{join_with_byte, range_with_len};
-ghost use Rattle.scr_play.specs.Lawful.{IsMerging};
-ghost use Rattle.scr_play.specs.Tidy.{tidy, IsTidy, Merges, MergesTo};
+ghost use Rattle.scr_combinatorics.specs.Lawful.{IsMerging};
+ghost use Rattle.scr_combinatorics.specs.Tidy.{tidy, IsTidy, Merges, MergesTo};
 ghost use Rattle.scr_notation.specs.declared.event.Event.{Event};
 ghost use Rattle.scr_notation.specs.declared.event.Event.TheVariants.{C222, C666, Skewb};
 ghost use Rattle.scr_notation.specs.declared.turn.Turn.{Turn};
@@ -39,7 +39,7 @@ pub fn known_turns()
 {}
 
 /// Turns that undo these, and words that are tidied.
-#[tactic(auto, unfolding(crate::specs::Spelling::spelling, scr_play::specs::Tidy::tidy, scr_play::specs::Tidy::with_turn, scr_play::specs::Tidy::word_of))]
+#[tactic(auto, unfolding(crate::specs::Spelling::spelling, scr_combinatorics::specs::Tidy::tidy, scr_combinatorics::specs::Tidy::with_turn, scr_combinatorics::specs::Tidy::word_of))]
 pub fn known_words()
     ensures faces { text_of (map opposite (Face 0 1 1 ∷ Face 1 2 2 ∷ Face 2 3 3 ∷ [])) ≡ codes "U' Rw2 3Fw" }
     ensures axes { text_of (map opposite (Axis 0 1 ∷ Axis 1 2 ∷ Tip 2 1 ∷ Tip 3 2 ∷ [])) ≡ codes "U' L r' b" }

@@ -7,7 +7,7 @@
 //! other is refused at its first word at fault, with the byte at which that word begins. `inverse` is the reversed list of
 //! opposite turns, and `tidy` what is left when turns of one face, turns of layers and twists are merged, in whatever order.
 //!
-//! Nothing takes memory. The crate stands on `scr_play` for words taken back and tidied.
+//! Nothing takes memory. The crate stands on `scr_combinatorics` for words taken back and tidied.
 #![tactic(auto)]
 
 mod event;

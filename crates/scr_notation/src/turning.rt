@@ -1,8 +1,8 @@
 //! Scrambles taken back and tidied.
 ghost use Rattle.std.specs.Prelude.{◌≡◌, ◌+◌, ◌-◌, ◌<◌, ◌≤◌, neg_ℤ, ◌+ℤ◌, reverse, length, IsTrue};
 ghost use Rattle.arrayvec.specs.ArrayVec.{array_vec_len};
-ghost use Rattle.scr_play.specs.Back.{back};
-ghost use Rattle.scr_play.specs.Tidy.{with_turn, tidy};
+ghost use Rattle.scr_combinatorics.specs.Back.{back};
+ghost use Rattle.scr_combinatorics.specs.Tidy.{with_turn, tidy};
 ghost use Rattle.scr_notation.specs.declared.event.Event.TheVariants.{Clock};
 ghost use Rattle.scr_notation.specs.Event.{kind_of};
 ghost use Rattle.scr_notation.specs.Written.{IsWritten};

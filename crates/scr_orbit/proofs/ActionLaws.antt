@@ -1,13 +1,13 @@
 -- Laws of puzzles whose turns are rearrangements, once for all of them: a word comes to one rearrangement, and turns are
--- lawful, so that words are taken back and tidied by the laws of `scr_play`.
+-- lawful, so that words are taken back and tidied by the laws of `scr_combinatorics`.
 use Rattle.std.proofs.Common.{◌≡◌, ℕ, zero, suc, ◌+◌, ◌*◌, ◌/◌, ◌%◌, ◌<◌, IsTrue, List, [], ◌∷◌, Option, Some, None, refl, sym, ap, ◌∙◌, subst, arith}
 use Rattle.std.specs.Prelude.{option_and_then}
 use Rattle.std.specs.Option.{option_map}
 use Rattle.std.proofs.lemmas.Option.{same_Some}
-use Rattle.scr_play.specs.Play.{play}
-use Rattle.scr_play.specs.Tidy.{Merging, word_of}
-use Rattle.scr_play.specs.Lawful.{IsLawful}
-use Rattle.scr_play.proofs.PlayLaws.{and_then-some, play-empty, play-one}
+use Rattle.scr_combinatorics.specs.Play.{play}
+use Rattle.scr_combinatorics.specs.Tidy.{Merging, word_of}
+use Rattle.scr_combinatorics.specs.Lawful.{IsLawful}
+use Rattle.scr_combinatorics.proofs.PlayLaws.{and_then-some, play-empty, play-one}
 use Rattle.scr_orbit.specs.Actions.{Action, IsAction, after_by, composed_word, power}
 
 -- what a step gives came from what it was done to

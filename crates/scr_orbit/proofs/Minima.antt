@@ -1,9 +1,9 @@
 -- How many turns a state needs, of puzzles whose turns all count once.
 use Rattle.std.proofs.Common.{◌≡◌, ℕ, ◌<◌, List, [], ◌∷◌, Option, Some, length, refl, sym, ◌∙◌, arith}
 use Rattle.std.proofs.lemmas.Option.{same_Some}
-use Rattle.scr_play.specs.Play.{play, count_in}
-use Rattle.scr_play.specs.Reach.{Needs}
-use Rattle.scr_play.proofs.PlayLaws.{play-empty}
+use Rattle.scr_combinatorics.specs.Play.{play, count_in}
+use Rattle.scr_combinatorics.specs.Reach.{Needs}
+use Rattle.scr_combinatorics.proofs.PlayLaws.{play-empty}
 use Rattle.scr_orbit.specs.Actions.{Action, after_by, table_puzzle}
 
 -- each turn counts once

@@ -7,11 +7,11 @@ use Rattle.std.proofs.lemmas.List.{length-map}
 use Rattle.std.proofs.lemmas.Option.{same_Some, slice_get_within, slice_get_past, get_or_from_slice_get, slice_get-map, slice_get-get_or}
 use Rattle.scr_combinatorics.specs.Lists.{numbers_from}
 use Rattle.scr_combinatorics.proofs.Picks.{length-numbers_from, numbers_from-at}
-use Rattle.scr_play.specs.Tidy.{Merging}
-use Rattle.scr_play.specs.Lawful.{IsLawful}
-use Rattle.scr_play.proofs.PlayLaws.{and_then-some, play-keeps}
-use Rattle.scr_play.proofs.BackLaws.{IsTakenBack-lawful}
-use Rattle.scr_play.proofs.TidyPlay.{IsKeptByTidy-lawful}
+use Rattle.scr_combinatorics.specs.Tidy.{Merging}
+use Rattle.scr_combinatorics.specs.Lawful.{IsLawful}
+use Rattle.scr_combinatorics.proofs.PlayLaws.{and_then-some, play-keeps}
+use Rattle.scr_combinatorics.proofs.BackLaws.{IsTakenBack-lawful}
+use Rattle.scr_combinatorics.proofs.TidyPlay.{IsKeptByTidy-lawful}
 use Rattle.scr_orbit.specs.Actions.{Action, IsAction, after_by, power, Power, power_of, power_table, all_powers}
 use Rattle.scr_orbit.specs.LawfulTurns.{HasLawfulTurns}
 use Rattle.scr_orbit.proofs.ActionLaws.{map-some, IsTurn-power, power-add, power-mod, merged_turn, IsLawful-table, play-composed_word}

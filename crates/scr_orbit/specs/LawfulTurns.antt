@@ -1,10 +1,10 @@
 -- What holds of a puzzle whose letters rearrange its pieces.
 use Rattle.std.specs.Prelude.{◌≡◌, ℕ, List, Option, Some}
 use Rattle.std.specs.Option.{option_map}
-use Rattle.scr_play.specs.Play.{play}
-use Rattle.scr_play.specs.Back.{IsTakenBack}
-use Rattle.scr_play.specs.Tidy.{Merging, IsKeptByTidy}
-use Rattle.scr_play.specs.Reach.{IsReached}
+use Rattle.scr_combinatorics.specs.Play.{play}
+use Rattle.scr_combinatorics.specs.Back.{IsTakenBack}
+use Rattle.scr_combinatorics.specs.Tidy.{Merging, IsKeptByTidy}
+use Rattle.scr_combinatorics.specs.Reach.{IsReached}
 use Rattle.scr_orbit.specs.Actions.{Action, IsAction, after_by, table_puzzle, composed_word}
 
 -- The turns of such a puzzle are lawful. They act on the valid states, and each letter's rearrangement is one of them; words

@@ -14,8 +14,8 @@ abbrev pub no_calls : List ℕ → CallsMade
 no_calls fails = record { fails = fails; made = 0; faults = 0 }
 
 -- one call more
-abbrev pub counted : CallsMade → CallsMade
-counted calls = record calls { made = raised calls.made }
+abbrev pub one_more : CallsMade → CallsMade
+one_more calls = record calls { made = raised calls.made }
 
 -- one that failed
 abbrev pub failed : CallsMade → CallsMade
@@ -56,16 +56,16 @@ WriteFails s = NextFails s.calls ⊎ (s.room ≤ length s.held)
 
 -- a source after a read that gave its next n bytes
 abbrev pub after_read : SourceMemory → ℕ → SourceMemory
-after_read s n = record s { left = drop n s.left; ends = ends_told n s.ends; calls = counted s.calls }
+after_read s n = record s { left = drop n s.left; ends = ends_told n s.ends; calls = one_more s.calls }
 
 -- a source after a read that failed
 abbrev pub after_failed_read : SourceMemory → SourceMemory
-after_failed_read s = record s { calls = failed (counted s.calls) }
+after_failed_read s = record s { calls = failed (one_more s.calls) }
 
 -- a sink after a write, with these bytes
 abbrev pub after_write : SinkMemory → List ℕ → SinkMemory
-after_write s held = record s { held = held; calls = counted s.calls }
+after_write s held = record s { held = held; calls = one_more s.calls }
 
 -- a sink after a write that failed
 abbrev pub after_failed_write : SinkMemory → SinkMemory
-after_failed_write s = record s { calls = failed (counted s.calls) }
+after_failed_write s = record s { calls = failed (one_more s.calls) }

@@ -1,7 +1,7 @@
 //! The calls of a source or a sink in memory.
 
 ghost use Rattle.std.specs.Prelude.{◌≡◌, ◌^◌, ◌<◌, ◌↔◌, Contains, IsTrue};
-ghost use Rattle.scr_outside.specs.Memory.{no_calls, counted, failed, NextFails};
+ghost use Rattle.scr_outside.specs.Memory.{no_calls, one_more, failed, NextFails};
 
 use crate::faults::raised;
 use std::marker::Model;
@@ -40,7 +40,7 @@ impl Calls {
     /// Counts a call, and says whether it is one of those that fail.
     pub(crate) fn count(&mut self) -> bool
         ensures fails { IsTrue result ↔ NextFails self.old }
-        ensures counted { self.new ≡ counted self.old }
+        ensures counted { self.new ≡ one_more self.old }
         ensures at_most { self.new.faults < 2 ^ 64 }
     {
         self.made = raised(self.made);

@@ -20,7 +20,7 @@ use Rattle.scr_sheet.specs.declared.fault.Fault.TheVariants as fault
 use Rattle.scr_sheet.specs.declared.status.Status.{Status}
 use Rattle.scr_sheet.specs.declared.status.Status.TheVariants as status
 use Rattle.scr_sheet.specs.Sheet.{Part}
-use Rattle.scr_sheet.specs.Outcome.{EndsParts, EndsMaking, EndsTables, EndsTelling, EndsCommand, Ends, LacksTables, IsUnwritten, fault_of_build, IsPerformed, IsRun, Tells, status_of, TakesMemory}
+use Rattle.scr_sheet.specs.Outcome.{EndsParts, EndsMaking, EndsTables, EndsTelling, EndsCommand, Ends, LacksTables, IsUnwritten, fault_of_build, IsRun, Tells, status_of, TakesMemory}
 
 -- a count that stayed didn't rise
 stayed : {n m : ℕ} → m ≡ n → n < m → ⊥

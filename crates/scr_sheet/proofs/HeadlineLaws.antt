@@ -1,11 +1,10 @@
 -- What is written of scrambles is fair.
-use Rattle.std.proofs.Common.{◌≡◌, ◌∙◌, ℕ, ◌⊎◌, List, [], ◌∷◌, ◌++◌, Ok, Err, inl, inr, refl, sym, subst, append-nil, All, map}
+use Rattle.std.proofs.Common.{◌∙◌, ℕ, ◌⊎◌, List, [], ◌∷◌, ◌++◌, Ok, Err, inl, inr, refl, sym, subst, append-nil, All}
 use Rattle.std.proofs.lemmas.List.{length-map}
 use Rattle.std.proofs.lemmas.List.Elements.{All-head, All-tail}
 use Rattle.std.specs.Prelude.{Result, Option, Some, None}
 use Rattle.scr_outside.specs.Change.{Change, Gains, Falters}
 use Rattle.scr_notation.specs.Written.{Written}
-use Rattle.scr_notation.specs.declared.turn.Turn.{Turn}
 use Rattle.scr_notation.specs.declared.event.Event.{Event}
 use Rattle.scr_words.specs.declared.seed.Seed.{Seed}
 use Rattle.scr_words.specs.declared.seed.SeedFault.{SeedFault}
@@ -22,7 +21,7 @@ use Rattle.scr_round.specs.Made.{turns_of_each}
 use Rattle.scr_slots.specs.declared.settings.Settings.{Settings}
 use Rattle.scr_slots.specs.Shown.{Shown}
 use Rattle.scr_slots.specs.Slots.{Scrambling, ByState, ByMoves, IsSlotScramble, IsDrawnFairly}
-use Rattle.scr_slots.specs.Events.{scrambling_of, shown_of}
+use Rattle.scr_slots.specs.Events.{scrambling_of}
 use Rattle.scr_slots.proofs.EachEvent.{shown_by, same_shown}
 use Rattle.scr_sheet.specs.declared.fault.Fault.{Fault}
 use Rattle.scr_sheet.specs.declared.fault.Fault.TheVariants as fault

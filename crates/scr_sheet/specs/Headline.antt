@@ -2,7 +2,7 @@
 -- whichever scramble a state has, and however a sheet is laid out.
 use Rattle.std.specs.Prelude.{◌≡◌, ◌⊎◌, ℕ, List, [], ◌∷◌, ◌++◌, Some, length, codes}
 use Rattle.scr_outside.specs.Change.{Change, Gains, Falters}
-use Rattle.scr_draw.specs.StateSpace.{StateSpace, IsFairFor}
+use Rattle.scr_draw.specs.StateSpace.{IsFairFor}
 use Rattle.scr_notation.specs.declared.event.Event.{Event}
 use Rattle.scr_notation.specs.declared.turn.Turn.{Turn}
 use Rattle.scr_list.specs.declared.round.Round.{Round}

@@ -9,7 +9,7 @@ use Rattle.scr_list.specs.declared.fault.ListFault.{ListFault}
 use Rattle.scr_list.specs.declared.fault.ListFault.TheVariants as list
 use Rattle.scr_command.specs.declared.command.UsageFault.{UsageFault}
 use Rattle.scr_command.specs.declared.command.UsageFault.TheVariants.{No444, NoSeed, Grammar}
-use Rattle.scr_table.specs.Names.{text_of}
+use Rattle.scr_table.specs.Names.{name_text}
 use Rattle.scr_sheet.specs.declared.fault.Fault.{Fault}
 use Rattle.scr_sheet.specs.declared.fault.Fault.TheVariants as fault
 
@@ -49,7 +49,7 @@ fault_text (fault.DrawLimit round slot words) =
     ++ decimal words ++ codes " words"
 fault_text fault.Write = codes "output could not be written"
 fault_text fault.NoMemory = codes "out of memory"
-fault_text (fault.Gap table index) = codes "table " ++ text_of table ++ codes " has a gap at " ++ decimal index
+fault_text (fault.Gap table index) = codes "table " ++ name_text table ++ codes " has a gap at " ++ decimal index
 
 -- the line that the program writes for it
 abbrev pub message_of : Fault → List ℕ

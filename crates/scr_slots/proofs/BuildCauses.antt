@@ -1,12 +1,11 @@
 -- What the events of a list have to do with the lines of their tables, family by family.
-use Rattle.std.proofs.Common.{◌≡◌, ℕ, zero, suc, Bool, true, false, ◌||◌, List, [], ◌∷◌, Option, Some, refl, ap, ◌∙◌, sym, subst, arith, if◌then◌else◌, inl, inr, map, take, length, get_or, ◌+◌, ◌<◌, ◌++◌, ◌↔◌, ◌⊎◌, ◌≢◌}
+use Rattle.std.proofs.Common.{◌≡◌, ℕ, zero, suc, Bool, true, false, ◌||◌, List, [], ◌∷◌, Option, Some, refl, ap, ◌∙◌, sym, subst, arith, if◌then◌else◌, inl, inr, map, take, length, get_or, ◌+◌, ◌<◌, ◌++◌, ◌↔◌, ◌⊎◌}
 use Rattle.std.proofs.Math.Seq.{take-length}
 use Rattle.std.proofs.lemmas.List.{take_more, map-append, length-map}
 use Rattle.std.proofs.Math.ListN.{get_or-map}
 use Rattle.std.proofs.lemmas.List.Elements.{All-nil, All-map, Contains-append_left, Contains-push, Contains-push_cases}
 use Rattle.std.proofs.lemmas.List.Folds.{list_any_none, list_any_at}
 use Rattle.std.specs.Prelude.{All, Contains, IsSome, IsTrue}
-use Rattle.std.specs.List.{list_any}
 use Rattle.std.specs.Option.{option_to_list}
 use Rattle.scr_notation.specs.declared.event.Event.{Event}
 use Rattle.scr_notation.specs.EventSets.{Has}
@@ -16,7 +15,7 @@ use Rattle.scr_notation.specs.declared.event.Family.TheVariants.{Cube222, Cube33
 use Rattle.scr_notation.specs.Event.{family_of}
 use Rattle.scr_table.specs.Lines.{AreTablesOf, HasNoGap}
 use Rattle.scr_small.specs.Tables.{BuiltTable, IsBuilt, family_line, small_line, small_lines}
-use Rattle.scr_slots.specs.Events.{lines_of}
+use Rattle.scr_slots.specs.Events.{family_lines}
 use Rattle.scr_slots.specs.Held.{HoldsTables}
 use Rattle.scr_slots.specs.Tables.{is_family, asks_for, lines_asked, lines_for}
 
@@ -112,16 +111,16 @@ HoldsTables-asked events set family tables same built has =
 
 -- ---- the lines of the families that are asked for
 
-pub lines_asked-of : (events : List Event) (family : Family) → IsTrue (asks_for events family) → lines_asked events family ≡ lines_of family
-lines_asked-of events family asked = ap (λ b. if b then lines_of family else []) asked
+pub lines_asked-of : (events : List Event) (family : Family) → IsTrue (asks_for events family) → lines_asked events family ≡ family_lines family
+lines_asked-of events family asked = ap (λ b. if b then family_lines family else []) asked
 
 pub no_gaps-unasked : (events : List Event) (family : Family) → asks_for events family ≡ false → All HasNoGap (lines_asked events family)
 no_gaps-unasked events family unasked =
-    let none : lines_asked events family ≡ [] = ap (λ b. if b then lines_of family else []) unasked in
+    let none : lines_asked events family ≡ [] = ap (λ b. if b then family_lines family else []) unasked in
     subst (All HasNoGap) (sym none) (All-nil HasNoGap)
 
-small_lines-of : (family : Family) → IsSome (family_line (Some family)) → option_to_list (family_line (Some family)) ≡ lines_of family
-unfolding lines_of
+small_lines-of : (family : Family) → IsSome (family_line (Some family)) → option_to_list (family_line (Some family)) ≡ family_lines family
+unfolding family_lines
 small_lines-of Cube222 some = refl
 small_lines-of Cube333 some = let none : ⊥ = cc in absurd none
 small_lines-of Pyraminx some = refl
@@ -137,15 +136,15 @@ lines_asked-small events family event some of_family asked =
 
 -- the one table of a family is that of its lines
 pub small-are : (family : Family) (built : BuiltTable) → IsSome (family_line (Some family)) → family_of built.event ≡ Some family → IsBuilt built
-    → AreTablesOf (lines_of family) (built.distances ∷ [])
+    → AreTablesOf (family_lines family) (built.distances ∷ [])
 small-are family built some of_family is =
-    let line : is.line ∷ [] ≡ lines_of family =
+    let line : is.line ∷ [] ≡ family_lines family =
     ap option_to_list (sym is.of_event) ∙ ap (λ f. option_to_list (family_line f)) of_family ∙ small_lines-of family some in
     subst (λ lines. AreTablesOf lines (built.distances ∷ [])) line (is.table, tt)
 
 -- one event needs the tables of its family
-pub lines_for-one : (event : Event) (family : Family) → family_of event ≡ Some family → lines_for (event ∷ []) ≡ lines_of family
-unfolding lines_of
+pub lines_for-one : (event : Event) (family : Family) → family_of event ≡ Some family → lines_for (event ∷ []) ≡ family_lines family
+unfolding family_lines
 lines_for-one event Cube222 is = rw is refl
 lines_for-one event Cube333 is = rw is refl
 lines_for-one event Pyraminx is = rw is refl

@@ -26,7 +26,7 @@ use Rattle.scr_sq1.proofs.Lawful.{IsSq1-reached}
 use Rattle.scr_sq1solve.proofs.Solutions.{one_scramble}
 use Rattle.scr_slots.specs.Shown.{Shown, States, Moves}
 use Rattle.scr_slots.specs.Slots.{Scrambling, ByState, ByMoves, by_state, IsDrawnFairly}
-use Rattle.scr_slots.specs.Events.{scrambling_of, shown_of, IsScramble333Within, drawn_222, drawn_333, drawn_pyram, drawn_skewb, drawn_clock, drawn_sq1, moves_of, moves_minx}
+use Rattle.scr_slots.specs.Events.{scrambling_of, shown_of, IsScramble333Within, drawn_222, drawn_333, drawn_pyram, drawn_skewb, drawn_clock, drawn_sq1, cube_random_moves, moves_minx}
 use Rattle.scr_slots.specs.Held.{HasFamily}
 use Rattle.scr_slots.specs.Outcomes.{HasOneAnswer}
 use Rattle.scr_slots.proofs.OneAnswer.{HasOneAnswer-state, HasOneAnswer-moves}
@@ -45,9 +45,9 @@ each_one C222 least =
     HasOneAnswer-state C222 drawn_222 numbered_222 _ least (lit≤ tt) (λ effort state turns other reached. IsScrambleOf-unique numbered_puzzle_222 lawful_puzzle_222 state turns other)
 each_one C333 least = one_333 least
 each_one Oh333 least = one_333 least
-each_one C555 least = HasOneAnswer-moves C555 (moves_of cube_555) least
-each_one C666 least = HasOneAnswer-moves C666 (moves_of cube_666) least
-each_one C777 least = HasOneAnswer-moves C777 (moves_of cube_777) least
+each_one C555 least = HasOneAnswer-moves C555 (cube_random_moves cube_555) least
+each_one C666 least = HasOneAnswer-moves C666 (cube_random_moves cube_666) least
+each_one C777 least = HasOneAnswer-moves C777 (cube_random_moves cube_777) least
 each_one Clock least =
     HasOneAnswer-state Clock drawn_clock clock_numbered _ least (lit≤ tt) (λ effort state turns other reached. IsScrambleOf-one state turns other)
 each_one Minx least = HasOneAnswer-moves Minx moves_minx least

@@ -1,17 +1,16 @@
 -- A slot has one answer.
-use Rattle.std.proofs.Common.{◌≡◌, ℕ, ◌≤◌, List, Option, Some, None, refl, sym, ap, ◌∙◌, subst}
+use Rattle.std.proofs.Common.{◌≡◌, ℕ, ◌≤◌, List, Some, None, refl, sym, ap, ◌∙◌, subst}
 use Rattle.std.proofs.lemmas.Option.{same_Some}
 use Rattle.scr_combinatorics.specs.Numbered.{Numbered}
-use Rattle.scr_play.specs.Reach.{Puzzle, IsReached}
+use Rattle.scr_combinatorics.specs.Reach.{Puzzle, IsReached}
 use Rattle.scr_draw.specs.StateSpace.{space_of}
 use Rattle.scr_draw.proofs.Outcomes.{Draws-one}
 use Rattle.scr_notation.specs.declared.turn.Turn.{Turn}
 use Rattle.scr_notation.specs.declared.event.Event.{Event}
 use Rattle.scr_notation.specs.Written.{Written}
 use Rattle.scr_slots.specs.declared.settings.Effort.{Effort}
-use Rattle.scr_slots.specs.declared.settings.Settings.{Settings}
 use Rattle.scr_slots.specs.Shown.{DrawnPuzzle, RandomMoves, slot_numbers}
-use Rattle.scr_slots.specs.Slots.{ByMoves, by_state, IsSlotAnswer}
+use Rattle.scr_slots.specs.Slots.{ByMoves, by_state}
 use Rattle.scr_slots.specs.Outcomes.{HasOneAnswer}
 
 -- two scrambles of one event with one list of turns

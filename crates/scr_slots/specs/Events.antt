@@ -6,7 +6,7 @@ use Rattle.scr_notation.specs.declared.event.Event.TheVariants.{C222, C333, Oh33
 use Rattle.scr_notation.specs.declared.event.Family.{Family}
 use Rattle.scr_notation.specs.declared.event.Family.TheVariants as family
 use Rattle.scr_notation.specs.declared.turn.Turn.{Turn}
-use Rattle.scr_play.specs.Play.{play}
+use Rattle.scr_combinatorics.specs.Play.{play}
 use Rattle.scr_table.specs.Lines.{TableLine}
 use Rattle.scr_orbit.specs.Orbits.{Orbit}
 use Rattle.scr_turning.specs.PowerPuzzles.{PowerPuzzle, after_letter, power_puzzle}
@@ -27,7 +27,7 @@ use Rattle.scr_sq1solve.specs.Tables.{sq1_lines}
 use Rattle.scr_clock.specs.Dials.{solved, clock_puzzle}
 use Rattle.scr_clock.specs.Numbers.{clock_numbered}
 use Rattle.scr_clock.specs.Held.{clock_after}
-use Rattle.scr_clock.specs.Written.{IsScrambleOf as IsClockScramble}
+use Rattle.scr_clock.specs.Written.{IsClockScramble}
 use Rattle.scr_bigs.specs.BigCubes.{BigCube, cube_555, cube_666, cube_777}
 use Rattle.scr_bigs.specs.CubeMoves.{cube_moves}
 use Rattle.scr_bigs.specs.Megaminx.{megaminx_moves}
@@ -67,8 +67,8 @@ abbrev pub drawn_sq1 : DrawnPuzzle Sq1State
 drawn_sq1 = drawn_puzzle sq1_puzzle (play sq1_after solved_sq1) IsWithinBounds
 
 -- a big cube: each turn is one of those that may follow the one before
-abbrev pub moves_of : BigCube → RandomMoves
-moves_of cube = record { moves = cube_moves cube; AreFair = AreFairTurns cube }
+abbrev pub cube_random_moves : BigCube → RandomMoves
+cube_random_moves cube = record { moves = cube_moves cube; AreFair = AreFairTurns cube }
 
 -- a Megaminx: the seventy bits of one attempt, whatever the attempts
 abbrev pub moves_minx : RandomMoves
@@ -78,9 +78,9 @@ unfoldable pub shown_of : Event → Shown
 shown_of C222 = States Orbit drawn_222
 shown_of C333 = States CubeState drawn_333
 shown_of Oh333 = States CubeState drawn_333
-shown_of C555 = Moves (moves_of cube_555)
-shown_of C666 = Moves (moves_of cube_666)
-shown_of C777 = Moves (moves_of cube_777)
+shown_of C555 = Moves (cube_random_moves cube_555)
+shown_of C666 = Moves (cube_random_moves cube_666)
+shown_of C777 = Moves (cube_random_moves cube_777)
 shown_of Clock = States (List ℕ) drawn_clock
 shown_of Minx = Moves moves_minx
 shown_of Pyram = States PyramState drawn_pyram
@@ -104,9 +104,9 @@ unfoldable pub scrambling_of : Event → Scrambling
 scrambling_of C222 = by_state C222 drawn_222 numbered_222 (λ effort. IsScrambleOf numbered_puzzle_222)
 scrambling_of C333 = scrambling_333
 scrambling_of Oh333 = scrambling_333
-scrambling_of C555 = ByMoves C555 (moves_of cube_555)
-scrambling_of C666 = ByMoves C666 (moves_of cube_666)
-scrambling_of C777 = ByMoves C777 (moves_of cube_777)
+scrambling_of C555 = ByMoves C555 (cube_random_moves cube_555)
+scrambling_of C666 = ByMoves C666 (cube_random_moves cube_666)
+scrambling_of C777 = ByMoves C777 (cube_random_moves cube_777)
 scrambling_of Clock = by_state Clock drawn_clock clock_numbered (λ effort. IsClockScramble)
 scrambling_of Minx = ByMoves Minx moves_minx
 scrambling_of Pyram = by_state Pyram drawn_pyram numbered_pyram (λ effort. IsScramblePyram)
@@ -116,9 +116,9 @@ scrambling_of Sq1 = by_state Sq1 drawn_sq1 sq1_numbered (λ effort. IsScrambleSq
 -- ---- tables
 
 -- the tables of a family, in the order in which they are built and printed
-unfoldable pub lines_of : Family → List TableLine
-lines_of family.Cube222 = corners_line ∷ []
-lines_of family.Cube333 = stage_lines ++ prune_lines
-lines_of family.Pyraminx = pyramid_line ∷ []
-lines_of family.Skewb = skewb_line ∷ []
-lines_of family.Square1 = sq1_lines
+unfoldable pub family_lines : Family → List TableLine
+family_lines family.Cube222 = corners_line ∷ []
+family_lines family.Cube333 = stage_lines ++ prune_lines
+family_lines family.Pyraminx = pyramid_line ∷ []
+family_lines family.Skewb = skewb_line ∷ []
+family_lines family.Square1 = sq1_lines

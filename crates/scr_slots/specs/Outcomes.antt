@@ -3,7 +3,6 @@ use Rattle.std.specs.Prelude.{◌≡◌, ℕ, Option}
 use Rattle.scr_notation.specs.Written.{Written}
 use Rattle.scr_slots.specs.declared.settings.Settings.{Settings}
 use Rattle.scr_slots.specs.Slots.{Scrambling, IsSlotAnswer}
-use Rattle.scr_slots.specs.Shown.{Shown, States, Moves}
 
 -- A slot has one answer: one scramble at most, and either that or none.
 abbrev pub HasOneAnswer : Scrambling → ℕ → Type 0

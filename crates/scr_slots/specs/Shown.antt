@@ -3,7 +3,7 @@ use Rattle.std.specs.Prelude.{◌≡◌, ℕ, List, Option, Some}
 use Rattle.scr_words.specs.Stream.{stream_word}
 use Rattle.scr_draw.specs.Attempt.{attempt_values}
 use Rattle.scr_draw.specs.StateSpace.{StateSpace, Draws}
-use Rattle.scr_play.specs.Reach.{Puzzle, IsPermitted}
+use Rattle.scr_combinatorics.specs.Reach.{Puzzle, IsPermitted}
 use Rattle.scr_notation.specs.declared.turn.Turn.{Turn}
 use Rattle.scr_slots.specs.declared.settings.Settings.{Settings}
 

@@ -8,7 +8,7 @@ use Rattle.scr_notation.specs.Event.{family_of}
 use Rattle.scr_table.specs.declared.fault.BuildFault.{BuildFault}
 use Rattle.scr_table.specs.Causes.{IsCauseOf}
 use Rattle.scr_table.specs.Lines.{TableLine}
-use Rattle.scr_slots.specs.Events.{lines_of}
+use Rattle.scr_slots.specs.Events.{family_lines}
 
 abbrev pub is_family : Family → Option Family → Bool
 is_family Cube222 (Some Cube222) = true
@@ -24,7 +24,7 @@ asks_for events family = list_any (λ event. is_family family (family_of event))
 
 -- the tables of a family, where one of these events is of it
 abbrev pub lines_asked : List Event → Family → List TableLine
-lines_asked events family = if asks_for events family then lines_of family else []
+lines_asked events family = if asks_for events family then family_lines family else []
 
 -- The tables that events need, each once: those of one family after another.
 abbrev pub lines_for : List Event → List TableLine

@@ -4,10 +4,10 @@ ghost use Rattle.std.specs.Prelude.{All, map, IfErr, IfOk};
 ghost use Rattle.scr_table.specs.Causes.{IsCauseOf};
 ghost use Rattle.scr_table.specs.Lines.{AreTablesOf, HasNoGap};
 ghost use Rattle.scr_notation.specs.declared.event.Family.TheVariants as family;
-ghost use Rattle.scr_slots.specs.Events.{lines_of};
+ghost use Rattle.scr_slots.specs.Events.{family_lines};
 
 use scr_stages::StageTables;
-use scr_table::{BuildFault, DistanceTable};
+use scr_table::{BuildFault, DistanceTable, TableSet};
 use scr_twophase::PruneTables;
 use std::alloc::Global;
 
@@ -31,10 +31,10 @@ impl Drop for CubeTables {
 
 impl CubeTables {
     /// All eight, or why one isn't built.
-    #[tactic(auto, unfolding(crate::specs::Events::lines_of))]
+    #[tactic(auto, unfolding(crate::specs::Events::family_lines))]
     pub fn build(alloc: Global) -> Result<CubeTables, BuildFault>
-        ensures whole { IfOk result (λ _. All HasNoGap (lines_of family.Cube333)) }
-        ensures cause { IfErr result (IsCauseOf (lines_of family.Cube333)) }
+        ensures whole { IfOk result (λ _. All HasNoGap (family_lines family.Cube333)) }
+        ensures cause { IfErr result (IsCauseOf (family_lines family.Cube333)) }
     {
         let stages = StageTables::build(alloc)?;
         let prune = PruneTables::build(alloc)?;
@@ -42,9 +42,9 @@ impl CubeTables {
     }
 
     /// All eight, in the order in which they are built.
-    #[tactic(auto, unfolding(crate::specs::Events::lines_of))]
+    #[tactic(auto, unfolding(crate::specs::Events::family_lines))]
     pub fn all(&self) -> [&DistanceTable; 8]
-        ensures { AreTablesOf (lines_of family.Cube333) (map (λ table. table.now) result) }
+        ensures { AreTablesOf (family_lines family.Cube333) (map (λ table. table.now) result) }
     {
         let [flips, slice, tetrads, halves] = self.stages.all();
         let [flipslice, twistslice, cornerslice, edgeslice] = self.prune.all();

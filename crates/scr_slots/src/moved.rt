@@ -4,7 +4,7 @@ ghost use Rattle.std.specs.Prelude.{◌≤◌, Some};
 ghost use Rattle.scr_notation.specs.declared.event.Event.TheVariants.{Minx};
 ghost use Rattle.scr_bigs.specs.BigCubes.{IsSide, cube_of};
 ghost use Rattle.scr_slots.specs.Slots.{ByMoves, IsSlotAnswer, IsSlotScramble};
-ghost use Rattle.scr_slots.specs.Events.{moves_of, moves_minx};
+ghost use Rattle.scr_slots.specs.Events.{cube_random_moves, moves_minx};
 
 use crate::settings::Settings;
 use scr_bigs::{big_cube, megaminx};
@@ -17,7 +17,7 @@ use scr_words::ChaChaWords;
 pub(crate) fn cube_scramble<const SIDE: usize>(settings: &Settings, stream: u64) -> Option<Scramble>
     requires side { IsSide SIDE }
     requires attempts { settings.now.attempts ≤ 1000000 }
-    ensures { let cube = cube_of SIDE in IsSlotAnswer (ByMoves cube.event (moves_of cube)) settings.now 0 stream result }
+    ensures { let cube = cube_of SIDE in IsSlotAnswer (ByMoves cube.event (cube_random_moves cube)) settings.now 0 stream result }
 {
     let mut words = ChaChaWords::new(&settings.seed, stream);
     big_cube::<_, SIDE>(&mut words, settings.attempts).ok()

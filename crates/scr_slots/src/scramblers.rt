@@ -14,7 +14,7 @@ use scr_twophase::scramble_333;
 
 impl Scrambler<Clock> for ClockNumbers {
     ghost use Rattle.scr_notation.specs.declared.event.Event.TheVariants.{Clock as EventClock};
-    ghost use Rattle.scr_clock.specs.Written.{IsScrambleOf as IsClockScramble};
+    ghost use Rattle.scr_clock.specs.Written.{IsClockScramble};
     ghost use Rattle.scr_slots.specs.Events.{drawn_clock};
 
     ghost event = { λ _. EventClock };
@@ -31,7 +31,7 @@ impl Scrambler<Clock> for ClockNumbers {
 }
 
 impl<P: OneTable> Scrambler<P::State> for SmallPuzzle<'_, P> {
-    ghost use Rattle.scr_play.specs.Play.{play};
+    ghost use Rattle.scr_combinatorics.specs.Play.{play};
     ghost use Rattle.scr_small.specs.NumberedPuzzles.{IsScrambleOf};
     ghost use Rattle.scr_slots.specs.Events.{at_most};
 

@@ -1,7 +1,7 @@
 //! The answer of a slot, by its event.
 
 ghost use Rattle.std.specs.Prelude.{◌≡◌, ◌≤◌, Some, List};
-ghost use Rattle.scr_play.specs.Reach.{IsReached};
+ghost use Rattle.scr_combinatorics.specs.Reach.{IsReached};
 ghost use Rattle.scr_notation.specs.declared.turn.Turn.{Turn};
 ghost use Rattle.scr_notation.specs.Event.{greatest_of};
 ghost use Rattle.scr_notation.specs.EventSets.{Has};

@@ -17,7 +17,7 @@ use scr_list::Round;
 use scr_notation::{Event, EventSet, Family};
 use scr_small::SmallTables;
 use scr_sq1solve::Sq1Tables;
-use scr_table::BuildFault;
+use scr_table::{BuildFault, TableSet};
 use std::alloc::Global;
 use std::marker::Model;
 

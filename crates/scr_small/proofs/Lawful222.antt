@@ -7,7 +7,7 @@ use Rattle.scr_combinatorics.proofs.Twists.{twists_number-lt}
 use Rattle.scr_notation.specs.TurnNumbers.{turn_at}
 use Rattle.scr_orbit.specs.Orbits.{IsZeroSumRearrangement, turned_orbit, solved_orbit, added_digits}
 use Rattle.scr_cube.specs.Cube222.{IsCorners222, powers_222, solved_222, numbered_222, digits_222, corners_of_digits}
-use Rattle.scr_cube.specs.Numbered222.{numbering_222}
+use Rattle.scr_cube.proofs.Numbered222.{numbering_222}
 use Rattle.scr_cube.proofs.Laws222.{lawful_222}
 use Rattle.scr_small.specs.LawfulPuzzles.{IsNumberedPuzzle}
 use Rattle.scr_small.specs.Puzzles.{numbered_puzzle_222}

@@ -5,7 +5,7 @@ use Rattle.scr_combinatorics.specs.Digits.{mixed_number}
 use Rattle.scr_notation.specs.TurnNumbers.{turn_at}
 use Rattle.scr_orbit.specs.Orbits.{Orbit, turned_orbit, solved_orbit}
 use Rattle.scr_tetra.specs.Skewb.{SkewbState, IsSkewb, IsSkewbTurn, skewb_powers, skewb_numbered, skewb_digits, skewb_of_digits, solved_skewb}
-use Rattle.scr_tetra.specs.NumberedSkewb.{skewb_numbering, AreDigits-skewb}
+use Rattle.scr_tetra.proofs.NumberedSkewb.{skewb_numbering, AreDigits-skewb}
 use Rattle.scr_tetra.proofs.SkewbLaws.{lawful_skewb}
 use Rattle.scr_small.specs.LawfulPuzzles.{IsNumberedPuzzle}
 use Rattle.scr_small.specs.Puzzles.{numbered_puzzle_skewb}

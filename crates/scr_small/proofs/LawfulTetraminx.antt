@@ -7,7 +7,7 @@ use Rattle.scr_combinatorics.specs.Twists.{twists_number}
 use Rattle.scr_notation.specs.TurnNumbers.{turn_at}
 use Rattle.scr_orbit.specs.Orbits.{turned_orbit, solved_orbit, added_digits}
 use Rattle.scr_tetra.specs.Pyraminx.{TetraminxState, IsTetraminx, IsTetraminxTurn, tetraminx_powers, solved_tetraminx, numbered_tetraminx, tetraminx_digits, tetraminx_of_digits, thirds_number}
-use Rattle.scr_tetra.specs.NumberedPyram.{tetraminx_numbering, tetraminx_has_three}
+use Rattle.scr_tetra.proofs.NumberedPyram.{tetraminx_numbering, tetraminx_has_three}
 use Rattle.scr_tetra.proofs.PyramLaws.{lawful_tetraminx}
 use Rattle.scr_small.specs.LawfulPuzzles.{IsNumberedPuzzle}
 use Rattle.scr_small.specs.Puzzles.{numbered_puzzle_tetraminx}

@@ -1,19 +1,18 @@
 -- What one table says of a numbered puzzle: its valid states are those that turns reach, what each needs, and its
 -- scramble. No puzzle stands here.
-use Rattle.std.proofs.Common.{◌≡◌, ℕ, suc, ◌<◌, ◌≤◌, Bool, true, false, cond, IsTrue, List, [], ◌∷◌, map, length, get_or, inl, inr, Option, Some, None, refl, sym, ap, ◌∙◌, subst, arith}
-use Rattle.std.specs.Prelude.{nat_lt, nat_le, ◌↔◌, option_and_then}
-use Rattle.std.specs.Option.{option_map}
-use Rattle.std.proofs.lemmas.Bool.{ltb-false, eq-eqb, eqb-true, leb-true, le-leb, cases_lt}
+use Rattle.std.proofs.Common.{◌≡◌, ℕ, suc, ◌≤◌, IsTrue, List, [], ◌∷◌, map, length, get_or, inl, inr, Option, Some, None, refl, sym, ap, ◌∙◌, subst, arith}
+use Rattle.std.specs.Prelude.{nat_le, ◌↔◌, option_and_then}
+use Rattle.std.proofs.lemmas.Bool.{leb-true, le-leb, cases_lt}
 use Rattle.std.proofs.lemmas.List.{length-map, length-reverse}
-use Rattle.scr_play.specs.Play.{play}
-use Rattle.scr_play.specs.Back.{back}
-use Rattle.scr_play.specs.Reach.{IsReached, Needs}
-use Rattle.scr_play.specs.FirstWord.{LeadsTo, IsDistance}
-use Rattle.scr_play.proofs.PlayLaws.{play-empty, play-first, play-parts, IsReached-keeps}
-use Rattle.scr_play.proofs.FirstWordLaws.{IsDistance-unique, IsDistance-first, IsFirstWord-unique}
-use Rattle.scr_orbit.proofs.ActionLaws.{map-some}
+use Rattle.scr_combinatorics.specs.Play.{play}
+use Rattle.scr_combinatorics.specs.Back.{back}
+use Rattle.scr_combinatorics.specs.Reach.{IsReached, Needs}
+use Rattle.scr_combinatorics.specs.FirstWord.{LeadsTo, IsDistance}
+use Rattle.scr_combinatorics.proofs.PlayLaws.{play-empty, play-first, play-parts, IsReached-keeps}
+use Rattle.scr_combinatorics.proofs.FirstWordLaws.{IsDistance-unique, IsDistance-first, IsFirstWord-unique}
 use Rattle.scr_coord.specs.Coordinates.{StaysBelow}
 use Rattle.scr_coord.specs.SearchSpaces.{SearchSpace, positions, Follows, FindsTheSame}
+use Rattle.scr_coord.proofs.IndexLaws.{Follows-numbered, StaysBelow-numbered}
 use Rattle.scr_coord.proofs.SearchLaws.{FindsTheSame-follows}
 use Rattle.scr_table.specs.Distances.{Distances, Measures}
 use Rattle.scr_orbit.proofs.Minima.{count_once}
@@ -32,37 +31,18 @@ module _ {S T : Type 0} (p : NumberedPuzzle S T) (l : IsNumberedPuzzle p) where
 
   -- ---- the states follow the coordinate of their numbers
 
-  guarded : (s : S) (n : ℕ) (b : Bool) → nat_lt n p.turns ≡ b
-      → cond b (option_map p.numbered.number_of (after_number p s n)) None ≡ option_map p.numbered.number_of (after_number p s n)
-  guarded s n true e = refl
-  guarded s n false e = ap (option_map p.numbered.number_of) (sym (l.no_more s n (ltb-false n p.turns e)))
-
   pub Follows-states : Follows state_space (positions (state_coordinate p)) p.numbered.number_of
   Follows-states =
-      let again = l.numbering.one_to_one.state_again in
-      record {
-        kept = λ s r n h e. l.kept s r (p.letter_at n) h e;
-        valid = l.numbering.one_to_one.below;
-        turned = λ s n h.
-            ap (λ r. cond (nat_lt n p.turns) (option_map p.numbered.number_of (after_number p r n)) None) (again s h)
-            ∙ guarded s n (nat_lt n p.turns) refl;
-        goals = λ s h. (
-          λ e. eq-eqb (p.numbered.number_of s) (p.numbered.number_of p.solved) (ap p.numbered.number_of e),
-          λ e.
-              sym (again s h)
-              ∙ ap p.numbered.state_at (eqb-true (p.numbered.number_of s) (p.numbered.number_of p.solved) e) ∙ again p.solved l.solved,
-        );
-      }
+      Follows-numbered p.numbered l.numbering.one_to_one p.turns (after_number p) p.solved l.solved
+      (λ s r n h e. l.kept s r (p.letter_at n) h e) l.no_more
 
   pub finds_the_same : FindsTheSame state_space (positions (state_coordinate p)) p.numbered.number_of
   finds_the_same = FindsTheSame-follows state_space (positions (state_coordinate p)) p.numbered.number_of Follows-states
 
   pub StaysBelow-states : StaysBelow (state_coordinate p)
-  StaysBelow-states i n q at turn e =
-      let made = map-some p.numbered.number_of (after_number p (p.numbered.state_at i) n) q e in
-      subst (λ k. k < p.numbered.count) made.2
-      (l.numbering.one_to_one.below made.0
-      (l.kept (p.numbered.state_at i) made.0 (p.letter_at n) (l.numbering.one_to_one.valid i at) made.1))
+  StaysBelow-states =
+      StaysBelow-numbered p.numbered l.numbering.one_to_one p.turns (after_number p) p.solved l.solved
+      (λ s r n h e. l.kept s r (p.letter_at n) h e) l.no_more
 
   -- ---- words of numbers and words of letters
 

@@ -4,10 +4,10 @@ use Rattle.std.proofs.Common.{◌≡◌, ℕ, ◌+◌, ◌/◌, ◌≤◌, Bool,
 use Rattle.std.specs.Prelude.{nat_le, ◌==◌, ◌↔◌}
 use Rattle.std.proofs.lemmas.Bool.{cases_lt}
 use Rattle.std.proofs.lemmas.List.{length-append, length-map, length-reverse}
-use Rattle.scr_play.specs.Play.{play}
-use Rattle.scr_play.specs.Back.{back}
-use Rattle.scr_play.specs.Reach.{IsReached, Needs}
-use Rattle.scr_play.proofs.PlayLaws.{play-append}
+use Rattle.scr_combinatorics.specs.Play.{play}
+use Rattle.scr_combinatorics.specs.Back.{back}
+use Rattle.scr_combinatorics.specs.Reach.{IsReached, Needs}
+use Rattle.scr_combinatorics.proofs.PlayLaws.{play-append}
 use Rattle.scr_orbit.specs.Orbits.{zeros}
 use Rattle.scr_orbit.proofs.InPlaceLaws.{AreDigitsInPlace-zeros}
 use Rattle.scr_notation.specs.declared.turn.Turn.{Turn}
@@ -16,7 +16,7 @@ use Rattle.scr_orbit.proofs.Minima.{count_once}
 use Rattle.scr_table.specs.Distances.{Distances, Measures}
 use Rattle.scr_turning.specs.PowerPuzzles.{after_letter, power_puzzle}
 use Rattle.scr_tetra.specs.Pyraminx.{numbered_tetraminx, tetraminx_powers, solved_tetraminx, PyramState, IsPyram, pyram_powers, solved_pyram, numbered_pyram, pyram_digits}
-use Rattle.scr_tetra.specs.NumberedPyram.{thirds_one_to_one, tetraminx_numbering}
+use Rattle.scr_tetra.proofs.NumberedPyram.{thirds_one_to_one, tetraminx_numbering}
 use Rattle.scr_tetra.specs.PyramParts.{large_turns, turned_count, tips_word}
 use Rattle.scr_tetra.proofs.PyramLaws.{lawful_pyram, IsTetraminx-solved}
 use Rattle.scr_tetra.proofs.PyramTips.{tips_word-played, length-tips_word}

@@ -5,7 +5,7 @@ use Rattle.std.specs.Option.{option_map}
 use Rattle.std.proofs.Math.Nat.{mod-mod, mul-div_cancel_left}
 use Rattle.std.proofs.lemmas.Bool.{eq-eqb, eqb-true, and_parts, and_from}
 use Rattle.std.proofs.lemmas.Bool.Decides.{same_from_decides}
-use Rattle.scr_coord.specs.Products.{product, side_by_side}
+use Rattle.scr_coord.specs.Products.{product_coordinate, side_by_side}
 use Rattle.scr_coord.specs.SearchSpaces.{ShowsSame}
 use Rattle.scr_small.specs.NumberedPuzzles.{NumberedPuzzle, after_number, state_coordinate}
 use Rattle.scr_small.specs.LawfulPuzzles.{IsNumberedPuzzle}
@@ -53,7 +53,7 @@ module _ {S T : Type 0} (p : NumberedPuzzle S T) (l : IsNumberedPuzzle p) (low_c
       ∙ ap (λ n. Some (low s' + low_count * n)) (sym same_high)
       ∙ ap Some whole
 
-  pub ShowsSame-parts : ShowsSame (state_coordinate p) (product (low_part p low_count) (high_part p low_count high_count))
+  pub ShowsSame-parts : ShowsSame (state_coordinate p) (product_coordinate (low_part p low_count) (high_part p low_count high_count))
   ShowsSame-parts = record {
     count = sym b.pairs;
     turns = refl;

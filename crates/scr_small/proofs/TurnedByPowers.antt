@@ -2,7 +2,7 @@
 use Rattle.std.proofs.Common.{◌≡◌, ℕ, ◌*◌, ◌^◌, ◌<◌, ◌≤◌, [], Some, refl}
 use Rattle.scr_combinatorics.specs.Numbered.{Numbered}
 use Rattle.scr_combinatorics.specs.Numbering.{IsNumbering}
-use Rattle.scr_play.proofs.PlayLaws.{play-empty}
+use Rattle.scr_combinatorics.proofs.PlayLaws.{play-empty}
 use Rattle.scr_notation.specs.Event.{kind_of}
 use Rattle.scr_notation.specs.TurnNumbers.{turn_at, turn_count}
 use Rattle.scr_turning.specs.PowerPuzzles.{PowerPuzzle, IsPowerPuzzle, after_letter}

@@ -2,9 +2,9 @@
 use Rattle.std.proofs.Common.{◌≡◌, ℕ, ◌<◌, List, [], ◌∷◌, map, refl, subst}
 use Rattle.std.specs.Prelude.{All}
 use Rattle.std.proofs.lemmas.List.Elements.{All-nil, All-cons}
-use Rattle.scr_play.specs.Back.{back}
-use Rattle.scr_play.specs.FirstWord.{LeadsTo, IsFirstWord}
-use Rattle.scr_play.proofs.FirstWordLaws.{LeadsTo-parts}
+use Rattle.scr_combinatorics.specs.Back.{back}
+use Rattle.scr_combinatorics.specs.FirstWord.{LeadsTo, IsFirstWord}
+use Rattle.scr_combinatorics.proofs.FirstWordLaws.{LeadsTo-parts}
 use Rattle.scr_coord.specs.Coordinates.{Coordinate, moved, IsGoal}
 use Rattle.scr_table.proofs.StepLaws.{moved-turn}
 use Rattle.scr_small.specs.NumberedPuzzles.{NumberedPuzzle, state_coordinate, IsScrambleOf}

@@ -1,7 +1,7 @@
 -- What is so of a numbered puzzle.
 use Rattle.std.specs.Prelude.{◌≡◌, ℕ, ◌<◌, ◌≤◌, Some, None}
 use Rattle.scr_combinatorics.specs.Numbering.{IsNumbering}
-use Rattle.scr_play.specs.Back.{IsTakenBack}
+use Rattle.scr_combinatorics.specs.Back.{IsTakenBack}
 use Rattle.scr_small.specs.NumberedPuzzles.{NumberedPuzzle}
 
 -- Its states are numbered one to one, and solved is one of them; turns keep states valid, and are taken back by their

@@ -1,15 +1,15 @@
 -- Puzzles whose states and turns have numbers, so that one table over the numbers of the states solves them. No puzzle
 -- stands here.
-use Rattle.std.specs.Prelude.{◌≡◌, ℕ, ◌==◌, List, map, Option}
-use Rattle.std.specs.Option.{option_map}
+use Rattle.std.specs.Prelude.{◌≡◌, ℕ, List, map, Option}
 use Rattle.scr_combinatorics.specs.Numbered.{Numbered}
-use Rattle.scr_play.specs.Back.{back}
-use Rattle.scr_play.specs.FirstWord.{IsFirstWord}
-use Rattle.scr_play.specs.Reach.{Puzzle}
+use Rattle.scr_combinatorics.specs.Back.{back}
+use Rattle.scr_combinatorics.specs.FirstWord.{IsFirstWord}
+use Rattle.scr_combinatorics.specs.Reach.{Puzzle}
 use Rattle.scr_coord.specs.Coordinates.{Coordinate}
+use Rattle.scr_coord.specs.Indexes.{numbered_coordinate}
 use Rattle.scr_notation.specs.declared.turn.Turn.{Turn}
 use Rattle.scr_notation.specs.Turning.{opposite as opposite_turn}
-use Rattle.scr_turning.specs.PowerPuzzles.{PowerPuzzle, after_letter, turn_count}
+use Rattle.scr_turning.specs.PowerPuzzles.{PowerPuzzle, after_letter, power_turn_count}
 use Rattle.scr_table.specs.declared.name.TableName.{TableName}
 use Rattle.scr_table.specs.Lines.{TableLine}
 
@@ -29,7 +29,7 @@ numbered_powers n p = record {
   numbered = n;
   after = (after_letter p);
   solved = p.solved;
-  turns = turn_count p;
+  turns = power_turn_count p;
   letter_at = p.letters.letter_at;
   opposite = opposite_turn;
 }
@@ -42,15 +42,9 @@ puzzle_of {T = T} p = record { Turn = T; after = p.after; IsSolved = λ s. s ≡
 abbrev pub after_number : {S T : Type 0} → NumberedPuzzle S T → S → ℕ → Option S
 after_number p s n = p.after s (p.letter_at n)
 
--- The puzzle as a coordinate: the positions are the numbers of the states, a turn leads from a state's number to that
--- of the turned state, and the goal is the number of the solved state.
+-- The puzzle as a coordinate, over the numbers of its states.
 abbrev pub state_coordinate : {S T : Type 0} → NumberedPuzzle S T → Coordinate
-state_coordinate p = record {
-  count = p.numbered.count;
-  turns = p.turns;
-  after = λ i n. option_map p.numbered.number_of (after_number p (p.numbered.state_at i) n);
-  is_goal = λ i. i == p.numbered.number_of p.solved;
-}
+state_coordinate p = numbered_coordinate p.numbered p.turns (after_number p) p.solved
 
 -- The table of this name over them, where no state is farther than so many turns.
 abbrev pub state_line : {S T : Type 0} → NumberedPuzzle S T → TableName → ℕ → TableLine

@@ -1,11 +1,11 @@
 //! Laws of the puzzles that one table solves. The functions do nothing: what each ensures is the law.
 ghost use Rattle.std.specs.Prelude.{◌≡◌, ℕ, ◌+◌, ◌/◌, ◌≤◌, ◌↔◌, List, Some, None, true, false, length, slice_index};
-ghost use Rattle.scr_play.specs.Play.{play};
-ghost use Rattle.scr_play.specs.Reach.{IsReached, Needs};
+ghost use Rattle.scr_combinatorics.specs.Play.{play};
+ghost use Rattle.scr_combinatorics.specs.Reach.{IsReached, Needs};
 ghost use Rattle.scr_notation.specs.declared.event.Event.TheVariants.{Pyram};
 ghost use Rattle.scr_notation.specs.declared.turn.Turn.{Turn as Letter};
 ghost use Rattle.scr_coord.specs.Coordinates.{StaysBelow};
-ghost use Rattle.scr_coord.specs.Products.{product};
+ghost use Rattle.scr_coord.specs.Products.{product_coordinate};
 ghost use Rattle.scr_coord.specs.SearchSpaces.{ShowsSame};
 ghost use Rattle.scr_table.specs.Distances.{Distances, Measures};
 ghost use Rattle.scr_turning.specs.PowerPuzzles.{after_letter, power_puzzle};
@@ -27,7 +27,7 @@ pub fn shown_by_parts<P: OneTable>()
     ensures numbered { IsNumberedPuzzle P.shown }
     ensures stays { StaysBelow (state_coordinate P.shown) }
     ensures parts { MovesByParts P.shown P.TABLE.low P.TABLE.high }
-    ensures shown { let parts = product (low_part P.shown P.TABLE.low) (high_part P.shown P.TABLE.low P.TABLE.high) in
+    ensures shown { let parts = product_coordinate (low_part P.shown P.TABLE.low) (high_part P.shown P.TABLE.low P.TABLE.high) in
         ShowsSame (state_coordinate P.shown) parts }
 {
     P::is_solved_by_table();

@@ -17,13 +17,9 @@ pub(crate) struct PartsLine<P: OneTable> {
 impl<P: OneTable> Line for PartsLine<P> {
     ghost line = { table_line P.shown P.TABLE };
 
-    fn name() -> TableName {
-        P::TABLE.name
-    }
-
-    fn bound() -> u32 {
+    fn reach() -> (TableName, u32) {
         P::is_solved_by_table();
-        P::TABLE.bound
+        (P::TABLE.name, P::TABLE.bound)
     }
 
     type Moves = Product<MoveTable, MoveTable>;
@@ -32,6 +28,4 @@ impl<P: OneTable> Line for PartsLine<P> {
         P::is_solved_by_table();
         Product::of_moves(alloc, &LowPart::<P>::new(), &HighPart::<P>::new())
     }
-
-    ghost few_turns = { P.few_turns };
 }

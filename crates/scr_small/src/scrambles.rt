@@ -1,7 +1,7 @@
 //! Scrambles and distances by a built table.
 ghost use Rattle.std.specs.Prelude.{ℕ, ◌≡◌, ◌<◌, ◌≤◌, ◌↔◌, nat_le, All, IsTrue, List, Some, map, length, slice_index};
-ghost use Rattle.scr_play.specs.Play.{play};
-ghost use Rattle.scr_play.specs.Reach.{Needs};
+ghost use Rattle.scr_combinatorics.specs.Play.{play};
+ghost use Rattle.scr_combinatorics.specs.Reach.{Needs};
 ghost use Rattle.scr_notation.specs.declared.turn.Turn.{Turn as Letter};
 ghost use Rattle.scr_table.specs.Distances.{Measures};
 ghost use Rattle.scr_small.specs.NumberedPuzzles.{puzzle_of, state_coordinate, IsScrambleOf};

@@ -1,8 +1,8 @@
 //! A puzzle that one table solves, as an event that states are drawn of.
 ghost use Rattle.std.specs.Prelude.{◌≡◌, ◌≤◌, ◌↔◌, ℕ, nat_le, IsTrue, List, Some, length, slice_index};
 ghost use Rattle.std.proofs.Props.{props};
-ghost use Rattle.scr_play.specs.Play.{play};
-ghost use Rattle.scr_play.specs.Reach.{Needs};
+ghost use Rattle.scr_combinatorics.specs.Play.{play};
+ghost use Rattle.scr_combinatorics.specs.Reach.{Needs};
 ghost use Rattle.scr_notation.specs.declared.turn.Turn.{Turn as Letter};
 ghost use Rattle.scr_small.specs.NumberedPuzzles.{puzzle_of, IsScrambleOf};
 
@@ -56,8 +56,6 @@ impl<P: OneTable> NumberedStates<P::State> for SmallPuzzle<'_, P> {
 impl<P: OneTable> Numbering for SmallPuzzle<'_, P> {
     type State = P::State;
 
-    ghost law = { λ _. P.numbering };
-
     fn count(&self) -> u128 {
         P::numbers().count()
     }
@@ -83,5 +81,5 @@ impl<P: OneTable> Permit<P::State> for SmallPuzzle<'_, P> {
         needs_of::<P>(self.tables, state, least)
     }
 
-    ghost exact = { λ small s least range. small.exact s least };
+    fn is_exact(&self) {}
 }

@@ -2,8 +2,8 @@
 ghost use Rattle.std.specs.Prelude.{◌≡◌, ◌+◌, ◌<◌, ◌≤◌, ◌↔◌, ◌++◌};
 ghost use Rattle.std.specs.Prelude.{ℕ, nat_le, All, List, Some, IsTrue, length, slice_index};
 ghost use Rattle.std.proofs.Props.{props};
-ghost use Rattle.scr_play.specs.Play.{play};
-ghost use Rattle.scr_play.specs.Reach.{Needs};
+ghost use Rattle.scr_combinatorics.specs.Play.{play};
+ghost use Rattle.scr_combinatorics.specs.Reach.{Needs};
 ghost use Rattle.scr_notation.specs.declared.event.Event.TheVariants.{Pyram};
 ghost use Rattle.scr_notation.specs.declared.turn.Turn.{Turn as Letter};
 ghost use Rattle.scr_turning.specs.PowerPuzzles.{after_letter, power_puzzle};
@@ -24,7 +24,7 @@ use scr_tetra::{PyramNumbers, Pyraminx, Tetraminx, TetraminxNumbers};
 impl OneTable for TetraminxNumbers {
     ghost use Rattle.std.specs.Prelude.{refl};
     ghost use Rattle.std.proofs.Common.{lit≤};
-    ghost use Rattle.scr_tetra.specs.NumberedPyram.{tetraminx_numbering};
+    ghost use Rattle.scr_tetra.proofs.NumberedPyram.{tetraminx_numbering};
     ghost use Rattle.scr_small.specs.Puzzles.{numbered_puzzle_tetraminx};
     ghost use Rattle.scr_small.specs.Tables.{table_tetraminx};
 
@@ -156,11 +156,7 @@ impl NumberedStates<Pyraminx> for SmallPyram<'_> {
 }
 
 impl Numbering for SmallPyram<'_> {
-    ghost use Rattle.scr_tetra.specs.NumberedPyram.{pyram_numbering};
-
     type State = Pyraminx;
-
-    ghost law = { λ _. pyram_numbering };
 
     fn count(&self) -> u128 {
         PyramNumbers.count()
@@ -188,5 +184,5 @@ impl Permit<Pyraminx> for SmallPyram<'_> {
         needs_pyram(self.tables, state, least)
     }
 
-    ghost exact = { λ small s least range. small.exact s least };
+    fn is_exact(&self) {}
 }

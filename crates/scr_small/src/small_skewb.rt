@@ -1,7 +1,7 @@
 //! The Skewb: its scrambles, its minima, and how it is drawn.
 ghost use Rattle.std.specs.Prelude.{◌≡◌, ◌≤◌, ◌↔◌, nat_le, List, Some, IsTrue, length, slice_index};
-ghost use Rattle.scr_play.specs.Play.{play};
-ghost use Rattle.scr_play.specs.Reach.{Needs};
+ghost use Rattle.scr_combinatorics.specs.Play.{play};
+ghost use Rattle.scr_combinatorics.specs.Reach.{Needs};
 ghost use Rattle.scr_notation.specs.declared.event.Event.TheVariants.{Skewb as EventSkewb};
 ghost use Rattle.scr_notation.specs.declared.turn.Turn.{Turn as Letter};
 ghost use Rattle.scr_turning.specs.PowerPuzzles.{after_letter, power_puzzle};
@@ -23,7 +23,7 @@ pub type SmallSkewb<'a> = SmallPuzzle<'a, SkewbNumbers>;
 impl OneTable for SkewbNumbers {
     ghost use Rattle.std.specs.Prelude.{refl};
     ghost use Rattle.std.proofs.Common.{lit≤};
-    ghost use Rattle.scr_tetra.specs.NumberedSkewb.{skewb_numbering};
+    ghost use Rattle.scr_tetra.proofs.NumberedSkewb.{skewb_numbering};
     ghost use Rattle.scr_small.specs.Puzzles.{numbered_puzzle_skewb};
     ghost use Rattle.scr_small.specs.Tables.{table_skewb};
 

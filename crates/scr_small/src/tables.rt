@@ -1,7 +1,7 @@
 //! The built table of an event.
 ghost use Rattle.std.specs.Prelude.{◌≡◌, ◌↔◌, ◌<◌, All, IfOk, IfErr, IfSome, IsSome};
 ghost use Rattle.scr_coord.specs.Coordinates.{moved, IsGoal};
-ghost use Rattle.scr_play.specs.FirstWord.{IsFirstWord};
+ghost use Rattle.scr_combinatorics.specs.FirstWord.{IsFirstWord};
 ghost use Rattle.scr_table.specs.Causes.{IsCauseOf};
 ghost use Rattle.scr_table.specs.Lines.{HasNoGap};
 ghost use Rattle.scr_small.specs.Tables.{small_line, small_lines, IsBuilt};

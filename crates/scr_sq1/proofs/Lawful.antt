@@ -7,15 +7,15 @@ use Rattle.scr_combinatorics.specs.Lists.{pick, numbers_from}
 use Rattle.scr_combinatorics.specs.Permutations.{IsPermutation}
 use Rattle.scr_combinatorics.proofs.Picks.{pick-pick, pick-in_order}
 use Rattle.scr_combinatorics.proofs.PermutationLaws.{All-permutation, IsPermutation-numbers_from}
-use Rattle.scr_play.specs.Play.{play}
-use Rattle.scr_play.specs.Tidy.{word_of}
-use Rattle.scr_play.specs.Lawful.{IsLawful}
-use Rattle.scr_play.specs.Back.{IsTakenBack}
-use Rattle.scr_play.specs.Tidy.{IsKeptByTidy}
-use Rattle.scr_play.specs.Reach.{IsReached}
-use Rattle.scr_play.proofs.PlayLaws.{play-empty, play-one, IsReached-keeps}
-use Rattle.scr_play.proofs.BackLaws.{IsTakenBack-lawful}
-use Rattle.scr_play.proofs.TidyPlay.{IsKeptByTidy-lawful}
+use Rattle.scr_combinatorics.specs.Play.{play}
+use Rattle.scr_combinatorics.specs.Tidy.{word_of}
+use Rattle.scr_combinatorics.specs.Lawful.{IsLawful}
+use Rattle.scr_combinatorics.specs.Back.{IsTakenBack}
+use Rattle.scr_combinatorics.specs.Tidy.{IsKeptByTidy}
+use Rattle.scr_combinatorics.specs.Reach.{IsReached}
+use Rattle.scr_combinatorics.proofs.PlayLaws.{play-empty, play-one, IsReached-keeps}
+use Rattle.scr_combinatorics.proofs.BackLaws.{IsTakenBack-lawful}
+use Rattle.scr_combinatorics.proofs.TidyPlay.{IsKeptByTidy-lawful}
 use Rattle.scr_notation.specs.declared.turn.Turn.{Turn}
 use Rattle.scr_notation.specs.declared.turn.Turn.TheVariants.{Layers, Twist}
 use Rattle.scr_notation.specs.declared.event.Event.TheVariants.{Sq1}
@@ -27,8 +27,8 @@ use Rattle.scr_notation.proofs.LayersLaws.{AreTwelfths-twelfths, layers_of_parts
 use Rattle.scr_sq1.specs.Units.{Sq1State, IsSq1, is_open, solved_sq1, clockwise, turn_places, twist_places, turned, after_layers, twisted, sq1_after, sq1_puzzle}
 use Rattle.scr_sq1.specs.Shapes.{half_words, half_word, corner_counts, corner_count, IsShape}
 use Rattle.scr_sq1.specs.Numbers.{shape_word}
-use Rattle.scr_sq1.specs.Proofs.InHalves.{IsSq1-halves}
-use Rattle.scr_sq1.specs.Proofs.Pieces.{LaidState-pieces}
+use Rattle.scr_sq1.proofs.InHalves.{IsSq1-halves}
+use Rattle.scr_sq1.proofs.StatePieces.{LaidState-pieces}
 use Rattle.scr_sq1.proofs.Places.{IsTurnTable-turn, turn_places-both, turn_places-none, twist_places-twice, IsPermutation-twist_places}
 use Rattle.scr_sq1.proofs.TurnLaws.{IsSq1-moved, IsSq1-twisted}
 use Rattle.scr_sq1.proofs.Clockwise.{clockwise-lt, clockwise-twelfths, clockwise-sum, clockwise-back}

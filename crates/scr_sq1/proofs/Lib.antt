@@ -1,3 +1,10 @@
+pub mod InHalves
+pub mod LaidLaws
+pub mod HalfWords
+pub mod HalfByHalf
+pub mod HalfNumbers
+pub mod StatePieces
+pub mod Numbering
 pub mod Places
 pub mod TurnLaws
 pub mod Clockwise

@@ -1,9 +1,9 @@
 -- How many turns a state needs.
 use Rattle.std.proofs.Common.{◌≡◌, List, [], ◌∷◌, length, Some, refl, sym, ◌∙◌, arith}
 use Rattle.std.proofs.lemmas.Option.{same_Some}
-use Rattle.scr_play.specs.Play.{count_in}
-use Rattle.scr_play.specs.Reach.{Needs}
-use Rattle.scr_play.proofs.PlayLaws.{play-empty, play-one}
+use Rattle.scr_combinatorics.specs.Play.{count_in}
+use Rattle.scr_combinatorics.specs.Reach.{Needs}
+use Rattle.scr_combinatorics.proofs.PlayLaws.{play-empty, play-one}
 use Rattle.scr_notation.specs.declared.turn.Turn.{Turn}
 use Rattle.scr_notation.specs.Turning.{opposite}
 use Rattle.scr_sq1.specs.Units.{Sq1State, solved_sq1, sq1_after, sq1_puzzle}

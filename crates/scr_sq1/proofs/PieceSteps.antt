@@ -3,14 +3,15 @@ use Rattle.std.proofs.Common.{◌≡◌, ℕ, ◌+◌, ◌-◌, ◌<◌, ◌≤�
 use Rattle.std.specs.Prelude.{◌&&◌, ◌==◌, filter}
 use Rattle.std.proofs.lemmas.Bool.{and_parts, cond-true, cond-false, lt-ltb, le-ltb}
 use Rattle.std.proofs.lemmas.List.{length-append, length-set, length-take-le, get_or-take, take_all, take_more, take_more_set, drop_all, append-nil, append_assoc, at_drop_more}
-use Rattle.scr_notation.proofs.Below.{all_below, at_below}
+use Rattle.scr_notation.specs.Ranges.{all_below}
+use Rattle.scr_notation.proofs.Below.{at_below}
 use Rattle.scr_sq1.specs.declared.pieces.TheConstants.{HALVES}
 use Rattle.scr_sq1.specs.Units.{is_corner}
 use Rattle.scr_sq1.specs.Shapes.{half_words, half_word, corners_among, corner_counts, corner_count, IsShape, edges_among}
 use Rattle.scr_sq1.specs.Numbers.{every_second, corners_of, edges_of, shape_word}
-use Rattle.scr_sq1.specs.Proofs.HalfWords.{same_word, same_word-true}
-use Rattle.scr_sq1.specs.Proofs.HalfByHalf.{shape_word-cons}
-use Rattle.scr_sq1.specs.Proofs.Pieces.{AreCounted-halves}
+use Rattle.scr_sq1.proofs.HalfWords.{same_word, same_word-true}
+use Rattle.scr_sq1.proofs.HalfByHalf.{shape_word-cons}
+use Rattle.scr_sq1.proofs.StatePieces.{AreCounted-halves}
 
 -- ---- the words of the halves
 

@@ -7,7 +7,8 @@ use Rattle.scr_combinatorics.specs.Lists.{numbers_from, pick}
 use Rattle.scr_combinatorics.specs.Permutations.{IsPermutation, is_permutation}
 use Rattle.scr_combinatorics.proofs.Picks.{numbers_from-at, pick-at}
 use Rattle.scr_combinatorics.proofs.PermutationLaws.{IsPermutation-from_test}
-use Rattle.scr_notation.proofs.Below.{all_below, at_below}
+use Rattle.scr_notation.specs.Ranges.{all_below}
+use Rattle.scr_notation.proofs.Below.{at_below}
 use Rattle.scr_sq1.specs.Units.{next_unit, previous_unit, place_before, place_before_twist, turn_places, twist_places}
 
 -- ---- places given by a function

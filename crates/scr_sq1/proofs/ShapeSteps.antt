@@ -4,14 +4,15 @@ use Rattle.std.specs.Prelude.{◌==◌}
 use Rattle.std.proofs.lemmas.List.{length-drop, drop-drop, length-set, take_all, append-nil, drop_more, take_more_set, append_assoc, at_drop_more, at_drop_all}
 use Rattle.std.proofs.lemmas.Nat.{pow_pos}
 use Rattle.std.proofs.Math.Nat.{pow-suc}
-use Rattle.scr_notation.proofs.Below.{all_below, at_below}
+use Rattle.scr_notation.specs.Ranges.{all_below}
+use Rattle.scr_notation.proofs.Below.{at_below}
 use Rattle.scr_combinatorics.specs.Lists.{total}
 use Rattle.scr_combinatorics.proofs.Counts.{one_if-le_one}
 use Rattle.scr_combinatorics.specs.Permutations.{place_of}
 use Rattle.scr_sq1.specs.declared.shapes.TheConstants.{CORNERS, WAYS, HALF_OF_BITS}
 use Rattle.scr_sq1.specs.Units.{is_corner}
-use Rattle.scr_sq1.specs.Shapes.{half_words, corner_counts, corner_count, corner_bits, half_bits, half_of, halves_in, shape_of, ways, ways_after, run_of, AreHalves, IsShape, halves_number, halves_at, shape_number, shape_at}
-use Rattle.scr_sq1.specs.Proofs.HalfNumbers.{run_of-here, run_of-later, StartsWith-halves, halves_number-cons, numbers_before, shapes_one_to_one, ways_of_shapes, first_half, halves_at-suc}
+use Rattle.scr_sq1.specs.Shapes.{half_words, corner_counts, corner_count, corner_bits, half_bits, half_of, halves_in, shape_of, ways_to_have, ways_after, run_of, AreHalves, IsShape, halves_number, halves_at, shape_number, shape_at}
+use Rattle.scr_sq1.proofs.HalfNumbers.{run_of-here, run_of-later, StartsWith-halves, halves_number-cons, numbers_before, shapes_one_to_one, ways_of_shapes, first_half, halves_at-suc}
 
 -- ---- the tables
 
@@ -19,15 +20,15 @@ corners_table : CORNERS ≡ corner_counts
 unfolding half_words corner_counts
 corners_table = refl
 
-ways_tables : IsTrue (all_below (λ n. all_below (λ c. get_or (get_or WAYS n []) c 0 == ways n c) 9) 4)
-unfolding all_below half_words corner_counts ways
+ways_tables : IsTrue (all_below (λ n. all_below (λ c. get_or (get_or WAYS n []) c 0 == ways_to_have n c) 9) 4)
+unfolding all_below half_words corner_counts ways_to_have
 ways_tables = refl
 
-pub ways_table : (n c : ℕ) → n ≤ 3 → c ≤ 8 → get_or (get_or WAYS n []) c 0 ≡ ways n c
+pub ways_table : (n c : ℕ) → n ≤ 3 → c ≤ 8 → get_or (get_or WAYS n []) c 0 ≡ ways_to_have n c
 ways_table n c ln lc =
-    eqb-true (get_or (get_or WAYS n []) c 0) (ways n c)
-    (at_below (λ c. get_or (get_or WAYS n []) c 0 == ways n c) 9 c
-    (at_below (λ n. all_below (λ c. get_or (get_or WAYS n []) c 0 == ways n c) 9) 4 n ways_tables (omega arith)) (omega arith))
+    eqb-true (get_or (get_or WAYS n []) c 0) (ways_to_have n c)
+    (at_below (λ c. get_or (get_or WAYS n []) c 0 == ways_to_have n c) 9 c
+    (at_below (λ n. all_below (λ c. get_or (get_or WAYS n []) c 0 == ways_to_have n c) 9) 4 n ways_tables (omega arith)) (omega arith))
 
 pub corners_table-at : (h : ℕ) → get_or CORNERS h 0 ≡ corner_count h
 unfolding corner_count
@@ -119,7 +120,7 @@ counted_end corners number (h ∷ left) hs c = absurd (omega (arith, c.halves.si
 pub record MadeHalves (place n corners rest number : ℕ) (halves : List ℕ) : Type 0 where
   pub size : length halves ≡ 4
   pub few : corners ≤ 8
-  pub below : rest < ways n corners
+  pub below : rest < ways_to_have n corners
   pub made : take place halves ++ halves_at n corners rest ≡ shape_at number
 
 pub made_start : (number : ℕ) → number < 3678 → MadeHalves 0 4 8 number number (0 ∷ 0 ∷ 0 ∷ 0 ∷ [])
@@ -146,7 +147,7 @@ made_step place n corners rest h left number halves lt m eh el =
       next = record {
         size = length-set halves place h ∙ m.size;
         few = omega (arith, m.few);
-        below = subst (λ x. left < ways n (corners - corner_count x)) (sym half) (omega (arith, more, f.inside));
+        below = subst (λ x. left < ways_to_have n (corners - corner_count x)) (sym half) (omega (arith, more, f.inside));
         made = ap (λ xs. xs ++ halves_at n (corners - corner_count h) left) (take_more_set halves place h (omega (arith, m.size)))
             ∙ append_assoc (take place halves) (h ∷ []) (halves_at n (corners - corner_count h) left)
             ∙ ap (λ x. take place halves ++ x ∷ halves_at n (corners - corner_count x) left) half

@@ -6,7 +6,7 @@ use Rattle.scr_combinatorics.specs.Permutations.{IsPermutation}
 use Rattle.scr_combinatorics.proofs.Picks.{length-pick, pick-at}
 use Rattle.scr_combinatorics.proofs.PermutationLaws.{IsRearranged-pick, at-permutation}
 use Rattle.scr_sq1.specs.Units.{Sq1State, IsSq1, is_corner, next_unit, previous_unit, is_open, turn_places, twist_places}
-use Rattle.scr_sq1.specs.Proofs.InHalves.{InHalves-valid, IsSq1-halves}
+use Rattle.scr_sq1.proofs.InHalves.{InHalves-valid, IsSq1-halves}
 use Rattle.scr_sq1.proofs.Places.{next_unit-lt, previous_unit-lt, IsTurnTable, IsPermutation-twist_places, StaysInHalf-twist}
 
 -- pieces that are moved by a permutation of the units

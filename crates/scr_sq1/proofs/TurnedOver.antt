@@ -10,7 +10,7 @@ use Rattle.scr_combinatorics.proofs.PermutationLaws.{IsPermutation-from_test, Al
 use Rattle.scr_notation.specs.declared.turn.Turn.TheVariants.{Layers, Twist}
 use Rattle.scr_notation.specs.Layers.{is_twelfths, are_still, is_layer_turn}
 use Rattle.scr_sq1.specs.Units.{Sq1State, are_of_one_corner, is_open, clockwise, place_before, turn_places, twist_places, turned, after_layers, twisted, sq1_after}
-use Rattle.scr_sq1.specs.Known.{turned_over}
+use Rattle.scr_sq1.specs.Known.{turned_over_sq1}
 use Rattle.scr_sq1.proofs.Places.{places_by, same_places, pick-places_by, place_before-lt, place_before-top, place_before-bottom, IsTurnTable-turn, IsPermutation-twist_places}
 use Rattle.scr_sq1.proofs.Clockwise.{clockwise-lt}
 
@@ -92,7 +92,7 @@ both_ways units places more p q same =
 same_state : (us vs : List ℕ) (b : Bool) → us ≡ vs → (let s : Sq1State = record { units = us; equator = b } in let r : Sq1State = record { units = vs; equator = b } in s ≡ r)
 same_state us vs b e = ap (λ zs. let s : Sq1State = record { units = zs; equator = b } in s) e
 
-turned-over : (s : Sq1State) (x y : ℤ) → turned (turned_over s) y x ≡ turned_over (turned s x y)
+turned-over : (s : Sq1State) (x y : ℤ) → turned (turned_over_sq1 s) y x ≡ turned_over_sq1 (turned s x y)
 unfolding turned over_places
 turned-over s x y =
     let n : ℕ = clockwise x in
@@ -117,22 +117,22 @@ map_if : {A B : Type 0} (f : A → B) (b : Bool) (o : Option A) → (let p : Opt
 map_if f true o = refl
 map_if f false o = refl
 
-after_layers-over : (s : Sq1State) (x y : ℤ) → after_layers (turned_over s) y x ≡ option_map turned_over (after_layers s x y)
+after_layers-over : (s : Sq1State) (x y : ℤ) → after_layers (turned_over_sq1 s) y x ≡ option_map turned_over_sq1 (after_layers s x y)
 unfolding after_layers over_places
 after_layers-over s x y =
     let q : Sq1State = turned s x y in
     ap (λ r. let o : Option Sq1State = cond (is_open r.units) (Some r) None in o) (turned-over s x y)
-    ∙ ap (λ b. let o : Option Sq1State = cond b (Some (turned_over q)) None in o) (is_open-over q.units)
-    ∙ map_if turned_over (is_open q.units) (Some q)
+    ∙ ap (λ b. let o : Option Sq1State = cond b (Some (turned_over_sq1 q)) None in o) (is_open-over q.units)
+    ∙ map_if turned_over_sq1 (is_open q.units) (Some q)
 
-pub layers_over : (s : Sq1State) (x y : ℤ) → sq1_after (turned_over s) (Layers y x) ≡ option_map turned_over (sq1_after s (Layers x y))
+pub layers_over : (s : Sq1State) (x y : ℤ) → sq1_after (turned_over_sq1 s) (Layers y x) ≡ option_map turned_over_sq1 (sq1_after s (Layers x y))
 unfolding sq1_after
 layers_over s x y =
-    ap (λ b. let o : Option Sq1State = cond b (after_layers (turned_over s) y x) None in o) (is_layer_turn-over x y)
+    ap (λ b. let o : Option Sq1State = cond b (after_layers (turned_over_sq1 s) y x) None in o) (is_layer_turn-over x y)
     ∙ ap (λ p. let o : Option Sq1State = cond (is_layer_turn (Layers x y)) p None in o) (after_layers-over s x y)
-    ∙ map_if turned_over (is_layer_turn (Layers x y)) (after_layers s x y)
+    ∙ map_if turned_over_sq1 (is_layer_turn (Layers x y)) (after_layers s x y)
 
-pub twist_over : (s : Sq1State) → sq1_after (turned_over s) Twist ≡ option_map turned_over (sq1_after s Twist)
+pub twist_over : (s : Sq1State) → sq1_after (turned_over_sq1 s) Twist ≡ option_map turned_over_sq1 (sq1_after s Twist)
 unfolding sq1_after twisted over_places
 twist_over s =
     ap Some (same_state _ _ (not s.equator) (both_ways s.units twist_places twist_places IsPermutation-twist_places IsPermutation-twist_places over_twist))

@@ -1,7 +1,7 @@
 -- Words and states that are known from elsewhere, and the puzzle turned over.
 use Rattle.std.specs.Prelude.{◌≡◌, ℕ, ◌++◌, ℤ, pos, neg_ℤ, Bool, List, [], ◌∷◌, Some, replicate, flat_map}
 use Rattle.scr_combinatorics.specs.Lists.{numbers_from, pick}
-use Rattle.scr_play.specs.Play.{play}
+use Rattle.scr_combinatorics.specs.Play.{play}
 use Rattle.scr_notation.specs.declared.turn.Turn.{Turn}
 use Rattle.scr_notation.specs.declared.turn.Turn.TheVariants.{Layers, Twist}
 use Rattle.scr_notation.specs.Spelling.{text_of}
@@ -11,8 +11,8 @@ use Rattle.scr_sq1.specs.Shapes.{shape_of, shape_number}
 -- ---- words
 
 -- anticlockwise by so many twelfths
-abbrev pub back : ℕ → ℤ
-back n = neg_ℤ (pos n)
+abbrev pub anticlockwise : ℕ → ℤ
+anticlockwise n = neg_ℤ (pos n)
 
 -- Turns of the layers, each with a twist behind it.
 abbrev pub slices : List (ℤ × ℤ) → List Turn
@@ -20,7 +20,7 @@ slices [] = []
 slices (amounts ∷ rest) = Layers amounts.0 amounts.1 ∷ Twist ∷ slices rest
 
 -- What a word is written as, and the state that it leads to from solved.
-pub record LeadsTo (word : List Turn) (text : List ℕ) (s : Sq1State) : Type 0 where
+pub record IsKnownWord (word : List Turn) (text : List ℕ) (s : Sq1State) : Type 0 where
   pub spelled : text_of word ≡ text
   pub plays : play sq1_after solved_sq1 word ≡ Some s
 
@@ -42,16 +42,16 @@ layers top bottom equator = record { units = top ++ bottom; equator = equator }
 abbrev pub parity_word : List Turn
 parity_word =
     Twist
-    ∷ slices ((pos 3, pos 3) ∷ (pos 1, pos 0) ∷ (back 2, back 2) ∷ (pos 2, pos 0) ∷ (pos 2, pos 2) ∷ (back 1, pos 0) ∷ (back 3, back 3)
-    ∷ (back 2, pos 0) ∷ (pos 3, pos 3) ∷ (pos 3, pos 0) ∷ (back 1, back 1) ∷ (back 3, pos 0) ∷ (pos 1, pos 1) ∷ [])
-    ++ Layers (back 4) (back 3) ∷ []
+    ∷ slices ((pos 3, pos 3) ∷ (pos 1, pos 0) ∷ (anticlockwise 2, anticlockwise 2) ∷ (pos 2, pos 0) ∷ (pos 2, pos 2) ∷ (anticlockwise 1, pos 0) ∷ (anticlockwise 3, anticlockwise 3)
+    ∷ (anticlockwise 2, pos 0) ∷ (pos 3, pos 3) ∷ (pos 3, pos 0) ∷ (anticlockwise 1, anticlockwise 1) ∷ (anticlockwise 3, pos 0) ∷ (pos 1, pos 1) ∷ [])
+    ++ Layers (anticlockwise 4) (anticlockwise 3) ∷ []
 
 -- A word that turns the layers by nearly every amount, through shapes that are no squares.
 abbrev pub long_word : List Turn
 long_word =
-    slices ((pos 1, pos 3) ∷ (back 4, back 1) ∷ (pos 0, pos 1) ∷ (pos 3, pos 0) ∷ (pos 1, pos 2) ∷ (back 4, back 3) ∷ (pos 0, pos 6)
-    ∷ (pos 4, back 3) ∷ (pos 6, pos 2) ∷ (pos 6, pos 4) ∷ (pos 2, back 4) ∷ (pos 5, back 5) ∷ (back 5, pos 6) ∷ (back 4, pos 5)
-    ∷ (back 2, pos 6) ∷ (back 1, back 2) ∷ [])
+    slices ((pos 1, pos 3) ∷ (anticlockwise 4, anticlockwise 1) ∷ (pos 0, pos 1) ∷ (pos 3, pos 0) ∷ (pos 1, pos 2) ∷ (anticlockwise 4, anticlockwise 3) ∷ (pos 0, pos 6)
+    ∷ (pos 4, anticlockwise 3) ∷ (pos 6, pos 2) ∷ (pos 6, pos 4) ∷ (pos 2, anticlockwise 4) ∷ (pos 5, anticlockwise 5) ∷ (anticlockwise 5, pos 6) ∷ (anticlockwise 4, pos 5)
+    ∷ (anticlockwise 2, pos 6) ∷ (anticlockwise 1, anticlockwise 2) ∷ [])
 
 -- ---- states
 
@@ -86,5 +86,5 @@ pub record HasShape (units halves : List ℕ) (number : ℕ) : Type 0 where
 -- ---- turned over
 
 -- The puzzle turned over about the axis from left to right: the layers are exchanged, and the right half stays at the right.
-abbrev pub turned_over : Sq1State → Sq1State
-turned_over s = record { units = pick s.units (numbers_from 12 12 ++ numbers_from 0 12); equator = s.equator }
+abbrev pub turned_over_sq1 : Sq1State → Sq1State
+turned_over_sq1 s = record { units = pick s.units (numbers_from 12 12 ++ numbers_from 0 12); equator = s.equator }

@@ -2,8 +2,7 @@
 --
 -- No corner lies across the cut, so that each half of a layer is filled by whole pieces. A shape is the list of the halves top
 -- right, top left, bottom right and bottom left.
-use Rattle.std.specs.Prelude.{◌≡◌, ℕ, ◌+◌, ◌-◌, ◌*◌, ◌<◌, Bool, true, false, ◌==◌, nat_le, nat_lt, if◌then◌else◌, List, [], ◌∷◌, length, map, take, drop, slice_index, slice_index_or, codes, All}
-use Rattle.std.proofs.Common.{zero, suc}
+use Rattle.std.specs.Prelude.{◌≡◌, ℕ, zero, suc, ◌+◌, ◌-◌, ◌*◌, ◌<◌, Bool, true, false, ◌==◌, nat_le, nat_lt, if◌then◌else◌, List, [], ◌∷◌, length, map, take, drop, slice_index, slice_index_or, codes, All}
 use Rattle.scr_combinatorics.specs.Lists.{total}
 use Rattle.scr_combinatorics.specs.Permutations.{place_of}
 use Rattle.scr_sq1.specs.Units.{is_corner}
@@ -34,6 +33,11 @@ abbrev pub edges_among : List Bool → ℕ
 edges_among [] = 0
 edges_among (true ∷ w) = edges_among w
 edges_among (false ∷ w) = suc (edges_among w)
+
+-- A word has as many corners and edges as there are.
+pub record Fits (w : List Bool) (cs es : List ℕ) : Type 0 where
+  pub corners : corners_among w ≡ length cs
+  pub edges : edges_among w ≡ length es
 
 -- how many units some pieces fill
 abbrev pub units_among : List Bool → ℕ
@@ -88,13 +92,13 @@ shape_of units = halves_in 4 units
 -- ---- the numbers of shapes, in dictionary order
 
 -- in how many ways n halves can have c corners in all
-unfoldable pub ways : ℕ → ℕ → ℕ
-ways zero c = if c == 0 then 1 else 0
-ways (suc n) c = total (map (λ k. if nat_le k c then ways n (c - k) else 0) corner_counts)
+unfoldable pub ways_to_have : ℕ → ℕ → ℕ
+ways_to_have zero c = if c == 0 then 1 else 0
+ways_to_have (suc n) c = total (map (λ k. if nat_le k c then ways_to_have n (c - k) else 0) corner_counts)
 
 -- in how many ways n halves can follow one that has k of c corners
 abbrev pub ways_after : ℕ → ℕ → ℕ → ℕ
-ways_after n c k = if nat_le k c then ways n (c - k) else 0
+ways_after n c k = if nat_le k c then ways_to_have n (c - k) else 0
 
 -- The number of some halves among all lists of as many with c corners, from 0: for each lower first half, all lists that
 -- begin with it come before.

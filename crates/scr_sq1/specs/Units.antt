@@ -7,7 +7,7 @@
 -- layers is the equator, whose right half is turned over at each twist.
 use Rattle.std.specs.Prelude.{◌≡◌, ℕ, ◌+◌, ◌-◌, ◌%◌, ◌<◌, ℤ, pos, negsuc, Bool, false, not, ◌==◌, ◌&&◌, ◌||◌, nat_lt, if◌then◌else◌, IsTrue, List, [], ◌∷◌, length, map, slice_index, Option, Some, None}
 use Rattle.scr_combinatorics.specs.Lists.{occurrences, numbers_from, pick}
-use Rattle.scr_play.specs.Reach.{Puzzle}
+use Rattle.scr_combinatorics.specs.Reach.{Puzzle}
 use Rattle.scr_notation.specs.declared.turn.Turn.{Turn}
 use Rattle.scr_notation.specs.declared.turn.Turn.TheVariants.{Layers, Twist}
 use Rattle.scr_notation.specs.Layers.{is_layer_turn}

@@ -5,18 +5,18 @@ ghost use Rattle.std.specs.Prelude.{◌≡◌, ℕ, ◌+◌, ◌*◌, ◌%◌, �
 ghost use Rattle.scr_combinatorics.specs.Lists.{ComesBefore};
 ghost use Rattle.scr_combinatorics.specs.Permutations.{factorial};
 ghost use Rattle.scr_combinatorics.specs.Numbering.{IsOneToOne, IsNumbering};
-ghost use Rattle.scr_play.specs.Play.{play, count_in};
-ghost use Rattle.scr_play.specs.Reach.{IsReached, Needs};
-ghost use Rattle.scr_play.specs.Lawful.{IsLawful};
-ghost use Rattle.scr_play.specs.Back.{IsTakenBack};
-ghost use Rattle.scr_play.specs.Tidy.{IsKeptByTidy};
+ghost use Rattle.scr_combinatorics.specs.Play.{play, count_in};
+ghost use Rattle.scr_combinatorics.specs.Reach.{IsReached, Needs};
+ghost use Rattle.scr_combinatorics.specs.Lawful.{IsLawful};
+ghost use Rattle.scr_combinatorics.specs.Back.{IsTakenBack};
+ghost use Rattle.scr_combinatorics.specs.Tidy.{IsKeptByTidy};
 ghost use Rattle.scr_notation.specs.declared.turn.Turn.{Turn as Letter};
 ghost use Rattle.scr_notation.specs.declared.turn.Turn.TheVariants.{Layers, Twist};
 ghost use Rattle.scr_notation.specs.Turning.{opposite, turn_merging};
 ghost use Rattle.scr_sq1.specs.Units.{Sq1State, IsSq1, is_open, solved_sq1, clockwise, twisted, sq1_after, sq1_puzzle};
-ghost use Rattle.scr_sq1.specs.Shapes.{half_word, IsShape, shape_of, ways, shape_number, shape_at, shape_count, units_among};
+ghost use Rattle.scr_sq1.specs.Shapes.{half_word, IsShape, shape_of, ways_to_have, shape_number, shape_at, shape_count, units_among};
 ghost use Rattle.scr_sq1.specs.Numbers.{sq1_numbered};
-ghost use Rattle.scr_sq1.specs.Known.{back, slices, LeadsTo, ReturnsAfter, solved_top, solved_bottom, layers, parity_word, long_word, barred_units, impossible_units, AreOfNoState, HasShape, turned_over};
+ghost use Rattle.scr_sq1.specs.Known.{anticlockwise, slices, IsKnownWord, ReturnsAfter, solved_top, solved_bottom, layers, parity_word, long_word, barred_units, impossible_units, AreOfNoState, HasShape, turned_over_sq1};
 
 /// The turns are lawful: they keep states valid, each is undone by its opposite, and two turns of the layers one after the other
 /// come to one or to none, as two twists come to none. So words are taken back and tidied, and what turns reach is valid.
@@ -45,8 +45,8 @@ pub fn motions()
 /// Turned over, the puzzle turns as before, with the layers' amounts exchanged.
 pub fn symmetry()
     ensures layers { (s : Sq1State) (top bottom : ℤ)
-        → sq1_after (turned_over s) (Layers bottom top) ≡ option_map turned_over (sq1_after s (Layers top bottom)) }
-    ensures twist { (s : Sq1State) → sq1_after (turned_over s) Twist ≡ option_map turned_over (sq1_after s Twist) }
+        → sq1_after (turned_over_sq1 s) (Layers bottom top) ≡ option_map turned_over_sq1 (sq1_after s (Layers top bottom)) }
+    ensures twist { (s : Sq1State) → sq1_after (turned_over_sq1 s) Twist ≡ option_map turned_over_sq1 (sq1_after s Twist) }
 {}
 
 /// The thirteen halves are the words of corners and edges that fill six units. Each shape, of which there are 3,678, has its own
@@ -54,7 +54,7 @@ pub fn symmetry()
 pub fn shapes()
     ensures halves { (word : List Bool) → units_among word ≡ 6 → (h : ℕ) × (h < 13) × (half_word h ≡ word) }
     ensures once { (h g : ℕ) → h < 13 → g < 13 → half_word h ≡ half_word g → h ≡ g }
-    ensures counted { ways 4 8 ≡ shape_count }
+    ensures counted { ways_to_have 4 8 ≡ shape_count }
     ensures one_to_one { IsOneToOne shape_count shape_at shape_number IsShape }
     ensures in_order { (hs gs : List ℕ) → IsShape hs → IsShape gs → ComesBefore hs gs
         → shape_number hs < shape_number gs }
@@ -76,7 +76,7 @@ pub fn numbering()
 pub fn minima()
     ensures counts { (w : List Letter) → count_in sq1_puzzle.counted w ≡ length w }
     ensures one_needed { (s : Sq1State) → (s ≡ solved_sq1 → ⊥) → Needs sq1_puzzle s 1 }
-    ensures both_layers { (s : Sq1State) → sq1_after solved_sq1 (Layers (pos 1) (back 1)) ≡ Some s → Needs sq1_puzzle s 2 → ⊥ }
+    ensures both_layers { (s : Sq1State) → sq1_after solved_sq1 (Layers (pos 1) (anticlockwise 1)) ≡ Some s → Needs sq1_puzzle s 2 → ⊥ }
     ensures twist { Needs sq1_puzzle (twisted solved_sq1) 2 → ⊥ }
 {}
 
@@ -92,12 +92,12 @@ pub fn refused_units()
 pub fn known_turns()
     ensures top { sq1_after solved_sq1 (Layers (pos 1) (pos 0)) ≡ Some
         (layers (11 ∷ 0 ∷ 0 ∷ 8 ∷ 1 ∷ 1 ∷ 9 ∷ 2 ∷ 2 ∷ 10 ∷ 3 ∷ 3 ∷ []) solved_bottom false) }
-    ensures bottom { sq1_after solved_sq1 (Layers (pos 0) (back 1)) ≡ Some
+    ensures bottom { sq1_after solved_sq1 (Layers (pos 0) (anticlockwise 1)) ≡ Some
         (layers solved_top (4 ∷ 4 ∷ 13 ∷ 5 ∷ 5 ∷ 14 ∷ 6 ∷ 6 ∷ 15 ∷ 7 ∷ 7 ∷ 12 ∷ []) false) }
     ensures twist { sq1_after solved_sq1 Twist ≡ Some
         (layers (12 ∷ 4 ∷ 4 ∷ 13 ∷ 5 ∷ 5 ∷ 2 ∷ 2 ∷ 10 ∷ 3 ∷ 3 ∷ 11 ∷ [])
         (0 ∷ 0 ∷ 8 ∷ 1 ∷ 1 ∷ 9 ∷ 14 ∷ 6 ∷ 6 ∷ 15 ∷ 7 ∷ 7 ∷ []) true) }
-    ensures top_barred { sq1_after solved_sq1 (Layers (back 1) (pos 0)) ≡ None }
+    ensures top_barred { sq1_after solved_sq1 (Layers (anticlockwise 1) (pos 0)) ≡ None }
     ensures bottom_barred { sq1_after solved_sq1 (Layers (pos 0) (pos 1)) ≡ None }
     ensures no_turn { sq1_after solved_sq1 (Layers (pos 0) (pos 0)) ≡ None }
 {}
@@ -106,20 +106,20 @@ pub fn known_turns()
 /// exchanges corners; one exchanges two edges of the top alone; one turns the equator alone. And a long word.
 #[tactic(auto, unfolding(crate::proofs::OnLiterals::sq1_on_literals))]
 pub fn known_words()
-    ensures edges { LeadsTo (slices ((pos 1, pos 0) ∷ (back 1, back 1) ∷ []) ++ Layers (pos 0) (pos 1) ∷ [])
+    ensures edges { IsKnownWord (slices ((pos 1, pos 0) ∷ (anticlockwise 1, anticlockwise 1) ∷ []) ++ Layers (pos 0) (pos 1) ∷ [])
         (codes "(1,0) / (-1,-1) / (0,1)")
         (layers (0 ∷ 0 ∷ 8 ∷ 1 ∷ 1 ∷ 14 ∷ 2 ∷ 2 ∷ 10 ∷ 3 ∷ 3 ∷ 12 ∷ [])
         (11 ∷ 4 ∷ 4 ∷ 13 ∷ 5 ∷ 5 ∷ 9 ∷ 6 ∷ 6 ∷ 15 ∷ 7 ∷ 7 ∷ []) false) }
-    ensures corners { LeadsTo (slices ((pos 0, back 1) ∷ (back 2, back 2) ∷ []) ++ Layers (pos 2) (pos 3) ∷ [])
+    ensures corners { IsKnownWord (slices ((pos 0, anticlockwise 1) ∷ (anticlockwise 2, anticlockwise 2) ∷ []) ++ Layers (pos 2) (pos 3) ∷ [])
         (codes "(0,-1) / (-2,-2) / (2,3)")
         (layers (4 ∷ 4 ∷ 8 ∷ 1 ∷ 1 ∷ 9 ∷ 6 ∷ 6 ∷ 10 ∷ 3 ∷ 3 ∷ 11 ∷ [])
         (12 ∷ 0 ∷ 0 ∷ 13 ∷ 5 ∷ 5 ∷ 14 ∷ 2 ∷ 2 ∷ 15 ∷ 7 ∷ 7 ∷ []) false) }
-    ensures parity { LeadsTo parity_word
+    ensures parity { IsKnownWord parity_word
         (codes "/ (3,3) / (1,0) / (-2,-2) / (2,0) / (2,2) / (-1,0) / (-3,-3) / (-2,0) / (3,3) / (3,0) / (-1,-1) / (-3,0) / (1,1) / (-4,-3)")
         (layers (0 ∷ 0 ∷ 8 ∷ 1 ∷ 1 ∷ 11 ∷ 2 ∷ 2 ∷ 10 ∷ 3 ∷ 3 ∷ 9 ∷ []) solved_bottom false) }
-    ensures equator { LeadsTo (slices ((pos 6, pos 0) ∷ (pos 6, pos 0) ∷ (pos 6, pos 0) ∷ []))
+    ensures equator { IsKnownWord (slices ((pos 6, pos 0) ∷ (pos 6, pos 0) ∷ (pos 6, pos 0) ∷ []))
         (codes "(6,0) / (6,0) / (6,0) /") (layers solved_top solved_bottom true) }
-    ensures long { LeadsTo long_word
+    ensures long { IsKnownWord long_word
         (codes "(1,3) / (-4,-1) / (0,1) / (3,0) / (1,2) / (-4,-3) / (0,6) / (4,-3) / (6,2) / (6,4) / (2,-4) / (5,-5) / (-5,6) / (-4,5) / (-2,6) / (-1,-2) /")
         (layers (11 ∷ 10 ∷ 4 ∷ 4 ∷ 2 ∷ 2 ∷ 7 ∷ 7 ∷ 9 ∷ 1 ∷ 1 ∷ 13 ∷ [])
         (0 ∷ 0 ∷ 3 ∷ 3 ∷ 15 ∷ 12 ∷ 14 ∷ 8 ∷ 5 ∷ 5 ∷ 6 ∷ 6 ∷ []) false) }

@@ -2,7 +2,6 @@
 ghost use Rattle.std.specs.Prelude.{◌≡◌, ◌<◌};
 ghost use Rattle.scr_sq1.specs.Units.{IsSq1};
 ghost use Rattle.scr_sq1.specs.Numbers.{sq1_digits, sq1_numbered};
-ghost use Rattle.scr_sq1.specs.Proofs.Numbering.{sq1_numbering};
 
 use crate::pieces::units_of;
 use crate::shapes::{shape_at, shape_number};
@@ -38,8 +37,6 @@ impl NumberedStates<Sq1> for Sq1Numbers {
 
 impl Numbering for Sq1Numbers {
     type State = Sq1;
-
-    ghost law = { λ _. sq1_numbering };
 
     fn state_at(&self, number: u128) -> Sq1 {
         let [equator, corners, edges, shape] = MixedRadix::new(SQ1_BASES).unrank(number);

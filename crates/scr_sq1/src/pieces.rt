@@ -1,9 +1,8 @@
 //! The pieces of a Square-1 in unit order.
 ghost use Rattle.std.specs.Prelude.{◌≡◌, ◌+◌, ◌<◌, ◌≤◌, ◌++◌, All, length, take};
 ghost use Rattle.scr_combinatorics.specs.Permutations.{IsPermutation};
-ghost use Rattle.scr_sq1.specs.Shapes.{half_word, IsShape, units_among};
+ghost use Rattle.scr_sq1.specs.Shapes.{half_word, IsShape, units_among, Fits};
 ghost use Rattle.scr_sq1.specs.Numbers.{corners_of, edges_of, laid, shape_word};
-ghost use Rattle.scr_sq1.specs.Proofs.LaidLaws.{Fits};
 
 use crate::shapes::CORNERS;
 use crate::turning::UNITS;

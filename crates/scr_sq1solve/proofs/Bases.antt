@@ -12,15 +12,15 @@ use Rattle.scr_combinatorics.specs.Permutations.{parity, place_of}
 use Rattle.scr_combinatorics.proofs.Parities.{parity-pick}
 use Rattle.scr_combinatorics.proofs.Picks.{pick-in_order}
 use Rattle.scr_combinatorics.proofs.PermutationLaws.{All-permutation, IsPermutation-numbers_from}
-use Rattle.scr_play.specs.Play.{play}
-use Rattle.scr_play.proofs.PlayLaws.{play-keeps}
+use Rattle.scr_combinatorics.specs.Play.{play}
+use Rattle.scr_combinatorics.proofs.PlayLaws.{play-keeps}
 use Rattle.scr_notation.specs.declared.turn.Turn.{Turn}
 use Rattle.scr_sq1.specs.Units.{Sq1State, IsSq1, is_corner, sq1_after}
-use Rattle.scr_sq1.specs.Shapes.{IsShape, corner_bits, half_bits, half_of, halves_in, shape_of}
+use Rattle.scr_sq1.specs.Shapes.{IsShape, corner_bits, half_bits, half_of, halves_in, shape_of, Fits}
 use Rattle.scr_sq1.specs.Numbers.{every_second, corners_of, edges_of, laid, shape_word}
-use Rattle.scr_sq1.specs.Proofs.InHalves.{IsSq1-halves}
-use Rattle.scr_sq1.specs.Proofs.LaidLaws.{Fits, by_pieces}
-use Rattle.scr_sq1.specs.Proofs.Pieces.{StatePieces-valid, LaidState-pieces}
+use Rattle.scr_sq1.proofs.InHalves.{IsSq1-halves}
+use Rattle.scr_sq1.proofs.LaidLaws.{by_pieces}
+use Rattle.scr_sq1.proofs.StatePieces.{StatePieces-valid, LaidState-pieces}
 use Rattle.scr_sq1.proofs.Lawful.{IsLawful-sq1}
 use Rattle.scr_sq1solve.specs.Stages.{oddness}
 use Rattle.scr_sq1solve.proofs.Renamed.{Names, AreNames, named, other_if, renamed, named-corner, named-edge}

@@ -1,8 +1,8 @@
 -- A scramble has at most 76 twists and 153 turns.
 use Rattle.std.proofs.Common.{◌≤◌, cond, IsTrue, List, [], ◌++◌, length, refl, ap, arith}
-use Rattle.scr_play.specs.Tidy.{tidy, IsTidy}
-use Rattle.scr_play.proofs.PlayLaws.{count_in-append}
-use Rattle.scr_play.proofs.TidyLaws.{IsTidy-tidy}
+use Rattle.scr_combinatorics.specs.Tidy.{tidy, IsTidy}
+use Rattle.scr_combinatorics.proofs.PlayLaws.{count_in-append}
+use Rattle.scr_combinatorics.proofs.TidyLaws.{IsTidy-tidy}
 use Rattle.scr_notation.specs.declared.turn.Turn.{Turn}
 use Rattle.scr_notation.specs.declared.event.Event.TheVariants.{Sq1}
 use Rattle.scr_notation.specs.Turns.{permits}
@@ -10,7 +10,7 @@ use Rattle.scr_notation.specs.Turning.{turn_merging}
 use Rattle.scr_notation.proofs.MergingLaws.{IsMerging-event}
 use Rattle.scr_sq1.specs.Units.{Sq1State, IsSq1, solved_sq1}
 use Rattle.scr_sq1.proofs.Lawful.{sq1_kept_by_tidy}
-use Rattle.scr_sq1solve.specs.Stages.{turns_of, shape_letter, pairing_letter, home_letter, equator_word, IsSolution}
+use Rattle.scr_sq1solve.specs.Stages.{shape_letter, pairing_letter, home_letter, equator_word, IsSolution}
 use Rattle.scr_sq1solve.specs.Stages.{IsScrambleSq1}
 use Rattle.scr_sq1solve.specs.Counts.{twists_of, twists_in, IsWithinBounds}
 use Rattle.scr_sq1solve.proofs.Solutions.{play-solution}
@@ -18,13 +18,14 @@ use Rattle.scr_sq1solve.specs.declared.stage_letters.Letters.TheVariants.{Quarte
 use Rattle.scr_sq1solve.proofs.Lengths.{Costs-shape, Costs-pairing, Costs-home, Costs-word, Costs-squaring}
 use Rattle.scr_sq1solve.proofs.Lengths.{Costs-end, Costs-equator, twists-tidy, length-tidy, OfSq1-played}
 use Rattle.scr_sq1solve.proofs.Lengths.{twists-back, length-back}
+use Rattle.scr_combinatorics.specs.Stages.{spelled}
 
 pub twists-solution : (s : Sq1State) (w : List Turn) → IsSolution s w → twists_in w ≤ 76
 twists-solution s w h =
     let e : List Turn = cond h.home.equator equator_word [] in
-    let x : List Turn = turns_of shape_letter h.shape in
-    let y : List Turn = turns_of pairing_letter h.pairing in
-    let z : List Turn = turns_of home_letter h.homing in
+    let x : List Turn = spelled shape_letter h.shape in
+    let y : List Turn = spelled pairing_letter h.pairing in
+    let z : List Turn = spelled home_letter h.homing in
     let add = count_in-append twists_of in
     omega (
       arith,

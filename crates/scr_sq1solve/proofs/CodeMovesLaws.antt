@@ -6,11 +6,12 @@ use Rattle.scr_coord.specs.Coordinates.{Coordinate}
 use Rattle.scr_coord.specs.SearchSpaces.{ShowsSame}
 use Rattle.scr_notation.specs.declared.turn.Turn.{Turn}
 use Rattle.scr_sq1.specs.Numbers.{corners_of, edges_of}
-use Rattle.scr_sq1solve.specs.Stages.{after_letter}
 use Rattle.scr_sq1solve.specs.Tables.{square_index, square_state}
 use Rattle.scr_sq1solve.specs.Codes.{codes_coordinate}
 use Rattle.scr_sq1solve.specs.Placed.{IsKept}
 use Rattle.scr_sq1solve.proofs.CodeSteps.{edges_at, position_of, IsCodeStep, IsCodeStep-at, edges_at-lt}
+use Rattle.scr_combinatorics.specs.Stages.{by_letters}
+use Rattle.scr_sq1.specs.Units.{sq1_after}
 
 module _ {letter : ℕ → List Turn} (kept : IsKept letter) {corners edges : Coordinate}
     (f : ShowsSame (codes_coordinate corners_of letter) corners) (g : ShowsSame (codes_coordinate edges_of letter) edges)
@@ -45,6 +46,6 @@ module _ {letter : ℕ → List Turn} (kept : IsKept letter) {corners edges : Co
     es-is : es ≡ step.edges
     es-is = same_Some es step.edges (b ∙ edges-made is)
 
-    pub made : {n : ℕ} → n ≡ position_of es cs → Some n ≡ option_map square_index (after_letter 32 letter (square_state p) t)
+    pub made : {n : ℕ} → n ≡ position_of es cs → Some n ≡ option_map square_index (by_letters sq1_after 32 letter (square_state p) t)
     made e =
         ap Some (e ∙ ap (λ k. position_of k cs) es-is ∙ ap (position_of step.edges) cs-is) ∙ sym step.made

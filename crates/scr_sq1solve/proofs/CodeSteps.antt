@@ -6,10 +6,10 @@ use Rattle.std.proofs.lemmas.Bool.{cond-true, lt-ltb}
 use Rattle.scr_combinatorics.specs.Lists.{pick, total}
 use Rattle.scr_combinatorics.specs.Digits.{mixed_digits}
 use Rattle.scr_notation.specs.declared.turn.Turn.{Turn}
-use Rattle.scr_play.specs.Play.{play}
+use Rattle.scr_combinatorics.specs.Play.{play}
 use Rattle.scr_sq1.specs.Units.{Sq1State, sq1_after}
 use Rattle.scr_sq1.specs.Numbers.{corners_of, edges_of}
-use Rattle.scr_sq1solve.specs.Stages.{after_letter, home_letter, quarter_word}
+use Rattle.scr_sq1solve.specs.Stages.{home_letter, quarter_word}
 use Rattle.scr_sq1solve.specs.Tables.{units_after, bits_number, pairs_number, last_bit, square_index, square_state}
 use Rattle.scr_sq1solve.specs.Codes.{code_number, code_at, codes_coordinate}
 use Rattle.scr_sq1solve.specs.Spaces.{IsPairedSq1}
@@ -19,6 +19,7 @@ use Rattle.scr_sq1solve.proofs.HomeStage.{IsPaired-moved, home_letters_normal, h
 use Rattle.scr_sq1solve.proofs.HomeStage.{quarters_normal, quarters_paired, HasCodes, HasCodes-paired, one_parity}
 use Rattle.scr_sq1solve.proofs.HomeStage.{IsIndex-square}
 use Rattle.scr_sq1solve.proofs.ListCoordinates.{code_at-number, codes-after}
+use Rattle.scr_combinatorics.specs.Stages.{by_letters}
 
 pub IsKept-home : IsKept home_letter
 IsKept-home = record { normal = home_letters_normal; opposite = home_letters_paired }
@@ -131,10 +132,10 @@ module _ (p : ℕ) (at : p < 73728) where
       pub edges_after : (codes_coordinate edges_of letter).after (edges_at p) t ≡ Some edges
       pub corners_below : corners < 384
       pub edges_below : edges < 384
-      pub made : option_map square_index (after_letter 32 letter (square_state p) t) ≡ Some (position_of edges corners)
+      pub made : option_map square_index (by_letters sq1_after 32 letter (square_state p) t) ≡ Some (position_of edges corners)
 
     pub IsCodeStep-at : IsCodeStep
-    unfolding after_letter
+    unfolding by_letters
     IsCodeStep-at =
         let moved = IsPaired-moved letter kept.normal kept.opposite (square_state p) t paired turn in
         let m = moved.0 in

@@ -6,7 +6,8 @@ use Rattle.scr_combinatorics.specs.Permutations.{IsPermutation, permutation_numb
 use Rattle.scr_combinatorics.specs.Digits.{mixed_number}
 use Rattle.scr_combinatorics.proofs.PermutationLaws.{at-permutation}
 use Rattle.scr_combinatorics.proofs.PermutationNumbers.{permutation_number-lt}
-use Rattle.scr_notation.proofs.Below.{all_below, at_below}
+use Rattle.scr_notation.specs.Ranges.{all_below}
+use Rattle.scr_notation.proofs.Below.{at_below}
 use Rattle.scr_sq1solve.specs.Tables.{pair_of, is_larger, smaller, bits_number, pairs_number, paired_at, square_bases}
 use Rattle.scr_sq1solve.specs.Codes.{code_number, code_at}
 use Rattle.scr_sq1solve.proofs.Filled.{numbers_all}

@@ -9,7 +9,7 @@ use Rattle.std.proofs.lemmas.List.{get_or-map, length-map}
 use Rattle.std.proofs.lemmas.List.Folds.{list_any_at, list_any_more}
 use Rattle.scr_combinatorics.specs.Lists.{numbers_from}
 use Rattle.scr_combinatorics.proofs.Picks.{numbers_from-at, length-numbers_from}
-use Rattle.scr_play.specs.Play.{play}
+use Rattle.scr_combinatorics.specs.Play.{play}
 use Rattle.scr_notation.specs.declared.event.Event.TheVariants.{Sq1}
 use Rattle.scr_notation.specs.declared.turn.Turn.{Turn}
 use Rattle.scr_notation.specs.Written.{Written}
@@ -17,10 +17,11 @@ use Rattle.scr_sq1.specs.Units.{Sq1State, solved_sq1, sq1_after}
 use Rattle.scr_sq1.specs.Numbers.{corners_of, edges_of}
 use Rattle.scr_sq1solve.specs.declared.stage_letters.Letters.{Letters}
 use Rattle.scr_sq1solve.specs.declared.stage_letters.Letters.TheVariants.{Quarters}
-use Rattle.scr_sq1solve.specs.Stages.{EndsIn, IsEnd, after_letter, quarter_word}
+use Rattle.scr_sq1solve.specs.Stages.{EndsIn, IsEnd, quarter_word}
 use Rattle.scr_sq1solve.specs.Letters.{squaring_word, letter_of, end_count, end_words, IsEnded}
 use Rattle.scr_sq1solve.specs.Tables.{has_index, shapes_index, square_index, square_state, bits_number, pairs_number}
 use Rattle.scr_sq1solve.proofs.ShapeSteps.{normal_index}
+use Rattle.scr_combinatorics.specs.Stages.{by_letters}
 
 -- ---- words by their numbers
 
@@ -98,8 +99,8 @@ has_index-mapped index_of i None p e = ap (has_number i) e
 has_index-mapped index_of i (Some r) p e = ap (has_number i) e
 
 -- a letter that is there is played
-pub after-played : (letter : ℕ → List Turn) (s : Sq1State) (n : ℕ) → n < 32 → after_letter 32 letter s n ≡ play sq1_after s (letter n)
-unfolding after_letter
+pub after-played : (letter : ℕ → List Turn) (s : Sq1State) (n : ℕ) → n < 32 → by_letters sq1_after 32 letter s n ≡ play sq1_after s (letter n)
+unfolding by_letters
 after-played letter s n lt = cond-true (nat_lt n 32) (play sq1_after s (letter n)) None (lt-ltb n 32 lt)
 
 home_index : square_index solved_sq1 ≡ 0
@@ -108,12 +109,12 @@ home_index = refl
 
 -- what the index after a turn by quarters tells
 pub quarter-tested : (l : Letters) (p n : ℕ) (r o : Option ℕ) → l ≡ Quarters → n < 32
-    → r ≡ option_map square_index (after_letter 32 (letter_of l) (square_state p) n) → r ≡ o
+    → r ≡ option_map square_index (by_letters sq1_after 32 (letter_of l) (square_state p) n) → r ≡ o
     → has_index square_index (square_index solved_sq1) (play sq1_after (square_state p) (quarter_word n)) ≡ has_number 0 o
 quarter-tested l p n r o is lt made e =
     let mapped : option_map square_index (play sq1_after (square_state p) (quarter_word n)) ≡ o =
     ap (option_map square_index) (sym (after-played quarter_word (square_state p) n lt))
-    ∙ ap (λ k. option_map square_index (after_letter 32 (letter_of k) (square_state p) n)) (sym is) ∙ sym made ∙ e in
+    ∙ ap (λ k. option_map square_index (by_letters sq1_after 32 (letter_of k) (square_state p) n)) (sym is) ∙ sym made ∙ e in
     has_index-mapped square_index (square_index solved_sq1) (play sq1_after (square_state p) (quarter_word n)) o mapped
     ∙ ap (λ k. has_number k o) home_index
 

@@ -5,8 +5,8 @@ use Rattle.std.specs.Option.{option_map}
 use Rattle.scr_combinatorics.specs.Lists.{numbers_from, pick}
 use Rattle.scr_combinatorics.proofs.Picks.{pick-in_order}
 use Rattle.scr_orbit.proofs.ActionLaws.{map-some}
-use Rattle.scr_play.specs.Play.{play}
-use Rattle.scr_play.proofs.PlayLaws.{play-empty, play-first}
+use Rattle.scr_combinatorics.specs.Play.{play}
+use Rattle.scr_combinatorics.proofs.PlayLaws.{play-empty, play-first}
 use Rattle.scr_notation.specs.declared.turn.Turn.{Turn}
 use Rattle.scr_notation.specs.declared.turn.Turn.TheVariants.{Layers, Twist}
 use Rattle.scr_sq1.specs.Units.{Sq1State, IsSq1, is_open, are_of_one_corner, turn_places, twist_places, turned, twisted}

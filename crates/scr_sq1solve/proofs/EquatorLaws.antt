@@ -3,17 +3,18 @@
 use Rattle.std.proofs.Common.{◌≡◌, ℕ, zero, suc, ◌+◌, Bool, List, [], ◌∷◌, ◌++◌, Option, Some, refl, sym, ap, ◌∙◌}
 use Rattle.std.proofs.Common.{arith}
 use Rattle.std.specs.Prelude.{not}
-use Rattle.scr_play.specs.Play.{play, count_in}
-use Rattle.scr_play.proofs.PlayLaws.{play-empty, play-parts, count_in-append}
+use Rattle.scr_combinatorics.specs.Play.{play, count_in}
+use Rattle.scr_combinatorics.proofs.PlayLaws.{play-empty, play-parts, count_in-append}
 use Rattle.scr_notation.specs.declared.turn.Turn.{Turn}
 use Rattle.scr_notation.specs.declared.turn.Turn.TheVariants.{Layers, Twist}
 use Rattle.scr_sq1.specs.Units.{Sq1State, IsSq1, turned, twisted, sq1_after}
 use Rattle.scr_sq1.proofs.Lawful.{sq1_after-layers, sq1_after-twist}
-use Rattle.scr_sq1solve.specs.Stages.{IsSolution, turns_of, shape_letter, pairing_letter, home_letter}
+use Rattle.scr_sq1solve.specs.Stages.{IsSolution, shape_letter, pairing_letter, home_letter}
 use Rattle.scr_sq1solve.specs.Counts.{twists_of, twists_in, turned_over, stage_twists}
 use Rattle.scr_sq1solve.proofs.Solutions.{stages_of, play-stages}
 use Rattle.scr_sq1solve.proofs.Lengths.{Costs-squaring, Costs-end}
 use Rattle.scr_sq1solve.specs.declared.stage_letters.Letters.TheVariants.{Quarters}
+use Rattle.scr_combinatorics.specs.Stages.{spelled}
 
 turned_over-not : (n : ℕ) (b : Bool) → turned_over n (not b) ≡ not (turned_over n b)
 unfolding turned_over
@@ -52,9 +53,9 @@ pub equator-solution : (s : Sq1State) (w : List Turn) → IsSq1 s → (h : IsSol
     → h.home.equator ≡ turned_over (stage_twists h.shape h.pairing h.homing) s.equator
 unfolding stages_of
 equator-solution s w valid h =
-    let x : List Turn = turns_of shape_letter h.shape in
-    let y : List Turn = turns_of pairing_letter h.pairing in
-    let z : List Turn = turns_of home_letter h.homing in
+    let x : List Turn = spelled shape_letter h.shape in
+    let y : List Turn = spelled pairing_letter h.pairing in
+    let z : List Turn = spelled home_letter h.homing in
     let add = count_in-append twists_of in
     let counted : twists_in (x ++ h.squaring ++ y ++ z ++ h.last) ≡ stage_twists h.shape h.pairing h.homing = omega (
       arith,

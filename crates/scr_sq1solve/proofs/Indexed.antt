@@ -1,29 +1,21 @@
 -- States by an index: where words do the same to the indexes of states that have one index, a search finds the same on the
 -- indexes as on the states.
-use Rattle.std.proofs.Common.{◌≡◌, ℕ, ◌<◌, Bool, true, false, IsTrue, cond, List, Option, Some, None, refl, sym, ap, ◌∙◌, arith, eq-eqb, eqb-true, ltb-true}
+use Rattle.std.proofs.Common.{◌≡◌, ℕ, ◌<◌, Bool, true, false, IsTrue, cond, List, Option, Some, None, refl, sym, ap, ◌∙◌, eq-eqb, eqb-true, ltb-true}
 use Rattle.std.specs.Prelude.{◌↔◌, ◌==◌, nat_lt, Any}
 use Rattle.std.specs.Option.{option_map}
 use Rattle.std.specs.List.{list_any}
 use Rattle.std.proofs.lemmas.List.Folds.{list_any_at, Any-from_list_any}
-use Rattle.scr_play.specs.Play.{play}
+use Rattle.scr_combinatorics.specs.Play.{play}
 use Rattle.scr_coord.specs.Coordinates.{StaysBelow}
 use Rattle.scr_coord.specs.SearchSpaces.{positions, Follows}
-use Rattle.scr_orbit.proofs.ActionLaws.{map-some}
 use Rattle.scr_notation.specs.declared.turn.Turn.{Turn}
 use Rattle.scr_sq1.specs.Units.{Sq1State, solved_sq1, sq1_after}
-use Rattle.scr_sq1solve.specs.Stages.{EndsIn, after_letter}
-use Rattle.scr_sq1solve.specs.Tables.{has_index, indexed_coordinate}
-use Rattle.scr_sq1solve.specs.Spaces.{stage_space}
-
--- a letter's number is below the count, and its word is played
-pub after_letter-parts : (letters : ℕ) (letter : ℕ → List Turn) (s r : Sq1State) (n : ℕ) → after_letter letters letter s n ≡ Some r
-    → IsTrue (nat_lt n letters) × (play sq1_after s (letter n) ≡ Some r)
-unfolding after_letter
-after_letter-parts letters letter s r n e = guarded (nat_lt n letters) (play sq1_after s (letter n)) e
-  where
-    guarded : (b : Bool) (o : Option Sq1State) → (let p : Option Sq1State = cond b o None in p ≡ Some r) → IsTrue b × (o ≡ Some r)
-    guarded true o e = (refl, e)
-    guarded false o e = absurd (cc)
+use Rattle.scr_sq1solve.specs.Stages.{EndsIn}
+use Rattle.scr_combinatorics.specs.Numbered.{Numbered}
+use Rattle.scr_coord.proofs.IndexLaws.{StaysBelow-indexed}
+use Rattle.scr_sq1solve.specs.Tables.{has_index, lettered_coordinate}
+use Rattle.scr_combinatorics.specs.Stages.{by_letters}
+use Rattle.scr_combinatorics.proofs.StageLaws.{by_letters-parts}
 
 -- What holds of states by an index: each index below the count is that of a valid state; words do the same to the indexes of
 -- valid states that have one index; letters keep states valid; and where one of the last words ends, its goal is to have the
@@ -49,9 +41,9 @@ module _ {IsValid : Sq1State → Type 0} {count : ℕ} {index_of : Sq1State → 
   guarded_alike false o p e = refl
 
   turned : (s : Sq1State) (n : ℕ) → IsValid s
-      → (let o : Option ℕ = cond (nat_lt n letters) (option_map index_of (after_letter letters letter (state_at (index_of s)) n)) None in o)
-      ≡ option_map index_of (after_letter letters letter s n)
-  unfolding after_letter
+      → (let o : Option ℕ = cond (nat_lt n letters) (option_map index_of (by_letters sq1_after letters letter (state_at (index_of s)) n)) None in o)
+      ≡ option_map index_of (by_letters sq1_after letters letter s n)
+  unfolding by_letters
   turned s n v =
       let i : ℕ = index_of s in
       let lt = h.below s v in
@@ -100,22 +92,24 @@ module _ {IsValid : Sq1State → Type 0} {count : ℕ} {index_of : Sq1State → 
         let found = index_found (play sq1_after s m.1) (sym (tested m.1) ∙ m.4) in
         (m.0, m.1, m.2, m.3, (found.0, found.1, (h.ended s found.0 m.1 v (m.0, m.1, m.2, m.3, refl) found.1).1 found.2))
 
+  -- letters keep states valid
+  kept : (s r : Sq1State) (n : ℕ) → IsValid s → by_letters sq1_after letters letter s n ≡ Some r → IsValid r
+  kept s r n v e =
+      let parts = by_letters-parts sq1_after letters letter s r n e in h.kept s r n v (ltb-true n letters parts.0) parts.1
+
   -- A search finds the same.
-  pub Follows-index : Follows (stage_space IsValid letters letter (EndsIn IsEnd ends))
-      (positions (indexed_coordinate count index_of state_at letters letter ends)) index_of
+  pub Follows-index : Follows (record { IsValid = IsValid; after = by_letters sq1_after letters letter; IsGoal = EndsIn IsEnd ends })
+      (positions (lettered_coordinate (record { count = count; state_at = state_at; number_of = index_of; IsValid = IsValid }) letters letter ends)) index_of
   Follows-index = record {
-    kept = λ s r n v e.
-        let parts = after_letter-parts letters letter s r n e in
-        h.kept s r n v (ltb-true n letters parts.0) parts.1;
+    kept = kept;
     valid = h.below;
     turned = turned;
     goals = λ s v. (any_tested s v, any_ended s v);
   }
 
   -- letters lead from indexes to indexes
-  pub StaysBelow-index : StaysBelow (indexed_coordinate count index_of state_at letters letter ends)
-  StaysBelow-index = λ p t q lt turn e.
-      let made = map-some index_of (after_letter letters letter (state_at p) t) q e in
-      let parts = after_letter-parts letters letter (state_at p) made.0 t made.1 in
-      let low = h.below made.0 (h.kept (state_at p) made.0 t (h.valid p lt) turn parts.1) in
-      omega (arith, made.2)
+  pub StaysBelow-index : StaysBelow (lettered_coordinate (record { count = count; state_at = state_at; number_of = index_of; IsValid = IsValid }) letters letter ends)
+  StaysBelow-index =
+      let n : Numbered Sq1State = record { count = count; state_at = state_at; number_of = index_of; IsValid = IsValid } in
+      StaysBelow-indexed n letters (by_letters sq1_after letters letter) ((lettered_coordinate n letters letter ends).is_goal) h.valid h.below
+      (λ s r t v lt e. kept s r t v e)

@@ -1,7 +1,7 @@
 -- Words that are joined and tidied part by part, and how long they are.
 use Rattle.std.proofs.Common.{◌≡◌, IsTrue, List, [], ◌∷◌, ◌++◌, refl, ap}
-use Rattle.scr_play.specs.Tidy.{with_turn, tidy, IsTidy}
-use Rattle.scr_play.proofs.TidyLaws.{IsTidy-tidy, tidy-own}
+use Rattle.scr_combinatorics.specs.Tidy.{with_turn, tidy, IsTidy}
+use Rattle.scr_combinatorics.proofs.TidyLaws.{IsTidy-tidy, tidy-own}
 use Rattle.scr_notation.specs.declared.event.Event.TheVariants.{Sq1}
 use Rattle.scr_notation.specs.declared.turn.Turn.{Turn}
 use Rattle.scr_notation.specs.Turning.{turn_merging}

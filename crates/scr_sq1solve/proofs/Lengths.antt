@@ -7,11 +7,11 @@ use Rattle.std.proofs.lemmas.List.{length-append, length-reverse, length-map, re
 use Rattle.std.proofs.lemmas.List.Elements.{All-nil, All-cons, All-head, All-tail}
 use Rattle.scr_combinatorics.specs.Lists.{numbers_from}
 use Rattle.scr_combinatorics.proofs.Picks.{numbers_from-at, length-numbers_from}
-use Rattle.scr_play.specs.Play.{play, count_in}
-use Rattle.scr_play.specs.Back.{back}
-use Rattle.scr_play.specs.Tidy.{word_of, with_turn, tidy, begins_alike, IsTidy}
-use Rattle.scr_play.proofs.PlayLaws.{count_in-append, play-parts}
-use Rattle.scr_play.proofs.TidyLaws.{IsTidy-apart, IsTidy-rest}
+use Rattle.scr_combinatorics.specs.Play.{play, count_in}
+use Rattle.scr_combinatorics.specs.Back.{back}
+use Rattle.scr_combinatorics.specs.Tidy.{word_of, with_turn, tidy, begins_alike, IsTidy}
+use Rattle.scr_combinatorics.proofs.PlayLaws.{count_in-append, play-parts}
+use Rattle.scr_combinatorics.proofs.TidyLaws.{IsTidy-apart, IsTidy-rest}
 use Rattle.scr_notation.specs.declared.event.Event.TheVariants.{Sq1}
 use Rattle.scr_notation.specs.declared.turn.Turn.{Turn}
 use Rattle.scr_notation.specs.declared.turn.Turn.TheVariants.{Face, Axis, Tip, Layers, Twist, Pins, Over, Wide}
@@ -21,9 +21,10 @@ use Rattle.scr_notation.specs.Turns.{permits}
 use Rattle.scr_sq1.specs.Units.{Sq1State, sq1_after}
 use Rattle.scr_sq1solve.specs.declared.stage_letters.Letters.{Letters}
 use Rattle.scr_sq1solve.specs.declared.stage_letters.Letters.TheVariants.{OfShapes, OfPairings, OfHome, Squarings, Quarters}
-use Rattle.scr_sq1solve.specs.Stages.{turn_word, quarters, quarter_word, turns_of, squaring_words, shape_letter, pairing_letter, home_letter, equator_word}
+use Rattle.scr_sq1solve.specs.Stages.{turn_word, quarters, quarter_word, squaring_words, shape_letter, pairing_letter, home_letter, equator_word}
 use Rattle.scr_sq1solve.specs.Letters.{squaring_word, letter_of, end_count, end_words}
 use Rattle.scr_sq1solve.specs.Counts.{twists_of, twists_in, Costs}
+use Rattle.scr_combinatorics.specs.Stages.{spelled}
 
 -- ---- turns and twists of letters
 
@@ -87,7 +88,7 @@ Costs-home n =
     whole
 
 Costs-letters : (letter : ℕ → List Turn) (turns twists : ℕ) → ((n : ℕ) → Costs (letter n) turns twists) → (w : List ℕ)
-    → Costs (turns_of letter w) (length w * turns) (length w * twists)
+    → Costs (spelled letter w) (length w * turns) (length w * twists)
 unfolding count_in
 Costs-letters letter turns twists each [] = record { turns = omega arith; twists = omega arith }
 Costs-letters letter turns twists each (n ∷ w) =
@@ -99,7 +100,7 @@ Costs-letters letter turns twists each (n ∷ w) =
 
 -- a word of at most so many letters
 pub Costs-word : (letter : ℕ → List Turn) (turns twists bound : ℕ) → ((n : ℕ) → Costs (letter n) turns twists) → (w : List ℕ) → length w ≤ bound
-    → Costs (turns_of letter w) (bound * turns) (bound * twists)
+    → Costs (spelled letter w) (bound * turns) (bound * twists)
 Costs-word letter turns twists bound each w le =
     let whole = Costs-letters letter turns twists each w in
     record {

@@ -8,7 +8,6 @@ mod Codes
 mod CodeMovesLaws
 mod ListSteps
 mod KeptLetters
-mod StageWords
 mod Equator
 pub mod Solutions
 mod Bounds

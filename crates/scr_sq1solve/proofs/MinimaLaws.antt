@@ -7,35 +7,35 @@ use Rattle.scr_combinatorics.specs.Lists.{pick}
 use Rattle.scr_combinatorics.specs.Permutations.{IsPermutation}
 use Rattle.scr_combinatorics.proofs.PermutationLaws.{All-permutation}
 use Rattle.scr_combinatorics.proofs.Picks.{pick-pick}
-use Rattle.scr_play.specs.Play.{play, count_in}
-use Rattle.scr_play.specs.Reach.{Needs}
-use Rattle.scr_play.proofs.PlayLaws.{play-empty, play-first, play-one, play-parts}
+use Rattle.scr_combinatorics.specs.Play.{play, count_in}
+use Rattle.scr_combinatorics.specs.Reach.{Needs}
+use Rattle.scr_combinatorics.proofs.PlayLaws.{play-empty, play-first, play-one, play-parts}
 use Rattle.scr_notation.specs.declared.event.Kind.TheVariants.{LayersAndTwist}
 use Rattle.scr_notation.specs.declared.turn.Turn.{Turn}
 use Rattle.scr_notation.specs.declared.turn.Turn.TheVariants.{Layers, Twist}
 use Rattle.scr_notation.specs.Layers.{twelfths, are_still, is_layer_turn}
 use Rattle.scr_notation.specs.TurnNumbers.{layer_turn_at, turn_at}
-use Rattle.scr_notation.proofs.Below.{same}
+use Rattle.scr_notation.specs.Ranges.{same}
 use Rattle.scr_notation.proofs.LayersLaws.{AreTwelfths-twelfths, IsTwelfths, are_still-first, are_still-second}
 use Rattle.scr_notation.proofs.LayersLaws.{layers_of_parts, twelfths-own}
 use Rattle.scr_notation.proofs.NumberLaws.{numbered, has_turn_at}
-use Rattle.scr_table.specs.Moves.{turned as number_turned, NeedsTurns, NeverHelps}
+use Rattle.scr_table.specs.Moves.{after_move as number_turned, NeedsTurns, NeverHelps}
 use Rattle.scr_table.proofs.MovesLaws.{turned-turn}
 use Rattle.scr_table.proofs.StepLaws.{taken_where}
-use Rattle.scr_table.specs.TriedWords.{needs_test-iff as tried-iff}
+use Rattle.scr_table.proofs.TriedWords.{needs_test-iff as tried-iff}
 use Rattle.scr_sq1.specs.Units.{Sq1State, IsSq1, is_open, after_layers, solved_sq1, clockwise, turn_places, turned}
 use Rattle.scr_sq1.specs.Units.{twisted, sq1_after, sq1_puzzle}
 use Rattle.scr_sq1.proofs.Places.{IsTurnTable-turn, turn_places-both, turn_places-none}
 use Rattle.scr_sq1.proofs.Clockwise.{clockwise-lt, clockwise-twelfths, clockwise-sum}
 use Rattle.scr_sq1.proofs.Lawful.{pick_nothing, sq1_after-layers, sq1_after-by_layers, sq1_after-twist, twisted-twice}
 use Rattle.scr_sq1.proofs.Lawful.{IsLawful-sq1}
-use Rattle.scr_sq1solve.specs.Minima.{is_solved, sq1_moves, needs_test}
+use Rattle.scr_sq1solve.specs.Minima.{is_solved_sq1, sq1_moves, needs_test_sq1}
 use Rattle.scr_sq1solve.proofs.PairedLists.{same-true}
 
 -- ---- solved states
 
-is_solved-solved : IsTrue (is_solved solved_sq1)
-unfolding is_solved same
+is_solved-solved : IsTrue (is_solved_sq1 solved_sq1)
+unfolding is_solved_sq1 same
 is_solved-solved = refl
 
 solved_from : (us : List ℕ) (b : Bool) → IsTrue (same us solved_sq1.units && not b)
@@ -45,9 +45,9 @@ solved_from us false t =
     ap (λ xs. let s : Sq1State = record { units = xs; equator = false } in s)
     (same-true us solved_sq1.units (and_parts (same us solved_sq1.units) true t).0)
 
-pub is_solved-iff : (s : Sq1State) → IsTrue (is_solved s) ↔ (s ≡ solved_sq1)
-unfolding is_solved
-is_solved-iff s = (λ t. solved_from s.units s.equator t, λ e. ap is_solved e ∙ is_solved-solved)
+pub is_solved-iff : (s : Sq1State) → IsTrue (is_solved_sq1 s) ↔ (s ≡ solved_sq1)
+unfolding is_solved_sq1
+is_solved-iff s = (λ t. solved_from s.units s.equator t, λ e. ap is_solved_sq1 e ∙ is_solved-solved)
 
 -- ---- turns by their numbers
 
@@ -211,9 +211,9 @@ NeedsTurns-iff s least valid = (
 
 -- ---- the test
 
-pub needs_test-iff : (s : Sq1State) (least : ℕ) → IsSq1 s → IsTrue (needs_test s least) ↔ Needs sq1_puzzle s least
+pub needs_test-iff : (s : Sq1State) (least : ℕ) → IsSq1 s → IsTrue (needs_test_sq1 s least) ↔ Needs sq1_puzzle s least
 needs_test-iff s least valid =
-    let tried = tried-iff 144 (number_turned sq1_moves) is_solved (λ r q t e. (turned-turn sq1_moves r q t e).0) s least in
+    let tried = tried-iff 144 (number_turned sq1_moves) is_solved_sq1 (λ r q t e. (turned-turn sq1_moves r q t e).0) s least in
     let same = NeedsTurns-iff s least valid in
     (λ t. same.0 (tried.0 t), λ needs. tried.1 (same.1 needs))
 

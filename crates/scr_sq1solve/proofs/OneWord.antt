@@ -3,12 +3,13 @@ use Rattle.std.proofs.Common.{◌≡◌, ℕ, Bool, IsTrue, List, [], ◌++◌, 
 use Rattle.std.specs.Prelude.{◌==◌, ◌||◌, not, slice_index_or, Any}
 use Rattle.std.proofs.lemmas.Bool.{or_cases, false≢true}
 use Rattle.std.proofs.lemmas.List.{get_or_default}
-use Rattle.scr_play.specs.Play.{play}
-use Rattle.scr_play.specs.Back.{back}
+use Rattle.scr_combinatorics.specs.Play.{play}
+use Rattle.scr_combinatorics.specs.Back.{back}
 use Rattle.scr_notation.specs.declared.turn.Turn.{Turn}
 use Rattle.scr_notation.specs.Turning.{opposite}
-use Rattle.scr_notation.proofs.Below.{all_below, at_below}
-use Rattle.scr_play.proofs.PlayLaws.{play-append}
+use Rattle.scr_notation.specs.Ranges.{all_below}
+use Rattle.scr_notation.proofs.Below.{at_below}
+use Rattle.scr_combinatorics.proofs.PlayLaws.{play-append}
 use Rattle.scr_sq1.specs.Units.{Sq1State, IsSq1, solved_sq1, sq1_after}
 use Rattle.scr_sq1.proofs.Lawful.{sq1_taken_back}
 use Rattle.scr_sq1solve.specs.Stages.{IsEnd}

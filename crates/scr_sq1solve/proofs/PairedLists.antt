@@ -6,7 +6,8 @@ use Rattle.scr_combinatorics.specs.Lists.{total}
 use Rattle.scr_combinatorics.specs.Permutations.{IsPermutation, is_permutation, parity, permutation_at}
 use Rattle.scr_combinatorics.specs.Digits.{mixed_digits}
 use Rattle.scr_combinatorics.proofs.PermutationLaws.{at-permutation, IsPermutation-from_test, is_permutation-true}
-use Rattle.scr_notation.proofs.Below.{all_below, at_below, same}
+use Rattle.scr_notation.specs.Ranges.{all_below, same}
+use Rattle.scr_notation.proofs.Below.{at_below}
 use Rattle.scr_sq1solve.specs.Stages.{mates, pairing_of}
 use Rattle.scr_sq1solve.specs.Tables.{pairs_number, bits_number, paired_at}
 use Rattle.scr_sq1solve.proofs.Pairs.{mate, mate-at}

@@ -11,29 +11,30 @@ use Rattle.scr_combinatorics.proofs.PermutationLaws.{IsPermutation-numbers_from}
 use Rattle.scr_combinatorics.proofs.Picks.{numbers_from-at}
 use Rattle.std.proofs.lemmas.List.{get_or-map}
 use Rattle.scr_orbit.specs.Orbits.{Rearrangement}
-use Rattle.scr_play.specs.Play.{play}
+use Rattle.scr_combinatorics.specs.Play.{play}
 use Rattle.scr_coord.specs.Coordinates.{StaysBelow}
-use Rattle.scr_coord.specs.StaysBelowLaws.{StaysBelow-product, StaysBelow-projection}
+use Rattle.scr_coord.proofs.StaysBelowLaws.{StaysBelow-product, StaysBelow-projection}
 use Rattle.scr_coord.specs.SearchSpaces.{positions, Follows}
 use Rattle.scr_coord.specs.Projections.{projection}
 use Rattle.scr_coord.proofs.ProductLaws.{Follows-product}
-use Rattle.scr_notation.proofs.Below.{all_below}
+use Rattle.scr_notation.specs.Ranges.{all_below}
 use Rattle.scr_sq1.specs.Units.{Sq1State, sq1_after, turn_places, twist_places, turned, after_layers, twisted}
-use Rattle.scr_sq1.specs.Shapes.{half_words, half_word, half_bits, half_of, halves_in, shape_of, halves_number, ways, corner_count, corner_counts, shape_number}
+use Rattle.scr_sq1.specs.Shapes.{half_words, half_word, half_bits, half_of, halves_in, shape_of, halves_number, ways_to_have, corner_count, corner_counts, shape_number}
 use Rattle.scr_sq1.specs.Numbers.{corners_of, edges_of}
-use Rattle.scr_sq1.specs.Proofs.Pieces.{StatePieces-valid}
-use Rattle.scr_sq1solve.specs.Stages.{mates, pairing_of, pairing_letter, after_letter, oddness, turn_word}
+use Rattle.scr_sq1.proofs.StatePieces.{StatePieces-valid}
+use Rattle.scr_sq1solve.specs.Stages.{mates, pairing_of, pairing_letter, oddness, turn_word}
 use Rattle.scr_sq1solve.specs.Tables.{shapes_index, units_after, letters_by, carried_pairing, pairings_index}
 use Rattle.scr_sq1solve.specs.Tables.{pairings_view, pairings_coordinate}
 use Rattle.scr_sq1solve.specs.Spaces.{IsNormalSq1, pairings_space}
-use Rattle.scr_sq1solve.proofs.Indexed.{after_letter-parts}
 use Rattle.scr_sq1solve.specs.Placed.{are_normal}
 use Rattle.scr_sq1solve.proofs.NormalLetters.{IsMovedBy, IsMovedBy-normal, IsMovedBy-is}
 use Rattle.scr_sq1solve.proofs.NormalLetters.{corners-permutation, edges-permutation, slice_get-each}
 use Rattle.scr_sq1solve.proofs.Pairs.{IsPairing-of, IsPairing-carried, pairing_of-pick}
+use Rattle.scr_combinatorics.specs.Stages.{by_letters}
+use Rattle.scr_combinatorics.proofs.StageLaws.{by_letters-parts}
 
 pub pairing_letters_normal : IsTrue (are_normal pairing_letter)
-unfolding are_normal all_below play turn_word pairing_letter sq1_after after_layers turned turn_places twisted twist_places shapes_index oddness corners_of edges_of shape_number halves_number ways corner_count corner_counts shape_of halves_in half_of half_bits half_words half_word
+unfolding are_normal all_below play turn_word pairing_letter sq1_after after_layers turned turn_places twisted twist_places shapes_index oddness corners_of edges_of shape_number halves_number ways_to_have corner_count corner_counts shape_of halves_in half_of half_bits half_words half_word
 pairing_letters_normal = refl
 
 -- the pairing that stands for mates that stand with mates
@@ -73,12 +74,12 @@ module _ (pieces_of : List ℕ → List ℕ) (permutation : (s : Sq1State) → I
       ∙ ap (λ xs. Some (pairing_number 4 xs)) (sym (pairing_of-pick ps is ks (places n lt)) ∙ ap pairing_of (sym m.1))
       ∙ sym (ap (option_map part_index) m.0.played)
 
-  pub Follows-part : Follows (record { IsValid = IsNormalSq1; after = after_letter 32 pairing_letter; IsGoal = λ s. pairing_of (pieces_of s.units) ≡ mates })
+  pub Follows-part : Follows (record { IsValid = IsNormalSq1; after = by_letters sq1_after 32 pairing_letter; IsGoal = λ s. pairing_of (pieces_of s.units) ≡ mates })
       (positions (projection pairings_view (letters_by pieces_of pairing_letter))) part_index
-  unfolding after_letter
+  unfolding by_letters
   Follows-part = record {
     kept = λ s r n h e.
-        let parts = after_letter-parts 32 pairing_letter s r n e in
+        let parts = by_letters-parts sq1_after 32 pairing_letter s r n e in
         let m = (moves s n h (ltb-true n 32 parts.0)).0 in
         subst IsNormalSq1 (IsMovedBy-is pairing_letter pairing_letters_normal s r n m parts.1) m.are;
     valid = λ s h. (pairings_one_to_one 4).below (pairing_of (pieces_of s.units)) (IsPairing-of (pieces_of s.units) (permutation s h));
@@ -111,7 +112,7 @@ Follows-pairings =
     let letter = pairing_letter in
     let tested = pairing_letters_normal in
     Follows-product IsNormalSq1 (λ s. pairing_of (corners_of s.units) ≡ mates) (λ s. pairing_of (edges_of s.units) ≡ mates)
-    (after_letter 32 letter) (projection pairings_view (letters_by corners_of letter)) (projection pairings_view (letters_by edges_of letter))
+    (by_letters sq1_after 32 letter) (projection pairings_view (letters_by corners_of letter)) (projection pairings_view (letters_by edges_of letter))
     (λ s. pairing_number 4 (pairing_of (corners_of s.units))) (λ s. pairing_number 4 (pairing_of (edges_of s.units))) refl
     (Follows-part corners_of (λ s h. (StatePieces-valid s h.valid).corners) (corners-permutation letter tested)
     (λ s n h lt. let m = IsMovedBy-normal letter tested s n h lt in (m, m.corners)))

@@ -8,7 +8,8 @@ use Rattle.scr_combinatorics.specs.Lists.{occurrences, pick}
 use Rattle.scr_combinatorics.specs.Permutations.{IsPermutation, place_of}
 use Rattle.scr_combinatorics.specs.Pairings.{IsPairing}
 use Rattle.scr_combinatorics.proofs.PermutationLaws.{All-permutation, at-permutation, injective-permutation, place_of-lt, at-place_of}
-use Rattle.scr_notation.proofs.Below.{all_below, at_below}
+use Rattle.scr_notation.specs.Ranges.{all_below}
+use Rattle.scr_notation.proofs.Below.{at_below}
 use Rattle.scr_sq1solve.specs.Stages.{mates, pairing_of}
 use Rattle.scr_sq1solve.specs.Tables.{carried_pairing}
 

@@ -9,7 +9,7 @@ use Rattle.scr_combinatorics.specs.Lists.{pick}
 use Rattle.scr_combinatorics.specs.Permutations.{IsPermutation}
 use Rattle.scr_combinatorics.proofs.Picks.{length-pick}
 use Rattle.scr_combinatorics.proofs.PermutationLaws.{All-permutation, at-permutation, injective-permutation}
-use Rattle.scr_play.specs.Play.{play}
+use Rattle.scr_combinatorics.specs.Play.{play}
 use Rattle.scr_notation.specs.declared.turn.Turn.{Turn}
 use Rattle.scr_notation.specs.declared.turn.Turn.TheVariants.{Face, Axis, Tip, Layers, Twist, Pins, Over, Wide}
 use Rattle.scr_notation.specs.Layers.{is_layer_turn}

@@ -4,18 +4,18 @@ use Rattle.std.specs.Prelude.{◌↔◌, ◌==◌}
 use Rattle.std.specs.Option.{option_map}
 use Rattle.scr_combinatorics.specs.Permutations.{IsPermutation, parity}
 use Rattle.scr_combinatorics.proofs.PermutationLaws.{IsPermutation-numbers_from, IsPermutation-from_test}
-use Rattle.scr_play.specs.Play.{play}
+use Rattle.scr_combinatorics.specs.Play.{play}
 use Rattle.scr_coord.specs.Coordinates.{StaysBelow}
 use Rattle.scr_coord.specs.SearchSpaces.{positions, Follows}
 use Rattle.scr_notation.specs.declared.turn.Turn.{Turn}
-use Rattle.scr_notation.proofs.Below.{all_below}
+use Rattle.scr_notation.specs.Ranges.{all_below}
 use Rattle.scr_orbit.proofs.ActionLaws.{map-some}
 use Rattle.scr_sq1.specs.Units.{Sq1State, IsSq1, solved_sq1, sq1_after, turn_places, twist_places, turned, after_layers, twisted}
-use Rattle.scr_sq1.specs.Shapes.{shape_of, shape_number, shape_at, half_words, half_word, half_bits, half_of, halves_in, halves_number, ways, corner_count, corner_counts}
+use Rattle.scr_sq1.specs.Shapes.{shape_of, shape_number, shape_at, half_words, half_word, half_bits, half_of, halves_in, halves_number, ways_to_have, corner_count, corner_counts}
 use Rattle.scr_sq1.specs.Numbers.{corners_of, edges_of, laid, shape_word}
-use Rattle.scr_sq1.specs.Proofs.HalfNumbers.{shapes_one_to_one}
-use Rattle.scr_sq1.specs.Proofs.InHalves.{IsSq1-halves}
-use Rattle.scr_sq1.specs.Proofs.Pieces.{StatePieces-valid, LaidState-pieces}
+use Rattle.scr_sq1.proofs.HalfNumbers.{shapes_one_to_one}
+use Rattle.scr_sq1.proofs.InHalves.{IsSq1-halves}
+use Rattle.scr_sq1.proofs.StatePieces.{StatePieces-valid, LaidState-pieces}
 use Rattle.scr_sq1.proofs.Lawful.{IsSq1-solved}
 use Rattle.scr_sq1solve.specs.Stages.{IsEnd, IsNormal, oddness, turn_word, shape_letter, squaring_words}
 use Rattle.scr_sq1solve.specs.Tables.{shapes_index, shapes_state, pieces_of_parity, shapes_coordinate}
@@ -151,7 +151,7 @@ is_square (Some r) = shape_number (shape_of r.units) == shape_number (shape_of s
 
 -- back from a normal state by one of the four turns, and on by another, there is none of this shape
 squaring_apart : IsTrue (are_apart squaring_words is_square solved_sq1)
-unfolding are_apart all_below play turn_word sq1_after after_layers turned turn_places twisted twist_places shape_number halves_number ways corner_count corner_counts shape_of halves_in half_of half_bits half_words half_word
+unfolding are_apart all_below play turn_word sq1_after after_layers turned turn_places twisted twist_places shape_number halves_number ways_to_have corner_count corner_counts shape_of halves_in half_of half_bits half_words half_word
 squaring_apart = refl
 
 base-solved : base_of (shape_of solved_sq1.units) ≡ solved_sq1

@@ -9,17 +9,18 @@ use Rattle.scr_combinatorics.specs.Lists.{numbers_from}
 use Rattle.scr_combinatorics.specs.Digits.{mixed_number, mixed_digits}
 use Rattle.scr_combinatorics.specs.Permutations.{permutation_at}
 use Rattle.scr_combinatorics.proofs.Digits.{mixed_digits-mixed_number}
-use Rattle.scr_play.specs.Play.{play}
-use Rattle.scr_play.proofs.PlayLaws.{play-one, play-first}
+use Rattle.scr_combinatorics.specs.Play.{play}
+use Rattle.scr_combinatorics.proofs.PlayLaws.{play-one, play-first}
 use Rattle.scr_notation.specs.declared.turn.Turn.{Turn}
 use Rattle.scr_notation.specs.declared.turn.Turn.TheVariants.{Layers, Twist}
 use Rattle.scr_notation.specs.Layers.{twelfths, are_still, is_layer_turn}
 use Rattle.scr_notation.proofs.LayersLaws.{IsTwelfths, twelfths-own, layers_of_parts}
 use Rattle.scr_sq1.specs.Units.{Sq1State, solved_sq1, after_layers, twisted, sq1_after}
-use Rattle.scr_sq1.specs.Shapes.{half_words, half_word, half_bits, half_of, halves_in, shape_of, halves_number, ways, corner_count, corner_counts, shape_number, shape_at}
+use Rattle.scr_sq1.specs.Shapes.{half_words, half_word, half_bits, half_of, halves_in, shape_of, halves_number, ways_to_have, corner_count, corner_counts, shape_number, shape_at}
 use Rattle.scr_sq1.specs.Numbers.{corners_of, edges_of, laid, shape_word, sq1_bases, sq1_of_digits}
-use Rattle.scr_sq1solve.specs.Stages.{oddness, turn_word, shape_letter, after_letter}
+use Rattle.scr_sq1solve.specs.Stages.{oddness, turn_word, shape_letter}
 use Rattle.scr_sq1solve.specs.Tables.{shapes_index, shapes_state, pieces_of_parity}
+use Rattle.scr_combinatorics.specs.Stages.{by_letters}
 
 -- ---- letters
 
@@ -99,8 +100,8 @@ read-bottom n = read-amount (n % 12) (omega arith)
 
 -- the letter of a state that stands for an index
 pub shape-after : (s : Sq1State) (p n : ℕ) (o : Option Sq1State) → n < 144 → s ≡ shapes_state p → o ≡ play sq1_after s (shape_letter n)
-    → after_letter 144 shape_letter (shapes_state p) n ≡ o
-unfolding after_letter
+    → by_letters sq1_after 144 shape_letter (shapes_state p) n ≡ o
+unfolding by_letters
 shape-after s p n o lt is made =
     cond-true (nat_lt n 144) (play sq1_after (shapes_state p) (shape_letter n)) None (lt-ltb n 144 lt)
     ∙ ap (λ r. play sq1_after r (shape_letter n)) (sym is) ∙ sym made
@@ -138,5 +139,5 @@ state-of_index i lt =
 -- ---- the normal index
 
 pub normal_index : shapes_index solved_sq1 ≡ 2344
-unfolding shapes_index oddness corners_of edges_of shape_number halves_number ways corner_count corner_counts shape_of halves_in half_of half_bits half_words half_word
+unfolding shapes_index oddness corners_of edges_of shape_number halves_number ways_to_have corner_count corner_counts shape_of halves_in half_of half_bits half_words half_word
 normal_index = refl

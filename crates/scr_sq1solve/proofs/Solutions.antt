@@ -1,12 +1,12 @@
 -- Where the tables are built, each state has exactly one solution, which leads to solved.
-use Rattle.std.proofs.Common.{◌≡◌, ℕ, Bool, true, false, cond, List, [], ◌++◌, Option, Some, refl, sym, ap, ◌∙◌, subst}
-use Rattle.std.proofs.Common.{append_assoc, arith, lit<}
+use Rattle.std.proofs.Common.{◌≡◌, ℕ, Bool, true, false, cond, List, [], ◌++◌, Some, refl, sym, ap, ◌∙◌, subst}
+use Rattle.std.proofs.Common.{append_assoc, lit<, lit≤}
 use Rattle.std.specs.Prelude.{not, ◌↔◌}
-use Rattle.scr_play.specs.Play.{play}
-use Rattle.scr_play.specs.Back.{back}
-use Rattle.scr_play.specs.Reach.{IsReached}
-use Rattle.scr_play.specs.Tidy.{tidy}
-use Rattle.scr_play.proofs.PlayLaws.{play-append}
+use Rattle.scr_combinatorics.specs.Play.{play}
+use Rattle.scr_combinatorics.specs.Back.{back}
+use Rattle.scr_combinatorics.specs.Reach.{IsReached}
+use Rattle.scr_combinatorics.specs.Tidy.{tidy}
+use Rattle.scr_combinatorics.proofs.PlayLaws.{play-append}
 use Rattle.scr_notation.specs.declared.turn.Turn.{Turn}
 use Rattle.scr_notation.specs.Turning.{opposite, turn_merging}
 use Rattle.scr_table.specs.Distances.{Distances}
@@ -14,20 +14,20 @@ use Rattle.scr_table.specs.Lines.{IsTableOf, AreTablesOf}
 use Rattle.scr_table.proofs.LineLaws.{table_of_line}
 use Rattle.scr_sq1.specs.Units.{Sq1State, IsSq1, solved_sq1, sq1_after, sq1_puzzle}
 use Rattle.scr_sq1.proofs.Lawful.{IsSq1-reached, sq1_taken_back, sq1_kept_by_tidy}
-use Rattle.scr_sq1solve.specs.Stages.{Stage, after_letter, turns_of, IsStageWord, IsEnd, EndsIn, IsNormal}
+use Rattle.scr_sq1solve.specs.Stages.{IsEnd, EndsIn, IsNormal}
 use Rattle.scr_sq1solve.specs.Stages.{HasSolvedLayers, squaring_words, quarter_words, shape_letter, pairing_letter}
 use Rattle.scr_sq1solve.specs.Stages.{home_letter, shape_stage, pairing_stage, home_stage, equator_word, IsSolution}
 use Rattle.scr_sq1solve.specs.Stages.{IsScrambleSq1}
-use Rattle.scr_sq1solve.specs.Tables.{shapes_line, pairings_line, square_line, sq1_lines, shapes_coordinate}
-use Rattle.scr_sq1solve.specs.Tables.{pairings_coordinate, square_coordinate, shapes_index, pairings_index}
-use Rattle.scr_sq1solve.specs.Tables.{square_index}
+use Rattle.scr_sq1solve.specs.Tables.{shapes_line, pairings_line, square_line, sq1_lines, shapes_index, pairings_index, square_index}
 use Rattle.scr_sq1solve.specs.Spaces.{IsNormalSq1, IsPairedSq1}
 use Rattle.scr_sq1solve.proofs.Bases.{keeps_sq1}
 use Rattle.scr_sq1solve.proofs.ShapeStage.{Follows-shapes, StaysBelow-shapes, one_squaring}
 use Rattle.scr_sq1solve.proofs.PairingStage.{Follows-pairings, StaysBelow-pairings}
 use Rattle.scr_sq1solve.proofs.HomeStage.{Follows-square, StaysBelow-square, one_last}
-use Rattle.scr_sq1solve.proofs.StageWords.{play-letters, one_stage_word, end_valid, stage_word}
 use Rattle.scr_sq1solve.proofs.Equator.{flipped, play-equator, play-flipped}
+use Rattle.scr_combinatorics.specs.Stages.{spelled}
+use Rattle.scr_combinatorics.proofs.StageLaws.{play-stage_word, same_stage}
+use Rattle.scr_table.proofs.StageLaws.{end_valid, stage_word}
 
 -- ---- ends
 
@@ -53,7 +53,7 @@ behind_first e x a y z l =
 
 module _ (s : Sq1State) (valid : IsSq1 s) (w : List Turn) (h : IsSolution s w) where
   shape_end : IsSq1 h.is_shape.first.leads.end
-  shape_end = end_valid shape_stage IsSq1 shapes_coordinate shapes_index Follows-shapes s h.shape valid h.is_shape
+  shape_end = end_valid sq1_after shape_stage IsSq1 shapes_line shapes_index Follows-shapes s h.shape valid h.is_shape
 
   normal_end : IsNormalSq1 h.normal
   normal_end = record {
@@ -62,37 +62,37 @@ module _ (s : Sq1State) (valid : IsSq1 s) (w : List Turn) (h : IsSolution s w) w
   }
 
   pairing_end : IsNormalSq1 h.is_pairing.first.leads.end
-  pairing_end = end_valid pairing_stage IsNormalSq1 pairings_coordinate pairings_index Follows-pairings h.normal h.pairing normal_end h.is_pairing
+  pairing_end = end_valid sq1_after pairing_stage IsNormalSq1 pairings_line pairings_index Follows-pairings h.normal h.pairing normal_end h.is_pairing
 
   paired_end : IsPairedSq1 h.is_pairing.first.leads.end
   paired_end = record { normal = pairing_end; paired = h.is_pairing.first.leads.goal }
 
   homing_end : IsPairedSq1 h.is_homing.first.leads.end
-  homing_end = end_valid home_stage IsPairedSq1 square_coordinate square_index Follows-square h.is_pairing.first.leads.end h.homing paired_end h.is_homing
+  homing_end = end_valid sq1_after home_stage IsPairedSq1 square_line square_index Follows-square h.is_pairing.first.leads.end h.homing paired_end h.is_homing
 
   -- ---- the solution leads to solved
 
   -- all but the word that turns the equator
   unfoldable pub stages_of : List Turn
-  stages_of = turns_of shape_letter h.shape ++ h.squaring ++ turns_of pairing_letter h.pairing ++ turns_of home_letter h.homing ++ h.last
+  stages_of = spelled shape_letter h.shape ++ h.squaring ++ spelled pairing_letter h.pairing ++ spelled home_letter h.homing ++ h.last
 
   pub play-stages : play sq1_after s stages_of ≡ Some h.home
   unfolding stages_of
   play-stages =
-      let x : List Turn = turns_of shape_letter h.shape in
-      let y : List Turn = turns_of pairing_letter h.pairing in
-      let z : List Turn = turns_of home_letter h.homing in
+      let x : List Turn = spelled shape_letter h.shape in
+      let y : List Turn = spelled pairing_letter h.pairing in
+      let z : List Turn = spelled home_letter h.homing in
       let e1 : Sq1State = h.is_shape.first.leads.end in
       let e2 : Sq1State = h.is_pairing.first.leads.end in
       let e3 : Sq1State = h.is_homing.first.leads.end in
-      let a : play sq1_after s x ≡ Some e1 = play-letters 144 shape_letter s e1 h.shape h.is_shape.first.leads.played in
+      let a : play sq1_after s x ≡ Some e1 = play-stage_word sq1_after shape_stage s h.shape h.is_shape in
       let b : play sq1_after s (x ++ h.squaring) ≡ Some h.normal = play-append sq1_after s e1 x h.squaring a ∙ h.is_squaring.played in
       let c : play sq1_after s ((x ++ h.squaring) ++ y) ≡ Some e2 =
       play-append sq1_after s h.normal (x ++ h.squaring) y b
-      ∙ play-letters 32 pairing_letter h.normal e2 h.pairing h.is_pairing.first.leads.played in
+      ∙ play-stage_word sq1_after pairing_stage h.normal h.pairing h.is_pairing in
       let d : play sq1_after s (((x ++ h.squaring) ++ y) ++ z) ≡ Some e3 =
       play-append sq1_after s e2 ((x ++ h.squaring) ++ y) z c
-      ∙ play-letters 32 home_letter e2 e3 h.homing h.is_homing.first.leads.played in
+      ∙ play-stage_word sq1_after home_stage e2 h.homing h.is_homing in
       play-append sq1_after s e3 (((x ++ h.squaring) ++ y) ++ z) h.last d ∙ h.is_last.played
 
   by_equator : (b : Bool) → h.home.equator ≡ b → play sq1_after s ((let e : List Turn = cond b equator_word [] in e) ++ stages_of) ≡ Some solved_sq1
@@ -111,7 +111,7 @@ module _ (s : Sq1State) (valid : IsSq1 s) (w : List Turn) (h : IsSolution s w) w
   play-solution =
       let e : List Turn = cond h.home.equator equator_word [] in
       ap (play sq1_after s)
-      (h.joined ∙ behind_first e (turns_of shape_letter h.shape) h.squaring (turns_of pairing_letter h.pairing) (turns_of home_letter h.homing) h.last)
+      (h.joined ∙ behind_first e (spelled shape_letter h.shape) h.squaring (spelled pairing_letter h.pairing) (spelled home_letter h.homing) h.last)
       ∙ by_equator h.home.equator refl
 
 -- ---- there is one
@@ -119,23 +119,23 @@ module _ (s : Sq1State) (valid : IsSq1 s) (w : List Turn) (h : IsSolution s w) w
 module _ (shapes pairings square : Distances) (a : IsTableOf shapes_line shapes) (b : IsTableOf pairings_line pairings) (c : IsTableOf square_line square) where
   solution_by : (s : Sq1State) → IsSq1 s → (w : List Turn) × IsSolution s w
   solution_by s valid =
-      let first = stage_word shape_stage IsSq1 shapes_coordinate shapes_index Follows-shapes shapes StaysBelow-shapes a.measures (omega (arith, a.bound)) s valid in
+      let first = stage_word sq1_after shape_stage IsSq1 shapes_line shapes_index Follows-shapes (lit≤ tt) shapes a StaysBelow-shapes s valid in
       let squared : Sq1State = first.1.first.leads.end in
-      let squared_valid = end_valid shape_stage IsSq1 shapes_coordinate shapes_index Follows-shapes s first.0 valid first.1 in
+      let squared_valid = end_valid sq1_after shape_stage IsSq1 shapes_line shapes_index Follows-shapes s first.0 valid first.1 in
       let turn = EndsIn-end IsNormal squaring_words squared first.1.first.leads.goal in
       let normal : Sq1State = turn.1 in
       let is_normal : IsNormalSq1 normal =
       record { valid = keeps_sq1 squared normal turn.0 squared_valid turn.2.played; normal = turn.2.holds } in
-      let second = stage_word pairing_stage IsNormalSq1 pairings_coordinate pairings_index Follows-pairings pairings StaysBelow-pairings b.measures (omega (arith, b.bound)) normal is_normal in
+      let second = stage_word sq1_after pairing_stage IsNormalSq1 pairings_line pairings_index Follows-pairings (lit≤ tt) pairings b StaysBelow-pairings normal is_normal in
       let is_paired : IsPairedSq1 second.1.first.leads.end = record {
-        normal = end_valid pairing_stage IsNormalSq1 pairings_coordinate pairings_index Follows-pairings normal second.0 is_normal second.1;
+        normal = end_valid sq1_after pairing_stage IsNormalSq1 pairings_line pairings_index Follows-pairings normal second.0 is_normal second.1;
         paired = second.1.first.leads.goal;
       } in
-      let third = stage_word home_stage IsPairedSq1 square_coordinate square_index Follows-square square StaysBelow-square c.measures (omega (arith, c.bound)) second.1.first.leads.end is_paired in
+      let third = stage_word sq1_after home_stage IsPairedSq1 square_line square_index Follows-square (lit≤ tt) square c StaysBelow-square second.1.first.leads.end is_paired in
       let last = EndsIn-end HasSolvedLayers quarter_words third.1.first.leads.end third.1.first.leads.goal in
       let joined : List Turn =
-      (let e : List Turn = cond last.1.equator equator_word [] in e) ++ turns_of shape_letter first.0 ++ turn.0 ++ turns_of pairing_letter second.0
-      ++ turns_of home_letter third.0 ++ last.0 in (
+      (let e : List Turn = cond last.1.equator equator_word [] in e) ++ spelled shape_letter first.0 ++ turn.0 ++ spelled pairing_letter second.0
+      ++ spelled home_letter third.0 ++ last.0 in (
         joined,
         record {
           shape = first.0;
@@ -174,34 +174,21 @@ module _ (tables : List Distances) (built : AreTablesOf sq1_lines tables) where
 
 -- ---- and but one
 
--- the words of a stage from two states that are the same are the same, and so are their ends
-same_stage : (stage : Stage) (s r : Sq1State) (v w : List ℕ) → s ≡ r → (a : IsStageWord stage s v) (b : IsStageWord stage r w)
-    → (v ≡ w) × (a.first.leads.end ≡ b.first.leads.end)
-same_stage stage s r v w e a b =
-    let words : v ≡ w = one_stage_word stage r v w (subst (λ q. IsStageWord stage q v) e a) b in
-    let ends : Some a.first.leads.end ≡ Some b.first.leads.end =
-    sym a.first.leads.played ∙ ap (λ q. play (after_letter stage.letters stage.letter) q v) e
-    ∙ ap (play (after_letter stage.letters stage.letter) r) words ∙ b.first.leads.played in
-    (words, some_same ends)
-  where
-    some_same : {x y : Sq1State} → (let p : Option Sq1State = Some x in p ≡ Some y) → x ≡ y
-    some_same e = cc
-
 pub one_solution : (s : Sq1State) (v w : List Turn) → IsSq1 s → IsSolution s v → IsSolution s w → v ≡ w
 one_solution s v w valid f g =
-    let shape = same_stage shape_stage s s f.shape g.shape refl f.is_shape g.is_shape in
+    let shape = same_stage sq1_after shape_stage s s f.shape g.shape refl f.is_shape g.is_shape in
     let moved : IsEnd IsNormal squaring_words g.is_shape.first.leads.end f.squaring f.normal =
     subst (λ r. IsEnd IsNormal squaring_words r f.squaring f.normal) shape.1 f.is_squaring in
     let squaring = one_squaring g.is_shape.first.leads.end f.normal g.normal f.squaring g.squaring (shape_end s valid w g) moved g.is_squaring in
     let normal = one_end g.is_shape.first.leads.end f.normal g.normal f.squaring g.squaring squaring moved.played g.is_squaring.played in
-    let pairing = same_stage pairing_stage f.normal g.normal f.pairing g.pairing normal f.is_pairing g.is_pairing in
-    let homing = same_stage home_stage f.is_pairing.first.leads.end g.is_pairing.first.leads.end f.homing g.homing pairing.1 f.is_homing g.is_homing in
+    let pairing = same_stage sq1_after pairing_stage f.normal g.normal f.pairing g.pairing normal f.is_pairing g.is_pairing in
+    let homing = same_stage sq1_after home_stage f.is_pairing.first.leads.end g.is_pairing.first.leads.end f.homing g.homing pairing.1 f.is_homing g.is_homing in
     let last_moved : IsEnd HasSolvedLayers quarter_words g.is_homing.first.leads.end f.last f.home =
     subst (λ r. IsEnd HasSolvedLayers quarter_words r f.last f.home) homing.1 f.is_last in
     let last = one_last g.is_homing.first.leads.end f.home g.home f.last g.last (homing_end s valid w g).normal.valid last_moved g.is_last in
     let home = one_end g.is_homing.first.leads.end f.home g.home f.last g.last last last_moved.played g.is_last.played in
     let join = λ (h : Sq1State) (x : List ℕ) (t : List Turn) (y z : List ℕ) (l : List Turn). (let e : List Turn = cond h.equator equator_word [] in e)
-    ++ turns_of shape_letter x ++ t ++ turns_of pairing_letter y ++ turns_of home_letter z ++ l in
+    ++ spelled shape_letter x ++ t ++ spelled pairing_letter y ++ spelled home_letter z ++ l in
     f.joined
     ∙ ap (λ h. join h f.shape f.squaring f.pairing f.homing f.last) home
     ∙ ap (λ x. join g.home x f.squaring f.pairing f.homing f.last) shape.0

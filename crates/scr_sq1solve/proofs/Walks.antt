@@ -1,45 +1,33 @@
 -- The words of the stages, as they are found and played, and the solution that they are joined to.
-use Rattle.std.proofs.Common.{◌≡◌, ℕ, ◌*◌, ◌<◌, ◌≤◌, cond, List, [], ◌∷◌, ◌++◌, Option, Some, sym, ap, ◌∙◌, subst}
-use Rattle.std.proofs.Common.{arith, append_assoc, ltb-true}
+use Rattle.std.proofs.Common.{◌≡◌, ℕ, ◌*◌, ◌<◌, ◌≤◌, cond, List, [], ◌++◌, Option, Some, sym, ap, ◌∙◌, subst}
+use Rattle.std.proofs.Common.{arith, append_assoc}
 use Rattle.std.specs.Prelude.{All}
-use Rattle.std.proofs.lemmas.List.Elements.{All-nil, All-cons}
-use Rattle.scr_play.specs.Play.{play}
-use Rattle.scr_play.specs.FirstWord.{IsFirstWord}
-use Rattle.scr_play.specs.Tidy.{tidy}
-use Rattle.scr_play.proofs.PlayLaws.{play-parts}
-use Rattle.scr_coord.specs.Coordinates.{Coordinate, moved, IsGoal}
+use Rattle.scr_combinatorics.specs.Play.{play}
+use Rattle.scr_combinatorics.specs.FirstWord.{IsFirstWord}
+use Rattle.scr_combinatorics.specs.Tidy.{tidy}
+use Rattle.scr_coord.specs.Coordinates.{moved, IsGoal}
 use Rattle.scr_notation.specs.declared.turn.Turn.{Turn}
 use Rattle.scr_notation.specs.Turning.{turn_merging}
 use Rattle.scr_sq1.specs.Units.{Sq1State, sq1_after}
 use Rattle.scr_sq1solve.specs.declared.stage_letters.Letters.TheVariants.{Squarings, Quarters}
-use Rattle.scr_sq1solve.specs.Stages.{Stage, IsStageWord, EndsIn, IsEnd, IsSolution, IsNormal, HasSolvedLayers, after_letter, turns_of, squaring_words, quarter_words, shape_letter, pairing_letter, shape_stage, pairing_stage, home_stage, equator_word}
+use Rattle.scr_sq1solve.specs.Stages.{EndsIn, IsEnd, IsSolution, IsNormal, HasSolvedLayers, squaring_words, quarter_words, shape_letter, pairing_letter, shape_stage, pairing_stage, home_stage, equator_word}
 use Rattle.scr_sq1solve.specs.Letters.{squaring_word, end_words, IsEnded, IsWalk, IsTidiedSolution}
 use Rattle.scr_sq1solve.specs.Counts.{Costs}
 use Rattle.scr_sq1solve.proofs.Lengths.{Costs-word}
-use Rattle.scr_sq1solve.specs.Spaces.{stage_space}
-use Rattle.scr_sq1solve.proofs.Indexed.{after_letter-parts}
 use Rattle.scr_table.specs.Distances.{Distances}
 use Rattle.scr_table.specs.Lines.{TableLine, IsTableOf}
 use Rattle.scr_coord.specs.SearchSpaces.{positions, Follows}
-use Rattle.scr_sq1solve.proofs.StageWords.{play-letters, IsStageWord-first, end_valid}
 use Rattle.scr_sq1solve.proofs.Joins.{tidy-rest}
-
--- ---- letters
-
--- the letters of a word that is defined are there
-pub letters-below : (letters : ℕ) (letter : ℕ → List Turn) (s r : Sq1State) (w : List ℕ) → letters ≤ 144 → play (after_letter letters letter) s w ≡ Some r
-    → All (λ n. n < 144) w
-letters-below letters letter s r [] few e = All-nil (λ n. n < 144)
-letters-below letters letter s r (n ∷ w) few e =
-    let parts = play-parts (after_letter letters letter) s r n w e in
-    let below : n < letters = ltb-true n letters (after_letter-parts letters letter s parts.0 n parts.1).0 in
-    All-cons (λ k. k < 144) n w (omega (arith, below, few)) (letters-below letters letter parts.0 r w few parts.2)
+use Rattle.scr_combinatorics.specs.Stages.{Stage, IsStageWord, spelled}
+use Rattle.scr_table.specs.StageSpaces.{stage_space}
+use Rattle.scr_combinatorics.proofs.StageLaws.{play-stage_word, All-stage_word}
+use Rattle.scr_table.proofs.StageLaws.{end_valid, IsStageWord-first}
 
 -- the turns of a stage's word, where they are played
-pub IsWalk-played : (stage : Stage) (s end : Sq1State) (word : List ℕ) (turns : List Turn) → IsStageWord stage s word → turns ≡ turns_of stage.letter word
+pub IsWalk-played : (stage : Stage Sq1State Turn) (s end : Sq1State) (word : List ℕ) (turns : List Turn) → IsStageWord sq1_after stage s word → turns ≡ spelled stage.letter word
     → play sq1_after s turns ≡ Some end → IsWalk stage s turns end
 IsWalk-played stage s end word turns is are played =
-    let here = play-letters stage.letters stage.letter s is.first.leads.end word is.first.leads.played in
+    let here = play-stage_word sq1_after stage s word is in
     let same : Some is.first.leads.end ≡ Some end = sym here ∙ ap (play sq1_after s) (sym are) ∙ played in
     record { word = word; is = is; turns_are = are; end_is = some_same same }
   where
@@ -47,16 +35,17 @@ IsWalk-played stage s end word turns is are played =
     some_same e = cc
 
 -- what is so where a stage's word has led
-module _ {stage : Stage} {s end : Sq1State} {turns : List Turn} (w : IsWalk stage s turns end) where
+module _ {stage : Stage Sq1State Turn} {s end : Sq1State} {turns : List Turn} (w : IsWalk stage s turns end) where
   pub walk-costs : (each_turns each_twists : ℕ) → ((n : ℕ) → Costs (stage.letter n) each_turns each_twists)
       → Costs turns (stage.bound * each_turns) (stage.bound * each_twists)
   walk-costs each_turns each_twists costs =
       subst (λ ts. Costs ts (stage.bound * each_turns) (stage.bound * each_twists)) (sym w.turns_are)
       (Costs-word stage.letter each_turns each_twists stage.bound costs w.word w.is.within)
 
-  pub walk-kept : (IsValid : Sq1State → Type 0) (c : Coordinate) (view : Sq1State → ℕ)
-      → Follows (stage_space IsValid stage.letters stage.letter stage.IsGoal) (positions c) view → IsValid s → IsValid end
-  walk-kept IsValid c view follows valid = subst IsValid w.end_is (end_valid stage IsValid c view follows s w.word valid w.is)
+  pub walk-kept : (IsValid : Sq1State → Type 0) (line : TableLine) (view : Sq1State → ℕ)
+      → Follows (stage_space sq1_after stage IsValid) (positions line.coordinate) view → IsValid s → IsValid end
+  walk-kept IsValid line view follows valid =
+      subst IsValid w.end_is (end_valid sq1_after stage IsValid line view follows s w.word valid w.is)
 
 -- ---- the solution
 
@@ -97,8 +86,8 @@ module _ {s shaped normal paired homed home : Sq1State} {shape squaring pairing 
         home = home;
         is_last = subst (λ r. IsEnd HasSolvedLayers quarter_words r last home) (sym homed_walk.end_is) e;
         joined = ap (λ x. first_word ++ x ++ squaring ++ pairing ++ homing ++ last) a.turns_are
-            ∙ ap (λ y. first_word ++ turns_of shape_letter a.word ++ squaring ++ y ++ homing ++ last) c.turns_are
-            ∙ ap (λ z. first_word ++ turns_of shape_letter a.word ++ squaring ++ turns_of pairing_letter c.word ++ z ++ last) homed_walk.turns_are;
+            ∙ ap (λ y. first_word ++ spelled shape_letter a.word ++ squaring ++ y ++ homing ++ last) c.turns_are
+            ∙ ap (λ z. first_word ++ spelled shape_letter a.word ++ squaring ++ spelled pairing_letter c.word ++ z ++ last) homed_walk.turns_are;
       }
 
   -- joined from its end, and tidied whenever a part is joined, it is the tidied solution
@@ -117,22 +106,20 @@ module _ {s shaped normal paired homed home : Sq1State} {shape squaring pairing 
 
 -- ---- the words that the tables find
 
-module _ (stage : Stage) (s : Sq1State) (w : List ℕ) (is : IsStageWord stage s w) where
-  pub played-word : play sq1_after s (turns_of stage.letter w) ≡ Some is.first.leads.end
-  played-word = play-letters stage.letters stage.letter s is.first.leads.end w is.first.leads.played
-
-  pub below-word : stage.letters ≤ 144 → All (λ n. n < 144) w
-  below-word few = letters-below stage.letters stage.letter s is.first.leads.end w few is.first.leads.played
+pub below-word : (stage : Stage Sq1State Turn) (s : Sq1State) (w : List ℕ) → IsStageWord sq1_after stage s w → stage.letters ≤ 144
+    → All (λ n. n < 144) w
+below-word stage s w is few =
+    let below = All-stage_word sq1_after stage s w is in λ k d lt. omega (arith, below k d lt, few)
 
 -- the word that a table of a line finds from a state's position, where it is read and copied
-module _ (stage : Stage) (IsValid : Sq1State → Type 0) (line : TableLine) (view : Sq1State → ℕ)
-    (follows : Follows (stage_space IsValid stage.letters stage.letter stage.IsGoal) (positions line.coordinate) view) (bound : line.bound ≤ stage.bound)
+module _ (stage : Stage Sq1State Turn) (IsValid : Sq1State → Type 0) (line : TableLine) (view : Sq1State → ℕ)
+    (follows : Follows (stage_space sq1_after stage IsValid) (positions line.coordinate) view) (bound : line.bound ≤ stage.bound)
     (table : Distances) (is : IsTableOf line table) (s : Sq1State) (p : ℕ) (items word : List ℕ) where
   pub IsStageWord-found : IsValid s → p ≡ view s → word ≡ items → IsFirstWord (moved line.coordinate) (IsGoal line.coordinate) p items
-      → IsStageWord stage s word
+      → IsStageWord sq1_after stage s word
   IsStageWord-found valid at copied first =
-      subst (IsStageWord stage s) (sym copied)
-      (IsStageWord-first stage IsValid line.coordinate view follows table is.measures (omega (arith, is.bound, bound)) s items valid
+      subst (IsStageWord sq1_after stage s) (sym copied)
+      (IsStageWord-first sq1_after stage IsValid line view follows bound table is s items valid
       (subst (λ q. IsFirstWord (moved line.coordinate) (IsGoal line.coordinate) q items) at first))
 
 -- ---- between the stages

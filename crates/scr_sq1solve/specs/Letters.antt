@@ -1,16 +1,17 @@
 -- The letters of the stages, and the turns that end them, each kind by its name.
 use Rattle.std.specs.Prelude.{◌≡◌, ℕ, ◌/◌, ◌%◌, ◌≤◌, nat_lt, pos, ◌-ℤ◌, ◌+ℤ◌, neg_ℤ, if◌then◌else◌, List, [], ◌∷◌, map}
 use Rattle.scr_combinatorics.specs.Lists.{numbers_from}
-use Rattle.scr_play.specs.Tidy.{tidy}
+use Rattle.scr_combinatorics.specs.Tidy.{tidy}
 use Rattle.scr_notation.specs.declared.turn.Turn.{Turn}
 use Rattle.scr_notation.specs.declared.turn.Turn.TheVariants.{Twist}
 use Rattle.scr_notation.specs.Turning.{turn_merging}
-use Rattle.scr_sq1.specs.Units.{Sq1State}
-use Rattle.scr_sq1solve.specs.Stages.{Stage, IsStageWord, IsSolution, IsNormal, HasSolvedLayers, turn_word, quarters, quarter_word, turns_of, shape_letter, pairing_letter, home_letter}
+use Rattle.scr_sq1.specs.Units.{Sq1State, sq1_after}
+use Rattle.scr_sq1solve.specs.Stages.{IsSolution, IsNormal, HasSolvedLayers, turn_word, quarters, quarter_word, shape_letter, pairing_letter, home_letter}
 use Rattle.scr_sq1solve.specs.declared.stage_letters.Letters.{Letters}
 use Rattle.scr_sq1solve.specs.declared.stage_letters.Letters.TheVariants.{OfShapes, OfPairings, OfHome, Squarings, Quarters}
 use Rattle.scr_sq1solve.specs.declared.stage_letters.Step.{Step}
 use Rattle.scr_sq1solve.specs.declared.stage_letters.Step.TheVariants.{Turned, Twisted}
+use Rattle.scr_combinatorics.specs.Stages.{Stage, IsStageWord, spelled}
 
 -- number n, below 4, of the turns of which one ends the first stage
 unfoldable pub squaring_word : ℕ → List Turn
@@ -53,16 +54,16 @@ IsEnded Squarings s = IsNormal s
 IsEnded _ s = HasSolvedLayers s
 
 -- A stage's table may reach so far: no farther than the stage, whose words have at most 24 of at most 144 letters.
-pub record IsInReach (stage : Stage) (bound : ℕ) : Type 0 where
+pub record IsInReach (stage : Stage Sq1State Turn) (bound : ℕ) : Type 0 where
   pub within : bound ≤ stage.bound
   pub short : stage.bound ≤ 24
   pub few_letters : stage.letters ≤ 144
 
 -- The turns of a stage's word from a state, and where they lead.
-pub record IsWalk (stage : Stage) (s : Sq1State) (turns : List Turn) (end : Sq1State) : Type 0 where
+pub record IsWalk (stage : Stage Sq1State Turn) (s : Sq1State) (turns : List Turn) (end : Sq1State) : Type 0 where
   pub word : List ℕ
-  pub is : IsStageWord stage s word
-  pub turns_are : turns ≡ turns_of stage.letter word
+  pub is : IsStageWord sq1_after stage s word
+  pub turns_are : turns ≡ spelled stage.letter word
   pub end_is : is.first.leads.end ≡ end
 
 -- The solution of a state, tidied.

@@ -3,9 +3,9 @@
 use Rattle.std.specs.Prelude.{◌≡◌, ℕ, ◌==◌, ◌&&◌, Bool, false, IsTrue, List, [], map, Option, Some, None}
 use Rattle.scr_combinatorics.specs.Permutations.{IsPermutation}
 use Rattle.scr_orbit.specs.Orbits.{Rearrangement}
-use Rattle.scr_play.specs.Play.{play}
+use Rattle.scr_combinatorics.specs.Play.{play}
 use Rattle.scr_notation.specs.declared.turn.Turn.{Turn}
-use Rattle.scr_notation.proofs.Below.{all_below, same}
+use Rattle.scr_notation.specs.Ranges.{all_below, same}
 use Rattle.scr_sq1.specs.Units.{Sq1State, solved_sq1, sq1_after}
 use Rattle.scr_sq1.specs.Numbers.{corners_of, edges_of}
 use Rattle.scr_sq1solve.specs.Stages.{mates}

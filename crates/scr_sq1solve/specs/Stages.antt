@@ -2,13 +2,13 @@
 --
 -- First the square shape: top and bottom then have a corner, an edge and so on in turn, as when solved. Then each corner is
 -- brought next to the one that is opposite to it, across its layer, when solved, and so is each edge. Then all pieces are brought home.
-use Rattle.std.specs.Prelude.{◌≡◌, ℕ, ◌+◌, ◌*◌, ◌/◌, ◌%◌, ◌≤◌, nat_lt, ℤ, pos, ◌-ℤ◌, ◌+ℤ◌, neg_ℤ, if◌then◌else◌, List, [], ◌∷◌, ◌++◌, map, length, slice_index, flat_map, Option, Some, None, Any}
+use Rattle.std.specs.Prelude.{◌≡◌, ℕ, ◌+◌, ◌*◌, ◌/◌, ◌%◌, nat_lt, ℤ, pos, ◌-ℤ◌, ◌+ℤ◌, neg_ℤ, if◌then◌else◌, List, [], ◌∷◌, ◌++◌, map, slice_index, Some, Any}
 use Rattle.scr_combinatorics.specs.Lists.{numbers_from}
 use Rattle.scr_combinatorics.specs.Permutations.{parity, place_of}
-use Rattle.scr_play.specs.Play.{play}
-use Rattle.scr_play.specs.Back.{back}
-use Rattle.scr_play.specs.Tidy.{tidy}
-use Rattle.scr_play.specs.FirstWord.{IsFirstWord}
+use Rattle.scr_combinatorics.specs.Play.{play}
+use Rattle.scr_combinatorics.specs.Back.{back}
+use Rattle.scr_combinatorics.specs.Tidy.{tidy}
+use Rattle.scr_combinatorics.specs.Stages.{Stage, IsStageWord, spelled}
 use Rattle.scr_notation.specs.declared.turn.Turn.{Turn}
 use Rattle.scr_notation.specs.declared.turn.Turn.TheVariants.{Layers, Twist}
 use Rattle.scr_notation.specs.Layers.{twelfths, are_still}
@@ -40,28 +40,6 @@ quarter_word n = turn_word (quarters (n / 4)) (quarters (n % 4))
 abbrev pub quarter_words : List (List Turn)
 quarter_words = map quarter_word (numbers_from 0 16)
 
--- A stage: the letters of its words, each of which is a word of turns, and how many there are; its goal; and how many letters
--- lead there from wherever the stage before may end.
-pub record Stage : Type 1 where
-  pub letters : ℕ
-  pub letter : ℕ → List Turn
-  pub IsGoal : Sq1State → Type 0
-  pub bound : ℕ
-
--- What a letter makes of a state: nothing where there is no such letter, or one of its turns is barred.
-unfoldable pub after_letter : ℕ → (ℕ → List Turn) → Sq1State → ℕ → Option Sq1State
-after_letter letters letter s n = if nat_lt n letters then play sq1_after s (letter n) else None
-
--- a word of letters as turns
-abbrev pub turns_of : (ℕ → List Turn) → List ℕ → List Turn
-turns_of letter word = flat_map letter word
-
--- The word of a stage: the first word of its letters to its goal, by length and then by the letters' numbers. It is no longer
--- than the bound.
-pub record IsStageWord (stage : Stage) (s : Sq1State) (word : List ℕ) : Type 0 where
-  pub first : IsFirstWord (after_letter stage.letters stage.letter) stage.IsGoal s word
-  pub within : length word ≤ stage.bound
-
 -- ---- the first stage: the square shape
 
 -- letter 12 (x + 5) + (y + 5), for x and y from -5 to 6, turns the layers by x and y, and twists
@@ -82,7 +60,7 @@ abbrev pub squaring_words : List (List Turn)
 squaring_words =
     turn_word (pos 0) (pos 0) ∷ turn_word (neg_ℤ (pos 1)) (pos 0) ∷ turn_word (pos 0) (pos 1) ∷ turn_word (neg_ℤ (pos 1)) (pos 1) ∷ []
 
-abbrev pub shape_stage : Stage
+abbrev pub shape_stage : Stage Sq1State Turn
 shape_stage = record { letters = 144; letter = shape_letter; IsGoal = EndsIn IsNormal squaring_words; bound = 13 }
 
 -- ---- the second stage: the pairs
@@ -108,7 +86,7 @@ pairing_letter n =
     if nat_lt n 16 then turn_word top (bottom -ℤ pos 1) ++ Twist ∷ turn_word (pos 0) (pos 1)
     else turn_word (top +ℤ pos 1) bottom ++ Twist ∷ turn_word (neg_ℤ (pos 1)) (pos 0)
 
-abbrev pub pairing_stage : Stage
+abbrev pub pairing_stage : Stage Sq1State Turn
 pairing_stage = record { letters = 32; letter = pairing_letter; IsGoal = IsPaired; bound = 20 }
 
 -- ---- the third stage: home
@@ -131,7 +109,7 @@ home_letter n = quarter_word (n % 16) ++ (if nat_lt n 16 then edge_word else cor
 abbrev pub HasSolvedLayers : Sq1State → Type 0
 HasSolvedLayers s = s.units ≡ solved_sq1.units
 
-abbrev pub home_stage : Stage
+abbrev pub home_stage : Stage Sq1State Turn
 home_stage = record { letters = 32; letter = home_letter; IsGoal = EndsIn HasSolvedLayers quarter_words; bound = 20 }
 
 -- ---- the solution, and the scramble
@@ -151,20 +129,20 @@ pub record IsEnd (P : Sq1State → Type 0) (words : List (List Turn)) (s : Sq1St
 -- equator turned, the word that turns it comes first.
 pub record IsSolution (s : Sq1State) (solution : List Turn) : Type 0 where
   pub shape : List ℕ
-  pub is_shape : IsStageWord shape_stage s shape
+  pub is_shape : IsStageWord sq1_after shape_stage s shape
   pub squaring : List Turn
   pub normal : Sq1State
   pub is_squaring : IsEnd IsNormal squaring_words is_shape.first.leads.end squaring normal
   pub pairing : List ℕ
-  pub is_pairing : IsStageWord pairing_stage normal pairing
+  pub is_pairing : IsStageWord sq1_after pairing_stage normal pairing
   pub homing : List ℕ
-  pub is_homing : IsStageWord home_stage is_pairing.first.leads.end homing
+  pub is_homing : IsStageWord sq1_after home_stage is_pairing.first.leads.end homing
   pub last : List Turn
   pub home : Sq1State
   pub is_last : IsEnd HasSolvedLayers quarter_words is_homing.first.leads.end last home
   pub joined : solution
-      ≡ (if home.equator then equator_word else []) ++ turns_of shape_letter shape ++ squaring ++ turns_of pairing_letter pairing
-      ++ turns_of home_letter homing ++ last
+      ≡ (if home.equator then equator_word else []) ++ spelled shape_letter shape ++ squaring ++ spelled pairing_letter pairing
+      ++ spelled home_letter homing ++ last
 
 -- The scramble of a state: its solution, tidied and taken back.
 pub record IsScrambleSq1 (s : Sq1State) (scramble : List Turn) : Type 0 where

@@ -1,24 +1,26 @@
 -- The tables of the stages: what each is a table of, and how far it may reach.
 use Rattle.std.specs.Prelude.{ℕ, ◌+◌, ◌*◌, ◌/◌, ◌%◌, ◌==◌, Bool, false, if◌then◌else◌, List, [], ◌∷◌, map, slice_index, unwrap_or, Option, Some, None}
-use Rattle.std.specs.Option.{option_map}
 use Rattle.std.specs.List.{list_any}
 use Rattle.scr_combinatorics.specs.Lists.{numbers_from, pick, total}
+use Rattle.scr_combinatorics.specs.Numbered.{Numbered}
 use Rattle.scr_combinatorics.specs.Permutations.{permutation_number, permutation_at, place_of}
 use Rattle.scr_combinatorics.specs.Digits.{mixed_number, mixed_digits}
 use Rattle.scr_combinatorics.specs.Pairings.{pairing_number, pairing_at}
 use Rattle.scr_orbit.specs.Orbits.{Rearrangement}
-use Rattle.scr_play.specs.Play.{play}
+use Rattle.scr_combinatorics.specs.Play.{play}
 use Rattle.scr_coord.specs.Coordinates.{Coordinate}
-use Rattle.scr_coord.specs.Products.{product}
+use Rattle.scr_coord.specs.Indexes.{indexed_coordinate}
+use Rattle.scr_coord.specs.Products.{product_coordinate}
 use Rattle.scr_coord.specs.Projections.{ListView, projection}
 use Rattle.scr_notation.specs.declared.turn.Turn.{Turn}
 use Rattle.scr_table.specs.declared.name.TableName.TheVariants.{Shapes, Pairings, Square}
 use Rattle.scr_table.specs.Lines.{TableLine}
-use Rattle.scr_sq1.specs.Units.{Sq1State, solved_sq1, sq1_after}
+use Rattle.scr_sq1.specs.Units.{Sq1State, IsSq1, solved_sq1, sq1_after}
 use Rattle.scr_sq1.specs.Shapes.{shape_of, shape_number, shape_at}
 use Rattle.scr_sq1.specs.Numbers.{corners_of, edges_of, laid, shape_word}
-use Rattle.scr_sq1solve.specs.Stages.{after_letter, shape_letter, oddness, squaring_words, shape_stage, mates}
+use Rattle.scr_sq1solve.specs.Stages.{shape_letter, oddness, squaring_words, shape_stage, mates}
 use Rattle.scr_sq1solve.specs.Stages.{pairing_of, pairing_letter, pairing_stage, home_letter, quarter_words, home_stage}
+use Rattle.scr_combinatorics.specs.Stages.{by_letters}
 
 -- ---- states by an index
 
@@ -27,16 +29,12 @@ abbrev pub has_index : (Sq1State → ℕ) → ℕ → Option Sq1State → Bool
 has_index index_of i None = false
 has_index index_of i (Some s) = index_of s == i
 
--- What a search sees that knows of a state its index alone: the letters lead from the index of a state to that of the state
--- that they make of it, and the goals are the indexes of which one of some words leads to that of the solved state. Which
--- state stands for an index makes no difference.
-abbrev pub indexed_coordinate : ℕ → (Sq1State → ℕ) → (ℕ → Sq1State) → ℕ → (ℕ → List Turn) → List (List Turn) → Coordinate
-indexed_coordinate count index_of state_at letters letter ends = record {
-  count = count;
-  turns = letters;
-  after = λ i n. option_map index_of (after_letter letters letter (state_at i) n);
-  is_goal = λ i. list_any (λ word. has_index index_of (index_of solved_sq1) (play sq1_after (state_at i) word)) ends;
-}
+-- What a search sees that knows of a state its index alone: letters lead from index to index, and the goals are the indexes of
+-- which one of some words leads to that of the solved state.
+abbrev pub lettered_coordinate : Numbered Sq1State → ℕ → (ℕ → List Turn) → List (List Turn) → Coordinate
+lettered_coordinate n letters letter ends =
+    indexed_coordinate n letters (by_letters sq1_after letters letter)
+    (λ i. list_any (λ word. has_index n.number_of (n.number_of solved_sq1) (play sq1_after (n.state_at i) word)) ends)
 
 -- ---- the shapes
 
@@ -52,7 +50,9 @@ unfoldable pub shapes_state : ℕ → Sq1State
 shapes_state i = record { units = laid (shape_word (shape_at (i / 2))) (numbers_from 0 8) (pieces_of_parity (i % 2)); equator = false }
 
 abbrev pub shapes_coordinate : Coordinate
-shapes_coordinate = indexed_coordinate 7356 shapes_index shapes_state 144 shape_letter squaring_words
+shapes_coordinate =
+    lettered_coordinate (record { count = 7356; state_at = shapes_state; number_of = shapes_index; IsValid = IsSq1 }) 144 shape_letter
+    squaring_words
 
 -- ---- the pairings
 
@@ -83,7 +83,7 @@ pairings_view = record {
 }
 
 abbrev pub pairings_coordinate : Coordinate
-pairings_coordinate = product (projection pairings_view (letters_by corners_of pairing_letter)) (projection pairings_view (letters_by edges_of pairing_letter))
+pairings_coordinate = product_coordinate (projection pairings_view (letters_by corners_of pairing_letter)) (projection pairings_view (letters_by edges_of pairing_letter))
 
 -- ---- the square
 
@@ -141,7 +141,9 @@ square_state i =
     }
 
 abbrev pub square_coordinate : Coordinate
-square_coordinate = indexed_coordinate 73728 square_index square_state 32 home_letter quarter_words
+square_coordinate =
+    lettered_coordinate (record { count = 73728; state_at = square_state; number_of = square_index; IsValid = IsSq1 }) 32 home_letter
+    quarter_words
 
 -- ---- the tables
 

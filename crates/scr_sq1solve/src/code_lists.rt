@@ -55,5 +55,6 @@ impl Coord for CodeLists<'_> {
         position == 0
     }
 
-    ghost law = { λ t. t.stays };
+    #[inline]
+    fn stays_below(&self) {}
 }

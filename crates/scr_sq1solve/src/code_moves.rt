@@ -3,7 +3,7 @@ ghost use Rattle.std.specs.Prelude.{◌≡◌, ◌+◌, ◌*◌, ◌<◌, ◌%�
 ghost use Rattle.std.specs.Option.{option_map};
 ghost use Rattle.std.specs.List.{list_any};
 ghost use Rattle.std.proofs.Props.{props};
-ghost use Rattle.scr_play.specs.Play.{play};
+ghost use Rattle.scr_combinatorics.specs.Play.{play};
 ghost use Rattle.scr_coord.specs.Coordinates.{StaysBelow};
 ghost use Rattle.scr_coord.specs.Moves.{moves_coordinate};
 ghost use Rattle.scr_coord.specs.SearchSpaces.{ShowsSame};
@@ -12,9 +12,10 @@ ghost use Rattle.scr_sq1.specs.Units.{sq1_after, solved_sq1};
 ghost use Rattle.scr_sq1solve.specs.declared.stage_letters.Letters.TheVariants.{OfHome, Quarters};
 ghost use Rattle.scr_sq1solve.specs.Codes.{codes_coordinate};
 ghost use Rattle.scr_sq1solve.specs.Letters.{letter_of};
-ghost use Rattle.scr_sq1solve.specs.Stages.{after_letter, quarter_words};
+ghost use Rattle.scr_sq1solve.specs.Stages.{quarter_words};
 ghost use Rattle.scr_sq1solve.specs.Tables.{square_coordinate, square_index, square_state, has_index, last_bit};
 ghost use Rattle.scr_sq1solve.specs.Placed.{IsKept};
+ghost use Rattle.scr_combinatorics.specs.Stages.{by_letters};
 
 use crate::code_lists::CodeLists;
 use crate::indexes::position_of;
@@ -56,7 +57,7 @@ impl CodeMoves {
     pub fn after(&self, position: u32, turn: u32) -> Option<u32>
         requires position { position < 73728 }
         requires turn { turn < 32 }
-        ensures { result ≡ option_map square_index (after_letter 32 (letter_of self.now.letters) (square_state position) turn) }
+        ensures { result ≡ option_map square_index (by_letters sq1_after 32 (letter_of self.now.letters) (square_state position) turn) }
     {
         let corners = self.corners.after(position / 192, turn)?;
         let edges = self.edges.after(edges_code(position), turn)?;
@@ -133,5 +134,6 @@ impl Coord for SquareMoves {
         false
     }
 
-    ghost law = { λ moves. moves.stays };
+    #[inline]
+    fn stays_below(&self) {}
 }

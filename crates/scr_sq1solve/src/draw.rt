@@ -1,10 +1,10 @@
 //! The Square-1 as states are drawn of it.
 ghost use Rattle.std.specs.Prelude.{◌↔◌, ℕ, IsTrue};
 ghost use Rattle.std.proofs.Props.{props};
-ghost use Rattle.scr_play.specs.Reach.{Needs};
+ghost use Rattle.scr_combinatorics.specs.Reach.{Needs};
 ghost use Rattle.scr_sq1.specs.Numbers.{sq1_numbered};
 ghost use Rattle.scr_sq1.specs.Units.{Sq1State, IsSq1, sq1_puzzle};
-ghost use Rattle.scr_sq1solve.specs.Minima.{needs_test};
+ghost use Rattle.scr_sq1solve.specs.Minima.{needs_test_sq1};
 
 use crate::minima::needs_sq1;
 use scr_draw::{NumberedStates, Numbering, Permit};
@@ -14,7 +14,7 @@ use scr_sq1::{Sq1, Sq1Numbers};
 #[derive(Clone, Copy)]
 pub struct DrawSq1 {
     ghost exact: { (s : Sq1State) (least : ℕ) → IsSq1 s
-        → IsTrue (needs_test s least) ↔ Needs sq1_puzzle s least } by { Prim.hlevel props },
+        → IsTrue (needs_test_sq1 s least) ↔ Needs sq1_puzzle s least } by { Prim.hlevel props },
 }
 
 impl DrawSq1 {
@@ -29,11 +29,7 @@ impl NumberedStates<Sq1> for DrawSq1 {
 }
 
 impl Numbering for DrawSq1 {
-    ghost use Rattle.scr_sq1.specs.Proofs.Numbering.{sq1_numbering};
-
     type State = Sq1;
-
-    ghost law = { λ _. sq1_numbering };
 
     fn count(&self) -> u128 {
         Sq1Numbers.count()
@@ -53,11 +49,11 @@ impl Permit<Sq1> for DrawSq1 {
 
     ghost greatest = { λ _. 4 };
 
-    ghost needs = { λ _. needs_test };
+    ghost needs = { λ _. needs_test_sq1 };
 
     fn needs_at_least(&self, state: &Sq1, least: u32) -> bool {
         needs_sq1(state, least)
     }
 
-    ghost exact = { λ event s least range. event.exact s least };
+    fn is_exact(&self) {}
 }

@@ -1,7 +1,7 @@
 //! What holds of the stages whatever the code: calls that do nothing, whose contracts are the laws.
 ghost use Rattle.std.specs.Prelude.{◌≡◌, ◌≤◌, ◌↔◌, List, Some};
-ghost use Rattle.scr_play.specs.Play.{play};
-ghost use Rattle.scr_play.specs.Reach.{IsReached};
+ghost use Rattle.scr_combinatorics.specs.Play.{play};
+ghost use Rattle.scr_combinatorics.specs.Reach.{IsReached};
 ghost use Rattle.scr_table.specs.Distances.{Distances};
 ghost use Rattle.scr_table.specs.Lines.{AreTablesOf};
 ghost use Rattle.scr_notation.specs.declared.turn.Turn.{Turn as Letter};

@@ -14,17 +14,12 @@ use std::alloc::Global;
 pub(crate) struct ShapesLine;
 
 impl Line for ShapesLine {
-    ghost use Rattle.std.proofs.Common.{lit≤};
     ghost use Rattle.scr_sq1solve.specs.Tables.{shapes_line};
 
     ghost line = { shapes_line };
 
-    fn name() -> TableName {
-        TableName::Shapes
-    }
-
-    fn bound() -> u32 {
-        13
+    fn reach() -> (TableName, u32) {
+        (TableName::Shapes, 13)
     }
 
     type Moves = MoveTable;
@@ -33,25 +28,18 @@ impl Line for ShapesLine {
         let states = ShapeStates::build(alloc)?;
         MoveTable::build(alloc, &states)
     }
-
-    ghost few_turns = { lit≤ tt };
 }
 
 /// The table of the pairings of corners, which follow each other in its positions, beside those of edges.
 pub(crate) struct PairingsLine;
 
 impl Line for PairingsLine {
-    ghost use Rattle.std.proofs.Common.{lit≤};
     ghost use Rattle.scr_sq1solve.specs.Tables.{pairings_line};
 
     ghost line = { pairings_line };
 
-    fn name() -> TableName {
-        TableName::Pairings
-    }
-
-    fn bound() -> u32 {
-        20
+    fn reach() -> (TableName, u32) {
+        (TableName::Pairings, 20)
     }
 
     type Moves = MoveTable;
@@ -63,25 +51,18 @@ impl Line for PairingsLine {
         let pair = Product::of_moves(alloc, &corners, &edges)?;
         MoveTable::build(alloc, &pair)
     }
-
-    ghost few_turns = { lit≤ tt };
 }
 
 /// The table of the states in which mates stand opposite to each other.
 pub(crate) struct SquareLine;
 
 impl Line for SquareLine {
-    ghost use Rattle.std.proofs.Common.{lit≤};
     ghost use Rattle.scr_sq1solve.specs.Tables.{square_line};
 
     ghost line = { square_line };
 
-    fn name() -> TableName {
-        TableName::Square
-    }
-
-    fn bound() -> u32 {
-        20
+    fn reach() -> (TableName, u32) {
+        (TableName::Square, 20)
     }
 
     type Moves = MoveTable;
@@ -90,6 +71,4 @@ impl Line for SquareLine {
         let moves = SquareMoves::build(alloc)?;
         MoveTable::build(alloc, &moves)
     }
-
-    ghost few_turns = { lit≤ tt };
 }

@@ -1,8 +1,8 @@
 //! The minimum of a Square-1, by looking at all short words.
 ghost use Rattle.std.specs.Prelude.{◌≡◌, ◌≤◌, ◌↔◌, IsTrue};
-ghost use Rattle.scr_play.specs.Reach.{Needs};
+ghost use Rattle.scr_combinatorics.specs.Reach.{Needs};
 ghost use Rattle.scr_sq1.specs.Units.{solved_sq1, sq1_puzzle};
-ghost use Rattle.scr_sq1solve.specs.Minima.{needs_test};
+ghost use Rattle.scr_sq1solve.specs.Minima.{needs_test_sq1};
 
 use scr_sq1::Sq1;
 use scr_table::{Moves, no_shorter};
@@ -19,7 +19,7 @@ const TWIST: u32 = 65;
 pub fn needs_sq1(state: &Sq1, least: u32) -> bool
     requires { least ≤ 4 }
     ensures exact { IsTrue result ↔ Needs sq1_puzzle state.now least }
-    ensures tested { result ≡ needs_test state.now least }
+    ensures tested { result ≡ needs_test_sq1 state.now least }
 {
     let _units = state.units();
     no_shorter(&Sq1Moves, state, least)

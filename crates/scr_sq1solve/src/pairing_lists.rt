@@ -54,5 +54,6 @@ impl Coord for PairingLists<'_> {
         position == HOME
     }
 
-    ghost law = { λ t. t.stays };
+    #[inline]
+    fn stays_below(&self) {}
 }

@@ -2,7 +2,7 @@
 ghost use Rattle.std.specs.Prelude.{◌≡◌, ◌<◌, true};
 ghost use Rattle.std.specs.List.{list_any};
 ghost use Rattle.std.proofs.Props.{props};
-ghost use Rattle.scr_play.specs.Play.{play};
+ghost use Rattle.scr_combinatorics.specs.Play.{play};
 ghost use Rattle.scr_coord.specs.Coordinates.{StaysBelow};
 ghost use Rattle.scr_coord.specs.Moves.{each_below};
 ghost use Rattle.scr_sq1.specs.Units.{sq1_after, solved_sq1};
@@ -120,5 +120,6 @@ impl Coord for ShapeStates {
         is_square(self.state_at(position))
     }
 
-    ghost law = { λ states. states.stays };
+    #[inline]
+    fn stays_below(&self) {}
 }

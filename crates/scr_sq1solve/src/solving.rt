@@ -1,14 +1,15 @@
 //! The solution of a Square-1 by stages, and the scramble that it gives.
 ghost use Rattle.std.specs.Prelude.{◌≡◌, ◌+◌, ◌*◌, ◌≤◌, ◌↔◌, ◌++◌, [], if◌then◌else◌, List, Some, IsTrue, length};
-ghost use Rattle.scr_play.specs.Play.{play};
-ghost use Rattle.scr_play.specs.Tidy.{tidy};
+ghost use Rattle.scr_combinatorics.specs.Play.{play};
+ghost use Rattle.scr_combinatorics.specs.Tidy.{tidy};
 ghost use Rattle.scr_notation.specs.declared.event.Event.TheVariants.{Sq1 as EventSq1};
 ghost use Rattle.scr_notation.specs.declared.turn.Turn.{Turn as Letter};
 ghost use Rattle.scr_notation.specs.Turning.{turn_merging};
 ghost use Rattle.scr_sq1.specs.Units.{IsSq1, solved_sq1, sq1_after};
 ghost use Rattle.scr_sq1solve.specs.Counts.{twists_in};
 ghost use Rattle.scr_sq1solve.specs.Letters.{end_count, end_words, IsEnded, IsWalk, IsTidiedSolution};
-ghost use Rattle.scr_sq1solve.specs.Stages.{EndsIn, IsEnd, IsScrambleSq1, IsStageWord, equator_word};
+ghost use Rattle.scr_sq1solve.specs.Stages.{EndsIn, IsEnd, IsScrambleSq1, equator_word};
+ghost use Rattle.scr_combinatorics.specs.Stages.{IsStageWord};
 
 use crate::indexes::shapes_index;
 use crate::shape_states::NORMAL;
@@ -60,7 +61,7 @@ fn tidied_solution(tables: &Sq1Tables, state: &Sq1) -> Scramble
 }
 
 /// The word that turns the equator alone, where it stands turned.
-#[tactic(auto, unfolding(scr_play::specs::Play::count_in))]
+#[tactic(auto, unfolding(scr_combinatorics::specs::Play::count_in))]
 fn equator_part(state: &Sq1) -> Scramble
     ensures event { result.event ≡ EventSq1 }
     ensures turns { result.turns ≡ (if state.now.equator then equator_word else []) }
@@ -90,10 +91,11 @@ fn stage_walk<L: StageLine>(table: &LineTable<L>, state: &Sq1) -> Walk
 
 /// The turns of a stage's word, and where they lead.
 fn followed<L: StageLine>(numbers: &[u8], state: &Sq1) -> Walk
-    requires { IsStageWord L.stage state.now numbers.now }
+    requires { IsStageWord sq1_after L.stage state.now numbers.now }
     ensures event { result.turns.event ≡ EventSq1 }
     ensures walk { IsWalk L.stage state.now result.turns.turns result.end }
 {
+    L::is_found_by_index();
     let turns = word_of(L::letters(), numbers);
     match state.play(&turns) {
         Some(end) => Walk { turns, end },

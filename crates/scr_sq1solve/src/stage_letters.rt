@@ -2,8 +2,9 @@
 ghost use Rattle.std.specs.Prelude.{◌≡◌, ◌+◌, ◌<◌, ◌≤◌, ◌∷◌, [], ◌++◌, All, flat_map, length};
 ghost use Rattle.scr_notation.specs.declared.event.Event.TheVariants.{Sq1 as EventSq1};
 ghost use Rattle.scr_notation.specs.Layers.{twelfths, are_still};
-ghost use Rattle.scr_sq1solve.specs.Stages.{turn_word, turns_of, equator_word};
+ghost use Rattle.scr_sq1solve.specs.Stages.{turn_word, equator_word};
 ghost use Rattle.scr_sq1solve.specs.Letters.{step_word, first_word, letter_of};
+ghost use Rattle.scr_combinatorics.specs.Stages.{spelled};
 
 use scr_notation::{Event, Scramble, Turn, push_turn};
 
@@ -82,7 +83,7 @@ pub(crate) fn letter(letters: Letters, number: u8) -> Scramble
 pub(crate) fn word_of(letters: Letters, numbers: &[u8]) -> Scramble
     requires numbers { All (λ number. number < 144) numbers.now }
     requires few { length numbers.now ≤ 25 }
-    ensures { result ≡ record { event = EventSq1; turns = turns_of (letter_of letters) numbers.now } }
+    ensures { result ≡ record { event = EventSq1; turns = spelled (letter_of letters) numbers.now } }
 {
     let mut word = Scramble::new(Event::Sq1);
     for place in 0..numbers.len() {

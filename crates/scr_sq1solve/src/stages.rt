@@ -10,14 +10,15 @@ use scr_table::Line;
 pub(crate) trait StageLine: Line {
     ghost use Rattle.std.specs.Prelude.{◌≡◌, ℕ};
     ghost use Rattle.scr_coord.specs.SearchSpaces.{positions, Follows};
-    ghost use Rattle.scr_sq1.specs.Units.{Sq1State};
-    ghost use Rattle.scr_sq1solve.specs.Stages.{Stage};
+    ghost use Rattle.scr_combinatorics.specs.Stages.{Stage};
+    ghost use Rattle.scr_table.specs.StageSpaces.{stage_space};
+    ghost use Rattle.scr_notation.specs.declared.turn.Turn.{Turn as Letter};
+    ghost use Rattle.scr_sq1.specs.Units.{Sq1State, sq1_after};
     ghost use Rattle.scr_sq1solve.specs.Counts.{Cost, Costs};
     ghost use Rattle.scr_sq1solve.specs.Letters.{letter_of, IsInReach};
-    ghost use Rattle.scr_sq1solve.specs.Spaces.{stage_space};
 
     /// Its letters, its goal and its bound.
-    ghost stage: { Stage };
+    ghost stage: { Stage Sq1State Letter };
 
     /// The states that it starts from.
     ghost starts: { Sq1State → Type 0 };
@@ -36,19 +37,17 @@ pub(crate) trait StageLine: Line {
     fn index_of(state: &Sq1) -> u32
         ensures { result ≡ index state.now };
 
-    /// What a walk down the table rests on: from a state and from its index a search finds the same, and a letter has
-    /// no more turns and twists. The call does nothing.
+    /// What a walk down the table rests on: from a state and from its index a search finds the same, a letter has no more
+    /// turns and twists, and the table reaches no farther than the stage, whose words and letters are few. The call does
+    /// nothing.
     fn is_found_by_index()
-        ensures follows { Follows (stage_space starts stage.letters stage.letter stage.IsGoal)
+        ensures follows { Follows (stage_space sq1_after stage starts)
             (positions Self.line.coordinate) index }
-        ensures costs { (number : ℕ) → Costs (stage.letter number) each.turns each.twists };
-
-    /// The table reaches no farther than the stage, whose words and letters are few.
-    ghost in_reach: { IsInReach stage Self.line.bound };
+        ensures costs { (number : ℕ) → Costs (stage.letter number) each.turns each.twists }
+        ensures in_reach { IsInReach stage Self.line.bound };
 }
 
 impl StageLine for ShapesLine {
-    ghost use Rattle.std.proofs.Common.{lit≤};
     ghost use Rattle.scr_sq1.specs.Units.{IsSq1};
     ghost use Rattle.scr_sq1solve.specs.Stages.{shape_stage};
     ghost use Rattle.scr_sq1solve.specs.Tables.{shapes_index};
@@ -70,12 +69,9 @@ impl StageLine for ShapesLine {
     }
 
     fn is_found_by_index() {}
-
-    ghost in_reach = { record { within = lit≤ tt; short = lit≤ tt; few_letters = lit≤ tt } };
 }
 
 impl StageLine for PairingsLine {
-    ghost use Rattle.std.proofs.Common.{lit≤};
     ghost use Rattle.scr_sq1solve.specs.Stages.{pairing_stage};
     ghost use Rattle.scr_sq1solve.specs.Tables.{pairings_index};
     ghost use Rattle.scr_sq1solve.specs.Spaces.{IsNormalSq1};
@@ -97,12 +93,9 @@ impl StageLine for PairingsLine {
     }
 
     fn is_found_by_index() {}
-
-    ghost in_reach = { record { within = lit≤ tt; short = lit≤ tt; few_letters = lit≤ tt } };
 }
 
 impl StageLine for SquareLine {
-    ghost use Rattle.std.proofs.Common.{lit≤};
     ghost use Rattle.scr_sq1solve.specs.Stages.{home_stage};
     ghost use Rattle.scr_sq1solve.specs.Tables.{square_index};
     ghost use Rattle.scr_sq1solve.specs.Spaces.{IsPairedSq1};
@@ -124,6 +117,4 @@ impl StageLine for SquareLine {
     }
 
     fn is_found_by_index() {}
-
-    ghost in_reach = { record { within = lit≤ tt; short = lit≤ tt; few_letters = lit≤ tt } };
 }

@@ -11,7 +11,7 @@ use Rattle.scr_combinatorics.proofs.Counts.{occurrences-at, one_if-other, occurr
 use Rattle.scr_combinatorics.proofs.PermutationLaws.{All-permutation, IsPermutation-from_each, IsPermutation-inverse, pick-inverse, place_of-lt, at-place_of}
 use Rattle.scr_combinatorics.proofs.Picks.{length-pick, pick-at, pick-in_order, pick-pick}
 use Rattle.scr_coord.specs.Projections.{marked_from, marked_places, stands_in}
-use Rattle.scr_coord.specs.MarkedLaws.{marked-own, IsPlaceSetFrom-marked}
+use Rattle.scr_coord.proofs.MarkedLaws.{marked-own, IsPlaceSetFrom-marked}
 use Rattle.scr_coord.proofs.MarkedPieces.{stands_in-marked, IsPlaceSet-marked}
 
 -- ---- what stands in a list

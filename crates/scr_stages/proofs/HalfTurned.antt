@@ -8,8 +8,8 @@ use Rattle.scr_combinatorics.specs.Lists.{numbers_from, pick}
 use Rattle.scr_combinatorics.specs.Permutations.{IsPermutation}
 use Rattle.scr_combinatorics.proofs.PermutationLaws.{All-permutation}
 use Rattle.scr_combinatorics.proofs.Picks.{pick-from_order}
-use Rattle.scr_play.specs.Play.{play}
-use Rattle.scr_play.proofs.PlayLaws.{play-empty, play-parts, play-append, play-one, play-keeps, and_then-some}
+use Rattle.scr_combinatorics.specs.Play.{play}
+use Rattle.scr_combinatorics.proofs.PlayLaws.{play-empty, play-parts, play-append, play-one, play-keeps, and_then-some}
 use Rattle.scr_orbit.specs.Orbits.{solved_orbit, turned_orbit}
 use Rattle.scr_orbit.proofs.PowerLaws.{All-got}
 use Rattle.scr_notation.specs.TurnNumbers.{face_turn_at}
@@ -28,8 +28,9 @@ use Rattle.scr_stages.specs.Numbers.{IsDominoCube, first_edges, tetrads_number, 
 use Rattle.scr_stages.specs.Spaces.{halves_space}
 use Rattle.scr_stages.specs.Tables.{turns_of, halves_coordinate}
 use Rattle.scr_stages.specs.Tetrads.{corner_index, corners_at}
-use Rattle.scr_stages.proofs.ViewLaws.{TurnsStates, kept_by, Follows-numbered, StaysBelow-numbered}
-use Rattle.scr_stages.proofs.TurnFacts.{after_of-turns, IsHalfTurn, halves_numbers, halves_turns}
+use Rattle.scr_coord.proofs.IndexLaws.{Follows-numbered, StaysBelow-numbered}
+use Rattle.scr_stages.proofs.ViewLaws.{TurnsStates, kept_by}
+use Rattle.scr_stages.proofs.TurnFacts.{after_of-is, after_of-turns, IsHalfTurn, halves_numbers, halves_turns}
 use Rattle.scr_stages.proofs.TetradTests.{corners_at-solved, corner_index-solved}
 use Rattle.scr_stages.proofs.TetradLaws.{corner_index-turned}
 use Rattle.scr_stages.proofs.DominoLaws.{IsDominoCube-turned, places-turned}
@@ -89,7 +90,8 @@ IsHalfCube-half_turned c h = play-keeps (after_of half_turns) IsHalfCube IsHalfC
 
 no_seventh : (c : CubeState) (place : ℕ) → 6 ≤ place → after_of half_turns c place ≡ None
 no_seventh c place le =
-    ap (option_and_then (λ t. (after_letter cube_powers) c (face_turn_at t))) (slice_get_past half_turns place le)
+    after_of-is half_turns c place
+    ∙ ap (option_and_then (λ t. (after_letter cube_powers) c (face_turn_at t))) (slice_get_past half_turns place le)
 
 pub Follows-halves : Follows halves_space (positions halves_coordinate) half_cubes.number_of
 Follows-halves =
@@ -107,10 +109,12 @@ own_opposite = All-from_recursion (λ t. opposite (face_turn_at t) ≡ face_turn
 
 undone : (c d : CubeState) (place : ℕ) → IsCube c → after_of half_turns c place ≡ Some d → after_of half_turns d place ≡ Some c
 undone c d place h e =
-    let turn = and_then-some (λ t. (after_letter cube_powers) c (face_turn_at t)) (slice_get half_turns place) d e in
+    let turn = and_then-some (λ t. (after_letter cube_powers) c (face_turn_at t)) (slice_get half_turns place) d
+    (sym (after_of-is half_turns c place) ∙ e) in
     let letter = face_turn_at turn.0 in
     let own = All-got (λ t. opposite (face_turn_at t) ≡ face_turn_at t) half_turns place turn.0 own_opposite turn.1 in
-    ap (option_and_then (λ t. (after_letter cube_powers) d (face_turn_at t))) turn.1
+    after_of-is half_turns d place
+    ∙ ap (option_and_then (λ t. (after_letter cube_powers) d (face_turn_at t))) turn.1
     ∙ ap ((after_letter cube_powers) d) (sym own)
     ∙ sym (play-one (after_letter cube_powers) d (opposite letter))
     ∙ lawful_cube.lawful.taken_back c d (letter ∷ []) h (play-one (after_letter cube_powers) c letter ∙ turn.2)

@@ -11,14 +11,14 @@ use Rattle.scr_combinatorics.proofs.PlaceSets.{place_set_number-lt, place_set_nu
 use Rattle.scr_combinatorics.proofs.Twists.{twists_number-lt, twists_number-injective, twists_at-number}
 use Rattle.scr_orbit.specs.Orbits.{zeros, turned_orbit, added_digits, solved_orbit}
 use Rattle.scr_orbit.proofs.OrbitLaws.{IsZeroSumOrbit-solved}
-use Rattle.scr_coord.specs.Products.{product}
+use Rattle.scr_coord.specs.Products.{product_coordinate}
 use Rattle.scr_coord.specs.Projections.{projection, twists_view, place_set_view, stands_in, turned_set}
 use Rattle.scr_coord.specs.SearchSpaces.{positions, Follows}
 use Rattle.scr_coord.proofs.MarkedPieces.{IsPlaceSet-marked}
 use Rattle.scr_coord.proofs.ProductLaws.{Follows-product}
 use Rattle.scr_cube.specs.Cube333.{CubeState, IsCube, IsCubeTurn, cube_action, solved_cube}
 use Rattle.scr_cube.proofs.Laws333.{cube_laws}
-use Rattle.scr_stages.specs.Stages.{HasNoFlips, IsDomino, middle_edges, after_of, flips_stage, slice_stage, tetrads_stage}
+use Rattle.scr_stages.specs.Stages.{HasNoFlips, IsDomino, middle_edges, after_of, flips_turns, slice_turns, tetrads_turns}
 use Rattle.scr_stages.specs.Numbers.{flips_number, slice_number, first_edges, tetrads_number, IsUnflippedCube, IsDominoCube}
 use Rattle.scr_stages.specs.Spaces.{cube_space, IsUntwisted, IsInMiddle, flips_space, slice_space, tetrads_space}
 use Rattle.scr_stages.specs.Tables.{turns_of, corners_by, edges_by, block_turn, outer_places, flips_coordinate, slice_coordinate, tetrads_coordinate}
@@ -26,7 +26,7 @@ use Rattle.scr_stages.specs.Tetrads.{corner_index, tetrads_view}
 use Rattle.scr_stages.proofs.Blocks.{places_in}
 use Rattle.scr_stages.proofs.ViewLaws.{TurnsStates, kept_by, Follows-viewed, Follows-goals, Follows-fewer}
 use Rattle.scr_stages.proofs.TurnFacts.{after_of-turns, All-turns, IsSliceTurn, IsDominoTurn, flips_numbers}
-use Rattle.scr_stages.proofs.TurnFacts.{slice_numbers, slice_turns, tetrads_numbers, tetrads_turns}
+use Rattle.scr_stages.proofs.TurnFacts.{slice_numbers, slice_each, tetrads_numbers, tetrads_each}
 use Rattle.scr_stages.proofs.TetradLaws.{corner_index-lt, corner_index-turned}
 use Rattle.scr_stages.proofs.DominoLaws.{HasNoFlips-turned, places-turned, IsDominoCube-turned, IsPlaceSet-middle, IsPlaceSet-outer, IsPlaceSet-first_places, turned_set-outer}
 
@@ -100,7 +100,7 @@ module _ (numbers : List ℕ) (below : All (λ t. t < 18) numbers) where
   -- the twists beside the middle layer
   pub Follows-twists_beside : Follows (cube_space IsCube numbers (λ c. IsUntwisted c × IsInMiddle c))
       (positions
-      (product (projection (twists_view 8 3) (corners_by numbers))
+      (product_coordinate (projection (twists_view 8 3) (corners_by numbers))
       (projection (place_set_view 12 4 middle_edges) (edges_by numbers))))
       slice_number
   Follows-twists_beside =
@@ -115,37 +115,37 @@ module _ (numbers : List ℕ) (below : All (λ t. t < 18) numbers) where
 -- ---- the first two stages
 
 pub Follows-flips : Follows flips_space (positions flips_coordinate) flips_number
-Follows-flips = Follows-flips_by flips_stage.turns flips_numbers
+Follows-flips = Follows-flips_by flips_turns flips_numbers
 
 pub Follows-slice : Follows slice_space (positions slice_coordinate) slice_number
-Follows-slice = Follows-twists_beside slice_stage.turns slice_numbers
+Follows-slice = Follows-twists_beside slice_turns slice_numbers
 
-unflipped_moves : TurnsStates cube_action.turned (turns_of slice_stage.turns) (after_of slice_stage.turns)
+unflipped_moves : TurnsStates cube_action.turned (turns_of slice_turns) (after_of slice_turns)
     IsUnflippedCube IsSliceTurn
 unflipped_moves = record {
-  each = slice_turns;
-  after_is = after_of-turns slice_stage.turns slice_numbers;
+  each = slice_each;
+  after_is = after_of-turns slice_turns slice_numbers;
   keeps = λ c r h t. record { cube = cube_laws.valid c r h.cube t.valid; no_flips = HasNoFlips-turned c r h.no_flips t };
 }
 
 -- without flips it leads to dominoes
-pub Follows-unflipped : Follows (cube_space IsUnflippedCube slice_stage.turns IsDomino) (positions slice_coordinate)
+pub Follows-unflipped : Follows (cube_space IsUnflippedCube slice_turns IsDomino) (positions slice_coordinate)
     slice_number
 Follows-unflipped =
-    let after = after_of slice_stage.turns in
+    let after = after_of slice_turns in
     let IsHome : CubeState → Type 0 = λ c. IsUntwisted c × IsInMiddle c in
     Follows-goals IsUnflippedCube IsHome IsDomino after slice_coordinate slice_number
     (λ c h. (λ d. (d.no_twists, d.middle), λ d. record { no_flips = h.no_flips; no_twists = d.0; middle = d.1 }))
     (Follows-fewer IsCube IsUnflippedCube IsHome after slice_coordinate slice_number (λ c h. h.cube)
-    (kept_by cube_action.turned (turns_of slice_stage.turns) after IsUnflippedCube IsSliceTurn unflipped_moves)
+    (kept_by cube_action.turned (turns_of slice_turns) after IsUnflippedCube IsSliceTurn unflipped_moves)
     Follows-slice)
 
 -- ---- dominoes
 
-pub tetrads_moves : TurnsStates cube_action.turned (turns_of tetrads_stage.turns) (after_of tetrads_stage.turns) IsDominoCube IsDominoTurn
+pub tetrads_moves : TurnsStates cube_action.turned (turns_of tetrads_turns) (after_of tetrads_turns) IsDominoCube IsDominoTurn
 tetrads_moves = record {
-  each = tetrads_turns;
-  after_is = after_of-turns tetrads_stage.turns tetrads_numbers;
+  each = tetrads_each;
+  after_is = after_of-turns tetrads_turns tetrads_numbers;
   keeps = IsDominoCube-turned;
 }
 
@@ -181,15 +181,15 @@ IsTetradsHome-iff c h =
 pub Follows-tetrads : Follows tetrads_space (positions tetrads_coordinate) tetrads_number
 unfolding turned_orbit
 Follows-tetrads =
-    let after = after_of tetrads_stage.turns in
+    let after = after_of tetrads_turns in
     let IsFirst : CubeState → Type 0 = λ c. places_in first_edges c.edges.pieces ≡ first_edges in
     let IsHome : CubeState → Type 0 = λ c. corner_index c.corners.pieces ≡ corner_index (numbers_from 0 8) in
-    let low = projection (place_set_view 8 4 first_edges) (map (block_turn outer_places) (edges_by tetrads_stage.turns)) in
-    let high = projection tetrads_view (corners_by tetrads_stage.turns) in
+    let low = projection (place_set_view 8 4 first_edges) (map (block_turn outer_places) (edges_by tetrads_turns)) in
+    let high = projection tetrads_view (corners_by tetrads_turns) in
     let low_number = λ (c : CubeState). place_set_number 8 (places_in first_edges c.edges.pieces) in
     let high_number = λ (c : CubeState). corner_index c.corners.pieces in
-    let first : Follows (cube_space IsDominoCube tetrads_stage.turns IsFirst) (positions low) low_number =
-    Follows-viewed cube_action.turned (turns_of tetrads_stage.turns) after IsDominoCube IsDominoTurn tetrads_moves (place_set_view 8 4 first_edges)
+    let first : Follows (cube_space IsDominoCube tetrads_turns IsFirst) (positions low) low_number =
+    Follows-viewed cube_action.turned (turns_of tetrads_turns) after IsDominoCube IsDominoTurn tetrads_moves (place_set_view 8 4 first_edges)
     (λ r. block_turn outer_places r.edges) low_number IsFirst
     (λ c h. place_set_number-lt 8 4 (places_in first_edges c.edges.pieces) (IsPlaceSet-first_places c h))
     (λ c r h t.
@@ -202,8 +202,8 @@ Follows-tetrads =
       λ e. ap (place_set_number 8) e,
       λ e. place_set_number-injective 8 4 (places_in first_edges c.edges.pieces) first_edges (IsPlaceSet-first_places c h) IsPlaceSet-outer e,
     )) in
-    let corners : Follows (cube_space IsDominoCube tetrads_stage.turns IsHome) (positions high) high_number =
-    Follows-viewed cube_action.turned (turns_of tetrads_stage.turns) after IsDominoCube IsDominoTurn tetrads_moves tetrads_view
+    let corners : Follows (cube_space IsDominoCube tetrads_turns IsHome) (positions high) high_number =
+    Follows-viewed cube_action.turned (turns_of tetrads_turns) after IsDominoCube IsDominoTurn tetrads_moves tetrads_view
     (λ r. r.corners) high_number IsHome (λ c h. corner_index-lt c.corners.pieces h.cube.corners.pieces)
     (λ c r h t. corner_index-turned c.corners.pieces r.corners.places h.cube.corners.pieces t.slice.valid.corners.places)
     (λ c h. (λ e. e, λ e. e)) in

@@ -1,16 +1,19 @@
 -- The turns of the stages: what each does, and what it keeps.
-use Rattle.std.proofs.Common.{◌≡◌, ℕ, ◌<◌, Bool, true, List, length, Option, Some, None, refl, sym, ap, ◌∙◌, arith, eqb-true, ltb-true}
-use Rattle.std.specs.Prelude.{All, ◌==◌, ◌&&◌, nat_lt, slice_get, slice_index_or, option_and_then}
+use Rattle.std.proofs.Common.{◌≡◌, ℕ, ◌<◌, Bool, true, false, cond, List, length, Option, Some, None, refl, sym, ap, ◌∙◌, arith, eqb-true, ltb-true}
+use Rattle.std.specs.Prelude.{All, ◌==◌, ◌&&◌, nat_lt, slice_get, slice_index, slice_index_or, option_and_then}
 use Rattle.std.specs.Option.{option_map}
 use Rattle.std.specs.List.{list_all}
 use Rattle.std.specs.Str.{bytes_eq}
-use Rattle.std.proofs.lemmas.Bool.{and_parts}
+use Rattle.std.proofs.lemmas.Bool.{and_parts, ltb-false}
 use Rattle.std.proofs.lemmas.List.Elements.{All-map}
 use Rattle.std.proofs.lemmas.List.Sums.{AllPass-from_list_all}
-use Rattle.std.proofs.lemmas.Option.{slice_get-map, slice_get-get_or}
+use Rattle.std.proofs.lemmas.Option.{slice_get-map, slice_get-get_or, slice_get_past}
 use Rattle.scr_combinatorics.specs.Lists.{numbers_from, pick}
 use Rattle.scr_combinatorics.specs.Permutations.{IsPermutation, is_permutation, parity}
 use Rattle.scr_combinatorics.proofs.PermutationLaws.{IsPermutation-from_test}
+use Rattle.scr_combinatorics.specs.Play.{play}
+use Rattle.scr_combinatorics.specs.Stages.{by_letters}
+use Rattle.scr_combinatorics.proofs.PlayLaws.{play-one}
 use Rattle.scr_orbit.specs.Actions.{power, all_powers}
 use Rattle.scr_orbit.specs.Orbits.{composed, identity, added_digits, zeros}
 use Rattle.scr_orbit.proofs.PowerLaws.{All-got}
@@ -21,7 +24,7 @@ use Rattle.scr_turning.specs.PowerPuzzles.{after_letter, all_turns}
 use Rattle.scr_cube.specs.Cube333.{CubeState, CubeTurn, IsCubeTurn, cube_action, cube_powers}
 use Rattle.scr_cube.proofs.Laws333.{lawful_cube}
 use Rattle.scr_stages.proofs.FiniteTests.{same_list, All-from_test}
-use Rattle.scr_stages.specs.Stages.{middle_edges, after_of, half_turns, flips_stage, slice_stage, tetrads_stage}
+use Rattle.scr_stages.specs.Stages.{middle_edges, letter_in, after_of, half_turns, flips_turns, slice_turns, tetrads_turns}
 use Rattle.scr_stages.specs.Numbers.{first_edges, second_edges}
 use Rattle.scr_stages.specs.Tables.{turns_of, outer_places}
 use Rattle.scr_stages.specs.Tetrads.{in_block, shared_axis, axes_of, relation_number, relation_of, corner_index}
@@ -39,10 +42,29 @@ after_number c t lt =
     ap (option_map (cube_action.turned c)) (sym (lawful_cube.numbered t)
     ∙ slice_get-get_or (all_turns cube_powers) t cube_action.identity (omega (arith, length-turns)))
 
+-- what it is: that with the number which stands there
+pub after_of-is : (turns : List ℕ) (c : CubeState) (place : ℕ)
+    → after_of turns c place ≡ option_and_then (λ t. (after_letter cube_powers) c (face_turn_at t)) (slice_get turns place)
+unfolding by_letters
+after_of-is turns c place = by_cases (nat_lt place (length turns)) refl
+  where
+    turned : ℕ → Option CubeState
+    turned t = (after_letter cube_powers) c (face_turn_at t)
+
+    by_cases : (b : Bool) → nat_lt place (length turns) ≡ b
+        → (let o : Option CubeState = cond b (play (after_letter cube_powers) c (letter_in turns place)) None in o)
+        ≡ option_and_then turned (slice_get turns place)
+    by_cases true e =
+        play-one (after_letter cube_powers) c (face_turn_at (slice_index turns place))
+        ∙ ap (option_and_then turned) (sym (slice_get-get_or turns place 0 (ltb-true place (length turns) e)))
+    by_cases false e =
+        ap (option_and_then turned) (sym (slice_get_past turns place (ltb-false place (length turns) e)))
+
 pub after_of-turns : (numbers : List ℕ) → All (λ t. t < 18) numbers → (c : CubeState) (place : ℕ)
     → after_of numbers c place ≡ option_map (cube_action.turned c) (slice_get (turns_of numbers) place)
 after_of-turns numbers below c place =
-    by (slice_get numbers place) (λ t e. All-got (λ t. t < 18) numbers place t below e)
+    after_of-is numbers c place
+    ∙ by (slice_get numbers place) (λ t e. All-got (λ t. t < 18) numbers place t below e)
     ∙ ap (option_map (cube_action.turned c)) (sym (slice_get-map (λ t. slice_index_or (all_turns cube_powers) t cube_action.identity) numbers place))
   where
     by : (o : Option ℕ) → ((t : ℕ) → o ≡ Some t → t < 18)
@@ -183,32 +205,32 @@ All-numbers : (numbers : List ℕ) → are_numbers numbers ≡ true → All (λ 
 unfolding are_numbers
 All-numbers numbers e = All-from_test (λ t. nat_lt t 18) (λ t. t < 18) (λ t. ltb-true t 18) numbers e
 
-pub flips_numbers : All (λ t. t < 18) flips_stage.turns
+pub flips_numbers : All (λ t. t < 18) flips_turns
 unfolding are_numbers
-flips_numbers = All-numbers flips_stage.turns refl
+flips_numbers = All-numbers flips_turns refl
 
-pub slice_numbers : All (λ t. t < 18) slice_stage.turns
+pub slice_numbers : All (λ t. t < 18) slice_turns
 unfolding are_numbers
-slice_numbers = All-numbers slice_stage.turns refl
+slice_numbers = All-numbers slice_turns refl
 
-pub tetrads_numbers : All (λ t. t < 18) tetrads_stage.turns
+pub tetrads_numbers : All (λ t. t < 18) tetrads_turns
 unfolding are_numbers
-tetrads_numbers = All-numbers tetrads_stage.turns refl
+tetrads_numbers = All-numbers tetrads_turns refl
 
 pub halves_numbers : All (λ t. t < 18) half_turns
 unfolding are_numbers
 halves_numbers = All-numbers half_turns refl
 
-pub flips_turns : All IsCubeTurn (turns_of flips_stage.turns)
-flips_turns = All-turns flips_stage.turns flips_numbers
+pub flips_each : All IsCubeTurn (turns_of flips_turns)
+flips_each = All-turns flips_turns flips_numbers
 
-pub slice_turns : All IsSliceTurn (turns_of slice_stage.turns)
+pub slice_each : All IsSliceTurn (turns_of slice_turns)
 unfolding all_turns all_powers power composed identity added_digits is_cube_turn is_slice_turn
-slice_turns = All-from_test is_slice_turn IsSliceTurn IsSliceTurn-from_test (turns_of slice_stage.turns) refl
+slice_each = All-from_test is_slice_turn IsSliceTurn IsSliceTurn-from_test (turns_of slice_turns) refl
 
-pub tetrads_turns : All IsDominoTurn (turns_of tetrads_stage.turns)
+pub tetrads_each : All IsDominoTurn (turns_of tetrads_turns)
 unfolding all_turns all_powers power composed identity added_digits is_cube_turn is_slice_turn is_domino_turn keeps_block
-tetrads_turns = All-from_test is_domino_turn IsDominoTurn IsDominoTurn-from_test (turns_of tetrads_stage.turns) refl
+tetrads_each = All-from_test is_domino_turn IsDominoTurn IsDominoTurn-from_test (turns_of tetrads_turns) refl
 
 pub halves_turns : All IsHalfTurn (turns_of half_turns)
 unfolding all_turns all_powers power composed identity added_digits is_cube_turn is_slice_turn is_domino_turn is_half_turn keeps_block corner_index relation_of relation_number axes_of shared_axis

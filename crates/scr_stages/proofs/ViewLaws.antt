@@ -1,19 +1,16 @@
 -- Views of states by numbers go along with turns, where the number of a turned state is that which the turn makes of
 -- the list that is kept for the number. No puzzle stands here.
-use Rattle.std.proofs.Common.{◌≡◌, ℕ, ◌<◌, ◌≤◌, Bool, true, false, cond, List, map, length, Option, Some, None, refl, sym, ap, ◌∙◌, subst}
+use Rattle.std.proofs.Common.{◌≡◌, ℕ, ◌<◌, Bool, true, false, cond, List, map, length, Option, Some, None, refl, sym, ap, ◌∙◌, subst}
 use Rattle.std.specs.Prelude.{All, nat_lt, slice_get, ◌↔◌}
 use Rattle.std.specs.Option.{option_map}
 use Rattle.std.proofs.lemmas.Bool.{eq-eqb, eqb-true, ltb-false}
 use Rattle.std.proofs.lemmas.Option.{slice_get-map, slice_get_past}
-use Rattle.scr_combinatorics.specs.Numbered.{Numbered}
-use Rattle.scr_combinatorics.specs.Numbering.{IsOneToOne}
 use Rattle.scr_orbit.specs.Orbits.{Rearrangement}
 use Rattle.scr_orbit.proofs.ActionLaws.{map-some}
 use Rattle.scr_orbit.proofs.PowerLaws.{All-got}
-use Rattle.scr_coord.specs.Coordinates.{Coordinate, StaysBelow}
+use Rattle.scr_coord.specs.Coordinates.{Coordinate}
 use Rattle.scr_coord.specs.Projections.{ListView, projection}
 use Rattle.scr_coord.specs.SearchSpaces.{positions, Follows}
-use Rattle.scr_stages.specs.Tables.{numbered_coordinate}
 
 -- What turns make of states, which of them are valid, and turns that are asked for: the turn of a number is at that
 -- place of a list, and keeps states valid.
@@ -83,32 +80,3 @@ Follows-fewer IsValid IsFewer IsGoal after c view are kept f = record {
   turned = λ s t h. f.turned s t (are s h);
   goals = λ s h. f.goals s (are s h);
 }
-
--- Numbered states go along with the coordinate of their numbers.
-module _ {S : Type 0} (n : Numbered S) (one : IsOneToOne n.count n.state_at n.number_of n.IsValid) (turns : ℕ) (after : S → ℕ → Option S) (solved : S)
-    (valid : n.IsValid solved) (kept : (s r : S) (t : ℕ) → n.IsValid s → after s t ≡ Some r → n.IsValid r)
-    (no_more : (s : S) (t : ℕ) → turns ≤ t → after s t ≡ None) where
-  guarded_by : (s : S) (t : ℕ) (b : Bool) → nat_lt t turns ≡ b
-      → cond b (option_map n.number_of (after s t)) None ≡ option_map n.number_of (after s t)
-  guarded_by s t true e = refl
-  guarded_by s t false e = ap (option_map n.number_of) (sym (no_more s t (ltb-false t turns e)))
-
-  pub Follows-numbered : Follows (record { IsValid = n.IsValid; after = after; IsGoal = λ s. s ≡ solved }) (positions (numbered_coordinate n turns after solved)) n.number_of
-  Follows-numbered = record {
-    kept = kept;
-    valid = one.below;
-    turned = λ s t h.
-        ap (λ r. cond (nat_lt t turns) (option_map n.number_of (after r t)) None) (one.state_again s h)
-        ∙ guarded_by s t (nat_lt t turns) refl;
-    goals = λ s h. (
-      λ e. eq-eqb (n.number_of s) (n.number_of solved) (ap n.number_of e),
-      λ e.
-          sym (one.state_again s h) ∙ ap n.state_at (eqb-true (n.number_of s) (n.number_of solved) e)
-          ∙ one.state_again solved valid,
-    );
-  }
-
-  pub StaysBelow-numbered : StaysBelow (numbered_coordinate n turns after solved)
-  StaysBelow-numbered p t q at turn e =
-      let made = map-some n.number_of (after (n.state_at p) t) q e in
-      subst (λ k. k < n.count) made.2 (one.below made.0 (kept (n.state_at p) made.0 t (one.valid p at) made.1))

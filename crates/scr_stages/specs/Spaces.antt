@@ -4,7 +4,7 @@ use Rattle.scr_orbit.specs.Orbits.{zeros}
 use Rattle.scr_coord.specs.Projections.{marked_places, stands_in}
 use Rattle.scr_coord.specs.SearchSpaces.{SearchSpace}
 use Rattle.scr_cube.specs.Cube333.{CubeState, IsCube, solved_cube}
-use Rattle.scr_stages.specs.Stages.{after_of, HasNoFlips, middle_edges, flips_stage, slice_stage, tetrads_stage}
+use Rattle.scr_stages.specs.Stages.{after_of, HasNoFlips, middle_edges, flips_turns, slice_turns, tetrads_turns, half_turns}
 use Rattle.scr_stages.specs.Stages.{halves_stage}
 use Rattle.scr_stages.specs.Numbers.{IsDominoCube, IsHalfCube, tetrads_number}
 
@@ -21,15 +21,15 @@ IsInMiddle c = marked_places (stands_in middle_edges) c.edges.pieces ≡ middle_
 
 -- The tables `flips` and `slice` speak of all valid cubes,
 abbrev pub flips_space : SearchSpace CubeState
-flips_space = cube_space IsCube flips_stage.turns HasNoFlips
+flips_space = cube_space IsCube flips_turns HasNoFlips
 
 abbrev pub slice_space : SearchSpace CubeState
-slice_space = cube_space IsCube slice_stage.turns (λ c. IsUntwisted c × IsInMiddle c)
+slice_space = cube_space IsCube slice_turns (λ c. IsUntwisted c × IsInMiddle c)
 
 -- `tetrads` of dominoes,
 abbrev pub tetrads_space : SearchSpace CubeState
-tetrads_space = cube_space IsDominoCube tetrads_stage.turns (λ c. tetrads_number c ≡ tetrads_number solved_cube)
+tetrads_space = cube_space IsDominoCube tetrads_turns (λ c. tetrads_number c ≡ tetrads_number solved_cube)
 
 -- and `halves` of those among them that have the index of solved in `tetrads`.
 abbrev pub halves_space : SearchSpace CubeState
-halves_space = cube_space IsHalfCube halves_stage.turns halves_stage.IsGoal
+halves_space = cube_space IsHalfCube half_turns halves_stage.IsGoal

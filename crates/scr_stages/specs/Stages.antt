@@ -1,10 +1,10 @@
 -- The four stages by which a 3x3x3 is solved (after Thistlethwaite), and the scramble that they give.
-use Rattle.std.specs.Prelude.{◌≡◌, ℕ, ◌≤◌, List, [], ◌∷◌, ◌++◌, map, length, slice_get, Option, Some, option_and_then}
-use Rattle.scr_combinatorics.specs.Lists.{numbers_from, pick}
-use Rattle.scr_play.specs.Play.{play}
-use Rattle.scr_play.specs.Back.{back}
-use Rattle.scr_play.specs.Tidy.{tidy}
-use Rattle.scr_play.specs.FirstWord.{IsFirstWord}
+use Rattle.std.specs.Prelude.{◌≡◌, ℕ, List, [], ◌∷◌, length, slice_index, Option, Some}
+use Rattle.scr_combinatorics.specs.Lists.{numbers_from}
+use Rattle.scr_combinatorics.specs.Play.{play}
+use Rattle.scr_combinatorics.specs.Back.{back}
+use Rattle.scr_combinatorics.specs.Tidy.{tidy}
+use Rattle.scr_combinatorics.specs.Stages.{Stage, by_letters, IsSolution}
 use Rattle.scr_orbit.specs.Orbits.{zeros}
 use Rattle.scr_notation.specs.declared.turn.Turn.{Turn}
 use Rattle.scr_notation.specs.TurnNumbers.{face_turn_at}
@@ -13,30 +13,20 @@ use Rattle.scr_coord.specs.Projections.{marked_places, stands_in}
 use Rattle.scr_turning.specs.PowerPuzzles.{after_letter}
 use Rattle.scr_cube.specs.Cube333.{CubeState, cube_powers, solved_cube}
 
--- ---- words of a stage
+-- ---- words of turns, told by numbers
 
--- What the turn at a place of a list of turns makes of a cube, or nothing where the list has no such place. Turns are
--- told by their numbers: U U2 U' R R2 R' F F2 F' D D2 D' L L2 L' B B2 B' are 0 to 17. Over this, words of places are
--- played.
+-- The letter at a place of a list of turns, which are told by their numbers: U U2 U' R R2 R' F F2 F' D D2 D' L L2 L' B B2 B' are
+-- 0 to 17.
+abbrev pub letter_in : List ℕ → ℕ → List Turn
+letter_in turns place = face_turn_at (slice_index turns place) ∷ []
+
+-- what the turn at a place makes of a cube: over this, words of places are played
 abbrev pub after_of : List ℕ → CubeState → ℕ → Option CubeState
-after_of turns c place = option_and_then (λ t. (after_letter cube_powers) c (face_turn_at t)) (slice_get turns place)
+after_of turns = by_letters (after_letter cube_powers) (length turns) (letter_in turns)
 
--- a word of places as letters
-abbrev pub letters_of : List ℕ → List ℕ → List Turn
-letters_of turns word = map face_turn_at (pick turns word)
-
--- A stage: the numbers of its turns, in order; its goal; and how many turns lead there from wherever the stage before
--- may end.
-pub record Stage : Type 1 where
-  pub turns : List ℕ
-  pub IsGoal : CubeState → Type 0
-  pub bound : ℕ
-
--- The word of a stage: the first word of its turns to its goal, by length and then by turn numbers. It is no longer
--- than the bound.
-pub record IsStageWord (stage : Stage) (c : CubeState) (word : List ℕ) : Type 0 where
-  pub first : IsFirstWord (after_of stage.turns) stage.IsGoal c word
-  pub within : length word ≤ stage.bound
+-- The stage of some turns, of a goal and of a bound.
+abbrev pub cube_stage : List ℕ → (CubeState → Type 0) → ℕ → Stage CubeState Turn
+cube_stage turns IsGoal bound = record { letters = length turns; letter = letter_in turns; IsGoal = IsGoal; bound = bound }
 
 -- ---- the four stages
 
@@ -63,41 +53,36 @@ half_turns = 1 ∷ 4 ∷ 7 ∷ 10 ∷ 13 ∷ 16 ∷ []
 abbrev pub IsHalfTurned : CubeState → Type 0
 IsHalfTurned c = (word : List ℕ) × (play (after_of half_turns) solved_cube word ≡ Some c)
 
+-- the turns of the first three
+abbrev pub flips_turns : List ℕ
+flips_turns = numbers_from 0 18
+
+abbrev pub slice_turns : List ℕ
+slice_turns = 0 ∷ 1 ∷ 2 ∷ 3 ∷ 4 ∷ 5 ∷ 7 ∷ 9 ∷ 10 ∷ 11 ∷ 12 ∷ 13 ∷ 14 ∷ 16 ∷ []
+
+abbrev pub tetrads_turns : List ℕ
+tetrads_turns = 0 ∷ 1 ∷ 2 ∷ 4 ∷ 7 ∷ 9 ∷ 10 ∷ 11 ∷ 13 ∷ 16 ∷ []
+
+abbrev pub flips_stage : Stage CubeState Turn
+flips_stage = cube_stage flips_turns HasNoFlips 7
+
+abbrev pub slice_stage : Stage CubeState Turn
+slice_stage = cube_stage slice_turns IsDomino 13
+
+abbrev pub tetrads_stage : Stage CubeState Turn
+tetrads_stage = cube_stage tetrads_turns IsHalfTurned 15
+
 -- Last, by half turns: solved.
-abbrev pub flips_stage : Stage
-flips_stage = record { turns = numbers_from 0 18; IsGoal = HasNoFlips; bound = 7 }
+abbrev pub halves_stage : Stage CubeState Turn
+halves_stage = cube_stage half_turns (λ c. c ≡ solved_cube) 17
 
-abbrev pub slice_stage : Stage
-slice_stage = record {
-  turns = 0 ∷ 1 ∷ 2 ∷ 3 ∷ 4 ∷ 5 ∷ 7 ∷ 9 ∷ 10 ∷ 11 ∷ 12 ∷ 13 ∷ 14 ∷ 16 ∷ [];
-  IsGoal = IsDomino;
-  bound = 13;
-}
-
-abbrev pub tetrads_stage : Stage
-tetrads_stage = record {
-  turns = 0 ∷ 1 ∷ 2 ∷ 4 ∷ 7 ∷ 9 ∷ 10 ∷ 11 ∷ 13 ∷ 16 ∷ [];
-  IsGoal = IsHalfTurned;
-  bound = 15;
-}
-
-abbrev pub halves_stage : Stage
-halves_stage = record { turns = half_turns; IsGoal = λ c. c ≡ solved_cube; bound = 17 }
-
-abbrev pub stages : List Stage
+abbrev pub stages : List (Stage CubeState Turn)
 stages = flips_stage ∷ slice_stage ∷ tetrads_stage ∷ halves_stage ∷ []
 
--- ---- the solution by stages, and the scramble
-
--- The words of some stages as letters, one after another, each from where the one before ended.
-abbrev pub IsSolution : List Stage → CubeState → List Turn → Type 0
-IsSolution [] c solution = solution ≡ []
-IsSolution (stage ∷ rest) c solution =
-    (word : List ℕ) × (turns : List Turn) × (is : IsStageWord stage c word) × IsSolution rest is.first.leads.end turns
-    × (solution ≡ letters_of stage.turns word ++ turns)
+-- ---- the scramble
 
 -- The scramble of a cube by stages: the words of the four stages, tidied and taken back.
 pub record IsStageScramble (c : CubeState) (scramble : List Turn) : Type 0 where
   pub solution : List Turn
-  pub is : IsSolution stages c solution
+  pub is : IsSolution (after_letter cube_powers) stages c solution
   pub taken_back : scramble ≡ back opposite (tidy turn_merging solution)

@@ -1,17 +1,16 @@
 -- The tables of the stages: what each is a table of, and how far it may reach.
-use Rattle.std.specs.Prelude.{ℕ, ◌==◌, List, [], ◌∷◌, map, slice_index_or, Option}
-use Rattle.std.specs.Option.{option_map}
+use Rattle.std.specs.Prelude.{ℕ, List, [], ◌∷◌, map, slice_index_or}
 use Rattle.scr_combinatorics.specs.Lists.{numbers_from, pick}
-use Rattle.scr_combinatorics.specs.Numbered.{Numbered}
 use Rattle.scr_orbit.specs.Orbits.{Rearrangement}
 use Rattle.scr_coord.specs.Coordinates.{Coordinate}
-use Rattle.scr_coord.specs.Products.{product}
+use Rattle.scr_coord.specs.Indexes.{numbered_coordinate}
+use Rattle.scr_coord.specs.Products.{product_coordinate}
 use Rattle.scr_coord.specs.Projections.{projection, twists_view, place_set_view, pieces_view}
 use Rattle.scr_table.specs.declared.name.TableName.TheVariants.{Flips, Slice, Tetrads, Halves}
 use Rattle.scr_table.specs.Lines.{TableLine}
 use Rattle.scr_turning.specs.PowerPuzzles.{all_turns}
 use Rattle.scr_cube.specs.Cube333.{CubeTurn, cube_action, cube_powers, solved_cube}
-use Rattle.scr_stages.specs.Stages.{middle_edges, after_of, half_turns, flips_stage, slice_stage, tetrads_stage, halves_stage}
+use Rattle.scr_stages.specs.Stages.{middle_edges, after_of, half_turns, flips_stage, slice_stage, tetrads_stage, halves_stage, flips_turns, slice_turns, tetrads_turns}
 use Rattle.scr_stages.specs.Tetrads.{in_block, tetrads_view, half_corners_view}
 use Rattle.scr_stages.specs.Numbers.{first_edges, half_cubes}
 
@@ -35,13 +34,13 @@ block_turns block turns numbers = map (λ t. block_turn block (slice_index_or tu
 
 -- The flips.
 abbrev pub flips_coordinate : Coordinate
-flips_coordinate = projection (twists_view 12 2) (edges_by flips_stage.turns)
+flips_coordinate = projection (twists_view 12 2) (edges_by flips_turns)
 
 -- The twists, beside the places of the edges of the middle layer.
 abbrev pub slice_coordinate : Coordinate
 slice_coordinate =
-    product (projection (twists_view 8 3) (corners_by slice_stage.turns))
-    (projection (place_set_view 12 4 middle_edges) (edges_by slice_stage.turns))
+    product_coordinate (projection (twists_view 8 3) (corners_by slice_turns))
+    (projection (place_set_view 12 4 middle_edges) (edges_by slice_turns))
 
 -- The places of the first edges among the eight above and below, beside the indexes of the corners.
 abbrev pub outer_places : List ℕ
@@ -49,18 +48,8 @@ outer_places = numbers_from 0 8
 
 abbrev pub tetrads_coordinate : Coordinate
 tetrads_coordinate =
-    product (projection (place_set_view 8 4 first_edges) (map (block_turn outer_places) (edges_by tetrads_stage.turns)))
-    (projection tetrads_view (corners_by tetrads_stage.turns))
-
--- Numbered states as a coordinate: a turn leads from a state's number to that of the turned state, and the goal is the
--- number of the solved one.
-abbrev pub numbered_coordinate : {S : Type 0} → Numbered S → ℕ → (S → ℕ → Option S) → S → Coordinate
-numbered_coordinate n turns after solved = record {
-  count = n.count;
-  turns = turns;
-  after = λ p t. option_map n.number_of (after (n.state_at p) t);
-  is_goal = λ p. p == n.number_of solved;
-}
+    product_coordinate (projection (place_set_view 8 4 first_edges) (map (block_turn outer_places) (edges_by tetrads_turns)))
+    (projection tetrads_view (corners_by tetrads_turns))
 
 -- The cubes that half turns solve.
 abbrev pub halves_coordinate : Coordinate

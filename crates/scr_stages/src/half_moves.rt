@@ -146,5 +146,6 @@ impl Coord for HalfMoves {
         position == 0
     }
 
-    ghost law = { λ m. m.stays };
+    #[inline]
+    fn stays_below(&self) {}
 }

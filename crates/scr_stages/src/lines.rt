@@ -16,17 +16,12 @@ use std::alloc::Global;
 pub(crate) struct FlipsLine;
 
 impl Line for FlipsLine {
-    ghost use Rattle.std.proofs.Common.{lit≤};
     ghost use Rattle.scr_stages.specs.Tables.{flips_line};
 
     ghost line = { flips_line };
 
-    fn name() -> TableName {
-        TableName::Flips
-    }
-
-    fn bound() -> u32 {
-        7
+    fn reach() -> (TableName, u32) {
+        (TableName::Flips, 7)
     }
 
     type Moves = MoveTable;
@@ -35,25 +30,18 @@ impl Line for FlipsLine {
         let edges = edges_turned(&ALL_TURNS);
         MoveTable::build(alloc, &Twists::<12, 2>::new(&edges[..]))
     }
-
-    ghost few_turns = { lit≤ tt };
 }
 
 /// The twists, which follow each other in its positions, beside the places of the edges of the middle layer.
 pub(crate) struct SliceLine;
 
 impl Line for SliceLine {
-    ghost use Rattle.std.proofs.Common.{lit≤};
     ghost use Rattle.scr_stages.specs.Tables.{slice_line};
 
     ghost line = { slice_line };
 
-    fn name() -> TableName {
-        TableName::Slice
-    }
-
-    fn bound() -> u32 {
-        13
+    fn reach() -> (TableName, u32) {
+        (TableName::Slice, 13)
     }
 
     type Moves = Product<MoveTable, MoveTable>;
@@ -65,25 +53,18 @@ impl Line for SliceLine {
         let middle = PlaceSet::<12, 4>::new(&edges[..], MIDDLE_EDGES);
         Product::of_moves(alloc, &twists, &middle)
     }
-
-    ghost few_turns = { lit≤ tt };
 }
 
 /// The places of the first edges, which follow each other in its positions, beside the indexes of the corners.
 pub(crate) struct TetradsLine;
 
 impl Line for TetradsLine {
-    ghost use Rattle.std.proofs.Common.{lit≤};
     ghost use Rattle.scr_stages.specs.Tables.{tetrads_line};
 
     ghost line = { tetrads_line };
 
-    fn name() -> TableName {
-        TableName::Tetrads
-    }
-
-    fn bound() -> u32 {
-        15
+    fn reach() -> (TableName, u32) {
+        (TableName::Tetrads, 15)
     }
 
     type Moves = Product<MoveTable, MoveTable>;
@@ -95,25 +76,18 @@ impl Line for TetradsLine {
         let indexes = CornerLists::<CornerIndexes>::new(&corners[..]);
         Product::of_moves(alloc, &first, &indexes)
     }
-
-    ghost few_turns = { lit≤ tt };
 }
 
 /// The cubes that half turns solve.
 pub(crate) struct HalvesLine;
 
 impl Line for HalvesLine {
-    ghost use Rattle.std.proofs.Common.{lit≤};
     ghost use Rattle.scr_stages.specs.Tables.{halves_line};
 
     ghost line = { halves_line };
 
-    fn name() -> TableName {
-        TableName::Halves
-    }
-
-    fn bound() -> u32 {
-        17
+    fn reach() -> (TableName, u32) {
+        (TableName::Halves, 17)
     }
 
     type Moves = HalfMoves;
@@ -121,6 +95,4 @@ impl Line for HalvesLine {
     fn moves(alloc: Global) -> Result<HalfMoves, NoMemory> {
         HalfMoves::build(alloc)
     }
-
-    ghost few_turns = { lit≤ tt };
 }

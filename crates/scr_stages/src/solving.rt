@@ -1,13 +1,14 @@
 //! The solution of a cube by stages, and the scramble that it gives.
 ghost use Rattle.std.specs.Prelude.{◌≡◌, ◌+◌, ◌<◌, ◌≤◌, All, List, Some, ◌++◌, IsTrue, length};
-ghost use Rattle.scr_play.specs.Play.{play};
+ghost use Rattle.scr_combinatorics.specs.Play.{play};
+ghost use Rattle.scr_combinatorics.specs.Stages.{spelled, IsSolution};
 ghost use Rattle.scr_notation.specs.declared.event.Event.TheVariants.{C333};
 ghost use Rattle.scr_notation.specs.declared.turn.Turn.{Turn as Letter};
 ghost use Rattle.scr_notation.specs.TurnNumbers.{face_turn_at};
 ghost use Rattle.scr_notation.specs.Turns.{permits};
 ghost use Rattle.scr_turning.specs.PowerPuzzles.{after_letter};
 ghost use Rattle.scr_cube.specs.Cube333.{IsCube, cube_powers, solved_cube};
-ghost use Rattle.scr_stages.specs.Stages.{after_of, letters_of, stages, IsSolution, IsStageScramble};
+ghost use Rattle.scr_stages.specs.Stages.{after_of, letter_in, stages, IsStageScramble};
 
 use crate::stage_turns::{ALL_TURNS, HALF_TURNS, SLICE_TURNS, TETRADS_TURNS};
 use crate::tables::StageTables;
@@ -20,8 +21,8 @@ use scr_notation::{Event, Scramble, Turn, inverse, tidy};
 pub fn solve_stages(tables: &StageTables, cube: &Cube) -> Scramble
     ensures event { result.event ≡ C333 }
     ensures at_most { length result.turns ≤ 52 }
-    ensures solution { IsSolution stages cube.now result.turns }
-    ensures only { (turns : List Letter) → IsSolution stages cube.now turns → turns ≡ result.turns }
+    ensures solution { IsSolution (after_letter cube_powers) stages cube.now result.turns }
+    ensures only { (turns : List Letter) → IsSolution (after_letter cube_powers) stages cube.now turns → turns ≡ result.turns }
     ensures played { play (after_letter cube_powers) cube.now result.turns ≡ Some solved_cube }
     ensures valid { IsCube cube.now }
 {
@@ -55,7 +56,8 @@ fn follow(cube: &Cube, turns: &[u8], word: &[u8], solution: &mut Scramble) -> Cu
     requires word { All (λ place. place < length turns.now) word.now }
     requires event { solution.old.event ≡ C333 }
     requires room { length solution.old.turns + length word.now ≤ 160 }
-    ensures written { solution.new ≡ record { event = C333; turns = solution.old.turns ++ letters_of turns.now word.now } }
+    ensures written { solution.new ≡ record { event = C333; turns = solution.old.turns ++ spelled (letter_in turns.now) word.now } }
+    ensures longer { length solution.new.turns ≡ length solution.old.turns + length word.now }
     ensures played { play (after_of turns.now) cube.now word.now ≡ Some result }
 {
     let mut state = *cube;

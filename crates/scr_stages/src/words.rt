@@ -1,6 +1,8 @@
 //! The words of the stages from a cube, by the tables.
-ghost use Rattle.scr_cube.specs.Cube333.{IsCube};
-ghost use Rattle.scr_stages.specs.Stages.{IsStageWord, flips_stage, slice_stage, tetrads_stage, halves_stage};
+ghost use Rattle.scr_combinatorics.specs.Stages.{IsStageWord};
+ghost use Rattle.scr_turning.specs.PowerPuzzles.{after_letter};
+ghost use Rattle.scr_cube.specs.Cube333.{IsCube, cube_powers};
+ghost use Rattle.scr_stages.specs.Stages.{flips_stage, slice_stage, tetrads_stage, halves_stage};
 ghost use Rattle.scr_stages.specs.Numbers.{IsUnflippedCube, IsDominoCube, IsHalfCube};
 
 use crate::corners::corner_index;
@@ -13,7 +15,7 @@ use scr_rank::{Choose, TwistRank};
 
 /// The word of the first stage.
 pub(crate) fn flips_word(tables: &StageTables, cube: &Cube) -> ArrayVec<u8, 24>
-    ensures word { IsStageWord flips_stage cube.now result.items }
+    ensures word { IsStageWord (after_letter cube_powers) flips_stage cube.now result.items }
     ensures valid { IsCube cube.now }
 {
     let number = TwistRank::<12, 2>::rank(&cube.flips()) as u32;
@@ -23,7 +25,7 @@ pub(crate) fn flips_word(tables: &StageTables, cube: &Cube) -> ArrayVec<u8, 24>
 /// The word of the second stage, from a cube without flips.
 pub(crate) fn slice_word(tables: &StageTables, cube: &Cube) -> ArrayVec<u8, 24>
     requires { IsUnflippedCube cube.now }
-    ensures { IsStageWord slice_stage cube.now result.items }
+    ensures { IsStageWord (after_letter cube_powers) slice_stage cube.now result.items }
 {
     let mut middle = [0; 4];
     places_of(&MIDDLE_EDGES[..], &cube.edges()[..], &mut middle[..]);
@@ -35,7 +37,7 @@ pub(crate) fn slice_word(tables: &StageTables, cube: &Cube) -> ArrayVec<u8, 24>
 /// The word of the third stage, from a domino.
 pub(crate) fn tetrads_word(tables: &StageTables, cube: &Cube) -> ArrayVec<u8, 24>
     requires { IsDominoCube cube.now }
-    ensures { IsStageWord tetrads_stage cube.now result.items }
+    ensures { IsStageWord (after_letter cube_powers) tetrads_stage cube.now result.items }
 {
     let mut first = [0; 4];
     places_of(&FIRST_EDGES[..], &cube.edges()[..], &mut first[..]);
@@ -48,7 +50,7 @@ pub(crate) fn tetrads_word(tables: &StageTables, cube: &Cube) -> ArrayVec<u8, 24
 /// The word of the last stage, from a cube that half turns solve.
 pub(crate) fn halves_word(tables: &StageTables, cube: &Cube) -> ArrayVec<u8, 24>
     requires { IsHalfCube cube.now }
-    ensures { IsStageWord halves_stage cube.now result.items }
+    ensures { IsStageWord (after_letter cube_powers) halves_stage cube.now result.items }
 {
     tables.halves.descend(HalfParts::of(cube).number())
 }

@@ -5,8 +5,8 @@ use Rattle.std.proofs.Math.ListN.{set}
 use Rattle.std.proofs.Math.Logic.{∥∥₁_elim, ∥∥₁_map}
 use Rattle.std.proofs.lemmas.Bool.{cases_order, cases_lt}
 use Rattle.scr_coord.specs.Coordinates.{Coordinate, StaysBelow, moved, IsGoal}
-use Rattle.scr_play.specs.FirstWord.{LeadsTo, IsDistance}
-use Rattle.scr_play.proofs.FirstWordLaws.{LeadsTo-empty, IsGoal-empty, LeadsTo-cons, LeadsTo-parts, IsDistance-goal}
+use Rattle.scr_combinatorics.specs.FirstWord.{LeadsTo, IsDistance}
+use Rattle.scr_combinatorics.proofs.FirstWordLaws.{LeadsTo-empty, IsGoal-empty, LeadsTo-cons, LeadsTo-parts, IsDistance-goal}
 use Rattle.scr_table.specs.Distances.{IsFirstGap}
 use Rattle.scr_table.specs.Filled.{IsKnown, AreKnown, Neighbours, IsConsistent}
 use Rattle.scr_table.proofs.StepLaws.{moved-below}

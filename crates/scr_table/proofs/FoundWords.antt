@@ -3,8 +3,8 @@ use Rattle.std.proofs.Common.{◌≡◌, ℕ, zero, suc, ◌+◌, ◌<◌, ◌�
 use Rattle.std.proofs.Math.Bool.{Bool-set}
 use Rattle.std.proofs.lemmas.Bool.{cases_lt, eqb-true, eq-eqb}
 use Rattle.scr_coord.specs.Coordinates.{Coordinate, StaysBelow, moved, IsGoal}
-use Rattle.scr_play.specs.FirstWord.{IsFirstWord, LowersFirst}
-use Rattle.scr_play.proofs.FirstWordLaws.{IsGoal-distance, IsFirstWord-goal, IsFirstWord-cons}
+use Rattle.scr_combinatorics.specs.FirstWord.{IsFirstWord, LowersFirst}
+use Rattle.scr_combinatorics.proofs.FirstWordLaws.{IsGoal-distance, IsFirstWord-goal, IsFirstWord-cons}
 use Rattle.scr_table.specs.Distances.{Distances, Measures}
 use Rattle.scr_table.proofs.StepLaws.{moved-below}
 use Rattle.scr_table.proofs.DescentLaws.{distance_at, LowersFirst-measured, some_turn-lowers}

@@ -5,5 +5,7 @@ pub mod CountLaws
 pub mod MovesLaws
 pub mod FoundWords
 pub mod SameTables
+pub mod TriedWords
 pub mod RowLaws
 pub mod LineLaws
+pub mod StageLaws

@@ -2,12 +2,20 @@
 use Rattle.std.proofs.Common.{◌≡◌, ℕ, zero, suc, ◌+◌, ◌-◌, ◌<◌, ◌≤◌, Bool, true, false, List, [], ◌∷◌, length, get_or, Some, None, refl, arith}
 use Rattle.std.specs.Prelude.{if◌then◌else◌, ◌==◌}
 use borrow.Author.Tests.{eqb-true}
-use Rattle.scr_coord.specs.Coordinates.{moved, IsGoal}
-use Rattle.scr_play.specs.Play.{play}
-use Rattle.scr_play.specs.FirstWord.{LeadsTo, IsFirstWord, IsDistance}
-use Rattle.scr_play.proofs.FirstWordLaws.{IsGoal-empty, LeadsTo-parts, IsFirstWord-goal, IsFirstWord-cons}
-use Rattle.scr_table.specs.Row.{row}
+use Rattle.scr_coord.specs.Coordinates.{StaysBelow, moved, IsGoal}
+use Rattle.scr_combinatorics.specs.Play.{play}
+use Rattle.scr_combinatorics.specs.FirstWord.{LeadsTo, IsFirstWord, IsDistance}
+use Rattle.scr_combinatorics.proofs.FirstWordLaws.{IsGoal-empty, LeadsTo-parts, IsFirstWord-goal, IsFirstWord-cons}
+use Rattle.scr_table.specs.Row.{row_coordinate}
 use Rattle.scr_table.proofs.StepLaws.{moved-turn}
+
+-- turns lead from positions to positions
+before_stays : (n p q : ℕ) (first : Bool) → p < n → (if first then None else Some (p - 1)) ≡ Some q → q < n
+before_stays n p q true lt e = absurd (cc)
+before_stays n p q false lt e = let same : p - 1 ≡ q = cc in omega arith
+
+pub row_stays : (n : ℕ) → StaysBelow (row_coordinate n)
+row_stays n = λ p t q lt turn e. before_stays n p q (p == 0) lt e
 
 -- a turn leads down by one
 step_down : (p q : ℕ) (first : Bool) → (if first then None else Some (p - 1)) ≡ Some q → p ≤ q + 1
@@ -15,27 +23,27 @@ step_down p q true e = absurd (cc)
 step_down p q false e = let same : p - 1 ≡ q = cc in omega arith
 
 -- no word from a position is shorter than its number
-pub row_least : (n p : ℕ) (w : List ℕ) → LeadsTo (moved (row n)) (IsGoal (row n)) p w → p ≤ length w
-row_least n p [] l = omega (arith, eqb-true p 0 (IsGoal-empty (moved (row n)) (IsGoal (row n)) p l))
+pub row_least : (n p : ℕ) (w : List ℕ) → LeadsTo (moved (row_coordinate n)) (IsGoal (row_coordinate n)) p w → p ≤ length w
+row_least n p [] l = omega (arith, eqb-true p 0 (IsGoal-empty (moved (row_coordinate n)) (IsGoal (row_coordinate n)) p l))
 row_least n p (t ∷ w) l =
-    let parts = LeadsTo-parts (moved (row n)) (IsGoal (row n)) p t w l in
-    omega (arith, row_least n parts.0 w parts.2, step_down p parts.0 (p == 0) (moved-turn (row n) p t parts.0 parts.1).1)
+    let parts = LeadsTo-parts (moved (row_coordinate n)) (IsGoal (row_coordinate n)) p t w l in
+    omega (arith, row_least n parts.0 w parts.2, step_down p parts.0 (p == 0) (moved-turn (row_coordinate n) p t parts.0 parts.1).1)
 
 -- the words from the first three positions
-pub leads_from_0 : LeadsTo (moved (row 3)) (IsGoal (row 3)) 0 []
+pub leads_from_0 : LeadsTo (moved (row_coordinate 3)) (IsGoal (row_coordinate 3)) 0 []
 unfolding play
 leads_from_0 = record { end = 0; played = refl; goal = refl }
 
-pub leads_from_1 : LeadsTo (moved (row 3)) (IsGoal (row 3)) 1 (0 ∷ [])
+pub leads_from_1 : LeadsTo (moved (row_coordinate 3)) (IsGoal (row_coordinate 3)) 1 (0 ∷ [])
 unfolding play
 leads_from_1 = record { end = 0; played = refl; goal = refl }
 
-pub leads_from_2 : LeadsTo (moved (row 3)) (IsGoal (row 3)) 2 (0 ∷ 0 ∷ [])
+pub leads_from_2 : LeadsTo (moved (row_coordinate 3)) (IsGoal (row_coordinate 3)) 2 (0 ∷ 0 ∷ [])
 unfolding play
 leads_from_2 = record { end = 0; played = refl; goal = refl }
 
 -- the distance of each of the three is its number
-pub row_distance : (p : ℕ) → p < 3 → IsDistance (moved (row 3)) (IsGoal (row 3)) p p
+pub row_distance : (p : ℕ) → p < 3 → IsDistance (moved (row_coordinate 3)) (IsGoal (row_coordinate 3)) p p
 row_distance zero lt = record { reached = ∣ ([], leads_from_0, refl) ∣₁; least = row_least 3 0 }
 row_distance (suc zero) lt = record { reached = ∣ (0 ∷ [], leads_from_1, refl) ∣₁; least = row_least 3 1 }
 row_distance (suc (suc zero)) lt = record { reached = ∣ (0 ∷ 0 ∷ [], leads_from_2, refl) ∣₁; least = row_least 3 2 }
@@ -49,10 +57,10 @@ row_entry (suc (suc zero)) lt = refl
 row_entry (suc (suc (suc p))) lt = absurd (omega arith)
 
 -- the first word from each of the three
-pub row_first_word : IsFirstWord (moved (row 3)) (IsGoal (row 3)) 2 (0 ∷ 0 ∷ [])
+pub row_first_word : IsFirstWord (moved (row_coordinate 3)) (IsGoal (row_coordinate 3)) 2 (0 ∷ 0 ∷ [])
 row_first_word =
-    IsFirstWord-cons (moved (row 3)) (IsGoal (row 3)) 2 1 0 1 (0 ∷ []) (row_distance 2 (omega arith))
+    IsFirstWord-cons (moved (row_coordinate 3)) (IsGoal (row_coordinate 3)) 2 1 0 1 (0 ∷ []) (row_distance 2 (omega arith))
     (record { leads = refl; lower = row_distance 1 (omega arith); first = λ u q lt e d. omega arith })
-    (IsFirstWord-cons (moved (row 3)) (IsGoal (row 3)) 1 0 0 0 [] (row_distance 1 (omega arith))
+    (IsFirstWord-cons (moved (row_coordinate 3)) (IsGoal (row_coordinate 3)) 1 0 0 0 [] (row_distance 1 (omega arith))
     (record { leads = refl; lower = row_distance 0 (omega arith); first = λ u q lt e d. omega arith })
-    (IsFirstWord-goal (moved (row 3)) (IsGoal (row 3)) 0 refl))
+    (IsFirstWord-goal (moved (row_coordinate 3)) (IsGoal (row_coordinate 3)) 0 refl))

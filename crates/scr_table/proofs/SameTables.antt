@@ -1,7 +1,7 @@
 -- A coordinate, and one that shows the same: the tables of the one are those of the other, and so are gaps, the causes of
 -- refused builds, and first words.
 use Rattle.std.proofs.Common.{ℕ, ◌<◌, List, get_or, sym, ◌∙◌, arith}
-use Rattle.scr_play.specs.FirstWord.{IsFirstWord}
+use Rattle.scr_combinatorics.specs.FirstWord.{IsFirstWord}
 use Rattle.scr_coord.specs.Coordinates.{Coordinate, StaysBelow, moved, IsGoal}
 use Rattle.scr_coord.specs.SearchSpaces.{positions, FindsTheSame, ShowsSame}
 use Rattle.scr_coord.proofs.SearchLaws.{FindsTheSame-follows, Follows-same}

@@ -1,7 +1,7 @@
 -- Distance tables as callers see them, and what is so of a built one.
 use Rattle.std.specs.Prelude.{◌≡◌, ℕ, ◌<◌, ◌≤◌, List, length, slice_index}
 use Rattle.scr_coord.specs.Coordinates.{Coordinate, moved, IsGoal}
-use Rattle.scr_play.specs.FirstWord.{LeadsTo, IsDistance}
+use Rattle.scr_combinatorics.specs.FirstWord.{LeadsTo, IsDistance}
 use Rattle.scr_table.specs.declared.name.TableName.{TableName}
 
 -- A distance table: its name, the bound that it was built with, and what stands at each position.

@@ -1,7 +1,7 @@
 -- What is so of the entries of a table while it is built. One number stands for 'not known yet'.
 use Rattle.std.specs.Prelude.{◌≡◌, ◌≢◌, ℕ, ◌+◌, ◌<◌, ◌≤◌, ◌↔◌, List, length, slice_index, Some}
 use Rattle.scr_coord.specs.Coordinates.{Coordinate, moved, IsGoal}
-use Rattle.scr_play.specs.FirstWord.{IsDistance}
+use Rattle.scr_combinatorics.specs.FirstWord.{IsDistance}
 use Rattle.scr_table.specs.Distances.{NoneWithin}
 use Rattle.scr_table.specs.declared.fill.TheConstants.{UNKNOWN}
 

@@ -6,3 +6,4 @@ pub mod Filled
 pub mod Moves
 pub mod Row
 pub mod TriedWords
+pub mod StageSpaces

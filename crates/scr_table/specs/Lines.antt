@@ -1,6 +1,7 @@
 -- Tables that are asked for, and built ones.
-use Rattle.std.specs.Prelude.{◌≡◌, ◌≢◌, ℕ, List, [], ◌∷◌, ◌++◌, All, Any}
+use Rattle.std.specs.Prelude.{◌≡◌, ◌≢◌, ℕ, ◌≤◌, List, [], ◌∷◌, ◌++◌, All, Any}
 use Rattle.scr_coord.specs.Coordinates.{Coordinate}
+use Rattle.scr_coord.specs.SearchSpaces.{ShowsSame}
 use Rattle.scr_table.specs.declared.name.TableName.{TableName}
 use Rattle.scr_table.specs.Distances.{Distances, Measures, IsGap}
 
@@ -19,6 +20,12 @@ pub record IsTableOf (line : TableLine) (table : Distances) : Type 0 where
   pub name : table.name ≡ line.name
   pub bound : table.bound ≡ line.bound
   pub measures : Measures line.coordinate table
+
+-- A built table is that of a line, and these moves, which have few turns, show what it is a table of.
+pub record IsTableWith (line : TableLine) (moves : Coordinate) (table : Distances) : Type 0 where
+  pub shown : ShowsSame line.coordinate moves
+  pub few_turns : line.coordinate.turns ≤ 256
+  pub is : IsTableOf line table
 
 -- Built tables are those of some lines, one after another.
 abbrev pub AreTablesOf : List TableLine → List Distances → Type 0

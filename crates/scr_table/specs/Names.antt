@@ -3,18 +3,18 @@ use Rattle.std.specs.Prelude.{ℕ, List, codes}
 use Rattle.scr_table.specs.declared.name.TableName.{TableName}
 use Rattle.scr_table.specs.declared.name.TableName.TheVariants.{Corners, Flips, Slice, Tetrads, Halves, FlipSlice, TwistSlice, CornerSlice, EdgeSlice, Pyramid, Skewb, Shapes, Pairings, Square}
 
-abbrev pub text_of : TableName → List ℕ
-text_of Corners = codes "corners"
-text_of Flips = codes "flips"
-text_of Slice = codes "slice"
-text_of Tetrads = codes "tetrads"
-text_of Halves = codes "halves"
-text_of FlipSlice = codes "flipslice"
-text_of TwistSlice = codes "twistslice"
-text_of CornerSlice = codes "cornerslice"
-text_of EdgeSlice = codes "edgeslice"
-text_of Pyramid = codes "pyramid"
-text_of Skewb = codes "skewb"
-text_of Shapes = codes "shapes"
-text_of Pairings = codes "pairings"
-text_of Square = codes "square"
+abbrev pub name_text : TableName → List ℕ
+name_text Corners = codes "corners"
+name_text Flips = codes "flips"
+name_text Slice = codes "slice"
+name_text Tetrads = codes "tetrads"
+name_text Halves = codes "halves"
+name_text FlipSlice = codes "flipslice"
+name_text TwistSlice = codes "twistslice"
+name_text CornerSlice = codes "cornerslice"
+name_text EdgeSlice = codes "edgeslice"
+name_text Pyramid = codes "pyramid"
+name_text Skewb = codes "skewb"
+name_text Shapes = codes "shapes"
+name_text Pairings = codes "pairings"
+name_text Square = codes "square"

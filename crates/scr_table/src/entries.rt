@@ -1,7 +1,11 @@
-//! How the entries of a distance table are stored: a byte each.
+//! How the entries of a distance table are stored: a byte each. All else sees them as a list of numbers.
 
-ghost use Rattle.std.specs.Prelude.{◌≡◌, ◌<◌, ◌^◌, length, slice_index, vec_len};
+ghost use Rattle.std.specs.Prelude.{◌≡◌, ℕ, ◌<◌, ◌≤◌, IfOk, IfNone, IfSome, length, slice_index};
+ghost use Rattle.scr_table.specs.Filled.{AreKnown};
 
+use crate::fill::{UNKNOWN, fill};
+use scr_coord::Coord;
+use std::alloc::{AllocError, Global};
 use std::marker::Model;
 
 /// The entries of a table, which contracts see as a list of numbers, however they are stored.
@@ -21,12 +25,16 @@ impl Model for Entries {
 }
 
 impl Entries {
-    /// These entries, of which there are fewer than 2^32.
-    pub fn new(bytes: Vec<u8>) -> Entries
-        requires { vec_len bytes < 2 ^ 32 }
-        ensures { result ≡ bytes.items }
+    /// One entry for each position of a coordinate: its distance, or `UNKNOWN` where no word of at most `bound` turns leads
+    /// to a goal. `bound` is at most 24, and there are at most 256 turns.
+    pub fn of<C: Coord>(alloc: Global, coord: &C, bound: u8) -> Result<Entries, AllocError>
+        requires few_turns { (C.coordinate coord.now).turns ≤ 256 }
+        requires bound { bound ≤ 24 }
+        ensures { IfOk result (AreKnown (C.coordinate coord.now) bound) }
     {
-        Entries { bytes }
+        let mut bytes = vec![in alloc; UNKNOWN; coord.count() as usize]?;
+        fill(coord, &mut bytes, bound);
+        Ok(Entries { bytes })
     }
 
     /// How many entries there are.
@@ -44,5 +52,20 @@ impl Entries {
         ensures { result ≡ slice_index self.now position }
     {
         self.bytes[position as usize]
+    }
+
+    /// The first position whose entry is above a bound.
+    pub fn first_above(&self, bound: u8) -> Option<u32>
+        ensures above { IfSome result (λ index. bound < slice_index self.now index) }
+        ensures below { IfSome result (λ index. index < length self.now) }
+        ensures first { IfSome result (λ index. (p : ℕ) → p < index → slice_index self.now p ≤ bound) }
+        ensures none { IfNone result ((p : ℕ) → slice_index self.now p ≤ bound) }
+    {
+        for position in 0..self.len() {
+            if self.get(position) > bound {
+                return Some(position);
+            }
+        }
+        None
     }
 }

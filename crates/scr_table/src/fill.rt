@@ -23,6 +23,7 @@ pub(crate) fn fill<C: Coord>(coord: &C, entries: &mut [u8], bound: u8)
     requires bound { bound ≤ 24 }
     ensures { AreKnown (C.coordinate coord.now) bound entries.new }
 {
+    coord.stays_below();
     mark_goals(coord, entries);
     spread(coord, entries, bound);
     if !are_consistent(coord, entries) {
@@ -177,5 +178,6 @@ pub(crate) fn step<C: Coord>(coord: &C, position: u32, turn: u32) -> Option<u32>
     ensures leads { result ≡ moved (C.coordinate coord.now) position turn }
     ensures below { IfSome result (λ next. next < (C.coordinate coord.now).count) }
 {
+    coord.stays_below();
     coord.after(position, turn)
 }

@@ -3,8 +3,8 @@
 
 ghost use Rattle.std.specs.Prelude.{◌≡◌, ℕ, suc, ◌+◌, ◌≤◌, ◌↔◌, List, [], ◌∷◌, ◌++◌, All, length, map, codes, Some};
 ghost use Rattle.std.specs.List.{join_with_byte};
-ghost use Rattle.scr_play.specs.Reach.{Needs};
-ghost use Rattle.scr_play.specs.FirstWord.{IsEarlier, IsFirstWord, IsDistance, LowersFirst};
+ghost use Rattle.scr_combinatorics.specs.Reach.{Needs};
+ghost use Rattle.scr_combinatorics.specs.FirstWord.{IsEarlier, IsFirstWord, IsDistance, LowersFirst};
 ghost use Rattle.scr_coord.specs.Coordinates.{Coordinate, moved, IsGoal};
 ghost use Rattle.scr_table.specs.declared.name.TableName.TheVariants.{Corners, Flips, Slice, Tetrads, Halves};
 ghost use Rattle.scr_table.specs.declared.name.TableName.TheVariants.{FlipSlice, TwistSlice, CornerSlice, EdgeSlice};
@@ -14,9 +14,9 @@ ghost use Rattle.scr_table.specs.declared.fault.BuildFault.TheVariants.{NoMemory
 ghost use Rattle.scr_table.specs.Causes.{IsCauseOf};
 ghost use Rattle.scr_table.specs.Distances.{Distances, Measures, IsGap, IsFirstGap};
 ghost use Rattle.scr_table.specs.Lines.{TableLine, HasNoGap, AreTablesOf};
-ghost use Rattle.scr_table.specs.Moves.{NeedsTurns, puzzle_of};
-ghost use Rattle.scr_table.specs.Names.{text_of};
-ghost use Rattle.scr_table.specs.Row.{row, row_line};
+ghost use Rattle.scr_table.specs.Moves.{NeedsTurns, move_puzzle};
+ghost use Rattle.scr_table.specs.Names.{name_text};
+ghost use Rattle.scr_table.specs.Row.{row_coordinate, row_line};
 
 use crate::moves::Moves;
 
@@ -67,7 +67,7 @@ pub fn causes()
 /// Where each turn counts for one, the minima of a set of moves are those of the puzzle that they are.
 pub fn minima<M: Moves>(moves: &M)
     ensures { (s : M.State) (least : ℕ)
-        → NeedsTurns (M.moves moves.now) s least ↔ Needs (puzzle_of (M.moves moves.now)) s least }
+        → NeedsTurns (M.moves moves.now) s least ↔ Needs (move_puzzle (M.moves moves.now)) s least }
 {}
 
 /// The order of words, and the definitions at a row of three positions: what they hold of and what they refuse.
@@ -75,17 +75,17 @@ pub fn rows()
     ensures by_length { IsEarlier (9 ∷ []) (0 ∷ 0 ∷ []) }
     ensures by_turns { IsEarlier (0 ∷ 3 ∷ []) (3 ∷ 0 ∷ []) }
     ensures no_other_order { IsEarlier (3 ∷ 0 ∷ []) (0 ∷ 3 ∷ []) → ⊥ }
-    ensures distance { IsDistance (moved (row 3)) (IsGoal (row 3)) 2 2 }
-    ensures first_word { IsFirstWord (moved (row 3)) (IsGoal (row 3)) 2 (0 ∷ 0 ∷ []) }
-    ensures no_first_word { IsFirstWord (moved (row 3)) (IsGoal (row 3)) 2 (0 ∷ []) → ⊥ }
-    ensures measures { Measures (row 3) (record { name = Corners; bound = 2; distances = 0 ∷ 1 ∷ 2 ∷ [] }) }
-    ensures no_greater { Measures (row 3) (record { name = Corners; bound = 2; distances = 0 ∷ 1 ∷ 1 ∷ [] }) → ⊥ }
-    ensures no_longer { Measures (row 3) (record { name = Corners; bound = 1; distances = 0 ∷ 1 ∷ 2 ∷ [] }) → ⊥ }
-    ensures gap { IsGap (row 3) 1 2 }
-    ensures no_gap { IsGap (row 3) 2 2 → ⊥ }
-    ensures outside { IsGap (row 3) 1 3 → ⊥ }
-    ensures first_gap { IsFirstGap (row 3) 0 1 }
-    ensures no_later_gap { IsFirstGap (row 3) 0 2 → ⊥ }
+    ensures distance { IsDistance (moved (row_coordinate 3)) (IsGoal (row_coordinate 3)) 2 2 }
+    ensures first_word { IsFirstWord (moved (row_coordinate 3)) (IsGoal (row_coordinate 3)) 2 (0 ∷ 0 ∷ []) }
+    ensures no_first_word { IsFirstWord (moved (row_coordinate 3)) (IsGoal (row_coordinate 3)) 2 (0 ∷ []) → ⊥ }
+    ensures measures { Measures (row_coordinate 3) (record { name = Corners; bound = 2; distances = 0 ∷ 1 ∷ 2 ∷ [] }) }
+    ensures no_greater { Measures (row_coordinate 3) (record { name = Corners; bound = 2; distances = 0 ∷ 1 ∷ 1 ∷ [] }) → ⊥ }
+    ensures no_longer { Measures (row_coordinate 3) (record { name = Corners; bound = 1; distances = 0 ∷ 1 ∷ 2 ∷ [] }) → ⊥ }
+    ensures gap { IsGap (row_coordinate 3) 1 2 }
+    ensures no_gap { IsGap (row_coordinate 3) 2 2 → ⊥ }
+    ensures outside { IsGap (row_coordinate 3) 1 3 → ⊥ }
+    ensures first_gap { IsFirstGap (row_coordinate 3) 0 1 }
+    ensures no_later_gap { IsFirstGap (row_coordinate 3) 0 2 → ⊥ }
     ensures first_table { IsCauseOf (row_line 3 Corners 2 ∷ row_line 3 Flips 0 ∷ []) (Gap Flips 1) }
     ensures no_later_table { IsCauseOf (row_line 3 Corners 0 ∷ row_line 3 Flips 0 ∷ []) (Gap Flips 1) → ⊥ }
     ensures no_table { IsCauseOf [] NoMemory → ⊥ }
@@ -93,7 +93,7 @@ pub fn rows()
 
 /// The names of the tables: of the 2x2x2, the 3x3x3, the Pyraminx, the Skewb and the Square-1.
 pub fn known_names()
-    ensures { join_with_byte 32 (map text_of (Corners ∷ Flips ∷ Slice ∷ Tetrads ∷ Halves
+    ensures { join_with_byte 32 (map name_text (Corners ∷ Flips ∷ Slice ∷ Tetrads ∷ Halves
         ∷ FlipSlice ∷ TwistSlice ∷ CornerSlice ∷ EdgeSlice ∷ Pyramid ∷ Skewb ∷ Shapes ∷ Pairings ∷ Square ∷ []))
         ≡ codes "corners flips slice tetrads halves flipslice twistslice cornerslice edgeslice pyramid skewb "
         ++ codes "shapes pairings square" }

@@ -39,6 +39,7 @@ fn next_entry<C: Coord>(coord: &C, entries: &[u8], position: u32, level: u8) -> 
     if entry != UNKNOWN {
         return entry;
     }
+    coord.stays_below();
     if least_neighbour(coord, entries, position) == level {
         level + 1
     } else {

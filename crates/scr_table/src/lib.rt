@@ -1,7 +1,7 @@
 //! Distance tables: at each position of a coordinate the least number of turns to a goal.
 //!
 //! A [`DistanceTable`] is built over any [`Coord`](scr_coord::Coord), with no puzzle's name in it. What is so of a built
-//! table is one record, `Measures` of `specs/Distances.antt`, over distances and first words as `scr_play` defines them;
+//! table is one record, `Measures` of `specs/Distances.antt`, over distances and first words as `scr_combinatorics` defines them;
 //! how a table is filled and how its entries are stored stands in no definition. Walking down a table gives first words. A
 //! [`Line`] says what a table is called, what it is of and by which moves; its [`LineTable`] keeps them together.
 //! [`no_shorter`] tests minima over any [`Moves`], with no table; `specs/TriedWords.antt` has such a test as a definition,
@@ -21,6 +21,7 @@ mod moves;
 mod name;
 mod named;
 mod table;
+mod table_set;
 
 pub use fault::BuildFault;
 pub use line_table::{Line, LineTable};
@@ -28,3 +29,4 @@ pub use moves::{Moves, no_shorter};
 pub use name::TableName;
 pub use named::table_named;
 pub use table::DistanceTable;
+pub use table_set::TableSet;

@@ -1,6 +1,6 @@
 //! The tables that searches go by, each a type of its own.
 ghost use Rattle.std.specs.Prelude.{◌≡◌, ◌<◌, ◌≤◌, IfOk, IfErr, length};
-ghost use Rattle.scr_play.specs.FirstWord.{IsFirstWord};
+ghost use Rattle.scr_combinatorics.specs.FirstWord.{IsFirstWord};
 ghost use Rattle.scr_coord.specs.Coordinates.{moved, IsGoal};
 ghost use Rattle.scr_coord.specs.SearchSpaces.{ShowsSame};
 ghost use Rattle.scr_table.specs.Causes.{IsCause};
@@ -25,14 +25,12 @@ pub trait Line {
     /// All of this.
     ghost line: { TableLine };
 
-    /// What it is called.
-    fn name() -> TableName
-        ensures { result ≡ line.name };
-
-    /// How far it may reach.
-    fn bound() -> u32
-        ensures exact { result ≡ line.bound }
-        ensures at_most { result ≤ 24 };
+    /// What it is called, and how far it may reach. Its turns have numbers of a byte.
+    fn reach() -> (TableName, u32)
+        ensures name { result.0 ≡ line.name }
+        ensures bound { result.1 ≡ line.bound }
+        ensures at_most { result.1 ≤ 24 }
+        ensures few_turns { line.coordinate.turns ≤ 256 };
 
     /// The moves by which it is built and walked down.
     type Moves: Coord + Drop;
@@ -40,9 +38,6 @@ pub trait Line {
     /// Makes them. They show what it is a table of; only memory can be wanting.
     fn moves(alloc: Global) -> Result<Self::Moves, NoMemory>
         ensures { IfOk result (λ moves. ShowsSame line.coordinate (Self.Moves.coordinate moves)) };
-
-    /// Turns have numbers of a byte.
-    ghost few_turns: { line.coordinate.turns ≤ 256 };
 }
 
 /// The built table of a line, with the moves by which it is walked down.
@@ -64,14 +59,13 @@ impl<L: Line> Drop for LineTable<L> {
 // Clauses see what stands in the table.
 impl<L: Line> Model for LineTable<L> {
     ghost use Rattle.scr_table.specs.Distances.{Distances};
-    ghost use Rattle.scr_coord.specs.SearchSpaces.{ShowsSame};
-    ghost use Rattle.scr_table.specs.Lines.{IsTableOf};
+    ghost use Rattle.scr_table.specs.Lines.{IsTableWith};
 
     ghost Value = { Distances };
 
     ghost view = { λ t. t.distances };
 
-    ghost invariant = { λ t. ShowsSame L.line.coordinate (L.Moves.coordinate t.moves) × IsTableOf L.line t.distances };
+    ghost invariant = { λ t. IsTableWith L.line (L.Moves.coordinate t.moves) t.distances };
 }
 
 impl<L: Line> LineTable<L> {
@@ -81,8 +75,10 @@ impl<L: Line> LineTable<L> {
         ensures no_gap { IfOk result (λ _. HasNoGap L.line) }
         ensures cause { IfErr result (IsCause L.line.name L.line.coordinate L.line.bound) }
     {
+        let (name, bound) = L::reach();
         let moves = L::moves(alloc)?;
-        let distances = DistanceTable::build(alloc, L::name(), &moves, L::bound())?;
+        moves.stays_below();
+        let distances = DistanceTable::build(alloc, name, &moves, bound)?;
         Ok(LineTable { moves, distances })
     }
 
@@ -102,6 +98,7 @@ impl<L: Line> LineTable<L> {
         ensures first { IsFirstWord (moved L.line.coordinate) (IsGoal L.line.coordinate) position result.items }
         ensures table { IsTableOf L.line self.now }
     {
+        self.moves.stays_below();
         self.distances.descend(&self.moves, position)
     }
 }

@@ -1,7 +1,7 @@
 //! The names of the tables.
 
 ghost use Rattle.std.specs.Prelude.{◌≡◌};
-ghost use Rattle.scr_table.specs.Names.{text_of};
+ghost use Rattle.scr_table.specs.Names.{name_text};
 
 /// A table of the product. Those of one event stand in the order in which they are built.
 #[derive(Clone, Copy, Debug, PartialEq, Eq)]
@@ -39,7 +39,7 @@ pub enum TableName {
 impl TableName {
     /// The name that is printed.
     pub fn text(self) -> &'static str
-        ensures { result.now ≡ text_of self }
+        ensures { result.now ≡ name_text self }
     {
         match self {
             TableName::Corners => "corners",

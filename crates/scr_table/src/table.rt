@@ -1,14 +1,14 @@
 //! A distance table.
 
-ghost use Rattle.std.specs.Prelude.{◌≡◌, ℕ, ◌+◌, ◌<◌, ◌≤◌, ◌==◌, All, IfOk, IfErr, IfSome, IfNone, count_by, length, slice_index};
-ghost use Rattle.scr_play.specs.FirstWord.{IsFirstWord, LowersFirst};
+ghost use Rattle.std.specs.Prelude.{◌≡◌, ℕ, ◌+◌, ◌<◌, ◌≤◌, ◌==◌, All, IfOk, IfErr, count_by, length, slice_index};
+ghost use Rattle.scr_combinatorics.specs.FirstWord.{IsFirstWord, LowersFirst};
 ghost use Rattle.scr_coord.specs.Coordinates.{moved, IsGoal};
 ghost use Rattle.scr_table.specs.Distances.{Measures};
 ghost use Rattle.scr_table.specs.Causes.{IsCause};
 
 use crate::entries::Entries;
 use crate::fault::BuildFault;
-use crate::fill::{UNKNOWN, fill, step};
+use crate::fill::step;
 use crate::name::TableName;
 use arrayvec::ArrayVec;
 use scr_coord::Coord;
@@ -60,17 +60,13 @@ impl DistanceTable {
         ensures measures { IfOk result (Measures (C.coordinate coord.now)) }
         ensures cause { IfErr result (IsCause name (C.coordinate coord.now) bound) }
     {
-        let mut entries = vec![in alloc; UNKNOWN; coord.count() as usize]?;
-        fill(coord, &mut entries, bound as u8);
-        match first_above(&entries, bound as u8) {
-            Some(index) => Err(BuildFault::Gap {
-                table: name,
-                index: index as u32,
-            }),
+        let entries = Entries::of(alloc, coord, bound as u8)?;
+        match entries.first_above(bound as u8) {
+            Some(index) => Err(BuildFault::Gap { table: name, index }),
             None => Ok(DistanceTable {
                 name,
                 bound,
-                entries: Entries::new(entries),
+                entries,
             }),
         }
     }
@@ -125,6 +121,7 @@ impl DistanceTable {
         requires position { position < length self.now.distances }
         ensures { let c = C.coordinate coord.now in IsFirstWord (moved c) (IsGoal c) position result.items }
     {
+        coord.stays_below();
         let mut word = ArrayVec::new();
         let mut at = position;
         for lower in (0..self.distance(position)).rev() {
@@ -146,6 +143,7 @@ impl DistanceTable {
         ensures below { result.next < length self.now.distances }
         ensures lower { slice_index self.now.distances result.next ≡ lower }
     {
+        coord.stays_below();
         for turn in 0..coord.turns() {
             if let Some(next) = step(coord, position, turn) {
                 if self.distance(next) == lower {
@@ -165,21 +163,6 @@ impl DistanceTable {
 struct Descent {
     turn: u8,
     next: u32,
-}
-
-/// The first position whose entry is above a bound.
-fn first_above(entries: &[u8], bound: u8) -> Option<usize>
-    ensures above { IfSome result (λ index. bound < slice_index entries.now index) }
-    ensures below { IfSome result (λ index. index < length entries.now) }
-    ensures first { IfSome result (λ index. (p : ℕ) → p < index → slice_index entries.now p ≤ bound) }
-    ensures none { IfNone result ((p : ℕ) → slice_index entries.now p ≤ bound) }
-{
-    for (index, entry) in entries.iter().enumerate() {
-        if *entry > bound {
-            return Some(index);
-        }
-    }
-    None
 }
 
 /// How many entries are equal to each number below 25. No entry is greater.

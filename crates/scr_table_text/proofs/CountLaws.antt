@@ -7,11 +7,11 @@ use Rattle.std.proofs.lemmas.Bool.{eq-eqb, eqb-true, cases_lt}
 use Rattle.std.proofs.lemmas.List.Sums.{count_by_more_yes, count_by_more_no, get_or-le-sum_by}
 use Rattle.std.proofs.lemmas.List.Elements.{All-get_or, All-from_get_or}
 use Rattle.scr_coord.specs.Coordinates.{Coordinate, moved, IsGoal}
-use Rattle.scr_play.proofs.FirstWordLaws.{IsDistance-unique}
+use Rattle.scr_combinatorics.proofs.FirstWordLaws.{IsDistance-unique}
 use Rattle.scr_draw.specs.Count.{count_below}
 use Rattle.scr_table.specs.Distances.{Distances, Measures}
 use Rattle.scr_table.specs.Lines.{TableLine}
-use Rattle.scr_table_text.specs.TableText.{IsAt, AreCounts, IsTableText}
+use Rattle.scr_table_text.specs.TableText.{IsAtDistance, AreCounts, IsTableText}
 use Rattle.scr_table_text.specs.Counted.{AreEntryCounts, counted_text}
 
 -- how many of the first n elements pass is how many of the places below n have one that does
@@ -42,7 +42,7 @@ AreCounts-measured line table counts measures entries =
       counted = λ d lt. record {
         test = λ p. slice_index table.distances p == d;
         tells = λ p below. (
-          λ h. subst (λ e. IsAt c p e) (eqb-true (slice_index table.distances p) d h) (measures.exact p below),
+          λ h. subst (λ e. IsAtDistance c p e) (eqb-true (slice_index table.distances p) d h) (measures.exact p below),
           λ at. eq-eqb (slice_index table.distances p) d (IsDistance-unique (moved c) (IsGoal c) p (slice_index table.distances p) d (measures.exact p below) at),
         );
         counted = count_below-entries (λ e. e == d) table.distances c.count (omega (arith, size))

@@ -3,27 +3,27 @@
 use Rattle.std.specs.Prelude.{◌≡◌, ℕ, ◌+◌, ◌<◌, List, [], ◌∷◌, ◌++◌, codes, length, slice_index}
 use Rattle.std.specs.Fmt.{decimal}
 use Rattle.scr_text.specs.Lines.{text_of_lines}
-use Rattle.scr_play.specs.FirstWord.{IsDistance}
+use Rattle.scr_combinatorics.specs.FirstWord.{IsDistance}
 use Rattle.scr_draw.specs.Count.{IsCount}
 use Rattle.scr_coord.specs.Coordinates.{Coordinate, moved, IsGoal}
 use Rattle.scr_table.specs.declared.name.TableName.{TableName}
-use Rattle.scr_table.specs.Names.{text_of}
+use Rattle.scr_table.specs.Names.{name_text}
 use Rattle.scr_table.specs.Lines.{TableLine}
 
 -- a position of a coordinate is so many turns from a goal
-abbrev pub IsAt : Coordinate → ℕ → ℕ → Type 0
-IsAt c p d = IsDistance (moved c) (IsGoal c) p d
+abbrev pub IsAtDistance : Coordinate → ℕ → ℕ → Type 0
+IsAtDistance c p d = IsDistance (moved c) (IsGoal c) p d
 
 -- how many positions there are at each distance, from 0 up to the greatest that occurs
 pub record AreCounts (c : Coordinate) (counts : List ℕ) : Type 0 where
-  pub counted : (d : ℕ) → d < length counts → IsCount (λ p. IsAt c p d) c.count (slice_index counts d)
-  pub each : (p d : ℕ) → p < c.count → IsAt c p d → d < length counts
+  pub counted : (d : ℕ) → d < length counts → IsCount (λ p. IsAtDistance c p d) c.count (slice_index counts d)
+  pub each : (p d : ℕ) → p < c.count → IsAtDistance c p d → d < length counts
   pub greatest : (d : ℕ) → length counts ≡ d + 1 → 0 < slice_index counts d
 
 -- the head of a table: its name, how many positions it has, and how far it may reach
 abbrev pub head_text : TableName → ℕ → ℕ → List ℕ
 head_text name positions bound =
-    codes "table " ++ text_of name ++ codes " positions " ++ decimal positions ++ codes " bound " ++ decimal bound
+    codes "table " ++ name_text name ++ codes " positions " ++ decimal positions ++ codes " bound " ++ decimal bound
 
 -- a line for each distance, from d on
 abbrev pub count_lines : ℕ → List ℕ → List (List ℕ)

@@ -5,7 +5,7 @@ ghost use Rattle.std.specs.Fmt.{decimal};
 ghost use Rattle.arrayvec.specs.ArrayString.{array_string_len};
 ghost use Rattle.scr_outside.specs.Change.{change_of, Writes};
 ghost use Rattle.scr_text.specs.Lines.{text_of_lines};
-ghost use Rattle.scr_table.specs.Names.{text_of};
+ghost use Rattle.scr_table.specs.Names.{name_text};
 ghost use Rattle.scr_table_text.specs.TableText.{head_text, count_lines};
 ghost use Rattle.scr_table.specs.Lines.{TableLine, AreTablesOf};
 ghost use Rattle.scr_table_text.specs.Counted.{AreEntryCounts, counted_text, tables_in, WritesTables, WritesTexts};

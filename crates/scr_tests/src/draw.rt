@@ -1,6 +1,6 @@
 ghost use Rattle.std.specs.Prelude.{ℕ, ◌<◌, ◌↔◌, nat_le};
-ghost use Rattle.scr_play.specs.Reach.{IsReached};
-ghost use Rattle.scr_draw.specs.Row.{row};
+ghost use Rattle.scr_combinatorics.specs.Reach.{IsReached};
+ghost use Rattle.scr_draw.specs.Row.{row_puzzle};
 
 use scr_draw::{DrawLimit, NumberedStates, Numbering, Permit, attempt, draw, laws};
 use scr_words::{ChaChaWords, ListWords, Seed, Words};
@@ -20,8 +20,6 @@ impl NumberedStates<u128> for Row {
 }
 
 impl Numbering for Row {
-    ghost use Rattle.std.proofs.Common.{lit≤, refl};
-
     type State = u128;
 
     fn count(&self) -> u128 {
@@ -35,23 +33,10 @@ impl Numbering for Row {
     fn number_of(&self, state: &u128) -> u128 {
         *state
     }
-
-    ghost law = { λ _. record {
-      some = lit≤ tt;
-      fits = lit≤ tt;
-      one_to_one = record {
-        valid = λ i h. h;
-        below = λ s h. h;
-        number_again = λ i h. refl;
-        state_again = λ s h. refl;
-      };
-    } };
 }
 
 impl Permit<u128> for Row {
-    ghost use Rattle.scr_draw.specs.Row.{row_exact};
-
-    ghost puzzle = { λ _. row 3674160 };
+    ghost puzzle = { λ _. row_puzzle 3674160 };
 
     ghost greatest = { λ _. 4000000 };
 
@@ -61,12 +46,12 @@ impl Permit<u128> for Row {
         u128::from(least) <= *state
     }
 
-    ghost exact = { λ _ s least range valid. row_exact 3674160 s least valid };
+    fn is_exact(&self) {}
 }
 
 /// Does nothing: the states are those that turns reach.
 fn is_reached()
-    ensures { (s : ℕ) → (s < 3674160) ↔ IsReached (row 3674160) s }
+    ensures { (s : ℕ) → (s < 3674160) ↔ IsReached (row_puzzle 3674160) s }
 {}
 
 // The words of q * 3674160, with q the quotient of 2^96, which is the first number that is refused,

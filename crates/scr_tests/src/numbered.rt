@@ -15,6 +15,7 @@ where
     N::State: PartialEq,
     requires { number < (N.numbered numbers.now).count }
 {
+    assert!(rt; number < numbers.count());
     let shown = numbers.state_at(number);
     assert_eq!(rt; numbers.number_of(&shown), number);
     assert!(rt; state == Some(shown));

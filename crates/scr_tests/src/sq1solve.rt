@@ -4,7 +4,7 @@ use scr_draw::Numbering;
 use scr_notation::print;
 use scr_sq1::Sq1Numbers;
 use scr_sq1solve::{Sq1Tables, needs_sq1, scramble_sq1};
-use scr_table::TableName;
+use scr_table::{TableName, TableSet};
 use std::test::Fail;
 
 /// Numbers of states, and their scrambles: solved; solved but for the equator; solved but for the edges 6 and 7.

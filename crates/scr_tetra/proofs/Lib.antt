@@ -1,3 +1,5 @@
+pub mod NumberedPyram
+pub mod NumberedSkewb
 pub mod SkewbLaws
 pub mod SkewbDigits
 pub mod SkewbOnLiterals

@@ -14,7 +14,7 @@ use Rattle.scr_orbit.proofs.Orders.{TellsIdentity, tells_orbit, tells_in_place, 
 use Rattle.scr_orbit.proofs.Parts.{ap_both, pair_action, IsSeenAs, IsSeenAs-whole, IsAction-two, IsMadeAt}
 use Rattle.scr_orbit.proofs.TableTests.{and_three, is_still, is_zero_sum_turn, IsZeroSumRearrangement-from_test, are_in_place, AreDigitsInPlace-from_test}
 use Rattle.scr_turning.specs.PowerPuzzles.{IsPowerPuzzle, part_turns}
-use Rattle.scr_turning.specs.Proofs.AxisLaws.{axis_powers, axes_numbered}
+use Rattle.scr_turning.proofs.AxisLaws.{axis_powers, axes_numbered}
 use Rattle.scr_turning.proofs.PowerPuzzleLaws.{IsPowerPuzzle-from_test}
 use Rattle.scr_turning.proofs.TurnedAt.{IsTurned, IsTurned-two}
 use Rattle.scr_tetra.specs.Pyraminx.{TetraminxState, IsTetraminx, TetraminxTurn, IsTetraminxTurn, tetraminx_action, tetraminx_powers, solved_tetraminx, PyramState, IsPyram, PyramTurn, IsPyramTurn, pyram_action, pyram_powers, solved_pyram}

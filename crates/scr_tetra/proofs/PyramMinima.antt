@@ -5,9 +5,9 @@ use Rattle.std.specs.Str.{bytes_eq}
 use Rattle.std.proofs.lemmas.Bool.{false≢true}
 use Rattle.std.proofs.lemmas.List.Sums.{AllPass-from_list_all}
 use Rattle.std.proofs.lemmas.Option.{same_Some}
-use Rattle.scr_play.specs.Play.{play}
-use Rattle.scr_play.specs.Reach.{Needs}
-use Rattle.scr_play.proofs.PlayLaws.{play-empty, play-one}
+use Rattle.scr_combinatorics.specs.Play.{play}
+use Rattle.scr_combinatorics.specs.Reach.{Needs}
+use Rattle.scr_combinatorics.proofs.PlayLaws.{play-empty, play-one}
 use Rattle.scr_orbit.specs.Actions.{power, power_of, all_powers}
 use Rattle.scr_orbit.specs.Orbits.{turned_orbit, composed, identity, solved_orbit, added_digits, zeros}
 use Rattle.scr_orbit.proofs.ActionLaws.{map-some}

@@ -10,7 +10,7 @@ use Rattle.std.proofs.lemmas.Slice.Eq.{bytes_eq-Decides}
 use Rattle.scr_combinatorics.specs.Lists.{numbers_from}
 use Rattle.scr_combinatorics.specs.Digits.{mixed_digits}
 use Rattle.scr_combinatorics.proofs.Picks.{numbers_from-at}
-use Rattle.scr_play.specs.Play.{play}
+use Rattle.scr_combinatorics.specs.Play.{play}
 use Rattle.scr_orbit.specs.Actions.{power, power_of, composed_word}
 use Rattle.scr_orbit.specs.Orbits.{composed, identity, added_digits, zeros}
 use Rattle.scr_orbit.specs.InPlace.{AreDigitsInPlace}
@@ -19,7 +19,7 @@ use Rattle.scr_orbit.proofs.Parts.{ap_both}
 use Rattle.scr_orbit.proofs.PowerLaws.{All-got}
 use Rattle.scr_turning.specs.PowerPuzzles.{letter_table, after_letter}
 use Rattle.scr_tetra.specs.Pyraminx.{TetraminxState, IsTetraminx, PyramTurn, tip_turn, pyram_action, pyram_powers, thirds_number}
-use Rattle.scr_tetra.specs.NumberedPyram.{thirds_one_to_one}
+use Rattle.scr_tetra.proofs.NumberedPyram.{thirds_one_to_one}
 use Rattle.scr_tetra.specs.PyramParts.{tips_word, turned_count}
 use Rattle.scr_tetra.proofs.PyramLaws.{same_pyram, moves_no_body, tells_tetraminx, tetraminx_laws, lawful_pyram}
 

@@ -9,7 +9,7 @@ use Rattle.scr_combinatorics.specs.Permutations.{half_at}
 use Rattle.scr_orbit.specs.Orbits.{Orbit, zeros}
 use Rattle.scr_orbit.proofs.OrbitLaws.{same_orbit}
 use Rattle.scr_tetra.specs.Skewb.{SkewbState, class_of, completing, IsSkewb, skewb_of_digits}
-use Rattle.scr_tetra.specs.NumberedSkewb.{first_below, class_below, same_skewb}
+use Rattle.scr_tetra.proofs.NumberedSkewb.{first_below, class_below, same_skewb}
 
 -- four digits and a last one
 completed_four : (ds : List ℕ) (last : ℕ) → length ds ≡ 4 → All (λ d. d < 3) ds → last < 3 → (total ds + last) % 3 ≡ 0

@@ -11,7 +11,7 @@ use Rattle.scr_orbit.proofs.Orders.{TellsIdentity}
 use Rattle.scr_orbit.proofs.Parts.{ap_three, pair_action, IsAction-pair, IsSeenAs, IsSeenAs-whole, IsAction-two, IsMadeAt, IsMadeAt-part, IsMadeAt-both}
 use Rattle.scr_orbit.proofs.TableTests.{and_three, is_still, still, is_rearrangement, IsRearrangement-from_test}
 use Rattle.scr_turning.specs.PowerPuzzles.{IsPowerPuzzle, all_turns, part_turns}
-use Rattle.scr_turning.specs.Proofs.AxisLaws.{axis_powers, axes_numbered}
+use Rattle.scr_turning.proofs.AxisLaws.{axis_powers, axes_numbered}
 use Rattle.scr_turning.proofs.PowerPuzzleLaws.{IsPowerPuzzle-from_test}
 use Rattle.scr_turning.proofs.TurnedAt.{IsTurned, IsTurned-seen}
 use Rattle.scr_tetra.specs.Skewb.{SkewbState, class_of, IsSkewb, SkewbTurn, made_of_solved, IsSkewbTurn, skewb_action, skewb_powers, solved_skewb}

@@ -1,9 +1,7 @@
 pub mod Skewb
-pub mod NumberedSkewb
 pub mod SkewbStickers
 pub mod SkewbKnown
 pub mod Pyraminx
-pub mod NumberedPyram
 pub mod PyramStickers
 pub mod PyramKnown
 pub mod PyramParts

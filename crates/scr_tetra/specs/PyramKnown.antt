@@ -14,8 +14,8 @@ edge_flip = word_at pyram_powers (5 ∷ 2 ∷ 4 ∷ 3 ∷ 0 ∷ 3 ∷ 1 ∷ 2 �
 
 -- Words of turns by their numbers, and how often each is done to move nothing: U L, of which five take back the edges and
 -- three the axial pieces; U L U' L', which exchanges three edges in a cycle; and so L B L' B', the cycle and the flip.
-abbrev pub known_orders : List (List ℕ × ℕ)
-known_orders =
+abbrev pub pyram_orders : List (List ℕ × ℕ)
+pyram_orders =
     (0 ∷ 2 ∷ [], 15) ∷ (0 ∷ 2 ∷ 1 ∷ 3 ∷ [], 3) ∷ (2 ∷ 6 ∷ 3 ∷ 7 ∷ [], 3) ∷ (4 ∷ 1 ∷ 5 ∷ 1 ∷ 4 ∷ 1 ∷ 5 ∷ [], 3)
     ∷ (5 ∷ 2 ∷ 4 ∷ 3 ∷ 0 ∷ 3 ∷ 1 ∷ 2 ∷ [], 2) ∷ []
 

@@ -8,8 +8,8 @@ use Rattle.scr_orbit.specs.Stickers.{IsCarriedBy}
 use Rattle.scr_tetra.specs.Pyraminx.{TetraminxTurn, tetraminx_thirds}
 
 -- The faces at which the stickers of each edge place are, the one first that tells the flip: UL, UR, UB, LR, LB, RB.
-abbrev pub edge_faces : List (List ℕ)
-edge_faces = (2 ∷ 3 ∷ []) ∷ (3 ∷ 1 ∷ []) ∷ (1 ∷ 2 ∷ []) ∷ (3 ∷ 0 ∷ []) ∷ (0 ∷ 2 ∷ []) ∷ (1 ∷ 0 ∷ []) ∷ []
+abbrev pub pyram_edge_faces : List (List ℕ)
+pyram_edge_faces = (2 ∷ 3 ∷ []) ∷ (3 ∷ 1 ∷ []) ∷ (1 ∷ 2 ∷ []) ∷ (3 ∷ 0 ∷ []) ∷ (0 ∷ 2 ∷ []) ∷ (1 ∷ 0 ∷ []) ∷ []
 
 -- The same of the axial piece at each axis, clockwise: U, L, R, B.
 abbrev pub axial_faces : List (List ℕ)
@@ -17,19 +17,19 @@ axial_faces = (1 ∷ 3 ∷ 2 ∷ []) ∷ (0 ∷ 2 ∷ 3 ∷ []) ∷ (0 ∷ 3 ∷
 
 -- Where a turn about each axis by a third takes what is at the axes, or the faces, U, L, R and B: about U, what is at the
 -- right comes to the left, from there to the back, and from there to the right.
-abbrev pub carried_to : List (List ℕ)
-carried_to = (0 ∷ 3 ∷ 1 ∷ 2 ∷ []) ∷ (2 ∷ 1 ∷ 3 ∷ 0 ∷ []) ∷ (3 ∷ 0 ∷ 2 ∷ 1 ∷ []) ∷ (1 ∷ 2 ∷ 0 ∷ 3 ∷ []) ∷ []
+abbrev pub pyram_carried_to : List (List ℕ)
+pyram_carried_to = (0 ∷ 3 ∷ 1 ∷ 2 ∷ []) ∷ (2 ∷ 1 ∷ 3 ∷ 0 ∷ []) ∷ (3 ∷ 0 ∷ 2 ∷ 1 ∷ []) ∷ (1 ∷ 2 ∷ 0 ∷ 3 ∷ []) ∷ []
 
 -- The faces of a piece's stickers after a turn about an axis, which carries the pieces that have no sticker on the face
 -- opposite to it.
-abbrev pub carried_piece : ℕ → List ℕ → List ℕ
-carried_piece axis stickers =
-    if list_any (λ s. s == axis) stickers then stickers else map (slice_index (slice_index_or carried_to axis [])) stickers
+abbrev pub pyram_carried_piece : ℕ → List ℕ → List ℕ
+pyram_carried_piece axis stickers =
+    if list_any (λ s. s == axis) stickers then stickers else map (slice_index (slice_index_or pyram_carried_to axis [])) stickers
 
 -- A turn is what a third about this axis does to stickers, to those of the edges and of the axial pieces.
-pub record CarriesStickers (axis : ℕ) (r : TetraminxTurn) : Type 0 where
-  pub edges : IsCarriedBy (carried_piece axis) edge_faces r.edges
-  pub axials : IsCarriedBy (carried_piece axis) axial_faces (turning_in_place r.axials)
+pub record CarriesPyramStickers (axis : ℕ) (r : TetraminxTurn) : Type 0 where
+  pub edges : IsCarriedBy (pyram_carried_piece axis) pyram_edge_faces r.edges
+  pub axials : IsCarriedBy (pyram_carried_piece axis) axial_faces (turning_in_place r.axials)
 
 -- ---- the puzzle held another way
 

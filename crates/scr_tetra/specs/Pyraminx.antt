@@ -14,7 +14,7 @@ use Rattle.scr_combinatorics.specs.Numbered.{Numbered, numbered_by_digits}
 use Rattle.scr_orbit.specs.Actions.{Action}
 use Rattle.scr_orbit.specs.Orbits.{Orbit, Rearrangement, IsZeroSumOrbit, IsZeroSumRearrangement, added_digits, turned_orbit, composed, identity, solved_orbit, zeros}
 use Rattle.scr_orbit.specs.InPlace.{AreDigitsInPlace}
-use Rattle.scr_turning.specs.Axes.{axis_letters}
+use Rattle.scr_turning.specs.Axes.{letters_about_axes}
 use Rattle.scr_turning.specs.PowerPuzzles.{PowerPuzzle}
 
 -- ---- the Tetraminx: edges with their flips, and the digits of the axial pieces
@@ -71,7 +71,7 @@ solved_tetraminx = record { edges = solved_orbit 6; axials = zeros 4 }
 -- The Tetraminx as data. Its 8 turns are U U' L L' R R' B B', in the order of their numbers.
 abbrev pub tetraminx_powers : PowerPuzzle TetraminxState TetraminxTurn
 tetraminx_powers = record {
-  letters = axis_letters;
+  letters = letters_about_axes;
   action = tetraminx_action;
   generators = tetraminx_thirds;
   solved = solved_tetraminx;
@@ -119,7 +119,7 @@ solved_pyram = record { body = solved_tetraminx; tips = zeros 4 }
 
 -- The Pyraminx as data. Its 16 turns are U U' L L' R R' B B', and then u u' l l' r r' b b', in the order of their numbers.
 abbrev pub pyram_powers : PowerPuzzle PyramState PyramTurn
-pyram_powers = record { letters = axis_letters; action = pyram_action; generators = pyram_thirds; solved = solved_pyram }
+pyram_powers = record { letters = letters_about_axes; action = pyram_action; generators = pyram_thirds; solved = solved_pyram }
 
 -- ---- numbers
 

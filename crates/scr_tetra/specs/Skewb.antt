@@ -11,7 +11,7 @@ use Rattle.scr_combinatorics.specs.Digits.{mixed_number, mixed_digits}
 use Rattle.scr_combinatorics.specs.Numbered.{Numbered, numbered_by_digits}
 use Rattle.scr_orbit.specs.Actions.{Action}
 use Rattle.scr_orbit.specs.Orbits.{Orbit, Rearrangement, IsOrbit, turned_orbit, composed, identity, solved_orbit, zeros}
-use Rattle.scr_turning.specs.Axes.{axis_letters}
+use Rattle.scr_turning.specs.Axes.{letters_about_axes}
 use Rattle.scr_turning.specs.PowerPuzzles.{PowerPuzzle}
 
 -- The four and the three corners with their twists, and the centres.
@@ -102,7 +102,7 @@ solved_skewb = record { four = solved_orbit 4; three = solved_orbit 3; centres =
 
 -- The Skewb as data. Its 8 turns are U U' L L' R R' B B', in the order of their numbers.
 abbrev pub skewb_powers : PowerPuzzle SkewbState SkewbTurn
-skewb_powers = record { letters = axis_letters; action = skewb_action; generators = skewb_thirds; solved = solved_skewb }
+skewb_powers = record { letters = letters_about_axes; action = skewb_action; generators = skewb_thirds; solved = solved_skewb }
 
 -- ---- numbers
 

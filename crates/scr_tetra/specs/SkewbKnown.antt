@@ -5,8 +5,8 @@ use Rattle.scr_orbit.specs.Orbits.{zeros}
 use Rattle.scr_tetra.specs.Skewb.{SkewbState, SkewbTurn, skewb_thirds, skewb_action}
 
 -- Words of turns by their numbers, and how often each is done to move nothing: U L, U L', U B and R' L R L'.
-abbrev pub known_orders : List (List ℕ × ℕ)
-known_orders = (0 ∷ 2 ∷ [], 45) ∷ (0 ∷ 3 ∷ [], 30) ∷ (0 ∷ 6 ∷ [], 9) ∷ (5 ∷ 2 ∷ 4 ∷ 3 ∷ [], 6) ∷ []
+abbrev pub skewb_orders : List (List ℕ × ℕ)
+skewb_orders = (0 ∷ 2 ∷ [], 45) ∷ (0 ∷ 3 ∷ [], 30) ∷ (0 ∷ 6 ∷ [], 9) ∷ (5 ∷ 2 ∷ 4 ∷ 3 ∷ [], 6) ∷ []
 
 -- The state after B U.
 unfoldable pub after_b_u : SkewbState

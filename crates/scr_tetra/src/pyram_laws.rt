@@ -2,8 +2,8 @@
 ghost use Rattle.std.specs.Prelude.{◌≡◌, ℕ, ◌+◌, ◌*◌, ◌/◌, ◌^◌, ◌<◌, ◌≤◌, List, [], ◌∷◌, All, length, slice_get, Some, None, codes};
 ghost use Rattle.scr_combinatorics.specs.Numbering.{IsNumbering};
 ghost use Rattle.scr_combinatorics.specs.Permutations.{factorial};
-ghost use Rattle.scr_play.specs.Play.{play, count_in};
-ghost use Rattle.scr_play.specs.Reach.{Needs};
+ghost use Rattle.scr_combinatorics.specs.Play.{play, count_in};
+ghost use Rattle.scr_combinatorics.specs.Reach.{Needs};
 ghost use Rattle.scr_orbit.specs.InPlace.{AreDigitsInPlace};
 ghost use Rattle.scr_orbit.specs.Orbits.{zeros};
 ghost use Rattle.scr_notation.specs.declared.turn.Turn.{Turn as Letter};
@@ -11,9 +11,9 @@ ghost use Rattle.scr_notation.specs.TurnNumbers.{axis_turn_at};
 ghost use Rattle.scr_notation.specs.Spelling.{text_of};
 ghost use Rattle.scr_turning.specs.PowerPuzzles.{IsPowerPuzzle, HaveOrders, word_at, after_letter, power_puzzle};
 ghost use Rattle.scr_tetra.specs.Pyraminx.{TetraminxState, IsTetraminx, TetraminxTurn, IsTetraminxTurn, tetraminx_thirds, tetraminx_powers, numbered_tetraminx, PyramState, IsPyram, IsPyramTurn, pyram_powers, solved_pyram, numbered_pyram};
-ghost use Rattle.scr_tetra.specs.PyramStickers.{CarriesStickers, ShowsThirds, about_up, half_round};
+ghost use Rattle.scr_tetra.specs.PyramStickers.{CarriesPyramStickers, ShowsThirds, about_up, half_round};
 ghost use Rattle.scr_tetra.specs.PyramParts.{large_turns, tip_turn_count, turned_count, tips_word};
-ghost use Rattle.scr_tetra.specs.PyramKnown.{known_orders, edge_cycle, edge_flip, cycled, flipped, two_tips};
+ghost use Rattle.scr_tetra.specs.PyramKnown.{pyram_orders, edge_cycle, edge_flip, cycled, flipped, two_tips};
 
 /// The turns are lawful, with tips and without: they keep states valid, and composed turns act as one after the other; words
 /// are taken back, and each comes to one rearrangement, the same for every state. What turns reach is valid. A third has order
@@ -57,12 +57,12 @@ pub fn words_by_parts()
 
 /// U L has order 15, and the known words have theirs.
 pub fn orders()
-    ensures { HaveOrders pyram_powers known_orders }
+    ensures { HaveOrders pyram_powers pyram_orders }
 {}
 
 /// Each table is what a third does to stickers.
 pub fn stickers()
-    ensures { (axis : ℕ) (r : TetraminxTurn) → slice_get tetraminx_thirds axis ≡ Some r → CarriesStickers axis r }
+    ensures { (axis : ℕ) (r : TetraminxTurn) → slice_get tetraminx_thirds axis ≡ Some r → CarriesPyramStickers axis r }
 {}
 
 /// Held another way, the puzzle shows thirds as thirds about other axes.

@@ -3,7 +3,6 @@ ghost use Rattle.std.specs.Prelude.{◌≡◌, ◌<◌, replicate};
 ghost use Rattle.scr_combinatorics.specs.Digits.{mixed_digits};
 ghost use Rattle.scr_orbit.specs.InPlace.{AreDigitsInPlace};
 ghost use Rattle.scr_tetra.specs.Pyraminx.{IsTetraminx, thirds_number, tetraminx_digits, numbered_tetraminx, numbered_pyram};
-ghost use Rattle.scr_tetra.specs.NumberedPyram.{tetraminx_numbering, pyram_numbering};
 
 use crate::pyraminx::Pyraminx;
 use crate::tetraminx::Tetraminx;
@@ -61,8 +60,6 @@ impl NumberedStates<Tetraminx> for TetraminxNumbers {
 impl Numbering for TetraminxNumbers {
     type State = Tetraminx;
 
-    ghost law = { λ _. tetraminx_numbering };
-
     fn state_at(&self, number: u128) -> Tetraminx {
         let [axials, flips, edges] = MixedRadix::new(TETRAMINX_BASES).unrank(number);
         Tetraminx::of_valid(
@@ -89,8 +86,6 @@ impl NumberedStates<Pyraminx> for PyramNumbers {
 
 impl Numbering for PyramNumbers {
     type State = Pyraminx;
-
-    ghost law = { λ _. pyram_numbering };
 
     fn state_at(&self, number: u128) -> Pyraminx {
         let [tips, body] = MixedRadix::new(PYRAM_BASES).unrank(number);

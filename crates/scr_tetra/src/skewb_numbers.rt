@@ -3,7 +3,6 @@ ghost use Rattle.std.specs.Prelude.{◌≡◌, ◌+◌, ◌<◌, [], ◌∷◌, 
 ghost use Rattle.scr_combinatorics.specs.Lists.{total};
 ghost use Rattle.scr_combinatorics.specs.Digits.{mixed_number, mixed_digits};
 ghost use Rattle.scr_tetra.specs.Skewb.{IsSkewb, completing, skewb_digits, skewb_numbered};
-ghost use Rattle.scr_tetra.specs.NumberedSkewb.{skewb_numbering};
 
 use crate::skewb::{Skewb, class_of};
 use scr_draw::{NumberedStates, Numbering};
@@ -101,8 +100,6 @@ impl NumberedStates<Skewb> for SkewbNumbers {
 
 impl Numbering for SkewbNumbers {
     type State = Skewb;
-
-    ghost law = { λ _. skewb_numbering };
 
     fn state_at(&self, number: u128) -> Skewb {
         let (four, three, centres) = orbits_at(number);

@@ -1,3 +1,5 @@
+pub mod FaceLaws
+pub mod AxisLaws
 pub mod NumberedTurns
 pub mod PowerPuzzleLaws
 pub mod TurnedAt

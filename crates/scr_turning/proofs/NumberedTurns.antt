@@ -6,7 +6,7 @@ use Rattle.std.proofs.Math.Nat.{mul-le-mul_left}
 use Rattle.std.proofs.lemmas.Bool.{cases_lt}
 use Rattle.std.proofs.lemmas.Nat.{div_below, mod_below}
 use Rattle.std.proofs.lemmas.Option.{same_Some, slice_get_past, slice_get_within}
-use Rattle.scr_play.proofs.PlayLaws.{and_then-some}
+use Rattle.scr_combinatorics.proofs.PlayLaws.{and_then-some}
 use Rattle.scr_orbit.specs.Actions.{Action, Power, after_by, power, power_of, power_table, all_powers}
 use Rattle.scr_orbit.proofs.ActionLaws.{map-some}
 use Rattle.scr_orbit.proofs.PowerLaws.{power_table-at, length-all_powers}

@@ -18,8 +18,8 @@ thirds_of (Tip tip amount) =
 thirds_of _ = None
 
 -- Four axes, U L R B, and four tips, u l r b, each with turns by one and two thirds.
-abbrev pub axis_letters : PowerLetters
-axis_letters = record {
+abbrev pub letters_about_axes : PowerLetters
+letters_about_axes = record {
   order = 3;
   most = 8;
   power_at = thirds_of;

@@ -17,8 +17,8 @@ quarters_of (Face face depth amount) =
 quarters_of _ = None
 
 -- Six faces, U R F D L B, each with turns by one, two and three quarters.
-abbrev pub face_letters : PowerLetters
-face_letters = record {
+abbrev pub letters_of_faces : PowerLetters
+letters_of_faces = record {
   order = 4;
   most = 6;
   power_at = quarters_of;

@@ -2,4 +2,3 @@ pub mod Letters
 pub mod Faces
 pub mod Axes
 pub mod PowerPuzzles
-pub mod Proofs

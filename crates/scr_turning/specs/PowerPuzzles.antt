@@ -1,6 +1,6 @@
 -- Puzzles of pieces whose turns are powers of a few generators, as a cube's are of its quarter turns.
 use Rattle.std.specs.Prelude.{◌≡◌, ℕ, ◌-◌, ◌*◌, ◌<◌, ◌≤◌, List, map, length, All, slice_get, Option, Some, None}
-use Rattle.scr_play.specs.Reach.{Puzzle}
+use Rattle.scr_combinatorics.specs.Reach.{Puzzle}
 use Rattle.scr_orbit.specs.Actions.{Action, Power, IsOrder, IsWordOrder, after_by, table_puzzle, power_table, all_powers}
 use Rattle.scr_orbit.specs.LawfulTurns.{HasLawfulTurns}
 use Rattle.scr_notation.specs.declared.turn.Turn.{Turn}
@@ -33,8 +33,8 @@ all_turns p = all_powers p.action p.letters.order p.generators
 abbrev pub part_turns : {S R Q : Type 0} → (R → Q) → PowerPuzzle S R → List Q
 part_turns part p = map part (all_turns p)
 
-abbrev pub turn_count : {S R : Type 0} → PowerPuzzle S R → ℕ
-turn_count p = (p.letters.order - 1) * length p.generators
+abbrev pub power_turn_count : {S R : Type 0} → PowerPuzzle S R → ℕ
+power_turn_count p = (p.letters.order - 1) * length p.generators
 
 -- The word of turns with these numbers.
 abbrev pub word_at : {S R : Type 0} → PowerPuzzle S R → List ℕ → List Turn
@@ -51,8 +51,8 @@ pub record IsPowerPuzzle {S R : Type 0} (p : PowerPuzzle S R) (IsValid : S → T
   pub orders : All (λ r. IsOrder p.action r p.letters.order) p.generators
   pub numbered : (n : ℕ) → slice_get (all_turns p) n ≡ letter_table p (p.letters.letter_at n)
   pub numbers : (s r : S) (t : Turn) → after_letter p s t ≡ Some r
-      → (n : ℕ) × (n < turn_count p) × (p.letters.letter_at n ≡ t)
-  pub no_more : (s : S) (n : ℕ) → turn_count p ≤ n → after_letter p s (p.letters.letter_at n) ≡ None
+      → (n : ℕ) × (n < power_turn_count p) × (p.letters.letter_at n ≡ t)
+  pub no_more : (s : S) (n : ℕ) → power_turn_count p ≤ n → after_letter p s (p.letters.letter_at n) ≡ None
 
 -- So many of these letters' generators are a puzzle's: a letter that is a power of none of them makes nothing.
 pub record HasGenerators {S : Type 0} (l : PowerLetters) (count : ℕ) (after : S → Turn → Option S) : Type 0 where

@@ -1,10 +1,8 @@
 //! Letters as powers of generators.
 ghost use Rattle.std.specs.Prelude.{◌≡◌, ◌+◌, ◌-◌, ◌≤◌, ◌<◌, IfSome, refl};
 ghost use Rattle.std.specs.Option.{option_map};
-ghost use Rattle.scr_turning.specs.Axes.{thirds_of, axis_letters};
-ghost use Rattle.scr_turning.specs.Faces.{quarters_of, face_letters};
-ghost use Rattle.scr_turning.specs.Proofs.FaceLaws.{faces_numbered};
-ghost use Rattle.scr_turning.specs.Proofs.AxisLaws.{axes_numbered};
+ghost use Rattle.scr_turning.specs.Axes.{thirds_of, letters_about_axes};
+ghost use Rattle.scr_turning.specs.Faces.{quarters_of, letters_of_faces};
 
 use scr_notation::Turn;
 
@@ -27,18 +25,19 @@ pub trait Letters {
         ensures some { IfSome result (λ p. 0 < p.1) }
         ensures few { IfSome result (λ p. p.1 ≤ POWERS) };
 
+    /// Does nothing: the letters are numbered, generator by generator.
+    fn are_numbered()
+        ensures { AreNumbered letters };
+
     /// There is one power more, which moves nothing.
     ghost whole: { letters.order ≡ POWERS + 1 };
-
-    /// The letters are numbered, generator by generator.
-    ghost numbered: { AreNumbered letters };
 }
 
 /// The outer layers at the faces U R F D L B, each turned by one to three quarters.
 pub struct Faces;
 
 impl Letters for Faces {
-    ghost letters = { face_letters };
+    ghost letters = { letters_of_faces };
 
     ghost POWERS = { 3 };
 
@@ -55,16 +54,16 @@ impl Letters for Faces {
         }
     }
 
-    ghost whole = { refl };
+    fn are_numbered() {}
 
-    ghost numbered = { faces_numbered };
+    ghost whole = { refl };
 }
 
 /// The axes U L R B and behind them the tips u l r b, each turned by one or two thirds.
 pub struct Axes;
 
 impl Letters for Axes {
-    ghost letters = { axis_letters };
+    ghost letters = { letters_about_axes };
 
     ghost POWERS = { 2 };
 
@@ -82,7 +81,7 @@ impl Letters for Axes {
         }
     }
 
-    ghost whole = { refl };
+    fn are_numbered() {}
 
-    ghost numbered = { axes_numbered };
+    ghost whole = { refl };
 }

@@ -1,6 +1,6 @@
 //! States that letters and scrambles turn.
 ghost use Rattle.std.specs.Prelude.{◌≡◌, ◌<◌};
-ghost use Rattle.scr_play.specs.Play.{play};
+ghost use Rattle.scr_combinatorics.specs.Play.{play};
 
 use crate::letters::Letters;
 use scr_notation::{Scramble, Turn};
@@ -38,6 +38,7 @@ pub trait PowerTurned: Copy {
         requires few { exponent ≤ Self.Kind.POWERS }
         ensures { after self.now (Self.Kind.letters.letter_of (record { generator = generator; exponent = exponent })) ≡ Some result }
     {
+        Self::Kind::are_numbered();
         let first = usize::from(Self::Kind::POWERS) * usize::from(generator);
         self.turned(first + usize::from(exponent - 1))
     }
@@ -54,6 +55,7 @@ pub trait PowerTurned: Copy {
 fn after<S: PowerTurned>(state: &S, letter: Turn) -> Option<S>
     ensures { result ≡ S.after state.now letter }
 {
+    S::Kind::are_numbered();
     let (generator, exponent) = S::Kind::read(letter)?;
     if generator < S::GENERATORS {
         Some(state.turn(generator, exponent))

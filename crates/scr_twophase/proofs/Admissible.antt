@@ -8,8 +8,8 @@ use Rattle.std.proofs.lemmas.Option.{same_Some, slice_get-get_or}
 use Rattle.scr_combinatorics.proofs.Picks.{numbers_from-at}
 use Rattle.scr_orbit.specs.Orbits.{Rearrangement}
 use Rattle.scr_coord.specs.Projections.{ListView, projection}
-use Rattle.scr_play.specs.Play.{play}
-use Rattle.scr_play.proofs.PlayLaws.{play-parts}
+use Rattle.scr_combinatorics.specs.Play.{play}
+use Rattle.scr_combinatorics.proofs.PlayLaws.{play-parts}
 use Rattle.scr_coord.specs.Coordinates.{Coordinate, moved, IsGoal}
 use Rattle.scr_coord.specs.SearchSpaces.{SearchSpace, positions, Follows, ShowsSame}
 use Rattle.scr_coord.proofs.SearchLaws.{FindsTheSame-follows}
@@ -18,12 +18,12 @@ use Rattle.scr_table.specs.Lines.{TableLine}
 use Rattle.scr_cube.specs.Cube333.{CubeState, IsCube}
 use Rattle.scr_cube.proofs.Laws333.{lawful_cube}
 use Rattle.scr_notation.specs.TurnNumbers.{face_turn_at}
-use Rattle.scr_stages.specs.Stages.{after_of, flips_stage, IsDomino}
+use Rattle.scr_stages.specs.Stages.{after_of, IsDomino, flips_turns}
 use Rattle.scr_twophase.specs.declared.outlook.Outlook.{Outlook}
 use Rattle.scr_twophase.specs.declared.pruning.PruningTable.{PruningTable}
 use Rattle.scr_twophase.specs.Words.{words_of}
-use Rattle.scr_twophase.specs.TwoParts.{all_turns, after_turn, leads, is_domino}
-use Rattle.scr_twophase.specs.TurnSets.{has_turn}
+use Rattle.scr_twophase.specs.TwoParts.{turn_numbers, after_turn, leads, is_domino}
+use Rattle.scr_twophase.specs.TurnSets.{contains_turn}
 use Rattle.scr_twophase.specs.Outlooks.{turns_within, IsPruningTable}
 use Rattle.scr_twophase.proofs.CubeTests.{IsDomino-test, leads-parts, after_of-place, play-places}
 use Rattle.scr_twophase.proofs.WordLists.{IsWordOf, words_of-each}
@@ -49,8 +49,8 @@ least-of space c number f table m s e w h played goal =
 
 -- ---- the first part
 
-all_turn-place : (c : CubeState) (t : ℕ) → t < 18 → after_of flips_stage.turns c t ≡ after_turn c t
-all_turn-place c t lt = after_of-place flips_stage.turns c t lt ∙ ap (after_turn c) (numbers_from-at 0 18 t lt ∙ omega arith)
+all_turn-place : (c : CubeState) (t : ℕ) → t < 18 → after_of flips_turns c t ≡ after_turn c t
+all_turn-place c t lt = after_of-place flips_turns c t lt ∙ ap (after_turn c) (numbers_from-at 0 18 t lt ∙ omega arith)
 
 -- no turn is barred in a projection, nor in moves that show it
 pub leads-shown : (v : ListView) (turns : List Rearrangement) (shown : Coordinate) → ShowsSame (projection v turns) shown → (p t : ℕ) → p < v.count → t < length turns
@@ -85,19 +85,19 @@ turn-below c d t e =
 pub kept-way : (line : TableLine) (table : PruningTable) → IsPruningTable line table → (number : CubeState → ℕ) (IsGoal : CubeState → Type 0)
     → Follows (cubes_to IsGoal) (positions line.coordinate) number
     → ((e : CubeState) → IsDomino e → IsGoal e) → line.coordinate.turns ≡ 18
-    → (c : CubeState) (p more left t : ℕ) (v : List ℕ) (o : Outlook) → IsCube c → p ≡ number c → left ≡ more + 1 → Contains (words_of all_turns more) v
-    → IsTrue (leads is_domino c (t ∷ v)) → has_turn (turns_within (get_or table.outlooks.items p o) left) t ≡ true
-unfolding all_turns
+    → (c : CubeState) (p more left t : ℕ) (v : List ℕ) (o : Outlook) → IsCube c → p ≡ number c → left ≡ more + 1 → Contains (words_of turn_numbers more) v
+    → IsTrue (leads is_domino c (t ∷ v)) → contains_turn (turns_within (get_or table.outlooks.items p o) left) t ≡ true
+unfolding turn_numbers
 kept-way line table is number IsGoal f domino turns c p more left t v o h at one there way =
     let to = leads-parts is_domino c (t ∷ v) way in
     let parts = play-parts after_turn c to.0 t v to.1 in
     let d = parts.0 in
     let lt : t < 18 = turn-below c d t parts.1 in
     let valid = IsCube-turned c d t h parts.1 in
-    let word = All-contains (IsWordOf all_turns more) (words_of all_turns more) v (words_of-each all_turns more) there in
+    let word = All-contains (IsWordOf turn_numbers more) (words_of turn_numbers more) v (words_of-each turn_numbers more) there in
     let space = cubes_to IsGoal in
-    let played : play (after_of flips_stage.turns) d word.places ≡ Some to.0 =
-    play-places flips_stage.turns d word.places word.below ∙ ap (play after_turn d) (sym word.is) ∙ parts.2 in
+    let played : play (after_of flips_turns) d word.places ≡ Some to.0 =
+    play-places flips_turns d word.places word.below ∙ ap (play after_turn d) (sym word.is) ∙ parts.2 in
     let near = least-of space line.coordinate number f table.distances is.distances.measures d to.0 word.places valid played (domino to.0 ((IsDomino-test to.0).0 to.2)) in
     let moves : moved line.coordinate p t ≡ Some (number d) =
     ap (λ k. moved line.coordinate k t) at ∙ f.turned c t h ∙ ap (option_map number) (all_turn-place c t lt ∙ parts.1) in

@@ -8,8 +8,8 @@ use Rattle.std.proofs.Math.Pow.{pow-lt}
 use Rattle.std.proofs.lemmas.Bool.{cases_eq, cases_lt}
 use Rattle.std.proofs.lemmas.Nat.Bits.{bit_at-lt, bit_at_and, bit_at_set_same, bit_at_set_other, bit_at_clear_same, bit_at_clear_other, bit_at-trailing_zeros, bit_at_above, bit_at-zero, bit_at_ones}
 use Rattle.scr_combinatorics.specs.Lists.{numbers_from}
-use Rattle.scr_twophase.specs.TwoParts.{all_turns}
-use Rattle.scr_twophase.specs.TurnSets.{has_turn, turns_in}
+use Rattle.scr_twophase.specs.TwoParts.{turn_numbers}
+use Rattle.scr_twophase.specs.TurnSets.{contains_turn, turns_in}
 
 -- ---- one bit
 
@@ -22,7 +22,7 @@ both_ones (suc (suc x)) y a b = absurd (omega arith)
 both_ones zero (suc (suc y)) a b = absurd (omega arith)
 both_ones (suc zero) (suc (suc y)) a b = absurd (omega arith)
 
-pub has_turn-and : (a b t : ℕ) → has_turn (bit_and a b) t ≡ (has_turn a t && has_turn b t)
+pub has_turn-and : (a b t : ℕ) → contains_turn (bit_and a b) t ≡ (contains_turn a t && contains_turn b t)
 has_turn-and a b t = ap (λ x. x == 1) (bit_at_and a b t) ∙ both_ones (bit_at a t) (bit_at b t) (bit_at-lt a t) (bit_at-lt b t)
 
 or-true : (b : Bool) → (b || true) ≡ true
@@ -33,15 +33,15 @@ pub or-false : (b : Bool) → (b || false) ≡ b
 or-false true = refl
 or-false false = refl
 
-pub has_turn-with : (bits turn t : ℕ) → turn < 18 → has_turn (bit_or bits (1 * 2 ^ turn % 2 ^ 32)) t ≡ (has_turn bits t || (t == turn))
+pub has_turn-with : (bits turn t : ℕ) → turn < 18 → contains_turn (bit_or bits (1 * 2 ^ turn % 2 ^ 32)) t ≡ (contains_turn bits t || (t == turn))
 has_turn-with bits turn t lt =
     elim (cases_eq t turn) [
       | inl same ↦
-          ap (λ u. has_turn (bit_or bits (1 * 2 ^ turn % 2 ^ 32)) u) same ∙ ap (λ x. x == 1) (bit_at_set_same w32 bits turn (omega arith))
-          ∙ sym (ap (λ b. has_turn bits t || b) (eq-eqb t turn same) ∙ or-true (has_turn bits t))
+          ap (λ u. contains_turn (bit_or bits (1 * 2 ^ turn % 2 ^ 32)) u) same ∙ ap (λ x. x == 1) (bit_at_set_same w32 bits turn (omega arith))
+          ∙ sym (ap (λ b. contains_turn bits t || b) (eq-eqb t turn same) ∙ or-true (contains_turn bits t))
       | inr other ↦
           ap (λ x. x == 1) (bit_at_set_other w32 bits turn (omega arith) t other)
-          ∙ sym (ap (λ b. has_turn bits t || b) (ne_eqb t turn other) ∙ or-false (has_turn bits t))
+          ∙ sym (ap (λ b. contains_turn bits t || b) (ne_eqb t turn other) ∙ or-false (contains_turn bits t))
     ]
 
 -- ---- the lowest bit
@@ -88,28 +88,28 @@ lowest-lt bits pos lt =
 -- which is the first; the others are left where the bit is cleared
 pub turns_in-lowest : (bits : ℕ) → 0 < bits → bits < 2 ^ 18
     → turns_in bits ≡ trailing_zeros w32 bits ∷ turns_in (bit_and bits (2 ^ 32 - 1 - 1 * 2 ^ trailing_zeros w32 bits % 2 ^ 32))
-unfolding turns_in all_turns
+unfolding turns_in turn_numbers
 turns_in-lowest bits pos lt =
     let t : ℕ = trailing_zeros w32 bits in
     let low = bit_at-trailing_zeros w32 bits pos (omega arith) in
     let below : t < 18 = lowest-lt bits pos lt in
     let rest = bit_and bits (2 ^ 32 - 1 - 1 * 2 ^ t % 2 ^ 32) in
-    first_from (has_turn bits) (has_turn rest) 0 18 t (omega arith) (omega arith) (ap (λ x. x == 1) low.1)
+    first_from (contains_turn bits) (contains_turn rest) 0 18 t (omega arith) (omega arith) (ap (λ x. x == 1) low.1)
     (zero_bit (bit_at rest t) (bit_at_clear_same w32 bits t (omega arith)))
     (λ k before. zero_bit (bit_at bits k) (low.2 k before))
     (λ k under other. ap (λ x. x == 1) (bit_at_clear_other w32 bits t (omega arith) k (omega arith) other))
 
-none_from : (low n : ℕ) → filter (has_turn 0) (numbers_from low n) ≡ []
+none_from : (low n : ℕ) → filter (contains_turn 0) (numbers_from low n) ≡ []
 none_from low zero = refl
 none_from low (suc n) =
-    ap (λ d. cond d (low ∷ filter (has_turn 0) (numbers_from (suc low) n)) (filter (has_turn 0) (numbers_from (suc low) n))) (zero_bit (bit_at 0 low) (bit_at-zero low))
+    ap (λ d. cond d (low ∷ filter (contains_turn 0) (numbers_from (suc low) n)) (filter (contains_turn 0) (numbers_from (suc low) n))) (zero_bit (bit_at 0 low) (bit_at-zero low))
     ∙ none_from (suc low) n
 
 pub turns_in-none : turns_in 0 ≡ []
-unfolding turns_in all_turns
+unfolding turns_in turn_numbers
 turns_in-none = none_from 0 18
 
-pub has_turn-all : (t : ℕ) → t < 18 → has_turn (2 ^ 18 - 1) t ≡ true
+pub has_turn-all : (t : ℕ) → t < 18 → contains_turn (2 ^ 18 - 1) t ≡ true
 has_turn-all t lt = ap (λ x. x == 1) (bit_at_ones 18 t lt)
 
 pub power_below : (turn : ℕ) → turn < 18 → 1 * 2 ^ turn % 2 ^ 32 < 2 ^ 18

@@ -4,9 +4,9 @@ use Rattle.std.specs.Prelude.{All, Result, IfErr, IsErrAnd}
 use Rattle.std.specs.Option.{option_map}
 use Rattle.scr_coord.specs.Coordinates.{Coordinate, StaysBelow}
 use Rattle.scr_coord.specs.Moves.{Moves, moves_coordinate}
-use Rattle.scr_coord.specs.Products.{product}
+use Rattle.scr_coord.specs.Products.{product_coordinate}
 use Rattle.scr_coord.specs.SearchSpaces.{ShowsSame}
-use Rattle.scr_coord.specs.StaysBelowLaws.{StaysBelow-moves, StaysBelow-product}
+use Rattle.scr_coord.proofs.StaysBelowLaws.{StaysBelow-moves, StaysBelow-product}
 use Rattle.scr_coord.proofs.ProductLaws.{ShowsSame-product}
 use Rattle.scr_coord.proofs.SearchLaws.{Follows-same}
 use Rattle.scr_table.specs.declared.name.TableName.{TableName}
@@ -21,11 +21,11 @@ use Rattle.scr_twophase.specs.declared.pruning.PruningTable.{PruningTable}
 use Rattle.scr_twophase.specs.Outlooks.{AreOutlooks, IsPruningTable}
 
 module _ (l h : Coordinate) (low high : Moves) (turns : h.turns ≡ l.turns) (f : ShowsSame l (moves_coordinate low)) (g : ShowsSame h (moves_coordinate high))
-    (shown : Coordinate) (is : shown ≡ product (moves_coordinate low) (moves_coordinate high))
+    (shown : Coordinate) (is : shown ≡ product_coordinate (moves_coordinate low) (moves_coordinate high))
     (name : TableName) (bound : ℕ) where
-  same : ShowsSame (product l h) shown
+  same : ShowsSame (product_coordinate l h) shown
   same =
-      subst (ShowsSame (product l h)) (sym is)
+      subst (ShowsSame (product_coordinate l h)) (sym is)
       (ShowsSame-product l h (moves_coordinate low) (moves_coordinate high) turns f g)
 
   below : StaysBelow shown
@@ -34,34 +34,34 @@ module _ (l h : Coordinate) (low high : Moves) (turns : h.turns ≡ l.turns) (f 
       subst StaysBelow (sym is) (pair (g.turns ∙ turns ∙ sym f.turns) (StaysBelow-moves low) (StaysBelow-moves high))
 
   pub IsTableOf-pair : (table : Distances) → IsTableOf (record { name = name; coordinate = shown; bound = bound }) table
-      → IsTableOf (record { name = name; coordinate = product l h; bound = bound }) table
-  IsTableOf-pair table is = IsTableOf-same (product l h) shown below same name bound table is
+      → IsTableOf (record { name = name; coordinate = product_coordinate l h; bound = bound }) table
+  IsTableOf-pair table is = IsTableOf-same (product_coordinate l h) shown below same name bound table is
 
   pub no_gap-pair : (table : Distances) → IsTableOf (record { name = name; coordinate = shown; bound = bound }) table
-      → HasNoGap (record { name = name; coordinate = product l h; bound = bound })
+      → HasNoGap (record { name = name; coordinate = product_coordinate l h; bound = bound })
   no_gap-pair table is =
-      no_gap (record { name = name; coordinate = product l h; bound = bound }) table (IsTableOf-pair table is)
+      no_gap (record { name = name; coordinate = product_coordinate l h; bound = bound }) table (IsTableOf-pair table is)
 
   pub IfErr-pair : {A : Type 0} (built more : List TableLine) → All HasNoGap built → (fault : BuildFault)
       (r : Result A BuildFault) → IsErrAnd r (λ f. f ≡ fault) → IsCause name shown bound fault
-      → IfErr r (IsCauseOf (built ++ record { name = name; coordinate = product l h; bound = bound } ∷ more))
+      → IfErr r (IsCauseOf (built ++ record { name = name; coordinate = product_coordinate l h; bound = bound } ∷ more))
   IfErr-pair built more none fault r handed cause =
-      let line : TableLine = record { name = name; coordinate = product l h; bound = bound } in
+      let line : TableLine = record { name = name; coordinate = product_coordinate l h; bound = bound } in
       IfErr-cause built line more none fault r handed
-      (IsCause-same (product l h) shown below same name bound fault cause)
+      (IsCause-same (product_coordinate l h) shown below same name bound fault cause)
 
-  AreOutlooks-pair : (distances : List ℕ) (all : List Outlook) → AreOutlooks shown distances all → AreOutlooks (product l h) distances all
+  AreOutlooks-pair : (distances : List ℕ) (all : List Outlook) → AreOutlooks shown distances all → AreOutlooks (product_coordinate l h) distances all
   AreOutlooks-pair distances all o = record {
     size = o.size ∙ same.count;
     each = λ p outlook at. record {
       kept = λ t q left to lt.
           (o.each p outlook (subst (λ n. p < n) (sym same.count) at)).kept t q left
-          ((Follows-same (product l h) shown (StaysBelow-same (product l h) shown below same) same).turned p t at ∙ ap (option_map (λ n. n)) to) lt;
+          ((Follows-same (product_coordinate l h) shown (StaysBelow-same (product_coordinate l h) shown below same) same).turned p t at ∙ ap (option_map (λ n. n)) to) lt;
     };
   }
 
   pub IsPruningTable-pair : (table : PruningTable) → IsPruningTable (record { name = name; coordinate = shown; bound = bound }) table
-      → IsPruningTable (record { name = name; coordinate = product l h; bound = bound }) table
+      → IsPruningTable (record { name = name; coordinate = product_coordinate l h; bound = bound }) table
   IsPruningTable-pair table is = record {
     distances = IsTableOf-pair table.distances is.distances;
     outlooks = AreOutlooks-pair table.distances.distances table.outlooks.items is.outlooks;

@@ -9,10 +9,11 @@ use Rattle.std.proofs.lemmas.List.Elements.{All-head, All-tail}
 use Rattle.std.proofs.lemmas.Option.{slice_get-get_or}
 use Rattle.std.proofs.lemmas.Slice.Eq.{bytes_eq-Decides}
 use Rattle.scr_combinatorics.specs.Lists.{numbers_from, pick}
-use Rattle.scr_play.specs.Play.{play}
+use Rattle.scr_combinatorics.specs.Play.{play}
 use Rattle.scr_orbit.specs.Orbits.{zeros, solved_orbit}
 use Rattle.scr_coord.specs.Projections.{marked_places, stands_in}
 use Rattle.scr_cube.specs.Cube333.{CubeState, solved_cube}
+use Rattle.scr_stages.proofs.TurnFacts.{after_of-is}
 use Rattle.scr_stages.specs.Stages.{middle_edges, after_of, IsDomino}
 use Rattle.scr_twophase.specs.TwoParts.{after_turn, leads, is_domino, is_solved}
 
@@ -80,7 +81,7 @@ leads-played test c d w e = ap (λ o. option_map_or test o false) e
 
 -- what the turn at a place does is what the turn with its number does
 pub after_of-place : (turns : List ℕ) (c : CubeState) (k : ℕ) → k < length turns → after_of turns c k ≡ after_turn c (slice_index turns k)
-after_of-place turns c k lt = ap (option_and_then (after_turn c)) (slice_get-get_or turns k 0 lt)
+after_of-place turns c k lt = after_of-is turns c k ∙ ap (option_and_then (after_turn c)) (slice_get-get_or turns k 0 lt)
 
 pub play-places : (turns : List ℕ) (c : CubeState) (places : List ℕ) → All (λ k. k < length turns) places
     → play (after_of turns) c places ≡ play after_turn c (pick turns places)

@@ -6,8 +6,8 @@ use Rattle.std.specs.Option.{option_map, option_map_or}
 use Rattle.std.proofs.lemmas.Bool.{and_parts, and_from, false≢true}
 use Rattle.std.proofs.lemmas.List.Elements.{All-nil, All-cons, All-head, All-tail}
 use Rattle.std.proofs.lemmas.Option.{same_Some, slice_get-get_or}
-use Rattle.scr_play.specs.Play.{play}
-use Rattle.scr_play.proofs.PlayLaws.{play-append, play-one}
+use Rattle.scr_combinatorics.specs.Play.{play}
+use Rattle.scr_combinatorics.proofs.PlayLaws.{play-append, play-one}
 use Rattle.scr_orbit.specs.Orbits.{zeros}
 use Rattle.scr_coord.proofs.GoalNumbers.{twists_number-zeros}
 use Rattle.scr_turning.specs.PowerPuzzles.{all_turns as cube_turns}
@@ -21,8 +21,8 @@ use Rattle.scr_stages.proofs.StageSpaces.{Follows-flips}
 use Rattle.scr_stages.proofs.TurnFacts.{flips_numbers, length-turns}
 use Rattle.scr_twophase.specs.declared.first.FirstPosition.{FirstPosition}
 use Rattle.scr_twophase.specs.Words.{words_of, words_behind}
-use Rattle.scr_twophase.specs.TwoParts.{after_turn, all_turns, ends_in_quarter, first_joined, is_domino, is_first_part, is_orderly, joined, leads}
-use Rattle.scr_twophase.specs.TurnSets.{has_turn, turns_in}
+use Rattle.scr_twophase.specs.TwoParts.{after_turn, turn_numbers, ends_in_quarter, first_joined, is_domino, is_first_part, is_orderly, joined, leads}
+use Rattle.scr_twophase.specs.TurnSets.{contains_turn, turns_in}
 use Rattle.scr_twophase.specs.Search.{may_end, ShowsFirst, IsFirstPosition, IsAt, is_domino_position, KeepsWays}
 use Rattle.scr_twophase.specs.Tables.{twists_of, middle_set_of}
 use Rattle.scr_twophase.proofs.CubeTests.{IsDomino-test, leads-played}
@@ -116,45 +116,45 @@ each_kept P Q test (x ∷ xs) h f =
     kept_if P (test x) x (filter test xs) (λ e. f x (All-head Q x xs h) e) (each_kept P Q test xs (All-tail Q x xs h) f)
 
 module _ (c : CubeState) (word : List ℕ) (there : CubeState) (played : play after_turn c word ≡ Some there) (more by_tables behind both : ℕ)
-    (ways : KeepsWays there more by_tables) (may : (t : ℕ) → t < 18 → has_turn behind t ≡ may_end word t)
-    (and : (t : ℕ) → has_turn both t ≡ (has_turn by_tables t && has_turn behind t)) where
-  left_out : (t : ℕ) (v : List ℕ) → t < 18 → has_turn both t ≡ false → Contains (words_of all_turns more) v → is_first_part c (word ++ t ∷ v) ≡ true → ⊥
+    (ways : KeepsWays there more by_tables) (may : (t : ℕ) → t < 18 → contains_turn behind t ≡ may_end word t)
+    (and : (t : ℕ) → contains_turn both t ≡ (contains_turn by_tables t && contains_turn behind t)) where
+  left_out : (t : ℕ) (v : List ℕ) → t < 18 → contains_turn both t ≡ false → Contains (words_of turn_numbers more) v → is_first_part c (word ++ t ∷ v) ≡ true → ⊥
   unfolding is_first_part
   left_out t v lt out there_is e =
       let w = word ++ t ∷ v in
       let parts = and_parts (is_orderly w && ends_in_quarter w) (leads is_domino c w) e in
       let orderly = (and_parts (is_orderly w) (ends_in_quarter w) parts.0).0 in
       let way = sym (leads-behind is_domino c there word (t ∷ v) played) ∙ parts.1 in
-      let kept = and t ∙ and_from (has_turn by_tables t) (has_turn behind t) (ways.kept t v there_is way) (may t lt ∙ may_end-orderly word t v orderly) in
+      let kept = and t ∙ and_from (contains_turn by_tables t) (contains_turn behind t) (ways.kept t v there_is way) (may t lt ∙ may_end-orderly word t v orderly) in
       false≢true (sym out ∙ kept)
 
-  pub first_turns : words_behind all_turns (is_first_part c) word (suc more) ≡ flat_map (λ t. words_behind all_turns (is_first_part c) (word ++ t ∷ []) more) (turns_in both)
-  unfolding turns_in all_turns
+  pub first_turns : words_behind turn_numbers (is_first_part c) word (suc more) ≡ flat_map (λ t. words_behind turn_numbers (is_first_part c) (word ++ t ∷ []) more) (turns_in both)
+  unfolding turns_in turn_numbers
   first_turns =
-      words_behind-kept all_turns (is_first_part c) word more (has_turn both) (λ k d lt out v is.
-      not_so (is_first_part c (word ++ get_or all_turns k d ∷ v)) (left_out (get_or all_turns k d) v (flips_numbers k d lt) out is))
+      words_behind-kept turn_numbers (is_first_part c) word more (contains_turn both) (λ k d lt out v is.
+      not_so (is_first_part c (word ++ get_or turn_numbers k d ∷ v)) (left_out (get_or turn_numbers k d) v (flips_numbers k d lt) out is))
 
   pub first_open : All (λ t. may_end word t ≡ true) (turns_in both)
-  unfolding turns_in all_turns
+  unfolding turns_in turn_numbers
   first_open =
-      each_kept (λ t. may_end word t ≡ true) (λ t. t < 18) (has_turn both) all_turns flips_numbers (λ t lt e.
-      sym (may t lt) ∙ (and_parts (has_turn by_tables t) (has_turn behind t) (sym (and t) ∙ e)).1)
+      each_kept (λ t. may_end word t ≡ true) (λ t. t < 18) (contains_turn both) turn_numbers flips_numbers (λ t lt e.
+      sym (may t lt) ∙ (and_parts (contains_turn by_tables t) (contains_turn behind t) (sym (and t) ∙ e)).1)
 
 -- ---- turn by turn
 
 -- what is left to try behind a word, by the turns of a set
 pub parts_by : CubeState → List ℕ → ℕ → ℕ → List (List ℕ)
-parts_by c word more bits = flat_map (λ t. words_behind all_turns (is_first_part c) (word ++ t ∷ []) more) (turns_in bits)
+parts_by c word more bits = flat_map (λ t. words_behind turn_numbers (is_first_part c) (word ++ t ∷ []) more) (turns_in bits)
 
 -- Of the first parts that go on from a word by more + 1 turns, those by the turns of a set are left to try.
 pub record IsUnderWay (c : CubeState) (word : List ℕ) (turns tries bits left : ℕ) : Type 0 where
-  pub parts : IsLeft c (words_behind all_turns (is_first_part c) word turns) tries (parts_by c word (turns - 1) bits) left
+  pub parts : IsLeft c (words_behind turn_numbers (is_first_part c) word turns) tries (parts_by c word (turns - 1) bits) left
   pub may_stand : All (λ t. may_end word t ≡ true) (turns_in bits)
   pub few : bits < 2 ^ 18
 
 pub IsUnderWay-begin : (c : CubeState) (word : List ℕ) (at : FirstPosition) (turns tries by_tables behind both : ℕ) → IsAt ShowsFirst c word at → (turns ≡ 0 → ⊥)
     → ((d : CubeState) (more : ℕ) → turns ≡ more + 1 → ShowsFirst d at → KeepsWays d more by_tables)
-    → ((t : ℕ) → t < 18 → has_turn behind t ≡ may_end word t) → ((t : ℕ) → has_turn both t ≡ (has_turn by_tables t && has_turn behind t))
+    → ((t : ℕ) → t < 18 → contains_turn behind t ≡ may_end word t) → ((t : ℕ) → contains_turn both t ≡ (contains_turn by_tables t && contains_turn behind t))
     → both < 2 ^ 18 → IsUnderWay c word turns tries both tries
 unfolding parts_by
 IsUnderWay-begin c word at turns tries by_tables behind both h some ways may and few =
@@ -162,19 +162,19 @@ IsUnderWay-begin c word at turns tries by_tables behind both h some ways may and
     let next : turns ≡ suc (turns - 1) = omega arith in
     let keeps = ways h.there (turns - 1) one h.shows in
     record {
-      parts = IsLeft-all c (words_behind all_turns (is_first_part c) word turns) (parts_by c word (turns - 1) both) tries
-          (ap (words_behind all_turns (is_first_part c) word) next ∙ first_turns c word h.there h.played (turns - 1) by_tables behind both keeps may and);
+      parts = IsLeft-all c (words_behind turn_numbers (is_first_part c) word turns) (parts_by c word (turns - 1) both) tries
+          (ap (words_behind turn_numbers (is_first_part c) word) next ∙ first_turns c word h.there h.played (turns - 1) by_tables behind both keeps may and);
       may_stand = first_open c word h.there h.played (turns - 1) by_tables behind both keeps may and;
       few = few;
     }
 
 module _ (c : CubeState) (word : List ℕ) (turns tries bits left : ℕ) (h : IsUnderWay c word turns tries bits left) where
   others_by : (t other : ℕ) → turns_in bits ≡ t ∷ turns_in other
-      → IsLeft c (words_behind all_turns (is_first_part c) word turns) tries (words_behind all_turns (is_first_part c) (word ++ t ∷ []) (turns - 1) ++ parts_by c word (turns - 1) other) left
+      → IsLeft c (words_behind turn_numbers (is_first_part c) word turns) tries (words_behind turn_numbers (is_first_part c) (word ++ t ∷ []) (turns - 1) ++ parts_by c word (turns - 1) other) left
   unfolding parts_by
   others_by t other e =
-      let f = λ (u : ℕ). words_behind all_turns (is_first_part c) (word ++ u ∷ []) (turns - 1) in
-      subst (λ ps. IsLeft c (words_behind all_turns (is_first_part c) word turns) tries ps left) (ap (flat_map f) e) h.parts
+      let f = λ (u : ℕ). words_behind turn_numbers (is_first_part c) (word ++ u ∷ []) (turns - 1) in
+      subst (λ ps. IsLeft c (words_behind turn_numbers (is_first_part c) word turns) tries ps left) (ap (flat_map f) e) h.parts
 
   -- a turn of the set may stand behind the word
   pub turn_open : (t other : ℕ) → turns_in bits ≡ t ∷ turns_in other → may_end word t ≡ true
@@ -182,33 +182,33 @@ module _ (c : CubeState) (word : List ℕ) (turns tries bits left : ℕ) (h : Is
       All-head (λ u. may_end word u ≡ true) t (turns_in other) (subst (All (λ u. may_end word u ≡ true)) e h.may_stand)
 
   pub IsUnderWay-next : (t other now : ℕ) → turns_in bits ≡ t ∷ turns_in other → other < 2 ^ 18
-      → first_joined c left (words_behind all_turns (is_first_part c) (word ++ t ∷ []) (turns - 1)) ≡ None
-      → now ≡ left - length (words_behind all_turns (is_first_part c) (word ++ t ∷ []) (turns - 1)) → IsUnderWay c word turns tries other now
+      → first_joined c left (words_behind turn_numbers (is_first_part c) (word ++ t ∷ []) (turns - 1)) ≡ None
+      → now ≡ left - length (words_behind turn_numbers (is_first_part c) (word ++ t ∷ []) (turns - 1)) → IsUnderWay c word turns tries other now
   IsUnderWay-next t other now e few none used = record {
-    parts = IsLeft-passed c (words_behind all_turns (is_first_part c) word turns) (words_behind all_turns (is_first_part c) (word ++ t ∷ []) (turns - 1))
+    parts = IsLeft-passed c (words_behind turn_numbers (is_first_part c) word turns) (words_behind turn_numbers (is_first_part c) (word ++ t ∷ []) (turns - 1))
         (parts_by c word (turns - 1) other) tries left now (others_by t other e) none used;
     may_stand = All-tail (λ u. may_end word u ≡ true) t (turns_in other) (subst (All (λ u. may_end word u ≡ true)) e h.may_stand);
     few = few;
   }
 
   pub IsUnderWay-found : (t other : ℕ) (w : List ℕ) → turns_in bits ≡ t ∷ turns_in other
-      → first_joined c left (words_behind all_turns (is_first_part c) (word ++ t ∷ []) (turns - 1)) ≡ Some w
-      → first_joined c tries (words_behind all_turns (is_first_part c) word turns) ≡ Some w
+      → first_joined c left (words_behind turn_numbers (is_first_part c) (word ++ t ∷ []) (turns - 1)) ≡ Some w
+      → first_joined c tries (words_behind turn_numbers (is_first_part c) word turns) ≡ Some w
   IsUnderWay-found t other w e found =
-      IsLeft-found c (words_behind all_turns (is_first_part c) word turns) (words_behind all_turns (is_first_part c) (word ++ t ∷ []) (turns - 1))
+      IsLeft-found c (words_behind turn_numbers (is_first_part c) word turns) (words_behind turn_numbers (is_first_part c) (word ++ t ∷ []) (turns - 1))
       (parts_by c word (turns - 1) other) tries left w (others_by t other e) found
 
-  none_left : turns_in bits ≡ [] → IsLeft c (words_behind all_turns (is_first_part c) word turns) tries [] left
+  none_left : turns_in bits ≡ [] → IsLeft c (words_behind turn_numbers (is_first_part c) word turns) tries [] left
   unfolding parts_by
   none_left e =
-      let f = λ (u : ℕ). words_behind all_turns (is_first_part c) (word ++ u ∷ []) (turns - 1) in
-      subst (λ ps. IsLeft c (words_behind all_turns (is_first_part c) word turns) tries ps left) (ap (flat_map f) e) h.parts
+      let f = λ (u : ℕ). words_behind turn_numbers (is_first_part c) (word ++ u ∷ []) (turns - 1) in
+      subst (λ ps. IsLeft c (words_behind turn_numbers (is_first_part c) word turns) tries ps left) (ap (flat_map f) e) h.parts
 
-  pub IsUnderWay-none : turns_in bits ≡ [] → first_joined c tries (words_behind all_turns (is_first_part c) word turns) ≡ None
-  IsUnderWay-none e = IsLeft-none c (words_behind all_turns (is_first_part c) word turns) tries left (none_left e)
+  pub IsUnderWay-none : turns_in bits ≡ [] → first_joined c tries (words_behind turn_numbers (is_first_part c) word turns) ≡ None
+  IsUnderWay-none e = IsLeft-none c (words_behind turn_numbers (is_first_part c) word turns) tries left (none_left e)
 
-  pub IsUnderWay-used : turns_in bits ≡ [] → left ≡ tries - length (words_behind all_turns (is_first_part c) word turns)
-  IsUnderWay-used e = IsLeft-used c (words_behind all_turns (is_first_part c) word turns) tries left (none_left e)
+  pub IsUnderWay-used : turns_in bits ≡ [] → left ≡ tries - length (words_behind turn_numbers (is_first_part c) word turns)
+  IsUnderWay-used e = IsLeft-used c (words_behind turn_numbers (is_first_part c) word turns) tries left (none_left e)
 
 -- ---- at the end of a word
 
@@ -219,13 +219,13 @@ module _ (c : CubeState) (word : List ℕ) (at : FirstPosition) (h : IsAt ShowsF
       ap (λ b. (b && ends_in_quarter word) && leads is_domino c word) orderly
       ∙ ap (λ b. ends_in_quarter word && b) (leads-played is_domino c h.there word h.played ∙ is_domino-shown h.there at h.shows)
 
-  at_end : (b : Bool) → (ends_in_quarter word && is_domino_position at) ≡ b → words_behind all_turns (is_first_part c) word 0 ≡ cond b (word ∷ []) []
-  at_end b e = words_behind-end all_turns (is_first_part c) word ∙ ap (λ t. cond t (word ∷ []) []) (test_is ∙ e)
+  at_end : (b : Bool) → (ends_in_quarter word && is_domino_position at) ≡ b → words_behind turn_numbers (is_first_part c) word 0 ≡ cond b (word ∷ []) []
+  at_end b e = words_behind-end turn_numbers (is_first_part c) word ∙ ap (λ t. cond t (word ∷ []) []) (test_is ∙ e)
 
-  pub no_part : (ends_in_quarter word && is_domino_position at) ≡ false → words_behind all_turns (is_first_part c) word 0 ≡ []
+  pub no_part : (ends_in_quarter word && is_domino_position at) ≡ false → words_behind turn_numbers (is_first_part c) word 0 ≡ []
   no_part e = at_end false e
 
-  pub one_part : (ends_in_quarter word && is_domino_position at) ≡ true → words_behind all_turns (is_first_part c) word 0 ≡ word ∷ []
+  pub one_part : (ends_in_quarter word && is_domino_position at) ≡ true → words_behind turn_numbers (is_first_part c) word 0 ≡ word ∷ []
   one_part e = at_end true e
 
 -- ---- what one word comes to

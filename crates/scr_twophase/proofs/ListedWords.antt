@@ -10,7 +10,7 @@ use Rattle.std.proofs.lemmas.List.Elements.{All-contains_itself, Contains-append
 use Rattle.scr_combinatorics.specs.Lists.{numbers_from}
 use Rattle.scr_combinatorics.proofs.Picks.{length-numbers_from, numbers_from-at, length-pick, All-pick}
 use Rattle.scr_twophase.specs.Words.{words_of, words_within}
-use Rattle.scr_twophase.specs.TwoParts.{all_turns}
+use Rattle.scr_twophase.specs.TwoParts.{turn_numbers}
 use Rattle.scr_twophase.proofs.WordLists.{IsWordOf, words_of-each, All-flat_map}
 
 -- ---- lists of lists
@@ -91,12 +91,12 @@ module _ (turns : List ℕ) where
 
 -- ---- those of the 18 turns
 
-pub All-turns : (w : List ℕ) → All (λ t. t < 18) w → All (Contains all_turns) w
-unfolding all_turns
+pub All-turns : (w : List ℕ) → All (λ t. t < 18) w → All (Contains turn_numbers) w
+unfolding turn_numbers
 All-turns w below k d lt = Contains-numbers 18 (slice_index_or w k d) (below k d lt)
 
-pub All-below_18 : (w : List ℕ) → All (Contains all_turns) w → All (λ t. t < 18) w
-unfolding all_turns
+pub All-below_18 : (w : List ℕ) → All (Contains turn_numbers) w → All (λ t. t < 18) w
+unfolding turn_numbers
 All-below_18 w each k d lt =
     let there = each k d lt in
     let t : ℕ = slice_index_or w k d in

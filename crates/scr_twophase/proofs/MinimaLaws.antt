@@ -5,9 +5,9 @@ use Rattle.std.specs.Prelude.{All, ◌↔◌, nat_lt, option_and_then}
 use Rattle.std.proofs.lemmas.Bool.{cases_lt, ltb-false}
 use Rattle.std.proofs.lemmas.List.{length-map}
 use Rattle.std.proofs.lemmas.List.Elements.{All-nil, All-cons}
-use Rattle.scr_play.specs.Play.{play}
-use Rattle.scr_play.specs.Reach.{Needs}
-use Rattle.scr_play.proofs.PlayLaws.{play-empty, play-first, play-parts}
+use Rattle.scr_combinatorics.specs.Play.{play}
+use Rattle.scr_combinatorics.specs.Reach.{Needs}
+use Rattle.scr_combinatorics.proofs.PlayLaws.{play-empty, play-first, play-parts}
 use Rattle.scr_orbit.proofs.Minima.{count_once}
 use Rattle.scr_notation.specs.declared.turn.Turn.{Turn}
 use Rattle.scr_notation.specs.TurnNumbers.{face_turn_at}
@@ -15,10 +15,10 @@ use Rattle.scr_turning.specs.PowerPuzzles.{after_letter, power_puzzle}
 use Rattle.scr_cube.specs.Cube333.{CubeState, cube_powers}
 use Rattle.scr_cube.proofs.Laws333.{lawful_cube}
 use Rattle.scr_twophase.specs.TwoParts.{after_turn, is_solved}
-use Rattle.scr_table.specs.TriedWords.{needs_test-iff}
-use Rattle.scr_table.specs.Moves.{turned, NeedsTurns}
+use Rattle.scr_table.proofs.TriedWords.{needs_test-iff}
+use Rattle.scr_table.specs.Moves.{after_move, NeedsTurns}
 use Rattle.scr_table.proofs.MovesLaws.{turned-turn}
-use Rattle.scr_twophase.specs.Minima.{cube_moves, needs_turns}
+use Rattle.scr_twophase.specs.Minima.{face_moves, needs_turns}
 use Rattle.scr_twophase.proofs.CubeTests.{IsSolved-test}
 
 -- ---- words of letters and words of numbers
@@ -62,21 +62,21 @@ turned_by : (c : CubeState) (t : ℕ) (b : Bool) → nat_lt t 18 ≡ b → cond 
 turned_by c t true e = refl
 turned_by c t false e = sym (lawful_cube.no_more c t (ltb-false t 18 e))
 
-turned-after : (c : CubeState) (t : ℕ) → turned cube_moves c t ≡ after_turn c t
+turned-after : (c : CubeState) (t : ℕ) → after_move face_moves c t ≡ after_turn c t
 turned-after c t = turned_by c t (nat_lt t 18) refl
 
-play-turned : (c : CubeState) (w : List ℕ) → play (turned cube_moves) c w ≡ play after_turn c w
+play-turned : (c : CubeState) (w : List ℕ) → play (after_move face_moves) c w ≡ play after_turn c w
 unfolding play
 play-turned c [] = refl
 play-turned c (t ∷ w) =
-    ap (option_and_then (λ d. play (turned cube_moves) d w)) (turned-after c t) ∙ others (after_turn c t) (λ d. play-turned d w)
+    ap (option_and_then (λ d. play (after_move face_moves) d w)) (turned-after c t) ∙ others (after_turn c t) (λ d. play-turned d w)
   where
-    others : (o : Option CubeState) → ((d : CubeState) → play (turned cube_moves) d w ≡ play after_turn d w)
-        → option_and_then (λ d. play (turned cube_moves) d w) o ≡ option_and_then (λ d. play after_turn d w) o
+    others : (o : Option CubeState) → ((d : CubeState) → play (after_move face_moves) d w ≡ play after_turn d w)
+        → option_and_then (λ d. play (after_move face_moves) d w) o ≡ option_and_then (λ d. play after_turn d w) o
     others None h = refl
     others (Some d) h = h d
 
-pub NeedsTurns-iff : (c : CubeState) (least : ℕ) → NeedsTurns cube_moves c least ↔ Needs (power_puzzle cube_powers) c least
+pub NeedsTurns-iff : (c : CubeState) (least : ℕ) → NeedsTurns face_moves c least ↔ Needs (power_puzzle cube_powers) c least
 NeedsTurns-iff c least = (
   λ h turns end few played solved.
       let word = numbered c end turns played in
@@ -95,6 +95,6 @@ NeedsTurns-iff c least = (
 
 pub Needs-tested : (c : CubeState) (least : ℕ) → IsTrue (needs_turns c least) ↔ Needs (power_puzzle cube_powers) c least
 Needs-tested c least =
-    let tried = needs_test-iff 18 (turned cube_moves) is_solved (λ s r t e. (turned-turn cube_moves s r t e).0) c least in
+    let tried = needs_test-iff 18 (after_move face_moves) is_solved (λ s r t e. (turned-turn face_moves s r t e).0) c least in
     let same = NeedsTurns-iff c least in
     (λ e. same.0 (tried.0 e), λ needs. tried.1 (same.1 needs))

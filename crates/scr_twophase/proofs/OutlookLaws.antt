@@ -4,15 +4,15 @@ use Rattle.std.specs.Prelude.{◌==◌, nat_le}
 use Rattle.std.proofs.lemmas.Bool.{leb-true, eqb-true}
 use Rattle.scr_table.proofs.StepLaws.{moved-turn}
 use Rattle.scr_coord.specs.Coordinates.{Coordinate, moved}
-use Rattle.scr_twophase.specs.TurnSets.{has_turn}
+use Rattle.scr_twophase.specs.TurnSets.{contains_turn}
 use Rattle.scr_twophase.specs.Outlooks.{turns_within, IsOutlook}
 use Rattle.scr_twophase.proofs.BitSets.{has_turn-all}
 use Rattle.scr_twophase.specs.declared.outlook.Outlook.{Outlook}
 
 -- of the turns below a number, those that lead nearer are found, and those that lead no farther
 pub record AreFound (c : Coordinate) (distances : List ℕ) (p distance turn nearer no_farther : ℕ) : Type 0 where
-  pub near : (t q : ℕ) → t < turn → moved c p t ≡ Some q → get_or distances q 0 < distance → has_turn nearer t ≡ true
-  pub level : (t q : ℕ) → t < turn → moved c p t ≡ Some q → get_or distances q 0 ≤ distance → has_turn no_farther t ≡ true
+  pub near : (t q : ℕ) → t < turn → moved c p t ≡ Some q → get_or distances q 0 < distance → contains_turn nearer t ≡ true
+  pub level : (t q : ℕ) → t < turn → moved c p t ≡ Some q → get_or distances q 0 ≤ distance → contains_turn no_farther t ≡ true
   pub few_near : nearer < 2 ^ 18
   pub few_level : no_farther < 2 ^ 18
 
@@ -42,7 +42,7 @@ IsOutlook-found c distances p distance turn nearer no_farther h small all few = 
       let d : (nearer + distance * 262144 % 4294967296) / 2 ^ 18 ≡ distance = packed_distance nearer distance h.few_near small in
       let n : (nearer + distance * 262144 % 4294967296) % 2 ^ 18 ≡ nearer = packed_turns nearer distance h.few_near small in
       let m : no_farther % 2 ^ 18 ≡ no_farther = omega (arith, h.few_level) in
-      let P : ℕ → Type 0 = λ bits. has_turn bits t ≡ true in
+      let P : ℕ → Type 0 = λ bits. contains_turn bits t ≡ true in
       taken P (nat_le left ((nearer + distance * 262144 % 4294967296) / 2 ^ 18)) ((nearer + distance * 262144 % 4294967296) % 2 ^ 18)
       (cond (left == (nearer + distance * 262144 % 4294967296) / 2 ^ 18 + 1) (no_farther % 2 ^ 18) (2 ^ 18 - 1))
       (λ e. subst P (sym n) (h.near t q (omega arith) to (omega (arith, leb-true left ((nearer + distance * 262144 % 4294967296) / 2 ^ 18) e))))

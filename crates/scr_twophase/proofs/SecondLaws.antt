@@ -6,18 +6,18 @@ use Rattle.scr_combinatorics.specs.Permutations.{IsPermutation, is_permutation}
 use Rattle.scr_combinatorics.proofs.PermutationLaws.{IsPermutation-from_test}
 use Rattle.scr_orbit.specs.Actions.{all_powers, power}
 use Rattle.scr_orbit.specs.Orbits.{added_digits, composed, identity}
-use Rattle.scr_play.specs.Play.{play}
+use Rattle.scr_combinatorics.specs.Play.{play}
 use Rattle.scr_coord.specs.Coordinates.{Coordinate}
 use Rattle.scr_coord.specs.Moves.{Moves, moves_coordinate}
 use Rattle.scr_coord.specs.SearchSpaces.{positions, Follows, ShowsSame}
-use Rattle.scr_coord.specs.StaysBelowLaws.{StaysBelow-moves}
+use Rattle.scr_coord.proofs.StaysBelowLaws.{StaysBelow-moves}
 use Rattle.scr_table.specs.Distances.{Distances}
 use Rattle.scr_table.specs.Lines.{TableLine, IsTableOf}
 use Rattle.scr_table.proofs.SameTables.{StaysBelow-same}
 use Rattle.scr_turning.specs.PowerPuzzles.{all_turns}
 use Rattle.scr_cube.specs.Cube333.{CubeState, solved_cube}
 use Rattle.scr_stages.specs.Numbers.{IsDominoCube}
-use Rattle.scr_stages.specs.Stages.{after_of, middle_edges, tetrads_stage}
+use Rattle.scr_stages.specs.Stages.{after_of, middle_edges, tetrads_turns}
 use Rattle.scr_stages.specs.Tables.{block_turn, edges_by}
 use Rattle.scr_stages.proofs.FiniteTests.{All-from_test}
 use Rattle.scr_twophase.specs.TwoParts.{after_turn, domino_turns, is_solved, leads}
@@ -28,9 +28,9 @@ use Rattle.scr_twophase.proofs.Spaces.{Follows-corners}
 use Rattle.scr_twophase.proofs.CubeTests.{IsSolved-test, leads-parts, after_of-place, play-places}
 use Rattle.scr_twophase.proofs.WordLists.{IsWordOf, words_of-each}
 
-place-turn : (c : CubeState) (place : ℕ) → place < 10 → after_of tetrads_stage.turns c place ≡ after_turn c (get_or domino_turns place 0)
+place-turn : (c : CubeState) (place : ℕ) → place < 10 → after_of tetrads_turns c place ≡ after_turn c (get_or domino_turns place 0)
 unfolding domino_turns
-place-turn c place lt = after_of-place tetrads_stage.turns c place lt
+place-turn c place lt = after_of-place tetrads_turns c place lt
 
 -- the ten turns keep dominoes
 pub IsDominoCube-turned : (c d : CubeState) (place : ℕ) → IsDominoCube c → place < 10 → after_turn c (get_or domino_turns place 0) ≡ Some d → IsDominoCube d
@@ -60,15 +60,15 @@ least-second line table is number IsGoal f home c p n v h at there way =
     let word = All-contains (IsWordOf domino_turns n) (words_of domino_turns n) v (words_of-each domino_turns n) there in
     let to = leads-parts is_solved c v way in
     let space = dominoes_to IsGoal in
-    let played : play (after_of tetrads_stage.turns) c word.places ≡ Some to.0 =
-    play-places tetrads_stage.turns c word.places word.below ∙ ap (play after_turn c) (sym word.is) ∙ to.1 in
+    let played : play (after_of tetrads_turns) c word.places ≡ Some to.0 =
+    play-places tetrads_turns c word.places word.below ∙ ap (play after_turn c) (sym word.is) ∙ to.1 in
     let goal : IsGoal to.0 = subst IsGoal (sym ((IsSolved-test to.0).0 to.2)) home in
     let least = least-of space line.coordinate number f table is.measures c to.0 word.places h played goal in
     omega (arith, ap (λ k. get_or table.distances k 0) at, least, word.size)
 
 -- the ten turns carry the edges of the middle layer among its places
-pub middle_moves : All (λ r. IsPermutation 4 r.places) (map (block_turn middle_edges) (edges_by tetrads_stage.turns))
+pub middle_moves : All (λ r. IsPermutation 4 r.places) (map (block_turn middle_edges) (edges_by tetrads_turns))
 unfolding all_turns all_powers power composed identity added_digits
 middle_moves =
     All-from_test (λ r. is_permutation 4 r.places) (λ r. IsPermutation 4 r.places) (λ r. IsPermutation-from_test 4 r.places)
-    (map (block_turn middle_edges) (edges_by tetrads_stage.turns)) refl
+    (map (block_turn middle_edges) (edges_by tetrads_turns)) refl

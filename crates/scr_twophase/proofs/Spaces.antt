@@ -8,12 +8,12 @@ use Rattle.scr_combinatorics.proofs.PermutationLaws.{at-permutation, IsPermutati
 use Rattle.scr_combinatorics.proofs.PermutationNumbers.{permutation_number-lt, permutation_number-injective, permutation_at-number}
 use Rattle.scr_orbit.specs.Orbits.{turned_orbit}
 use Rattle.scr_coord.specs.Coordinates.{Coordinate}
-use Rattle.scr_coord.specs.Products.{product}
+use Rattle.scr_coord.specs.Products.{product_coordinate}
 use Rattle.scr_coord.specs.Projections.{projection, pieces_view, stands_in}
 use Rattle.scr_coord.specs.SearchSpaces.{positions, Follows}
 use Rattle.scr_coord.proofs.ProductLaws.{Follows-product}
 use Rattle.scr_cube.specs.Cube333.{CubeState, IsCube, CubeTurn, cube_action}
-use Rattle.scr_stages.specs.Stages.{HasNoFlips, middle_edges, after_of, flips_stage, tetrads_stage}
+use Rattle.scr_stages.specs.Stages.{HasNoFlips, middle_edges, after_of, flips_turns, tetrads_turns}
 use Rattle.scr_stages.specs.Numbers.{flips_number, IsDominoCube}
 use Rattle.scr_stages.specs.Tables.{turns_of, block_turn, outer_places, flips_coordinate}
 use Rattle.scr_stages.specs.Tetrads.{in_block}
@@ -34,17 +34,17 @@ use Rattle.scr_twophase.specs.Tables.{twists_of, middle_set_of, twists_coordinat
 -- ---- the first part
 
 pub Follows-twists : Follows (cubes_to IsUntwisted) (positions twists_coordinate) twists_of
-Follows-twists = Follows-twists_by flips_stage.turns flips_numbers
+Follows-twists = Follows-twists_by flips_turns flips_numbers
 
 pub Follows-middle_set : Follows (cubes_to IsInMiddle) (positions middle_set_coordinate) middle_set_of
-Follows-middle_set = Follows-middle_by flips_stage.turns flips_numbers
+Follows-middle_set = Follows-middle_by flips_turns flips_numbers
 
 pub Follows-flipslice : Follows flipslice_space (positions flipslice_coordinate) flipslice_number
 Follows-flipslice =
-    Follows-product IsCube HasNoFlips IsInMiddle (after_of flips_stage.turns) flips_coordinate middle_set_coordinate flips_number middle_set_of refl Follows-flips Follows-middle_set
+    Follows-product IsCube HasNoFlips IsInMiddle (after_of flips_turns) flips_coordinate middle_set_coordinate flips_number middle_set_of refl Follows-flips Follows-middle_set
 
 pub Follows-twistslice : Follows twistslice_space (positions twistslice_coordinate) twistslice_number
-Follows-twistslice = Follows-twists_beside flips_stage.turns flips_numbers
+Follows-twistslice = Follows-twists_beside flips_turns flips_numbers
 
 -- ---- the second part
 
@@ -81,7 +81,7 @@ in_order n xs h = (λ e. ap permutation_number e, λ e. permutation_number-injec
 pub Follows-corners : Follows (dominoes_to AreCornersHome) (positions corners_coordinate) corners_of
 unfolding turned_orbit
 Follows-corners =
-    Follows-viewed cube_action.turned (turns_of tetrads_stage.turns) (after_of tetrads_stage.turns) IsDominoCube IsDominoTurn tetrads_moves (pieces_view 8)
+    Follows-viewed cube_action.turned (turns_of tetrads_turns) (after_of tetrads_turns) IsDominoCube IsDominoTurn tetrads_moves (pieces_view 8)
     (λ r. r.corners) corners_of AreCornersHome
     (λ c h. number-lt 8 c.corners.pieces h.cube.corners.pieces)
     (λ c r h t. ap (λ xs. permutation_number (pick xs r.corners.places)) (permutation_at-number 8 c.corners.pieces h.cube.corners.pieces))
@@ -91,11 +91,11 @@ Follows-corners =
 Follows-block : (k : ℕ) (block : List ℕ) → IsPlaceSet 12 k block → ((c : CubeState) → IsDominoCube c → IsPermutation k (in_block block c.edges.pieces))
     → ((r : CubeTurn) → IsDominoTurn r → All (λ x. stands_in block x ≡ true) (pick r.edges.places block))
     → Follows (dominoes_to (λ c. in_block block c.edges.pieces ≡ numbers_from 0 k))
-    (positions (projection (pieces_view k) (map (λ r. block_turn block r.edges) (turns_of tetrads_stage.turns)))) (λ c. permutation_number (in_block block c.edges.pieces))
+    (positions (projection (pieces_view k) (map (λ r. block_turn block r.edges) (turns_of tetrads_turns)))) (λ c. permutation_number (in_block block c.edges.pieces))
 unfolding turned_orbit
 Follows-block k block set order kept =
     let listed : CubeState → List ℕ = λ c. in_block block c.edges.pieces in
-    Follows-viewed cube_action.turned (turns_of tetrads_stage.turns) (after_of tetrads_stage.turns) IsDominoCube IsDominoTurn tetrads_moves (pieces_view k)
+    Follows-viewed cube_action.turned (turns_of tetrads_turns) (after_of tetrads_turns) IsDominoCube IsDominoTurn tetrads_moves (pieces_view k)
     (λ r. block_turn block r.edges) (λ c. permutation_number (listed c)) (λ c. listed c ≡ numbers_from 0 k)
     (λ c h. number-lt k (listed c) (order c h))
     (λ c r h t.
@@ -115,9 +115,9 @@ Follows-middle_edges =
 
 -- the edges of the middle layer beside something else
 Follows-beside_middle : (high : Coordinate) (u : CubeState → ℕ) (IsHigh : CubeState → Type 0) → high.turns ≡ 10 → Follows (dominoes_to IsHigh) (positions high) u
-    → Follows (dominoes_to (λ c. AreMiddleHome c × IsHigh c)) (positions (product middle_edges_coordinate high)) (λ c. middle_edges_of c + 24 * u c)
+    → Follows (dominoes_to (λ c. AreMiddleHome c × IsHigh c)) (positions (product_coordinate middle_edges_coordinate high)) (λ c. middle_edges_of c + 24 * u c)
 Follows-beside_middle high u IsHigh turns follows =
-    Follows-product IsDominoCube AreMiddleHome IsHigh (after_of tetrads_stage.turns) middle_edges_coordinate high middle_edges_of u turns Follows-middle_edges follows
+    Follows-product IsDominoCube AreMiddleHome IsHigh (after_of tetrads_turns) middle_edges_coordinate high middle_edges_of u turns Follows-middle_edges follows
 
 pub Follows-cornerslice : Follows cornerslice_space (positions cornerslice_coordinate) cornerslice_number
 Follows-cornerslice = Follows-beside_middle corners_coordinate corners_of AreCornersHome refl Follows-corners

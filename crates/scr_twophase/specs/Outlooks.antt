@@ -4,7 +4,7 @@ use Rattle.scr_coord.specs.Coordinates.{Coordinate, moved}
 use Rattle.scr_table.specs.Lines.{TableLine, IsTableOf}
 use Rattle.scr_twophase.specs.declared.outlook.Outlook.{Outlook}
 use Rattle.scr_twophase.specs.declared.pruning.PruningTable.{PruningTable}
-use Rattle.scr_twophase.specs.TurnSets.{has_turn}
+use Rattle.scr_twophase.specs.TurnSets.{contains_turn}
 
 -- The turns that an outlook leaves where so many turns may still be made: those that lead nearer to the goal, if it is as far as
 -- that; those that lead no farther, if it is nearer by one; else all.
@@ -15,7 +15,7 @@ turns_within o left =
 
 -- An outlook leaves each turn of its position that leads to where the table has fewer turns than may still be made.
 pub record IsOutlook (c : Coordinate) (distances : List ℕ) (p : ℕ) (o : Outlook) : Type 0 where
-  pub kept : (t q left : ℕ) → moved c p t ≡ Some q → slice_index distances q < left → IsTrue (has_turn (turns_within o left) t)
+  pub kept : (t q left : ℕ) → moved c p t ≡ Some q → slice_index distances q < left → IsTrue (contains_turn (turns_within o left) t)
 
 -- There is one for each position.
 pub record AreOutlooks (c : Coordinate) (distances : List ℕ) (all : List Outlook) : Type 0 where

@@ -1,16 +1,16 @@
 -- What a search for two parts goes by.
 use Rattle.std.specs.Prelude.{◌≡◌, ℕ, ◌-◌, ◌<◌, Contains, ◌==◌, ◌&&◌, Bool, true, IsTrue, List, ◌∷◌, length, take, slice_get, Some}
 use Rattle.std.specs.Option.{option_map_or}
-use Rattle.scr_play.specs.Play.{play}
+use Rattle.scr_combinatorics.specs.Play.{play}
 use Rattle.scr_cube.specs.Cube333.{CubeState, IsCube}
 use Rattle.scr_stages.specs.Numbers.{flips_number, IsDominoCube}
 use Rattle.scr_twophase.specs.declared.first.FirstPosition.{FirstPosition}
 use Rattle.scr_twophase.specs.declared.second.SecondPosition.{SecondPosition}
 use Rattle.scr_twophase.specs.declared.word.Word.{Word}
 use Rattle.scr_twophase.specs.Words.{words_of}
-use Rattle.scr_twophase.specs.TwoParts.{may_precede, after_turn, all_turns, leads, is_domino}
+use Rattle.scr_twophase.specs.TwoParts.{may_precede, after_turn, turn_numbers, leads, is_domino}
 use Rattle.scr_twophase.specs.Tables.{twists_of, middle_set_of, corners_of, outer_edges_of, middle_edges_of}
-use Rattle.scr_twophase.specs.TurnSets.{has_turn}
+use Rattle.scr_twophase.specs.TurnSets.{contains_turn}
 
 -- a turn may stand right behind the last letter of a word, if it has one
 unfoldable pub may_end : List ℕ → ℕ → Bool
@@ -49,7 +49,7 @@ is_domino_position at = (at.flips == 0 && at.twists == 0) && at.middle == 494
 
 -- A set has each turn with which some word of so many turns behind it leads the cube to a domino.
 pub record KeepsWays (c : CubeState) (more bits : ℕ) : Type 0 where
-  pub kept : (t : ℕ) (v : List ℕ) → Contains (words_of all_turns more) v → IsTrue (leads is_domino c (t ∷ v)) → IsTrue (has_turn bits t)
+  pub kept : (t : ℕ) (v : List ℕ) → Contains (words_of turn_numbers more) v → IsTrue (leads is_domino c (t ∷ v)) → IsTrue (contains_turn bits t)
 
 -- ---- the second part
 

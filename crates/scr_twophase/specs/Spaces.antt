@@ -4,7 +4,7 @@ use Rattle.std.specs.Prelude.{◌≡◌, ℕ, ◌+◌, ◌*◌}
 use Rattle.scr_combinatorics.specs.Lists.{numbers_from}
 use Rattle.scr_coord.specs.SearchSpaces.{SearchSpace}
 use Rattle.scr_cube.specs.Cube333.{CubeState, IsCube}
-use Rattle.scr_stages.specs.Stages.{HasNoFlips, middle_edges, flips_stage, tetrads_stage}
+use Rattle.scr_stages.specs.Stages.{HasNoFlips, middle_edges, flips_turns, tetrads_turns}
 use Rattle.scr_stages.specs.Numbers.{flips_number, IsDominoCube}
 use Rattle.scr_stages.specs.Spaces.{cube_space, IsUntwisted, IsInMiddle}
 use Rattle.scr_stages.specs.Tables.{outer_places}
@@ -14,7 +14,7 @@ use Rattle.scr_twophase.specs.Tables.{twists_of, middle_set_of, corners_of, oute
 -- ---- the first part: all cubes, by all turns
 
 abbrev pub cubes_to : (CubeState → Type 0) → SearchSpace CubeState
-cubes_to IsGoal = cube_space IsCube flips_stage.turns IsGoal
+cubes_to IsGoal = cube_space IsCube flips_turns IsGoal
 
 abbrev pub flipslice_space : SearchSpace CubeState
 flipslice_space = cubes_to (λ c. HasNoFlips c × IsInMiddle c)
@@ -31,7 +31,7 @@ twistslice_number c = twists_of c + 2187 * middle_set_of c
 -- ---- the second part: dominoes, by the turns that keep them
 
 abbrev pub dominoes_to : (CubeState → Type 0) → SearchSpace CubeState
-dominoes_to IsGoal = cube_space IsDominoCube tetrads_stage.turns IsGoal
+dominoes_to IsGoal = cube_space IsDominoCube tetrads_turns IsGoal
 
 -- the pieces of a kind stand in order
 abbrev pub AreCornersHome : CubeState → Type 0

@@ -4,12 +4,12 @@ use Rattle.scr_combinatorics.specs.Permutations.{permutation_number}
 use Rattle.scr_combinatorics.specs.PlaceSets.{place_set_number}
 use Rattle.scr_combinatorics.specs.Twists.{twists_number}
 use Rattle.scr_coord.specs.Coordinates.{Coordinate}
-use Rattle.scr_coord.specs.Products.{product}
+use Rattle.scr_coord.specs.Products.{product_coordinate}
 use Rattle.scr_coord.specs.Projections.{projection, twists_view, place_set_view, pieces_view, marked_places, stands_in}
 use Rattle.scr_table.specs.declared.name.TableName.TheVariants.{FlipSlice, TwistSlice, CornerSlice, EdgeSlice}
 use Rattle.scr_table.specs.Lines.{TableLine}
 use Rattle.scr_cube.specs.Cube333.{CubeState}
-use Rattle.scr_stages.specs.Stages.{middle_edges, flips_stage, tetrads_stage}
+use Rattle.scr_stages.specs.Stages.{middle_edges, flips_turns, tetrads_turns}
 use Rattle.scr_stages.specs.Tables.{corners_by, edges_by, block_turn, outer_places, flips_coordinate}
 use Rattle.scr_stages.specs.Tetrads.{in_block}
 
@@ -23,17 +23,17 @@ abbrev pub middle_set_of : CubeState → ℕ
 middle_set_of c = place_set_number 12 (marked_places (stands_in middle_edges) c.edges.pieces)
 
 abbrev pub twists_coordinate : Coordinate
-twists_coordinate = projection (twists_view 8 3) (corners_by flips_stage.turns)
+twists_coordinate = projection (twists_view 8 3) (corners_by flips_turns)
 
 abbrev pub middle_set_coordinate : Coordinate
-middle_set_coordinate = projection (place_set_view 12 4 middle_edges) (edges_by flips_stage.turns)
+middle_set_coordinate = projection (place_set_view 12 4 middle_edges) (edges_by flips_turns)
 
 -- the flips, or the twists, beside that set
 abbrev pub flipslice_coordinate : Coordinate
-flipslice_coordinate = product flips_coordinate middle_set_coordinate
+flipslice_coordinate = product_coordinate flips_coordinate middle_set_coordinate
 
 abbrev pub twistslice_coordinate : Coordinate
-twistslice_coordinate = product twists_coordinate middle_set_coordinate
+twistslice_coordinate = product_coordinate twists_coordinate middle_set_coordinate
 
 -- ---- the second part, by the turns that keep a domino
 
@@ -48,20 +48,20 @@ abbrev pub middle_edges_of : CubeState → ℕ
 middle_edges_of c = permutation_number (in_block middle_edges c.edges.pieces)
 
 abbrev pub corners_coordinate : Coordinate
-corners_coordinate = projection (pieces_view 8) (corners_by tetrads_stage.turns)
+corners_coordinate = projection (pieces_view 8) (corners_by tetrads_turns)
 
 abbrev pub outer_edges_coordinate : Coordinate
-outer_edges_coordinate = projection (pieces_view 8) (map (block_turn outer_places) (edges_by tetrads_stage.turns))
+outer_edges_coordinate = projection (pieces_view 8) (map (block_turn outer_places) (edges_by tetrads_turns))
 
 abbrev pub middle_edges_coordinate : Coordinate
-middle_edges_coordinate = projection (pieces_view 4) (map (block_turn middle_edges) (edges_by tetrads_stage.turns))
+middle_edges_coordinate = projection (pieces_view 4) (map (block_turn middle_edges) (edges_by tetrads_turns))
 
 -- the edges of the middle layer beside the corners, or beside the other edges
 abbrev pub cornerslice_coordinate : Coordinate
-cornerslice_coordinate = product middle_edges_coordinate corners_coordinate
+cornerslice_coordinate = product_coordinate middle_edges_coordinate corners_coordinate
 
 abbrev pub edgeslice_coordinate : Coordinate
-edgeslice_coordinate = product middle_edges_coordinate outer_edges_coordinate
+edgeslice_coordinate = product_coordinate middle_edges_coordinate outer_edges_coordinate
 
 -- ---- the tables
 

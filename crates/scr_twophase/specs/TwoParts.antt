@@ -6,8 +6,8 @@ use Rattle.std.specs.List.{filter_map}
 use Rattle.std.specs.Option.{option_map, option_map_or}
 use Rattle.std.specs.Str.{bytes_eq}
 use Rattle.scr_combinatorics.specs.Lists.{numbers_from}
-use Rattle.scr_play.specs.Play.{play}
-use Rattle.scr_play.specs.Back.{back}
+use Rattle.scr_combinatorics.specs.Play.{play}
+use Rattle.scr_combinatorics.specs.Back.{back}
 use Rattle.scr_orbit.specs.Orbits.{zeros}
 use Rattle.scr_notation.specs.declared.turn.Turn.{Turn}
 use Rattle.scr_notation.specs.TurnNumbers.{face_turn_at}
@@ -15,7 +15,7 @@ use Rattle.scr_notation.specs.Turning.{opposite}
 use Rattle.scr_coord.specs.Projections.{marked_places, stands_in}
 use Rattle.scr_turning.specs.PowerPuzzles.{after_letter}
 use Rattle.scr_cube.specs.Cube333.{CubeState, cube_powers}
-use Rattle.scr_stages.specs.Stages.{middle_edges, tetrads_stage, IsStageScramble}
+use Rattle.scr_stages.specs.Stages.{middle_edges, IsStageScramble, tetrads_turns}
 use Rattle.scr_twophase.specs.Words.{words_within}
 
 -- ---- orderly words
@@ -65,8 +65,8 @@ is_solved c =
 
 -- ---- first parts
 
-unfoldable pub all_turns : List ℕ
-all_turns = numbers_from 0 18
+unfoldable pub turn_numbers : List ℕ
+turn_numbers = numbers_from 0 18
 
 -- a quarter turn of R, L, F or B
 abbrev pub is_side_quarter : ℕ → Bool
@@ -82,13 +82,13 @@ is_first_part c word = (is_orderly word && ends_in_quarter word) && leads is_dom
 
 -- those of at most 12 turns, in the order of words
 unfoldable pub first_parts : CubeState → List (List ℕ)
-first_parts c = filter (is_first_part c) (words_within all_turns 12)
+first_parts c = filter (is_first_part c) (words_within turn_numbers 12)
 
 -- ---- second parts
 
 -- the ten turns that keep a domino: U U2 U' R2 F2 D D2 D' L2 B2
 unfoldable pub domino_turns : List ℕ
-domino_turns = tetrads_stage.turns
+domino_turns = tetrads_turns
 
 -- an orderly word that leads to solved
 unfoldable pub is_solution : CubeState → List ℕ → Bool

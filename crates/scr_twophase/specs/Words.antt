@@ -1,7 +1,6 @@
 -- All words of some turns, in the order of words: by length, then by turn numbers from the first turn. No puzzle stands here.
-use Rattle.std.specs.Prelude.{ℕ, ◌+◌, Bool, List, [], ◌∷◌, ◌++◌, map, filter}
+use Rattle.std.specs.Prelude.{ℕ, zero, suc, ◌+◌, Bool, List, [], ◌∷◌, ◌++◌, map, filter}
 use Rattle.std.specs.List.{flat_map}
-use Rattle.std.proofs.Common.{zero, suc}
 use Rattle.scr_combinatorics.specs.Lists.{numbers_from}
 
 -- all words of n letters: for each turn, those of n - 1 letters behind it

@@ -1,7 +1,7 @@
 //! The 3x3x3 as states are drawn of it.
 ghost use Rattle.std.specs.Prelude.{◌↔◌, ℕ, IsTrue};
 ghost use Rattle.std.proofs.Props.{props};
-ghost use Rattle.scr_play.specs.Reach.{Needs};
+ghost use Rattle.scr_combinatorics.specs.Reach.{Needs};
 ghost use Rattle.scr_turning.specs.PowerPuzzles.{power_puzzle};
 ghost use Rattle.scr_cube.specs.Cube333.{CubeState, cube_numbered, cube_powers};
 ghost use Rattle.scr_twophase.specs.Minima.{needs_turns};
@@ -30,11 +30,7 @@ impl NumberedStates<Cube> for Draw333 {
 }
 
 impl Numbering for Draw333 {
-    ghost use Rattle.scr_cube.specs.Numbered333.{cube_numbering};
-
     type State = Cube;
-
-    ghost law = { λ _. cube_numbering };
 
     fn count(&self) -> u128 {
         CubeNumbers.count()
@@ -60,5 +56,5 @@ impl Permit<Cube> for Draw333 {
         needs_333(state, least)
     }
 
-    ghost exact = { λ event cube least range valid. event.exact cube least };
+    fn is_exact(&self) {}
 }

@@ -1,13 +1,13 @@
 //! Laws of the two parts of a 3x3x3. The functions do nothing: what each ensures is the law.
 ghost use Rattle.std.specs.Prelude.{◌≡◌, ◌<◌, ◌≤◌, ◌↔◌, ℕ, All, Contains, IsSome, IsTrue, List, [], ◌∷◌, ◌++◌, Some};
 ghost use Rattle.std.specs.Prelude.{length};
-ghost use Rattle.scr_play.specs.Play.{play};
+ghost use Rattle.scr_combinatorics.specs.Play.{play};
 ghost use Rattle.scr_coord.specs.SearchSpaces.{positions, Follows};
 ghost use Rattle.scr_cube.specs.Cube333.{CubeState, solved_cube};
 ghost use Rattle.scr_twophase.specs.Spaces.{flipslice_space, twistslice_space, cornerslice_space, edgeslice_space};
 ghost use Rattle.scr_twophase.specs.Spaces.{flipslice_number, twistslice_number, cornerslice_number, edgeslice_number};
 ghost use Rattle.scr_twophase.specs.Tables.{flipslice_line, twistslice_line, cornerslice_line, edgeslice_line};
-ghost use Rattle.scr_twophase.specs.TwoParts.{after_turn, all_turns, domino_turns};
+ghost use Rattle.scr_twophase.specs.TwoParts.{after_turn, turn_numbers, domino_turns};
 ghost use Rattle.scr_twophase.specs.TwoParts.{is_first_part, first_parts, is_solution, second_part};
 ghost use Rattle.scr_twophase.specs.Words.{words_of, words_within};
 
@@ -21,7 +21,7 @@ pub fn known_words()
 
 /// The words of n turns in the lists are all lists of n of the 18 turns.
 pub fn words()
-    ensures { (n : ℕ) (w : List ℕ) → Contains (words_of all_turns n) w ↔ (length w ≡ n) × All (λ t. t < 18) w }
+    ensures { (n : ℕ) (w : List ℕ) → Contains (words_of turn_numbers n) w ↔ (length w ≡ n) × All (λ t. t < 18) w }
 {}
 
 /// From every cube with an index, of those of which a table speaks, a turn leads to one and the same index, that to

@@ -1,6 +1,6 @@
 //! The minima of the 3x3x3.
 ghost use Rattle.std.specs.Prelude.{◌≡◌, ◌↔◌, ◌≤◌, IsTrue};
-ghost use Rattle.scr_play.specs.Reach.{Needs};
+ghost use Rattle.scr_combinatorics.specs.Reach.{Needs};
 ghost use Rattle.scr_turning.specs.PowerPuzzles.{power_puzzle};
 ghost use Rattle.scr_cube.specs.Cube333.{cube_powers};
 ghost use Rattle.scr_twophase.specs.Minima.{needs_turns};
@@ -21,11 +21,11 @@ pub fn needs_333(cube: &Cube, least: u32) -> bool
 struct FaceTurns;
 
 impl Moves for FaceTurns {
-    ghost use Rattle.scr_twophase.specs.Minima.{cube_moves};
+    ghost use Rattle.scr_twophase.specs.Minima.{face_moves};
 
     type State = Cube;
 
-    ghost moves = { λ _. cube_moves };
+    ghost moves = { λ _. face_moves };
 
     fn count(&self) -> u32 {
         18

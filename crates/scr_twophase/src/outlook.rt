@@ -68,6 +68,7 @@ fn outlook_at<C: Coord>(coord: &C, table: &DistanceTable, position: u32) -> Outl
     requires position { position < (C.coordinate coord.now).count }
     ensures { IsOutlook (C.coordinate coord.now) table.now.distances position result }
 {
+    coord.stays_below();
     let distance = table.distance(position);
     let mut nearer = TurnSet::NONE;
     let mut no_farther = TurnSet::NONE;

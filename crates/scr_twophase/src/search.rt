@@ -1,10 +1,10 @@
 //! The search for two parts.
 ghost use Rattle.std.specs.Prelude.{◌≡◌, ◌+◌, ◌-◌, ◌<◌, ◌≤◌, ◌&&◌, All, IfNone, IsTrue, Some, length};
 ghost use Rattle.std.specs.Option.{option_map};
-ghost use Rattle.scr_play.specs.Play.{play};
+ghost use Rattle.scr_combinatorics.specs.Play.{play};
 ghost use Rattle.scr_cube.specs.Cube333.{IsCube};
 ghost use Rattle.scr_twophase.specs.Search.{letters, IsAt, ShowsFirst, is_domino_position};
-ghost use Rattle.scr_twophase.specs.TwoParts.{after_turn, all_turns, ends_in_quarter, first_joined, is_first_part, is_orderly, two_parts};
+ghost use Rattle.scr_twophase.specs.TwoParts.{after_turn, turn_numbers, ends_in_quarter, first_joined, is_first_part, is_orderly, two_parts};
 ghost use Rattle.scr_twophase.specs.Words.{words_behind};
 
 use crate::first::{FirstPosition, FirstTables};
@@ -49,9 +49,9 @@ fn joined_behind(
     requires orderly { IsTrue (is_orderly (letters word.now)) }
     requires few { length (letters word.now) + left ≤ 12 }
     ensures first { option_map letters result
-        ≡ first_joined cube.now tries.old (words_behind all_turns (is_first_part cube.now) (letters word.now) left) }
+        ≡ first_joined cube.now tries.old (words_behind turn_numbers (is_first_part cube.now) (letters word.now) left) }
     ensures tried { IfNone result (tries.new
-        ≡ tries.old - length (words_behind all_turns (is_first_part cube.now) (letters word.now) left)) }
+        ≡ tries.old - length (words_behind turn_numbers (is_first_part cube.now) (letters word.now) left)) }
 {
     if *tries == 0 {
         return None;
@@ -83,9 +83,9 @@ fn joined_with(
     requires few { length (letters word.now) ≤ 12 }
     requires tries { 0 < tries.old }
     ensures first { option_map letters result
-        ≡ first_joined cube.now tries.old (words_behind all_turns (is_first_part cube.now) (letters word.now) 0) }
+        ≡ first_joined cube.now tries.old (words_behind turn_numbers (is_first_part cube.now) (letters word.now) 0) }
     ensures tried { IfNone result (tries.new
-        ≡ tries.old - length (words_behind all_turns (is_first_part cube.now) (letters word.now) 0)) }
+        ≡ tries.old - length (words_behind turn_numbers (is_first_part cube.now) (letters word.now) 0)) }
 {
     if !is_first_part(word, at) {
         return None;

@@ -2,7 +2,7 @@
 ghost use Rattle.std.specs.Prelude.{◌≡◌, ◌+◌, ◌^◌, ◌<◌, ◌≤◌, ℕ, All, Contains, IfErr, IfOk, IsTrue, List, Some, length, map, slice_get, slice_index};
 ghost use Rattle.std.specs.Option.{option_map};
 ghost use Rattle.scr_combinatorics.specs.Permutations.{IsPermutation, factorial};
-ghost use Rattle.scr_play.specs.Play.{play};
+ghost use Rattle.scr_combinatorics.specs.Play.{play};
 ghost use Rattle.scr_coord.specs.Moves.{moves_coordinate};
 ghost use Rattle.scr_coord.specs.Projections.{projection, pieces_view};
 ghost use Rattle.scr_coord.specs.SearchSpaces.{ShowsSame};
@@ -10,13 +10,13 @@ ghost use Rattle.scr_table.specs.Causes.{IsCauseOf};
 ghost use Rattle.scr_table.specs.Lines.{HasNoGap, IsTableOf};
 ghost use Rattle.scr_cube.specs.Cube333.{CubeState};
 ghost use Rattle.scr_stages.specs.Numbers.{IsDominoCube};
-ghost use Rattle.scr_stages.specs.Stages.{tetrads_stage};
 ghost use Rattle.scr_stages.specs.Tables.{block_turn, edges_by};
 ghost use Rattle.scr_twophase.specs.Search.{ShowsSecond, IsSecondPosition, is_solved_position};
 ghost use Rattle.scr_twophase.specs.Tables.{corners_coordinate, outer_edges_coordinate, middle_edges_coordinate};
 ghost use Rattle.scr_twophase.specs.Tables.{cornerslice_line, edgeslice_line, second_lines};
 ghost use Rattle.scr_twophase.specs.TwoParts.{after_turn, domino_turns, leads, is_orderly, is_solution, is_solved, joined};
 ghost use Rattle.scr_twophase.specs.Words.{words_behind, words_of};
+ghost use Rattle.scr_stages.specs.Stages.{tetrads_turns};
 
 use crate::first::step;
 use crate::turn_set::TurnSet;
@@ -201,9 +201,9 @@ fn edge_moves<const N: usize>(alloc: Global, block: &[u8; N]) -> Result<MoveTabl
     requires size { (1 ≤ N) × (N ≤ 12) }
     requires fits { factorial N < 2 ^ 32 }
     requires places { All (λ place. place < 12) block.now }
-    requires kept { All (λ r. IsPermutation N r.places) (map (block_turn block.now) (edges_by tetrads_stage.turns)) }
+    requires kept { All (λ r. IsPermutation N r.places) (map (block_turn block.now) (edges_by tetrads_turns)) }
     ensures { IfOk result (λ table.
-        ShowsSame (projection (pieces_view N) (map (block_turn block.now) (edges_by tetrads_stage.turns))) (moves_coordinate table)) }
+        ShowsSame (projection (pieces_view N) (map (block_turn block.now) (edges_by tetrads_turns))) (moves_coordinate table)) }
 {
     MoveTable::build(
         alloc,

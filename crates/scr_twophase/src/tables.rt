@@ -1,13 +1,12 @@
 //! The pruning tables, as callers see them.
-ghost use Rattle.std.specs.Prelude.{◌≡◌, ◌↔◌, map, All, IfOk, IfErr, IfSome, IsSome};
-ghost use Rattle.scr_table.specs.Causes.{IsCauseOf};
-ghost use Rattle.scr_table.specs.Lines.{AreTablesOf, HasNamed, HasNoGap, IsFirstNamed};
+ghost use Rattle.std.specs.Prelude.{◌≡◌, All, map};
+ghost use Rattle.scr_table.specs.Lines.{AreTablesOf, HasNoGap};
 ghost use Rattle.scr_twophase.specs.Tables.{prune_lines};
 
 use crate::first::FirstTables;
 use crate::search::PartTables;
 use crate::second::SecondTables;
-use scr_table::{BuildFault, DistanceTable, TableName, table_named};
+use scr_table::{BuildFault, DistanceTable, TableName, TableSet, table_named};
 use std::alloc::Global;
 use std::marker::Model;
 
@@ -32,14 +31,14 @@ impl Model for PruneTables {
     ghost invariant = { λ t. AreTablesOf prune_lines (distances_of t.parts) };
 }
 
-impl PruneTables {
-    /// The tables `flipslice`, `twistslice`, `cornerslice` and `edgeslice`, built in this order, or why they are
-    /// not: there is no memory, or one has a gap. The first gap of the first such table is named.
-    pub fn build(alloc: Global) -> Result<PruneTables, BuildFault>
-        ensures built { IfOk result (AreTablesOf prune_lines) }
-        ensures whole { IfOk result (λ _. All HasNoGap prune_lines) }
-        ensures cause { IfErr result (IsCauseOf prune_lines) }
-    {
+impl TableSet for PruneTables {
+    ghost use Rattle.scr_twophase.specs.Tables.{prune_lines};
+
+    ghost lines = { prune_lines };
+
+    ghost distances = { λ t. t };
+
+    fn build(alloc: Global) -> Result<PruneTables, BuildFault> {
         let first = FirstTables::build(alloc)?;
         let second = SecondTables::build(alloc)?;
         Ok(PruneTables {
@@ -47,19 +46,16 @@ impl PruneTables {
         })
     }
 
-    /// The built table of this name. `None` comes exactly where none of the four has it.
-    pub fn table(&self, name: TableName) -> Option<&DistanceTable>
-        ensures found { IsSome result ↔ HasNamed self.now name }
-        ensures first { IfSome result (λ found. IsFirstNamed self.now name found.now) }
-        ensures built { AreTablesOf prune_lines self.now }
-    {
+    fn table(&self, name: TableName) -> Option<&DistanceTable> {
         table_named(&self.all()[..], name)
     }
+}
 
-    /// The four tables, in the order in which they are built.
+impl PruneTables {
+    /// All of them, in the order in which they are built.
     pub fn all(&self) -> [&DistanceTable; 4]
         ensures same { map (λ table. table.now) result ≡ self.now }
-        ensures built { AreTablesOf prune_lines self.now }
+        ensures built { AreTablesOf prune_lines (map (λ table. table.now) result) }
         ensures whole { All HasNoGap prune_lines }
     {
         [

@@ -1,7 +1,7 @@
 //! Sets of turns.
 ghost use Rattle.std.specs.Prelude.{◌≡◌, ℕ, ◌^◌, ◌<◌, ◌&&◌, ◌||◌, ◌==◌, ◌∷◌, [], MatchOption, IfSome};
 ghost use Rattle.scr_twophase.specs.Search.{letters, may_end};
-ghost use Rattle.scr_twophase.specs.TurnSets.{has_turn, turns_in};
+ghost use Rattle.scr_twophase.specs.TurnSets.{contains_turn, turns_in};
 
 use crate::word::Word;
 
@@ -26,7 +26,7 @@ impl TurnSet {
     /// The turns that may stand right behind a word.
     #[inline]
     pub fn behind(word: &Word) -> TurnSet
-        ensures turns { (t : ℕ) → t < 18 → has_turn result.bits t ≡ may_end (letters word.now) t }
+        ensures turns { (t : ℕ) → t < 18 → contains_turn result.bits t ≡ may_end (letters word.now) t }
         ensures few { result.bits < 2 ^ 18 }
     {
         match word.last() {
@@ -41,7 +41,7 @@ impl TurnSet {
     #[inline]
     pub fn has(self, turn: u8) -> bool
         requires { turn < 18 }
-        ensures { result ≡ has_turn self.bits turn }
+        ensures { result ≡ contains_turn self.bits turn }
     {
         (self.bits >> turn) % 2 == 1
     }
@@ -51,7 +51,7 @@ impl TurnSet {
     pub fn with_if(self, turn: u32, add: bool) -> TurnSet
         requires turn { turn < 18 }
         requires few { self.bits < 2 ^ 18 }
-        ensures turns { (t : ℕ) → has_turn result.bits t ≡ (has_turn self.bits t || (add && (t == turn))) }
+        ensures turns { (t : ℕ) → contains_turn result.bits t ≡ (contains_turn self.bits t || (add && (t == turn))) }
         ensures few { result.bits < 2 ^ 18 }
     {
         if add {
@@ -67,7 +67,7 @@ impl TurnSet {
     #[inline]
     pub fn and(self, other: TurnSet) -> TurnSet
         requires { self.bits < 2 ^ 18 }
-        ensures turns { (t : ℕ) → has_turn result.bits t ≡ (has_turn self.bits t && has_turn other.bits t) }
+        ensures turns { (t : ℕ) → contains_turn result.bits t ≡ (contains_turn self.bits t && contains_turn other.bits t) }
         ensures few { result.bits < 2 ^ 18 }
     {
         TurnSet {

@@ -1,6 +1,6 @@
 use Rattle.std.proofs.Common.{◌-◌, ◌*◌, ◌<◌, ap, sym, ◌∙◌, arith}
 use Rattle.std.specs.Prelude.{slice_get}
-use Rattle.scr_bigs.specs.BigCubes.{cube_of, all_turns}
+use Rattle.scr_bigs.specs.BigCubes.{cube_of, cube_turns}
 use Rattle.scr_bigs.proofs.StepLaws.{OnErr-always, none-left, read-left, left-before, left-behind, turn-permitted}
 use Rattle.scr_bigs.proofs.cube_moves.next_turn.Goals as goal
 use Rattle.scr_bigs.proofs.cube_moves.next_turn.Goals.{then-choice-left_out, else-choice-left_out}
@@ -23,11 +23,11 @@ returns-clause-turn g c =
       | then-choice-left_out w ↦
           left-before c.args.side old.first old.count c.requires.side c.requires.within c.requires.some _ c.in_ok-choice.choice c.turn_at.result
           c.in_ok-choice.ensures.number w.if-choice-left_out.true
-          (ap (slice_get (all_turns (cube_of c.args.side))) (sym w.number-is) ∙ c.turn_at.ensures)
+          (ap (slice_get (cube_turns (cube_of c.args.side))) (sym w.number-is) ∙ c.turn_at.ensures)
       | else-choice-left_out w ↦
           left-behind c.args.side old.first old.count c.requires.side c.requires.within c.requires.some _ c.in_ok-choice.choice c.turn_at.result
           c.in_ok-choice.ensures.number w.if-choice-left_out.false
-          (ap (slice_get (all_turns (cube_of c.args.side))) (sym w.number-is) ∙ c.turn_at.ensures)
+          (ap (slice_get (cube_turns (cube_of c.args.side))) (sym w.number-is) ∙ c.turn_at.ensures)
     ]
 
 pub returns-clause-of_event : goal.returns-clause-of_event

@@ -1,4 +1,4 @@
-use Rattle.scr_clock.specs.Proofs.LeastLaws.{needs_test-iff}
+use Rattle.scr_clock.proofs.LeastLaws.{needs_test-iff}
 use Rattle.scr_clock.proofs.laws.minimum_is_exact.Goals as goal
 
 pub returns : goal.returns

@@ -1,17 +1,17 @@
 use Rattle.std.proofs.Common.{◌≡◌, ℕ, suc, ◌-◌, ◌↔◌, Bool, IsTrue, not, eqb, List, refl, sym, ap, ◌∙◌, subst, arith}
-use Rattle.scr_play.specs.Reach.{Needs}
+use Rattle.scr_combinatorics.specs.Reach.{Needs}
 use Rattle.scr_clock.specs.Dials.{clock_puzzle}
-use Rattle.scr_clock.specs.Least.{turns_lead, needs_test}
-use Rattle.scr_clock.specs.Proofs.LeastLaws.{needs_test-iff}
+use Rattle.scr_clock.specs.Least.{turns_lead, needs_test_clock}
+use Rattle.scr_clock.proofs.LeastLaws.{needs_test-iff}
 use Rattle.scr_clock.proofs.least.needs_at_least.Goals as goal
 
-none : (dials : List ℕ) (least : ℕ) → least ≡ 0 → eqb least 0 ≡ needs_test dials least
-unfolding needs_test
-none dials least e = subst (λ (n : ℕ). eqb n 0 ≡ needs_test dials n) (sym e) refl
+none : (dials : List ℕ) (least : ℕ) → least ≡ 0 → eqb least 0 ≡ needs_test_clock dials least
+unfolding needs_test_clock
+none dials least e = subst (λ (n : ℕ). eqb n 0 ≡ needs_test_clock dials n) (sym e) refl
 
-some : (b : Bool) (dials : List ℕ) (least : ℕ) → least ≡ suc (least - 1) → b ≡ turns_lead (least - 1) dials → not b ≡ needs_test dials least
-unfolding needs_test
-some b dials least e h = ap not h ∙ sym (ap (needs_test dials) e)
+some : (b : Bool) (dials : List ℕ) (least : ℕ) → least ≡ suc (least - 1) → b ≡ turns_lead (least - 1) dials → not b ≡ needs_test_clock dials least
+unfolding needs_test_clock
+some b dials least e h = ap not h ∙ sym (ap (needs_test_clock dials) e)
 
 pub returns-then-least-eq0-clause-test : goal.returns-then-least-eq0-clause-test
 returns-then-least-eq0-clause-test c = none c.args.clock.now c.args.least c.if-least-eq0.true

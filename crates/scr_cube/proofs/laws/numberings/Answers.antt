@@ -1,5 +1,5 @@
-use Rattle.scr_cube.specs.Numbered333.{cube_numbering}
-use Rattle.scr_cube.specs.Numbered222.{numbering_222}
+use Rattle.scr_cube.proofs.Numbered333.{cube_numbering}
+use Rattle.scr_cube.proofs.Numbered222.{numbering_222}
 use Rattle.scr_cube.proofs.laws.numberings.Goals as goal
 
 pub returns-clause-cube : goal.returns-clause-cube

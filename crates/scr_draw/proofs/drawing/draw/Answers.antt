@@ -13,20 +13,20 @@ ok_is (Some x) e h = sym (ap result_ok h)
 
 pub returns-then-needs_at_least-clause-state : goal.returns-then-needs_at_least-clause-state
 returns-then-needs_at_least-clause-state g c =
-    let ends = tried_passed c.loop-tried.invariant c.loop-tried-test.true c.count-count.ensures c.in-Some.ensures.value
+    let ends = tried_passed c.loop-tried.invariant c.loop-tried-test.true c.count-count.ensures.value c.in-Some.ensures.value
     c.state_at-state.ensures (sym c.needs_at_least.ensures ∙ c.if-needs_at_least.true) in
     rw ends.draws refl
 
 pub returns-then-needs_at_least-clause-draws : goal.returns-then-needs_at_least-clause-draws
 returns-then-needs_at_least-clause-draws g c =
     let event = c.args.puzzle.now in
-    Draws-exact _ _ c.args.least (g.met.P.Numbering.law event) (λ s. g.P.Permit.needs event s c.args.least)
-    (λ s valid. g.met.P.Permit.exact event s c.args.least c.requires.least_in_range valid) _ _
+    Draws-exact _ _ c.args.least c.count-count.ensures.numbering (λ s. g.P.Permit.needs event s c.args.least)
+    (λ s valid. c.is_exact.ensures s c.args.least c.requires.least_in_range valid) _ _
     (ok_is _ _ (returns-then-needs_at_least-clause-state g c))
 
 pub returns-then-needs_at_least-clause-taken : goal.returns-then-needs_at_least-clause-taken
 returns-then-needs_at_least-clause-taken g c =
-    let ends = tried_passed c.loop-tried.invariant c.loop-tried-test.true c.count-count.ensures c.in-Some.ensures.value
+    let ends = tried_passed c.loop-tried.invariant c.loop-tried-test.true c.count-count.ensures.value c.in-Some.ensures.value
     c.state_at-state.ensures (sym c.needs_at_least.ensures ∙ c.if-needs_at_least.true) in
     let three = c.in-Some.ensures.three in
     let before = c.loop-tried.invariant.taken in
@@ -36,11 +36,11 @@ pub loop-tried-preserved : goal.loop-tried-preserved
 loop-tried-preserved g c =
     elim c.match-attempt_within.branch [
       | in-Some+else-needs_at_least w ↦
-          tried_failed c.loop-tried.invariant c.loop-tried-test.true c.count-count.ensures w.in-Some.ensures.value
+          tried_failed c.loop-tried.invariant c.loop-tried-test.true c.count-count.ensures.value w.in-Some.ensures.value
           w.state_at-state.ensures (sym w.needs_at_least.ensures ∙ w.if-needs_at_least.false)
           c.attempt_within.ensures.same_words c.attempt_within.ensures.three
       | in_default w ↦
-          tried_refused c.loop-tried.invariant c.loop-tried-test.true c.count-count.ensures w.in_default.ensures.value
+          tried_refused c.loop-tried.invariant c.loop-tried-test.true c.count-count.ensures.value w.in_default.ensures.value
           c.attempt_within.ensures.same_words c.attempt_within.ensures.three
     ]
 
@@ -52,8 +52,8 @@ returns-clause-state g c =
 pub returns-clause-draws : goal.returns-clause-draws
 returns-clause-draws g c =
     let event = c.args.puzzle.now in
-    Draws-exact _ _ c.args.least (g.met.P.Numbering.law event) (λ s. g.P.Permit.needs event s c.args.least)
-    (λ s valid. g.met.P.Permit.exact event s c.args.least c.requires.least_in_range valid) _ _
+    Draws-exact _ _ c.args.least c.count-count.ensures.numbering (λ s. g.P.Permit.needs event s c.args.least)
+    (λ s valid. c.is_exact.ensures s c.args.least c.requires.least_in_range valid) _ _
     (ok_is _ _ (returns-clause-state g c))
 
 pub returns-clause-taken : goal.returns-clause-taken

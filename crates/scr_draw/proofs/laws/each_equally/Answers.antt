@@ -6,4 +6,4 @@ pub returns-clause-numbers : goal.returns-clause-numbers
 returns-clause-numbers g c = λ i below. answered_equally (g.P.NumberedStates.numbered c.args.puzzle.now).count i below
 
 pub returns-clause-states : goal.returns-clause-states
-returns-clause-states g c = λ s valid. state_equally _ (g.met.P.Numbering.law c.args.puzzle.now) s valid
+returns-clause-states g c = λ s valid. state_equally _ c.count.ensures.numbering s valid

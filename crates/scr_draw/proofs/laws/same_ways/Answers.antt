@@ -2,4 +2,4 @@ use Rattle.scr_draw.proofs.Fairness.{fair}
 use Rattle.scr_draw.proofs.laws.same_ways.Goals as goal
 
 pub returns : goal.returns
-returns g c = fair _ (g.met.P.Numbering.law c.args.puzzle.now) _
+returns g c = fair _ c.count.ensures.numbering _

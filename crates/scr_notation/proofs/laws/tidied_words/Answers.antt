@@ -1,6 +1,6 @@
 use Rattle.std.proofs.Common.{IsTrue}
-use Rattle.scr_play.proofs.TidyLaws.{IsTidy-tidy}
-use Rattle.scr_play.proofs.MergeLaws.{MergesTo-tidy, tidy-only}
+use Rattle.scr_combinatorics.proofs.TidyLaws.{IsTidy-tidy}
+use Rattle.scr_combinatorics.proofs.MergeLaws.{MergesTo-tidy, tidy-only}
 use Rattle.scr_notation.specs.Turns.{permits}
 use Rattle.scr_notation.specs.Turning.{turn_merging}
 use Rattle.scr_notation.proofs.MergingLaws.{IsMerging-event}

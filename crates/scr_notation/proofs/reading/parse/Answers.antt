@@ -4,7 +4,7 @@ use Rattle.std.proofs.lemmas.Iterator.Consumers.{YieldsList-turn, YieldsList-end
 use Rattle.std.proofs.lemmas.List.{length_push}
 use Rattle.std.proofs.lemmas.Result.{err_from_is_err_and}
 use Rattle.scr_notation.specs.Spelling.{text_of}
-use Rattle.scr_notation.specs.Reading.{words_of, IsReadSoFar}
+use Rattle.scr_notation.specs.Reading.{spaced_words, IsReadSoFar}
 use Rattle.scr_notation.proofs.TextLaws.{words_of-some}
 use Rattle.scr_notation.proofs.ReadLaws.{read-none, read-more, read-all, first-fault, no-fault, same-result, next-word, no-text, some-text}
 use Rattle.scr_notation.proofs.reading.parse.Goals as goal
@@ -52,8 +52,8 @@ loop-word-preserved c =
     (YieldsList-from_str_split 32 c.args.text.now (lit< tt) c.split-word-items.ensures.text c.split-word-items.ensures.has_more c.split-word-items.ensures.pattern) in
     let t = YieldsList-turn y c.loop-word.yielded _ c.loop-word.yielded_by _ _ c.in-Some.word c.in-Some.is c.next.ensures.steps in
     let n = next-word c.args.text.now (length c.loop-word.yielded) c.in-Some.word.now some t in
-    let Q : ℕ → Type 0 = λ k. IsReadSoFar c.args.event (words_of c.args.text.now) k c.read_next.new.scramble c.in_ok-place.place in
-    let r = read-more c.args.event (words_of c.args.text.now) (length c.loop-word.yielded) c.loop-word.scramble c.read_next.new.scramble c.loop-word.place c.in_ok-place.place c.in-Some.word.now
+    let Q : ℕ → Type 0 = λ k. IsReadSoFar c.args.event (spaced_words c.args.text.now) k c.read_next.new.scramble c.in_ok-place.place in
+    let r = read-more c.args.event (spaced_words c.args.text.now) (length c.loop-word.yielded) c.loop-word.scramble c.read_next.new.scramble c.loop-word.place c.in_ok-place.place c.in-Some.word.now
     c.loop-word.invariant n.0 n.1 c.in_ok-place.ensures.read in
     subst Q (sym (length_push c.loop-word.yielded c.in-Some.word)) r
 
@@ -63,7 +63,7 @@ returns-clause-read c =
     let y = YieldsList-at c.into_iter-word-iterator.ensures.into_iter_gives
     (YieldsList-from_str_split 32 c.args.text.now (lit< tt) c.split-word-items.ensures.text c.split-word-items.ensures.has_more c.split-word-items.ensures.pattern) in
     let t = YieldsList-end y c.loop-word.yielded _ c.loop-word.yielded_by _ _ c.in-None.is c.next.ensures.steps in
-    let Q : ℕ → Type 0 = λ k. IsReadSoFar c.args.event (words_of c.args.text.now) k c.loop-word.scramble c.loop-word.place in
+    let Q : ℕ → Type 0 = λ k. IsReadSoFar c.args.event (spaced_words c.args.text.now) k c.loop-word.scramble c.loop-word.place in
     let r = subst Q (t.1 ∙ sym (ap length (words_of-some c.args.text.now some))) c.loop-word.invariant in
     (c.loop-word.invariant.of_event, read-all c.args.event c.args.text.now c.loop-word.scramble c.loop-word.place some r)
 

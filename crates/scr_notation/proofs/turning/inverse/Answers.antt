@@ -1,7 +1,7 @@
 use Rattle.std.proofs.Common.{◌<◌, ◌-◌, List, length, get_or, drop, ap, sym, ◌∙◌, arith, length-drop}
 use Rattle.scr_notation.specs.declared.turn.Turn.{Turn}
 use Rattle.scr_notation.specs.declared.turn.Turn.TheVariants.{Face}
-use Rattle.scr_play.specs.Back.{back}
+use Rattle.scr_combinatorics.specs.Back.{back}
 use Rattle.scr_notation.specs.Turning.{opposite}
 use Rattle.scr_notation.specs.Written.{Written}
 use Rattle.scr_notation.proofs.TidyingLaws.{permitted-back, length-back, pushed-next, back-more}

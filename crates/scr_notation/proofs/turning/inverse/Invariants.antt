@@ -1,5 +1,5 @@
 use Rattle.std.proofs.Common.{◌≡◌, drop}
-use Rattle.scr_play.specs.Back.{back}
+use Rattle.scr_combinatorics.specs.Back.{back}
 use Rattle.scr_notation.specs.Written.{IsWritten}
 use Rattle.scr_notation.specs.Turning.{opposite}
 use Rattle.scr_notation.proofs.turning.inverse.Given as goal

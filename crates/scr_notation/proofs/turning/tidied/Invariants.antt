@@ -1,5 +1,5 @@
 use Rattle.std.proofs.Common.{◌≡◌, ◌+◌, ◌≤◌, length, drop, reverse}
-use Rattle.scr_play.specs.Tidy.{tidy}
+use Rattle.scr_combinatorics.specs.Tidy.{tidy}
 use Rattle.scr_notation.specs.Turning.{turn_merging}
 use Rattle.scr_notation.proofs.turning.tidied.Given as goal
 

@@ -2,7 +2,7 @@ use Rattle.std.proofs.Common.{◌≡◌, ◌<◌, ◌-◌, List, length, get_or,
 use Rattle.std.proofs.lemmas.List.{length-reverse}
 use Rattle.scr_notation.specs.declared.turn.Turn.{Turn}
 use Rattle.scr_notation.specs.declared.turn.Turn.TheVariants.{Face}
-use Rattle.scr_play.specs.Tidy.{tidy}
+use Rattle.scr_combinatorics.specs.Tidy.{tidy}
 use Rattle.scr_notation.specs.Turning.{turn_merging}
 use Rattle.scr_notation.specs.Written.{Written}
 use Rattle.scr_notation.proofs.TidyingLaws.{permitted-tidied, pushed-next, reverse-more}

@@ -4,13 +4,13 @@ use Rattle.scr_notation.specs.declared.event.Family.TheVariants as family
 use Rattle.scr_table.specs.Causes.{IsCauseOf}
 use Rattle.scr_table.specs.Lines.{HasNoGap}
 use Rattle.scr_table.proofs.LineLaws.{IfErr-handed}
-use Rattle.scr_slots.specs.Events.{lines_of}
+use Rattle.scr_slots.specs.Events.{family_lines}
 use Rattle.scr_slots.specs.Tables.{asks_for, lines_asked}
 use Rattle.scr_slots.proofs.BuildCauses.{event_list, lines_asked-of}
 use Rattle.scr_slots.proofs.tables.sq1_tables.Goals as goal
 
 pub returns-in_err-tables-clause-cause : goal.returns-in_err-tables-clause-cause
-unfolding lines_of
+unfolding family_lines
 returns-in_err-tables-clause-cause c =
     let events = event_list c.args.rounds.now in
     let asked : asks_for events family.Square1 ≡ true = sym c.asks_for.ensures ∙ c.if-asks_for.true in
@@ -19,7 +19,7 @@ returns-in_err-tables-clause-cause c =
     (subst (λ lines. IsCauseOf lines why) (sym (lines_asked-of events family.Square1 asked)) c.in_err-tables.ensures.cause)
 
 pub returns-in_ok-tables-clause-whole : goal.returns-in_ok-tables-clause-whole
-unfolding lines_of
+unfolding family_lines
 returns-in_ok-tables-clause-whole c =
     let events = event_list c.args.rounds.now in
     let asked : asks_for events family.Square1 ≡ true = sym c.asks_for.ensures ∙ c.if-asks_for.true in

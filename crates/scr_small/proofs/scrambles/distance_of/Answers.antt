@@ -1,6 +1,6 @@
 use Rattle.std.proofs.Common.{ℕ, ◌≤◌, sym, subst}
 use Rattle.std.specs.Prelude.{◌↔◌}
-use Rattle.scr_play.specs.Reach.{Needs}
+use Rattle.scr_combinatorics.specs.Reach.{Needs}
 use Rattle.scr_small.specs.NumberedPuzzles.{puzzle_of}
 use Rattle.scr_small.proofs.PuzzleLaws.{Needs-iff}
 use Rattle.scr_small.proofs.BuiltTables.{IsTableOf-built, same_entry}

@@ -1,7 +1,7 @@
 use Rattle.std.proofs.Common.{refl, sym, ap, ◌∙◌}
-use Rattle.scr_sq1.specs.Proofs.HalfWords.{half_of_word, IsHalf-word, IsKnownHalf-below}
-use Rattle.scr_sq1.specs.Proofs.HalfNumbers.{ways_of_shapes, shapes_one_to_one, shape_number-order}
-use Rattle.scr_sq1.specs.Proofs.Pieces.{StatePieces-valid}
+use Rattle.scr_sq1.proofs.HalfWords.{half_of_word, IsHalf-word, IsKnownHalf-below}
+use Rattle.scr_sq1.proofs.HalfNumbers.{ways_of_shapes, shapes_one_to_one, shape_number-order}
+use Rattle.scr_sq1.proofs.StatePieces.{StatePieces-valid}
 use Rattle.scr_sq1.proofs.OnLiterals.{sq1_on_literals}
 use Rattle.scr_sq1.proofs.laws.shapes.Goals as goal
 

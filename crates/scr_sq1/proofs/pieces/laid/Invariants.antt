@@ -1,7 +1,6 @@
 use Rattle.std.proofs.Common.{◌≡◌, ◌+◌, ◌++◌, length, take, drop}
 use Rattle.scr_sq1.specs.Numbers.{laid}
-use Rattle.scr_sq1.specs.Shapes.{units_among}
-use Rattle.scr_sq1.specs.Proofs.LaidLaws.{Fits}
+use Rattle.scr_sq1.specs.Shapes.{units_among, Fits}
 use Rattle.scr_sq1.proofs.pieces.laid.Given as goal
 
 abbrev pub invariant-loop-is_corner : goal.invariant-loop-is_corner

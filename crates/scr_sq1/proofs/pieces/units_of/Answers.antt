@@ -1,8 +1,7 @@
 use Rattle.std.proofs.Common.{sym, ap, ◌∙◌, subst, arith}
 use Rattle.scr_combinatorics.proofs.PermutationLaws.{All-permutation}
-use Rattle.scr_sq1.specs.Shapes.{units_among}
-use Rattle.scr_sq1.specs.Proofs.LaidLaws.{Fits}
-use Rattle.scr_sq1.specs.Proofs.Pieces.{AreCounted-halves, LaidState-pieces}
+use Rattle.scr_sq1.specs.Shapes.{units_among, Fits}
+use Rattle.scr_sq1.proofs.StatePieces.{AreCounted-halves, LaidState-pieces}
 use Rattle.scr_sq1.proofs.pieces.units_of.Goals as goal
 
 pub laid-requires-clause-fits : goal.laid-requires-clause-fits

@@ -1,7 +1,7 @@
 use Rattle.std.proofs.Common.{◌≡◌, ℕ, ◌+◌, ◌-◌, get_or, slice_index, drop, sym, ap, ◌∙◌, arith}
 use Rattle.scr_sq1.specs.declared.shapes.TheConstants.{CORNERS}
 use Rattle.scr_sq1.specs.Shapes.{corner_counts, ways_after, run_of}
-use Rattle.scr_sq1.specs.Proofs.HalfNumbers.{length-corner_counts}
+use Rattle.scr_sq1.proofs.HalfNumbers.{length-corner_counts}
 use Rattle.scr_sq1.proofs.ShapeSteps.{corners_table-listed, run_of-next, run_of-found, run_of-end}
 use Rattle.scr_sq1.proofs.shapes.first_half.Goals as goal
 

@@ -1,7 +1,7 @@
 use Rattle.std.proofs.Common.{sym, ap, ◌∙◌, subst, arith}
 use Rattle.scr_combinatorics.proofs.Numberings.{only_one}
 use Rattle.scr_sq1.specs.Shapes.{IsShape, shape_number}
-use Rattle.scr_sq1.specs.Proofs.HalfNumbers.{shapes_one_to_one}
+use Rattle.scr_sq1.proofs.HalfNumbers.{shapes_one_to_one}
 use Rattle.scr_sq1.proofs.ShapeSteps.{made_start, made_at, made_next, made_end, counted_corners}
 use Rattle.scr_sq1.proofs.shapes.shape_at.Goals as goal
 

@@ -1,6 +1,6 @@
 use Rattle.std.proofs.Common.{ap, ◌∙◌, arith, slice_index}
 use Rattle.scr_sq1.specs.Shapes.{shape_number}
-use Rattle.scr_sq1.specs.Proofs.HalfNumbers.{shapes_one_to_one}
+use Rattle.scr_sq1.proofs.HalfNumbers.{shapes_one_to_one}
 use Rattle.scr_sq1.proofs.ShapeSteps.{counted_start, counted_at, counted_next, counted_whole, counted_corners}
 use Rattle.scr_sq1.proofs.shapes.shape_number.Goals as goal
 

@@ -1,6 +1,6 @@
 use Rattle.std.proofs.Common.{[], get_or, ◌-◌, sym, ap, ◌∙◌, arith}
 use Rattle.scr_sq1.specs.declared.shapes.TheConstants.{WAYS}
-use Rattle.scr_sq1.specs.Proofs.HalfNumbers.{ways_after-few}
+use Rattle.scr_sq1.proofs.HalfNumbers.{ways_after-few}
 use Rattle.scr_sq1.proofs.ShapeSteps.{ways_table}
 use Rattle.scr_sq1.proofs.shapes.ways_after.Goals as goal
 

@@ -1,5 +1,5 @@
 use Rattle.std.proofs.Common.{sym}
-use Rattle.scr_play.specs.Play.{play}
+use Rattle.scr_combinatorics.specs.Play.{play}
 use Rattle.scr_sq1.specs.Units.{sq1_after, solved_sq1}
 use Rattle.scr_sq1solve.specs.Letters.{squaring_word}
 use Rattle.scr_sq1solve.specs.Tables.{shapes_index, has_index}

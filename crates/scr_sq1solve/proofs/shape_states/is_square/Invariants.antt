@@ -1,6 +1,6 @@
 use Rattle.std.proofs.Common.{◌≡◌, false, take}
 use Rattle.std.specs.List.{list_any}
-use Rattle.scr_play.specs.Play.{play}
+use Rattle.scr_combinatorics.specs.Play.{play}
 use Rattle.scr_sq1.specs.Units.{sq1_after, solved_sq1}
 use Rattle.scr_sq1solve.specs.Stages.{squaring_words}
 use Rattle.scr_sq1solve.specs.Tables.{shapes_index, has_index}

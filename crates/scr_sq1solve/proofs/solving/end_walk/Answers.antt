@@ -1,5 +1,5 @@
 use Rattle.std.proofs.Common.{sym, ap, ◌∙◌, subst, arith}
-use Rattle.scr_play.specs.Play.{play}
+use Rattle.scr_combinatorics.specs.Play.{play}
 use Rattle.scr_sq1.specs.Units.{sq1_after}
 use Rattle.scr_notation.specs.Written.{Written}
 use Rattle.scr_sq1solve.specs.Stages.{IsEnd}

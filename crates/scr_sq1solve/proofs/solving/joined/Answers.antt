@@ -1,7 +1,7 @@
 use Rattle.std.proofs.Common.{◌++◌, IsTrue, sym, ap, ◌∙◌, subst, arith}
 use Rattle.std.specs.Prelude.{All}
-use Rattle.scr_play.specs.Tidy.{tidy, IsTidy}
-use Rattle.scr_play.proofs.PlayLaws.{count_in-append}
+use Rattle.scr_combinatorics.specs.Tidy.{tidy, IsTidy}
+use Rattle.scr_combinatorics.proofs.PlayLaws.{count_in-append}
 use Rattle.scr_notation.specs.Turning.{turn_merging}
 use Rattle.scr_notation.specs.Turns.{permits}
 use Rattle.scr_notation.specs.Written.{Written}

@@ -1,5 +1,5 @@
 use Rattle.std.proofs.Common.{ap, ◌∙◌}
-use Rattle.scr_play.specs.Back.{back}
+use Rattle.scr_combinatorics.specs.Back.{back}
 use Rattle.scr_notation.specs.Turning.{opposite}
 use Rattle.scr_sq1solve.proofs.Bounds.{IsWithinBounds-scramble}
 use Rattle.scr_sq1solve.proofs.Solutions.{one_scramble, play-scramble}

@@ -1,5 +1,5 @@
 use Rattle.std.proofs.Common.{ap, ◌∙◌}
-use Rattle.scr_play.specs.Back.{back}
+use Rattle.scr_combinatorics.specs.Back.{back}
 use Rattle.scr_notation.specs.Turning.{opposite}
 use Rattle.scr_stages.proofs.SolutionLaws.{scramble-at_most, scramble-played, IsStageScramble-unique}
 use Rattle.scr_stages.proofs.solving.scramble_by_stages.Goals as goal

@@ -1,16 +1,19 @@
-use Rattle.std.proofs.Common.{refl, subst}
-use Rattle.scr_play.specs.FirstWord.{IsFirstWord}
+use Rattle.std.proofs.Common.{subst, lit≤}
+use Rattle.scr_combinatorics.specs.FirstWord.{IsFirstWord}
 use Rattle.scr_coord.specs.Coordinates.{moved, IsGoal}
+use Rattle.scr_table.proofs.StageLaws.{IsStageWord-first}
+use Rattle.scr_turning.specs.PowerPuzzles.{after_letter}
+use Rattle.scr_cube.specs.Cube333.{cube_powers}
 use Rattle.scr_stages.specs.Stages.{halves_stage}
 use Rattle.scr_stages.specs.Numbers.{IsHalfCube, half_cubes}
 use Rattle.scr_stages.specs.Tables.{halves_line, halves_coordinate}
-use Rattle.scr_stages.proofs.HalfTurned.{Follows-halves, StaysBelow-halves}
-use Rattle.scr_stages.proofs.StageWords.{IsStageWord-first}
+use Rattle.scr_stages.proofs.HalfTurned.{Follows-halves}
 use Rattle.scr_stages.proofs.words.halves_word.Goals as goal
 
 pub returns : goal.returns
 returns c =
     let cube = c.args.cube.now in
     let word = c.descend.result.items in
-    IsStageWord-first halves_stage IsHalfCube halves_line half_cubes.number_of Follows-halves StaysBelow-halves refl _ c.descend.ensures.table cube c.requires word
+    IsStageWord-first (after_letter cube_powers) halves_stage IsHalfCube halves_line half_cubes.number_of Follows-halves (lit≤ tt) _
+    c.descend.ensures.table cube word c.requires
     (subst (λ p. IsFirstWord (moved halves_coordinate) (IsGoal halves_coordinate) p word) (c.number.ensures.number cube c.of.ensures.parts) c.descend.ensures.first)

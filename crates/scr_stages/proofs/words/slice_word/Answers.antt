@@ -1,14 +1,16 @@
-use Rattle.std.proofs.Common.{◌+◌, ◌*◌, length, refl, sym, ap, ◌∙◌, subst, lit<, lit≤}
+use Rattle.std.proofs.Common.{◌+◌, ◌*◌, length, sym, ap, ◌∙◌, subst, lit<, lit≤}
 use Rattle.scr_combinatorics.specs.PlaceSets.{IsPlaceSet, place_set_number}
 use Rattle.scr_combinatorics.specs.Twists.{twists_number}
-use Rattle.scr_play.specs.FirstWord.{IsFirstWord}
+use Rattle.scr_combinatorics.specs.FirstWord.{IsFirstWord}
 use Rattle.scr_coord.specs.Coordinates.{moved, IsGoal}
 use Rattle.scr_coord.specs.Projections.{marked_places, stands_in}
+use Rattle.scr_table.proofs.StageLaws.{IsStageWord-first}
+use Rattle.scr_turning.specs.PowerPuzzles.{after_letter}
+use Rattle.scr_cube.specs.Cube333.{cube_powers}
 use Rattle.scr_stages.specs.Stages.{slice_stage, middle_edges}
 use Rattle.scr_stages.specs.Numbers.{slice_number, IsUnflippedCube}
 use Rattle.scr_stages.specs.Tables.{slice_line, slice_coordinate}
 use Rattle.scr_stages.proofs.StageSpaces.{Follows-unflipped, IsPlaceSet-middle_places}
-use Rattle.scr_stages.proofs.StageWords.{StaysBelow-slice, IsStageWord-first}
 use Rattle.scr_stages.proofs.words.slice_word.Goals as goal
 
 pub places_of-requires-clause-fits : goal.places_of-requires-clause-fits
@@ -29,7 +31,6 @@ returns c =
     let twists = c.rank-twists.ensures.number ∙ ap (twists_number 3) c.twists.ensures.same in
     let number = ap (λ n. n + 2187 * c.rank-places.result) twists
     ∙ ap (λ n. twists_number 3 cube.corners.digits + 2187 * n) (c.rank-places.ensures.number ∙ ap (place_set_number 12) places) in
-    IsStageWord-first slice_stage IsUnflippedCube slice_line slice_number Follows-unflipped StaysBelow-slice refl _
-    c.descend.ensures.table cube
-    c.requires word
+    IsStageWord-first (after_letter cube_powers) slice_stage IsUnflippedCube slice_line slice_number Follows-unflipped (lit≤ tt) _
+    c.descend.ensures.table cube word c.requires
     (subst (λ p. IsFirstWord (moved slice_coordinate) (IsGoal slice_coordinate) p word) number c.descend.ensures.first)

@@ -1,7 +1,7 @@
 use Rattle.std.proofs.Common.{true}
 use Rattle.std.proofs.Math.Bool.{Bool-set}
 use Rattle.scr_coord.specs.Coordinates.{moved, IsGoal}
-use Rattle.scr_play.proofs.FirstWordLaws.{IsDistance-unique, IsDistance-goal, IsGoal-distance, IsDistance-lowers, IsDistance-step}
+use Rattle.scr_combinatorics.proofs.FirstWordLaws.{IsDistance-unique, IsDistance-goal, IsGoal-distance, IsDistance-lowers, IsDistance-step}
 use Rattle.scr_table.proofs.laws.distances.Goals as goal
 
 pub returns-clause-one : goal.returns-clause-one

@@ -3,12 +3,12 @@ use Rattle.std.proofs.Math.Logic.{∥∥₁_elim}
 use Rattle.std.proofs.lemmas.List.Elements.{All-head}
 use Rattle.std.specs.Prelude.{All, slice_index_or}
 use Rattle.scr_coord.specs.Coordinates.{moved, IsGoal}
-use Rattle.scr_play.specs.FirstWord.{IsDistance}
-use Rattle.scr_play.proofs.FirstWordLaws.{IsDistance-unique}
+use Rattle.scr_combinatorics.specs.FirstWord.{IsDistance}
+use Rattle.scr_combinatorics.proofs.FirstWordLaws.{IsDistance-unique}
 use Rattle.scr_table.specs.declared.name.TableName.TheVariants.{Corners, Flips}
 use Rattle.scr_table.specs.Distances.{IsGap, IsFirstGap}
 use Rattle.scr_table.specs.Lines.{TableLine, HasNoGap}
-use Rattle.scr_table.specs.Row.{row, row_line}
+use Rattle.scr_table.specs.Row.{row_coordinate, row_line}
 use Rattle.scr_table.proofs.LineLaws.{no_gaps-line}
 use Rattle.scr_table.proofs.RowLaws.{row_least, row_distance, row_entry, row_first_word, leads_from_0, leads_from_2}
 use Rattle.scr_table.proofs.laws.rows.Goals as goal
@@ -25,13 +25,13 @@ returns-clause-no_first_word _ = λ first. omega (arith, row_least 3 2 (0 ∷ []
 pub returns-clause-measures : goal.returns-clause-measures
 returns-clause-measures _ = record {
   positions = refl;
-  exact = λ p lt. let P : ℕ → Type 0 = λ d. IsDistance (moved (row 3)) (IsGoal (row 3)) p d in subst P (sym (row_entry p lt)) (row_distance p lt);
+  exact = λ p lt. let P : ℕ → Type 0 = λ d. IsDistance (moved (row_coordinate 3)) (IsGoal (row_coordinate 3)) p d in subst P (sym (row_entry p lt)) (row_distance p lt);
   within = λ p lt. omega (arith, row_entry p lt);
 }
 
 pub returns-clause-no_greater : goal.returns-clause-no_greater
 returns-clause-no_greater _ = λ m.
-    omega (arith, IsDistance-unique (moved (row 3)) (IsGoal (row 3)) 2 1 2 (m.exact 2 (omega arith)) (row_distance 2 (omega arith)))
+    omega (arith, IsDistance-unique (moved (row_coordinate 3)) (IsGoal (row_coordinate 3)) 2 1 2 (m.exact 2 (omega arith)) (row_distance 2 (omega arith)))
 
 pub returns-clause-gap : goal.returns-clause-gap
 returns-clause-gap _ = record { position = omega arith; none = λ w l. omega (arith, row_least 3 2 w l) }
@@ -40,10 +40,10 @@ pub returns-clause-no_gap : goal.returns-clause-no_gap
 returns-clause-no_gap _ = λ h. omega (arith, h.none (0 ∷ 0 ∷ []) leads_from_2)
 
 -- within no turn, position 1 is the first gap
-first_gap : IsFirstGap (row 3) 0 1
+first_gap : IsFirstGap (row_coordinate 3) 0 1
 first_gap = record {
   gap = record { position = omega arith; none = λ w l. omega (arith, row_least 3 1 w l) };
-  none_before = λ earlier less gap. let P : ℕ → Type 0 = λ p. IsGap (row 3) 0 p in
+  none_before = λ earlier less gap. let P : ℕ → Type 0 = λ p. IsGap (row_coordinate 3) 0 p in
       let first : earlier ≡ 0 = omega arith in
       omega (arith, (subst P first gap).none [] leads_from_0);
 }

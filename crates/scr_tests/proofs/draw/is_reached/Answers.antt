@@ -1,5 +1,5 @@
 use Rattle.std.proofs.Common.{lit<}
-use Rattle.scr_draw.proofs.ReachedRow.{row_reached}
+use Rattle.scr_draw.proofs.RowLaws.{row_reached}
 use Rattle.scr_tests.proofs.draw.is_reached.Goals as goal
 
 pub returns : goal.returns

@@ -5,4 +5,4 @@ pub number_of-requires : goal.number_of-requires
 number_of-requires g c =
     let numbers = c.args.numbers.now in
     subst (g.N.NumberedStates.numbered numbers).IsValid (sym c.state_at-shown.ensures)
-    ((g.met.N.Numbering.law numbers).one_to_one.valid c.args.number c.requires)
+    (c.count.ensures.numbering.one_to_one.valid c.args.number c.requires)

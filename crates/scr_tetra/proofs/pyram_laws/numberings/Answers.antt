@@ -1,4 +1,4 @@
-use Rattle.scr_tetra.specs.NumberedPyram.{tetraminx_numbering, pyram_numbering}
+use Rattle.scr_tetra.proofs.NumberedPyram.{tetraminx_numbering, pyram_numbering}
 use Rattle.scr_tetra.proofs.pyram_laws.numberings.Goals as goal
 
 pub returns-clause-pyraminx : goal.returns-clause-pyraminx

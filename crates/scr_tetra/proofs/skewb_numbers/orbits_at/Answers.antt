@@ -2,7 +2,7 @@ use Rattle.std.proofs.Common.{ap, ◌∙◌, arith}
 use Rattle.scr_combinatorics.specs.Permutations.{half_at}
 use Rattle.scr_combinatorics.specs.Digits.{mixed_digits}
 use Rattle.scr_tetra.specs.Skewb.{skewb_of_digits}
-use Rattle.scr_tetra.specs.NumberedSkewb.{class_below}
+use Rattle.scr_tetra.proofs.NumberedSkewb.{class_below}
 use Rattle.scr_tetra.proofs.SkewbDigits.{skewb_of_digits-made}
 use Rattle.scr_tetra.proofs.skewb_numbers.orbits_at.Goals as goal
 

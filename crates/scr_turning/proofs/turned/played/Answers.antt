@@ -1,6 +1,6 @@
 use Rattle.std.proofs.Common.{sym, ◌∙◌, arith}
-use Rattle.scr_play.proofs.PlayLaws.{play-empty}
-use Rattle.scr_play.proofs.StepLaws.{play-more, play-barred, play-whole}
+use Rattle.scr_combinatorics.proofs.PlayLaws.{play-empty}
+use Rattle.scr_combinatorics.proofs.StepLaws.{play-more, play-barred, play-whole}
 use Rattle.scr_turning.proofs.turned.played.Goals as goal
 
 pub loop-turn-init : goal.loop-turn-init

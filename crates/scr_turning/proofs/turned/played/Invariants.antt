@@ -1,5 +1,5 @@
 use Rattle.std.proofs.Common.{◌≡◌, Some, take}
-use Rattle.scr_play.specs.Play.{play}
+use Rattle.scr_combinatorics.specs.Play.{play}
 use Rattle.scr_turning.proofs.turned.played.Given as goal
 
 abbrev pub invariant-loop-turn : goal.invariant-loop-turn

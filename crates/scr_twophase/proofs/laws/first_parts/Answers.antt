@@ -2,11 +2,11 @@ use Rattle.std.proofs.Common.{◌≡◌, ℕ, ◌<◌, ◌≤◌, true, IsTrue, 
 use Rattle.std.proofs.Common.{arith}
 use Rattle.std.specs.Prelude.{All, Contains, nat_lt, ◌&&◌}
 use Rattle.std.proofs.lemmas.Bool.{and_from}
-use Rattle.scr_play.specs.Play.{play}
+use Rattle.scr_combinatorics.specs.Play.{play}
 use Rattle.scr_orbit.specs.Orbits.{solved_orbit}
 use Rattle.scr_cube.specs.Cube333.{CubeState, solved_cube}
 use Rattle.scr_stages.proofs.FiniteTests.{All-from_test}
-use Rattle.scr_twophase.specs.TwoParts.{after_turn, all_turns, may_precede, may_begin, is_orderly, ends_in_quarter}
+use Rattle.scr_twophase.specs.TwoParts.{after_turn, turn_numbers, may_precede, may_begin, is_orderly, ends_in_quarter}
 use Rattle.scr_twophase.specs.TwoParts.{leads, is_domino, is_first_part, first_parts}
 use Rattle.scr_twophase.specs.Words.{words_within}
 use Rattle.scr_twophase.proofs.CubeTests.{leads-played}
@@ -18,8 +18,8 @@ first_part : (c : CubeState) (w : List ℕ) → length w ≤ 12 → All (λ t. t
     → Contains (first_parts c) w
 unfolding first_parts
 first_part c w le below passes =
-    Contains-filter (is_first_part c) (words_within all_turns 12) w
-    (Contains-words_within all_turns 12 w le (All-turns w below)) passes
+    Contains-filter (is_first_part c) (words_within turn_numbers 12) w
+    (Contains-words_within turn_numbers 12 w le (All-turns w below)) passes
 
 -- what a first part is
 record IsFirstPart (c : CubeState) (w : List ℕ) : Type 0 where
@@ -30,8 +30,8 @@ record IsFirstPart (c : CubeState) (w : List ℕ) : Type 0 where
 IsFirstPart-listed : (c : CubeState) (w : List ℕ) → Contains (first_parts c) w → IsFirstPart c w
 unfolding first_parts
 IsFirstPart-listed c w there =
-    let passed = Contains-passed (is_first_part c) (words_within all_turns 12) w there in
-    let within = IsWithin-listed all_turns 12 w passed.0 in
+    let passed = Contains-passed (is_first_part c) (words_within turn_numbers 12) w there in
+    let within = IsWithin-listed turn_numbers 12 w passed.0 in
     record { size = within.size; below = All-below_18 w within.each; passes = passed.1 }
 
 -- R F L B, three times

@@ -1,9 +1,9 @@
-use Rattle.scr_twophase.specs.TwoParts.{all_turns}
+use Rattle.scr_twophase.specs.TwoParts.{turn_numbers}
 use Rattle.scr_twophase.proofs.ListedWords.{Contains-words_of, IsListed-listed, All-turns, All-below_18}
 use Rattle.scr_twophase.proofs.laws.words.Goals as goal
 
 pub returns : goal.returns
 returns c = λ n w. (
-  λ there. let listed = IsListed-listed all_turns n w there in (listed.size, All-below_18 w listed.each),
-  λ is. Contains-words_of all_turns n w is.0 (All-turns w is.1),
+  λ there. let listed = IsListed-listed turn_numbers n w there in (listed.size, All-below_18 w listed.each),
+  λ is. Contains-words_of turn_numbers n w is.0 (All-turns w is.1),
 )

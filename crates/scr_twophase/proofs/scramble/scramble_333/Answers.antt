@@ -1,8 +1,8 @@
 use Rattle.std.proofs.Common.{◌≡◌, length, sym, ap, ◌∙◌, subst, arith}
 use Rattle.std.specs.Prelude.{is_some}
 use Rattle.std.proofs.lemmas.Bool.{false≢true}
-use Rattle.scr_play.specs.Play.{play}
-use Rattle.scr_play.specs.Back.{back}
+use Rattle.scr_combinatorics.specs.Play.{play}
+use Rattle.scr_combinatorics.specs.Back.{back}
 use Rattle.scr_notation.specs.declared.event.Event.TheVariants.{C333, Clock}
 use Rattle.scr_notation.specs.Turning.{opposite}
 use Rattle.scr_turning.specs.PowerPuzzles.{after_letter}

@@ -1,7 +1,7 @@
 use Rattle.std.proofs.Common.{◌≡◌, ℕ, ◌-◌, true, [], ◌∷◌, length, length-append, sym, ap, ◌∙◌, subst, arith}
 use Rattle.std.specs.Prelude.{IfNone}
 use Rattle.scr_twophase.specs.Search.{letters, IsAt, ShowsFirst}
-use Rattle.scr_twophase.specs.TwoParts.{all_turns, first_joined, is_first_part, is_orderly}
+use Rattle.scr_twophase.specs.TwoParts.{turn_numbers, first_joined, is_first_part, is_orderly}
 use Rattle.scr_twophase.specs.Words.{words_behind}
 use Rattle.scr_twophase.proofs.FirstSteps.{IsFirstPosition-shown, IsAt-turned, IsUnderWay-begin, IsUnderWay-next, IsUnderWay-found, IsUnderWay-none, IsUnderWay-used, turn_open}
 use Rattle.scr_twophase.proofs.Orderly.{is_orderly-push}
@@ -10,7 +10,7 @@ use Rattle.scr_twophase.proofs.search.+joined_behind.Goals as goal
 
 pub returns-then-tries-eq0-clause-first : goal.returns-then-tries-eq0-clause-first
 returns-then-tries-eq0-clause-first t c =
-    let parts = words_behind all_turns (is_first_part c.args.cube.now) (letters c.args.word.now) c.args.left in
+    let parts = words_behind turn_numbers (is_first_part c.args.cube.now) (letters c.args.word.now) c.args.left in
     sym (ap (λ n. first_joined c.args.cube.now n parts) c.if-tries-eq0.true ∙ first_joined-spent c.args.cube.now parts)
 
 pub returns-then-tries-eq0-clause-tried : goal.returns-then-tries-eq0-clause-tried
@@ -31,13 +31,13 @@ joined_with-requires-clause-tries t c = omega (arith, c.if-tries-eq0.false)
 pub returns-then-left-eq0-clause-first : goal.returns-then-left-eq0-clause-first
 returns-then-left-eq0-clause-first t c =
     c.joined_with.ensures.first
-    ∙ ap (λ n. first_joined c.args.cube.now c.args.tries.now (words_behind all_turns (is_first_part c.args.cube.now) (letters c.args.word.now) n)) (sym c.if-left-eq0.true)
+    ∙ ap (λ n. first_joined c.args.cube.now c.args.tries.now (words_behind turn_numbers (is_first_part c.args.cube.now) (letters c.args.word.now) n)) (sym c.if-left-eq0.true)
 
 pub returns-then-left-eq0-clause-tried : goal.returns-then-left-eq0-clause-tried
 returns-then-left-eq0-clause-tried t c =
     subst
     (λ n. IfNone c.joined_with.result
-    (c.joined_with.new.tries ≡ c.args.tries.now - length (words_behind all_turns (is_first_part c.args.cube.now) (letters c.args.word.now) n))) (sym c.if-left-eq0.true)
+    (c.joined_with.new.tries ≡ c.args.tries.now - length (words_behind turn_numbers (is_first_part c.args.cube.now) (letters c.args.word.now) n))) (sym c.if-left-eq0.true)
     c.joined_with.ensures.tried
 
 pub turns_from-requires : goal.turns_from-requires
@@ -97,7 +97,7 @@ returns-in-Some-joined_behind-clause-first t c =
     sym (IsUnderWay-found cube word c.args.left c.args.tries.now c.loop-turn.turns.bits c.loop-turn.tries c.loop-turn.invariant c.in-Some.turn c.pop.new.self.bits
     (letters c.in-Some-joined_behind.joined) c.in-Some.ensures.first
     (sym (c.in-Some-joined_behind.ensures.first
-    ∙ ap (λ w. first_joined cube c.loop-turn.tries (words_behind all_turns (is_first_part cube) w (c.args.left - 1))) c.with-longer.ensures)))
+    ∙ ap (λ w. first_joined cube c.loop-turn.tries (words_behind turn_numbers (is_first_part cube) w (c.args.left - 1))) c.with-longer.ensures)))
 
 pub loop-turn-smaller : goal.loop-turn-smaller
 loop-turn-smaller t c = omega (arith, ap length c.in-Some.ensures.first)
@@ -109,9 +109,9 @@ loop-turn-preserved t c =
     IsUnderWay-next cube word c.args.left c.args.tries.now c.loop-turn.turns.bits c.loop-turn.tries c.loop-turn.invariant c.in-Some.turn c.pop.new.self.bits
     c.joined_behind.new.tries c.in-Some.ensures.first c.in-Some.ensures.few
     (sym (c.in_default-joined_behind.ensures.first
-    ∙ ap (λ w. first_joined cube c.loop-turn.tries (words_behind all_turns (is_first_part cube) w (c.args.left - 1))) c.with-longer.ensures))
+    ∙ ap (λ w. first_joined cube c.loop-turn.tries (words_behind turn_numbers (is_first_part cube) w (c.args.left - 1))) c.with-longer.ensures))
     (c.in_default-joined_behind.ensures.tried
-    ∙ ap (λ w. c.loop-turn.tries - length (words_behind all_turns (is_first_part cube) w (c.args.left - 1))) c.with-longer.ensures)
+    ∙ ap (λ w. c.loop-turn.tries - length (words_behind turn_numbers (is_first_part cube) w (c.args.left - 1))) c.with-longer.ensures)
 
 pub returns-clause-first : goal.returns-clause-first
 returns-clause-first t c =

@@ -1,6 +1,6 @@
 use Rattle.std.proofs.Common.{ap, ◌∙◌, arith, sym}
-use Rattle.scr_play.proofs.PlayLaws.{play-empty}
-use Rattle.scr_play.proofs.StepLaws.{play-more, play-whole}
+use Rattle.scr_combinatorics.proofs.PlayLaws.{play-empty}
+use Rattle.scr_combinatorics.proofs.StepLaws.{play-more, play-whole}
 use Rattle.scr_twophase.specs.TwoParts.{after_turn}
 use Rattle.scr_twophase.proofs.search.turned_by.Goals as goal
 

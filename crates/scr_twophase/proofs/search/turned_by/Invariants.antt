@@ -1,5 +1,5 @@
 use Rattle.std.proofs.Common.{◌≡◌, Some, take}
-use Rattle.scr_play.specs.Play.{play}
+use Rattle.scr_combinatorics.specs.Play.{play}
 use Rattle.scr_twophase.specs.TwoParts.{after_turn}
 use Rattle.scr_twophase.proofs.search.turned_by.Given as goal
 

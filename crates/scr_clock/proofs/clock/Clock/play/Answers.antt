@@ -1,8 +1,8 @@
 use Rattle.std.proofs.Common.{false, IsTrue, get_or, ap, sym, ◌∙◌, arith}
 use Rattle.std.specs.Option.{option_map}
 use Rattle.std.proofs.lemmas.List.Elements.{All-get_or, All-same}
-use Rattle.scr_play.proofs.PlayLaws.{play-empty}
-use Rattle.scr_play.proofs.StepLaws.{play-more, play-barred, play-whole}
+use Rattle.scr_combinatorics.proofs.PlayLaws.{play-empty}
+use Rattle.scr_combinatorics.proofs.StepLaws.{play-more, play-barred, play-whole}
 use Rattle.scr_notation.specs.declared.turn.Turn.TheVariants.{Face}
 use Rattle.scr_notation.specs.Event.{kind_of}
 use Rattle.scr_notation.specs.Turns.{permits}

@@ -1,5 +1,5 @@
 use Rattle.std.proofs.Common.{◌≡◌, false, Some, take}
-use Rattle.scr_play.specs.Play.{play}
+use Rattle.scr_combinatorics.specs.Play.{play}
 use Rattle.scr_clock.specs.Held.{held_after, held_clock}
 use Rattle.scr_clock.proofs.clock.Clock.play.Given as goal
 

@@ -3,7 +3,7 @@ use Rattle.scr_combinatorics.specs.Permutations.{IsPermutation, permutation_numb
 use Rattle.scr_orbit.specs.PlaceTurns.{rearrangement_of}
 use Rattle.scr_orbit.proofs.OrbitLaws.{places_in}
 use Rattle.scr_coord.specs.Projections.{pieces_view}
-use Rattle.scr_coord.specs.StaysBelowLaws.{IsListView-pieces}
+use Rattle.scr_coord.proofs.StaysBelowLaws.{IsListView-pieces}
 use Rattle.scr_coord.proofs.ProjectionLaws.{turn_read, after_read}
 use Rattle.scr_coord.proofs.lists.ListsCoord.after.Goals as goal
 

@@ -1,5 +1,5 @@
 use Rattle.std.proofs.Common.{◌≡◌, ◌*◌, ◌++◌, ◌∷◌, [], length, sym, ap, ◌∙◌, arith}
-use Rattle.scr_coord.specs.Moves.{each_below, row_of}
+use Rattle.scr_coord.specs.Moves.{each_below, moves_row}
 use Rattle.scr_coord.proofs.MoveLaws.{rows_of, rows_of-none, rows_of-more, each_below-none, each_below-more, length-rows_of, length-each_below, ShowsSame-built}
 use Rattle.scr_coord.proofs.move_table.MoveTable.build.Goals as goal
 
@@ -12,7 +12,7 @@ pub loop-position-preserved : goal.loop-position-preserved
 loop-position-preserved g c =
     let show = g.C.Coord.coordinate c.args.coord.now in
     let position = c.loop-position.position in (
-      c.in_ok-push_position.ensures.targets ∙ ap (λ xs. xs ++ row_of show position show.turns) c.loop-position.invariant.0
+      c.in_ok-push_position.ensures.targets ∙ ap (λ xs. xs ++ moves_row show position show.turns) c.loop-position.invariant.0
           ∙ sym (rows_of-more show position),
       c.in_ok-push_position.ensures.goals ∙ ap (λ xs. xs ++ show.is_goal position ∷ []) c.loop-position.invariant.1
           ∙ sym (each_below-more show.is_goal position),
@@ -33,5 +33,5 @@ returns g c =
     let show = g.C.Coord.coordinate c.args.coord.now in
     let all : c.loop-position.position ≡ c.count-count.result = omega arith in
     ShowsSame-built show c.count-count.result c.turns-turns.result c.loop-position.targets.items c.loop-position.goals.items
-    (g.met.C.Coord.law c.args.coord.now) c.count-count.ensures c.turns-turns.ensures c.count-count.type_inv
+    c.stays_below.ensures c.count-count.ensures c.turns-turns.ensures c.count-count.type_inv
     (c.loop-position.invariant.0 ∙ ap (rows_of show) all) (c.loop-position.invariant.1 ∙ ap (each_below show.is_goal) all)

@@ -4,7 +4,7 @@ use Rattle.scr_combinatorics.specs.Permutations.{IsPermutation}
 use Rattle.scr_combinatorics.specs.PlaceSets.{IsPlaceSet, place_set_number, place_set_at}
 use Rattle.scr_orbit.specs.PlaceTurns.{rearrangement_of}
 use Rattle.scr_coord.specs.Projections.{place_set_view}
-use Rattle.scr_coord.specs.MarkedLaws.{IsPlaceSet-turned}
+use Rattle.scr_coord.proofs.MarkedLaws.{IsPlaceSet-turned}
 use Rattle.scr_coord.proofs.MarkedSteps.{set_le}
 use Rattle.scr_coord.proofs.ProjectionLaws.{turn_read, after_read}
 use Rattle.scr_coord.proofs.place_set.PlaceSetCoord.after.Goals as goal

@@ -9,6 +9,6 @@ overflow_add-both g c =
       arith,
       me.fits,
       pair_below (g.L.Coord.coordinate me.low) (g.H.Coord.coordinate me.high) c.count-low_count.result c.args.position c.args.turn
-          c.in_ok-low.low c.in_ok-high.high c.count-low_count.ensures me.same_turns (g.met.L.Coord.law me.low) (g.met.H.Coord.law me.high)
+          c.in_ok-low.low c.in_ok-high.high c.count-low_count.ensures me.same_turns c.stays_below.ensures c.stays_below-2.ensures
           c.requires.position c.requires.turn (sym c.in_ok-low.ensures) (sym c.in_ok-high.ensures),
     )

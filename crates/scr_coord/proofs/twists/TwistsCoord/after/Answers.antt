@@ -6,7 +6,7 @@ use Rattle.scr_orbit.specs.PlaceTurns.{rearrangement_of}
 use Rattle.scr_orbit.proofs.OrbitLaws.{places_in}
 use Rattle.scr_orbit.proofs.Places.{picked_below}
 use Rattle.scr_coord.specs.Projections.{twists_view}
-use Rattle.scr_coord.specs.StaysBelowLaws.{IsListView-twists}
+use Rattle.scr_coord.proofs.StaysBelowLaws.{IsListView-twists}
 use Rattle.scr_coord.proofs.ProjectionLaws.{turn_read, after_read}
 use Rattle.scr_coord.proofs.twists.TwistsCoord.after.Goals as goal
 

@@ -1,6 +1,6 @@
 use Rattle.std.proofs.lemmas.Result.{IfOk-weaker}
 use Rattle.scr_coord.proofs.SearchLaws.{ShowsSame-through}
-use Rattle.scr_coord.specs.Products.{product}
+use Rattle.scr_coord.specs.Products.{product_coordinate}
 use Rattle.scr_small.specs.NumberedPuzzles.{state_coordinate}
 use Rattle.scr_small.specs.StateParts.{low_part, high_part}
 use Rattle.scr_small.proofs.ShownByParts.{ShowsSame-parts}
@@ -12,5 +12,5 @@ returns g c =
     let l = c.is_solved_by_table.ensures in
     IfOk-weaker c.of_moves.result _ _
     (λ moves shows.
-    ShowsSame-through (state_coordinate p.shown) (product (low_part p.shown p.TABLE.low) (high_part p.shown p.TABLE.low p.TABLE.high)) _
+    ShowsSame-through (state_coordinate p.shown) (product_coordinate (low_part p.shown p.TABLE.low) (high_part p.shown p.TABLE.low p.TABLE.high)) _
     (ShowsSame-parts p.shown l.lawful p.TABLE.low p.TABLE.high l.by_parts) shows) c.of_moves.ensures

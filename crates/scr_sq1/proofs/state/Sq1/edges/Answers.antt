@@ -1,6 +1,6 @@
 use Rattle.std.proofs.Common.{sym, subst}
 use Rattle.scr_combinatorics.specs.Permutations.{IsPermutation}
-use Rattle.scr_sq1.specs.Proofs.Pieces.{StatePieces-valid}
+use Rattle.scr_sq1.proofs.StatePieces.{StatePieces-valid}
 use Rattle.scr_sq1.proofs.state.Sq1.edges.Goals as goal
 
 pub edges_in-requires : goal.edges_in-requires

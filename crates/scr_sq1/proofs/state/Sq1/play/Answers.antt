@@ -1,7 +1,7 @@
 use Rattle.std.proofs.Common.{sym, ap, ◌∙◌, arith}
-use Rattle.scr_play.specs.Play.{play}
-use Rattle.scr_play.proofs.PlayLaws.{play-empty}
-use Rattle.scr_play.proofs.StepLaws.{play-more, play-barred, play-whole}
+use Rattle.scr_combinatorics.specs.Play.{play}
+use Rattle.scr_combinatorics.proofs.PlayLaws.{play-empty}
+use Rattle.scr_combinatorics.proofs.StepLaws.{play-more, play-barred, play-whole}
 use Rattle.scr_notation.specs.declared.turn.Turn.TheVariants.{Face}
 use Rattle.scr_sq1.specs.Units.{sq1_after}
 use Rattle.scr_sq1.proofs.state.Sq1.play.Goals as goal

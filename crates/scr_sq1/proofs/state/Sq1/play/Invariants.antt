@@ -1,5 +1,5 @@
 use Rattle.std.proofs.Common.{◌≡◌, Some, take}
-use Rattle.scr_play.specs.Play.{play}
+use Rattle.scr_combinatorics.specs.Play.{play}
 use Rattle.scr_sq1.specs.Units.{sq1_after}
 use Rattle.scr_sq1.proofs.state.Sq1.play.Given as goal
 

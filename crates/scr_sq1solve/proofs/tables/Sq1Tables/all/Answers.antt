@@ -5,5 +5,5 @@ use Rattle.scr_sq1solve.proofs.tables.Sq1Tables.all.Goals as goal
 
 pub returns-clause-whole : goal.returns-clause-whole
 returns-clause-whole c =
-    let t = c.self.inside in
-    no_gaps sq1_lines (t.shapes ∷ t.pairings ∷ t.square ∷ []) c.self.invariant
+    let t = c.args.self.now in
+    no_gaps sq1_lines (t.shapes ∷ t.pairings ∷ t.square ∷ []) c.args.self.now.built

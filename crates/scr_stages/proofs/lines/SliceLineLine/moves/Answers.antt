@@ -1,5 +1,5 @@
 use Rattle.std.proofs.Common.{ap, ◌∙◌}
-use Rattle.scr_coord.specs.Products.{product}
+use Rattle.scr_coord.specs.Products.{product_coordinate}
 use Rattle.scr_coord.specs.Projections.{projection, twists_view, place_set_view}
 use Rattle.scr_coord.proofs.SearchLaws.{IfOk-shows}
 use Rattle.scr_stages.specs.Stages.{middle_edges}
@@ -11,4 +11,4 @@ returns c =
     let places = projection (place_set_view 12 4 middle_edges) in
     let low = c.new-twists.ensures ∙ ap twists c.corners_turned-corners.ensures.turns in
     let high = c.new-middle.ensures ∙ ap places c.edges_turned-edges.ensures.turns in
-    IfOk-shows c.of_moves.result _ _ _ (λ i. product (low i) (high i)) c.of_moves.ensures
+    IfOk-shows c.of_moves.result _ _ _ (λ i. product_coordinate (low i) (high i)) c.of_moves.ensures

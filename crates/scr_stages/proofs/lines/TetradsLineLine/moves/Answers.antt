@@ -1,16 +1,16 @@
 use Rattle.std.proofs.Common.{map, rules, lit<, lit≤, sym, ap, ◌∙◌, subst}
 use Rattle.scr_orbit.specs.PlaceTurns.{rearrangement_of}
 use Rattle.scr_coord.specs.Coordinates.{StaysBelow}
-use Rattle.scr_coord.specs.Products.{product}
+use Rattle.scr_coord.specs.Products.{product_coordinate}
 use Rattle.scr_coord.specs.Projections.{projection, place_set_view}
 use Rattle.scr_coord.proofs.SearchLaws.{IfOk-shows}
-use Rattle.scr_stages.specs.Stages.{tetrads_stage}
 use Rattle.scr_stages.specs.Numbers.{first_edges}
 use Rattle.scr_stages.specs.Tables.{corners_by}
 use Rattle.scr_stages.specs.Tetrads.{tetrads_view}
 use Rattle.scr_stages.proofs.StageWords.{StaysBelow-corners, corner_moves, outer_moves}
 use Rattle.scr_stages.proofs.TurnFacts.{tetrads_numbers}
 use Rattle.scr_stages.proofs.lines.TetradsLineLine.moves.Goals as goal
+use Rattle.scr_stages.specs.Stages.{tetrads_turns}
 
 pub block_edges_turned-edges-requires : goal.block_edges_turned-edges-requires
 block_edges_turned-edges-requires c =
@@ -19,11 +19,11 @@ block_edges_turned-edges-requires c =
 pub new-indexes-requires-clause-stays : goal.new-indexes-requires-clause-stays
 new-indexes-requires-clause-stays c =
     subst (λ moves. StaysBelow (projection tetrads_view moves)) (sym c.corners_turned-corners.ensures.turns)
-    (StaysBelow-corners (corners_by tetrads_stage.turns) corner_moves)
+    (StaysBelow-corners (corners_by tetrads_turns) corner_moves)
 
 pub returns : goal.returns
 returns c =
     let places = projection (place_set_view 8 4 first_edges) in
     let low = c.new-first.ensures ∙ ap places c.block_edges_turned-edges.ensures.turns in
     let turns = ap (map rearrangement_of) c.new-indexes.ensures ∙ c.corners_turned-corners.ensures.turns in
-    IfOk-shows c.of_moves.result _ _ _ (λ i. product (low i) (projection tetrads_view (turns i))) c.of_moves.ensures
+    IfOk-shows c.of_moves.result _ _ _ (λ i. product_coordinate (low i) (projection tetrads_view (turns i))) c.of_moves.ensures

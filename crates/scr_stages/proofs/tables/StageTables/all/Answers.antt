@@ -5,5 +5,5 @@ use Rattle.scr_stages.proofs.tables.StageTables.all.Goals as goal
 
 pub returns-clause-whole : goal.returns-clause-whole
 returns-clause-whole c =
-    let t = c.self.inside in
-    no_gaps stage_lines (t.flips ∷ t.slice ∷ t.tetrads ∷ t.halves ∷ []) c.self.invariant
+    let t = c.args.self.now in
+    no_gaps stage_lines (t.flips ∷ t.slice ∷ t.tetrads ∷ t.halves ∷ []) c.args.self.now.built

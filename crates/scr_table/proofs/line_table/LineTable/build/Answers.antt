@@ -11,26 +11,28 @@ returns-in_err-distances-clause-cause g c =
     let shown = g.L.Moves.Coord.coordinate c.in_ok-moves.moves in
     let p = err_from_is_err_and c.from_residual-in_err-distances.result c.from_residual-in_err-distances.ensures.1 in
     let fault = c.in_err-distances.field-0.0 in
-    rw (p.1, p.2) (subst (λ name. IsCause name line.coordinate line.bound fault) c.name.ensures
-    (subst (λ bound. IsCause c.name.result line.coordinate bound fault) c.bound.ensures.exact
-    (IsCause-same line.coordinate shown (g.met.L.Moves.Coord.law c.in_ok-moves.moves) c.in_ok-moves.ensures
-    c.name.result c.bound.result fault c.in_err-distances.ensures.cause)))
+    rw (p.1, p.2) (subst (λ name. IsCause name line.coordinate line.bound fault) c.reach-name.ensures.name
+    (subst (λ bound. IsCause c.reach-name.result.0 line.coordinate bound fault) c.reach-name.ensures.bound
+    (IsCause-same line.coordinate shown c.stays_below.ensures c.in_ok-moves.ensures
+    c.reach-name.result.0 c.reach-name.result.1 fault c.in_err-distances.ensures.cause)))
 
 pub invariant_of-result : goal.invariant_of-result
 invariant_of-result g c =
     let line = g.L.Line.line in
-    let shown = g.L.Moves.Coord.coordinate c.in_ok-moves.moves in (
-      c.in_ok-moves.ensures,
-      record {
-        name = c.in_ok-distances.ensures.named ∙ c.name.ensures;
-        bound = c.in_ok-distances.ensures.bounded ∙ c.bound.ensures.exact;
-        measures = Measures-same line.coordinate shown (g.met.L.Moves.Coord.law c.in_ok-moves.moves)
+    let shown = g.L.Moves.Coord.coordinate c.in_ok-moves.moves in
+    record {
+      shown = c.in_ok-moves.ensures;
+      few_turns = c.reach-name.ensures.few_turns;
+      is = record {
+        name = c.in_ok-distances.ensures.named ∙ c.reach-name.ensures.name;
+        bound = c.in_ok-distances.ensures.bounded ∙ c.reach-name.ensures.bound;
+        measures = Measures-same line.coordinate shown c.stays_below.ensures
             c.in_ok-moves.ensures c.in_ok-distances.distances c.in_ok-distances.ensures.measures;
-      },
-    )
+      };
+    }
 
 pub returns-clause-table : goal.returns-clause-table
-returns-clause-table g c = (invariant_of-result g c).1
+returns-clause-table g c = (invariant_of-result g c).is
 
 pub returns-clause-no_gap : goal.returns-clause-no_gap
-returns-clause-no_gap g c = no_gap g.L.Line.line c.in_ok-distances.distances (invariant_of-result g c).1
+returns-clause-no_gap g c = no_gap g.L.Line.line c.in_ok-distances.distances (invariant_of-result g c).is

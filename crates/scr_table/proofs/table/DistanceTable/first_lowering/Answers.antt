@@ -4,10 +4,10 @@ use Rattle.scr_table.proofs.table.DistanceTable.first_lowering.Goals as goal
 
 pub returns-then-distance-lower-clause-first : goal.returns-then-distance-lower-clause-first
 returns-then-distance-lower-clause-first g c =
-    LowersFirst-measured _ (g.met.C.Coord.law c.args.coord.now) _ c.requires.measures _ _ (omega (arith, c.requires.measures.positions)) _ _
+    LowersFirst-measured _ c.stays_below.ensures _ c.requires.measures _ _ (omega (arith, c.requires.measures.positions)) _ _
     c.loop-turn.invariant (sym c.in-Some.ensures.leads) (sym c.distance.ensures.value ∙ c.if-distance-lower.true)
 
 pub unreachable-requires : goal.unreachable-requires
 unreachable-requires g c =
-    some_turn-lowers _ (g.met.C.Coord.law c.args.coord.now) _ c.requires.measures _ _ (omega (arith, c.requires.measures.positions))
+    some_turn-lowers _ c.stays_below.ensures _ c.requires.measures _ _ (omega (arith, c.requires.measures.positions))
     c.requires.lower (λ t q lt. c.loop-turn.invariant t q (omega arith))

@@ -1,6 +1,6 @@
 use Rattle.std.proofs.Common.{sym, ◌∙◌, subst}
 use Rattle.scr_tetra.specs.Skewb.{IsSkewb}
-use Rattle.scr_tetra.specs.NumberedSkewb.{same_skewb, skewb_numbering}
+use Rattle.scr_tetra.proofs.NumberedSkewb.{same_skewb, skewb_numbering}
 use Rattle.scr_tetra.proofs.skewb_numbers.SkewbNumbersNumbering.state_at.Goals as goal
 
 pub of_valid-requires : goal.of_valid-requires

@@ -1,6 +1,6 @@
 use Rattle.scr_coord.specs.Moves.{moves_coordinate}
 use Rattle.scr_coord.specs.Projections.{twists_view}
-use Rattle.scr_stages.specs.Stages.{HasNoFlips, flips_stage}
+use Rattle.scr_stages.specs.Stages.{HasNoFlips, flips_turns}
 use Rattle.scr_stages.specs.Numbers.{flips_number}
 use Rattle.scr_stages.specs.Tables.{corners_by, edges_by, flips_coordinate}
 use Rattle.scr_stages.proofs.StageSpaces.{Follows-flips}
@@ -12,12 +12,12 @@ use Rattle.scr_twophase.proofs.first.FirstTables.after.Goals as goal
 
 pub step-requires-clause-leads : goal.step-requires-clause-leads
 step-requires-clause-leads c =
-    leads-shown (twists_view 12 2) (edges_by flips_stage.turns) (moves_coordinate c.args.self.now.flips) c.args.self.now.flips_shown c.args.at.flips c.args.turn
+    leads-shown (twists_view 12 2) (edges_by flips_turns) (moves_coordinate c.args.self.now.flips) c.args.self.now.flips_shown c.args.at.flips c.args.turn
     c.requires.at.flips c.requires.turn
 
 pub step-requires-2-clause-leads : goal.step-requires-2-clause-leads
 step-requires-2-clause-leads c =
-    leads-shown (twists_view 8 3) (corners_by flips_stage.turns) (moves_coordinate c.args.self.now.twists) c.args.self.now.twists_shown c.args.at.twists c.args.turn
+    leads-shown (twists_view 8 3) (corners_by flips_turns) (moves_coordinate c.args.self.now.twists) c.args.self.now.twists_shown c.args.at.twists c.args.turn
     c.requires.at.twists c.requires.turn
 
 pub returns : goal.returns

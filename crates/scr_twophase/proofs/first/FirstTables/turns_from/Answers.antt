@@ -3,7 +3,7 @@ use Rattle.std.proofs.lemmas.Bool.{and_from}
 use Rattle.scr_stages.specs.Stages.{HasNoFlips}
 use Rattle.scr_stages.specs.Numbers.{flips_number}
 use Rattle.scr_twophase.specs.declared.outlook.Outlook.{Outlook}
-use Rattle.scr_twophase.specs.TurnSets.{has_turn}
+use Rattle.scr_twophase.specs.TurnSets.{contains_turn}
 use Rattle.scr_twophase.specs.Tables.{twists_of, middle_set_of, flipslice_line, twistslice_line}
 use Rattle.scr_twophase.proofs.Admissible.{kept-way}
 use Rattle.scr_stages.specs.Spaces.{IsUntwisted, IsInMiddle}
@@ -17,7 +17,7 @@ returns-clause-kept c = λ cube more at shows. record {
       let p : ℕ = c.args.at.flips + 2048 * c.args.at.middle in
       let q : ℕ = c.args.at.twists + 2187 * c.args.at.middle in
       let o : Outlook = record { nearer = 0; no_farther = 0 } in
-      let P : ℕ → Type 0 = λ bits. has_turn bits t ≡ true in
+      let P : ℕ → Type 0 = λ bits. contains_turn bits t ≡ true in
       let a = subst P (sym (c.turns_within-by_flips.ensures.turns o))
       (kept-way flipslice_line self.flipslice self.flipslice_is (λ d. flips_number d + 2048 * middle_set_of d) (λ d. HasNoFlips d × IsInMiddle d) Follows-flipslice
       (λ e d. (d.no_flips, d.middle)) refl cube p more c.args.left t v o shows.cube
@@ -26,5 +26,5 @@ returns-clause-kept c = λ cube more at shows. record {
       (kept-way twistslice_line self.twistslice self.twistslice_is (λ d. twists_of d + 2187 * middle_set_of d) (λ d. IsUntwisted d × IsInMiddle d) Follows-twistslice
       (λ e d. (d.no_twists, d.middle)) refl cube q more c.args.left t v o shows.cube
       (ap (λ n. n + 2187 * c.args.at.middle) shows.twists ∙ ap (λ n. twists_of cube + 2187 * n) shows.middle) at there way) in
-      c.and.ensures.turns t ∙ and_from (has_turn c.turns_within-by_flips.result.bits t) (has_turn c.turns_within-by_twists.result.bits t) a b;
+      c.and.ensures.turns t ∙ and_from (contains_turn c.turns_within-by_flips.result.bits t) (contains_turn c.turns_within-by_twists.result.bits t) a b;
 }

@@ -1,6 +1,6 @@
 use Rattle.scr_coord.specs.Moves.{moves_coordinate}
 use Rattle.scr_coord.specs.Projections.{pieces_view}
-use Rattle.scr_stages.specs.Stages.{middle_edges, tetrads_stage}
+use Rattle.scr_stages.specs.Stages.{middle_edges, tetrads_turns}
 use Rattle.scr_stages.specs.Tables.{block_turn, corners_by, edges_by, outer_places}
 use Rattle.std.proofs.Common.{map}
 use Rattle.scr_twophase.specs.Tables.{corners_of, outer_edges_of, middle_edges_of, corners_coordinate, outer_edges_coordinate, middle_edges_coordinate}
@@ -12,17 +12,17 @@ use Rattle.scr_twophase.proofs.second.SecondTables.after.Goals as goal
 
 pub step-requires-clause-leads : goal.step-requires-clause-leads
 step-requires-clause-leads c =
-    leads-shown (pieces_view 8) (corners_by tetrads_stage.turns) (moves_coordinate c.args.self.now.corners) c.args.self.now.corners_shown c.args.at.corners c.args.place
+    leads-shown (pieces_view 8) (corners_by tetrads_turns) (moves_coordinate c.args.self.now.corners) c.args.self.now.corners_shown c.args.at.corners c.args.place
     c.requires.at.corners c.requires.place
 
 pub step-requires-2-clause-leads : goal.step-requires-2-clause-leads
 step-requires-2-clause-leads c =
-    leads-shown (pieces_view 8) (map (block_turn outer_places) (edges_by tetrads_stage.turns)) (moves_coordinate c.args.self.now.outer) c.args.self.now.outer_shown
+    leads-shown (pieces_view 8) (map (block_turn outer_places) (edges_by tetrads_turns)) (moves_coordinate c.args.self.now.outer) c.args.self.now.outer_shown
     c.args.at.outer c.args.place c.requires.at.outer c.requires.place
 
 pub step-requires-3-clause-leads : goal.step-requires-3-clause-leads
 step-requires-3-clause-leads c =
-    leads-shown (pieces_view 4) (map (block_turn middle_edges) (edges_by tetrads_stage.turns)) (moves_coordinate c.args.self.now.middle) c.args.self.now.middle_shown
+    leads-shown (pieces_view 4) (map (block_turn middle_edges) (edges_by tetrads_turns)) (moves_coordinate c.args.self.now.middle) c.args.self.now.middle_shown
     c.args.at.middle c.args.place c.requires.at.middle c.requires.place
 
 pub returns-clause-shows : goal.returns-clause-shows

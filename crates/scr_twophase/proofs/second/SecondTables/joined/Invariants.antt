@@ -1,5 +1,5 @@
 use Rattle.std.proofs.Common.{◌≡◌, Some}
-use Rattle.scr_play.specs.Play.{play}
+use Rattle.scr_combinatorics.specs.Play.{play}
 use Rattle.scr_cube.specs.Cube333.{CubeState}
 use Rattle.scr_twophase.specs.Search.{letters}
 use Rattle.scr_twophase.specs.TwoParts.{after_turn}

@@ -1,0 +1,150 @@
+-- Solutions by stages: what they lead to, how long they are, and that a state has but one.
+use Rattle.std.proofs.Common.{◌≡◌, ℕ, ◌+◌, ◌<◌, ◌≤◌, Bool, true, false, cond, IsTrue, List, [], ◌∷◌, ◌++◌, length, Option, Some, None, refl, sym, ap, ◌∙◌, subst, arith}
+use Rattle.std.specs.Prelude.{All, nat_lt}
+use Rattle.std.proofs.lemmas.Bool.{ltb-true}
+use Rattle.std.proofs.lemmas.List.Elements.{All-nil, All-cons}
+use Rattle.std.proofs.lemmas.List.{length-append}
+use Rattle.std.proofs.lemmas.Option.{same_Some}
+use Rattle.scr_combinatorics.specs.Play.{play}
+use Rattle.scr_combinatorics.specs.Stages.{Stage, by_letters, IsStageWord, spelled, IsSolution}
+use Rattle.scr_combinatorics.proofs.PlayLaws.{play-empty, play-parts, play-append}
+use Rattle.scr_combinatorics.proofs.FirstWordLaws.{IsFirstWord-unique}
+
+-- ---- words of letters
+
+module _ {S T : Type 0} (after : S → T → Option S) (letters : ℕ) (letter : ℕ → List T) where
+  -- a letter's number is below the count, and its word is played
+  pub by_letters-parts : (s r : S) (n : ℕ) → by_letters after letters letter s n ≡ Some r
+      → IsTrue (nat_lt n letters) × (play after s (letter n) ≡ Some r)
+  unfolding by_letters
+  by_letters-parts s r n e = guarded (nat_lt n letters) (play after s (letter n)) e
+    where
+      guarded : (b : Bool) (o : Option S) → (let p : Option S = cond b o None in p ≡ Some r) → IsTrue b × (o ≡ Some r)
+      guarded true o e = (refl, e)
+      guarded false o e = absurd (cc)
+
+  -- a word of letters is the word of their turns
+  pub play-spelled : (s r : S) (w : List ℕ) → play (by_letters after letters letter) s w ≡ Some r → play after s (spelled letter w) ≡ Some r
+  play-spelled s r [] e = play-empty after s ∙ sym (play-empty (by_letters after letters letter) s) ∙ e
+  play-spelled s r (n ∷ w) e =
+      let parts = play-parts (by_letters after letters letter) s r n w e in
+      play-append after s parts.0 (letter n) (spelled letter w) (by_letters-parts s parts.0 n parts.1).1
+      ∙ play-spelled parts.0 r w parts.2
+
+  -- and its letters are there
+  pub All-letters : (s r : S) (w : List ℕ) → play (by_letters after letters letter) s w ≡ Some r → All (λ n. n < letters) w
+  All-letters s r [] e = All-nil (λ n. n < letters)
+  All-letters s r (n ∷ w) e =
+      let parts = play-parts (by_letters after letters letter) s r n w e in
+      All-cons (λ k. k < letters) n w (ltb-true n letters (by_letters-parts s parts.0 n parts.1).0) (All-letters parts.0 r w parts.2)
+
+-- ---- the word of a stage
+
+module _ {S T : Type 0} (after : S → T → Option S) (stage : Stage S T) where
+  -- the word is told by the state
+  pub one_stage_word : (s : S) (v w : List ℕ) → IsStageWord after stage s v → IsStageWord after stage s w → v ≡ w
+  one_stage_word s v w a b =
+      IsFirstWord-unique (by_letters after stage.letters stage.letter) stage.IsGoal s v w a.first b.first
+
+  -- and so are the words and the ends from two states that are the same
+  pub same_stage : (s r : S) (v w : List ℕ) → s ≡ r → (a : IsStageWord after stage s v) (b : IsStageWord after stage r w)
+      → (v ≡ w) × (a.first.leads.end ≡ b.first.leads.end)
+  same_stage s r v w e a b =
+      let lettered = by_letters after stage.letters stage.letter in
+      let words : v ≡ w = one_stage_word r v w (subst (λ q. IsStageWord after stage q v) e a) b in (
+        words,
+        same_Some a.first.leads.end b.first.leads.end
+            (sym a.first.leads.played ∙ ap (λ q. play lettered q v) e ∙ ap (play lettered r) words ∙ b.first.leads.played),
+      )
+
+  -- played as turns it leads where it leads as a word of letters
+  pub play-stage_word : (s : S) (w : List ℕ) (is : IsStageWord after stage s w)
+      → play after s (spelled stage.letter w) ≡ Some is.first.leads.end
+  play-stage_word s w is =
+      play-spelled after stage.letters stage.letter s is.first.leads.end w is.first.leads.played
+
+  -- where it leads, the goal holds
+  pub stage_goal : (s r : S) (w : List ℕ) → IsStageWord after stage s w → play (by_letters after stage.letters stage.letter) s w ≡ Some r
+      → stage.IsGoal r
+  stage_goal s r w is played =
+      subst stage.IsGoal (same_Some is.first.leads.end r (sym is.first.leads.played ∙ played)) is.first.leads.goal
+
+  pub All-stage_word : (s : S) (w : List ℕ) → IsStageWord after stage s w → All (λ n. n < stage.letters) w
+  All-stage_word s w is = All-letters after stage.letters stage.letter s is.first.leads.end w is.first.leads.played
+
+-- ---- solutions over some stages
+
+module _ {S T : Type 0} (after : S → T → Option S) where
+  pub IsSolution-unique : (some : List (Stage S T)) (s : S) (v w : List T)
+      → IsSolution after some s v → IsSolution after some s w → v ≡ w
+  IsSolution-unique [] s v w a b = a ∙ sym b
+  IsSolution-unique (stage ∷ rest) s v w a b =
+      let same = same_stage after stage s s a.0 b.0 refl a.2 b.2 in
+      let more : a.1 ≡ b.1 =
+      IsSolution-unique rest b.2.first.leads.end a.1 b.1 (subst (λ r. IsSolution after rest r a.1) same.1 a.3) b.3 in
+      a.4 ∙ ap (λ u. spelled stage.letter u ++ a.1) same.0 ∙ ap (λ us. spelled stage.letter b.0 ++ us) more ∙ sym b.4
+
+  -- what holds at the end
+  unfoldable pub last_goal : List (Stage S T) → (S → Type 0) → S → Type 0
+  last_goal [] P = P
+  last_goal (stage ∷ rest) P = last_goal rest stage.IsGoal
+
+  -- a solution leads to where the last goal holds
+  pub record Leads (some : List (Stage S T)) (P : S → Type 0) (s : S) (w : List T) : Type 0 where
+    pub end : S
+    pub played : play after s w ≡ Some end
+    pub goal : last_goal some P end
+
+  pub Leads-solution : (some : List (Stage S T)) (P : S → Type 0) (s : S) (w : List T) → P s → IsSolution after some s w
+      → Leads some P s w
+  unfolding last_goal
+  Leads-solution [] P s w h a = record { end = s; played = ap (play after s) a ∙ play-empty after s; goal = h }
+  Leads-solution (stage ∷ rest) P s w h a =
+      let leads = a.2.first.leads in
+      let more = Leads-solution rest stage.IsGoal leads.end a.1 leads.goal a.3 in
+      record {
+        end = more.end;
+        played = ap (play after s) a.4
+            ∙ play-append after s leads.end (spelled stage.letter a.0) a.1 (play-stage_word after stage s a.0 a.2)
+            ∙ more.played;
+        goal = more.goal;
+      }
+
+  -- a word of the first stage, and a solution from where it leads
+  pub solution_step : (stage : Stage S T) (s r : S) (word : List ℕ) → IsStageWord after stage s word
+      → play (by_letters after stage.letters stage.letter) s word ≡ Some r → (rest : List (Stage S T)) (turns : List T)
+      → IsSolution after rest r turns → IsSolution after (stage ∷ rest) s (spelled stage.letter word ++ turns)
+  solution_step stage s r word is played rest turns more =
+      let ends : is.first.leads.end ≡ r = same_Some is.first.leads.end r (sym is.first.leads.played ∙ played) in
+      (word, turns, is, subst (λ x. IsSolution after rest x turns) (sym ends) more, refl)
+
+-- ---- how long a solution is
+
+unfoldable pub bounds : {S T : Type 0} → List (Stage S T) → ℕ
+bounds [] = 0
+bounds (stage ∷ rest) = stage.bound + bounds rest
+
+-- each letter of the stages is one turn
+unfoldable pub AreTurns : {S T : Type 0} → List (Stage S T) → Type 0
+AreTurns [] = Unit {0}
+AreTurns (stage ∷ rest) = ((n : ℕ) → length (stage.letter n) ≡ 1) × AreTurns rest
+
+pub length-spelled : {T : Type 0} (letter : ℕ → List T) → ((n : ℕ) → length (letter n) ≡ 1) → (w : List ℕ)
+    → length (spelled letter w) ≡ length w
+length-spelled letter one [] = refl
+length-spelled letter one (n ∷ w) =
+    omega (arith, length-append (letter n) (spelled letter w), one n, length-spelled letter one w)
+
+pub length-solution : {S T : Type 0} (after : S → T → Option S) (some : List (Stage S T)) (s : S) (w : List T) → AreTurns some
+    → IsSolution after some s w → length w ≤ bounds some
+unfolding bounds AreTurns
+length-solution after [] s w one a = omega (arith, ap length a)
+length-solution after (stage ∷ rest) s w one a =
+    omega (
+      arith,
+      ap length a.4,
+      length-append (spelled stage.letter a.0) a.1,
+      length-spelled stage.letter one.0 a.0,
+      a.2.within,
+      length-solution after rest a.2.first.leads.end a.1 one.1 a.3,
+    )

@@ -1,0 +1,103 @@
+-- The thirteen halves are all the ways to fill six units.
+use Rattle.std.proofs.Common.{◌≡◌, ℕ, zero, suc, ◌<◌, ◌≤◌, Bool, true, false, IsTrue, cond, List, [], ◌∷◌, length, refl, sym, ap, ◌∙◌, arith, eqb-true, eq-eqb}
+use Rattle.std.specs.Prelude.{◌&&◌, ◌==◌, nat_lt}
+use Rattle.std.proofs.lemmas.Bool.{and_parts, cond-true, ltb-true, false≢true}
+use Rattle.scr_notation.specs.Ranges.{all_below}
+use Rattle.scr_notation.proofs.Below.{at_below}
+use Rattle.scr_combinatorics.specs.Permutations.{place_of}
+use Rattle.scr_sq1.specs.Shapes.{half_words, half_word, corners_among, corner_counts, corner_count, word_bits, half_bits, units_among}
+
+-- a test of every word of at most so many pieces
+every_word : ℕ → (List Bool → Bool) → Bool
+every_word zero p = p []
+every_word (suc n) p = p [] && (every_word n (λ w. p (true ∷ w)) && every_word n (λ w. p (false ∷ w)))
+
+every_word-at : (n : ℕ) (p : List Bool → Bool) → IsTrue (every_word n p) → (w : List Bool) → length w ≤ n → IsTrue (p w)
+unfolding every_word
+every_word-at zero p h [] le = h
+every_word-at zero p h (b ∷ w) le = absurd (omega arith)
+every_word-at (suc n) p h [] le =
+    (and_parts (p []) (every_word n (λ w. p (true ∷ w)) && every_word n (λ w. p (false ∷ w))) h).0
+every_word-at (suc n) p h (true ∷ w) le =
+    let rest = (and_parts (p []) (every_word n (λ w. p (true ∷ w)) && every_word n (λ w. p (false ∷ w))) h).1 in
+    every_word-at n (λ w. p (true ∷ w)) (and_parts (every_word n (λ w. p (true ∷ w))) (every_word n (λ w. p (false ∷ w))) rest).0 w (omega arith)
+every_word-at (suc n) p h (false ∷ w) le =
+    let rest = (and_parts (p []) (every_word n (λ w. p (true ∷ w)) && every_word n (λ w. p (false ∷ w))) h).1 in
+    every_word-at n (λ w. p (false ∷ w)) (and_parts (every_word n (λ w. p (true ∷ w))) (every_word n (λ w. p (false ∷ w))) rest).1 w (omega arith)
+
+-- two words are the same
+unfoldable pub same_word : List Bool → List Bool → Bool
+same_word [] [] = true
+same_word [] (b ∷ w) = false
+same_word (b ∷ v) [] = false
+same_word (true ∷ v) (true ∷ w) = same_word v w
+same_word (true ∷ v) (false ∷ w) = false
+same_word (false ∷ v) (true ∷ w) = false
+same_word (false ∷ v) (false ∷ w) = same_word v w
+
+pub same_word-true : (v w : List Bool) → IsTrue (same_word v w) → v ≡ w
+unfolding same_word
+same_word-true [] [] h = refl
+same_word-true [] (b ∷ w) h = absurd (false≢true h)
+same_word-true (b ∷ v) [] h = absurd (false≢true h)
+same_word-true (true ∷ v) (true ∷ w) h = ap (λ x. true ∷ x) (same_word-true v w h)
+same_word-true (true ∷ v) (false ∷ w) h = absurd (false≢true h)
+same_word-true (false ∷ v) (true ∷ w) h = absurd (false≢true h)
+same_word-true (false ∷ v) (false ∷ w) h = ap (λ x. false ∷ x) (same_word-true v w h)
+
+-- a word has no more pieces than units
+length_le : (w : List Bool) → length w ≤ units_among w
+length_le [] = omega arith
+length_le (true ∷ w) = omega (arith, length_le w)
+length_le (false ∷ w) = omega (arith, length_le w)
+
+-- the number of the half that a word is
+abbrev pub half_of_word : List Bool → ℕ
+half_of_word w = place_of (word_bits w) half_bits
+
+is_half : List Bool → Bool
+is_half w = nat_lt (half_of_word w) 13 && same_word (half_word (half_of_word w)) w
+
+all_halves : IsTrue (every_word 6 (λ w. cond (units_among w == 6) (is_half w) true))
+unfolding every_word same_word is_half half_words half_word half_bits
+all_halves = refl
+
+pub record IsHalf (w : List Bool) : Type 0 where
+  pub below : half_of_word w < 13
+  pub again : half_word (half_of_word w) ≡ w
+
+pub IsHalf-word : (w : List Bool) → units_among w ≡ 6 → IsHalf w
+unfolding is_half
+IsHalf-word w six =
+    let p : List Bool → Bool = λ w. cond (units_among w == 6) (is_half w) true in
+    let here : IsTrue (is_half w) =
+    sym (cond-true (units_among w == 6) (is_half w) true (eq-eqb (units_among w) 6 six)) ∙ every_word-at 6 p all_halves w (omega (arith, length_le w)) in
+    let both = and_parts (nat_lt (half_of_word w) 13) (same_word (half_word (half_of_word w)) w) here in
+    record { below = ltb-true (half_of_word w) 13 both.0; again = same_word-true (half_word (half_of_word w)) w both.1 }
+
+-- ---- the halves by their numbers
+
+known_half : ℕ → Bool
+known_half h =
+    (half_of_word (half_word h) == h) && ((units_among (half_word h) == 6) && (corner_count h == corners_among (half_word h)))
+
+known_halves : IsTrue (all_below known_half 13)
+unfolding all_below known_half half_words half_word half_bits corner_counts corner_count
+known_halves = refl
+
+pub record IsKnownHalf (h : ℕ) : Type 0 where
+  pub number : half_of_word (half_word h) ≡ h
+  pub six : units_among (half_word h) ≡ 6
+  pub corners : corner_count h ≡ corners_among (half_word h)
+
+pub IsKnownHalf-below : (h : ℕ) → h < 13 → IsKnownHalf h
+unfolding known_half
+IsKnownHalf-below h lt =
+    let both = and_parts (half_of_word (half_word h) == h) ((units_among (half_word h) == 6) && (corner_count h == corners_among (half_word h)))
+    (at_below known_half 13 h known_halves lt) in
+    let rest = and_parts (units_among (half_word h) == 6) (corner_count h == corners_among (half_word h)) both.1 in
+    record {
+      number = eqb-true (half_of_word (half_word h)) h both.0;
+      six = eqb-true (units_among (half_word h)) 6 rest.0;
+      corners = eqb-true (corner_count h) (corners_among (half_word h)) rest.1;
+    }

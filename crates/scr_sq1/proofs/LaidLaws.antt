@@ -1,0 +1,261 @@
+-- Pieces that lie one behind the other, and what is read of them.
+use Rattle.std.proofs.Common.{◌≡◌, ℕ, zero, suc, ◌+◌, ◌-◌, ◌*◌, ◌<◌, ◌≤◌, ◌⊎◌, inl, inr, Bool, true, false, not, List, [], ◌∷◌, ◌++◌, map, length, slice_index, refl, sym, ap, ◌∙◌, arith}
+use Rattle.std.specs.Prelude.{All, filter}
+use Rattle.std.proofs.lemmas.Bool.{cases_lt, lt-ltb, le-ltb, cond-true, cond-false}
+use Rattle.std.proofs.lemmas.List.Elements.{All-append, All-nil, All-cons, All-head, All-tail}
+use Rattle.std.proofs.lemmas.List.{length-append}
+use Rattle.std.proofs.Math.Nat.{add-sub_cancel_left}
+use Rattle.scr_combinatorics.specs.Lists.{occurrences}
+use Rattle.scr_combinatorics.proofs.Counts.{one_if}
+use Rattle.scr_sq1.specs.Units.{is_corner}
+use Rattle.scr_sq1.specs.Shapes.{corners_among, edges_among, units_among, Fits, corner_bits, word_bits}
+use Rattle.scr_sq1.specs.Numbers.{every_second, corners_of, edges_of, laid}
+
+pub corners_among-append : (v w : List Bool) → corners_among (v ++ w) ≡ corners_among v + corners_among w
+corners_among-append [] w = omega arith
+corners_among-append (true ∷ v) w = omega (arith, corners_among-append v w)
+corners_among-append (false ∷ v) w = corners_among-append v w
+
+pub edges_among-append : (v w : List Bool) → edges_among (v ++ w) ≡ edges_among v + edges_among w
+edges_among-append [] w = omega arith
+edges_among-append (true ∷ v) w = edges_among-append v w
+edges_among-append (false ∷ v) w = omega (arith, edges_among-append v w)
+
+-- ---- laid pieces, one by one
+
+-- what holds of each word with its corners and edges
+module _ (P : List Bool → List ℕ → List ℕ → Type 0) (none : P [] [] [])
+    (corner : (w : List Bool) (c : ℕ) (cs es : List ℕ) → Fits w cs es → P w cs es → P (true ∷ w) (c ∷ cs) es)
+    (edge : (w : List Bool) (e : ℕ) (cs es : List ℕ) → Fits w cs es → P w cs es → P (false ∷ w) cs (e ∷ es)) where
+  pub by_pieces : (w : List Bool) (cs es : List ℕ) → Fits w cs es → P w cs es
+  by_pieces [] [] [] f = none
+  by_pieces [] (c ∷ cs) es f = absurd (omega (arith, f.corners))
+  by_pieces [] [] (e ∷ es) f = absurd (omega (arith, f.edges))
+  by_pieces (true ∷ w) [] es f = absurd (omega (arith, f.corners))
+  by_pieces (true ∷ w) (c ∷ cs) es f =
+      let rest : Fits w cs es = record { corners = omega (arith, f.corners); edges = f.edges } in
+      corner w c cs es rest (by_pieces w cs es rest)
+  by_pieces (false ∷ w) cs [] f = absurd (omega (arith, f.edges))
+  by_pieces (false ∷ w) cs (e ∷ es) f =
+      let rest : Fits w cs es = record { corners = f.corners; edges = omega (arith, f.edges) } in
+      edge w e cs es rest (by_pieces w cs es rest)
+
+pub length-laid : (w : List Bool) (cs es : List ℕ) → Fits w cs es → length (laid w cs es) ≡ units_among w
+length-laid =
+    by_pieces (λ w cs es. length (laid w cs es) ≡ units_among w) refl
+    (λ w c cs es f h. omega (arith, h)) (λ w e cs es f h. omega (arith, h))
+
+pub laid-append : (v w : List Bool) (cs ds es fs : List ℕ) → Fits v cs es → laid (v ++ w) (cs ++ ds) (es ++ fs) ≡ laid v cs es ++ laid w ds fs
+laid-append v w cs ds es fs =
+    by_pieces (λ v cs es. laid (v ++ w) (cs ++ ds) (es ++ fs) ≡ laid v cs es ++ laid w ds fs) refl
+    (λ v c cs es f h. ap (λ us. c ∷ c ∷ us) h) (λ v e cs es f h. ap (λ us. (8 + e) ∷ us) h) v cs es
+
+pub occurrences-laid : (p : ℕ) (w : List Bool) (cs es : List ℕ) → Fits w cs es
+    → occurrences p (laid w cs es) ≡ 2 * occurrences p cs + occurrences p (map (λ e. 8 + e) es)
+occurrences-laid p =
+    by_pieces (λ w cs es. occurrences p (laid w cs es) ≡ 2 * occurrences p cs + occurrences p (map (λ e. 8 + e) es)) refl
+    (λ w c cs es f h. omega (arith, h)) (λ w e cs es f h. omega (arith, h))
+
+-- ---- what is read of them
+
+corner_is : (c : ℕ) → c < 8 → is_corner c ≡ true
+corner_is c lt = lt-ltb c 8 lt
+
+edge_is : (e : ℕ) → is_corner (8 + e) ≡ false
+edge_is e = le-ltb (8 + e) 8 (omega arith)
+
+pub filter-corners : (w : List Bool) (cs es : List ℕ) → Fits w cs es → All (λ c. c < 8) cs → every_second (filter is_corner (laid w cs es)) ≡ cs
+filter-corners =
+    by_pieces (λ w cs es. All (λ c. c < 8) cs → every_second (filter is_corner (laid w cs es)) ≡ cs) (λ low. refl)
+    (λ w c cs es f h low.
+    let is = corner_is c (All-head (λ x. x < 8) c cs low) in
+    let rest : List ℕ = filter is_corner (laid w cs es) in
+    ap every_second (cond-true (is_corner c) (c ∷ filter is_corner (c ∷ laid w cs es)) (filter is_corner (c ∷ laid w cs es)) is ∙ ap (λ us. c ∷ us) (cond-true (is_corner c) (c ∷ rest) rest is))
+    ∙ ap (λ us. c ∷ us) (h (All-tail (λ x. x < 8) c cs low)))
+    (λ w e cs es f h low.
+    let rest : List ℕ = filter is_corner (laid w cs es) in
+    ap every_second (cond-false (is_corner (8 + e)) ((8 + e) ∷ rest) rest (edge_is e)) ∙ h low)
+
+pub filter-edges : (w : List Bool) (cs es : List ℕ) → Fits w cs es → All (λ c. c < 8) cs
+    → map (λ piece. piece - 8) (filter (λ piece. not (is_corner piece)) (laid w cs es)) ≡ es
+filter-edges =
+    let kept : List ℕ → List ℕ = filter (λ piece. not (is_corner piece)) in
+    by_pieces (λ w cs es. All (λ c. c < 8) cs → map (λ piece. piece - 8) (kept (laid w cs es)) ≡ es) (λ low. refl)
+    (λ w c cs es f h low.
+    let is : not (is_corner c) ≡ false = ap not (corner_is c (All-head (λ x. x < 8) c cs low)) in
+    let rest : List ℕ = kept (laid w cs es) in
+    ap (map (λ piece. piece - 8)) (cond-false (not (is_corner c)) (c ∷ kept (c ∷ laid w cs es)) (kept (c ∷ laid w cs es)) is ∙ cond-false (not (is_corner c)) (c ∷ rest) rest is)
+    ∙ h (All-tail (λ x. x < 8) c cs low))
+    (λ w e cs es f h low.
+    let rest : List ℕ = kept (laid w cs es) in
+    ap (map (λ piece. piece - 8)) (cond-true (not (is_corner (8 + e))) ((8 + e) ∷ rest) rest (ap not (edge_is e)))
+    ∙ ap (λ x. x ∷ map (λ piece. piece - 8) rest) (add-sub_cancel_left 8 e) ∙ ap (λ us. e ∷ us) (h low))
+
+pub corners_of-laid : (w : List Bool) (cs es : List ℕ) → Fits w cs es → All (λ c. c < 8) cs → corners_of (laid w cs es) ≡ cs
+unfolding corners_of
+corners_of-laid = filter-corners
+
+pub edges_of-laid : (w : List Bool) (cs es : List ℕ) → Fits w cs es → All (λ c. c < 8) cs → edges_of (laid w cs es) ≡ es
+unfolding edges_of
+edges_of-laid = filter-edges
+
+pub corner_bits-laid : (w : List Bool) (cs es : List ℕ) → Fits w cs es → All (λ c. c < 8) cs → corner_bits (laid w cs es) ≡ word_bits w
+corner_bits-laid =
+    by_pieces (λ w cs es. All (λ c. c < 8) cs → corner_bits (laid w cs es) ≡ word_bits w) (λ low. refl)
+    (λ w c cs es f h low.
+    let one : one_if (is_corner c) ≡ 1 = cond-true (is_corner c) 1 0 (corner_is c (All-head (λ x. x < 8) c cs low)) in
+    omega (arith, one, h (All-tail (λ x. x < 8) c cs low)))
+    (λ w e cs es f h low.
+    let none : one_if (is_corner (8 + e)) ≡ 0 = cond-false (is_corner (8 + e)) 1 0 (edge_is e) in
+    omega (arith, none, h low))
+
+-- ---- neighbours
+
+-- a unit whose corner fills the unit behind it or the one before
+abbrev pub FillsNext : List ℕ → ℕ → Type 0
+FillsNext us i =
+    ((suc i < length us) × (slice_index us (suc i) ≡ slice_index us i))
+    ⊎ ((j : ℕ) × (suc j ≡ i) × (slice_index us j ≡ slice_index us i))
+
+-- the same behind some units more
+FillsNext-later : (u : ℕ) (us : List ℕ) (i : ℕ) → FillsNext us i → FillsNext (u ∷ us) (suc i)
+FillsNext-later u us i (inl p) = inl (omega (arith, p.0), p.1)
+FillsNext-later u us i (inr p) = inr (suc p.0, ap suc p.1, p.2)
+
+pub FillsNext-laid : (w : List Bool) (cs es : List ℕ) → Fits w cs es → (i : ℕ) → i < length (laid w cs es) → slice_index (laid w cs es) i < 8
+    → FillsNext (laid w cs es) i
+FillsNext-laid =
+    by_pieces (λ w cs es. (i : ℕ) → i < length (laid w cs es) → slice_index (laid w cs es) i < 8 → FillsNext (laid w cs es) i)
+    (λ i lt corner. absurd (omega arith)) behind_corner behind_edge
+  where
+    behind_corner : (w : List Bool) (c : ℕ) (cs es : List ℕ) → Fits w cs es
+        → ((i : ℕ) → i < length (laid w cs es) → slice_index (laid w cs es) i < 8 → FillsNext (laid w cs es) i)
+        → (i : ℕ) → i < length (laid (true ∷ w) (c ∷ cs) es) → slice_index (laid (true ∷ w) (c ∷ cs) es) i < 8 → FillsNext (laid (true ∷ w) (c ∷ cs) es) i
+    behind_corner w c cs es f h zero lt corner = inl (omega arith, refl)
+    behind_corner w c cs es f h (suc zero) lt corner = inr (0, refl, refl)
+    behind_corner w c cs es f h (suc (suc i)) lt corner =
+        FillsNext-later c (c ∷ laid w cs es) (suc i) (FillsNext-later c (laid w cs es) i (h i (omega arith) corner))
+
+    behind_edge : (w : List Bool) (e : ℕ) (cs es : List ℕ) → Fits w cs es
+        → ((i : ℕ) → i < length (laid w cs es) → slice_index (laid w cs es) i < 8 → FillsNext (laid w cs es) i)
+        → (i : ℕ) → i < length (laid (false ∷ w) cs (e ∷ es)) → slice_index (laid (false ∷ w) cs (e ∷ es)) i < 8 → FillsNext (laid (false ∷ w) cs (e ∷ es)) i
+    behind_edge w e cs es f h zero lt corner = absurd (omega arith)
+    behind_edge w e cs es f h (suc i) lt corner = FillsNext-later (8 + e) (laid w cs es) i (h i (omega arith) corner)
+
+-- ---- units that are whole pieces
+
+-- pieces that lie as these units
+pub record IsLaid (us : List ℕ) (w : List Bool) (cs es : List ℕ) : Type 0 where
+  pub fits : Fits w cs es
+  pub below : All (λ c. c < 8) cs
+  pub is : us ≡ laid w cs es
+
+pub IsLaid-none : IsLaid [] [] [] []
+IsLaid-none = record { fits = record { corners = refl; edges = refl }; below = All-nil (λ c. c < 8); is = refl }
+
+pub IsLaid-append : (us vs : List ℕ) (v w : List Bool) (cs ds es fs : List ℕ) → IsLaid us v cs es → IsLaid vs w ds fs
+    → IsLaid (us ++ vs) (v ++ w) (cs ++ ds) (es ++ fs)
+IsLaid-append us vs v w cs ds es fs p q = record {
+  fits = record {
+    corners = omega (arith, corners_among-append v w, length-append cs ds, p.fits.corners, q.fits.corners);
+    edges = omega (arith, edges_among-append v w, length-append es fs, p.fits.edges, q.fits.edges);
+  };
+  below = All-append (λ c. c < 8) cs ds p.below q.below;
+  is = ap (λ xs. xs ++ vs) p.is ∙ ap (λ xs. laid v cs es ++ xs) q.is ∙ sym (laid-append v w cs ds es fs p.fits);
+}
+
+-- units each of whose corners fills just two units, side by side
+pub record IsWhole (us : List ℕ) : Type 0 where
+  pub partners : (i : ℕ) → i < length us → slice_index us i < 8 → FillsNext us i
+  pub no_third : (i : ℕ) → suc (suc i) < length us → slice_index us i < 8 → slice_index us (suc i) ≡ slice_index us i
+      → slice_index us (suc (suc i)) ≡ slice_index us i → ⊥
+
+pub record LaidPieces (us : List ℕ) : Type 0 where
+  pub word : List Bool
+  pub corners : List ℕ
+  pub edges : List ℕ
+  pub are : IsLaid us word corners edges
+
+-- an edge first
+with_edge : (u : ℕ) (us : List ℕ) → 8 ≤ u → LaidPieces us → LaidPieces (u ∷ us)
+with_edge u us high p = record {
+  word = false ∷ p.word;
+  corners = p.corners;
+  edges = (u - 8) ∷ p.edges;
+  are = record {
+    fits = record { corners = p.are.fits.corners; edges = ap suc p.are.fits.edges };
+    below = p.are.below;
+    is = ap (λ x. x ∷ us) {x = u} {y = 8 + (u - 8)} (omega arith) ∙ ap (λ xs. (8 + (u - 8)) ∷ xs) p.are.is;
+  };
+}
+
+-- a corner first
+with_corner : (u v : ℕ) (us : List ℕ) → u < 8 → v ≡ u → LaidPieces us → LaidPieces (u ∷ v ∷ us)
+with_corner u v us low e p = record {
+  word = true ∷ p.word;
+  corners = u ∷ p.corners;
+  edges = p.edges;
+  are = record {
+    fits = record { corners = ap suc p.are.fits.corners; edges = p.are.fits.edges };
+    below = All-cons (λ c. c < 8) u p.corners low p.are.below;
+    is = ap (λ x. u ∷ x ∷ us) e ∙ ap (λ xs. u ∷ u ∷ xs) p.are.is;
+  };
+}
+
+IsWhole-behind_edge : (u v : ℕ) (us : List ℕ) → 8 ≤ u → IsWhole (u ∷ v ∷ us) → IsWhole (v ∷ us)
+IsWhole-behind_edge u v us high h = record {
+  partners = behind;
+  no_third = λ i lt corner e f. h.no_third (suc i) (omega arith) corner e f;
+}
+  where
+    behind : (i : ℕ) → i < length (v ∷ us) → slice_index (v ∷ us) i < 8 → FillsNext (v ∷ us) i
+    behind zero lt corner = elim (h.partners 1 (omega arith) corner) [
+      | inl p ↦ inl (omega (arith, p.0), p.1)
+      | inr p ↦ let first : slice_index (u ∷ v ∷ us) p.0 ≡ u = ap (λ i. slice_index (u ∷ v ∷ us) i) {x = p.0} {y = 0} (omega (arith, p.1)) in
+          absurd (omega (arith, p.2))
+    ]
+    behind (suc i) lt corner = elim (h.partners (suc (suc i)) (omega arith) corner) [
+      | inl p ↦ inl (omega (arith, p.0), p.1)
+      | inr p ↦ inr (i, refl, ap (λ j. slice_index (u ∷ v ∷ us) j) {x = suc i} {y = p.0} (omega (arith, p.1)) ∙ p.2)
+    ]
+
+IsWhole-behind_corner : (u v : ℕ) (us : List ℕ) → u < 8 → v ≡ u → IsWhole (u ∷ v ∷ us) → IsWhole us
+IsWhole-behind_corner u v us low same h = record {
+  partners = behind;
+  no_third = λ i lt corner e f. h.no_third (suc (suc i)) (omega arith) corner e f;
+}
+  where
+    behind : (i : ℕ) → i < length us → slice_index us i < 8 → FillsNext us i
+    behind zero lt corner = elim (h.partners 2 (omega arith) corner) [
+      | inl p ↦ inl (omega (arith, p.0), p.1)
+      | inr p ↦
+          let second : slice_index (u ∷ v ∷ us) p.0 ≡ v = ap (λ i. slice_index (u ∷ v ∷ us) i) {x = p.0} {y = 1} (omega (arith, p.1)) in
+          absurd (h.no_third 0 (omega arith) low same (sym p.2 ∙ second ∙ same))
+    ]
+    behind (suc i) lt corner = elim (h.partners (suc (suc (suc i))) (omega arith) corner) [
+      | inl p ↦ inl (omega (arith, p.0), p.1)
+      | inr p ↦ inr (i, refl, ap (λ j. slice_index (u ∷ v ∷ us) j) {x = suc (suc i)} {y = p.0} (omega (arith, p.1)) ∙ p.2)
+    ]
+
+-- a corner is not the last unit alone
+second_unit : (u v : ℕ) (us : List ℕ) → u < 8 → IsWhole (u ∷ v ∷ us) → v ≡ u
+second_unit u v us low h = elim (h.partners 0 (omega arith) low) [ inl p ↦ p.1 | inr p ↦ absurd (omega (arith, p.1)) ]
+
+only_unit : (u : ℕ) → u < 8 → IsWhole (u ∷ []) → ⊥
+only_unit u low h = elim (h.partners 0 (omega arith) low) [ inl p ↦ omega (arith, p.0) | inr p ↦ omega (arith, p.1) ]
+
+-- such units are pieces that lie one behind the other
+pub LaidPieces-whole : (us : List ℕ) → IsWhole us → LaidPieces us
+LaidPieces-whole [] h = record { word = []; corners = []; edges = []; are = IsLaid-none }
+LaidPieces-whole (u ∷ []) h =
+    elim (cases_lt u 8) [
+      | inl low ↦ absurd (only_unit u low h)
+      | inr high ↦ with_edge u [] high (record { word = []; corners = []; edges = []; are = IsLaid-none })
+    ]
+LaidPieces-whole (u ∷ (v ∷ us)) h =
+    elim (cases_lt u 8) [
+      | inl low ↦
+          let same = second_unit u v us low h in
+          with_corner u v us low same (LaidPieces-whole us (IsWhole-behind_corner u v us low same h))
+      | inr high ↦ with_edge u (v ∷ us) high (LaidPieces-whole (v ∷ us) (IsWhole-behind_edge u v us high h))
+    ]

@@ -1,2 +1,0 @@
-pub mod FaceLaws
-pub mod AxisLaws
