@@ -8,3 +8,5 @@ pub mod SearchLaws
 pub mod ProjectionLaws
 pub mod MarkedPieces
 pub mod IndexLaws
+pub mod Written
+pub mod RowsEntered

@@ -1,10 +1,12 @@
 -- Products: their positions, and that they go along with turns where their parts do.
-use Rattle.std.proofs.Common.{◌≡◌, ℕ, ◌+◌, ◌*◌, ◌/◌, ◌%◌, ◌<◌, Bool, true, false, cond, IsTrue, Option, Some, None, refl, sym, ap, ◌∙◌, subst, arith}
+use Rattle.std.proofs.Common.{◌≡◌, ℕ, ◌+◌, ◌-◌, ◌*◌, ◌/◌, ◌%◌, ◌<◌, ◌≤◌, Bool, true, false, cond, IsTrue, Option, Some, None, refl, sym, ap, ◌∙◌, subst, arith}
 use Rattle.std.specs.Prelude.{nat_lt, ◌&&◌}
 use Rattle.std.specs.Option.{option_map}
-use Rattle.std.proofs.Math.Nat.{add-mul-mod_self_left, mod-eq_of_lt}
+use Rattle.std.proofs.Math.Nat.{add-mul-mod_self_left, div-add-mod, div-lt_iff_lt-mul, mod-eq_of_lt}
 use Rattle.std.proofs.lemmas.Bool.{and_parts}
 use Rattle.std.proofs.lemmas.Nat.{mul-add-lt, div-mul-add}
+use Rattle.std.proofs.lemmas.Grind.{div_ceil_times}
+use Rattle.std.specs.Int.{div_ceil}
 use Rattle.std.specs.Cmp.Derive.{both_true}
 use Rattle.scr_coord.specs.Coordinates.{Coordinate, StaysBelow}
 use Rattle.scr_coord.specs.Products.{side_by_side, product_coordinate}
@@ -29,6 +31,32 @@ part-low n a b lt = add-mul-mod_self_left a n b ∙ mod-eq_of_lt lt
 
 part-high : (n a b : ℕ) → a < n → (a + n * b) / n ≡ b
 part-high n a b lt = ap (λ k. k / n) (omega arith) ∙ div-mul-add b n a lt
+
+-- The positions of a row: those with one high part.
+pub row_at : (n h p : ℕ) → h * n ≤ p → p < h * n + n → (p % n ≡ p - h * n) × (p / n ≡ h)
+row_at n h p from to =
+    let at : p ≡ p - h * n + n * h = omega arith in
+    let low : p - h * n < n = omega arith in
+    (ap (λ k. k % n) at ∙ part-low n (p - h * n) h low, ap (λ k. k / n) at ∙ part-high n (p - h * n) h low)
+
+pub row_of : (n m h p : ℕ) → p < n * m → p / n ≡ h → (h * n ≤ p) × (p < h * n + n)
+row_of n m h p lt e =
+    let parts = part_below n m p lt in
+    let at : p ≡ n * (p / n) + p % n = sym (div-add-mod p n) in
+    let row : n * (p / n) ≡ h * n = ap (λ k. n * k) e ∙ omega arith in
+    (omega (arith, at, row), omega (arith, at, row, parts.0))
+
+-- the positions below an end lie in the rows that it reaches
+pub row_below : (n p end : ℕ) → 0 < n → p < end → p / n < div_ceil end n
+row_below n p end some lt = (div-lt_iff_lt-mul {k = n} {x = p} {y = div_ceil end n} some).1 (omega (arith, (div_ceil_times end n some).0))
+
+-- where a turn leads from a position of a row
+pub row_after : (low high : Coordinate) (h p t : ℕ) → h * low.count ≤ p → p < h * low.count + low.count
+    → (product_coordinate low high).after p t ≡ side_by_side low.count (low.after (p - h * low.count) t) (high.after h t)
+row_after low high h p t from to =
+    let parts = row_at low.count h p from to in
+    ap (λ k. side_by_side low.count (low.after k t) (high.after (p / low.count) t)) parts.0
+    ∙ ap (λ k. side_by_side low.count (low.after (p - h * low.count) t) (high.after k t)) parts.1
 
 -- ---- products of coordinates that show the same
 

@@ -36,7 +36,7 @@ below_by count n q false e h = absurd (cc)
 
 pub StaysBelow-moves : (m : Moves) → StaysBelow (moves_coordinate m)
 StaysBelow-moves m p t q at turn e =
-    let target = slice_index m.targets (p * m.turns + t) in below_by m.count target q (nat_lt target m.count) refl e
+    let target = slice_index m.targets (t * m.count + p) in below_by m.count target q (nat_lt target m.count) refl e
 
 -- ---- products
 

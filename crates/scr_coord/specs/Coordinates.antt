@@ -1,5 +1,5 @@
 -- Coordinates: what a search sees of a puzzle's states, as numbers. No puzzle stands here.
-use Rattle.std.specs.Prelude.{◌≡◌, ℕ, ◌<◌, nat_lt, Bool, IsTrue, Option, Some, None, if◌then◌else◌}
+use Rattle.std.specs.Prelude.{◌≡◌, ℕ, ◌+◌, ◌<◌, nat_lt, Bool, IsTrue, List, length, slice_index, Option, Some, None, if◌then◌else◌, unwrap_or}
 
 -- Positions, the numbers below a count; turns, the numbers below another; where a turn leads from a position, or nothing
 -- where it is barred there; and which positions are goals.
@@ -19,3 +19,15 @@ moved c p t = if nat_lt t c.turns then c.after p t else None
 
 abbrev pub IsGoal : Coordinate → ℕ → Type 0
 IsGoal c p = IsTrue (c.is_goal p)
+
+-- the mark of a barred turn, above each position that a number of 32 bits can be
+abbrev pub barred : ℕ
+barred = 4294967295
+
+-- where a turn leads from a position, as a number: the mark where it is barred
+abbrev pub target : Coordinate → ℕ → ℕ → ℕ
+target c p t = unwrap_or (c.after p t) barred
+
+-- The targets of a turn from positions one after another, `start` first.
+abbrev pub AreTargets : Coordinate → ℕ → ℕ → List ℕ → Type 0
+AreTargets c start t targets = (k : ℕ) → k < length targets → slice_index targets k ≡ target c (start + k) t

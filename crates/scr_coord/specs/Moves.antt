@@ -1,9 +1,9 @@
 -- What a move table holds.
-use Rattle.std.specs.Prelude.{ℕ, zero, suc, ◌+◌, ◌*◌, Bool, false, List, [], ◌∷◌, ◌++◌, Option, Some, None, nat_lt, if◌then◌else◌, slice_index, slice_index_or, unwrap_or}
-use Rattle.scr_coord.specs.Coordinates.{Coordinate}
+use Rattle.std.specs.Prelude.{ℕ, zero, suc, ◌+◌, ◌*◌, Bool, false, List, [], ◌∷◌, ◌++◌, Option, Some, None, nat_lt, if◌then◌else◌, slice_index, slice_index_or}
+use Rattle.scr_coord.specs.Coordinates.{Coordinate, target}
 
--- For each position, in order, and for each turn, in order, the position that it leads to, or a number that is no position
--- where the turn is barred; and for each position whether it is a goal.
+-- For each turn, in order, and for each position, in order, the position that the turn leads to, or a number that is no
+-- position where it is barred; and for each position whether it is a goal.
 pub record Moves : Type 0 where
   pub count : ℕ
   pub turns : ℕ
@@ -19,19 +19,15 @@ abbrev pub moves_coordinate : Moves → Coordinate
 moves_coordinate m = record {
   count = m.count;
   turns = m.turns;
-  after = λ p t. position_below m.count (slice_index m.targets (p * m.turns + t));
+  after = λ p t. position_below m.count (slice_index m.targets (t * m.count + p));
   is_goal = λ p. slice_index_or m.goals p false;
 }
-
--- the mark of a barred turn, above each position that a number of 32 bits can be
-abbrev pub barred : ℕ
-barred = 4294967295
 
 -- f 0, f 1 .. up to f (n - 1)
 unfoldable pub each_below : {X : Type 0} → (ℕ → X) → ℕ → List X
 each_below f zero = []
 each_below f (suc n) = each_below f n ++ f n ∷ []
 
--- The entries of the first n turns of a position.
+-- The targets of a turn from the first n positions.
 abbrev pub moves_row : Coordinate → ℕ → ℕ → List ℕ
-moves_row c p n = each_below (λ t. unwrap_or (c.after p t) barred) n
+moves_row c t n = each_below (λ p. target c p t) n

@@ -1,6 +1,9 @@
 //! What a coordinate is.
-ghost use Rattle.std.specs.Prelude.{◌≡◌, ◌<◌};
-ghost use Rattle.scr_coord.specs.Coordinates.{Coordinate, StaysBelow};
+ghost use Rattle.std.specs.Prelude.{◌≡◌, ◌+◌, ◌<◌, ◌≤◌, length};
+ghost use Rattle.scr_coord.specs.Coordinates.{Coordinate, StaysBelow, AreTargets};
+
+/// What stands in place of a position where a turn is barred. It is no position, since there are fewer than 2^32.
+pub const BARRED: u32 = u32::MAX;
 
 /// A coordinate of a puzzle: positions, which are the numbers of the lists that it sees of a state, and where turns lead
 /// from each. A turn may be barred.
@@ -22,6 +25,20 @@ pub trait Coord {
         requires position { position < (coordinate self.now).count }
         requires turn { turn < (coordinate self.now).turns }
         ensures { result ≡ (coordinate self.now).after position turn };
+
+    /// Where a turn, below `turns`, leads from positions one after another, `start` first: `BARRED` where it is barred. There
+    /// are so many positions from `start` on.
+    fn targets(&self, start: u32, turn: u32, into: &mut [u32])
+        requires positions { start + length into.old ≤ (coordinate self.now).count }
+        requires turn { turn < (coordinate self.now).turns }
+        ensures { AreTargets (coordinate self.now) start turn into.new }
+    {
+        // tells that positions are numbers of 32 bits
+        let _count = self.count();
+        for k in 0..into.len() {
+            into[k] = self.after(start + k as u32, turn).unwrap_or(BARRED);
+        }
+    }
 
     /// Whether a position, below `count`, is a goal.
     fn is_goal(&self, position: u32) -> bool
@@ -50,6 +67,11 @@ impl<C: Coord> Coord for &C {
     #[inline]
     fn after(&self, position: u32, turn: u32) -> Option<u32> {
         (**self).after(position, turn)
+    }
+
+    #[inline]
+    fn targets(&self, start: u32, turn: u32, into: &mut [u32]) {
+        (**self).targets(start, turn, into);
     }
 
     #[inline]

@@ -74,7 +74,7 @@ pub fn rows()
         × (side_by_side 5 (Some 3) None ≡ None) }
 
     // two positions with two turns each: the second turn of position 0 is barred, and the first of position 1 leads to 0
-    ensures table { let entries = 1 ∷ 4294967295 ∷ 0 ∷ 1 ∷ [] in
+    ensures table { let entries = 1 ∷ 0 ∷ 4294967295 ∷ 1 ∷ [] in
         let table = moves_coordinate (record { count = 2; turns = 2; targets = entries; goals = true ∷ false ∷ [] }) in
         (table.after 0 1 ≡ None) × (table.after 1 0 ≡ Some 0) × (table.is_goal 0 ≡ true) × (table.is_goal 1 ≡ false) }
 {}

@@ -1,16 +1,13 @@
-//! Move tables: where each turn leads from each position of a coordinate, in one flat list.
+//! Move tables: where each turn leads from each position of a coordinate, in one flat list, turn after turn.
 ghost use Rattle.std.specs.Prelude.{◌≡◌, ◌+◌, ◌*◌, ◌^◌, ◌<◌, ◌++◌, ◌∷◌, [], IfOk, OnOk, length};
 ghost use Rattle.scr_coord.specs.Coordinates.{Coordinate, StaysBelow};
 ghost use Rattle.scr_coord.specs.SearchSpaces.{ShowsSame};
-ghost use Rattle.scr_coord.specs.Moves.{Moves, moves_coordinate, moves_row};
+ghost use Rattle.scr_coord.specs.Moves.{moves_coordinate, moves_row, each_below};
 
-use crate::Coord;
+use crate::coordinate::{BARRED, Coord};
 use scr_outside::NoMemory;
 use std::alloc::{AllocError, Global};
 use std::marker::Model;
-
-// The entry of a barred turn: no position, since a count of 32 bits is at most this.
-const BARRED: u32 = u32::MAX;
 
 /// The moves of a coordinate, and its goals: a step is one look into a list. It shows the same coordinate.
 pub struct MoveTable {
@@ -51,12 +48,12 @@ impl MoveTable {
     {
         let count = coord.count();
         let turns = coord.turns();
-        let mut targets = Vec::with_capacity(alloc, count as usize * turns as usize)?;
-        let mut goals = Vec::with_capacity(alloc, count as usize)?;
+        let mut targets = Vec::with_capacity(alloc, turns as usize * count as usize)?;
         coord.stays_below();
-        for position in 0..count {
-            push_position(&mut targets, &mut goals, coord, position)?;
+        for turn in 0..turns {
+            push_turn(&mut targets, coord, turn)?;
         }
+        let goals = goals_of(alloc, coord)?;
         Ok(MoveTable {
             count,
             turns,
@@ -66,24 +63,27 @@ impl MoveTable {
     }
 }
 
-/// Adds a position: the entries of its turns, and whether it is a goal.
-fn push_position<C: Coord>(
-    targets: &mut Vec<u32>,
-    goals: &mut Vec<bool>,
-    coord: &C,
-    position: u32,
-) -> Result<(), AllocError>
-    requires { position < (C.coordinate coord.now).count }
-    ensures targets { let c = C.coordinate coord.now in
-        OnOk result (targets.new.items ≡ targets.old.items ++ moves_row c position c.turns) }
-    ensures goals { let c = C.coordinate coord.now in
-        OnOk result (goals.new.items ≡ goals.old.items ++ c.is_goal position ∷ []) }
+/// Adds the targets of a turn from each position.
+fn push_turn<C: Coord>(targets: &mut Vec<u32>, coord: &C, turn: u32) -> Result<(), AllocError>
+    requires { turn < (C.coordinate coord.now).turns }
+    ensures { let c = C.coordinate coord.now in
+        OnOk result (targets.new.items ≡ targets.old.items ++ moves_row c turn c.count) }
 {
-    for turn in 0..coord.turns() {
+    for position in 0..coord.count() {
         targets.push(coord.after(position, turn).unwrap_or(BARRED))?;
     }
-    goals.push(coord.is_goal(position))?;
     Ok(())
+}
+
+/// Whether each position is a goal.
+fn goals_of<C: Coord>(alloc: Global, coord: &C) -> Result<Vec<bool>, AllocError>
+    ensures { let c = C.coordinate coord.now in IfOk result (λ goals. goals.items ≡ each_below c.is_goal c.count) }
+{
+    let mut goals = Vec::with_capacity(alloc, coord.count() as usize)?;
+    for position in 0..coord.count() {
+        goals.push(coord.is_goal(position))?;
+    }
+    Ok(goals)
 }
 
 impl Coord for MoveTable {
@@ -101,7 +101,7 @@ impl Coord for MoveTable {
 
     #[inline]
     fn after(&self, position: u32, turn: u32) -> Option<u32> {
-        let target = self.targets[position as usize * self.turns as usize + turn as usize];
+        let target = self.targets[turn as usize * self.count as usize + position as usize];
         if target < self.count {
             Some(target)
         } else {

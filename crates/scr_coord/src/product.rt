@@ -1,9 +1,11 @@
 //! Two coordinates side by side as one.
-ghost use Rattle.std.specs.Prelude.{◌≡◌, ◌*◌, ◌^◌, ◌<◌, IfOk};
-ghost use Rattle.scr_coord.specs.Products.{product_coordinate};
+ghost use Rattle.std.specs.Prelude.{◌≡◌, ◌≢◌, ◌+◌, ◌*◌, ◌/◌, ◌^◌, ◌<◌, ◌≤◌, ℕ, IfOk, IfSome, length, slice_index};
+ghost use Rattle.scr_coord.specs.Coordinates.{target};
+ghost use Rattle.scr_coord.specs.Products.{product_coordinate, side_by_side};
 ghost use Rattle.scr_coord.specs.SearchSpaces.{ShowsSame};
 
-use crate::{Coord, MoveTable};
+use crate::coordinate::{BARRED, Coord};
+use crate::move_table::MoveTable;
 use scr_outside::NoMemory;
 use std::alloc::Global;
 
@@ -33,6 +35,47 @@ impl<L: Coord, H: Coord> Product<L, H> {
         ensures { ⟦<Product<L, H> as Coord>⟧.coordinate result ≡ product_coordinate (L.coordinate low) (H.coordinate high) }
     {
         Product { low, high }
+    }
+}
+
+impl<L: Coord, H: Coord> Product<L, H> {
+    /// Two positions, or one of them and none, as one position.
+    #[inline]
+    fn side_by_side(&self, low: Option<u32>, high: Option<u32>) -> Option<u32>
+        requires low { IfSome low (λ a. a < (L.coordinate self.now.low).count) }
+        requires high { IfSome high (λ b. b < (H.coordinate self.now.high).count) }
+        ensures { result ≡ side_by_side (L.coordinate self.now.low).count low high }
+    {
+        let low = low?;
+        let high = high?;
+        let both = low + self.low.count() * high;
+        Some(both)
+    }
+
+    /// Enters the targets of a turn from the positions with this high part, as far as they are among those that are asked
+    /// for, `start` first.
+    fn enter_row(&self, high: u32, turn: u32, start: u32, into: &mut [u32])
+        requires high { high < (H.coordinate self.now.high).count }
+        requires turn { turn < (L.coordinate self.now.low).turns }
+        requires positions { start + length into.old ≤ (L.coordinate self.now.low).count * (H.coordinate self.now.high).count }
+        ensures entered { let c = product_coordinate (L.coordinate self.now.low) (H.coordinate self.now.high) in
+            (k : ℕ) → k < length into.old → (start + k) / (L.coordinate self.now.low).count ≡ high
+            → slice_index into.new k ≡ target c (start + k) turn }
+        ensures kept { (k : ℕ) → k < length into.old → (start + k) / (L.coordinate self.now.low).count ≢ high
+            → slice_index into.new k ≡ slice_index into.old k }
+    {
+        let low_count = self.low.count();
+        let first = high * low_count;
+        let from = start.max(first);
+        let end = start + into.len() as u32;
+        let to = end.min(first + low_count).max(from);
+        self.low.stays_below();
+        self.high.stays_below();
+        let turned = self.high.after(high, turn);
+        for position in from..to {
+            let both = self.side_by_side(self.low.after(position - first, turn), turned);
+            into[(position - start) as usize] = both.unwrap_or(BARRED);
+        }
     }
 }
 
@@ -75,10 +118,21 @@ impl<L: Coord, H: Coord> Coord for Product<L, H> {
         let low_count = self.low.count();
         self.low.stays_below();
         self.high.stays_below();
-        let low = self.low.after(position % low_count, turn)?;
-        let high = self.high.after(position / low_count, turn)?;
-        let both = low + low_count * high;
-        Some(both)
+        let low = self.low.after(position % low_count, turn);
+        let high = self.high.after(position / low_count, turn);
+        self.side_by_side(low, high)
+    }
+
+    // Positions with the same high part are a row, for which the high part is turned once.
+    fn targets(&self, start: u32, turn: u32, into: &mut [u32]) {
+        if into.is_empty() {
+            return;
+        }
+        let low_count = self.low.count();
+        let end = start + into.len() as u32;
+        for high in start / low_count..end.div_ceil(low_count) {
+            self.enter_row(high, turn, start, into);
+        }
     }
 
     #[inline]

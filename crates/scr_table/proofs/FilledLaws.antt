@@ -11,21 +11,6 @@ use Rattle.scr_table.specs.Distances.{IsFirstGap}
 use Rattle.scr_table.specs.Filled.{IsKnown, AreKnown, Neighbours, IsConsistent}
 use Rattle.scr_table.proofs.StepLaws.{moved-below}
 
--- a property of a place and its entry, after one entry is written
-written_at : (P : ℕ → ℕ → Type 0) (entries : List ℕ) (p entry : ℕ) → p < length entries → P p entry → (k : ℕ)
-    → (k ≢ p → P k (get_or entries k 0)) → P k (get_or (set entries p entry) k 0)
-written_at P entries p entry inside here k there = by_place (cases_order k p)
-  where
-    apart : k ≢ p → P k (get_or (set entries p entry) k 0)
-    apart other = rw get_or-set_other (there other)
-
-    by_place : (k ≡ p) ⊎ ((k < p) ⊎ (p < k)) → P k (get_or (set entries p entry) k 0)
-    by_place (inl same) =
-        let Q : ℕ → Type 0 = λ i. P i (get_or (set entries p entry) i 0) in
-        subst Q (sym same) (rw get_or-set_same here)
-    by_place (inr (inl less)) = apart (λ e. omega arith)
-    by_place (inr (inr more)) = apart (λ e. omega arith)
-
 module _ (c : Coordinate) where
   -- what is entered at a position by whether it is a goal is known of all words of no turn
   pub IsKnown-marked : (p : ℕ) (b : Bool) → c.is_goal p ≡ b → IsKnown c 0 p (if b then 0 else 255)
@@ -143,12 +128,6 @@ module _ (c : Coordinate) where
 pub record AreSwept (c : Coordinate) (level done : ℕ) (entries : List ℕ) : Type 0 where
   pub each : (k : ℕ) → k < c.count → IsKnown c level k (get_or entries k 0)
   pub swept : (k : ℕ) → k < done → IsKnown c (level + 1) k (get_or entries k 0)
-
--- what holds of each entry before a place holds of one more, where it holds of what is written there
-pub each_written : (P : ℕ → ℕ → Type 0) (entries : List ℕ) (p entry : ℕ) → p < length entries
-    → ((k : ℕ) → k < p → P k (get_or entries k 0)) → P p entry → (k : ℕ) → k < p + 1 → P k (get_or (set entries p entry) k 0)
-each_written P entries p entry inside before here k lt =
-    written_at P entries p entry inside here k (λ other. before k (omega arith))
 
 -- one position more of a level
 pub AreSwept-written : (c : Coordinate) (level p entry : ℕ) (entries : List ℕ) → p < length entries → IsKnown c (level + 1) p entry

@@ -3,6 +3,7 @@ pub mod Distances
 pub mod Lines
 pub mod Causes
 pub mod Filled
+pub mod Halves
 pub mod Moves
 pub mod Row
 pub mod TriedWords

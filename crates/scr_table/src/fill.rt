@@ -1,87 +1,152 @@
-//! Filling the entries of a table. A fast fill that nothing is proved of spreads the distances from the goals, and one pass
-//! then checks that each entry agrees with those around it, from which it follows that all are exact. Where they
-//! don't agree, as where turns can't be undone, the entries are filled level by level.
+//! Filling the entries of a table. Early levels, of few positions, are pushed from the goals, and nothing is proved of them but
+//! that 0 stands at the goals. One pass then checks that each entry agrees with those around it, from which it follows that
+//! these levels are exact, and makes the next level by the same looks; each level behind is made from the one before. Where
+//! the entries don't agree, as where turns can't be undone, all levels are made so.
 
-ghost use Rattle.std.specs.Prelude.{◌≡◌, ◌≢◌, ℕ, ◌+◌, ◌<◌, ◌≤◌, Some, IsTrue, IfSome, length, slice_index};
-ghost use Rattle.scr_coord.specs.Coordinates.{moved};
-ghost use Rattle.scr_table.specs.Filled.{AreKnown, Neighbours, IsConsistent};
+ghost use Rattle.std.specs.Prelude.{◌≡◌, ◌≤◌, length};
+ghost use Rattle.std.specs.Result.{OnOk};
+ghost use Rattle.scr_table.specs.Filled.{AreKnown, AreMarked, block_count};
 
-use crate::levels::sweep_levels;
-use scr_coord::Coord;
+use crate::blocks::{BLOCK, Blocks, contains};
+use crate::levels::{checked_level, next_level};
+use scr_coord::{BARRED, Coord};
+use std::alloc::{AllocError, Global};
+use std::thread::Threads;
 
 /// What stands at a position whose distance is not known yet. It is greater than any bound.
 pub(crate) const UNKNOWN: u8 = 255;
 
-/// Where a barred turn leads: to no position.
-const BARRED: u32 = u32::MAX;
-
 /// Fills the entries, one for each position: with the position's distance, or with `UNKNOWN` where no word of at most
-/// `bound` turns leads to a goal. `bound` is at most 24.
-pub(crate) fn fill<C: Coord>(coord: &C, entries: &mut [u8], bound: u8)
+/// `bound` turns leads to a goal. `bound` is at most 24. 1 to 64 workers share the late levels.
+pub(crate) fn fill<R: Threads + Sync, C: Coord + Sync>(
+    rt: &R,
+    alloc: Global,
+    coord: &C,
+    entries: &mut [u8],
+    bound: u8,
+    workers: u32,
+) -> Result<(), AllocError>
     requires entries { length entries.old ≡ (C.coordinate coord.now).count }
     requires few_turns { (C.coordinate coord.now).turns ≤ 256 }
     requires bound { bound ≤ 24 }
-    ensures { AreKnown (C.coordinate coord.now) bound entries.new }
+    requires workers { (1 ≤ workers) × (workers ≤ 64) }
+    ensures { OnOk result (AreKnown (C.coordinate coord.now) bound entries.new) }
 {
-    coord.stays_below();
-    mark_goals(coord, entries);
-    spread(coord, entries, bound);
-    if !are_consistent(coord, entries) {
-        mark_goals(coord, entries);
-        sweep_levels(coord, entries, bound);
+    let mut blocks: Blocks = vec![in alloc; None; entries.len().div_ceil(BLOCK)]?;
+    let first = early_levels(rt, coord, entries, &mut blocks, bound, workers);
+    for level in first..bound {
+        if !contains(entries, UNKNOWN) {
+            return Ok(());
+        }
+        next_level(rt, coord, entries, &mut blocks, level, workers);
     }
+    Ok(())
+}
+
+/// Enters the first levels, as many as are cheaper to push, and answers the last of them. It may be one beyond `bound`, which
+/// is at most 24.
+fn early_levels<R: Threads + Sync, C: Coord + Sync>(
+    rt: &R,
+    coord: &C,
+    entries: &mut [u8],
+    blocks: &mut Blocks,
+    bound: u8,
+    workers: u32,
+) -> u8
+    requires entries { length entries.old ≡ (C.coordinate coord.now).count }
+    requires blocks { length blocks.old.items ≡ block_count (length entries.old) }
+    requires few_turns { (C.coordinate coord.now).turns ≤ 256 }
+    requires bound { bound ≤ 24 }
+    requires workers { (1 ≤ workers) × (workers ≤ 64) }
+    ensures known { AreKnown (C.coordinate coord.now) result entries.new }
+    ensures level { result ≤ 25 }
+    ensures blocks { length blocks.new.items ≡ length blocks.old.items }
+{
+    mark_goals(coord, entries);
+    let pushed = push_levels(coord, entries, bound);
+    if checked_level(rt, coord, entries, blocks, pushed, workers) {
+        return pushed + 1;
+    }
+    mark_goals(coord, entries);
+    0
 }
 
 /// Enters 0 at the goals, and `UNKNOWN` elsewhere.
 fn mark_goals<C: Coord>(coord: &C, entries: &mut [u8])
     requires { length entries.old ≡ (C.coordinate coord.now).count }
-    ensures { AreKnown (C.coordinate coord.now) 0 entries.new }
+    ensures known { AreKnown (C.coordinate coord.now) 0 entries.new }
+    ensures marked { AreMarked (C.coordinate coord.now) entries.new }
 {
     for position in 0..coord.count() {
         entries[position as usize] = if coord.is_goal(position) { 0 } else { UNKNOWN };
     }
 }
 
-/// Spreads the distances from the goals along turns, until no position is left or one level beyond `bound` is reached. This
-/// gives the distances to the goals where turns can be undone. No clause says so, and none needs to.
-fn spread<C: Coord>(coord: &C, entries: &mut [u8], bound: u8)
-    requires entries { length entries.old ≡ (C.coordinate coord.now).count }
+/// Spreads the distances from the goals along turns, and answers the level that is reached, at most `bound`. This gives the
+/// distances to the goals where turns can be undone. No clause says so, and none needs to.
+fn push_levels<C: Coord>(coord: &C, entries: &mut [u8], bound: u8) -> u8
+    requires marked { AreMarked (C.coordinate coord.now) entries.old }
     requires few_turns { (C.coordinate coord.now).turns ≤ 256 }
     requires bound { bound ≤ 24 }
+    ensures marked { AreMarked (C.coordinate coord.now) entries.new }
+    ensures level { result ≤ bound }
 {
     let mut left = coord.count();
     let mut reached = 0;
-    for level in 0..bound + 1 {
-        // the cheaper of the two ways
-        reached = if left < reached {
-            pull_level(coord, entries, level)
-        } else {
-            push_level(coord, entries, level)
-        };
-        if reached == 0 {
-            return;
+    for level in 0..bound {
+        // From here on it is cheaper to look at the positions that are left, and workers share it.
+        if left / 4 < reached {
+            return level;
         }
+        reached = push_level(coord, entries, level);
         left = left.saturating_sub(reached);
     }
+    bound
 }
 
 /// Enters the next level where a turn leads to from this one, and counts the entries.
 fn push_level<C: Coord>(coord: &C, entries: &mut [u8], level: u8) -> u32
-    requires entries { length entries.old ≡ (C.coordinate coord.now).count }
+    requires marked { AreMarked (C.coordinate coord.now) entries.old }
     requires few_turns { (C.coordinate coord.now).turns ≤ 256 }
     requires level { level ≤ 24 }
+    ensures { AreMarked (C.coordinate coord.now) entries.new }
+{
+    let mut targets = [BARRED; 256];
+    let mut reached: u32 = 0;
+    for start in (0..entries.len()).step_by(BLOCK) {
+        let end = entries.len().min(start + BLOCK);
+        if contains(&entries[start..end], level) {
+            reached = reached.wrapping_add(push_block(coord, entries, start, end, level, &mut targets));
+        }
+    }
+    reached
+}
+
+/// The same from the positions of a block.
+fn push_block<C: Coord>(
+    coord: &C,
+    entries: &mut [u8],
+    start: usize,
+    end: usize,
+    level: u8,
+    targets: &mut [u32; 256],
+) -> u32
+    requires marked { AreMarked (C.coordinate coord.now) entries.old }
+    requires end { end ≤ length entries.old }
+    requires few_turns { (C.coordinate coord.now).turns ≤ 256 }
+    requires level { level ≤ 24 }
+    ensures { AreMarked (C.coordinate coord.now) entries.new }
 {
     let turns = coord.turns();
-    let mut row = [BARRED; 256];
     let mut reached: u32 = 0;
-    for position in 0..coord.count() {
-        if entries[position as usize] == level {
+    for position in start..end {
+        if entries[position] == level {
             // All turns are asked before anything is entered, so that what they have in common is asked once.
             for turn in 0..turns {
-                row[turn as usize] = step(coord, position, turn).unwrap_or(BARRED);
+                targets[turn as usize] = coord.after(position as u32, turn).unwrap_or(BARRED);
             }
             for turn in 0..turns {
-                let next = row[turn as usize] as usize;
+                let next = targets[turn as usize] as usize;
                 if next < entries.len() && entries[next] == UNKNOWN {
                     entries[next] = level + 1;
                     reached = reached.wrapping_add(1);
@@ -90,94 +155,4 @@ fn push_level<C: Coord>(coord: &C, entries: &mut [u8], level: u8) -> u32
         }
     }
     reached
-}
-
-/// Enters the next level where a turn leads to this one, and counts the entries.
-fn pull_level<C: Coord>(coord: &C, entries: &mut [u8], level: u8) -> u32
-    requires entries { length entries.old ≡ (C.coordinate coord.now).count }
-    requires level { level ≤ 24 }
-{
-    let mut reached: u32 = 0;
-    for position in 0..coord.count() {
-        if entries[position as usize] == UNKNOWN && leads_to(coord, entries, position, level) {
-            entries[position as usize] = level + 1;
-            reached = reached.wrapping_add(1);
-        }
-    }
-    reached
-}
-
-/// Whether a turn leads from a position to one with this entry.
-#[inline]
-fn leads_to<C: Coord>(coord: &C, entries: &[u8], position: u32, entry: u8) -> bool
-    requires entries { length entries.now ≡ (C.coordinate coord.now).count }
-    requires position { position < (C.coordinate coord.now).count }
-{
-    for turn in 0..coord.turns() {
-        if let Some(next) = step(coord, position, turn) {
-            if entries[next as usize] == entry {
-                return true;
-            }
-        }
-    }
-    false
-}
-
-/// Whether each entry agrees with those that turns lead to. Where it answers false, nothing is said of the entries.
-fn are_consistent<C: Coord>(coord: &C, entries: &[u8]) -> bool
-    requires { length entries.now ≡ (C.coordinate coord.now).count }
-    ensures { IsTrue result → (p : ℕ) → p < (C.coordinate coord.now).count
-        → IsConsistent (C.coordinate coord.now) entries.now p }
-{
-    for position in 0..coord.count() {
-        if !is_consistent(coord, entries, position) {
-            return false;
-        }
-    }
-    true
-}
-
-/// Whether the entry at a position agrees with those that turns lead to from there.
-#[inline]
-fn is_consistent<C: Coord>(coord: &C, entries: &[u8], position: u32) -> bool
-    requires entries { length entries.now ≡ (C.coordinate coord.now).count }
-    requires position { position < (C.coordinate coord.now).count }
-    ensures { IsTrue result → IsConsistent (C.coordinate coord.now) entries.now position }
-{
-    let entry = entries[position as usize];
-    if coord.is_goal(position) {
-        entry == 0
-    } else {
-        entry > 0 && least_neighbour(coord, entries, position) == entry - 1
-    }
-}
-
-/// The least entry that a turn leads to from a position, and `UNKNOWN` where each turn is barred.
-#[inline]
-pub(crate) fn least_neighbour<C: Coord>(coord: &C, entries: &[u8], position: u32) -> u8
-    requires entries { length entries.now ≡ (C.coordinate coord.now).count }
-    requires position { position < (C.coordinate coord.now).count }
-    ensures at_most { (t q : ℕ) → moved (C.coordinate coord.now) position t ≡ Some q
-        → result ≤ slice_index entries.now q }
-    ensures some { result ≢ UNKNOWN → Neighbours (C.coordinate coord.now) entries.now position result }
-{
-    let mut least = UNKNOWN;
-    for turn in 0..coord.turns() {
-        if let Some(next) = step(coord, position, turn) {
-            least = least.min(entries[next as usize]);
-        }
-    }
-    least
-}
-
-/// The position after a turn, which is one of the coordinate's; `None` where the turn is barred.
-#[inline]
-pub(crate) fn step<C: Coord>(coord: &C, position: u32, turn: u32) -> Option<u32>
-    requires position { position < (C.coordinate coord.now).count }
-    requires turn { turn < (C.coordinate coord.now).turns }
-    ensures leads { result ≡ moved (C.coordinate coord.now) position turn }
-    ensures below { IfSome result (λ next. next < (C.coordinate coord.now).count) }
-{
-    coord.stays_below();
-    coord.after(position, turn)
 }

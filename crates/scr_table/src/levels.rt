@@ -1,48 +1,215 @@
-//! Filling the entries of a table level by level, over any turns.
+//! The levels of a table, each made from the one before by workers: a slot is a block.
 
-ghost use Rattle.std.specs.Prelude.{◌+◌, ◌<◌, ◌≤◌};
-ghost use Rattle.scr_table.specs.Filled.{AreKnown, IsKnown};
+ghost use Rattle.std.specs.Prelude.{◌≡◌, ℕ, ◌+◌, ◌^◌, ◌<◌, ◌≤◌, IsTrue, IfSome, None, length, slice_index, slice_index_or};
+ghost use Rattle.std.specs.Bool.{OnTrue};
+ghost use Rattle.scr_table.specs.Filled.{AreKnown, AreMarked, Agrees, IsNextEntry, IsThere, block_count, next_entry};
 
-use crate::fill::{UNKNOWN, least_neighbour};
+use crate::blocks::{BLOCK, Blocks, contains, enter_blocks};
+use crate::fill::UNKNOWN;
+use crate::neighbours::{least_neighbour, least_neighbours};
 use scr_coord::Coord;
+use scr_workers::{Jobs, OpenGate, run_chunks};
+use std::thread::Threads;
 
-/// Enters the distances from 1 to `bound`, where those of 0 stand. `bound` is at most 24.
-pub(crate) fn sweep_levels<C: Coord>(coord: &C, entries: &mut [u8], bound: u8)
-    requires goals { AreKnown (C.coordinate coord.now) 0 entries.old }
-    requires bound { bound ≤ 24 }
-    ensures { AreKnown (C.coordinate coord.now) bound entries.new }
-{
-    for level in 0..bound {
-        sweep_level(coord, entries, level);
+/// The entries of the level `level` and those before it, of which the next level is made. A block's answer is the block on the
+/// next level, or none where nothing in it is unknown.
+#[derive(Drop)]
+struct NextLevel<'a, C: Coord> {
+    coord: &'a C,
+    entries: &'a [u8],
+    level: u8,
+    ghost positions: { length entries.now ≡ (C.coordinate coord.now).count },
+    ghost few: { length entries.now < 2 ^ 32 },
+    ghost early: { level ≤ 25 },
+}
+
+impl<C: Coord> Jobs for NextLevel<'_, C> {
+    ghost use Rattle.std.specs.Prelude.{length};
+    ghost use Rattle.scr_table.specs.Filled.{IsNextBlock, block_count};
+
+    type Out = Option<[u8; BLOCK]>;
+
+    ghost slots = { λ s. block_count (length s.entries.now) };
+
+    ghost is_answer = { λ s block out. IsNextBlock (C.coordinate s.coord.now) s.level s.entries.now block out };
+
+    fn job(&self, slot: u32) -> Option<[u8; BLOCK]> {
+        let start = slot as usize * BLOCK;
+        let end = self.entries.len().min(start + BLOCK);
+        if !contains(&self.entries[start..end], UNKNOWN) {
+            return None;
+        }
+        Some(next_block(self.coord, self.entries, start, end, self.level))
     }
 }
 
-/// Enters the next distance at each position that is not known yet and from which a turn leads to one at `level`.
-fn sweep_level<C: Coord>(coord: &C, entries: &mut [u8], level: u8)
-    requires known { AreKnown (C.coordinate coord.now) level entries.old }
-    requires level { level ≤ 24 }
-    ensures { AreKnown (C.coordinate coord.now) (level + 1) entries.new }
+/// The entries of the positions from `start` up to `end` on the next level.
+fn next_block<C: Coord>(
+    coord: &C,
+    entries: &[u8],
+    start: usize,
+    end: usize,
+    level: u8,
+) -> [u8; BLOCK]
+    requires entries { length entries.now ≡ (C.coordinate coord.now).count }
+    requires end { end ≤ length entries.now }
+    requires block { end ≤ start + 1024 }
+    requires level { level ≤ 25 }
+    ensures { (k : ℕ) → start + k < end
+        → IsNextEntry (C.coordinate coord.now) level entries.now (start + k) (slice_index result k) }
 {
-    for position in 0..coord.count() {
-        entries[position as usize] = next_entry(coord, entries, position, level);
+    let _count = coord.count();
+    let mut next = [UNKNOWN; BLOCK];
+    for position in start..end {
+        let entry = entries[position];
+        next[position - start] = if entry == UNKNOWN {
+            next_entry(entry, least_neighbour(coord, entries, position as u32), level)
+        } else {
+            entry
+        };
     }
+    next
 }
 
-/// The entry of a position when the words of one turn more than `level` are looked at too.
-fn next_entry<C: Coord>(coord: &C, entries: &[u8], position: u32, level: u8) -> u8
-    requires known { AreKnown (C.coordinate coord.now) level entries.now }
-    requires position { position < (C.coordinate coord.now).count }
-    requires level { level ≤ 24 }
-    ensures { IsKnown (C.coordinate coord.now) (level + 1) position result }
+/// The entry of a position on the next level, by the least that a turn leads to from it.
+#[inline]
+fn next_entry(entry: u8, least: u8, level: u8) -> u8
+    requires { level ≤ 25 }
+    ensures { result ≡ next_entry level entry least }
 {
-    let entry = entries[position as usize];
-    if entry != UNKNOWN {
-        return entry;
-    }
-    coord.stays_below();
-    if least_neighbour(coord, entries, position) == level {
+    if entry == UNKNOWN && least == level {
         level + 1
     } else {
-        UNKNOWN
+        entry
     }
+}
+
+/// Makes the level behind `level`.
+pub(crate) fn next_level<R: Threads + Sync, C: Coord + Sync>(
+    rt: &R,
+    coord: &C,
+    entries: &mut [u8],
+    blocks: &mut Blocks,
+    level: u8,
+    workers: u32,
+)
+    requires known { AreKnown (C.coordinate coord.now) level entries.old }
+    requires blocks { length blocks.old.items ≡ block_count (length entries.old) }
+    requires level { level ≤ 25 }
+    requires workers { (1 ≤ workers) × (workers ≤ 64) }
+    ensures known { AreKnown (C.coordinate coord.now) (level + 1) entries.new }
+    ensures blocks { length blocks.new.items ≡ length blocks.old.items }
+{
+    coord.stays_below();
+    let _count = coord.count();
+    let next = NextLevel {
+        coord,
+        entries: &*entries,
+        level,
+    };
+    run_chunks(rt, &next, &mut blocks[..], workers, &OpenGate);
+    enter_blocks(entries, &blocks[..]);
+}
+
+/// The same, where each position is looked at, and none is answered where a block doesn't agree.
+#[derive(Drop)]
+struct CheckedLevel<'a, C: Coord> {
+    coord: &'a C,
+    entries: &'a [u8],
+    level: u8,
+    ghost positions: { length entries.now ≡ (C.coordinate coord.now).count },
+    ghost few: { length entries.now < 2 ^ 32 },
+    ghost early: { level ≤ 24 },
+}
+
+impl<C: Coord> Jobs for CheckedLevel<'_, C> {
+    ghost use Rattle.std.specs.Prelude.{length};
+    ghost use Rattle.scr_table.specs.Filled.{IsCheckedBlock, block_count};
+
+    type Out = Option<[u8; BLOCK]>;
+
+    ghost slots = { λ s. block_count (length s.entries.now) };
+
+    ghost is_answer = { λ s block out. IsCheckedBlock (C.coordinate s.coord.now) s.level s.entries.now block out };
+
+    fn job(&self, slot: u32) -> Option<[u8; BLOCK]> {
+        let start = slot as usize * BLOCK;
+        let end = self.entries.len().min(start + BLOCK);
+        let least = least_neighbours(self.coord, self.entries, start as u32, end - start);
+        checked_block(&self.entries[start..end], &least, self.level)
+    }
+}
+
+/// The entries of a block on the next level, where each agrees with the least that a turn leads to from it.
+fn checked_block(entries: &[u8], least: &[u8; BLOCK], level: u8) -> Option<[u8; BLOCK]>
+    requires block { length entries.now ≤ 1024 }
+    requires level { level ≤ 24 }
+    ensures agree { IfSome result (λ _. (k : ℕ) → k < length entries.now
+        → Agrees level (slice_index entries.now k) (slice_index least.now k)) }
+    ensures next { IfSome result (λ next. (k : ℕ) → k < length entries.now
+        → slice_index next k ≡ next_entry level (slice_index entries.now k) (slice_index least.now k)) }
+{
+    let mut next = [UNKNOWN; BLOCK];
+    for k in 0..entries.len() {
+        if !agrees(entries[k], least[k], level) {
+            return None;
+        }
+        next[k] = next_entry(entries[k], least[k], level);
+    }
+    Some(next)
+}
+
+/// Whether an entry agrees with the least that a turn leads to from its position, where the entries up to `level` are there.
+#[inline]
+fn agrees(entry: u8, least: u8, level: u8) -> bool
+    ensures { IsTrue result → Agrees level entry least }
+{
+    if entry == UNKNOWN {
+        level <= least
+    } else {
+        entry == 0 || (entry <= level && least == entry - 1)
+    }
+}
+
+/// Whether the entries up to `level` agree; and then makes the level behind it. Otherwise nothing is said of the entries.
+pub(crate) fn checked_level<R: Threads + Sync, C: Coord + Sync>(
+    rt: &R,
+    coord: &C,
+    entries: &mut [u8],
+    blocks: &mut Blocks,
+    level: u8,
+    workers: u32,
+) -> bool
+    requires marked { AreMarked (C.coordinate coord.now) entries.old }
+    requires blocks { length blocks.old.items ≡ block_count (length entries.old) }
+    requires level { level ≤ 24 }
+    requires workers { (1 ≤ workers) × (workers ≤ 64) }
+    ensures known { OnTrue result (AreKnown (C.coordinate coord.now) (level + 1) entries.new) }
+    ensures blocks { length blocks.new.items ≡ length blocks.old.items }
+{
+    coord.stays_below();
+    let _count = coord.count();
+    let checked = CheckedLevel {
+        coord,
+        entries: &*entries,
+        level,
+    };
+    run_chunks(rt, &checked, &mut blocks[..], workers, &OpenGate);
+    if !are_all_there(&blocks[..]) {
+        return false;
+    }
+    enter_blocks(entries, &blocks[..]);
+    true
+}
+
+/// Whether each block is there.
+fn are_all_there(blocks: &[Option<Option<[u8; BLOCK]>>]) -> bool
+    ensures { IsTrue result → (k : ℕ) → k < length blocks.now → IsThere (slice_index_or blocks.now k None) }
+{
+    for block in blocks {
+        if !matches!(block, Some(Some(_))) {
+            return false;
+        }
+    }
+    true
 }

@@ -11,6 +11,7 @@
 //! of a puzzle.
 #![tactic(auto)]
 
+mod blocks;
 mod entries;
 mod fault;
 mod fill;
@@ -20,6 +21,7 @@ mod line_table;
 mod moves;
 mod name;
 mod named;
+mod neighbours;
 mod table;
 mod table_set;
 

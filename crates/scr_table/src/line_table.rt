@@ -14,6 +14,7 @@ use scr_coord::Coord;
 use scr_outside::NoMemory;
 use std::alloc::Global;
 use std::marker::Model;
+use std::thread::Threads;
 
 /// What a table is called, what it is a table of, and how far it may reach. It is a type without values, to tell tables
 /// apart.
@@ -33,7 +34,7 @@ pub trait Line {
         ensures few_turns { line.coordinate.turns ≤ 256 };
 
     /// The moves by which it is built and walked down.
-    type Moves: Coord + Drop;
+    type Moves: Coord + Drop + Sync;
 
     /// Makes them. They show what it is a table of; only memory can be wanting.
     fn moves(alloc: Global) -> Result<Self::Moves, NoMemory>
@@ -69,8 +70,10 @@ impl<L: Line> Model for LineTable<L> {
 }
 
 impl<L: Line> LineTable<L> {
-    /// The table, or why it isn't built: there is no memory for it, or it has a gap, of which the first is named.
-    pub fn build(alloc: Global) -> Result<LineTable<L>, BuildFault>
+    /// The table, built by 1 to 64 workers, or why it isn't built: there is no memory for it, or it has a gap, of which the
+    /// first is named.
+    pub fn build<R: Threads + Sync>(rt: &R, alloc: Global, workers: u32) -> Result<LineTable<L>, BuildFault>
+        requires workers { (1 ≤ workers) × (workers ≤ 64) }
         ensures table { IfOk result (IsTableOf L.line) }
         ensures no_gap { IfOk result (λ _. HasNoGap L.line) }
         ensures cause { IfErr result (IsCause L.line.name L.line.coordinate L.line.bound) }
@@ -78,7 +81,7 @@ impl<L: Line> LineTable<L> {
         let (name, bound) = L::reach();
         let moves = L::moves(alloc)?;
         moves.stays_below();
-        let distances = DistanceTable::build(alloc, name, &moves, bound)?;
+        let distances = DistanceTable::build(rt, alloc, name, &moves, bound, workers)?;
         Ok(LineTable { moves, distances })
     }
 

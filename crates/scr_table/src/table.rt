@@ -1,19 +1,22 @@
 //! A distance table.
 
-ghost use Rattle.std.specs.Prelude.{◌≡◌, ℕ, ◌+◌, ◌<◌, ◌≤◌, ◌==◌, All, IfOk, IfErr, count_by, length, slice_index};
+ghost use Rattle.std.specs.Prelude.{◌≡◌, ℕ, ◌+◌, ◌^◌, ◌<◌, ◌≤◌, ◌==◌, All, IfOk, IfErr, IfNone, IfSome, count_by, length, slice_index};
 ghost use Rattle.scr_combinatorics.specs.FirstWord.{IsFirstWord, LowersFirst};
 ghost use Rattle.scr_coord.specs.Coordinates.{moved, IsGoal};
 ghost use Rattle.scr_table.specs.Distances.{Measures};
 ghost use Rattle.scr_table.specs.Causes.{IsCause};
+ghost use Rattle.scr_table.specs.Halves.{AreBlocksOf, deep_of};
 
 use crate::entries::Entries;
 use crate::fault::BuildFault;
-use crate::fill::step;
+use crate::fill::{UNKNOWN, fill};
+use crate::neighbours::step;
 use crate::name::TableName;
 use arrayvec::ArrayVec;
 use scr_coord::Coord;
 use std::alloc::Global;
 use std::marker::Model;
+use std::thread::Threads;
 
 /// At each position of a coordinate the least number of turns to a goal.
 pub struct DistanceTable {
@@ -46,27 +49,31 @@ impl Model for DistanceTable {
 
 impl DistanceTable {
     /// The table of a coordinate, or the first position that no word of at most `bound` turns leads to a goal from.
-    /// `bound` is at most 24, and there are at most 256 turns.
-    pub fn build<C: Coord>(
+    /// `bound` is at most 24, and there are at most 256 turns. 1 to 64 workers build it.
+    pub fn build<R: Threads + Sync, C: Coord + Sync>(
+        rt: &R,
         alloc: Global,
         name: TableName,
         coord: &C,
         bound: u32,
+        workers: u32,
     ) -> Result<DistanceTable, BuildFault>
         requires bound { bound ≤ 24 }
         requires few_turns { (C.coordinate coord.now).turns ≤ 256 }
+        requires workers { (1 ≤ workers) × (workers ≤ 64) }
         ensures named { IfOk result (λ table. table.name ≡ name) }
         ensures bounded { IfOk result (λ table. table.bound ≡ bound) }
         ensures measures { IfOk result (Measures (C.coordinate coord.now)) }
         ensures cause { IfErr result (IsCause name (C.coordinate coord.now) bound) }
     {
-        let entries = Entries::of(alloc, coord, bound as u8)?;
-        match entries.first_above(bound as u8) {
+        let mut entries = vec![in alloc; UNKNOWN; coord.count() as usize]?;
+        fill(rt, alloc, coord, &mut entries[..], bound as u8, workers)?;
+        match first_above(&entries[..], bound as u8) {
             Some(index) => Err(BuildFault::Gap { table: name, index }),
             None => Ok(DistanceTable {
                 name,
                 bound,
-                entries,
+                entries: Entries::of(alloc, &entries[..])?,
             }),
         }
     }
@@ -102,6 +109,22 @@ impl DistanceTable {
         ensures at_most { result ≤ 24 }
     {
         u32::from(self.entries.get(position))
+    }
+
+    /// The distances at four bits each, in blocks of 1,024 positions. The half byte of position p stands in block p / 1024,
+    /// byte p % 1024 / 2, the low half where p is even. It is the distance up to 13, 14 where the distance stands in `deep`,
+    /// and 15 past the last position.
+    pub fn blocks(&self) -> &[[u8; 512]]
+        ensures { AreBlocksOf self.now.distances result.now }
+    {
+        self.entries.blocks()
+    }
+
+    /// The positions whose distance is 14 or more, each with its distance, by rising position.
+    pub fn deep(&self) -> &[(u32, u8)]
+        ensures { result.now ≡ deep_of self.now.distances }
+    {
+        self.entries.deep()
     }
 
     /// How many positions there are at each distance.
@@ -156,6 +179,22 @@ impl DistanceTable {
         }
         unreachable!()
     }
+}
+
+/// The first position whose entry is above a bound. There are fewer than 2^32.
+fn first_above(entries: &[u8], bound: u8) -> Option<u32>
+    requires { length entries.now < 2 ^ 32 }
+    ensures above { IfSome result (λ index. bound < slice_index entries.now index) }
+    ensures below { IfSome result (λ index. index < length entries.now) }
+    ensures first { IfSome result (λ index. (p : ℕ) → p < index → slice_index entries.now p ≤ bound) }
+    ensures none { IfNone result ((p : ℕ) → slice_index entries.now p ≤ bound) }
+{
+    for position in 0..entries.len() {
+        if entries[position] > bound {
+            return Some(position as u32);
+        }
+    }
+    None
 }
 
 /// A turn, and the position where it leads.

@@ -1,37 +1,32 @@
-use Rattle.std.proofs.Common.{◌≡◌, ◌*◌, ◌++◌, ◌∷◌, [], length, sym, ap, ◌∙◌, arith}
-use Rattle.scr_coord.specs.Moves.{each_below, moves_row}
-use Rattle.scr_coord.proofs.MoveLaws.{rows_of, rows_of-none, rows_of-more, each_below-none, each_below-more, length-rows_of, length-each_below, ShowsSame-built}
+use Rattle.std.proofs.Common.{◌≡◌, ◌*◌, ◌++◌, length, sym, ap, ◌∙◌, arith}
+use Rattle.scr_coord.specs.Moves.{moves_row}
+use Rattle.scr_coord.proofs.MoveLaws.{rows_of, rows_of-none, rows_of-more, length-rows_of, length-each_below, ShowsSame-built}
 use Rattle.scr_coord.proofs.move_table.MoveTable.build.Goals as goal
 
-pub loop-position-init : goal.loop-position-init
-loop-position-init g c =
-    let show = g.C.Coord.coordinate c.args.coord.now in
-    (c.in_ok-targets.ensures.items ∙ sym (rows_of-none show), c.in_ok-goals.ensures.items ∙ sym (each_below-none show.is_goal))
+pub loop-turn-init : goal.loop-turn-init
+loop-turn-init g c = c.in_ok-targets.ensures.items ∙ sym (rows_of-none (g.C.Coord.coordinate c.args.coord.now))
 
-pub loop-position-preserved : goal.loop-position-preserved
-loop-position-preserved g c =
+pub loop-turn-preserved : goal.loop-turn-preserved
+loop-turn-preserved g c =
     let show = g.C.Coord.coordinate c.args.coord.now in
-    let position = c.loop-position.position in (
-      c.in_ok-push_position.ensures.targets ∙ ap (λ xs. xs ++ moves_row show position show.turns) c.loop-position.invariant.0
-          ∙ sym (rows_of-more show position),
-      c.in_ok-push_position.ensures.goals ∙ ap (λ xs. xs ++ show.is_goal position ∷ []) c.loop-position.invariant.1
-          ∙ sym (each_below-more show.is_goal position),
-    )
+    let turn = c.loop-turn.turn in
+    c.in_ok-push_turn.ensures ∙ ap (λ xs. xs ++ moves_row show turn show.count) c.loop-turn.invariant
+    ∙ sym (rows_of-more show turn)
 
 pub invariant_of-result : goal.invariant_of-result
 invariant_of-result g c =
     let show = g.C.Coord.coordinate c.args.coord.now in
-    let position = c.loop-position.position in
-    let all : position ≡ c.count-count.result = omega arith in (
-      ap length c.loop-position.invariant.0 ∙ length-rows_of show position ∙ ap (λ n. n * show.turns) all
-          ∙ ap (λ n. c.count-count.result * n) (sym c.turns-turns.ensures),
-      ap length c.loop-position.invariant.1 ∙ length-each_below show.is_goal position ∙ all,
+    let turn = c.loop-turn.turn in
+    let all : turn ≡ c.turns-turns.result = omega arith in (
+      ap length c.loop-turn.invariant ∙ length-rows_of show turn ∙ ap (λ n. turn * n) (sym c.count-count.ensures)
+          ∙ ap (λ n. n * c.count-count.result) all ∙ omega arith,
+      ap length c.in_ok-goals.ensures ∙ length-each_below show.is_goal show.count ∙ sym c.count-count.ensures,
     )
 
 pub returns : goal.returns
 returns g c =
     let show = g.C.Coord.coordinate c.args.coord.now in
-    let all : c.loop-position.position ≡ c.count-count.result = omega arith in
-    ShowsSame-built show c.count-count.result c.turns-turns.result c.loop-position.targets.items c.loop-position.goals.items
+    let all : c.loop-turn.turn ≡ c.turns-turns.result = omega arith in
+    ShowsSame-built show c.count-count.result c.turns-turns.result c.loop-turn.targets.items c.in_ok-goals.goals.items
     c.stays_below.ensures c.count-count.ensures c.turns-turns.ensures c.count-count.type_inv
-    (c.loop-position.invariant.0 ∙ ap (rows_of show) all) (c.loop-position.invariant.1 ∙ ap (each_below show.is_goal) all)
+    (c.loop-turn.invariant ∙ ap (rows_of show) all) c.in_ok-goals.ensures

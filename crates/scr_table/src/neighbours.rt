@@ -1,0 +1,74 @@
+//! Where turns lead, and the least entries there.
+
+ghost use Rattle.std.specs.Prelude.{◌≡◌, ℕ, ◌+◌, ◌<◌, ◌≤◌, IfSome, length, slice_index};
+ghost use Rattle.scr_coord.specs.Coordinates.{moved};
+ghost use Rattle.scr_table.specs.Filled.{IsLeastNeighbour, lowered};
+
+use crate::blocks::BLOCK;
+use crate::fill::UNKNOWN;
+use scr_coord::{BARRED, Coord};
+
+/// The position after a turn, which is one of the coordinate's; `None` where the turn is barred.
+#[inline]
+pub(crate) fn step<C: Coord>(coord: &C, position: u32, turn: u32) -> Option<u32>
+    requires position { position < (C.coordinate coord.now).count }
+    requires turn { turn < (C.coordinate coord.now).turns }
+    ensures leads { result ≡ moved (C.coordinate coord.now) position turn }
+    ensures below { IfSome result (λ next. next < (C.coordinate coord.now).count) }
+{
+    coord.stays_below();
+    coord.after(position, turn)
+}
+
+/// The least entry that a turn leads to from a position, and `UNKNOWN` where each turn is barred.
+#[inline]
+pub(crate) fn least_neighbour<C: Coord>(coord: &C, entries: &[u8], position: u32) -> u8
+    requires entries { length entries.now ≡ (C.coordinate coord.now).count }
+    requires position { position < (C.coordinate coord.now).count }
+    ensures { IsLeastNeighbour (C.coordinate coord.now) entries.now position result }
+{
+    let mut least = UNKNOWN;
+    for turn in 0..coord.turns() {
+        if let Some(next) = step(coord, position, turn) {
+            least = least.min(entries[next as usize]);
+        }
+    }
+    least
+}
+
+/// The least entries that turns lead to from positions one after another, `start` first, at most as many as a block has.
+pub(crate) fn least_neighbours<C: Coord>(
+    coord: &C,
+    entries: &[u8],
+    start: u32,
+    length: usize,
+) -> [u8; BLOCK]
+    requires entries { length entries.now ≡ (C.coordinate coord.now).count }
+    requires positions { start + length ≤ (C.coordinate coord.now).count }
+    requires block { length ≤ 1024 }
+    ensures { (k : ℕ) → k < length → IsLeastNeighbour (C.coordinate coord.now) entries.now (start + k) (slice_index result k) }
+{
+    coord.stays_below();
+    let _count = coord.count();
+    let mut targets = [BARRED; BLOCK];
+    let mut least = [UNKNOWN; BLOCK];
+    for turn in 0..coord.turns() {
+        coord.targets(start, turn, &mut targets[..length]);
+        lower(&mut least, entries, &targets[..length]);
+    }
+    least
+}
+
+/// Lowers each of some numbers to the entry at its target, where that is a position and its entry is lower.
+fn lower(least: &mut [u8; BLOCK], entries: &[u8], targets: &[u32])
+    requires { length targets.now ≤ 1024 }
+    ensures { (k : ℕ) → k < length targets.now
+        → slice_index least.new k ≡ lowered entries.now (slice_index targets.now k) (slice_index least.old k) }
+{
+    for k in 0..targets.len() {
+        let target = targets[k] as usize;
+        if target < entries.len() {
+            least[k] = least[k].min(entries[target]);
+        }
+    }
+}
