@@ -114,7 +114,7 @@ fn sheet_size<R: Threads + Sync, G: Gate + Sync>(
     requires few { length rounds.now ≤ 16 }
     ensures { SizesMaking (settings_of seed.now usual_options) (round_parts 0 rounds.now) result }
 {
-    let tables = Tables::build(alloc, rounds)?;
+    let tables = Tables::build(rt, alloc, rounds, 1)?;
     laws::each_drawn_fairly(&tables);
     let making = Making::new(rt, alloc, &tables, seed, &Options::default(), gate);
     rounds_size(&making, rounds)

@@ -92,6 +92,13 @@ pub(crate) fn settings_of(seed: &Seed, options: &Options) -> Settings
     }
 }
 
+/// How many workers options ask for, from 1 to 64.
+pub(crate) fn workers_of(options: &Options) -> u32
+    ensures { (1 ≤ result) × (result ≤ 64) }
+{
+    options.workers.clamp(1, MOST_WORKERS)
+}
+
 /// What the scrambles of rounds are made with.
 #[derive(Drop)]
 pub(crate) struct Making<'a, R: Threads + Sync, G: Gate + Sync> {
@@ -127,7 +134,7 @@ impl<'a, R: Threads + Sync, G: Gate + Sync> Making<'a, R, G> {
             alloc,
             tables,
             settings: settings_of(seed, options),
-            workers: options.workers,
+            workers: workers_of(options),
             gate,
         }
     }

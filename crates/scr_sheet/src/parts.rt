@@ -14,7 +14,7 @@ ghost use Rattle.scr_sheet.specs.Outcome.{EndsCommand, EndsMaking, EndsParts, En
 ghost use Rattle.scr_sheet.specs.Making.{IsRoundMade};
 
 use crate::fault::Fault;
-use crate::making::{Making, RoundFault, settings_of};
+use crate::making::{Making, RoundFault, settings_of, workers_of};
 use scr_command::Options;
 use scr_list::{Round, read_rounds};
 use scr_notation::{Event, print};
@@ -59,7 +59,7 @@ fn make_sheet<R: Threads + Sync, O: Sink, G: Gate + Sync>(
     ensures { EndsMaking (settings_of seed.now options.now) (round_parts 0 rounds.now)
         (change_of O.held O.faults out.old out.new) result }
 {
-    let tables = Tables::build(alloc, rounds)?;
+    let tables = Tables::build(rt, alloc, rounds, workers_of(options))?;
     laws::each_drawn_fairly(&tables);
     let making = Making::new(rt, alloc, &tables, seed, options, gate);
     write_rounds(&making, rounds, out)
@@ -127,7 +127,8 @@ pub(crate) fn made_round<R: Threads + Sync, G: Gate + Sync>(
 }
 
 /// Draws the state of stream 0 of a seed, of which no minimum is asked, and writes the line of its scramble.
-pub(crate) fn write_one<O: Sink>(
+pub(crate) fn write_one<R: Threads + Sync, O: Sink>(
+    rt: &R,
     alloc: Global,
     event: Event,
     seed: &Seed,
@@ -137,7 +138,7 @@ pub(crate) fn write_one<O: Sink>(
         (change_of O.held O.faults out.old out.new) result }
     ensures memory { result ≡ Err NoMemory → HasTables event }
 {
-    let tables = Tables::of_event(alloc, event)?;
+    let tables = Tables::of_event(rt, alloc, event)?;
     laws::each_drawn_fairly(&tables);
     let settings = settings_of(seed, &Options::default());
     write_one_line(&tables, &settings, event, out)
@@ -170,7 +171,8 @@ fn write_one_line<O: Sink>(
 }
 
 /// Writes how many positions the tables of an event have at each distance.
-pub(crate) fn write_event_tables<O: Sink>(
+pub(crate) fn write_event_tables<R: Threads + Sync, O: Sink>(
+    rt: &R,
     alloc: Global,
     event: Event,
     out: &mut O,
@@ -179,7 +181,7 @@ pub(crate) fn write_event_tables<O: Sink>(
         ⊎ LacksTables (event ∷ []) (change_of O.held O.faults out.old out.new) result }
     ensures memory { result ≡ Err NoMemory → HasTables event }
 {
-    let tables = Tables::of_event(alloc, event)?;
+    let tables = Tables::of_event(rt, alloc, event)?;
     write_tables_of(&tables, event, out)?;
     Ok(())
 }

@@ -73,11 +73,11 @@ fn perform<R: Threads + Sync, S: Source, O: Sink, G: Gate + Sync>(
         (change_of O.held O.faults out.old out.new) result }
 {
     match read_command(alloc, words)? {
-        Command::One(event, seed) => write_one(alloc, event, &seed, out),
+        Command::One(event, seed) => write_one(rt, alloc, event, &seed, out),
         Command::Sheet(seed, options) => {
             write_sheet(rt, alloc, &seed, &options, source, out, gate)
         }
-        Command::Tables(event) => write_event_tables(alloc, event, out),
+        Command::Tables(event) => write_event_tables(rt, alloc, event, out),
         Command::Load(number) => write_load(rt, alloc, number, out, gate),
     }
 }

@@ -10,6 +10,7 @@ use scr_stages::StageTables;
 use scr_table::{BuildFault, DistanceTable, TableSet};
 use scr_twophase::PruneTables;
 use std::alloc::Global;
+use std::thread::Threads;
 
 /// The tables by which a 3x3x3 is solved.
 pub(crate) struct CubeTables {
@@ -30,14 +31,15 @@ impl Drop for CubeTables {
 }
 
 impl CubeTables {
-    /// All eight, or why one isn't built.
+    /// All eight, built by 1 to 64 workers, or why one isn't built.
     #[tactic(auto, unfolding(crate::specs::Events::family_lines))]
-    pub fn build(alloc: Global) -> Result<CubeTables, BuildFault>
+    pub fn build<R: Threads + Sync>(rt: &R, alloc: Global, workers: u32) -> Result<CubeTables, BuildFault>
+        requires workers { (1 ≤ workers) × (workers ≤ 64) }
         ensures whole { IfOk result (λ _. All HasNoGap (family_lines family.Cube333)) }
         ensures cause { IfErr result (IsCauseOf (family_lines family.Cube333)) }
     {
-        let stages = StageTables::build(alloc)?;
-        let prune = PruneTables::build(alloc)?;
+        let stages = StageTables::build(rt, alloc, workers)?;
+        let prune = PruneTables::build(rt, alloc, workers)?;
         Ok(CubeTables { stages, prune })
     }
 

@@ -20,6 +20,7 @@ use scr_sq1solve::Sq1Tables;
 use scr_table::{BuildFault, TableSet};
 use std::alloc::Global;
 use std::marker::Model;
+use std::thread::Threads;
 
 /// The tables of the events of a list, each built once, and of no others.
 pub struct Tables {
@@ -63,18 +64,24 @@ impl Drop for Tables {
 }
 
 impl Tables {
-    /// Builds the tables of the events of these rounds, each family's once, in the order of the families. A gap is that of
-    /// the first table that has one; memory can be wanting only where one of the events needs a table.
-    pub fn build(alloc: Global, rounds: &[Round]) -> Result<Tables, BuildFault>
+    /// Builds the tables of the events of these rounds by 1 to 64 workers, each family's once, in the order of the families. A
+    /// gap is that of the first table that has one; memory can be wanting only where one of the events needs a table.
+    pub fn build<R: Threads + Sync>(
+        rt: &R,
+        alloc: Global,
+        rounds: &[Round],
+        workers: u32,
+    ) -> Result<Tables, BuildFault>
+        requires workers { (1 ≤ workers) × (workers ≤ 64) }
         ensures events { IfOk result (λ tables.
             (event : EventOf) → Has tables event ↔ Contains (map (λ round. round.event) rounds.now) event) }
         ensures cause { IfErr result (IsBuildCause (map (λ round. round.event) rounds.now)) }
     {
-        let of_222 = small_tables(alloc, rounds, Family::Cube222, Event::C222)?;
-        let of_333 = cube_tables(alloc, rounds)?;
-        let of_pyram = small_tables(alloc, rounds, Family::Pyraminx, Event::Pyram)?;
-        let of_skewb = small_tables(alloc, rounds, Family::Skewb, Event::Skewb)?;
-        let of_sq1 = sq1_tables(alloc, rounds)?;
+        let of_222 = small_tables(rt, alloc, rounds, Family::Cube222, Event::C222, workers)?;
+        let of_333 = cube_tables(rt, alloc, rounds, workers)?;
+        let of_pyram = small_tables(rt, alloc, rounds, Family::Pyraminx, Event::Pyram, workers)?;
+        let of_skewb = small_tables(rt, alloc, rounds, Family::Skewb, Event::Skewb, workers)?;
+        let of_sq1 = sq1_tables(rt, alloc, rounds, workers)?;
         Ok(Tables {
             events: events_of(rounds),
             of_222,
@@ -85,18 +92,20 @@ impl Tables {
         })
     }
 
-    /// The tables of one event.
-    pub fn of_event(alloc: Global, event: Event) -> Result<Tables, BuildFault>
+    /// The tables of one event, built by one worker.
+    pub fn of_event<R: Threads + Sync>(rt: &R, alloc: Global, event: Event) -> Result<Tables, BuildFault>
         ensures event { IfOk result (λ tables. Has tables event) }
         ensures cause { IfErr result (IsBuildCause (event ∷ [])) }
     {
         Tables::build(
+            rt,
             alloc,
             &[Round {
                 event,
                 groups: 1,
                 least: 0,
             }],
+            1,
         )
     }
 
@@ -184,14 +193,17 @@ fn is_of(event: Event, family: Family) -> bool
 }
 
 /// The table of the event of a family that one table solves, where one of these rounds is of it.
-fn small_tables(
+fn small_tables<R: Threads + Sync>(
+    rt: &R,
     alloc: Global,
     rounds: &[Round],
     family: Family,
     event: Event,
+    workers: u32,
 ) -> Result<Option<SmallTables>, BuildFault>
     requires small { IsSome (small_line event) }
     requires of_family { family_of event ≡ Some family }
+    requires workers { (1 ≤ workers) × (workers ≤ 64) }
     ensures built { let events = map (λ round. round.event) rounds.now in
         IfOk result (λ tables. IsTrue (asks_for events family) → IsSome tables) }
     ensures event { IfOk result (λ tables. IfSome tables (λ built. built.event ≡ event)) }
@@ -199,7 +211,7 @@ fn small_tables(
     ensures cause { IfErr result (IsCauseOf (lines_asked (map (λ round. round.event) rounds.now) family)) }
 {
     if asks_for(rounds, family) {
-        let tables = SmallTables::build(alloc, event)?;
+        let tables = SmallTables::build(rt, alloc, event, workers)?;
         Ok(Some(tables))
     } else {
         Ok(None)
@@ -207,14 +219,20 @@ fn small_tables(
 }
 
 /// The tables of the 3x3x3, where one of these rounds is of one.
-fn cube_tables(alloc: Global, rounds: &[Round]) -> Result<Option<CubeTables>, BuildFault>
+fn cube_tables<R: Threads + Sync>(
+    rt: &R,
+    alloc: Global,
+    rounds: &[Round],
+    workers: u32,
+) -> Result<Option<CubeTables>, BuildFault>
+    requires workers { (1 ≤ workers) × (workers ≤ 64) }
     ensures built { let events = map (λ round. round.event) rounds.now in
         IfOk result (λ tables. IsTrue (asks_for events family.Cube333) → IsSome tables) }
     ensures whole { IfOk result (λ _. All HasNoGap (lines_asked (map (λ round. round.event) rounds.now) family.Cube333)) }
     ensures cause { IfErr result (IsCauseOf (lines_asked (map (λ round. round.event) rounds.now) family.Cube333)) }
 {
     if asks_for(rounds, Family::Cube333) {
-        let tables = CubeTables::build(alloc)?;
+        let tables = CubeTables::build(rt, alloc, workers)?;
         Ok(Some(tables))
     } else {
         Ok(None)
@@ -222,14 +240,20 @@ fn cube_tables(alloc: Global, rounds: &[Round]) -> Result<Option<CubeTables>, Bu
 }
 
 /// The tables of the Square-1, where one of these rounds is of it.
-fn sq1_tables(alloc: Global, rounds: &[Round]) -> Result<Option<Sq1Tables>, BuildFault>
+fn sq1_tables<R: Threads + Sync>(
+    rt: &R,
+    alloc: Global,
+    rounds: &[Round],
+    workers: u32,
+) -> Result<Option<Sq1Tables>, BuildFault>
+    requires workers { (1 ≤ workers) × (workers ≤ 64) }
     ensures built { let events = map (λ round. round.event) rounds.now in
         IfOk result (λ tables. IsTrue (asks_for events family.Square1) → IsSome tables) }
     ensures whole { IfOk result (λ _. All HasNoGap (lines_asked (map (λ round. round.event) rounds.now) family.Square1)) }
     ensures cause { IfErr result (IsCauseOf (lines_asked (map (λ round. round.event) rounds.now) family.Square1)) }
 {
     if asks_for(rounds, Family::Square1) {
-        let tables = Sq1Tables::build(alloc)?;
+        let tables = Sq1Tables::build(rt, alloc, workers)?;
         Ok(Some(tables))
     } else {
         Ok(None)

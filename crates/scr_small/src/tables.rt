@@ -14,6 +14,7 @@ use scr_table::{BuildFault, DistanceTable, LineTable, TableName};
 use scr_tetra::{SkewbNumbers, TetraminxNumbers};
 use std::alloc::Global;
 use std::marker::Model;
+use std::thread::Threads;
 
 /// The one table of an event whose states it solves, with the moves by which it is walked down.
 pub struct SmallTables {
@@ -51,18 +52,24 @@ impl Model for SmallTables {
 }
 
 impl SmallTables {
-    /// The table of an event that one table solves, or why there is none.
-    pub fn build(alloc: Global, event: Event) -> Result<SmallTables, BuildFault>
-        requires { IsSome (small_line event) }
+    /// The table of an event that one table solves, built by 1 to 64 workers, or why there is none.
+    pub fn build<R: Threads + Sync>(
+        rt: &R,
+        alloc: Global,
+        event: Event,
+        workers: u32,
+    ) -> Result<SmallTables, BuildFault>
+        requires one_table { IsSome (small_line event) }
+        requires workers { (1 ≤ workers) × (workers ≤ 64) }
         ensures event { IfOk result (λ tables. tables.event ≡ event) }
         ensures table { IfOk result IsBuilt }
         ensures whole { IfOk result (λ _. All HasNoGap (small_lines event)) }
         ensures cause { IfErr result (IsCauseOf (small_lines event)) }
     {
         let held = match event {
-            Event::C222 => Held::Corners(LineTable::build(alloc)?),
-            Event::Pyram => Held::Pyramid(LineTable::build(alloc)?),
-            Event::Skewb => Held::Skewb(LineTable::build(alloc)?),
+            Event::C222 => Held::Corners(LineTable::build(rt, alloc, workers)?),
+            Event::Pyram => Held::Pyramid(LineTable::build(rt, alloc, workers)?),
+            Event::Skewb => Held::Skewb(LineTable::build(rt, alloc, workers)?),
             _ => unreachable!(),
         };
         Ok(SmallTables { held })

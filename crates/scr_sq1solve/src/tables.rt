@@ -6,6 +6,7 @@ ghost use Rattle.scr_sq1solve.specs.Tables.{sq1_lines};
 use crate::lines::{PairingsLine, ShapesLine, SquareLine};
 use scr_table::{BuildFault, DistanceTable, LineTable, TableName, TableSet, table_named};
 use std::alloc::Global;
+use std::thread::Threads;
 
 /// The tables of the three stages, with the moves by which they are walked down.
 #[derive(Drop)]
@@ -24,11 +25,15 @@ impl TableSet for Sq1Tables {
 
     ghost distances = { λ t. t.shapes ∷ t.pairings ∷ t.square ∷ [] };
 
-    fn build(alloc: Global) -> Result<Sq1Tables, BuildFault> {
+    fn build<R: Threads + Sync>(
+        rt: &R,
+        alloc: Global,
+        workers: u32,
+    ) -> Result<Sq1Tables, BuildFault> {
         Ok(Sq1Tables {
-            shapes: LineTable::build(alloc)?,
-            pairings: LineTable::build(alloc)?,
-            square: LineTable::build(alloc)?,
+            shapes: LineTable::build(rt, alloc, workers)?,
+            pairings: LineTable::build(rt, alloc, workers)?,
+            square: LineTable::build(rt, alloc, workers)?,
         })
     }
 

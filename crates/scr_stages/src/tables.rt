@@ -6,6 +6,7 @@ ghost use Rattle.scr_stages.specs.Tables.{stage_lines};
 use crate::lines::{FlipsLine, HalvesLine, SliceLine, TetradsLine};
 use scr_table::{BuildFault, DistanceTable, LineTable, TableName, TableSet, table_named};
 use std::alloc::Global;
+use std::thread::Threads;
 
 /// The tables of the four stages, with the moves by which they are walked down.
 #[derive(Drop)]
@@ -25,12 +26,16 @@ impl TableSet for StageTables {
 
     ghost distances = { λ t. t.flips ∷ t.slice ∷ t.tetrads ∷ t.halves ∷ [] };
 
-    fn build(alloc: Global) -> Result<StageTables, BuildFault> {
+    fn build<R: Threads + Sync>(
+        rt: &R,
+        alloc: Global,
+        workers: u32,
+    ) -> Result<StageTables, BuildFault> {
         Ok(StageTables {
-            flips: LineTable::build(alloc)?,
-            slice: LineTable::build(alloc)?,
-            tetrads: LineTable::build(alloc)?,
-            halves: LineTable::build(alloc)?,
+            flips: LineTable::build(rt, alloc, workers)?,
+            slice: LineTable::build(rt, alloc, workers)?,
+            tetrads: LineTable::build(rt, alloc, workers)?,
+            halves: LineTable::build(rt, alloc, workers)?,
         })
     }
 

@@ -1,15 +1,17 @@
 -- What is so of the entries of a table while it is built.
-use Rattle.std.proofs.Common.{◌≡◌, ◌≢◌, ℕ, zero, suc, ◌+◌, ◌<◌, ◌≤◌, Bool, true, false, List, [], ◌∷◌, ◌⊎◌, inl, inr, length, get_or, Some, None, min, refl, sym, ap, ◌∙◌, subst, arith, get_or-set_other, get_or-set_same}
-use Rattle.std.specs.Prelude.{if◌then◌else◌}
+use Rattle.std.proofs.Common.{◌≡◌, ◌≢◌, ℕ, zero, suc, ◌+◌, ◌^◌, ◌<◌, ◌≤◌, ◌↔◌, Bool, true, false, List, [], ◌∷◌, ◌⊎◌, inl, inr, length, get_or, Option, Some, None, min, refl, sym, ap, ◌∙◌, subst, arith, length-set}
+use Rattle.std.specs.Prelude.{if◌then◌else◌, nat_eq, unwrap_or}
 use Rattle.std.proofs.Math.ListN.{set}
+use Rattle.std.proofs.Math.Bool.{Bool-set}
 use Rattle.std.proofs.Math.Logic.{∥∥₁_elim, ∥∥₁_map}
-use Rattle.std.proofs.lemmas.Bool.{cases_order, cases_lt}
-use Rattle.scr_coord.specs.Coordinates.{Coordinate, StaysBelow, moved, IsGoal}
+use Rattle.std.proofs.lemmas.Bool.{cases_order, cases_lt, cases_eq, eqb-true, eqb-false, lt-ltb, le-ltb}
+use Rattle.scr_coord.specs.Coordinates.{Coordinate, StaysBelow, moved, IsGoal, target, barred}
+use Rattle.scr_coord.proofs.Written.{written_at}
 use Rattle.scr_combinatorics.specs.FirstWord.{LeadsTo, IsDistance}
-use Rattle.scr_combinatorics.proofs.FirstWordLaws.{LeadsTo-empty, IsGoal-empty, LeadsTo-cons, LeadsTo-parts, IsDistance-goal}
+use Rattle.scr_combinatorics.proofs.FirstWordLaws.{LeadsTo-empty, IsGoal-empty, LeadsTo-cons, LeadsTo-parts, IsDistance-goal, IsGoal-distance}
 use Rattle.scr_table.specs.Distances.{IsFirstGap}
-use Rattle.scr_table.specs.Filled.{IsKnown, AreKnown, Neighbours, IsConsistent}
-use Rattle.scr_table.proofs.StepLaws.{moved-below}
+use Rattle.scr_table.specs.Filled.{IsKnown, AreKnown, AreMarked, Neighbours, IsLeastNeighbour, IsAgreed, IsNextEntry, next_entry, lowered}
+use Rattle.scr_table.proofs.StepLaws.{moved-turn, moved-below}
 
 module _ (c : Coordinate) where
   -- what is entered at a position by whether it is a goal is known of all words of no turn
@@ -24,45 +26,90 @@ module _ (c : Coordinate) where
       some_turn [] l = let goal : c.is_goal p ≡ true = IsGoal-empty (moved c) (IsGoal c) p l in absurd (cc)
       some_turn (t ∷ w) l = omega arith
 
-  -- what is known of longer words is known of shorter ones
-  pub IsKnown-fewer : (level p entry : ℕ) → IsKnown c (level + 1) p entry → IsKnown c level p entry
-  IsKnown-fewer level p entry h = record { found = h.found; left = λ e w l. omega (arith, h.left e w l) }
+  -- a known entry is 0 exactly at a goal
+  pub AreMarked-known : (level : ℕ) (entries : List ℕ) → AreKnown c level entries → AreMarked c entries
+  AreMarked-known level entries h = record { positions = h.positions; goals = λ p lt. (is_goal p lt, is_zero p lt) }
+    where
+      is_goal : (p : ℕ) → p < c.count → get_or entries p 0 ≡ 0 → IsGoal c p
+      is_goal p lt e =
+          let P : ℕ → Type 0 = λ d. IsDistance (moved c) (IsGoal c) p d in
+          IsGoal-distance (moved c) (IsGoal c) p (Bool-set (c.is_goal p) true)
+          (subst P e ((h.each p lt).found (λ far. omega (arith, e, far))))
+
+      is_zero : (p : ℕ) → p < c.count → IsGoal c p → get_or entries p 0 ≡ 0
+      is_zero p lt goal =
+          let here = LeadsTo-empty (moved c) (IsGoal c) p goal in
+          elim (cases_eq (get_or entries p 0) 255) [
+            | inl far ↦ absurd (omega (arith, (h.each p lt).left far [] here))
+            | inr known ↦ omega (arith, ((h.each p lt).found known).least [] here)
+          ]
+
+  -- what is entered in place of the mark leaves the goals alone
+  pub AreMarked-written : (entries : List ℕ) (p entry : ℕ) → p < length entries → get_or entries p 0 ≡ 255 → entry ≢ 0
+      → AreMarked c entries → AreMarked c (set entries p entry)
+  AreMarked-written entries p entry inside unknown some h = record {
+    positions = length-set entries p entry ∙ h.positions;
+    goals = λ k lt. written_at (λ k e. (e ≡ 0) ↔ IsGoal c k) entries p entry inside here k (λ _. h.goals k lt);
+  }
+    where
+      here : (entry ≡ 0) ↔ IsGoal c p
+      here =
+          (λ none. absurd (some none), λ goal. absurd (omega (arith, unknown, (h.goals p (omega (arith, inside, h.positions))).1 goal)))
 
   -- a distance that is known stays known
   pub IsKnown-found : (level next p entry : ℕ) → entry ≢ 255 → IsKnown c level p entry → IsKnown c next p entry
   IsKnown-found level next p entry other h = record { found = h.found; left = λ same. absurd (other same) }
 
-  -- Entries that agree with those around them are the distances.
-  module _ (below : StaysBelow c) (entries : List ℕ) (each : (p : ℕ) → p < c.count → IsConsistent c entries p) where
-    word_from : (d p : ℕ) → p < c.count → get_or entries p 0 ≡ d → (w : List ℕ) × LeadsTo (moved c) (IsGoal c) p w × (length w ≡ d)
-    word_from zero p lt e = ([], LeadsTo-empty (moved c) (IsGoal c) p ((each p lt).goal.0 e), refl)
-    word_from (suc d) p lt e =
-        let turn = (each p lt).lowers d (omega arith) in
-        let rest = word_from d turn.1 (moved-below c below p turn.0 turn.1 lt turn.2) turn.3 in
-        (turn.0 ∷ rest.0, LeadsTo-cons (moved c) (IsGoal c) p turn.1 turn.0 rest.0 turn.2 rest.1, omega (arith, rest.2))
+  -- Entries up to a level that agree with those around them are the distances.
+  module _ (below : StaysBelow c) (level : ℕ) (small : level < 255) (entries : List ℕ) (marked : AreMarked c entries)
+      (each : (p : ℕ) → p < c.count → IsAgreed c level entries p) where
+    word_from : (d p : ℕ) → p < c.count → get_or entries p 0 ≡ d → d ≢ 255
+        → (w : List ℕ) × LeadsTo (moved c) (IsGoal c) p w × (length w ≡ d)
+    word_from zero p lt e known = ([], LeadsTo-empty (moved c) (IsGoal c) p ((marked.goals p lt).0 e), refl)
+    word_from (suc d) p lt e known =
+        let (least, is, agrees) = each p lt in
+        let one_less = agrees.known (λ same. known (sym e ∙ same)) (λ none. omega (arith, e, none)) in
+        let (t, q, leads, entry) = is.some (λ same. omega (arith, one_less.0, one_less.1, same)) in
+        let rest = word_from d q (moved-below c below p t q lt leads) (omega (arith, one_less.0, entry, e)) (λ same. omega (arith, one_less.1, e, same)) in
+        (t ∷ rest.0, LeadsTo-cons (moved c) (IsGoal c) p q t rest.0 leads rest.1, omega (arith, rest.2))
 
-    none_shorter : (w : List ℕ) (p : ℕ) → p < c.count → LeadsTo (moved c) (IsGoal c) p w → get_or entries p 0 ≤ length w
-    none_shorter [] p lt l = omega (arith, (each p lt).goal.1 (IsGoal-empty (moved c) (IsGoal c) p l))
+    none_shorter : (w : List ℕ) (p : ℕ) → p < c.count → LeadsTo (moved c) (IsGoal c) p w
+        → (get_or entries p 0 ≢ 255 → get_or entries p 0 ≤ length w) × (get_or entries p 0 ≡ 255 → level < length w)
+    none_shorter [] p lt l =
+        let goal : get_or entries p 0 ≡ 0 = (marked.goals p lt).1 (IsGoal-empty (moved c) (IsGoal c) p l) in
+        (λ known. omega (arith, goal), λ unknown. absurd (omega (arith, goal, unknown)))
     none_shorter (t ∷ w) p lt l =
         let parts = LeadsTo-parts (moved c) (IsGoal c) p t w l in
-        omega (
-          arith,
-          (each p lt).no_lower t parts.0 parts.1,
-          none_shorter w parts.0 (moved-below c below p t parts.0 lt parts.1) parts.2,
+        let q = parts.0 in
+        let rest = none_shorter w q (moved-below c below p t q lt parts.1) parts.2 in
+        let (least, is, agrees) = each p lt in
+        let near = is.at_most t q parts.1 in (
+          λ known.
+              elim (cases_eq (get_or entries p 0) 0) [
+                | inl goal ↦ omega (arith, goal)
+                | inr other ↦
+                    let one_less = agrees.known known other in
+                    elim (cases_eq (get_or entries q 0) 255) [
+                      | inl far ↦ omega (arith, one_less.1, rest.1 far)
+                      | inr there ↦ omega (arith, one_less.0, near, rest.0 there)
+                    ]
+              ],
+          λ unknown.
+              elim (cases_eq (get_or entries q 0) 255) [
+                | inl far ↦ omega (arith, rest.1 far)
+                | inr there ↦ omega (arith, agrees.unknown unknown, near, rest.0 there)
+              ],
         )
 
-    pub IsDistance-consistent : (p : ℕ) → p < c.count → IsDistance (moved c) (IsGoal c) p (get_or entries p 0)
-    IsDistance-consistent p lt = record {
-      reached = ∣ word_from (get_or entries p 0) p lt refl ∣₁;
-      least = λ w l. none_shorter w p lt l;
-    }
-
-    pub AreKnown-consistent : (level : ℕ) → level < 255 → length entries ≡ c.count → AreKnown c level entries
-    AreKnown-consistent level small same = record {
-      positions = same;
+    pub AreKnown-agreed : AreKnown c level entries
+    AreKnown-agreed = record {
+      positions = marked.positions;
       each = λ p lt. record {
-        found = λ _. IsDistance-consistent p lt;
-        left = λ e w l. omega (arith, none_shorter w p lt l);
+        found = λ known. record {
+          reached = ∣ word_from (get_or entries p 0) p lt refl known ∣₁;
+          least = λ w l. (none_shorter w p lt l).0 known;
+        };
+        left = λ unknown w l. (none_shorter w p lt l).1 unknown;
       };
     }
 
@@ -124,17 +171,46 @@ module _ (c : Coordinate) where
             let q = parts.0 in
             omega (arith, rest_long t q w parts.1 parts.2 (get_or entries q 0) refl (each q (moved-below c below p t q lt parts.1)))
 
--- The entries in the middle of a level: those of the positions below one are looked at.
-pub record AreSwept (c : Coordinate) (level done : ℕ) (entries : List ℕ) : Type 0 where
-  pub each : (k : ℕ) → k < c.count → IsKnown c level k (get_or entries k 0)
-  pub swept : (k : ℕ) → k < done → IsKnown c (level + 1) k (get_or entries k 0)
+-- an entry of the next level tells its position
+pub IsKnown-next : (c : Coordinate) → StaysBelow c → (level : ℕ) → level < 254 → (entries : List ℕ) → AreKnown c level entries
+    → (p next : ℕ) → p < c.count → IsNextEntry c level entries p next → IsKnown c (level + 1) p next
+IsKnown-next c below level small entries known p next lt is = by_entry (cases_eq (get_or entries p 0) 255)
+  where
+    by_least : get_or entries p 0 ≡ 255 → (least : ℕ) → IsLeastNeighbour c entries p least → next ≡ next_entry level 255 least
+        → (b : Bool) → nat_eq least level ≡ b → IsKnown c (level + 1) p next
+    by_least unknown least near e true same =
+        let here : next ≡ level + 1 = e ∙ ap (λ b. if b then level + 1 else 255) same in
+        let equal : least ≡ level = eqb-true least level same in
+        let P : ℕ → Type 0 = λ d. Neighbours c entries p d in
+        rw here (IsKnown-reached c below level small entries p lt known.each unknown (subst P equal (near.some (λ far. omega (arith, far, equal)))))
+    by_least unknown least near e false same =
+        let here : next ≡ 255 = e ∙ ap (λ b. if b then level + 1 else 255) same in
+        rw here (
+          IsKnown-beyond c below level small entries p lt known.each unknown least (eqb-false least level same) near.at_most near.some
+        )
 
--- one position more of a level
-pub AreSwept-written : (c : Coordinate) (level p entry : ℕ) (entries : List ℕ) → p < length entries → IsKnown c (level + 1) p entry
-    → AreSwept c level p entries → AreSwept c level (p + 1) (set entries p entry)
-AreSwept-written c level p entry entries inside known h = record {
-  each = λ k lt. written_at (IsKnown c level) entries p entry inside (IsKnown-fewer c level p entry known) k (λ _. h.each k lt);
-  swept = each_written (IsKnown c (level + 1)) entries p entry inside h.swept known;
+    by_entry : (get_or entries p 0 ≡ 255) ⊎ (get_or entries p 0 ≢ 255) → IsKnown c (level + 1) p next
+    by_entry (inl unknown) =
+        let (least, near, e) = is.reached unknown in by_least unknown least near e (nat_eq least level) refl
+    by_entry (inr there) =
+        let here : next ≡ get_or entries p 0 = is.kept there in
+        rw here (IsKnown-found c level (level + 1) p (get_or entries p 0) there (known.each p lt))
+
+-- what all words of a level tell is known of all longer ones where each position is known
+pub AreKnown-all : (c : Coordinate) (level more : ℕ) (entries : List ℕ) → ((p : ℕ) → p < c.count → get_or entries p 0 ≢ 255)
+    → AreKnown c level entries → AreKnown c more entries
+AreKnown-all c level more entries there h = record {
+  positions = h.positions;
+  each = λ p lt. IsKnown-found c level more p (get_or entries p 0) (there p lt) (h.each p lt);
+}
+
+-- and of shorter ones anyway
+pub AreKnown-fewer : (c : Coordinate) (level fewer : ℕ) (entries : List ℕ) → fewer ≤ level → AreKnown c level entries
+    → AreKnown c fewer entries
+AreKnown-fewer c level fewer entries less h = record {
+  positions = h.positions;
+  each = λ p lt.
+      record { found = (h.each p lt).found; left = λ unknown w l. omega (arith, less, (h.each p lt).left unknown w l) };
 }
 
 -- The least entry among those of some neighbours: those that the turns below one lead to.
@@ -174,6 +250,40 @@ module _ (c : Coordinate) (entries : List ℕ) (p turn least : ℕ) (h : IsLeast
           let same : least ≡ new = omega arith in
           let P : ℕ → Type 0 = λ e. Neighbours c entries p e in
           subst P same (h.some (λ e. known (sym same ∙ e)))
+
+-- no turn yet
+pub IsLeast-none : (c : Coordinate) (entries : List ℕ) (p : ℕ) → IsLeast c entries p 0 255
+IsLeast-none c entries p = record { at_most = λ t q lt e. absurd (omega arith); some = λ known. absurd (known refl) }
+
+-- the lower of a number and the entry at a turn's target
+pub IsLeast-lowered : (c : Coordinate) → StaysBelow c → c.count < 2 ^ 32 → (entries : List ℕ) → length entries ≡ c.count
+    → (p turn least new : ℕ) → p < c.count → turn < c.turns → new ≡ lowered entries (target c p turn) least
+    → IsLeast c entries p turn least → IsLeast c entries p (turn + 1) new
+IsLeast-lowered c below few entries positions p turn least new at lt is h = by_target (c.after p turn) refl
+  where
+    moves : moved c p turn ≡ c.after p turn
+    moves = ap (λ b. if b then c.after p turn else None) (lt-ltb turn c.turns lt)
+
+    by_target : (o : Option ℕ) → c.after p turn ≡ o → IsLeast c entries p (turn + 1) new
+    by_target None e =
+        let far : length entries ≤ target c p turn = omega (arith, positions, few, ap (λ o. unwrap_or o barred) e) in
+        let same : new ≡ least = is ∙ ap (λ b. if b then min least (get_or entries (target c p turn) 0) else least) (le-ltb (target c p turn) (length entries) far) in
+        rw same (IsLeast-barred c entries p turn least h (moves ∙ e))
+    by_target (Some q) e =
+        let there : target c p turn ≡ q = ap (λ o. unwrap_or o barred) e in
+        let inside : q < length entries = omega (arith, positions, below p turn q at lt e) in
+        IsLeast-next c entries p turn least h q new (moves ∙ e) (
+          is ∙ ap (λ t. lowered entries t least) there
+          ∙ ap (λ b. if b then min least (get_or entries q 0) else least) (lt-ltb q (length entries) inside)
+        )
+
+-- all turns
+pub IsLeastNeighbour-all : (c : Coordinate) (entries : List ℕ) (p done least : ℕ) → c.turns ≤ done → IsLeast c entries p done least
+    → IsLeastNeighbour c entries p least
+IsLeastNeighbour-all c entries p done least all h = record {
+  at_most = λ t q e. h.at_most t q (omega (arith, all, (moved-turn c p t q e).0)) e;
+  some = h.some;
+}
 
 -- The first entry above the bound is that of the first gap.
 pub IsFirstGap-above : (c : Coordinate) (bound index : ℕ) (entries : List ℕ) → bound < 255 → AreKnown c bound entries

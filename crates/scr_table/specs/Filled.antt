@@ -1,5 +1,5 @@
 -- What is so of the entries of a table while it is built. One number stands for 'not known yet'.
-use Rattle.std.specs.Prelude.{◌≡◌, ◌≢◌, ℕ, ◌+◌, ◌*◌, ◌/◌, ◌%◌, ◌<◌, ◌≤◌, ◌↔◌, ◌==◌, ◌&&◌, nat_lt, min, if◌then◌else◌, IsTrue, IsSomeAnd, is_some, List, length, slice_index, slice_index_or, Option, Some, None}
+use Rattle.std.specs.Prelude.{◌≡◌, ◌≢◌, ℕ, ◌+◌, ◌*◌, ◌/◌, ◌%◌, ◌<◌, ◌≤◌, ◌↔◌, ◌==◌, ◌&&◌, nat_lt, min, if◌then◌else◌, List, length, slice_index, slice_index_or, Option, Some, None}
 use Rattle.scr_coord.specs.Coordinates.{Coordinate, moved, IsGoal}
 use Rattle.scr_combinatorics.specs.FirstWord.{IsDistance}
 use Rattle.scr_table.specs.Distances.{NoneWithin}
@@ -74,7 +74,8 @@ IsCheckedBlock c level entries block None = Unit {0}
 
 -- a block is there
 abbrev pub IsThere : Option (Option (List ℕ)) → Type 0
-IsThere block = IsSomeAnd block (λ next. IsTrue (is_some next))
+IsThere (Some (Some next)) = Unit {0}
+IsThere _ = ⊥
 
 -- the entry of a position after the blocks that there are were entered
 abbrev pub entered_at : Option (Option (List ℕ)) → ℕ → ℕ → ℕ

@@ -1,27 +1,44 @@
 //! Entries block by block.
 
-ghost use Rattle.std.specs.Prelude.{◌≡◌, ℕ, ◌+◌, ◌*◌, ◌<◌, ◌≤◌, ◌↔◌, IsTrue, Any, length, slice_index};
+ghost use Rattle.std.specs.Prelude.{◌≡◌, ◌≢◌, ℕ, ◌+◌, ◌*◌, ◌^◌, ◌<◌, ◌≤◌, length, slice_index};
+ghost use Rattle.std.specs.Bool.{OnTrue, OnFalse};
 ghost use Rattle.scr_table.specs.Filled.{entered};
+
+use crate::fill::UNKNOWN;
 
 /// How many positions a block has, but for the last.
 pub(crate) const BLOCK: usize = 1024;
 
-/// What workers made of each block: its entries, where there is something to enter.
-pub(crate) type Blocks = Vec<Option<Option<[u8; BLOCK]>>>;
+/// What a worker made of a block: its entries, where there is something to enter. There is nothing at all before.
+pub(crate) type Made = Option<Option<[u8; BLOCK]>>;
 
-/// Whether an entry stands among some. All are looked at, which is faster than to stop where it stands.
-pub(crate) fn contains(entries: &[u8], entry: u8) -> bool
-    ensures { IsTrue result ↔ Any (λ e. e ≡ entry) entries.now }
+/// Whether an entry stands at one of the positions from `start` up to `end`. All are looked at, which is faster than to stop
+/// there.
+pub(crate) fn contains(entries: &[u8], start: usize, end: usize, entry: u8) -> bool
+    requires { end ≤ length entries.now }
+    ensures found { OnTrue result ((p : ℕ) × (start ≤ p) × (p < end) × (slice_index entries.now p ≡ entry)) }
+    ensures none { OnFalse result ((p : ℕ) → start ≤ p → p < end → slice_index entries.now p ≢ entry) }
 {
     let mut found = false;
-    for at in 0..entries.len() {
-        found = found | (entries[at] == entry);
+    for position in start..end {
+        if entries[position] == entry {
+            found = true;
+        }
     }
     found
 }
 
-/// Enters the blocks that there are.
-pub(crate) fn enter_blocks(entries: &mut [u8], blocks: &[Option<Option<[u8; BLOCK]>>])
+/// A block with nothing known.
+pub(crate) fn unknown_block() -> [u8; BLOCK]
+    ensures long { length result ≡ 1024 }
+    ensures unknown { (k : ℕ) → k < 1024 → slice_index result k ≡ UNKNOWN }
+{
+    [UNKNOWN; BLOCK]
+}
+
+/// Enters the blocks that there are, fewer than 2^32.
+pub(crate) fn enter_blocks(entries: &mut [u8], blocks: &[Made])
+    requires { length blocks.now < 2 ^ 32 }
     ensures { (p : ℕ) → p < length entries.old → slice_index entries.new p ≡ entered blocks.now entries.old p }
 {
     for block in 0..blocks.len() {
@@ -33,6 +50,7 @@ pub(crate) fn enter_blocks(entries: &mut [u8], blocks: &[Option<Option<[u8; BLOC
 
 /// Enters one block.
 fn enter_block(entries: &mut [u8], block: usize, next: &[u8; BLOCK])
+    requires { block < 2 ^ 32 }
     ensures entered { (k : ℕ) → k < 1024 → 1024 * block + k < length entries.old
         → slice_index entries.new (1024 * block + k) ≡ slice_index next.now k }
     ensures kept { (p : ℕ) → p < 1024 * block → slice_index entries.new p ≡ slice_index entries.old p }

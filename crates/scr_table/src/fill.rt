@@ -3,11 +3,10 @@
 //! these levels are exact, and makes the next level by the same looks; each level behind is made from the one before. Where
 //! the entries don't agree, as where turns can't be undone, all levels are made so.
 
-ghost use Rattle.std.specs.Prelude.{◌≡◌, ◌≤◌, length};
-ghost use Rattle.std.specs.Result.{OnOk};
+ghost use Rattle.std.specs.Prelude.{◌≡◌, ◌≤◌, IfOk, length};
 ghost use Rattle.scr_table.specs.Filled.{AreKnown, AreMarked, block_count};
 
-use crate::blocks::{BLOCK, Blocks, contains};
+use crate::blocks::{BLOCK, Made, contains};
 use crate::levels::{checked_level, next_level};
 use scr_coord::{BARRED, Coord};
 use std::alloc::{AllocError, Global};
@@ -16,31 +15,49 @@ use std::thread::Threads;
 /// What stands at a position whose distance is not known yet. It is greater than any bound.
 pub(crate) const UNKNOWN: u8 = 255;
 
-/// Fills the entries, one for each position: with the position's distance, or with `UNKNOWN` where no word of at most
-/// `bound` turns leads to a goal. `bound` is at most 24. 1 to 64 workers share the late levels.
-pub(crate) fn fill<R: Threads + Sync, C: Coord + Sync>(
+/// The entries, one for each position: the position's distance, or `UNKNOWN` where no word of at most `bound` turns leads to
+/// a goal. `bound` is at most 24. 1 to 64 workers share the late levels.
+pub(crate) fn filled<R: Threads + Sync, C: Coord + Sync>(
     rt: &R,
     alloc: Global,
     coord: &C,
-    entries: &mut [u8],
     bound: u8,
     workers: u32,
-) -> Result<(), AllocError>
-    requires entries { length entries.old ≡ (C.coordinate coord.now).count }
+) -> Result<Vec<u8>, AllocError>
     requires few_turns { (C.coordinate coord.now).turns ≤ 256 }
     requires bound { bound ≤ 24 }
     requires workers { (1 ≤ workers) × (workers ≤ 64) }
-    ensures { OnOk result (AreKnown (C.coordinate coord.now) bound entries.new) }
+    ensures { IfOk result (λ entries. AreKnown (C.coordinate coord.now) bound entries.items) }
 {
-    let mut blocks: Blocks = vec![in alloc; None; entries.len().div_ceil(BLOCK)]?;
-    let first = early_levels(rt, coord, entries, &mut blocks, bound, workers);
+    let mut entries = vec![in alloc; UNKNOWN; coord.count() as usize]?;
+    let mut blocks: Vec<Made> = vec![in alloc; None; entries.len().div_ceil(BLOCK)]?;
+    fill(rt, coord, &mut entries[..], &mut blocks[..], bound, workers);
+    Ok(entries)
+}
+
+/// Fills the entries, with room for what workers make of each block.
+fn fill<R: Threads + Sync, C: Coord + Sync>(
+    rt: &R,
+    coord: &C,
+    entries: &mut [u8],
+    blocks: &mut [Made],
+    bound: u8,
+    workers: u32,
+)
+    requires entries { length entries.old ≡ (C.coordinate coord.now).count }
+    requires blocks { length blocks.old ≡ block_count (length entries.old) }
+    requires few_turns { (C.coordinate coord.now).turns ≤ 256 }
+    requires bound { bound ≤ 24 }
+    requires workers { (1 ≤ workers) × (workers ≤ 64) }
+    ensures { AreKnown (C.coordinate coord.now) bound entries.new }
+{
+    let first = early_levels(rt, coord, entries, blocks, bound, workers);
     for level in first..bound {
-        if !contains(entries, UNKNOWN) {
-            return Ok(());
+        if !contains(entries, 0, entries.len(), UNKNOWN) {
+            return;
         }
-        next_level(rt, coord, entries, &mut blocks, level, workers);
+        next_level(rt, coord, entries, blocks, level, workers);
     }
-    Ok(())
 }
 
 /// Enters the first levels, as many as are cheaper to push, and answers the last of them. It may be one beyond `bound`, which
@@ -49,18 +66,17 @@ fn early_levels<R: Threads + Sync, C: Coord + Sync>(
     rt: &R,
     coord: &C,
     entries: &mut [u8],
-    blocks: &mut Blocks,
+    blocks: &mut [Made],
     bound: u8,
     workers: u32,
 ) -> u8
     requires entries { length entries.old ≡ (C.coordinate coord.now).count }
-    requires blocks { length blocks.old.items ≡ block_count (length entries.old) }
+    requires blocks { length blocks.old ≡ block_count (length entries.old) }
     requires few_turns { (C.coordinate coord.now).turns ≤ 256 }
     requires bound { bound ≤ 24 }
     requires workers { (1 ≤ workers) × (workers ≤ 64) }
     ensures known { AreKnown (C.coordinate coord.now) result entries.new }
     ensures level { result ≤ 25 }
-    ensures blocks { length blocks.new.items ≡ length blocks.old.items }
 {
     mark_goals(coord, entries);
     let pushed = push_levels(coord, entries, bound);
@@ -74,8 +90,7 @@ fn early_levels<R: Threads + Sync, C: Coord + Sync>(
 /// Enters 0 at the goals, and `UNKNOWN` elsewhere.
 fn mark_goals<C: Coord>(coord: &C, entries: &mut [u8])
     requires { length entries.old ≡ (C.coordinate coord.now).count }
-    ensures known { AreKnown (C.coordinate coord.now) 0 entries.new }
-    ensures marked { AreMarked (C.coordinate coord.now) entries.new }
+    ensures { AreKnown (C.coordinate coord.now) 0 entries.new }
 {
     for position in 0..coord.count() {
         entries[position as usize] = if coord.is_goal(position) { 0 } else { UNKNOWN };
@@ -115,7 +130,7 @@ fn push_level<C: Coord>(coord: &C, entries: &mut [u8], level: u8) -> u32
     let mut reached: u32 = 0;
     for start in (0..entries.len()).step_by(BLOCK) {
         let end = entries.len().min(start + BLOCK);
-        if contains(&entries[start..end], level) {
+        if contains(entries, start, end, level) {
             reached = reached.wrapping_add(push_block(coord, entries, start, end, level, &mut targets));
         }
     }
@@ -138,6 +153,7 @@ fn push_block<C: Coord>(
     ensures { AreMarked (C.coordinate coord.now) entries.new }
 {
     let turns = coord.turns();
+    let _positions = coord.count();
     let mut reached: u32 = 0;
     for position in start..end {
         if entries[position] == level {

@@ -4,7 +4,7 @@ ghost use Rattle.std.specs.Prelude.{◌≡◌, ℕ, ◌+◌, ◌^◌, ◌<◌, �
 ghost use Rattle.std.specs.Bool.{OnTrue};
 ghost use Rattle.scr_table.specs.Filled.{AreKnown, AreMarked, Agrees, IsNextEntry, IsThere, block_count, next_entry};
 
-use crate::blocks::{BLOCK, Blocks, contains, enter_blocks};
+use crate::blocks::{BLOCK, Made, contains, enter_blocks, unknown_block};
 use crate::fill::UNKNOWN;
 use crate::neighbours::{least_neighbour, least_neighbours};
 use scr_coord::Coord;
@@ -36,7 +36,7 @@ impl<C: Coord> Jobs for NextLevel<'_, C> {
     fn job(&self, slot: u32) -> Option<[u8; BLOCK]> {
         let start = slot as usize * BLOCK;
         let end = self.entries.len().min(start + BLOCK);
-        if !contains(&self.entries[start..end], UNKNOWN) {
+        if !contains(self.entries, start, end, UNKNOWN) {
             return None;
         }
         Some(next_block(self.coord, self.entries, start, end, self.level))
@@ -59,7 +59,7 @@ fn next_block<C: Coord>(
         → IsNextEntry (C.coordinate coord.now) level entries.now (start + k) (slice_index result k) }
 {
     let _count = coord.count();
-    let mut next = [UNKNOWN; BLOCK];
+    let mut next = unknown_block();
     for position in start..end {
         let entry = entries[position];
         next[position - start] = if entry == UNKNOWN {
@@ -89,16 +89,15 @@ pub(crate) fn next_level<R: Threads + Sync, C: Coord + Sync>(
     rt: &R,
     coord: &C,
     entries: &mut [u8],
-    blocks: &mut Blocks,
+    blocks: &mut [Made],
     level: u8,
     workers: u32,
 )
     requires known { AreKnown (C.coordinate coord.now) level entries.old }
-    requires blocks { length blocks.old.items ≡ block_count (length entries.old) }
+    requires blocks { length blocks.old ≡ block_count (length entries.old) }
     requires level { level ≤ 25 }
     requires workers { (1 ≤ workers) × (workers ≤ 64) }
-    ensures known { AreKnown (C.coordinate coord.now) (level + 1) entries.new }
-    ensures blocks { length blocks.new.items ≡ length blocks.old.items }
+    ensures { AreKnown (C.coordinate coord.now) (level + 1) entries.new }
 {
     coord.stays_below();
     let _count = coord.count();
@@ -107,8 +106,8 @@ pub(crate) fn next_level<R: Threads + Sync, C: Coord + Sync>(
         entries: &*entries,
         level,
     };
-    run_chunks(rt, &next, &mut blocks[..], workers, &OpenGate);
-    enter_blocks(entries, &blocks[..]);
+    run_chunks(rt, &next, blocks, workers, &OpenGate);
+    enter_blocks(entries, blocks);
 }
 
 /// The same, where each position is looked at, and none is answered where a block doesn't agree.
@@ -136,25 +135,34 @@ impl<C: Coord> Jobs for CheckedLevel<'_, C> {
         let start = slot as usize * BLOCK;
         let end = self.entries.len().min(start + BLOCK);
         let least = least_neighbours(self.coord, self.entries, start as u32, end - start);
-        checked_block(&self.entries[start..end], &least, self.level)
+        checked_block(self.entries, start, end, &least, self.level)
     }
 }
 
-/// The entries of a block on the next level, where each agrees with the least that a turn leads to from it.
-fn checked_block(entries: &[u8], least: &[u8; BLOCK], level: u8) -> Option<[u8; BLOCK]>
-    requires block { length entries.now ≤ 1024 }
+/// The entries of the positions from `start` up to `end` on the next level, where each agrees with the least that a turn
+/// leads to from its position.
+fn checked_block(
+    entries: &[u8],
+    start: usize,
+    end: usize,
+    least: &[u8; BLOCK],
+    level: u8,
+) -> Option<[u8; BLOCK]>
+    requires end { end ≤ length entries.now }
+    requires block { end ≤ start + 1024 }
     requires level { level ≤ 24 }
-    ensures agree { IfSome result (λ _. (k : ℕ) → k < length entries.now
-        → Agrees level (slice_index entries.now k) (slice_index least.now k)) }
-    ensures next { IfSome result (λ next. (k : ℕ) → k < length entries.now
-        → slice_index next k ≡ next_entry level (slice_index entries.now k) (slice_index least.now k)) }
+    ensures agree { IfSome result (λ _. (k : ℕ) → start + k < end
+        → Agrees level (slice_index entries.now (start + k)) (slice_index least.now k)) }
+    ensures next { IfSome result (λ next. (k : ℕ) → start + k < end
+        → slice_index next k ≡ next_entry level (slice_index entries.now (start + k)) (slice_index least.now k)) }
 {
-    let mut next = [UNKNOWN; BLOCK];
-    for k in 0..entries.len() {
-        if !agrees(entries[k], least[k], level) {
+    let mut next = unknown_block();
+    for position in start..end {
+        let k = position - start;
+        if !agrees(entries[position], least[k], level) {
             return None;
         }
-        next[k] = next_entry(entries[k], least[k], level);
+        next[k] = next_entry(entries[position], least[k], level);
     }
     Some(next)
 }
@@ -176,16 +184,15 @@ pub(crate) fn checked_level<R: Threads + Sync, C: Coord + Sync>(
     rt: &R,
     coord: &C,
     entries: &mut [u8],
-    blocks: &mut Blocks,
+    blocks: &mut [Made],
     level: u8,
     workers: u32,
 ) -> bool
     requires marked { AreMarked (C.coordinate coord.now) entries.old }
-    requires blocks { length blocks.old.items ≡ block_count (length entries.old) }
+    requires blocks { length blocks.old ≡ block_count (length entries.old) }
     requires level { level ≤ 24 }
     requires workers { (1 ≤ workers) × (workers ≤ 64) }
-    ensures known { OnTrue result (AreKnown (C.coordinate coord.now) (level + 1) entries.new) }
-    ensures blocks { length blocks.new.items ≡ length blocks.old.items }
+    ensures { OnTrue result (AreKnown (C.coordinate coord.now) (level + 1) entries.new) }
 {
     coord.stays_below();
     let _count = coord.count();
@@ -194,22 +201,29 @@ pub(crate) fn checked_level<R: Threads + Sync, C: Coord + Sync>(
         entries: &*entries,
         level,
     };
-    run_chunks(rt, &checked, &mut blocks[..], workers, &OpenGate);
-    if !are_all_there(&blocks[..]) {
+    run_chunks(rt, &checked, blocks, workers, &OpenGate);
+    if !are_all_there(blocks) {
         return false;
     }
-    enter_blocks(entries, &blocks[..]);
+    enter_blocks(entries, blocks);
     true
 }
 
 /// Whether each block is there.
-fn are_all_there(blocks: &[Option<Option<[u8; BLOCK]>>]) -> bool
+fn are_all_there(blocks: &[Made]) -> bool
     ensures { IsTrue result → (k : ℕ) → k < length blocks.now → IsThere (slice_index_or blocks.now k None) }
 {
-    for block in blocks {
-        if !matches!(block, Some(Some(_))) {
+    for block in 0..blocks.len() {
+        if !is_there(&blocks[block]) {
             return false;
         }
     }
     true
+}
+
+/// Whether a block is there.
+fn is_there(block: &Made) -> bool
+    ensures { IsTrue result → IsThere block.now }
+{
+    matches!(block, Some(Some(_)))
 }

@@ -4,7 +4,7 @@ ghost use Rattle.std.specs.Prelude.{◌≡◌, ℕ, ◌+◌, ◌<◌, ◌≤◌,
 ghost use Rattle.scr_coord.specs.Coordinates.{moved};
 ghost use Rattle.scr_table.specs.Filled.{IsLeastNeighbour, lowered};
 
-use crate::blocks::BLOCK;
+use crate::blocks::{BLOCK, unknown_block};
 use crate::fill::UNKNOWN;
 use scr_coord::{BARRED, Coord};
 
@@ -36,25 +36,27 @@ pub(crate) fn least_neighbour<C: Coord>(coord: &C, entries: &[u8], position: u32
     least
 }
 
-/// The least entries that turns lead to from positions one after another, `start` first, at most as many as a block has.
+/// The least entries that turns lead to from `count` positions one after another, `start` first, at most as many as a
+/// block has.
 pub(crate) fn least_neighbours<C: Coord>(
     coord: &C,
     entries: &[u8],
     start: u32,
-    length: usize,
+    count: usize,
 ) -> [u8; BLOCK]
     requires entries { length entries.now ≡ (C.coordinate coord.now).count }
-    requires positions { start + length ≤ (C.coordinate coord.now).count }
-    requires block { length ≤ 1024 }
-    ensures { (k : ℕ) → k < length → IsLeastNeighbour (C.coordinate coord.now) entries.now (start + k) (slice_index result k) }
+    requires positions { start + count ≤ (C.coordinate coord.now).count }
+    requires block { count ≤ 1024 }
+    ensures { (k : ℕ) → k < count → IsLeastNeighbour (C.coordinate coord.now) entries.now (start + k) (slice_index result k) }
 {
     coord.stays_below();
-    let _count = coord.count();
+    let _positions = coord.count();
     let mut targets = [BARRED; BLOCK];
-    let mut least = [UNKNOWN; BLOCK];
+    let mut least = unknown_block();
     for turn in 0..coord.turns() {
-        coord.targets(start, turn, &mut targets[..length]);
-        lower(&mut least, entries, &targets[..length]);
+        let part = &mut targets[..count];
+        coord.targets(start, turn, part);
+        lower(&mut least, entries, part);
     }
     least
 }

@@ -9,7 +9,7 @@ ghost use Rattle.scr_table.specs.Halves.{AreBlocksOf, deep_of};
 
 use crate::entries::Entries;
 use crate::fault::BuildFault;
-use crate::fill::{UNKNOWN, fill};
+use crate::fill::filled;
 use crate::neighbours::step;
 use crate::name::TableName;
 use arrayvec::ArrayVec;
@@ -66,8 +66,8 @@ impl DistanceTable {
         ensures measures { IfOk result (Measures (C.coordinate coord.now)) }
         ensures cause { IfErr result (IsCause name (C.coordinate coord.now) bound) }
     {
-        let mut entries = vec![in alloc; UNKNOWN; coord.count() as usize]?;
-        fill(rt, alloc, coord, &mut entries[..], bound as u8, workers)?;
+        let _positions = coord.count();
+        let entries = filled(rt, alloc, coord, bound as u8, workers)?;
         match first_above(&entries[..], bound as u8) {
             Some(index) => Err(BuildFault::Gap { table: name, index }),
             None => Ok(DistanceTable {
@@ -189,9 +189,9 @@ fn first_above(entries: &[u8], bound: u8) -> Option<u32>
     ensures first { IfSome result (λ index. (p : ℕ) → p < index → slice_index entries.now p ≤ bound) }
     ensures none { IfNone result ((p : ℕ) → slice_index entries.now p ≤ bound) }
 {
-    for position in 0..entries.len() {
-        if entries[position] > bound {
-            return Some(position as u32);
+    for index in 0..entries.len() {
+        if entries[index] > bound {
+            return Some(index as u32);
         }
     }
     None

@@ -148,7 +148,7 @@ fn expect_listed<P: Numbering + Permit<P::State>>(
 
 #[test]
 fn scrambles_of_222(rt: HostRuntime) -> Result<(), Fail> {
-    let tables = SmallTables::build(rt.alloc(), Event::C222)?;
+    let tables = SmallTables::build(&rt, rt.alloc(), Event::C222, 1)?;
     assert!(rt;
         tables.table(TableName::Corners).is_some() && tables.table(TableName::Flips).is_none()
     );
@@ -156,9 +156,25 @@ fn scrambles_of_222(rt: HostRuntime) -> Result<(), Fail> {
     Ok(())
 }
 
+/// The 2x2x2's table has 3,589 blocks and no deep position, whoever builds it.
+#[test]
+fn blocks_of_222(rt: HostRuntime) -> Result<(), Fail> {
+    let one = SmallTables::build(&rt, rt.alloc(), Event::C222, 1)?;
+    for workers in [2, 7, 64] {
+        let more = SmallTables::build(&rt, rt.alloc(), Event::C222, workers)?;
+        if let (Some(one), Some(more)) = (one.table(TableName::Corners), more.table(TableName::Corners)) {
+            assert_eq!(rt; [one.blocks().len(), one.deep().len()], [3589, 0]);
+            assert!(rt; one.blocks() == more.blocks() && one.deep() == more.deep());
+        } else {
+            assert!(rt; false);
+        }
+    }
+    Ok(())
+}
+
 #[test]
 fn draws_of_222(rt: HostRuntime) -> Result<(), Fail> {
-    let tables = SmallTables::build(rt.alloc(), Event::C222)?;
+    let tables = SmallTables::build(&rt, rt.alloc(), Event::C222, 1)?;
     let cube = Small222::new(&tables);
     let mut zeros = ChaChaWords::new(&Seed([0; 32]), 0);
     expect_draw(&rt, &cube, &mut zeros, 0, 1, Some(3015702));
@@ -177,7 +193,7 @@ fn draws_of_222(rt: HostRuntime) -> Result<(), Fail> {
 
 #[test]
 fn scrambles_of_pyram(rt: HostRuntime) -> Result<(), Fail> {
-    let tables = SmallTables::build(rt.alloc(), Event::Pyram)?;
+    let tables = SmallTables::build(&rt, rt.alloc(), Event::Pyram, 2)?;
     assert!(rt;
         tables.table(TableName::Pyramid).is_some() && tables.table(TableName::Flips).is_none()
     );
@@ -197,7 +213,7 @@ fn scrambles_of_pyram(rt: HostRuntime) -> Result<(), Fail> {
 
 #[test]
 fn scrambles_of_skewb(rt: HostRuntime) -> Result<(), Fail> {
-    let tables = SmallTables::build(rt.alloc(), Event::Skewb)?;
+    let tables = SmallTables::build(&rt, rt.alloc(), Event::Skewb, 7)?;
     assert!(rt;
         tables.table(TableName::Skewb).is_some() && tables.table(TableName::Flips).is_none()
     );

@@ -34,7 +34,7 @@ fn minima(rt: HostRuntime) -> Result<(), Fail> {
 
 #[test]
 fn tables_and_states(rt: HostRuntime) -> Result<(), Fail> {
-    let tables = Sq1Tables::build(rt.alloc())?;
+    let tables = Sq1Tables::build(&rt, rt.alloc(), 2)?;
     assert!(rt;
         tables.table(TableName::Square).is_some() && tables.table(TableName::Corners).is_none()
     );

@@ -44,7 +44,7 @@ fn are_solved(rt: &impl Abort, tables: &StageTables, rows: &[(&str, &str, &str)]
 
 #[test]
 fn tables_and_cubes(rt: HostRuntime) -> Result<(), Fail> {
-    let tables = StageTables::build(rt.alloc())?;
+    let tables = StageTables::build(&rt, rt.alloc(), 4)?;
     assert!(rt;
         tables.table(TableName::Halves).is_some() && tables.table(TableName::Corners).is_none()
     );

@@ -7,6 +7,7 @@ use scr_coord::Coord;
 use scr_table::{BuildFault, DistanceTable, Moves, TableName, laws, no_shorter, table_named};
 use std::alloc::Global;
 use std::process::Abort;
+use std::thread::Threads;
 
 /// A row of positions: from each but the first, one turn leads to the position before, and the first is the goal. The turn
 /// can't be undone.
@@ -168,11 +169,17 @@ impl Moves for Halving {
 }
 
 /// The table of a row has the distances from 0 on, and `greatest` is the last.
-fn expect_row(rt: &impl Abort, alloc: Global, count: u32, bound: u32, greatest: u32)
+fn expect_row<R: Abort + Threads + Sync>(
+    rt: &R,
+    alloc: Global,
+    count: u32,
+    bound: u32,
+    greatest: u32,
+)
     requires some { 0 < count }
     requires bound { bound ≤ 24 }
 {
-    match DistanceTable::build(alloc, TableName::Square, &Row(count), bound) {
+    match DistanceTable::build(rt, alloc, TableName::Square, &Row(count), bound, 2) {
         Ok(table) => {
             assert_eq!(rt; table.name(), TableName::Square);
             assert_eq!(rt; [table.bound(), table.positions()], [bound, count]);
@@ -190,10 +197,16 @@ fn expect_row(rt: &impl Abort, alloc: Global, count: u32, bound: u32, greatest: 
     }
 }
 
-fn expect_gap(rt: &impl Abort, alloc: Global, count: u32, bound: u32, index: u32)
+fn expect_gap<R: Abort + Threads + Sync>(
+    rt: &R,
+    alloc: Global,
+    count: u32,
+    bound: u32,
+    index: u32,
+)
     requires { bound ≤ 24 }
 {
-    let fault = DistanceTable::build(alloc, TableName::Square, &Row(count), bound).err();
+    let fault = DistanceTable::build(rt, alloc, TableName::Square, &Row(count), bound, 1).err();
     let table = TableName::Square;
     assert_eq!(rt; fault, Some(BuildFault::Gap { table, index }));
 }
@@ -205,15 +218,44 @@ fn rows(rt: HostRuntime) {
     expect_row(&rt, rt.alloc(), 1, 0, 0);
     expect_gap(&rt, rt.alloc(), 22, 20, 21);
     expect_gap(&rt, rt.alloc(), 2, 0, 1);
-    if let Ok(table) = DistanceTable::build(rt.alloc(), TableName::Skewb, &Row(21), 24) {
+    if let Ok(table) = DistanceTable::build(&rt, rt.alloc(), TableName::Skewb, &Row(21), 24, 1) {
         let measured = Measured { table };
         assert_eq!(rt; walked(&measured, 7).as_slice(), [0; 7].as_slice());
     }
 }
 
+/// A row of 21 positions has one block: the distances up to 13, the mark of seven deep ones, and that of no position.
+#[test]
+fn blocks_of_a_row(rt: HostRuntime) {
+    for workers in [1, 2, 7, 64] {
+        match DistanceTable::build(&rt, rt.alloc(), TableName::Square, &Row(21), 20, workers) {
+            Ok(table) => {
+                assert_eq!(rt; table.blocks().len(), 1);
+                assert_eq!(rt; table.blocks()[0][..12], ROW_BYTES);
+                assert_eq!(rt; table.deep(), &DEEP_ROW[..]);
+            }
+            Err(_) => assert!(rt; false),
+        }
+    }
+}
+
+const ROW_BYTES: [u8; 12] = [
+    0x10, 0x32, 0x54, 0x76, 0x98, 0xba, 0xdc, 0xee, 0xee, 0xee, 0xfe, 0xff,
+];
+
+const DEEP_ROW: [(u32, u8); 7] = [
+    (14, 14),
+    (15, 15),
+    (16, 16),
+    (17, 17),
+    (18, 18),
+    (19, 19),
+    (20, 20),
+];
+
 #[test]
 fn a_circle(rt: HostRuntime) {
-    match DistanceTable::build(rt.alloc(), TableName::Corners, &Circle, 20) {
+    match DistanceTable::build(&rt, rt.alloc(), TableName::Corners, &Circle, 20, 4) {
         Ok(table) => {
             let counts = table.counts();
             assert_eq!(rt; [counts[0], counts[1], table.distance(2)], [1, 20, 2]);

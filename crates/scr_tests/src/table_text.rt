@@ -46,7 +46,7 @@ impl Coord for Tree {
 fn texts(rt: HostRuntime) -> Result<(), Fail> {
     let mut out = MemSink::new(rt.alloc(), 256, 5, Vec::new(rt.alloc()))?;
     write_tables(&mut out, &[])?;
-    if let Ok(table) = DistanceTable::build(rt.alloc(), TableName::Pyramid, &Tree, 12) {
+    if let Ok(table) = DistanceTable::build(&rt, rt.alloc(), TableName::Pyramid, &Tree, 12, 1) {
         write_tables(&mut out, &[&table, &table])?;
     }
     let text = "no tables\ntable pyramid positions 7 bound 12\n0 1\n1 2\n2 4\n\

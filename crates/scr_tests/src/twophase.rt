@@ -84,8 +84,8 @@ fn are_known(rt: &impl Abort, prune: &PruneTables, stages: &StageTables) {
 
 #[test]
 fn tables_and_cubes(rt: HostRuntime) -> Result<(), Fail> {
-    let prune = PruneTables::build(rt.alloc())?;
-    let stages = StageTables::build(rt.alloc())?;
+    let prune = PruneTables::build(&rt, rt.alloc(), 1)?;
+    let stages = StageTables::build(&rt, rt.alloc(), 1)?;
     are_known(&rt, &prune, &stages);
     Ok(())
 }

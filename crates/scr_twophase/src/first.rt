@@ -25,6 +25,7 @@ use scr_rank::{Choose, TwistRank};
 use scr_stages::{ALL_TURNS, MIDDLE_EDGES, corners_turned, edges_turned};
 use scr_table::{BuildFault, TableName};
 use std::alloc::Global;
+use std::thread::Threads;
 
 /// How many flips there are.
 const FLIPS: u32 = 2048;
@@ -80,8 +81,9 @@ pub(crate) struct FirstTables {
 }
 
 impl FirstTables {
-    /// The tables, or why one isn't built.
-    pub fn build(alloc: Global) -> Result<FirstTables, BuildFault>
+    /// The tables, built by 1 to 64 workers, or why one isn't built.
+    pub fn build<R: Threads + Sync>(rt: &R, alloc: Global, workers: u32) -> Result<FirstTables, BuildFault>
+        requires workers { (1 ≤ workers) × (workers ≤ 64) }
         ensures whole { IfOk result (λ _. All HasNoGap first_lines) }
         ensures cause { IfErr result (IsCauseOf first_lines) }
     {
@@ -89,16 +91,20 @@ impl FirstTables {
         let twists = twist_moves(alloc)?;
         let middle = middle_moves(alloc)?;
         let flipslice = PruningTable::build(
+            rt,
             alloc,
             TableName::FlipSlice,
             &Product::new(&flips, &middle),
             12,
+            workers,
         )?;
         let twistslice = PruningTable::build(
+            rt,
             alloc,
             TableName::TwistSlice,
             &Product::new(&twists, &middle),
             12,
+            workers,
         )?;
         Ok(FirstTables {
             flips,

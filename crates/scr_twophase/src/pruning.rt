@@ -17,19 +17,22 @@ pub(crate) struct PruningTable {
 }
 
 impl PruningTable {
-    /// The table of a coordinate of at most 18 turns, or why it isn't built. `bound` is at most 24.
-    pub fn build<C: Coord>(
+    /// The table of a coordinate of at most 18 turns, built by 1 to 64 workers, or why it isn't built. `bound` is at most 24.
+    pub fn build<R: Threads + Sync, C: Coord + Sync>(
+        rt: &R,
         alloc: Global,
         name: TableName,
         coord: &C,
         bound: u32,
+        workers: u32,
     ) -> Result<PruningTable, BuildFault>
         requires bound { bound ≤ 24 }
         requires turns { (C.coordinate coord.now).turns ≤ 18 }
+        requires workers { (1 ≤ workers) × (workers ≤ 64) }
         ensures table { IfOk result (IsPruningTable (record { name = name; coordinate = C.coordinate coord.now; bound = bound })) }
         ensures cause { IfErr result (IsCause name (C.coordinate coord.now) bound) }
     {
-        let distances = DistanceTable::build(alloc, name, coord, bound)?;
+        let distances = DistanceTable::build(rt, alloc, name, coord, bound, workers)?;
         let outlooks = outlooks(alloc, coord, &distances)?;
         Ok(PruningTable {
             distances,

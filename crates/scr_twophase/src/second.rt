@@ -30,6 +30,7 @@ use scr_stages::{
 };
 use scr_table::{BuildFault, DistanceTable, TableName};
 use std::alloc::Global;
+use std::thread::Threads;
 
 /// How many lists of the edges of the middle layer there are.
 const MIDDLES: u32 = 24;
@@ -87,8 +88,9 @@ pub(crate) struct SecondTables {
 impl SecondTables {
     ghost use Rattle.scr_twophase.specs.Search.{letters, IsAt};
 
-    /// The tables, or why one isn't built.
-    pub fn build(alloc: Global) -> Result<SecondTables, BuildFault>
+    /// The tables, built by 1 to 64 workers, or why one isn't built.
+    pub fn build<R: Threads + Sync>(rt: &R, alloc: Global, workers: u32) -> Result<SecondTables, BuildFault>
+        requires workers { (1 ≤ workers) × (workers ≤ 64) }
         ensures whole { IfOk result (λ _. All HasNoGap second_lines) }
         ensures cause { IfErr result (IsCauseOf second_lines) }
     {
@@ -96,16 +98,20 @@ impl SecondTables {
         let outer = edge_moves(alloc, &OUTER_EDGES)?;
         let middle = edge_moves(alloc, &MIDDLE_EDGES)?;
         let cornerslice = DistanceTable::build(
+            rt,
             alloc,
             TableName::CornerSlice,
             &Product::new(&middle, &corners),
             18,
+            workers,
         )?;
         let edgeslice = DistanceTable::build(
+            rt,
             alloc,
             TableName::EdgeSlice,
             &Product::new(&middle, &outer),
             18,
+            workers,
         )?;
         Ok(SecondTables {
             corners,

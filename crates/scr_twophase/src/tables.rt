@@ -9,6 +9,7 @@ use crate::second::SecondTables;
 use scr_table::{BuildFault, DistanceTable, TableName, TableSet, table_named};
 use std::alloc::Global;
 use std::marker::Model;
+use std::thread::Threads;
 
 /// The pruning tables of both parts, with the moves by which a search goes.
 #[derive(Drop)]
@@ -38,9 +39,13 @@ impl TableSet for PruneTables {
 
     ghost distances = { λ t. t };
 
-    fn build(alloc: Global) -> Result<PruneTables, BuildFault> {
-        let first = FirstTables::build(alloc)?;
-        let second = SecondTables::build(alloc)?;
+    fn build<R: Threads + Sync>(
+        rt: &R,
+        alloc: Global,
+        workers: u32,
+    ) -> Result<PruneTables, BuildFault> {
+        let first = FirstTables::build(rt, alloc, workers)?;
+        let second = SecondTables::build(rt, alloc, workers)?;
         Ok(PruneTables {
             parts: PartTables { first, second },
         })

@@ -1,6 +1,7 @@
 use Rattle.std.proofs.Common.{true, false, sym, ◌∙◌, arith}
 use Rattle.scr_table.specs.Filled.{IsKnown}
-use Rattle.scr_table.proofs.FilledLaws.{IsKnown-marked, each_written}
+use Rattle.scr_coord.proofs.Written.{each_written}
+use Rattle.scr_table.proofs.FilledLaws.{IsKnown-marked}
 use Rattle.scr_table.proofs.fill.mark_goals.Goals as goal
 use Rattle.scr_table.proofs.fill.mark_goals.Goals.{then-is_goal, else-is_goal}
 

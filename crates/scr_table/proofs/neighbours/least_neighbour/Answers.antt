@@ -1,7 +1,7 @@
 use Rattle.std.proofs.Common.{sym, ◌∙◌}
 use Rattle.scr_table.proofs.FilledLaws.{IsLeast-barred, IsLeast-next}
-use Rattle.scr_table.proofs.fill.least_neighbour.Goals as goal
-use Rattle.scr_table.proofs.fill.least_neighbour.Goals.{in-Some, in_default}
+use Rattle.scr_table.proofs.neighbours.least_neighbour.Goals as goal
+use Rattle.scr_table.proofs.neighbours.least_neighbour.Goals.{in-Some, in_default}
 
 pub loop-turn-preserved : goal.loop-turn-preserved
 loop-turn-preserved g c =

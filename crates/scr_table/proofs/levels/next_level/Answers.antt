@@ -1,0 +1,8 @@
+use Rattle.std.proofs.Common.{arith}
+use Rattle.scr_table.proofs.BlockLaws.{AreKnown-next}
+use Rattle.scr_table.proofs.levels.next_level.Goals as goal
+
+pub returns : goal.returns
+returns g c =
+    AreKnown-next (g.C.Coord.coordinate c.args.coord.now) c.stays_below.ensures c.args.level (omega arith) c.run_chunks.new.out
+    c.args.entries.now c.enter_blocks.new.entries (omega arith) (omega arith) c.enter_blocks.ensures c.requires.known c.run_chunks.ensures
