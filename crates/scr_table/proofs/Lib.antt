@@ -9,3 +9,4 @@ pub mod TriedWords
 pub mod RowLaws
 pub mod LineLaws
 pub mod StageLaws
+pub mod StoredLaws

@@ -1,4 +1,5 @@
--- How a table's distances are stored: at four bits each, in blocks of 1,024 positions, beside a list of those that don't fit.
+-- How a table's distances are stored: at four bits each, in blocks of 1,024 positions, beside a list of those that
+-- don't fit.
 use Rattle.std.specs.Prelude.{◌≡◌, ℕ, zero, suc, ◌+◌, ◌*◌, ◌/◌, ◌%◌, ◌<◌, ◌==◌, nat_lt, nat_le, min, if◌then◌else◌, List, [], ◌∷◌, ◌++◌, length, slice_index, slice_index_or}
 use Rattle.scr_coord.specs.Moves.{each_below}
 
@@ -16,6 +17,10 @@ half_of distances p = if nat_lt p (length distances) then min 14 (slice_index di
 -- the byte of an even position: its half low, and that of the next position high
 abbrev pub byte_of : List ℕ → ℕ → ℕ
 byte_of distances p = half_of distances p + 16 * half_of distances (p + 1)
+
+-- the block of the positions from this one on
+abbrev pub IsBlockFrom : List ℕ → ℕ → List ℕ → Type 0
+IsBlockFrom distances start block = (j : ℕ) → j < 512 → slice_index block j ≡ byte_of distances (start + 2 * j)
 
 -- There are just as many blocks as the positions need, with these halves.
 pub record AreBlocksOf (distances : List ℕ) (blocks : List (List ℕ)) : Type 0 where

@@ -1,8 +1,8 @@
-//! How the entries of a distance table are stored: at four bits each, in blocks, beside a list of the deep ones, which don't
-//! fit. All else sees them as a list of numbers.
+//! How the entries of a distance table are stored: at four bits each, in blocks, beside a list of the deep ones, which
+//! don't fit. All else sees them as a list of numbers.
 
 ghost use Rattle.std.specs.Prelude.{◌≡◌, ℕ, ◌+◌, ◌*◌, ◌^◌, ◌<◌, ◌≤◌, IfOk, length, slice_index};
-ghost use Rattle.scr_table.specs.Halves.{AreBlocksOf, AreRising, IsDeepIn, StandsAt, byte_of, deep_at, deep_of, half_of, half_at};
+ghost use Rattle.scr_table.specs.Halves.{AreBlocksOf, AreRising, IsBlockFrom, IsDeepIn, StandsAt, deep_at, deep_of, half_at, half_of};
 
 use std::alloc::{AllocError, Global};
 use std::marker::Model;
@@ -103,6 +103,7 @@ fn half_at(blocks: &[[u8; 512]], position: usize) -> u8
 
 /// The blocks of some entries.
 fn blocks_of(alloc: Global, numbers: &[u8]) -> Result<Vec<[u8; 512]>, AllocError>
+    requires { length numbers.now < 2 ^ 32 }
     ensures { IfOk result (λ blocks. AreBlocksOf numbers.now blocks.items) }
 {
     let count = numbers.len().div_ceil(POSITIONS);
@@ -116,7 +117,7 @@ fn blocks_of(alloc: Global, numbers: &[u8]) -> Result<Vec<[u8; 512]>, AllocError
 /// The block of the positions from `start` on.
 fn block_of(numbers: &[u8], start: usize) -> [u8; 512]
     requires { start + 1024 < 2 ^ 63 }
-    ensures { (j : ℕ) → j < 512 → slice_index result j ≡ byte_of numbers.now (start + 2 * j) }
+    ensures { IsBlockFrom numbers.now start result }
 {
     let mut block = [0; 512];
     for j in 0..512 {
