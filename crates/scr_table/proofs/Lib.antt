@@ -10,3 +10,4 @@ pub mod RowLaws
 pub mod LineLaws
 pub mod StageLaws
 pub mod BlockLaws
+pub mod StoredLaws

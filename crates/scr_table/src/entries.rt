@@ -1,8 +1,8 @@
-//! How the entries of a distance table are stored: at four bits each, in blocks, beside a list of the deep ones, which don't
-//! fit. All else sees them as a list of numbers.
+//! How the entries of a distance table are stored: at four bits each, in blocks, beside a list of the deep ones, which
+//! don't fit. All else sees them as a list of numbers.
 
 ghost use Rattle.std.specs.Prelude.{◌≡◌, ℕ, ◌+◌, ◌*◌, ◌^◌, ◌<◌, ◌≤◌, IfOk, length, slice_index};
-ghost use Rattle.scr_table.specs.Halves.{AreBlocksOf, AreRising, IsDeepIn, StandsAt, byte_of, deep_at, deep_of, half_of, half_at};
+ghost use Rattle.scr_table.specs.Halves.{AreBlocksOf, AreRising, IsBlockFrom, IsDeepIn, StandsAt, deep_at, deep_of, half_byte_at, half_byte_of};
 
 use std::alloc::{AllocError, Global};
 use std::marker::Model;
@@ -64,7 +64,7 @@ impl Entries {
         requires { position < length self.now }
         ensures { result ≡ slice_index self.now position }
     {
-        let half = half_at(&self.blocks[..], position as usize);
+        let half = half_byte_at(&self.blocks[..], position as usize);
         if half == DEEP {
             deep_entry(&self.deep[..], position)
         } else {
@@ -89,9 +89,9 @@ impl Entries {
 
 /// The half byte of a position.
 #[inline]
-fn half_at(blocks: &[[u8; 512]], position: usize) -> u8
+fn half_byte_at(blocks: &[[u8; 512]], position: usize) -> u8
     requires { position < 1024 * length blocks.now }
-    ensures { result ≡ half_at blocks.now position }
+    ensures { result ≡ half_byte_at blocks.now position }
 {
     let byte = blocks[position / POSITIONS][position % POSITIONS / 2];
     if position % 2 == 0 {
@@ -103,6 +103,7 @@ fn half_at(blocks: &[[u8; 512]], position: usize) -> u8
 
 /// The blocks of some entries.
 fn blocks_of(alloc: Global, numbers: &[u8]) -> Result<Vec<[u8; 512]>, AllocError>
+    requires { length numbers.now < 2 ^ 32 }
     ensures { IfOk result (λ blocks. AreBlocksOf numbers.now blocks.items) }
 {
     let count = numbers.len().div_ceil(POSITIONS);
@@ -116,12 +117,12 @@ fn blocks_of(alloc: Global, numbers: &[u8]) -> Result<Vec<[u8; 512]>, AllocError
 /// The block of the positions from `start` on.
 fn block_of(numbers: &[u8], start: usize) -> [u8; 512]
     requires { start + 1024 < 2 ^ 63 }
-    ensures { (j : ℕ) → j < 512 → slice_index result j ≡ byte_of numbers.now (start + 2 * j) }
+    ensures { IsBlockFrom numbers.now start result }
 {
     let mut block = [0; 512];
     for j in 0..512 {
-        let low = half_of(numbers, start + 2 * j);
-        let high = half_of(numbers, start + 2 * j + 1);
+        let low = half_byte_of(numbers, start + 2 * j);
+        let high = half_byte_of(numbers, start + 2 * j + 1);
         block[j] = low + 16 * high;
     }
     block
@@ -129,8 +130,8 @@ fn block_of(numbers: &[u8], start: usize) -> [u8; 512]
 
 /// The half byte of a position among some entries, or behind them.
 #[inline]
-fn half_of(numbers: &[u8], position: usize) -> u8
-    ensures half { result ≡ half_of numbers.now position }
+fn half_byte_of(numbers: &[u8], position: usize) -> u8
+    ensures half { result ≡ half_byte_of numbers.now position }
     ensures small { result < 16 }
 {
     if position < numbers.len() {
