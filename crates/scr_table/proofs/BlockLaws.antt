@@ -1,5 +1,5 @@
 -- Blocks that workers answer, and the entries after they are entered.
-use Rattle.std.proofs.Common.{◌≡◌, ◌≢◌, ℕ, ◌+◌, ◌*◌, ◌/◌, ◌%◌, ◌<◌, ◌≤◌, List, length, get_or, Option, Some, None, IsSomeAnd, IfSome, refl, sym, ap, ◌∙◌, subst, arith}
+use Rattle.std.proofs.Common.{◌≡◌, ◌≢◌, ℕ, ◌+◌, ◌*◌, ◌/◌, ◌%◌, ◌<◌, List, length, get_or, Option, Some, None, IsSomeAnd, IfSome, refl, ap, ◌∙◌, subst, arith}
 use Rattle.std.specs.Prelude.{slice_index_or, nat_eq, ◌&&◌, if◌then◌else◌}
 use Rattle.std.proofs.lemmas.Bool.{ne_eqb}
 use Rattle.std.proofs.Math.Nat.{div-add-mod}
@@ -65,8 +65,8 @@ module _ (c : Coordinate) (below : StaysBelow c) (level : ℕ) (small : level < 
   pub AreKnown-next : AreKnown c level entries → AreAnswered (IsNextBlock c level entries) blocks → AreKnown c (level + 1) now
   AreKnown-next known answered =
       next_level_of known (λ p lt.
-        next_at c level entries p lt (slice_index_or blocks (p / 1024) None)
-        (answered (p / 1024) (omega (arith, count, block_of (length entries) p lt))))
+      next_at c level entries p lt (slice_index_or blocks (p / 1024) None)
+      (answered (p / 1024) (omega (arith, count, block_of (length entries) p lt))))
 
   pub AreKnown-checked : AreMarked c entries → AreAnswered (IsCheckedBlock c level entries) blocks
       → ((k : ℕ) → k < length blocks → IsThere (slice_index_or blocks k None)) → AreKnown c (level + 1) now

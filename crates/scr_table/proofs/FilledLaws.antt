@@ -9,7 +9,8 @@ use Rattle.scr_coord.specs.Coordinates.{Coordinate, StaysBelow, moved, IsGoal, t
 use Rattle.scr_coord.proofs.Written.{written_at}
 use Rattle.scr_combinatorics.specs.FirstWord.{LeadsTo, IsDistance}
 use Rattle.scr_combinatorics.proofs.FirstWordLaws.{LeadsTo-empty, IsGoal-empty, LeadsTo-cons, LeadsTo-parts, IsDistance-goal, IsGoal-distance}
-use Rattle.scr_table.specs.Distances.{IsFirstGap}
+use Rattle.scr_table.specs.Distances.{Measures, IsFirstGap}
+use Rattle.scr_table.specs.declared.name.TableName.{TableName}
 use Rattle.scr_table.specs.Filled.{IsKnown, AreKnown, AreMarked, Neighbours, IsLeastNeighbour, IsAgreed, IsNextEntry, next_entry, lowered}
 use Rattle.scr_table.proofs.StepLaws.{moved-turn, moved-below}
 
@@ -186,7 +187,7 @@ IsKnown-next c below level small entries known p next lt is = by_entry (cases_eq
     by_least unknown least near e false same =
         let here : next ≡ 255 = e ∙ ap (λ b. if b then level + 1 else 255) same in
         rw here (
-          IsKnown-beyond c below level small entries p lt known.each unknown least (eqb-false least level same) near.at_most near.some
+        IsKnown-beyond c below level small entries p lt known.each unknown least (eqb-false least level same) near.at_most near.some
         )
 
     by_entry : (get_or entries p 0 ≡ 255) ⊎ (get_or entries p 0 ≢ 255) → IsKnown c (level + 1) p next
@@ -273,8 +274,8 @@ IsLeast-lowered c below few entries positions p turn least new at lt is h = by_t
         let there : target c p turn ≡ q = ap (λ o. unwrap_or o barred) e in
         let inside : q < length entries = omega (arith, positions, below p turn q at lt e) in
         IsLeast-next c entries p turn least h q new (moves ∙ e) (
-          is ∙ ap (λ t. lowered entries t least) there
-          ∙ ap (λ b. if b then min least (get_or entries q 0) else least) (lt-ltb q (length entries) inside)
+        is ∙ ap (λ t. lowered entries t least) there
+        ∙ ap (λ b. if b then min least (get_or entries q 0) else least) (lt-ltb q (length entries) inside)
         )
 
 -- all turns
@@ -312,3 +313,12 @@ IsFirstGap-above c bound index entries small known inside above first = record {
     word : (earlier : ℕ) → earlier < index → IsDistance (moved c) (IsGoal c) earlier (get_or entries earlier 0)
     word earlier less =
         (known.each earlier (omega (arith, at))).found (λ same. omega (arith, first earlier less))
+
+-- Entries that are known and within the bound are the table.
+pub Measures-known : (c : Coordinate) (name : TableName) (bound : ℕ) (entries : List ℕ) → bound < 255 → AreKnown c bound entries
+    → ((p : ℕ) → get_or entries p 0 ≤ bound) → Measures c (record { name = name; bound = bound; distances = entries })
+Measures-known c name bound entries small known within = record {
+  positions = known.positions;
+  exact = λ p lt. (known.each p lt).found (λ far. omega (arith, far, within p));
+  within = λ p lt. within p;
+}

@@ -131,7 +131,14 @@ fn push_level<C: Coord>(coord: &C, entries: &mut [u8], level: u8) -> u32
     for start in (0..entries.len()).step_by(BLOCK) {
         let end = entries.len().min(start + BLOCK);
         if contains(entries, start, end, level) {
-            reached = reached.wrapping_add(push_block(coord, entries, start, end, level, &mut targets));
+            reached = reached.wrapping_add(push_block(
+                coord,
+                entries,
+                start,
+                end,
+                level,
+                &mut targets,
+            ));
         }
     }
     reached

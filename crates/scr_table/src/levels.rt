@@ -63,7 +63,11 @@ fn next_block<C: Coord>(
     for position in start..end {
         let entry = entries[position];
         next[position - start] = if entry == UNKNOWN {
-            next_entry(entry, least_neighbour(coord, entries, position as u32), level)
+            next_entry(
+                entry,
+                least_neighbour(coord, entries, position as u32),
+                level,
+            )
         } else {
             entry
         };

@@ -72,7 +72,11 @@ impl<L: Line> Model for LineTable<L> {
 impl<L: Line> LineTable<L> {
     /// The table, built by 1 to 64 workers, or why it isn't built: there is no memory for it, or it has a gap, of which the
     /// first is named.
-    pub fn build<R: Threads + Sync>(rt: &R, alloc: Global, workers: u32) -> Result<LineTable<L>, BuildFault>
+    pub fn build<R: Threads + Sync>(
+        rt: &R,
+        alloc: Global,
+        workers: u32,
+    ) -> Result<LineTable<L>, BuildFault>
         requires workers { (1 ≤ workers) × (workers ≤ 64) }
         ensures table { IfOk result (IsTableOf L.line) }
         ensures no_gap { IfOk result (λ _. HasNoGap L.line) }

@@ -1,4 +1,4 @@
-use Rattle.std.proofs.Common.{◌+◌, ◌*◌, ◌≡◌, ℕ, Some, None, arith}
+use Rattle.std.proofs.Common.{◌*◌, arith}
 use Rattle.scr_table.proofs.BlockLaws.{IsCheckedBlock-of}
 use Rattle.scr_table.proofs.levels.CheckedLevelJobs.job.Goals as goal
 
