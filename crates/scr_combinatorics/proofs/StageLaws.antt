@@ -145,34 +145,33 @@ bounds [] each = 0
 bounds (stage ∷ rest) [] = 0
 bounds (stage ∷ rest) (most ∷ each) = stage.bound * most + bounds rest each
 
-module _ {S T : Type 0} (after : S → T → Option S) (counted : T → ℕ) where
-  pub count-spelled : (letter : ℕ → List T) (most : ℕ) → ((n : ℕ) → count_in counted (letter n) ≤ most) → (w : List ℕ)
-      → count_in counted (spelled letter w) ≤ length w * most
-  unfolding count_in
-  count-spelled letter most each [] = omega arith
-  count-spelled letter most each (n ∷ w) =
-      omega (
-        arith,
-        count_in-append counted (letter n) (spelled letter w),
-        each n,
-        count-spelled letter most each w,
-        suc-mul (length w) most,
-      )
+pub count-spelled : {T : Type 0} (counted : T → ℕ) (letter : ℕ → List T) (most : ℕ) → ((n : ℕ) → count_in counted (letter n) ≤ most)
+    → (w : List ℕ) → count_in counted (spelled letter w) ≤ length w * most
+unfolding count_in
+count-spelled counted letter most each [] = omega arith
+count-spelled counted letter most each (n ∷ w) =
+    omega (
+      arith,
+      count_in-append counted (letter n) (spelled letter w),
+      each n,
+      count-spelled counted letter most each w,
+      suc-mul (length w) most,
+    )
 
-  pub count-solution : (some : List (Stage S T)) (each : List ℕ) (s : S) (w : List T) → CountsWithin counted some each
-      → IsSolution after some s w → count_in counted w ≤ bounds some each
-  unfolding bounds CountsWithin count_in
-  count-solution [] each s w within a = omega (arith, ap (count_in counted) a)
-  count-solution (stage ∷ rest) [] s w within a = absurd within
-  count-solution (stage ∷ rest) (most ∷ each) s w within a =
-      omega (
-        arith,
-        ap (count_in counted) a.4,
-        count_in-append counted (spelled stage.letter a.0) a.1,
-        count-spelled stage.letter most within.0 a.0,
-        mul-le-mul_right most a.2.within,
-        count-solution rest each a.2.first.leads.end a.1 within.1 a.3,
-      )
+pub count-solution : {S T : Type 0} (after : S → T → Option S) (counted : T → ℕ) (some : List (Stage S T)) (each : List ℕ) (s : S) (w : List T)
+    → CountsWithin counted some each → IsSolution after some s w → count_in counted w ≤ bounds some each
+unfolding bounds CountsWithin count_in
+count-solution after counted [] each s w within a = omega (arith, ap (count_in counted) a)
+count-solution after counted (stage ∷ rest) [] s w within a = absurd within
+count-solution after counted (stage ∷ rest) (most ∷ each) s w within a =
+    omega (
+      arith,
+      ap (count_in counted) a.4,
+      count_in-append counted (spelled stage.letter a.0) a.1,
+      count-spelled counted stage.letter most within.0 a.0,
+      mul-le-mul_right most a.2.within,
+      count-solution after counted rest each a.2.first.leads.end a.1 within.1 a.3,
+    )
 
 -- ---- scrambles
 

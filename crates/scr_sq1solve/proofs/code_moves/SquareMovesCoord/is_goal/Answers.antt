@@ -3,7 +3,8 @@ use Rattle.scr_combinatorics.specs.Play.{play}
 use Rattle.scr_sq1.specs.Units.{sq1_after, solved_sq1}
 use Rattle.scr_sq1solve.specs.Stages.{quarter_word}
 use Rattle.scr_sq1solve.specs.Tables.{square_index, square_state, has_index}
-use Rattle.scr_sq1solve.proofs.Ends.{has_number, none-more, some-one, quarter-tested, number-home, number-none, number-other}
+use Rattle.scr_sq1solve.proofs.SomeBelow.{none-more, some-one}
+use Rattle.scr_sq1solve.proofs.Ends.{has_number, quarter-tested, number-home, number-none, number-other}
 use Rattle.scr_sq1solve.proofs.code_moves.SquareMovesCoord.is_goal.Goals as goal
 use Rattle.scr_sq1solve.proofs.code_moves.SquareMovesCoord.is_goal.Goals.{in-Some+else-end-eq0, in-None}
 
@@ -12,7 +13,7 @@ returns-then-end-eq0 c =
     let p = c.args.position in
     let n = c.loop-number.number in
     let m = c.args.self.now in
-    sym (some-one (λ word. has_index square_index (square_index solved_sq1) (play sq1_after (square_state p) word)) quarter_word 16 n c.loop-number-test.true
+    sym (some-one (λ k. has_index square_index (square_index solved_sq1) (play sq1_after (square_state p) (quarter_word k))) 16 n c.loop-number-test.true
     (quarter-tested m.quarters.letters p n c.after.result _ m.of_quarters (omega (arith, c.loop-number-test.true)) c.after.ensures c.in-Some.is
     ∙ ap (λ k. has_number 0 (Some k)) c.if-end-eq0.true ∙ number-home))
 
@@ -21,7 +22,7 @@ loop-number-preserved c =
     let p = c.args.position in
     let n = c.loop-number.number in
     let m = c.args.self.now in
-    none-more (λ word. has_index square_index (square_index solved_sq1) (play sq1_after (square_state p) word)) quarter_word 16 n c.loop-number-test.true
+    none-more (λ k. has_index square_index (square_index solved_sq1) (play sq1_after (square_state p) (quarter_word k))) 16 n c.loop-number-test.true
     c.loop-number.invariant
     (elim c.match-after.branch [
       | in-Some+else-end-eq0 w ↦
