@@ -39,8 +39,8 @@ IsSolution {S} {T} after (stage ∷ rest) s solution =
     × (solution ≡ spelled stage.letter word ++ turns)
 
 -- The scramble that stages give: their solution, tidied and taken back.
-pub record IsScrambleByStages {S T : Type 0} (after : S → T → Option S) (opposite : T → T) (m : Merging T) (some : List (Stage S T)) (s : S)
-    (scramble : List T) : Type 0 where
+pub record IsScrambleByStages {S T : Type 0} (after : S → T → Option S) (opposite : T → T) (m : Merging T)
+    (some : List (Stage S T)) (s : S) (scramble : List T) : Type 0 where
   pub solution : List T
   pub is : IsSolution after some s solution
   pub taken_back : scramble ≡ back opposite (tidy m solution)

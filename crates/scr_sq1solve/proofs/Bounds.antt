@@ -23,11 +23,16 @@ use Rattle.scr_sq1solve.proofs.Lengths.{twists-tidy, length-tidy, OfSq1-played, 
 pub twists-solution : (s : Sq1State) (w : List Turn) → IsSolution sq1_after sq1_stages s w → twists_in w ≤ 76
 unfolding bounds CountsWithin count_in
 twists-solution s w h =
-    count-solution sq1_after twists_of sq1_stages (3 ∷ 1 ∷ 0 ∷ 1 ∷ 2 ∷ 0 ∷ []) s w
-    ((λ n. lit≤ tt),
-    ((λ n. (Costs-shape n).twists),
-    ((λ n. (Costs-ending Squarings refl n).twists),
-    ((λ n. (Costs-pairing n).twists), ((λ n. (Costs-home n).twists), ((λ n. (Costs-ending Quarters refl n).twists), tt))))))
+    count-solution sq1_after twists_of sq1_stages (3 ∷ 1 ∷ 0 ∷ 1 ∷ 2 ∷ 0 ∷ []) s w (
+      (λ n. lit≤ tt),
+      (
+        (λ n. (Costs-shape n).twists),
+        (
+          (λ n. (Costs-ending Squarings refl n).twists),
+          ((λ n. (Costs-pairing n).twists), ((λ n. (Costs-home n).twists), ((λ n. (Costs-ending Quarters refl n).twists), tt))),
+        ),
+      ),
+    )
     h
 
 pub IsWithinBounds-scramble : (s : Sq1State) (w : List Turn) → IsSq1 s → IsScrambleSq1 s w → IsWithinBounds w

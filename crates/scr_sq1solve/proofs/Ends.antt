@@ -1,5 +1,5 @@
 -- Tests by an index of where a letter leads that ends a stage.
-use Rattle.std.proofs.Common.{◌≡◌, ℕ, ◌<◌, Bool, true, false, List, Option, Some, None, refl, sym, ap, ◌∙◌}
+use Rattle.std.proofs.Common.{◌≡◌, ℕ, ◌<◌, Bool, true, false, Option, Some, None, refl, sym, ap, ◌∙◌}
 use Rattle.std.specs.Prelude.{◌==◌}
 use Rattle.std.specs.Option.{option_map}
 use Rattle.std.proofs.lemmas.Bool.{eq-eqb, ne_eqb}
@@ -7,7 +7,6 @@ use Rattle.scr_combinatorics.specs.Play.{play}
 use Rattle.scr_combinatorics.specs.Stages.{by_letters}
 use Rattle.scr_combinatorics.proofs.StageLaws.{by_letters-played}
 use Rattle.scr_notation.specs.declared.event.Event.TheVariants.{Sq1}
-use Rattle.scr_notation.specs.declared.turn.Turn.{Turn}
 use Rattle.scr_notation.specs.Written.{Written}
 use Rattle.scr_sq1.specs.Units.{Sq1State, solved_sq1, sq1_after}
 use Rattle.scr_sq1.specs.Numbers.{corners_of, edges_of}

@@ -105,6 +105,7 @@ level-last s v = (λ home. home, λ home. home)
 pub layers-flipped : (s : Sq1State) (w : List Turn) → IsSq1 s → IsSolution sq1_after layer_stages s w → IsSolution sq1_after layer_stages (flipped s) w
 unfolding AreLevel
 layers-flipped =
-    solution-flipped layer_stages
-    (has_word-flipped squaring_stage level-squaring,
-    (level-squaring, ((λ s v. (λ paired. paired, λ paired. paired)), (has_word-flipped last_stage level-last, (level-last, tt)))))
+    solution-flipped layer_stages (
+      has_word-flipped squaring_stage level-squaring,
+      (level-squaring, ((λ s v. (λ paired. paired, λ paired. paired)), (has_word-flipped last_stage level-last, (level-last, tt)))),
+    )

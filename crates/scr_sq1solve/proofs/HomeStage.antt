@@ -1,22 +1,17 @@
 -- The third stage: a state in which mates stand together is told by its index, but for the equator, and so its index goes along
 -- with words.
-use Rattle.std.proofs.Common.{◌≡◌, ℕ, ◌+◌, ◌*◌, ◌/◌, ◌%◌, ◌<◌, Bool, false, IsTrue, List, map, slice_index, Option, Some, None, refl, sym, ap, ◌∙◌, subst, arith, lit<}
-use Rattle.std.specs.Prelude.{◌&&◌}
+use Rattle.std.proofs.Common.{◌≡◌, ℕ, ◌+◌, ◌*◌, ◌/◌, ◌%◌, ◌<◌, Bool, false, IsTrue, List, map, Option, Some, None, refl, sym, ap, ◌∙◌, subst, arith, lit<}
 use Rattle.std.specs.Option.{option_map}
-use Rattle.std.proofs.lemmas.Bool.{and_parts, and_from}
-use Rattle.std.proofs.lemmas.List.{get_or-map}
-use Rattle.scr_combinatorics.specs.Lists.{numbers_from, pick}
+use Rattle.std.proofs.lemmas.Bool.{and_parts}
+use Rattle.scr_combinatorics.specs.Lists.{pick}
 use Rattle.scr_combinatorics.specs.Permutations.{IsPermutation, parity}
-use Rattle.scr_combinatorics.proofs.Picks.{numbers_from-at, pick-from_order}
-use Rattle.scr_combinatorics.proofs.PermutationLaws.{All-permutation}
-use Rattle.scr_orbit.proofs.ActionLaws.{map-some}
 use Rattle.scr_combinatorics.specs.Play.{play}
 use Rattle.scr_coord.specs.Coordinates.{StaysBelow}
 use Rattle.scr_coord.specs.SearchSpaces.{positions, Follows}
 use Rattle.scr_notation.specs.declared.turn.Turn.{Turn}
 use Rattle.scr_notation.specs.Ranges.{all_below, same}
-use Rattle.scr_notation.proofs.Below.{at_below, same-refl}
-use Rattle.scr_sq1.specs.Units.{Sq1State, IsSq1, solved_sq1, sq1_after, turn_places, twist_places, turned, after_layers, twisted}
+use Rattle.scr_notation.proofs.Below.{at_below}
+use Rattle.scr_sq1.specs.Units.{Sq1State, solved_sq1, sq1_after, turn_places, twist_places, turned, after_layers, twisted}
 use Rattle.scr_sq1.specs.Shapes.{half_words, half_word, half_bits, half_of, halves_in, shape_of, halves_number, ways_to_have, corner_count, corner_counts, shape_number}
 use Rattle.scr_sq1.specs.Numbers.{corners_of, edges_of, laid, shape_word}
 use Rattle.scr_sq1.proofs.InHalves.{IsSq1-halves}
@@ -26,8 +21,8 @@ use Rattle.scr_combinatorics.proofs.OneLetter.{IsEnding}
 use Rattle.scr_sq1solve.specs.Stages.{oddness, turn_word, quarter_word, mates, pairing_of, home_letter, home_stage, last_stage}
 use Rattle.scr_sq1solve.specs.Tables.{shapes_index, units_after, carried_pairing, pairs_number, bits_number, paired_at, last_bit, square_index, square_state, square_coordinate}
 use Rattle.scr_sq1solve.specs.Spaces.{IsPairedSq1, square_space}
-use Rattle.scr_sq1solve.proofs.Renamed.{Names, named, renamed}
-use Rattle.scr_sq1solve.proofs.Bases.{in_order, names_of, AreNames-valid, corners_of-named, edges_of-named, keeps_sq1}
+use Rattle.scr_sq1solve.proofs.Renamed.{named, renamed}
+use Rattle.scr_sq1solve.proofs.Bases.{names_of}
 use Rattle.scr_sq1solve.proofs.Indexed.{IsIndex, Follows-index, StaysBelow-index}
 use Rattle.scr_sq1solve.proofs.ShapeStage.{oddness-solved, play-normal}
 use Rattle.scr_sq1solve.specs.Placed.{are_normal, keeps_mates, keep_mates}

@@ -1,6 +1,6 @@
 -- The first stage: words go along with the index of shape and parity.
-use Rattle.std.proofs.Common.{◌≡◌, ℕ, zero, suc, ◌+◌, ◌*◌, ◌/◌, ◌%◌, ◌<◌, Bool, false, IsTrue, List, Option, Some, None, refl, sym, ap, ◌∙◌, arith, lit<}
-use Rattle.std.specs.Prelude.{◌↔◌, ◌==◌}
+use Rattle.std.proofs.Common.{◌≡◌, ℕ, zero, suc, ◌+◌, ◌*◌, ◌/◌, ◌%◌, ◌<◌, false, List, Option, Some, None, refl, sym, ap, ◌∙◌, arith, lit<}
+use Rattle.std.specs.Prelude.{◌↔◌}
 use Rattle.std.specs.Option.{option_map}
 use Rattle.scr_combinatorics.specs.Permutations.{IsPermutation, parity}
 use Rattle.scr_combinatorics.proofs.PermutationLaws.{IsPermutation-numbers_from, IsPermutation-from_test}
@@ -8,10 +8,8 @@ use Rattle.scr_combinatorics.specs.Play.{play}
 use Rattle.scr_coord.specs.Coordinates.{StaysBelow}
 use Rattle.scr_coord.specs.SearchSpaces.{positions, Follows}
 use Rattle.scr_notation.specs.declared.turn.Turn.{Turn}
-use Rattle.scr_notation.specs.Ranges.{all_below}
-use Rattle.scr_orbit.proofs.ActionLaws.{map-some}
-use Rattle.scr_sq1.specs.Units.{Sq1State, IsSq1, solved_sq1, sq1_after, turn_places, twist_places, turned, after_layers, twisted}
-use Rattle.scr_sq1.specs.Shapes.{shape_of, shape_number, shape_at, half_words, half_word, half_bits, half_of, halves_in, halves_number, ways_to_have, corner_count, corner_counts}
+use Rattle.scr_sq1.specs.Units.{Sq1State, IsSq1, solved_sq1, sq1_after}
+use Rattle.scr_sq1.specs.Shapes.{shape_of, shape_number, shape_at, half_words, half_word, half_bits, half_of, halves_in}
 use Rattle.scr_sq1.specs.Numbers.{corners_of, edges_of, laid, shape_word}
 use Rattle.scr_sq1.proofs.HalfNumbers.{shapes_one_to_one}
 use Rattle.scr_sq1.proofs.InHalves.{IsSq1-halves}

@@ -1,9 +1,9 @@
 -- The stages by which a Square-1 is solved, and the scramble that they give.
 --
--- First the square shape: top and bottom then have a corner, an edge and so on in turn, as when solved. Then each corner is
--- brought next to the one that is opposite to it, across its layer, when solved, and so is each edge. Then all pieces are brought
--- home. A turn of the layers ends the first and the last of these stages, as a stage of its own; and before them all the equator
--- is turned, where they would else leave it turned.
+-- First the square shape: top and bottom then have a corner, an edge and so on in turn, as when solved. Then each corner
+-- is brought next to the one that is opposite to it, across its layer, when solved, and so is each edge. Then all pieces
+-- are brought home. A turn of the layers ends the first and the last of these three, as a stage of its own. Before all of
+-- them the equator is turned, where they would leave it turned.
 use Rattle.std.specs.Prelude.{◌≡◌, ℕ, ◌+◌, ◌*◌, ◌/◌, ◌%◌, nat_lt, ℤ, pos, ◌-ℤ◌, ◌+ℤ◌, neg_ℤ, if◌then◌else◌, List, [], ◌∷◌, ◌++◌, map, slice_index, Some}
 use Rattle.scr_combinatorics.specs.Permutations.{parity, place_of}
 use Rattle.scr_combinatorics.specs.Play.{play}
@@ -31,7 +31,7 @@ quarters n = pos (3 * n)
 unfoldable pub quarter_word : ℕ → List Turn
 quarter_word n = turn_word (quarters (n / 4)) (quarters (n % 4))
 
--- ---- the first stage: the square shape
+-- ---- the square shape
 
 -- letter 12 (x + 5) + (y + 5), for x and y from -5 to 6, turns the layers by x and y, and twists
 unfoldable pub shape_letter : ℕ → List Turn
@@ -46,19 +46,19 @@ pub record IsNormal (s : Sq1State) : Type 0 where
   pub shape : shape_of s.units ≡ shape_of solved_sq1.units
   pub even : oddness s ≡ 0
 
--- letter a + 2 b, for a and b 0 or 1, turns the top back by a and the bottom on by b
+-- letter 2 b + a, for a and b 0 or 1, turns the top by -a and the bottom by b
 unfoldable pub squaring_letter : ℕ → List Turn
 squaring_letter n = turn_word (neg_ℤ (pos (n % 2))) (pos (n / 2))
 
--- One of these turns makes the state normal,
+-- One of these four turns makes a state normal; the first of them is none.
 abbrev pub squaring_stage : Stage Sq1State Turn
 squaring_stage = record { letters = 4; letter = squaring_letter; IsGoal = IsNormal; bound = 1 }
 
--- once twists have led to where one does.
+-- Turns and twists lead to a state in which one of the four does that.
 abbrev pub shape_stage : Stage Sq1State Turn
 shape_stage = record { letters = 144; letter = shape_letter; IsGoal = HasStageWord sq1_after squaring_stage; bound = 13 }
 
--- ---- the second stage: the pairs
+-- ---- the pairs
 
 -- The corners 0 2, 1 3, 4 6, 5 7 are mates, and so are the edges: when solved, they stand opposite to each other in their layer.
 abbrev pub mates : List ℕ
@@ -84,7 +84,7 @@ pairing_letter n =
 abbrev pub pairing_stage : Stage Sq1State Turn
 pairing_stage = record { letters = 32; letter = pairing_letter; IsGoal = IsPaired; bound = 20 }
 
--- ---- the third stage: home
+-- ---- home
 
 -- exchanges the edges at the places 1 and 6, and those at 3 and 4
 abbrev pub edge_word : List Turn
@@ -104,11 +104,11 @@ home_letter n = quarter_word (n % 16) ++ (if nat_lt n 16 then edge_word else cor
 abbrev pub HasSolvedLayers : Sq1State → Type 0
 HasSolvedLayers s = s.units ≡ solved_sq1.units
 
--- One of the sixteen turns by quarters brings the layers home,
+-- One of the sixteen turns by quarters brings the layers home; the first of them is none.
 abbrev pub last_stage : Stage Sq1State Turn
 last_stage = record { letters = 16; letter = quarter_word; IsGoal = HasSolvedLayers; bound = 1 }
 
--- once exchanges have led to where one does.
+-- Exchanges lead to a state in which one of the sixteen does that.
 abbrev pub home_stage : Stage Sq1State Turn
 home_stage = record { letters = 32; letter = home_letter; IsGoal = HasStageWord sq1_after last_stage; bound = 20 }
 
@@ -118,15 +118,16 @@ home_stage = record { letters = 32; letter = home_letter; IsGoal = HasStageWord 
 abbrev pub layer_stages : List (Stage Sq1State Turn)
 layer_stages = shape_stage ∷ squaring_stage ∷ pairing_stage ∷ home_stage ∷ last_stage ∷ []
 
--- They solve the equator too.
+-- They lead from here to solved, the equator too.
 abbrev pub IsSolvedByLayers : Sq1State → Type 0
-IsSolvedByLayers s = (turns : List Turn) × IsSolution sq1_after layer_stages s turns × (play sq1_after s turns ≡ Some solved_sq1)
+IsSolvedByLayers s =
+    (turns : List Turn) × IsSolution sq1_after layer_stages s turns × (play sq1_after s turns ≡ Some solved_sq1)
 
 -- turns the equator, and leaves the layers as they are
 abbrev pub equator_word : List Turn
 equator_word = Twist ∷ Layers (pos 6) (pos 0) ∷ Twist ∷ Layers (pos 6) (pos 0) ∷ Twist ∷ Layers (pos 6) (pos 0) ∷ []
 
--- Where they would leave the equator turned, it is turned before.
+-- Where they would leave the equator turned, it is turned before them.
 abbrev pub equator_stage : Stage Sq1State Turn
 equator_stage = record { letters = 1; letter = λ n. equator_word; IsGoal = IsSolvedByLayers; bound = 1 }
 

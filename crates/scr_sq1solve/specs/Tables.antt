@@ -28,12 +28,13 @@ abbrev pub has_index : (Sq1State → ℕ) → ℕ → Option Sq1State → Bool
 has_index index_of i None = false
 has_index index_of i (Some s) = index_of s == i
 
--- What a search for a stage's words sees that knows of a state its index alone: letters lead from index to index, and the goals are
--- the indexes from which a letter of the next stage leads to that of the solved state.
+-- What a search for a stage's words sees that knows of a state its index alone: letters lead from index to index, and the
+-- goals are the indexes from which a letter of the next stage leads to that of the solved state.
 abbrev pub lettered_coordinate : Numbered Sq1State → Stage Sq1State Turn → Stage Sq1State Turn → Coordinate
 lettered_coordinate n stage next =
     indexed_coordinate n stage.letters (by_letters sq1_after stage.letters stage.letter)
-    (λ i. list_any (λ k. has_index n.number_of (n.number_of solved_sq1) (play sq1_after (n.state_at i) (next.letter k))) (numbers_from 0 next.letters))
+    (λ i. list_any (λ k. has_index n.number_of (n.number_of solved_sq1) (play sq1_after (n.state_at i) (next.letter k)))
+    (numbers_from 0 next.letters))
 
 -- ---- the shapes
 
@@ -50,7 +51,8 @@ shapes_state i = record { units = laid (shape_word (shape_at (i / 2))) (numbers_
 
 abbrev pub shapes_coordinate : Coordinate
 shapes_coordinate =
-    lettered_coordinate (record { count = 7356; state_at = shapes_state; number_of = shapes_index; IsValid = IsSq1 }) shape_stage squaring_stage
+    lettered_coordinate (record { count = 7356; state_at = shapes_state; number_of = shapes_index; IsValid = IsSq1 })
+    shape_stage squaring_stage
 
 -- ---- the pairings
 
@@ -140,7 +142,8 @@ square_state i =
 
 abbrev pub square_coordinate : Coordinate
 square_coordinate =
-    lettered_coordinate (record { count = 73728; state_at = square_state; number_of = square_index; IsValid = IsSq1 }) home_stage last_stage
+    lettered_coordinate (record { count = 73728; state_at = square_state; number_of = square_index; IsValid = IsSq1 })
+    home_stage last_stage
 
 -- ---- the tables
 
