@@ -17,22 +17,14 @@ use Rattle.scr_sq1solve.specs.Letters.{letter_of}
 use Rattle.scr_sq1solve.specs.Tables.{has_index, shapes_index, square_index, square_state, bits_number, pairs_number}
 use Rattle.scr_sq1solve.proofs.ShapeSteps.{normal_index}
 
-pub has_index-none : (index_of : Sq1State → ℕ) (i : ℕ) (o : Option Sq1State) → o ≡ None → has_index index_of i o ≡ false
-has_index-none index_of i o e = ap (has_index index_of i) e
-
-pub has_index-some : (index_of : Sq1State → ℕ) (i : ℕ) (o : Option Sq1State) (r : Sq1State) → o ≡ Some r → has_index index_of i o ≡ (index_of r == i)
-has_index-some index_of i o r e = ap (has_index index_of i) e
-
 -- by what is known of the index alone
-unfoldable pub has_number : ℕ → Option ℕ → Bool
+abbrev pub has_number : ℕ → Option ℕ → Bool
 has_number i None = false
 has_number i (Some n) = n == i
 
-pub has_index-mapped : (index_of : Sq1State → ℕ) (i : ℕ) (o : Option Sq1State) (p : Option ℕ) → option_map index_of o ≡ p
-    → has_index index_of i o ≡ has_number i p
-unfolding has_number
-has_index-mapped index_of i None p e = ap (has_number i) e
-has_index-mapped index_of i (Some r) p e = ap (has_number i) e
+has_index-mapped : (index_of : Sq1State → ℕ) (i : ℕ) (o : Option Sq1State) → has_index index_of i o ≡ has_number i (option_map index_of o)
+has_index-mapped index_of i None = refl
+has_index-mapped index_of i (Some r) = refl
 
 home_index : square_index solved_sq1 ≡ 0
 unfolding square_index bits_number pairs_number corners_of edges_of
@@ -43,23 +35,11 @@ pub quarter-tested : (l : Letters) (p n : ℕ) (r o : Option ℕ) → l ≡ Quar
     → r ≡ option_map square_index (by_letters sq1_after 32 (letter_of l) (square_state p) n) → r ≡ o
     → has_index square_index (square_index solved_sq1) (play sq1_after (square_state p) (quarter_word n)) ≡ has_number 0 o
 quarter-tested l p n r o is lt made e =
-    let mapped : option_map square_index (play sq1_after (square_state p) (quarter_word n)) ≡ o =
-    ap (option_map square_index) (sym (by_letters-played sq1_after 32 quarter_word (square_state p) n lt))
-    ∙ ap (λ k. option_map square_index (by_letters sq1_after 32 (letter_of k) (square_state p) n)) (sym is) ∙ sym made ∙ e in
-    has_index-mapped square_index (square_index solved_sq1) (play sq1_after (square_state p) (quarter_word n)) o mapped
-    ∙ ap (λ k. has_number k o) home_index
-
-pub number-home : has_number 0 (Some 0) ≡ true
-unfolding has_number
-number-home = refl
-
-pub number-none : has_number 0 None ≡ false
-unfolding has_number
-number-none = refl
-
-pub number-other : (k : ℕ) → (k ≡ 0 → ⊥) → has_number 0 (Some k) ≡ false
-unfolding has_number
-number-other k apart = ne_eqb k 0 apart
+    has_index-mapped square_index (square_index solved_sq1) (play sq1_after (square_state p) (quarter_word n))
+    ∙ ap (λ k. has_number k (option_map square_index (play sq1_after (square_state p) (quarter_word n)))) home_index
+    ∙ ap (λ q. has_number 0 (option_map square_index q)) (sym (by_letters-played sq1_after 32 quarter_word (square_state p) n lt))
+    ∙ ap (λ k. has_number 0 (option_map square_index (by_letters sq1_after 32 (letter_of k) (square_state p) n))) (sym is)
+    ∙ ap (has_number 0) (sym made ∙ e)
 
 -- what the index after one of the four turns tells
 module _ (s : Sq1State) (n : ℕ) (w : Written) (o : Option Sq1State) (written : w ≡ record { event = Sq1; turns = squaring_letter n })
@@ -72,13 +52,13 @@ module _ (s : Sq1State) (n : ℕ) (w : Written) (o : Option Sq1State) (written :
 
   pub squared-some : (r : Sq1State) (i : ℕ) → o ≡ Some r → i ≡ shapes_index r → i ≡ 2344 → square_test n ≡ true
   squared-some r i is index normal =
-      has_index-some shapes_index (shapes_index solved_sq1) (play sq1_after s (squaring_letter n)) r (same ∙ is)
+      ap (has_index shapes_index (shapes_index solved_sq1)) (same ∙ is)
       ∙ eq-eqb (shapes_index r) (shapes_index solved_sq1) (sym index ∙ normal ∙ sym normal_index)
 
   pub squared-other : (r : Sq1State) (i : ℕ) → o ≡ Some r → i ≡ shapes_index r → (i ≡ 2344 → ⊥) → square_test n ≡ false
   squared-other r i is index apart =
-      has_index-some shapes_index (shapes_index solved_sq1) (play sq1_after s (squaring_letter n)) r (same ∙ is)
+      ap (has_index shapes_index (shapes_index solved_sq1)) (same ∙ is)
       ∙ ne_eqb (shapes_index r) (shapes_index solved_sq1) (λ e. apart (index ∙ e ∙ normal_index))
 
   pub squared-none : o ≡ None → square_test n ≡ false
-  squared-none is = has_index-none shapes_index (shapes_index solved_sq1) (play sq1_after s (squaring_letter n)) (same ∙ is)
+  squared-none is = ap (has_index shapes_index (shapes_index solved_sq1)) (same ∙ is)

@@ -1,7 +1,6 @@
 -- How many twists and turns a scramble has at most.
 use Rattle.std.proofs.Common.{◌≡◌, ℕ, ◌+◌, ◌*◌, ◌≤◌, Bool, true, false, cond, IsTrue, List, [], ◌∷◌, ◌++◌, map, length, Option, Some, None, refl, sym, ap, ◌∙◌, arith}
 use Rattle.std.specs.Prelude.{ℤ, reverse, nat_lt, ◌%◌, ◌/◌, ◌==◌, pos, ◌-ℤ◌, ◌+ℤ◌, neg_ℤ, All}
-use Rattle.std.proofs.Math.Nat.{mul-le-mul_right}
 use Rattle.std.proofs.lemmas.Bool.{false≢true}
 use Rattle.std.proofs.lemmas.List.{length-append, length-reverse, length-map, reverse-append}
 use Rattle.std.proofs.lemmas.List.Elements.{All-nil, All-cons, All-head, All-tail}
@@ -9,8 +8,6 @@ use Rattle.scr_combinatorics.specs.Play.{play, count_in}
 use Rattle.scr_combinatorics.specs.Back.{back}
 use Rattle.scr_combinatorics.specs.Tidy.{word_of, with_turn, tidy, begins_alike, IsTidy}
 use Rattle.scr_combinatorics.proofs.PlayLaws.{count_in-append, play-parts}
-use Rattle.scr_combinatorics.proofs.StageLaws.{count-spelled}
-use Rattle.scr_orbit.proofs.Minima.{count_once}
 use Rattle.scr_combinatorics.proofs.TidyLaws.{IsTidy-apart, IsTidy-rest}
 use Rattle.scr_notation.specs.declared.event.Event.TheVariants.{Sq1}
 use Rattle.scr_notation.specs.declared.turn.Turn.{Turn}
@@ -24,7 +21,6 @@ use Rattle.scr_sq1solve.specs.declared.stage_letters.Letters.TheVariants.{OfShap
 use Rattle.scr_sq1solve.specs.Stages.{turn_word, quarters, quarter_word, squaring_letter, shape_letter, pairing_letter, home_letter}
 use Rattle.scr_sq1solve.specs.Letters.{stage_of, letter_of}
 use Rattle.scr_sq1solve.specs.Counts.{twists_of, twists_in, Costs}
-use Rattle.scr_combinatorics.specs.Stages.{spelled}
 
 -- ---- turns and twists of letters
 
@@ -86,19 +82,6 @@ Costs-home n =
     (five (pos 0) (neg_ℤ (pos 1)) (neg_ℤ (pos 2)) (neg_ℤ (pos 2)) (pos 2) (pos 3)) in
     let whole = Costs-append (Costs-quarter (n % 16)) exchange in
     whole
-
--- a word of at most so many letters
-pub Costs-word : (letter : ℕ → List Turn) (turns twists bound : ℕ) → ((n : ℕ) → Costs (letter n) turns twists) → (w : List ℕ) → length w ≤ bound
-    → Costs (spelled letter w) (bound * turns) (bound * twists)
-Costs-word letter turns twists bound each w le = record {
-  turns = omega (
-    arith,
-    count_once (spelled letter w),
-    count-spelled (λ t. 1) letter turns (λ n. omega (arith, count_once (letter n), (each n).turns)) w,
-    mul-le-mul_right turns le,
-  );
-  twists = omega (arith, count-spelled twists_of letter twists (λ n. (each n).twists) w, mul-le-mul_right twists le);
-}
 
 -- a letter of a stage of one letter at most is one turn at most, and no twist
 pub Costs-ending : (letters : Letters) → (stage_of letters).bound ≡ 1 → (n : ℕ) → Costs (letter_of letters n) 1 0

@@ -1,16 +1,19 @@
 -- The words of the stages, as they are found and played, and the solution that they are joined to.
-use Rattle.std.proofs.Common.{◌≡◌, ℕ, ◌*◌, ◌<◌, ◌≤◌, cond, List, [], ◌∷◌, ◌++◌, Option, Some, refl, sym, ap, ◌∙◌, subst}
+use Rattle.std.proofs.Common.{◌≡◌, ℕ, ◌*◌, ◌<◌, ◌≤◌, cond, List, [], ◌∷◌, ◌++◌, length, Some, refl, sym, ap, ◌∙◌, subst}
 use Rattle.std.proofs.Common.{arith}
 use Rattle.std.specs.Prelude.{All}
+use Rattle.std.proofs.Math.Nat.{mul-le-mul_right}
 use Rattle.std.proofs.lemmas.List.{append-nil}
+use Rattle.std.proofs.lemmas.Option.{same_Some}
 use Rattle.scr_combinatorics.specs.Play.{play}
 use Rattle.scr_combinatorics.specs.Back.{back}
 use Rattle.scr_combinatorics.specs.FirstWord.{IsFirstWord}
 use Rattle.scr_combinatorics.specs.Tidy.{tidy}
 use Rattle.scr_combinatorics.specs.Stages.{Stage, IsStageWord, spelled, IsSolution}
 use Rattle.scr_combinatorics.proofs.PlayLaws.{play-append}
-use Rattle.scr_combinatorics.proofs.StageLaws.{play-stage_word, All-stage_word}
+use Rattle.scr_combinatorics.proofs.StageLaws.{play-stage_word, All-stage_word, count-spelled}
 use Rattle.scr_combinatorics.proofs.OneLetter.{IsEnding}
+use Rattle.scr_orbit.proofs.Minima.{count_once}
 use Rattle.scr_coord.specs.Coordinates.{moved, IsGoal}
 use Rattle.scr_coord.specs.SearchSpaces.{positions, Follows}
 use Rattle.scr_notation.specs.declared.turn.Turn.{Turn}
@@ -24,9 +27,8 @@ use Rattle.scr_sq1solve.specs.Stages.{shape_stage, squaring_stage, pairing_stage
 use Rattle.scr_sq1solve.specs.declared.stage_letters.Letters.{Letters}
 use Rattle.scr_sq1solve.specs.declared.stage_letters.Letters.TheVariants.{OfShapes, OfPairings, OfHome, Squarings, Quarters}
 use Rattle.scr_sq1solve.specs.Letters.{stage_of, IsWalk}
-use Rattle.scr_sq1solve.specs.Counts.{Costs}
+use Rattle.scr_sq1solve.specs.Counts.{twists_of, twists_in, Costs}
 use Rattle.scr_sq1solve.proofs.Joins.{tidy-rest}
-use Rattle.scr_sq1solve.proofs.Lengths.{Costs-word}
 use Rattle.scr_sq1solve.proofs.ShapeStage.{IsEnding-squaring}
 use Rattle.scr_sq1solve.proofs.HomeStage.{IsEnding-last}
 use Rattle.scr_sq1solve.proofs.Solutions.{with_equator}
@@ -34,21 +36,32 @@ use Rattle.scr_sq1solve.proofs.Solutions.{with_equator}
 -- the turns of a stage's word, where they are played
 pub IsWalk-played : (stage : Stage Sq1State Turn) (s end : Sq1State) (word : List ℕ) (turns : List Turn) → IsStageWord sq1_after stage s word → turns ≡ spelled stage.letter word
     → play sq1_after s turns ≡ Some end → IsWalk stage s turns end
-IsWalk-played stage s end word turns is are played =
-    let here = play-stage_word sq1_after stage s word is in
-    let same : Some is.first.leads.end ≡ Some end = sym here ∙ ap (play sq1_after s) (sym are) ∙ played in
-    record { word = word; is = is; turns_are = are; end_is = some_same same }
-  where
-    some_same : {x y : Sq1State} → (let p : Option Sq1State = Some x in p ≡ Some y) → x ≡ y
-    some_same e = cc
+IsWalk-played stage s end word turns is are played = record {
+  word = word;
+  is = is;
+  turns_are = are;
+  end_is = same_Some is.first.leads.end end (sym (play-stage_word sq1_after stage s word is) ∙ ap (play sq1_after s) (sym are) ∙ played);
+}
 
 -- what is so where a stage's word has led
 module _ {stage : Stage Sq1State Turn} {s end : Sq1State} {turns : List Turn} (w : IsWalk stage s turns end) where
   pub walk-costs : (each_turns each_twists : ℕ) → ((n : ℕ) → Costs (stage.letter n) each_turns each_twists)
       → Costs turns (stage.bound * each_turns) (stage.bound * each_twists)
-  walk-costs each_turns each_twists costs =
-      subst (λ ts. Costs ts (stage.bound * each_turns) (stage.bound * each_twists)) (sym w.turns_are)
-      (Costs-word stage.letter each_turns each_twists stage.bound costs w.word w.is.within)
+  walk-costs each_turns each_twists costs = record {
+    turns = omega (
+      arith,
+      ap length w.turns_are,
+      count_once (spelled stage.letter w.word),
+      count-spelled (λ t. 1) stage.letter each_turns (λ n. omega (arith, count_once (stage.letter n), (costs n).turns)) w.word,
+      mul-le-mul_right each_turns w.is.within,
+    );
+    twists = omega (
+      arith,
+      ap twists_in w.turns_are,
+      count-spelled twists_of stage.letter each_twists (λ n. (costs n).twists) w.word,
+      mul-le-mul_right each_twists w.is.within,
+    );
+  }
 
   pub walk-kept : (IsValid : Sq1State → Type 0) (line : TableLine) (view : Sq1State → ℕ)
       → Follows (stage_space sq1_after stage IsValid) (positions line.coordinate) view → IsValid s → IsValid end
