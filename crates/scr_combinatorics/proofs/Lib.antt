@@ -19,3 +19,4 @@ pub mod MergeLaws
 pub mod TidyPlay
 pub mod FirstWordLaws
 pub mod StageLaws
+pub mod OneLetter

@@ -1,13 +1,15 @@
--- Solutions by stages: what they lead to, how long they are, and that a state has but one.
-use Rattle.std.proofs.Common.{◌≡◌, ℕ, ◌+◌, ◌<◌, ◌≤◌, Bool, true, false, cond, IsTrue, List, [], ◌∷◌, ◌++◌, length, Option, Some, None, refl, sym, ap, ◌∙◌, subst, arith}
+-- Solutions by stages: what they lead to, what they count for, and that a state has but one; the same of scrambles.
+use Rattle.std.proofs.Common.{◌≡◌, ℕ, ◌+◌, ◌*◌, ◌<◌, ◌≤◌, Bool, true, false, cond, IsTrue, List, [], ◌∷◌, ◌++◌, length, Option, Some, None, refl, sym, ap, ◌∙◌, subst, arith}
 use Rattle.std.specs.Prelude.{All, nat_lt}
-use Rattle.std.proofs.lemmas.Bool.{ltb-true}
+use Rattle.std.proofs.Math.Nat.{suc-mul, mul-le-mul_right}
+use Rattle.std.proofs.lemmas.Bool.{cond-true, lt-ltb, ltb-true}
 use Rattle.std.proofs.lemmas.List.Elements.{All-nil, All-cons}
-use Rattle.std.proofs.lemmas.List.{length-append}
 use Rattle.std.proofs.lemmas.Option.{same_Some}
-use Rattle.scr_combinatorics.specs.Play.{play}
-use Rattle.scr_combinatorics.specs.Stages.{Stage, by_letters, IsStageWord, spelled, IsSolution}
-use Rattle.scr_combinatorics.proofs.PlayLaws.{play-empty, play-parts, play-append}
+use Rattle.scr_combinatorics.specs.Play.{play, count_in}
+use Rattle.scr_combinatorics.specs.Back.{back, IsTakenBack}
+use Rattle.scr_combinatorics.specs.Tidy.{Merging, tidy, IsKeptByTidy}
+use Rattle.scr_combinatorics.specs.Stages.{Stage, by_letters, IsStageWord, HasStageWord, spelled, IsSolution, IsScrambleByStages}
+use Rattle.scr_combinatorics.proofs.PlayLaws.{play-empty, play-parts, play-append, count_in-append}
 use Rattle.scr_combinatorics.proofs.FirstWordLaws.{IsFirstWord-unique}
 
 -- ---- words of letters
@@ -22,6 +24,11 @@ module _ {S T : Type 0} (after : S → T → Option S) (letters : ℕ) (letter :
       guarded : (b : Bool) (o : Option S) → (let p : Option S = cond b o None in p ≡ Some r) → IsTrue b × (o ≡ Some r)
       guarded true o e = (refl, e)
       guarded false o e = absurd (cc)
+
+  -- and such a letter is played
+  pub by_letters-played : (s : S) (n : ℕ) → n < letters → by_letters after letters letter s n ≡ play after s (letter n)
+  unfolding by_letters
+  by_letters-played s n lt = cond-true (nat_lt n letters) (play after s (letter n)) None (lt-ltb n letters lt)
 
   -- a word of letters is the word of their turns
   pub play-spelled : (s r : S) (w : List ℕ) → play (by_letters after letters letter) s w ≡ Some r → play after s (spelled letter w) ≡ Some r
@@ -118,33 +125,64 @@ module _ {S T : Type 0} (after : S → T → Option S) where
       let ends : is.first.leads.end ≡ r = same_Some is.first.leads.end r (sym is.first.leads.played ∙ played) in
       (word, turns, is, subst (λ x. IsSolution after rest x turns) (sym ends) more, refl)
 
--- ---- how long a solution is
+  -- there is a solution where the first stage has a word, and the others have a solution from where it leads
+  pub next_solution : (stage : Stage S T) (rest : List (Stage S T)) (s : S) (found : HasStageWord after stage s)
+      → (w : List T) × IsSolution after rest found.1.first.leads.end w → (w : List T) × IsSolution after (stage ∷ rest) s w
+  next_solution stage rest s found more = (spelled stage.letter found.0 ++ more.0, (found.0, more.0, found.1, more.1, refl))
 
-unfoldable pub bounds : {S T : Type 0} → List (Stage S T) → ℕ
-bounds [] = 0
-bounds (stage ∷ rest) = stage.bound + bounds rest
+-- ---- how much a solution counts for
 
--- each letter of the stages is one turn
-unfoldable pub AreTurns : {S T : Type 0} → List (Stage S T) → Type 0
-AreTurns [] = Unit {0}
-AreTurns (stage ∷ rest) = ((n : ℕ) → length (stage.letter n) ≡ 1) × AreTurns rest
+-- each letter of each stage counts for at most what stands at its stage
+unfoldable pub CountsWithin : {S T : Type 0} → (T → ℕ) → List (Stage S T) → List ℕ → Type 0
+CountsWithin counted [] each = Unit {0}
+CountsWithin counted (stage ∷ rest) [] = ⊥
+CountsWithin counted (stage ∷ rest) (most ∷ each) =
+    ((n : ℕ) → count_in counted (stage.letter n) ≤ most) × CountsWithin counted rest each
 
-pub length-spelled : {T : Type 0} (letter : ℕ → List T) → ((n : ℕ) → length (letter n) ≡ 1) → (w : List ℕ)
-    → length (spelled letter w) ≡ length w
-length-spelled letter one [] = refl
-length-spelled letter one (n ∷ w) =
-    omega (arith, length-append (letter n) (spelled letter w), one n, length-spelled letter one w)
+-- so much at most, where words are as long as they may be
+unfoldable pub bounds : {S T : Type 0} → List (Stage S T) → List ℕ → ℕ
+bounds [] each = 0
+bounds (stage ∷ rest) [] = 0
+bounds (stage ∷ rest) (most ∷ each) = stage.bound * most + bounds rest each
 
-pub length-solution : {S T : Type 0} (after : S → T → Option S) (some : List (Stage S T)) (s : S) (w : List T) → AreTurns some
-    → IsSolution after some s w → length w ≤ bounds some
-unfolding bounds AreTurns
-length-solution after [] s w one a = omega (arith, ap length a)
-length-solution after (stage ∷ rest) s w one a =
+pub count-spelled : {T : Type 0} (counted : T → ℕ) (letter : ℕ → List T) (most : ℕ) → ((n : ℕ) → count_in counted (letter n) ≤ most)
+    → (w : List ℕ) → count_in counted (spelled letter w) ≤ length w * most
+unfolding count_in
+count-spelled counted letter most each [] = omega arith
+count-spelled counted letter most each (n ∷ w) =
     omega (
       arith,
-      ap length a.4,
-      length-append (spelled stage.letter a.0) a.1,
-      length-spelled stage.letter one.0 a.0,
-      a.2.within,
-      length-solution after rest a.2.first.leads.end a.1 one.1 a.3,
+      count_in-append counted (letter n) (spelled letter w),
+      each n,
+      count-spelled counted letter most each w,
+      suc-mul (length w) most,
     )
+
+pub count-solution : {S T : Type 0} (after : S → T → Option S) (counted : T → ℕ) (some : List (Stage S T)) (each : List ℕ) (s : S) (w : List T)
+    → CountsWithin counted some each → IsSolution after some s w → count_in counted w ≤ bounds some each
+unfolding bounds CountsWithin count_in
+count-solution after counted [] each s w within a = omega (arith, ap (count_in counted) a)
+count-solution after counted (stage ∷ rest) [] s w within a = absurd within
+count-solution after counted (stage ∷ rest) (most ∷ each) s w within a =
+    omega (
+      arith,
+      ap (count_in counted) a.4,
+      count_in-append counted (spelled stage.letter a.0) a.1,
+      count-spelled counted stage.letter most within.0 a.0,
+      mul-le-mul_right most a.2.within,
+      count-solution after counted rest each a.2.first.leads.end a.1 within.1 a.3,
+    )
+
+-- ---- scrambles
+
+module _ {S T : Type 0} (after : S → T → Option S) (opposite : T → T) (m : Merging T) (some : List (Stage S T)) where
+  pub one_scramble : (s : S) (v w : List T) → IsScrambleByStages after opposite m some s v → IsScrambleByStages after opposite m some s w
+      → v ≡ w
+  one_scramble s v w a b =
+      a.taken_back ∙ ap (λ x. back opposite (tidy m x)) (IsSolution-unique after some s a.solution b.solution a.is b.is) ∙ sym b.taken_back
+
+  -- from where the solution leads a scramble leads to the state
+  pub play-scramble : (IsValid : S → Type 0) → IsTakenBack after opposite IsValid → IsKeptByTidy after m IsValid → (s end : S) (w : List T)
+      → IsValid s → (a : IsScrambleByStages after opposite m some s w) → play after s a.solution ≡ Some end → play after end w ≡ Some s
+  play-scramble IsValid taken_back kept s end w valid a played =
+      ap (play after end) a.taken_back ∙ taken_back s end (tidy m a.solution) valid (kept s end a.solution valid played)

@@ -2,6 +2,8 @@
 use Rattle.std.specs.Prelude.{◌≡◌, ℕ, ◌≤◌, nat_lt, if◌then◌else◌, List, [], ◌∷◌, ◌++◌, length, flat_map, Option, None}
 use Rattle.scr_combinatorics.specs.Play.{play}
 use Rattle.scr_combinatorics.specs.FirstWord.{IsFirstWord}
+use Rattle.scr_combinatorics.specs.Back.{back}
+use Rattle.scr_combinatorics.specs.Tidy.{Merging, tidy}
 
 -- A stage: how many letters its words have, and the word of turns that each letter is; its goal; and how many letters lead there
 -- from wherever the stage before may end.
@@ -21,6 +23,10 @@ pub record IsStageWord {S T : Type 0} (after : S → T → Option S) (stage : St
   pub first : IsFirstWord (by_letters after stage.letters stage.letter) stage.IsGoal s word
   pub within : length word ≤ stage.bound
 
+-- A stage has a word from this state.
+abbrev pub HasStageWord : {S T : Type 0} → (S → T → Option S) → Stage S T → S → Type 0
+HasStageWord after stage s = (word : List ℕ) × IsStageWord after stage s word
+
 -- a word of letters as turns
 abbrev pub spelled : {T : Type 0} → (ℕ → List T) → List ℕ → List T
 spelled letter word = flat_map letter word
@@ -31,3 +37,10 @@ IsSolution after [] s solution = solution ≡ []
 IsSolution {S} {T} after (stage ∷ rest) s solution =
     (word : List ℕ) × (turns : List T) × (is : IsStageWord after stage s word) × IsSolution after rest is.first.leads.end turns
     × (solution ≡ spelled stage.letter word ++ turns)
+
+-- The scramble that stages give: their solution, tidied and taken back.
+pub record IsScrambleByStages {S T : Type 0} (after : S → T → Option S) (opposite : T → T) (m : Merging T)
+    (some : List (Stage S T)) (s : S) (scramble : List T) : Type 0 where
+  pub solution : List T
+  pub is : IsSolution after some s solution
+  pub taken_back : scramble ≡ back opposite (tidy m solution)

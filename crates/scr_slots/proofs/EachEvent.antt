@@ -22,7 +22,6 @@ use Rattle.scr_small.proofs.PyramLaws.{IsScramblePyram-unique}
 use Rattle.scr_tetra.specs.Pyraminx.{numbered_pyram}
 use Rattle.scr_tetra.specs.Skewb.{skewb_numbered}
 use Rattle.scr_sq1.specs.Numbers.{sq1_numbered}
-use Rattle.scr_sq1.proofs.Lawful.{IsSq1-reached}
 use Rattle.scr_sq1solve.proofs.Solutions.{one_scramble}
 use Rattle.scr_slots.specs.Shown.{Shown, States, Moves}
 use Rattle.scr_slots.specs.Slots.{Scrambling, ByState, ByMoves, by_state, IsDrawnFairly}
@@ -56,8 +55,7 @@ each_one Pyram least =
 each_one Skewb least =
     HasOneAnswer-state Skewb drawn_skewb skewb_numbered _ least (lit≤ tt) (λ effort state turns other reached. IsScrambleOf-unique numbered_puzzle_skewb lawful_puzzle_skewb state turns other)
 each_one Sq1 least =
-    HasOneAnswer-state Sq1 drawn_sq1 sq1_numbered _ least (lit≤ tt)
-    (λ effort state turns other reached. one_scramble state turns other (IsSq1-reached state reached))
+    HasOneAnswer-state Sq1 drawn_sq1 sq1_numbered _ least (lit≤ tt) (λ effort state turns other reached. one_scramble state turns other)
 
 -- ---- fairness
 

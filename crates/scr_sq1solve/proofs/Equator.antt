@@ -1,21 +1,16 @@
 -- The word that turns the equator alone.
 use Rattle.std.proofs.Common.{◌≡◌, ℕ, Bool, true, false, IsTrue, List, [], ◌∷◌, Some, refl, sym, ap, ◌∙◌}
 use Rattle.std.specs.Prelude.{not, pos, ◌&&◌}
-use Rattle.std.specs.Option.{option_map}
 use Rattle.scr_combinatorics.specs.Lists.{numbers_from, pick}
 use Rattle.scr_combinatorics.proofs.Picks.{pick-in_order}
-use Rattle.scr_orbit.proofs.ActionLaws.{map-some}
 use Rattle.scr_combinatorics.specs.Play.{play}
 use Rattle.scr_combinatorics.proofs.PlayLaws.{play-empty, play-first}
 use Rattle.scr_notation.specs.declared.turn.Turn.{Turn}
 use Rattle.scr_notation.specs.declared.turn.Turn.TheVariants.{Layers, Twist}
 use Rattle.scr_sq1.specs.Units.{Sq1State, IsSq1, is_open, are_of_one_corner, turn_places, twist_places, turned, twisted}
 use Rattle.scr_sq1.specs.Units.{sq1_after}
-use Rattle.scr_sq1.specs.Shapes.{shape_of}
 use Rattle.scr_sq1.proofs.Lawful.{IsLawful-sq1, sq1_after-by_layers}
 use Rattle.scr_sq1solve.specs.Stages.{equator_word}
-use Rattle.scr_sq1solve.proofs.Renamed.{other_if, renamed}
-use Rattle.scr_sq1solve.proofs.Bases.{base_of, names_of, play-base}
 
 -- the state with the equator turned
 abbrev pub flipped : Sq1State → Sq1State
@@ -82,23 +77,3 @@ play-equator s valid =
     ∙ ap (λ us. let r : Sq1State = record { units = us; equator = not (not (not s.equator)) } in Some r)
     (ap (λ n. pick s.units (numbers_from 0 n)) (sym valid.size) ∙ pick-in_order s.units)
     ∙ ap (λ b. let r : Sq1State = record { units = s.units; equator = b } in Some r) (not_thrice s.equator)
-
--- ---- words whatever the equator
-
-valid_flipped : (s : Sq1State) → IsSq1 s → IsSq1 (flipped s)
-valid_flipped s valid = record { size = valid.size; pieces = valid.pieces; neighbours = valid.neighbours; opened = valid.opened }
-
-other_if-flipped : (e b : Bool) → other_if (not e) b ≡ not (other_if e b)
-other_if-flipped true true = refl
-other_if-flipped true false = refl
-other_if-flipped false true = refl
-other_if-flipped false false = refl
-
--- a word does to the layers what it does whatever the equator
-pub play-flipped : (s r : Sq1State) (w : List Turn) → IsSq1 s → play sq1_after s w ≡ Some r → play sq1_after (flipped s) w ≡ Some (flipped r)
-play-flipped s r w valid e =
-    let base : Sq1State = base_of (shape_of s.units) in
-    let made = map-some (renamed (names_of s)) (play sq1_after base w) r (sym (play-base s w valid) ∙ e) in
-    play-base (flipped s) w (valid_flipped s valid) ∙ ap (option_map (renamed (names_of (flipped s)))) made.1
-    ∙ ap (λ b. let q : Sq1State = record { units = (renamed (names_of s) made.0).units; equator = b } in Some q) (other_if-flipped s.equator made.0.equator)
-    ∙ ap (λ q. Some (flipped q)) made.2

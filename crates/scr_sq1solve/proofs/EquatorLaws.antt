@@ -1,20 +1,19 @@
--- The word that turns the equator stands in a solution exactly where the equator, turned over once for each twist of the three
--- stages, would else stand turned.
-use Rattle.std.proofs.Common.{◌≡◌, ℕ, zero, suc, ◌+◌, Bool, List, [], ◌∷◌, ◌++◌, Option, Some, refl, sym, ap, ◌∙◌}
+-- The word that turns the equator stands in a solution exactly where the equator, turned over once for each twist of the solution of
+-- the layers, would else stand turned.
+use Rattle.std.proofs.Common.{◌≡◌, ℕ, zero, suc, ◌+◌, Bool, cond, List, [], ◌∷◌, ◌++◌, Option, Some, refl, sym, ap, ◌∙◌}
 use Rattle.std.proofs.Common.{arith}
 use Rattle.std.specs.Prelude.{not}
 use Rattle.scr_combinatorics.specs.Play.{play, count_in}
-use Rattle.scr_combinatorics.proofs.PlayLaws.{play-empty, play-parts, count_in-append}
+use Rattle.scr_combinatorics.specs.Stages.{IsSolution}
+use Rattle.scr_combinatorics.proofs.PlayLaws.{play-empty, play-parts}
+use Rattle.scr_combinatorics.proofs.StageLaws.{IsSolution-unique}
 use Rattle.scr_notation.specs.declared.turn.Turn.{Turn}
 use Rattle.scr_notation.specs.declared.turn.Turn.TheVariants.{Layers, Twist}
 use Rattle.scr_sq1.specs.Units.{Sq1State, IsSq1, turned, twisted, sq1_after}
 use Rattle.scr_sq1.proofs.Lawful.{sq1_after-layers, sq1_after-twist}
-use Rattle.scr_sq1solve.specs.Stages.{IsSolution, shape_letter, pairing_letter, home_letter}
-use Rattle.scr_sq1solve.specs.Counts.{twists_of, twists_in, turned_over, stage_twists}
-use Rattle.scr_sq1solve.proofs.Solutions.{stages_of, play-stages}
-use Rattle.scr_sq1solve.proofs.Lengths.{Costs-squaring, Costs-end}
-use Rattle.scr_sq1solve.specs.declared.stage_letters.Letters.TheVariants.{Quarters}
-use Rattle.scr_combinatorics.specs.Stages.{spelled}
+use Rattle.scr_sq1solve.specs.Stages.{layer_stages, sq1_stages, equator_word}
+use Rattle.scr_sq1solve.specs.Counts.{twists_of, twists_in, turned_over}
+use Rattle.scr_sq1solve.proofs.Solutions.{layers-end, with_equator}
 
 turned_over-not : (n : ℕ) (b : Bool) → turned_over n (not b) ≡ not (turned_over n b)
 unfolding turned_over
@@ -49,21 +48,10 @@ equator-played s r (t ∷ w) e =
     ∙ ap (turned_over (twists_in w)) (equator-after s parts.0 t parts.1)
     ∙ turned_over-sum (twists_of t) (twists_in w) s.equator
 
-pub equator-solution : (s : Sq1State) (w : List Turn) → IsSq1 s → (h : IsSolution s w)
-    → h.home.equator ≡ turned_over (stage_twists h.shape h.pairing h.homing) s.equator
-unfolding stages_of
-equator-solution s w valid h =
-    let x : List Turn = spelled shape_letter h.shape in
-    let y : List Turn = spelled pairing_letter h.pairing in
-    let z : List Turn = spelled home_letter h.homing in
-    let add = count_in-append twists_of in
-    let counted : twists_in (x ++ h.squaring ++ y ++ z ++ h.last) ≡ stage_twists h.shape h.pairing h.homing = omega (
-      arith,
-      add (((x ++ h.squaring) ++ y) ++ z) h.last,
-      add ((x ++ h.squaring) ++ y) z,
-      add (x ++ h.squaring) y,
-      add x h.squaring,
-      (Costs-squaring h.squaring h.is_squaring.one).twists,
-      (Costs-end Quarters h.last h.is_last.one).twists,
-    ) in
-    equator-played s h.home (stages_of s valid w h) (play-stages s valid w h) ∙ ap (λ n. turned_over n s.equator) counted
+pub equator-solution : (s : Sq1State) (layers w : List Turn) → IsSq1 s → IsSolution sq1_after layer_stages s layers → IsSolution sq1_after sq1_stages s w
+    → w ≡ (let e : List Turn = cond (turned_over (twists_in layers) s.equator) equator_word [] in e) ++ layers
+equator-solution s layers w valid a b =
+    let home = layers-end s layers a in
+    IsSolution-unique sq1_after sq1_stages s w ((let e : List Turn = cond home.0.equator equator_word [] in e) ++ layers) b
+    (with_equator s valid layers a home.0 home.1 home.2)
+    ∙ ap (λ b. (let e : List Turn = cond b equator_word [] in e) ++ layers) (equator-played s home.0 layers home.1)

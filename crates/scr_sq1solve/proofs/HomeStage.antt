@@ -1,35 +1,29 @@
 -- The third stage: a state in which mates stand together is told by its index, but for the equator, and so its index goes along
 -- with words.
-use Rattle.std.proofs.Common.{◌≡◌, ℕ, ◌+◌, ◌*◌, ◌/◌, ◌%◌, ◌<◌, Bool, false, IsTrue, List, map, slice_index, Option, Some, None, refl, sym, ap, ◌∙◌, subst, arith}
-use Rattle.std.specs.Prelude.{◌&&◌, Any}
+use Rattle.std.proofs.Common.{◌≡◌, ℕ, ◌+◌, ◌*◌, ◌/◌, ◌%◌, ◌<◌, Bool, false, IsTrue, List, map, Option, Some, None, refl, sym, ap, ◌∙◌, subst, arith, lit<}
 use Rattle.std.specs.Option.{option_map}
-use Rattle.std.proofs.lemmas.Bool.{and_parts, and_from}
-use Rattle.std.proofs.lemmas.List.{get_or-map}
-use Rattle.scr_combinatorics.specs.Lists.{numbers_from, pick}
+use Rattle.std.proofs.lemmas.Bool.{and_parts}
+use Rattle.scr_combinatorics.specs.Lists.{pick}
 use Rattle.scr_combinatorics.specs.Permutations.{IsPermutation, parity}
-use Rattle.scr_combinatorics.proofs.Picks.{numbers_from-at, pick-from_order}
-use Rattle.scr_combinatorics.proofs.PermutationLaws.{All-permutation}
-use Rattle.scr_orbit.proofs.ActionLaws.{map-some}
 use Rattle.scr_combinatorics.specs.Play.{play}
 use Rattle.scr_coord.specs.Coordinates.{StaysBelow}
 use Rattle.scr_coord.specs.SearchSpaces.{positions, Follows}
 use Rattle.scr_notation.specs.declared.turn.Turn.{Turn}
 use Rattle.scr_notation.specs.Ranges.{all_below, same}
-use Rattle.scr_notation.proofs.Below.{at_below, same-refl}
-use Rattle.scr_sq1.specs.Units.{Sq1State, IsSq1, solved_sq1, sq1_after, turn_places, twist_places, turned, after_layers, twisted}
+use Rattle.scr_notation.proofs.Below.{at_below}
+use Rattle.scr_sq1.specs.Units.{Sq1State, solved_sq1, sq1_after, turn_places, twist_places, turned, after_layers, twisted}
 use Rattle.scr_sq1.specs.Shapes.{half_words, half_word, half_bits, half_of, halves_in, shape_of, halves_number, ways_to_have, corner_count, corner_counts, shape_number}
 use Rattle.scr_sq1.specs.Numbers.{corners_of, edges_of, laid, shape_word}
 use Rattle.scr_sq1.proofs.InHalves.{IsSq1-halves}
 use Rattle.scr_sq1.proofs.StatePieces.{StatePieces-valid, LaidState-pieces}
 use Rattle.scr_sq1.proofs.Lawful.{IsSq1-solved}
-use Rattle.scr_sq1solve.specs.Stages.{IsEnd, IsNormal, HasSolvedLayers, oddness, turn_word, quarter_word, quarter_words}
-use Rattle.scr_sq1solve.specs.Stages.{mates, pairing_of, home_letter}
+use Rattle.scr_combinatorics.proofs.OneLetter.{IsEnding}
+use Rattle.scr_sq1solve.specs.Stages.{oddness, turn_word, quarter_word, mates, pairing_of, home_letter, home_stage, last_stage}
 use Rattle.scr_sq1solve.specs.Tables.{shapes_index, units_after, carried_pairing, pairs_number, bits_number, paired_at, last_bit, square_index, square_state, square_coordinate}
 use Rattle.scr_sq1solve.specs.Spaces.{IsPairedSq1, square_space}
-use Rattle.scr_sq1solve.proofs.Renamed.{Names, named, renamed}
-use Rattle.scr_sq1solve.proofs.Bases.{in_order, names_of, AreNames-valid, corners_of-named, edges_of-named, keeps_sq1}
+use Rattle.scr_sq1solve.proofs.Renamed.{named, renamed}
+use Rattle.scr_sq1solve.proofs.Bases.{names_of}
 use Rattle.scr_sq1solve.proofs.Indexed.{IsIndex, Follows-index, StaysBelow-index}
-use Rattle.scr_sq1solve.proofs.OneWord.{are_apart, one_end}
 use Rattle.scr_sq1solve.proofs.ShapeStage.{oddness-solved, play-normal}
 use Rattle.scr_sq1solve.specs.Placed.{are_normal, keeps_mates, keep_mates}
 use Rattle.scr_sq1solve.proofs.NormalLetters.{IsMovedBy, IsMovedBy-normal, IsMovedBy-is}
@@ -95,15 +89,8 @@ quarters_paired = refl
 pub IsPaired-home : (s r : Sq1State) (n : ℕ) → IsPairedSq1 s → n < 32 → play sq1_after s (home_letter n) ≡ Some r → IsPairedSq1 r
 IsPaired-home = IsPaired-after home_letter home_letters_normal home_letters_paired
 
--- one of the sixteen turns by quarters
-pub IsPaired-quarter : (s r : Sq1State) (w : List Turn) → IsPairedSq1 s → Any (λ other. other ≡ w) quarter_words → play sq1_after s w ≡ Some r → IsPairedSq1 r
-IsPaired-quarter s r w h one e =
-    let n = one.0 in
-    let lt : n < 16 = one.2 in
-    let is : quarter_word n ≡ w =
-    ap quarter_word {y = slice_index (numbers_from 0 16) n} (omega (arith, numbers_from-at 0 16 n lt))
-    ∙ sym (get_or-map quarter_word (numbers_from 0 16) n 0 one.1 lt) ∙ one.3 ∙ one.4 in
-    IsPaired-after quarter_word quarters_normal quarters_paired s r n h (omega arith) (ap (play sq1_after s) is ∙ e)
+IsPaired-quarter : (s r : Sq1State) (n : ℕ) → IsPairedSq1 s → n < 32 → play sq1_after s (quarter_word n) ≡ Some r → IsPairedSq1 r
+IsPaired-quarter = IsPaired-after quarter_word quarters_normal quarters_paired
 
 -- ---- the index tells the layers
 
@@ -235,15 +222,22 @@ IsPairedSq1-solved = record {
   paired = (refl, refl);
 }
 
-pub IsIndex-square : IsIndex IsPairedSq1 73728 square_index square_state 32 home_letter HasSolvedLayers quarter_words
+pub IsEnding-last : IsEnding sq1_after last_stage
+unfolding quarter_word turn_word
+IsEnding-last = record { bound = refl; some = lit< tt; empty = refl }
+
+pub IsIndex-square : IsIndex IsPairedSq1 73728 square_index square_state home_stage last_stage
 IsIndex-square = record {
   valid = λ i lt. (IsSquareState-below i lt).paired;
   again = λ i lt. (IsSquareState-below i lt).index;
   below = square_index-lt;
   alike = square_alike;
   kept = IsPaired-home;
-  ended = λ s r w h one e.
-      (λ home. index_by_units r solved_sq1 home, λ same. same_layers r solved_sq1 (IsPaired-quarter s r w h one e) IsPairedSq1-solved same);
+  ending = IsEnding-last;
+  ended = λ s r n h lt e. (
+    λ home. index_by_units r solved_sq1 home,
+    λ same. same_layers r solved_sq1 (IsPaired-quarter s r n h (omega (arith, lt)) e) IsPairedSq1-solved same,
+  );
 }
 
 pub Follows-square : Follows square_space (positions square_coordinate) square_index
@@ -251,53 +245,3 @@ Follows-square = Follows-index IsIndex-square
 
 pub StaysBelow-square : StaysBelow square_coordinate
 StaysBelow-square = StaysBelow-index IsIndex-square
-
--- ---- exactly one turn by quarters brings the layers home
-
--- the pieces are in order
-abbrev is_home : Option Sq1State → Bool
-is_home None = false
-is_home (Some r) = same (corners_of r.units) in_order && same (edges_of r.units) in_order
-
-quarters_apart : IsTrue (are_apart quarter_words is_home solved_sq1)
-unfolding are_apart all_below same play turn_word quarter_word sq1_after after_layers turned turn_places twisted twist_places corners_of edges_of
-quarters_apart = refl
-
-corners-solved : corners_of solved_sq1.units ≡ in_order
-unfolding corners_of
-corners-solved = refl
-
-edges-solved : edges_of solved_sq1.units ≡ in_order
-unfolding edges_of
-edges-solved = refl
-
--- what picks from pieces in order, and leaves them in order, is in order
-again : (xs ys : List ℕ) → IsPermutation 8 xs → ys ≡ in_order → pick ys xs ≡ in_order → xs ≡ in_order
-again xs ys p is picked =
-    sym (pick-from_order 8 xs (All-permutation 8 xs p)) ∙ ap (λ zs. pick zs xs) (sym is) ∙ picked
-
-home_word : (r q : Sq1State) (w : List Turn) → IsSq1 r → HasSolvedLayers r → play sq1_after r w ≡ Some q → HasSolvedLayers q
-    → IsTrue (is_home (play sq1_after solved_sq1 w))
-unfolding oddness
-home_word r q w valid hr e hq =
-    let n : Names = names_of r in
-    let are = AreNames-valid r valid in
-    let normal : IsNormal r = record {
-      shape = ap shape_of hr;
-      even = ap (λ us. (parity (corners_of us) + parity (edges_of us)) % 2) hr ∙ oddness-solved;
-    } in
-    let made = map-some (renamed n) (play sq1_after solved_sq1 w) q (sym (play-normal r w valid normal) ∙ e) in
-    let b : Sq1State = made.0 in
-    let vb = keeps_sq1 solved_sq1 b w IsSq1-solved made.1 in
-    let p = StatePieces-valid b vb in
-    let corners = again (corners_of b.units) (corners_of r.units) p.corners (ap corners_of hr ∙ corners-solved)
-    (sym (corners_of-named n are b.units) ∙ ap (λ x. corners_of x.units) made.2 ∙ ap corners_of hq ∙ corners-solved) in
-    let edges = again (edges_of b.units) (edges_of r.units) p.edges (ap edges_of hr ∙ edges-solved)
-    (sym (edges_of-named n are b.units) ∙ ap (λ x. edges_of x.units) made.2 ∙ ap edges_of hq ∙ edges-solved) in
-    ap is_home made.1
-    ∙ and_from (same (corners_of b.units) in_order) (same (edges_of b.units) in_order)
-    (ap (λ xs. same xs in_order) corners ∙ same-refl in_order) (ap (λ xs. same xs in_order) edges ∙ same-refl in_order)
-
--- The turn that brings the layers home is the only one of the sixteen.
-pub one_last : (s r q : Sq1State) (v w : List Turn) → IsSq1 s → IsEnd HasSolvedLayers quarter_words s v r → IsEnd HasSolvedLayers quarter_words s w q → v ≡ w
-one_last = one_end HasSolvedLayers quarter_words is_home quarters_apart home_word

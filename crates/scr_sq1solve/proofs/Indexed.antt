@@ -1,54 +1,60 @@
 -- States by an index: where words do the same to the indexes of states that have one index, a search finds the same on the
 -- indexes as on the states.
-use Rattle.std.proofs.Common.{◌≡◌, ℕ, ◌<◌, Bool, true, false, IsTrue, cond, List, Option, Some, None, refl, sym, ap, ◌∙◌, eq-eqb, eqb-true, ltb-true}
-use Rattle.std.specs.Prelude.{◌↔◌, ◌==◌, nat_lt, Any}
+use Rattle.std.proofs.Common.{◌≡◌, ℕ, ◌<◌, Bool, true, false, IsTrue, cond, List, Option, Some, None, inl, inr, refl, sym, ap, ◌∙◌, eq-eqb, eqb-true, ltb-true}
+use Rattle.std.specs.Prelude.{◌↔◌, ◌==◌, nat_lt}
 use Rattle.std.specs.Option.{option_map}
 use Rattle.std.specs.List.{list_any}
-use Rattle.std.proofs.lemmas.List.Folds.{list_any_at, Any-from_list_any}
+use Rattle.std.proofs.lemmas.Bool.{false≢true}
+use Rattle.scr_combinatorics.specs.Lists.{numbers_from}
 use Rattle.scr_combinatorics.specs.Play.{play}
 use Rattle.scr_coord.specs.Coordinates.{StaysBelow}
 use Rattle.scr_coord.specs.SearchSpaces.{positions, Follows}
 use Rattle.scr_notation.specs.declared.turn.Turn.{Turn}
 use Rattle.scr_sq1.specs.Units.{Sq1State, solved_sq1, sq1_after}
-use Rattle.scr_sq1solve.specs.Stages.{EndsIn}
 use Rattle.scr_combinatorics.specs.Numbered.{Numbered}
 use Rattle.scr_coord.proofs.IndexLaws.{StaysBelow-indexed}
 use Rattle.scr_sq1solve.specs.Tables.{has_index, lettered_coordinate}
-use Rattle.scr_combinatorics.specs.Stages.{by_letters}
+use Rattle.scr_combinatorics.specs.Stages.{Stage, by_letters, HasStageWord}
 use Rattle.scr_combinatorics.proofs.StageLaws.{by_letters-parts}
+use Rattle.scr_combinatorics.proofs.OneLetter.{Ends, IsEnding, ending_word, some_letter}
+use Rattle.scr_table.proofs.FoundWords.{least_below}
+use Rattle.scr_sq1solve.proofs.SomeBelow.{some-one, one-below}
 
 -- What holds of states by an index: each index below the count is that of a valid state; words do the same to the indexes of
--- valid states that have one index; letters keep states valid; and where one of the last words ends, its goal is to have the
--- index of the solved state.
-pub record IsIndex (IsValid : Sq1State → Type 0) (count : ℕ) (index_of : Sq1State → ℕ) (state_at : ℕ → Sq1State) (letters : ℕ)
-    (letter : ℕ → List Turn) (IsEnd : Sq1State → Type 0) (ends : List (List Turn)) : Type 0 where
+-- valid states that have one index; a stage's letters keep states valid; and where a letter of the next stage leads, that one's
+-- goal is to have the index of the solved state.
+pub record IsIndex (IsValid : Sq1State → Type 0) (count : ℕ) (index_of : Sq1State → ℕ) (state_at : ℕ → Sq1State)
+    (stage next : Stage Sq1State Turn) : Type 0 where
   pub valid : (i : ℕ) → i < count → IsValid (state_at i)
   pub again : (i : ℕ) → i < count → index_of (state_at i) ≡ i
   pub below : (s : Sq1State) → IsValid s → index_of s < count
   pub alike : (s r : Sq1State) (w : List Turn) → IsValid s → IsValid r → index_of s ≡ index_of r
       → option_map index_of (play sq1_after s w) ≡ option_map index_of (play sq1_after r w)
-  pub kept : (s r : Sq1State) (n : ℕ) → IsValid s → n < letters → play sq1_after s (letter n) ≡ Some r → IsValid r
-  pub ended : (s r : Sq1State) (w : List Turn) → IsValid s → Any (λ other. other ≡ w) ends → play sq1_after s w ≡ Some r
-      → IsEnd r ↔ (index_of r ≡ index_of solved_sq1)
+  pub kept : (s r : Sq1State) (n : ℕ) → IsValid s → n < stage.letters → play sq1_after s (stage.letter n) ≡ Some r → IsValid r
+  pub ending : IsEnding sq1_after next
+  pub ended : (s r : Sq1State) (n : ℕ) → IsValid s → n < next.letters → play sq1_after s (next.letter n) ≡ Some r
+      → next.IsGoal r ↔ (index_of r ≡ index_of solved_sq1)
 
-module _ {IsValid : Sq1State → Type 0} {count : ℕ} {index_of : Sq1State → ℕ} {state_at : ℕ → Sq1State} {letters : ℕ}
-    {letter : ℕ → List Turn} {IsEnd : Sq1State → Type 0} {ends : List (List Turn)}
-    (h : IsIndex IsValid count index_of state_at letters letter IsEnd ends) where
+module _ {IsValid : Sq1State → Type 0} {count : ℕ} {index_of : Sq1State → ℕ} {state_at : ℕ → Sq1State} {stage next : Stage Sq1State Turn}
+    (h : IsIndex IsValid count index_of state_at stage next) where
   -- a guard before two words that do the same
   guarded_alike : (b : Bool) (o p : Option Sq1State) → option_map index_of o ≡ option_map index_of p
       → (let q : Option ℕ = cond b (option_map index_of (cond b o None)) None in q) ≡ option_map index_of (cond b p None)
   guarded_alike true o p e = e
   guarded_alike false o p e = refl
 
+  abbrev lettered : Sq1State → ℕ → Option Sq1State
+  lettered = by_letters sq1_after stage.letters stage.letter
+
   turned : (s : Sq1State) (n : ℕ) → IsValid s
-      → (let o : Option ℕ = cond (nat_lt n letters) (option_map index_of (by_letters sq1_after letters letter (state_at (index_of s)) n)) None in o)
-      ≡ option_map index_of (by_letters sq1_after letters letter s n)
+      → (let o : Option ℕ = cond (nat_lt n stage.letters) (option_map index_of (lettered (state_at (index_of s)) n)) None in o)
+      ≡ option_map index_of (lettered s n)
   unfolding by_letters
   turned s n v =
       let i : ℕ = index_of s in
       let lt = h.below s v in
-      guarded_alike (nat_lt n letters) (play sq1_after (state_at i) (letter n)) (play sq1_after s (letter n))
-      (h.alike (state_at i) s (letter n) (h.valid i lt) v (h.again i lt))
+      guarded_alike (nat_lt n stage.letters) (play sq1_after (state_at i) (stage.letter n)) (play sq1_after s (stage.letter n))
+      (h.alike (state_at i) s (stage.letter n) (h.valid i lt) v (h.again i lt))
 
   -- ---- goals
 
@@ -61,16 +67,14 @@ module _ {IsValid : Sq1State → Type 0} {count : ℕ} {index_of : Sq1State → 
   has_index_by (Some q) (Some r) e = let same : index_of q ≡ index_of r = cc in ap (λ i. i == index_of solved_sq1) same
 
   module _ (s : Sq1State) (v : IsValid s) where
-    abbrev Ends : List Turn → Type 0
-    Ends w = (r : Sq1State) × (play sq1_after s w ≡ Some r) × IsEnd r
+    abbrev test : ℕ → Bool
+    test k = has_index index_of (index_of solved_sq1) (play sq1_after (state_at (index_of s)) (next.letter k))
 
-    abbrev test : List Turn → Bool
-    test w = has_index index_of (index_of solved_sq1) (play sq1_after (state_at (index_of s)) w)
-
-    tested : (w : List Turn) → test w ≡ has_index index_of (index_of solved_sq1) (play sq1_after s w)
-    tested w =
+    tested : (k : ℕ) → test k ≡ has_index index_of (index_of solved_sq1) (play sq1_after s (next.letter k))
+    tested k =
         let i : ℕ = index_of s in
         let lt = h.below s v in
+        let w : List Turn = next.letter k in
         has_index_by (play sq1_after (state_at i) w) (play sq1_after s w) (h.alike (state_at i) s w (h.valid i lt) v (h.again i lt))
 
     index_found : (o : Option Sq1State) → IsTrue (has_index index_of (index_of solved_sq1) o)
@@ -78,38 +82,52 @@ module _ {IsValid : Sq1State → Type 0} {count : ℕ} {index_of : Sq1State → 
     index_found None t = absurd (cc)
     index_found (Some r) t = (r, refl, eqb-true (index_of r) (index_of solved_sq1) t)
 
-    any_tested : Any Ends ends → IsTrue (list_any test ends)
-    any_tested a =
-        let e = a.4 in
-        let passes : IsTrue (test a.1) =
-        tested a.1 ∙ ap (has_index index_of (index_of solved_sq1)) e.1
-        ∙ eq-eqb (index_of e.0) (index_of solved_sq1) ((h.ended s e.0 a.1 v (a.0, a.1, a.2, a.3, refl) e.1).0 e.2) in
-        list_any_at test ends a.0 a.1 a.2 (ap test a.3 ∙ passes)
+    ends-tested : (k : ℕ) (r : Sq1State) → Ends sq1_after next s k r → IsTrue (test k)
+    ends-tested k r e =
+        tested k ∙ ap (has_index index_of (index_of solved_sq1)) e.played
+        ∙ eq-eqb (index_of r) (index_of solved_sq1) ((h.ended s r k v e.below e.played).0 e.goal)
 
-    any_ended : IsTrue (list_any test ends) → Any Ends ends
-    any_ended t =
-        let m = Any-from_list_any test ends t in
-        let found = index_found (play sq1_after s m.1) (sym (tested m.1) ∙ m.4) in
-        (m.0, m.1, m.2, m.3, (found.0, found.1, (h.ended s found.0 m.1 v (m.0, m.1, m.2, m.3, refl) found.1).1 found.2))
+    tested-ends : (k : ℕ) → k < next.letters → IsTrue (test k) → (r : Sq1State) × Ends sq1_after next s k r
+    tested-ends k lt t =
+        let found = index_found (play sq1_after s (next.letter k)) (sym (tested k) ∙ t) in
+        (found.0, record { below = lt; played = found.1; goal = (h.ended s found.0 k v lt found.1).1 found.2 })
+
+    word-tested : HasStageWord sq1_after next s → IsTrue (list_any test (numbers_from 0 next.letters))
+    word-tested found =
+        let some = some_letter sq1_after next h.ending s found in
+        some-one test next.letters some.0 some.2.below (ends-tested some.0 some.1 some.2)
+
+    tested-word : IsTrue (list_any test (numbers_from 0 next.letters)) → HasStageWord sq1_after next s
+    tested-word t =
+        elim (least_below test next.letters) [
+          | inl least ↦
+              let ends = tested-ends least.0 least.1 least.2 in
+              let word = ending_word sq1_after next h.ending s ends.0 least.0 ends.1
+              (λ k r lt e. false≢true (sym (least.3 k lt) ∙ ends-tested k r e)) in
+              (word.0, word.1)
+          | inr none ↦ let one = one-below test next.letters t in absurd (false≢true (sym (none one.0 one.1) ∙ one.2))
+        ]
 
   -- letters keep states valid
-  kept : (s r : Sq1State) (n : ℕ) → IsValid s → by_letters sq1_after letters letter s n ≡ Some r → IsValid r
+  kept : (s r : Sq1State) (n : ℕ) → IsValid s → lettered s n ≡ Some r → IsValid r
   kept s r n v e =
-      let parts = by_letters-parts sq1_after letters letter s r n e in h.kept s r n v (ltb-true n letters parts.0) parts.1
+      let parts = by_letters-parts sq1_after stage.letters stage.letter s r n e in h.kept s r n v (ltb-true n stage.letters parts.0) parts.1
+
+  abbrev numbered : Numbered Sq1State
+  numbered = record { count = count; state_at = state_at; number_of = index_of; IsValid = IsValid }
 
   -- A search finds the same.
-  pub Follows-index : Follows (record { IsValid = IsValid; after = by_letters sq1_after letters letter; IsGoal = EndsIn IsEnd ends })
-      (positions (lettered_coordinate (record { count = count; state_at = state_at; number_of = index_of; IsValid = IsValid }) letters letter ends)) index_of
+  pub Follows-index : Follows (record { IsValid = IsValid; after = lettered; IsGoal = HasStageWord sq1_after next })
+      (positions (lettered_coordinate numbered stage next)) index_of
   Follows-index = record {
     kept = kept;
     valid = h.below;
     turned = turned;
-    goals = λ s v. (any_tested s v, any_ended s v);
+    goals = λ s v. (word-tested s v, tested-word s v);
   }
 
   -- letters lead from indexes to indexes
-  pub StaysBelow-index : StaysBelow (lettered_coordinate (record { count = count; state_at = state_at; number_of = index_of; IsValid = IsValid }) letters letter ends)
+  pub StaysBelow-index : StaysBelow (lettered_coordinate numbered stage next)
   StaysBelow-index =
-      let n : Numbered Sq1State = record { count = count; state_at = state_at; number_of = index_of; IsValid = IsValid } in
-      StaysBelow-indexed n letters (by_letters sq1_after letters letter) ((lettered_coordinate n letters letter ends).is_goal) h.valid h.below
+      StaysBelow-indexed numbered stage.letters lettered ((lettered_coordinate numbered stage next).is_goal) h.valid h.below
       (λ s r t v lt e. kept s r t v e)

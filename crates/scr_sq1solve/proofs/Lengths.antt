@@ -1,12 +1,9 @@
 -- How many twists and turns a scramble has at most.
-use Rattle.std.proofs.Common.{◌≡◌, ℕ, ◌+◌, ◌*◌, ◌<◌, ◌≤◌, Bool, true, false, cond, IsTrue, List, [], ◌∷◌, ◌++◌, map, length, slice_index, Option, Some, None, refl, sym, ap, ◌∙◌, subst, arith}
-use Rattle.std.specs.Prelude.{ℤ, reverse, nat_lt, ◌%◌, ◌/◌, ◌==◌, pos, ◌-ℤ◌, ◌+ℤ◌, neg_ℤ, All, Any}
-use Rattle.std.proofs.Math.Nat.{suc-mul, mul-le-mul_right}
+use Rattle.std.proofs.Common.{◌≡◌, ℕ, ◌+◌, ◌*◌, ◌≤◌, Bool, true, false, cond, IsTrue, List, [], ◌∷◌, ◌++◌, map, length, Option, Some, None, refl, sym, ap, ◌∙◌, arith}
+use Rattle.std.specs.Prelude.{ℤ, reverse, nat_lt, ◌%◌, ◌/◌, ◌==◌, pos, ◌-ℤ◌, ◌+ℤ◌, neg_ℤ, All}
 use Rattle.std.proofs.lemmas.Bool.{false≢true}
-use Rattle.std.proofs.lemmas.List.{length-append, length-reverse, length-map, reverse-append, get_or-map}
+use Rattle.std.proofs.lemmas.List.{length-append, length-reverse, length-map, reverse-append}
 use Rattle.std.proofs.lemmas.List.Elements.{All-nil, All-cons, All-head, All-tail}
-use Rattle.scr_combinatorics.specs.Lists.{numbers_from}
-use Rattle.scr_combinatorics.proofs.Picks.{numbers_from-at, length-numbers_from}
 use Rattle.scr_combinatorics.specs.Play.{play, count_in}
 use Rattle.scr_combinatorics.specs.Back.{back}
 use Rattle.scr_combinatorics.specs.Tidy.{word_of, with_turn, tidy, begins_alike, IsTidy}
@@ -21,10 +18,9 @@ use Rattle.scr_notation.specs.Turns.{permits}
 use Rattle.scr_sq1.specs.Units.{Sq1State, sq1_after}
 use Rattle.scr_sq1solve.specs.declared.stage_letters.Letters.{Letters}
 use Rattle.scr_sq1solve.specs.declared.stage_letters.Letters.TheVariants.{OfShapes, OfPairings, OfHome, Squarings, Quarters}
-use Rattle.scr_sq1solve.specs.Stages.{turn_word, quarters, quarter_word, squaring_words, shape_letter, pairing_letter, home_letter, equator_word}
-use Rattle.scr_sq1solve.specs.Letters.{squaring_word, letter_of, end_count, end_words}
+use Rattle.scr_sq1solve.specs.Stages.{turn_word, quarters, quarter_word, squaring_letter, shape_letter, pairing_letter, home_letter}
+use Rattle.scr_sq1solve.specs.Letters.{stage_of, letter_of}
 use Rattle.scr_sq1solve.specs.Counts.{twists_of, twists_in, Costs}
-use Rattle.scr_combinatorics.specs.Stages.{spelled}
 
 -- ---- turns and twists of letters
 
@@ -87,55 +83,14 @@ Costs-home n =
     let whole = Costs-append (Costs-quarter (n % 16)) exchange in
     whole
 
-Costs-letters : (letter : ℕ → List Turn) (turns twists : ℕ) → ((n : ℕ) → Costs (letter n) turns twists) → (w : List ℕ)
-    → Costs (spelled letter w) (length w * turns) (length w * twists)
-unfolding count_in
-Costs-letters letter turns twists each [] = record { turns = omega arith; twists = omega arith }
-Costs-letters letter turns twists each (n ∷ w) =
-    let whole = Costs-append (each n) (Costs-letters letter turns twists each w) in
-    record {
-      turns = omega (arith, whole.turns, suc-mul (length w) turns);
-      twists = omega (arith, whole.twists, suc-mul (length w) twists);
-    }
-
--- a word of at most so many letters
-pub Costs-word : (letter : ℕ → List Turn) (turns twists bound : ℕ) → ((n : ℕ) → Costs (letter n) turns twists) → (w : List ℕ) → length w ≤ bound
-    → Costs (spelled letter w) (bound * turns) (bound * twists)
-Costs-word letter turns twists bound each w le =
-    let whole = Costs-letters letter turns twists each w in
-    record {
-      turns = omega (arith, whole.turns, mul-le-mul_right turns le);
-      twists = omega (arith, whole.twists, mul-le-mul_right twists le);
-    }
-
-Costs-ending : (letters : Letters) (n : ℕ) → n < end_count letters → Costs (letter_of letters n) 1 0
-unfolding squaring_word
-Costs-ending OfShapes n lt = absurd (omega (arith, lt))
-Costs-ending OfPairings n lt = absurd (omega (arith, lt))
-Costs-ending OfHome n lt = absurd (omega (arith, lt))
-Costs-ending Squarings n lt = Costs-turn_word (neg_ℤ (pos (n % 2))) (pos (n / 2))
-Costs-ending Quarters n lt = Costs-quarter n
-
-pub Costs-equator : (b : Bool) → Costs (let e : List Turn = cond b equator_word [] in e) 6 3
-unfolding count_in
-Costs-equator true = record { turns = omega arith; twists = omega arith }
-Costs-equator false = record { turns = omega arith; twists = omega arith }
-
--- one of the words that end a stage is one turn at most, and no twist
-pub Costs-end : (letters : Letters) (w : List Turn) → Any (λ other. other ≡ w) (end_words letters) → Costs w 1 0
-Costs-end letters w one =
-    let n : ℕ = one.0 in
-    let numbers : List ℕ = numbers_from 0 (end_count letters) in
-    let inside : n < length numbers = omega (arith, one.2, length-map numbers (letter_of letters)) in
-    let lt : n < end_count letters = omega (arith, inside, length-numbers_from 0 (end_count letters)) in
-    let at : slice_index numbers n ≡ n = omega (arith, numbers_from-at 0 (end_count letters) n lt) in
-    let is : letter_of letters n ≡ w =
-    sym (get_or-map (letter_of letters) numbers n 0 one.1 inside ∙ ap (letter_of letters) at) ∙ one.3 ∙ one.4 in
-    subst (λ v. Costs v 1 0) is (Costs-ending letters n lt)
-
-pub Costs-squaring : (w : List Turn) → Any (λ other. other ≡ w) squaring_words → Costs w 1 0
-unfolding squaring_word
-Costs-squaring w one = Costs-end Squarings w one
+-- a letter of a stage of one letter at most is one turn at most, and no twist
+pub Costs-ending : (letters : Letters) → (stage_of letters).bound ≡ 1 → (n : ℕ) → Costs (letter_of letters n) 1 0
+unfolding squaring_letter
+Costs-ending OfShapes short n = absurd (omega (arith, short))
+Costs-ending OfPairings short n = absurd (omega (arith, short))
+Costs-ending OfHome short n = absurd (omega (arith, short))
+Costs-ending Squarings short n = Costs-turn_word (neg_ℤ (pos (n % 2))) (pos (n / 2))
+Costs-ending Quarters short n = Costs-quarter n
 
 -- ---- tidying adds no twists
 

@@ -9,14 +9,15 @@ mod CodeMovesLaws
 mod ListSteps
 mod KeptLetters
 mod Equator
+mod Flipped
 pub mod Solutions
 mod Bounds
 mod EquatorLaws
 pub mod MinimaLaws
 mod Renamed
 mod Bases
+mod SomeBelow
 mod Indexed
-mod OneWord
 mod ShapeStage
 mod Pairs
 mod NormalLetters

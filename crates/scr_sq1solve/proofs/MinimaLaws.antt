@@ -7,9 +7,10 @@ use Rattle.scr_combinatorics.specs.Lists.{pick}
 use Rattle.scr_combinatorics.specs.Permutations.{IsPermutation}
 use Rattle.scr_combinatorics.proofs.PermutationLaws.{All-permutation}
 use Rattle.scr_combinatorics.proofs.Picks.{pick-pick}
-use Rattle.scr_combinatorics.specs.Play.{play, count_in}
+use Rattle.scr_combinatorics.specs.Play.{play}
 use Rattle.scr_combinatorics.specs.Reach.{Needs}
 use Rattle.scr_combinatorics.proofs.PlayLaws.{play-empty, play-first, play-one, play-parts}
+use Rattle.scr_orbit.proofs.Minima.{count_once}
 use Rattle.scr_notation.specs.declared.event.Kind.TheVariants.{LayersAndTwist}
 use Rattle.scr_notation.specs.declared.turn.Turn.{Turn}
 use Rattle.scr_notation.specs.declared.turn.Turn.TheVariants.{Layers, Twist}
@@ -191,20 +192,15 @@ turns-of (n ∷ ns) s end e =
     let rest = turns-of ns parts.0 end parts.2 in
     (layer_turn_at n ∷ rest.0, ap suc rest.1, play-first sq1_after s parts.0 (layer_turn_at n) rest.0 m.made ∙ rest.2)
 
-counted_once : (w : List Turn) → count_in sq1_puzzle.counted w ≡ length w
-unfolding count_in
-counted_once [] = refl
-counted_once (t ∷ w) = omega (arith, counted_once w)
-
 pub NeedsTurns-iff : (s : Sq1State) (least : ℕ) → IsSq1 s → NeedsTurns sq1_moves s least ↔ Needs sq1_puzzle s least
 NeedsTurns-iff s least valid = (
   λ needs. λ w end few played is.
       let ns = numbers-of w s end valid played in
-      omega (arith, few, counted_once w, ns.1, needs ns.0 (record { end = end; played = ns.2; goal = (is_solved-iff end).1 is })),
+      omega (arith, few, count_once w, ns.1, needs ns.0 (record { end = end; played = ns.2; goal = (is_solved-iff end).1 is })),
   λ needs. λ ns l. elim (cases_lt (length ns) least) [
     | inl few ↦
         let w = turns-of ns s l.end l.played in
-        absurd (needs w.0 l.end (omega (arith, few, counted_once w.0, w.1)) w.2 ((is_solved-iff l.end).0 l.goal))
+        absurd (needs w.0 l.end (omega (arith, few, count_once w.0, w.1)) w.2 ((is_solved-iff l.end).0 l.goal))
     | inr le ↦ le
   ],
 )

@@ -1,6 +1,6 @@
--- The first stage: words go along with the index of shape and parity, and one of the four turns at its end makes a state normal.
-use Rattle.std.proofs.Common.{◌≡◌, ℕ, zero, suc, ◌+◌, ◌*◌, ◌/◌, ◌%◌, ◌<◌, Bool, false, IsTrue, List, Option, Some, None, refl, sym, ap, ◌∙◌, arith, eq-eqb}
-use Rattle.std.specs.Prelude.{◌↔◌, ◌==◌}
+-- The first stage: words go along with the index of shape and parity.
+use Rattle.std.proofs.Common.{◌≡◌, ℕ, zero, suc, ◌+◌, ◌*◌, ◌/◌, ◌%◌, ◌<◌, false, List, Option, Some, None, refl, sym, ap, ◌∙◌, arith, lit<}
+use Rattle.std.specs.Prelude.{◌↔◌}
 use Rattle.std.specs.Option.{option_map}
 use Rattle.scr_combinatorics.specs.Permutations.{IsPermutation, parity}
 use Rattle.scr_combinatorics.proofs.PermutationLaws.{IsPermutation-numbers_from, IsPermutation-from_test}
@@ -8,23 +8,21 @@ use Rattle.scr_combinatorics.specs.Play.{play}
 use Rattle.scr_coord.specs.Coordinates.{StaysBelow}
 use Rattle.scr_coord.specs.SearchSpaces.{positions, Follows}
 use Rattle.scr_notation.specs.declared.turn.Turn.{Turn}
-use Rattle.scr_notation.specs.Ranges.{all_below}
-use Rattle.scr_orbit.proofs.ActionLaws.{map-some}
-use Rattle.scr_sq1.specs.Units.{Sq1State, IsSq1, solved_sq1, sq1_after, turn_places, twist_places, turned, after_layers, twisted}
-use Rattle.scr_sq1.specs.Shapes.{shape_of, shape_number, shape_at, half_words, half_word, half_bits, half_of, halves_in, halves_number, ways_to_have, corner_count, corner_counts}
+use Rattle.scr_sq1.specs.Units.{Sq1State, IsSq1, solved_sq1, sq1_after}
+use Rattle.scr_sq1.specs.Shapes.{shape_of, shape_number, shape_at, half_words, half_word, half_bits, half_of, halves_in}
 use Rattle.scr_sq1.specs.Numbers.{corners_of, edges_of, laid, shape_word}
 use Rattle.scr_sq1.proofs.HalfNumbers.{shapes_one_to_one}
 use Rattle.scr_sq1.proofs.InHalves.{IsSq1-halves}
 use Rattle.scr_sq1.proofs.StatePieces.{StatePieces-valid, LaidState-pieces}
 use Rattle.scr_sq1.proofs.Lawful.{IsSq1-solved}
-use Rattle.scr_sq1solve.specs.Stages.{IsEnd, IsNormal, oddness, turn_word, shape_letter, squaring_words}
+use Rattle.scr_combinatorics.proofs.OneLetter.{IsEnding}
+use Rattle.scr_sq1solve.specs.Stages.{IsNormal, oddness, turn_word, shape_letter, squaring_letter, shape_stage, squaring_stage}
 use Rattle.scr_sq1solve.specs.Tables.{shapes_index, shapes_state, pieces_of_parity, shapes_coordinate}
 use Rattle.scr_sq1solve.proofs.Renamed.{Names, AreNames, renamed}
 use Rattle.scr_sq1solve.proofs.Bases.{in_order, base_of, names_of, AreNames-valid, IsBase-shape, shape_of-named}
 use Rattle.scr_sq1solve.proofs.Bases.{play-base, keeps_sq1, oddness-lt, oddness-renamed}
 use Rattle.scr_sq1solve.specs.Spaces.{shapes_space}
 use Rattle.scr_sq1solve.proofs.Indexed.{IsIndex, Follows-index, StaysBelow-index}
-use Rattle.scr_sq1solve.proofs.OneWord.{are_apart, one_end}
 
 -- ---- the index of states of one shape
 
@@ -125,7 +123,11 @@ IsNormal-iff s valid = (
   λ e. let same = SameIndex-index s solved_sq1 valid IsSq1-solved e in record { shape = same.shape; even = same.odd ∙ oddness-solved },
 )
 
-pub IsIndex-shapes : IsIndex IsSq1 7356 shapes_index shapes_state 144 shape_letter IsNormal squaring_words
+pub IsEnding-squaring : IsEnding sq1_after squaring_stage
+unfolding squaring_letter turn_word
+IsEnding-squaring = record { bound = refl; some = lit< tt; empty = refl }
+
+pub IsIndex-shapes : IsIndex IsSq1 7356 shapes_index shapes_state shape_stage squaring_stage
 unfolding shapes_index
 IsIndex-shapes = record {
   valid = λ i lt. (IsStateOf-below i lt).valid;
@@ -133,7 +135,8 @@ IsIndex-shapes = record {
   below = λ s v. omega (arith, oddness-lt s, shapes_one_to_one.below (shape_of s.units) (StatePieces-valid s v).shape);
   alike = shapes_alike;
   kept = λ s r n v lt e. keeps_sq1 s r (shape_letter n) v e;
-  ended = λ s r w v one e. IsNormal-iff r (keeps_sq1 s r w v e);
+  ending = IsEnding-squaring;
+  ended = λ s r n v lt e. IsNormal-iff r (keeps_sq1 s r (squaring_letter n) v e);
 }
 
 pub Follows-shapes : Follows shapes_space (positions shapes_coordinate) shapes_index
@@ -142,17 +145,7 @@ Follows-shapes = Follows-index IsIndex-shapes
 pub StaysBelow-shapes : StaysBelow shapes_coordinate
 StaysBelow-shapes = StaysBelow-index IsIndex-shapes
 
--- ---- exactly one turn makes the end normal
-
--- the state has the shape of the solved one
-abbrev is_square : Option Sq1State → Bool
-is_square None = false
-is_square (Some r) = shape_number (shape_of r.units) == shape_number (shape_of solved_sq1.units)
-
--- back from a normal state by one of the four turns, and on by another, there is none of this shape
-squaring_apart : IsTrue (are_apart squaring_words is_square solved_sq1)
-unfolding are_apart all_below play turn_word sq1_after after_layers turned turn_places twisted twist_places shape_number halves_number ways_to_have corner_count corner_counts shape_of halves_in half_of half_bits half_words half_word
-squaring_apart = refl
+-- ---- words from normal states
 
 base-solved : base_of (shape_of solved_sq1.units) ≡ solved_sq1
 unfolding shape_of halves_in half_of half_bits half_words half_word shape_word
@@ -165,16 +158,3 @@ play-normal s w valid normal =
     let n : Names = names_of s in
     play-base s w valid ∙ ap (λ hs. option_map (renamed n) (play sq1_after (base_of hs) w)) normal.shape
     ∙ ap (λ b. option_map (renamed n) (play sq1_after b w)) base-solved
-
-normal_word : (r q : Sq1State) (w : List Turn) → IsSq1 r → IsNormal r → play sq1_after r w ≡ Some q → IsNormal q
-    → IsTrue (is_square (play sq1_after solved_sq1 w))
-normal_word r q w valid nr e nq =
-    let n : Names = names_of r in
-    let made = map-some (renamed n) (play sq1_after solved_sq1 w) q (sym (play-normal r w valid nr) ∙ e) in
-    let shape : shape_of made.0.units ≡ shape_of solved_sq1.units =
-    sym (shape_of-named n (AreNames-valid r valid) made.0.units) ∙ ap (λ x. shape_of x.units) made.2 ∙ nq.shape in
-    ap is_square made.1 ∙ eq-eqb (shape_number (shape_of made.0.units)) (shape_number (shape_of solved_sq1.units)) (ap shape_number shape)
-
--- The turn that makes the end of the first stage normal is the only one of the four.
-pub one_squaring : (s r q : Sq1State) (v w : List Turn) → IsSq1 s → IsEnd IsNormal squaring_words s v r → IsEnd IsNormal squaring_words s w q → v ≡ w
-one_squaring = one_end IsNormal squaring_words is_square squaring_apart normal_word

@@ -1,10 +1,8 @@
 -- How many twists a word has, and what they make of the equator.
-use Rattle.std.specs.Prelude.{ℕ, zero, suc, ◌+◌, ◌≤◌, Bool, not, List, length}
+use Rattle.std.specs.Prelude.{ℕ, zero, suc, ◌≤◌, Bool, not, List, length}
 use Rattle.scr_combinatorics.specs.Play.{count_in}
 use Rattle.scr_notation.specs.declared.turn.Turn.{Turn}
 use Rattle.scr_notation.specs.declared.turn.Turn.TheVariants.{Twist}
-use Rattle.scr_sq1solve.specs.Stages.{shape_letter, pairing_letter, home_letter}
-use Rattle.scr_combinatorics.specs.Stages.{spelled}
 
 abbrev pub twists_of : Turn → ℕ
 twists_of Twist = 1
@@ -27,11 +25,6 @@ pub record Costs (w : List Turn) (most_turns most_twists : ℕ) : Type 0 where
 unfoldable pub turned_over : ℕ → Bool → Bool
 turned_over zero equator = equator
 turned_over (suc times) equator = not (turned_over times equator)
-
--- how often the words of the three stages twist
-abbrev pub stage_twists : List ℕ → List ℕ → List ℕ → ℕ
-stage_twists shape pairing homing =
-    twists_in (spelled shape_letter shape) + twists_in (spelled pairing_letter pairing) + twists_in (spelled home_letter homing)
 
 -- at most 76 twists and 153 turns
 pub record IsWithinBounds (w : List Turn) : Type 0 where

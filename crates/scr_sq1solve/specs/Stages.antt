@@ -1,14 +1,13 @@
--- The three stages by which a Square-1 is solved, and the scramble that they give.
+-- The stages by which a Square-1 is solved, and the scramble that they give.
 --
--- First the square shape: top and bottom then have a corner, an edge and so on in turn, as when solved. Then each corner is
--- brought next to the one that is opposite to it, across its layer, when solved, and so is each edge. Then all pieces are brought home.
-use Rattle.std.specs.Prelude.{◌≡◌, ℕ, ◌+◌, ◌*◌, ◌/◌, ◌%◌, nat_lt, ℤ, pos, ◌-ℤ◌, ◌+ℤ◌, neg_ℤ, if◌then◌else◌, List, [], ◌∷◌, ◌++◌, map, slice_index, Some, Any}
-use Rattle.scr_combinatorics.specs.Lists.{numbers_from}
+-- First the square shape: top and bottom then have a corner, an edge and so on in turn, as when solved. Then each corner
+-- is brought next to the one that is opposite to it, across its layer, when solved, and so is each edge. Then all pieces
+-- are brought home. A turn of the layers ends the first and the last of these three, as a stage of its own. Before all of
+-- them the equator is turned, where they would leave it turned.
+use Rattle.std.specs.Prelude.{◌≡◌, ℕ, ◌+◌, ◌*◌, ◌/◌, ◌%◌, nat_lt, ℤ, pos, ◌-ℤ◌, ◌+ℤ◌, neg_ℤ, if◌then◌else◌, List, [], ◌∷◌, ◌++◌, map, slice_index, Some}
 use Rattle.scr_combinatorics.specs.Permutations.{parity, place_of}
 use Rattle.scr_combinatorics.specs.Play.{play}
-use Rattle.scr_combinatorics.specs.Back.{back}
-use Rattle.scr_combinatorics.specs.Tidy.{tidy}
-use Rattle.scr_combinatorics.specs.Stages.{Stage, IsStageWord, spelled}
+use Rattle.scr_combinatorics.specs.Stages.{Stage, HasStageWord, IsSolution, IsScrambleByStages}
 use Rattle.scr_notation.specs.declared.turn.Turn.{Turn}
 use Rattle.scr_notation.specs.declared.turn.Turn.TheVariants.{Layers, Twist}
 use Rattle.scr_notation.specs.Layers.{twelfths, are_still}
@@ -18,10 +17,6 @@ use Rattle.scr_sq1.specs.Shapes.{shape_of}
 use Rattle.scr_sq1.specs.Numbers.{corners_of, edges_of}
 
 -- ---- words
-
--- Some of these words leads from a state to one of which this holds.
-abbrev pub EndsIn : (Sq1State → Type 0) → List (List Turn) → Sq1State → Type 0
-EndsIn P words s = Any (λ word. (r : Sq1State) × (play sq1_after s word ≡ Some r) × P r) words
 
 -- The layers turned by so many twelfths, taken modulo 12 into -5 to 6, as a word: where neither turns, it is empty.
 unfoldable pub turn_word : ℤ → ℤ → List Turn
@@ -36,11 +31,7 @@ quarters n = pos (3 * n)
 unfoldable pub quarter_word : ℕ → List Turn
 quarter_word n = turn_word (quarters (n / 4)) (quarters (n % 4))
 
--- the sixteen of them
-abbrev pub quarter_words : List (List Turn)
-quarter_words = map quarter_word (numbers_from 0 16)
-
--- ---- the first stage: the square shape
+-- ---- the square shape
 
 -- letter 12 (x + 5) + (y + 5), for x and y from -5 to 6, turns the layers by x and y, and twists
 unfoldable pub shape_letter : ℕ → List Turn
@@ -55,15 +46,19 @@ pub record IsNormal (s : Sq1State) : Type 0 where
   pub shape : shape_of s.units ≡ shape_of solved_sq1.units
   pub even : oddness s ≡ 0
 
--- the turns of which one makes a state normal at the end of the first stage
-abbrev pub squaring_words : List (List Turn)
-squaring_words =
-    turn_word (pos 0) (pos 0) ∷ turn_word (neg_ℤ (pos 1)) (pos 0) ∷ turn_word (pos 0) (pos 1) ∷ turn_word (neg_ℤ (pos 1)) (pos 1) ∷ []
+-- letter 2 b + a, for a and b 0 or 1, turns the top by -a and the bottom by b
+unfoldable pub squaring_letter : ℕ → List Turn
+squaring_letter n = turn_word (neg_ℤ (pos (n % 2))) (pos (n / 2))
 
+-- One of these four turns makes a state normal; the first of them is none.
+abbrev pub squaring_stage : Stage Sq1State Turn
+squaring_stage = record { letters = 4; letter = squaring_letter; IsGoal = IsNormal; bound = 1 }
+
+-- Turns and twists lead to a state in which one of the four does that.
 abbrev pub shape_stage : Stage Sq1State Turn
-shape_stage = record { letters = 144; letter = shape_letter; IsGoal = EndsIn IsNormal squaring_words; bound = 13 }
+shape_stage = record { letters = 144; letter = shape_letter; IsGoal = HasStageWord sq1_after squaring_stage; bound = 13 }
 
--- ---- the second stage: the pairs
+-- ---- the pairs
 
 -- The corners 0 2, 1 3, 4 6, 5 7 are mates, and so are the edges: when solved, they stand opposite to each other in their layer.
 abbrev pub mates : List ℕ
@@ -89,7 +84,7 @@ pairing_letter n =
 abbrev pub pairing_stage : Stage Sq1State Turn
 pairing_stage = record { letters = 32; letter = pairing_letter; IsGoal = IsPaired; bound = 20 }
 
--- ---- the third stage: home
+-- ---- home
 
 -- exchanges the edges at the places 1 and 6, and those at 3 and 4
 abbrev pub edge_word : List Turn
@@ -109,43 +104,36 @@ home_letter n = quarter_word (n % 16) ++ (if nat_lt n 16 then edge_word else cor
 abbrev pub HasSolvedLayers : Sq1State → Type 0
 HasSolvedLayers s = s.units ≡ solved_sq1.units
 
+-- One of the sixteen turns by quarters brings the layers home; the first of them is none.
+abbrev pub last_stage : Stage Sq1State Turn
+last_stage = record { letters = 16; letter = quarter_word; IsGoal = HasSolvedLayers; bound = 1 }
+
+-- Exchanges lead to a state in which one of the sixteen does that.
 abbrev pub home_stage : Stage Sq1State Turn
-home_stage = record { letters = 32; letter = home_letter; IsGoal = EndsIn HasSolvedLayers quarter_words; bound = 20 }
+home_stage = record { letters = 32; letter = home_letter; IsGoal = HasStageWord sq1_after last_stage; bound = 20 }
 
 -- ---- the solution, and the scramble
+
+-- the stages that solve the layers
+abbrev pub layer_stages : List (Stage Sq1State Turn)
+layer_stages = shape_stage ∷ squaring_stage ∷ pairing_stage ∷ home_stage ∷ last_stage ∷ []
+
+-- They lead from here to solved, the equator too.
+abbrev pub IsSolvedByLayers : Sq1State → Type 0
+IsSolvedByLayers s =
+    (turns : List Turn) × IsSolution sq1_after layer_stages s turns × (play sq1_after s turns ≡ Some solved_sq1)
 
 -- turns the equator, and leaves the layers as they are
 abbrev pub equator_word : List Turn
 equator_word = Twist ∷ Layers (pos 6) (pos 0) ∷ Twist ∷ Layers (pos 6) (pos 0) ∷ Twist ∷ Layers (pos 6) (pos 0) ∷ []
 
--- One of these words leads from a state to another, of which this holds.
-pub record IsEnd (P : Sq1State → Type 0) (words : List (List Turn)) (s : Sq1State) (word : List Turn) (r : Sq1State) : Type 0 where
-  pub one : Any (λ other. other ≡ word) words
-  pub played : play sq1_after s word ≡ Some r
-  pub holds : P r
+-- Where they would leave the equator turned, it is turned before them.
+abbrev pub equator_stage : Stage Sq1State Turn
+equator_stage = record { letters = 1; letter = λ n. equator_word; IsGoal = IsSolvedByLayers; bound = 1 }
 
--- The solution of a state: the word of the first stage, the turn that makes its end normal, the words of the second and the third
--- stage, each from where the one before ended, and the turn that brings the layers home. Where all this would leave the
--- equator turned, the word that turns it comes first.
-pub record IsSolution (s : Sq1State) (solution : List Turn) : Type 0 where
-  pub shape : List ℕ
-  pub is_shape : IsStageWord sq1_after shape_stage s shape
-  pub squaring : List Turn
-  pub normal : Sq1State
-  pub is_squaring : IsEnd IsNormal squaring_words is_shape.first.leads.end squaring normal
-  pub pairing : List ℕ
-  pub is_pairing : IsStageWord sq1_after pairing_stage normal pairing
-  pub homing : List ℕ
-  pub is_homing : IsStageWord sq1_after home_stage is_pairing.first.leads.end homing
-  pub last : List Turn
-  pub home : Sq1State
-  pub is_last : IsEnd HasSolvedLayers quarter_words is_homing.first.leads.end last home
-  pub joined : solution
-      ≡ (if home.equator then equator_word else []) ++ spelled shape_letter shape ++ squaring ++ spelled pairing_letter pairing
-      ++ spelled home_letter homing ++ last
+abbrev pub sq1_stages : List (Stage Sq1State Turn)
+sq1_stages = equator_stage ∷ layer_stages
 
--- The scramble of a state: its solution, tidied and taken back.
-pub record IsScrambleSq1 (s : Sq1State) (scramble : List Turn) : Type 0 where
-  pub solution : List Turn
-  pub is : IsSolution s solution
-  pub taken_back : scramble ≡ back opposite (tidy turn_merging solution)
+-- The scramble of a state: the words of these stages, tidied and taken back.
+abbrev pub IsScrambleSq1 : Sq1State → List Turn → Type 0
+IsScrambleSq1 = IsScrambleByStages sq1_after opposite turn_merging sq1_stages

@@ -18,9 +18,8 @@ use Rattle.scr_table.specs.Lines.{TableLine}
 use Rattle.scr_sq1.specs.Units.{Sq1State, IsSq1, solved_sq1, sq1_after}
 use Rattle.scr_sq1.specs.Shapes.{shape_of, shape_number, shape_at}
 use Rattle.scr_sq1.specs.Numbers.{corners_of, edges_of, laid, shape_word}
-use Rattle.scr_sq1solve.specs.Stages.{shape_letter, oddness, squaring_words, shape_stage, mates}
-use Rattle.scr_sq1solve.specs.Stages.{pairing_of, pairing_letter, pairing_stage, home_letter, quarter_words, home_stage}
-use Rattle.scr_combinatorics.specs.Stages.{by_letters}
+use Rattle.scr_sq1solve.specs.Stages.{oddness, shape_stage, squaring_stage, mates, pairing_of, pairing_letter, pairing_stage, home_stage, last_stage}
+use Rattle.scr_combinatorics.specs.Stages.{Stage, by_letters}
 
 -- ---- states by an index
 
@@ -29,12 +28,13 @@ abbrev pub has_index : (Sq1State → ℕ) → ℕ → Option Sq1State → Bool
 has_index index_of i None = false
 has_index index_of i (Some s) = index_of s == i
 
--- What a search sees that knows of a state its index alone: letters lead from index to index, and the goals are the indexes of
--- which one of some words leads to that of the solved state.
-abbrev pub lettered_coordinate : Numbered Sq1State → ℕ → (ℕ → List Turn) → List (List Turn) → Coordinate
-lettered_coordinate n letters letter ends =
-    indexed_coordinate n letters (by_letters sq1_after letters letter)
-    (λ i. list_any (λ word. has_index n.number_of (n.number_of solved_sq1) (play sq1_after (n.state_at i) word)) ends)
+-- What a search for a stage's words sees that knows of a state its index alone: letters lead from index to index, and the
+-- goals are the indexes from which a letter of the next stage leads to that of the solved state.
+abbrev pub lettered_coordinate : Numbered Sq1State → Stage Sq1State Turn → Stage Sq1State Turn → Coordinate
+lettered_coordinate n stage next =
+    indexed_coordinate n stage.letters (by_letters sq1_after stage.letters stage.letter)
+    (λ i. list_any (λ k. has_index n.number_of (n.number_of solved_sq1) (play sq1_after (n.state_at i) (next.letter k)))
+    (numbers_from 0 next.letters))
 
 -- ---- the shapes
 
@@ -51,8 +51,8 @@ shapes_state i = record { units = laid (shape_word (shape_at (i / 2))) (numbers_
 
 abbrev pub shapes_coordinate : Coordinate
 shapes_coordinate =
-    lettered_coordinate (record { count = 7356; state_at = shapes_state; number_of = shapes_index; IsValid = IsSq1 }) 144 shape_letter
-    squaring_words
+    lettered_coordinate (record { count = 7356; state_at = shapes_state; number_of = shapes_index; IsValid = IsSq1 })
+    shape_stage squaring_stage
 
 -- ---- the pairings
 
@@ -142,8 +142,8 @@ square_state i =
 
 abbrev pub square_coordinate : Coordinate
 square_coordinate =
-    lettered_coordinate (record { count = 73728; state_at = square_state; number_of = square_index; IsValid = IsSq1 }) 32 home_letter
-    quarter_words
+    lettered_coordinate (record { count = 73728; state_at = square_state; number_of = square_index; IsValid = IsSq1 })
+    home_stage last_stage
 
 -- ---- the tables
 

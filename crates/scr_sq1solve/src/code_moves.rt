@@ -12,7 +12,6 @@ ghost use Rattle.scr_sq1.specs.Units.{sq1_after, solved_sq1};
 ghost use Rattle.scr_sq1solve.specs.declared.stage_letters.Letters.TheVariants.{OfHome, Quarters};
 ghost use Rattle.scr_sq1solve.specs.Codes.{codes_coordinate};
 ghost use Rattle.scr_sq1solve.specs.Letters.{letter_of};
-ghost use Rattle.scr_sq1solve.specs.Stages.{quarter_words};
 ghost use Rattle.scr_sq1solve.specs.Tables.{square_coordinate, square_index, square_state, has_index, last_bit};
 ghost use Rattle.scr_sq1solve.specs.Placed.{IsKept};
 ghost use Rattle.scr_combinatorics.specs.Stages.{by_letters};

@@ -1,12 +1,13 @@
-//! The Square-1 solved in three stages by complete tables: every state within 76 twists, with no refusal.
+//! The Square-1 solved in stages by complete tables: every state within 76 twists, with no refusal.
 //!
 //! A stage has letters, each of which is a few turns, a goal and a bound, and its word is the first one to the goal
 //! (`specs/Stages.antt`): the square shape, with both lists of pieces even or both odd; mates opposite to each other in
 //! their layers; all pieces home. [`Sq1Tables`] are the three tables by which these words are found, each over what its
-//! stage sees of a state as a number (`specs/Tables.antt`). [`scramble_sq1`] joins the words, with the turns that end
-//! the first and the last stage and, where it is wanted, the word that turns the equator alone; it tidies the solution,
-//! and takes it back. That each state has exactly one solution, which leads to solved, is the law `laws::solutions`; so
-//! each state is reached. [`needs_sq1`] tests minima by looking at all short words, and [`DrawSq1`] draws by it.
+//! stage sees of a state as a number (`specs/Tables.antt`). The turns that end the first and the last of these are stages
+//! of at most one letter, found by trying. The first stage of all turns the equator alone, where the others would leave
+//! it turned. [`scramble_sq1`] joins the words, tidies the solution, and takes it back. That each state has exactly one
+//! solution, which leads to solved, is the law `laws::solutions`; so each state is reached. [`needs_sq1`] tests minima by
+//! looking at all short words, and [`DrawSq1`] draws by it.
 //!
 //! The moves of every table are built of small ones, or of a state for each position, so that no step of a build or a
 //! descent reads a state's number. Only the builds take memory. The crate stands on the Square-1 of `scr_sq1`, on

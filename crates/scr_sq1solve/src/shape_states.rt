@@ -6,7 +6,8 @@ ghost use Rattle.scr_combinatorics.specs.Play.{play};
 ghost use Rattle.scr_coord.specs.Coordinates.{StaysBelow};
 ghost use Rattle.scr_coord.specs.Moves.{each_below};
 ghost use Rattle.scr_sq1.specs.Units.{sq1_after, solved_sq1};
-ghost use Rattle.scr_sq1solve.specs.Stages.{shape_letter, squaring_words};
+ghost use Rattle.scr_combinatorics.specs.Lists.{numbers_from};
+ghost use Rattle.scr_sq1solve.specs.Stages.{shape_letter, squaring_letter};
 ghost use Rattle.scr_sq1solve.specs.Tables.{shapes_coordinate, shapes_state, shapes_index, has_index};
 
 use crate::indexes::shapes_index;
@@ -83,8 +84,8 @@ fn lettered(state: &Sq1, number: u32) -> Option<Sq1>
 
 /// Whether one of the four turns makes a state normal.
 fn is_square(state: &Sq1) -> bool
-    ensures { result ≡ list_any (λ word.
-        has_index shapes_index (shapes_index solved_sq1) (play sq1_after state.now word)) squaring_words }
+    ensures { result ≡ list_any (λ k. has_index shapes_index (shapes_index solved_sq1)
+        (play sq1_after state.now (squaring_letter k))) (numbers_from 0 4) }
 {
     for number in 0..4 {
         match state.play(&letter(Letters::Squarings, number)) {

@@ -1,15 +1,16 @@
 //! The solution of a Square-1 by stages, and the scramble that it gives.
 ghost use Rattle.std.specs.Prelude.{◌≡◌, ◌+◌, ◌*◌, ◌≤◌, ◌↔◌, ◌++◌, [], if◌then◌else◌, List, Some, IsTrue, length};
 ghost use Rattle.scr_combinatorics.specs.Play.{play};
+ghost use Rattle.scr_combinatorics.specs.Back.{back};
 ghost use Rattle.scr_combinatorics.specs.Tidy.{tidy};
 ghost use Rattle.scr_notation.specs.declared.event.Event.TheVariants.{Sq1 as EventSq1};
 ghost use Rattle.scr_notation.specs.declared.turn.Turn.{Turn as Letter};
-ghost use Rattle.scr_notation.specs.Turning.{turn_merging};
+ghost use Rattle.scr_notation.specs.Turning.{opposite, turn_merging};
 ghost use Rattle.scr_sq1.specs.Units.{IsSq1, solved_sq1, sq1_after};
 ghost use Rattle.scr_sq1solve.specs.Counts.{twists_in};
-ghost use Rattle.scr_sq1solve.specs.Letters.{end_count, end_words, IsEnded, IsWalk, IsTidiedSolution};
-ghost use Rattle.scr_sq1solve.specs.Stages.{EndsIn, IsEnd, IsScrambleSq1, equator_word};
-ghost use Rattle.scr_combinatorics.specs.Stages.{IsStageWord};
+ghost use Rattle.scr_sq1solve.specs.Letters.{stage_of, IsWalk};
+ghost use Rattle.scr_sq1solve.specs.Stages.{IsScrambleSq1, equator_word};
+ghost use Rattle.scr_combinatorics.specs.Stages.{IsStageWord, HasStageWord};
 
 use crate::indexes::shapes_index;
 use crate::shape_states::NORMAL;
@@ -20,9 +21,8 @@ use scr_notation::{Event, Scramble, inverse, push_turn, tidy};
 use scr_sq1::Sq1;
 use scr_table::LineTable;
 
-/// The scramble of a Square-1, of at most 76 twists and 153 turns: its solution by the three stages, in which
-/// neighbouring turns of the layers and neighbouring twists are merged, taken back. There is no refusal, and no memory
-/// is taken.
+/// The scramble of a Square-1, of at most 76 twists and 153 turns: its solution by the stages, in which neighbouring
+/// turns of the layers and neighbouring twists are merged, taken back. There is no refusal, and no memory is taken.
 pub fn scramble_sq1(tables: &Sq1Tables, state: &Sq1) -> Scramble
     ensures event { result.event ≡ EventSq1 }
     ensures twists { twists_in result.turns ≤ 76 }
@@ -42,11 +42,12 @@ struct Walk {
     end: Sq1,
 }
 
-/// The solution, tidied. It is joined from its end, and each part is tidied when it is joined.
+/// The solution, tidied: taken back it is the scramble. It is joined from its end, and each part is tidied when it is
+/// joined.
 fn tidied_solution(tables: &Sq1Tables, state: &Sq1) -> Scramble
     requires { IsSq1 state.now }
     ensures event { result.event ≡ EventSq1 }
-    ensures solution { IsTidiedSolution state.now result.turns }
+    ensures scramble { IsScrambleSq1 state.now (back opposite result.turns) }
 {
     let shaped = stage_walk(&tables.shapes, state);
     let squared = end_walk(Letters::Squarings, &shaped.end);
@@ -103,15 +104,17 @@ fn followed<L: StageLine>(numbers: &[u8], state: &Sq1) -> Walk
     }
 }
 
-/// The turn that ends a stage, and where it leads.
+/// The word of a stage of one letter at most, which is found by trying: the first letter that leads to the goal.
 fn end_walk(letters: Letters, state: &Sq1) -> Walk
-    requires { EndsIn (IsEnded letters) (end_words letters) state.now }
+    requires short { (stage_of letters).bound ≡ 1 }
+    requires word { HasStageWord sq1_after (stage_of letters) state.now }
     ensures event { result.turns.event ≡ EventSq1 }
-    ensures end { IsEnd (IsEnded letters) (end_words letters) state.now result.turns.turns result.end }
+    ensures walk { IsWalk (stage_of letters) state.now result.turns.turns result.end }
+    ensures goal { (stage_of letters).IsGoal result.end }
     ensures at_most { length result.turns.turns ≤ 1 }
     ensures twists { twists_in result.turns.turns ≡ 0 }
 {
-    for number in 0..end_count(letters) {
+    for number in 0..letter_count(letters) {
         let turns = letter(letters, number);
         if let Some(end) = state.play(&turns) {
             if is_ended(letters, &end) {
@@ -122,27 +125,29 @@ fn end_walk(letters: Letters, state: &Sq1) -> Walk
     unreachable!()
 }
 
-/// How many turns may end a stage.
-fn end_count(letters: Letters) -> u8
-    ensures { result ≡ end_count letters }
+/// How many letters there are.
+fn letter_count(letters: Letters) -> u8
+    ensures value { result ≡ (stage_of letters).letters }
+    ensures few { result ≤ 144 }
 {
     match letters {
+        Letters::OfShapes => 144,
+        Letters::OfPairings | Letters::OfHome => 32,
         Letters::Squarings => 4,
         Letters::Quarters => 16,
-        Letters::OfShapes | Letters::OfPairings | Letters::OfHome => 0,
     }
 }
 
-/// Whether a stage has ended: the state is normal, or the layers are solved.
+/// Whether a stage of one letter at most has ended: the state is normal, or the layers are solved.
 fn is_ended(letters: Letters, state: &Sq1) -> bool
-    ensures { IsTrue result ↔ IsEnded letters state.now }
+    requires { (stage_of letters).bound ≡ 1 }
+    ensures { IsTrue result ↔ (stage_of letters).IsGoal state.now }
 {
     let units = state.units();
     match letters {
         Letters::Squarings => shapes_index(state) == NORMAL,
-        Letters::OfShapes | Letters::OfPairings | Letters::OfHome | Letters::Quarters => {
-            units == Sq1::solved().units()
-        }
+        Letters::Quarters => units == Sq1::solved().units(),
+        Letters::OfShapes | Letters::OfPairings | Letters::OfHome => unreachable!(),
     }
 }
 

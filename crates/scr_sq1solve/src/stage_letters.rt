@@ -1,4 +1,4 @@
-//! The letters of the stages, and the turns that end them, as words of turns.
+//! The letters of the stages, as words of turns.
 ghost use Rattle.std.specs.Prelude.{◌≡◌, ◌+◌, ◌<◌, ◌≤◌, ◌∷◌, [], ◌++◌, All, flat_map, length};
 ghost use Rattle.scr_notation.specs.declared.event.Event.TheVariants.{Sq1 as EventSq1};
 ghost use Rattle.scr_notation.specs.Layers.{twelfths, are_still};
@@ -8,18 +8,18 @@ ghost use Rattle.scr_combinatorics.specs.Stages.{spelled};
 
 use scr_notation::{Event, Scramble, Turn, push_turn};
 
-/// Which letters, or which turns that end a stage.
+/// The letters of which stage.
 #[derive(Clone, Copy, Debug, PartialEq, Eq)]
 pub(crate) enum Letters {
-    /// The 144 letters of the first stage: a turn of the layers, and a twist.
+    /// The 144 that lead to the square shape: a turn of the layers, and a twist.
     OfShapes,
-    /// The 32 of the second stage, which leave a normal state normal.
+    /// The 32 that lead to pairs, and leave a normal state normal.
     OfPairings,
-    /// The 32 of the third, which leave mates opposite to each other.
+    /// The 32 that lead home, and leave mates opposite to each other.
     OfHome,
-    /// The four turns of which one ends the first stage.
+    /// The four turns of which one makes a state normal.
     Squarings,
-    /// The sixteen turns by quarters, of which one ends the third.
+    /// The sixteen turns by quarters, of which one brings the layers home.
     Quarters,
 }
 

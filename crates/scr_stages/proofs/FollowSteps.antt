@@ -1,5 +1,5 @@
 -- Words of stages that are played turn by turn, and written as letters.
-use Rattle.std.proofs.Common.{◌≡◌, ℕ, ◌+◌, ◌<◌, Bool, true, false, IsTrue, List, [], ◌∷◌, ◌++◌, length, get_or, take, Some, refl, sym, ap, ◌∙◌}
+use Rattle.std.proofs.Common.{◌≡◌, ℕ, ◌+◌, ◌<◌, Bool, true, false, IsTrue, List, [], ◌∷◌, ◌++◌, length, get_or, take, Some, refl, sym, ap, ◌∙◌, arith}
 use Rattle.std.specs.Prelude.{option_and_then}
 use Rattle.std.specs.Bool.{OnTrue}
 use Rattle.std.proofs.lemmas.List.{append_assoc, append-nil, take_more}
@@ -31,6 +31,11 @@ module _ (turns : List ℕ) where
   spelled-more : (v w : List ℕ) → spelled (letter_in turns) (v ++ w) ≡ spelled (letter_in turns) v ++ spelled (letter_in turns) w
   spelled-more [] w = refl
   spelled-more (place ∷ v) w = ap (λ ts. face_turn_at (get_or turns place 0) ∷ ts) (spelled-more v w)
+
+  -- each letter is one turn
+  pub length-spelled : (w : List ℕ) → length (spelled (letter_in turns) w) ≡ length w
+  length-spelled [] = refl
+  length-spelled (place ∷ w) = omega (arith, length-spelled w)
 
   pub letters_more : (before : List Turn) (word : List ℕ) (at : ℕ) → at < length word
       → (before ++ spelled (letter_in turns) (take at word)) ++ face_turn_at (get_or turns (get_or word at 0) 0) ∷ []

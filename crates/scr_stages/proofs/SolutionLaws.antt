@@ -1,15 +1,16 @@
 -- Solutions by stages, and the scrambles that they give.
-use Rattle.std.proofs.Common.{◌≡◌, ℕ, ◌≤◌, List, [], ◌++◌, map, length, Some, refl, ap, sym, ◌∙◌, arith, lit<, lit≤}
+use Rattle.std.proofs.Common.{◌≡◌, ℕ, ◌≤◌, List, [], ◌∷◌, map, length, Some, refl, ap, ◌∙◌, arith, lit<, lit≤}
 use Rattle.std.specs.Prelude.{◌↔◌}
 use Rattle.std.proofs.lemmas.List.{length-map, length-reverse}
-use Rattle.scr_combinatorics.specs.Play.{play}
+use Rattle.scr_combinatorics.specs.Play.{play, count_in}
 use Rattle.scr_combinatorics.specs.Back.{back}
 use Rattle.scr_combinatorics.specs.Tidy.{tidy}
 use Rattle.scr_combinatorics.specs.Reach.{IsReached}
 use Rattle.scr_combinatorics.specs.Stages.{spelled, IsSolution}
 use Rattle.scr_combinatorics.proofs.PlayLaws.{play-keeps}
-use Rattle.scr_combinatorics.proofs.StageLaws.{play-spelled, IsSolution-unique, Leads-solution, last_goal, AreTurns, bounds, length-solution}
+use Rattle.scr_combinatorics.proofs.StageLaws.{play-spelled, Leads-solution, last_goal, next_solution, CountsWithin, bounds, count-solution, one_scramble, play-scramble}
 use Rattle.scr_combinatorics.proofs.TidyLaws.{length-tidy}
+use Rattle.scr_orbit.proofs.Minima.{count_once}
 use Rattle.scr_notation.specs.declared.turn.Turn.{Turn}
 use Rattle.scr_notation.specs.Turning.{opposite, turn_merging}
 use Rattle.scr_turning.specs.PowerPuzzles.{after_letter, power_puzzle}
@@ -19,7 +20,7 @@ use Rattle.scr_table.proofs.LineLaws.{table_of_line}
 use Rattle.scr_table.proofs.StageLaws.{stage_word}
 use Rattle.scr_cube.specs.Cube333.{CubeState, IsCube, cube_powers, solved_cube}
 use Rattle.scr_cube.proofs.Laws333.{lawful_cube}
-use Rattle.scr_stages.specs.Stages.{letter_in, after_of, stages, IsHalfTurned, IsStageScramble, flips_turns, slice_turns, tetrads_turns, half_turns}
+use Rattle.scr_stages.specs.Stages.{letter_in, after_of, stages, IsHalfTurned, IsStageScramble, flips_turns, slice_turns}
 use Rattle.scr_stages.specs.Stages.{flips_stage, slice_stage, tetrads_stage, halves_stage}
 use Rattle.scr_stages.specs.Numbers.{flips_number, slice_number, tetrads_number, half_cubes, IsUnflippedCube, IsDominoCube, IsHalfCube}
 use Rattle.scr_stages.specs.Tables.{flips_line, slice_line, tetrads_line, halves_line, stage_lines}
@@ -36,9 +37,14 @@ IsCube-played c d turns word h e = play-keeps (after_letter cube_powers) IsCube 
 -- ---- the four stages
 
 pub solution-at_most : (c : CubeState) (s : List Turn) → IsSolution (after_letter cube_powers) stages c s → length s ≤ 52
-unfolding bounds AreTurns
+unfolding bounds CountsWithin count_in
 solution-at_most c s a =
-    length-solution (after_letter cube_powers) stages c s ((λ n. refl), ((λ n. refl), ((λ n. refl), ((λ n. refl), tt)))) a
+    let once : (n : ℕ) → 1 ≤ 1 = λ n. lit≤ tt in
+    omega (
+      arith,
+      count_once s,
+      count-solution (after_letter cube_powers) (λ t. 1) stages (1 ∷ 1 ∷ 1 ∷ 1 ∷ []) c s (once, (once, (once, (once, tt)))) a,
+    )
 
 pub solution-played : (c : CubeState) (s : List Turn) → IsSolution (after_letter cube_powers) stages c s → play (after_letter cube_powers) c s ≡ Some solved_cube
 unfolding last_goal
@@ -70,12 +76,10 @@ module _ (of_flips of_slice of_tetrads of_halves : Distances) (is_flips : IsTabl
       let halves =
       by_table halves_stage IsHalfCube halves_line half_cubes.number_of Follows-halves (lit≤ tt) of_halves is_halves StaysBelow-halves
       third.end (IsHalfCube-half_turned third.end third.goal) in
-      let last = spelled (letter_in half_turns) halves.0 ++ [] in
-      let later = spelled (letter_in tetrads_turns) tetrads.0 ++ last in
-      let rest = spelled (letter_in slice_turns) slice.0 ++ later in (
-        spelled (letter_in flips_turns) flips.0 ++ rest,
-        (flips.0, rest, flips.1, (slice.0, later, slice.1, (tetrads.0, last, tetrads.1, (halves.0, [], halves.1, refl, refl), refl), refl), refl),
-      )
+      let next = next_solution (after_letter cube_powers) in
+      next flips_stage (slice_stage ∷ tetrads_stage ∷ halves_stage ∷ []) c flips
+      (next slice_stage (tetrads_stage ∷ halves_stage ∷ []) first.end slice
+      (next tetrads_stage (halves_stage ∷ []) second.end tetrads (next halves_stage [] third.end halves ([], refl))))
 
 pub solution : (tables : List Distances) → AreTablesOf stage_lines tables → (c : CubeState) → IsCube c → (s : List Turn) × IsSolution (after_letter cube_powers) stages c s
 solution tables built c h =
@@ -96,8 +100,7 @@ tetrads_number-built tables built =
 -- ---- scrambles
 
 pub IsStageScramble-unique : (c : CubeState) (s t : List Turn) → IsStageScramble c s → IsStageScramble c t → s ≡ t
-IsStageScramble-unique c s t a b =
-    a.taken_back ∙ ap (λ w. back opposite (tidy turn_merging w)) (IsSolution-unique (after_letter cube_powers) stages c a.solution b.solution a.is b.is) ∙ sym b.taken_back
+IsStageScramble-unique = one_scramble (after_letter cube_powers) opposite turn_merging stages
 
 pub scramble-at_most : (c : CubeState) (s : List Turn) → IsStageScramble c s → length s ≤ 52
 scramble-at_most c s a =
@@ -113,9 +116,8 @@ scramble-at_most c s a =
 -- a scramble leads from solved to the cube
 pub scramble-played : (c : CubeState) (s : List Turn) → IsCube c → IsStageScramble c s → play (after_letter cube_powers) solved_cube s ≡ Some c
 scramble-played c s h a =
-    ap (play (after_letter cube_powers) solved_cube) a.taken_back
-    ∙ lawful_cube.lawful.taken_back c solved_cube (tidy turn_merging a.solution) h
-    (lawful_cube.lawful.kept_by_tidy c solved_cube a.solution h (solution-played c a.solution a.is))
+    play-scramble (after_letter cube_powers) opposite turn_merging stages IsCube lawful_cube.lawful.taken_back lawful_cube.lawful.kept_by_tidy c
+    solved_cube s h a (solution-played c a.solution a.is)
 
 -- Where the tables are built, each cube has one, and so is reached.
 module _ (tables : List Distances) (built : AreTablesOf stage_lines tables) where

@@ -2,9 +2,7 @@
 use Rattle.std.specs.Prelude.{◌≡◌, ℕ, List, [], ◌∷◌, length, slice_index, Option, Some}
 use Rattle.scr_combinatorics.specs.Lists.{numbers_from}
 use Rattle.scr_combinatorics.specs.Play.{play}
-use Rattle.scr_combinatorics.specs.Back.{back}
-use Rattle.scr_combinatorics.specs.Tidy.{tidy}
-use Rattle.scr_combinatorics.specs.Stages.{Stage, by_letters, IsSolution}
+use Rattle.scr_combinatorics.specs.Stages.{Stage, by_letters, IsScrambleByStages}
 use Rattle.scr_orbit.specs.Orbits.{zeros}
 use Rattle.scr_notation.specs.declared.turn.Turn.{Turn}
 use Rattle.scr_notation.specs.TurnNumbers.{face_turn_at}
@@ -82,7 +80,5 @@ stages = flips_stage ∷ slice_stage ∷ tetrads_stage ∷ halves_stage ∷ []
 -- ---- the scramble
 
 -- The scramble of a cube by stages: the words of the four stages, tidied and taken back.
-pub record IsStageScramble (c : CubeState) (scramble : List Turn) : Type 0 where
-  pub solution : List Turn
-  pub is : IsSolution (after_letter cube_powers) stages c solution
-  pub taken_back : scramble ≡ back opposite (tidy turn_merging solution)
+abbrev pub IsStageScramble : CubeState → List Turn → Type 0
+IsStageScramble = IsScrambleByStages (after_letter cube_powers) opposite turn_merging stages

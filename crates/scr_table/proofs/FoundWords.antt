@@ -13,7 +13,7 @@ use Rattle.scr_table.proofs.DescentLaws.{distance_at, LowersFirst-measured, some
 abbrev pub LeastBelow : (ℕ → Bool) → ℕ → Type 0
 LeastBelow test n = (t : ℕ) × (t < n) × (test t ≡ true) × ((u : ℕ) → u < t → test u ≡ false)
 
-least_below : (test : ℕ → Bool) (n : ℕ) → LeastBelow test n ⊎ ((t : ℕ) → t < n → test t ≡ false)
+pub least_below : (test : ℕ → Bool) (n : ℕ) → LeastBelow test n ⊎ ((t : ℕ) → t < n → test t ≡ false)
 least_below test zero = inr (λ t lt. absurd (omega arith))
 least_below test (suc n) =
     elim (least_below test n) [

@@ -1,29 +1,40 @@
-use Rattle.std.proofs.Common.{sym, ap, ◌∙◌, subst, arith}
+use Rattle.std.proofs.Common.{◌≡◌, ◌<◌, Some, sym, ap, ◌∙◌, arith}
 use Rattle.scr_combinatorics.specs.Play.{play}
-use Rattle.scr_sq1.specs.Units.{sq1_after}
+use Rattle.scr_combinatorics.proofs.OneLetter.{Ends, ending_word, some_letter}
 use Rattle.scr_notation.specs.Written.{Written}
-use Rattle.scr_sq1solve.specs.Stages.{IsEnd}
-use Rattle.scr_sq1solve.specs.Letters.{end_words, IsEnded}
-use Rattle.scr_sq1solve.proofs.Lengths.{Costs-end}
-use Rattle.scr_sq1solve.proofs.Ends.{IsEnd-found, some-end}
+use Rattle.scr_sq1.specs.Units.{sq1_after}
+use Rattle.scr_sq1solve.specs.Letters.{stage_of, letter_of}
+use Rattle.scr_sq1solve.proofs.Lengths.{Costs-ending}
+use Rattle.scr_sq1solve.proofs.Walks.{IsEnding-short, IsWalk-played, walk-costs}
 use Rattle.scr_sq1solve.proofs.solving.end_walk.Goals as goal
 
 pub unreachable-requires : goal.unreachable-requires
-unreachable-requires c = some-end c.args.letters c.args.state.now c.requires (λ k lt. c.loop-number.invariant k (omega (arith, lt)))
+unreachable-requires c =
+    let letters = c.args.letters in
+    let some = some_letter sq1_after (stage_of letters) (IsEnding-short letters c.requires.short) c.args.state.now c.requires.word in
+    c.loop-number.invariant some.0 some.1 (omega (arith, some.2.below)) some.2
 
-pub returns-then-is_ended-clause-end : goal.returns-then-is_ended-clause-end
-returns-then-is_ended-clause-end c =
+pub returns-then-is_ended-clause-walk : goal.returns-then-is_ended-clause-walk
+returns-then-is_ended-clause-walk c =
     let s = c.args.state.now in
     let letters = c.args.letters in
     let n = c.loop-number.number in
+    let end = c.in-Some.end in
     let written = ap (λ (w : Written). w.turns) c.letter-turns.ensures in
-    subst (λ ts. IsEnd (IsEnded letters) (end_words letters) s ts c.in-Some.end) (sym written)
-    (IsEnd-found letters s n c.in-Some.end (omega (arith, c.loop-number-test.true, c.end_count-number-end.ensures))
-    (sym (c.play.ensures ∙ ap (play sq1_after s) written) ∙ c.in-Some.is) (c.is_ended.ensures.0 c.if-is_ended.true))
+    let played : play sq1_after s (letter_of letters n) ≡ Some end = sym (c.play.ensures ∙ ap (play sq1_after s) written) ∙ c.in-Some.is in
+    let below : n < (stage_of letters).letters = omega (arith, c.loop-number-test.true, c.letter_count-number-end.ensures.value) in
+    let ends : Ends sq1_after (stage_of letters) s n end =
+    record { below = below; played = played; goal = c.is_ended.ensures.0 c.if-is_ended.true } in
+    let word = ending_word sq1_after (stage_of letters) (IsEnding-short letters c.requires.short) s end n ends c.loop-number.invariant in
+    IsWalk-played (stage_of letters) s end word.0 c.letter-turns.result.turns word.1 (written ∙ word.2)
+    (ap (play sq1_after s) written ∙ played)
 
 pub returns-then-is_ended-clause-at_most : goal.returns-then-is_ended-clause-at_most
-returns-then-is_ended-clause-at_most c = (Costs-end c.args.letters c.letter-turns.result.turns (returns-then-is_ended-clause-end c).one).turns
+returns-then-is_ended-clause-at_most c =
+    let costs = walk-costs (returns-then-is_ended-clause-walk c) 1 0 (Costs-ending c.args.letters c.requires.short) in
+    omega (arith, costs.turns, c.requires.short)
 
 pub returns-then-is_ended-clause-twists : goal.returns-then-is_ended-clause-twists
 returns-then-is_ended-clause-twists c =
-    omega (arith, (Costs-end c.args.letters c.letter-turns.result.turns (returns-then-is_ended-clause-end c).one).twists)
+    let costs = walk-costs (returns-then-is_ended-clause-walk c) 1 0 (Costs-ending c.args.letters c.requires.short) in
+    omega (arith, costs.twists)

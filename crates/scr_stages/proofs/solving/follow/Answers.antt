@@ -1,8 +1,7 @@
-use Rattle.std.proofs.Common.{◌≡◌, ◌+◌, ◌<◌, ◌++◌, [], ◌∷◌, IsTrue, get_or, length, take, refl, sym, ap, ◌∙◌, subst, arith}
+use Rattle.std.proofs.Common.{◌≡◌, ◌+◌, ◌<◌, ◌++◌, [], ◌∷◌, IsTrue, get_or, length, take, sym, ap, ◌∙◌, subst, arith}
 use Rattle.std.proofs.lemmas.List.{append-nil, length-append, length-take-le, take_all}
 use Rattle.scr_combinatorics.specs.Play.{play}
 use Rattle.scr_combinatorics.proofs.PlayLaws.{play-empty}
-use Rattle.scr_combinatorics.proofs.StageLaws.{length-spelled}
 use Rattle.scr_combinatorics.specs.Stages.{spelled}
 use Rattle.scr_notation.specs.declared.event.Event.TheVariants.{C333}
 use Rattle.scr_notation.specs.TurnNumbers.{face_turn_at}
@@ -11,7 +10,7 @@ use Rattle.scr_notation.specs.Written.{Written}
 use Rattle.scr_turning.specs.PowerPuzzles.{after_letter}
 use Rattle.scr_cube.specs.Cube333.{cube_powers}
 use Rattle.scr_stages.specs.Stages.{letter_in, after_of}
-use Rattle.scr_stages.proofs.FollowSteps.{follow_more, letters_more, by_true}
+use Rattle.scr_stages.proofs.FollowSteps.{follow_more, length-spelled, letters_more, by_true}
 use Rattle.scr_stages.proofs.solving.follow.Goals as goal
 
 pub loop-at-init : goal.loop-at-init
@@ -35,7 +34,7 @@ loop-at-preserved c =
     let number = c.from-in-loop-at.ensures ∙ ap (λ k. get_or turns k 0) place in
     let size : length c.loop-at.solution.turns ≡ length before + at =
     ap (λ s. length s.turns) written ∙ length-append before (spelled (letter_in turns) (take at word))
-    ∙ ap (λ n. length before + n) (length-spelled (letter_in turns) (λ n. refl) (take at word) ∙ length-take-le at word (omega (arith, lt))) in
+    ∙ ap (λ n. length before + n) (length-spelled turns (take at word) ∙ length-take-le at word (omega (arith, lt))) in
     let room : length c.loop-at.solution.turns < 160 = omega (arith, size, lt, c.requires.room) in
     let has : IsTrue (permits c.loop-at.solution.event c.letter.result) =
     subst (λ e. IsTrue (permits e c.letter.result)) (sym (ap (λ s. s.event) written)) c.letter.ensures.of_event in
@@ -61,6 +60,6 @@ returns-clause-longer c =
       arith,
       ap (λ s. length s.turns) c.loop-at.invariant.1,
       length-append c.args.solution.now.turns (spelled (letter_in turns) played),
-      length-spelled (letter_in turns) (λ n. refl) played,
+      length-spelled turns played,
       ap length (take_all c.loop-at.at c.args.word.now (omega (arith, c.loop-at-test.false))),
     )
