@@ -28,6 +28,14 @@ round_of_words-by before (event ∷ groups ∷ []) = refl
 round_of_words-by before (event ∷ groups ∷ least ∷ []) = refl
 round_of_words-by before (event ∷ groups ∷ least ∷ more ∷ others) = refl
 
+-- a line whose words, as they are read, are two or three
+pub round_of_words-named : (before : ℕ) (words : List (List ℕ)) (first second fourth third : Option (Bor (List ℕ))) (event groups : Bor (List ℕ))
+    → option_copied first ≡ slice_get words 0 → option_copied second ≡ slice_get words 1 → option_copied fourth ≡ slice_get words 3
+    → option_copied third ≡ slice_get words 2 → first ≡ Some event → second ≡ Some groups → fourth ≡ None
+    → round_of_words before words ≡ some_round (named_round before event.now groups.now (option_copied third))
+round_of_words-named before words first second fourth third event groups zeroth one three two is_event is_groups no_more =
+    rw (round_of_words-by, ← zeroth, ← one, ← three, ← two, is_event, is_groups, no_more) refl
+
 -- rounds that were read, before those of the lines that follow
 abbrev pub after_rounds : List Round → Result (List Round) ListFault → Result (List Round) ListFault
 after_rounds done (Ok more) = Ok (done ++ more)

@@ -1,5 +1,5 @@
 -- What is so of each event, computed once over all of them.
-use Rattle.std.proofs.Common.{◌≡◌, ℕ, ◌+◌, ◌<◌, Bool, true, IsTrue, List, Some, refl, sym, ap, ◌∙◌, zero-add}
+use Rattle.std.proofs.Common.{◌≡◌, ℕ, ◌+◌, ◌<◌, Bool, true, IsTrue, Some, refl, sym, ap, ◌∙◌, zero-add}
 use Rattle.std.specs.Prelude.{◌&&◌, nat_le, map, slice_get}
 use Rattle.std.specs.List.{range_with_len}
 use Rattle.std.specs.Option.{option_map}

@@ -5,10 +5,12 @@ use Rattle.std.specs.List.{list_any}
 use Rattle.std.proofs.lemmas.Bool.{false≢true, cases_lt}
 use Rattle.std.proofs.lemmas.Bool.Decides.{nat_tests}
 use Rattle.std.proofs.lemmas.Int.{ints}
+use Rattle.scr_notation.specs.declared.event.Event.TheVariants.{C333}
 use Rattle.scr_notation.specs.declared.event.Kind.{Kind}
 use Rattle.scr_notation.specs.declared.event.Kind.TheVariants.{Faces, Axes, LayersAndTwist, PinSets, WideTurns}
 use Rattle.scr_notation.specs.declared.turn.Turn.{Turn}
 use Rattle.scr_notation.specs.declared.turn.Turn.TheVariants.{Face, Axis, Tip, Layers, Twist, Pins, Over, Wide}
+use Rattle.scr_notation.specs.Event.{kind_of}
 use Rattle.scr_notation.specs.Kinds.{IsKind}
 use Rattle.scr_notation.specs.Amounts.{is_amount}
 use Rattle.scr_notation.specs.Faces.{is_face_turn}
@@ -238,3 +240,8 @@ has_turn_at (Axes tips) n k l = axes_turns tips n l
 has_turn_at LayersAndTwist n k l = at_below (λ i. is_layer_turn (layer_turn_at i)) 144 n layers_turns l
 has_turn_at PinSets n k l = at_below (λ i. is_clock_turn (clock_turn_at i)) 109 n clock_turns l
 has_turn_at WideTurns n k l = at_below (λ i. is_wide_turn (wide_turn_at i)) 6 n wide_turns l
+
+-- the turns of a 3x3x3 are those of its faces
+pub turns_333 : turn_at (kind_of C333) ≡ face_turn_at
+unfolding turn_at
+turns_333 = refl

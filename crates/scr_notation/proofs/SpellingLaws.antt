@@ -1,5 +1,5 @@
 -- The spellings of an event's turns differ, and each is a short word.
-use Rattle.std.proofs.Common.{◌≡◌, ℕ, ◌<◌, ◌≤◌, Bool, true, false, IsTrue, List, length, refl, ap, ◌∙◌, sym, subst, arith, eqb, leb-true, ⊎_elim, lit≤}
+use Rattle.std.proofs.Common.{◌≡◌, ℕ, ◌<◌, ◌≤◌, Bool, true, false, IsTrue, List, length, refl, ap, ◌∙◌, sym, subst, arith, eqb, leb-true, ⊎_elim}
 use Rattle.std.specs.Prelude.{◌&&◌, ◌==◌, not, nat_le, All}
 use Rattle.std.specs.List.{list_all}
 use Rattle.std.proofs.lemmas.Bool.{not-true, cases_lt}

@@ -23,16 +23,9 @@ opposite (Wide letter plus) = Wide letter (not plus)
 -- two twists. The kinds of the other turns have no merging.
 abbrev pub are_alike : Turn → Turn → Bool
 are_alike (Face face depth amount) (Face other deep more) = (face == other) && (depth == deep)
-are_alike (Face face depth amount) _ = false
 are_alike (Layers top bottom) (Layers more_top more_bottom) = true
-are_alike (Layers top bottom) _ = false
 are_alike Twist Twist = true
-are_alike Twist _ = false
-are_alike (Axis axis amount) _ = false
-are_alike (Tip tip amount) _ = false
-are_alike (Pins pins amount) _ = false
-are_alike Over _ = false
-are_alike (Wide letter plus) _ = false
+are_alike _ _ = false
 
 -- a face turned by so many quarters, or nothing where that is none
 abbrev pub face_turned : ℕ → ℕ → ℕ → Option Turn
@@ -46,16 +39,9 @@ layers_turned top bottom = if are_still top bottom then None else Some (Layers t
 -- turn is left; two twists are nothing.
 abbrev pub turns_merged : Turn → Turn → Option Turn
 turns_merged (Face face depth amount) (Face other deep more) = face_turned other deep ((amount + more) % 4)
-turns_merged (Face face depth amount) _ = None
 turns_merged (Layers top bottom) (Layers more_top more_bottom) =
     layers_turned (twelfths (top +ℤ more_top)) (twelfths (bottom +ℤ more_bottom))
-turns_merged (Layers top bottom) _ = None
-turns_merged Twist _ = None
-turns_merged (Axis axis amount) _ = None
-turns_merged (Tip tip amount) _ = None
-turns_merged (Pins pins amount) _ = None
-turns_merged Over _ = None
-turns_merged (Wide letter plus) _ = None
+turns_merged _ _ = None
 
 -- how turns are merged
 abbrev pub turn_merging : Merging Turn

@@ -24,6 +24,6 @@ pub use event::{EVENTS, Event, Family, Kind, Minima};
 pub use event_set::EventSet;
 pub use printing::print;
 pub use reading::{NotationFault, parse};
-pub use scramble::{MOST_TURNS, Scramble, push_turn};
+pub use scramble::{MOST_TURNS, Scramble, numbered_scramble, push_all, push_numbered, push_turn};
 pub use turn::{PIN_SETS, Turn, turn_at, turn_count};
 pub use turning::{inverse, tidy};

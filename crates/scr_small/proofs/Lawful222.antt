@@ -41,5 +41,5 @@ parts_222 =
 pub solved_by_table_222 : IsSolvedByTable numbered_puzzle_222 table_222
 unfolding turn_at solved_222 solved_orbit digits_222
 solved_by_table_222 =
-    IsSolvedByTable-powers numbered_222 powers_222 table_222 lawful_puzzle_222 parts_222 refl (λ k. refl) refl
+    IsSolvedByTable-powers numbered_222 powers_222 table_222 lawful_puzzle_222 parts_222 refl refl refl
     (lit≤ tt, lit≤ tt, lit< tt, lit≤ tt)

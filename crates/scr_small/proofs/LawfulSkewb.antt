@@ -46,5 +46,5 @@ parts_skewb =
 pub solved_by_table_skewb : IsSolvedByTable numbered_puzzle_skewb table_skewb
 unfolding turn_at solved_skewb solved_orbit skewb_digits
 solved_by_table_skewb =
-    IsSolvedByTable-powers skewb_numbered skewb_powers table_skewb lawful_puzzle_skewb parts_skewb refl (λ k. refl) refl
+    IsSolvedByTable-powers skewb_numbered skewb_powers table_skewb lawful_puzzle_skewb parts_skewb refl refl refl
     (lit≤ tt, lit≤ tt, lit< tt, lit≤ tt)

@@ -49,5 +49,5 @@ parts_tetraminx =
 pub solved_by_table_tetraminx : IsSolvedByTable numbered_puzzle_tetraminx table_tetraminx
 unfolding turn_at solved_tetraminx solved_orbit tetraminx_digits
 solved_by_table_tetraminx =
-    IsSolvedByTable-powers numbered_tetraminx tetraminx_powers table_tetraminx lawful_puzzle_tetraminx parts_tetraminx refl (λ k. refl) refl
+    IsSolvedByTable-powers numbered_tetraminx tetraminx_powers table_tetraminx lawful_puzzle_tetraminx parts_tetraminx refl refl refl
     (lit≤ tt, lit≤ tt, lit< tt, lit≤ tt)

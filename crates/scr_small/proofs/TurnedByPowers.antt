@@ -30,7 +30,7 @@ AreSmall turns all table = (turns ≤ all) × (turns ≤ 256) × (table.low * ta
 
 pub IsSolvedByTable-powers : {S R : Type 0} (n : Numbered S) (p : PowerPuzzle S R) (table : StateTable)
     → IsNumberedPuzzle (numbered_powers n p) → MovesByParts (numbered_powers n p) table.low table.high
-    → n.number_of p.solved ≡ 0 → ((k : ℕ) → p.letters.letter_at k ≡ turn_at (kind_of table.event) k)
+    → n.number_of p.solved ≡ 0 → p.letters.letter_at ≡ turn_at (kind_of table.event)
     → small_line table.event ≡ Some (table_line (numbered_powers n p) table)
     → AreSmall (numbered_powers n p).turns (turn_count (kind_of table.event)) table
     → IsSolvedByTable (numbered_powers n p) table

@@ -1,5 +1,5 @@
 -- What is so of a puzzle that one table solves.
-use Rattle.std.specs.Prelude.{◌≡◌, ℕ, ◌*◌, ◌^◌, ◌<◌, ◌≤◌, Some}
+use Rattle.std.specs.Prelude.{◌≡◌, ◌*◌, ◌^◌, ◌<◌, ◌≤◌, Some}
 use Rattle.scr_notation.specs.declared.turn.Turn.{Turn}
 use Rattle.scr_notation.specs.Event.{kind_of}
 use Rattle.scr_notation.specs.Turning.{opposite}
@@ -15,7 +15,7 @@ use Rattle.scr_small.specs.Tables.{small_line, table_line}
 -- event.
 pub record IsSolvedByTable {S : Type 0} (p : NumberedPuzzle S Turn) (table : StateTable) : Type 0 where
   pub lawful : IsNumberedPuzzle p
-  pub letters : (n : ℕ) → p.letter_at n ≡ turn_at (kind_of table.event) n
+  pub letters : p.letter_at ≡ turn_at (kind_of table.event)
   pub own : p.turns ≤ turn_count (kind_of table.event)
   pub few : p.turns ≤ 256
   pub taken_back : p.opposite ≡ opposite

@@ -2,15 +2,13 @@
 
 use crate::state_table::StateTable;
 use scr_draw::Numbering;
-use scr_notation::{Turn, turn_at};
 use scr_turning::{Letters, PowerTurned};
 
 /// A puzzle with numbered states and turns, whose states are two parts that turns move each by itself.
 pub trait OneTable: Numbering<State: PowerTurned> + Copy {
-    ghost use Rattle.std.specs.Prelude.{◌≡◌, ◌*◌, ◌<◌, ◌≤◌, ◌↔◌, Some, IsTrue};
+    ghost use Rattle.std.specs.Prelude.{◌≡◌, ◌*◌, ◌<◌, ◌≤◌, ◌↔◌, Some};
     ghost use Rattle.scr_combinatorics.specs.Numbering.{IsNumbering};
     ghost use Rattle.scr_notation.specs.declared.turn.Turn.{Turn as Letter};
-    ghost use Rattle.scr_notation.specs.Turns.{permits};
     ghost use Rattle.scr_small.specs.declared.state_table.StateTable.{StateTable as TableOf};
     ghost use Rattle.scr_small.specs.NumberedPuzzles.{NumberedPuzzle};
     ghost use Rattle.scr_small.specs.SolvedByTable.{IsSolvedByTable};
@@ -74,16 +72,6 @@ pub trait OneTable: Numbering<State: PowerTurned> + Copy {
         ensures { result ≡ shown.turns }
     {
         u32::from(<Self::State as PowerTurned>::Kind::POWERS) * u32::from(Self::State::GENERATORS)
-    }
-
-    /// The turn with this number.
-    final fn letter(number: u8) -> Turn
-        requires { number < shown.turns }
-        ensures letter { result ≡ shown.letter_at number }
-        ensures of_event { IsTrue (permits TABLE.event result) }
-    {
-        Self::is_solved_by_table();
-        turn_at(Self::TABLE.event.kind(), number)
     }
 
     /// The state after the turn with this number.

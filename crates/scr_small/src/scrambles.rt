@@ -1,5 +1,5 @@
 //! Scrambles and distances by a built table.
-ghost use Rattle.std.specs.Prelude.{ℕ, ◌≡◌, ◌<◌, ◌≤◌, ◌↔◌, nat_le, All, IsTrue, List, Some, map, length, slice_index};
+ghost use Rattle.std.specs.Prelude.{ℕ, ◌≡◌, ◌≤◌, ◌↔◌, nat_le, IsTrue, List, Some, length, slice_index};
 ghost use Rattle.scr_combinatorics.specs.Play.{play};
 ghost use Rattle.scr_combinatorics.specs.Reach.{Needs};
 ghost use Rattle.scr_notation.specs.declared.turn.Turn.{Turn as Letter};
@@ -8,7 +8,7 @@ ghost use Rattle.scr_small.specs.NumberedPuzzles.{puzzle_of, state_coordinate, I
 
 use crate::one_table::OneTable;
 use crate::tables::SmallTables;
-use scr_notation::{Scramble, inverse};
+use scr_notation::{Scramble, inverse, numbered_scramble};
 
 /// The scramble of a state: the first word that solves it, taken back. The tables are those of the puzzle's event.
 pub fn scramble_of<P: OneTable>(tables: &SmallTables, state: &P::State) -> Scramble
@@ -21,7 +21,7 @@ pub fn scramble_of<P: OneTable>(tables: &SmallTables, state: &P::State) -> Scram
 {
     P::is_solved_by_table();
     let word = tables.descend(P::number(state));
-    inverse(&spelled::<P>(&word))
+    inverse(&numbered_scramble(P::TABLE.event, &word))
 }
 
 /// How many turns a state is from solved, and so how many it needs. The tables are those of the puzzle's event.
@@ -44,17 +44,4 @@ pub(crate) fn needs_of<P: OneTable>(tables: &SmallTables, state: &P::State, leas
         result ≡ nat_le least (slice_index entries (P.shown.numbered.number_of state.now)) }
 {
     least <= distance_of::<P>(tables, state)
-}
-
-/// The turns with these numbers, at most 24, as a scramble.
-fn spelled<P: OneTable>(numbers: &[u8]) -> Scramble
-    requires few { length numbers.now ≤ 24 }
-    requires turns { All (λ n. n < P.shown.turns) numbers.now }
-    ensures { result ≡ record { event = P.TABLE.event; turns = map P.shown.letter_at numbers.now } }
-{
-    let mut scramble = Scramble::new(P::TABLE.event);
-    for k in 0..numbers.len() {
-        scramble.push(P::letter(numbers[k]));
-    }
-    scramble
 }

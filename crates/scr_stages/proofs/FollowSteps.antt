@@ -1,7 +1,6 @@
 -- Words of stages that are played turn by turn, and written as letters.
-use Rattle.std.proofs.Common.{◌≡◌, ℕ, ◌+◌, ◌<◌, Bool, true, false, IsTrue, List, [], ◌∷◌, ◌++◌, length, get_or, take, Some, refl, sym, ap, ◌∙◌, arith}
+use Rattle.std.proofs.Common.{◌≡◌, ℕ, ◌+◌, ◌<◌, List, [], ◌∷◌, ◌++◌, length, get_or, take, Some, refl, sym, ap, ◌∙◌}
 use Rattle.std.specs.Prelude.{option_and_then}
-use Rattle.std.specs.Bool.{OnTrue}
 use Rattle.std.proofs.lemmas.List.{append_assoc, append-nil, take_more}
 use Rattle.std.proofs.lemmas.Option.{slice_get-get_or}
 use Rattle.scr_combinatorics.specs.Play.{play}
@@ -45,11 +44,6 @@ module _ (turns : List ℕ) where
       append_assoc before (spelled (letter_in turns) (take at word)) (face_turn_at (get_or turns place 0) ∷ [])
       ∙ ap (λ ts. before ++ ts)
       (sym (spelled-more (take at word) (place ∷ [])) ∙ ap (spelled (letter_in turns)) (sym (take_more word at 0 lt)))
-
--- what is pushed where there is room
-pub by_true : (b : Bool) (P : Type 0) → IsTrue b → OnTrue b P → P
-by_true true P h p = p
-by_true false P h p = absurd Prim.cc
 
 pub four_joined : {X : Type 0} (a b c d : List X) → (((([] ++ a) ++ b) ++ c) ++ d) ≡ a ++ (b ++ (c ++ (d ++ [])))
 four_joined a b c d =

@@ -30,6 +30,6 @@ mod tetrads;
 mod words;
 
 pub use half_parts::{MIDDLE_EDGES, OUTER_EDGES, block_number};
-pub use solving::{letter, scramble_by_stages, solve_stages};
+pub use solving::{scramble_by_stages, solve_stages};
 pub use stage_turns::{ALL_TURNS, TETRADS_TURNS, block_edges_turned, corners_turned, edges_turned};
 pub use tables::StageTables;

@@ -1,11 +1,9 @@
 //! The solution of a cube by stages, and the scramble that it gives.
-ghost use Rattle.std.specs.Prelude.{◌≡◌, ◌+◌, ◌<◌, ◌≤◌, All, List, Some, ◌++◌, IsTrue, length};
+ghost use Rattle.std.specs.Prelude.{◌≡◌, ◌+◌, ◌<◌, ◌≤◌, All, List, Some, ◌++◌, length};
 ghost use Rattle.scr_combinatorics.specs.Play.{play};
 ghost use Rattle.scr_combinatorics.specs.Stages.{spelled, IsSolution};
 ghost use Rattle.scr_notation.specs.declared.event.Event.TheVariants.{C333};
 ghost use Rattle.scr_notation.specs.declared.turn.Turn.{Turn as Letter};
-ghost use Rattle.scr_notation.specs.TurnNumbers.{face_turn_at};
-ghost use Rattle.scr_notation.specs.Turns.{permits};
 ghost use Rattle.scr_turning.specs.PowerPuzzles.{after_letter};
 ghost use Rattle.scr_cube.specs.Cube333.{IsCube, cube_powers, solved_cube};
 ghost use Rattle.scr_stages.specs.Stages.{after_of, letter_in, stages, IsStageScramble};
@@ -14,7 +12,7 @@ use crate::stage_turns::{ALL_TURNS, HALF_TURNS, SLICE_TURNS, TETRADS_TURNS};
 use crate::tables::StageTables;
 use crate::words::{flips_word, halves_word, slice_word, tetrads_word};
 use scr_cube::{Cube, PowerTurned};
-use scr_notation::{Event, Scramble, Turn, inverse, tidy};
+use scr_notation::{Event, Scramble, inverse, push_numbered, tidy};
 
 /// The solution of a cube by the four stages, of at most 52 turns: the first word of each stage's turns to its goal,
 /// one after another.
@@ -64,21 +62,7 @@ fn follow(cube: &Cube, turns: &[u8], word: &[u8], solution: &mut Scramble) -> Cu
     for at in 0..word.len() {
         let number = turns[usize::from(word[at])];
         state = state.turned(usize::from(number));
-        solution.push(letter(number));
+        push_numbered(solution, number);
     }
     state
-}
-
-/// The turn of the 3x3x3 with a number, below 18: U U2 U' R R2 R' F F2 F' D D2 D' L L2 L' B B2 B'.
-#[tactic(auto, unfolding(scr_notation::specs::TurnNumbers::face_turn_at))]
-pub fn letter(number: u8) -> Turn
-    requires { number < 18 }
-    ensures letter { result ≡ face_turn_at number }
-    ensures of_event { IsTrue (permits C333 result) }
-{
-    Turn::Face {
-        face: number / 3,
-        depth: 1,
-        amount: number % 3 + 1,
-    }
 }

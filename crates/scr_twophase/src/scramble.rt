@@ -1,5 +1,5 @@
 //! The two parts of a cube, and the scramble that they give.
-ghost use Rattle.std.specs.Prelude.{◌≡◌, ◌<◌, ◌≤◌, All, IfSome, IsTrue, List, Some, is_some, length, map};
+ghost use Rattle.std.specs.Prelude.{◌≡◌, ◌≤◌, IfSome, IsTrue, List, Some, is_some, length, map};
 ghost use Rattle.std.specs.Option.{option_map};
 ghost use Rattle.scr_combinatorics.specs.Play.{play};
 ghost use Rattle.scr_notation.specs.declared.event.Event.TheVariants.{C333};
@@ -12,8 +12,8 @@ ghost use Rattle.scr_twophase.specs.TwoParts.{two_parts, IsScramble333};
 use crate::search::joined_parts;
 use crate::tables::PruneTables;
 use scr_cube::Cube;
-use scr_notation::{Event, Scramble, inverse};
-use scr_stages::{StageTables, letter, scramble_by_stages};
+use scr_notation::{Event, Scramble, inverse, numbered_scramble};
+use scr_stages::{StageTables, scramble_by_stages};
 
 /// The two parts of a cube, joined: the first of its first parts that has a second part, and that. At most `tries`
 /// first parts are looked at, and `None` comes exactly where none of these has a second part.
@@ -25,7 +25,7 @@ pub fn two_parts(tables: &PruneTables, cube: &Cube, tries: u32) -> Option<Scramb
     ensures valid { IsCube cube.now }
 {
     match joined_parts(&tables.parts, cube, tries) {
-        Some(word) => Some(spelled(word.turns())),
+        Some(word) => Some(numbered_scramble(Event::C333, word.turns())),
         None => None,
     }
 }
@@ -44,17 +44,4 @@ pub fn scramble_333(prune: &PruneTables, stages: &StageTables, cube: &Cube, trie
         Some(parts) => inverse(&parts),
         None => scramble_by_stages(stages, cube),
     }
-}
-
-/// The turns with these numbers, each below 18, as letters. They are at most 22.
-fn spelled(turns: &[u8]) -> Scramble
-    requires below { All (λ t. t < 18) turns.now }
-    requires few { length turns.now ≤ 22 }
-    ensures { result ≡ record { event = C333; turns = map face_turn_at turns.now } }
-{
-    let mut scramble = Scramble::new(Event::C333);
-    for turn in turns {
-        scramble.push(letter(*turn));
-    }
-    scramble
 }

@@ -1,6 +1,6 @@
 -- One answer put in its place.
 use Rattle.std.proofs.Common.{◌≡◌, ◌≢◌, ◌⊎◌, ℕ, ◌<◌, List, [], ◌∷◌, ◌++◌, map, length, set, Some, None, inl, inr}
-use Rattle.std.proofs.Common.{⊎_elim, sym, ap, subst, arith, get_or-set_same, get_or-set_other}
+use Rattle.std.proofs.Common.{⊎_elim, sym, ap, subst, arith, length-set, get_or-set_same, get_or-set_other}
 use Rattle.std.specs.Prelude.{Option, IsSomeAnd, All}
 use Rattle.std.proofs.lemmas.List.Elements.{All-pop}
 use Rattle.std.proofs.lemmas.Bool.Decides.{nat_tests}
@@ -8,7 +8,7 @@ use Rattle.std.proofs.lemmas.List.{map-append}
 use mathlib.Core.Logic.{dite}
 use native.Mathlib.Decide.{ℕ_discrete}
 use Rattle.scr_workers.specs.Answered.{HasAnswer}
-use Rattle.scr_workers.specs.Gather.{only, times}
+use Rattle.scr_workers.specs.Gather.{HasSlotAnswer, only, times}
 use Rattle.scr_workers.specs.Work.{slot_of}
 use Rattle.scr_workers.proofs.Keeps.{weigh-append}
 
@@ -54,3 +54,22 @@ module _ {T : Type 0} (IsAnswer : ℕ → T → Type 0) where
       inl (omega arith))
       (λ (there : HasAnswer IsAnswer out k). inr (kept_set out slot a within is k there))
       known)
+
+  -- What has come of placing a list's answers: those that are left are of slots, places that had an answer have one, and so
+  -- has the place of each slot of the list that isn't left.
+  pub record ArePlaced (list : List (ℕ × T)) (start : List (Option T)) (left : List (ℕ × T)) (out : List (Option T)) : Type 0 where
+    pub mine : All (HasSlotAnswer (length out) IsAnswer) left
+    pub kept : (k : ℕ) → HasAnswer IsAnswer start k → HasAnswer IsAnswer out k
+    pub placed : (k : ℕ) → 0 < times k (map slot_of list) → (0 < times k (map slot_of left)) ⊎ HasAnswer IsAnswer out k
+
+  -- one more
+  pub ArePlaced-more : (list : List (ℕ × T)) (start : List (Option T)) (before after : List (ℕ × T)) (out : List (Option T))
+      (slot : ℕ) (a : T) → before ≡ after ++ (slot, a) ∷ [] → ArePlaced list start before out
+      → ArePlaced list start after (set out slot (Some a))
+  ArePlaced-more list start before after out slot a popped are =
+      let all = All-push' (HasSlotAnswer (length out) IsAnswer) before after (slot, a) popped are.mine in
+      record {
+        mine = subst (λ n. All (HasSlotAnswer n IsAnswer) after) (sym (length-set out slot (Some a))) all.0;
+        kept = λ k h. kept_set out slot a all.1.0 all.1.1 k (are.kept k h);
+        placed = λ k h. placed_set before after out slot a popped all.1.0 all.1.1 k (are.placed k h);
+      }

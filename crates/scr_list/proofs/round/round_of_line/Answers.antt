@@ -1,6 +1,6 @@
 use Rattle.std.proofs.Common.{refl}
 use Rattle.std.proofs.lemmas.Result.{err_from_is_err_and}
-use Rattle.scr_list.proofs.RoundLemmas.{round_of_words-by}
+use Rattle.scr_list.proofs.RoundLemmas.{round_of_words-by, round_of_words-named}
 use Rattle.scr_list.proofs.round.round_of_line.Goals as goal
 
 pub returns-in-None-default-default : goal.returns-in-None-default-default
@@ -9,18 +9,9 @@ returns-in-None-default-default c =
 
 pub returns-in_ok-named-in-Some-Some-None : goal.returns-in_ok-named-in-Some-Some-None
 returns-in_ok-named-in-Some-Some-None c =
-    rw (
-      round_of_words-by,
-      ← c.word_at.ensures,
-      ← c.word_at-2.ensures,
-      ← c.word_at-3.ensures,
-      ← c.word_at-in-Some-Some-None.ensures,
-      c.in-Some-Some-None.is-0,
-      c.in-Some-Some-None.is-1,
-      c.in-Some-Some-None.is-2,
-      ← c.named.ensures,
-      c.in_ok-named-in-Some-Some-None.was,
-    ) refl
+    let line = round_of_words-named c.args.before _ _ _ _ _ _ _ c.word_at.ensures c.word_at-2.ensures c.word_at-3.ensures
+    c.word_at-in-Some-Some-None.ensures c.in-Some-Some-None.is-0 c.in-Some-Some-None.is-1 c.in-Some-Some-None.is-2 in
+    rw (line, ← c.named.ensures, c.in_ok-named-in-Some-Some-None.was) refl
 
 pub returns-in_default : goal.returns-in_default
 returns-in_default c =
@@ -41,17 +32,6 @@ returns-in_default-2 c =
 pub returns-in_err-named-in-Some-Some-None : goal.returns-in_err-named-in-Some-Some-None
 returns-in_err-named-in-Some-Some-None c =
     let p = err_from_is_err_and c.from_residual.result c.from_residual.ensures.1 in
-    rw (
-      p.1,
-      round_of_words-by,
-      ← c.word_at.ensures,
-      ← c.word_at-2.ensures,
-      ← c.word_at-3.ensures,
-      ← c.word_at-in-Some-Some-None.ensures,
-      c.in-Some-Some-None.is-0,
-      c.in-Some-Some-None.is-1,
-      c.in-Some-Some-None.is-2,
-      ← c.named.ensures,
-      c.in_err-named-in-Some-Some-None.was,
-      p.2,
-    ) refl
+    let line = round_of_words-named c.args.before _ _ _ _ _ _ _ c.word_at.ensures c.word_at-2.ensures c.word_at-3.ensures
+    c.word_at-in-Some-Some-None.ensures c.in-Some-Some-None.is-0 c.in-Some-Some-None.is-1 c.in-Some-Some-None.is-2 in
+    rw (p.1, line, ← c.named.ensures, c.in_err-named-in-Some-Some-None.was, p.2) refl

@@ -1,6 +1,7 @@
-use Rattle.std.proofs.Common.{◌≡◌, ℕ, ◌+◌, ◌-◌, ◌*◌, ◌/◌, ◌%◌, ◌<◌, ◌≤◌, sym, ◌∙◌, arith, refl}
+use Rattle.std.proofs.Common.{◌≡◌, ℕ, ◌+◌, ◌-◌, ◌*◌, ◌/◌, ◌%◌, ◌<◌, ◌≤◌, length, sym, ◌∙◌, arith, refl}
 use Rattle.std.proofs.lemmas.Nat.{div_below, div-add-mod'}
 use Rattle.std.proofs.Math.Nat.{mul-le-mul_right, mod-lt}
+use Rattle.scr_list.specs.declared.round.Round.{Round}
 use Rattle.scr_notation.specs.Event.{per_group_of}
 use Rattle.scr_round.specs.Round.{Fixed, heading, round_lines}
 use Rattle.scr_round.specs.SheetLine.{line_of}
@@ -8,36 +9,32 @@ use Rattle.scr_round.proofs.LineLaws.{length-groups_lines, round_lines-at, IsBel
 use Rattle.scr_round.proofs.layout.line_at.Goals as goal
 
 -- the group of the line is one of the round's
-in_group : (own groups line : ℕ) → ¬ (line ≡ 0) → line < 1 + groups * (own + 4) → (line - 1) / (own + 4) < groups
-in_group own groups line later inside = div_below (line - 1) (own + 4) groups (omega arith) (omega arith)
+in_group : (index : ℕ) (round : Round) (line : ℕ) → ¬ (line ≡ 0) → line < length (round_lines index round)
+    → (line - 1) / (per_group_of round.event + 4) < round.groups
+in_group index round line later inside =
+    let all = length-groups_lines (per_group_of round.event) round.groups 65 0 in
+    div_below (line - 1) (per_group_of round.event + 4) round.groups (omega arith) (omega arith)
 
 pub group_line-requires-clause-group : goal.group_line-requires-clause-group
 group_line-requires-clause-group c =
-    let round = c.args.round.now in
-    let own : c.from-own.result ≡ per_group_of round.event = c.from-own.ensures ∙ c.per_group.ensures.value in
-    let below = in_group (per_group_of round.event) round.groups c.args.line c.if-line-eq0.false
-    (omega (arith, c.requires.line, length-groups_lines (per_group_of round.event) round.groups 65 0)) in
-    rw own (omega (arith, below, c.requires.round.few_groups))
+    let below = in_group c.args.index c.args.round.now c.args.line c.if-line-eq0.false c.requires.line in
+    rw (c.from-own.ensures ∙ c.per_group.ensures.value) (omega (arith, below, c.requires.round.few_groups))
 
 pub returns-clause-value : goal.returns-clause-value
 returns-clause-value c =
     let round = c.args.round.now in
-    let own : c.from-own.result ≡ per_group_of round.event = c.from-own.ensures ∙ c.per_group.ensures.value in
     let size = per_group_of round.event in
-    let below = in_group size round.groups c.args.line c.if-line-eq0.false
-    (omega (arith, c.requires.line, length-groups_lines size round.groups 65 0)) in
+    let below = in_group c.args.index round c.args.line c.if-line-eq0.false c.requires.line in
     round_lines-at size round.groups ((c.args.line - 1) / (size + 4)) ((c.args.line - 1) % (size + 4)) c.args.line
     (round_lines c.args.index round) (Fixed (heading c.args.index round)) c.if-line-eq0.false
     (sym (div-add-mod' (c.args.line - 1) (size + 4))) below (mod-lt (c.args.line - 1) (omega arith)) refl
-    ∙ (rw own at c.group_line.ensures.value)
+    ∙ (rw (c.from-own.ensures ∙ c.per_group.ensures.value) at c.group_line.ensures.value)
 
 pub returns-clause-slot : goal.returns-clause-slot
 returns-clause-slot c =
     let round = c.args.round.now in
-    let own : c.from-own.result ≡ per_group_of round.event = c.from-own.ensures ∙ c.per_group.ensures.value in
     let size = per_group_of round.event in
-    let below = in_group size round.groups c.args.line c.if-line-eq0.false
-    (omega (arith, c.requires.line, length-groups_lines size round.groups 65 0)) in
+    let below = in_group c.args.index round c.args.line c.if-line-eq0.false c.requires.line in
     let more : (c.args.line - 1) / (size + 4) + 1 ≤ round.groups = omega arith in
     IsBelow-more (((c.args.line - 1) / (size + 4) + 1) * (size + 2)) (round.groups * (size + 2)) (line_of c.group_line.result)
-    (mul-le-mul_right (size + 2) more) (rw own at c.group_line.ensures.slot)
+    (mul-le-mul_right (size + 2) more) (rw (c.from-own.ensures ∙ c.per_group.ensures.value) at c.group_line.ensures.slot)

@@ -1,5 +1,4 @@
-use Rattle.std.proofs.Common.{ℕ, ◌<◌, List, sym, ap, ◌∙◌, subst, arith}
-use Rattle.std.specs.Prelude.{All}
+use Rattle.std.proofs.Common.{ap, ◌∙◌, arith}
 use Rattle.scr_small.specs.NumberedPuzzles.{state_coordinate}
 use Rattle.scr_small.proofs.PuzzleLaws.{length-scramble, play-scrambled, IsScrambleOf-unique}
 use Rattle.scr_small.specs.Tables.{small_line}
@@ -13,19 +12,19 @@ descend-word-requires g c =
     let below = l.lawful.numbering.one_to_one.below c.args.state.now c.number.ensures.valid in
     rw (ap small_line c.requires ∙ l.of_event) (omega (arith, below, c.number.ensures.number))
 
-pub spelled-requires-clause-turns : goal.spelled-requires-clause-turns
-spelled-requires-clause-turns g c =
-    let p = g.P.OneTable in
-    let first = rw (ap small_line c.requires ∙ c.is_solved_by_table.ensures.of_event) at c.descend-word.ensures.first in
-    let Q : List ℕ → Type 0 = All (λ n. n < p.shown.turns) in
-    subst Q (sym c.deref.ensures.0) (All-turns (state_coordinate p.shown) c.number.result c.descend-word.result.items first.leads)
+pub numbered_scramble-requires-clause-below : goal.numbered_scramble-requires-clause-below
+numbered_scramble-requires-clause-below g c =
+    let l = c.is_solved_by_table.ensures in
+    let first = rw (ap small_line c.requires ∙ l.of_event) at c.descend-word.ensures.first in
+    let each = All-turns (state_coordinate g.P.OneTable.shown) c.number.result c.descend-word.result.items first.leads in
+    rw (c.TABLE.ensures, c.deref.ensures.0) (λ k d lt. omega (arith, each k d lt, l.own))
 
 pub returns-clause-scramble : goal.returns-clause-scramble
 returns-clause-scramble g c =
     let p = g.P.OneTable in
     let l = c.is_solved_by_table.ensures in
     let first = rw (ap small_line c.requires ∙ l.of_event) at c.descend-word.ensures.first in
-    rw (c.inverse.ensures.value, c.spelled.ensures, c.deref.ensures.0, ← l.taken_back)
+    rw (c.inverse.ensures.value, c.numbered_scramble.ensures, c.TABLE.ensures, c.deref.ensures.0, ← l.letters, ← l.taken_back)
     (IsScrambleOf-walked p.shown l.lawful c.args.state.now c.number.ensures.valid c.number.result c.number.ensures.number _ first)
 
 pub returns-clause-only : goal.returns-clause-only

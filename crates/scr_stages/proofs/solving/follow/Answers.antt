@@ -1,16 +1,17 @@
-use Rattle.std.proofs.Common.{◌≡◌, ◌+◌, ◌<◌, ◌++◌, [], ◌∷◌, IsTrue, get_or, length, take, sym, ap, ◌∙◌, subst, arith}
+use Rattle.std.proofs.Common.{◌≡◌, ◌<◌, ◌++◌, [], ◌∷◌, get_or, length, take, refl, sym, ap, ◌∙◌, arith}
 use Rattle.std.proofs.lemmas.List.{append-nil, length-append, length-take-le, take_all}
 use Rattle.scr_combinatorics.specs.Play.{play}
 use Rattle.scr_combinatorics.proofs.PlayLaws.{play-empty}
 use Rattle.scr_combinatorics.specs.Stages.{spelled}
 use Rattle.scr_notation.specs.declared.event.Event.TheVariants.{C333}
-use Rattle.scr_notation.specs.TurnNumbers.{face_turn_at}
-use Rattle.scr_notation.specs.Turns.{permits}
+use Rattle.scr_notation.specs.Event.{kind_of}
+use Rattle.scr_notation.specs.TurnNumbers.{face_turn_at, turn_at}
+use Rattle.scr_notation.proofs.NumberLaws.{turns_333}
 use Rattle.scr_notation.specs.Written.{Written}
 use Rattle.scr_turning.specs.PowerPuzzles.{after_letter}
 use Rattle.scr_cube.specs.Cube333.{cube_powers}
 use Rattle.scr_stages.specs.Stages.{letter_in, after_of}
-use Rattle.scr_stages.proofs.FollowSteps.{follow_more, length-spelled, letters_more, by_true}
+use Rattle.scr_stages.proofs.FollowSteps.{follow_more, letters_more}
 use Rattle.scr_stages.proofs.solving.follow.Goals as goal
 
 pub loop-at-init : goal.loop-at-init
@@ -21,28 +22,36 @@ loop-at-init c =
     ∙ ap {B = Written} (λ ts. record { event = C333; turns = ts }) (sym (append-nil turns)) in
     (play-empty (after_of c.args.turns.now) c.args.cube.now, written)
 
+pub push_numbered-requires-clause-room : goal.push_numbered-requires-clause-room
+push_numbered-requires-clause-room c =
+    let turns = c.args.turns.now in
+    let before = c.args.solution.now.turns in
+    let played = take c.loop-at.at c.args.word.now in
+    omega (
+      arith,
+      ap (λ s. length s.turns) c.loop-at.invariant.1,
+      length-append before (spelled (letter_in turns) played),
+      length-spelled (letter_in turns) (λ n. refl) played,
+      length-take-le c.loop-at.at c.args.word.now (omega (arith, c.loop-at-test.true)),
+      c.loop-at-test.true,
+      c.requires.room,
+    )
+
 pub loop-at-preserved : goal.loop-at-preserved
 loop-at-preserved c =
     let turns = c.args.turns.now in
     let word = c.args.word.now in
     let at = c.loop-at.at in
     let before = c.args.solution.now.turns in
-    let written = c.loop-at.invariant.1 in
     let lt = c.loop-at-test.true in
     let place = c.from.ensures in
     let there : get_or word at 0 < length turns = c.requires.word at 0 lt in
     let number = c.from-in-loop-at.ensures ∙ ap (λ k. get_or turns k 0) place in
-    let size : length c.loop-at.solution.turns ≡ length before + at =
-    ap (λ s. length s.turns) written ∙ length-append before (spelled (letter_in turns) (take at word))
-    ∙ ap (λ n. length before + n) (length-spelled turns (take at word) ∙ length-take-le at word (omega (arith, lt))) in
-    let room : length c.loop-at.solution.turns < 160 = omega (arith, size, lt, c.requires.room) in
-    let has : IsTrue (permits c.loop-at.solution.event c.letter.result) =
-    subst (λ e. IsTrue (permits e c.letter.result)) (sym (ap (λ s. s.event) written)) c.letter.ensures.of_event in
-    let letter = c.letter.ensures.letter ∙ ap (λ k. face_turn_at (get_or turns k 0)) place in (
+    let letter = ap (λ f. f (get_or turns c.from.result 0)) turns_333 ∙ ap (λ k. face_turn_at (get_or turns k 0)) place in (
       follow_more turns c.args.cube.now c.loop-at.state c.turned-state.result word at lt there c.loop-at.invariant.0
           (ap (λ t. (after_letter cube_powers) c.loop-at.state (face_turn_at t)) (sym number) ∙ c.turned-state.ensures),
-      by_true c.push.result _ (c.push.ensures.exact.1 (room, has)) c.push.ensures.pushed
-          ∙ ap {B = Written} (λ s. record { event = s.event; turns = s.turns ++ c.letter.result ∷ [] }) written
+      c.push_numbered.ensures
+          ∙ ap {B = Written} (λ s. record { event = s.event; turns = s.turns ++ turn_at (kind_of s.event) (get_or turns c.from.result 0) ∷ [] }) c.loop-at.invariant.1
           ∙ ap {B = Written} (λ l. record { event = C333; turns = (before ++ spelled (letter_in turns) (take at word)) ++ l ∷ [] }) letter
           ∙ ap {B = Written} (λ ts. record { event = C333; turns = ts }) (letters_more turns before word at lt),
     )
