@@ -1,6 +1,6 @@
 //! The tables of a list's events.
 
-ghost use Rattle.std.specs.Prelude.{◌≡◌, ◌↔◌, ◌∷◌, [], All, map, Contains, IfOk, IfSome, IfErr, IsSome, IsSomeAnd, IsTrue};
+ghost use Rattle.std.specs.Prelude.{◌≡◌, ◌≤◌, ◌↔◌, ◌∷◌, [], All, map, Contains, IfOk, IfSome, IfErr, IsSome, IsSomeAnd, IsTrue};
 ghost use Rattle.scr_notation.specs.declared.event.Event.{Event as EventOf};
 ghost use Rattle.scr_notation.specs.declared.event.Event.TheVariants.{C222, Pyram, Skewb as EventSkewb};
 ghost use Rattle.scr_notation.specs.declared.event.Family.TheVariants as family;

@@ -8,7 +8,7 @@ use Rattle.scr_slots.proofs.BuildCauses.{event_list, lines_asked-small}
 use Rattle.scr_slots.proofs.tables.small_tables.Goals as goal
 
 pub returns-in_err-tables-clause-cause : goal.returns-in_err-tables-clause-cause
-returns-in_err-tables-clause-cause c =
+returns-in_err-tables-clause-cause g c =
     let events = event_list c.args.rounds.now in
     let asked : asks_for events c.args.family ≡ true = sym c.asks_for.ensures ∙ c.if-asks_for.true in
     let lines = lines_asked-small events c.args.family c.args.event c.requires.small c.requires.of_family asked in
@@ -17,7 +17,7 @@ returns-in_err-tables-clause-cause c =
     (subst (λ lines. IsCauseOf lines why) (sym lines) c.in_err-tables.ensures.cause)
 
 pub returns-in_ok-tables-clause-whole : goal.returns-in_ok-tables-clause-whole
-returns-in_ok-tables-clause-whole c =
+returns-in_ok-tables-clause-whole g c =
     let events = event_list c.args.rounds.now in
     let asked : asks_for events c.args.family ≡ true = sym c.asks_for.ensures ∙ c.if-asks_for.true in
     let lines = lines_asked-small events c.args.family c.args.event c.requires.small c.requires.of_family asked in

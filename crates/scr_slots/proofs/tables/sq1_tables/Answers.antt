@@ -11,7 +11,7 @@ use Rattle.scr_slots.proofs.tables.sq1_tables.Goals as goal
 
 pub returns-in_err-tables-clause-cause : goal.returns-in_err-tables-clause-cause
 unfolding family_lines
-returns-in_err-tables-clause-cause c =
+returns-in_err-tables-clause-cause g c =
     let events = event_list c.args.rounds.now in
     let asked : asks_for events family.Square1 ≡ true = sym c.asks_for.ensures ∙ c.if-asks_for.true in
     let why = c.in_err-tables.field-0.0 in
@@ -20,7 +20,7 @@ returns-in_err-tables-clause-cause c =
 
 pub returns-in_ok-tables-clause-whole : goal.returns-in_ok-tables-clause-whole
 unfolding family_lines
-returns-in_ok-tables-clause-whole c =
+returns-in_ok-tables-clause-whole g c =
     let events = event_list c.args.rounds.now in
     let asked : asks_for events family.Square1 ≡ true = sym c.asks_for.ensures ∙ c.if-asks_for.true in
     subst (All HasNoGap) (sym (lines_asked-of events family.Square1 asked)) c.in_ok-tables.ensures.whole

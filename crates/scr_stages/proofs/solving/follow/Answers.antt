@@ -11,7 +11,7 @@ use Rattle.scr_notation.specs.Written.{Written}
 use Rattle.scr_turning.specs.PowerPuzzles.{after_letter}
 use Rattle.scr_cube.specs.Cube333.{cube_powers}
 use Rattle.scr_stages.specs.Stages.{letter_in, after_of}
-use Rattle.scr_stages.proofs.FollowSteps.{follow_more, letters_more}
+use Rattle.scr_stages.proofs.FollowSteps.{follow_more, length-spelled, letters_more}
 use Rattle.scr_stages.proofs.solving.follow.Goals as goal
 
 pub loop-at-init : goal.loop-at-init

@@ -18,14 +18,14 @@ abbrev from_333 : List Event → List TableLine
 from_333 events = lines_asked events Cube333 ++ from_pyraminx events
 
 pub returns-in_err-of_222-clause-cause : goal.returns-in_err-of_222-clause-cause
-returns-in_err-of_222-clause-cause c =
+returns-in_err-of_222-clause-cause g c =
     let events = event_list c.args.rounds.now in
     let why = c.in_err-of_222.field-0.0 in
     IfErr-handed (IsBuildCause events) why c.from_residual.result c.from_residual.ensures.1
     (IsCauseOf-before (lines_asked events Cube222) (from_333 events) why c.in_err-of_222.ensures.cause)
 
 pub returns-in_err-of_333-clause-cause : goal.returns-in_err-of_333-clause-cause
-returns-in_err-of_333-clause-cause c =
+returns-in_err-of_333-clause-cause g c =
     let events = event_list c.args.rounds.now in
     let why = c.in_err-of_333.field-0.0 in
     IfErr-handed (IsBuildCause events) why c.from_residual-in_err-of_333.result c.from_residual-in_err-of_333.ensures.1
@@ -33,7 +33,7 @@ returns-in_err-of_333-clause-cause c =
     (IsCauseOf-before (lines_asked events Cube333) (from_pyraminx events) why c.in_err-of_333.ensures.cause))
 
 pub returns-in_err-of_pyram-clause-cause : goal.returns-in_err-of_pyram-clause-cause
-returns-in_err-of_pyram-clause-cause c =
+returns-in_err-of_pyram-clause-cause g c =
     let events = event_list c.args.rounds.now in
     let why = c.in_err-of_pyram.field-0.0 in
     IfErr-handed (IsBuildCause events) why c.from_residual-in_err-of_pyram.result c.from_residual-in_err-of_pyram.ensures.1
@@ -42,7 +42,7 @@ returns-in_err-of_pyram-clause-cause c =
     (IsCauseOf-before (lines_asked events Pyraminx) (from_skewb events) why c.in_err-of_pyram.ensures.cause)))
 
 pub returns-in_err-of_skewb-clause-cause : goal.returns-in_err-of_skewb-clause-cause
-returns-in_err-of_skewb-clause-cause c =
+returns-in_err-of_skewb-clause-cause g c =
     let events = event_list c.args.rounds.now in
     let why = c.in_err-of_skewb.field-0.0 in
     IfErr-handed (IsBuildCause events) why c.from_residual-in_err-of_skewb.result c.from_residual-in_err-of_skewb.ensures.1
@@ -52,7 +52,7 @@ returns-in_err-of_skewb-clause-cause c =
     (IsCauseOf-before (lines_asked events Skewb) (lines_asked events Square1) why c.in_err-of_skewb.ensures.cause))))
 
 pub returns-in_err-of_sq1-clause-cause : goal.returns-in_err-of_sq1-clause-cause
-returns-in_err-of_sq1-clause-cause c =
+returns-in_err-of_sq1-clause-cause g c =
     let events = event_list c.args.rounds.now in
     let why = c.in_err-of_sq1.field-0.0 in
     IfErr-handed (IsBuildCause events) why c.from_residual-in_err-of_sq1.result c.from_residual-in_err-of_sq1.ensures.1
@@ -63,7 +63,7 @@ returns-in_err-of_sq1-clause-cause c =
     c.in_err-of_sq1.ensures.cause))))
 
 pub invariant_of-result : goal.invariant_of-result
-invariant_of-result c =
+invariant_of-result g c =
     let events = event_list c.args.rounds.now in
     let set = c.events_of.result in
     let has = c.events_of.ensures in (

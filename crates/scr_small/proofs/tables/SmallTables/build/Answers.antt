@@ -8,27 +8,27 @@ use Rattle.scr_small.proofs.tables.SmallTables.build.Goals.{in-Skewb+in_ok-build
 use Rattle.scr_small.proofs.tables.SmallTables.build.Goals as goal
 
 pub returns-in_err-build-in-C222-clause-cause : goal.returns-in_err-build-in-C222-clause-cause
-returns-in_err-build-in-C222-clause-cause c =
+returns-in_err-build-in-C222-clause-cause g c =
     rw c.in-C222.is
     (IfErr-cause [] corners_line [] (All-nil HasNoGap) c.in_err-build-in-C222.field-0.0 c.from_residual.result
     c.from_residual.ensures.1 c.in_err-build-in-C222.ensures.cause)
 
 pub returns-in_err-build-in-Pyram-clause-cause : goal.returns-in_err-build-in-Pyram-clause-cause
-returns-in_err-build-in-Pyram-clause-cause c =
+returns-in_err-build-in-Pyram-clause-cause g c =
     rw c.in-Pyram.is
     (IfErr-cause [] pyramid_line [] (All-nil HasNoGap) c.in_err-build-in-Pyram.field-0.0
     c.from_residual-in_err-build-in-Pyram.result c.from_residual-in_err-build-in-Pyram.ensures.1
     c.in_err-build-in-Pyram.ensures.cause)
 
 pub returns-in_err-build-in-Skewb-clause-cause : goal.returns-in_err-build-in-Skewb-clause-cause
-returns-in_err-build-in-Skewb-clause-cause c =
+returns-in_err-build-in-Skewb-clause-cause g c =
     rw c.in-Skewb.is
     (IfErr-cause [] skewb_line [] (All-nil HasNoGap) c.in_err-build-in-Skewb.field-0.0
     c.from_residual-in_err-build-in-Skewb.result c.from_residual-in_err-build-in-Skewb.ensures.1
     c.in_err-build-in-Skewb.ensures.cause)
 
 pub returns-clause-table : goal.returns-clause-table
-returns-clause-table c =
+returns-clause-table g c =
     elim c.match-event.branch [
       | in-C222+in_ok-build-in-C222 w ↦
           rw w.held-is (record { line = corners_line; of_event = refl; table = w.in_ok-build-in-C222.ensures.table })
@@ -39,7 +39,7 @@ returns-clause-table c =
     ]
 
 pub returns-clause-whole : goal.returns-clause-whole
-returns-clause-whole c =
+returns-clause-whole g c =
     elim c.match-event.branch [
       | in-C222+in_ok-build-in-C222 w ↦
           rw w.in-C222.is (no_gaps-line corners_line w.in_ok-build-in-C222.ensures.no_gap)

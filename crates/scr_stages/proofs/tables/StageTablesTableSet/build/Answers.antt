@@ -6,19 +6,19 @@ use Rattle.scr_stages.specs.Tables.{flips_line, slice_line, tetrads_line, halves
 use Rattle.scr_stages.proofs.tables.StageTablesTableSet.build.Goals as goal
 
 pub returns-in_err-build-clause-cause : goal.returns-in_err-build-clause-cause
-returns-in_err-build-clause-cause c =
+returns-in_err-build-clause-cause g c =
     IfErr-cause [] flips_line (slice_line ∷ tetrads_line ∷ halves_line ∷ []) (All-nil HasNoGap)
     c.in_err-build.field-0.0 c.from_residual.result c.from_residual.ensures.1 c.in_err-build.ensures.cause
 
 pub returns-in_err-build-2-clause-cause : goal.returns-in_err-build-2-clause-cause
-returns-in_err-build-2-clause-cause c =
+returns-in_err-build-2-clause-cause g c =
     IfErr-cause (flips_line ∷ []) slice_line (tetrads_line ∷ halves_line ∷ [])
     (no_gaps-line flips_line c.in_ok-build.ensures.no_gap)
     c.in_err-build-2.field-0.0 c.from_residual-in_err-build-2.result c.from_residual-in_err-build-2.ensures.1
     c.in_err-build-2.ensures.cause
 
 pub returns-in_err-build-3-clause-cause : goal.returns-in_err-build-3-clause-cause
-returns-in_err-build-3-clause-cause c =
+returns-in_err-build-3-clause-cause g c =
     IfErr-cause (flips_line ∷ slice_line ∷ []) tetrads_line (halves_line ∷ [])
     (All-cons HasNoGap flips_line (slice_line ∷ []) c.in_ok-build.ensures.no_gap
     (no_gaps-line slice_line c.in_ok-build-2.ensures.no_gap))
@@ -26,7 +26,7 @@ returns-in_err-build-3-clause-cause c =
     c.in_err-build-3.ensures.cause
 
 pub returns-in_err-build-4-clause-cause : goal.returns-in_err-build-4-clause-cause
-returns-in_err-build-4-clause-cause c =
+returns-in_err-build-4-clause-cause g c =
     IfErr-cause (flips_line ∷ slice_line ∷ tetrads_line ∷ []) halves_line []
     (All-cons HasNoGap flips_line (slice_line ∷ tetrads_line ∷ []) c.in_ok-build.ensures.no_gap
     (All-cons HasNoGap slice_line (tetrads_line ∷ []) c.in_ok-build-2.ensures.no_gap
@@ -35,7 +35,7 @@ returns-in_err-build-4-clause-cause c =
     c.in_err-build-4.ensures.cause
 
 pub returns-clause-whole : goal.returns-clause-whole
-returns-clause-whole c =
+returns-clause-whole g c =
     All-cons HasNoGap flips_line (slice_line ∷ tetrads_line ∷ halves_line ∷ []) c.in_ok-build.ensures.no_gap
     (All-cons HasNoGap slice_line (tetrads_line ∷ halves_line ∷ []) c.in_ok-build-2.ensures.no_gap
     (All-cons HasNoGap tetrads_line (halves_line ∷ []) c.in_ok-build-3.ensures.no_gap

@@ -9,14 +9,14 @@ use Rattle.scr_twophase.proofs.BuiltLaws.{IfErr-pair, IsPruningTable-pair, no_ga
 use Rattle.scr_twophase.proofs.first.FirstTables.build.Goals as goal
 
 pub returns-in_err-flipslice-clause-cause : goal.returns-in_err-flipslice-clause-cause
-returns-in_err-flipslice-clause-cause c =
+returns-in_err-flipslice-clause-cause g c =
     IfErr-pair flips_coordinate middle_set_coordinate c.in_ok-flips.flips c.in_ok-middle.middle refl
     c.in_ok-flips.ensures c.in_ok-middle.ensures _ c.new.ensures FlipSlice 12 [] (twistslice_line ∷ [])
     (All-nil HasNoGap) c.in_err-flipslice.field-0.0 c.from_residual-in_err-flipslice.result
     c.from_residual-in_err-flipslice.ensures.1 c.in_err-flipslice.ensures.cause
 
 pub returns-in_err-twistslice-clause-cause : goal.returns-in_err-twistslice-clause-cause
-returns-in_err-twistslice-clause-cause c =
+returns-in_err-twistslice-clause-cause g c =
     let none = no_gap-pair flips_coordinate middle_set_coordinate c.in_ok-flips.flips c.in_ok-middle.middle refl
     c.in_ok-flips.ensures c.in_ok-middle.ensures _ c.new.ensures FlipSlice 12 c.in_ok-flipslice.flipslice.distances
     c.in_ok-flipslice.ensures.table.distances in
@@ -27,7 +27,7 @@ returns-in_err-twistslice-clause-cause c =
     c.in_err-twistslice.ensures.cause
 
 pub invariant_of-result : goal.invariant_of-result
-invariant_of-result c = record {
+invariant_of-result g c = record {
   flips_shown = c.in_ok-flips.ensures;
   twists_shown = c.in_ok-twists.ensures;
   middle_shown = c.in_ok-middle.ensures;
@@ -40,7 +40,7 @@ invariant_of-result c = record {
 }
 
 pub returns-clause-whole : goal.returns-clause-whole
-returns-clause-whole c =
+returns-clause-whole g c =
     let first = no_gap-pair flips_coordinate middle_set_coordinate c.in_ok-flips.flips c.in_ok-middle.middle refl
     c.in_ok-flips.ensures c.in_ok-middle.ensures _ c.new.ensures FlipSlice 12 c.in_ok-flipslice.flipslice.distances
     c.in_ok-flipslice.ensures.table.distances in

@@ -11,20 +11,20 @@ use Rattle.scr_twophase.proofs.SecondLaws.{middle_moves}
 use Rattle.scr_twophase.proofs.second.SecondTables.build.Goals as goal
 
 pub edge_moves-requires : goal.edge_moves-requires
-edge_moves-requires c = (lit< tt, ((lit≤ tt, lit≤ tt), (lit< tt, (search rules, outer_moves))))
+edge_moves-requires g c = (lit< tt, ((lit≤ tt, lit≤ tt), (lit< tt, (search rules, outer_moves))))
 
 pub edge_moves-requires-2 : goal.edge_moves-requires-2
-edge_moves-requires-2 c = (lit< tt, ((lit≤ tt, lit≤ tt), (lit< tt, (search rules, middle_moves))))
+edge_moves-requires-2 g c = (lit< tt, ((lit≤ tt, lit≤ tt), (lit< tt, (search rules, middle_moves))))
 
 pub returns-in_err-cornerslice-clause-cause : goal.returns-in_err-cornerslice-clause-cause
-returns-in_err-cornerslice-clause-cause c =
+returns-in_err-cornerslice-clause-cause g c =
     IfErr-pair middle_edges_coordinate corners_coordinate c.in_ok-middle.middle c.in_ok-corners.corners refl
     c.in_ok-middle.ensures c.in_ok-corners.ensures _ c.new.ensures CornerSlice 18 [] (edgeslice_line ∷ [])
     (All-nil HasNoGap) c.in_err-cornerslice.field-0.0 c.from_residual-in_err-cornerslice.result
     c.from_residual-in_err-cornerslice.ensures.1 c.in_err-cornerslice.ensures.cause
 
 pub returns-in_err-edgeslice-clause-cause : goal.returns-in_err-edgeslice-clause-cause
-returns-in_err-edgeslice-clause-cause c =
+returns-in_err-edgeslice-clause-cause g c =
     let made = c.in_ok-cornerslice.ensures in
     let none = no_gap-pair middle_edges_coordinate corners_coordinate c.in_ok-middle.middle c.in_ok-corners.corners refl
     c.in_ok-middle.ensures c.in_ok-corners.ensures _ c.new.ensures CornerSlice 18 c.in_ok-cornerslice.cornerslice
@@ -36,7 +36,7 @@ returns-in_err-edgeslice-clause-cause c =
     c.in_err-edgeslice.ensures.cause
 
 pub invariant_of-result : goal.invariant_of-result
-invariant_of-result c =
+invariant_of-result g c =
     let first = c.in_ok-cornerslice.ensures in
     let second = c.in_ok-edgeslice.ensures in
     record {
@@ -54,7 +54,7 @@ invariant_of-result c =
     }
 
 pub returns-clause-whole : goal.returns-clause-whole
-returns-clause-whole c =
+returns-clause-whole g c =
     let made = c.in_ok-cornerslice.ensures in
     let last = c.in_ok-edgeslice.ensures in
     let first = no_gap-pair middle_edges_coordinate corners_coordinate c.in_ok-middle.middle c.in_ok-corners.corners
