@@ -1,11 +1,11 @@
 -- What the events of a list have to do with the lines of their tables, family by family.
-use Rattle.std.proofs.Common.{◌≡◌, ℕ, zero, suc, Bool, true, false, ◌||◌, List, [], ◌∷◌, Option, Some, refl, ap, ◌∙◌, sym, subst, arith, if◌then◌else◌, inl, inr, map, take, length, get_or, ◌+◌, ◌<◌, ◌++◌, ◌↔◌, ◌⊎◌}
+use Rattle.std.proofs.Common.{◌≡◌, ℕ, zero, suc, Bool, true, false, ◌||◌, List, [], ◌∷◌, Option, Some, refl, ap, ◌∙◌, sym, subst, arith, if◌then◌else◌, inl, inr, map, take, length, get_or, ◌+◌, ◌<◌, ◌++◌, ◌↔◌, ◌⊎◌, Bor}
 use Rattle.std.proofs.Math.Seq.{take-length}
 use Rattle.std.proofs.lemmas.List.{take_more, map-append, length-map}
 use Rattle.std.proofs.Math.ListN.{get_or-map}
 use Rattle.std.proofs.lemmas.List.Elements.{All-nil, All-map, Contains-append_left, Contains-push, Contains-push_cases}
 use Rattle.std.proofs.lemmas.List.Folds.{list_any_none, list_any_at}
-use Rattle.std.specs.Prelude.{All, Contains, IsSome, IsTrue}
+use Rattle.std.specs.Prelude.{All, Contains, IfSome, IsSome, IsTrue}
 use Rattle.std.specs.Option.{option_to_list}
 use Rattle.scr_notation.specs.declared.event.Event.{Event}
 use Rattle.scr_notation.specs.EventSets.{Has}
@@ -13,6 +13,7 @@ use Rattle.scr_list.specs.declared.round.Round.{Round}
 use Rattle.scr_notation.specs.declared.event.Family.{Family}
 use Rattle.scr_notation.specs.declared.event.Family.TheVariants.{Cube222, Cube333, Pyraminx, Skewb, Square1}
 use Rattle.scr_notation.specs.Event.{family_of}
+use Rattle.scr_table.specs.Distances.{Distances}
 use Rattle.scr_table.specs.Lines.{AreTablesOf, HasNoGap}
 use Rattle.scr_small.specs.Tables.{BuiltTable, IsBuilt, family_line, small_line, small_lines}
 use Rattle.scr_slots.specs.Events.{family_lines}
@@ -135,12 +136,15 @@ lines_asked-small events family event some of_family asked =
     ∙ ap (λ f. option_to_list (family_line f)) (sym of_family)
 
 -- the one table of a family is that of its lines
-pub small-are : (family : Family) (built : BuiltTable) → IsSome (family_line (Some family)) → family_of built.event ≡ Some family → IsBuilt built
-    → AreTablesOf (family_lines family) (built.distances ∷ [])
-small-are family built some of_family is =
+pub small-are : (family : Family) (event : Event) (found : Option (Bor BuiltTable)) (built : Bor BuiltTable) (table : Distances)
+    → IsSome (family_line (Some family)) → family_of event ≡ Some family → IfSome found (λ tables. tables.now.event ≡ event)
+    → found ≡ Some built → table ≡ built.now.distances → IsBuilt built.now → AreTablesOf (family_lines family) (table ∷ [])
+small-are family event found built table some of_family of_event there same is =
+    let own : built.now.event ≡ event = subst (λ (f : Option (Bor BuiltTable)). IfSome f (λ tables. tables.now.event ≡ event)) there of_event in
     let line : is.line ∷ [] ≡ family_lines family =
-    ap option_to_list (sym is.of_event) ∙ ap (λ f. option_to_list (family_line f)) of_family ∙ small_lines-of family some in
-    subst (λ lines. AreTablesOf lines (built.distances ∷ [])) line (is.table, tt)
+    ap option_to_list (sym is.of_event) ∙ ap (λ f. option_to_list (family_line f)) (ap family_of own ∙ of_family) ∙ small_lines-of family some in
+    subst (λ t. AreTablesOf (family_lines family) (t ∷ [])) (sym same)
+    (subst (λ lines. AreTablesOf lines (built.now.distances ∷ [])) line (is.table, tt))
 
 -- one event needs the tables of its family
 pub lines_for-one : (event : Event) (family : Family) → family_of event ≡ Some family → lines_for (event ∷ []) ≡ family_lines family

@@ -17,7 +17,7 @@ use crate::shape_states::NORMAL;
 use crate::stage_letters::{Letters, equator_word, letter, word_of};
 use crate::stages::StageLine;
 use crate::tables::Sq1Tables;
-use scr_notation::{Event, Scramble, inverse, push_turn, tidy};
+use scr_notation::{Event, Scramble, inverse, push_all, tidy};
 use scr_sq1::Sq1;
 use scr_table::LineTable;
 
@@ -165,16 +165,4 @@ fn joined(first: &Scramble, second: &Scramble) -> Scramble
     push_all(&mut both, first);
     push_all(&mut both, second);
     tidy(&both)
-}
-
-/// Adds the turns of a word to another, which has room for them.
-fn push_all(word: &mut Scramble, more: &Scramble)
-    requires event { word.old.event ≡ EventSq1 }
-    requires more { more.now.event ≡ EventSq1 }
-    requires room { length word.old.turns + length more.now.turns ≤ 160 }
-    ensures { word.new ≡ record { event = EventSq1; turns = word.old.turns ++ more.now.turns } }
-{
-    for turn in more.turns() {
-        push_turn(word, *turn);
-    }
 }

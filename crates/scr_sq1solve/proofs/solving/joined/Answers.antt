@@ -28,5 +28,6 @@ returns-clause-twists c =
 pub returns-clause-short : goal.returns-clause-short
 returns-clause-short c =
     length-tidy c.tidy.result.turns (subst (IsTidy turn_merging) (sym (returns-clause-word c)) (IsTidy-sq1 (c.args.first.now.turns ++ c.args.second.now.turns)))
-    (λ k d lt. OfSq1-permitted _ (subst (λ e. All (λ t. IsTrue (permits e t)) c.tidy.result.turns) (ap (λ (w : Written). w.event) c.tidy.ensures.value ∙ ap (λ (w : Written). w.event) c.push_all-2.ensures)
+    (λ k d lt. OfSq1-permitted _ (subst (λ e. All (λ t. IsTrue (permits e t)) c.tidy.result.turns) (ap (λ (w : Written). w.event) c.tidy.ensures.value
+    ∙ ap (λ (w : Written). w.event) c.push_all-2.ensures ∙ ap (λ (w : Written). w.event) c.push_all.ensures ∙ ap (λ (w : Written). w.event) c.new-both.ensures.value)
     c.tidy.ensures.valid.permitted k d lt))

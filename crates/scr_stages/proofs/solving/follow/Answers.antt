@@ -31,7 +31,7 @@ push_numbered-requires-clause-room c =
       arith,
       ap (λ s. length s.turns) c.loop-at.invariant.1,
       length-append before (spelled (letter_in turns) played),
-      length-spelled (letter_in turns) (λ n. refl) played,
+      length-spelled turns played,
       length-take-le c.loop-at.at c.args.word.now (omega (arith, c.loop-at-test.true)),
       c.loop-at-test.true,
       c.requires.room,
