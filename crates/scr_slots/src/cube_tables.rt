@@ -1,13 +1,13 @@
 //! The tables of the 3x3x3: those of its four stages, and those of the search for two parts.
 
-ghost use Rattle.std.specs.Prelude.{All, map, IfErr, IfOk};
+ghost use Rattle.std.specs.Prelude.{◌≤◌, All, map, IfErr, IfOk};
 ghost use Rattle.scr_table.specs.Causes.{IsCauseOf};
 ghost use Rattle.scr_table.specs.Lines.{AreTablesOf, HasNoGap};
 ghost use Rattle.scr_notation.specs.declared.event.Family.TheVariants as family;
 ghost use Rattle.scr_slots.specs.Events.{family_lines};
 
 use scr_stages::StageTables;
-use scr_table::{BuildFault, DistanceTable, TableSet};
+use scr_table::{BuildFault, DistanceTable};
 use scr_twophase::PruneTables;
 use std::alloc::Global;
 use std::thread::Threads;

@@ -17,7 +17,7 @@ use scr_list::Round;
 use scr_notation::{Event, EventSet, Family};
 use scr_small::SmallTables;
 use scr_sq1solve::Sq1Tables;
-use scr_table::{BuildFault, TableSet};
+use scr_table::BuildFault;
 use std::alloc::Global;
 use std::marker::Model;
 use std::thread::Threads;

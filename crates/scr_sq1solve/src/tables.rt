@@ -1,5 +1,6 @@
 //! The tables of the stages.
-ghost use Rattle.std.specs.Prelude.{◌≡◌, [], ◌∷◌, All, map};
+ghost use Rattle.std.specs.Prelude.{◌≡◌, ◌≤◌, [], ◌∷◌, All, IfErr, IfOk, map};
+ghost use Rattle.scr_table.specs.Causes.{IsCauseOf};
 ghost use Rattle.scr_table.specs.Lines.{AreTablesOf, HasNoGap};
 ghost use Rattle.scr_sq1solve.specs.Tables.{sq1_lines};
 
@@ -25,11 +26,23 @@ impl TableSet for Sq1Tables {
 
     ghost distances = { λ t. t.shapes ∷ t.pairings ∷ t.square ∷ [] };
 
-    fn build<R: Threads + Sync>(
+    fn table(&self, name: TableName) -> Option<&DistanceTable> {
+        table_named(&self.all()[..], name)
+    }
+}
+
+impl Sq1Tables {
+    /// The tables, built in their order, each by 1 to 64 workers, or why they are not: there is no memory, or one has a gap. The
+    /// first gap of the first such table is named.
+    pub fn build<R: Threads + Sync>(
         rt: &R,
         alloc: Global,
         workers: u32,
-    ) -> Result<Sq1Tables, BuildFault> {
+    ) -> Result<Sq1Tables, BuildFault>
+        requires workers { (1 ≤ workers) × (workers ≤ 64) }
+        ensures whole { IfOk result (λ _. All HasNoGap sq1_lines) }
+        ensures cause { IfErr result (IsCauseOf sq1_lines) }
+    {
         Ok(Sq1Tables {
             shapes: LineTable::build(rt, alloc, workers)?,
             pairings: LineTable::build(rt, alloc, workers)?,
@@ -37,12 +50,6 @@ impl TableSet for Sq1Tables {
         })
     }
 
-    fn table(&self, name: TableName) -> Option<&DistanceTable> {
-        table_named(&self.all()[..], name)
-    }
-}
-
-impl Sq1Tables {
     /// All of them, in the order in which they are built.
     pub fn all(&self) -> [&DistanceTable; 3]
         ensures same { map (λ table. table.now) result ≡ ⟦<Sq1Tables as TableSet>⟧.distances self.now }

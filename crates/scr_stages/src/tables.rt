@@ -1,5 +1,6 @@
 //! The tables of the stages.
-ghost use Rattle.std.specs.Prelude.{◌≡◌, [], ◌∷◌, All, map};
+ghost use Rattle.std.specs.Prelude.{◌≡◌, ◌≤◌, [], ◌∷◌, All, IfErr, IfOk, map};
+ghost use Rattle.scr_table.specs.Causes.{IsCauseOf};
 ghost use Rattle.scr_table.specs.Lines.{AreTablesOf, HasNoGap};
 ghost use Rattle.scr_stages.specs.Tables.{stage_lines};
 
@@ -26,11 +27,23 @@ impl TableSet for StageTables {
 
     ghost distances = { λ t. t.flips ∷ t.slice ∷ t.tetrads ∷ t.halves ∷ [] };
 
-    fn build<R: Threads + Sync>(
+    fn table(&self, name: TableName) -> Option<&DistanceTable> {
+        table_named(&self.all()[..], name)
+    }
+}
+
+impl StageTables {
+    /// The tables, built in their order, each by 1 to 64 workers, or why they are not: there is no memory, or one has a gap. The
+    /// first gap of the first such table is named.
+    pub fn build<R: Threads + Sync>(
         rt: &R,
         alloc: Global,
         workers: u32,
-    ) -> Result<StageTables, BuildFault> {
+    ) -> Result<StageTables, BuildFault>
+        requires workers { (1 ≤ workers) × (workers ≤ 64) }
+        ensures whole { IfOk result (λ _. All HasNoGap stage_lines) }
+        ensures cause { IfErr result (IsCauseOf stage_lines) }
+    {
         Ok(StageTables {
             flips: LineTable::build(rt, alloc, workers)?,
             slice: LineTable::build(rt, alloc, workers)?,
@@ -39,12 +52,6 @@ impl TableSet for StageTables {
         })
     }
 
-    fn table(&self, name: TableName) -> Option<&DistanceTable> {
-        table_named(&self.all()[..], name)
-    }
-}
-
-impl StageTables {
     /// All of them, in the order in which they are built.
     pub fn all(&self) -> [&DistanceTable; 4]
         ensures same { map (λ table. table.now) result ≡ ⟦<StageTables as TableSet>⟧.distances self.now }

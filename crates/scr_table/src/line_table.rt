@@ -34,7 +34,7 @@ pub trait Line {
         ensures few_turns { line.coordinate.turns ≤ 256 };
 
     /// The moves by which it is built and walked down.
-    type Moves: Coord + Drop + Sync;
+    type Moves: Coord + Drop;
 
     /// Makes them. They show what it is a table of; only memory can be wanting.
     fn moves(alloc: Global) -> Result<Self::Moves, NoMemory>
@@ -77,6 +77,8 @@ impl<L: Line> LineTable<L> {
         alloc: Global,
         workers: u32,
     ) -> Result<LineTable<L>, BuildFault>
+    where
+        L::Moves: Sync,
         requires workers { (1 ≤ workers) × (workers ≤ 64) }
         ensures table { IfOk result (IsTableOf L.line) }
         ensures no_gap { IfOk result (λ _. HasNoGap L.line) }

@@ -1,5 +1,6 @@
 //! The pruning tables, as callers see them.
-ghost use Rattle.std.specs.Prelude.{◌≡◌, All, map};
+ghost use Rattle.std.specs.Prelude.{◌≡◌, ◌≤◌, All, IfErr, IfOk, map};
+ghost use Rattle.scr_table.specs.Causes.{IsCauseOf};
 ghost use Rattle.scr_table.specs.Lines.{AreTablesOf, HasNoGap};
 ghost use Rattle.scr_twophase.specs.Tables.{prune_lines};
 
@@ -39,11 +40,23 @@ impl TableSet for PruneTables {
 
     ghost distances = { λ t. t };
 
-    fn build<R: Threads + Sync>(
+    fn table(&self, name: TableName) -> Option<&DistanceTable> {
+        table_named(&self.all()[..], name)
+    }
+}
+
+impl PruneTables {
+    /// The tables, built in their order, each by 1 to 64 workers, or why they are not: there is no memory, or one has a gap. The
+    /// first gap of the first such table is named.
+    pub fn build<R: Threads + Sync>(
         rt: &R,
         alloc: Global,
         workers: u32,
-    ) -> Result<PruneTables, BuildFault> {
+    ) -> Result<PruneTables, BuildFault>
+        requires workers { (1 ≤ workers) × (workers ≤ 64) }
+        ensures whole { IfOk result (λ _. All HasNoGap prune_lines) }
+        ensures cause { IfErr result (IsCauseOf prune_lines) }
+    {
         let first = FirstTables::build(rt, alloc, workers)?;
         let second = SecondTables::build(rt, alloc, workers)?;
         Ok(PruneTables {
@@ -51,12 +64,6 @@ impl TableSet for PruneTables {
         })
     }
 
-    fn table(&self, name: TableName) -> Option<&DistanceTable> {
-        table_named(&self.all()[..], name)
-    }
-}
-
-impl PruneTables {
     /// All of them, in the order in which they are built.
     pub fn all(&self) -> [&DistanceTable; 4]
         ensures same { map (λ table. table.now) result ≡ self.now }

@@ -3,7 +3,7 @@ use Rattle.std.proofs.lemmas.List.Elements.{All-cons, All-nil}
 use Rattle.scr_table.specs.Lines.{HasNoGap}
 use Rattle.scr_table.proofs.LineLaws.{IfErr-cause, no_gaps-line}
 use Rattle.scr_stages.specs.Tables.{flips_line, slice_line, tetrads_line, halves_line}
-use Rattle.scr_stages.proofs.tables.StageTablesTableSet.build.Goals as goal
+use Rattle.scr_stages.proofs.tables.StageTables.build.Goals as goal
 
 pub returns-in_err-build-clause-cause : goal.returns-in_err-build-clause-cause
 returns-in_err-build-clause-cause g c =

@@ -3,7 +3,7 @@ use Rattle.std.proofs.lemmas.List.Elements.{All-cons, All-nil}
 use Rattle.scr_table.specs.Lines.{HasNoGap}
 use Rattle.scr_table.proofs.LineLaws.{IfErr-cause, no_gaps-line}
 use Rattle.scr_sq1solve.specs.Tables.{shapes_line, pairings_line, square_line}
-use Rattle.scr_sq1solve.proofs.tables.Sq1TablesTableSet.build.Goals as goal
+use Rattle.scr_sq1solve.proofs.tables.Sq1Tables.build.Goals as goal
 
 pub returns-in_err-build-clause-cause : goal.returns-in_err-build-clause-cause
 returns-in_err-build-clause-cause g c =

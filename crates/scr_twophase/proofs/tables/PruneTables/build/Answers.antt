@@ -3,7 +3,7 @@ use Rattle.scr_table.specs.Causes.{IsCauseOf}
 use Rattle.scr_table.specs.Lines.{HasNoGap}
 use Rattle.scr_table.proofs.LineLaws.{IfErr-handed, IsCauseOf-before, IsCauseOf-behind}
 use Rattle.scr_twophase.specs.Tables.{first_lines, second_lines, prune_lines}
-use Rattle.scr_twophase.proofs.tables.PruneTablesTableSet.build.Goals as goal
+use Rattle.scr_twophase.proofs.tables.PruneTables.build.Goals as goal
 
 pub returns-in_err-first-clause-cause : goal.returns-in_err-first-clause-cause
 returns-in_err-first-clause-cause g c =
