@@ -8,6 +8,7 @@ use crate::turn_set::TurnSet;
 use scr_coord::Coord;
 use scr_table::{BuildFault, DistanceTable, TableName};
 use std::alloc::Global;
+use std::thread::Threads;
 
 /// A distance table, with the outlook of each position.
 #[derive(Drop)]
