@@ -33,7 +33,11 @@ impl Drop for CubeTables {
 impl CubeTables {
     /// All eight, built by 1 to 64 workers, or why one isn't built.
     #[tactic(auto, unfolding(crate::specs::Events::family_lines))]
-    pub fn build<R: Threads + Sync>(rt: &R, alloc: Global, workers: u32) -> Result<CubeTables, BuildFault>
+    pub fn build<R: Threads + Sync>(
+        rt: &R,
+        alloc: Global,
+        workers: u32,
+    ) -> Result<CubeTables, BuildFault>
         requires workers { (1 ≤ workers) × (workers ≤ 64) }
         ensures whole { IfOk result (λ _. All HasNoGap (family_lines family.Cube333)) }
         ensures cause { IfErr result (IsCauseOf (family_lines family.Cube333)) }

@@ -93,7 +93,11 @@ impl Tables {
     }
 
     /// The tables of one event, built by one worker.
-    pub fn of_event<R: Threads + Sync>(rt: &R, alloc: Global, event: Event) -> Result<Tables, BuildFault>
+    pub fn of_event<R: Threads + Sync>(
+        rt: &R,
+        alloc: Global,
+        event: Event,
+    ) -> Result<Tables, BuildFault>
         ensures event { IfOk result (λ tables. Has tables event) }
         ensures cause { IfErr result (IsBuildCause (event ∷ [])) }
     {

@@ -162,7 +162,10 @@ fn blocks_of_222(rt: HostRuntime) -> Result<(), Fail> {
     let one = SmallTables::build(&rt, rt.alloc(), Event::C222, 1)?;
     for workers in [2, 7, 64] {
         let more = SmallTables::build(&rt, rt.alloc(), Event::C222, workers)?;
-        if let (Some(one), Some(more)) = (one.table(TableName::Corners), more.table(TableName::Corners)) {
+        if let (Some(one), Some(more)) = (
+            one.table(TableName::Corners),
+            more.table(TableName::Corners),
+        ) {
             assert_eq!(rt; [one.blocks().len(), one.deep().len()], [3589, 0]);
             assert!(rt; one.blocks() == more.blocks() && one.deep() == more.deep());
         } else {

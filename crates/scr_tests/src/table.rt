@@ -197,13 +197,7 @@ fn expect_row<R: Abort + Threads + Sync>(
     }
 }
 
-fn expect_gap<R: Abort + Threads + Sync>(
-    rt: &R,
-    alloc: Global,
-    count: u32,
-    bound: u32,
-    index: u32,
-)
+fn expect_gap<R: Abort + Threads + Sync>(rt: &R, alloc: Global, count: u32, bound: u32, index: u32)
     requires { bound ≤ 24 }
 {
     let fault = DistanceTable::build(rt, alloc, TableName::Square, &Row(count), bound, 1).err();

@@ -82,7 +82,11 @@ pub(crate) struct FirstTables {
 
 impl FirstTables {
     /// The tables, built by 1 to 64 workers, or why one isn't built.
-    pub fn build<R: Threads + Sync>(rt: &R, alloc: Global, workers: u32) -> Result<FirstTables, BuildFault>
+    pub fn build<R: Threads + Sync>(
+        rt: &R,
+        alloc: Global,
+        workers: u32,
+    ) -> Result<FirstTables, BuildFault>
         requires workers { (1 ≤ workers) × (workers ≤ 64) }
         ensures whole { IfOk result (λ _. All HasNoGap first_lines) }
         ensures cause { IfErr result (IsCauseOf first_lines) }

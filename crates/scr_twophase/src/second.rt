@@ -89,7 +89,11 @@ impl SecondTables {
     ghost use Rattle.scr_twophase.specs.Search.{letters, IsAt};
 
     /// The tables, built by 1 to 64 workers, or why one isn't built.
-    pub fn build<R: Threads + Sync>(rt: &R, alloc: Global, workers: u32) -> Result<SecondTables, BuildFault>
+    pub fn build<R: Threads + Sync>(
+        rt: &R,
+        alloc: Global,
+        workers: u32,
+    ) -> Result<SecondTables, BuildFault>
         requires workers { (1 ≤ workers) × (workers ≤ 64) }
         ensures whole { IfOk result (λ _. All HasNoGap second_lines) }
         ensures cause { IfErr result (IsCauseOf second_lines) }
