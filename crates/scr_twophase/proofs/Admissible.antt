@@ -1,8 +1,8 @@
 -- No pruning table says that a goal is farther than it is.
-use Rattle.std.proofs.Common.{◌≡◌, ℕ, ◌+◌, ◌<◌, ◌≤◌, true, cond, IsTrue, List, [], ◌∷◌, length, get_or, Option, Some, None, inl, inr, refl, sym, ap, ◌∙◌, subst, arith}
+use Rattle.std.proofs.Common.{◌≡◌, ℕ, ◌+◌, ◌<◌, ◌≤◌, Bool, true, cond, List, [], ◌∷◌, length, get_or, Some, None, refl, sym, ap, ◌∙◌, subst, arith}
 use Rattle.std.specs.Prelude.{Contains, IsSome}
 use Rattle.std.specs.Option.{option_map}
-use Rattle.std.proofs.lemmas.Bool.{lt-ltb, cases_lt}
+use Rattle.std.proofs.lemmas.Bool.{lt-ltb}
 use Rattle.std.proofs.lemmas.List.Elements.{All-contains}
 use Rattle.std.proofs.lemmas.Option.{same_Some, slice_get-get_or}
 use Rattle.scr_combinatorics.proofs.Picks.{numbers_from-at}
@@ -18,14 +18,15 @@ use Rattle.scr_table.specs.Lines.{TableLine}
 use Rattle.scr_cube.specs.Cube333.{CubeState, IsCube}
 use Rattle.scr_cube.proofs.Laws333.{lawful_cube}
 use Rattle.scr_notation.specs.TurnNumbers.{face_turn_at}
-use Rattle.scr_stages.specs.Stages.{after_of, IsDomino, flips_turns}
+use Rattle.scr_stages.specs.Spaces.{cube_space}
+use Rattle.scr_stages.specs.Stages.{after_of, flips_turns}
 use Rattle.scr_twophase.specs.declared.outlook.Outlook.{Outlook}
 use Rattle.scr_twophase.specs.declared.pruning.PruningTable.{PruningTable}
 use Rattle.scr_twophase.specs.Words.{words_of}
-use Rattle.scr_twophase.specs.TwoParts.{turn_numbers, after_turn, leads, is_domino}
+use Rattle.scr_twophase.specs.TwoParts.{after_turn, leads}
 use Rattle.scr_twophase.specs.TurnSets.{contains_turn}
 use Rattle.scr_twophase.specs.Outlooks.{turns_within, IsPruningTable}
-use Rattle.scr_twophase.proofs.CubeTests.{IsDomino-test, leads-parts, after_of-place, play-places}
+use Rattle.scr_twophase.proofs.CubeTests.{leads-parts, after_of-place, play-places}
 use Rattle.scr_twophase.proofs.WordLists.{IsWordOf, words_of-each}
 use Rattle.scr_twophase.specs.Spaces.{cubes_to}
 
@@ -71,35 +72,28 @@ first_step coordinate shown number IsGoal f same c d p t q h at lt few to leads 
     step-shown (cubes_to IsGoal) coordinate shown number f same c d p t q h at few
     (all_turn-place c t lt ∙ to) leads
 
-no_state : (o : Option CubeState) (d : CubeState) → o ≡ None → o ≡ Some d → ⊥
-no_state o d a b = cc
+-- ---- both parts
 
-pub turn-below : (c d : CubeState) (t : ℕ) → after_turn c t ≡ Some d → t < 18
-turn-below c d t e =
-    elim (cases_lt t 18) [
-      | inl lt ↦ lt
-      | inr le ↦ absurd (no_state (after_turn c t) d (lawful_cube.no_more c t le) e)
-    ]
-
--- A turn with which a word leads to a domino is left by the outlook of a cube's position.
-pub kept-way : (line : TableLine) (table : PruningTable) → IsPruningTable line table → (number : CubeState → ℕ) (IsGoal : CubeState → Type 0)
-    → Follows (cubes_to IsGoal) (positions line.coordinate) number
-    → ((e : CubeState) → IsDomino e → IsGoal e) → line.coordinate.turns ≡ 18
-    → (c : CubeState) (p more left t : ℕ) (v : List ℕ) (o : Outlook) → IsCube c → p ≡ number c → left ≡ more + 1 → Contains (words_of turn_numbers more) v
-    → IsTrue (leads is_domino c (t ∷ v)) → contains_turn (turns_within (get_or table.outlooks.items p o) left) t ≡ true
-unfolding turn_numbers
-kept-way line table is number IsGoal f domino turns c p more left t v o h at one there way =
-    let to = leads-parts is_domino c (t ∷ v) way in
-    let parts = play-parts after_turn c to.0 t v to.1 in
-    let d = parts.0 in
-    let lt : t < 18 = turn-below c d t parts.1 in
-    let valid = IsCube-turned c d t h parts.1 in
-    let word = All-contains (IsWordOf turn_numbers more) (words_of turn_numbers more) v (words_of-each turn_numbers more) there in
-    let space = cubes_to IsGoal in
-    let played : play (after_of flips_turns) d word.places ≡ Some to.0 =
-    play-places flips_turns d word.places word.below ∙ ap (play after_turn d) (sym word.is) ∙ parts.2 in
-    let near = least-of space line.coordinate number f table.distances is.distances.measures d to.0 word.places valid played (domino to.0 ((IsDomino-test to.0).0 to.2)) in
-    let moves : moved line.coordinate p t ≡ Some (number d) =
-    ap (λ k. moved line.coordinate k t) at ∙ f.turned c t h ∙ ap (option_map number) (all_turn-place c t lt ∙ parts.1) in
-    let here : p < line.coordinate.count = subst (λ k. k < line.coordinate.count) (sym at) (f.valid c h) in
-    (is.outlooks.each p o here).kept t (number d) left moves (omega (arith, near, word.size))
+-- A turn with which a word leads to a goal is left by the outlook of a cube's position.
+module _ (IsValid : CubeState → Type 0) (turns : List ℕ) (IsGoal : CubeState → Type 0) (goal : CubeState → Bool) (passes : (e : CubeState) → goal e ≡ true → IsGoal e)
+    (line : TableLine) (table : PruningTable) (is : IsPruningTable line table)
+    (number : CubeState → ℕ) (f : Follows (cube_space IsValid turns IsGoal) (positions line.coordinate) number) where
+  pub kept-way : (c : CubeState) (p more left place : ℕ) (v : List ℕ) (o : Outlook) → IsValid c → p ≡ number c → left ≡ more + 1 → place < length turns
+      → Contains (words_of turns more) v → leads goal c (get_or turns place 0 ∷ v) ≡ true
+      → contains_turn (turns_within (get_or table.outlooks.items p o) left) place ≡ true
+  kept-way c p more left place v o h at one lt there way =
+      let t : ℕ = get_or turns place 0 in
+      let to = leads-parts goal c (t ∷ v) way in
+      let parts = play-parts after_turn c to.0 t v to.1 in
+      let d = parts.0 in
+      let step : after_of turns c place ≡ Some d = after_of-place turns c place lt ∙ parts.1 in
+      let word = All-contains (IsWordOf turns more) (words_of turns more) v (words_of-each turns more) there in
+      let played : play (after_of turns) d word.places ≡ Some to.0 =
+      play-places turns d word.places word.below ∙ ap (play after_turn d) (sym word.is) ∙ parts.2 in
+      let near =
+      least-of (cube_space IsValid turns IsGoal) line.coordinate number f table.distances is.distances.measures d to.0 word.places (f.kept c d place h step) played
+      (passes to.0 to.2) in
+      let moves : moved line.coordinate p place ≡ Some (number d) =
+      ap (λ k. moved line.coordinate k place) at ∙ f.turned c place h ∙ ap (option_map number) step in
+      let here : p < line.coordinate.count = subst (λ k. k < line.coordinate.count) (sym at) (f.valid c h) in
+      (is.outlooks.each p o here).kept place (number d) left moves (omega (arith, near, word.size))

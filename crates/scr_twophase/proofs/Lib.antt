@@ -10,6 +10,7 @@ pub mod OutlookLaws
 pub mod BuiltLaws
 pub mod Admissible
 pub mod Outcomes
+pub mod SearchSteps
 pub mod FirstSteps
 pub mod SecondSteps
 pub mod SecondLaws

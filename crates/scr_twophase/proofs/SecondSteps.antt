@@ -1,14 +1,20 @@
--- The search for a second part, turn by turn.
-use Rattle.std.proofs.Common.{◌≡◌, ℕ, suc, ◌-◌, ◌<◌, ◌≤◌, true, false, cond, List, [], ◌∷◌, ◌++◌, length, get_or, Some, None, refl, sym, ap, ◌∙◌, append_assoc, arith}
-use Rattle.std.specs.Prelude.{Contains, ◌&&◌, ◌==◌, slice_get}
-use Rattle.std.specs.List.{flat_map}
-use Rattle.std.proofs.lemmas.Bool.{and_parts, and_from, false≢true}
+-- What a search for second parts sees: its positions, and where its words end.
+use Rattle.std.proofs.Common.{◌≡◌, ℕ, ◌<◌, Bool, true, false, cond, List, [], ◌∷◌, ◌++◌, map, length, get_or, Some, None, refl, sym, ap, ◌∙◌, arith}
+use Rattle.std.specs.Prelude.{◌&&◌, ◌==◌, filter, slice_get}
+use Rattle.std.proofs.lemmas.Bool.{and_parts, and_from}
+use Rattle.std.proofs.lemmas.List.{get_or-map, length-map}
+use Rattle.std.proofs.lemmas.Option.{same_Some}
 use Rattle.scr_combinatorics.specs.Lists.{numbers_from, pick}
 use Rattle.scr_combinatorics.specs.Permutations.{permutation_number}
-use Rattle.scr_combinatorics.proofs.Picks.{pick-in_order, numbers_from-at}
+use Rattle.scr_combinatorics.specs.Play.{play}
+use Rattle.scr_combinatorics.proofs.Picks.{pick-in_order}
+use Rattle.scr_combinatorics.proofs.PlayLaws.{play-parts}
 use Rattle.scr_coord.proofs.GoalNumbers.{permutation_number-in_order}
-use Rattle.scr_cube.specs.Cube333.{CubeState, solved_cube}
-use Rattle.scr_orbit.specs.Orbits.{solved_orbit}
+use Rattle.scr_orbit.specs.declared.placed.PlaceTurn.{PlaceTurn}
+use Rattle.scr_orbit.specs.Orbits.{Rearrangement, solved_orbit, turned_orbit}
+use Rattle.scr_orbit.specs.PlaceTurns.{rearrangement_of}
+use Rattle.scr_turning.specs.PowerPuzzles.{all_turns, part_turns}
+use Rattle.scr_cube.specs.Cube333.{CubeState, CubeTurn, cube_action, cube_powers, solved_cube}
 use Rattle.scr_stages.specs.Stages.{middle_edges}
 use Rattle.scr_stages.specs.Numbers.{IsDominoCube}
 use Rattle.scr_stages.specs.Tables.{outer_places}
@@ -16,20 +22,18 @@ use Rattle.scr_stages.specs.Tetrads.{in_block}
 use Rattle.scr_stages.proofs.Blocks.{pick-append}
 use Rattle.scr_stages.proofs.DominoLaws.{IsPlaceSet-middle}
 use Rattle.scr_stages.proofs.HalfCubes.{pick-in_block}
-use Rattle.scr_stages.proofs.TurnFacts.{tetrads_numbers}
+use Rattle.scr_stages.proofs.TurnFacts.{length-turns, tetrads_numbers}
 use Rattle.scr_twophase.specs.declared.second.SecondPosition.{SecondPosition}
-use Rattle.scr_twophase.specs.Words.{words_of, words_behind}
-use Rattle.scr_twophase.specs.TwoParts.{domino_turns, is_solved, is_solution, is_orderly, joined, leads, second_part}
+use Rattle.scr_twophase.specs.Words.{words_behind, words_within}
+use Rattle.scr_twophase.specs.TwoParts.{after_turn, domino_turns, is_solved, is_solution, is_orderly, joined, leads, second_part}
 use Rattle.scr_twophase.specs.Tables.{corners_of, outer_edges_of, middle_edges_of}
-use Rattle.scr_twophase.specs.Search.{may_end, ShowsSecond, IsSecondPosition, IsAt, is_solved_position}
-use Rattle.scr_twophase.proofs.CubeTests.{same_cube, IsSolved-test, leads-played}
-use Rattle.scr_twophase.proofs.FirstSteps.{leads-behind, not_so, same_test, goal_number}
-use Rattle.scr_twophase.proofs.Orderly.{may_end-orderly}
-use Rattle.scr_twophase.proofs.Outcomes.{flat_map-first, flat_map-none}
+use Rattle.scr_twophase.specs.Search.{ShowsSecond, IsSecondPosition, IsAt, IsSearched, carried, first_given, is_solved_position}
+use Rattle.scr_twophase.proofs.CubeTests.{after_turn-is, turn-below, same_cube, IsSolved-test, leads-played, same_test, goal_number}
+use Rattle.scr_twophase.proofs.Outcomes.{IsSearched-none, IsSearched-one}
 use Rattle.scr_twophase.specs.Spaces.{AreCornersHome, AreOuterHome, AreMiddleHome}
 use Rattle.scr_twophase.proofs.Spaces.{IsPlaceSet-outer_places, outer-kept, Follows-corners, Follows-outer_edges}
 use Rattle.scr_twophase.proofs.Spaces.{Follows-middle_edges}
-use Rattle.scr_twophase.proofs.WordLists.{words_behind-none, words_behind-turns, words_behind-end, words_behind-found}
+use Rattle.scr_twophase.proofs.WordLists.{find-filter, find-made, words_behind-end}
 
 -- ---- positions
 
@@ -79,96 +83,93 @@ is_solved-shown c at h =
     let both = and_parts (at.corners == 0) (at.outer == 0) whole.0 in
     tests.1 (same_cube c solved_cube (corners.1 both.0) h.domino.domino.no_twists (all_home c h.domino (outer.1 both.1) (middle.1 whole.1)) h.domino.domino.no_flips))
 
--- ---- words that go on from a word
+-- ---- words
 
-solution_parts : (c : CubeState) (w : List ℕ) → is_solution c w ≡ true → (is_orderly w ≡ true) × (leads is_solved c w ≡ true)
+pub solution_ways : (c : CubeState) (w : List ℕ) → is_solution c w ≡ true → (is_orderly w ≡ true) × (leads is_solved c w ≡ true)
 unfolding is_solution
-solution_parts c w e = and_parts (is_orderly w) (leads is_solved c w) e
+solution_ways c w e = and_parts (is_orderly w) (leads is_solved c w) e
 
-solution_from : (c : CubeState) (w : List ℕ) → is_orderly w ≡ true → is_solution c w ≡ leads is_solved c w
+-- a whole word is a solution where it leads to solved
+pub IsSearched-solution : (c : CubeState) (word : List ℕ) (at : SecondPosition) (tries : ℕ) (found : Bool) → IsAt ShowsSecond c word at → 0 < tries
+    → found ≡ is_solved_position at → IsSearched (λ w. Some w) (words_behind domino_turns (is_solution c) word 0) tries word found word tries
 unfolding is_solution
-solution_from c w e = ap (λ b. b && leads is_solved c w) e
+IsSearched-solution c word at tries found h some e = by found (sym (is ∙ sym e))
+  where
+    is : is_solution c word ≡ is_solved_position at
+    is = ap (λ b. b && leads is_solved c word) h.orderly ∙ leads-played is_solved c h.there word h.played ∙ is_solved-shown h.there at h.shows
 
-module _ (c : CubeState) (word : List ℕ) (at : SecondPosition) (h : IsAt ShowsSecond c word at) where
-  -- none of fewer turns than there must be leads to solved
-  pub too_few : (left least : ℕ) → ((d : CubeState) (v : List ℕ) (n : ℕ) → ShowsSecond d at → Contains (words_of domino_turns n) v → leads is_solved d v ≡ true → least ≤ n)
-      → left < least → words_behind domino_turns (is_solution c) word left ≡ []
-  too_few left least least_is lt =
-      words_behind-none domino_turns (is_solution c) word left (λ v is.
-      not_so (is_solution c (word ++ v)) (λ e.
-      let way = sym (leads-behind is_solved c h.there word v h.played) ∙ (solution_parts c (word ++ v) e).1 in
-      omega (arith, lt, least_is h.there v left h.shows is way)))
+    words : (b : Bool) → b ≡ is_solution c word → words_behind domino_turns (is_solution c) word 0 ≡ cond b (word ∷ []) []
+    words b same = words_behind-end domino_turns (is_solution c) word ∙ ap (λ d. cond d (word ∷ []) []) (sym same)
 
-  end_test : is_orderly word ≡ true → is_solution c word ≡ is_solved_position at
-  end_test orderly = solution_from c word orderly ∙ leads-played is_solved c h.there word h.played ∙ is_solved-shown h.there at h.shows
+    by : (b : Bool) → b ≡ is_solution c word → IsSearched (λ w. Some w) (words_behind domino_turns (is_solution c) word 0) tries word b word tries
+    by true same =
+        IsSearched-one (λ w. Some w) (words_behind domino_turns (is_solution c) word 0) tries tries word word true (words true same) some refl (λ f. refl) (λ f. absurd (cc))
+    by false same = IsSearched-none (λ w. Some w) (words_behind domino_turns (is_solution c) word 0) tries word (words false same)
 
-  pub at_solved : is_orderly word ≡ true → is_solved_position at ≡ true → words_behind domino_turns (is_solution c) word 0 ≡ word ∷ []
-  at_solved orderly e = words_behind-end domino_turns (is_solution c) word ∙ ap (λ b. cond b (word ∷ []) []) (end_test orderly ∙ e)
+-- ---- both parts
 
-  pub at_unsolved : is_orderly word ≡ true → is_solved_position at ≡ false → words_behind domino_turns (is_solution c) word 0 ≡ []
-  at_unsolved orderly e = words_behind-end domino_turns (is_solution c) word ∙ ap (λ b. cond b (word ∷ []) []) (end_test orderly ∙ e)
-
--- a turn that may not stand behind the word is in none
-pub none_behind : (c : CubeState) (word : List ℕ) (t more : ℕ) → may_end word t ≡ false → words_behind domino_turns (is_solution c) (word ++ t ∷ []) more ≡ []
-none_behind c word t more e =
-    words_behind-none domino_turns (is_solution c) (word ++ t ∷ []) more (λ v is.
-    not_so (is_solution c ((word ++ t ∷ []) ++ v)) (λ s.
-    false≢true (sym e ∙ may_end-orderly word t v (ap is_orderly (sym (append_assoc word (t ∷ []) v)) ∙ (solution_parts c ((word ++ t ∷ []) ++ v) s).0))))
-
--- ---- place by place of the ten
-
--- no turn before a place has a solution behind it
-abbrev pub AreEmptyBefore : CubeState → List ℕ → ℕ → ℕ → Type 0
-AreEmptyBefore c word more place =
-    (k : ℕ) → k < place → words_behind domino_turns (is_solution c) (word ++ get_or domino_turns k 0 ∷ []) more ≡ []
-
-pub length-domino_turns : length domino_turns ≡ 10
-unfolding domino_turns
-length-domino_turns = refl
-
-module _ (c : CubeState) (word : List ℕ) (left : ℕ) (some : left ≡ 0 → ⊥) where
-  more_is : left ≡ suc (left - 1)
-  more_is = omega arith
-
-  pub found_at : (place : ℕ) (w : List ℕ) → place < 10 → AreEmptyBefore c word (left - 1) place
-      → slice_get (words_behind domino_turns (is_solution c) (word ++ get_or domino_turns place 0 ∷ []) (left - 1)) 0 ≡ Some w
-      → slice_get (words_behind domino_turns (is_solution c) word left) 0 ≡ Some w
-  found_at place w lt before e =
-      ap (λ n. slice_get (words_behind domino_turns (is_solution c) word n) 0) more_is
-      ∙ ap (λ ws. slice_get ws 0) (words_behind-turns domino_turns (is_solution c) word (left - 1))
-      ∙ flat_map-first (λ t. words_behind domino_turns (is_solution c) (word ++ t ∷ []) (left - 1)) domino_turns place w
-      (omega (arith, length-domino_turns, lt)) before e
-
-  pub found_nowhere : (place : ℕ) → 10 ≤ place → AreEmptyBefore c word (left - 1) place → slice_get (words_behind domino_turns (is_solution c) word left) 0 ≡ None
-  found_nowhere place le before =
-      ap (λ n. slice_get (words_behind domino_turns (is_solution c) word n) 0) more_is
-      ∙ ap (λ ws. slice_get ws 0) (words_behind-turns domino_turns (is_solution c) word (left - 1)
-      ∙ flat_map-none (λ t. words_behind domino_turns (is_solution c) (word ++ t ∷ []) (left - 1)) domino_turns (λ j lt. before j (omega (arith, lt, length-domino_turns, le))))
-
--- ---- length by length
+first_given-first : (words : List (List ℕ)) → first_given (λ w. Some w) 1 words ≡ slice_get words 0
+unfolding first_given
+first_given-first [] = refl
+first_given-first (w ∷ words) = refl
 
 -- a first part joined with its second part is the first solution that goes on from it by at most ten turns
-pub joined-first : (c : CubeState) (word : List ℕ) → joined c word ≡ slice_get (flat_map (words_behind domino_turns (is_solution c) word) (numbers_from 0 11)) 0
+pub joined-searched : (c : CubeState) (word after : List ℕ) (found : Bool) (left : ℕ)
+    → IsSearched (λ w. Some w) (filter (is_solution c) (map (λ v. word ++ v) (words_within domino_turns 10))) 1 word found after left
+    → joined c word ≡ cond found (Some after) None
 unfolding joined second_part
-joined-first c word = words_behind-found domino_turns (is_solution c) word 10
+joined-searched c word after found left s =
+    find-made (λ v. word ++ v) (is_solution c) (words_within domino_turns 10)
+    ∙ find-filter (is_solution c) (map (λ v. word ++ v) (words_within domino_turns 10))
+    ∙ sym (first_given-first (filter (is_solution c) (map (λ v. word ++ v) (words_within domino_turns 10)))) ∙ s.given
 
--- none of fewer turns is one
-abbrev pub AreEmptyBelow : CubeState → List ℕ → ℕ → Type 0
-AreEmptyBelow c word turns = (k : ℕ) → k < turns → words_behind domino_turns (is_solution c) word k ≡ []
+-- ---- where words lead
 
-number_at : (turns : ℕ) → turns < 11 → get_or (numbers_from 0 11) turns 0 ≡ turns
-number_at turns lt = numbers_from-at 0 11 turns lt ∙ omega arith
+-- the pieces of a kind are carried as the turns say
+module _ (pieces : CubeState → List ℕ) (places : List (List ℕ)) (turned : (c d : CubeState) (t : ℕ) → after_turn c t ≡ Some d → pieces d ≡ pick (pieces c) (get_or places t [])) where
+  pub carried-played : (c d : CubeState) (word : List ℕ) → play after_turn c word ≡ Some d → carried places (pieces c) word ≡ pieces d
+  unfolding play
+  carried-played c d [] e = ap pieces (same_Some c d e)
+  carried-played c d (t ∷ word) e =
+      let parts = play-parts after_turn c d t word e in
+      ap (λ xs. carried places xs word) (sym (turned c parts.0 t parts.1)) ∙ carried-played parts.0 d word parts.2
 
-pub joined_at : (c : CubeState) (word : List ℕ) (turns : ℕ) (w : List ℕ) → turns < 11 → AreEmptyBelow c word turns
-    → slice_get (words_behind domino_turns (is_solution c) word turns) 0 ≡ Some w → joined c word ≡ Some w
-joined_at c word turns w lt before e =
-    let f = words_behind domino_turns (is_solution c) word in
-    joined-first c word
-    ∙ flat_map-first f (numbers_from 0 11) turns w lt
-    (λ j below. ap f (number_at j (omega (arith, below, lt))) ∙ before j below) (ap (λ n. slice_get (f n) 0) (number_at turns lt) ∙ e)
+-- what a turn in an array carries where is what it does by its number
+module _ {n : ℕ} (part : CubeTurn → Rearrangement) (turns : List (PlaceTurn n)) (defined : map rearrangement_of turns ≡ part_turns part cube_powers) where
+  pub turn-places : (t : ℕ) → t < 18 → get_or (map (λ u. u.places) turns) t [] ≡ (part (get_or (all_turns cube_powers) t cube_action.identity)).places
+  turn-places t lt =
+      let all = all_turns cube_powers in
+      let few : t < length all = omega (arith, length-turns, lt) in
+      let mapped : t < length (map part all) = omega (arith, length-map all part, few) in
+      ap (λ xs. get_or xs t []) (sym (map-map turns) ∙ ap (map (λ r. r.places)) defined)
+      ∙ get_or-map (λ r. r.places) (map part all) t (part cube_action.identity) [] mapped
+      ∙ ap (λ r. r.places) (get_or-map part all t cube_action.identity (part cube_action.identity) few)
+    where
+      map-map : (us : List (PlaceTurn n)) → map (λ r. r.places) (map rearrangement_of us) ≡ map (λ u. u.places) us
+      map-map [] = refl
+      map-map (u ∷ us) = ap (λ xs. u.places ∷ xs) (map-map us)
 
-pub joined_nowhere : (c : CubeState) (word : List ℕ) (turns : ℕ) → 11 ≤ turns → AreEmptyBelow c word turns → joined c word ≡ None
-joined_nowhere c word turns le before =
-    let f = words_behind domino_turns (is_solution c) word in
-    joined-first c word
-    ∙ ap (λ ws. slice_get ws 0) (flat_map-none f (numbers_from 0 11) (λ j lt. ap f (number_at j lt) ∙ before j (omega (arith, lt, le))))
+pub corners-carried : (turns : List (PlaceTurn 8)) → map rearrangement_of turns ≡ part_turns (λ r. r.corners) cube_powers → (c d : CubeState) (word : List ℕ)
+    → play after_turn c word ≡ Some d → carried (map (λ u. u.places) turns) c.corners.pieces word ≡ d.corners.pieces
+unfolding turned_orbit
+corners-carried turns defined =
+    carried-played (λ c. c.corners.pieces) (map (λ u. u.places) turns) (λ c d t to.
+    ap (λ e. e.corners.pieces) (after_turn-is c d t to) ∙ ap (pick c.corners.pieces) (sym (turn-places (λ r. r.corners) turns defined t (turn-below c d t to))))
+
+pub edges-carried : (turns : List (PlaceTurn 12)) → map rearrangement_of turns ≡ part_turns (λ r. r.edges) cube_powers → (c d : CubeState) (word : List ℕ)
+    → play after_turn c word ≡ Some d → carried (map (λ u. u.places) turns) c.edges.pieces word ≡ d.edges.pieces
+unfolding turned_orbit
+edges-carried turns defined =
+    carried-played (λ c. c.edges.pieces) (map (λ u. u.places) turns) (λ c d t to.
+    ap (λ e. e.edges.pieces) (after_turn-is c d t to) ∙ ap (pick c.edges.pieces) (sym (turn-places (λ r. r.edges) turns defined t (turn-below c d t to))))
+
+-- a position is that of a domino by the numbers of its pieces
+pub ShowsSecond-numbers : (c : CubeState) (at : SecondPosition) (corners edges : List ℕ) → IsDominoCube c → corners ≡ c.corners.pieces → edges ≡ c.edges.pieces
+    → at.corners ≡ permutation_number corners → at.outer ≡ permutation_number (in_block outer_places edges)
+    → at.middle ≡ permutation_number (in_block middle_edges edges) → ShowsSecond c at
+ShowsSecond-numbers c at corners edges domino same_corners same_edges a b d = record {
+  domino = domino;
+  corners = a ∙ ap permutation_number same_corners;
+  outer = b ∙ ap (λ xs. permutation_number (in_block outer_places xs)) same_edges;
+  middle = d ∙ ap (λ xs. permutation_number (in_block middle_edges xs)) same_edges;
+}

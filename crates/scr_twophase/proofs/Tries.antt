@@ -1,11 +1,10 @@
--- What first parts give, one after another, of which so many are tried.
+-- What words give, one after another, of which so many are tried.
 use Rattle.std.proofs.Common.{◌≡◌, ℕ, zero, suc, ◌-◌, List, [], ◌∷◌, ◌++◌, length, take, Option, Some, None, refl, sym, ap, ◌∙◌, arith}
 use Rattle.std.specs.Prelude.{slice_get}
 use Rattle.std.specs.List.{filter_map, cons_option}
 use Rattle.std.specs.Option.{option_or}
 use Rattle.std.proofs.lemmas.List.Elements.{filter_map-append}
-use Rattle.scr_cube.specs.Cube333.{CubeState}
-use Rattle.scr_twophase.specs.TwoParts.{joined, first_joined}
+use Rattle.scr_twophase.specs.Search.{first_given}
 
 take-nil : {X : Type 0} (n : ℕ) → take {A = X} n [] ≡ []
 take-nil zero = refl
@@ -22,33 +21,33 @@ first-append : {X : Type 0} (xs ys : List X) → slice_get (xs ++ ys) 0 ≡ opti
 first-append [] ys = refl
 first-append (x ∷ xs) ys = refl
 
-module _ (c : CubeState) where
+module _ (gives : List ℕ → Option (List ℕ)) where
   -- of none nothing is given, and by no try
-  pub first_joined-none : (tries : ℕ) → first_joined c tries [] ≡ None
-  unfolding first_joined
-  first_joined-none zero = refl
-  first_joined-none (suc tries) = refl
+  pub first_given-none : (tries : ℕ) → first_given gives tries [] ≡ None
+  unfolding first_given
+  first_given-none zero = refl
+  first_given-none (suc tries) = refl
 
-  pub first_joined-spent : (parts : List (List ℕ)) → first_joined c 0 parts ≡ None
-  unfolding first_joined
-  first_joined-spent parts = refl
+  pub first_given-spent : (words : List (List ℕ)) → first_given gives 0 words ≡ None
+  unfolding first_given
+  first_given-spent words = refl
 
   -- one that is tried
-  pub first_joined-one : (tries : ℕ) (part : List ℕ) → first_joined c (suc tries) (part ∷ []) ≡ joined c part
-  unfolding first_joined
-  first_joined-one tries part = by tries (joined c part)
+  pub first_given-one : (tries : ℕ) (word : List ℕ) → first_given gives (suc tries) (word ∷ []) ≡ gives word
+  unfolding first_given
+  first_given-one tries word = by tries (gives word)
     where
-      by : (n : ℕ) (o : Option (List ℕ)) → slice_get (cons_option o (filter_map (joined c) (take n []))) 0 ≡ o
+      by : (n : ℕ) (o : Option (List ℕ)) → slice_get (cons_option o (filter_map gives (take n []))) 0 ≡ o
       by zero None = refl
       by zero (Some w) = refl
       by (suc n) None = refl
       by (suc n) (Some w) = refl
 
   -- some, and then the others with the tries that are left
-  pub first_joined-append : (tries : ℕ) (some others : List (List ℕ))
-      → first_joined c tries (some ++ others) ≡ option_or (first_joined c tries some) (first_joined c (tries - length some) others)
-  unfolding first_joined
-  first_joined-append tries some others =
-      ap (λ ps. slice_get (filter_map (joined c) ps) 0) (take-append tries some others)
-      ∙ ap (λ ws. slice_get ws 0) (filter_map-append (joined c) (take tries some) (take (tries - length some) others))
-      ∙ first-append (filter_map (joined c) (take tries some)) (filter_map (joined c) (take (tries - length some) others))
+  pub first_given-append : (tries : ℕ) (some others : List (List ℕ))
+      → first_given gives tries (some ++ others) ≡ option_or (first_given gives tries some) (first_given gives (tries - length some) others)
+  unfolding first_given
+  first_given-append tries some others =
+      ap (λ ps. slice_get (filter_map gives ps) 0) (take-append tries some others)
+      ∙ ap (λ ws. slice_get ws 0) (filter_map-append gives (take tries some) (take (tries - length some) others))
+      ∙ first-append (filter_map gives (take tries some)) (filter_map gives (take (tries - length some) others))

@@ -4,8 +4,8 @@ use Rattle.std.proofs.Common.{get_or, Option, Some, refl, sym, ap, ◌∙◌, ap
 use Rattle.std.specs.Prelude.{All, Contains, filter, find, slice_get}
 use Rattle.std.specs.List.{flat_map}
 use Rattle.std.specs.Option.{option_map}
-use Rattle.std.proofs.lemmas.List.{append-nil, map-append, map-id, get_or_default}
-use Rattle.std.proofs.lemmas.List.Elements.{All-nil, All-cons, All-head, All-tail, All-append, All-map, All-weaker}
+use Rattle.std.proofs.lemmas.List.{append-nil, map-append, get_or_default}
+use Rattle.std.proofs.lemmas.List.Elements.{All-nil, All-cons, All-head, All-tail, All-append, All-contains, All-map, All-weaker}
 use Rattle.std.proofs.lemmas.List.Elements.{All-contains_itself, filter-append}
 use Rattle.scr_combinatorics.specs.Lists.{numbers_from, pick}
 use Rattle.scr_twophase.specs.Words.{words_of, words_within, words_behind}
@@ -63,7 +63,7 @@ made_by made true x o p e = refl
 made_by made false x o p e = e
 
 -- what is made of it
-find-made : {X Y : Type 0} (made : X → Y) (test : Y → Bool) (xs : List X) → option_map made (find (λ x. test (made x)) xs) ≡ find test (map made xs)
+pub find-made : {X Y : Type 0} (made : X → Y) (test : Y → Bool) (xs : List X) → option_map made (find (λ x. test (made x)) xs) ≡ find test (map made xs)
 find-made made test [] = refl
 find-made made test (x ∷ xs) =
     made_by made (test (made x)) x (find (λ x. test (made x)) xs) (find test (map made xs)) (find-made made test xs)
@@ -99,6 +99,11 @@ words_of-each turns (suc n) =
     (All-weaker (IsWordOf turns n) (λ w. IsWordOf turns (suc n) (t ∷ w)) (λ w h. IsWordOf-turn turns n k t w lt (get_or_default turns k t d lt) h)
     (words_of turns n) (words_of-each turns n)))
 
+-- the only word of no turn
+pub words_of-none : (turns w : List ℕ) → Contains (words_of turns 0) w → w ≡ []
+unfolding words_of
+words_of-none turns w there = All-contains (λ v. v ≡ []) ([] ∷ []) w (All-cons (λ v. v ≡ []) [] [] refl (All-nil (λ v. v ≡ []))) there
+
 -- ---- words behind a word
 
 module _ (turns : List ℕ) (test : List ℕ → Bool) where
@@ -129,15 +134,6 @@ module _ (turns : List ℕ) (test : List ℕ → Bool) where
       (All-map (λ w. test w ≡ false) (λ v. word ++ v) (words_of turns more)
       (All-weaker (Contains (words_of turns more)) (λ v. test (word ++ v) ≡ false) h (words_of turns more) (All-contains_itself (words_of turns more))))
 
-  -- Turns behind which no word passes can be left out.
-  pub words_behind-kept : (word : List ℕ) (more : ℕ) (keep : ℕ → Bool)
-      → All (λ t. keep t ≡ false → (v : List ℕ) → Contains (words_of turns more) v → test (word ++ t ∷ v) ≡ false) turns
-      → words_behind turns test word (suc more) ≡ flat_map (λ t. words_behind turns test (word ++ t ∷ []) more) (filter keep turns)
-  words_behind-kept word more keep h =
-      words_behind-turns word more
-      ∙ flat_map-kept (λ t. words_behind turns test (word ++ t ∷ []) more) keep turns (λ k d lt e.
-      words_behind-none (word ++ get_or turns k d ∷ []) more (λ v is. ap test (append_assoc word (get_or turns k d ∷ []) v) ∙ h k d lt e v is))
-
   -- all words of at most so many letters, by their lengths
   pub words_behind-within : (word : List ℕ) (most : ℕ)
       → filter test (map (λ v. word ++ v) (words_within turns most)) ≡ flat_map (words_behind turns test word) (numbers_from 0 (most + 1))
@@ -145,15 +141,3 @@ module _ (turns : List ℕ) (test : List ℕ → Bool) where
   words_behind-within word most =
       ap (filter test) (map-flat_map (λ v. word ++ v) (words_of turns) (numbers_from 0 (most + 1)))
       ∙ filter-flat_map test (λ n. map (λ v. word ++ v) (words_of turns n)) (numbers_from 0 (most + 1))
-
-  pub words_behind-empty : (most : ℕ) → filter test (words_within turns most) ≡ flat_map (words_behind turns test []) (numbers_from 0 (most + 1))
-  words_behind-empty most = ap (filter test) (sym (map-id (words_within turns most))) ∙ words_behind-within [] most
-
-  -- the first of them, behind a word
-  pub words_behind-found : (word : List ℕ) (most : ℕ)
-      → option_map (λ v. word ++ v) (find (λ v. test (word ++ v)) (words_within turns most))
-      ≡ slice_get (flat_map (words_behind turns test word) (numbers_from 0 (most + 1))) 0
-  words_behind-found word most =
-      find-made (λ v. word ++ v) test (words_within turns most)
-      ∙ find-filter test (map (λ v. word ++ v) (words_within turns most))
-      ∙ ap (λ ws. slice_get ws 0) (words_behind-within word most)

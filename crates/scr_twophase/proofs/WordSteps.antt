@@ -1,22 +1,43 @@
--- The turns of a word in an array; which turns may stand behind it.
-use Rattle.std.proofs.Common.{◌≡◌, ℕ, ◌/◌, ◌<◌, Bool, true, List, [], ◌∷◌, get_or, refl}
-use Rattle.scr_stages.proofs.FiniteTests.{agree, agree-same, passes_below, test-below}
-use Rattle.scr_twophase.specs.TwoParts.{may_precede}
+-- Which turns may stand behind a word.
+use Rattle.std.proofs.Common.{◌≡◌, ℕ, ◌/◌, ◌^◌, ◌<◌, Bool, true, List, [], ◌∷◌, length, get_or, refl, ltb-true}
+use Rattle.std.specs.Prelude.{All, nat_lt}
+use Rattle.scr_stages.proofs.FiniteTests.{All-from_test, agree, agree-same, passes_below, test-below}
+use Rattle.scr_twophase.specs.Search.{AreBehind}
+use Rattle.scr_twophase.specs.TwoParts.{domino_turns, may_precede, turn_numbers}
 use Rattle.scr_twophase.specs.TurnSets.{contains_turn}
 
--- each of the turns behind a turn of a face
-unfoldable pub behind_bits : List ℕ
-behind_bits = 262136 ∷ 262087 ∷ 261695 ∷ 258552 ∷ 233415 ∷ 32319 ∷ []
+-- a test of a turn's set, place by place
+is_behind : List ℕ → List ℕ → ℕ → Bool
+is_behind turns sets last = passes_below (λ k. agree (contains_turn (get_or sets (last / 3) 0) k) (may_precede last (get_or turns k 0))) (length turns)
 
-are_behind : ℕ → Bool
-are_behind last = passes_below (λ t. agree (contains_turn (get_or behind_bits (last / 3) 0) t) (may_precede last t)) 18
+AreBehind-tested : (turns sets : List ℕ) → passes_below (is_behind turns sets) 18 ≡ true → passes_below (contains_turn (get_or sets 6 0)) (length turns) ≡ true → AreBehind turns sets
+unfolding is_behind
+AreBehind-tested turns sets each all = record {
+  each = λ last place a b.
+      agree-same (contains_turn (get_or sets (last / 3) 0) place) (may_precede last (get_or turns place 0))
+      (test-below (λ k. agree (contains_turn (get_or sets (last / 3) 0) k) (may_precede last (get_or turns k 0))) (length turns) place (test-below (is_behind turns sets) 18 last each a) b);
+  all = λ place b. test-below (contains_turn (get_or sets 6 0)) (length turns) place all b;
+}
 
-all_behind : passes_below are_behind 18 ≡ true
-unfolding are_behind passes_below agree behind_bits may_precede
-all_behind = refl
+-- all turns, and the ten
+unfoldable pub behind_turns : List ℕ
+behind_turns = 262136 ∷ 262087 ∷ 261695 ∷ 258552 ∷ 233415 ∷ 32319 ∷ 262143 ∷ []
 
-pub behind-turn : (last t : ℕ) → last < 18 → t < 18 → contains_turn (get_or behind_bits (last / 3) 0) t ≡ may_precede last t
-unfolding are_behind
-behind-turn last t a b =
-    agree-same (contains_turn (get_or behind_bits (last / 3) 0) t) (may_precede last t)
-    (test-below (λ u. agree (contains_turn (get_or behind_bits (last / 3) 0) u) (may_precede last u)) 18 t (test-below are_behind 18 last all_behind a) b)
+unfoldable pub behind_ten : List ℕ
+behind_ten = 1016 ∷ 1015 ∷ 1007 ∷ 792 ∷ 759 ∷ 495 ∷ 1023 ∷ []
+
+pub AreBehind-turns : AreBehind turn_numbers behind_turns
+unfolding is_behind passes_below agree behind_turns may_precede turn_numbers
+AreBehind-turns = AreBehind-tested turn_numbers behind_turns refl refl
+
+pub AreBehind-ten : AreBehind domino_turns behind_ten
+unfolding is_behind passes_below agree behind_ten may_precede domino_turns
+AreBehind-ten = AreBehind-tested domino_turns behind_ten refl refl
+
+pub behind_turns-small : All (λ set. set < 2 ^ 18) behind_turns
+unfolding behind_turns
+behind_turns-small = All-from_test (λ set. nat_lt set (2 ^ 18)) (λ set. set < 2 ^ 18) (λ set. ltb-true set (2 ^ 18)) behind_turns refl
+
+pub behind_ten-small : All (λ set. set < 2 ^ 10) behind_ten
+unfolding behind_ten
+behind_ten-small = All-from_test (λ set. nat_lt set (2 ^ 10)) (λ set. set < 2 ^ 10) (λ set. ltb-true set (2 ^ 10)) behind_ten refl

@@ -1,9 +1,9 @@
 -- The built pruning tables, as callers see them.
 use Rattle.std.specs.Prelude.{List, [], ◌∷◌}
 use Rattle.scr_table.specs.Distances.{Distances}
-use Rattle.scr_twophase.specs.declared.search.PartTables.{PartTables}
+use Rattle.scr_twophase.specs.declared.parts.PartTables.{PartTables}
 
 -- the distances of both parts' tables, in the order in which they are built
 abbrev pub distances_of : PartTables → List Distances
 distances_of parts =
-    parts.first.flipslice.distances ∷ parts.first.twistslice.distances ∷ parts.second.cornerslice ∷ parts.second.edgeslice ∷ []
+    parts.first.flipslice.distances ∷ parts.first.twistslice.distances ∷ parts.second.cornerslice.distances ∷ parts.second.edgeslice.distances ∷ []

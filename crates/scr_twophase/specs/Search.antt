@@ -1,6 +1,8 @@
 -- What a search for two parts goes by.
-use Rattle.std.specs.Prelude.{◌≡◌, ℕ, ◌-◌, ◌<◌, Contains, ◌==◌, ◌&&◌, Bool, true, IsTrue, List, ◌∷◌, length, take, slice_get, Some}
+use Rattle.std.specs.Prelude.{◌≡◌, ℕ, ◌-◌, ◌/◌, ◌<◌, Contains, ◌==◌, ◌&&◌, Bool, true, false, IsTrue, if◌then◌else◌, List, [], ◌∷◌, ◌++◌, length, take, slice_get, slice_index, slice_index_or, Option, Some, None}
+use Rattle.std.specs.List.{filter_map}
 use Rattle.std.specs.Option.{option_map_or}
+use Rattle.scr_combinatorics.specs.Lists.{pick}
 use Rattle.scr_combinatorics.specs.Play.{play}
 use Rattle.scr_cube.specs.Cube333.{CubeState, IsCube}
 use Rattle.scr_stages.specs.Numbers.{flips_number, IsDominoCube}
@@ -8,7 +10,7 @@ use Rattle.scr_twophase.specs.declared.first.FirstPosition.{FirstPosition}
 use Rattle.scr_twophase.specs.declared.second.SecondPosition.{SecondPosition}
 use Rattle.scr_twophase.specs.declared.word.Word.{Word}
 use Rattle.scr_twophase.specs.Words.{words_of}
-use Rattle.scr_twophase.specs.TwoParts.{may_precede, after_turn, turn_numbers, leads, is_domino}
+use Rattle.scr_twophase.specs.TwoParts.{may_precede, is_orderly, after_turn, leads}
 use Rattle.scr_twophase.specs.Tables.{twists_of, middle_set_of, corners_of, outer_edges_of, middle_edges_of}
 use Rattle.scr_twophase.specs.TurnSets.{contains_turn}
 
@@ -22,11 +24,50 @@ may_end word t = option_map_or (λ last. may_precede last t) (slice_get word (le
 abbrev pub letters : Word → List ℕ
 letters w = take w.count w.turns
 
--- A word leads from a cube to one that a position shows.
+-- An orderly word leads from a cube to one that a position shows.
 pub record IsAt {At : Type 0} (Shows : CubeState → At → Type 0) (c : CubeState) (word : List ℕ) (at : At) : Type 0 where
   pub there : CubeState
   pub played : play after_turn c word ≡ Some there
   pub shows : Shows there at
+  pub orderly : IsTrue (is_orderly word)
+
+-- ---- turns, told by their places in a list
+
+-- A set has each turn with which some word of so many turns behind it leads the cube to one that passes a test.
+pub record LeavesWays (turns : List ℕ) (test : CubeState → Bool) (c : CubeState) (more bits : ℕ) : Type 0 where
+  pub left : (place : ℕ) (v : List ℕ) → place < length turns → Contains (words_of turns more) v
+      → IsTrue (leads test c (slice_index turns place ∷ v)) → IsTrue (contains_turn bits place)
+
+-- a turn of these that may stand right behind a word
+pub record MayFollow (turns word : List ℕ) (place : ℕ) : Type 0 where
+  pub below : place < length turns
+  pub orderly : IsTrue (may_end word (slice_index turns place))
+
+-- A set has each turn with which some word of so many turns behind it goes on from a word to one that passes a test. All its
+-- turns may stand right behind the word.
+pub record KeepsWays (turns : List ℕ) (test : List ℕ → Bool) (word : List ℕ) (more bits : ℕ) : Type 0 where
+  pub kept : (place : ℕ) (v : List ℕ) → place < length turns → Contains (words_of turns more) v
+      → IsTrue (test (word ++ slice_index turns place ∷ v)) → IsTrue (contains_turn bits place)
+  pub follow : (place : ℕ) → IsTrue (contains_turn bits place) → MayFollow turns word place
+
+-- For each of six faces a set of the turns that may stand right behind one of it, and behind these the set of all turns.
+pub record AreBehind (turns sets : List ℕ) : Type 0 where
+  pub each : (last place : ℕ) → last < 18 → place < length turns
+      → contains_turn (slice_index sets (last / 3)) place ≡ may_precede last (slice_index turns place)
+  pub all : (place : ℕ) → place < length turns → IsTrue (contains_turn (slice_index sets 6) place)
+
+-- ---- what a search comes to
+
+-- What the first of some words gives that gives anything. So many of them are tried.
+unfoldable pub first_given : (List ℕ → Option (List ℕ)) → ℕ → List (List ℕ) → Option (List ℕ)
+first_given gives tries words = slice_get (filter_map gives (take tries words)) 0
+
+-- A search through words, each of which counts one try, makes of a word what the first gives that gives anything. Where none
+-- does, the word stays, and a try is counted for each.
+pub record IsSearched (gives : List ℕ → Option (List ℕ)) (words : List (List ℕ)) (tries : ℕ) (before : List ℕ) (found : Bool) (after : List ℕ) (left : ℕ) : Type 0 where
+  pub given : first_given gives tries words ≡ (if found then Some after else None)
+  pub same : found ≡ false → after ≡ before
+  pub tried : found ≡ false → left ≡ tries - length words
 
 -- ---- the first part
 
@@ -47,10 +88,6 @@ pub record IsFirstPosition (at : FirstPosition) : Type 0 where
 abbrev pub is_domino_position : FirstPosition → Bool
 is_domino_position at = (at.flips == 0 && at.twists == 0) && at.middle == 494
 
--- A set has each turn with which some word of so many turns behind it leads the cube to a domino.
-pub record KeepsWays (c : CubeState) (more bits : ℕ) : Type 0 where
-  pub kept : (t : ℕ) (v : List ℕ) → Contains (words_of turn_numbers more) v → IsTrue (leads is_domino c (t ∷ v)) → IsTrue (contains_turn bits t)
-
 -- ---- the second part
 
 -- a position shows a domino
@@ -65,6 +102,12 @@ pub record IsSecondPosition (at : SecondPosition) : Type 0 where
   pub corners : at.corners < 40320
   pub outer : at.outer < 40320
   pub middle : at.middle < 24
+
+-- Which piece stands at each place after turns, where each turn's number has a list that says for each place which place's
+-- piece comes there.
+abbrev pub carried : List (List ℕ) → List ℕ → List ℕ → List ℕ
+carried places pieces [] = pieces
+carried places pieces (t ∷ word) = carried places (pick pieces (slice_index_or places t [])) word
 
 -- The position is that of the solved cube: all three lists are in order.
 abbrev pub is_solved_position : SecondPosition → Bool

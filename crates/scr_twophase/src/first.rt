@@ -11,8 +11,8 @@ ghost use Rattle.scr_cube.specs.Cube333.{CubeState};
 ghost use Rattle.scr_stages.specs.Stages.{middle_edges};
 ghost use Rattle.scr_stages.specs.Tables.{flips_coordinate};
 ghost use Rattle.scr_twophase.specs.Outlooks.{IsPruningTable};
-ghost use Rattle.scr_twophase.specs.Search.{ShowsFirst, IsFirstPosition, KeepsWays, is_domino_position};
-ghost use Rattle.scr_twophase.specs.TwoParts.{after_turn};
+ghost use Rattle.scr_twophase.specs.Search.{ShowsFirst, IsFirstPosition, LeavesWays, is_domino_position};
+ghost use Rattle.scr_twophase.specs.TwoParts.{after_turn, is_domino, turn_numbers};
 ghost use Rattle.scr_twophase.specs.Tables.{twists_coordinate, middle_set_coordinate};
 ghost use Rattle.scr_twophase.specs.Tables.{flipslice_line, twistslice_line, first_lines};
 
@@ -135,9 +135,10 @@ impl FirstTables {
 
     /// The turns of which one may be the next of a word of `left` turns to a domino.
     #[inline]
-    pub fn turns_from(&self, at: FirstPosition, left: u32) -> TurnSet
+    pub fn turns_within(&self, at: FirstPosition, left: u32) -> TurnSet
         requires { IsFirstPosition at }
-        ensures kept { (c : CubeState) (more : ℕ) → left ≡ more + 1 → ShowsFirst c at → KeepsWays c more result.bits }
+        ensures kept { (c : CubeState) (more : ℕ) → left ≡ more + 1 → ShowsFirst c at
+            → LeavesWays turn_numbers is_domino c more result.bits }
         ensures few { result.bits < 2 ^ 18 }
     {
         let by_flips = self

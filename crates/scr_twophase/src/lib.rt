@@ -19,6 +19,7 @@ mod first;
 pub mod laws;
 mod needs;
 mod outlook;
+mod parts;
 mod pruning;
 mod scramble;
 mod search;

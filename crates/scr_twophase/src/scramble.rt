@@ -9,7 +9,7 @@ ghost use Rattle.scr_turning.specs.PowerPuzzles.{after_letter};
 ghost use Rattle.scr_cube.specs.Cube333.{IsCube, cube_powers, solved_cube};
 ghost use Rattle.scr_twophase.specs.TwoParts.{two_parts, IsScramble333};
 
-use crate::search::joined_parts;
+use crate::parts::joined_parts;
 use crate::tables::PruneTables;
 use scr_cube::Cube;
 use scr_notation::{Event, Scramble, inverse, numbered_scramble};

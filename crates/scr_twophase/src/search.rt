@@ -1,127 +1,125 @@
-//! The search for two parts.
-ghost use Rattle.std.specs.Prelude.{◌≡◌, ◌+◌, ◌-◌, ◌<◌, ◌≤◌, ◌&&◌, All, IfNone, IsTrue, Some, length};
-ghost use Rattle.std.specs.Option.{option_map};
-ghost use Rattle.scr_combinatorics.specs.Play.{play};
-ghost use Rattle.scr_cube.specs.Cube333.{IsCube};
-ghost use Rattle.scr_twophase.specs.Search.{letters, IsAt, ShowsFirst, is_domino_position};
-ghost use Rattle.scr_twophase.specs.TwoParts.{after_turn, turn_numbers, ends_in_quarter, first_joined, is_first_part, is_orderly, two_parts};
-ghost use Rattle.scr_twophase.specs.Words.{words_behind};
+//! The search for a part of a solution: through the words of its turns, depth first and by rising length.
+ghost use Rattle.std.specs.Prelude.{◌≡◌, ◌+◌, ◌++◌, ◌≤◌, filter, length, map};
+ghost use Rattle.scr_cube.specs.Cube333.{CubeState};
+ghost use Rattle.scr_twophase.specs.Search.{letters, IsAt, IsSearched};
+ghost use Rattle.scr_twophase.specs.Words.{words_behind, words_within};
 
-use crate::first::{FirstPosition, FirstTables};
-use crate::second::SecondTables;
 use crate::turn_set::TurnSet;
 use crate::word::Word;
-use scr_cube::{Cube, PowerTurned};
+use scr_cube::Cube;
 
-/// The tables of both parts.
-#[derive(Drop)]
-pub(crate) struct PartTables {
-    pub first: FirstTables,
-    pub second: SecondTables,
+/// A part of the solution of a cube, as a search sees it: some of the 18 turns, told by their places among them, and which
+/// orderly words of these turns are looked for.
+pub(crate) trait Part {
+    ghost use Rattle.std.specs.Prelude.{◌≡◌, ℕ, ◌-◌, ◌^◌, ◌<◌, ◌≤◌, Bool, List, Option, Some, length, slice_index};
+    ghost use Rattle.scr_cube.specs.Cube333.{CubeState};
+    ghost use Rattle.scr_twophase.specs.Search.{letters, IsAt, IsSearched, KeepsWays};
+    ghost use Rattle.scr_twophase.specs.TwoParts.{after_turn};
+    ghost use Rattle.scr_twophase.specs.Words.{words_behind};
+
+    /// What the search sees of the cube to which a word leads.
+    type Position: Copy;
+
+    /// The turns.
+    ghost turns: { List ℕ };
+
+    /// How many turns a word has at most, with those before this part.
+    ghost most: { ℕ };
+
+    /// A position shows a cube.
+    ghost Shows: { CubeState → Self.Position → Type 0 };
+
+    /// Which words from a cube on are looked for.
+    ghost passes: { CubeState → List ℕ → Bool };
+
+    /// What such a word gives.
+    ghost gives: { CubeState → List ℕ → Option (List ℕ) };
+
+    /// The turns of which one may be the next behind a word that leads to a position, where `left` turns, one or more, are
+    /// still to be made.
+    fn turns_from(&self, word: &Word, at: Self::Position, left: u32) -> TurnSet
+        requires at { (c : CubeState) × IsAt Shows c (letters word.now) at }
+        requires some { 0 < left }
+        ensures kept { (c : CubeState) → IsAt Shows c (letters word.now) at
+            → KeepsWays turns (passes c) (letters word.now) (left - 1) result.bits }
+        ensures few { result.bits < 2 ^ 18 };
+
+    /// The turn at a place.
+    fn turn(place: u32) -> u8
+        requires { place < length turns }
+        ensures turn { result ≡ slice_index turns place }
+        ensures below { result < 18 };
+
+    /// Where the turn at a place leads.
+    fn after(&self, at: Self::Position, place: u32) -> Self::Position
+        requires at { (c : CubeState) × Shows c at }
+        requires place { place < length turns }
+        ensures { (c d : CubeState) → Shows c at → after_turn c (slice_index turns place) ≡ Some d → Shows d result };
+
+    /// What a whole word gives, if it is looked for: then this is a try.
+    fn at_end(&self, cube: &Cube, word: &mut Word, at: Self::Position, tries: &mut u32) -> bool
+        requires at { IsAt Shows cube.now (letters word.old) at }
+        requires few { length (letters word.old) ≤ most }
+        requires tries { 0 < tries.old }
+        ensures { IsSearched (gives cube.now) (words_behind turns (passes cube.now) (letters word.old) 0) tries.old
+            (letters word.old) result (letters word.new) tries.new };
+
+    /// Words are no longer than those of two parts.
+    ghost short: { most ≤ 22 };
 }
 
-/// The two parts of a cube, joined: the first of its first parts that has a second part, where so many are tried.
-pub(crate) fn joined_parts(tables: &PartTables, cube: &Cube, tries: u32) -> Option<Word>
-    ensures parts { option_map letters result ≡ two_parts cube.now tries }
-    ensures valid { IsCube cube.now }
+/// Makes of a word what the first gives of the words that go on from it by at most `most` turns. Each of them counts one
+/// try, and none is looked at once `tries` are made. If none gives anything, the word stays.
+pub(crate) fn search_within<P: Part>(
+    part: &P,
+    cube: &Cube,
+    word: &mut Word,
+    at: P::Position,
+    most: u32,
+    tries: &mut u32,
+) -> bool
+    requires at { IsAt P.Shows cube.now (letters word.old) at }
+    requires few { length (letters word.old) + most ≤ P.most }
+    ensures { IsSearched (P.gives cube.now)
+        (filter (P.passes cube.now) (map (λ v. letters word.old ++ v) (words_within P.turns most))) tries.old
+        (letters word.old) result (letters word.new) tries.new }
 {
-    let mut left = tries;
-    let at = FirstPosition::of(cube);
-    for turns in 0..13 {
-        if let Some(word) = joined_behind(tables, cube, &Word::empty(), at, turns, &mut left) {
-            return Some(word);
+    for left in 0..most + 1 {
+        if search_behind(part, cube, word, at, left, tries) {
+            return true;
         }
     }
-    None
+    false
 }
 
-/// The first joined word of the first parts that go on from a word by `left` turns more. Each of them counts one try,
-/// and none is made once `tries` are.
-fn joined_behind(
-    tables: &PartTables,
+/// Does so with the words that go on from it by `left` turns.
+fn search_behind<P: Part>(
+    part: &P,
     cube: &Cube,
-    word: &Word,
-    at: FirstPosition,
+    word: &mut Word,
+    at: P::Position,
     left: u32,
     tries: &mut u32,
-) -> Option<Word>
-    requires at { IsAt ShowsFirst cube.now (letters word.now) at }
-    requires orderly { IsTrue (is_orderly (letters word.now)) }
-    requires few { length (letters word.now) + left ≤ 12 }
-    ensures first { option_map letters result
-        ≡ first_joined cube.now tries.old (words_behind turn_numbers (is_first_part cube.now) (letters word.now) left) }
-    ensures tried { IfNone result (tries.new
-        ≡ tries.old - length (words_behind turn_numbers (is_first_part cube.now) (letters word.now) left)) }
+) -> bool
+    requires at { IsAt P.Shows cube.now (letters word.old) at }
+    requires few { length (letters word.old) + left ≤ P.most }
+    ensures { IsSearched (P.gives cube.now) (words_behind P.turns (P.passes cube.now) (letters word.old) left) tries.old
+        (letters word.old) result (letters word.new) tries.new }
 {
     if *tries == 0 {
-        return None;
+        return false;
     }
     if left == 0 {
-        return joined_with(tables, cube, word, at, tries);
+        return part.at_end(cube, word, at, tries);
     }
-    let mut turns = tables.first.turns_from(at, left).and(TurnSet::behind(word));
-    while let Some(turn) = turns.pop() {
-        let next = tables.first.after(at, turn);
-        let longer = word.with(turn as u8);
-        if let Some(joined) = joined_behind(tables, cube, &longer, next, left - 1, tries) {
-            return Some(joined);
+    let mut turns = part.turns_from(word, at, left);
+    while let Some(place) = turns.pop() {
+        let next = part.after(at, place);
+        word.push(P::turn(place));
+        if search_behind(part, cube, word, next, left - 1, tries) {
+            return true;
         }
+        word.pop();
     }
-    None
-}
-
-/// A word joined with its second part, if it is a first part and has one. If it is one, that is a try.
-fn joined_with(
-    tables: &PartTables,
-    cube: &Cube,
-    word: &Word,
-    at: FirstPosition,
-    tries: &mut u32,
-) -> Option<Word>
-    requires at { IsAt ShowsFirst cube.now (letters word.now) at }
-    requires orderly { IsTrue (is_orderly (letters word.now)) }
-    requires few { length (letters word.now) ≤ 12 }
-    requires tries { 0 < tries.old }
-    ensures first { option_map letters result
-        ≡ first_joined cube.now tries.old (words_behind turn_numbers (is_first_part cube.now) (letters word.now) 0) }
-    ensures tried { IfNone result (tries.new
-        ≡ tries.old - length (words_behind turn_numbers (is_first_part cube.now) (letters word.now) 0)) }
-{
-    if !is_first_part(word, at) {
-        return None;
-    }
-    *tries -= 1;
-    let domino = turned_by(cube, word.turns());
-    tables.second.joined(&domino, word)
-}
-
-/// Whether an orderly word is a first part, by the position that it leads to.
-#[inline]
-fn is_first_part(word: &Word, at: FirstPosition) -> bool
-    ensures { result ≡ (ends_in_quarter (letters word.now) && is_domino_position at) }
-{
-    ends_in_quarter(word) && at.is_domino()
-}
-
-/// Whether a word is empty or ends in a quarter turn of R, L, F or B.
-#[inline]
-fn ends_in_quarter(word: &Word) -> bool
-    ensures { result ≡ ends_in_quarter (letters word.now) }
-{
-    match word.last() {
-        None => true,
-        Some(turn) => turn / 3 % 3 != 0 && turn % 3 != 1,
-    }
-}
-
-/// The cube after some turns, by their numbers.
-fn turned_by(cube: &Cube, turns: &[u8]) -> Cube
-    requires { All (λ t. t < 18) turns.now }
-    ensures { play after_turn cube.now turns.now ≡ Some result }
-{
-    let mut state = *cube;
-    for at in 0..turns.len() {
-        state = state.turned(usize::from(turns[at]));
-    }
-    state
+    false
 }

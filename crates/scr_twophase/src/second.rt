@@ -1,39 +1,44 @@
 //! The second part: what a search for it sees of a domino, and where turns lead.
-ghost use Rattle.std.specs.Prelude.{◌≡◌, ◌+◌, ◌^◌, ◌<◌, ◌≤◌, ℕ, All, Contains, IfErr, IfOk, IsTrue, List, Some, length, map, slice_get, slice_index};
-ghost use Rattle.std.specs.Option.{option_map};
+ghost use Rattle.std.specs.Prelude.{◌≡◌, ◌+◌, ◌^◌, ◌<◌, ◌≤◌, ℕ, All, IfErr, IfOk, IsTrue, Some, None, false, if◌then◌else◌, length, map};
 ghost use Rattle.scr_combinatorics.specs.Permutations.{IsPermutation, factorial};
 ghost use Rattle.scr_combinatorics.specs.Play.{play};
 ghost use Rattle.scr_coord.specs.Moves.{moves_coordinate};
 ghost use Rattle.scr_coord.specs.Projections.{projection, pieces_view};
 ghost use Rattle.scr_coord.specs.SearchSpaces.{ShowsSame};
 ghost use Rattle.scr_table.specs.Causes.{IsCauseOf};
-ghost use Rattle.scr_table.specs.Lines.{HasNoGap, IsTableOf};
+ghost use Rattle.scr_table.specs.Lines.{HasNoGap};
 ghost use Rattle.scr_cube.specs.Cube333.{CubeState};
 ghost use Rattle.scr_stages.specs.Numbers.{IsDominoCube};
 ghost use Rattle.scr_stages.specs.Tables.{block_turn, edges_by};
-ghost use Rattle.scr_twophase.specs.Search.{ShowsSecond, IsSecondPosition, is_solved_position};
+ghost use Rattle.scr_stages.specs.Stages.{tetrads_turns};
+ghost use Rattle.scr_twophase.specs.Outlooks.{IsPruningTable};
+ghost use Rattle.scr_twophase.specs.Search.{ShowsSecond, IsSecondPosition, LeavesWays, carried, is_solved_position};
 ghost use Rattle.scr_twophase.specs.Tables.{corners_coordinate, outer_edges_coordinate, middle_edges_coordinate};
 ghost use Rattle.scr_twophase.specs.Tables.{cornerslice_line, edgeslice_line, second_lines};
-ghost use Rattle.scr_twophase.specs.TwoParts.{after_turn, domino_turns, leads, is_orderly, is_solution, is_solved, joined};
-ghost use Rattle.scr_twophase.specs.Words.{words_behind, words_of};
-ghost use Rattle.scr_stages.specs.Stages.{tetrads_turns};
+ghost use Rattle.scr_twophase.specs.TwoParts.{after_turn, domino_turns, is_orderly, is_solved, joined};
 
 use crate::first::step;
-use crate::turn_set::TurnSet;
+use crate::pruning::PruningTable;
+use crate::search::{Part, search_within};
+use crate::turn_set::{TurnSet, behind};
 use crate::word::Word;
-use scr_coord::{Coord, Lists, MoveTable, Product};
-use scr_cube::Cube;
+use scr_coord::{Lists, MoveTable, PlaceTurn, Product};
+use scr_cube::{Cube, corner_turns, edge_turns};
+use scr_orbit::pick_into;
 use scr_outside::NoMemory;
 use scr_rank::PermRank;
 use scr_stages::{
     MIDDLE_EDGES, OUTER_EDGES, TETRADS_TURNS, block_edges_turned, block_number, corners_turned,
 };
-use scr_table::{BuildFault, DistanceTable, TableName};
+use scr_table::{BuildFault, TableName};
 use std::alloc::Global;
 use std::thread::Threads;
 
 /// How many lists of the edges of the middle layer there are.
 const MIDDLES: u32 = 24;
+
+/// For each face of U R F D L B, the places of the turns that may stand right behind one of it. Then all places.
+const BEHIND: [u32; 7] = [0x3f8, 0x3f7, 0x3ef, 0x318, 0x2f7, 0x1ef, 0x3ff];
 
 /// The numbers of a domino's list of corners, of the list of its edges above and below, and of that of the edges of the
 /// middle layer.
@@ -48,14 +53,16 @@ pub(crate) struct SecondPosition {
 }
 
 impl SecondPosition {
-    /// The position of a domino.
-    pub fn of(cube: &Cube) -> SecondPosition
-        requires { IsDominoCube cube.now }
-        ensures { ShowsSecond cube.now result }
+    /// The position of the domino to which some turns lead from a cube.
+    pub fn behind(cube: &Cube, turns: &[u8]) -> SecondPosition
+        requires turns { All (λ t. t < 18) turns.now }
+        requires domino { (c : CubeState) × (play after_turn cube.now turns.now ≡ Some c) × IsDominoCube c }
+        ensures { (c : CubeState) → play after_turn cube.now turns.now ≡ Some c → ShowsSecond c result }
     {
-        let edges = cube.edges();
+        let corners = carried(cube.corners(), corner_turns(), turns);
+        let edges = carried(cube.edges(), edge_turns(), turns);
         SecondPosition {
-            corners: PermRank::<8>::rank(&cube.corners()) as u32,
+            corners: PermRank::<8>::rank(&corners) as u32,
             outer: block_number(&OUTER_EDGES, &edges),
             middle: block_number(&MIDDLE_EDGES, &edges),
         }
@@ -76,17 +83,17 @@ pub(crate) struct SecondTables {
     corners: MoveTable,
     outer: MoveTable,
     middle: MoveTable,
-    pub cornerslice: DistanceTable,
-    pub edgeslice: DistanceTable,
+    pub cornerslice: PruningTable,
+    pub edgeslice: PruningTable,
     ghost corners_shown: { ShowsSame corners_coordinate (moves_coordinate corners) },
     ghost outer_shown: { ShowsSame outer_edges_coordinate (moves_coordinate outer) },
     ghost middle_shown: { ShowsSame middle_edges_coordinate (moves_coordinate middle) },
-    ghost cornerslice_is: { IsTableOf cornerslice_line cornerslice },
-    ghost edgeslice_is: { IsTableOf edgeslice_line edgeslice },
+    ghost cornerslice_is: { IsPruningTable cornerslice_line cornerslice },
+    ghost edgeslice_is: { IsPruningTable edgeslice_line edgeslice },
 }
 
 impl SecondTables {
-    ghost use Rattle.scr_twophase.specs.Search.{letters, IsAt};
+    ghost use Rattle.scr_twophase.specs.Search.{letters};
 
     /// The tables, built by 1 to 64 workers, or why one isn't built.
     pub fn build<R: Threads + Sync>(
@@ -101,7 +108,7 @@ impl SecondTables {
         let corners = corner_moves(alloc)?;
         let outer = edge_moves(alloc, &OUTER_EDGES)?;
         let middle = edge_moves(alloc, &MIDDLE_EDGES)?;
-        let cornerslice = DistanceTable::build(
+        let cornerslice = PruningTable::build(
             rt,
             alloc,
             TableName::CornerSlice,
@@ -109,7 +116,7 @@ impl SecondTables {
             18,
             workers,
         )?;
-        let edgeslice = DistanceTable::build(
+        let edgeslice = PruningTable::build(
             rt,
             alloc,
             TableName::EdgeSlice,
@@ -126,59 +133,67 @@ impl SecondTables {
         })
     }
 
-    /// A first part, which leads to this domino, joined with its second part, if it has one.
-    pub fn joined(&self, domino: &Cube, word: &Word) -> Option<Word>
-        requires domino { IsDominoCube domino.now }
-        requires orderly { IsTrue (is_orderly (letters word.now)) }
-        requires few { length (letters word.now) ≤ 12 }
-        ensures { (c : CubeState) → play after_turn c (letters word.now) ≡ Some domino.now
-            → option_map letters result ≡ joined c (letters word.now) }
+    /// Makes of a first part what it is joined with its second part, if it has one.
+    pub fn joined(&self, cube: &Cube, word: &mut Word) -> bool
+        requires domino { (c : CubeState) × (play after_turn cube.now (letters word.old) ≡ Some c) × IsDominoCube c }
+        requires orderly { IsTrue (is_orderly (letters word.old)) }
+        requires few { length (letters word.old) ≤ 12 }
+        ensures joined { joined cube.now (letters word.old) ≡ (if result then Some (letters word.new) else None) }
+        ensures same { result ≡ false → letters word.new ≡ letters word.old }
     {
-        let at = SecondPosition::of(domino);
-        for turns in 0..11 {
-            if let Some(joined) = self.solution_behind(at, word, turns) {
-                return Some(joined);
-            }
-        }
-        None
+        let at = SecondPosition::behind(cube, word.turns());
+        search_within(self, cube, word, at, 10, &mut 1)
     }
 
-    /// The first solution that goes on from a word by `left` of the ten turns more.
-    fn solution_behind(&self, at: SecondPosition, word: &Word, left: u32) -> Option<Word>
-        requires at { IsSecondPosition at }
-        requires orderly { IsTrue (is_orderly (letters word.now)) }
-        requires few { length (letters word.now) + left ≤ 22 }
-        ensures { (c : CubeState) → IsAt ShowsSecond c (letters word.now) at
-            → option_map letters result ≡ slice_get (words_behind domino_turns (is_solution c) (letters word.now) left) 0 }
-    {
-        if self.least_turns(at) > left {
-            return None;
-        }
-        if left == 0 {
-            return if at.is_solved() { Some(*word) } else { None };
-        }
-        let behind = TurnSet::behind(word);
-        for place in 0..10 {
-            let turn = TETRADS_TURNS[place];
-            if behind.has(turn) {
-                let next = self.after(at, place as u32);
-                if let Some(solution) = self.solution_behind(next, &word.with(turn), left - 1) {
-                    return Some(solution);
-                }
-            }
-        }
-        None
-    }
-
-    /// Where the turn at a place of the ten leads from a position.
+    /// The turns of which one may be the next of a word of `left` turns to solved, told by their places among the ten.
     #[inline]
-    pub fn after(&self, at: SecondPosition, place: u32) -> SecondPosition
-        requires at { IsSecondPosition at }
-        requires place { place < 10 }
-        ensures shows { (c d : CubeState) → ShowsSecond c at
-            → after_turn c (slice_index domino_turns place) ≡ Some d → ShowsSecond d result }
-        ensures position { IsSecondPosition result }
+    fn turns_within(&self, at: SecondPosition, left: u32) -> TurnSet
+        requires { IsSecondPosition at }
+        ensures kept { (c : CubeState) (more : ℕ) → left ≡ more + 1 → ShowsSecond c at
+            → LeavesWays domino_turns is_solved c more result.bits }
+        ensures few { result.bits < 2 ^ 18 }
     {
+        let by_corners = self
+            .cornerslice
+            .turns_within(at.middle + MIDDLES * at.corners, left);
+        let by_edges = self
+            .edgeslice
+            .turns_within(at.middle + MIDDLES * at.outer, left);
+        by_corners.and(by_edges)
+    }
+}
+
+/// A search by them is for a second part, of the ten turns that keep a domino.
+impl Part for SecondTables {
+    ghost use Rattle.std.specs.Prelude.{Some};
+    ghost use Rattle.std.proofs.Common.{lit≤};
+    ghost use Rattle.scr_twophase.specs.Search.{ShowsSecond};
+    ghost use Rattle.scr_twophase.specs.TwoParts.{domino_turns, is_solution};
+
+    type Position = SecondPosition;
+
+    ghost turns = { domino_turns };
+
+    ghost most = { 22 };
+
+    ghost Shows = { ShowsSecond };
+
+    ghost passes = { is_solution };
+
+    ghost gives = { λ _ word. Some word };
+
+    #[inline]
+    fn turns_from(&self, word: &Word, at: SecondPosition, left: u32) -> TurnSet {
+        behind(word, &BEHIND).and(self.turns_within(at, left))
+    }
+
+    #[inline]
+    fn turn(place: u32) -> u8 {
+        TETRADS_TURNS[place as usize]
+    }
+
+    #[inline]
+    fn after(&self, at: SecondPosition, place: u32) -> SecondPosition {
         SecondPosition {
             corners: step(&self.corners, at.corners, place),
             outer: step(&self.outer, at.outer, place),
@@ -186,17 +201,30 @@ impl SecondTables {
         }
     }
 
-    /// How many turns a word to solved has at least.
     #[inline]
-    pub fn least_turns(&self, at: SecondPosition) -> u32
-        requires { IsSecondPosition at }
-        ensures { (c : CubeState) (v : List ℕ) (n : ℕ) → ShowsSecond c at → Contains (words_of domino_turns n) v
-            → IsTrue (leads is_solved c v) → result ≤ n }
-    {
-        let by_corners = self.cornerslice.distance(at.middle + MIDDLES * at.corners);
-        let by_edges = self.edgeslice.distance(at.middle + MIDDLES * at.outer);
-        by_corners.max(by_edges)
+    fn at_end(&self, _cube: &Cube, _word: &mut Word, at: SecondPosition, _tries: &mut u32) -> bool {
+        at.is_solved()
     }
+
+    ghost short = { lit≤ tt };
+}
+
+/// Which piece stands at each place after some turns, by their numbers.
+fn carried<const N: usize>(pieces: [u8; N], turns: &[PlaceTurn<N>], word: &[u8]) -> [u8; N]
+    requires turns { All (λ t. IsPermutation N t.places) turns.now }
+    requires word { All (λ t. t < length turns.now) word.now }
+    ensures { result ≡ carried (map (λ t. t.places) turns.now) pieces.entry word.now }
+{
+    let mut at = pieces;
+    for turn in word {
+        let before = at;
+        pick_into(
+            &before[..],
+            &turns[usize::from(*turn)].places[..],
+            &mut at[..],
+        );
+    }
+    at
 }
 
 /// Where the ten turns lead from the lists of corners.

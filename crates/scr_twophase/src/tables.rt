@@ -5,7 +5,7 @@ ghost use Rattle.scr_table.specs.Lines.{AreTablesOf, HasNoGap};
 ghost use Rattle.scr_twophase.specs.Tables.{prune_lines};
 
 use crate::first::FirstTables;
-use crate::search::PartTables;
+use crate::parts::PartTables;
 use crate::second::SecondTables;
 use scr_table::{BuildFault, DistanceTable, TableName, TableSet, table_named};
 use std::alloc::Global;
@@ -73,8 +73,8 @@ impl PruneTables {
         [
             &self.parts.first.flipslice.distances,
             &self.parts.first.twistslice.distances,
-            &self.parts.second.cornerslice,
-            &self.parts.second.edgeslice,
+            &self.parts.second.cornerslice.distances,
+            &self.parts.second.edgeslice.distances,
         ]
     }
 }

@@ -1,13 +1,9 @@
 //! Sets of turns.
-ghost use Rattle.std.specs.Prelude.{◌≡◌, ℕ, ◌^◌, ◌<◌, ◌&&◌, ◌||◌, ◌==◌, ◌∷◌, [], MatchOption, IfSome};
-ghost use Rattle.scr_twophase.specs.Search.{letters, may_end};
+ghost use Rattle.std.specs.Prelude.{◌≡◌, ℕ, ◌^◌, ◌<◌, ◌&&◌, ◌||◌, ◌==◌, ◌∷◌, [], All, List, MatchOption, IfSome, length, slice_index};
+ghost use Rattle.scr_twophase.specs.Search.{letters, may_end, AreBehind};
 ghost use Rattle.scr_twophase.specs.TurnSets.{contains_turn, turns_in};
 
 use crate::word::Word;
-
-/// For each face of U R F D L B, the turns that may stand right behind one of it: those of its own are left out, and
-/// behind D, L and B those of the opposite face too.
-const BEHIND: [u32; 6] = [0x3_fff8, 0x3_ffc7, 0x3_fe3f, 0x3_f1f8, 0x3_8fc7, 0x0_7e3f];
 
 /// Some of the 18 turns, each a bit at its number.
 #[derive(Clone, Copy)]
@@ -22,29 +18,6 @@ impl TurnSet {
 
     /// All of them.
     pub const ALL: TurnSet = TurnSet { bits: 0x3_ffff };
-
-    /// The turns that may stand right behind a word.
-    #[inline]
-    pub fn behind(word: &Word) -> TurnSet
-        ensures turns { (t : ℕ) → t < 18 → contains_turn result.bits t ≡ may_end (letters word.now) t }
-        ensures few { result.bits < 2 ^ 18 }
-    {
-        match word.last() {
-            None => TurnSet::ALL,
-            Some(turn) => TurnSet {
-                bits: BEHIND[usize::from(turn / 3)],
-            },
-        }
-    }
-
-    /// Whether a turn, below 18, is in the set.
-    #[inline]
-    pub fn has(self, turn: u8) -> bool
-        requires { turn < 18 }
-        ensures { result ≡ contains_turn self.bits turn }
-    {
-        (self.bits >> turn) % 2 == 1
-    }
 
     /// The set with one turn more, below 18, where `add` says so.
     #[inline]
@@ -90,4 +63,18 @@ impl TurnSet {
         self.bits &= !(1 << turn);
         Some(turn)
     }
+}
+
+/// The turns that may stand right behind a word, where `sets` has those for each face of its last turn, and then all turns.
+#[inline]
+pub(crate) fn behind(word: &Word, sets: &[u32; 7]) -> TurnSet
+    ensures turns { (turns : List ℕ) → AreBehind turns sets.now → (place : ℕ) → place < length turns
+        → contains_turn result.bits place ≡ may_end (letters word.now) (slice_index turns place) }
+    ensures small { (limit : ℕ) → All (λ set. set < limit) sets.now → result.bits < limit }
+{
+    let face = match word.last() {
+        None => 6,
+        Some(turn) => usize::from(turn / 3),
+    };
+    TurnSet { bits: sets[face] }
 }

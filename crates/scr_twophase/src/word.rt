@@ -1,11 +1,11 @@
 //! Words, as a search writes them.
-ghost use Rattle.std.specs.Prelude.{◌≡◌, ◌-◌, ◌++◌, ◌∷◌, [], ◌<◌, ◌≤◌, ℕ, All, IfSome, length, slice_get, slice_index};
+ghost use Rattle.std.specs.Prelude.{◌≡◌, ◌-◌, ◌++◌, ◌∷◌, [], ◌<◌, ◌≤◌, ℕ, All, IfSome, length, slice_get, slice_index, take};
 
 /// How many turns two parts have at most.
 const MOST: usize = 22;
 
 /// A word of at most 22 turns, told by their numbers.
-#[derive(Clone, Copy)]
+#[derive(Drop)]
 pub(crate) struct Word {
     /// The turns, and behind them anything.
     turns: [u8; MOST],
@@ -50,18 +50,23 @@ impl Word {
         }
     }
 
-    /// The word with one turn more, below 18, behind it.
+    /// Writes one turn more, below 18, behind the others.
     #[inline]
-    pub fn with(&self, turn: u8) -> Word
+    pub fn push(&mut self, turn: u8)
         requires turn { turn < 18 }
-        requires room { length (letters self.now) < 22 }
-        ensures { letters result ≡ letters self.now ++ turn ∷ [] }
+        requires room { length (letters self.old) < 22 }
+        ensures { letters self.new ≡ letters self.old ++ turn ∷ [] }
     {
-        let mut turns = self.turns;
-        turns[self.count] = turn;
-        Word {
-            turns,
-            count: self.count + 1,
-        }
+        self.turns[self.count] = turn;
+        self.count += 1;
+    }
+
+    /// Takes the last turn away. There is one.
+    #[inline]
+    pub fn pop(&mut self)
+        requires { 0 < length (letters self.old) }
+        ensures { letters self.new ≡ take (length (letters self.old) - 1) (letters self.old) }
+    {
+        self.count -= 1;
     }
 }

@@ -6,7 +6,7 @@ use Rattle.scr_table.proofs.LineLaws.{no_gaps-line}
 use Rattle.scr_stages.proofs.StageWords.{outer_moves}
 use Rattle.scr_twophase.specs.Tables.{corners_coordinate, outer_edges_coordinate, middle_edges_coordinate}
 use Rattle.scr_twophase.specs.Tables.{cornerslice_line, edgeslice_line}
-use Rattle.scr_twophase.proofs.BuiltLaws.{IfErr-pair, IsTableOf-pair, no_gap-pair}
+use Rattle.scr_twophase.proofs.BuiltLaws.{IfErr-pair, IsPruningTable-pair, no_gap-pair}
 use Rattle.scr_twophase.proofs.SecondLaws.{middle_moves}
 use Rattle.scr_twophase.proofs.second.SecondTables.build.Goals as goal
 
@@ -25,10 +25,9 @@ returns-in_err-cornerslice-clause-cause g c =
 
 pub returns-in_err-edgeslice-clause-cause : goal.returns-in_err-edgeslice-clause-cause
 returns-in_err-edgeslice-clause-cause g c =
-    let made = c.in_ok-cornerslice.ensures in
     let none = no_gap-pair middle_edges_coordinate corners_coordinate c.in_ok-middle.middle c.in_ok-corners.corners refl
-    c.in_ok-middle.ensures c.in_ok-corners.ensures _ c.new.ensures CornerSlice 18 c.in_ok-cornerslice.cornerslice
-    (record { name = made.named; bound = made.bounded; measures = made.measures }) in
+    c.in_ok-middle.ensures c.in_ok-corners.ensures _ c.new.ensures CornerSlice 18 c.in_ok-cornerslice.cornerslice.distances
+    c.in_ok-cornerslice.ensures.table.distances in
     IfErr-pair middle_edges_coordinate outer_edges_coordinate c.in_ok-middle.middle c.in_ok-outer.outer refl
     c.in_ok-middle.ensures c.in_ok-outer.ensures _ c.new-2.ensures EdgeSlice 18 (cornerslice_line ∷ [])
     [] (no_gaps-line cornerslice_line none)
@@ -36,31 +35,24 @@ returns-in_err-edgeslice-clause-cause g c =
     c.in_err-edgeslice.ensures.cause
 
 pub invariant_of-result : goal.invariant_of-result
-invariant_of-result g c =
-    let first = c.in_ok-cornerslice.ensures in
-    let second = c.in_ok-edgeslice.ensures in
-    record {
-      corners_shown = c.in_ok-corners.ensures;
-      outer_shown = c.in_ok-outer.ensures;
-      middle_shown = c.in_ok-middle.ensures;
-      cornerslice_is = IsTableOf-pair middle_edges_coordinate corners_coordinate c.in_ok-middle.middle
-          c.in_ok-corners.corners refl c.in_ok-middle.ensures c.in_ok-corners.ensures _ c.new.ensures CornerSlice 18
-          c.in_ok-cornerslice.cornerslice
-          (record { name = first.named; bound = first.bounded; measures = first.measures });
-      edgeslice_is = IsTableOf-pair middle_edges_coordinate outer_edges_coordinate c.in_ok-middle.middle
-          c.in_ok-outer.outer refl c.in_ok-middle.ensures c.in_ok-outer.ensures _ c.new-2.ensures EdgeSlice 18
-          c.in_ok-edgeslice.edgeslice
-          (record { name = second.named; bound = second.bounded; measures = second.measures });
-    }
+invariant_of-result g c = record {
+  corners_shown = c.in_ok-corners.ensures;
+  outer_shown = c.in_ok-outer.ensures;
+  middle_shown = c.in_ok-middle.ensures;
+  cornerslice_is = IsPruningTable-pair middle_edges_coordinate corners_coordinate c.in_ok-middle.middle
+      c.in_ok-corners.corners refl c.in_ok-middle.ensures c.in_ok-corners.ensures _ c.new.ensures CornerSlice 18
+      c.in_ok-cornerslice.cornerslice c.in_ok-cornerslice.ensures.table;
+  edgeslice_is = IsPruningTable-pair middle_edges_coordinate outer_edges_coordinate c.in_ok-middle.middle
+      c.in_ok-outer.outer refl c.in_ok-middle.ensures c.in_ok-outer.ensures _ c.new-2.ensures EdgeSlice 18
+      c.in_ok-edgeslice.edgeslice c.in_ok-edgeslice.ensures.table;
+}
 
 pub returns-clause-whole : goal.returns-clause-whole
 returns-clause-whole g c =
-    let made = c.in_ok-cornerslice.ensures in
-    let last = c.in_ok-edgeslice.ensures in
     let first = no_gap-pair middle_edges_coordinate corners_coordinate c.in_ok-middle.middle c.in_ok-corners.corners
-    refl c.in_ok-middle.ensures c.in_ok-corners.ensures _ c.new.ensures CornerSlice 18 c.in_ok-cornerslice.cornerslice
-    (record { name = made.named; bound = made.bounded; measures = made.measures }) in
+    refl c.in_ok-middle.ensures c.in_ok-corners.ensures _ c.new.ensures CornerSlice 18 c.in_ok-cornerslice.cornerslice.distances
+    c.in_ok-cornerslice.ensures.table.distances in
     let second = no_gap-pair middle_edges_coordinate outer_edges_coordinate c.in_ok-middle.middle c.in_ok-outer.outer
-    refl c.in_ok-middle.ensures c.in_ok-outer.ensures _ c.new-2.ensures EdgeSlice 18 c.in_ok-edgeslice.edgeslice
-    (record { name = last.named; bound = last.bounded; measures = last.measures }) in
+    refl c.in_ok-middle.ensures c.in_ok-outer.ensures _ c.new-2.ensures EdgeSlice 18 c.in_ok-edgeslice.edgeslice.distances
+    c.in_ok-edgeslice.ensures.table.distances in
     All-cons HasNoGap cornerslice_line (edgeslice_line ∷ []) first (no_gaps-line edgeslice_line second)

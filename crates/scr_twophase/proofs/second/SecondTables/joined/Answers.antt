@@ -1,26 +1,34 @@
-use Rattle.std.proofs.Common.{◌≡◌, [], sym, below_more}
-use Rattle.scr_twophase.specs.Search.{letters, IsAt, ShowsSecond}
-use Rattle.scr_twophase.specs.TwoParts.{domino_turns, is_solution}
-use Rattle.scr_twophase.specs.Words.{words_behind}
-use Rattle.scr_twophase.proofs.Outcomes.{none-first}
-use Rattle.scr_twophase.proofs.SecondSteps.{IsSecondPosition-shown, joined_at, joined_nowhere}
+use Rattle.std.proofs.Common.{◌≡◌, ◌<◌, Some, subst, sym, arith}
+use Rattle.std.specs.Prelude.{All}
+use Rattle.scr_combinatorics.specs.Play.{play}
+use Rattle.scr_twophase.specs.Search.{letters}
+use Rattle.scr_twophase.specs.TwoParts.{after_turn}
+use Rattle.scr_twophase.proofs.SecondSteps.{joined-searched}
 use Rattle.scr_twophase.proofs.second.SecondTables.joined.Goals as goal
 
-pub solution_behind-requires-clause-at : goal.solution_behind-requires-clause-at
-solution_behind-requires-clause-at c = IsSecondPosition-shown c.args.domino.now c.of-at.result c.of-at.ensures
+pub behind-at-requires : goal.behind-at-requires
+behind-at-requires c =
+    let domino = c.requires.domino in
+    record {
+      turns = subst (All (λ t. t < 18)) (sym c.turns.ensures.turns) c.turns.ensures.below;
+      domino = (domino.0, subst (λ w. play after_turn c.args.cube.now w ≡ Some domino.0) (sym c.turns.ensures.turns) domino.1, domino.2);
+    }
 
-pub returns-in-Some : goal.returns-in-Some
-returns-in-Some c = λ cube played.
-    let h : IsAt ShowsSecond cube (letters c.args.word.now) c.of-at.result = record { there = c.args.domino.now; played = played; shows = c.of-at.ensures } in
-    sym (joined_at cube (letters c.args.word.now) c.loop-turns.turns (letters c.in-Some.joined) c.loop-turns-test.true (c.loop-turns.invariant cube played)
-    (sym (c.in-Some.ensures cube h)))
-
-pub loop-turns-preserved : goal.loop-turns-preserved
-loop-turns-preserved c = λ cube played.
-    let h : IsAt ShowsSecond cube (letters c.args.word.now) c.of-at.result = record { there = c.args.domino.now; played = played; shows = c.of-at.ensures } in
-    below_more (λ k. words_behind domino_turns (is_solution cube) (letters c.args.word.now) k ≡ []) c.loop-turns.turns (c.loop-turns.invariant cube played)
-    (none-first (words_behind domino_turns (is_solution cube) (letters c.args.word.now) c.loop-turns.turns) (sym (c.in_default.ensures cube h)))
+pub search_within-requires : goal.search_within-requires
+search_within-requires c =
+    let domino = c.requires.domino in
+    record {
+      at = record {
+        there = domino.0;
+        played = domino.1;
+        shows = c.behind-at.ensures domino.0 (subst (λ w. play after_turn c.args.cube.now w ≡ Some domino.0) (sym c.turns.ensures.turns) domino.1);
+        orderly = c.requires.orderly;
+      };
+      few = omega (arith, c.requires.few);
+    }
 
 pub returns : goal.returns
-returns c = λ cube played.
-    sym (joined_nowhere cube (letters c.args.word.now) c.loop-turns.turns c.loop-turns-test.false (c.loop-turns.invariant cube played))
+returns c = record {
+  joined = joined-searched c.args.cube.now (letters c.args.word.now) (letters c.search_within.new.word) c.search_within.result c.search_within.new.tries c.search_within.ensures;
+  same = c.search_within.ensures.same;
+}

@@ -1,0 +1,35 @@
+use Rattle.std.proofs.Common.{◌≡◌, ◌-◌, ◌+◌, ◌^◌, subst, sym, arith}
+use Rattle.scr_twophase.specs.Search.{letters, KeepsWays}
+use Rattle.scr_twophase.specs.TwoParts.{is_domino, is_first_part, turn_numbers}
+use Rattle.scr_twophase.proofs.FirstSteps.{IsFirstPosition-shown, KeepsWays-quarters, first_part_ways, side_quarters}
+use Rattle.scr_twophase.proofs.SearchSteps.{KeepsWays-left}
+use Rattle.scr_twophase.proofs.WordSteps.{AreBehind-turns, behind_turns, behind_turns-small}
+use Rattle.scr_twophase.proofs.parts.PartTablesPart.turns_from.Goals as goal
+
+pub turns_within-requires : goal.turns_within-requires
+turns_within-requires c = IsFirstPosition-shown c.requires.at.1.there c.args.at c.requires.at.1.shows
+
+pub and-turns-requires : goal.and-turns-requires
+unfolding behind_turns
+and-turns-requires c = c.behind.ensures.small (2 ^ 18) behind_turns-small
+
+pub returns-else-left-eq1-clause-kept : goal.returns-else-left-eq1-clause-kept
+unfolding turn_numbers behind_turns
+returns-else-left-eq1-clause-kept c = λ cube h.
+    let one : c.args.left ≡ (c.args.left - 1) + 1 = omega (arith, c.requires.some) in
+    KeepsWays-left turn_numbers is_domino (is_first_part cube) cube h.there (letters c.args.word.now) (c.args.left - 1) c.turns_within.result.bits c.behind.result.bits
+    c.and-turns.result.bits (first_part_ways cube) h.played (c.turns_within.ensures.kept h.there (c.args.left - 1) one h.shows)
+    (λ place lt. c.behind.ensures.turns turn_numbers AreBehind-turns place lt) (c.behind.ensures.small (2 ^ 18) behind_turns-small) c.and-turns.ensures.turns
+
+pub returns-then-left-eq1-clause-kept : goal.returns-then-left-eq1-clause-kept
+unfolding turn_numbers behind_turns side_quarters
+returns-then-left-eq1-clause-kept c = λ cube h.
+    let last : c.args.left - 1 ≡ 0 = omega (arith, c.if-left-eq1.true) in
+    let word = letters c.args.word.now in
+    let all = KeepsWays-left turn_numbers is_domino (is_first_part cube) cube h.there word (c.args.left - 1) c.turns_within.result.bits c.behind.result.bits
+    c.and-turns.result.bits (first_part_ways cube) h.played
+    (c.turns_within.ensures.kept h.there (c.args.left - 1) (omega (arith, c.if-left-eq1.true)) h.shows)
+    (λ place lt. c.behind.ensures.turns turn_numbers AreBehind-turns place lt) (c.behind.ensures.small (2 ^ 18) behind_turns-small) c.and-turns.ensures.turns in
+    subst (λ n. KeepsWays turn_numbers (is_first_part cube) word n c.and.result.bits) (sym last)
+    (KeepsWays-quarters cube word c.and-turns.result.bits c.and.result.bits
+    (subst (λ n. KeepsWays turn_numbers (is_first_part cube) word n c.and-turns.result.bits) last all) c.and.ensures.turns)
