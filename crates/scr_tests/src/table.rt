@@ -225,7 +225,7 @@ fn blocks_of_a_row(rt: HostRuntime) {
         match DistanceTable::build(&rt, rt.alloc(), TableName::Square, &Row(21), 20, workers) {
             Ok(table) => {
                 assert_eq!(rt; table.blocks().len(), 1);
-                assert_eq!(rt; table.blocks()[0][..12], ROW_BYTES);
+                assert_eq!(rt; &table.blocks()[0][..12], ROW_BYTES.as_slice());
                 assert_eq!(rt; table.deep(), &DEEP_ROW[..]);
             }
             Err(_) => assert!(rt; false),
