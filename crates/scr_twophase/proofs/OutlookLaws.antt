@@ -1,53 +1,82 @@
 -- What the turns from a position come to, one after another.
-use Rattle.std.proofs.Common.{◌≡◌, ℕ, ◌+◌, ◌-◌, ◌*◌, ◌/◌, ◌%◌, ◌^◌, ◌<◌, ◌≤◌, Bool, true, false, cond, List, length, get_or, Some, refl, sym, subst, arith}
+use Rattle.std.proofs.Math.ListN.{set}
+use Rattle.std.proofs.Common.{◌≡◌, ◌≢◌, ◌⊎◌, get_or-set_other, get_or-set_same, ℕ, ◌+◌, ◌-◌, ◌*◌, ◌/◌, ◌%◌, ◌^◌, ◌<◌, ◌≤◌, Bool, true, false, cond, List, [], ◌∷◌, ◌++◌, inl, inr, length, get_or, Some, refl, sym, ap, ◌∙◌, subst, arith}
 use Rattle.std.specs.Prelude.{◌==◌, nat_le}
-use Rattle.std.proofs.lemmas.Bool.{leb-true, eqb-true}
+use Rattle.std.proofs.lemmas.Bool.{leb-true, eqb-true, cases_eq}
 use Rattle.scr_table.proofs.StepLaws.{moved-turn}
 use Rattle.scr_coord.specs.Coordinates.{Coordinate, moved}
 use Rattle.scr_twophase.specs.TurnSets.{contains_turn}
-use Rattle.scr_twophase.specs.Outlooks.{turns_within, IsOutlook}
+use Rattle.scr_twophase.specs.Outlooks.{turns_within, AreFound, IsOutlook}
+use Rattle.scr_twophase.specs.declared.outlook.Found.{Found}
+use Rattle.std.proofs.lemmas.List.{length-append, get_or_append_left, get_or-append-add}
 use Rattle.scr_twophase.proofs.BitSets.{has_turn-all}
 use Rattle.scr_twophase.specs.declared.outlook.Outlook.{Outlook}
-
--- of the turns below a number, those that lead nearer are found, and those that lead no farther
-pub record AreFound (c : Coordinate) (distances : List ℕ) (p distance turn nearer no_farther : ℕ) : Type 0 where
-  pub near : (t q : ℕ) → t < turn → moved c p t ≡ Some q → get_or distances q 0 < distance → contains_turn nearer t ≡ true
-  pub level : (t q : ℕ) → t < turn → moved c p t ≡ Some q → get_or distances q 0 ≤ distance → contains_turn no_farther t ≡ true
-  pub few_near : nearer < 2 ^ 18
-  pub few_level : no_farther < 2 ^ 18
 
 -- the positions below a number have their outlooks
 pub record AreMade (c : Coordinate) (distances : List ℕ) (done : ℕ) (all : List Outlook) : Type 0 where
   pub size : length all ≡ done
   pub each : (p : ℕ) (o : Outlook) → p < done → IsOutlook c distances p (get_or all p o)
 
--- what is packed, read again
-packed_distance : (n d : ℕ) → n < 2 ^ 18 → d ≤ 24 → (n + d * 262144 % 4294967296) / 2 ^ 18 ≡ d
-packed_distance n d lt le = omega arith
-
-packed_turns : (n d : ℕ) → n < 2 ^ 18 → d ≤ 24 → (n + d * 262144 % 4294967296) % 2 ^ 18 ≡ n
-packed_turns n d lt le = omega arith
-
 taken : {X : Type 0} (P : X → Type 0) (b : Bool) (x y : X) → (b ≡ true → P x) → (b ≡ false → P y) → P (cond b x y)
 taken P true x y f g = f refl
 taken P false x y f g = g refl
 
-pub IsOutlook-found : (c : Coordinate) (distances : List ℕ) (p distance turn nearer no_farther : ℕ) → AreFound c distances p distance turn nearer no_farther
-    → distance ≤ 24 → c.turns ≤ turn → c.turns ≤ 18
-    → IsOutlook c distances p (record { nearer = nearer + distance * 262144 % 4294967296; no_farther = no_farther })
+pub IsOutlook-found : (c : Coordinate) (distances : List ℕ) (p turn : ℕ) (found : Found) (o : Outlook) → AreFound c distances p turn found
+    → get_or distances p 0 ≤ 24 → c.turns ≤ turn → c.turns ≤ 18 → o.nearer ≡ found.nearer.bits + get_or distances p 0 * 262144
+    → o.no_farther ≡ found.no_farther.bits → IsOutlook c distances p o
 unfolding turns_within
-IsOutlook-found c distances p distance turn nearer no_farther h small all few = record {
+IsOutlook-found c distances p turn found o h small all few near level = record {
   kept = λ t q left to lt.
       let step : t < c.turns = (moved-turn c p t q to).0 in
-      let d : (nearer + distance * 262144 % 4294967296) / 2 ^ 18 ≡ distance = packed_distance nearer distance h.few_near small in
-      let n : (nearer + distance * 262144 % 4294967296) % 2 ^ 18 ≡ nearer = packed_turns nearer distance h.few_near small in
-      let m : no_farther % 2 ^ 18 ≡ no_farther = omega (arith, h.few_level) in
+      let distance = get_or distances p 0 in
+      let d : o.nearer / 2 ^ 18 ≡ distance = omega (arith, near, h.few_near, small) in
+      let n : o.nearer % 2 ^ 18 ≡ found.nearer.bits = omega (arith, near, h.few_near, small) in
+      let m : o.no_farther % 2 ^ 18 ≡ found.no_farther.bits = omega (arith, level, h.few_level) in
       let P : ℕ → Type 0 = λ bits. contains_turn bits t ≡ true in
-      taken P (nat_le left ((nearer + distance * 262144 % 4294967296) / 2 ^ 18)) ((nearer + distance * 262144 % 4294967296) % 2 ^ 18)
-      (cond (left == (nearer + distance * 262144 % 4294967296) / 2 ^ 18 + 1) (no_farther % 2 ^ 18) (2 ^ 18 - 1))
-      (λ e. subst P (sym n) (h.near t q (omega arith) to (omega (arith, leb-true left ((nearer + distance * 262144 % 4294967296) / 2 ^ 18) e))))
+      taken P (nat_le left (o.nearer / 2 ^ 18)) (o.nearer % 2 ^ 18)
+      (cond (left == o.nearer / 2 ^ 18 + 1) (o.no_farther % 2 ^ 18) (2 ^ 18 - 1))
+      (λ e. subst P (sym n) (h.near t q (omega arith) to (omega (arith, d, leb-true left (o.nearer / 2 ^ 18) e))))
       (λ far.
-      taken P (left == (nearer + distance * 262144 % 4294967296) / 2 ^ 18 + 1) (no_farther % 2 ^ 18) (2 ^ 18 - 1)
-      (λ e. subst P (sym m) (h.level t q (omega arith) to (omega (arith, eqb-true left ((nearer + distance * 262144 % 4294967296) / 2 ^ 18 + 1) e))))
+      taken P (left == o.nearer / 2 ^ 18 + 1) (o.no_farther % 2 ^ 18) (2 ^ 18 - 1)
+      (λ e. subst P (sym m) (h.level t q (omega arith) to (omega (arith, d, eqb-true left (o.nearer / 2 ^ 18 + 1) e))))
       (λ other. has_turn-all t (omega arith)));
 }
+
+-- no turn yet
+pub AreFound-none : (c : Coordinate) (distances : List ℕ) (p : ℕ)
+    → AreFound c distances p 0 (record { nearer = record { bits = 0 }; no_farther = record { bits = 0 } })
+AreFound-none c distances p = record {
+  near = λ t q lt to nearer. absurd (omega arith);
+  level = λ t q lt to level. absurd (omega arith);
+  few_near = omega arith;
+  few_level = omega arith;
+}
+
+-- one position more
+pub AreMade-pushed : (c : Coordinate) (distances : List ℕ) (done : ℕ) (all : List Outlook) (o : Outlook) → IsOutlook c distances done o
+    → AreMade c distances done all → AreMade c distances (done + 1) (all ++ o ∷ [])
+AreMade-pushed c distances done all o is h = record {
+  size = length-append all (o ∷ []) ∙ omega (arith, h.size);
+  each = λ p d lt.
+      elim (cases_eq p done) [
+        | inl same ↦
+            let at : p ≡ length all + 0 = omega (arith, same, h.size) in
+            let P : ℕ → Outlook → Type 0 = λ q x. IsOutlook c distances q x in
+            subst (λ q. P q (get_or (all ++ o ∷ []) p d)) (sym same)
+            (subst (P done) (sym (ap (λ i. get_or (all ++ o ∷ []) i d) at ∙ get_or-append-add all (o ∷ []) 0 d)) is)
+        | inr other ↦
+            let before : p < length all = omega (arith, lt, other, h.size) in
+            subst (λ x. IsOutlook c distances p x) (sym (get_or_append_left all (o ∷ []) d p before)) (h.each p d (omega (arith, lt, other)))
+      ];
+}
+
+-- what is so of each of some findings once one of them is written anew
+pub found_written : (P : ℕ → Found → Type 0) (xs : List Found) (k : ℕ) (x : Found) → k < length xs → P k x → (j : ℕ) (d : Found)
+    → (j ≢ k → P j (get_or xs j d)) → P j (get_or (set xs k x) j d)
+found_written P xs k x inside here j d there = by_place (cases_eq j k)
+  where
+    by_place : (j ≡ k) ⊎ (j ≢ k) → P j (get_or (set xs k x) j d)
+    by_place (inl same) =
+        let Q : ℕ → Type 0 = λ i. P i (get_or (set xs k x) i d) in
+        subst Q (sym same) (rw get_or-set_same here)
+    by_place (inr other) = rw get_or-set_other (there other)

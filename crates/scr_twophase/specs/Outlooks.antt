@@ -1,8 +1,9 @@
 -- Which turns may go on a word of so many turns to the goal of a pruning table.
-use Rattle.std.specs.Prelude.{◌≡◌, ℕ, ◌+◌, ◌-◌, ◌/◌, ◌%◌, ◌^◌, ◌<◌, ◌==◌, nat_le, IsTrue, if◌then◌else◌, List, length, slice_index, slice_index_or, Some}
+use Rattle.std.specs.Prelude.{◌≡◌, ℕ, ◌+◌, ◌-◌, ◌/◌, ◌%◌, ◌^◌, ◌<◌, ◌≤◌, ◌==◌, nat_le, true, IsTrue, if◌then◌else◌, List, length, slice_index, slice_index_or, Some}
 use Rattle.scr_coord.specs.Coordinates.{Coordinate, moved}
 use Rattle.scr_table.specs.Lines.{TableLine, IsTableOf}
 use Rattle.scr_twophase.specs.declared.outlook.Outlook.{Outlook}
+use Rattle.scr_twophase.specs.declared.outlook.Found.{Found}
 use Rattle.scr_twophase.specs.declared.pruning.PruningTable.{PruningTable}
 use Rattle.scr_twophase.specs.TurnSets.{contains_turn}
 
@@ -16,6 +17,15 @@ turns_within o left =
 -- An outlook leaves each turn of its position that leads to where the table has fewer turns than may still be made.
 pub record IsOutlook (c : Coordinate) (distances : List ℕ) (p : ℕ) (o : Outlook) : Type 0 where
   pub kept : (t q left : ℕ) → moved c p t ≡ Some q → slice_index distances q < left → IsTrue (contains_turn (turns_within o left) t)
+
+-- Of the turns below a number those that lead nearer than the position is are found, and those that lead no farther.
+pub record AreFound (c : Coordinate) (distances : List ℕ) (p turn : ℕ) (found : Found) : Type 0 where
+  pub near : (t q : ℕ) → t < turn → moved c p t ≡ Some q → slice_index distances q < slice_index distances p
+      → contains_turn found.nearer.bits t ≡ true
+  pub level : (t q : ℕ) → t < turn → moved c p t ≡ Some q → slice_index distances q ≤ slice_index distances p
+      → contains_turn found.no_farther.bits t ≡ true
+  pub few_near : found.nearer.bits < 2 ^ 18
+  pub few_level : found.no_farther.bits < 2 ^ 18
 
 -- There is one for each position.
 pub record AreOutlooks (c : Coordinate) (distances : List ℕ) (all : List Outlook) : Type 0 where
