@@ -137,7 +137,14 @@ fn enter_turn<C: Coord>(
         → AreFound (C.coordinate coord.now) distances.now (start + k) (turn + 1) (slice_index_or found.new k d) }
 {
     for k in 0..targets.len() {
-        found[k] = with_turn(coord, distances, start as usize + k, turn, targets[k], found[k]);
+        found[k] = with_turn(
+            coord,
+            distances,
+            start as usize + k,
+            turn,
+            targets[k],
+            found[k],
+        );
     }
 }
 

@@ -8,4 +8,4 @@ invariant-loop-k g l =
     (length l.found ≡ 1024)
     × ((j : ℕ) (d : Found) → j < l.k → AreFound (g.C.Coord.coordinate l.coord) l.distances (l.start + j) (l.turn + 1) (get_or l.found j d))
     × ((j : ℕ) (d : Found) → l.k ≤ j → j < length l.targets
-      → AreFound (g.C.Coord.coordinate l.coord) l.distances (l.start + j) l.turn (get_or l.found j d))
+    → AreFound (g.C.Coord.coordinate l.coord) l.distances (l.start + j) l.turn (get_or l.found j d))

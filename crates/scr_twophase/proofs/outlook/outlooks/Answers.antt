@@ -21,5 +21,5 @@ loop-k-preserved g c =
     let At : ℕ → Type 0 = λ done. AreMade show distances done c.push.new.self.items in
     let Holds : List Outlook → Type 0 = λ all. AreMade show distances ((c.loop-start.start + c.loop-k.k) + 1) all in
     subst At place (
-      subst Holds (sym c.in_ok-push.ensures.items) (AreMade-pushed show distances _ _ _ c.outlook_of.ensures c.loop-k.invariant)
+    subst Holds (sym c.in_ok-push.ensures.items) (AreMade-pushed show distances _ _ _ c.outlook_of.ensures c.loop-k.invariant)
     )
