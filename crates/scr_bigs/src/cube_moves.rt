@@ -36,6 +36,7 @@ pub fn big_cube<W: Words, const SIDE: usize>(
     ensures taken { let cube = cube_of SIDE in
         let read = attempts_read cube attempts (W.word_at words.old) (cube_turns cube) (W.taken words.old) cube.turns in
         W.taken words.new ≡ W.taken words.old + 3 * read }
+    ensures at_most { W.taken words.new ≤ W.taken words.old + 300000000 }
     ensures same_words { W.word_at words.new ≡ W.word_at words.old }
 {
     let side = SIDE as u8;

@@ -1,16 +1,17 @@
 -- What the words of the command line ask for.
 use Rattle.std.specs.Prelude.{◌≡◌, ℕ, if◌then◌else◌, true, List, [], ◌∷◌, codes, Option, Some, None, Result, Ok, Err}
-use Rattle.std.specs.Prelude.{ok_or}
+use Rattle.std.specs.Prelude.{ok_or, is_some}
 use Rattle.std.specs.Str.{bytes_eq}
 use Rattle.scr_words.specs.declared.seed.Seed.{Seed}
 use Rattle.scr_words.specs.declared.seed.SeedFault.{SeedFault}
 use Rattle.scr_words.specs.Seed.{seed_of}
 use Rattle.scr_notation.specs.declared.event.Event.{Event}
+use Rattle.scr_notation.specs.declared.event.Event.TheVariants.{C222, C333, Oh333, C555, C666, C777}
 use Rattle.scr_text.specs.Numbers.{number_between}
 use Rattle.scr_list.specs.Events.{event_named}
 use Rattle.scr_command.specs.declared.options.Options.{Options}
 use Rattle.scr_command.specs.declared.command.Command.{Command}
-use Rattle.scr_command.specs.declared.command.Command.TheVariants.{One, Sheet, Tables, Load}
+use Rattle.scr_command.specs.declared.command.Command.TheVariants.{One, Sheet, Tables, Load, Net}
 use Rattle.scr_command.specs.declared.command.UsageFault.{UsageFault}
 use Rattle.scr_command.specs.declared.command.UsageFault.TheVariants.{No444, NoSeed, Grammar}
 use Rattle.scr_command.specs.declared.options.OptionName.{OptionName}
@@ -61,6 +62,13 @@ seeded command (Err fault) = Err (NoSeed fault)
 
 -- ---- `one EVENT SEED`
 
+-- what two words ask for; others ask for nothing
+abbrev pub of_two : (List ℕ → List ℕ → Result Command UsageFault) → List (List ℕ) → Result Command UsageFault
+of_two command [] = Err Grammar
+of_two command (first ∷ []) = Err Grammar
+of_two command (first ∷ second ∷ []) = command first second
+of_two command (first ∷ second ∷ more ∷ others) = Err Grammar
+
 -- the event that a word names
 abbrev pub event_for : List ℕ → Result Event UsageFault
 event_for word = if bytes_eq word (codes "444") then Err No444 else ok_or (event_named word) Grammar
@@ -72,10 +80,28 @@ one_for (Ok event) seed = seeded (One event) (seed_of seed)
 
 -- the words after `one`
 abbrev pub one_of : List (List ℕ) → Result Command UsageFault
-one_of [] = Err Grammar
-one_of (event ∷ []) = Err Grammar
-one_of (event ∷ seed ∷ []) = one_for (event_for event) seed
-one_of (event ∷ seed ∷ more ∷ others) = Err Grammar
+one_of words = of_two (λ event. one_for (event_for event)) words
+
+-- ---- `net EVENT SEED`
+
+-- how many layers the cube of an event has whose nets are shown
+abbrev pub net_side : Event → Option ℕ
+net_side C222 = Some 2
+net_side C333 = Some 3
+net_side Oh333 = Some 3
+net_side C555 = Some 5
+net_side C666 = Some 6
+net_side C777 = Some 7
+net_side _ = None
+
+-- the command, with its event, where it has nets, and what was read where its seed stands
+abbrev pub net_for : Result Event UsageFault → List ℕ → Result Command UsageFault
+net_for (Err fault) seed = Err fault
+net_for (Ok event) seed = if is_some (net_side event) then seeded (Net event) (seed_of seed) else Err Grammar
+
+-- the words after `net`
+abbrev pub net_of : List (List ℕ) → Result Command UsageFault
+net_of words = of_two (λ event. net_for (event_for event)) words
 
 -- ---- `sheet --seed HEX [--workers N] [--tries N] [--attempts N]`
 
@@ -127,6 +153,7 @@ command_of (command ∷ words) =
     else if bytes_eq command (codes "one") then one_of words
     else if bytes_eq command (codes "tables") then tables_of words
     else if bytes_eq command (codes "load") then load_of words
+    else if bytes_eq command (codes "net") then net_of words
     else Err Grammar
 
 -- the words begin with `sheet`: only these does a run split into options, for which it takes memory

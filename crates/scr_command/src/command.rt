@@ -7,7 +7,7 @@ ghost use Rattle.scr_command.specs.OptionTable.{option_row, sheet_options, IsSet
 ghost use Rattle.scr_command.specs.OptionWords.{options_of};
 ghost use Rattle.scr_command.specs.Split.{found_values};
 ghost use Rattle.scr_command.specs.Words.{texts};
-ghost use Rattle.scr_command.specs.Command.{command_of, sheet_of, one_of, tables_of, load_of, event_for, number_in};
+ghost use Rattle.scr_command.specs.Command.{command_of, sheet_of, one_of, net_of, net_side, tables_of, load_of, event_for, number_in};
 ghost use Rattle.scr_command.specs.Command.{settings_in};
 ghost use Rattle.scr_command.specs.Reading.{IsRefusal, IsSheetRefusal, IsCommand, AreOptions};
 
@@ -30,6 +30,8 @@ pub enum Command {
     Tables(Event),
     /// What a sheet amounts to whose list follows from this number, from 0 to 9,999.
     Load(u32),
+    /// One scramble of a cube's event, of stream 0 of a seed, and the net of the scrambled cube.
+    Net(Event, Seed),
 }
 
 /// Why the words ask for nothing.
@@ -81,6 +83,7 @@ pub fn read_command(alloc: Global, words: &[&str]) -> Result<Command, CommandFau
         [command, words @ ..] if *command == "one" => Ok(read_one(words)?),
         [command, words @ ..] if *command == "tables" => Ok(read_tables(words)?),
         [command, words @ ..] if *command == "load" => Ok(read_load(words)?),
+        [command, words @ ..] if *command == "net" => Ok(read_net(words)?),
         [..] => Err(CommandFault::Usage(UsageFault::Grammar)),
     }
 }
@@ -103,6 +106,43 @@ fn read_event_and_seed(event: &str, seed: &str) -> Result<Command, UsageFault>
     let event = read_event(event)?;
     let seed = read_seed(seed)?;
     Ok(Command::One(event, seed))
+}
+
+/// Reads the words after `net`.
+fn read_net(words: &[&str]) -> Result<Command, UsageFault>
+    ensures answer { result ≡ net_of (texts words.now) }
+    ensures command { IfOk result IsCommand }
+{
+    match words {
+        [event, seed] => read_cube_and_seed(event, seed),
+        _ => Err(UsageFault::Grammar),
+    }
+}
+
+fn read_cube_and_seed(event: &str, seed: &str) -> Result<Command, UsageFault>
+    ensures answer { result ≡ net_of (event.now ∷ seed.now ∷ []) }
+    ensures command { IfOk result IsCommand }
+{
+    let event = read_event(event)?;
+    if net_side(event).is_none() {
+        return Err(UsageFault::Grammar);
+    }
+    let seed = read_seed(seed)?;
+    Ok(Command::Net(event, seed))
+}
+
+/// How many layers the cube of an event has whose nets are shown; `None` for every other event.
+pub fn net_side(event: Event) -> Option<u8>
+    ensures { result ≡ net_side event }
+{
+    match event {
+        Event::C222 => Some(2),
+        Event::C333 | Event::Oh333 => Some(3),
+        Event::C555 => Some(5),
+        Event::C666 => Some(6),
+        Event::C777 => Some(7),
+        _ => None,
+    }
 }
 
 /// Reads the words after `tables`.

@@ -69,7 +69,7 @@ IsCubeTurn-from_test r h =
 
 -- ---- what follows of that
 
-IsCube-solved : IsCube solved_cube
+pub IsCube-solved : IsCube solved_cube
 unfolding solved_cube solved_orbit
 IsCube-solved = record { corners = IsZeroSumOrbit-solved 8 3 (lit< tt); edges = IsZeroSumOrbit-solved 12 2 (lit< tt); same_parity = refl }
 

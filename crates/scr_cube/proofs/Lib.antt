@@ -6,3 +6,8 @@ pub mod Laws222
 pub mod Known
 pub mod Minima
 pub mod Parity
+pub mod Holds
+pub mod HeldLaws
+pub mod HeldReach
+pub mod NumberedHeld
+pub mod HeldStickers

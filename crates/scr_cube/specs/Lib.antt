@@ -1,5 +1,6 @@
 pub mod Cube333
 pub mod Cube222
+pub mod Held
 pub mod Stickers
 pub mod Symmetry
 pub mod Known

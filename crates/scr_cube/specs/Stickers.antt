@@ -1,8 +1,11 @@
 -- What quarter turns do to stickers, which is where the tables come from. The faces U R F D L B are 0 to 5.
-use Rattle.std.specs.Prelude.{ℕ, ◌==◌, if◌then◌else◌, List, [], ◌∷◌, map, slice_index, slice_index_or}
+use Rattle.std.specs.Prelude.{◌≡◌, ℕ, ◌==◌, if◌then◌else◌, List, [], ◌∷◌, ◌++◌, map, slice_index, slice_index_or}
 use Rattle.std.specs.List.{list_any}
+use Rattle.scr_combinatorics.specs.Lists.{numbers_from}
+use Rattle.scr_combinatorics.specs.Permutations.{place_of}
 use Rattle.scr_orbit.specs.Stickers.{IsCarriedBy}
 use Rattle.scr_cube.specs.Cube333.{CubeTurn}
+use Rattle.scr_cube.specs.Held.{centres_turned, hold_centres, opposite_place, turned_face}
 
 -- The faces at which the stickers of each corner place are, clockwise, that of U or D first: URF, UFL, ULB, UBR, DFR, DLF,
 -- DBL, DRB.
@@ -33,3 +36,33 @@ carried_piece face stickers =
 pub record CarriesStickers (face : ℕ) (r : CubeTurn) : Type 0 where
   pub corners : IsCarriedBy (carried_piece face) corner_faces r.corners
   pub edges : IsCarriedBy (carried_piece face) edge_faces r.edges
+
+-- ---- of a cube as it is held
+
+-- The faces of the stickers of each piece, of the six centres too.
+abbrev pub piece_faces : List (List ℕ)
+piece_faces = corner_faces ++ edge_faces ++ map (λ face. face ∷ []) (numbers_from 0 6)
+
+-- The same after the whole cube was turned clockwise about a place, and after a wide turn there, which leaves the pieces of
+-- the opposite layer alone.
+abbrev pub carried_whole : ℕ → List ℕ → List ℕ
+carried_whole place stickers = map (slice_index (slice_index_or carried_to place [])) stickers
+
+abbrev pub carried_wide : ℕ → List ℕ → List ℕ
+carried_wide place stickers =
+    if list_any (λ s. s == opposite_place place) stickers then stickers else carried_whole place stickers
+
+-- After a quarter turn of so many layers at a place.
+abbrev pub carried_at : ℕ → ℕ → List ℕ → List ℕ
+carried_at place depth stickers = if depth == 1 then carried_piece place stickers else carried_wide place stickers
+
+-- The places at which a piece's stickers are on a cube that is held so: each where its face's centre stands.
+abbrev pub shown_places : List ℕ → List ℕ → List ℕ
+shown_places centres stickers = map (λ face. place_of face centres) stickers
+
+-- In this hold, a quarter turn of so many layers at a place brings all stickers to the places to which it carries them.
+abbrev pub MovesStickers : ℕ → ℕ → ℕ → Type 0
+MovesStickers hold place depth =
+    let centres = hold_centres hold in
+    map (λ s. shown_places (centres_turned centres place depth 1) (carried_piece (turned_face centres place depth) s)) piece_faces
+    ≡ map (λ s. carried_at place depth (shown_places centres s)) piece_faces

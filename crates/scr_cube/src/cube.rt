@@ -86,6 +86,13 @@ impl Cube {
         (self.corners, self.edges)
     }
 
+    /// Does nothing: the cube is valid.
+    pub(crate) fn is_valid(&self)
+        ensures { IsCube self.now }
+    {
+        let _orbits = self.orbits();
+    }
+
     /// Which corner stands at each place.
     pub fn corners(&self) -> [u8; 8]
         ensures same { result ≡ self.now.corners.pieces }

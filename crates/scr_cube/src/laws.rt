@@ -1,20 +1,30 @@
 //! Laws of the 3x3x3 and the 2x2x2. The functions do nothing: what each ensures is the law.
-ghost use Rattle.std.specs.Prelude.{◌≡◌, ℕ, ◌*◌, ◌/◌, ◌+◌, ◌^◌, ◌<◌, List, [], ◌∷◌, All, map, length, take, slice_get, slice_index, Some, codes};
+ghost use Rattle.std.specs.Prelude.{◌≡◌, ℕ, ◌*◌, ◌/◌, ◌+◌, ◌^◌, ◌<◌, ◌↔◌, List, [], ◌∷◌, All, Contains, IsTrue, map, length, take, slice_get, slice_index, Some, codes};
+ghost use Rattle.std.specs.List.{join_with_byte};
+ghost use Rattle.std.specs.Option.{option_map};
 ghost use Rattle.scr_combinatorics.specs.Lists.{numbers_from};
 ghost use Rattle.scr_combinatorics.specs.Permutations.{factorial};
 ghost use Rattle.scr_combinatorics.specs.Numbering.{IsNumbering};
 ghost use Rattle.scr_combinatorics.specs.Play.{play, count_in};
-ghost use Rattle.scr_combinatorics.specs.Reach.{Needs};
+ghost use Rattle.scr_combinatorics.specs.Reach.{IsReached, Needs};
+ghost use Rattle.scr_combinatorics.specs.Back.{IsTakenBack};
+ghost use Rattle.scr_combinatorics.specs.Lawful.{IsLawful};
+ghost use Rattle.scr_combinatorics.specs.Tidy.{IsKeptByTidy};
 ghost use Rattle.scr_orbit.specs.Orbits.{Orbit, IsZeroSumRearrangement, zeros};
+ghost use Rattle.scr_notation.specs.declared.event.Event.TheVariants.{Bf333};
 ghost use Rattle.scr_notation.specs.declared.turn.Turn.{Turn as Letter};
+ghost use Rattle.scr_notation.specs.declared.turn.Turn.TheVariants.{Face};
+ghost use Rattle.scr_notation.specs.Turning.{opposite, turn_merging};
+ghost use Rattle.scr_notation.specs.Turns.{permits};
 ghost use Rattle.scr_notation.specs.TurnNumbers.{face_turn_at};
 ghost use Rattle.scr_notation.specs.Spelling.{text_of};
 ghost use Rattle.scr_turning.specs.PowerPuzzles.{IsPowerPuzzle, HaveOrders, after_letter, power_puzzle};
 ghost use Rattle.scr_cube.specs.Cube333.{CubeTurn, IsCube, IsCubeTurn, cube_quarters, cube_action, cube_powers, solved_cube, cube_numbered};
 ghost use Rattle.scr_cube.specs.Cube222.{IsCorners222, quarters_222, powers_222, solved_222, numbered_222};
-ghost use Rattle.scr_cube.specs.Stickers.{CarriesStickers};
+ghost use Rattle.scr_cube.specs.Held.{HeldState, IsHeld, opposite_place, whole_turned, held_cube_after, solved_held, faces_turned, hold_word, holds, held_puzzle, held_numbered};
+ghost use Rattle.scr_cube.specs.Stickers.{CarriesStickers, MovesStickers, piece_faces, carried_piece, carried_whole, carried_wide};
 ghost use Rattle.scr_cube.specs.Symmetry.{ShowsTurns, left_right, up_down, front_back, without_dbl};
-ghost use Rattle.scr_cube.specs.Known.{known_orders, superflip, superflip_word};
+ghost use Rattle.scr_cube.specs.Known.{known_orders, superflip, superflip_word, colours_after};
 
 /// The turns of both puzzles are lawful: they keep states valid, and composed turns act as one after the other; words are
 /// taken back and tidied, and each comes to one rearrangement, the same for every state. What turns reach is valid. A quarter
@@ -28,8 +38,29 @@ pub fn turns()
 pub fn numberings()
     ensures cube { IsNumbering cube_numbered }
     ensures corners { IsNumbering numbered_222 }
+    ensures held { IsNumbering held_numbered }
     ensures cubes { cube_numbered.count ≡ 2 ^ 11 * 3 ^ 7 * factorial 8 * (factorial 12 / 2) }
     ensures states { numbered_222.count ≡ 3 ^ 6 * factorial 7 }
+    ensures held_states { held_numbered.count ≡ 24 * cube_numbered.count }
+{}
+
+/// The turns of a held cube are lawful: they keep states valid, words are taken back and tidied. A word does to the cube what
+/// the faces that it turns do.
+pub fn held_turns()
+    ensures lawful { IsLawful held_cube_after opposite turn_merging IsHeld }
+    ensures taken_back { IsTakenBack held_cube_after opposite IsHeld }
+    ensures tidied { IsKeptByTidy held_cube_after turn_merging IsHeld }
+    ensures faces { (s r : HeldState) (w : List Letter) → play held_cube_after s w ≡ Some r
+        → play (after_letter cube_powers) s.cube (faces_turned s.centres w) ≡ Some r.cube }
+{}
+
+/// Turns reach a held cube, from the solved one that is held as it was solved, where they reach the cube, whatever the hold;
+/// and it needs as many as the cube.
+pub fn held_cubes()
+    ensures reached { (s : HeldState) → IsReached held_puzzle s ↔ (IsHeld s × IsReached (power_puzzle cube_powers) s.cube) }
+    ensures from_solved { (s : HeldState) → IsReached held_puzzle s → (w : List Letter) × (play held_cube_after solved_held w ≡ Some s) }
+    ensures needs { (s : HeldState) (least : ℕ) → Contains holds s.centres
+        → Needs held_puzzle s least ↔ Needs (power_puzzle cube_powers) s.cube least }
 {}
 
 /// Every turn counts once. The state after one turn needs one, and no more.
@@ -49,6 +80,19 @@ pub fn orders()
 /// Each table is what a quarter turn does to stickers.
 pub fn stickers()
     ensures { (face : ℕ) (r : CubeTurn) → slice_get cube_quarters face ≡ Some r → CarriesStickers face r }
+{}
+
+/// A quarter turn of a held cube brings all stickers, the centres' too, to the places where it carries them, in each of the 24
+/// holds: a turn of one layer carries the pieces that have a sticker there, and a wide turn all but those of the opposite
+/// layer. So a wide turn is one of the opposite face by the same amount, and one of the whole cube.
+pub fn held_stickers()
+    ensures moved { (hold place depth : ℕ) → hold < 24 → IsTrue (permits Bf333 (Face place depth 1)) → MovesStickers hold place depth }
+    ensures wide { (place : ℕ) → place < 3
+        → map (carried_wide place) piece_faces ≡ map (λ s. carried_whole place (carried_piece (opposite_place place) s)) piece_faces }
+    ensures as_two { (s : HeldState) (place amount : ℕ) → place < 3
+        → held_cube_after s (Face place 2 amount)
+        ≡ option_map (λ r. record { cube = r.cube; centres = whole_turned place r.centres amount })
+        (held_cube_after s (Face (opposite_place place) 1 amount)) }
 {}
 
 /// A mirror shows turns the other way round. Turns of opposite faces can be exchanged. The 2x2x2's turns are those of the
@@ -94,4 +138,22 @@ pub fn known_states()
       pieces = 6 ∷ 5 ∷ 4 ∷ 3 ∷ 2 ∷ 1 ∷ 0 ∷ [];
       digits = 2 ∷ 2 ∷ 2 ∷ 2 ∷ 2 ∷ 2 ∷ 0 ∷ [];
     } }
+{}
+
+/// Where centres stand after wide turns of a cube that is held with white up and green in front; the words of the holds; and
+/// held cubes with known numbers.
+#[tactic(auto, unfolding(crate::proofs::OnLiterals::held_on_literals))]
+pub fn known_holds()
+    ensures spelled { text_of (Face 1 2 1 ∷ Face 2 2 2 ∷ Face 0 2 3 ∷ []) ≡ codes "Rw Fw2 Uw'" }
+    ensures right { colours_after (Face 1 2 1 ∷ []) ≡ Some (codes "GRYBOW") }
+    ensures front_twice { colours_after (Face 2 2 2 ∷ []) ≡ Some (codes "YOGWRB") }
+    ensures up_back { colours_after (Face 0 2 3 ∷ []) ≡ Some (codes "WGOYBR") }
+    ensures words { join_with_byte 44 (map (λ hold. text_of (hold_word hold)) (numbers_from 0 24))
+        ≡ codes ",Rw,Rw2,Rw',Fw,Fw',Uw,Rw Uw,Rw2 Uw,Rw' Uw,Fw Uw,Fw' Uw,Uw2,Rw Uw2,Rw2 Uw2,Rw' Uw2,Fw Uw2,Fw' Uw2,Uw',Rw Uw',Rw2 Uw',Rw' Uw',Fw Uw',Fw' Uw'" }
+    ensures number_1 { held_numbered.state_at 1 ≡ record { cube = solved_cube; centres = 2 ∷ 1 ∷ 3 ∷ 5 ∷ 4 ∷ 0 ∷ [] } }
+    ensures number_6 { held_numbered.state_at 6 ≡ record { cube = solved_cube; centres = 0 ∷ 5 ∷ 1 ∷ 3 ∷ 2 ∷ 4 ∷ [] } }
+    ensures number_7 { held_numbered.state_at 7 ≡ record { cube = solved_cube; centres = 2 ∷ 0 ∷ 1 ∷ 5 ∷ 3 ∷ 4 ∷ [] } }
+    ensures faces_7 { text_of (faces_turned (numbers_from 0 6) (hold_word 7)) ≡ codes "L B" }
+    ensures number_49128 { held_numbered.state_at 49128 ≡ record { cube = superflip; centres = numbers_from 0 6 } }
+    ensures count { held_numbered.count ≡ 1038048078587756544000 }
 {}

@@ -1,10 +1,11 @@
-//! The 3x3x3 and the 2x2x2: their states, their turns, what a scramble makes of them, and their numberings, by which
-//! they are drawn fairly.
+//! The 3x3x3, as it is held too, and the 2x2x2: their states, their turns, what a scramble makes of them, and their
+//! numberings, by which they are drawn fairly.
 //!
 //! A cube is two orbits, of corners and of edges, and a 2x2x2 one; a puzzle is the table of its quarter turns over them
 //! (`specs/Cube333.antt`, `specs/Cube222.antt`), and all else follows by the one theory of `scr_turning`.
 //! [`corner_turns`], [`edge_turns`] and [`turns_222`] are all turns as single rearrangements, for searches and
-//! coordinates; a wrong entry is refused. Both are turned by faces and by scrambles ([`PowerTurned`]). `laws` has what
+//! coordinates; a wrong entry is refused. Both are turned by faces and by scrambles ([`PowerTurned`]). A cube that is held
+//! ([`Held`]) is one with its six centres, which wide turns move (`specs/Held.antt`). `laws` has what
 //! holds of both: that turns are lawful, that the numberings are one to one, and what ties the tables to the puzzles
 //! themselves: stickers that are carried, mirror images, orders, known words and known numbers. The crate stands on
 //! puzzles of pieces, on orbits, on the numbers of lists and on fair drawing.
@@ -12,6 +13,7 @@
 
 mod corners;
 mod cube;
+mod held;
 pub mod laws;
 mod numbers;
 mod tables;
@@ -19,6 +21,7 @@ mod turning;
 
 pub use corners::Corners222;
 pub use cube::Cube;
-pub use numbers::{CubeNumbers, Numbers222};
+pub use held::Held;
+pub use numbers::{CubeNumbers, HeldNumbers, Numbers222};
 pub use scr_turning::PowerTurned;
 pub use tables::{corner_turns, edge_turns, turns_222};

@@ -2,9 +2,11 @@
 ghost use Rattle.std.specs.Prelude.{◌≡◌};
 ghost use Rattle.scr_cube.specs.Cube333.{IsCube, cube_digits, cube_numbered};
 ghost use Rattle.scr_cube.specs.Cube222.{numbered_222};
+ghost use Rattle.scr_cube.specs.Held.{held_bases, held_numbered};
 
 use crate::corners::Corners222;
 use crate::cube::Cube;
+use crate::held::Held;
 use scr_draw::{NumberedStates, Numbering};
 use scr_orbit::Placed;
 use scr_rank::permutations::{is_odd, rank_permutation, unrank_with_parity};
@@ -19,11 +21,22 @@ pub struct CubeNumbers;
 #[derive(Clone, Copy)]
 pub struct Numbers222;
 
+/// The numbering of the 3x3x3 as it is held: the number of the hold is the least digit, then comes that of the cube.
+#[derive(Clone, Copy)]
+pub struct HeldNumbers;
+
 /// How many flips, twists, lists of corners and lists of edges of one parity there are.
 const CUBE_BASES: [u128; 4] = [2048, 2187, 40_320, 239_500_800];
 
 /// How many twists and lists of corners there are.
 const BASES_222: [u128; 2] = [729, 5040];
+
+/// The numbers of a hold and of a cube.
+fn held_radix() -> MixedRadix<2>
+    ensures { result ≡ held_bases }
+{
+    MixedRadix::new([24, CubeNumbers.count()])
+}
 
 /// The numbers of a cube's flips, of its twists, of its list of corners, and half the number of its list of edges.
 fn digits_of(cube: &Cube) -> [u128; 4]
@@ -90,5 +103,27 @@ impl Numbering for Numbers222 {
 
     fn count(&self) -> u128 {
         MixedRadix::new(BASES_222).count()
+    }
+}
+
+impl NumberedStates<Held> for HeldNumbers {
+    ghost numbered = { λ _. held_numbered };
+}
+
+impl Numbering for HeldNumbers {
+    type State = Held;
+
+    fn state_at(&self, number: u128) -> Held {
+        let [hold, cube] = held_radix().unrank(number);
+        Held::in_hold(CubeNumbers.state_at(cube), hold as u8)
+    }
+
+    fn number_of(&self, state: &Held) -> u128 {
+        let cube = CubeNumbers.number_of(state.cube());
+        held_radix().rank(&[u128::from(state.hold()), cube])
+    }
+
+    fn count(&self) -> u128 {
+        held_radix().count()
     }
 }

@@ -1,6 +1,6 @@
 -- What the ids of the events are.
 use Rattle.std.proofs.Common.{◌≡◌, ℕ, ◌<◌, ◌≤◌, Bool, true, false, cond, List, [], ◌∷◌, length, Option, Some, None, refl, ap, ◌∙◌, subst, get_or}
-use Rattle.std.specs.Prelude.{◌&&◌, nat_lt, nat_le, codes, All}
+use Rattle.std.specs.Prelude.{◌&&◌, not, nat_lt, nat_le, codes, All}
 use Rattle.std.specs.List.{find, list_all}
 use Rattle.std.specs.Str.{IsUtf8, bytes_eq}
 use Rattle.std.proofs.lemmas.Str.{IsUtf8-from_ascii}
@@ -13,6 +13,7 @@ use Rattle.scr_text.specs.Lines.{has_bytes}
 use Rattle.scr_notation.specs.Event.{id_of, events, event_of, greatest_of, usual_of}
 use Rattle.scr_notation.proofs.EachEvent.{each_alike, each_passes}
 use Rattle.scr_list.specs.Events.{event_named}
+use Rattle.scr_list.specs.Names.{is_colon}
 
 -- what an event's id is, and its minima
 pub record IsId (e : Event) : Type 0 where
@@ -61,6 +62,15 @@ unfolding is_id
 id-IsId e =
     id-facts e (each_passes is_id refl e) (each_alike (λ x. event_of (id_of x)) Some refl e)
     (each_alike (λ x. bytes_eq (id_of x) (codes "444")) (λ x. false) refl e)
+
+-- no id has a colon
+fails : (b : Bool) → not b ≡ true → b ≡ false
+fails true is = cc
+fails false is = refl
+
+pub id-no_colon : (e : Event) → All (λ b. is_colon b ≡ false) (id_of e)
+id-no_colon e = λ k d h.
+    fails _ (AllPass-from_list_all (λ b. not (is_colon b)) (id_of e) (each_passes (λ x. list_all (λ b. not (is_colon b)) (id_of x)) refl e) k d h)
 
 -- what a search finds passes its test
 passes-at : {X : Type 0} (p : X → Bool) (ys : List X) (x y : X) (b : Bool) → p y ≡ b →

@@ -1,18 +1,24 @@
 -- One read after another.
-use Rattle.std.proofs.Common.{◌≡◌, ℕ, ◌+◌, ◌<◌, ◌≤◌, List, ◌++◌, take, length, Result, Ok, Err, ap, sym, ◌∙◌, arith, length-take-le, subst}
+use Rattle.std.proofs.Common.{◌≡◌, ℕ, ◌+◌, ◌-◌, ◌<◌, ◌≤◌, Option, Some, None, List, ◌++◌, take, drop, length, Result, Ok, Err, refl, ap, sym, ◌∙◌, inl, inr, arith, lit≤, append_assoc, length-append, length-drop, length-take-le, subst}
 use Rattle.std.specs.Prelude.{IfOk, IfErr}
-use Rattle.std.proofs.lemmas.List.{take-append-le}
+use Rattle.std.proofs.lemmas.Bool.{cases_lt}
+use Rattle.std.proofs.lemmas.List.{take-append-le, take_all}
 use Rattle.std.proofs.Math.Seq.{take-append-add}
 use borrow.Rule.Slice.PartMut.{put_mid, post_of}
 use Rattle.arrayvec.specs.ArrayVec.{ArrayVec}
+use Rattle.scr_outside.specs.Bytes.{put_back}
 use Rattle.scr_outside.specs.Change.{Change, Gives, TellsEnd}
-use Rattle.scr_list.specs.Limits.{lists}
+use Rattle.scr_outside.specs.Faults.{Rose}
+use Rattle.scr_outside.proofs.ChangeLemmas.{read_from_to}
 use Rattle.scr_list.specs.declared.round.Round.{Round}
+use Rattle.scr_list.specs.declared.version.Version.{Version}
 use Rattle.scr_list.specs.declared.fault.ListFault.{ListFault}
 use Rattle.scr_list.specs.declared.fault.ListFault.TheVariants.{TooLong, Line, Read}
+use Rattle.scr_list.specs.Versions.{version_of}
 use Rattle.scr_list.specs.Rounds.{rounds_of}
-use Rattle.scr_list.specs.Reading.{listed, ReadsList, ReadsNoList}
-use Rattle.scr_list.proofs.RoundLemmas.{TellsLength, rounds_of-TellsLength}
+use Rattle.scr_list.specs.Reading.{listed, most_read, ReadsList, ReadsTooMany, ReadsInPart, ReadsNoList}
+use Rattle.scr_list.proofs.RoundLemmas.{TellsLength, rounds_of-TellsLength, rounds_of-long}
+use Rattle.scr_list.proofs.VersionLemmas.{version_of-cases, version_of-append}
 
 -- the first bytes of a list after another
 take_past : (k n : ℕ) (xs ys zs : List ℕ) → length xs ≡ k → n ≤ length ys → take (k + n) (xs ++ (ys ++ zs)) ≡ xs ++ take n ys
@@ -25,31 +31,179 @@ pub take-put_mid : (buffer next : List ℕ) (filled size n : ℕ) → filled ≤
 take-put_mid buffer next filled size n inside few =
     take_past filled n (take filled buffer) next (post_of filled size buffer) (length-take-le filled buffer inside) few
 
--- the bytes that were read, of which there are too few to fill the buffer where they are no more than a list has
-unfilled : (buffer : List ℕ) (filled : ℕ) → length buffer ≡ lists.most_bytes + 1 → filled ≤ lists.most_bytes + 1 → length (take filled buffer) ≤ lists.most_bytes → filled < lists.most_bytes + 1
-unfilled buffer filled size within short = omega (arith, length-take-le filled buffer (omega arith))
+-- ---- where reading ends
 
-answer-by : (change : Change) (buffer : List ℕ) (filled : ℕ) (r : Result (ArrayVec Round) ListFault) →
-    length buffer ≡ lists.most_bytes + 1 → filled ≤ lists.most_bytes + 1 → Gives change (take filled buffer) → (filled < lists.most_bytes + 1 → TellsEnd change) → (filled ≡ lists.most_bytes + 1 → change.ends_after ≡ change.ends_before) →
-    listed r ≡ rounds_of (take filled buffer) → TellsLength (take filled buffer) (listed r) →
-    IfOk r (λ rounds. ReadsList change (Ok rounds.items)) × IfErr r (λ fault. ReadsNoList change fault)
-answer-by change buffer filled (Ok rounds) size within taken end no_end answer tells = (
-  record { bytes = take filled buffer; gives = taken; end = end (unfilled buffer filled size within tells); says = sym answer },
-  tt,
-)
-answer-by change buffer filled (Err TooLong) size within taken end no_end answer tells =
-    let count = length-take-le filled buffer (omega arith) in
-    (tt, record { bytes = take filled buffer; gives = taken; no_end = no_end (omega arith); many = omega arith })
-answer-by change buffer filled (Err (Line number cause)) size within taken end no_end answer tells = (
-  tt,
-  record { bytes = take filled buffer; gives = taken; end = end (unfilled buffer filled size within tells); says = sym answer },
-)
-answer-by change buffer filled (Err Read) size within taken end no_end answer tells = absurd tells
+-- the reading of a list ends in the first version's room or in the second's
+pub most_read-range : (bytes : List ℕ) → (4097 ≤ most_read bytes) × (most_read bytes ≤ 16385)
+most_read-range bytes = elim (version_of-cases bytes) [
+  | inl first ↦ let P : Version → Type 0 = λ v. (4097 ≤ v.most_bytes + 1) × (v.most_bytes + 1 ≤ 16385) in subst P (sym first) (lit≤ tt, lit≤ tt)
+  | inr second ↦ let P : Version → Type 0 = λ v. (4097 ≤ v.most_bytes + 1) × (v.most_bytes + 1 ≤ 16385) in subst P (sym second) (lit≤ tt, lit≤ tt)
+]
 
-pub read-answer : (change : Change) (buffer : List ℕ) (filled : ℕ) (r : Result (ArrayVec Round) ListFault) →
-    length buffer ≡ lists.most_bytes + 1 → filled ≤ lists.most_bytes + 1 → Gives change (take filled buffer) → (filled < lists.most_bytes + 1 → TellsEnd change) → (filled ≡ lists.most_bytes + 1 → change.ends_after ≡ change.ends_before) →
-    listed r ≡ rounds_of (take filled buffer) →
+-- behind as many bytes as the first version has room for, no byte changes where it ends
+pub most_read-append : (xs ys : List ℕ) → length xs ≡ 4097 → most_read (xs ++ ys) ≡ most_read xs
+most_read-append xs ys size = ap (λ (v : Version). v.most_bytes + 1) (version_of-append xs ys (omega arith))
+
+-- as few bytes as these tell no end
+pub few-most : (n : ℕ) (bytes : List ℕ) → n < 4097 → n ≤ most_read bytes
+few-most n bytes few = let range = most_read-range bytes in omega (arith, range.0)
+
+pub few-not_most : (n : ℕ) (bytes : List ℕ) → n < 4097 → n ≡ most_read bytes → ⊥
+few-not_most n bytes few is = let range = most_read-range bytes in absurd (omega (arith, range.0))
+
+-- ---- a part of a list
+
+put_back-twice : (xs ys : List ℕ) (o : Option (List ℕ)) → put_back xs (put_back ys o) ≡ put_back (xs ++ ys) o
+put_back-twice xs ys None = refl
+put_back-twice xs ys (Some left) = ap Some (sym (append_assoc xs ys left))
+
+pub in_part-few : {change : Change} (size : ℕ) → size ≤ 4097 → ReadsInPart change (λ _. size) → ReadsInPart change most_read
+in_part-few size small part =
+    let range = most_read-range part.bytes in
+    let few = part.few in
+    record { bytes = part.bytes; given = part.given; few = omega (arith, range.0, few); no_end = part.no_end; rose = part.rose }
+
+-- a part behind as many bytes as the first version has room for
+pub in_part-after : {left left' left'' : Option (List ℕ)} {faults faults' faults'' ends ends' ends'' : ℕ} (xs : List ℕ) (size : ℕ) →
+    length xs ≡ 4097 → 4097 + size ≤ most_read xs → Gives (read_from_to left faults ends left' faults' ends') xs → ends' ≡ ends →
+    ReadsInPart (read_from_to left' faults' ends' left'' faults'' ends'') (λ _. size) → ReadsInPart (read_from_to left faults ends left'' faults'' ends'') most_read
+in_part-after {left'' = left''} {faults'' = faults''} xs size long room first no_end part =
+    let ys = part.bytes in
+    let few = part.few in
+    let sizes = length-append xs ys in
+    let most = most_read-append xs ys long in
+    record {
+      bytes = xs ++ ys;
+      given = first.given ∙ ap (put_back xs) part.given ∙ put_back-twice xs ys left'';
+      few = omega (arith, sizes, most, few);
+      no_end = part.no_end ∙ no_end;
+      rose = subst (λ f. Rose f faults'') first.no_fault part.rose;
+    }
+
+-- What was read into a buffer behind as many bytes as the first version has room for: they are followed by what was read,
+-- and reading ends where they say.
+pub record IsReadOn (buffer front next : List ℕ) (room more : ℕ) : Type 0 where
+  pub whole : take (4097 + more) (put_mid 4097 (room - 4097) (front ++ drop 4097 buffer) next) ≡ front ++ take more next
+  pub most : most_read (take (4097 + more) (put_mid 4097 (room - 4097) (front ++ drop 4097 buffer) next)) ≡ room
+  pub size : length (take (room - 4097) (drop 4097 (front ++ drop 4097 buffer))) ≡ room - 4097
+  pub room_is : room ≡ most_read front
+
+pub read-on : (buffer front next : List ℕ) (room more : ℕ) → length buffer ≡ 16385 → length front ≡ 4097 →
+    room ≡ most_read (take 4097 (front ++ drop 4097 buffer)) → room ≤ 16385 →
+    length next ≡ length (take (room - 4097) (drop 4097 (front ++ drop 4097 buffer))) → more ≤ length next → IsReadOn buffer front next room more
+read-on buffer front next room more all first room_is most as_long few =
+    let rest = drop 4097 buffer in
+    let sizes = length-append front rest in
+    let behind = length-drop 4097 buffer in
+    let front_is : take 4097 (front ++ rest) ≡ front = take-append-le 4097 front rest (omega (arith, first)) ∙ take_all 4097 front (omega (arith, first)) in
+    let whole : take (4097 + more) (put_mid 4097 (room - 4097) (front ++ rest) next) ≡ front ++ take more next =
+    take-put_mid (front ++ rest) next 4097 (room - 4097) more (omega (arith, sizes, first)) few ∙ ap (λ l. l ++ take more next) front_is
+    in
+    let told : room ≡ most_read front = room_is ∙ ap most_read front_is in
+    record {
+      whole = whole;
+      most = ap most_read whole ∙ most_read-append front (take more next) first ∙ sym told;
+      size = length-take-le (room - 4097) (drop 4097 (front ++ rest)) (omega (arith, length-drop 4097 (front ++ rest), sizes, behind, all, first, most));
+      room_is = told;
+    }
+
+-- ---- what a source had
+
+-- bytes that a source gave are the first of those that it had
+had : (list bytes : List ℕ) (o : Option (List ℕ)) → Some list ≡ put_back bytes o → (left : List ℕ) × (o ≡ Some left) × (list ≡ bytes ++ left)
+had list bytes None is = let none : ⊥ = cc in absurd none
+had list bytes (Some left) is = (left, refl, let whole : list ≡ bytes ++ left = cc in whole)
+
+same_version : (list bytes left : List ℕ) → list ≡ bytes ++ left → 11 ≤ length bytes → version_of list ≡ version_of bytes
+same_version list bytes left whole long = ap version_of whole ∙ version_of-append bytes left long
+
+-- a list of which too many bytes were read is too long
+pub too_many-refused : (change : Change) (limit : ℕ) (list : List ℕ) → ReadsTooMany change limit → change.bytes_before ≡ Some list →
+    rounds_of list ≡ Err (TooLong limit)
+too_many-refused change limit list refused input =
+    let bytes = refused.bytes in
+    let parts = had list bytes change.bytes_after (sym input ∙ refused.gives.given) in
+    let range = most_read-range bytes in
+    let many = refused.many in
+    let most = refused.most in
+    let version = same_version list bytes parts.0 parts.2 (omega (arith, range.0, many, most)) in
+    let size = ap length parts.2 ∙ length-append bytes parts.0 in
+    rounds_of-long list (version_of bytes) version (omega (arith, size, many, most)) ∙ ap (λ n. Err (TooLong n)) (sym most)
+
+-- as many were read as its version says
+pub too_many-read : (change : Change) (limit : ℕ) (before after : List ℕ) (version : Version) → ReadsTooMany change limit →
+    change.bytes_before ≡ Some before → change.bytes_after ≡ Some after → version_of before ≡ version →
+    (limit ≡ version.most_bytes) × (length before ≡ length after + (version.most_bytes + 1))
+too_many-read change limit before after version refused input left is =
+    let bytes = refused.bytes in
+    let parts = had before bytes change.bytes_after (sym input ∙ refused.gives.given) in
+    let same : parts.0 ≡ after = some_is (sym parts.1 ∙ left) in
+    let range = most_read-range bytes in
+    let many = refused.many in
+    let most = refused.most in
+    let version_is = same_version before bytes parts.0 parts.2 (omega (arith, range.0, many, most)) in
+    let limit_is : limit ≡ version.most_bytes = most ∙ ap (λ (v : Version). v.most_bytes) (sym version_is ∙ is) in
+    let size = ap length parts.2 ∙ length-append bytes parts.0 in
+    let rest = ap length same in
+    (limit_is, omega (arith, size, many, limit_is, rest))
+  where
+    some_is : {x y : List ℕ} → Some x ≡ Some y → x ≡ y
+    some_is e = cc
+
+-- no more were read than its version says
+pub in_part-read : (change : Change) (before after : List ℕ) (version : Version) → ReadsInPart change most_read →
+    change.bytes_before ≡ Some before → change.bytes_after ≡ Some after → version_of before ≡ version →
+    length before ≤ length after + (version.most_bytes + 1)
+in_part-read change before after version part input left is =
+    let bytes = part.bytes in
+    let parts = had before bytes change.bytes_after (sym input ∙ part.given) in
+    let same : parts.0 ≡ after = some_is (sym parts.1 ∙ left) in
+    let size = ap length parts.2 ∙ length-append bytes parts.0 in
+    let rest = ap length same in
+    let few = part.few in
+    let room : most_read before ≡ version.most_bytes + 1 = ap (λ (v : Version). v.most_bytes + 1) is in
+    let range = most_read-range before in
+    elim (cases_lt (length bytes) 11) [
+      | inl short ↦ omega (arith, size, rest, room, range.0, short)
+      | inr long ↦
+          let version_is : most_read before ≡ most_read bytes = ap (λ (v : Version). v.most_bytes + 1) (same_version before bytes parts.0 parts.2 long) in
+          omega (arith, size, rest, few, room, version_is)
+    ]
+  where
+    some_is : {x y : List ℕ} → Some x ≡ Some y → x ≡ y
+    some_is e = cc
+
+-- ---- the answer
+
+answer-by : (change : Change) (bytes : List ℕ) (r : Result (ArrayVec Round) ListFault) →
+    length bytes ≤ most_read bytes → Gives change bytes → (length bytes < most_read bytes → TellsEnd change) → (length bytes ≡ most_read bytes → change.ends_after ≡ change.ends_before) →
+    listed r ≡ rounds_of bytes → TellsLength (version_of bytes).most_bytes bytes (listed r) →
     IfOk r (λ rounds. ReadsList change (Ok rounds.items)) × IfErr r (λ fault. ReadsNoList change fault)
-read-answer change buffer filled r size within taken end no_end answer =
-    answer-by change buffer filled r size within taken end no_end answer
-    (subst (TellsLength (take filled buffer)) (sym answer) (rounds_of-TellsLength (take filled buffer)))
+answer-by change bytes (Ok rounds) within taken end no_end answer tells =
+    (record { bytes = bytes; gives = taken; end = end (omega (arith, tells)); says = sym answer }, tt)
+answer-by change bytes (Err (TooLong limit)) within taken end no_end answer tells =
+    let most = tells.0 in
+    let long = tells.1 in (
+      tt,
+      record {
+        bytes = bytes;
+        gives = taken;
+        no_end = no_end (omega (arith, within, long));
+        most = most;
+        many = omega (arith, within, long, most);
+      },
+    )
+answer-by change bytes (Err (Line number cause)) within taken end no_end answer tells =
+    (tt, record { bytes = bytes; gives = taken; end = end (omega (arith, tells)); says = sym answer })
+answer-by change bytes (Err Read) within taken end no_end answer tells = absurd tells
+
+pub read-answer : (change : Change) (bytes : List ℕ) (n : ℕ) (r : Result (ArrayVec Round) ListFault) → length bytes ≡ n →
+    n ≤ most_read bytes → Gives change bytes → (n < most_read bytes → TellsEnd change) → (n ≡ most_read bytes → change.ends_after ≡ change.ends_before) →
+    listed r ≡ rounds_of bytes →
+    IfOk r (λ rounds. ReadsList change (Ok rounds.items)) × IfErr r (λ fault. ReadsNoList change fault)
+read-answer change bytes n r size within taken end no_end answer =
+    answer-by change bytes r (omega arith) taken (λ few. end (omega arith)) (λ many. no_end (size_is many)) answer
+    (subst (TellsLength (version_of bytes).most_bytes bytes) (sym answer) (rounds_of-TellsLength bytes))
+  where
+    size_is : length bytes ≡ most_read bytes → n ≡ most_read bytes
+    size_is many = sym size ∙ many

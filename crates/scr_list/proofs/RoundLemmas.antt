@@ -1,39 +1,41 @@
 -- A list read line by line.
-use Rattle.std.proofs.Common.{◌≡◌, ℕ, ◌+◌, ◌<◌, ◌≤◌, Bool, true, false, cond, List, [], ◌∷◌, ◌++◌, length, Option, Some, None, Result, Ok, Err, refl, sym, ap, ◌∙◌, append_assoc, append-nil, length-append, Bor, arith}
+use Rattle.std.proofs.Common.{◌≡◌, ℕ, ◌+◌, ◌<◌, ◌≤◌, Bool, true, false, cond, List, [], ◌∷◌, ◌++◌, drop, length, Option, Some, None, Result, Ok, Err, refl, sym, ap, ◌∙◌, append_assoc, append-nil, length-append, Bor, arith}
 use Rattle.std.specs.Prelude.{slice_get, nat_lt, option_copied, IfSome}
 use borrow.Author.Tests.{lt-ltb, le-ltb, ltb-true, ltb-false}
-use Rattle.scr_text.specs.Lines.{lines_of, line_words}
+use Rattle.scr_text.specs.Lines.{lines_of}
 use Rattle.scr_text.specs.Parts.{more_lines}
-use Rattle.scr_list.specs.Limits.{lists}
 use Rattle.scr_list.specs.declared.round.Round.{Round}
+use Rattle.scr_list.specs.declared.version.Version.{Version}
 use Rattle.scr_list.specs.declared.fault.ListCause.{ListCause}
 use Rattle.scr_list.specs.declared.fault.ListCause.TheVariants.{Words}
 use Rattle.scr_list.specs.declared.fault.ListFault.{ListFault}
 use Rattle.scr_list.specs.declared.fault.ListFault.TheVariants.{TooLong, Line, Read}
-use Rattle.scr_list.specs.Rounds.{named_round, some_round, round_of_words, with_round, then_rounds, rounds_of_lines, rounds_of}
+use Rattle.scr_list.specs.Versions.{version_of}
+use Rattle.scr_list.specs.Rounds.{named_round, placed_round, wordless, round_of_words, round_of_line, with_round, then_rounds, rounds_of_lines, rounds_of}
 
--- a line by its first four words
-abbrev pub by_words : ℕ → Option (List ℕ) → Option (List ℕ) → Option (List ℕ) → Option (List ℕ) → Result (Option Round) ListCause
-by_words before None second third fourth = Ok None
-by_words before (Some event) None third fourth = Err Words
-by_words before (Some event) (Some groups) third (Some more) = Err Words
-by_words before (Some event) (Some groups) third None = some_round (named_round before event groups third)
+-- a line by its first four words, and what follows its colon
+abbrev pub by_words : ℕ → ℕ → Option (List ℕ) → Option (List ℕ) → Option (List ℕ) → Option (List ℕ) → Option (List ℕ) → Result (Option Round) ListCause
+by_words most before name None second third fourth = wordless name
+by_words most before name (Some event) None third fourth = Err Words
+by_words most before name (Some event) (Some groups) third (Some more) = Err Words
+by_words most before name (Some event) (Some groups) third None = placed_round most before (named_round event groups third name)
 
-pub round_of_words-by : (before : ℕ) (words : List (List ℕ)) →
-    round_of_words before words ≡ by_words before (slice_get words 0) (slice_get words 1) (slice_get words 2) (slice_get words 3)
+pub round_of_words-by : (most before : ℕ) (name : Option (List ℕ)) (words : List (List ℕ)) →
+    round_of_words most before name words
+    ≡ by_words most before name (slice_get words 0) (slice_get words 1) (slice_get words 2) (slice_get words 3)
 unfolding round_of_words
-round_of_words-by before [] = refl
-round_of_words-by before (event ∷ []) = refl
-round_of_words-by before (event ∷ groups ∷ []) = refl
-round_of_words-by before (event ∷ groups ∷ least ∷ []) = refl
-round_of_words-by before (event ∷ groups ∷ least ∷ more ∷ others) = refl
+round_of_words-by most before name [] = refl
+round_of_words-by most before name (event ∷ []) = refl
+round_of_words-by most before name (event ∷ groups ∷ []) = refl
+round_of_words-by most before name (event ∷ groups ∷ least ∷ []) = refl
+round_of_words-by most before name (event ∷ groups ∷ least ∷ more ∷ others) = refl
 
 -- a line whose words, as they are read, are two or three
-pub round_of_words-named : (before : ℕ) (words : List (List ℕ)) (first second fourth third : Option (Bor (List ℕ))) (event groups : Bor (List ℕ))
+pub round_of_words-named : (most before : ℕ) (name : Option (List ℕ)) (words : List (List ℕ)) (first second fourth third : Option (Bor (List ℕ))) (event groups : Bor (List ℕ))
     → option_copied first ≡ slice_get words 0 → option_copied second ≡ slice_get words 1 → option_copied fourth ≡ slice_get words 3
     → option_copied third ≡ slice_get words 2 → first ≡ Some event → second ≡ Some groups → fourth ≡ None
-    → round_of_words before words ≡ some_round (named_round before event.now groups.now (option_copied third))
-round_of_words-named before words first second fourth third event groups zeroth one three two is_event is_groups no_more =
+    → round_of_words most before name words ≡ placed_round most before (named_round event.now groups.now (option_copied third) name)
+round_of_words-named most before name words first second fourth third event groups zeroth one three two is_event is_groups no_more =
     rw (round_of_words-by, ← zeroth, ← one, ← three, ← two, is_event, is_groups, no_more) refl
 
 -- rounds that were read, before those of the lines that follow
@@ -51,79 +53,110 @@ after_rounds-with_round done round (Ok more) = ap Ok (sym (append_assoc done (ro
 after_rounds-with_round done round (Err fault) = refl
 
 -- the rounds of a list, where these were read and these lines are left, of which the first has this number
-abbrev pub read_on : List Round → ℕ → List (List ℕ) → Result (List Round) ListFault
-read_on done number lines = after_rounds done (rounds_of_lines (length done) number lines)
+abbrev pub read_on : Version → List Round → ℕ → List (List ℕ) → Result (List Round) ListFault
+read_on version done number lines = after_rounds done (rounds_of_lines version (length done) number lines)
 
-pub read_on-none : (done : List Round) (number : ℕ) (line : List ℕ) (lines : List (List ℕ)) →
-    round_of_words (length done) (line_words line) ≡ Ok None →
-    read_on done number (line ∷ lines) ≡ read_on done (number + 1) lines
-unfolding rounds_of_lines
-read_on-none done number line lines is = rw is refl
+pub read_on-start : (version : Version) (number : ℕ) (lines : List (List ℕ)) →
+    rounds_of_lines version 0 number lines ≡ read_on version [] number lines
+read_on-start version number lines = after_rounds-none (rounds_of_lines version 0 number lines)
 
-pub read_on-round : (done : List Round) (number : ℕ) (line : List ℕ) (lines : List (List ℕ)) (round : Round) →
-    round_of_words (length done) (line_words line) ≡ Ok (Some round) →
-    read_on done number (line ∷ lines) ≡ read_on (done ++ round ∷ []) (number + 1) lines
+pub read_on-none : (version : Version) (done : List Round) (number : ℕ) (line : List ℕ) (lines : List (List ℕ)) →
+    round_of_line version (length done) line ≡ Ok None →
+    read_on version done number (line ∷ lines) ≡ read_on version done (number + 1) lines
 unfolding rounds_of_lines
-read_on-round done number line lines round is =
+read_on-none version done number line lines is = rw is refl
+
+pub read_on-round : (version : Version) (done : List Round) (number : ℕ) (line : List ℕ) (lines : List (List ℕ)) (round : Round) →
+    round_of_line version (length done) line ≡ Ok (Some round) →
+    read_on version done number (line ∷ lines) ≡ read_on version (done ++ round ∷ []) (number + 1) lines
+unfolding rounds_of_lines
+read_on-round version done number line lines round is =
     rw is
-    (after_rounds-with_round done round (rounds_of_lines (length done + 1) (number + 1) lines)
-    ∙ ap (λ n. after_rounds (done ++ round ∷ []) (rounds_of_lines n (number + 1) lines)) (sym (length-append done (round ∷ []))))
+    (after_rounds-with_round done round (rounds_of_lines version (length done + 1) (number + 1) lines)
+    ∙ ap (λ n. after_rounds (done ++ round ∷ []) (rounds_of_lines version n (number + 1) lines)) (sym (length-append done (round ∷ []))))
 
-pub read_on-fault : (done : List Round) (number : ℕ) (line : List ℕ) (lines : List (List ℕ)) (cause : ListCause) →
-    round_of_words (length done) (line_words line) ≡ Err cause →
-    read_on done number (line ∷ lines) ≡ Err (Line number cause)
+pub read_on-fault : (version : Version) (done : List Round) (number : ℕ) (line : List ℕ) (lines : List (List ℕ)) (cause : ListCause) →
+    round_of_line version (length done) line ≡ Err cause →
+    read_on version done number (line ∷ lines) ≡ Err (Line number cause)
 unfolding rounds_of_lines
-read_on-fault done number line lines cause is = rw is refl
+read_on-fault version done number line lines cause is = rw is refl
 
-pub read_on-end : (done : List Round) (number : ℕ) → read_on done number [] ≡ Ok done
+pub read_on-end : (version : Version) (done : List Round) (number : ℕ) → read_on version done number [] ≡ Ok done
 unfolding rounds_of_lines
-read_on-end done number = ap Ok (append-nil done)
+read_on-end version done number = ap Ok (append-nil done)
 
--- a list that isn't too long, and one that is
-pub rounds_of-start : (bytes : List ℕ) → length bytes ≤ lists.most_bytes → rounds_of bytes ≡ read_on [] 1 (lines_of bytes)
+-- ---- a whole list
+
+-- a list that isn't too long: its lines name its rounds, but the one that tells the version
+pub rounds_of-short : (bytes : List ℕ) (version : Version) → version_of bytes ≡ version → length bytes ≤ version.most_bytes →
+    rounds_of bytes ≡ cond version.has_version_line (rounds_of_lines version 0 2 (drop 1 (lines_of bytes))) (rounds_of_lines version 0 1 (lines_of bytes))
 unfolding rounds_of
-rounds_of-start bytes short =
-    let fits : nat_lt lists.most_bytes (length bytes) ≡ false = le-ltb lists.most_bytes (length bytes) short in
-    rw fits (after_rounds-none (rounds_of_lines 0 1 (lines_of bytes)))
+rounds_of-short bytes version is short =
+    let fits : nat_lt version.most_bytes (length bytes) ≡ false = le-ltb version.most_bytes (length bytes) short in
+    rw (is, fits) refl
 
-pub rounds_of-long : (bytes : List ℕ) → lists.most_bytes < length bytes → rounds_of bytes ≡ Err TooLong
+pub rounds_of-long : (bytes : List ℕ) (version : Version) → version_of bytes ≡ version → version.most_bytes < length bytes →
+    rounds_of bytes ≡ Err (TooLong version.most_bytes)
 unfolding rounds_of
-rounds_of-long bytes long =
-    let more : nat_lt lists.most_bytes (length bytes) ≡ true = lt-ltb lists.most_bytes (length bytes) long in
-    rw more refl
+rounds_of-long bytes version is long =
+    let more : nat_lt version.most_bytes (length bytes) ≡ true = lt-ltb version.most_bytes (length bytes) long in
+    rw (is, more) refl
 
--- what an answer tells of the bytes: too many are refused as such, and only they, and `Read` never comes
-abbrev pub TellsLength : List ℕ → Result (List Round) ListFault → Type 0
-TellsLength bytes (Ok rounds) = length bytes ≤ lists.most_bytes
-TellsLength bytes (Err TooLong) = lists.most_bytes < length bytes
-TellsLength bytes (Err (Line number cause)) = length bytes ≤ lists.most_bytes
-TellsLength bytes (Err Read) = ⊥
+-- of a list whose first line tells its version, the others name rounds
+pub rounds_of-told : (bytes : List ℕ) (version : Version) (line : List ℕ) (rest : List (List ℕ)) → version_of bytes ≡ version → length bytes ≤ version.most_bytes →
+    version.has_version_line ≡ true → lines_of bytes ≡ line ∷ rest → rounds_of bytes ≡ rounds_of_lines version 0 2 rest
+rounds_of-told bytes version line rest is short told lines =
+    rounds_of-short bytes version is short
+    ∙ ap (λ b. cond b (rounds_of_lines version 0 2 (drop 1 (lines_of bytes))) (rounds_of_lines version 0 1 (lines_of bytes))) told
+    ∙ ap (λ ls. rounds_of_lines version 0 2 (drop 1 ls)) lines
 
-lines-TellsLength : (bytes : List ℕ) (before number : ℕ) (lines : List (List ℕ)) → length bytes ≤ lists.most_bytes →
-    TellsLength bytes (rounds_of_lines before number lines)
+pub rounds_of-untold : (bytes : List ℕ) (version : Version) → version_of bytes ≡ version → length bytes ≤ version.most_bytes →
+    version.has_version_line ≡ false → rounds_of bytes ≡ rounds_of_lines version 0 1 (lines_of bytes)
+rounds_of-untold bytes version is short untold =
+    rounds_of-short bytes version is short
+    ∙ ap (λ b. cond b (rounds_of_lines version 0 2 (drop 1 (lines_of bytes))) (rounds_of_lines version 0 1 (lines_of bytes))) untold
+
+-- what an answer tells of the bytes of a list that may have so many: too many are refused as such, and only they, and
+-- `Read` never comes
+abbrev pub TellsLength : ℕ → List ℕ → Result (List Round) ListFault → Type 0
+TellsLength most bytes (Ok rounds) = length bytes ≤ most
+TellsLength most bytes (Err (TooLong limit)) = (limit ≡ most) × (most < length bytes)
+TellsLength most bytes (Err (Line number cause)) = length bytes ≤ most
+TellsLength most bytes (Err Read) = ⊥
+
+lines-TellsLength : (most : ℕ) (bytes : List ℕ) (version : Version) (before number : ℕ) (lines : List (List ℕ)) → length bytes ≤ most →
+    TellsLength most bytes (rounds_of_lines version before number lines)
 unfolding rounds_of_lines
-lines-TellsLength bytes before number [] short = short
-lines-TellsLength bytes before number (line ∷ lines) short =
-    at (round_of_words before (line_words line)) (λ stand. lines-TellsLength bytes stand (number + 1) lines short)
+lines-TellsLength most bytes version before number [] short = short
+lines-TellsLength most bytes version before number (line ∷ lines) short =
+    at (round_of_line version before line) (λ stand. lines-TellsLength most bytes version stand (number + 1) lines short)
   where
-    behind : (round : Round) (answer : Result (List Round) ListFault) → TellsLength bytes answer → TellsLength bytes (with_round round answer)
+    behind : (round : Round) (answer : Result (List Round) ListFault) → TellsLength most bytes answer → TellsLength most bytes (with_round round answer)
     behind round (Ok rounds) it = it
     behind round (Err fault) it = it
 
-    at : (r : Result (Option Round) ListCause) → ((stand : ℕ) → TellsLength bytes (rounds_of_lines stand (number + 1) lines)) →
-        TellsLength bytes (then_rounds before number r (λ stand. rounds_of_lines stand (number + 1) lines))
+    at : (r : Result (Option Round) ListCause) → ((stand : ℕ) → TellsLength most bytes (rounds_of_lines version stand (number + 1) lines)) →
+        TellsLength most bytes (then_rounds before number r (λ stand. rounds_of_lines version stand (number + 1) lines))
     at (Err cause) rest = short
     at (Ok None) rest = rest before
-    at (Ok (Some round)) rest = behind round (rounds_of_lines (before + 1) (number + 1) lines) (rest (before + 1))
+    at (Ok (Some round)) rest = behind round (rounds_of_lines version (before + 1) (number + 1) lines) (rest (before + 1))
 
-pub rounds_of-TellsLength : (bytes : List ℕ) → TellsLength bytes (rounds_of bytes)
+pub rounds_of-TellsLength : (bytes : List ℕ) → TellsLength (version_of bytes).most_bytes bytes (rounds_of bytes)
 unfolding rounds_of
-rounds_of-TellsLength bytes = at (nat_lt lists.most_bytes (length bytes)) refl
+rounds_of-TellsLength bytes =
+    at (version_of bytes) (nat_lt (version_of bytes).most_bytes (length bytes)) (version_of bytes).has_version_line refl
   where
-    at : (b : Bool) → nat_lt lists.most_bytes (length bytes) ≡ b →
-        TellsLength bytes (cond b (Err TooLong) (rounds_of_lines 0 1 (lines_of bytes)))
-    at true long = ltb-true lists.most_bytes (length bytes) long
-    at false short = lines-TellsLength bytes 0 1 (lines_of bytes) (ltb-false lists.most_bytes (length bytes) short)
+    at : (version : Version) (long told : Bool) → nat_lt version.most_bytes (length bytes) ≡ long →
+        TellsLength version.most_bytes bytes
+        (cond long (Err (TooLong version.most_bytes))
+        (cond told (rounds_of_lines version 0 2 (drop 1 (lines_of bytes))) (rounds_of_lines version 0 1 (lines_of bytes))))
+    at version true told is = (refl, ltb-true version.most_bytes (length bytes) is)
+    at version false true is =
+        lines-TellsLength version.most_bytes bytes version 0 2 (drop 1 (lines_of bytes)) (ltb-false version.most_bytes (length bytes) is)
+    at version false false is =
+        lines-TellsLength version.most_bytes bytes version 0 1 (lines_of bytes) (ltb-false version.most_bytes (length bytes) is)
+
+-- ---- the loop over the lines
 
 -- how many bytes are left, and one more for the line that they are
 abbrev pub left_of : Option (Bor (List ℕ)) → ℕ
@@ -134,20 +167,28 @@ pub left_of-shorter : (o : Option (Bor (List ℕ))) (size : ℕ) → IfSome o (�
 left_of-shorter None size shorter = omega arith
 left_of-shorter (Some rest) size shorter = omega arith
 
+pub left_of-few : (o : Option (Bor (List ℕ))) (most : ℕ) → IfSome o (λ text. length text.now ≤ most) → left_of o ≤ most + 1
+left_of-few None most few = omega arith
+left_of-few (Some text) most few = omega arith
+
+pub left-few : (o : Option (Bor (List ℕ))) (size most : ℕ) → IfSome o (λ rest. length rest.now < size) → size ≤ most → IfSome o (λ rest. length rest.now ≤ most)
+left-few None size most shorter short = tt
+left-few (Some rest) size most shorter short = omega arith
+
 -- the lines that are left, the first of them split off
-pub at_line : (bytes : List ℕ) (done : List Round) (number : ℕ) (rest : Option (Bor (List ℕ))) (text : Bor (List ℕ)) (lines : List (List ℕ)) →
-    rounds_of bytes ≡ read_on done number (more_lines (option_copied rest)) → rest ≡ Some text → lines_of text.now ≡ lines →
-    rounds_of bytes ≡ read_on done number lines
-at_line bytes done number rest text lines so_far is cut =
-    so_far ∙ ap (λ r. read_on done number (more_lines (option_copied r))) is ∙ ap (read_on done number) cut
+pub at_line : (version : Version) (answer : Result (List Round) ListFault) (done : List Round) (number : ℕ) (rest : Option (Bor (List ℕ))) (text : Bor (List ℕ)) (lines : List (List ℕ)) →
+    answer ≡ read_on version done number (more_lines (option_copied rest)) → rest ≡ Some text → lines_of text.now ≡ lines →
+    answer ≡ read_on version done number lines
+at_line version answer done number rest text lines so_far is cut =
+    so_far ∙ ap (λ r. read_on version done number (more_lines (option_copied r))) is ∙ ap (read_on version done number) cut
 
 -- no line is left
-pub at_end : (bytes : List ℕ) (done : List Round) (number : ℕ) (rest : Option (Bor (List ℕ))) →
-    rounds_of bytes ≡ read_on done number (more_lines (option_copied rest)) → rest ≡ None → rounds_of bytes ≡ Ok done
-at_end bytes done number rest so_far is =
-    so_far ∙ ap (λ r. read_on done number (more_lines (option_copied r))) is ∙ read_on-end done number
+pub at_end : (version : Version) (answer : Result (List Round) ListFault) (done : List Round) (number : ℕ) (rest : Option (Bor (List ℕ))) →
+    answer ≡ read_on version done number (more_lines (option_copied rest)) → rest ≡ None → answer ≡ Ok done
+at_end version answer done number rest so_far is =
+    so_far ∙ ap (λ r. read_on version done number (more_lines (option_copied r))) is ∙ read_on-end version done number
 
 -- what a line names, with the number of rounds that stand before it
-pub named_at : (done : List Round) (size : ℕ) (line : List ℕ) (r : Result (Option Round) ListCause) (o : Result (Option Round) ListCause) →
-    size ≡ length done → r ≡ round_of_words size (line_words line) → r ≡ o → round_of_words (length done) (line_words line) ≡ o
-named_at done size line r o same says is = ap (λ n. round_of_words n (line_words line)) (sym same) ∙ sym says ∙ is
+pub named_at : (version : Version) (done : List Round) (size : ℕ) (line : List ℕ) (r : Result (Option Round) ListCause) (o : Result (Option Round) ListCause) →
+    size ≡ length done → r ≡ round_of_line version size line → r ≡ o → round_of_line version (length done) line ≡ o
+named_at version done size line r o same says is = ap (λ n. round_of_line version n line) (sym same) ∙ sym says ∙ is

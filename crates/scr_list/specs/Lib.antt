@@ -1,5 +1,7 @@
 pub mod Events
-pub mod Limits
+pub mod Versions
+pub mod ListedRound
+pub mod Names
 pub mod Rounds
 pub mod RoundLists
 pub mod Reading

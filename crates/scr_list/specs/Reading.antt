@@ -7,13 +7,17 @@ use Rattle.scr_outside.specs.Faults.{Rose}
 use Rattle.scr_list.specs.declared.round.Round.{Round}
 use Rattle.scr_list.specs.declared.fault.ListFault.{ListFault}
 use Rattle.scr_list.specs.declared.fault.ListFault.TheVariants.{TooLong, Line, Read}
-use Rattle.scr_list.specs.Limits.{lists}
+use Rattle.scr_list.specs.Versions.{version_of}
 use Rattle.scr_list.specs.Rounds.{rounds_of}
 
 -- the rounds of an answer as a list
 abbrev pub listed : Result (ArrayVec Round) ListFault → Result (List Round) ListFault
 listed (Ok rounds) = Ok rounds.items
 listed (Err fault) = Err fault
+
+-- at so many bytes the reading of a list of their version ends: one more than it may have
+abbrev pub most_read : List ℕ → ℕ
+most_read bytes = (version_of bytes).most_bytes + 1
 
 -- The source was read to the end of input, which it told once, and no read failed: its bytes are a list that says this.
 pub record ReadsList (change : Change) (answer : Result (List Round) ListFault) : Type 0 where
@@ -22,23 +26,25 @@ pub record ReadsList (change : Change) (answer : Result (List Round) ListFault) 
   pub end : TellsEnd change
   pub says : rounds_of bytes ≡ answer
 
--- as many bytes were read as tell that a list is too long, before any end and without a fault
-pub record ReadsTooMany (change : Change) : Type 0 where
+-- as many bytes were read as tell that a list of their version, which may have so many, is too long, before any end and
+-- without a fault
+pub record ReadsTooMany (change : Change) (limit : ℕ) : Type 0 where
   pub bytes : List ℕ
   pub gives : Gives change bytes
   pub no_end : change.ends_after ≡ change.ends_before
-  pub many : length bytes ≡ lists.most_bytes + 1
+  pub most : limit ≡ (version_of bytes).most_bytes
+  pub many : length bytes ≡ limit + 1
 
 -- some bytes were read, so many at most, and then the source failed, before any end
-pub record ReadsInPart (change : Change) (most : ℕ) : Type 0 where
+pub record ReadsInPart (change : Change) (most : List ℕ → ℕ) : Type 0 where
   pub bytes : List ℕ
   pub given : change.bytes_before ≡ put_back bytes change.bytes_after
-  pub few : length bytes ≤ most
+  pub few : length bytes ≤ most bytes
   pub no_end : change.ends_after ≡ change.ends_before
   pub rose : Rose change.faults_before change.faults_after
 
 -- why no list was read
 abbrev pub ReadsNoList : Change → ListFault → Type 0
-ReadsNoList change TooLong = ReadsTooMany change
+ReadsNoList change (TooLong limit) = ReadsTooMany change limit
 ReadsNoList change (Line number cause) = ReadsList change (Err (Line number cause))
-ReadsNoList change Read = ReadsInPart change (lists.most_bytes + 1)
+ReadsNoList change Read = ReadsInPart change most_read

@@ -1,24 +1,27 @@
 -- The round list: what rounds a competition's list names, as a function of its bytes. The grammar is our own choice.
-use Rattle.std.specs.Prelude.{ℕ, ◌+◌, ◌≤◌, if◌then◌else◌, nat_lt, Option, Some, None, List, [], ◌∷◌, Result, Ok, Err}
+use Rattle.std.specs.Prelude.{ℕ, ◌≡◌, ◌+◌, ◌≤◌, true, if◌then◌else◌, nat_lt, Option, Some, None, List, [], ◌∷◌, drop, Result, Ok, Err}
 use Rattle.std.specs.Prelude.{codes, length}
 use Rattle.std.specs.Str.{bytes_eq}
-use Rattle.scr_text.specs.Lines.{lines_of, line_words}
+use Rattle.scr_text.specs.Lines.{has_bytes, lines_of, line_words}
 use Rattle.scr_text.specs.Numbers.{number_between}
 use Rattle.scr_notation.specs.declared.event.Minima.{Minima}
 use Rattle.scr_list.specs.declared.round.Round.{Round}
+use Rattle.scr_list.specs.declared.version.Version.{Version}
 use Rattle.scr_list.specs.declared.fault.ListCause.{ListCause}
 use Rattle.scr_list.specs.declared.fault.ListFault.{ListFault}
 use Rattle.scr_list.specs.declared.fault.ListFault.TheVariants.{TooLong, Line}
 use Rattle.scr_list.specs.declared.fault.ListCause.TheVariants as cause
 use Rattle.scr_notation.specs.Event.{minima_of, greatest_of, usual_in}
 use Rattle.scr_list.specs.Events.{event_named}
-use Rattle.scr_list.specs.Limits.{lists}
+use Rattle.scr_list.specs.Names.{told_part, name_part, name_in, IsName}
+use Rattle.scr_list.specs.Versions.{version_of}
 
 -- a round that a list can name
 pub record IsRound (round : Round) : Type 0 where
   pub some_groups : 1 ≤ round.groups
   pub few_groups : round.groups ≤ 26
   pub least : round.least ≤ greatest_of round.event
+  pub name : has_bytes round.name ≡ true → IsName round.name
 
 -- ---- a line
 
@@ -32,37 +35,50 @@ abbrev pub least_of : Option Minima → Option (List ℕ) → Option ℕ
 least_of minima None = Some (usual_in minima)
 least_of minima (Some word) = set_least minima word
 
+-- the name of a round: what follows its line's colon, and none where the line has no colon
+abbrev pub round_name : Option (List ℕ) → Option (List ℕ)
+round_name None = Some []
+round_name (Some text) = name_in text
+
 -- what follows from a part that a line has, or the cause why it lacks it
 abbrev pub or_cause : {X Y : Type 0} → ListCause → Option X → (X → Result Y ListCause) → Result Y ListCause
 or_cause why None next = Err why
 or_cause why (Some part) next = next part
 
--- a round, where fewer rounds than a list may have stand before it
-abbrev pub placed_round : ℕ → Round → Result Round ListCause
-placed_round before round = if nat_lt before lists.most_rounds then Ok round else Err cause.Rounds
-
--- The round that a first, a second and maybe a third word name where this many rounds stand before it, or the first
--- cause why they name none.
-abbrev pub named_round : ℕ → List ℕ → List ℕ → Option (List ℕ) → Result Round ListCause
-named_round before event groups least =
+-- The round that a first, a second and maybe a third word and a name tell, or the first cause why they tell none.
+abbrev pub named_round : List ℕ → List ℕ → Option (List ℕ) → Option (List ℕ) → Result Round ListCause
+named_round event groups least name =
     if bytes_eq event (codes "444") then Err cause.No444
     else or_cause cause.Event (event_named event) (λ e.
     or_cause cause.Groups (number_between 1 26 groups) (λ g.
     or_cause cause.Minimum (least_of (minima_of e) least) (λ m.
-    placed_round before (record { event = e; groups = g; least = m }))))
+    or_cause cause.Name (round_name name) (λ n.
+    Ok (record { event = e; groups = g; least = m; name = n })))))
 
--- the round of a line that has one
-abbrev pub some_round : Result Round ListCause → Result (Option Round) ListCause
-some_round (Ok round) = Ok (Some round)
-some_round (Err cause) = Err cause
+-- a round, where fewer rounds stand before it than a list may have
+abbrev pub placed_round : ℕ → ℕ → Result Round ListCause → Result (Option Round) ListCause
+placed_round most before (Ok round) = if nat_lt before most then Ok (Some round) else Err cause.Rounds
+placed_round most before (Err cause) = Err cause
 
--- the round that the words of a line name, where it has words
-unfoldable pub round_of_words : ℕ → List (List ℕ) → Result (Option Round) ListCause
-round_of_words before [] = Ok None
-round_of_words before (event ∷ []) = Err cause.Words
-round_of_words before (event ∷ groups ∷ []) = some_round (named_round before event groups None)
-round_of_words before (event ∷ groups ∷ least ∷ []) = some_round (named_round before event groups (Some least))
-round_of_words before (event ∷ groups ∷ least ∷ more ∷ others) = Err cause.Words
+-- what a line without words names: no round, unless a name follows
+abbrev pub wordless : Option (List ℕ) → Result (Option Round) ListCause
+wordless None = Ok None
+wordless (Some name) = Err cause.Words
+
+-- the round that the words of a line name, and what follows its colon, where it has words
+unfoldable pub round_of_words : ℕ → ℕ → Option (List ℕ) → List (List ℕ) → Result (Option Round) ListCause
+round_of_words most before name [] = wordless name
+round_of_words most before name (event ∷ []) = Err cause.Words
+round_of_words most before name (event ∷ groups ∷ []) = placed_round most before (named_round event groups None name)
+round_of_words most before name (event ∷ groups ∷ least ∷ []) =
+    placed_round most before (named_round event groups (Some least) name)
+round_of_words most before name (event ∷ groups ∷ least ∷ more ∷ others) = Err cause.Words
+
+-- the round that a line of a list of this version names, before which this many stand
+abbrev pub round_of_line : Version → ℕ → List ℕ → Result (Option Round) ListCause
+round_of_line version before line =
+    round_of_words version.most_rounds before (name_part version.takes_names line)
+    (line_words (told_part version.takes_names line))
 
 -- ---- a list
 
@@ -79,13 +95,20 @@ then_rounds before number (Ok None) others = others before
 then_rounds before number (Ok (Some round)) others = with_round round (others (before + 1))
 
 -- the rounds that lines name, where this many rounds stand before them and the first of them has this number
-unfoldable pub rounds_of_lines : ℕ → ℕ → List (List ℕ) → Result (List Round) ListFault
-rounds_of_lines before number [] = Ok []
-rounds_of_lines before number (line ∷ lines) =
-    then_rounds before number (round_of_words before (line_words line))
-    (λ stand. rounds_of_lines stand (number + 1) lines)
+unfoldable pub rounds_of_lines : Version → ℕ → ℕ → List (List ℕ) → Result (List Round) ListFault
+rounds_of_lines version before number [] = Ok []
+rounds_of_lines version before number (line ∷ lines) =
+    then_rounds before number (round_of_line version before line)
+    (λ stand. rounds_of_lines version stand (number + 1) lines)
 
--- The rounds that a list names, or why it is none: it's too long, or a line is at fault. Lines are counted from 1.
+-- The rounds that a list of this version names, or why it is none: it's too long, or a line is at fault. Lines are
+-- counted from 1, and the one that tells the version names no round.
+abbrev pub rounds_in : Version → List ℕ → Result (List Round) ListFault
+rounds_in version bytes =
+    if nat_lt version.most_bytes (length bytes) then Err (TooLong version.most_bytes)
+    else if version.has_version_line then rounds_of_lines version 0 2 (drop 1 (lines_of bytes))
+    else rounds_of_lines version 0 1 (lines_of bytes)
+
+-- the rounds that a list names, or why it is none
 unfoldable pub rounds_of : List ℕ → Result (List Round) ListFault
-rounds_of bytes =
-    if nat_lt lists.most_bytes (length bytes) then Err TooLong else rounds_of_lines 0 1 (lines_of bytes)
+rounds_of bytes = rounds_in (version_of bytes) bytes

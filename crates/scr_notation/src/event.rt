@@ -32,6 +32,8 @@ pub enum Event {
     Skewb,
     /// Square-1.
     Sq1,
+    /// 3x3x3 Blindfolded.
+    Bf333,
 }
 
 /// A kind of puzzles, by the turns that they have.
@@ -85,7 +87,7 @@ struct EventRow {
 }
 
 /// The events, in the order of their numbers.
-pub const EVENTS: [Event; 11] = [
+pub const EVENTS: [Event; 12] = [
     Event::C222,
     Event::C333,
     Event::Oh333,
@@ -97,6 +99,7 @@ pub const EVENTS: [Event; 11] = [
     Event::Pyram,
     Event::Skewb,
     Event::Sq1,
+    Event::Bf333,
 ];
 
 impl Event {
@@ -214,6 +217,14 @@ impl Event {
                 5,
                 up_to(4, 2),
                 Some(Square1),
+            ),
+            Event::Bf333 => (
+                "333bf",
+                "3x3x3 Blindfolded",
+                faces(2, 1),
+                3,
+                up_to(5, 2),
+                Some(Cube333),
             ),
         };
         EventRow {

@@ -4,7 +4,7 @@ ghost use Rattle.std.specs.List.{join_with_byte, range_with_len};
 ghost use Rattle.scr_combinatorics.specs.Lawful.{IsMerging};
 ghost use Rattle.scr_combinatorics.specs.Tidy.{tidy, IsTidy, Merges, MergesTo};
 ghost use Rattle.scr_notation.specs.declared.event.Event.{Event};
-ghost use Rattle.scr_notation.specs.declared.event.Event.TheVariants.{C222, C666, Skewb};
+ghost use Rattle.scr_notation.specs.declared.event.Event.TheVariants.{Bf333, C222, C666, Skewb};
 ghost use Rattle.scr_notation.specs.declared.turn.Turn.{Turn};
 ghost use Rattle.scr_notation.specs.declared.turn.Turn.TheVariants.{Face, Axis, Tip, Layers, Twist, Pins, Over, Wide};
 ghost use Rattle.scr_notation.specs.declared.reading.NotationFault.{NotationFault};
@@ -19,22 +19,23 @@ ghost use Rattle.scr_notation.specs.Reading.{IsFirstFault};
 /// solved states are at least, usually and at most (0 for events without minima).
 pub fn known_events()
     ensures ids { join_with_byte 32 (map id_of events)
-        ≡ codes "222 333 333oh 555 666 777 clock minx pyram skewb sq1" }
+        ≡ codes "222 333 333oh 555 666 777 clock minx pyram skewb sq1 333bf" }
     ensures names { join_with_byte 44 (map name_of events)
-        ≡ codes "2x2x2 Cube,3x3x3 Cube,3x3x3 One-Handed,5x5x5 Cube,6x6x6 Cube,7x7x7 Cube,Clock,Megaminx,Pyraminx,Skewb,Square-1" }
-    ensures groups { map per_group_of events ≡ 5 ∷ 5 ∷ 5 ∷ 5 ∷ 3 ∷ 3 ∷ 5 ∷ 5 ∷ 5 ∷ 5 ∷ 5 ∷ [] }
-    ensures usual { map usual_of events ≡ 4 ∷ 2 ∷ 2 ∷ 0 ∷ 0 ∷ 0 ∷ 2 ∷ 0 ∷ 6 ∷ 7 ∷ 2 ∷ [] }
-    ensures greatest { map greatest_of events ≡ 11 ∷ 5 ∷ 5 ∷ 0 ∷ 0 ∷ 0 ∷ 3 ∷ 0 ∷ 15 ∷ 11 ∷ 4 ∷ [] }
+        ≡ codes "2x2x2 Cube,3x3x3 Cube,3x3x3 One-Handed,5x5x5 Cube,6x6x6 Cube,7x7x7 Cube,Clock,Megaminx,Pyraminx,Skewb,Square-1,3x3x3 Blindfolded" }
+    ensures groups { map per_group_of events ≡ 5 ∷ 5 ∷ 5 ∷ 5 ∷ 3 ∷ 3 ∷ 5 ∷ 5 ∷ 5 ∷ 5 ∷ 5 ∷ 3 ∷ [] }
+    ensures usual { map usual_of events ≡ 4 ∷ 2 ∷ 2 ∷ 0 ∷ 0 ∷ 0 ∷ 2 ∷ 0 ∷ 6 ∷ 7 ∷ 2 ∷ 2 ∷ [] }
+    ensures greatest { map greatest_of events ≡ 11 ∷ 5 ∷ 5 ∷ 0 ∷ 0 ∷ 0 ∷ 3 ∷ 0 ∷ 15 ∷ 11 ∷ 4 ∷ 5 ∷ [] }
 {}
 
 /// Which turns the events have: how many, and those by which like events differ.
 #[tactic(auto, unfolding(crate::specs::Spelling::spelling, crate::specs::TurnNumbers::turn_at, crate::specs::TurnNumbers::face_turn_at, crate::specs::TurnNumbers::axis_turn_at))]
 pub fn known_turns()
     ensures counts { map (λ event. turn_count (kind_of event)) events
-        ≡ 9 ∷ 18 ∷ 18 ∷ 36 ∷ 45 ∷ 54 ∷ 109 ∷ 6 ∷ 16 ∷ 8 ∷ 144 ∷ [] }
+        ≡ 9 ∷ 18 ∷ 18 ∷ 36 ∷ 45 ∷ 54 ∷ 109 ∷ 6 ∷ 16 ∷ 8 ∷ 144 ∷ 27 ∷ [] }
     ensures small_cube { text_of (map (turn_at (kind_of C222)) (range_with_len 0 9)) ≡ codes "U U2 U' R R2 R' F F2 F'" }
     ensures three_layers { text_of (map (turn_at (kind_of C666)) (range_with_len 36 9))
         ≡ codes "3Uw 3Uw2 3Uw' 3Rw 3Rw2 3Rw' 3Fw 3Fw2 3Fw'" }
+    ensures wide_turns { text_of (map (turn_at (kind_of Bf333)) (range_with_len 18 9)) ≡ codes "Uw Uw2 Uw' Rw Rw2 Rw' Fw Fw2 Fw'" }
     ensures no_tips { text_of (map (turn_at (kind_of Skewb)) (range_with_len 0 8)) ≡ codes "U U' L L' R R' B B'" }
 {}
 

@@ -8,10 +8,10 @@ ghost use Rattle.scr_notation.specs.Axes.{is_axis_turn as axis_turn};
 ghost use Rattle.scr_notation.specs.Layers.{is_twelfths as twelfths, is_layer_turn as layer_turn};
 ghost use Rattle.scr_notation.specs.Pins.{pin_sets, is_clock_turn as clock_turn};
 ghost use Rattle.scr_notation.specs.Wide.{is_wide_turn as wide_turn};
-ghost use Rattle.scr_notation.specs.Turns.{has_turn};
+ghost use Rattle.scr_notation.specs.Turns.{has_turn, permits};
 ghost use Rattle.scr_notation.specs.TurnNumbers.{turn_count, turn_at, face_turn_at, axis_turn_at, layer_turn_at, clock_turn_at, wide_turn_at};
 
-use crate::event::Kind;
+use crate::event::{Event, Kind};
 
 /// A turn (WCA Regulations, article 12). Which turns an event has stands in `specs/Turns.antt`, and how they are written in
 /// `specs/Spelling.antt`.
@@ -45,6 +45,15 @@ impl Default for Turn {
     /// What fills the unused room of a scramble.
     fn default() -> Turn {
         Turn::Twist
+    }
+}
+
+impl Turn {
+    /// Whether an event has this turn.
+    pub fn is_of(self, event: Event) -> bool
+        ensures { result ≡ permits event self }
+    {
+        is_of_kind(event.kind(), self)
     }
 }
 

@@ -47,11 +47,16 @@ abbrev pub minimum_text : Option Minima → ℕ → List ℕ
 minimum_text (Some minima) least = codes ", at least " ++ decimal least
 minimum_text None least = codes ", random moves"
 
+-- what it says of its name, where it has one
+abbrev pub own_name_text : List ℕ → List ℕ
+own_name_text [] = []
+own_name_text (byte ∷ name) = codes ", " ++ byte ∷ name
+
 -- the head of round k, counted from 0
 abbrev pub heading : ℕ → Round → List ℕ
 heading k round =
     codes "Round " ++ decimal (k + 1) ++ codes ": " ++ name_of round.event
-    ++ minimum_text (minima_of round.event) round.least
+    ++ minimum_text (minima_of round.event) round.least ++ own_name_text round.name
 
 -- the lines of round k: its head, and its groups, lettered from A
 abbrev pub round_lines : ℕ → Round → List Line

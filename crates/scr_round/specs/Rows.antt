@@ -1,6 +1,6 @@
 -- Two rounds with their texts, as the layout asks for them.
 use Rattle.std.specs.Prelude.{ℕ, List, [], ◌∷◌, codes}
-use Rattle.scr_notation.specs.declared.event.Event.TheVariants.{C222, C666}
+use Rattle.scr_notation.specs.declared.event.Event.TheVariants.{C222, C666, Clock}
 use Rattle.scr_notation.specs.declared.turn.Turn.{Turn}
 use Rattle.scr_notation.specs.declared.turn.Turn.TheVariants.{Face}
 use Rattle.scr_text.specs.Lines.{text_of_lines}
@@ -19,7 +19,7 @@ f amount = Face 2 1 amount
 -- ---- two groups, with a minimum; one scramble is empty
 
 abbrev pub two_groups : Round
-two_groups = record { event = C222; groups = 2; least = 4 }
+two_groups = record { event = C222; groups = 2; least = 4; name = [] }
 
 abbrev pub scrambles_of_two_groups : List (List Turn)
 scrambles_of_two_groups =
@@ -37,7 +37,7 @@ text_of_two_groups =
 -- ---- one group of random moves, the tenth round of a list
 
 abbrev pub one_group : Round
-one_group = record { event = C666; groups = 1; least = 0 }
+one_group = record { event = C666; groups = 1; least = 0; name = [] }
 
 abbrev pub scrambles_of_one_group : List (List Turn)
 scrambles_of_one_group =
@@ -48,3 +48,8 @@ text_of_one_group =
     text_of_lines
     (codes "Round 10: 6x6x6 Cube, random moves" ∷ codes "Group A" ∷ codes "1. 3Uw U" ∷ codes "2. Dw2" ∷ codes "3. B' Lw"
     ∷ codes "E1. 3Rw'" ∷ codes "E2. F2" ∷ codes "" ∷ [])
+
+-- ---- a round with a name
+
+abbrev pub round_with_name : Round
+round_with_name = record { event = Clock; groups = 1; least = 2; name = codes "Final" }

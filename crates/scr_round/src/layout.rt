@@ -5,17 +5,17 @@ ghost use Rattle.std.specs.Fmt.{decimal};
 ghost use Rattle.arrayvec.specs.ArrayString.{array_string_len};
 ghost use Rattle.scr_notation.specs.Event.{name_of, minima_of};
 ghost use Rattle.scr_list.specs.Rounds.{IsRound};
-ghost use Rattle.scr_round.specs.Round.{slots_of, labels_from, group_lines, minimum_text, heading, round_lines};
+ghost use Rattle.scr_round.specs.Round.{slots_of, labels_from, group_lines, minimum_text, own_name_text, heading, round_lines};
 ghost use Rattle.scr_round.specs.Round.{IsBelow};
 ghost use Rattle.scr_round.specs.SheetLine.{line_of};
 
 use arrayvec::ArrayString;
-use scr_list::Round;
+use scr_list::{NAME_ROOM, Round};
 use scr_notation::{Event, Minima};
 use scr_text::decimal;
 
 /// A fixed text of a round has at most so many bytes.
-pub const FIXED_ROOM: usize = 64;
+pub const FIXED_ROOM: usize = 104;
 
 /// A label of a slot has at most so many bytes.
 pub const LABEL_ROOM: usize = 12;
@@ -75,6 +75,7 @@ fn heading(index: u32, round: &Round) -> ArrayString<FIXED_ROOM>
 {
     let mut head = head_text(index, round.event);
     push_minimum(&mut head, round.event.minima(), round.least);
+    push_name(&mut head, &round.name);
     head
 }
 
@@ -95,7 +96,8 @@ fn head_text(index: u32, event: Event) -> ArrayString<FIXED_ROOM>
 /// Adds what the head says of the minimum.
 fn push_minimum(head: &mut ArrayString<FIXED_ROOM>, minima: Option<Minima>, least: u8)
     requires { array_string_len head.old ≤ 40 }
-    ensures { head.new.bytes ≡ head.old.bytes ++ minimum_text minima least }
+    ensures bytes { head.new.bytes ≡ head.old.bytes ++ minimum_text minima least }
+    ensures short { array_string_len head.new ≤ 61 }
 {
     match minima {
         Some(_) => {
@@ -103,6 +105,17 @@ fn push_minimum(head: &mut ArrayString<FIXED_ROOM>, minima: Option<Minima>, leas
             head.push_str(decimal(u32::from(least)).as_str());
         }
         None => head.push_str(", random moves"),
+    }
+}
+
+/// Adds the name of the round, where it has one.
+fn push_name(head: &mut ArrayString<FIXED_ROOM>, name: &ArrayString<NAME_ROOM>)
+    requires { array_string_len head.old ≤ 61 }
+    ensures { head.new.bytes ≡ head.old.bytes ++ own_name_text name.now.bytes }
+{
+    if !name.is_empty() {
+        head.push_str(", ");
+        head.push_str(name.as_str());
     }
 }
 

@@ -10,6 +10,8 @@ use std::thread::Threads;
 
 mod commands;
 mod expected;
+mod failing;
+mod limits;
 mod loads;
 mod sheets;
 mod workers;
@@ -17,7 +19,7 @@ mod workers;
 pub(crate) const ZEROS: &str = "0000000000000000000000000000000000000000000000000000000000000000";
 
 pub(crate) const USAGE: &str =
-    "scramble: usage: one EVENT SEED | sheet --seed HEX [--workers N] [--tries N] [--attempts N] | tables EVENT | load NUMBER\n";
+    "scramble: usage: one EVENT SEED | sheet --seed HEX [--workers N] [--tries N] [--attempts N] | tables EVENT | load NUMBER | net EVENT SEED\n";
 
 pub(crate) const NO_444: &str = "scramble: 444 is not supported\n";
 

@@ -7,7 +7,7 @@ use Rattle.scr_list.specs.declared.fault.ListFault.{ListFault}
 use Rattle.scr_list.specs.declared.fault.ListFault.TheVariants as list
 use Rattle.scr_list.specs.Reading.{ReadsNoList}
 use Rattle.scr_command.specs.declared.command.Command.{Command}
-use Rattle.scr_command.specs.declared.command.Command.TheVariants.{One, Sheet, Tables, Load}
+use Rattle.scr_command.specs.declared.command.Command.TheVariants.{One, Sheet, Tables, Load, Net}
 use Rattle.scr_command.specs.declared.command.UsageFault.{UsageFault}
 use Rattle.scr_command.specs.Command.{command_of, AsksForSheet}
 use Rattle.scr_table.specs.declared.fault.BuildFault.{BuildFault}
@@ -81,6 +81,7 @@ command-output (Sheet seed options) source out ended (inr refused) rose = absurd
 command-output (Tables event) source out ended (same, inl ends) rose = tables-output event out ended ends rose
 command-output (Tables event) source out ended (same, inr lacks) rose = absurd (gained lacks.unwritten rose)
 command-output (Load number) source out ended ends rose = telling-output ends.1.made _ out ended ends.1.told rose
+command-output (Net event seed) source out ended ends rose = making-output _ _ out ended ends.1 rose
 
 words-output : (asked : Result Command UsageFault) (source out : Change) (ended : Result (Unit {0}) Fault) → Ends asked source out ended
     → IsOutputFault out ended
@@ -100,7 +101,7 @@ run-output words outcome source out err run rose =
 
 refused-input : (source : Change) (refusal : ListFault) → ReadsNoList source refusal → source.faults_before < source.faults_after
     → status_of (Err (fault.List refusal)) ≡ status.ReadFault
-refused-input source list.TooLong cause rose = absurd (stayed cause.gives.no_fault rose)
+refused-input source (list.TooLong limit) cause rose = absurd (stayed cause.gives.no_fault rose)
 refused-input source (list.Line number why) cause rose = absurd (stayed cause.gives.no_fault rose)
 refused-input source list.Read cause rose = refl
 
@@ -111,6 +112,7 @@ command-input (Sheet seed options) source out ended (inl ends) rose = absurd (st
 command-input (Sheet seed options) source out ended (inr refused) rose = ap status_of refused.is ∙ refused-input source refused.list refused.cause rose
 command-input (Tables event) source out ended ends rose = absurd (unchanged ends.0 rose)
 command-input (Load number) source out ended ends rose = absurd (unchanged ends.0 rose)
+command-input (Net event seed) source out ended ends rose = absurd (unchanged ends.0 rose)
 
 words-input : (asked : Result Command UsageFault) (source out : Change) (ended : Result (Unit {0}) Fault) → Ends asked source out ended
     → source.faults_before < source.faults_after → status_of ended ≡ status.ReadFault
@@ -133,7 +135,7 @@ told-done : (err : Change) (ended : Result (Unit {0}) Fault) → status_of ended
 told-done err (Ok u) is tells = tells
 told-done err (Err (fault.Usage usage)) is tells = cc
 told-done err (Err (fault.List list.Read)) is tells = cc
-told-done err (Err (fault.List list.TooLong)) is tells = cc
+told-done err (Err (fault.List (list.TooLong limit))) is tells = cc
 told-done err (Err (fault.List (list.Line number cause))) is tells = cc
 told-done err (Err (fault.DrawLimit number slot words)) is tells = cc
 told-done err (Err fault.Write) is tells = cc
@@ -148,7 +150,7 @@ wanting : (ended : Result (Unit {0}) Fault) → status_of ended ≡ status.NoMem
 wanting (Ok u) is = cc
 wanting (Err (fault.Usage usage)) is = cc
 wanting (Err (fault.List list.Read)) is = cc
-wanting (Err (fault.List list.TooLong)) is = cc
+wanting (Err (fault.List (list.TooLong limit))) is = cc
 wanting (Err (fault.List (list.Line number cause))) is = cc
 wanting (Err (fault.DrawLimit number slot words)) is = cc
 wanting (Err fault.Write) is = cc

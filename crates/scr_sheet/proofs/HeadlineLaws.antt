@@ -1,8 +1,8 @@
 -- What is written of scrambles is fair.
-use Rattle.std.proofs.Common.{◌∙◌, ℕ, ◌⊎◌, List, [], ◌∷◌, ◌++◌, Ok, Err, inl, inr, refl, sym, subst, append-nil, All}
+use Rattle.std.proofs.Common.{◌∙◌, ℕ, ◌⊎◌, Bool, true, false, cond, List, [], ◌∷◌, ◌++◌, Ok, Err, inl, inr, refl, sym, subst, append-nil, All}
 use Rattle.std.proofs.lemmas.List.{length-map}
 use Rattle.std.proofs.lemmas.List.Elements.{All-head, All-tail}
-use Rattle.std.specs.Prelude.{Result, Option, Some, None}
+use Rattle.std.specs.Prelude.{Result, Option, Some, None, is_some}
 use Rattle.scr_outside.specs.Change.{Change, Gains, Falters}
 use Rattle.scr_notation.specs.Written.{Written}
 use Rattle.scr_notation.specs.declared.event.Event.{Event}
@@ -10,13 +10,14 @@ use Rattle.scr_words.specs.declared.seed.Seed.{Seed}
 use Rattle.scr_words.specs.declared.seed.SeedFault.{SeedFault}
 use Rattle.scr_words.specs.Seed.{seed_of}
 use Rattle.scr_command.specs.declared.command.Command.{Command}
-use Rattle.scr_command.specs.declared.command.Command.TheVariants.{One, Sheet, Tables, Load}
+use Rattle.scr_command.specs.declared.command.Command.TheVariants.{One, Sheet, Tables, Load, Net}
 use Rattle.scr_command.specs.declared.command.UsageFault.{UsageFault}
+use Rattle.scr_command.specs.declared.command.UsageFault.TheVariants.{Grammar}
 use Rattle.scr_command.specs.declared.options.OptionName.TheVariants as option
 use Rattle.scr_command.specs.declared.options.Options.{Options}
 use Rattle.scr_command.specs.OptionTable.{sheet_options}
 use Rattle.scr_command.specs.OptionWords.{Values, options_of}
-use Rattle.scr_command.specs.Command.{command_of, event_for, one_for, one_of, seeded, settings_in, sheet_for, sheet_of}
+use Rattle.scr_command.specs.Command.{command_of, event_for, net_for, net_side, of_two, one_for, seeded, settings_in, sheet_for, sheet_of}
 use Rattle.scr_round.specs.Made.{turns_of_each}
 use Rattle.scr_slots.specs.declared.settings.Settings.{Settings}
 use Rattle.scr_slots.specs.Shown.{Shown}
@@ -124,6 +125,7 @@ AsksForParts (Ok (One event seed)) = Unit {0}
 AsksForParts (Ok (Sheet seed options)) = Unit {0}
 AsksForParts (Ok (Tables event)) = ⊥
 AsksForParts (Ok (Load number)) = ⊥
+AsksForParts (Ok (Net event seed)) = Unit {0}
 AsksForParts (Err usage) = Unit {0}
 
 seeded-parts : (make : Seed → Command) → ((seed : Seed) → AsksForParts (Ok (make seed))) → (read : Result Seed SeedFault)
@@ -135,11 +137,20 @@ one_for-parts : (event : Result Event UsageFault) (seed : List ℕ) → AsksForP
 one_for-parts (Err fault) seed = tt
 one_for-parts (Ok event) seed = seeded-parts (One event) (λ s. tt) (seed_of seed)
 
-one_of-parts : (words : List (List ℕ)) → AsksForParts (one_of words)
-one_of-parts [] = tt
-one_of-parts (event ∷ []) = tt
-one_of-parts (event ∷ seed ∷ []) = one_for-parts (event_for event) seed
-one_of-parts (event ∷ seed ∷ more ∷ others) = tt
+net_for-parts : (event : Result Event UsageFault) (seed : List ℕ) → AsksForParts (net_for event seed)
+net_for-parts (Err fault) seed = tt
+net_for-parts (Ok event) seed = by_side (is_some (net_side event))
+  where
+    by_side : (has : Bool) → AsksForParts (cond has (seeded (Net event) (seed_of seed)) (Err Grammar))
+    by_side true = seeded-parts (Net event) (λ s. tt) (seed_of seed)
+    by_side false = tt
+
+of_two-parts : (command : List ℕ → List ℕ → Result Command UsageFault) → ((first second : List ℕ) → AsksForParts (command first second))
+    → (words : List (List ℕ)) → AsksForParts (of_two command words)
+of_two-parts command each [] = tt
+of_two-parts command each (first ∷ []) = tt
+of_two-parts command each (first ∷ second ∷ []) = each first second
+of_two-parts command each (first ∷ second ∷ more ∷ others) = tt
 
 sheet_for-parts : (options : Option Options) (seed : Option (List ℕ)) → AsksForParts (sheet_for options seed)
 sheet_for-parts None seed = tt
@@ -153,8 +164,12 @@ sheet_of-parts (Some values) = sheet_for-parts (settings_in values) (values opti
 words-parts : (words : List (List ℕ)) → AsksForScrambles words → AsksForParts (command_of words)
 words-parts [] asks = absurd asks
 words-parts (word ∷ words) (inl is) =
-    let P : List ℕ → Type 0 = λ w. AsksForParts (command_of (w ∷ words)) in subst P (sym is) (one_of-parts words)
-words-parts (word ∷ words) (inr is) =
+    let P : List ℕ → Type 0 = λ w. AsksForParts (command_of (w ∷ words)) in
+    subst P (sym is) (of_two-parts _ (λ event seed. one_for-parts (event_for event) seed) words)
+words-parts (word ∷ words) (inr (inl is)) =
+    let P : List ℕ → Type 0 = λ w. AsksForParts (command_of (w ∷ words)) in
+    subst P (sym is) (of_two-parts _ (λ event seed. net_for-parts (event_for event) seed) words)
+words-parts (word ∷ words) (inr (inr is)) =
     let P : List ℕ → Type 0 = λ w. AsksForParts (command_of (w ∷ words)) in
     subst P (sym is) (sheet_of-parts (options_of sheet_options words))
 
@@ -164,7 +179,8 @@ no_settings = record { seed = record { 0 = [] }; attempts = 0; effort = record {
 
 fair-command : (asked : Result Command UsageFault) (source out : Change) (ended : Result (Unit {0}) Fault) → AsksForParts asked
     → Ends asked source out ended → IsFairlyWritten out
-fair-command (Ok (One event seed)) source out ended asks ends = fair-making _ _ out ended (inl (event, refl)) ends.1
+fair-command (Ok (One event seed)) source out ended asks ends = fair-making _ _ out ended (inl (event, inl refl)) ends.1
+fair-command (Ok (Net event seed)) source out ended asks ends = fair-making _ _ out ended (inl (event, inr refl)) ends.1
 fair-command (Ok (Sheet seed options)) source out ended asks (inl ends) = fair-making _ _ out ended (inr (ends.0, refl)) ends.2
 fair-command (Ok (Sheet seed options)) source out ended asks (inr refused) = fair-nothing no_settings out refused.unwritten
 fair-command (Ok (Tables event)) source out ended asks ends = absurd asks

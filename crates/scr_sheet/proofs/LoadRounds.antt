@@ -1,10 +1,14 @@
 -- The rounds of a number are rounds that lists take.
-use Rattle.std.proofs.Common.{ℕ, zero, suc, ◌+◌, ◌*◌, ◌%◌, ◌<◌, arith, map, All}
+use Rattle.std.proofs.Common.{◌≡◌, ℕ, zero, suc, ◌+◌, ◌*◌, ◌%◌, ◌<◌, List, [], sym, ap, arith, map, All}
 use Rattle.std.proofs.lemmas.List.Elements.{All-nil, All-cons}
 use Rattle.std.proofs.lemmas.List.FromFn.{length-map-range_with_len}
+use Rattle.std.proofs.lemmas.List.{get_or-take}
 use Rattle.std.proofs.lemmas.Nat.{mod_below}
-use Rattle.std.specs.List.{range_with_len}
+use Rattle.std.specs.List.{range_with_len, slice_index_or}
 use Rattle.scr_notation.specs.declared.event.Event.{Event}
+use Rattle.scr_notation.specs.declared.event.Event.TheVariants.{C222}
+use Rattle.scr_notation.specs.Event.{events, usual_of}
+use Rattle.scr_list.specs.ListedRound.{ListedRound}
 use Rattle.scr_list.specs.Rounds.{IsRound}
 use Rattle.scr_list.specs.RoundLists.{IsRounds}
 use Rattle.scr_list.proofs.EventLemmas.{id-IsId}
@@ -16,6 +20,7 @@ usual_round-IsRound event groups few = record {
   some_groups = omega arith;
   few_groups = omega (arith, few);
   least = (id-IsId event).usual;
+  name = λ some. cc;
 }
 
 -- so many rounds of a number, from one on
@@ -31,3 +36,17 @@ load_rounds-IsRounds number =
     let size = length-map-range_with_len (load_round number) 0 (1 + number % 16) in
     let few = mod_below number 16 (omega arith) in
     record { each = rounds_from-IsRound number 0 (1 + number % 16); few = omega (arith, size, few) }
+
+-- the events of the lists are the first ones of all
+in_turn : (number : ℕ) → slice_index_or events (number % 11) C222 ≡ event_in_turn number
+in_turn number = sym (get_or-take 11 events (number % 11) C222 (mod_below number 11 (omega arith)))
+
+-- a round of them with the usual minimum and no name
+pub unnamed : (number k least : ℕ) (name : List ℕ) → least ≡ usual_of (slice_index_or events ((number + k) % 11) C222) → name ≡ []
+    → (let made : ListedRound = record {
+      event = slice_index_or events ((number + k) % 11) C222;
+      groups = 1 + (number + 5 * k) % 8;
+      least = least;
+      name = name;
+    } in made) ≡ load_round number k
+unnamed number k least name usual none = rw (usual, none) (ap (λ event. usual_round event (1 + (number + 5 * k) % 8)) (in_turn (number + k)))

@@ -2,12 +2,10 @@
 use Rattle.std.proofs.Math.Seq.{take-append_seam}
 use Rattle.std.proofs.lemmas.List.{length-map}
 use Rattle.std.proofs.Common.{◌≡◌, ℕ, suc, ◌+◌, ◌<◌, List, [], ◌∷◌, ◌++◌, length, map, take, drop, get_or, Err, refl, sym, ap, subst, ◌∙◌, append_assoc, append-nil, length-append, drop-cons, add-one, arith}
-use Rattle.std.specs.Prelude.{Option, Some, None, IsSomeAnd, slice_index_or, codes}
+use Rattle.std.specs.Prelude.{Option, Some, None, IsSomeAnd, slice_index_or}
 use Rattle.scr_notation.specs.Written.{Written}
-use Rattle.scr_notation.specs.Spelling.{text_of}
 use Rattle.scr_outside.specs.Change.{Change, Gains, Falters}
 use Rattle.scr_outside.proofs.ChangeLemmas.{from_to, Gains-nothing, Gains-append, Falters-after}
-use Rattle.scr_notation.specs.declared.event.Event.{Event}
 use Rattle.scr_list.specs.declared.round.Round.{Round}
 use Rattle.scr_slots.specs.declared.settings.Settings.{Settings}
 use Rattle.scr_slots.specs.Slots.{Scrambling, IsSlotAnswer, IsSlotScramble, HasNoScramble}
@@ -18,7 +16,7 @@ use Rattle.scr_round.specs.Round.{round_text}
 use Rattle.scr_round.specs.Made.{Made, turns_of_each}
 use Rattle.scr_workers.specs.Answered.{AreAnswered}
 use Rattle.scr_sheet.specs.Making.{answer_at, AreAnswers, IsFirstNone, IsRoundMade}
-use Rattle.scr_sheet.specs.Sheet.{IsLimit, IsFirstWithout, Part, round_part, round_parts, one_part, EachSlot, ArePartScrambles, IsPartText, IsText}
+use Rattle.scr_sheet.specs.Sheet.{IsLimit, IsFirstWithout, Part, round_part, round_parts, EachSlot, ArePartScrambles, IsPartText, IsText}
 use Rattle.scr_sheet.specs.Outcome.{IsUnwritten, IsLed, IsDone, IsStopped, IsBroken, IsCutShort, EndsParts}
 
 -- ---- slots one after another
@@ -229,24 +227,26 @@ round_parts-next : (rounds : List Round) (i : ℕ) (d : Round) → i < length ro
 round_parts-next rounds i d there = rw (drop-cons rounds i d there, add-one i) refl
 
 -- a round that was written whole
-pub round-more : {settings : Settings} {held held' : Option (List ℕ)} {faults faults' : ℕ} (rounds : List Round) (i : ℕ) (d : Round)
-    (held'' : Option (List ℕ)) (faults'' : ℕ) → i < length rounds
+pub round-more : {settings : Settings} {held held' : Option (List ℕ)} {faults faults' : ℕ} (rounds : List Round) (i : ℕ) (round : Round)
+    → round ≡ get_or rounds i round → (held'' : Option (List ℕ)) (faults'' : ℕ) → i < length rounds
     → IsMadeUpTo settings (round_parts 0 rounds) (round_parts i (drop i rounds)) i (from_to held faults held' faults')
-    → IsDone settings (round_part i (get_or rounds i d) ∷ []) (from_to held' faults' held'' faults'')
+    → IsDone settings (round_part i round ∷ []) (from_to held' faults' held'' faults'')
     → IsMadeUpTo settings (round_parts 0 rounds) (round_parts (i + 1) (drop (i + 1) rounds)) (i + 1) (from_to held faults held'' faults'')
-round-more {settings} {held} {held'} {faults} {faults'} rounds i d held'' faults'' there made done =
+round-more {settings} {held} {held'} {faults} {faults'} rounds i round is held'' faults'' there made done =
     let P : List Part → Type 0 = λ rest. IsMadeUpTo settings (round_parts 0 rounds) rest i (from_to held faults held' faults') in
-    made-more (subst P (round_parts-next rounds i d there) made) done
+    let Done : Round → Type 0 = λ r. IsDone settings (round_part i r ∷ []) (from_to held' faults' held'' faults'') in
+    made-more (subst P (round_parts-next rounds i round there) made) (subst Done is done)
 
 -- a round that ends the sheet
-pub round-fault : {settings : Settings} {held held' : Option (List ℕ)} {faults faults' : ℕ} (rounds : List Round) (i : ℕ) (d : Round)
-    (held'' : Option (List ℕ)) (faults'' : ℕ) (f : Fault) → i < length rounds
+pub round-fault : {settings : Settings} {held held' : Option (List ℕ)} {faults faults' : ℕ} (rounds : List Round) (i : ℕ) (round : Round)
+    → round ≡ get_or rounds i round → (held'' : Option (List ℕ)) (faults'' : ℕ) (f : Fault) → i < length rounds
     → IsMadeUpTo settings (round_parts 0 rounds) (round_parts i (drop i rounds)) i (from_to held faults held' faults')
-    → EndsParts settings i (round_part i (get_or rounds i d) ∷ []) (from_to held' faults' held'' faults'') (Err f)
+    → EndsParts settings i (round_part i round ∷ []) (from_to held' faults' held'' faults'') (Err f)
     → EndsParts settings 0 (round_parts 0 rounds) (from_to held faults held'' faults'') (Err f)
-round-fault {settings} {held} {held'} {faults} {faults'} rounds i d held'' faults'' f there made ends =
+round-fault {settings} {held} {held'} {faults} {faults'} rounds i round is held'' faults'' f there made ends =
     let P : List Part → Type 0 = λ rest. IsMadeUpTo settings (round_parts 0 rounds) rest i (from_to held faults held' faults') in
-    made-fault held'' faults'' f (subst P (round_parts-next rounds i d there) made) ends
+    let Ends : Round → Type 0 = λ r. EndsParts settings i (round_part i r ∷ []) (from_to held' faults' held'' faults'') (Err f) in
+    made-fault held'' faults'' f (subst P (round_parts-next rounds i round there) made) (subst Ends is ends)
 
 -- the text of a round that was made
 pub IsPartText-made : {settings : Settings} {k : ℕ} {round : Round} {made : Made} → IsRoundMade settings k round made
@@ -256,16 +256,6 @@ IsPartText-made {k = k} {made = made} is = record {
   all = is.scrambles;
   is = ap (λ i. round_text i made.round (turns_of_each made.scrambles)) is.same_index
       ∙ ap (λ r. round_text k r (turns_of_each made.scrambles)) is.same_round;
-}
-
--- the line of a scramble
-pub IsPartText-line : {settings : Settings} {event : Event} {line : List ℕ} (scramble : Written)
-    → IsSlotScramble (scrambling_of event) settings 0 0 scramble → line ≡ text_of scramble.turns
-    → IsPartText settings (one_part event) (line ++ codes "\n")
-IsPartText-line scramble slot is = record {
-  scrambles = scramble ∷ [];
-  all = record { each_slot = refl; each = (slot, tt) };
-  is = ap (λ l. l ++ codes "\n") is;
 }
 
 -- a part that stands alone has a slot without a scramble

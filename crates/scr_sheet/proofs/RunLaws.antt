@@ -3,9 +3,8 @@ use Rattle.std.proofs.lemmas.List.{length-map}
 use Rattle.std.proofs.lemmas.List.Elements.{All-nil, All-head, All-tail, All-cons, All-weaker, All-contains_itself}
 use Rattle.std.proofs.lemmas.Option.{same_Some}
 use Rattle.std.proofs.Math.ListN.{get_or-map}
-use Rattle.std.proofs.Common.{◌≡◌, ◌⊎◌, ℕ, zero, suc, ◌+◌, ◌≤◌, ◌<◌, Bool, List, [], ◌∷◌, ◌++◌, length, length-append, Ok, Err, inl, inr, refl, sym, ap, subst, ◌∙◌, arith, All}
-use Rattle.std.specs.Prelude.{Result, Option, Some, None, Contains, map, ◌↔◌}
-use Rattle.scr_outside.specs.Bytes.{put_back}
+use Rattle.std.proofs.Common.{◌≡◌, ◌⊎◌, ℕ, zero, suc, ◌+◌, ◌≤◌, ◌<◌, Bool, List, [], ◌∷◌, ◌++◌, length, Ok, Err, inl, inr, refl, sym, ap, subst, ◌∙◌, arith, All}
+use Rattle.std.specs.Prelude.{Result, Some, None, Contains, map, ◌↔◌}
 use Rattle.scr_outside.specs.Change.{Change}
 use Rattle.scr_outside.specs.Faults.{Rose}
 use Rattle.scr_notation.specs.declared.event.Event.{Event}
@@ -16,11 +15,10 @@ use Rattle.scr_list.specs.declared.fault.ListFault.{ListFault}
 use Rattle.scr_list.specs.declared.fault.ListFault.TheVariants as list
 use Rattle.scr_list.specs.declared.round.Round.{Round}
 use Rattle.scr_list.specs.Reading.{ReadsList, ReadsNoList}
-use Rattle.scr_list.specs.Limits.{lists}
 use Rattle.scr_list.specs.Rounds.{IsRound, rounds_of}
-use Rattle.scr_list.proofs.RoundLemmas.{rounds_of-long}
+use Rattle.scr_list.proofs.ReadLemmas.{too_many-refused}
 use Rattle.scr_command.specs.declared.command.Command.{Command}
-use Rattle.scr_command.specs.declared.command.Command.TheVariants.{One, Sheet, Tables, Load}
+use Rattle.scr_command.specs.declared.command.Command.TheVariants.{One, Sheet, Tables, Load, Net}
 use Rattle.scr_command.specs.declared.command.UsageFault.{UsageFault}
 use Rattle.scr_table.specs.declared.fault.BuildFault.{BuildFault}
 use Rattle.scr_table.specs.declared.fault.BuildFault.TheVariants as build
@@ -33,7 +31,7 @@ use Rattle.scr_sheet.specs.declared.fault.Fault.{Fault}
 use Rattle.scr_sheet.specs.declared.fault.Fault.TheVariants as fault
 use Rattle.scr_sheet.specs.declared.status.Status.{Status}
 use Rattle.scr_sheet.specs.declared.status.Status.TheVariants as status
-use Rattle.scr_sheet.specs.Sheet.{Part, round_part, round_parts, one_part, part_text, EachSlot, IsPartText, IsText, IsFirstWithout}
+use Rattle.scr_sheet.specs.Sheet.{Part, round_part, round_parts, EachSlot, IsPartText, IsText, IsFirstWithout}
 use Rattle.scr_sheet.specs.Outcome.{EndsParts, EndsMaking, EndsCommand, EndsTables, EndsTelling, Ends, LacksTables, gaining, fault_of_build, status_of}
 use Rattle.scr_sheet.specs.Task.{IsTask, IsUnhindered, LacksScramble, EndsWith}
 
@@ -67,7 +65,7 @@ IsPartText-one settings part text other decided first second =
     let same =
     EachSlot-one settings (scrambling_of part.event) part.least decided part.first_stream first.scrambles second.scrambles
     (first.all.each_slot ∙ sym second.all.each_slot) first.all.each second.all.each in
-    first.is ∙ ap (λ scrambles. part_text part (turns_of_each scrambles)) same ∙ sym second.is
+    first.is ∙ ap (λ scrambles. part.text (turns_of_each scrambles)) same ∙ sym second.is
 
 pub IsText-one_text : (settings : Settings) (parts : List Part) (text other : List ℕ) → All IsDecided parts
     → IsText (IsPartText settings) parts text → IsText (IsPartText settings) parts other → text ≡ other
@@ -145,15 +143,6 @@ EndsParts-limit settings parts out (Err (fault.Gap table index)) ends written de
 
 -- ---- the ends of runs that nothing hinders
 
--- what was given is no longer than what there was
-given-length : (list bytes : List ℕ) (after : Option (List ℕ)) → Some list ≡ put_back bytes after → length bytes ≤ length list
-given-length list bytes None is = let none : ⊥ = cc in absurd none
-given-length list bytes (Some left) is =
-    let whole : list ≡ bytes ++ left = cc in
-    let size = length-append bytes left in
-    let same = ap length whole in
-    omega (arith, size, same)
-
 -- a list that was read to its end
 abbrev pub ReadWhole : Type 0
 ReadWhole = (change : Change) (list : List ℕ) (answer : Result (List Round) ListFault) → ReadsList change answer
@@ -162,11 +151,8 @@ ReadWhole = (change : Change) (list : List ℕ) (answer : Result (List Round) Li
 -- a list of rounds is no list that is refused
 IsList-read : (source : Change) (bytes : List ℕ) (rounds : List Round) (refusal : ListFault) → ReadWhole → rounds_of bytes ≡ Ok rounds
     → source.bytes_before ≡ Some bytes → ¬ (Rose source.faults_before source.faults_after) → ReadsNoList source refusal → ⊥
-IsList-read source bytes rounds list.TooLong whole is input read refused =
-    let short = given-length bytes refused.bytes source.bytes_after (sym input ∙ refused.gives.given) in
-    let size = refused.many in
-    let long : lists.most_bytes < length bytes = omega (arith, short, size) in
-    let again : rounds_of bytes ≡ Err list.TooLong = rounds_of-long bytes long in
+IsList-read source bytes rounds (list.TooLong limit) whole is input read refused =
+    let again : rounds_of bytes ≡ Err (list.TooLong limit) = too_many-refused source limit bytes refused input in
     let none : ⊥ = cc in
     absurd none
 IsList-read source bytes rounds (list.Line number cause) whole is input read refused =
@@ -215,7 +201,7 @@ EndsTelling-same (Ok u) lines out (Ok v) written told = refl
 EndsTelling-same (Ok u) lines out (Err f) written told = absurd (written told.1.rose)
 EndsTelling-same (Err f) lines out ended written told = told.0
 
-not_risen : ¬ (Rose 0 0)
+pub not_risen : ¬ (Rose 0 0)
 not_risen (inl higher) = absurd (omega (arith, higher))
 not_risen (inr last) = absurd (omega (arith, last))
 
@@ -243,29 +229,31 @@ tables_as_parts settings event out ended written (inr lacks) = record {
   same = refl;
 }
 
-EndsCommand-parts : (command : Command) (list : List ℕ) (settings : Settings) (parts : List Part) (source out : Change)
-    (ended : Result (Unit {0}) Fault) → ReadWhole → IsTask command list settings parts → source.bytes_before ≡ Some list
+EndsCommand-parts : (command : Command) (settings : Settings) (parts : List Part) (source out : Change)
+    (ended : Result (Unit {0}) Fault) → ReadWhole → IsTask command source settings parts
     → ¬ (Rose source.faults_before source.faults_after) → ¬ (Rose out.faults_before out.faults_after)
     → EndsCommand command source out ended → IsWell settings parts ended
-EndsCommand-parts (One event seed) list settings parts source out ended whole task input read written ends =
+EndsCommand-parts (One event seed) settings parts source out ended whole task read written ends =
     IsWell-written settings parts out ended written (rw (task.0, task.1) ends.1)
-EndsCommand-parts (Sheet seed options) list settings parts source out ended whole task input read written (inl ends) =
-    let is = task.1 in
-    let again = (whole source list (Ok ends.0) ends.1 input).0 in
-    let same : ends.0 ≡ task.0 = cc in
-    let same_parts : parts ≡ round_parts 0 ends.0 = task.3 ∙ ap (round_parts 0) (sym same) in
-    IsWell-written settings parts out ended written (rw (task.2, same_parts) ends.2)
-EndsCommand-parts (Sheet seed options) list settings parts source out ended whole task input read written (inr refused) =
-    absurd (IsList-read source list task.0 refused.list whole task.1 input read refused.cause)
-EndsCommand-parts (Tables event) list settings parts source out ended whole task input read written ends =
+EndsCommand-parts (Sheet seed options) settings parts source out ended whole task read written (inl ends) =
+    let is = task.3 in
+    let again = (whole source task.0 (Ok ends.0) ends.1 task.2).0 in
+    let same : ends.0 ≡ task.1 = cc in
+    let same_parts : parts ≡ round_parts 0 ends.0 = task.5 ∙ ap (round_parts 0) (sym same) in
+    IsWell-written settings parts out ended written (rw (task.4, same_parts) ends.2)
+EndsCommand-parts (Sheet seed options) settings parts source out ended whole task read written (inr refused) =
+    absurd (IsList-read source task.0 task.1 refused.list whole task.3 task.2 read refused.cause)
+EndsCommand-parts (Tables event) settings parts source out ended whole task read written ends =
     rw task (tables_as_parts settings event out ended written ends.1)
-EndsCommand-parts (Load number) list settings parts source out ended whole task input read written ends = record {
+EndsCommand-parts (Load number) settings parts source out ended whole task read written ends = record {
   sink = gaining ends.1.sheet;
   made = ends.1.made;
   making = rw (task.0, task.1) (made_parts _ _ (gaining ends.1.sheet) ends.1.made ends.1.making);
   whole = not_risen;
   same = EndsTelling-same ends.1.made _ out ended written ends.1.told;
 }
+EndsCommand-parts (Net event seed) settings parts source out ended whole task read written ends =
+    IsWell-written settings parts out ended written (rw (task.0, task.1) ends.1)
 
 IsUnhindered-ends : {words : List (List ℕ)} {outcome : Status} {source out err : Change} {settings : Settings} {parts : List Part}
     → ReadWhole → (run : IsUnhindered words outcome source out err settings parts)
@@ -274,7 +262,7 @@ IsUnhindered-ends {source = source} {out = out} {settings = settings} {parts = p
     elim run.run.performed.ends [
       | inl ends ↦
           let P : Result Command UsageFault → Type 0 = λ asked. Ends asked source out run.run.ended in
-          inl (EndsCommand-parts run.command run.list settings parts source out run.run.ended whole run.task run.input run.read run.written
+          inl (EndsCommand-parts run.command settings parts source out run.run.ended whole run.task run.read run.written
           (subst P run.asks ends))
       | inr wanting ↦ inr wanting.is
     ]
@@ -340,7 +328,3 @@ pub each_asked : (events : List Bool) (rounds : List Round)
 each_asked events rounds same =
     All-weaker (Contains rounds) (λ (round : Round). Has events round.event)
     (λ round there. (same round.event).1 (contains_map (λ (r : Round). r.event) rounds round there)) rounds (All-contains_itself rounds)
-
--- and one event
-pub one-fair : (events : List Bool) (event : Event) → AreFairEvents events → Has events event → All IsFairPart (one_part event ∷ [])
-one-fair events event fair has = All-cons IsFairPart (one_part event) [] (fair event 0 has (omega arith)) (All-nil IsFairPart)

@@ -1,5 +1,5 @@
 -- Rounds that are made one after another and counted.
-use Rattle.std.proofs.Common.{ℕ, ◌+◌, ◌<◌, List, [], ◌∷◌, ◌++◌, length, drop, get_or, Ok, Err, refl, length-append, arith}
+use Rattle.std.proofs.Common.{◌≡◌, ℕ, ◌+◌, ◌<◌, List, [], ◌∷◌, ◌++◌, length, drop, get_or, Ok, Err, refl, length-append, arith}
 use Rattle.std.proofs.lemmas.List.Sums.{sum_by-append}
 use Rattle.std.specs.Prelude.{Some}
 use Rattle.scr_outside.proofs.ChangeLemmas.{from_to, Gains-nothing}
@@ -38,31 +38,31 @@ IsSizeOf-append text more size added first second =
     record { counted = omega (arith, bytes, counted, counted'); added = omega (arith, sums, sum, sum') }
 
 -- one more round
-pub sized-more : {settings : Settings} {size more : Size} (rounds : List Round) (i : ℕ) (d : Round) → i < length rounds
-    → IsSizedUpTo settings (round_parts 0 rounds) (round_parts i (drop i rounds)) i size
-    → IsPartSize settings (round_part i (get_or rounds i d)) more
+pub sized-more : {settings : Settings} {size more : Size} (rounds : List Round) (i : ℕ) (round : Round) → round ≡ get_or rounds i round
+    → i < length rounds → IsSizedUpTo settings (round_parts 0 rounds) (round_parts i (drop i rounds)) i size
+    → IsPartSize settings (round_part i round) more
     → IsSizedUpTo settings (round_parts 0 rounds) (round_parts (i + 1) (drop (i + 1) rounds)) (i + 1) (with_more size more)
-sized-more {settings} {size} {more} rounds i d there sized part =
+sized-more {settings} {size} {more} rounds i round is there sized part =
     let text = part.text in
-    let done : IsDone settings (round_part i (get_or rounds i d) ∷ []) (from_to (Some sized.sheet) 0 (Some (sized.sheet ++ text)) 0) = record {
+    let done : IsDone settings (round_part i round ∷ []) (from_to (Some sized.sheet) 0 (Some (sized.sheet ++ text)) 0) = record {
       text = text;
-      all = IsText-one (IsPartText settings) (round_part i (get_or rounds i d)) text part.is;
+      all = IsText-one (IsPartText settings) (round_part i round) text part.is;
       gained = record { gained = refl; no_fault = refl };
     } in
     record {
       sheet = sized.sheet ++ text;
-      made = round-more rounds i d (Some (sized.sheet ++ text)) 0 there sized.made done;
+      made = round-more rounds i round is (Some (sized.sheet ++ text)) 0 there sized.made done;
       amounts = IsSizeOf-append sized.sheet text size more sized.amounts part.amounts;
     }
 
 -- a round that was not made
-pub sized-fault : {settings : Settings} {size : Size} (rounds : List Round) (i : ℕ) (d : Round) (fault : Fault) → i < length rounds
-    → IsSizedUpTo settings (round_parts 0 rounds) (round_parts i (drop i rounds)) i size
-    → EndsUnmade settings i (get_or rounds i d) fault → SizesParts settings (round_parts 0 rounds) (Err fault)
-sized-fault rounds i d fault there sized ends = record {
+pub sized-fault : {settings : Settings} {size : Size} (rounds : List Round) (i : ℕ) (round : Round) → round ≡ get_or rounds i round
+    → (fault : Fault) → i < length rounds → IsSizedUpTo settings (round_parts 0 rounds) (round_parts i (drop i rounds)) i size
+    → EndsUnmade settings i (round_part i round) fault → SizesParts settings (round_parts 0 rounds) (Err fault)
+sized-fault rounds i round is fault there sized ends = record {
   sheet = sized.sheet;
   ends =
-      round-fault rounds i d (Some sized.sheet) 0 fault there sized.made
+      round-fault rounds i round is (Some sized.sheet) 0 fault there sized.made
       (ends (from_to (Some sized.sheet) 0 (Some sized.sheet) 0) Gains-nothing);
   amounts = tt;
 }

@@ -9,7 +9,7 @@ use Rattle.scr_list.specs.declared.round.Round.{Round}
 use Rattle.scr_slots.specs.declared.settings.Settings.{Settings}
 use Rattle.scr_slots.specs.Shown.{DrawnPuzzle, Shown, States, Moves, GivesDrawn, HasMoves, slot_numbers}
 use Rattle.scr_slots.specs.Events.{shown_of}
-use Rattle.scr_sheet.specs.Sheet.{Part, EachSlot, IsText, one_part, part_text, round_parts}
+use Rattle.scr_sheet.specs.Sheet.{Part, EachSlot, IsText, one_part, net_part, round_parts}
 
 -- The slots of a puzzle's states on streams one after another: by some numbers of the states, every state that turns reach
 -- and that needs so many is drawn by equally many lists of numbers, and no other state by any; and these turns give the
@@ -32,11 +32,12 @@ pub record IsFairText (settings : Settings) (part : Part) (text : List ℕ) : Ty
   pub scrambles : List (List Turn)
   pub each_slot : length scrambles ≡ part.slots
   pub fair : AreFairScrambles (shown_of part.event) settings part.least part.first_stream scrambles
-  pub is : text ≡ part_text part scrambles
+  pub is : text ≡ part.text scrambles
 
--- the parts of a command that writes scrambles: the one line of an event, or the rounds of a list
+-- the parts of a command that writes scrambles: the one line of an event, with its net or without, or the rounds of a list
 abbrev pub ArePartsAsked : List Part → Type 0
-ArePartsAsked parts = ((event : Event) × (parts ≡ one_part event ∷ [])) ⊎ ((rounds : List Round) × (parts ≡ round_parts 0 rounds))
+ArePartsAsked parts = ((event : Event) × ((parts ≡ one_part event ∷ []) ⊎ (parts ≡ net_part event ∷ [])))
+    ⊎ ((rounds : List Round) × (parts ≡ round_parts 0 rounds))
 
 -- What was written is the text of such parts, or of the first of them, all of whose scrambles are fair; or a first part of
 -- that text, where the output failed.
@@ -51,7 +52,7 @@ pub record IsFairlyWritten (out : Change) : Type 0 where
   pub fair : IsText (IsFairText settings) led text
   pub written : Gains out text ⊎ Falters out text
 
--- the words ask for scrambles: the first is `one` or `sheet`
+-- the words ask for scrambles: the first is `one`, `net` or `sheet`
 abbrev pub AsksForScrambles : List (List ℕ) → Type 0
 AsksForScrambles [] = ⊥
-AsksForScrambles (word ∷ words) = (word ≡ codes "one") ⊎ (word ≡ codes "sheet")
+AsksForScrambles (word ∷ words) = (word ≡ codes "one") ⊎ ((word ≡ codes "net") ⊎ (word ≡ codes "sheet"))

@@ -26,9 +26,9 @@ load_events = take 11 events
 abbrev pub event_in_turn : ℕ → Event
 event_in_turn number = slice_index_or load_events (number % length load_events) C222
 
--- so many groups of an event, with its usual minimum
+-- so many groups of an event, with its usual minimum and no name
 abbrev pub usual_round : Event → ℕ → Round
-usual_round event groups = record { event = event; groups = groups; least = usual_of event }
+usual_round event groups = record { event = event; groups = groups; least = usual_of event; name = [] }
 
 -- its round k, counted from 0: of the events in turn, with numbers of groups from 1 to 8 in steps of five
 abbrev pub load_round : ℕ → ℕ → Round

@@ -23,7 +23,7 @@ abbrev pub usage_text : UsageFault → List ℕ
 usage_text No444 = codes "444 is not supported"
 usage_text (NoSeed fault) = seed_fault_text fault
 usage_text Grammar =
-    codes "usage: one EVENT SEED | sheet --seed HEX [--workers N] [--tries N] [--attempts N] | tables EVENT | load NUMBER"
+    codes "usage: one EVENT SEED | sheet --seed HEX [--workers N] [--tries N] [--attempts N] | tables EVENT | load NUMBER | net EVENT SEED"
 
 -- why a line was refused
 abbrev pub cause_text : ListCause → List ℕ
@@ -32,12 +32,13 @@ cause_text cause.No444 = codes "444 is not supported"
 cause_text cause.Event = codes "unknown event"
 cause_text cause.Groups = codes "groups"
 cause_text cause.Minimum = codes "minimum"
+cause_text cause.Name = codes "name"
 cause_text cause.Rounds = codes "too many rounds"
 
 -- why a list was refused; lines are counted from 1
 abbrev pub list_text : ListFault → List ℕ
 list_text list.Read = codes "input could not be read"
-list_text list.TooLong = codes "list is longer than 4096 bytes"
+list_text (list.TooLong limit) = codes "list is longer than " ++ decimal limit ++ codes " bytes"
 list_text (list.Line number cause) = codes "line " ++ decimal number ++ codes ": " ++ cause_text cause
 
 -- what went wrong; rounds and slots are counted from 1

@@ -7,7 +7,7 @@ use Rattle.scr_list.specs.declared.round.Round.{Round}
 use Rattle.scr_list.specs.declared.fault.ListFault.{ListFault}
 use Rattle.scr_list.specs.declared.fault.ListFault.TheVariants as list
 use Rattle.scr_command.specs.declared.command.Command.{Command}
-use Rattle.scr_command.specs.declared.command.Command.TheVariants.{One, Sheet, Tables, Load}
+use Rattle.scr_command.specs.declared.command.Command.TheVariants.{One, Sheet, Tables, Load, Net}
 use Rattle.scr_command.specs.declared.command.UsageFault.{UsageFault}
 use Rattle.scr_command.specs.declared.command.CommandFault.{CommandFault}
 use Rattle.scr_command.specs.declared.command.CommandFault.TheVariants as refusal
@@ -22,7 +22,7 @@ use Rattle.scr_sheet.specs.declared.fault.Fault.{Fault}
 use Rattle.scr_sheet.specs.declared.fault.Fault.TheVariants as fault
 use Rattle.scr_sheet.specs.declared.status.Status.{Status}
 use Rattle.scr_sheet.specs.declared.status.Status.TheVariants as status
-use Rattle.scr_sheet.specs.Sheet.{settings_of, IsLimit, Part, round_part, round_parts, one_part, IsPartText, IsText}
+use Rattle.scr_sheet.specs.Sheet.{settings_of, IsLimit, Part, round_parts, one_part, net_part, IsPartText, IsText}
 use Rattle.scr_sheet.specs.Load.{load_seed, load_rounds, load_text}
 use Rattle.scr_table_text.specs.TableText.{IsTablesText}
 use Rattle.scr_sheet.specs.Message.{message_of}
@@ -84,10 +84,9 @@ EndsParts settings k parts out (Err (fault.Usage usage)) = ⊥
 EndsParts settings k parts out (Err (fault.List list)) = ⊥
 EndsParts settings k parts out (Err (fault.Gap table index)) = ⊥
 
--- how a part ends, which is round k, where this fault comes before anything of it is written
-abbrev pub EndsUnmade : Settings → ℕ → Round → Fault → Type 0
-EndsUnmade settings k round why =
-    (out : Change) → IsUnwritten out → EndsParts settings k (round_part k round ∷ []) out (Err why)
+-- how part k ends where this fault comes before anything of it is written
+abbrev pub EndsUnmade : Settings → ℕ → Part → Fault → Type 0
+EndsUnmade settings k part why = (out : Change) → IsUnwritten out → EndsParts settings k (part ∷ []) out (Err why)
 
 -- ---- tables
 
@@ -167,6 +166,8 @@ EndsCommand (Sheet seed options) source out ended =
 EndsCommand (Tables event) source out ended =
     IsUnchanged source × (EndsTables event out ended ⊎ LacksTables (event ∷ []) out ended)
 EndsCommand (Load number) source out ended = IsUnchanged source × EndsLoad number out ended
+EndsCommand (Net event seed) source out ended =
+    IsUnchanged source × EndsMaking (settings_of seed usual_options) (net_part event ∷ []) out ended
 
 -- how a run ends on words that are this command, or that are none
 abbrev pub Ends : Result Command UsageFault → Change → Change → Result (Unit {0}) Fault → Type 0
@@ -192,6 +193,7 @@ TakesMemory (Ok (One event seed)) = HasTables event
 TakesMemory (Ok (Sheet seed options)) = Unit {0}
 TakesMemory (Ok (Tables event)) = HasTables event
 TakesMemory (Ok (Load number)) = Unit {0}
+TakesMemory (Ok (Net event seed)) = HasTables event
 TakesMemory (Err usage) = ⊥
 
 -- What a run on these words does before it tells how it ended. Only words that begin with `sheet`, and what needs
@@ -210,7 +212,7 @@ abbrev pub status_of : Result (Unit {0}) Fault → Status
 status_of (Ok _) = status.Done
 status_of (Err (fault.Usage usage)) = status.Usage
 status_of (Err (fault.List list.Read)) = status.ReadFault
-status_of (Err (fault.List list.TooLong)) = status.List
+status_of (Err (fault.List (list.TooLong limit))) = status.List
 status_of (Err (fault.List (list.Line number cause))) = status.List
 status_of (Err (fault.DrawLimit number slot words)) = status.DrawLimit
 status_of (Err fault.Write) = status.WriteFault

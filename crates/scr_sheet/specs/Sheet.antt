@@ -1,13 +1,18 @@
 -- What a command writes: parts one after another, each the lines of some slots' scrambles.
-use Rattle.std.specs.Prelude.{◌≡◌, ℕ, ◌+◌, ◌*◌, ◌<◌, List, [], ◌∷◌, ◌++◌, map, length}
+use Rattle.std.specs.Prelude.{◌≡◌, ℕ, ◌+◌, ◌*◌, ◌<◌, List, [], ◌∷◌, ◌++◌, length, codes, slice_index_or, Option, Some, None}
+use Rattle.std.specs.Option.{option_map_or}
+use Rattle.scr_combinatorics.specs.Play.{play}
 use Rattle.scr_notation.specs.declared.event.Event.{Event}
 use Rattle.scr_notation.specs.declared.turn.Turn.{Turn}
+use Rattle.scr_notation.specs.Spelling.{text_of}
 use Rattle.scr_notation.specs.Written.{Written}
-use Rattle.scr_text.specs.Lines.{text_of_lines}
 use Rattle.scr_words.specs.declared.seed.Seed.{Seed}
 use Rattle.scr_list.specs.declared.round.Round.{Round}
 use Rattle.scr_command.specs.declared.options.Options.{Options}
-use Rattle.scr_round.specs.Round.{Line, Slot, slots_of, round_lines, line_text}
+use Rattle.scr_command.specs.Command.{net_side}
+use Rattle.scr_net.specs.Nets.{net_after, solved_net}
+use Rattle.scr_net.specs.NetText.{net_text}
+use Rattle.scr_round.specs.Round.{slots_of, round_text}
 use Rattle.scr_round.specs.Made.{turns_of_each}
 use Rattle.scr_slots.specs.declared.settings.Settings.{Settings}
 use Rattle.scr_slots.specs.Slots.{IsSlotScramble, HasNoScramble, first_stream}
@@ -17,13 +22,13 @@ use Rattle.scr_slots.specs.Events.{scrambling_of}
 abbrev pub settings_of : Seed → Options → Settings
 settings_of seed options = record { seed = seed; attempts = options.attempts; effort = record { tries = options.tries } }
 
--- A part: slots of an event with one minimum, on streams one after another, and its lines.
+-- A part: slots of an event with one minimum, on streams one after another, and its text with their scrambles.
 pub record Part : Type 0 where
   pub event : Event
   pub least : ℕ
   pub first_stream : ℕ
   pub slots : ℕ
-  pub lines : List Line
+  pub text : List (List Turn) → List ℕ
 
 -- round k of a list, counted from 0
 abbrev pub round_part : ℕ → Round → Part
@@ -32,7 +37,7 @@ round_part k round = record {
   least = round.least;
   first_stream = first_stream k;
   slots = slots_of round;
-  lines = round_lines k round;
+  text = round_text k round;
 }
 
 -- the rounds of a list, the first of them round k
@@ -40,13 +45,32 @@ abbrev pub round_parts : ℕ → List Round → List Part
 round_parts k [] = []
 round_parts k (round ∷ rounds) = round_part k round ∷ round_parts (k + 1) rounds
 
--- one scramble of an event, with no minimum, on stream 0: a line
-abbrev pub one_part : Event → Part
-one_part event = record { event = event; least = 0; first_stream = 0; slots = 1; lines = Slot [] 0 ∷ [] }
+-- one scramble of an event, with no minimum, on stream 0, and what is written of its turns
+abbrev pub single_part : Event → (List Turn → List ℕ) → Part
+single_part event text = record {
+  event = event;
+  least = 0;
+  first_stream = 0;
+  slots = 1;
+  text = λ scrambles. text (slice_index_or scrambles 0 []);
+}
 
--- the text of a part whose slots have these scrambles
-abbrev pub part_text : Part → List (List Turn) → List ℕ
-part_text part scrambles = text_of_lines (map (line_text scrambles) part.lines)
+-- the line of a scramble
+abbrev pub line_of : List Turn → List ℕ
+line_of turns = text_of turns ++ codes "\n"
+
+-- the scramble alone
+abbrev pub one_part : Event → Part
+one_part event = single_part event line_of
+
+-- the net of a solved cube with so many layers after turns
+abbrev pub shown_net : Option ℕ → List Turn → List ℕ
+shown_net None turns = []
+shown_net (Some side) turns = option_map_or (net_text side) (play (net_after side) (solved_net side) turns) []
+
+-- the scramble and the net of the cube that it scrambles
+abbrev pub net_part : Event → Part
+net_part event = single_part event (λ turns. line_of turns ++ shown_net (net_side event) turns)
 
 -- it is so of what slots have, one after another, the first of them on this stream
 abbrev pub EachSlot : {X : Type 0} → (ℕ → X → Type 0) → ℕ → List X → Type 0
@@ -67,7 +91,7 @@ pub record ArePartScrambles (settings : Settings) (part : Part) (scrambles : Lis
 pub record IsPartText (settings : Settings) (part : Part) (text : List ℕ) : Type 0 where
   pub scrambles : List Written
   pub all : ArePartScrambles settings part scrambles
-  pub is : text ≡ part_text part (turns_of_each scrambles)
+  pub is : text ≡ part.text (turns_of_each scrambles)
 
 -- It is a text of parts one after another, each of which has such a text.
 abbrev pub IsText : (Part → List ℕ → Type 0) → List Part → List ℕ → Type 0

@@ -5,32 +5,32 @@ use Rattle.scr_outside.specs.Faults.{Rose}
 use Rattle.scr_list.specs.declared.round.Round.{Round}
 use Rattle.scr_list.specs.Rounds.{rounds_of}
 use Rattle.scr_command.specs.declared.command.Command.{Command}
-use Rattle.scr_command.specs.declared.command.Command.TheVariants.{One, Sheet, Tables, Load}
+use Rattle.scr_command.specs.declared.command.Command.TheVariants.{One, Sheet, Tables, Load, Net}
 use Rattle.scr_command.specs.Command.{usual_options, command_of}
 use Rattle.scr_slots.specs.declared.settings.Settings.{Settings}
 use Rattle.scr_sheet.specs.declared.status.Status.{Status}
 use Rattle.scr_sheet.specs.declared.status.Status.TheVariants as status
-use Rattle.scr_sheet.specs.Sheet.{settings_of, Part, round_parts, one_part, IsFirstWithout}
+use Rattle.scr_sheet.specs.Sheet.{settings_of, Part, round_parts, one_part, net_part, IsFirstWithout}
 use Rattle.scr_sheet.specs.Load.{load_seed, load_rounds}
 use Rattle.scr_sheet.specs.Outcome.{IsRun}
 
--- what a command makes, and writes or sums, whose input is this list; `tables` makes no parts
-abbrev pub IsTask : Command → List ℕ → Settings → List Part → Type 0
-IsTask (One event seed) list settings parts = (settings ≡ settings_of seed usual_options) × (parts ≡ one_part event ∷ [])
-IsTask (Sheet seed options) list settings parts =
-    (rounds : List Round) × (rounds_of list ≡ Ok rounds) × (settings ≡ settings_of seed options) × (parts ≡ round_parts 0 rounds)
-IsTask (Tables event) list settings parts = parts ≡ []
-IsTask (Load number) list settings parts =
+-- what a command makes, and writes or sums; only `sheet` asks what its source holds, and `tables` makes no parts
+abbrev pub IsTask : Command → Change → Settings → List Part → Type 0
+IsTask (One event seed) source settings parts = (settings ≡ settings_of seed usual_options) × (parts ≡ one_part event ∷ [])
+IsTask (Sheet seed options) source settings parts =
+    (list : List ℕ) × (rounds : List Round) × (source.bytes_before ≡ Some list) × (rounds_of list ≡ Ok rounds)
+    × (settings ≡ settings_of seed options) × (parts ≡ round_parts 0 rounds)
+IsTask (Tables event) source settings parts = parts ≡ []
+IsTask (Load number) source settings parts =
     (settings ≡ settings_of (load_seed number) usual_options) × (parts ≡ round_parts 0 (load_rounds number))
+IsTask (Net event seed) source settings parts = (settings ≡ settings_of seed usual_options) × (parts ≡ net_part event ∷ [])
 
--- A run whose words are a command and whose input is a list with this task; neither input nor output failed.
+-- A run whose words are a command with this task; neither input nor output failed.
 pub record IsUnhindered (words : List (List ℕ)) (outcome : Status) (source out err : Change) (settings : Settings) (parts : List Part) : Type 0 where
   pub run : IsRun words outcome source out err
   pub command : Command
   pub asks : command_of words ≡ Ok command
-  pub list : List ℕ
-  pub input : source.bytes_before ≡ Some list
-  pub task : IsTask command list settings parts
+  pub task : IsTask command source settings parts
   pub read : ¬ (Rose source.faults_before source.faults_after)
   pub written : ¬ (Rose out.faults_before out.faults_after)
 

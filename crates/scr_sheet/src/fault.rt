@@ -96,7 +96,7 @@ const LONGEST: usize = 160;
 
 /// The words that are commands.
 const GRAMMAR: &str =
-    "usage: one EVENT SEED | sheet --seed HEX [--workers N] [--tries N] [--attempts N] | tables EVENT | load NUMBER";
+    "usage: one EVENT SEED | sheet --seed HEX [--workers N] [--tries N] [--attempts N] | tables EVENT | load NUMBER | net EVENT SEED";
 
 impl Fault {
     /// The line that tells it, with its line feed.
@@ -168,7 +168,11 @@ fn push_list(line: &mut ArrayString<LONGEST>, fault: ListFault)
 {
     match fault {
         ListFault::Read => line.push_str("input could not be read"),
-        ListFault::TooLong => line.push_str("list is longer than 4096 bytes"),
+        ListFault::TooLong { limit } => {
+            line.push_str("list is longer than ");
+            line.push_str(decimal(limit).as_str());
+            line.push_str(" bytes");
+        }
         ListFault::Line { number, cause } => {
             line.push_str("line ");
             line.push_str(decimal(number).as_str());
@@ -189,6 +193,7 @@ fn cause_words(cause: ListCause) -> &'static str
         ListCause::Event => "unknown event",
         ListCause::Groups => "groups",
         ListCause::Minimum => "minimum",
+        ListCause::Name => "name",
         ListCause::Rounds => "too many rounds",
     }
 }

@@ -1,6 +1,7 @@
 //! A run on the system's words and streams.
 
-use crate::program::run;
+use crate::fault::Fault;
+use crate::program::{run, tell};
 use crate::status::Status;
 use scr_outside::{StdSink, StdSource};
 use scr_workers::OpenGate;
@@ -9,11 +10,17 @@ use std::thread::Threads;
 use std::{env, io};
 
 /// Runs on the words of the command line without the program's name, the standard input, output and error output, and gives
-/// the code of the status that the run answers; 1 where the system gives no words. `rt` and `host` are the same runtime:
-/// the one starts threads, the other has the words and the streams.
+/// the code of the status that the run answers. Where there is no memory for the words themselves, that is told too; where the
+/// system gives no words, or some that are no text, it is 1. `rt` and `host` are the same runtime: the one starts threads,
+/// the other has the words and the streams.
 pub fn run_on_host<R: Threads + Sync>(rt: &R, host: &HostRuntime) -> ExitCode {
     match run_on_words(rt, host) {
         Ok(status) => ExitCode::from(status.code()),
+        Err(error) if error.kind() == io::ErrorKind::OutOfMemory => {
+            let ended = Err(Fault::NoMemory);
+            tell(&mut StdSink::new(host.stderr()), ended);
+            ExitCode::from(Status::of(ended).code())
+        }
         Err(_) => ExitCode::FAILURE,
     }
 }

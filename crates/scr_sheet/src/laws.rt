@@ -1,17 +1,23 @@
 //! What holds of sheets and of runs whatever the code: calls that do nothing, whose contracts are the laws.
 
-ghost use Rattle.std.specs.Prelude.{◌≡◌, ◌<◌, ◌⊎◌, ℕ, List, [], ◌∷◌, length, IsTrue, Ok};
+ghost use Rattle.std.specs.Prelude.{◌≡◌, ◌≢◌, ◌<◌, ◌⊎◌, ℕ, List, [], ◌∷◌, length, IsTrue, Ok, Err};
 ghost use Rattle.scr_outside.specs.Change.{Change, Falters};
+ghost use Rattle.scr_outside.specs.Faults.{Rose};
 ghost use Rattle.scr_notation.specs.declared.event.Event.{Event};
 ghost use Rattle.scr_list.specs.declared.round.Round.{Round};
+ghost use Rattle.scr_list.specs.declared.fault.ListFault.{ListFault};
+ghost use Rattle.scr_list.specs.declared.fault.ListFault.TheVariants.{Read};
+ghost use Rattle.scr_list.specs.Reading.{ReadsNoList};
 ghost use Rattle.scr_list.specs.RoundLists.{IsRounds};
 ghost use Rattle.scr_slots.specs.declared.settings.Settings.{Settings};
 ghost use Rattle.scr_sheet.specs.declared.status.Status.{Status};
 ghost use Rattle.scr_command.specs.declared.command.Command.TheVariants.{Tables};
+ghost use Rattle.scr_command.specs.declared.command.UsageFault.{UsageFault};
 ghost use Rattle.scr_command.specs.Command.{command_of, AsksForSheet};
 ghost use Rattle.scr_table_text.specs.TableText.{IsTablesText};
 ghost use Rattle.scr_slots.specs.Tables.{lines_for};
-ghost use Rattle.scr_sheet.specs.declared.status.Status.TheVariants.{Done, DrawLimit, ReadFault, WriteFault, NoMemory};
+ghost use Rattle.scr_sheet.specs.declared.status.Status.TheVariants.{Done, Usage, DrawLimit, ReadFault, WriteFault, NoMemory};
+ghost use Rattle.scr_sheet.specs.declared.status.Status.TheVariants as status;
 ghost use Rattle.scr_sheet.specs.Outcome.{IsRun, IsUnwritten, TakesMemory};
 ghost use Rattle.scr_sheet.specs.Sheet.{Part, round_parts, one_part, IsPartText, IsText};
 ghost use Rattle.scr_sheet.specs.Load.{load_rounds, slots_of_all};
@@ -30,8 +36,8 @@ pub fn one_sheet()
     slot_laws::one_answer();
 }
 
-/// Which runs must end with all that they are to write: those whose words are a command, and whose source tells its bytes,
-/// which name rounds where they are read, where neither input nor output fails and each slot has a scramble. Where one has
+/// Which runs must end with all that they are to write: those whose words are a command, where the source of a sheet tells
+/// its bytes and they name rounds, neither input nor output fails and each slot has a scramble. Where one has
 /// none, the status is `DrawLimit` and never `Done`. Want of memory, and a gap in a table, are always free.
 pub fn completeness()
     ensures done { (words : List (List ℕ)) (outcome : Status) (source out err : Change) (settings : Settings) (parts : List Part)
@@ -49,6 +55,19 @@ pub fn faults()
         → IsRun words outcome source out err → source.faults_before < source.faults_after → outcome ≡ ReadFault }
     ensures output { (words : List (List ℕ)) (outcome : Status) (source out err : Change)
         → IsRun words outcome source out err → out.faults_before < out.faults_after → outcome ≡ WriteFault }
+{}
+
+/// What the statuses tell: the count of faults of the input rose, or that of the output; the words are no command; the input
+/// was read and is no list.
+pub fn causes()
+    ensures input { (words : List (List ℕ)) (source out err : Change) → IsRun words ReadFault source out err
+        → Rose source.faults_before source.faults_after }
+    ensures output { (words : List (List ℕ)) (source out err : Change) → IsRun words WriteFault source out err
+        → Rose out.faults_before out.faults_after }
+    ensures words { (words : List (List ℕ)) (source out err : Change) → IsRun words Usage source out err
+        → (usage : UsageFault) × (command_of words ≡ Err usage) }
+    ensures list { (words : List (List ℕ)) (source out err : Change) → IsRun words status.List source out err
+        → (refusal : ListFault) × ReadsNoList source refusal × (refusal ≢ Read) }
 {}
 
 /// A run that ends well tells nothing. Memory is wanted only for a sheet, for tables and for rounds. Where the output fails

@@ -15,6 +15,7 @@ mod load;
 mod making;
 mod parts;
 mod program;
+mod single;
 mod slot_jobs;
 mod status;
 mod text_sink;

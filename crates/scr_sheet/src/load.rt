@@ -19,7 +19,7 @@ use crate::fault::Fault;
 use crate::making::Making;
 use crate::parts::made_round;
 use crate::text_sink::{TEXT_ROOM, TextSink};
-use arrayvec::ArrayVec;
+use arrayvec::{ArrayString, ArrayVec};
 use scr_command::Options;
 use scr_list::Round;
 use scr_notation::EVENTS;
@@ -84,7 +84,7 @@ fn load_rounds(number: u32) -> ArrayVec<Round, MOST_ROUNDS>
     rounds
 }
 
-/// Round k of a number, counted from 0.
+/// Round k of a number, counted from 0. It has no name.
 fn load_round(number: u32, k: u32) -> Round
     requires number { number ≤ 9999 }
     requires k { k < 16 }
@@ -99,6 +99,7 @@ fn load_round(number: u32, k: u32) -> Round
         event,
         groups: (1 + (number + 5 * k) % 8) as u8,
         least,
+        name: ArrayString::new(),
     }
 }
 
@@ -151,7 +152,7 @@ fn round_size<R: Threads + Sync, G: Gate + Sync>(
     requires round { IsRound round.now }
     requires attempts { making.now.settings.attempts ≤ 1000000 }
     ensures size { let settings = making.now.settings in
-        MatchResult result (IsPartSize settings (round_part index round.now)) (EndsUnmade settings index round.now) }
+        MatchResult result (IsPartSize settings (round_part index round.now)) (EndsUnmade settings index (round_part index round.now)) }
     ensures few { IfOk result (λ size. size.bytes ≤ TEXT_ROOM) }
     ensures low { IfOk result (λ size. size.sum ≤ TEXT_ROOM * 255) }
 {

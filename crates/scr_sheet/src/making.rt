@@ -157,7 +157,7 @@ impl<'a, R: Threads + Sync, G: Gate + Sync> Making<'a, R, G> {
         let jobs = SlotJobs::new(self.tables, &self.settings, index, round);
         run_claims(self.rt, board, &jobs, &mut answers, self.gate);
         match all_scrambles(answers, scrambles) {
-            Ok(all) => Ok(RoundResult::new(*round, index, all)),
+            Ok(all) => Ok(RoundResult::new(round.copied(), index, all)),
             Err(slot) => Err(RoundFault::Limit {
                 slot,
                 words: 3 * self.settings.attempts,

@@ -6,21 +6,20 @@ ghost use Rattle.scr_notation.specs.EventSets.{Has};
 ghost use Rattle.scr_list.specs.Rounds.{IsRound};
 ghost use Rattle.scr_list.specs.RoundLists.{IsRounds};
 ghost use Rattle.scr_command.specs.declared.command.Command.TheVariants.{Sheet};
-ghost use Rattle.scr_command.specs.Command.{usual_options};
 ghost use Rattle.scr_slots.specs.Tables.{HasTables};
 ghost use Rattle.scr_sheet.specs.declared.fault.Fault.TheVariants.{NoMemory};
-ghost use Rattle.scr_sheet.specs.Sheet.{settings_of, one_part, round_part, round_parts};
+ghost use Rattle.scr_sheet.specs.Sheet.{settings_of, round_part, round_parts};
 ghost use Rattle.scr_sheet.specs.Outcome.{EndsCommand, EndsMaking, EndsParts, EndsTables, EndsUnmade, LacksTables};
 ghost use Rattle.scr_sheet.specs.Making.{IsRoundMade};
 
 use crate::fault::Fault;
-use crate::making::{Making, RoundFault, settings_of, workers_of};
+use crate::making::{Making, RoundFault, workers_of};
 use scr_command::Options;
 use scr_list::{Round, read_rounds};
-use scr_notation::{Event, print};
-use scr_outside::{Sink, Source, write_line};
+use scr_notation::Event;
+use scr_outside::{Sink, Source};
 use scr_round::{RoundResult, write_round};
-use scr_slots::{Settings, Tables, laws, slot_answer, write_tables_of};
+use scr_slots::{Tables, laws, write_tables_of};
 use scr_words::Seed;
 use scr_workers::Gate;
 use std::alloc::Global;
@@ -113,7 +112,7 @@ pub(crate) fn made_round<R: Threads + Sync, G: Gate + Sync>(
     requires round { IsRound round.now }
     requires attempts { making.now.settings.attempts ≤ 1000000 }
     ensures { let settings = making.now.settings in
-        MatchResult result (IsRoundMade settings index round.now) (EndsUnmade settings index round.now) }
+        MatchResult result (IsRoundMade settings index round.now) (EndsUnmade settings index (round_part index round.now)) }
 {
     match making.round(index, round) {
         Ok(made) => Ok(made),
@@ -123,50 +122,6 @@ pub(crate) fn made_round<R: Threads + Sync, G: Gate + Sync>(
             words,
         }),
         Err(RoundFault::NoMemory) => Err(Fault::NoMemory),
-    }
-}
-
-/// Draws the state of stream 0 of a seed, of which no minimum is asked, and writes the line of its scramble.
-pub(crate) fn write_one<R: Threads + Sync, O: Sink>(
-    rt: &R,
-    alloc: Global,
-    event: Event,
-    seed: &Seed,
-    out: &mut O,
-) -> Result<(), Fault>
-    ensures ends { EndsMaking (settings_of seed.now usual_options) (one_part event ∷ [])
-        (change_of O.held O.faults out.old out.new) result }
-    ensures memory { result ≡ Err NoMemory → HasTables event }
-{
-    let tables = Tables::of_event(rt, alloc, event)?;
-    laws::each_drawn_fairly(&tables);
-    let settings = settings_of(seed, &Options::default());
-    write_one_line(&tables, &settings, event, out)
-}
-
-/// The same, where the event's tables are built.
-fn write_one_line<O: Sink>(
-    tables: &Tables,
-    settings: &Settings,
-    event: Event,
-    out: &mut O,
-) -> Result<(), Fault>
-    requires tables { Has tables.now event }
-    requires attempts { settings.now.attempts ≤ 1000000 }
-    ensures ends { EndsParts settings.now 0 (one_part event ∷ [])
-        (change_of O.held O.faults out.old out.new) result }
-    ensures memory { result ≢ Err NoMemory }
-{
-    match slot_answer(tables, event, settings, 0, 0) {
-        Some(scramble) => {
-            write_line(out, "", print(&scramble).as_str())?;
-            Ok(())
-        }
-        None => Err(Fault::DrawLimit {
-            round: 1,
-            slot: 1,
-            words: 3 * settings.attempts,
-        }),
     }
 }
 

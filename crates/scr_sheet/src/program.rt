@@ -7,7 +7,8 @@ ghost use Rattle.scr_sheet.specs.Headline.{IsFairlyWritten, AsksForScrambles};
 
 use crate::fault::Fault;
 use crate::load::write_load;
-use crate::parts::{write_event_tables, write_one, write_sheet};
+use crate::parts::{write_event_tables, write_sheet};
+use crate::single::{write_one, write_scrambled_net};
 use crate::status::Status;
 use scr_command::{Command, read_command};
 use scr_outside::{Sink, Source, write_all};
@@ -29,6 +30,7 @@ use std::thread::Threads;
 /// | pyram | 15 turns, tips included |
 /// | clock | 14 amounts |
 /// | 333, 333oh | 22 turns where the search for two parts finds them, else 52 |
+/// | 333bf | that of 333, and at most two wide turns |
 /// | sq1 | 76 twists |
 ///
 /// For minx, 555, 666 and 777 no state is drawn: each random move is taken by equally many words.
@@ -79,11 +81,12 @@ fn perform<R: Threads + Sync, S: Source, O: Sink, G: Gate + Sync>(
         }
         Command::Tables(event) => write_event_tables(rt, alloc, event, out),
         Command::Load(number) => write_load(rt, alloc, number, out, gate),
+        Command::Net(event, seed) => write_scrambled_net(rt, alloc, event, &seed, out),
     }
 }
 
 /// Tells what went wrong, if it did.
-fn tell<E: Sink>(err: &mut E, ended: Result<(), Fault>)
+pub(crate) fn tell<E: Sink>(err: &mut E, ended: Result<(), Fault>)
     ensures { Tells (change_of E.held E.faults err.old err.new) ended }
 {
     if let Err(fault) = ended {

@@ -73,8 +73,9 @@ impl<'a> Jobs for SlotJobs<'a> {
         (first_stream jobs.index + slot) answer };
 
     fn job(&self, slot: u32) -> Option<Scramble> {
+        let round = self.round;
         let stream = 1024 * u64::from(self.index) + u64::from(slot);
-        let least = u32::from(self.round.least);
-        slot_answer(self.tables, self.round.event, self.settings, least, stream)
+        let least = u32::from(round.least);
+        slot_answer(self.tables, round.event, self.settings, least, stream)
     }
 }

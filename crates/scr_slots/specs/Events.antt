@@ -2,7 +2,7 @@
 -- and which tables its family needs.
 use Rattle.std.specs.Prelude.{ℕ, ◌≤◌, List, [], ◌∷◌, ◌++◌, length, IsTrue, is_some}
 use Rattle.scr_notation.specs.declared.event.Event.{Event}
-use Rattle.scr_notation.specs.declared.event.Event.TheVariants.{C222, C333, Oh333, C555, C666, C777, Clock, Minx, Pyram, Skewb, Sq1}
+use Rattle.scr_notation.specs.declared.event.Event.TheVariants.{C222, C333, Oh333, C555, C666, C777, Clock, Minx, Pyram, Skewb, Sq1, Bf333}
 use Rattle.scr_notation.specs.declared.event.Family.{Family}
 use Rattle.scr_notation.specs.declared.event.Family.TheVariants as family
 use Rattle.scr_notation.specs.declared.turn.Turn.{Turn}
@@ -12,8 +12,10 @@ use Rattle.scr_orbit.specs.Orbits.{Orbit}
 use Rattle.scr_turning.specs.PowerPuzzles.{PowerPuzzle, after_letter, power_puzzle}
 use Rattle.scr_cube.specs.Cube222.{numbered_222, powers_222}
 use Rattle.scr_cube.specs.Cube333.{CubeState, cube_numbered, cube_powers}
+use Rattle.scr_cube.specs.Held.{HeldState, solved_held, held_cube_after, held_puzzle, held_numbered}
 use Rattle.scr_stages.specs.Tables.{stage_lines}
 use Rattle.scr_twophase.specs.TwoParts.{two_parts, IsScramble333}
+use Rattle.scr_twophase.specs.HeldScramble.{IsScramble333bf}
 use Rattle.scr_twophase.specs.Tables.{prune_lines}
 use Rattle.scr_tetra.specs.Pyraminx.{PyramState, pyram_powers, numbered_pyram}
 use Rattle.scr_tetra.specs.Skewb.{SkewbState, skewb_numbered, skewb_powers}
@@ -52,6 +54,10 @@ drawn_222 = drawn_by_powers powers_222 11
 abbrev pub drawn_333 : DrawnPuzzle CubeState
 drawn_333 = drawn_by_powers cube_powers 52
 
+-- the 3x3x3 as it is held: two wide turns more
+abbrev pub drawn_held : DrawnPuzzle HeldState
+drawn_held = drawn_puzzle held_puzzle (play held_cube_after solved_held) (at_most 54)
+
 abbrev pub drawn_pyram : DrawnPuzzle PyramState
 drawn_pyram = drawn_by_powers pyram_powers 15
 
@@ -86,6 +92,7 @@ shown_of Minx = Moves moves_minx
 shown_of Pyram = States PyramState drawn_pyram
 shown_of Skewb = States SkewbState drawn_skewb
 shown_of Sq1 = States Sq1State drawn_sq1
+shown_of Bf333 = States HeldState drawn_held
 
 -- ---- which scramble a state has
 
@@ -99,7 +106,7 @@ IsScramble333Within effort cube turns =
 abbrev pub scrambling_333 : Scrambling
 scrambling_333 = by_state C333 drawn_333 cube_numbered IsScramble333Within
 
--- Other puzzles have one scramble, whatever the effort.
+-- Puzzles other than the 3x3x3 have one scramble, whatever the effort.
 unfoldable pub scrambling_of : Event → Scrambling
 scrambling_of C222 = by_state C222 drawn_222 numbered_222 (λ effort. IsScrambleOf numbered_puzzle_222)
 scrambling_of C333 = scrambling_333
@@ -112,6 +119,7 @@ scrambling_of Minx = ByMoves Minx moves_minx
 scrambling_of Pyram = by_state Pyram drawn_pyram numbered_pyram (λ effort. IsScramblePyram)
 scrambling_of Skewb = by_state Skewb drawn_skewb skewb_numbered (λ effort. IsScrambleOf numbered_puzzle_skewb)
 scrambling_of Sq1 = by_state Sq1 drawn_sq1 sq1_numbered (λ effort. IsScrambleSq1)
+scrambling_of Bf333 = by_state Bf333 drawn_held held_numbered (λ effort. IsScramble333bf effort.tries)
 
 -- ---- tables
 

@@ -31,11 +31,12 @@ impl Drop for CubeTables {
 }
 
 impl CubeTables {
-    /// All eight, built by 1 to 64 workers, or why one isn't built.
+    /// All eight, built by 1 to 64 workers, or why one isn't built. They are made ready for so many cubes.
     #[tactic(auto, unfolding(crate::specs::Events::family_lines))]
     pub fn build<R: Threads + Sync>(
         rt: &R,
         alloc: Global,
+        cubes: u32,
         workers: u32,
     ) -> Result<CubeTables, BuildFault>
         requires workers { (1 ≤ workers) × (workers ≤ 64) }
@@ -43,7 +44,8 @@ impl CubeTables {
         ensures cause { IfErr result (IsCauseOf (family_lines family.Cube333)) }
     {
         let stages = StageTables::build(rt, alloc, workers)?;
-        let prune = PruneTables::build(rt, alloc, workers)?;
+        let mut prune = PruneTables::build(rt, alloc, workers)?;
+        prune.prepare(alloc, cubes)?;
         Ok(CubeTables { stages, prune })
     }
 

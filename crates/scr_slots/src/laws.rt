@@ -2,7 +2,7 @@
 
 ghost use Rattle.std.specs.Prelude.{◌≡◌, ◌+◌, ◌≤◌, ◌<◌, ℕ};
 ghost use Rattle.scr_notation.specs.declared.event.Event.{Event as EventOf};
-ghost use Rattle.scr_notation.specs.declared.event.Event.TheVariants.{C222, C333, Clock, Pyram, Skewb, Sq1};
+ghost use Rattle.scr_notation.specs.declared.event.Event.TheVariants.{Bf333, C222, C333, Clock, Pyram, Skewb, Sq1};
 ghost use Rattle.scr_notation.specs.declared.event.Family.TheVariants as family;
 ghost use Rattle.scr_notation.specs.Event.{greatest_of};
 ghost use Rattle.scr_notation.specs.EventSets.{Has};
@@ -14,13 +14,13 @@ ghost use Rattle.scr_slots.specs.Outcomes.{HasOneAnswer};
 use crate::tables::Tables;
 use scr_bigs::laws as moves;
 use scr_clock::{ClockNumbers, laws as clock};
-use scr_cube::Numbers222;
+use scr_cube::{Numbers222, laws as cubes};
 use scr_draw::laws as drawing;
 use scr_small::{Small222, SmallPyram, SmallSkewb, laws as small};
 use scr_sq1solve::{DrawSq1, laws as square};
 use scr_stages::laws as stages;
 use scr_tetra::SkewbNumbers;
-use scr_twophase::Draw333;
+use scr_twophase::{Draw333, DrawHeld};
 
 /// What a slot of an event has does not depend on how it is found: it has one answer.
 pub fn one_answer()
@@ -37,6 +37,7 @@ pub fn each_drawn_fairly(tables: &Tables)
     fairly_clock();
     fairly_222(tables);
     fairly_333(tables);
+    fairly_333bf(tables);
     fairly_pyram(tables);
     fairly_skewb(tables);
     fairly_sq1(tables);
@@ -70,6 +71,18 @@ fn fairly_333(tables: &Tables)
     if let Some(tables) = tables.of_333() {
         stages::reached(&tables.stages);
         drawing::drawn_fairly(&Draw333::new());
+    }
+}
+
+/// The 3x3x3 as it is held, where the tables of the 3x3x3 are built.
+#[tactic(auto, unfolding(crate::specs::Events::scrambling_of))]
+fn fairly_333bf(tables: &Tables)
+    ensures { HasFamily tables.now family.Cube333 → (least : ℕ) → least ≤ 5 → IsDrawnFairly (scrambling_of Bf333) least }
+{
+    if let Some(tables) = tables.of_333() {
+        stages::reached(&tables.stages);
+        cubes::held_cubes();
+        drawing::drawn_fairly(&DrawHeld::new());
     }
 }
 

@@ -4,13 +4,13 @@ use crate::cube_tables::CubeTables;
 use crate::scrambler::Scrambler;
 use crate::settings::Effort;
 use scr_clock::{Clock, ClockNumbers, scramble_clock};
-use scr_cube::Cube;
+use scr_cube::{Cube, Held};
 use scr_notation::Scramble;
 use scr_small::{OneTable, SmallPuzzle, SmallPyram};
 use scr_sq1::Sq1;
 use scr_sq1solve::{Sq1Tables, scramble_sq1};
 use scr_tetra::Pyraminx;
-use scr_twophase::scramble_333;
+use scr_twophase::{scramble_333, scramble_333bf};
 
 impl Scrambler<Clock> for ClockNumbers {
     ghost use Rattle.scr_notation.specs.declared.event.Event.TheVariants.{Clock as EventClock};
@@ -80,6 +80,24 @@ impl Scrambler<Cube> for CubeTables {
 
     fn scramble(&self, state: &Cube, effort: Effort) -> Scramble {
         scramble_333(&self.prune, &self.stages, state, effort.tries)
+    }
+}
+
+impl Scrambler<Held> for CubeTables {
+    ghost use Rattle.scr_notation.specs.declared.event.Event.TheVariants.{Bf333};
+    ghost use Rattle.scr_twophase.specs.HeldScramble.{IsScramble333bf};
+    ghost use Rattle.scr_slots.specs.Events.{drawn_held};
+
+    ghost event = { λ _. Bf333 };
+
+    ghost played = { λ _. drawn_held.played };
+
+    ghost is_within = { λ _. drawn_held.IsWithin };
+
+    ghost is_scramble = { λ _ effort. IsScramble333bf effort.tries };
+
+    fn scramble(&self, state: &Held, effort: Effort) -> Scramble {
+        scramble_333bf(&self.prune, &self.stages, state, effort.tries)
     }
 }
 

@@ -18,7 +18,7 @@ use scr_draw::{Numbering, Permit, draw};
 use scr_notation::{Event, Scramble};
 use scr_small::{Small222, SmallPyram, SmallSkewb};
 use scr_sq1solve::DrawSq1;
-use scr_twophase::Draw333;
+use scr_twophase::{Draw333, DrawHeld};
 use scr_words::ChaChaWords;
 
 /// The scramble of a slot of an event on this stream; `None` exactly where its attempts draw no state that needs at least
@@ -63,6 +63,10 @@ pub fn slot_answer(
         Event::Sq1 => {
             let solver = tables.of_sq1().unwrap();
             drawn_answer(&DrawSq1::new(), solver, settings, least, stream)
+        }
+        Event::Bf333 => {
+            let solver = tables.of_333().unwrap();
+            drawn_answer(&DrawHeld::new(), solver, settings, least, stream)
         }
     }
 }

@@ -13,6 +13,7 @@ ghost use Rattle.scr_slots.specs.Held.{HasFamily, HoldsTable, HoldsTables};
 ghost use Rattle.scr_slots.specs.Tables.{IsBuildCause, asks_for, is_family, lines_asked};
 
 use crate::cube_tables::CubeTables;
+use arrayvec::ArrayString;
 use scr_list::Round;
 use scr_notation::{Event, EventSet, Family};
 use scr_small::SmallTables;
@@ -108,6 +109,7 @@ impl Tables {
                 event,
                 groups: 1,
                 least: 0,
+                name: ArrayString::new(),
             }],
             1,
         )
@@ -182,6 +184,19 @@ fn asks_for(rounds: &[Round], family: Family) -> bool
     false
 }
 
+/// How many slots these rounds have of this family.
+fn slots_of(rounds: &[Round], family: Family) -> u32 {
+    let mut slots: u32 = 0;
+    for round in rounds {
+        let event = round.event;
+        if is_of(event, family) {
+            let per_group = u32::from(event.per_group()) + 2;
+            slots = slots.saturating_add(per_group.saturating_mul(u32::from(round.groups)));
+        }
+    }
+    slots
+}
+
 /// Whether an event is of this family.
 fn is_of(event: Event, family: Family) -> bool
     ensures { result ≡ is_family family (family_of event) }
@@ -236,7 +251,8 @@ fn cube_tables<R: Threads + Sync>(
     ensures cause { IfErr result (IsCauseOf (lines_asked (map (λ round. round.event) rounds.now) family.Cube333)) }
 {
     if asks_for(rounds, Family::Cube333) {
-        let tables = CubeTables::build(rt, alloc, workers)?;
+        let cubes = slots_of(rounds, Family::Cube333);
+        let tables = CubeTables::build(rt, alloc, cubes, workers)?;
         Ok(Some(tables))
     } else {
         Ok(None)

@@ -18,12 +18,12 @@ use std::thread::Threads;
 
 /// The one table of an event whose states it solves, with the moves by which it is walked down.
 pub struct SmallTables {
-    held: Held,
+    held: OwnTable,
 }
 
 /// The table of one of the puzzles.
 #[derive(Drop)]
-enum Held {
+enum OwnTable {
     Corners(LineTable<PartsLine<Numbers222>>),
     Pyramid(LineTable<PartsLine<TetraminxNumbers>>),
     Skewb(LineTable<PartsLine<SkewbNumbers>>),
@@ -39,7 +39,7 @@ impl Drop for SmallTables {
 // Clauses see whose table it is, and what stands in it.
 impl Model for SmallTables {
     ghost use Rattle.scr_notation.specs.declared.event.Event.TheVariants.{C222, Pyram, Skewb as EventSkewb};
-    ghost use Rattle.scr_small.specs.declared.tables.Held.TheVariants.{Corners, Pyramid, Skewb};
+    ghost use Rattle.scr_small.specs.declared.tables.OwnTable.TheVariants.{Corners, Pyramid, Skewb};
     ghost use Rattle.scr_small.specs.Tables.{BuiltTable};
 
     ghost Value = { BuiltTable };
@@ -67,9 +67,9 @@ impl SmallTables {
         ensures cause { IfErr result (IsCauseOf (small_lines event)) }
     {
         let held = match event {
-            Event::C222 => Held::Corners(LineTable::build(rt, alloc, workers)?),
-            Event::Pyram => Held::Pyramid(LineTable::build(rt, alloc, workers)?),
-            Event::Skewb => Held::Skewb(LineTable::build(rt, alloc, workers)?),
+            Event::C222 => OwnTable::Corners(LineTable::build(rt, alloc, workers)?),
+            Event::Pyram => OwnTable::Pyramid(LineTable::build(rt, alloc, workers)?),
+            Event::Skewb => OwnTable::Skewb(LineTable::build(rt, alloc, workers)?),
             _ => unreachable!(),
         };
         Ok(SmallTables { held })
@@ -96,9 +96,9 @@ impl SmallTables {
         ensures whole { All HasNoGap (small_lines self.now.event) }
     {
         match &self.held {
-            Held::Corners(table) => table.distances(),
-            Held::Pyramid(table) => table.distances(),
-            Held::Skewb(table) => table.distances(),
+            OwnTable::Corners(table) => table.distances(),
+            OwnTable::Pyramid(table) => table.distances(),
+            OwnTable::Skewb(table) => table.distances(),
         }
     }
 
@@ -110,9 +110,9 @@ impl SmallTables {
         ensures built { IsBuilt self.now }
     {
         match &self.held {
-            Held::Corners(table) => table.descend(position),
-            Held::Pyramid(table) => table.descend(position),
-            Held::Skewb(table) => table.descend(position),
+            OwnTable::Corners(table) => table.descend(position),
+            OwnTable::Pyramid(table) => table.descend(position),
+            OwnTable::Skewb(table) => table.descend(position),
         }
     }
 }

@@ -99,6 +99,17 @@ fn commands_read(rt: HostRuntime) {
             attempts: 1000,
         }),
     );
+    let joined = "--seed=0000000000000000000000000000000000000000000000000000000000000000";
+    reads(
+        &rt,
+        alloc,
+        &["sheet", joined, "--workers=2"],
+        sheet(Options {
+            workers: 2,
+            tries: 2000,
+            attempts: 1000,
+        }),
+    );
     let most = Options {
         workers: 64,
         tries: 100_000,
@@ -138,6 +149,7 @@ fn commands_refused(rt: HostRuntime) {
         (["sheet", "--seed", "-"], UsageFault::Grammar),
         (["sheet", "--seed", "--workers=2"], UsageFault::Grammar),
         (["sheet", "--seed", "--"], UsageFault::Grammar),
+        (["sheet", "--se", ZEROS], UsageFault::Grammar),
         (["sheet", "--workers", "2"], UsageFault::Grammar),
         (["tables", "222", ZEROS], UsageFault::Grammar),
         (["load", "15", "15"], UsageFault::Grammar),
@@ -176,6 +188,21 @@ fn commands_refused(rt: HostRuntime) {
         reads(&rt, alloc, &["sheet", "--seed", ZEROS, last], usage);
         reads(&rt, alloc, &["sheet", last, "--seed", ZEROS], usage);
     }
+    for (option, value) in [
+        ("--seed", ZEROS),
+        ("--workers", "0"),
+        ("--workers", "65"),
+        ("--workers", "01"),
+        ("--workers", "+1"),
+    ] {
+        reads(
+            &rt,
+            alloc,
+            &["sheet", "--seed", ZEROS, option, value],
+            usage,
+        );
+    }
+    reads(&rt, alloc, &["sheet", "--seed"], usage);
     reads(&rt, alloc, &[], usage);
     reads(&rt, alloc, &["one", "444"], usage);
     reads(&rt, alloc, &["tables"], usage);

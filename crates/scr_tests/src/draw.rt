@@ -79,6 +79,18 @@ fn draws_of_a_list(rt: HostRuntime) {
     let mut words = ListWords::new(&LIMIT);
     assert_eq!(rt; draw(&mut words, &Row, 0, 1), Err(DrawLimit { words: 3 }));
     assert_eq!(rt; words.next(), 0xfff1c97f);
+    let refused = [
+        0xfff1c980, 0xffffffff, 0xffffffff, 0xfff1c980, 0xffffffff, 0xffffffff,
+    ];
+    let mut words = ListWords::new(&refused);
+    assert_eq!(rt; draw(&mut words, &Row, 0, 2), Err(DrawLimit { words: 6 }));
+    let mut words = ListWords::new(&refused);
+    assert_eq!(rt; draw(&mut words, &Row, 0, 3), Ok(0));
+    let mut zeros = ListWords::new(&[]);
+    assert_eq!(rt;
+        draw(&mut zeros, &Row, 1, 1_000_000),
+        Err(DrawLimit { words: 3_000_000 })
+    );
     let mut zeros = ListWords::new(&[]);
     assert_eq!(rt; draw(&mut zeros, &Row, 1, 5), Err(DrawLimit { words: 15 }));
     assert_eq!(rt; draw(&mut zeros, &Row, 0, 5), Ok(0));

@@ -6,6 +6,8 @@
 #[cfg(test)]
 mod bigs;
 #[cfg(test)]
+mod check;
+#[cfg(test)]
 mod clock;
 #[cfg(test)]
 mod command;
@@ -16,7 +18,11 @@ mod cube;
 #[cfg(test)]
 mod draw;
 #[cfg(test)]
+mod held;
+#[cfg(test)]
 mod list;
+#[cfg(test)]
+mod net;
 #[cfg(test)]
 mod notation;
 #[cfg(test)]

@@ -35,6 +35,7 @@ fn known_texts(rt: HostRuntime) {
         (Event::C222, "R U2 F'", 3),
         (Event::Oh333, "B2 L D'", 3),
         (Event::C555, "Dw Rw2 Uw' B L' Fw", 6),
+        (Event::Bf333, "D' L2 B Fw' Uw2", 5),
         (Event::C666, "3Rw' Dw2 3Uw B2 3Fw2 Lw'", 6),
         (Event::C777, "3Dw2 3Bw' 3Lw Rw U' 3Fw", 6),
         (Event::Clock, "UR6+ DL1- y2 ALL5- U0+", 5),
@@ -55,6 +56,9 @@ fn known_texts(rt: HostRuntime) {
         (Event::C333, "u", 0),
         (Event::C333, "U2'", 0),
         (Event::C333, "Uw", 0),
+        (Event::Bf333, "Dw", 0),
+        (Event::Bf333, "U Lw2", 2),
+        (Event::Bf333, "3Rw", 0),
         (Event::C333, "U\tR", 0),
         (Event::C333, "R3", 0),
         (Event::C333, "y2", 0),
@@ -64,6 +68,7 @@ fn known_texts(rt: HostRuntime) {
         (Event::C333, "U2 R' x", 6),
         (Event::C222, "D", 0),
         (Event::C555, "3Uw", 0),
+        (Event::C666, "3Dw", 0),
         (Event::C666, "Dw 3Dw", 3),
         (Event::C777, "4Uw", 0),
         (Event::C777, "3U", 0),
@@ -155,6 +160,7 @@ fn known_turnings(rt: HostRuntime) {
     }
     taken_back(&rt, Event::C333, "R L2 U'", "U L2 R'");
     taken_back(&rt, Event::C666, "3Rw' Dw2 U", "U' Dw2 3Rw");
+    taken_back(&rt, Event::Bf333, "L' Rw Uw2", "Uw2 Rw' L");
     taken_back(&rt, Event::Minx, "R++ D-- U'", "U D++ R--");
     taken_back(&rt, Event::Pyram, "U L' u r'", "r u' L U'");
     taken_back(&rt, Event::Skewb, "B U'", "U B'");
@@ -175,6 +181,7 @@ fn known_events(rt: HostRuntime) {
         (Event::Pyram, "pyram", "Pyraminx", 16),
         (Event::Skewb, "skewb", "Skewb", 8),
         (Event::Sq1, "sq1", "Square-1", 144),
+        (Event::Bf333, "333bf", "3x3x3 Blindfolded", 27),
     ];
     for (event, id, name, turns) in rows {
         assert_eq!(rt; event.id(), id);
@@ -202,6 +209,7 @@ fn families_and_sets(rt: HostRuntime) {
         (Event::C222, Some(Family::Cube222)),
         (Event::C333, Some(Family::Cube333)),
         (Event::Oh333, Some(Family::Cube333)),
+        (Event::Bf333, Some(Family::Cube333)),
         (Event::C777, None),
         (Event::Clock, None),
         (Event::Minx, None),

@@ -1,12 +1,12 @@
 //! Cubes known from elsewhere: solved by another program of the same two parts.
 
 use crate::read;
-use scr_cube::{Cube, CubeNumbers, PowerTurned};
-use scr_draw::{Numbering, attempt};
-use scr_notation::print;
+use scr_cube::{Cube, CubeNumbers, Held, HeldNumbers, PowerTurned};
+use scr_draw::{Numbering, Permit, attempt};
+use scr_notation::{Event, print};
 use scr_stages::StageTables;
 use scr_table::{TableName, TableSet};
-use scr_twophase::{PruneTables, needs_333, scramble_333, two_parts};
+use scr_twophase::{DrawHeld, PruneTables, needs_333, scramble_333, scramble_333bf, two_parts};
 use scr_words::{ChaChaWords, Seed};
 use std::process::Abort;
 use std::test::Fail;
@@ -82,10 +82,34 @@ fn are_known(rt: &impl Abort, prune: &PruneTables, stages: &StageTables) {
     }
 }
 
+/// Held cubes with these numbers have scrambles that begin and end so, and lead to them.
+fn are_held(rt: &impl Abort, prune: &PruneTables, stages: &StageTables) {
+    for (number, tries, begins, ends) in [
+        (0, 2000, "", ""),
+        (1, 2000, "L' Rw", "L' Rw"),
+        (6, 2000, "D' Uw", "D' Uw"),
+        (7, 2000, "", " Rw Uw"),
+        (7, 0, "", " Rw Uw"),
+        (49151, 2000, "", " Fw' Uw'"),
+        (1_038_048_078_587_756_543_999, 2000, "", " Fw' Uw'"),
+    ] {
+        assert!(rt; number < HeldNumbers.count());
+        let state = HeldNumbers.state_at(number);
+        let scramble = scramble_333bf(prune, stages, &state, tries);
+        let text = print(&scramble);
+        assert!(rt; text.as_str().starts_with(begins) && text.as_str().ends_with(ends));
+        assert!(rt; Held::solved().play(&scramble) == Some(state));
+        assert!(rt; scramble.event() == Event::Bf333);
+    }
+}
+
 #[test]
 fn tables_and_cubes(rt: HostRuntime) -> Result<(), Fail> {
-    let prune = PruneTables::build(&rt, rt.alloc(), 1)?;
+    let mut prune = PruneTables::build(&rt, rt.alloc(), 1)?;
     let stages = StageTables::build(&rt, rt.alloc(), 1)?;
+    are_known(&rt, &prune, &stages);
+    are_held(&rt, &prune, &stages);
+    prune.prepare(rt.alloc(), 1_000)?;
     are_known(&rt, &prune, &stages);
     Ok(())
 }
@@ -98,6 +122,12 @@ fn minima(rt: HostRuntime) {
     let turned = Cube::solved().turned(7);
     assert!(rt; needs_333(&turned, 1) && !needs_333(&turned, 2));
     assert!(rt; needs_333(&Cube::solved(), 0) && !needs_333(&Cube::solved(), 1));
+    // however it is held
+    let held = HeldNumbers.state_at(49151);
+    let drawn = DrawHeld::new();
+    assert!(rt; drawn.needs_at_least(&held, 5) && drawn.number_of(&held) == 49151);
+    let solved = HeldNumbers.state_at(23);
+    assert!(rt; drawn.needs_at_least(&solved, 0) && !drawn.needs_at_least(&solved, 1));
     assert_eq!(rt; CubeNumbers.number_of(&flipped), 2047);
     assert_eq!(rt; CubeNumbers.count(), 43_252_003_274_489_856_000);
 }

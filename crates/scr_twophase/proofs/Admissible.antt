@@ -1,8 +1,8 @@
 -- No pruning table says that a goal is farther than it is.
 use Rattle.std.proofs.Common.{◌≡◌, ℕ, ◌+◌, ◌<◌, ◌≤◌, Bool, true, cond, List, [], ◌∷◌, length, get_or, Some, None, refl, sym, ap, ◌∙◌, subst, arith}
-use Rattle.std.specs.Prelude.{Contains, IsSome}
-use Rattle.std.specs.Option.{option_map}
-use Rattle.std.proofs.lemmas.Bool.{lt-ltb}
+use Rattle.std.specs.Prelude.{Contains, IsSome, Option, nat_le, ◌-◌, ◌^◌, slice_get}
+use Rattle.std.specs.Option.{option_map, option_map_or}
+use Rattle.std.proofs.lemmas.Bool.{lt-ltb, le-leb}
 use Rattle.std.proofs.lemmas.List.Elements.{All-contains}
 use Rattle.std.proofs.lemmas.Option.{same_Some, slice_get-get_or}
 use Rattle.scr_combinatorics.proofs.Picks.{numbers_from-at}
@@ -25,7 +25,8 @@ use Rattle.scr_twophase.specs.declared.pruning.PruningTable.{PruningTable}
 use Rattle.scr_twophase.specs.Words.{words_of}
 use Rattle.scr_twophase.specs.TwoParts.{after_turn, leads}
 use Rattle.scr_twophase.specs.TurnSets.{contains_turn}
-use Rattle.scr_twophase.specs.Outlooks.{turns_within, IsPruningTable}
+use Rattle.scr_twophase.specs.Outlooks.{turns_within, turns_left, AreOutlooks, IsPruningTable}
+use Rattle.scr_twophase.proofs.BitSets.{has_turn-all}
 use Rattle.scr_twophase.proofs.CubeTests.{leads-parts, after_of-place, play-places}
 use Rattle.scr_twophase.proofs.WordLists.{IsWordOf, words_of-each}
 use Rattle.scr_twophase.specs.Spaces.{cubes_to}
@@ -74,14 +75,39 @@ first_step coordinate shown number IsGoal f same c d p t q h at lt few to leads 
 
 -- ---- both parts
 
--- A turn with which a word leads to a goal is left by the outlook of a cube's position.
-module _ (IsValid : CubeState → Type 0) (turns : List ℕ) (IsGoal : CubeState → Type 0) (goal : CubeState → Bool) (passes : (e : CubeState) → goal e ≡ true → IsGoal e)
+-- A table leaves a turn that leads near enough, by the outlook of the position or for want of one.
+leaves : (c : Coordinate) (distances : List ℕ) (all : List Outlook) (p q t left : ℕ) → AreOutlooks c distances all → p < c.count → moved c p t ≡ Some q
+    → get_or distances q 0 < left → get_or distances p 0 ≤ left → t < 18
+    → contains_turn (option_map_or (λ o. turns_within o left) (slice_get all p) (cond (nat_le (get_or distances p 0) left) (2 ^ 18 - 1) 0)) t ≡ true
+leaves c distances all p q t left are here to near far below = by_outlook (slice_get all p) refl
+  where
+    by_outlook : (found : Option Outlook) → slice_get all p ≡ found
+        → contains_turn (option_map_or (λ o. turns_within o left) found (cond (nat_le (get_or distances p 0) left) (2 ^ 18 - 1) 0)) t ≡ true
+    by_outlook (Some o) is = (are.each p o here is).kept t q left to near
+    by_outlook None is = ap (λ b. contains_turn (cond b (2 ^ 18 - 1) 0) t) (le-leb (get_or distances p 0) left far) ∙ has_turn-all t below
+
+-- A turn with which a word leads to a goal is left by a pruning table.
+module _ (IsValid : CubeState → Type 0) (turns : List ℕ) (few : length turns ≤ 18) (IsGoal : CubeState → Type 0) (goal : CubeState → Bool) (passes : (e : CubeState) → goal e ≡ true → IsGoal e)
     (line : TableLine) (table : PruningTable) (is : IsPruningTable line table)
     (number : CubeState → ℕ) (f : Follows (cube_space IsValid turns IsGoal) (positions line.coordinate) number) where
-  pub kept-way : (c : CubeState) (p more left place : ℕ) (v : List ℕ) (o : Outlook) → IsValid c → p ≡ number c → left ≡ more + 1 → place < length turns
+  -- No word of fewer turns than stand at a cube's position leads to the goal.
+  pub near-way : (c : CubeState) (p n : ℕ) (v : List ℕ) → IsValid c → p ≡ number c → Contains (words_of turns n) v → leads goal c v ≡ true
+      → get_or table.distances.distances p 0 ≤ n
+  near-way c p n v h at there way =
+      let to = leads-parts goal c v way in
+      let word = All-contains (IsWordOf turns n) (words_of turns n) v (words_of-each turns n) there in
+      let played : play (after_of turns) c word.places ≡ Some to.0 =
+      play-places turns c word.places word.below ∙ ap (play after_turn c) (sym word.is) ∙ to.1 in
+      let near =
+      least-of (cube_space IsValid turns IsGoal) line.coordinate number f table.distances is.distances.measures c to.0 word.places h played
+      (passes to.0 to.2) in
+      omega (arith, near, word.size, ap (λ k. get_or table.distances.distances k 0) at)
+
+  pub kept-way : (c : CubeState) (p more left place : ℕ) (v : List ℕ) → IsValid c → p ≡ number c → left ≡ more + 1 → place < length turns
       → Contains (words_of turns more) v → leads goal c (get_or turns place 0 ∷ v) ≡ true
-      → contains_turn (turns_within (get_or table.outlooks.items p o) left) place ≡ true
-  kept-way c p more left place v o h at one lt there way =
+      → contains_turn (turns_left table p left) place ≡ true
+  unfolding turns_left play
+  kept-way c p more left place v h at one lt there way =
       let t : ℕ = get_or turns place 0 in
       let to = leads-parts goal c (t ∷ v) way in
       let parts = play-parts after_turn c to.0 t v to.1 in
@@ -95,5 +121,11 @@ module _ (IsValid : CubeState → Type 0) (turns : List ℕ) (IsGoal : CubeState
       (passes to.0 to.2) in
       let moves : moved line.coordinate p place ≡ Some (number d) =
       ap (λ k. moved line.coordinate k place) at ∙ f.turned c place h ∙ ap (option_map number) step in
+      let whole : play (after_of turns) c (place ∷ word.places) ≡ Some to.0 = rw step played in
+      let far =
+      least-of (cube_space IsValid turns IsGoal) line.coordinate number f table.distances is.distances.measures c to.0 (place ∷ word.places) h whole
+      (passes to.0 to.2) in
+      let same = ap (λ k. get_or table.distances.distances k 0) at in
       let here : p < line.coordinate.count = subst (λ k. k < line.coordinate.count) (sym at) (f.valid c h) in
-      (is.outlooks.each p o here).kept place (number d) left moves (omega (arith, near, word.size))
+      leaves line.coordinate table.distances.distances table.outlooks.items p (number d) place left is.outlooks here moves
+      (omega (arith, near, word.size, one)) (omega (arith, same, far, word.size, one)) (omega (arith, lt, few))

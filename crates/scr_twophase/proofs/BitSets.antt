@@ -1,6 +1,6 @@
 -- Sets of turns in bits.
-use Rattle.std.proofs.Common.{◌≡◌, ◌≢◌, ℕ, zero, suc, ◌+◌, ◌-◌, ◌*◌, ◌%◌, ◌^◌, ◌<◌, ◌≤◌, Bool, true, false, cond, List, [], ◌∷◌, inl, inr, refl, sym, ap, ◌∙◌, arith, min, w32, ne_eqb, eq-eqb}
-use Rattle.std.specs.Prelude.{filter, ◌&&◌, ◌||◌, ◌==◌}
+use Rattle.std.proofs.Common.{◌≡◌, ◌≢◌, ◌⊎◌, ℕ, zero, suc, ◌+◌, ◌-◌, ◌*◌, ◌%◌, ◌^◌, ◌<◌, ◌≤◌, Bool, true, false, cond, List, [], ◌∷◌, inl, inr, refl, sym, ap, ◌∙◌, arith, min, w32, ne_eqb, eq-eqb}
+use Rattle.std.specs.Prelude.{filter, ◌&&◌, ◌||◌, ◌==◌, not}
 use Rattle.std.specs.Int.{bit_at, trailing_zeros}
 use Rattle.std.specs.Int.Bits.{bit_and, bit_or}
 use Rattle.std.proofs.Math.Nat.{mod-le}
@@ -32,6 +32,14 @@ or-true false = refl
 pub or-false : (b : Bool) → (b || false) ≡ b
 or-false true = refl
 or-false false = refl
+
+and-true : (b : Bool) → (b && true) ≡ b
+and-true true = refl
+and-true false = refl
+
+and-false : (b : Bool) → (b && false) ≡ false
+and-false true = refl
+and-false false = refl
 
 pub has_turn-with : (bits turn t : ℕ) → turn < 18 → contains_turn (bit_or bits (1 * 2 ^ turn % 2 ^ 32)) t ≡ (contains_turn bits t || (t == turn))
 has_turn-with bits turn t lt =
@@ -84,6 +92,33 @@ lowest-lt bits pos lt =
       | inl below ↦ below
       | inr above ↦ absurd (omega (arith, low.1, bit_at_above bits 18 (trailing_zeros w32 bits) lt above))
     ]
+
+pub lowest-in : (bits : ℕ) → 0 < bits → bits < 2 ^ 18 → contains_turn bits (trailing_zeros w32 bits) ≡ true
+lowest-in bits pos lt = ap (λ x. x == 1) (bit_at-trailing_zeros w32 bits pos (omega arith)).1
+
+-- the set without it
+pub has_turn-without : (bits t : ℕ) → 0 < bits → bits < 2 ^ 18
+    → contains_turn (bit_and bits (2 ^ 32 - 1 - 1 * 2 ^ trailing_zeros w32 bits % 2 ^ 32)) t ≡ (contains_turn bits t && not (t == trailing_zeros w32 bits))
+has_turn-without bits t pos lt =
+    let low : ℕ = trailing_zeros w32 bits in
+    let few : low < 18 = lowest-lt bits pos lt in
+    let rest : ℕ = bit_and bits (2 ^ 32 - 1 - 1 * 2 ^ low % 2 ^ 32) in
+    elim (cases_eq t low) [
+      | inl same ↦
+          ap (contains_turn rest) same ∙ zero_bit (bit_at rest low) (bit_at_clear_same w32 bits low (omega (arith, few)))
+          ∙ sym (ap (λ b. contains_turn bits t && not b) (eq-eqb t low same) ∙ and-false (contains_turn bits t))
+      | inr other ↦
+          without t other (cases_lt t 32) ∙ sym (ap (λ b. contains_turn bits t && not b) (ne_eqb t low other) ∙ and-true (contains_turn bits t))
+    ]
+  where
+    without : (u : ℕ) → u ≢ trailing_zeros w32 bits → (u < 32) ⊎ (32 ≤ u)
+        → contains_turn (bit_and bits (2 ^ 32 - 1 - 1 * 2 ^ trailing_zeros w32 bits % 2 ^ 32)) u ≡ contains_turn bits u
+    without u other (inl near) =
+        ap (λ x. x == 1) (bit_at_clear_other w32 bits (trailing_zeros w32 bits) (omega (arith, lowest-lt bits pos lt)) u near other)
+    without u other (inr far) =
+        let none : contains_turn bits u ≡ false = zero_bit (bit_at bits u) (bit_at_above bits 18 u lt (omega (arith, far))) in
+        has_turn-and bits (2 ^ 32 - 1 - 1 * 2 ^ trailing_zeros w32 bits % 2 ^ 32) u
+        ∙ ap (λ b. b && contains_turn (2 ^ 32 - 1 - 1 * 2 ^ trailing_zeros w32 bits % 2 ^ 32) u) none ∙ sym none
 
 -- which is the first; the others are left where the bit is cleared
 pub turns_in-lowest : (bits : ℕ) → 0 < bits → bits < 2 ^ 18

@@ -1,5 +1,5 @@
 -- What is so of a table that is built over two move tables side by side, is so of the two coordinates that these show.
-use Rattle.std.proofs.Common.{◌≡◌, ℕ, ◌<◌, List, ◌∷◌, ◌++◌, sym, ap, ◌∙◌, subst}
+use Rattle.std.proofs.Common.{◌≡◌, ℕ, ◌<◌, List, ◌∷◌, ◌++◌, length, sym, ap, ◌∙◌, subst}
 use Rattle.std.specs.Prelude.{All, Result, IfErr, IsErrAnd}
 use Rattle.std.specs.Option.{option_map}
 use Rattle.scr_coord.specs.Coordinates.{Coordinate, StaysBelow}
@@ -50,19 +50,34 @@ module _ (l h : Coordinate) (low high : Moves) (turns : h.turns ≡ l.turns) (f 
       IfErr-cause built line more none fault r handed
       (IsCause-same (product_coordinate l h) shown below same name bound fault cause)
 
-  AreOutlooks-pair : (distances : List ℕ) (all : List Outlook) → AreOutlooks shown distances all → AreOutlooks (product_coordinate l h) distances all
+  -- outlooks over the shown moves are outlooks over the pair
+  pub AreOutlooks-pair : (distances : List ℕ) (all : List Outlook) → AreOutlooks shown distances all → AreOutlooks (product_coordinate l h) distances all
   AreOutlooks-pair distances all o = record {
-    size = o.size ∙ same.count;
-    each = λ p outlook at. record {
+    each = λ p outlook at there. record {
       kept = λ t q left to lt.
-          (o.each p outlook (subst (λ n. p < n) (sym same.count) at)).kept t q left
+          (o.each p outlook (subst (λ n. p < n) (sym same.count) at) there).kept t q left
           ((Follows-same (product_coordinate l h) shown (StaysBelow-same (product_coordinate l h) shown below same) same).turned p t at ∙ ap (option_map (λ n. n)) to) lt;
     };
   }
+
+  -- a pruning table of the pair has as many positions as the shown moves
+  pub count-pair : (table : PruningTable) → IsPruningTable (record { name = name; coordinate = product_coordinate l h; bound = bound }) table
+      → length table.distances.distances ≡ shown.count
+  count-pair table is = is.distances.measures.positions ∙ sym same.count
 
   pub IsPruningTable-pair : (table : PruningTable) → IsPruningTable (record { name = name; coordinate = shown; bound = bound }) table
       → IsPruningTable (record { name = name; coordinate = product_coordinate l h; bound = bound }) table
   IsPruningTable-pair table is = record {
     distances = IsTableOf-pair table.distances is.distances;
     outlooks = AreOutlooks-pair table.distances.distances table.outlooks.items is.outlooks;
+  }
+
+  -- and stays so where outlooks are found over the shown moves
+  pub IsPruningTable-found : (before after : PruningTable)
+      → IsPruningTable (record { name = name; coordinate = product_coordinate l h; bound = bound }) before → after.distances ≡ before.distances
+      → AreOutlooks shown after.distances.distances after.outlooks.items
+      → IsPruningTable (record { name = name; coordinate = product_coordinate l h; bound = bound }) after
+  IsPruningTable-found before after is same found = record {
+    distances = subst (IsTableOf (record { name = name; coordinate = product_coordinate l h; bound = bound })) (sym same) is.distances;
+    outlooks = AreOutlooks-pair after.distances.distances after.outlooks.items found;
   }

@@ -1,5 +1,5 @@
 -- What a search for first parts sees: its positions, the turns that lead on, and where its words end.
-use Rattle.std.proofs.Common.{◌≡◌, ℕ, ◌<◌, Bool, true, false, cond, List, [], ◌∷◌, ◌++◌, map, get_or, Some, None, refl, sym, ap, ◌∙◌, arith}
+use Rattle.std.proofs.Common.{◌≡◌, ℕ, ◌<◌, Bool, true, false, cond, List, [], ◌∷◌, ◌++◌, map, get_or, Some, None, refl, sym, ap, ◌∙◌, eqb-true, arith}
 use Rattle.std.specs.Prelude.{filter, ◌&&◌, ◌==◌}
 use Rattle.std.specs.Option.{option_map_or}
 use Rattle.std.proofs.lemmas.Bool.{and_parts, and_from}
@@ -10,13 +10,14 @@ use Rattle.scr_combinatorics.specs.PlaceSets.{place_set_number}
 use Rattle.scr_combinatorics.specs.Twists.{twists_number}
 use Rattle.scr_orbit.specs.Orbits.{zeros}
 use Rattle.scr_coord.proofs.GoalNumbers.{twists_number-zeros}
-use Rattle.scr_cube.specs.Cube333.{CubeState}
+use Rattle.scr_cube.specs.Cube333.{CubeState, IsCube}
 use Rattle.scr_stages.specs.Spaces.{IsUntwisted, IsInMiddle}
 use Rattle.scr_stages.specs.Stages.{HasNoFlips, middle_edges}
 use Rattle.scr_stages.specs.Numbers.{flips_number, IsDominoCube}
 use Rattle.scr_stages.proofs.FiniteTests.{agree, agree-same, passes_below, test-below}
 use Rattle.scr_stages.proofs.StageSpaces.{Follows-flips}
 use Rattle.scr_twophase.specs.declared.first.FirstPosition.{FirstPosition}
+use Rattle.scr_twophase.specs.Near.{first_number}
 use Rattle.scr_twophase.specs.Words.{words_of, words_behind, words_within}
 use Rattle.scr_twophase.specs.TurnSets.{contains_turn}
 use Rattle.scr_twophase.specs.TwoParts.{turn_numbers, ends_in_quarter, is_domino, is_first_part, is_orderly, is_side_quarter, joined, leads, first_joined, first_parts, two_parts}
@@ -35,6 +36,16 @@ IsFirstPosition-shown c at h = record {
   middle = omega (arith, h.middle, Follows-middle_set.valid c h.cube);
 }
 
+-- the position of a cube
+abbrev pub first_position : CubeState → FirstPosition
+first_position c = record { flips = flips_number c; twists = twists_of c; middle = middle_set_of c }
+
+pub ShowsFirst-of : (c : CubeState) → IsCube c → ShowsFirst c (first_position c)
+ShowsFirst-of c h = record { cube = h; flips = refl; twists = refl; middle = refl }
+
+pub IsFirstPosition-of : (c : CubeState) → IsCube c → IsFirstPosition (first_position c)
+IsFirstPosition-of c h = IsFirstPosition-shown c (first_position c) (ShowsFirst-of c h)
+
 -- a position shows whether a cube is a domino
 pub is_domino-shown : (c : CubeState) (at : FirstPosition) → ShowsFirst c at → is_domino c ≡ is_domino_position at
 is_domino-shown c at h =
@@ -52,6 +63,17 @@ is_domino-shown c at h =
     let whole = and_parts ((at.flips == 0) && (at.twists == 0)) (at.middle == 494) e in
     let both = and_parts (at.flips == 0) (at.twists == 0) whole.0 in
     tests.1 (record { no_flips = flips.1 both.0; no_twists = twists.1 both.1; middle = middle.1 whole.1 }))
+
+-- the number of the dominoes
+pub first_number-domino : (c : CubeState) → IsCube c → is_domino c ≡ true → 2121713844224 ≡ first_number c
+first_number-domino c h e =
+    let at = first_position c in
+    let whole = and_parts ((at.flips == 0) && (at.twists == 0)) (at.middle == 494) (sym (is_domino-shown c at (ShowsFirst-of c h)) ∙ e) in
+    let both = and_parts (at.flips == 0) (at.twists == 0) whole.0 in
+    let flips = eqb-true (flips_number c) 0 both.0 in
+    let twists = eqb-true (twists_of c) 0 both.1 in
+    let middle = eqb-true (middle_set_of c) 494 whole.1 in
+    omega (arith, flips, twists, middle)
 
 -- ---- the turns that lead on
 

@@ -16,3 +16,7 @@ pub mod SecondSteps
 pub mod SecondLaws
 pub mod WordSteps
 pub mod PartLaws
+pub mod NearLaws
+pub mod NearBits
+pub mod TakenBack
+pub mod HeldScrambles

@@ -1,5 +1,5 @@
 -- What a search for second parts sees: its positions, and where its words end.
-use Rattle.std.proofs.Common.{◌≡◌, ℕ, ◌<◌, Bool, true, false, cond, List, [], ◌∷◌, ◌++◌, map, length, get_or, Some, None, refl, sym, ap, ◌∙◌, arith}
+use Rattle.std.proofs.Common.{◌≡◌, ℕ, ◌<◌, Bool, true, false, cond, List, [], ◌∷◌, ◌++◌, map, length, get_or, Some, None, refl, sym, ap, ◌∙◌, subst, eqb-true, arith}
 use Rattle.std.specs.Prelude.{◌&&◌, ◌==◌, filter, slice_get}
 use Rattle.std.proofs.lemmas.Bool.{and_parts, and_from}
 use Rattle.std.proofs.lemmas.List.{get_or-map, length-map}
@@ -24,6 +24,7 @@ use Rattle.scr_stages.proofs.DominoLaws.{IsPlaceSet-middle}
 use Rattle.scr_stages.proofs.HalfCubes.{pick-in_block}
 use Rattle.scr_stages.proofs.TurnFacts.{length-turns, tetrads_numbers}
 use Rattle.scr_twophase.specs.declared.second.SecondPosition.{SecondPosition}
+use Rattle.scr_twophase.specs.Near.{second_number}
 use Rattle.scr_twophase.specs.Words.{words_behind, words_within}
 use Rattle.scr_twophase.specs.TwoParts.{after_turn, domino_turns, is_solved, is_solution, is_orderly, joined, leads, second_part}
 use Rattle.scr_twophase.specs.Tables.{corners_of, outer_edges_of, middle_edges_of}
@@ -43,6 +44,16 @@ IsSecondPosition-shown c at h = record {
   outer = omega (arith, h.outer, Follows-outer_edges.valid c h.domino);
   middle = omega (arith, h.middle, Follows-middle_edges.valid c h.domino);
 }
+
+-- the position of a domino
+abbrev pub second_position : CubeState → SecondPosition
+second_position c = record { corners = corners_of c; outer = outer_edges_of c; middle = middle_edges_of c }
+
+pub ShowsSecond-of : (c : CubeState) → IsDominoCube c → ShowsSecond c (second_position c)
+ShowsSecond-of c h = record { domino = h; corners = refl; outer = refl; middle = refl }
+
+pub IsSecondPosition-of : (c : CubeState) → IsDominoCube c → IsSecondPosition (second_position c)
+IsSecondPosition-of c h = IsSecondPosition-shown c (second_position c) (ShowsSecond-of c h)
 
 -- the turn at a place of the ten
 pub domino_turn-lt : (place d : ℕ) → place < 10 → get_or domino_turns place d < 18
@@ -82,6 +93,29 @@ is_solved-shown c at h =
     let whole = and_parts ((at.corners == 0) && (at.outer == 0)) (at.middle == 0) e in
     let both = and_parts (at.corners == 0) (at.outer == 0) whole.0 in
     tests.1 (same_cube c solved_cube (corners.1 both.0) h.domino.domino.no_twists (all_home c h.domino (outer.1 both.1) (middle.1 whole.1)) h.domino.domino.no_flips))
+
+pub corners_home : AreMiddleHome solved_cube × AreCornersHome solved_cube
+unfolding solved_cube solved_orbit
+corners_home = (refl, refl)
+
+pub outer_home : AreMiddleHome solved_cube × AreOuterHome solved_cube
+unfolding solved_cube solved_orbit
+outer_home = (refl, refl)
+
+-- what is so of the solved cube
+pub so_there : (P : CubeState → Type 0) → P solved_cube → (e : CubeState) → is_solved e ≡ true → P e
+so_there P home e test = subst P (sym ((IsSolved-test e).0 test)) home
+
+-- the number of the solved cube
+pub second_number-solved : (c : CubeState) → IsDominoCube c → is_solved c ≡ true → 0 ≡ second_number c
+second_number-solved c h e =
+    let at = second_position c in
+    let whole = and_parts ((at.corners == 0) && (at.outer == 0)) (at.middle == 0) (sym (is_solved-shown c at (ShowsSecond-of c h)) ∙ e) in
+    let both = and_parts (at.corners == 0) (at.outer == 0) whole.0 in
+    let corners = eqb-true (corners_of c) 0 both.0 in
+    let outer = eqb-true (outer_edges_of c) 0 both.1 in
+    let middle = eqb-true (middle_edges_of c) 0 whole.1 in
+    omega (arith, corners, outer, middle)
 
 -- ---- words
 

@@ -5,5 +5,7 @@ pub mod Spaces
 pub mod Search
 pub mod TurnSets
 pub mod Outlooks
+pub mod Near
 pub mod Built
 pub mod Minima
+pub mod HeldScramble

@@ -1,5 +1,6 @@
 -- Which turns may go on a word of so many turns to the goal of a pruning table.
-use Rattle.std.specs.Prelude.{◌≡◌, ℕ, ◌+◌, ◌-◌, ◌/◌, ◌%◌, ◌^◌, ◌<◌, ◌≤◌, ◌==◌, nat_le, true, IsTrue, if◌then◌else◌, List, length, slice_index, slice_index_or, Some}
+use Rattle.std.specs.Prelude.{◌≡◌, ℕ, ◌+◌, ◌-◌, ◌/◌, ◌%◌, ◌^◌, ◌<◌, ◌≤◌, ◌==◌, nat_le, true, IsTrue, if◌then◌else◌, List, slice_get, slice_index, Some}
+use Rattle.std.specs.Option.{option_map_or}
 use Rattle.scr_coord.specs.Coordinates.{Coordinate, moved}
 use Rattle.scr_table.specs.Lines.{TableLine, IsTableOf}
 use Rattle.scr_twophase.specs.declared.outlook.Outlook.{Outlook}
@@ -27,12 +28,18 @@ pub record AreFound (c : Coordinate) (distances : List ℕ) (p turn : ℕ) (foun
   pub few_near : found.nearer.bits < 2 ^ 18
   pub few_level : found.no_farther.bits < 2 ^ 18
 
--- There is one for each position.
+-- Outlooks stand at their positions; there may be none.
 pub record AreOutlooks (c : Coordinate) (distances : List ℕ) (all : List Outlook) : Type 0 where
-  pub size : length all ≡ c.count
-  pub each : (p : ℕ) (o : Outlook) → p < c.count → IsOutlook c distances p (slice_index_or all p o)
+  pub each : (p : ℕ) (o : Outlook) → p < c.count → slice_get all p ≡ Some o → IsOutlook c distances p o
 
--- A pruning table is that of a line, with its outlooks.
+-- The turns that a pruning table leaves where so many turns may still be made: those of the position's outlook, where it has
+-- one; else all, if the goal is no farther.
+unfoldable pub turns_left : PruningTable → ℕ → ℕ → ℕ
+turns_left table p left =
+    option_map_or (λ o. turns_within o left) (slice_get table.outlooks.items p)
+    (if nat_le (slice_index table.distances.distances p) left then 2 ^ 18 - 1 else 0)
+
+-- A pruning table is that of a line, with outlooks or without.
 pub record IsPruningTable (line : TableLine) (table : PruningTable) : Type 0 where
   pub distances : IsTableOf line table.distances
   pub outlooks : AreOutlooks line.coordinate table.distances.distances table.outlooks.items

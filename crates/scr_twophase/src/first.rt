@@ -7,16 +7,19 @@ ghost use Rattle.scr_coord.specs.SearchSpaces.{ShowsSame};
 ghost use Rattle.scr_coord.specs.Projections.{marked_places, stands_in};
 ghost use Rattle.scr_table.specs.Causes.{IsCauseOf};
 ghost use Rattle.scr_table.specs.Lines.{HasNoGap};
-ghost use Rattle.scr_cube.specs.Cube333.{CubeState};
+ghost use Rattle.scr_cube.specs.Cube333.{CubeState, IsCube};
 ghost use Rattle.scr_stages.specs.Stages.{middle_edges};
 ghost use Rattle.scr_stages.specs.Tables.{flips_coordinate};
+ghost use Rattle.scr_twophase.specs.Near.{HasBits, IsNear, LeavesNear, first_number};
 ghost use Rattle.scr_twophase.specs.Outlooks.{IsPruningTable};
 ghost use Rattle.scr_twophase.specs.Search.{ShowsFirst, IsFirstPosition, LeavesWays, is_domino_position};
-ghost use Rattle.scr_twophase.specs.TwoParts.{after_turn, is_domino, turn_numbers};
+ghost use Rattle.scr_twophase.specs.TwoParts.{is_domino, turn_numbers};
 ghost use Rattle.scr_twophase.specs.Tables.{twists_coordinate, middle_set_coordinate};
 ghost use Rattle.scr_twophase.specs.Tables.{flipslice_line, twistslice_line, first_lines};
 
+use crate::near_set::{NEAR, NearSet};
 use crate::pruning::PruningTable;
+use crate::space::{BLOCK, Space};
 use crate::turn_set::TurnSet;
 use scr_coord::{Coord, MoveTable, PlaceSet, Product, Twists, places_of};
 use scr_cube::Cube;
@@ -24,7 +27,7 @@ use scr_outside::NoMemory;
 use scr_rank::{Choose, TwistRank};
 use scr_stages::{ALL_TURNS, MIDDLE_EDGES, corners_turned, edges_turned};
 use scr_table::{BuildFault, TableName};
-use std::alloc::Global;
+use std::alloc::{AllocError, Global};
 use std::thread::Threads;
 
 /// How many flips there are.
@@ -32,6 +35,9 @@ const FLIPS: u32 = 2048;
 
 /// How many twists there are.
 const TWISTS: u32 = 2187;
+
+/// How many sets of the places of the edges of the middle layer there are.
+const MIDDLES: u32 = 495;
 
 /// The numbers of a cube's flips, of its twists, and of the set of the places of the edges of the middle layer.
 #[derive(Clone, Copy)]
@@ -65,7 +71,8 @@ impl FirstPosition {
     }
 }
 
-/// What the search for a first part goes by: where turns lead, and the two pruning tables.
+/// What the search for a first part goes by: where turns lead, the two pruning tables, and the near set, which is that of all
+/// cubes until it is built.
 #[derive(Drop)]
 pub(crate) struct FirstTables {
     flips: MoveTable,
@@ -73,11 +80,13 @@ pub(crate) struct FirstTables {
     middle: MoveTable,
     pub flipslice: PruningTable,
     pub twistslice: PruningTable,
+    near: NearSet,
     ghost flips_shown: { ShowsSame flips_coordinate (moves_coordinate flips) },
     ghost twists_shown: { ShowsSame twists_coordinate (moves_coordinate twists) },
     ghost middle_shown: { ShowsSame middle_set_coordinate (moves_coordinate middle) },
     ghost flipslice_is: { IsPruningTable flipslice_line flipslice },
     ghost twistslice_is: { IsPruningTable twistslice_line twistslice },
+    ghost near_is: { IsNear turn_numbers IsCube first_number is_domino 7 (HasBits near.words.items) },
 }
 
 impl FirstTables {
@@ -116,21 +125,22 @@ impl FirstTables {
             middle,
             flipslice,
             twistslice,
+            near: NearSet::of_all(alloc),
         })
     }
 
-    /// Where a turn, below 18, leads from a position.
-    #[inline]
-    pub fn after(&self, at: FirstPosition, turn: u32) -> FirstPosition
-        requires at { IsFirstPosition at }
-        requires turn { turn < 18 }
-        ensures { (c d : CubeState) → ShowsFirst c at → after_turn c turn ≡ Some d → ShowsFirst d result }
+    /// Finds outlooks, and builds the near set.
+    pub fn prepare(&mut self, alloc: Global) -> Result<(), AllocError>
+        ensures flipslice { self.new.flipslice.distances ≡ self.old.flipslice.distances }
+        ensures twistslice { self.new.twistslice.distances ≡ self.old.twistslice.distances }
     {
-        FirstPosition {
-            flips: step(&self.flips, at.flips, turn),
-            twists: step(&self.twists, at.twists, turn),
-            middle: step(&self.middle, at.middle, turn),
-        }
+        self.flipslice
+            .look_out(alloc, &Product::new(&self.flips, &self.middle))?;
+        self.twistslice
+            .look_out(alloc, &Product::new(&self.twists, &self.middle))?;
+        let near = NearSet::build(self, alloc, NEAR)?;
+        self.near = near;
+        Ok(())
     }
 
     /// The turns of which one may be the next of a word of `left` turns to a domino.
@@ -149,6 +159,79 @@ impl FirstTables {
             .turns_within(at.twists + TWISTS * at.middle, left);
         by_flips.and(by_twists)
     }
+
+    /// Of some turns those of which one may be the next of a word of so many turns to a domino as the near set has, and one more.
+    #[inline]
+    pub fn turns_into_near(&self, at: FirstPosition, turns: TurnSet) -> TurnSet
+        requires at { IsFirstPosition at }
+        requires few { turns.bits < 2 ^ 18 }
+        ensures left { (c : CubeState) → ShowsFirst c at → LeavesNear turn_numbers is_domino c 7 turns.bits result.bits }
+        ensures few { result.bits < 2 ^ 18 }
+    {
+        self.near.turns_into(self, at, turns)
+    }
+}
+
+/// All cubes, by all turns, to the dominoes.
+impl Space for FirstTables {
+    ghost use Rattle.scr_cube.specs.Cube333.{IsCube};
+    ghost use Rattle.scr_twophase.specs.Near.{first_number};
+    ghost use Rattle.scr_twophase.specs.Search.{IsFirstPosition, ShowsFirst};
+    ghost use Rattle.scr_twophase.specs.TwoParts.{is_domino, turn_numbers};
+
+    type Position = FirstPosition;
+
+    ghost turns = { turn_numbers };
+
+    ghost IsSeen = { IsCube };
+
+    ghost numbering = { first_number };
+
+    ghost ends = { is_domino };
+
+    ghost Shows = { ShowsFirst };
+
+    ghost Fits = { IsFirstPosition };
+
+    #[inline]
+    fn places() -> u32 {
+        18
+    }
+
+    #[inline]
+    fn after(&self, at: FirstPosition, place: u32) -> FirstPosition {
+        FirstPosition {
+            flips: step(&self.flips, at.flips, place),
+            twists: step(&self.twists, at.twists, place),
+            middle: step(&self.middle, at.middle, place),
+        }
+    }
+
+    #[inline]
+    fn number_of(at: FirstPosition) -> u64 {
+        let low = at.twists.wrapping_mul(FLIPS).wrapping_add(at.flips);
+        u64::from(at.middle) * BLOCK + u64::from(low)
+    }
+
+    #[inline]
+    fn position(number: u64) -> FirstPosition {
+        let low = (number % BLOCK) as u32;
+        FirstPosition {
+            flips: low % FLIPS,
+            twists: low / FLIPS % TWISTS,
+            middle: (number / BLOCK) as u32 % MIDDLES,
+        }
+    }
+
+    fn end() -> u64 {
+        494 * BLOCK
+    }
+
+    fn blocks() -> u32 {
+        MIDDLES
+    }
+
+    fn turns_are_taken_back() {}
 }
 
 /// Where a turn leads, which is barred nowhere.

@@ -10,25 +10,31 @@
 //! The search goes depth first by rising length, over move tables, and leaves out the turns that [`PruneTables`] say
 //! lead too far from the goal: the theorem is that it finds what the lists have, and that each first part counts one
 //! try. A pruning table is a distance table of two coordinates side by side, which says no more than the least number
-//! of turns; that is all that leaving out needs. The crate stands on the stages of `scr_stages`, on coordinates and on
-//! distance tables.
+//! of turns; that is all that leaving out needs. Where many cubes are searched for, near sets leave out more: bit
+//! tables that have all cubes from which few turns lead to the end of a part, and some others. The crate stands on the
+//! stages of `scr_stages`, on coordinates and on distance tables.
 #![tactic(auto)]
 
 mod draw;
 mod first;
+mod held;
 pub mod laws;
+mod near_set;
 mod needs;
+mod numbers;
 mod outlook;
 mod parts;
 mod pruning;
 mod scramble;
 mod search;
 mod second;
+mod space;
 mod tables;
 mod turn_set;
 mod word;
 
 pub use draw::Draw333;
+pub use held::{DrawHeld, scramble_333bf};
 pub use needs::needs_333;
 pub use scramble::{scramble_333, two_parts};
 pub use tables::PruneTables;

@@ -6,8 +6,10 @@ ghost use Rattle.scr_twophase.specs.Search.{letters, is_domino_position};
 ghost use Rattle.scr_twophase.specs.TwoParts.{ends_in_quarter, two_parts};
 
 use crate::first::{FirstPosition, FirstTables};
+use crate::near_set::NEAR_AT;
 use crate::search::{Part, search_within};
 use crate::second::SecondTables;
+use crate::space::Space;
 use crate::turn_set::{TurnSet, behind};
 use crate::word::Word;
 use scr_cube::Cube;
@@ -47,10 +49,17 @@ impl Part for PartTables {
     ghost gives = { joined };
 
     #[inline]
+    fn least(&self, _word: &Word, _at: FirstPosition) -> u32 {
+        0
+    }
+
+    #[inline]
     fn turns_from(&self, word: &Word, at: FirstPosition, left: u32) -> TurnSet {
         let turns = behind(word, &BEHIND).and(self.first.turns_within(at, left));
         if left == 1 {
             turns.and(SIDE_QUARTERS)
+        } else if left == NEAR_AT {
+            self.first.turns_into_near(at, turns)
         } else {
             turns
         }

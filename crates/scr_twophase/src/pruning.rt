@@ -1,16 +1,16 @@
 //! Pruning tables.
-ghost use Rattle.std.specs.Prelude.{◌≡◌, ◌<◌, ◌≤◌, ◌^◌, IfOk, IfErr, length, slice_index_or};
+ghost use Rattle.std.specs.Prelude.{◌≡◌, ◌<◌, ◌≤◌, ◌^◌, IfOk, IfErr, OnErr, length, slice_index};
 ghost use Rattle.scr_table.specs.Causes.{IsCause};
-ghost use Rattle.scr_twophase.specs.Outlooks.{IsPruningTable, turns_within};
+ghost use Rattle.scr_twophase.specs.Outlooks.{AreOutlooks, IsPruningTable, turns_left};
 
 use crate::outlook::{Outlook, outlooks};
 use crate::turn_set::TurnSet;
 use scr_coord::Coord;
 use scr_table::{BuildFault, DistanceTable, TableName};
-use std::alloc::Global;
+use std::alloc::{AllocError, Global};
 use std::thread::Threads;
 
-/// A distance table, with the outlook of each position.
+/// A distance table, with the outlook of each position once these are found.
 #[derive(Drop)]
 pub(crate) struct PruningTable {
     pub distances: DistanceTable,
@@ -34,20 +34,46 @@ impl PruningTable {
         ensures cause { IfErr result (IsCause name (C.coordinate coord.now) bound) }
     {
         let distances = DistanceTable::build(rt, alloc, name, coord, bound, workers)?;
-        let outlooks = outlooks(alloc, coord, &distances)?;
         Ok(PruningTable {
             distances,
-            outlooks,
+            outlooks: Vec::new(alloc),
         })
+    }
+
+    /// Finds the outlook of each position. The coordinate is that of the table.
+    pub fn look_out<C: Coord>(&mut self, alloc: Global, coord: &C) -> Result<(), AllocError>
+        requires turns { (C.coordinate coord.now).turns ≤ 18 }
+        requires positions { length self.old.distances.distances ≡ (C.coordinate coord.now).count }
+        ensures same { self.new.distances ≡ self.old.distances }
+        ensures found { IfOk result (λ _.
+            AreOutlooks (C.coordinate coord.now) self.new.distances.distances self.new.outlooks.items) }
+        ensures kept { OnErr result (self.new ≡ self.old) }
+    {
+        self.outlooks = outlooks(alloc, coord, &self.distances)?;
+        Ok(())
+    }
+
+    /// How many turns a word from a position to the goal has at least.
+    #[inline]
+    pub fn distance(&self, position: u32) -> u32
+        requires { position < length self.now.distances.distances }
+        ensures { result ≡ slice_index self.now.distances.distances position }
+    {
+        self.distances.distance(position)
     }
 
     /// The turns of which one may be the next from a position where `left` turns may still be made.
     #[inline]
+    #[tactic(auto, unfolding(crate::specs::Outlooks::turns_left))]
     pub fn turns_within(&self, position: u32, left: u32) -> TurnSet
-        requires { position < length self.now.outlooks.items }
-        ensures turns { (o : Outlook) → result.bits ≡ turns_within (slice_index_or self.now.outlooks.items position o) left }
+        requires { position < length self.now.distances.distances }
+        ensures turns { result.bits ≡ turns_left self.now position left }
         ensures few { result.bits < 2 ^ 18 }
     {
-        self.outlooks[position as usize].turns_within(left)
+        match self.outlooks.get(position as usize) {
+            Some(outlook) => outlook.turns_within(left),
+            None if self.distances.distance(position) <= left => TurnSet::ALL,
+            None => TurnSet::NONE,
+        }
     }
 }

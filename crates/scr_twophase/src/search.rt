@@ -11,7 +11,7 @@ use scr_cube::Cube;
 /// A part of the solution of a cube, as a search sees it: some of the 18 turns, told by their places among them, and which
 /// orderly words of these turns are looked for.
 pub(crate) trait Part {
-    ghost use Rattle.std.specs.Prelude.{◌≡◌, ℕ, ◌-◌, ◌^◌, ◌<◌, ◌≤◌, Bool, List, Option, Some, length, slice_index};
+    ghost use Rattle.std.specs.Prelude.{◌≡◌, ℕ, ◌-◌, ◌^◌, ◌<◌, ◌≤◌, Bool, List, [], Option, Some, length, slice_index};
     ghost use Rattle.scr_cube.specs.Cube333.{CubeState};
     ghost use Rattle.scr_twophase.specs.Search.{letters, IsAt, IsSearched, KeepsWays};
     ghost use Rattle.scr_twophase.specs.TwoParts.{after_turn};
@@ -34,6 +34,12 @@ pub(crate) trait Part {
 
     /// What such a word gives.
     ghost gives: { CubeState → List ℕ → Option (List ℕ) };
+
+    /// A number of turns of which no fewer make a word that is looked for, behind one that leads to a position.
+    fn least(&self, word: &Word, at: Self::Position) -> u32
+        requires { (c : CubeState) × IsAt Shows c (letters word.now) at }
+        ensures { (c : CubeState) (n : ℕ) → IsAt Shows c (letters word.now) at → n < result
+            → words_behind turns (passes c) (letters word.now) n ≡ [] };
 
     /// The turns of which one may be the next behind a word that leads to a position, where `left` turns, one or more, are
     /// still to be made.
@@ -84,7 +90,7 @@ pub(crate) fn search_within<P: Part>(
         (filter (P.passes cube.now) (map (λ v. letters word.old ++ v) (words_within P.turns most))) tries.old
         (letters word.old) result (letters word.new) tries.new }
 {
-    for left in 0..most + 1 {
+    for left in part.least(word, at)..most + 1 {
         if search_behind(part, cube, word, at, left, tries) {
             return true;
         }

@@ -1,5 +1,5 @@
 //! The second part: what a search for it sees of a domino, and where turns lead.
-ghost use Rattle.std.specs.Prelude.{◌≡◌, ◌+◌, ◌^◌, ◌<◌, ◌≤◌, ℕ, All, IfErr, IfOk, IsTrue, Some, None, false, if◌then◌else◌, length, map};
+ghost use Rattle.std.specs.Prelude.{◌≡◌, ◌+◌, ◌^◌, ◌<◌, ◌≤◌, ℕ, All, Contains, IfErr, IfOk, IsTrue, List, Some, None, false, if◌then◌else◌, length, map};
 ghost use Rattle.scr_combinatorics.specs.Permutations.{IsPermutation, factorial};
 ghost use Rattle.scr_combinatorics.specs.Play.{play};
 ghost use Rattle.scr_coord.specs.Moves.{moves_coordinate};
@@ -11,15 +11,20 @@ ghost use Rattle.scr_cube.specs.Cube333.{CubeState};
 ghost use Rattle.scr_stages.specs.Numbers.{IsDominoCube};
 ghost use Rattle.scr_stages.specs.Tables.{block_turn, edges_by};
 ghost use Rattle.scr_stages.specs.Stages.{tetrads_turns};
+ghost use Rattle.scr_twophase.specs.Near.{HasBits, IsNear, LeavesNear, second_number};
 ghost use Rattle.scr_twophase.specs.Outlooks.{IsPruningTable};
 ghost use Rattle.scr_twophase.specs.Search.{ShowsSecond, IsSecondPosition, LeavesWays, carried, is_solved_position};
 ghost use Rattle.scr_twophase.specs.Tables.{corners_coordinate, outer_edges_coordinate, middle_edges_coordinate};
 ghost use Rattle.scr_twophase.specs.Tables.{cornerslice_line, edgeslice_line, second_lines};
-ghost use Rattle.scr_twophase.specs.TwoParts.{after_turn, domino_turns, is_orderly, is_solved, joined};
+ghost use Rattle.scr_twophase.specs.TurnSets.{contains_turn};
+ghost use Rattle.scr_twophase.specs.TwoParts.{after_turn, domino_turns, is_orderly, is_solved, joined, leads};
+ghost use Rattle.scr_twophase.specs.Words.{words_of};
 
 use crate::first::step;
+use crate::near_set::{NEAR, NEAR_AT, NearSet};
 use crate::pruning::PruningTable;
 use crate::search::{Part, search_within};
+use crate::space::{BLOCK, Space};
 use crate::turn_set::{TurnSet, behind};
 use crate::word::Word;
 use scr_coord::{Lists, MoveTable, PlaceTurn, Product};
@@ -31,11 +36,14 @@ use scr_stages::{
     MIDDLE_EDGES, OUTER_EDGES, TETRADS_TURNS, block_edges_turned, block_number, corners_turned,
 };
 use scr_table::{BuildFault, TableName};
-use std::alloc::Global;
+use std::alloc::{AllocError, Global};
 use std::thread::Threads;
 
 /// How many lists of the edges of the middle layer there are.
 const MIDDLES: u32 = 24;
+
+/// How many lists of corners there are, and of the edges above and below.
+const LISTS: u32 = 40_320;
 
 /// For each face of U R F D L B, the places of the turns that may stand right behind one of it. Then all places.
 const BEHIND: [u32; 7] = [0x3f8, 0x3f7, 0x3ef, 0x318, 0x2f7, 0x1ef, 0x3ff];
@@ -77,7 +85,8 @@ impl SecondPosition {
     }
 }
 
-/// What the search for a second part goes by: where turns lead, and the two pruning tables.
+/// What the search for a second part goes by: where turns lead, the two pruning tables, and the near set, which is that of all
+/// dominoes until it is built.
 #[derive(Drop)]
 pub(crate) struct SecondTables {
     corners: MoveTable,
@@ -85,11 +94,13 @@ pub(crate) struct SecondTables {
     middle: MoveTable,
     pub cornerslice: PruningTable,
     pub edgeslice: PruningTable,
+    near: NearSet,
     ghost corners_shown: { ShowsSame corners_coordinate (moves_coordinate corners) },
     ghost outer_shown: { ShowsSame outer_edges_coordinate (moves_coordinate outer) },
     ghost middle_shown: { ShowsSame middle_edges_coordinate (moves_coordinate middle) },
     ghost cornerslice_is: { IsPruningTable cornerslice_line cornerslice },
     ghost edgeslice_is: { IsPruningTable edgeslice_line edgeslice },
+    ghost near_is: { IsNear domino_turns IsDominoCube second_number is_solved 7 (HasBits near.words.items) },
 }
 
 impl SecondTables {
@@ -130,7 +141,22 @@ impl SecondTables {
             middle,
             cornerslice,
             edgeslice,
+            near: NearSet::of_all(alloc),
         })
+    }
+
+    /// Builds the near set.
+    pub fn prepare(&mut self, alloc: Global) -> Result<(), AllocError>
+        ensures cornerslice { self.new.cornerslice.distances ≡ self.old.cornerslice.distances }
+        ensures edgeslice { self.new.edgeslice.distances ≡ self.old.edgeslice.distances }
+    {
+        self.cornerslice
+            .look_out(alloc, &Product::new(&self.middle, &self.corners))?;
+        self.edgeslice
+            .look_out(alloc, &Product::new(&self.middle, &self.outer))?;
+        let near = NearSet::build(self, alloc, NEAR)?;
+        self.near = near;
+        Ok(())
     }
 
     /// Makes of a first part what it is joined with its second part, if it has one.
@@ -161,6 +187,95 @@ impl SecondTables {
             .turns_within(at.middle + MIDDLES * at.outer, left);
         by_corners.and(by_edges)
     }
+
+    /// How many turns a word from a position to solved has at least.
+    #[inline]
+    fn least_from(&self, at: SecondPosition) -> u32
+        requires { IsSecondPosition at }
+        ensures { (c : CubeState) (n : ℕ) (v : List ℕ) → ShowsSecond c at → n < result → Contains (words_of domino_turns n) v
+            → leads is_solved c v ≡ false }
+    {
+        let by_corners = self.cornerslice.distance(at.middle + MIDDLES * at.corners);
+        if self.near.has(SecondTables::number_of(at)) {
+            by_corners
+        } else {
+            by_corners.max(NEAR + 1)
+        }
+    }
+
+    /// Of some turns those of which one may be the next of a word of so many turns to solved as the near set has, and one more.
+    #[inline]
+    fn turns_into_near(&self, at: SecondPosition, turns: TurnSet) -> TurnSet
+        requires at { IsSecondPosition at }
+        requires few { turns.bits < 2 ^ 18 }
+        requires below { (place : ℕ) → IsTrue (contains_turn turns.bits place) → place < 10 }
+        ensures left { (c : CubeState) → ShowsSecond c at → LeavesNear domino_turns is_solved c 7 turns.bits result.bits }
+        ensures few { result.bits < 2 ^ 18 }
+    {
+        self.near.turns_into(self, at, turns)
+    }
+}
+
+/// The dominoes, by the ten turns that keep them, to solved.
+impl Space for SecondTables {
+    ghost use Rattle.scr_stages.specs.Numbers.{IsDominoCube};
+    ghost use Rattle.scr_twophase.specs.Near.{second_number};
+    ghost use Rattle.scr_twophase.specs.Search.{IsSecondPosition, ShowsSecond};
+    ghost use Rattle.scr_twophase.specs.TwoParts.{domino_turns, is_solved};
+
+    type Position = SecondPosition;
+
+    ghost turns = { domino_turns };
+
+    ghost IsSeen = { IsDominoCube };
+
+    ghost numbering = { second_number };
+
+    ghost ends = { is_solved };
+
+    ghost Shows = { ShowsSecond };
+
+    ghost Fits = { IsSecondPosition };
+
+    #[inline]
+    fn places() -> u32 {
+        10
+    }
+
+    #[inline]
+    fn after(&self, at: SecondPosition, place: u32) -> SecondPosition {
+        SecondPosition {
+            corners: step(&self.corners, at.corners, place),
+            outer: step(&self.outer, at.outer, place),
+            middle: step(&self.middle, at.middle, place),
+        }
+    }
+
+    #[inline]
+    fn number_of(at: SecondPosition) -> u64 {
+        let low = at.outer.wrapping_mul(LISTS).wrapping_add(at.corners);
+        u64::from(at.middle) * BLOCK + u64::from(low)
+    }
+
+    #[inline]
+    fn position(number: u64) -> SecondPosition {
+        let low = (number % BLOCK) as u32;
+        SecondPosition {
+            corners: low % LISTS,
+            outer: low / LISTS % LISTS,
+            middle: (number / BLOCK) as u32 % MIDDLES,
+        }
+    }
+
+    fn end() -> u64 {
+        0
+    }
+
+    fn blocks() -> u32 {
+        MIDDLES
+    }
+
+    fn turns_are_taken_back() {}
 }
 
 /// A search by them is for a second part, of the ten turns that keep a domino.
@@ -183,8 +298,18 @@ impl Part for SecondTables {
     ghost gives = { λ _ word. Some word };
 
     #[inline]
+    fn least(&self, _word: &Word, at: SecondPosition) -> u32 {
+        self.least_from(at)
+    }
+
+    #[inline]
     fn turns_from(&self, word: &Word, at: SecondPosition, left: u32) -> TurnSet {
-        behind(word, &BEHIND).and(self.turns_within(at, left))
+        let turns = behind(word, &BEHIND).and(self.turns_within(at, left));
+        if left == NEAR_AT {
+            self.turns_into_near(at, turns)
+        } else {
+            turns
+        }
     }
 
     #[inline]
@@ -194,11 +319,7 @@ impl Part for SecondTables {
 
     #[inline]
     fn after(&self, at: SecondPosition, place: u32) -> SecondPosition {
-        SecondPosition {
-            corners: step(&self.corners, at.corners, place),
-            outer: step(&self.outer, at.outer, place),
-            middle: step(&self.middle, at.middle, place),
-        }
+        Space::after(self, at, place)
     }
 
     #[inline]

@@ -8,9 +8,12 @@ use crate::first::FirstTables;
 use crate::parts::PartTables;
 use crate::second::SecondTables;
 use scr_table::{BuildFault, DistanceTable, TableName, TableSet, table_named};
-use std::alloc::Global;
+use std::alloc::{AllocError, Global};
 use std::marker::Model;
 use std::thread::Threads;
+
+/// From so many cubes on near sets take less time to build than they save.
+const MANY: u32 = 40;
 
 /// The pruning tables of both parts, with the moves by which a search goes.
 #[derive(Drop)]
@@ -62,6 +65,18 @@ impl PruneTables {
         Ok(PruneTables {
             parts: PartTables { first, second },
         })
+    }
+
+    /// Makes ready for the search for the parts of so many cubes: where they are many, it builds what makes each search faster and
+    /// changes no answer. The tables stay the same, also where there is no memory for more.
+    pub fn prepare(&mut self, alloc: Global, cubes: u32) -> Result<(), AllocError>
+        ensures { self.new ≡ self.old }
+    {
+        if cubes >= MANY {
+            self.parts.second.prepare(alloc)?;
+            self.parts.first.prepare(alloc)?;
+        }
+        Ok(())
     }
 
     /// All of them, in the order in which they are built.

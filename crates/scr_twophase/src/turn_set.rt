@@ -1,5 +1,5 @@
 //! Sets of turns.
-ghost use Rattle.std.specs.Prelude.{◌≡◌, ℕ, ◌^◌, ◌<◌, ◌&&◌, ◌||◌, ◌==◌, ◌∷◌, [], All, List, MatchOption, IfSome, length, slice_index};
+ghost use Rattle.std.specs.Prelude.{◌≡◌, ℕ, ◌^◌, ◌<◌, ◌&&◌, ◌||◌, ◌==◌, ◌∷◌, [], All, List, MatchOption, IfNone, IfSome, IsTrue, length, not, slice_index};
 ghost use Rattle.scr_twophase.specs.Search.{letters, may_end, AreBehind};
 ghost use Rattle.scr_twophase.specs.TurnSets.{contains_turn, turns_in};
 
@@ -54,6 +54,10 @@ impl TurnSet {
         requires { self.old.bits < 2 ^ 18 }
         ensures first { MatchOption result (turns_in self.old.bits ≡ []) (λ t. turns_in self.old.bits ≡ t ∷ turns_in self.new.bits) }
         ensures below { IfSome result (λ t. t < 18) }
+        ensures taken { IfSome result (λ t. IsTrue (contains_turn self.old.bits t)) }
+        ensures others { IfSome result (λ t. (other : ℕ)
+            → contains_turn self.new.bits other ≡ (contains_turn self.old.bits other && not (other == t))) }
+        ensures none { IfNone result (self.old.bits ≡ 0) }
         ensures few { self.new.bits < 2 ^ 18 }
     {
         if self.bits == 0 {

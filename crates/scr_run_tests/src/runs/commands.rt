@@ -1,7 +1,7 @@
 //! Commands, lists and messages.
 
-use super::expected::{BY_TABLES, SCRAMBLE, SCRAMBLE_MINX};
-use super::{NO_444, USAGE, ZEROS, check};
+use super::expected::{BY_TABLES, NET_222, NET_555, SCRAMBLE, SCRAMBLE_MINX};
+use super::{NO_444, USAGE, ZEROS, check, run_with};
 use scr_sheet::{Fault, ListCause, ListFault, Status, UsageFault};
 use scr_table::TableName;
 use std::process::Abort;
@@ -10,16 +10,32 @@ use std::test::Fail;
 #[test]
 fn words_and_lists(rt: HostRuntime) -> Result<(), Fail> {
     let joined = "--seed=0000000000000000000000000000000000000000000000000000000000000000";
-    let runs: [(&[&str], &str, &str); 6] = [
+    let runs: [(&[&str], &str, &str); 7] = [
         (&["one", "clock", ZEROS], "", SCRAMBLE),
         (&["one", "minx", ZEROS], "", SCRAMBLE_MINX),
         (&["tables", "clock"], "", "no tables\n"),
         (&["tables", "777"], "", "no tables\n"),
         (&["sheet", joined, "--workers=64"], "", ""),
         (&["sheet", joined], " \n\t\r\n", ""),
+        (&["sheet", joined], "version 2\n\n", ""),
     ];
     for (words, list, out) in runs {
         check(&rt, words, list.as_bytes(), 0, out, "")?;
+    }
+    Ok(())
+}
+
+#[test]
+fn nets_of_scrambled_cubes(rt: HostRuntime) -> Result<(), Fail> {
+    let small = run_with(&rt, &["net", "222", ZEROS], b"", 4096, [&[], &[], &[]])?;
+    let large = run_with(&rt, &["net", "555", ZEROS], b"", 4096, [&[], &[], &[]])?;
+    for (ran, lines) in [(small, &NET_222[..]), (large, &NET_555[..])] {
+        let mut text = Vec::new(rt.alloc());
+        for line in lines {
+            text.extend_from_slice(line.as_bytes())?;
+        }
+        assert_eq!(rt; ran.code, 0);
+        assert_eq!(rt; ran.out.contents(), text.as_slice());
     }
     Ok(())
 }
@@ -31,9 +47,13 @@ fn words_and_lists_refused(rt: HostRuntime) -> Result<(), Fail> {
     let equals = "--seed==0000000000000000000000000000000000000000000000000000000000000000";
     let not_a_digit = "scramble: seed has no hexadecimal digit at 63\n";
     let of_two = "scramble: seed has 2 characters, not 64\n";
+    let of_three = "scramble: seed has 3 characters, not 64\n";
     let of_none = "scramble: seed has 0 characters, not 64\n";
     let of_65 = "scramble: seed has 65 characters, not 64\n";
-    let runs: [(&[&str], &str); 14] = [
+    let runs: [(&[&str], &str); 18] = [
+        (&["net", "444", ZEROS], NO_444),
+        (&["net", "pyram", ZEROS], USAGE),
+        (&["net", "333bf", ZEROS], USAGE),
         (&["tables", "444"], NO_444),
         (&["tables", "magic"], USAGE),
         (&["one", "clock", digit], not_a_digit),
@@ -46,6 +66,7 @@ fn words_and_lists_refused(rt: HostRuntime) -> Result<(), Fail> {
         (&[], USAGE),
         (&["sheet"], USAGE),
         (&["sheet", equals], of_65),
+        (&["sheet", "--seed", "abc"], of_three),
         (&["sheet", joined, "--workers", "65"], USAGE),
         (&["sheet", joined, "--attempts", "1000001"], USAGE),
     ];
@@ -58,6 +79,9 @@ fn words_and_lists_refused(rt: HostRuntime) -> Result<(), Fail> {
         ("333", "scramble: line 1: words\n"),
         ("444bf 1", "scramble: line 1: unknown event\n"),
         ("clock 1 4", "scramble: line 1: minimum\n"),
+        ("version 2\nclock 1 :", "scramble: line 2: name\n"),
+        ("version 2\n: Final", "scramble: line 2: words\n"),
+        ("version 3", "scramble: line 1: unknown event\n"),
     ] {
         check(&rt, &["sheet", joined], list.as_bytes(), 3, "", err)?;
     }
@@ -71,6 +95,7 @@ fn events_with_tables(rt: HostRuntime) -> Result<(), Fail> {
         check(&rt, &["tables", event], b"", 0, tables, "")?;
     }
     check(&rt, &["one", "333oh", ZEROS], b"", 0, BY_TABLES[3].1, "")?;
+    check(&rt, &["tables", "333bf"], b"", 0, BY_TABLES[3].2, "")?;
     // of the Pyraminx, two of the tips of its first draw aren't turned, so that it needs 13 turns at most
     let missed = "scramble: round 1 slot 1: no permitted state in 3 words\n";
     for list in ["222 1 11", "pyram 1 15"] {
@@ -103,9 +128,14 @@ fn faults_are_told(rt: HostRuntime) {
             "scramble: line 65: too many rounds\n",
         ),
         (
-            Fault::List(ListFault::TooLong),
+            Fault::List(ListFault::TooLong { limit: 4096 }),
             3,
             "scramble: list is longer than 4096 bytes\n",
+        ),
+        (
+            Fault::List(ListFault::TooLong { limit: 16_384 }),
+            3,
+            "scramble: list is longer than 16384 bytes\n",
         ),
         (
             limit,

@@ -93,3 +93,34 @@ pub(crate) const SHEET: [&str; 29] = [
     "E2. UR1- DR5+ DL2+ UL5+ U0+ R2+ D2+ L5- ALL2+ y2 U5- R6+ D2+ L2+ ALL6+\n",
     "\n",
 ];
+
+/// What `net` writes of the 2x2x2 and `ZEROS`: its net is from a model that turns stickers in space.
+pub(crate) const NET_222: [&str; 7] = [
+    "R2 U R' F U2 F' U R U\n",
+    "   LF\n",
+    "   DD\n",
+    "BR FF LU LU\n",
+    "LF UB RR BB\n",
+    "   RU\n",
+    "   DD\n",
+];
+
+/// The same of the 5x5x5.
+pub(crate) const NET_555: [&str; 16] = [
+    "L Bw2 D' Rw' L Fw2 Bw2 Rw2 F2 Rw' D L2 U' Rw U Fw2 L2 Dw' B2 R2 Dw' Lw B2 L Dw B2 Bw' R Uw Dw2 Bw' U' L' D B' Rw' L Bw2 R2 U L2 U R' U' Rw D Bw Uw2 B2 R2 Lw F2 Bw2 L2 Lw' F' U F L2 Bw\n",
+    "      ULFBR\n",
+    "      RUFFD\n",
+    "      RBULB\n",
+    "      BUDFD\n",
+    "      FBUFL\n",
+    "BDDLD RRLRB DRLFU FLRFR\n",
+    "DFRRU RBULB DUDDR FBRLF\n",
+    "RBLLD FUFFB RBRFF URBLU\n",
+    "RDURF URFBD LDDUL DBRRU\n",
+    "LBBBL BUUFD RBFBL FULUF\n",
+    "      UFBLB\n",
+    "      UFBLU\n",
+    "      DLDUL\n",
+    "      DDDLR\n",
+    "      ULDLD\n",
+];

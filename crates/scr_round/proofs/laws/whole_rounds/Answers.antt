@@ -10,3 +10,7 @@ returns-clause-minimum c = refl
 pub returns-clause-random_moves : goal.returns-clause-random_moves
 unfolding digits spelling
 returns-clause-random_moves c = refl
+
+pub returns-clause-named : goal.returns-clause-named
+unfolding digits
+returns-clause-named c = refl

@@ -1,4 +1,4 @@
-use Rattle.std.proofs.Common.{◌≡◌, ℕ, ◌+◌, ◌-◌, ◌*◌, ◌/◌, ◌%◌, ◌<◌, ◌≤◌, length, sym, ◌∙◌, arith, refl}
+use Rattle.std.proofs.Common.{◌≡◌, ℕ, ◌+◌, ◌-◌, ◌*◌, ◌/◌, ◌%◌, ◌<◌, ◌≤◌, length, sym, ap, ◌∙◌, arith, refl}
 use Rattle.std.proofs.lemmas.Nat.{div_below, div-add-mod'}
 use Rattle.std.proofs.Math.Nat.{mul-le-mul_right, mod-lt}
 use Rattle.scr_list.specs.declared.round.Round.{Round}
@@ -18,7 +18,7 @@ in_group index round line later inside =
 pub group_line-requires-clause-group : goal.group_line-requires-clause-group
 group_line-requires-clause-group c =
     let below = in_group c.args.index c.args.round.now c.args.line c.if-line-eq0.false c.requires.line in
-    rw (c.from-own.ensures ∙ c.per_group.ensures.value) (omega (arith, below, c.requires.round.few_groups))
+    rw (c.from-own.ensures ∙ c.per_group.ensures.value ∙ ap (λ (r : Round). per_group_of r.event) c.round.view_is) (omega (arith, below, c.requires.round.few_groups))
 
 pub returns-clause-value : goal.returns-clause-value
 returns-clause-value c =
@@ -28,7 +28,7 @@ returns-clause-value c =
     round_lines-at size round.groups ((c.args.line - 1) / (size + 4)) ((c.args.line - 1) % (size + 4)) c.args.line
     (round_lines c.args.index round) (Fixed (heading c.args.index round)) c.if-line-eq0.false
     (sym (div-add-mod' (c.args.line - 1) (size + 4))) below (mod-lt (c.args.line - 1) (omega arith)) refl
-    ∙ (rw (c.from-own.ensures ∙ c.per_group.ensures.value) at c.group_line.ensures.value)
+    ∙ (rw (c.from-own.ensures ∙ c.per_group.ensures.value ∙ ap (λ (r : Round). per_group_of r.event) c.round.view_is) at c.group_line.ensures.value)
 
 pub returns-clause-slot : goal.returns-clause-slot
 returns-clause-slot c =
@@ -37,4 +37,4 @@ returns-clause-slot c =
     let below = in_group c.args.index round c.args.line c.if-line-eq0.false c.requires.line in
     let more : (c.args.line - 1) / (size + 4) + 1 ≤ round.groups = omega arith in
     IsBelow-more (((c.args.line - 1) / (size + 4) + 1) * (size + 2)) (round.groups * (size + 2)) (line_of c.group_line.result)
-    (mul-le-mul_right (size + 2) more) (rw (c.from-own.ensures ∙ c.per_group.ensures.value) at c.group_line.ensures.slot)
+    (mul-le-mul_right (size + 2) more) (rw (c.from-own.ensures ∙ c.per_group.ensures.value ∙ ap (λ (r : Round). per_group_of r.event) c.round.view_is) at c.group_line.ensures.slot)

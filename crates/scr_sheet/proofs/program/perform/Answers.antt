@@ -27,6 +27,11 @@ returns-in-Tables g c =
     by_command c.in_ok-event.ensures.answer c.in-Tables.is (record { bytes = refl; faults = refl; ends = refl }, c.write_event_tables.ensures.ends)
     c.write_event_tables.ensures.memory
 
+pub returns-in-Net : goal.returns-in-Net
+returns-in-Net g c =
+    by_command c.in_ok-event.ensures.answer c.in-Net.is (record { bytes = refl; faults = refl; ends = refl }, c.write_scrambled_net.ensures.ends)
+    c.write_scrambled_net.ensures.memory
+
 pub returns-in-Load : goal.returns-in-Load
 returns-in-Load g c =
     by_command c.in_ok-event.ensures.answer c.in-Load.is (record { bytes = refl; faults = refl; ends = refl }, c.write_load.ensures) (λ wanting. tt)

@@ -1,5 +1,5 @@
 use Rattle.std.proofs.lemmas.List.{get_or-replicate, length-replicate}
-use Rattle.std.proofs.Common.{ℕ, ◌+◌, sym, subst, arith}
+use Rattle.std.proofs.Common.{◌+◌, sym, subst, arith}
 use Rattle.scr_twophase.specs.Outlooks.{AreFound}
 use Rattle.scr_twophase.specs.declared.outlook.Found.{Found}
 use Rattle.scr_twophase.proofs.OutlookLaws.{AreFound-none}

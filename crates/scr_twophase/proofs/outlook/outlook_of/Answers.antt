@@ -1,4 +1,4 @@
-use Rattle.std.proofs.Common.{refl, ap, ◌+◌, ◌*◌, arith}
+use Rattle.std.proofs.Common.{refl, arith}
 use Rattle.scr_twophase.proofs.OutlookLaws.{IsOutlook-found}
 use Rattle.scr_twophase.proofs.outlook.outlook_of.Goals as goal
 

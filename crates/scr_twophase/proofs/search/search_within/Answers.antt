@@ -4,9 +4,12 @@ use Rattle.std.specs.List.{flat_map}
 use Rattle.scr_combinatorics.specs.Lists.{numbers_from}
 use Rattle.scr_twophase.specs.Search.{letters, IsAt, IsSearched}
 use Rattle.scr_twophase.specs.Words.{words_behind, words_within}
-use Rattle.scr_twophase.proofs.Outcomes.{IsLeft-all, IsLeft-passed, IsLeft-found, IsLeft-none, lengths_next, lengths_end}
+use Rattle.scr_twophase.proofs.Outcomes.{IsLeft-all, IsLeft-passed, IsLeft-found, IsLeft-none, lengths_from, lengths_next, lengths_end}
 use Rattle.scr_twophase.proofs.WordLists.{words_behind-within}
 use Rattle.scr_twophase.proofs.search.search_within.Goals as goal
+
+pub least-left-requires : goal.least-left-requires
+least-left-requires g c = (c.args.cube.now, c.requires.at)
 
 pub loop-left-init : goal.loop-left-init
 loop-left-init g c =
@@ -18,8 +21,9 @@ loop-left-init g c =
     let all : most + 1 ≡ most + 1 - 0 = omega arith in (
       refl,
       IsLeft-all (g.P.Part.gives cube) (filter test (map (λ v. word ++ v) (words_within turns most))) c.args.tries.now word
-          (flat_map (words_behind turns test word) (numbers_from 0 (most + 1 - 0)))
-          (words_behind-within turns test word most ∙ ap (λ n. flat_map (words_behind turns test word) (numbers_from 0 n)) all),
+          (flat_map (words_behind turns test word) (numbers_from c.least-left.result (most + 1 - c.least-left.result)))
+          (words_behind-within turns test word most ∙ ap (λ n. flat_map (words_behind turns test word) (numbers_from 0 n)) all
+          ∙ lengths_from (words_behind turns test word) c.least-left.result (most + 1) (λ n lt. c.least-left.ensures cube n c.requires.at lt)),
     )
 
 pub search_behind-requires-clause-at : goal.search_behind-requires-clause-at

@@ -11,7 +11,7 @@ returns-in-Ok g c =
     (omega (arith, c.run_claims.auto.out, c.deref_mut.ensures.len)) (omega (arith, c.in_ok-answers.ensures, c.slots-slots.ensures.count))
     (rw c.new-jobs.ensures at c.run_claims.ensures.out) in
     let all = ArePartScrambles-all c.args.self.now.settings part _ c.in-Ok.all.items are c.in-Ok.ensures in
-    rw c.new-in-Ok.ensures (record { same_round = refl; same_index = refl; scrambles = all })
+    rw c.new-in-Ok.ensures (record { same_round = c.copied.ensures; same_index = refl; scrambles = all })
 
 pub returns-in-Err : goal.returns-in-Err
 returns-in-Err g c =

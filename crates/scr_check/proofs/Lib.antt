@@ -1,0 +1,8 @@
+pub mod CutLemmas
+pub mod PartLemmas
+pub mod ReadingLemmas
+pub mod FaultLemmas
+pub mod CheckLemmas
+pub mod HeldLemmas
+pub mod ListLemmas
+pub mod LawLemmas

@@ -1,0 +1,11 @@
+use Rattle.scr_check.proofs.LawLemmas.{agreed-feed, agreed-left-out, agreed-more}
+use Rattle.scr_check.proofs.laws.sheets_with_one_end.Goals as goal
+
+pub returns-clause-feed : goal.returns-clause-feed
+returns-clause-feed c = agreed-feed
+
+pub returns-clause-left_out : goal.returns-clause-left_out
+returns-clause-left_out c = agreed-left-out
+
+pub returns-clause-more : goal.returns-clause-more
+returns-clause-more c = agreed-more

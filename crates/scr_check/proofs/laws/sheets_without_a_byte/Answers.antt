@@ -1,0 +1,8 @@
+use Rattle.scr_check.proofs.LawLemmas.{nothing-agrees, nothing-differs}
+use Rattle.scr_check.proofs.laws.sheets_without_a_byte.Goals as goal
+
+pub returns-clause-agrees : goal.returns-clause-agrees
+returns-clause-agrees c = nothing-agrees
+
+pub returns-clause-differs : goal.returns-clause-differs
+returns-clause-differs c = nothing-differs

@@ -1,0 +1,7 @@
+pub mod Held
+pub mod Lines
+pub mod Parts
+pub mod Reading
+pub mod Agreement
+pub mod Taken
+pub mod Shapes

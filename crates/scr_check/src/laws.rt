@@ -1,0 +1,77 @@
+//! What the definitions mean: calls that do nothing, whose contracts are laws about the definitions alone.
+
+ghost use Rattle.std.specs.Prelude.{◌≡◌, ◌≤◌, ◌+◌, ℕ, true, List, [], ◌∷◌, ◌++◌, Ok, Err, Result};
+ghost use Rattle.scr_outside.specs.Bytes.{put_back};
+ghost use Rattle.scr_outside.specs.Change.{intake_of, Gives, TellsEnd};
+ghost use Rattle.scr_check.specs.declared.fault.CheckFault.{CheckFault};
+ghost use Rattle.scr_check.specs.declared.fault.CheckFault.TheVariants.{Differs};
+ghost use Rattle.scr_check.specs.Agreement.{ExpectedLines, ComesTo};
+ghost use Rattle.scr_check.specs.Lines.{CutLine, cut_lines, joined_lines};
+ghost use Rattle.scr_check.specs.Parts.{list_part, sheet_part, separator};
+ghost use Rattle.scr_check.specs.Reading.{Reading, fresh, Takes, StopsShort};
+ghost use Rattle.scr_check.specs.Shapes.{AreCut, IsListText, NoneSeparates};
+
+use scr_outside::Source;
+
+/// A text is joined from its lines. They are the only ones that it can be joined from where none has a line
+/// feed in it, and none lacks one behind it but a last one that has bytes.
+pub fn lines_of_a_text()
+    ensures joined { (text : List ℕ) → joined_lines (cut_lines text) ≡ text }
+    ensures shape { (text : List ℕ) → AreCut (cut_lines text) }
+    ensures only { (lines : List CutLine) → AreCut lines → cut_lines (joined_lines lines) ≡ lines }
+{}
+
+/// A list of whole lines, none of which separates, is read back before a separator, and so is any sheet behind
+/// it. An input without a separator is a list, and its sheet is empty.
+pub fn parts_are_read_back()
+    ensures list { (list sheet : List ℕ) → IsListText list
+        → list_part (list ++ (separator ++ 10 ∷ sheet)) ≡ list }
+    ensures sheet { (list sheet : List ℕ) → IsListText list
+        → sheet_part (list ++ (separator ++ 10 ∷ sheet)) ≡ sheet }
+    ensures list_at_end { (list : List ℕ) → IsListText list → list_part (list ++ separator) ≡ list }
+    ensures no_sheet { (list : List ℕ) → IsListText list → sheet_part (list ++ separator) ≡ [] }
+    ensures alone { (input : List ℕ) → NoneSeparates (cut_lines input) → list_part input ≡ input }
+    ensures none_behind { (input : List ℕ) → NoneSeparates (cut_lines input) → sheet_part input ≡ [] }
+{}
+
+/// A check comes to exactly one answer.
+pub fn one_answer()
+    ensures one { (expected : ExpectedLines) (lines : List CutLine) (one other : Result (Unit {0}) CheckFault)
+        → ComesTo expected lines one → ComesTo expected lines other → one ≡ other }
+    ensures some { (expected : ExpectedLines) (lines : List CutLine)
+        → (answer : Result (Unit {0}) CheckFault) × ComesTo expected lines answer }
+{}
+
+/// A sheet that agrees ends with a line feed, unless no lines are expected. Without this last byte its last
+/// line differs; with more bytes behind it, the line after the last one does.
+pub fn sheets_with_one_end()
+    ensures feed { (expected : ExpectedLines) (sheet : List ℕ) → ComesTo expected (cut_lines sheet) (Ok tt)
+        → 1 ≤ expected.count → (body : List ℕ) × (sheet ≡ body ++ 10 ∷ []) }
+    ensures left_out { (expected : ExpectedLines) (body : List ℕ)
+        → ComesTo expected (cut_lines (body ++ 10 ∷ [])) (Ok tt)
+        → ComesTo expected (cut_lines body) (Err (Differs expected.count)) }
+    ensures more { (expected : ExpectedLines) (sheet : List ℕ) (byte : ℕ) (rest : List ℕ)
+        → ComesTo expected (cut_lines sheet) (Ok tt)
+        → ComesTo expected (cut_lines (sheet ++ byte ∷ rest)) (Err (Differs (expected.count + 1))) }
+{}
+
+/// Without a byte nothing differs where no lines are expected, and else the first line does.
+pub fn sheets_without_a_byte()
+    ensures agrees { (expected : ExpectedLines) → expected.count ≡ 0 → ComesTo expected (cut_lines []) (Ok tt) }
+    ensures differs { (expected : ExpectedLines) → 1 ≤ expected.count
+        → ComesTo expected (cut_lines []) (Err (Differs 1)) }
+{}
+
+/// What was taken from a new reader, and what it has read ahead, its source gave; nothing is ahead where the
+/// end was met, which the source told once, and its count of faults rose where it failed.
+pub fn what_the_source_gave<S: Source>(source: &S)
+    ensures gives { (after : Reading S) (bytes : List ℕ)
+        → Takes S.left S.faults S.ends (fresh source.now) after bytes
+        → Gives (intake_of S.left S.faults S.ends source.now after.source) (bytes ++ after.ahead) }
+    ensures end { (after : Reading S) (bytes : List ℕ)
+        → Takes S.left S.faults S.ends (fresh source.now) after bytes → after.ended ≡ true
+        → TellsEnd (intake_of S.left S.faults S.ends source.now after.source) × (after.ahead ≡ []) }
+    ensures gave { (after : Reading S) (bytes : List ℕ)
+        → StopsShort S.left S.faults S.ends (fresh source.now) after bytes
+        → S.left source.now ≡ put_back (bytes ++ after.ahead) (S.left after.source) }
+{}

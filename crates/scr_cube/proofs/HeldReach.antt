@@ -1,0 +1,98 @@
+-- Which held cubes turns reach, and how many they need: as the cube alone.
+use Rattle.std.proofs.Common.{◌≡◌, ℕ, List, ◌++◌, Some, refl, sym, ap, ◌∙◌, subst, arith, lit<}
+use Rattle.std.specs.Prelude.{◌↔◌, Contains}
+use Rattle.scr_combinatorics.specs.Back.{back, IsTakenBack}
+use Rattle.scr_combinatorics.specs.Lists.{numbers_from}
+use Rattle.scr_combinatorics.specs.Play.{play}
+use Rattle.scr_combinatorics.specs.Reach.{IsReached, Needs}
+use Rattle.scr_combinatorics.specs.Tidy.{IsKeptByTidy}
+use Rattle.scr_combinatorics.proofs.BackLaws.{IsTakenBack-lawful}
+use Rattle.scr_combinatorics.proofs.PlayLaws.{play-append, play-keeps, IsReached-play}
+use Rattle.scr_combinatorics.proofs.TidyPlay.{IsKeptByTidy-lawful}
+use Rattle.scr_orbit.proofs.Minima.{count_once}
+use Rattle.scr_notation.specs.declared.turn.Turn.{Turn}
+use Rattle.scr_notation.specs.Turning.{opposite, turn_merging}
+use Rattle.scr_turning.specs.PowerPuzzles.{after_letter, power_puzzle}
+use Rattle.scr_cube.specs.Cube333.{IsCube, solved_cube, cube_powers}
+use Rattle.scr_cube.specs.Held.{HeldState, IsHeld, IsSolvedHeld, solved_held, held_cube_after, faces_turned, hold_word, hold_centres, hold_of, holds, held_puzzle}
+use Rattle.scr_cube.proofs.Laws333.{IsCube-solved}
+use Rattle.scr_cube.proofs.Holds.{Contains-hold, hold_centres-are, hold_centres-of, hold_of-lt, IsHoldWord-each, centres_played}
+use Rattle.scr_cube.proofs.HeldLaws.{IsLawful-held, same_held, played-faces, played-centres, played-some, length-faces_turned, at_places}
+
+pub held_taken_back : IsTakenBack held_cube_after opposite IsHeld
+held_taken_back = IsTakenBack-lawful held_cube_after opposite turn_merging IsHeld IsLawful-held
+
+pub held_kept_by_tidy : IsKeptByTidy held_cube_after turn_merging IsHeld
+held_kept_by_tidy = IsKeptByTidy-lawful held_cube_after opposite turn_merging IsHeld IsLawful-held
+
+-- ---- from the hold of the solved cube
+
+pub Contains-solved : Contains holds (numbers_from 0 6)
+Contains-solved = subst (Contains holds) (hold_centres-are 0 (lit< tt)) (Contains-hold 0 (lit< tt))
+
+pub IsSolvedHeld-solved : IsSolvedHeld solved_held
+unfolding solved_held
+IsSolvedHeld-solved = record { cube = refl; centres = Contains-solved }
+
+-- The state before a hold's word, which is held as the solved cube is: the word taken back leads there, it turns back the
+-- faces of the cube that the word turns, and the word leads on to the state.
+pub record IsBefore (s b : HeldState) : Type 0 where
+  pub returns : play held_cube_after s (back opposite (hold_word (hold_of s.centres))) ≡ Some b
+  pub faces : play (after_letter cube_powers) s.cube (back opposite (faces_turned (numbers_from 0 6) (hold_word (hold_of s.centres)))) ≡ Some b.cube
+  pub centres : b.centres ≡ numbers_from 0 6
+  pub again : play held_cube_after b (hold_word (hold_of s.centres)) ≡ Some s
+
+pub IsBefore-played : (s b : HeldState) → IsHeld s → play held_cube_after s (back opposite (hold_word (hold_of s.centres))) ≡ Some b → IsBefore s b
+IsBefore-played s b valid e =
+    let hold : ℕ = hold_of s.centres in
+    let word = IsHoldWord-each hold (hold_of-lt s.centres valid.centres) in
+    let own : hold_centres hold ≡ s.centres = hold_centres-of s.centres valid.centres in
+    record {
+      returns = e;
+      faces = ap (play (after_letter cube_powers) s.cube) (sym word.faces ∙ ap (λ c. faces_turned c (back opposite (hold_word hold))) own)
+          ∙ played-faces s b (back opposite (hold_word hold)) e;
+      centres = sym (played-centres s b (back opposite (hold_word hold)) e) ∙ ap (λ c. centres_played c (back opposite (hold_word hold))) (sym own) ∙ word.centres;
+      again = ap (play held_cube_after b) (sym word.again) ∙ held_taken_back s b (back opposite (hold_word hold)) valid e;
+    }
+
+pub before-some : (s : HeldState) → IsHeld s → (b : HeldState) × (play held_cube_after s (back opposite (hold_word (hold_of s.centres))) ≡ Some b)
+before-some s valid =
+    played-some s (back opposite (hold_word (hold_of s.centres))) (IsHoldWord-each (hold_of s.centres) (hold_of-lt s.centres valid.centres)).back_turns valid
+
+-- ---- reached
+
+pub IsReached-cube : (s : HeldState) → IsReached held_puzzle s → IsHeld s × IsReached (power_puzzle cube_powers) s.cube
+IsReached-cube s h =
+    let start = h.1 in
+    let begins : IsHeld start = record { cube = subst IsCube (sym h.2.cube) IsCube-solved; centres = h.2.centres } in
+    (play-keeps held_cube_after IsHeld IsLawful-held.keeps start s h.0 begins h.3, (faces_turned start.centres h.0, start.cube, h.2.cube, played-faces start s h.0 h.3))
+
+pub from_solved : (s : HeldState) → IsHeld s → IsReached (power_puzzle cube_powers) s.cube → (w : List Turn) × (play held_cube_after solved_held w ≡ Some s)
+unfolding solved_held
+from_solved s valid reached =
+    let b = before-some s valid in
+    let before = IsBefore-played s b.0 valid b.1 in
+    let there = IsReached-play (power_puzzle cube_powers) s.cube b.0.cube _ reached before.faces in
+    let played : play (after_letter cube_powers) solved_cube there.0 ≡ Some b.0.cube = ap (λ c. play (after_letter cube_powers) c there.0) (sym there.2) ∙ there.3 in
+    let words = at_places solved_cube b.0.cube (numbers_from 0 6) there.0 Contains-solved played in
+    let first : play held_cube_after solved_held words.word ≡ Some b.0 = words.played ∙ ap Some (same_held (record { cube = b.0.cube; centres = numbers_from 0 6 }) b.0 refl (sym before.centres)) in
+    (words.word ++ hold_word (hold_of s.centres), play-append held_cube_after solved_held b.0 words.word (hold_word (hold_of s.centres)) first ∙ before.again)
+
+pub IsReached-held : (s : HeldState) → IsReached held_puzzle s ↔ (IsHeld s × IsReached (power_puzzle cube_powers) s.cube)
+IsReached-held s = (
+  IsReached-cube s,
+  λ h. let w = from_solved s h.0 h.1 in (w.0, solved_held, IsSolvedHeld-solved, w.1),
+)
+
+-- ---- needed
+
+pub Needs-held : (s : HeldState) (least : ℕ) → Contains holds s.centres → Needs held_puzzle s least ↔ Needs (power_puzzle cube_powers) s.cube least
+Needs-held s least there = (
+  λ needs w end few played solved.
+      let words = at_places s.cube end s.centres w there played in
+      needs words.word (record { cube = end; centres = s.centres }) (omega (arith, few, count_once w, count_once words.word, words.size)) words.played
+      (record { cube = solved; centres = there }),
+  λ needs w end few played solved.
+      needs (faces_turned s.centres w) end.cube
+      (omega (arith, few, count_once w, count_once (faces_turned s.centres w), length-faces_turned s.centres w)) (played-faces s end w played) solved.cube,
+)

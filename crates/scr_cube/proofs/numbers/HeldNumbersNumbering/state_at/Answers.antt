@@ -1,0 +1,14 @@
+use Rattle.std.proofs.Common.{get_or, ap, ◌∙◌}
+use Rattle.scr_combinatorics.specs.Digits.{mixed_digits}
+use Rattle.scr_cube.specs.Cube333.{cube_numbered}
+use Rattle.scr_cube.specs.Held.{hold_centres, held_of_digits, held_numbered}
+use Rattle.scr_cube.proofs.HeldLaws.{same_held}
+use Rattle.scr_cube.proofs.numbers.HeldNumbersNumbering.state_at.Goals as goal
+
+pub returns : goal.returns
+unfolding held_of_digits
+returns c =
+    let digits = c.unrank.ensures.list ∙ ap (λ bases. mixed_digits bases c.args.number) c.held_radix.ensures in
+    c.in_hold.ensures
+    ∙ same_held _ (held_numbered.state_at c.args.number) (c.state_at.ensures ∙ ap (λ ds. cube_numbered.state_at (get_or ds 1 0)) digits)
+    (ap (λ ds. hold_centres (get_or ds 0 0)) digits)

@@ -1,0 +1,5 @@
+pub mod StickerLaws
+pub mod NetLaws
+pub mod PieceLaws
+pub mod PlayedNets
+pub mod TextLaws

@@ -1,0 +1,208 @@
+-- The net of a played cube is the played net.
+use Rattle.std.proofs.Common.{◌≡◌, ℕ, zero, suc, ◌-◌, ◌<◌, Bool, true, List, [], ◌∷◌, Option, Some, None, cond, refl, sym, ap, ◌∙◌, lit<, lt-ltb, eqb-true, arith, subst}
+use Rattle.std.specs.Prelude.{◌==◌, IsSome, slice_get, unwrap_or}
+use Rattle.std.specs.Option.{option_map}
+use Rattle.std.proofs.lemmas.Option.{same_Some}
+use Rattle.scr_combinatorics.specs.Play.{play}
+use Rattle.scr_combinatorics.proofs.PlayLaws.{and_then-some, play-empty, play-first, play-parts}
+use Rattle.scr_orbit.specs.Actions.{Action, IsAction, after_by, power, power_of, power_table}
+use Rattle.scr_orbit.specs.Orbits.{Orbit, Rearrangement, IsZeroSumRearrangement, solved_orbit, turned_orbit}
+use Rattle.scr_orbit.proofs.ActionLaws.{map-some, IsTurn-power}
+use Rattle.scr_orbit.proofs.OrbitLaws.{IsZeroSumOrbit-solved}
+use Rattle.scr_orbit.proofs.Orders.{each_at}
+use Rattle.scr_orbit.proofs.TableTests.{IsZeroSumRearrangement-from_test}
+use Rattle.scr_notation.specs.declared.turn.Turn.{Turn}
+use Rattle.scr_turning.specs.Faces.{quarters_of}
+use Rattle.scr_turning.specs.PowerPuzzles.{after_letter}
+use Rattle.scr_turning.proofs.FaceLaws.{IsQuartersOf-read}
+use Rattle.scr_cube.specs.Cube333.{CubeState, CubeTurn, IsCube, IsCubeTurn, cube_quarters, cube_action, cube_powers, solved_cube}
+use Rattle.scr_cube.specs.Cube222.{IsCorners222, quarters_222, action_222, powers_222, solved_222}
+use Rattle.scr_cube.specs.Stickers.{corner_faces, edge_faces}
+use Rattle.scr_cube.proofs.Laws333.{lawful_cube}
+use Rattle.scr_cube.proofs.Laws222.{lawful_222}
+use Rattle.scr_net.specs.declared.geometry.Sticker.{Sticker}
+use Rattle.scr_net.specs.Geometry.{sticker_at, brought_from, IsSticker}
+use Rattle.scr_net.specs.Nets.{Letters, letter_at, net_of, net_after, quarter_net, solved_net, turned_net}
+use Rattle.scr_net.specs.Pieces.{corner_faces_222, corners_letter, cube_letter, letter_of_pieces, net_of_corners, net_of_cube, place_at}
+use Rattle.scr_net.proofs.StickerLaws.{IsSticker-at, IsSticker-brought}
+use Rattle.scr_net.proofs.NetLaws.{letter_at-net_of, net_of-same}
+use Rattle.scr_net.proofs.PieceLaws.{comes_from, each_sticker, each_sticker-at, letter_of_pieces-turned}
+
+-- ---- any puzzle of pieces that faces turn
+
+module _ {S R : Type 0} (a : Action S R) (IsValid : S → Type 0) (IsTurn : R → Type 0) (acts : IsAction a IsValid IsTurn) (generators : List R)
+    (turns : (face : ℕ) (q : R) → slice_get generators face ≡ Some q → IsTurn q) (side : ℕ) (large : 1 < side) (net : S → Letters)
+    (quarter : (face : ℕ) (q : R) → slice_get generators face ≡ Some q → (s : S) → IsValid s → quarter_net side face 1 (net s) ≡ net (a.turned s q)) where
+  net-power : (face : ℕ) (q : R) → slice_get generators face ≡ Some q → (amount : ℕ) (s : S) → IsValid s
+      → turned_net side face 1 amount (net s) ≡ net (a.turned s (power a q amount))
+  unfolding turned_net power
+  net-power face q there zero s own = sym (ap net (acts.turned_by_none s own))
+  net-power face q there (suc n) s own =
+      let turn = turns face q there in
+      ap (turned_net side face 1 n) (quarter face q there s own)
+      ∙ net-power face q there n (a.turned s q) (acts.valid s q own turn)
+      ∙ ap net (sym (acts.turned_by_both s q (power a q n) own turn (IsTurn-power a IsValid IsTurn acts q n turn)))
+
+  abbrev after : S → Turn → Option S
+  after = after_by a (power_table a generators quarters_of)
+
+  -- one letter, which also keeps the state valid
+  record IsFollowed (s r : S) (t : Turn) : Type 0 where
+    pub valid : IsValid r
+    pub shows : net_after side (net s) t ≡ Some (net r)
+
+  IsFollowed-after : (s r : S) (t : Turn) → IsValid s → after s t ≡ Some r → IsFollowed s r t
+  unfolding power_of
+  IsFollowed-after s r t own e =
+      let read = map-some (a.turned s) (power_table a generators quarters_of t) r e in
+      let letter = and_then-some (power_of a generators) (quarters_of t) read.0 read.1 in
+      let found = map-some (λ q. power a q letter.0.exponent) (slice_get generators letter.0.generator) read.0 letter.2 in
+      let is = IsQuartersOf-read t letter.0 letter.1 in
+      let made : a.turned s (power a found.0 letter.0.exponent) ≡ r = ap (a.turned s) found.2 ∙ read.2 in
+      let turn = turns letter.0.generator found.0 found.1 in
+      record {
+        valid = subst IsValid made (acts.valid s (power a found.0 letter.0.exponent) own (IsTurn-power a IsValid IsTurn acts found.0 letter.0.exponent turn));
+        shows = ap (net_after side (net s)) is.is
+            ∙ ap (λ b. cond b (Some (turned_net side letter.0.generator 1 letter.0.exponent (net s))) None) (lt-ltb 1 side large)
+            ∙ ap Some (net-power letter.0.generator found.0 found.1 letter.0.exponent s own ∙ ap net made);
+      }
+
+  net-played : (w : List Turn) (s e : S) → IsValid s → play after s w ≡ Some e → play (net_after side) (net s) w ≡ Some (net e)
+  net-played [] s e own h =
+      play-empty (net_after side) (net s) ∙ ap (λ x. Some (net x)) (same_Some s e (sym (play-empty after s) ∙ h))
+  net-played (t ∷ w) s e own h =
+      let parts = play-parts after s e t w h in
+      let step = IsFollowed-after s parts.0 t own parts.1 in
+      play-first (net_after side) (net s) (net parts.0) t w step.shows ∙ net-played w parts.0 e step.valid parts.2
+
+  -- the net of what a word makes is what the word makes of the net
+  pub net-of_played : (w : List Turn) (s : S) → IsValid s → IsSome (play after s w) → play (net_after side) (net s) w ≡ option_map net (play after s w)
+  net-of_played w s own some = by (play after s w) refl some
+    where
+      by : (o : Option S) → play after s w ≡ o → IsSome o → play (net_after side) (net s) w ≡ option_map net (play after s w)
+      by None e h = absurd (cc)
+      by (Some r) e h = net-played w s r own e ∙ sym (ap (option_map net) e)
+
+-- a net by a rule turns as the rule does
+net-quarter : (side face : ℕ) (letter other : Sticker → ℕ) → 0 < side
+    → ((f row column : ℕ) → f < 6 → row < side → column < side
+    → letter (brought_from (side - 1) face 1 (sticker_at (side - 1) f row column)) ≡ other (sticker_at (side - 1) f row column))
+    → quarter_net side face 1 (net_of side letter) ≡ net_of side other
+unfolding quarter_net
+net-quarter side face letter other some same =
+    net_of-same side (λ s. letter_at side (net_of side letter) (brought_from (side - 1) face 1 s)) other (λ f row column lf lr lc.
+    let s : Sticker = sticker_at (side - 1) f row column in
+    let is : IsSticker (side - 1) s = IsSticker-at (side - 1) f row column lf (omega arith) (omega arith) in
+    letter_at-net_of side letter (brought_from (side - 1) face 1 s) some (IsSticker-brought (side - 1) face 1 s is)
+    ∙ same f row column lf lr lc)
+
+-- ---- the 3x3x3
+
+cube_turns : (face : ℕ) (q : CubeTurn) → slice_get cube_quarters face ≡ Some q → IsCubeTurn q
+cube_turns = each_at (λ face q. IsCubeTurn q) cube_quarters (
+  record { corners = IsZeroSumRearrangement-from_test 8 3 _ refl; edges = IsZeroSumRearrangement-from_test 12 2 _ refl; same_parity = refl },
+  (
+    record { corners = IsZeroSumRearrangement-from_test 8 3 _ refl; edges = IsZeroSumRearrangement-from_test 12 2 _ refl; same_parity = refl },
+    (
+      record { corners = IsZeroSumRearrangement-from_test 8 3 _ refl; edges = IsZeroSumRearrangement-from_test 12 2 _ refl; same_parity = refl },
+      (
+        record { corners = IsZeroSumRearrangement-from_test 8 3 _ refl; edges = IsZeroSumRearrangement-from_test 12 2 _ refl; same_parity = refl },
+        (
+          record { corners = IsZeroSumRearrangement-from_test 8 3 _ refl; edges = IsZeroSumRearrangement-from_test 12 2 _ refl; same_parity = refl },
+          (record { corners = IsZeroSumRearrangement-from_test 8 3 _ refl; edges = IsZeroSumRearrangement-from_test 12 2 _ refl; same_parity = refl }, tt),
+        ),
+      ),
+    ),
+  ),
+)
+
+-- a quarter turn brings to a sticker's place the letter that was where the sticker comes from
+abbrev edges_come_from : ℕ → CubeTurn → Sticker → Bool
+edges_come_from face q s =
+    let t = brought_from 2 face 1 s in
+    comes_from 12 2 edge_faces q.edges s.face t.face (t.face == s.face) (place_at 2 edge_faces s.point) (place_at 2 edge_faces t.point)
+
+abbrev cube_comes_from : ℕ → CubeTurn → Sticker → Bool
+cube_comes_from face q s =
+    let t = brought_from 2 face 1 s in
+    comes_from 8 3 corner_faces q.corners s.face t.face (edges_come_from face q s) (place_at 2 corner_faces s.point) (place_at 2 corner_faces t.point)
+
+cube_tests : (face : ℕ) (q : CubeTurn) → slice_get cube_quarters face ≡ Some q → each_sticker 3 (cube_comes_from face q) ≡ true
+cube_tests = each_at (λ face q. each_sticker 3 (cube_comes_from face q) ≡ true) cube_quarters (refl, (refl, (refl, (refl, (refl, (refl, tt))))))
+
+cube_letter-turned : (face : ℕ) (q : CubeTurn) (c : CubeState) (s : Sticker) → IsCube c → IsCubeTurn q → cube_comes_from face q s ≡ true
+    → cube_letter c (brought_from 2 face 1 s) ≡ cube_letter (cube_action.turned c q) s
+unfolding cube_letter
+cube_letter-turned face q c s own turn h =
+    let t : Sticker = brought_from 2 face 1 s in
+    let edge : ℕ = unwrap_or (letter_of_pieces 2 edge_faces (turned_orbit 2 c.edges q.edges) s) s.face in
+    let from : ℕ = unwrap_or (letter_of_pieces 2 edge_faces c.edges t) t.face in
+    sym (letter_of_pieces-turned 8 3 corner_faces c.corners q.corners (lit< tt) own.corners turn.corners 2 edge from s t (edges_come_from face q s)
+    (λ e. letter_of_pieces-turned 12 2 edge_faces c.edges q.edges (lit< tt) own.edges turn.edges 2 s.face t.face s t (t.face == s.face)
+    (λ same. sym (eqb-true t.face s.face same)) e) h)
+
+cube_quarter : (face : ℕ) (q : CubeTurn) → slice_get cube_quarters face ≡ Some q → (c : CubeState) → IsCube c
+    → quarter_net 3 face 1 (net_of_cube c) ≡ net_of_cube (cube_action.turned c q)
+cube_quarter face q there c own =
+    net-quarter 3 face (cube_letter c) (cube_letter (cube_action.turned c q)) (lit< tt) (λ f row column lf lr lc.
+    cube_letter-turned face q c (sticker_at 2 f row column) own (cube_turns face q there)
+    (each_sticker-at 3 (cube_comes_from face q) (cube_tests face q there) f row column lf lr lc))
+
+IsCube-solved : IsCube solved_cube
+unfolding solved_cube solved_orbit
+IsCube-solved = record { corners = IsZeroSumOrbit-solved 8 3 (lit< tt); edges = IsZeroSumOrbit-solved 12 2 (lit< tt); same_parity = refl }
+
+net_of_cube-solved : net_of_cube solved_cube ≡ solved_net 3
+unfolding net_of cube_letter letter_of_pieces solved_cube solved_orbit
+net_of_cube-solved = refl
+
+pub cube_nets : (w : List Turn) → IsSome (play (after_letter cube_powers) solved_cube w)
+    → play (net_after 3) (solved_net 3) w ≡ option_map net_of_cube (play (after_letter cube_powers) solved_cube w)
+cube_nets w some =
+    ap (λ net. play (net_after 3) net w) (sym net_of_cube-solved)
+    ∙ net-of_played cube_action IsCube IsCubeTurn lawful_cube.lawful.acts cube_quarters cube_turns 3 (lit< tt) net_of_cube cube_quarter w solved_cube IsCube-solved some
+
+-- ---- the 2x2x2
+
+corners_turns : (face : ℕ) (q : Rearrangement) → slice_get quarters_222 face ≡ Some q → IsZeroSumRearrangement 7 3 q
+corners_turns = each_at (λ face q. IsZeroSumRearrangement 7 3 q) quarters_222 (
+  IsZeroSumRearrangement-from_test 7 3 _ refl,
+  (IsZeroSumRearrangement-from_test 7 3 _ refl, (IsZeroSumRearrangement-from_test 7 3 _ refl, tt)),
+)
+
+abbrev corners_come_from : ℕ → Rearrangement → Sticker → Bool
+corners_come_from face q s =
+    let t = brought_from 1 face 1 s in
+    comes_from 7 3 corner_faces_222 q s.face t.face (t.face == s.face) (place_at 1 corner_faces_222 s.point) (place_at 1 corner_faces_222 t.point)
+
+corners_tests : (face : ℕ) (q : Rearrangement) → slice_get quarters_222 face ≡ Some q → each_sticker 2 (corners_come_from face q) ≡ true
+corners_tests = each_at (λ face q. each_sticker 2 (corners_come_from face q) ≡ true) quarters_222 (refl, (refl, (refl, tt)))
+
+corners_letter-turned : (face : ℕ) (q : Rearrangement) (o : Orbit) (s : Sticker) → IsCorners222 o → IsZeroSumRearrangement 7 3 q → corners_come_from face q s ≡ true
+    → corners_letter o (brought_from 1 face 1 s) ≡ corners_letter (action_222.turned o q) s
+unfolding corners_letter
+corners_letter-turned face q o s own turn h =
+    let t : Sticker = brought_from 1 face 1 s in
+    sym (letter_of_pieces-turned 7 3 corner_faces_222 o q (lit< tt) own turn 1 s.face t.face s t (t.face == s.face)
+    (λ same. sym (eqb-true t.face s.face same)) h)
+
+corners_quarter : (face : ℕ) (q : Rearrangement) → slice_get quarters_222 face ≡ Some q → (o : Orbit) → IsCorners222 o
+    → quarter_net 2 face 1 (net_of_corners o) ≡ net_of_corners (action_222.turned o q)
+corners_quarter face q there o own =
+    net-quarter 2 face (corners_letter o) (corners_letter (action_222.turned o q)) (lit< tt) (λ f row column lf lr lc.
+    corners_letter-turned face q o (sticker_at 1 f row column) own (corners_turns face q there)
+    (each_sticker-at 2 (corners_come_from face q) (corners_tests face q there) f row column lf lr lc))
+
+IsCorners222-solved : IsCorners222 solved_222
+unfolding solved_222
+IsCorners222-solved = IsZeroSumOrbit-solved 7 3 (lit< tt)
+
+net_of_corners-solved : net_of_corners solved_222 ≡ solved_net 2
+unfolding net_of corners_letter letter_of_pieces solved_222 solved_orbit
+net_of_corners-solved = refl
+
+pub corners_nets : (w : List Turn) → IsSome (play (after_letter powers_222) solved_222 w)
+    → play (net_after 2) (solved_net 2) w ≡ option_map net_of_corners (play (after_letter powers_222) solved_222 w)
+corners_nets w some =
+    ap (λ net. play (net_after 2) net w) (sym net_of_corners-solved)
+    ∙ net-of_played action_222 IsCorners222 (IsZeroSumRearrangement 7 3) lawful_222.lawful.acts quarters_222 corners_turns 2 (lit< tt) net_of_corners corners_quarter w solved_222 IsCorners222-solved some

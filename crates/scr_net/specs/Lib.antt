@@ -1,0 +1,4 @@
+pub mod Geometry
+pub mod Nets
+pub mod Pieces
+pub mod NetText

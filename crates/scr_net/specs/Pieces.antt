@@ -1,0 +1,47 @@
+-- The nets of a 3x3x3 and of a 2x2x2, by their pieces. A piece has the letters of the faces that meet at its own place, in the
+-- order of that place's name: URF has U, R and F.
+use Rattle.std.specs.Prelude.{ℕ, ◌==◌, List, [], remove, slice_index, Option, option_and_then, position, unwrap_or}
+use Rattle.std.specs.List.{slice_index_or, list_all}
+use Rattle.std.specs.Option.{option_map}
+use Rattle.scr_orbit.specs.Orbits.{Orbit}
+use Rattle.scr_orbit.specs.Stickers.{standing}
+use Rattle.scr_cube.specs.Cube333.{CubeState}
+use Rattle.scr_cube.specs.Stickers.{corner_faces, edge_faces}
+use Rattle.scr_net.specs.declared.geometry.Point.{Point}
+use Rattle.scr_net.specs.declared.geometry.Sticker.{Sticker}
+use Rattle.scr_net.specs.Geometry.{distance}
+use Rattle.scr_net.specs.Nets.{Letters, net_of}
+
+-- Of places that are named by their faces: the one whose faces all meet at a point.
+abbrev pub place_at : ℕ → List (List ℕ) → Point → Option ℕ
+place_at last places p = position (list_all (λ face. distance last face p == 0)) places
+
+-- The letter that the piece at a place has on one of the place's faces. Letter k stands at the place's face k plus the piece's
+-- digit, the twist of a corner or the flip of an edge.
+abbrev pub piece_letter : List (List ℕ) → Orbit → ℕ → ℕ → Option ℕ
+piece_letter places o face place =
+    option_map (slice_index (slice_index_or places (slice_index o.pieces place) []))
+    (position (λ f. f == face) (standing (slice_index_or places place []) (slice_index o.digits place)))
+
+-- The letter at a sticker, where one of these pieces is.
+unfoldable pub letter_of_pieces : ℕ → List (List ℕ) → Orbit → Sticker → Option ℕ
+letter_of_pieces last places o s = option_and_then (piece_letter places o s.face) (place_at last places s.point)
+
+-- Corners and edges have their letters, and centres are as on a solved cube.
+unfoldable pub cube_letter : CubeState → Sticker → ℕ
+cube_letter c s =
+    unwrap_or (letter_of_pieces 2 corner_faces c.corners s) (unwrap_or (letter_of_pieces 2 edge_faces c.edges s) s.face)
+
+abbrev pub net_of_cube : CubeState → Letters
+net_of_cube c = net_of 3 (cube_letter c)
+
+-- the corner places of a 2x2x2, which counts no DBL
+abbrev pub corner_faces_222 : List (List ℕ)
+corner_faces_222 = remove corner_faces 6
+
+-- The corner DBL is as on a solved cube.
+unfoldable pub corners_letter : Orbit → Sticker → ℕ
+corners_letter o s = unwrap_or (letter_of_pieces 1 corner_faces_222 o s) s.face
+
+abbrev pub net_of_corners : Orbit → Letters
+net_of_corners o = net_of 2 (corners_letter o)

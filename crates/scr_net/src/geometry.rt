@@ -1,0 +1,155 @@
+//! The points and the stickers of a cube, and quarter turns of both.
+ghost use Rattle.std.specs.Prelude.{◌≡◌, ◌<◌, ◌≤◌};
+ghost use Rattle.scr_net.specs.Geometry.{IsWithin, IsSticker, point_at, sticker_at, row_of, column_of, distance, turned_point, turned_face, brought_from};
+
+/// A point of a cube: x counts from left to right, y from bottom to top and z from back to front, each from 0.
+#[derive(Clone, Copy)]
+pub(crate) struct Point {
+    pub(crate) x: usize,
+    pub(crate) y: usize,
+    pub(crate) z: usize,
+}
+
+/// A sticker, at a point and on a face. The faces U R F D L B are 0 to 5.
+#[derive(Clone, Copy)]
+pub(crate) struct Sticker {
+    pub(crate) point: Point,
+    pub(crate) face: u8,
+}
+
+/// What is said of each of the faces U R F D L B.
+macro_rules! by_face {
+    ($face:expr; $u:expr, $r:expr, $f:expr, $d:expr, $l:expr, $b:expr $(,)?) => {
+        match $face {
+            0 => $u,
+            1 => $r,
+            2 => $f,
+            3 => $d,
+            4 => $l,
+            _ => $b,
+        }
+    };
+}
+
+pub(crate) use by_face;
+
+/// The point with these coordinates.
+#[inline(always)]
+fn make_point(x: usize, y: usize, z: usize) -> Point
+    ensures { result ≡ record { x = x; y = y; z = z } }
+{
+    Point { x, y, z }
+}
+
+/// The point at a row and a column of a face, where `last` is the greatest coordinate. L, F, R and B are seen with U above
+/// them, U with F below it, D with F above it.
+#[inline(always)]
+fn point_at(last: usize, face: u8, row: usize, column: usize) -> Point
+    requires row { row ≤ last }
+    requires column { column ≤ last }
+    ensures { result ≡ point_at last face row column }
+{
+    by_face! { face;
+        make_point(column, last, row),
+        make_point(last, last - row, last - column),
+        make_point(column, last - row, last),
+        make_point(column, 0, last - row),
+        make_point(0, last - row, column),
+        make_point(last - column, last - row, 0),
+    }
+}
+
+/// The sticker at a row and a column of a face.
+#[inline(always)]
+pub(crate) fn sticker_at(last: usize, face: u8, row: usize, column: usize) -> Sticker
+    requires row { row ≤ last }
+    requires column { column ≤ last }
+    ensures { result ≡ sticker_at last face row column }
+{
+    Sticker {
+        point: point_at(last, face, row, column),
+        face,
+    }
+}
+
+/// The row of a point on a face.
+#[inline(always)]
+pub(crate) fn row_of(last: usize, face: u8, point: Point) -> usize
+    requires { IsWithin last point }
+    ensures { result ≡ row_of last face point }
+{
+    by_face! { face; point.z, last - point.y, last - point.y, last - point.z, last - point.y, last - point.y }
+}
+
+/// The column of a point on a face.
+#[inline(always)]
+pub(crate) fn column_of(last: usize, face: u8, point: Point) -> usize
+    requires { IsWithin last point }
+    ensures { result ≡ column_of last face point }
+{
+    by_face! { face; point.x, last - point.z, point.x, point.x, point.z, last - point.x }
+}
+
+/// How many layers lie between a point and a face.
+#[inline(always)]
+pub(crate) fn distance(last: usize, face: u8, point: Point) -> usize
+    requires { IsWithin last point }
+    ensures { result ≡ distance last face point }
+{
+    by_face! { face; last - point.y, last - point.x, last - point.z, point.y, point.x, point.z }
+}
+
+/// Where a quarter turn of a face takes a point of the layers that it turns.
+#[inline(always)]
+fn turned_point(last: usize, face: u8, p: Point) -> Point
+    requires { IsWithin last p }
+    ensures { result ≡ turned_point last face p }
+{
+    by_face! { face;
+        make_point(last - p.z, p.y, p.x),
+        make_point(p.x, p.z, last - p.y),
+        make_point(p.y, last - p.x, p.z),
+        make_point(p.z, p.y, last - p.x),
+        make_point(p.x, last - p.z, p.y),
+        make_point(last - p.y, p.x, p.z),
+    }
+}
+
+/// Where a quarter turn of each face takes what is on each.
+static TURNED_FACES: [[u8; 6]; 6] = [
+    [0, 2, 4, 3, 5, 1],
+    [5, 1, 0, 2, 4, 3],
+    [1, 3, 2, 4, 0, 5],
+    [0, 5, 1, 3, 2, 4],
+    [2, 1, 3, 5, 4, 0],
+    [4, 0, 2, 1, 3, 5],
+];
+
+/// Where a quarter turn of a face takes what is on a face.
+#[inline(always)]
+fn turned_face(face: u8, from: u8) -> u8
+    requires face { face < 6 }
+    requires from { from < 6 }
+    ensures { result ≡ turned_face face from }
+{
+    TURNED_FACES[usize::from(face)][usize::from(from)]
+}
+
+/// Where the sticker was before that a quarter turn of `depth` layers at a face takes here: the other way about a face is
+/// clockwise about the opposite one.
+#[inline(always)]
+pub(crate) fn brought_from(last: usize, face: u8, depth: usize, sticker: Sticker) -> Sticker
+    requires face { face < 6 }
+    requires sticker { IsSticker last sticker }
+    ensures { result ≡ brought_from last face depth sticker }
+{
+    if distance(last, face, sticker.point) < depth {
+        let opposite = (face + 3) % 6;
+        Sticker {
+            point: turned_point(last, opposite, sticker.point),
+            face: turned_face(opposite, sticker.face),
+        }
+    } else {
+        sticker
+    }
+}

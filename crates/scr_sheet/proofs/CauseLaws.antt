@@ -1,0 +1,193 @@
+-- What the statuses of refused words, of refused lists and of faults tell.
+use Rattle.std.proofs.Common.{◌≡◌, ℕ, List, Ok, Err, inl, inr, refl, sym, subst}
+use Rattle.std.specs.Prelude.{◌≢◌, Result}
+use Rattle.scr_outside.specs.Change.{Change}
+use Rattle.scr_outside.specs.Faults.{Rose}
+use Rattle.scr_list.specs.declared.fault.ListFault.{ListFault}
+use Rattle.scr_list.specs.declared.fault.ListFault.TheVariants as list
+use Rattle.scr_list.specs.Reading.{ReadsNoList}
+use Rattle.scr_command.specs.declared.command.Command.{Command}
+use Rattle.scr_command.specs.declared.command.Command.TheVariants.{One, Sheet, Tables, Load, Net}
+use Rattle.scr_command.specs.declared.command.UsageFault.{UsageFault}
+use Rattle.scr_command.specs.Command.{command_of}
+use Rattle.scr_table.specs.declared.fault.BuildFault.{BuildFault}
+use Rattle.scr_table.specs.declared.fault.BuildFault.TheVariants as build
+use Rattle.scr_slots.specs.declared.settings.Settings.{Settings}
+use Rattle.scr_sheet.specs.declared.fault.Fault.{Fault}
+use Rattle.scr_sheet.specs.declared.fault.Fault.TheVariants as fault
+use Rattle.scr_sheet.specs.declared.status.Status.{Status}
+use Rattle.scr_sheet.specs.declared.status.Status.TheVariants as status
+use Rattle.scr_sheet.specs.Sheet.{Part}
+use Rattle.scr_sheet.specs.Outcome.{EndsMaking, EndsTelling, Ends, fault_of_build, IsRun, status_of, gaining}
+use Rattle.scr_sheet.proofs.RunLaws.{not_risen}
+
+-- ---- the end that a status has
+
+refused-usage : (ended : Result (Unit {0}) Fault) → status_of ended ≡ status.Usage → (usage : UsageFault) × (ended ≡ Err (fault.Usage usage))
+refused-usage (Ok u) is = cc
+refused-usage (Err (fault.Usage usage)) is = (usage, refl)
+refused-usage (Err (fault.List list.Read)) is = cc
+refused-usage (Err (fault.List (list.TooLong limit))) is = cc
+refused-usage (Err (fault.List (list.Line number cause))) is = cc
+refused-usage (Err (fault.DrawLimit number slot words)) is = cc
+refused-usage (Err fault.Write) is = cc
+refused-usage (Err fault.NoMemory) is = cc
+refused-usage (Err (fault.Gap table index)) is = cc
+
+refused-list : (ended : Result (Unit {0}) Fault) → status_of ended ≡ status.List
+    → (refusal : ListFault) × (ended ≡ Err (fault.List refusal)) × (refusal ≢ list.Read)
+refused-list (Ok u) is = cc
+refused-list (Err (fault.Usage usage)) is = cc
+refused-list (Err (fault.List list.Read)) is = cc
+refused-list (Err (fault.List (list.TooLong limit))) is = (list.TooLong limit, refl, λ same. cc)
+refused-list (Err (fault.List (list.Line number cause))) is = (list.Line number cause, refl, λ same. cc)
+refused-list (Err (fault.DrawLimit number slot words)) is = cc
+refused-list (Err fault.Write) is = cc
+refused-list (Err fault.NoMemory) is = cc
+refused-list (Err (fault.Gap table index)) is = cc
+
+unread : (ended : Result (Unit {0}) Fault) → status_of ended ≡ status.ReadFault → ended ≡ Err (fault.List list.Read)
+unread (Ok u) is = cc
+unread (Err (fault.Usage usage)) is = cc
+unread (Err (fault.List list.Read)) is = refl
+unread (Err (fault.List (list.TooLong limit))) is = cc
+unread (Err (fault.List (list.Line number cause))) is = cc
+unread (Err (fault.DrawLimit number slot words)) is = cc
+unread (Err fault.Write) is = cc
+unread (Err fault.NoMemory) is = cc
+unread (Err (fault.Gap table index)) is = cc
+
+unwritten : (ended : Result (Unit {0}) Fault) → status_of ended ≡ status.WriteFault → ended ≡ Err fault.Write
+unwritten (Ok u) is = cc
+unwritten (Err (fault.Usage usage)) is = cc
+unwritten (Err (fault.List list.Read)) is = cc
+unwritten (Err (fault.List (list.TooLong limit))) is = cc
+unwritten (Err (fault.List (list.Line number cause))) is = cc
+unwritten (Err (fault.DrawLimit number slot words)) is = cc
+unwritten (Err fault.Write) is = refl
+unwritten (Err fault.NoMemory) is = cc
+unwritten (Err (fault.Gap table index)) is = cc
+
+-- ---- tables and parts end with no fault of words or lists, and with a fault of the output only where it failed
+
+-- a run that ends with a fault ends with that of tables that could not be built
+abbrev Fails : Fault → BuildFault → Type 0
+Fails f why = (let ended : Result (Unit {0}) Fault = Err f in ended) ≡ Err (fault_of_build why)
+
+build-usage : (usage : UsageFault) (why : BuildFault) → Fails (fault.Usage usage) why → ⊥
+build-usage usage build.NoMemory is = cc
+build-usage usage (build.Gap table index) is = cc
+
+build-list : (refusal : ListFault) (why : BuildFault) → Fails (fault.List refusal) why → ⊥
+build-list refusal build.NoMemory is = cc
+build-list refusal (build.Gap table index) is = cc
+
+build-write : (why : BuildFault) → Fails fault.Write why → ⊥
+build-write build.NoMemory is = cc
+build-write (build.Gap table index) is = cc
+
+making-usage : (settings : Settings) (parts : List Part) (out : Change) (usage : UsageFault)
+    → EndsMaking settings parts out (Err (fault.Usage usage)) → ⊥
+making-usage settings parts out usage (inl made) = made.ends
+making-usage settings parts out usage (inr lacks) = build-usage usage lacks.why lacks.is
+
+making-list : (settings : Settings) (parts : List Part) (out : Change) (refusal : ListFault)
+    → EndsMaking settings parts out (Err (fault.List refusal)) → ⊥
+making-list settings parts out refusal (inl made) = made.ends
+making-list settings parts out refusal (inr lacks) = build-list refusal lacks.why lacks.is
+
+making-write : (settings : Settings) (parts : List Part) (out : Change) → EndsMaking settings parts out (Err fault.Write)
+    → Rose out.faults_before out.faults_after
+making-write settings parts out (inl made) = made.ends.faltered.rose
+making-write settings parts out (inr lacks) = absurd (build-write lacks.why lacks.is)
+
+-- a sheet that is told of
+telling-usage : (settings : Settings) (parts : List Part) (sheet lines : List ℕ) (made : Result (Unit {0}) Fault) (out : Change) (usage : UsageFault)
+    → EndsMaking settings parts (gaining sheet) made → EndsTelling made lines out (Err (fault.Usage usage)) → ⊥
+telling-usage settings parts sheet lines (Ok u) out usage making told = let same = told.0 in cc
+telling-usage settings parts sheet lines (Err why) out usage making told =
+    making-usage settings parts (gaining sheet) usage (subst (λ e. EndsMaking settings parts (gaining sheet) e) (sym told.0) making)
+
+telling-list : (settings : Settings) (parts : List Part) (sheet lines : List ℕ) (made : Result (Unit {0}) Fault) (out : Change) (refusal : ListFault)
+    → EndsMaking settings parts (gaining sheet) made → EndsTelling made lines out (Err (fault.List refusal)) → ⊥
+telling-list settings parts sheet lines (Ok u) out refusal making told = let same = told.0 in cc
+telling-list settings parts sheet lines (Err why) out refusal making told =
+    making-list settings parts (gaining sheet) refusal (subst (λ e. EndsMaking settings parts (gaining sheet) e) (sym told.0) making)
+
+telling-write : (settings : Settings) (parts : List Part) (sheet lines : List ℕ) (made : Result (Unit {0}) Fault) (out : Change)
+    → EndsMaking settings parts (gaining sheet) made → EndsTelling made lines out (Err fault.Write) → Rose out.faults_before out.faults_after
+telling-write settings parts sheet lines (Ok u) out making told = told.1.rose
+telling-write settings parts sheet lines (Err why) out making told =
+    absurd (not_risen (making-write settings parts (gaining sheet) (subst (λ e. EndsMaking settings parts (gaining sheet) e) (sym told.0) making)))
+
+-- ---- commands
+
+words-usage : (asked : Result Command UsageFault) (source out : Change) (usage : UsageFault) → Ends asked source out (Err (fault.Usage usage))
+    → asked ≡ Err usage
+words-usage (Err other) source out usage ends = let same = ends.0 in cc
+words-usage (Ok (One event seed)) source out usage ends = absurd (making-usage _ _ out usage ends.1)
+words-usage (Ok (Sheet seed options)) source out usage (inl ends) = absurd (making-usage _ _ out usage ends.2)
+words-usage (Ok (Sheet seed options)) source out usage (inr refused) = let same = refused.is in cc
+words-usage (Ok (Tables event)) source out usage (same, inl ends) = absurd ends
+words-usage (Ok (Tables event)) source out usage (same, inr lacks) = absurd (build-usage usage lacks.why lacks.is)
+words-usage (Ok (Load number)) source out usage ends = absurd (telling-usage _ _ ends.1.sheet _ ends.1.made out usage ends.1.making ends.1.told)
+words-usage (Ok (Net event seed)) source out usage ends = absurd (making-usage _ _ out usage ends.1)
+
+words-list : (asked : Result Command UsageFault) (source out : Change) (refusal : ListFault) → Ends asked source out (Err (fault.List refusal))
+    → ReadsNoList source refusal
+words-list (Err usage) source out refusal ends = let same = ends.0 in cc
+words-list (Ok (One event seed)) source out refusal ends = absurd (making-list _ _ out refusal ends.1)
+words-list (Ok (Sheet seed options)) source out refusal (inl ends) = absurd (making-list _ _ out refusal ends.2)
+words-list (Ok (Sheet seed options)) source out refusal (inr refused) =
+    let is = refused.is in
+    let same : refused.list ≡ refusal = cc in subst (ReadsNoList source) same refused.cause
+words-list (Ok (Tables event)) source out refusal (same, inl ends) = absurd ends
+words-list (Ok (Tables event)) source out refusal (same, inr lacks) = absurd (build-list refusal lacks.why lacks.is)
+words-list (Ok (Load number)) source out refusal ends = absurd (telling-list _ _ ends.1.sheet _ ends.1.made out refusal ends.1.making ends.1.told)
+words-list (Ok (Net event seed)) source out refusal ends = absurd (making-list _ _ out refusal ends.1)
+
+words-write : (asked : Result Command UsageFault) (source out : Change) → Ends asked source out (Err fault.Write)
+    → Rose out.faults_before out.faults_after
+words-write (Err usage) source out ends = let same = ends.0 in cc
+words-write (Ok (One event seed)) source out ends = making-write _ _ out ends.1
+words-write (Ok (Sheet seed options)) source out (inl ends) = making-write _ _ out ends.2
+words-write (Ok (Sheet seed options)) source out (inr refused) = let same = refused.is in cc
+words-write (Ok (Tables event)) source out (same, inl ends) = ends.2.rose
+words-write (Ok (Tables event)) source out (same, inr lacks) = absurd (build-write lacks.why lacks.is)
+words-write (Ok (Load number)) source out ends = telling-write _ _ ends.1.sheet _ ends.1.made out ends.1.making ends.1.told
+words-write (Ok (Net event seed)) source out ends = making-write _ _ out ends.1
+
+-- ---- runs
+
+-- a run that ended so, and not for want of memory before anything was read
+ends-so : (words : List (List ℕ)) (outcome : Status) (source out err : Change) (why : Fault) → (run : IsRun words outcome source out err)
+    → run.ended ≡ Err why → why ≢ fault.NoMemory → Ends (command_of words) source out (Err why)
+ends-so words outcome source out err why run is other =
+    elim run.performed.ends [
+      | inl ends ↦ subst (λ e. Ends (command_of words) source out e) is ends
+      | inr wanting ↦ let same = wanting.is in let none : why ≡ fault.NoMemory = cc in absurd (other none)
+    ]
+
+pub usage-cause : (words : List (List ℕ)) (source out err : Change) → IsRun words status.Usage source out err
+    → (usage : UsageFault) × (command_of words ≡ Err usage)
+usage-cause words source out err run =
+    let end = refused-usage run.ended (sym run.answer) in
+    (end.0, words-usage (command_of words) source out end.0 (ends-so words status.Usage source out err (fault.Usage end.0) run end.1 (λ same. cc)))
+
+pub list-cause : (words : List (List ℕ)) (source out err : Change) → IsRun words status.List source out err
+    → (refusal : ListFault) × ReadsNoList source refusal × (refusal ≢ list.Read)
+list-cause words source out err run =
+    let end = refused-list run.ended (sym run.answer) in
+    (end.0, words-list (command_of words) source out end.0 (ends-so words status.List source out err (fault.List end.0) run end.1 (λ same. cc)), end.2)
+
+pub input-cause : (words : List (List ℕ)) (source out err : Change) → IsRun words status.ReadFault source out err
+    → Rose source.faults_before source.faults_after
+input-cause words source out err run =
+    let end = unread run.ended (sym run.answer) in
+    (words-list (command_of words) source out list.Read (ends-so words status.ReadFault source out err (fault.List list.Read) run end (λ same. cc))).rose
+
+pub output-cause : (words : List (List ℕ)) (source out err : Change) → IsRun words status.WriteFault source out err
+    → Rose out.faults_before out.faults_after
+output-cause words source out err run =
+    let end = unwritten run.ended (sym run.answer) in
+    words-write (command_of words) source out (ends-so words status.WriteFault source out err fault.Write run end (λ same. cc))

@@ -1,0 +1,62 @@
+-- The commands that write one scramble.
+use Rattle.std.proofs.Common.{◌≡◌, ℕ, ◌*◌, List, [], ◌∷◌, ◌++◌, Ok, Err, inl, refl, arith}
+use Rattle.std.specs.Prelude.{Result, Option}
+use Rattle.std.proofs.lemmas.List.Elements.{All-nil, All-cons}
+use Rattle.scr_outside.specs.Change.{Change, Gains, Falters, Writes}
+use Rattle.scr_outside.proofs.ChangeLemmas.{from_to, Gains-append, Falters-after}
+use Rattle.scr_notation.specs.declared.event.Event.{Event}
+use Rattle.scr_notation.specs.declared.turn.Turn.{Turn}
+use Rattle.scr_notation.specs.Written.{Written}
+use Rattle.scr_slots.specs.declared.settings.Settings.{Settings}
+use Rattle.scr_slots.specs.Slots.{IsDrawnFairly, IsSlotScramble, HasNoScramble}
+use Rattle.scr_slots.specs.Events.{scrambling_of}
+use Rattle.scr_sheet.specs.declared.fault.Fault.{Fault}
+use Rattle.scr_sheet.specs.declared.fault.Fault.TheVariants as fault
+use Rattle.scr_sheet.specs.Sheet.{Part, IsPartText, single_part}
+use Rattle.scr_sheet.specs.Outcome.{EndsMaking, EndsParts, IsUnwritten}
+use Rattle.scr_sheet.proofs.PartLaws.{IsStopped-first, IsBroken-first, IsDone-first}
+
+-- a part is drawn fairly
+abbrev Fair : Part → Type 0
+Fair part = IsDrawnFairly (scrambling_of part.event) part.least
+
+module _ {settings : Settings} {event : Event} (text : List Turn → List ℕ) (fair : IsDrawnFairly (scrambling_of event) 0) where
+  -- what is written of one scramble
+  written : (scramble : Written) → IsSlotScramble (scrambling_of event) settings 0 0 scramble
+      → IsPartText settings (single_part event text) (text scramble.turns)
+  written scramble slot = record {
+    scrambles = scramble ∷ [];
+    all = record { each_slot = refl; each = (slot, tt) };
+    is = refl;
+  }
+
+  fair_part : (out : Change) (ended : Result (Unit {0}) Fault) → EndsParts settings 0 (single_part event text ∷ []) out ended
+      → EndsMaking settings (single_part event text ∷ []) out ended
+  fair_part out ended ends = inl (record { fair = All-cons Fair (single_part event text) [] fair (All-nil Fair); ends = ends })
+
+  -- it was written whole
+  pub single-done : {out : Change} (scramble : Written) → IsSlotScramble (scrambling_of event) settings 0 0 scramble
+      → Gains out (text scramble.turns) → EndsMaking settings (single_part event text ∷ []) out (Ok tt)
+  single-done {out = out} scramble slot gains = fair_part out (Ok tt) (IsDone-first (written scramble slot) gains)
+
+  -- it was written in part
+  pub single-broken : {out : Change} (scramble : Written) → IsSlotScramble (scrambling_of event) settings 0 0 scramble
+      → Falters out (text scramble.turns) → EndsMaking settings (single_part event text ∷ []) out (Err fault.Write)
+  single-broken {out = out} scramble slot falters = fair_part out (Err fault.Write) (IsBroken-first (written scramble slot) falters)
+
+  -- there is none
+  pub single-limit : {out : Change} (words : ℕ) → HasNoScramble (scrambling_of event) settings 0 0 → words ≡ 3 * settings.attempts
+      → IsUnwritten out → EndsMaking settings (single_part event text ∷ []) out (Err (fault.DrawLimit 1 1 words))
+  single-limit {out = out} words none taken unwritten =
+      fair_part out (Err (fault.DrawLimit 1 1 words))
+      (IsStopped-first 0 0 (record {
+        first = record { below = omega arith; nothing = none; before = []; as_many = refl; each = tt };
+        taken = taken;
+      }) unwritten)
+
+-- a text behind one that was written
+pub Writes-behind : {E : Type 0} (held held' held'' : Option (List ℕ)) (faults faults' faults'' : ℕ) (text more : List ℕ) (ended : Result (Unit {0}) E)
+    → Gains (from_to held faults held' faults') text → Writes (from_to held' faults' held'' faults'') more ended
+    → Writes (from_to held faults held'' faults'') (text ++ more) ended
+Writes-behind held held' held'' faults faults' faults'' text more (Ok u) gains writes = Gains-append gains writes
+Writes-behind held held' held'' faults faults' faults'' text more (Err e) gains writes = Falters-after gains writes

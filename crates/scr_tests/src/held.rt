@@ -1,0 +1,93 @@
+//! Cubes as they are held, which are known from elsewhere.
+
+use crate::numbered::is_number;
+use crate::read;
+use scr_cube::{Cube, CubeNumbers, Held, HeldNumbers, PowerTurned};
+use scr_draw::Numbering;
+use scr_notation::Event;
+use std::process::Abort;
+
+/// The colours of the faces U R F D L B of a cube that is held with white up and green in front.
+const COLOURS: [u8; 6] = *b"WRGYOB";
+
+/// The state after a scramble of the event.
+fn played(rt: &impl Abort, text: &str) -> Held {
+    let scramble = read::scramble(rt, Event::Bf333, text);
+    Held::solved()
+        .play(&scramble)
+        .expect(rt, "a scramble of the event")
+}
+
+// Which colours stand at U R F D L B after words, on a cube in the hand.
+#[test]
+fn colours_of_centres(rt: HostRuntime) {
+    for (text, colours) in [
+        ("", b"WRGYOB"),
+        ("R U2 F' D L2 B", b"WRGYOB"),
+        ("Rw", b"GRYBOW"),
+        ("Fw2", b"YOGWRB"),
+        ("Uw'", b"WGOYBR"),
+        ("L' Rw", b"GRYBOW"),
+        ("Rw Uw", b"GWRBYO"),
+        ("Uw Rw", b"RBYOGW"),
+        ("Uw Uw Uw2", b"WRGYOB"),
+    ] {
+        let centres = played(&rt, text).centres();
+        for place in 0..6 {
+            let centre = centres[place] as usize;
+            assert!(rt; centre < 6);
+            assert_eq!(rt; COLOURS[centre], colours[place], "{text} at {place}");
+        }
+    }
+}
+
+// A wide turn turns the opposite face, and a turn after it the face that has come there.
+#[test]
+fn faces_that_turn(rt: HostRuntime) {
+    let solved = Cube::solved();
+    assert!(rt; *played(&rt, "Rw").cube() == solved.turn(4, 1));
+    assert!(rt; *played(&rt, "Rw2 U'").cube() == solved.turn(4, 2).turn(3, 3));
+    assert!(rt; *played(&rt, "Rw Uw").cube() == solved.turn(4, 1).turn(5, 1));
+    assert!(rt; *played(&rt, "Fw' R").cube() == solved.turn(5, 3).turn(3, 1));
+    assert!(rt; *played(&rt, "L' Rw").cube() == solved);
+    let turned = Held::solved().turn(0, 2, 1).turn(2, 1, 3);
+    assert!(rt; turned == played(&rt, "Uw F'"));
+}
+
+// Letters that the event has not.
+#[test]
+fn no_turns_of_the_event(rt: HostRuntime) {
+    for (event, text) in [
+        (Event::C555, "R Dw"),
+        (Event::C555, "Lw2"),
+        (Event::C666, "3Rw U"),
+        (Event::Skewb, "U"),
+    ] {
+        let scramble = read::scramble(&rt, event, text);
+        assert!(rt; Held::solved().play(&scramble).is_none(), "{text}");
+    }
+    let of_333 = read::scramble(&rt, Event::C333, "R U F");
+    assert!(rt; Held::solved().play(&of_333) == Some(played(&rt, "R U F")));
+}
+
+#[test]
+fn numbers(rt: HostRuntime) {
+    let solved = Cube::solved();
+    for (number, cube, centres) in [
+        (0, solved, [0, 1, 2, 3, 4, 5]),
+        (1, solved, [2, 1, 3, 5, 4, 0]),
+        (6, solved, [0, 5, 1, 3, 2, 4]),
+        (7, solved, [2, 0, 1, 5, 3, 4]),
+        (49128, CubeNumbers.state_at(2047), [0, 1, 2, 3, 4, 5]),
+        (49151, CubeNumbers.state_at(2047), [1, 2, 0, 4, 5, 3]),
+    ] {
+        assert!(rt; number < HeldNumbers.count());
+        is_number(&rt, &HeldNumbers, number, Held::from_parts(cube, centres));
+    }
+    assert_eq!(rt; HeldNumbers.count(), 1_038_048_078_587_756_544_000);
+    assert_eq!(rt; played(&rt, "Rw Uw").hold(), 7);
+    assert_eq!(rt; played(&rt, "Fw' Uw'").hold(), 23);
+    for centres in [[0, 1, 2, 3, 5, 4], [1, 0, 2, 3, 4, 5], [0; 6]] {
+        assert!(rt; Held::from_parts(solved, centres).is_none());
+    }
+}
