@@ -25,9 +25,11 @@ TOP = pathlib.Path(__file__).resolve().parents[2]
 PROGRAM = TOP / "crates/scramble/out/scramble"
 ZEROS = "0" * 64
 SHEET = ["sheet", "--seed", ZEROS]
-EVENTS = "222 333 333oh 333bf pyram skewb sq1 clock minx 555 666 777".split()
+EVENTS = "222 333 333oh 333bf 333fm pyram skewb sq1 clock minx 555 666 777".split()
 COMPETITION = "".join(f"{event} 2\n" for event in EVENTS).encode()
 SMALL = b"clock 1\n"
+CHECK = ["check", "--seed", ZEROS]
+SEPARATOR = b"=====\n"
 NO_MEMORY = b"scramble: out of memory\n"
 NOT_READ = b"scramble: input could not be read\n"
 NOT_WRITTEN = b"scramble: output could not be written\n"
@@ -87,7 +89,8 @@ def rounds_of(sheet):
 def refused_memory(tally, pool):
     """Each allocation refused in turn, from the first to the last: the program answers that it is out of memory and has
     written whole rounds, or none but a sheet's; or it did without."""
-    for words, given in [([*SHEET, "--workers", "7"], COMPETITION), (["tables", "333"], b""), (["load", "3"], b"")]:
+    checked = COMPETITION + SEPARATOR + run(SHEET, COMPETITION).out
+    for words, given in [([*SHEET, "--workers", "7"], COMPETITION), (["tables", "333"], b""), (["load", "3"], b""), (CHECK, checked)]:
         tally.heading("refused memory: " + " ".join(words).replace(ZEROS, "Z"))
         whole = run(words, given)
         told = pathlib.Path(tempfile.mkdtemp()) / "calls"
@@ -247,21 +250,32 @@ def random_words(chance):
     return ["sheet", *itertools.chain(*options)]
 
 
+def checked_again(words, given, sheet):
+    """A sheet that was written, checked with its list, seed and attempts, and again without its last byte."""
+    names = ("--seed", "--attempts")
+    options = [word for place, word in enumerate(words) if word.startswith(names) or words[place - 1] in names]
+    text = given + (b"" if given.endswith(b"\n") or not given else b"\n") + SEPARATOR + sheet
+    whole, cut = run(["check", *options], text), run(["check", *options], text[:-1])
+    agrees = (whole.status, whole.out, whole.err) == (0, b"agrees\n", b"")
+    return agrees and (not sheet or (cut.status, cut.out) == (9, b""))
+
+
 def random_runs(tally, pool, count):
-    """Random lists and words by 1 worker and by 7, which give the same."""
+    """Random lists and words by 1 worker and by 7, which give the same; and the sheet agrees."""
     tally.heading("random lists and words, by 1 and by 7 workers")
     chance = random.Random(count)
     cases = [(random_words(chance), random_list(chance)) for _ in range(count)]
 
     def both(case):
         words, given = case
-        return case, run([*words, "--workers", "1"], given), run([*words, "--workers=7"], given)
+        one, seven = run([*words, "--workers", "1"], given), run([*words, "--workers=7"], given)
+        return case, one, seven, one.status != 0 or checked_again(words, given, one.out)
 
     statuses = {}
-    for (words, given), one, seven in pool.map(both, cases):
+    for (words, given), one, seven, agrees in pool.map(both, cases):
         same = (one.status, one.out, one.err) == (seven.status, seven.out, seven.err)
         right = one.status in (0, 2, 3, 4) and (one.err == b"") == (one.status == 0)
-        tally.case(f"{words} {given!r}", same and right, (one, seven))
+        tally.case(f"{words} {given!r}", same and right and agrees, (one, seven, agrees))
         statuses[one.status] = statuses.get(one.status, 0) + 1
     print("statuses of the random runs:", ", ".join(f"{status}: {n}" for status, n in sorted(statuses.items())))
 

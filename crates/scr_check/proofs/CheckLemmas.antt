@@ -6,16 +6,11 @@ use Rattle.scr_check.specs.declared.fault.CheckFault.{CheckFault}
 use Rattle.scr_check.specs.declared.fault.CheckFault.TheVariants.{Differs, Limit, Read}
 use Rattle.scr_check.specs.Lines.{CutLine, cut_lines, line_end, IsPlain, AreEnded}
 use Rattle.scr_check.specs.Reading.{Reading, Takes, StopsShort}
-use Rattle.scr_check.specs.Agreement.{ExpectedLines, most_bytes, line_at, LineAgrees, IsMissing, ComesTo}
+use Rattle.scr_check.specs.Agreement.{ExpectedLines, AreLawful, most_bytes, line_at, LineAgrees, IsMissing, ComesTo}
 use Rattle.scr_check.specs.Taken.{CanFollow, AreTakenByLines, LineComesTo, TakesGoodLine, TakesBadLine, ChecksLine, TakesSheet, ChecksSheet}
 use Rattle.scr_check.proofs.CutLemmas.{cut-none, cut-ended, cut-begun, cut-append, cut-push, cut-some, first_bytes, is_first_ended, AreEnded-none, AreEnded-one, AreEnded-append}
 use Rattle.scr_check.proofs.ReadingLemmas.{Takes-none, Takes-append, StopsShort-after}
-use Rattle.scr_check.proofs.FaultLemmas.{AgreeFrom, AgreeFrom-none, AgreeFrom-push, all-agree, comes-to-line, comes-to-agreement, comes-to-more}
-
--- what holds of anything that is expected
-pub record IsLawful (expected : ExpectedLines) : Type 0 where
-  pub no_long : (i : ℕ) (text : List ℕ) → expected.answer i text ≡ Ok true → length text ≤ most_bytes
-  pub by_line : (i : ℕ) (text other : List ℕ) (missing : Missing) → expected.answer i text ≡ Err missing → expected.answer i other ≡ Err missing
+use Rattle.scr_check.proofs.FaultLemmas.{OfEach, OfEach-none, OfEach-push, all-agree, each-faultless, comes-to-line, comes-to-agreement, comes-to-more}
 
 -- ---- one line
 
@@ -42,22 +37,22 @@ comes-limit : (expected : ExpectedLines) (i : ℕ) (found : Option CutLine) (lin
     IsMissing expected i line missing → LineComesTo expected i found (Limit missing)
 comes-limit expected i found line missing is so = rw is so
 
-module _ (expected : ExpectedLines) (lawful : IsLawful expected) (i byte : ℕ) (text : List ℕ) (stopped : Bool)
+module _ (expected : ExpectedLines) (lawful : AreLawful expected) (i byte : ℕ) (text : List ℕ) (stopped : Bool)
     (full : stopped ≡ false → length (byte ∷ text) ≡ most_bytes + 1) where
   begun-differs : (rest : List ℕ) → CanFollow stopped rest → (stopped ≡ true) ⊎ (stopped ≡ false) → LineAgrees expected i (begun-line byte text rest) → ⊥
   begun-differs rest may (inl end) agrees =
       false≢true (sym (ap (λ x. is_first_ended (cut_lines x)) (may end) ∙ ap is_first_ended cut-none) ∙ agrees.0)
   begun-differs rest may (inr more) agrees =
-      let short = lawful.no_long i (byte ∷ (text ++ first_bytes (cut_lines rest))) agrees.1 in
+      let short = lawful.short i (byte ∷ (text ++ first_bytes (cut_lines rest))) agrees.1 in
       let long = full more in
       let parts = length-append text (first_bytes (cut_lines rest)) in
       absurd (omega arith)
 
-  begun-there : (rest : List ℕ) (answer : Bool) → expected.answer i (byte ∷ text) ≡ Ok answer →
+  begun-there : (rest : List ℕ) (answer : Bool) → expected.IsAnswer i (byte ∷ text) (Ok answer) →
       (missing : Missing) → IsMissing expected i (begun-line byte text rest) missing → ⊥
   begun-there rest answer is missing lacks =
       let other = lawful.by_line i (byte ∷ (text ++ first_bytes (cut_lines rest))) (byte ∷ text) missing lacks in
-      let differ = sym is ∙ other in cc
+      let differ = lawful.one i (byte ∷ text) (Ok answer) (Err missing) is other in cc
 
 none-there : (expected : ExpectedLines) (i : ℕ) (rest : List ℕ) → rest ≡ [] →
     LineComesTo expected i (line_at (cut_lines rest) 1) (Differs i)
@@ -70,25 +65,25 @@ ended-by false full = absurd (omega (arith, full refl))
 module _ {S : Type 0} (left : S → Option (List ℕ)) (faults ends : S → ℕ) where
   -- a line was read whole
   pub line-good : (before after : Reading S) (expected : ExpectedLines) (i : ℕ) (text : List ℕ) → IsPlain text →
-      Takes left faults ends before after (text ++ 10 ∷ []) → expected.answer i text ≡ Ok true →
+      Takes left faults ends before after (text ++ 10 ∷ []) → expected.IsAnswer i text (Ok true) →
       ChecksLine left faults ends before after expected i (Ok tt)
   line-good before after expected i text plain takes agrees = record { text = text; takes = takes; plain = plain; agrees = agrees }
 
-  line-ended-differs : (before after : Reading S) (expected : ExpectedLines) (i : ℕ) (text : List ℕ) → IsPlain text →
-      Takes left faults ends before after (text ++ 10 ∷ []) → length text ≤ most_bytes → expected.answer i text ≡ Ok false →
+  line-ended-differs : (before after : Reading S) (expected : ExpectedLines) → AreLawful expected → (i : ℕ) (text : List ℕ) → IsPlain text →
+      Takes left faults ends before after (text ++ 10 ∷ []) → length text ≤ most_bytes → expected.IsAnswer i text (Ok false) →
       ChecksLine left faults ends before after expected i (Err (Differs i))
-  line-ended-differs before after expected i text plain takes short answer = record {
+  line-ended-differs before after expected lawful i text plain takes short answer = record {
     bytes = text ++ 10 ∷ [];
     takes = takes;
     few = omega (arith, length-append text (10 ∷ []));
     comes_to = λ rest may. comes-differs expected i (line_at (cut_lines ((text ++ 10 ∷ []) ++ rest)) 1)
         (record { bytes = text; ended = true }) (first-ended text rest plain)
-        (λ agrees. let same = sym answer ∙ agrees.1 in cc)
-        (λ missing lacks. let same = sym answer ∙ lacks in cc);
+        (λ agrees. let same = lawful.one i text (Ok false) (Ok true) answer agrees.1 in cc)
+        (λ missing lacks. let same = lawful.one i text (Ok false) (Err missing) answer lacks in cc);
   }
 
   line-ended-limit : (before after : Reading S) (expected : ExpectedLines) (i : ℕ) (text : List ℕ) (missing : Missing) → IsPlain text →
-      Takes left faults ends before after (text ++ 10 ∷ []) → length text ≤ most_bytes → expected.answer i text ≡ Err missing →
+      Takes left faults ends before after (text ++ 10 ∷ []) → length text ≤ most_bytes → expected.IsAnswer i text (Err missing) →
       ChecksLine left faults ends before after expected i (Err (Limit missing))
   line-ended-limit before after expected i text missing plain takes short answer = record {
     bytes = text ++ 10 ∷ [];
@@ -108,9 +103,9 @@ module _ {S : Type 0} (left : S → Option (List ℕ)) (faults ends : S → ℕ)
     comes_to = λ rest may. none-there expected i rest (may (ended-by after.ended full));
   }
 
-  line-begun-differs : (before after : Reading S) (expected : ExpectedLines) → IsLawful expected → (i byte : ℕ) (text : List ℕ) →
+  line-begun-differs : (before after : Reading S) (expected : ExpectedLines) → AreLawful expected → (i byte : ℕ) (text : List ℕ) →
       IsPlain (byte ∷ text) → Takes left faults ends before after ((byte ∷ text) ++ []) → length (byte ∷ text) ≤ most_bytes + 1 →
-      (after.ended ≡ false → length (byte ∷ text) ≡ most_bytes + 1) → (answer : Bool) → expected.answer i (byte ∷ text) ≡ Ok answer →
+      (after.ended ≡ false → length (byte ∷ text) ≡ most_bytes + 1) → (answer : Bool) → expected.IsAnswer i (byte ∷ text) (Ok answer) →
       ChecksLine left faults ends before after expected i (Err (Differs i))
   line-begun-differs before after expected lawful i byte text plain takes few full answer is = record {
     bytes = (byte ∷ text) ++ [];
@@ -122,9 +117,9 @@ module _ {S : Type 0} (left : S → Option (List ℕ)) (faults ends : S → ℕ)
         (begun-there expected lawful i byte text after.ended full rest answer is);
   }
 
-  line-begun-limit : (before after : Reading S) (expected : ExpectedLines) → IsLawful expected → (i byte : ℕ) (text : List ℕ) (missing : Missing) →
+  line-begun-limit : (before after : Reading S) (expected : ExpectedLines) → AreLawful expected → (i byte : ℕ) (text : List ℕ) (missing : Missing) →
       IsPlain (byte ∷ text) → Takes left faults ends before after ((byte ∷ text) ++ []) → length (byte ∷ text) ≤ most_bytes + 1 →
-      expected.answer i (byte ∷ text) ≡ Err missing → ChecksLine left faults ends before after expected i (Err (Limit missing))
+      expected.IsAnswer i (byte ∷ text) (Err missing) → ChecksLine left faults ends before after expected i (Err (Limit missing))
   line-begun-limit before after expected lawful i byte text missing plain takes few is = record {
     bytes = (byte ∷ text) ++ [];
     takes = takes;
@@ -150,8 +145,8 @@ module _ {S : Type 0} (left : S → Option (List ℕ)) (faults ends : S → ℕ)
   line-absent before after expected i [] false read none unended = line-none before after expected i read.taken (read.full refl)
 
   -- it is missing
-  pub line-limit : (before after : Reading S) (expected : ExpectedLines) → IsLawful expected → (i : ℕ) (text : List ℕ) (ended : Bool) (missing : Missing) →
-      IsLineRead before after text ended → (text ≡ [] → ended ≡ true) → expected.answer i text ≡ Err missing →
+  pub line-limit : (before after : Reading S) (expected : ExpectedLines) → AreLawful expected → (i : ℕ) (text : List ℕ) (ended : Bool) (missing : Missing) →
+      IsLineRead before after text ended → (text ≡ [] → ended ≡ true) → expected.IsAnswer i text (Err missing) →
       ChecksLine left faults ends before after expected i (Err (Limit missing))
   line-limit before after expected lawful i text true missing read there is =
       line-ended-limit before after expected i text missing read.plain read.taken (read.short refl) is
@@ -160,11 +155,12 @@ module _ {S : Type 0} (left : S → Option (List ℕ)) (faults ends : S → ℕ)
       line-begun-limit before after expected lawful i byte text missing read.plain read.taken read.few is
 
   -- it doesn't agree, or isn't ended
-  pub line-differs : (before after : Reading S) (expected : ExpectedLines) → IsLawful expected → (i : ℕ) (text : List ℕ) (ended answer : Bool) →
-      IsLineRead before after text ended → (text ≡ [] → ended ≡ true) → expected.answer i text ≡ Ok answer → (ended ≡ true → answer ≡ false) →
+  pub line-differs : (before after : Reading S) (expected : ExpectedLines) → AreLawful expected → (i : ℕ) (text : List ℕ) (ended answer : Bool) →
+      IsLineRead before after text ended → (text ≡ [] → ended ≡ true) → expected.IsAnswer i text (Ok answer) → (ended ≡ true → answer ≡ false) →
       ChecksLine left faults ends before after expected i (Err (Differs i))
   line-differs before after expected lawful i text true answer read there is not =
-      line-ended-differs before after expected i text read.plain read.taken (read.short refl) (is ∙ ap Ok (not refl))
+      line-ended-differs before after expected lawful i text read.plain read.taken (read.short refl)
+      (subst (λ a. expected.IsAnswer i text (Ok a)) (not refl) is)
   line-differs before after expected lawful i [] false answer read there is not = absurd (false≢true (there refl))
   line-differs before after expected lawful i (byte ∷ text) false answer read there is not =
       line-begun-differs before after expected lawful i byte text read.plain read.taken read.few (read.full refl) answer is
@@ -176,7 +172,7 @@ module _ {S : Type 0} (left : S → Option (List ℕ)) (faults ends : S → ℕ)
     pub bytes : List ℕ
     pub takes : Takes left faults ends before after bytes
     pub ended : AreEnded (cut_lines bytes)
-    pub agree : AgreeFrom expected 0 (cut_lines bytes)
+    pub agree : OfEach (LineAgrees expected) (cut_lines bytes)
     pub count : length (cut_lines bytes) ≡ line
 
   pub agreed-none : (reader : Reading S) (expected : ExpectedLines) → IsAgreed reader reader expected 0
@@ -184,7 +180,7 @@ module _ {S : Type 0} (left : S → Option (List ℕ)) (faults ends : S → ℕ)
     bytes = [];
     takes = Takes-none left faults ends reader;
     ended = subst AreEnded (sym cut-none) AreEnded-none;
-    agree = subst (AgreeFrom expected 0) (sym cut-none) (AgreeFrom-none expected 0);
+    agree = subst (OfEach (LineAgrees expected)) (sym cut-none) (OfEach-none (LineAgrees expected));
     count = ap length cut-none;
   }
 
@@ -194,25 +190,25 @@ module _ {S : Type 0} (left : S → Option (List ℕ)) (faults ends : S → ℕ)
       let last : CutLine = record { bytes = good.text; ended = true } in
       let lines : cut_lines (so.bytes ++ (good.text ++ 10 ∷ [])) ≡ cut_lines so.bytes ++ last ∷ [] =
       cut-push so.bytes good.text so.ended good.plain in
-      let number : line + 1 ≡ suc (0 + length (cut_lines so.bytes)) = omega (arith, so.count) in
+      let number : line + 1 ≡ suc (length (cut_lines so.bytes)) = omega (arith, so.count) in
       record {
         bytes = so.bytes ++ (good.text ++ 10 ∷ []);
         takes = Takes-append left faults ends so.takes good.takes;
         ended = subst AreEnded (sym lines) (AreEnded-append (cut_lines so.bytes) (last ∷ []) so.ended (AreEnded-one good.text));
-        agree = subst (AgreeFrom expected 0) (sym lines) (AgreeFrom-push expected 0 (cut_lines so.bytes) last so.agree
+        agree = subst (OfEach (LineAgrees expected)) (sym lines) (OfEach-push (LineAgrees expected) (cut_lines so.bytes) last so.agree
             (subst (λ n. LineAgrees expected n last) number (refl, good.agrees)));
         count = ap length lines ∙ length-append (cut_lines so.bytes) (last ∷ []) ∙ ap (λ n. n + 1) so.count;
       }
 
-  by-lines : (expected : ExpectedLines) (bytes more : List ℕ) → AgreeFrom expected 0 (cut_lines bytes) → length more ≤ most_bytes + 1 →
+  by-lines : (expected : ExpectedLines) (bytes more : List ℕ) → OfEach (LineAgrees expected) (cut_lines bytes) → length more ≤ most_bytes + 1 →
       AreTakenByLines expected (most_bytes + 1) (bytes ++ more)
   by-lines expected bytes more agree few =
       record { whole = bytes; part = more; parts = refl; agree = all-agree expected (cut_lines bytes) agree; few = few }
 
-  bad-line : (before middle after : Reading S) (expected : ExpectedLines) (line : ℕ) (fault : CheckFault) → IsAgreed before middle expected line →
+  bad-line : (before middle after : Reading S) (expected : ExpectedLines) → AreLawful expected → (line : ℕ) (fault : CheckFault) → IsAgreed before middle expected line →
       line + 1 ≤ expected.count → TakesBadLine left faults ends middle after expected (line + 1) fault →
       TakesSheet left faults ends before after expected (Err fault)
-  bad-line before middle after expected line fault so few bad = record {
+  bad-line before middle after expected lawful line fault so few bad = record {
     bytes = so.bytes ++ bad.bytes;
     takes = Takes-append left faults ends so.takes bad.takes;
     by_lines = by-lines expected so.bytes bad.bytes so.agree bad.few;
@@ -221,26 +217,28 @@ module _ {S : Type 0} (left : S → Option (List ℕ)) (faults ends : S → ℕ)
         ap cut_lines (append_assoc so.bytes bad.bytes rest) ∙ cut-append so.bytes (bad.bytes ++ rest) so.ended in
         let number : line + 1 ≡ suc (length (cut_lines so.bytes)) = omega (arith, so.count) in
         subst (λ x. ComesTo expected x (Err fault)) (sym lines)
-        (comes-to-line expected (cut_lines so.bytes) (cut_lines (bad.bytes ++ rest)) fault so.agree (omega (arith, so.count))
+        (comes-to-line expected (cut_lines so.bytes) (cut_lines (bad.bytes ++ rest)) fault
+        (each-faultless expected lawful (cut_lines so.bytes) so.agree) (omega (arith, so.count))
         (subst (λ n. LineComesTo expected n (line_at (cut_lines (bad.bytes ++ rest)) 1) fault) number (bad.comes_to rest may)));
   }
 
   -- a line that is at fault, or that couldn't be read
-  pub sheet-fault : (before middle after : Reading S) (expected : ExpectedLines) (line : ℕ) (fault : CheckFault) → IsAgreed before middle expected line →
+  pub sheet-fault : (before middle after : Reading S) (expected : ExpectedLines) → AreLawful expected → (line : ℕ) (fault : CheckFault) → IsAgreed before middle expected line →
       line + 1 ≤ expected.count → ChecksLine left faults ends middle after expected (line + 1) (Err fault) →
       ChecksSheet left faults ends before after expected (Err fault)
-  sheet-fault before middle after expected line (Differs i) so few bad = bad-line before middle after expected line (Differs i) so few bad
-  sheet-fault before middle after expected line (Limit missing) so few bad = bad-line before middle after expected line (Limit missing) so few bad
-  sheet-fault before middle after expected line Read so few bad = record {
+  sheet-fault before middle after expected lawful line (Differs i) so few bad = bad-line before middle after expected lawful line (Differs i) so few bad
+  sheet-fault before middle after expected lawful line (Limit missing) so few bad =
+      bad-line before middle after expected lawful line (Limit missing) so few bad
+  sheet-fault before middle after expected lawful line Read so few bad = record {
     bytes = so.bytes ++ bad.bytes;
     stops = StopsShort-after left faults ends so.takes bad.stops;
     by_lines = by-lines expected so.bytes bad.bytes so.agree bad.few;
   }
 
   -- the end of input behind all lines
-  pub sheet-agrees : (before middle after : Reading S) (expected : ExpectedLines) (line : ℕ) (done : Unit {0}) → IsAgreed before middle expected line →
+  pub sheet-agrees : (before middle after : Reading S) (expected : ExpectedLines) → AreLawful expected → (line : ℕ) (done : Unit {0}) → IsAgreed before middle expected line →
       line ≡ expected.count → Takes left faults ends middle after [] → after.ended ≡ true → ChecksSheet left faults ends before after expected (Ok done)
-  sheet-agrees before middle after expected line done so all takes ended = (
+  sheet-agrees before middle after expected lawful line done so all takes ended = (
     record {
       bytes = so.bytes ++ [];
       takes = Takes-append left faults ends so.takes takes;
@@ -250,16 +248,16 @@ module _ {S : Type 0} (left : S → Option (List ℕ)) (faults ends : S → ℕ)
           ap cut_lines (append_assoc so.bytes [] rest) ∙ ap (λ x. cut_lines (so.bytes ++ x)) (may ended)
           ∙ ap cut_lines (append-nil so.bytes) ∙ sym (append-nil (cut_lines so.bytes)) in
           subst (λ x. ComesTo expected x (Ok done)) (sym lines)
-          (comes-to-agreement expected (cut_lines so.bytes) done so.agree (so.count ∙ all));
+          (comes-to-agreement expected (cut_lines so.bytes) done (each-faultless expected lawful (cut_lines so.bytes) so.agree) (so.count ∙ all));
     },
     ended,
   )
 
   -- one byte more than all lines have
-  pub sheet-more : (before middle after : Reading S) (expected : ExpectedLines) (line byte number : ℕ) → IsAgreed before middle expected line →
+  pub sheet-more : (before middle after : Reading S) (expected : ExpectedLines) → AreLawful expected → (line byte number : ℕ) → IsAgreed before middle expected line →
       line ≡ expected.count → number ≡ line → Takes left faults ends middle after (byte ∷ []) →
       ChecksSheet left faults ends before after expected (Err (Differs (number + 1)))
-  sheet-more before middle after expected line byte number so all is takes = record {
+  sheet-more before middle after expected lawful line byte number so all is takes = record {
     bytes = so.bytes ++ byte ∷ [];
     takes = Takes-append left faults ends so.takes takes;
     by_lines = by-lines expected so.bytes (byte ∷ []) so.agree (omega arith);
@@ -271,7 +269,8 @@ module _ {S : Type 0} (left : S → Option (List ℕ)) (faults ends : S → ℕ)
         let next_number : suc (length (cut_lines so.bytes)) ≡ number + 1 = omega (arith, so.count) in
         subst (λ n. ComesTo expected (cut_lines ((so.bytes ++ byte ∷ []) ++ rest)) (Err (Differs n))) next_number
         (subst (λ x. ComesTo expected x (Err (Differs (suc (length (cut_lines so.bytes)))))) (sym lines)
-        (comes-to-more expected (cut_lines so.bytes) next.line next.behind so.agree (so.count ∙ all)));
+        (comes-to-more expected (cut_lines so.bytes) next.line next.behind
+        (each-faultless expected lawful (cut_lines so.bytes) so.agree) (so.count ∙ all)));
   }
 
   -- a fault behind all lines

@@ -1,18 +1,18 @@
 -- What the laws say.
-use Rattle.std.proofs.Common.{◌≡◌, ℕ, suc, ◌+◌, ◌<◌, ◌≤◌, Bool, true, false, Some, List, [], ◌∷◌, ◌++◌, length, Result, Ok, Err, refl, sym, ap, subst, ◌∙◌, append-nil, append_assoc, inl, inr, ◌⊎◌, length-append, arith}
+use Rattle.std.proofs.Common.{◌≡◌, ℕ, suc, ◌+◌, ◌<◌, ◌≤◌, Bool, true, false, List, [], ◌∷◌, ◌++◌, length, Result, Ok, Err, refl, sym, ap, subst, ◌∙◌, append-nil, append_assoc, inl, inr, ◌⊎◌, length-append, arith}
 use Rattle.std.specs.Prelude.{nat_eq, bytes_eq, ◌≢◌}
 use Rattle.std.proofs.lemmas.Bool.{false≢true, cases_Bool, cases_lt, cases_order}
 use Rattle.scr_check.specs.declared.fault.Missing.{Missing}
 use Rattle.scr_check.specs.declared.fault.CheckFault.{CheckFault}
-use Rattle.scr_check.specs.declared.fault.CheckFault.TheVariants.{Differs, Limit}
+use Rattle.scr_check.specs.declared.fault.CheckFault.TheVariants.{Differs, Limit, Read}
 use Rattle.scr_check.specs.Lines.{CutLine, with_byte, cut_lines, joined_lines, line_end, IsPlain, AreEnded}
 use Rattle.scr_check.specs.Parts.{separator}
 use Rattle.scr_check.specs.Shapes.{AreCut, IsEndedOrLast}
-use Rattle.scr_check.specs.Agreement.{ExpectedLines, line_from_zero, line_at, LineAgrees, ComesTo}
+use Rattle.scr_check.specs.Agreement.{ExpectedLines, AreLawful, HaveAnswers, IsExpected, line_at, LineAgrees, IsFirstAtFault, Lacks, LacksFirst, IsMissing, ComesTo}
 use Rattle.scr_check.specs.Taken.{LineComesTo}
 use Rattle.scr_check.proofs.CutLemmas.{cut-none, cut-other, cut-feed, cut-ended, cut-append, cut-push, cut-some, joined-cut, IsPlain-none}
 use Rattle.scr_check.proofs.PartLemmas.{cut-last}
-use Rattle.scr_check.proofs.FaultLemmas.{AgreeFrom, AgreeFrom-none, AgreeFrom-push, past-end, there-within, comes-to-line, comes-to-agreement, comes-to-more}
+use Rattle.scr_check.proofs.FaultLemmas.{OfEach, OfEach-none, OfEach-push, Some-line, IsFaultless, faultless, line-within, past-end, there-within, at-before, at-behind, comes-to-line, comes-to-agreement, comes-to-more}
 
 -- ---- the shape of lines
 
@@ -84,97 +84,104 @@ separator-plain = (refl, (refl, (refl, (refl, (refl, tt)))))
 pub separator-same : bytes_eq separator separator ≡ true
 separator-same = refl
 
--- ---- some answer
+-- ---- one answer
 
--- whether this line agrees with line i, isn't there, or is at fault
-record IsJudged (expected : ExpectedLines) (lines : List CutLine) (line : CutLine) (more : List CutLine) : Type 0 where
-  pub answer : Result (Unit {0}) CheckFault
-  pub comes : ComesTo expected (lines ++ line ∷ more) answer
+same-first : (expected : ExpectedLines) (lines : List CutLine) (i j : ℕ) → IsFirstAtFault expected lines i → IsFirstAtFault expected lines j → i ≡ j
+same-first expected lines i j one other = elim (cases_order i j) [
+  | inl same ↦ same
+  | inr (inl less) ↦ absurd (other.none_before i less one.at_fault)
+  | inr (inr more) ↦ absurd (one.none_before j more other.at_fault)
+]
 
-judged-by : (expected : ExpectedLines) (lines : List CutLine) (line : CutLine) (more : List CutLine) → AgreeFrom expected 0 lines →
-    suc (length lines) ≤ expected.count → (ended : Bool) → line.ended ≡ ended →
-    (found : Result Bool Missing) → expected.answer (suc (length lines)) line.bytes ≡ found →
-    (LineAgrees expected (suc (length lines)) line → IsJudged expected lines line more) → IsJudged expected lines line more
-judged-by expected lines line more so few ended is_ended (Err missing) is next = record {
-  answer = Err (Limit missing);
-  comes = comes-to-line expected lines (line ∷ more) (Limit missing) so few is;
-}
-judged-by expected lines line more so few true is_ended (Ok true) is next = next (is_ended, is)
-judged-by expected lines line more so few false is_ended (Ok answer) is next = record {
-  answer = Err (Differs (suc (length lines)));
-  comes = comes-to-line expected lines (line ∷ more) (Differs (suc (length lines))) so few
-      (refl, λ agrees. false≢true (sym is_ended ∙ agrees.0), λ missing lacks. let same = sym is ∙ lacks in cc);
-}
-judged-by expected lines line more so few true is_ended (Ok false) is next = record {
-  answer = Err (Differs (suc (length lines)));
-  comes = comes-to-line expected lines (line ∷ more) (Differs (suc (length lines))) so few
-      (refl, λ agrees. let same = sym is ∙ agrees.1 in cc, λ missing lacks. let same = sym is ∙ lacks in cc);
-}
+same-missing : (expected : ExpectedLines) → AreLawful expected → (lines : List CutLine) (i : ℕ) (one other : Missing) →
+    Lacks expected lines i one → Lacks expected lines i other → one ≡ other
+same-missing expected lawful lines i one other is also =
+    let same : also.line ≡ is.line = Some-line (sym also.is_there ∙ is.is_there) in
+    let answers = lawful.one i is.line.bytes (Err one) (Err other) is.so (subst (λ (l : CutLine). IsMissing expected i l other) same also.so) in
+    cc
 
--- what a check of some lines comes to, where so many of them agree
+differs-limit : (expected : ExpectedLines) (lines : List CutLine) (i : ℕ) (missing : Missing) →
+    ComesTo expected lines (Err (Differs i)) → LacksFirst expected lines missing → ⊥
+differs-limit expected lines i missing differs lacks =
+    differs.1 missing (subst (λ n. Lacks expected lines n missing) (same-first expected lines lacks.number i lacks.first differs.0) lacks.lacks)
+
+pub one-answer : (expected : ExpectedLines) → AreLawful expected → (lines : List CutLine) (one other : Result (Unit {0}) CheckFault) →
+    ComesTo expected lines one → ComesTo expected lines other → one ≡ other
+one-answer expected lawful lines (Ok done) (Ok also_done) is also = refl
+one-answer expected lawful lines (Ok done) (Err (Differs i)) is also = absurd (is i also.0.at_fault)
+one-answer expected lawful lines (Ok done) (Err (Limit missing)) is also = absurd (is also.number also.first.at_fault)
+one-answer expected lawful lines one (Err Read) is also = absurd also
+one-answer expected lawful lines (Err (Differs i)) (Ok done) is also = absurd (also i is.0.at_fault)
+one-answer expected lawful lines (Err (Differs i)) (Err (Differs j)) is also = ap (λ n. Err (Differs n)) (same-first expected lines i j is.0 also.0)
+one-answer expected lawful lines (Err (Differs i)) (Err (Limit missing)) is also = absurd (differs-limit expected lines i missing is also)
+one-answer expected lawful lines (Err (Limit missing)) (Ok done) is also = absurd (also is.number is.first.at_fault)
+one-answer expected lawful lines (Err (Limit missing)) (Err (Differs i)) is also = absurd (differs-limit expected lines i missing also is)
+one-answer expected lawful lines (Err (Limit missing)) (Err (Limit other)) is also =
+    let number : also.number ≡ is.number = same-first expected lines also.number is.number also.first is.first in
+    ap (λ m. Err (Limit m)) (same-missing expected lawful lines is.number missing other is.lacks
+    (subst (λ n. Lacks expected lines n other) number also.lacks))
+one-answer expected lawful lines (Err Read) other is also = absurd is
+
+-- what a check of some lines comes to
 abbrev Answered : ExpectedLines → List CutLine → Type 0
 Answered expected lines = (answer : Result (Unit {0}) CheckFault) × ComesTo expected lines answer
 
-answered-end : (expected : ExpectedLines) (lines : List CutLine) → AgreeFrom expected 0 lines → length lines ≤ expected.count →
-    (length lines < expected.count) ⊎ (expected.count ≤ length lines) → Answered expected (lines ++ [])
-answered-end expected lines so few (inl less) =
-    (Err (Differs (suc (length lines))), comes-to-line expected lines [] (Differs (suc (length lines))) so (omega arith) refl)
-answered-end expected lines so few (inr all) = (Ok tt, comes-to-agreement expected lines tt so (omega arith))
+module _ (expected : ExpectedLines) (lawful : AreLawful expected) (answers : HaveAnswers expected) where
+  -- whether this line agrees with line i, or is at fault
+  judged-by : (lines : List CutLine) (line : CutLine) (more : List CutLine) → OfEach (IsFaultless expected) lines →
+      suc (length lines) ≤ expected.count → (ended : Bool) → line.ended ≡ ended →
+      (found : Result Bool Missing) → expected.IsAnswer (suc (length lines)) line.bytes found →
+      (LineAgrees expected (suc (length lines)) line → Answered expected (lines ++ line ∷ more)) → Answered expected (lines ++ line ∷ more)
+  judged-by lines line more so few ended is_ended (Err missing) is next =
+      (Err (Limit missing), comes-to-line expected lines (line ∷ more) (Limit missing) so few is)
+  judged-by lines line more so few true is_ended (Ok true) is next = next (is_ended, is)
+  judged-by lines line more so few false is_ended (Ok answer) is next = (
+    Err (Differs (suc (length lines))),
+    comes-to-line expected lines (line ∷ more) (Differs (suc (length lines))) so few (
+      refl,
+      λ agrees. false≢true (sym is_ended ∙ agrees.0),
+      λ missing lacks. let same = lawful.one (suc (length lines)) line.bytes (Ok answer) (Err missing) is lacks in cc,
+    ),
+  )
+  judged-by lines line more so few true is_ended (Ok false) is next = (
+    Err (Differs (suc (length lines))),
+    comes-to-line expected lines (line ∷ more) (Differs (suc (length lines))) so few (
+      refl,
+      λ agrees. let same = lawful.one (suc (length lines)) line.bytes (Ok false) (Ok true) is agrees.1 in cc,
+      λ missing lacks. let same = lawful.one (suc (length lines)) line.bytes (Ok false) (Err missing) is lacks in cc,
+    ),
+  )
 
-answered-next : (expected : ExpectedLines) (lines : List CutLine) (line : CutLine) (more : List CutLine) → AgreeFrom expected 0 lines →
-    ((longer : List CutLine) → AgreeFrom expected 0 longer → length longer ≤ expected.count → Answered expected (longer ++ more)) →
-    (length lines < expected.count) ⊎ (expected.count ≤ length lines) → length lines ≤ expected.count → Answered expected (lines ++ line ∷ more)
-answered-next expected lines line more so next (inr all) few =
-    (Err (Differs (suc (length lines))), comes-to-more expected lines line more so (omega arith))
-answered-next expected lines line more so next (inl less) few =
-    let judged = judged-by expected lines line more so (omega arith) line.ended refl (expected.answer (suc (length lines)) line.bytes) refl
-    (λ agrees.
-    let longer = next (lines ++ line ∷ []) (AgreeFrom-push expected 0 lines line so (subst (λ n. LineAgrees expected (suc n) line) (omega arith) agrees))
-    (omega (arith, length-append lines (line ∷ []))) in
-    record { answer = longer.0; comes = subst (λ x. ComesTo expected x longer.0) (append_assoc lines (line ∷ []) more) longer.1 }) in
-    (judged.answer, judged.comes)
+  answered-end : (lines : List CutLine) → OfEach (IsFaultless expected) lines → length lines ≤ expected.count →
+      (length lines < expected.count) ⊎ (expected.count ≤ length lines) → Answered expected (lines ++ [])
+  answered-end lines so few (inl less) =
+      (Err (Differs (suc (length lines))), comes-to-line expected lines [] (Differs (suc (length lines))) so (omega arith) refl)
+  answered-end lines so few (inr all) = (Ok tt, comes-to-agreement expected lines tt so (omega arith))
 
-answered-from : (expected : ExpectedLines) (more lines : List CutLine) → AgreeFrom expected 0 lines → length lines ≤ expected.count →
-    Answered expected (lines ++ more)
-answered-from expected [] lines so few = answered-end expected lines so few (cases_lt (length lines) expected.count)
-answered-from expected (line ∷ more) lines so few =
-    answered-next expected lines line more so (answered-from expected more) (cases_lt (length lines) expected.count) few
+  answered-next : (lines : List CutLine) (line : CutLine) (more : List CutLine) → OfEach (IsFaultless expected) lines →
+      ((longer : List CutLine) → OfEach (IsFaultless expected) longer → length longer ≤ expected.count → Answered expected (longer ++ more)) →
+      (length lines < expected.count) ⊎ (expected.count ≤ length lines) → length lines ≤ expected.count → Answered expected (lines ++ line ∷ more)
+  answered-next lines line more so next (inr all) few =
+      (Err (Differs (suc (length lines))), comes-to-more expected lines line more so (omega arith))
+  answered-next lines line more so next (inl less) few =
+      let number = suc (length lines) in
+      let found = answers number line.bytes (omega arith, omega arith) in
+      judged-by lines line more so (omega arith) line.ended refl found.0 found.1
+      (λ agrees.
+      let longer = next (lines ++ line ∷ []) (OfEach-push (IsFaultless expected) lines line so (faultless expected lawful number line agrees))
+      (omega (arith, length-append lines (line ∷ []))) in
+      (longer.0, subst (λ x. ComesTo expected x longer.0) (append_assoc lines (line ∷ []) more) longer.1))
 
-pub some-answer : (expected : ExpectedLines) (lines : List CutLine) → (answer : Result (Unit {0}) CheckFault) × ComesTo expected lines answer
-some-answer expected lines = answered-from expected lines [] (AgreeFrom-none expected 0) (omega arith)
+  answered-from : (more lines : List CutLine) → OfEach (IsFaultless expected) lines → length lines ≤ expected.count → Answered expected (lines ++ more)
+  answered-from [] lines so few = answered-end lines so few (cases_lt (length lines) expected.count)
+  answered-from (line ∷ more) lines so few = answered-next lines line more so (answered-from more) (cases_lt (length lines) expected.count) few
+
+  pub some-answer : (lines : List CutLine) → (answer : Result (Unit {0}) CheckFault) × ComesTo expected lines answer
+  some-answer lines = answered-from lines [] (OfEach-none (IsFaultless expected)) (omega arith)
 
 -- ---- what agreement says of all lines
 
 module _ (expected : ExpectedLines) (lines : List CutLine) (agrees : ComesTo expected lines (Ok tt)) where
-  judged-line : (k : ℕ) (line : CutLine) → line_from_zero lines k ≡ Some line → k < expected.count →
-      (ended : Bool) → line.ended ≡ ended → (found : Result Bool Missing) → expected.answer (suc k) line.bytes ≡ found → LineAgrees expected (suc k) line
-  judged-line k line there less true is_ended (Ok true) is = (is_ended, is)
-  judged-line k line there less true is_ended (Ok false) is =
-      absurd (agrees (suc k) (inr (inl (record {
-        is_expected = (omega arith, omega arith);
-        line = line;
-        is_there = there;
-        so = λ both. let same = sym is ∙ both.1 in cc;
-      }))))
-  judged-line k line there less false is_ended (Ok answer) is =
-      absurd (agrees (suc k) (inr (inl (record {
-        is_expected = (omega arith, omega arith);
-        line = line;
-        is_there = there;
-        so = λ both. false≢true (sym is_ended ∙ both.0);
-      }))))
-  judged-line k line there less ended is_ended (Err missing) is =
-      absurd (agrees (suc k) (inr (inr (record { is_expected = (omega arith, omega arith); line = line; is_there = there; so = (missing, is) }))))
-
-  agreeing-line-by : (k : ℕ) (line : CutLine) → line_from_zero lines k ≡ Some line → (k < expected.count) ⊎ (expected.count ≤ k) → LineAgrees expected (suc k) line
-  agreeing-line-by k line there (inl less) =
-      judged-line k line there less line.ended refl (expected.answer (suc k) line.bytes) refl
-  agreeing-line-by k line there (inr past) =
-      absurd (agrees (suc k) (inl (inr (λ is. absurd (omega (arith, is.1)), λ none. let same = sym there ∙ none in cc))))
-
-  agreeing-line : (k : ℕ) (line : CutLine) → line_from_zero lines k ≡ Some line → LineAgrees expected (suc k) line
-  agreeing-line k line there = agreeing-line-by k line there (cases_lt k expected.count)
-
   as-many-by : (length lines ≡ expected.count) ⊎ ((length lines < expected.count) ⊎ (expected.count < length lines)) → length lines ≡ expected.count
   as-many-by (inl same) = same
   as-many-by (inr (inl less)) =
@@ -186,24 +193,28 @@ module _ (expected : ExpectedLines) (lines : List CutLine) (agrees : ComesTo exp
   pub as-many : length lines ≡ expected.count
   as-many = as-many-by (cases_order (length lines) expected.count)
 
-agree-from : (expected : ExpectedLines) (i : ℕ) (lines : List CutLine) →
-    ((k : ℕ) (line : CutLine) → line_from_zero lines k ≡ Some line → LineAgrees expected (suc (i + k)) line) → AgreeFrom expected i lines
-unfolding AgreeFrom
-agree-from expected i [] each = tt
-agree-from expected i (line ∷ lines) each = (
-  subst (λ n. LineAgrees expected (suc n) line) (omega arith) (each 0 line refl),
-  agree-from expected (suc i) lines (λ k next there. subst (λ n. LineAgrees expected (suc n) next) (omega arith) (each (suc k) next there)),
-)
+  -- and none of them is at fault
+  pub all-faultless : OfEach (IsFaultless expected) lines
+  all-faultless k line there =
+      let is : IsExpected expected (suc k) = (omega arith, omega (arith, line-within lines k line there, as-many)) in
+      record {
+        agrees = λ differs. agrees (suc k) (inr (inl (record { is_expected = is; line = line; is_there = there; so = differs })));
+        there = λ missing lacks.
+            agrees (suc k) (inr (inr (record { is_expected = is; line = line; is_there = there; so = (missing, lacks) })));
+      }
 
--- and all of them agree
-pub all-of : (expected : ExpectedLines) (lines : List CutLine) → ComesTo expected lines (Ok tt) → AgreeFrom expected 0 lines
-all-of expected lines agrees = agree-from expected 0 lines (λ k line there.
-    subst (λ n. LineAgrees expected (suc n) line) (omega arith) (agreeing-line expected lines agrees k line there))
+ended-by : (expected : ExpectedLines) (i : ℕ) (line : CutLine) → IsFaultless expected i line → (ended : Bool) → line.ended ≡ ended → line.ended ≡ true
+ended-by expected i line so true is = is
+ended-by expected i line so false is = absurd (so.agrees (λ agrees. false≢true (sym is ∙ agrees.0)))
 
-ended-of : (expected : ExpectedLines) (i : ℕ) (lines : List CutLine) → AgreeFrom expected i lines → AreEnded lines
-unfolding AgreeFrom AreEnded
-ended-of expected i [] so = tt
-ended-of expected i (line ∷ lines) so = (so.0.0, ended-of expected (suc i) lines so.1)
+each-ended : (lines : List CutLine) → OfEach (λ _ line. line.ended ≡ true) lines → AreEnded lines
+unfolding AreEnded
+each-ended [] each = tt
+each-ended (line ∷ lines) each = (each 0 line refl, each-ended lines (λ k next there. each (suc k) next there))
+
+-- so a line feed ends each of them
+ended-of : (expected : ExpectedLines) (lines : List CutLine) → OfEach (IsFaultless expected) lines → AreEnded lines
+ended-of expected lines so = each-ended lines (λ k line there. ended-by expected (suc k) line (so k line there) line.ended refl)
 
 -- ---- one end
 
@@ -226,17 +237,17 @@ pub agreed-feed : (expected : ExpectedLines) (sheet : List ℕ) → ComesTo expe
     (body : List ℕ) × (sheet ≡ body ++ 10 ∷ [])
 agreed-feed expected sheet agrees some =
     subst EndsWithFeed (joined-cut sheet)
-    (feed-last (cut_lines sheet) (ended-of expected 0 (cut_lines sheet) (all-of expected (cut_lines sheet) agrees))
+    (feed-last (cut_lines sheet) (ended-of expected (cut_lines sheet) (all-faultless expected (cut_lines sheet) agrees))
     (omega (arith, as-many expected (cut_lines sheet) agrees)))
 
 pub agreed-more : (expected : ExpectedLines) (sheet : List ℕ) (byte : ℕ) (rest : List ℕ) → ComesTo expected (cut_lines sheet) (Ok tt) →
     ComesTo expected (cut_lines (sheet ++ byte ∷ rest)) (Err (Differs (expected.count + 1)))
 agreed-more expected sheet byte rest agrees =
-    let all = all-of expected (cut_lines sheet) agrees in
+    let all = all-faultless expected (cut_lines sheet) agrees in
     let many = as-many expected (cut_lines sheet) agrees in
     let next = cut-some byte rest in
     let lines : cut_lines (sheet ++ byte ∷ rest) ≡ cut_lines sheet ++ next.line ∷ next.behind =
-    cut-append sheet (byte ∷ rest) (ended-of expected 0 (cut_lines sheet) all) ∙ ap (λ x. cut_lines sheet ++ x) next.is in
+    cut-append sheet (byte ∷ rest) (ended-of expected (cut_lines sheet) all) ∙ ap (λ x. cut_lines sheet ++ x) next.is in
     let number : suc (length (cut_lines sheet)) ≡ expected.count + 1 = omega arith in
     subst (λ n. ComesTo expected (cut_lines (sheet ++ byte ∷ rest)) (Err (Differs n))) number
     (subst (λ x. ComesTo expected x (Err (Differs (suc (length (cut_lines sheet)))))) (sym lines)
@@ -306,23 +317,10 @@ tail-of : (text : List ℕ) → HasTail text
 tail-of [] = record { whole = []; tail = []; parts = refl; ended = ended-nothing; plain = IsPlain-none }
 tail-of (byte ∷ text) = tail-by byte text (tail-of text) (cases_Bool (nat_eq byte 10))
 
-record AgreeBefore (expected : ExpectedLines) (i : ℕ) (lines : List CutLine) (line : CutLine) : Type 0 where
-  pub agree : AgreeFrom expected i lines
-  pub last : LineAgrees expected (suc (i + length lines)) line
-
-agree-before : (expected : ExpectedLines) (i : ℕ) (lines : List CutLine) (line : CutLine) → AgreeFrom expected i (lines ++ line ∷ []) →
-    AgreeBefore expected i lines line
-unfolding AgreeFrom
-agree-before expected i [] line so = record { agree = tt; last = subst (λ n. LineAgrees expected (suc n) line) (omega arith) so.0 }
-agree-before expected i (first ∷ lines) line so =
-    let behind = agree-before expected (suc i) lines line so.1 in
-    record { agree = (so.0, behind.agree); last = subst (λ n. LineAgrees expected (suc n) line) (omega arith) behind.last }
-
-unended-differs : (expected : ExpectedLines) (i : ℕ) (tail : List ℕ) → IsPlain tail → expected.answer i tail ≡ Ok true →
-    LineComesTo expected i (line_at (cut_lines tail) 1) (Differs i)
-unended-differs expected i [] plain agrees = rw cut-none refl
-unended-differs expected i (byte ∷ text) plain agrees =
-    rw (cut-last byte text plain) (refl, λ both. false≢true both.0, λ missing lacks. let same = sym agrees ∙ lacks in cc)
+unended-differs : (expected : ExpectedLines) (i : ℕ) (tail : List ℕ) → IsPlain tail →
+    ((missing : Missing) → expected.IsAnswer i tail (Err missing) → ⊥) → LineComesTo expected i (line_at (cut_lines tail) 1) (Differs i)
+unended-differs expected i [] plain there = rw cut-none refl
+unended-differs expected i (byte ∷ text) plain there = rw (cut-last byte text plain) (refl, λ both. false≢true both.0, there)
 
 left-out-by : (expected : ExpectedLines) (body : List ℕ) → ComesTo expected (cut_lines (body ++ 10 ∷ [])) (Ok tt) → HasTail body →
     ComesTo expected (cut_lines body) (Err (Differs expected.count))
@@ -332,16 +330,17 @@ left-out-by expected body agrees has =
     ap (λ x. cut_lines (x ++ 10 ∷ [])) has.parts ∙ ap cut_lines (append_assoc has.whole has.tail (10 ∷ []))
     ∙ cut-push has.whole has.tail has.ended has.plain in
     let agrees' : ComesTo expected (cut_lines has.whole ++ last ∷ []) (Ok tt) = subst (λ x. ComesTo expected x (Ok tt)) lines agrees in
-    let before = agree-before expected 0 (cut_lines has.whole) last (all-of expected (cut_lines has.whole ++ last ∷ []) agrees') in
+    let all = all-faultless expected (cut_lines has.whole ++ last ∷ []) agrees' in
+    let before : OfEach (IsFaultless expected) (cut_lines has.whole) = λ k line there.
+    all k line (at-before (cut_lines has.whole) (last ∷ []) k (line-within (cut_lines has.whole) k line there) ∙ there) in
+    let at-last = all (length (cut_lines has.whole)) last (at-behind (cut_lines has.whole) (last ∷ [])) in
     let many = as-many expected (cut_lines has.whole ++ last ∷ []) agrees' in
     let number : suc (length (cut_lines has.whole)) ≡ expected.count = omega (arith, length-append (cut_lines has.whole) (last ∷ [])) in
-    let answer : expected.answer (suc (length (cut_lines has.whole))) has.tail ≡ Ok true =
-    subst (λ n. expected.answer (suc n) has.tail ≡ Ok true) (omega arith) before.last.1 in
     subst (λ n. ComesTo expected (cut_lines body) (Err (Differs n))) number
     (subst (λ x. ComesTo expected x (Err (Differs (suc (length (cut_lines has.whole))))))
     (sym (ap cut_lines has.parts ∙ cut-append has.whole has.tail has.ended))
-    (comes-to-line expected (cut_lines has.whole) (cut_lines has.tail) (Differs (suc (length (cut_lines has.whole)))) before.agree (omega arith)
-    (unended-differs expected (suc (length (cut_lines has.whole))) has.tail has.plain answer)))
+    (comes-to-line expected (cut_lines has.whole) (cut_lines has.tail) (Differs (suc (length (cut_lines has.whole)))) before (omega arith)
+    (unended-differs expected (suc (length (cut_lines has.whole))) has.tail has.plain at-last.there)))
 
 pub agreed-left-out : (expected : ExpectedLines) (body : List ℕ) → ComesTo expected (cut_lines (body ++ 10 ∷ [])) (Ok tt) →
     ComesTo expected (cut_lines body) (Err (Differs expected.count))
@@ -351,9 +350,9 @@ agreed-left-out expected body agrees = left-out-by expected body agrees (tail-of
 
 pub nothing-agrees : (expected : ExpectedLines) → expected.count ≡ 0 → ComesTo expected (cut_lines []) (Ok tt)
 nothing-agrees expected none =
-    subst (λ x. ComesTo expected x (Ok tt)) (sym cut-none) (comes-to-agreement expected [] tt (AgreeFrom-none expected 0) (sym none))
+    subst (λ x. ComesTo expected x (Ok tt)) (sym cut-none) (comes-to-agreement expected [] tt (OfEach-none (IsFaultless expected)) (sym none))
 
 pub nothing-differs : (expected : ExpectedLines) → 1 ≤ expected.count → ComesTo expected (cut_lines []) (Err (Differs 1))
 nothing-differs expected some =
     subst (λ x. ComesTo expected x (Err (Differs 1))) (sym cut-none)
-    (comes-to-line expected [] [] (Differs 1) (AgreeFrom-none expected 0) some refl)
+    (comes-to-line expected [] [] (Differs 1) (OfEach-none (IsFaultless expected)) some refl)

@@ -1,6 +1,6 @@
 -- When a sheet agrees with what is expected, and which line is the first at fault.
 use Rattle.std.specs.Prelude.{ℕ, zero, suc, Bool, true, ◌≡◌, ◌<◌, ◌≤◌, ◌≢◌, ◌⊎◌, Option, Some, None, List, [], ◌∷◌}
-use Rattle.std.specs.Prelude.{Result, Ok, Err}
+use Rattle.std.specs.Prelude.{Result, Ok, Err, length}
 use Rattle.scr_check.specs.declared.fault.Missing.{Missing}
 use Rattle.scr_check.specs.declared.fault.CheckFault.{CheckFault}
 use Rattle.scr_check.specs.declared.fault.CheckFault.TheVariants.{Differs, Limit, Read}
@@ -10,15 +10,29 @@ use Rattle.scr_check.specs.Lines.{CutLine}
 abbrev pub most_bytes : ℕ
 most_bytes = 1300
 
--- how many lines are expected, and what is answered for a line, from 1, and a text: whether they agree, or that the
+-- how many lines are expected, and what is an answer for a line, from 1, and a text: whether they agree, or that the
 -- line is that of a slot which is missing
-pub record ExpectedLines : Type 0 where
+pub record ExpectedLines : Type 1 where
   pub count : ℕ
-  pub answer : ℕ → List ℕ → Result Bool Missing
+  pub IsAnswer : ℕ → List ℕ → Result Bool Missing → Type 0
 
 -- line i is expected
 abbrev pub IsExpected : ExpectedLines → ℕ → Type 0
 IsExpected expected i = (1 ≤ i) × (i ≤ expected.count)
+
+-- What must hold of the lines that are expected: a line and a text have one answer at most; no long text agrees; and
+-- whether a slot is missing, and which, depends on the line alone.
+pub record AreLawful (expected : ExpectedLines) : Type 0 where
+  pub one : (i : ℕ) (text : List ℕ) (one other : Result Bool Missing) →
+      expected.IsAnswer i text one → expected.IsAnswer i text other → one ≡ other
+  pub short : (i : ℕ) (text : List ℕ) → expected.IsAnswer i text (Ok true) → length text ≤ most_bytes
+  pub by_line : (i : ℕ) (text other : List ℕ) (missing : Missing) →
+      expected.IsAnswer i text (Err missing) → expected.IsAnswer i other (Err missing)
+
+-- each line that is expected has an answer for each text
+abbrev pub HaveAnswers : ExpectedLines → Type 0
+HaveAnswers expected =
+    (i : ℕ) (text : List ℕ) → IsExpected expected i → (answer : Result Bool Missing) × expected.IsAnswer i text answer
 
 -- line i of a sheet, counted from 1
 abbrev pub line_from_zero : List CutLine → ℕ → Option CutLine
@@ -32,7 +46,7 @@ line_at lines (suc i) = line_from_zero lines i
 
 -- a line of a sheet agrees with line i: a line feed ends it, and its bytes agree
 abbrev pub LineAgrees : ExpectedLines → ℕ → CutLine → Type 0
-LineAgrees expected i line = (line.ended ≡ true) × (expected.answer i line.bytes ≡ Ok true)
+LineAgrees expected i line = (line.ended ≡ true) × expected.IsAnswer i line.bytes (Ok true)
 
 -- each of a sheet's lines agrees with that of its number
 abbrev pub AllAgree : ExpectedLines → List CutLine → Type 0
@@ -40,7 +54,7 @@ AllAgree expected lines = (i : ℕ) (line : CutLine) → line_at lines i ≡ Som
 
 -- its slot is missing
 abbrev pub IsMissing : ExpectedLines → ℕ → CutLine → Missing → Type 0
-IsMissing expected i line missing = expected.answer i line.bytes ≡ Err missing
+IsMissing expected i line missing = expected.IsAnswer i line.bytes (Err missing)
 
 -- both have a line i, and this is so of the sheet's
 pub record BothHave (expected : ExpectedLines) (lines : List CutLine) (i : ℕ) (P : CutLine → Type 0) : Type 0 where

@@ -55,7 +55,7 @@ module _ {S : Type 0} (left : S → Option (List ℕ)) (faults ends : S → ℕ)
     pub text : List ℕ
     pub takes : Takes left faults ends before after (text ++ 10 ∷ [])
     pub plain : IsPlain text
-    pub agrees : expected.answer i text ≡ Ok true
+    pub agrees : expected.IsAnswer i text (Ok true)
 
   -- as much of a line was taken as tells that it is at fault
   pub record TakesBadLine (before after : Reading S) (expected : ExpectedLines) (i : ℕ) (fault : CheckFault) : Type 0 where

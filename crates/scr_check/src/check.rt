@@ -1,6 +1,7 @@
 //! The check of a sheet, line by line.
 
 ghost use Rattle.std.specs.Prelude.{◌≡◌, ◌+◌, ◌-◌, ◌^◌, ◌<◌, ◌≤◌};
+ghost use Rattle.scr_check.specs.Agreement.{AreLawful};
 ghost use Rattle.scr_check.specs.Reading.{reading, source_name};
 ghost use Rattle.scr_check.specs.Taken.{ChecksLine, ChecksSheet};
 
@@ -45,6 +46,7 @@ fn check_line<S: Source, X: Expected>(
 ) -> Result<(), CheckFault>
     requires first { 1 ≤ line }
     requires last { line ≤ (X.lines expected.now).count }
+    requires lawful { AreLawful (X.lines expected.now) }
     ensures same_source { source_name reader.new ≡ source_name reader.old }
     ensures line { ChecksLine S.left S.faults S.ends (reading reader.old) (reading reader.new)
         (X.lines expected.now) line result }

@@ -5,12 +5,13 @@ ghost use Rattle.scr_outside.specs.Bytes.{put_back};
 ghost use Rattle.scr_outside.specs.Change.{intake_of, Gives, TellsEnd};
 ghost use Rattle.scr_check.specs.declared.fault.CheckFault.{CheckFault};
 ghost use Rattle.scr_check.specs.declared.fault.CheckFault.TheVariants.{Differs};
-ghost use Rattle.scr_check.specs.Agreement.{ExpectedLines, ComesTo};
+ghost use Rattle.scr_check.specs.Agreement.{AreLawful, HaveAnswers, ComesTo};
 ghost use Rattle.scr_check.specs.Lines.{CutLine, cut_lines, joined_lines};
 ghost use Rattle.scr_check.specs.Parts.{list_part, sheet_part, separator};
 ghost use Rattle.scr_check.specs.Reading.{Reading, fresh, Takes, StopsShort};
 ghost use Rattle.scr_check.specs.Shapes.{AreCut, IsListText, NoneSeparates};
 
+use crate::expected::Expected;
 use scr_outside::Source;
 
 /// A text is joined from its lines. They are the only ones that it can be joined from where none has a line
@@ -34,32 +35,37 @@ pub fn parts_are_read_back()
     ensures none_behind { (input : List ℕ) → NoneSeparates (cut_lines input) → sheet_part input ≡ [] }
 {}
 
-/// A check comes to exactly one answer.
-pub fn one_answer()
-    ensures one { (expected : ExpectedLines) (lines : List CutLine) (one other : Result (Unit {0}) CheckFault)
-        → ComesTo expected lines one → ComesTo expected lines other → one ≡ other }
-    ensures some { (expected : ExpectedLines) (lines : List CutLine)
-        → (answer : Result (Unit {0}) CheckFault) × ComesTo expected lines answer }
+/// A check comes to one answer at most, and to exactly one where each line that is expected has an answer for
+/// each text.
+pub fn one_answer<X: Expected>()
+    ensures one { (expected : X) (lines : List CutLine) (one other : Result (Unit {0}) CheckFault)
+        → AreLawful (X.lines expected)
+        → ComesTo (X.lines expected) lines one → ComesTo (X.lines expected) lines other → one ≡ other }
+    ensures some { (expected : X) (lines : List CutLine)
+        → AreLawful (X.lines expected) → HaveAnswers (X.lines expected)
+        → (answer : Result (Unit {0}) CheckFault) × ComesTo (X.lines expected) lines answer }
 {}
 
 /// A sheet that agrees ends with a line feed, unless no lines are expected. Without this last byte its last
 /// line differs; with more bytes behind it, the line after the last one does.
-pub fn sheets_with_one_end()
-    ensures feed { (expected : ExpectedLines) (sheet : List ℕ) → ComesTo expected (cut_lines sheet) (Ok tt)
-        → 1 ≤ expected.count → (body : List ℕ) × (sheet ≡ body ++ 10 ∷ []) }
-    ensures left_out { (expected : ExpectedLines) (body : List ℕ)
-        → ComesTo expected (cut_lines (body ++ 10 ∷ [])) (Ok tt)
-        → ComesTo expected (cut_lines body) (Err (Differs expected.count)) }
-    ensures more { (expected : ExpectedLines) (sheet : List ℕ) (byte : ℕ) (rest : List ℕ)
-        → ComesTo expected (cut_lines sheet) (Ok tt)
-        → ComesTo expected (cut_lines (sheet ++ byte ∷ rest)) (Err (Differs (expected.count + 1))) }
+pub fn sheets_with_one_end<X: Expected>()
+    ensures feed { (expected : X) (sheet : List ℕ) → ComesTo (X.lines expected) (cut_lines sheet) (Ok tt)
+        → 1 ≤ (X.lines expected).count → (body : List ℕ) × (sheet ≡ body ++ 10 ∷ []) }
+    ensures left_out { (expected : X) (body : List ℕ)
+        → ComesTo (X.lines expected) (cut_lines (body ++ 10 ∷ [])) (Ok tt)
+        → ComesTo (X.lines expected) (cut_lines body) (Err (Differs (X.lines expected).count)) }
+    ensures more { (expected : X) (sheet : List ℕ) (byte : ℕ) (rest : List ℕ)
+        → ComesTo (X.lines expected) (cut_lines sheet) (Ok tt)
+        → ComesTo (X.lines expected) (cut_lines (sheet ++ byte ∷ rest))
+        (Err (Differs ((X.lines expected).count + 1))) }
 {}
 
 /// Without a byte nothing differs where no lines are expected, and else the first line does.
-pub fn sheets_without_a_byte()
-    ensures agrees { (expected : ExpectedLines) → expected.count ≡ 0 → ComesTo expected (cut_lines []) (Ok tt) }
-    ensures differs { (expected : ExpectedLines) → 1 ≤ expected.count
-        → ComesTo expected (cut_lines []) (Err (Differs 1)) }
+pub fn sheets_without_a_byte<X: Expected>()
+    ensures agrees { (expected : X) → (X.lines expected).count ≡ 0
+        → ComesTo (X.lines expected) (cut_lines []) (Ok tt) }
+    ensures differs { (expected : X) → 1 ≤ (X.lines expected).count
+        → ComesTo (X.lines expected) (cut_lines []) (Err (Differs 1)) }
 {}
 
 /// What was taken from a new reader, and what it has read ahead, its source gave; nothing is ahead where the

@@ -1,16 +1,16 @@
 -- Scrambles played and made turn by turn.
 use Rattle.std.proofs.Common.{◌≡◌, ℕ, ◌+◌, ◌<◌, ◌≤◌, ◌↔◌, Bool, false, IsTrue, IsSome, List, [], ◌∷◌, ◌++◌, length, get_or, take, drop, Option, Some, None, refl, sym, ap, ◌∙◌, subst, arith, le-leb, length-append, append_assoc}
-use Rattle.std.specs.Prelude.{All, ◌==◌, nat_le}
+use Rattle.std.specs.Prelude.{All, ◌==◌, nat_le, is_some}
 use Rattle.std.specs.Bool.{OnTrue}
 use Rattle.std.specs.List.{list_any}
 use Rattle.std.specs.Option.{option_map}
 use Rattle.std.proofs.lemmas.Bool.{false≢true, and_from, OnTrue_at}
 use Rattle.std.proofs.lemmas.Option.{cond_some}
 use Rattle.std.proofs.lemmas.List.{take_more, take_all, length-take-le, length-drop}
-use Rattle.std.proofs.lemmas.List.Elements.{All-nil, All-cons, All-head, All-tail, All-get_or}
+use Rattle.std.proofs.lemmas.List.Elements.{All-get_or}
 use Rattle.std.proofs.lemmas.Simd.{length-zip2, get_or-zip2}
 use Rattle.scr_combinatorics.specs.Play.{play}
-use Rattle.scr_combinatorics.proofs.PlayLaws.{play-empty, play-first, play-parts}
+use Rattle.scr_combinatorics.proofs.PlayedWhere.{TellsTurns, played-iff}
 use Rattle.scr_notation.specs.declared.event.Event.{Event}
 use Rattle.scr_notation.specs.declared.event.Event.TheVariants.{Clock}
 use Rattle.scr_notation.specs.declared.event.Kind.{Kind}
@@ -155,31 +155,21 @@ turn_of held r (Pins p a) e = (cond_some (is_clock_turn (Pins p a)) _ r e).0
 turn_of held r Over e = refl
 turn_of held r _ e = absurd (cc)
 
-played : (turns : List Turn) (held : HeldClock) → All (λ t. IsTrue (is_clock_turn t)) turns
-    → (r : HeldClock) × (play held_after held turns ≡ Some r)
-played [] held h = (held, play-empty held_after held)
-played (t ∷ turns) held h =
-    let first = step_by held t (All-head (λ u. IsTrue (is_clock_turn u)) t turns h) in
-    let rest = played turns first.0 (All-tail (λ u. IsTrue (is_clock_turn u)) t turns h) in
-    (rest.0, play-first held_after held first.0 t turns first.1 ∙ rest.1)
-
-turns_of : (turns : List Turn) (held r : HeldClock) → play held_after held turns ≡ Some r → All (λ t. IsTrue (is_clock_turn t)) turns
-turns_of [] held r e = All-nil (λ t. IsTrue (is_clock_turn t))
-turns_of (t ∷ turns) held r e =
-    let parts = play-parts held_after held r t turns e in
-    All-cons (λ u. IsTrue (is_clock_turn u)) t turns (turn_of held parts.0 t parts.1) (turns_of turns parts.0 r parts.2)
+tells_turns : TellsTurns held_after (λ held. Unit {0}) is_clock_turn
+tells_turns = record {
+  does = λ held t valid h. step_by held t h;
+  only = λ held r t valid e. turn_of held r t e;
+  keeps = λ held r t valid e. tt;
+}
 
 -- exactly where each of them is a Clock's
 pub defined-iff : (dials : List ℕ) (turns : List Turn) → IsSome (clock_after dials turns) ↔ All (λ t. IsTrue (is_clock_turn t)) turns
-defined-iff dials turns = (
-  λ s. some (play held_after held turns) refl s,
-  λ h. (let r = played turns held h in subst (λ (o : Option HeldClock). IsSome (option_map (λ x. x.dials) o)) (sym r.1) refl),
-)
+defined-iff dials turns =
+    let held = held_clock dials false in
+    let played = played-iff tells_turns held turns tt in
+    let dials_of = is_some-map (play held_after held turns) in
+    (λ some. played.0 (sym dials_of ∙ some), λ all. dials_of ∙ played.1 all)
   where
-    held : HeldClock
-    held = held_clock dials false
-
-    some : (o : Option HeldClock) → play held_after held turns ≡ o → IsSome (option_map (λ x. x.dials) o)
-        → All (λ t. IsTrue (is_clock_turn t)) turns
-    some None e s = absurd (false≢true s)
-    some (Some r) e s = turns_of turns held r e
+    is_some-map : (o : Option HeldClock) → is_some (option_map (λ x. x.dials) o) ≡ is_some o
+    is_some-map None = refl
+    is_some-map (Some r) = refl

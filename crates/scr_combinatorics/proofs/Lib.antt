@@ -13,6 +13,7 @@ pub mod Numberings
 pub mod EvenLists
 pub mod PlayLaws
 pub mod StepLaws
+pub mod PlayedWhere
 pub mod BackLaws
 pub mod TidyLaws
 pub mod MergeLaws

@@ -1,5 +1,5 @@
 -- What the words of the command line ask for.
-use Rattle.std.specs.Prelude.{◌≡◌, ℕ, if◌then◌else◌, true, List, [], ◌∷◌, codes, Option, Some, None, Result, Ok, Err}
+use Rattle.std.specs.Prelude.{◌≡◌, ℕ, if◌then◌else◌, ◌||◌, true, List, [], ◌∷◌, codes, Option, Some, None, Result, Ok, Err}
 use Rattle.std.specs.Prelude.{ok_or, is_some}
 use Rattle.std.specs.Str.{bytes_eq}
 use Rattle.scr_words.specs.declared.seed.Seed.{Seed}
@@ -11,14 +11,14 @@ use Rattle.scr_text.specs.Numbers.{number_between}
 use Rattle.scr_list.specs.Events.{event_named}
 use Rattle.scr_command.specs.declared.options.Options.{Options}
 use Rattle.scr_command.specs.declared.command.Command.{Command}
-use Rattle.scr_command.specs.declared.command.Command.TheVariants.{One, Sheet, Tables, Load, Net}
+use Rattle.scr_command.specs.declared.command.Command.TheVariants.{One, Sheet, Tables, Load, Net, Check}
 use Rattle.scr_command.specs.declared.command.UsageFault.{UsageFault}
 use Rattle.scr_command.specs.declared.command.UsageFault.TheVariants.{No444, NoSeed, Grammar}
 use Rattle.scr_command.specs.declared.options.OptionName.{OptionName}
 use Rattle.scr_command.specs.declared.options.OptionName.TheVariants.{Workers, Tries, Attempts}
 use Rattle.scr_command.specs.declared.options.OptionName.TheVariants as option
 use Rattle.scr_command.specs.declared.options.Range.{Range}
-use Rattle.scr_command.specs.OptionTable.{option_row, usual_number, sheet_options}
+use Rattle.scr_command.specs.OptionTable.{option_row, usual_number, sheet_options, check_options}
 use Rattle.scr_command.specs.OptionWords.{Values, options_of}
 
 -- ---- the numbers of a run
@@ -103,18 +103,27 @@ net_for (Ok event) seed = if is_some (net_side event) then seeded (Net event) (s
 abbrev pub net_of : List (List ℕ) → Result Command UsageFault
 net_of words = of_two (λ event. net_for (event_for event)) words
 
--- ---- `sheet --seed HEX [--workers N] [--tries N] [--attempts N]`
+-- ---- commands with options
 
 -- the command, where its numbers are in their ranges: only then can the seed alone be amiss
-abbrev pub sheet_for : Option Options → Option (List ℕ) → Result Command UsageFault
-sheet_for None seed = Err Grammar
-sheet_for (Some options) None = Err Grammar
-sheet_for (Some options) (Some seed) = seeded (λ s. Sheet s options) (seed_of seed)
+abbrev pub command_with : {N : Type 0} → (Seed → N → Command) → Option N → Option (List ℕ) → Result Command UsageFault
+command_with command None seed = Err Grammar
+command_with command (Some numbers) None = Err Grammar
+command_with command (Some numbers) (Some seed) = seeded (λ s. command s numbers) (seed_of seed)
+
+-- ---- `sheet --seed HEX [--workers N] [--tries N] [--attempts N]`
 
 -- the command of the values that its options were given
 abbrev pub sheet_of : Option Values → Result Command UsageFault
 sheet_of None = Err Grammar
-sheet_of (Some values) = sheet_for (settings_in values) (values option.Seed)
+sheet_of (Some values) = command_with Sheet (settings_in values) (values option.Seed)
+
+-- ---- `check --seed HEX [--attempts N]`
+
+-- the command of the values that its options were given
+abbrev pub check_of : Option Values → Result Command UsageFault
+check_of None = Err Grammar
+check_of (Some values) = command_with Check (number_in values Attempts) (values option.Seed)
 
 -- ---- `tables EVENT`
 
@@ -154,9 +163,10 @@ command_of (command ∷ words) =
     else if bytes_eq command (codes "tables") then tables_of words
     else if bytes_eq command (codes "load") then load_of words
     else if bytes_eq command (codes "net") then net_of words
+    else if bytes_eq command (codes "check") then check_of (options_of check_options words)
     else Err Grammar
 
--- the words begin with `sheet`: only these does a run split into options, for which it takes memory
-abbrev pub AsksForSheet : List (List ℕ) → Type 0
-AsksForSheet [] = ⊥
-AsksForSheet (command ∷ words) = bytes_eq command (codes "sheet") ≡ true
+-- the words begin with `sheet` or with `check`: only these does a run split into options, for which it takes memory
+abbrev pub HasOptions : List (List ℕ) → Type 0
+HasOptions [] = ⊥
+HasOptions (command ∷ words) = (bytes_eq command (codes "sheet") || bytes_eq command (codes "check")) ≡ true

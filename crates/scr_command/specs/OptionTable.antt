@@ -32,6 +32,10 @@ all_options = Seed ∷ Workers ∷ Tries ∷ Attempts ∷ []
 abbrev pub sheet_options : List OptionName
 sheet_options = Seed ∷ Workers ∷ Tries ∷ Attempts ∷ []
 
+-- those of the command `check`
+abbrev pub check_options : List OptionName
+check_options = Seed ∷ Attempts ∷ []
+
 abbrev pub option_name : OptionName → Text
 option_name option = (option_row option).name
 

@@ -1,9 +1,19 @@
 -- The answer of `split_options` as a contract sees it.
 use Rattle.clap.specs.Words.{first_value}
 use Rattle.clap.specs.declared.parser.matches.Found.{Found}
+use Rattle.scr_command.specs.declared.command.CommandFault.{CommandFault}
+use Rattle.scr_command.specs.declared.command.CommandFault.TheVariants as refusal
+use Rattle.scr_command.specs.declared.command.UsageFault.TheVariants.{Grammar}
+use Rattle.scr_command.specs.declared.splitting.OptionsFault.{OptionsFault}
+use Rattle.scr_command.specs.declared.splitting.OptionsFault.TheVariants as options
 use Rattle.scr_command.specs.OptionTable.{option_name}
 use Rattle.scr_command.specs.OptionWords.{Values}
 
 -- the values that the parser found
 abbrev pub found_values : Found → Values
 found_values found option = first_value found (option_name option)
+
+-- why words were not split, as a fault of the command
+abbrev pub fault_of_options : OptionsFault → CommandFault
+fault_of_options options.Usage = refusal.Usage Grammar
+fault_of_options options.NoMemory = refusal.NoMemory

@@ -3,15 +3,15 @@
 ghost use Rattle.std.specs.Prelude.{◌≡◌, ◌≤◌, [], ◌∷◌, IsTrue, Option, Some, MatchResult, option_map, Ok, IfOk, IfSome};
 ghost use Rattle.scr_command.specs.declared.command.UsageFault.TheVariants.{Grammar, NoSeed};
 ghost use Rattle.scr_command.specs.declared.command.CommandFault.TheVariants.{Usage, NoMemory};
-ghost use Rattle.scr_command.specs.OptionTable.{option_row, sheet_options, IsSettable};
+ghost use Rattle.scr_command.specs.OptionTable.{option_row, sheet_options, check_options, IsSettable};
 ghost use Rattle.scr_command.specs.OptionWords.{options_of};
-ghost use Rattle.scr_command.specs.Split.{found_values};
+ghost use Rattle.scr_command.specs.Split.{found_values, fault_of_options};
 ghost use Rattle.scr_command.specs.Words.{texts};
-ghost use Rattle.scr_command.specs.Command.{command_of, sheet_of, one_of, net_of, net_side, tables_of, load_of, event_for, number_in};
+ghost use Rattle.scr_command.specs.Command.{command_of, sheet_of, check_of, one_of, net_of, net_side, tables_of, load_of, event_for, number_in};
 ghost use Rattle.scr_command.specs.Command.{settings_in};
-ghost use Rattle.scr_command.specs.Reading.{IsRefusal, IsSheetRefusal, IsCommand, AreOptions};
+ghost use Rattle.scr_command.specs.Reading.{IsRefusal, IsOptionsRefusal, IsCommand, AreOptions};
 
-use crate::options::{OptionName, Options, SHEET_OPTIONS, usual};
+use crate::options::{CHECK_OPTIONS, OptionName, Options, SHEET_OPTIONS, usual};
 use crate::splitting::{OptionsFault, SplitOptions, split_options};
 use scr_list::event_named;
 use scr_notation::Event;
@@ -32,6 +32,9 @@ pub enum Command {
     Load(u32),
     /// One scramble of a cube's event, of stream 0 of a seed, and the net of the scrambled cube.
     Net(Event, Seed),
+    /// Whether the sheet in the input is one of the rounds that the input lists before it, made with a seed; the draw of a
+    /// slot has so many attempts.
+    Check(Seed, u32),
 }
 
 /// Why the words ask for nothing.
@@ -62,6 +65,17 @@ pub enum CommandFault {
     NoMemory,
 }
 
+impl From<OptionsFault> for CommandFault {
+    ghost from_gives = { λ options fault. fault ≡ fault_of_options options };
+
+    fn from(options: OptionsFault) -> CommandFault {
+        match options {
+            OptionsFault::Usage => CommandFault::Usage(UsageFault::Grammar),
+            OptionsFault::NoMemory => CommandFault::NoMemory,
+        }
+    }
+}
+
 impl From<UsageFault> for CommandFault {
     ghost from_gives = { λ usage fault. fault ≡ Usage usage };
 
@@ -71,7 +85,7 @@ impl From<UsageFault> for CommandFault {
 }
 
 /// Reads the words of the command line, without the program's name. It takes memory only where the
-/// first word is `sheet`.
+/// first word is `sheet` or `check`.
 pub fn read_command(alloc: Global, words: &[&str]) -> Result<Command, CommandFault>
     ensures answer { MatchResult result (λ command. command_of (texts words.now) ≡ Ok command)
         (IsRefusal (texts words.now)) }
@@ -84,6 +98,7 @@ pub fn read_command(alloc: Global, words: &[&str]) -> Result<Command, CommandFau
         [command, words @ ..] if *command == "tables" => Ok(read_tables(words)?),
         [command, words @ ..] if *command == "load" => Ok(read_load(words)?),
         [command, words @ ..] if *command == "net" => Ok(read_net(words)?),
+        [command, words @ ..] if *command == "check" => read_check(alloc, words),
         [..] => Err(CommandFault::Usage(UsageFault::Grammar)),
     }
 }
@@ -189,14 +204,21 @@ fn read_event(event: &str) -> Result<Event, UsageFault>
 /// Reads the words after `sheet`.
 fn read_sheet(alloc: Global, words: &[&str]) -> Result<Command, CommandFault>
     ensures answer { MatchResult result (λ command. sheet_of (options_of sheet_options (texts words.now)) ≡ Ok command)
-        (IsSheetRefusal (texts words.now)) }
+        (IsOptionsRefusal sheet_of sheet_options (texts words.now)) }
     ensures command { IfOk result IsCommand }
 {
-    match split_options(alloc, &SHEET_OPTIONS, words) {
-        Ok(split) => Ok(read_options(&split)?),
-        Err(OptionsFault::Usage) => Err(CommandFault::Usage(UsageFault::Grammar)),
-        Err(OptionsFault::NoMemory) => Err(CommandFault::NoMemory),
-    }
+    let split = split_options(alloc, &SHEET_OPTIONS, words)?;
+    Ok(read_options(&split)?)
+}
+
+/// Reads the words after `check`.
+fn read_check(alloc: Global, words: &[&str]) -> Result<Command, CommandFault>
+    ensures answer { MatchResult result (λ command. check_of (options_of check_options (texts words.now)) ≡ Ok command)
+        (IsOptionsRefusal check_of check_options (texts words.now)) }
+    ensures command { IfOk result IsCommand }
+{
+    let split = split_options(alloc, &CHECK_OPTIONS, words)?;
+    Ok(read_seed_and_attempts(&split)?)
 }
 
 /// Reads the options of `sheet`, which are split.
@@ -208,6 +230,17 @@ fn read_options(split: &SplitOptions<'_>) -> Result<Command, UsageFault>
     let seed = split.value(OptionName::Seed).ok_or(UsageFault::Grammar)?;
     let seed = read_seed(seed)?;
     Ok(Command::Sheet(seed, options))
+}
+
+/// Reads the options of `check`, which are split.
+fn read_seed_and_attempts(split: &SplitOptions<'_>) -> Result<Command, UsageFault>
+    ensures answer { result ≡ check_of (Some (found_values split.now)) }
+    ensures command { IfOk result IsCommand }
+{
+    let attempts = read_number(split, OptionName::Attempts).ok_or(UsageFault::Grammar)?;
+    let seed = split.value(OptionName::Seed).ok_or(UsageFault::Grammar)?;
+    let seed = read_seed(seed)?;
+    Ok(Command::Check(seed, attempts))
 }
 
 /// Reads the numbers among the options.

@@ -1,11 +1,11 @@
 //! What the grammar is, apart from the order in which it reads words.
 
-ghost use Rattle.std.specs.Prelude.{◌≡◌, List, [], ◌∷◌, codes, Err};
+ghost use Rattle.std.specs.Prelude.{◌≡◌, ◌⊎◌, List, [], ◌∷◌, codes, Err};
 ghost use Rattle.scr_command.specs.declared.command.UsageFault.TheVariants.{Grammar};
 ghost use Rattle.scr_command.specs.OptionTable.{Text};
 ghost use Rattle.scr_command.specs.Spelling.{ReadsBack, ReadsNothingElse};
-ghost use Rattle.scr_command.specs.Command.{AsksForSheet, command_of};
-ghost use Rattle.scr_command.specs.SheetRows.{Sets, AreRefused};
+ghost use Rattle.scr_command.specs.Command.{HasOptions, command_of};
+ghost use Rattle.scr_command.specs.SheetRows.{Sets, AreRefused, SetsAttempts, AreNoCheck};
 
 /// Words are read as a list of options exactly where they are a way to write that list: each option
 /// in one word with an `=` before its value, or in two, of which the second doesn't begin with a
@@ -27,6 +27,13 @@ pub fn numbers_of_a_sheet()
     ensures attempts { AreRefused (codes "--attempts=0" ∷ []) × AreRefused (codes "--attempts=1000001" ∷ []) }
 {}
 
+/// The attempts of a check: the usual ones and the greatest. It has no other number.
+pub fn numbers_of_a_check()
+    ensures usual { SetsAttempts [] 1000 }
+    ensures greatest { SetsAttempts (codes "--attempts=1000000" ∷ []) 1000000 }
+    ensures others { AreNoCheck (codes "--tries=1" ∷ []) × AreNoCheck (codes "--workers=1" ∷ []) }
+{}
+
 /// Words that are no command: options twice, short, cut off, or of no name, values that are missing, and no words.
 pub fn words_that_are_refused()
     ensures twice { AreRefused (codes "--tries=1" ∷ codes "--tries=1" ∷ []) × AreRefused (codes "--seed=0" ∷ []) }
@@ -37,8 +44,9 @@ pub fn words_that_are_refused()
     ensures none { command_of [] ≡ Err Grammar }
 {}
 
-/// Only words of which the first is `sheet` ask for a sheet.
-pub fn words_that_ask_for_a_sheet()
-    ensures first { (first : Text) (others : List Text) → AsksForSheet (first ∷ others) → first ≡ codes "sheet" }
-    ensures none { ¬ (AsksForSheet []) }
+/// Only words of which the first is `sheet` or `check` have options.
+pub fn words_that_have_options()
+    ensures first { (first : Text) (others : List Text) → HasOptions (first ∷ others)
+        → (first ≡ codes "sheet") ⊎ (first ≡ codes "check") }
+    ensures none { ¬ (HasOptions []) }
 {}

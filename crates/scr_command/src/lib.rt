@@ -16,5 +16,5 @@ mod options;
 mod splitting;
 
 pub use command::{Command, CommandFault, UsageFault, net_side, read_command};
-pub use options::{OptionName, Options, Range, SHEET_OPTIONS};
+pub use options::{CHECK_OPTIONS, OptionName, Options, Range, SHEET_OPTIONS};
 pub use splitting::{OptionsFault, SplitOptions, split_options};

@@ -1,7 +1,7 @@
 //! The options of commands, and the numbers that a run is made with.
 
 ghost use Rattle.std.specs.Prelude.{◌≡◌, Some};
-ghost use Rattle.scr_command.specs.OptionTable.{option_row, usual_number, all_options, sheet_options};
+ghost use Rattle.scr_command.specs.OptionTable.{option_row, usual_number, all_options, sheet_options, check_options};
 
 /// An option of a command.
 #[derive(Clone, Copy, Debug, PartialEq, Eq)]
@@ -49,6 +49,9 @@ pub const SHEET_OPTIONS: [OptionName; 4] = [
     OptionName::Tries,
     OptionName::Attempts,
 ];
+
+/// The options of the command `check`.
+pub const CHECK_OPTIONS: [OptionName; 2] = [OptionName::Seed, OptionName::Attempts];
 
 impl OptionName {
     /// Its name, which words spell behind two hyphens.

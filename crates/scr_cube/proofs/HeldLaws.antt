@@ -2,11 +2,10 @@
 -- the cube's own words are.
 use Rattle.std.proofs.Common.{◌≡◌, ℕ, suc, ◌+◌, ◌-◌, ◌/◌, ◌%◌, ◌<◌, ◌≤◌, Bool, true, false, IsTrue, cond, List, [], ◌∷◌, Option, Some, None, length, refl, sym, ap, ◌∙◌, subst, arith, lit≤, eqb, eqb-true, eq-eqb, inl, inr, append-nil}
 use Rattle.std.specs.Prelude.{Contains, option_and_then, slice_index}
-use Rattle.std.specs.List.{list_all}
 use Rattle.std.specs.Option.{option_map}
 use Rattle.std.specs.Cmp.Derive.{both_true}
 use Rattle.std.proofs.lemmas.Bool.{false≢true, cases_lt, eqb-false}
-use Rattle.std.proofs.lemmas.Option.{same_Some, slice_get-get_or}
+use Rattle.std.proofs.lemmas.Option.{same_Some}
 use Rattle.scr_combinatorics.specs.Lists.{numbers_from}
 use Rattle.scr_combinatorics.specs.Permutations.{place_of}
 use Rattle.scr_combinatorics.specs.Play.{play}
@@ -14,7 +13,6 @@ use Rattle.scr_combinatorics.specs.Lawful.{IsLawful}
 use Rattle.scr_combinatorics.specs.Tidy.{word_of, with_turn, tidy}
 use Rattle.scr_combinatorics.proofs.PlayLaws.{play-empty, play-first, play-parts, play-one}
 use Rattle.scr_combinatorics.proofs.TidyLaws.{with_turn-alike}
-use Rattle.scr_orbit.specs.Actions.{power, power_of}
 use Rattle.scr_orbit.proofs.ActionLaws.{map-some}
 use Rattle.scr_orbit.proofs.Parts.{ap_both}
 use Rattle.scr_notation.specs.declared.event.Event.TheVariants.{Bf333}
@@ -27,10 +25,9 @@ use Rattle.scr_notation.proofs.Below.{and_first, and_second}
 use Rattle.scr_notation.proofs.NumberLaws.{IsFaceTurn, face_turn_parts, face_turn_of_parts}
 use Rattle.scr_notation.proofs.OppositeLaws.{permits-opposite}
 use Rattle.scr_turning.specs.PowerPuzzles.{after_letter}
-use Rattle.scr_turning.proofs.FaceLaws.{quarters_of-face}
-use Rattle.scr_cube.specs.Cube333.{CubeState, IsCube, cube_action, cube_quarters, cube_powers}
+use Rattle.scr_cube.specs.Cube333.{CubeState, IsCube, cube_powers}
 use Rattle.scr_cube.specs.Held.{HeldState, IsHeld, opposite_place, whole_turned, turned_face, centres_turned, face_letter, centres_after, held_cube_after, faces_turned, holds}
-use Rattle.scr_cube.proofs.Laws333.{lawful_cube}
+use Rattle.scr_cube.proofs.Laws333.{lawful_cube, turned-some}
 use Rattle.scr_cube.proofs.Holds.{centre-lt, own-place, centre_place-lt, centre_place-is, Contains-whole, axis-kept, whole_turned-none, whole_turned-add, whole_turned-four, centres_played}
 
 -- ---- one letter
@@ -116,16 +113,6 @@ IsHeld-after s r t valid e =
       centres = subst (Contains holds) step.centres (Contains-after s.centres t step.permitted valid.centres);
     }
 
--- each turn of a face makes something of a cube
-turned-some : (c : CubeState) (face amount : ℕ) → face < 6 → 0 < amount → amount < 4 → (d : CubeState) × (after_letter cube_powers c (Face face 1 amount) ≡ Some d)
-unfolding power_of
-turned-some c face amount lt some few =
-    let quarter = slice_get-get_or cube_quarters face cube_action.identity lt in (
-      _,
-      ap (λ o. option_map (cube_action.turned c) (option_and_then (power_of cube_action cube_quarters) o)) (quarters_of-face face amount some few)
-          ∙ ap (λ o. option_map (cube_action.turned c) (option_map (λ r. power cube_action r amount) o)) quarter,
-    )
-
 opposite_place-lt : (place : ℕ) → opposite_place place < 6
 opposite_place-lt place = omega arith
 
@@ -180,14 +167,6 @@ played-centres s r (t ∷ w) e =
     let parts = play-parts held_cube_after s r t w e in
     let step = step-of s parts.0 t parts.1 in
     ap (λ k. centres_played k w) step.centres ∙ played-centres parts.0 r w parts.2
-
--- a word of turns of the event leads somewhere
-pub played-some : (s : HeldState) (w : List Turn) → list_all (permits Bf333) w ≡ true → IsHeld s → (r : HeldState) × (play held_cube_after s w ≡ Some r)
-played-some s [] all valid = (s, play-empty held_cube_after s)
-played-some s (t ∷ w) all valid =
-    let first = held_cube_after-some s t (and_first (permits Bf333 t) (list_all (permits Bf333) w) all) valid.centres in
-    let rest = played-some first.0 w (and_second (permits Bf333 t) (list_all (permits Bf333) w) all) (IsHeld-after s first.0 t valid first.1) in
-    (rest.0, play-first held_cube_after s first.0 t w first.1 ∙ rest.1)
 
 -- a turn of the cube itself
 record IsOuter (t : Turn) : Type 0 where

@@ -1,6 +1,7 @@
 -- Which held cubes turns reach, and how many they need: as the cube alone.
 use Rattle.std.proofs.Common.{◌≡◌, ℕ, List, ◌++◌, Some, refl, sym, ap, ◌∙◌, subst, arith, lit<}
 use Rattle.std.specs.Prelude.{◌↔◌, Contains}
+use Rattle.std.proofs.lemmas.List.Sums.{AllPass-from_list_all}
 use Rattle.scr_combinatorics.specs.Back.{back, IsTakenBack}
 use Rattle.scr_combinatorics.specs.Lists.{numbers_from}
 use Rattle.scr_combinatorics.specs.Play.{play}
@@ -8,22 +9,33 @@ use Rattle.scr_combinatorics.specs.Reach.{IsReached, Needs}
 use Rattle.scr_combinatorics.specs.Tidy.{IsKeptByTidy}
 use Rattle.scr_combinatorics.proofs.BackLaws.{IsTakenBack-lawful}
 use Rattle.scr_combinatorics.proofs.PlayLaws.{play-append, play-keeps, IsReached-play}
+use Rattle.scr_combinatorics.proofs.PlayedWhere.{TellsTurns, played-turns}
 use Rattle.scr_combinatorics.proofs.TidyPlay.{IsKeptByTidy-lawful}
 use Rattle.scr_orbit.proofs.Minima.{count_once}
+use Rattle.scr_notation.specs.declared.event.Event.TheVariants.{Bf333}
 use Rattle.scr_notation.specs.declared.turn.Turn.{Turn}
 use Rattle.scr_notation.specs.Turning.{opposite, turn_merging}
+use Rattle.scr_notation.specs.Turns.{permits}
 use Rattle.scr_turning.specs.PowerPuzzles.{after_letter, power_puzzle}
 use Rattle.scr_cube.specs.Cube333.{IsCube, solved_cube, cube_powers}
 use Rattle.scr_cube.specs.Held.{HeldState, IsHeld, IsSolvedHeld, solved_held, held_cube_after, faces_turned, hold_word, hold_centres, hold_of, holds, held_puzzle}
 use Rattle.scr_cube.proofs.Laws333.{IsCube-solved}
 use Rattle.scr_cube.proofs.Holds.{Contains-hold, hold_centres-are, hold_centres-of, hold_of-lt, IsHoldWord-each, centres_played}
-use Rattle.scr_cube.proofs.HeldLaws.{IsLawful-held, same_held, played-faces, played-centres, played-some, length-faces_turned, at_places}
+use Rattle.scr_cube.proofs.HeldLaws.{step-of, IsHeld-after, held_cube_after-some, IsLawful-held, same_held, played-faces, played-centres, length-faces_turned, at_places}
 
 pub held_taken_back : IsTakenBack held_cube_after opposite IsHeld
 held_taken_back = IsTakenBack-lawful held_cube_after opposite turn_merging IsHeld IsLawful-held
 
 pub held_kept_by_tidy : IsKeptByTidy held_cube_after turn_merging IsHeld
 held_kept_by_tidy = IsKeptByTidy-lawful held_cube_after opposite turn_merging IsHeld IsLawful-held
+
+-- the letters that lead somewhere are the turns of the event
+pub TellsTurns-held : TellsTurns held_cube_after IsHeld (permits Bf333)
+TellsTurns-held = record {
+  does = λ s t valid h. held_cube_after-some s t h valid.centres;
+  only = λ s r t valid e. (step-of s r t e).permitted;
+  keeps = IsHeld-after;
+}
 
 -- ---- from the hold of the solved cube
 
@@ -57,7 +69,9 @@ IsBefore-played s b valid e =
 
 pub before-some : (s : HeldState) → IsHeld s → (b : HeldState) × (play held_cube_after s (back opposite (hold_word (hold_of s.centres))) ≡ Some b)
 before-some s valid =
-    played-some s (back opposite (hold_word (hold_of s.centres))) (IsHoldWord-each (hold_of s.centres) (hold_of-lt s.centres valid.centres)).back_turns valid
+    let word = back opposite (hold_word (hold_of s.centres)) in
+    let turns = (IsHoldWord-each (hold_of s.centres) (hold_of-lt s.centres valid.centres)).back_turns in
+    played-turns TellsTurns-held s word valid (AllPass-from_list_all (permits Bf333) word turns)
 
 -- ---- reached
 

@@ -1,14 +1,13 @@
--- Orders of words, turns that can be exchanged, and the stickers that turns carry, by computation.
+-- Orders of words, and turns that can be exchanged, by computation.
 use Rattle.std.proofs.Common.{◌≡◌, ℕ, zero, suc, ◌+◌, ◌<◌, Some, refl, sym, ap, ◌∙◌, arith}
 use Rattle.std.specs.Prelude.{slice_get}
 use Rattle.std.proofs.lemmas.Option.{same_Some}
 use Rattle.scr_orbit.specs.Actions.{power, composed_word, power_of}
 use Rattle.scr_orbit.specs.Orbits.{composed, identity, added_digits}
-use Rattle.scr_orbit.proofs.Orders.{All-word_orders, each_at}
+use Rattle.scr_orbit.proofs.Orders.{All-word_orders}
 use Rattle.scr_notation.specs.TurnNumbers.{face_turn_at}
 use Rattle.scr_turning.specs.PowerPuzzles.{HaveOrders, letter_table}
 use Rattle.scr_cube.specs.Cube333.{CubeTurn, cube_quarters, cube_action, cube_powers}
-use Rattle.scr_cube.specs.Stickers.{CarriesStickers}
 use Rattle.scr_cube.specs.Known.{known_orders}
 use Rattle.scr_cube.proofs.Laws333.{moves_nothing, tells_cube}
 
@@ -32,10 +31,3 @@ opposite_faces zero r q lt a b = exchanged _ _ r q a b refl
 opposite_faces (suc zero) r q lt a b = exchanged _ _ r q a b refl
 opposite_faces (suc (suc zero)) r q lt a b = exchanged _ _ r q a b refl
 opposite_faces (suc (suc (suc face))) r q lt a b = absurd (omega arith)
-
--- a table is what a quarter turn does to stickers
-pub carries_stickers : (face : ℕ) (r : CubeTurn) → slice_get cube_quarters face ≡ Some r → CarriesStickers face r
-carries_stickers = each_at CarriesStickers cube_quarters (
-  record { corners = refl; edges = refl },
-  (record { corners = refl; edges = refl }, (record { corners = refl; edges = refl }, (record { corners = refl; edges = refl }, (record { corners = refl; edges = refl }, (record { corners = refl; edges = refl }, tt))))),
-)

@@ -1,18 +1,21 @@
 -- Laws of the turns of a 3x3x3: they act on cubes, each face's quarter turn has order 4, and what follows of that.
-use Rattle.std.proofs.Common.{◌≡◌, ℕ, ◌+◌, ◌%◌, Bool, true, refl, sym, ap, ◌∙◌, lit<, lit≤, eqb-true}
-use Rattle.std.specs.Prelude.{◌==◌, ◌&&◌}
+use Rattle.std.proofs.Common.{◌≡◌, ℕ, ◌+◌, ◌%◌, ◌<◌, Bool, true, Some, refl, sym, ap, ◌∙◌, lit<, lit≤, eqb-true}
+use Rattle.std.specs.Prelude.{◌==◌, ◌&&◌, option_and_then}
+use Rattle.std.specs.Option.{option_map}
+use Rattle.std.proofs.lemmas.Option.{slice_get-get_or}
 use Rattle.scr_combinatorics.specs.Permutations.{parity}
-use Rattle.scr_orbit.specs.Actions.{IsAction, power}
+use Rattle.scr_orbit.specs.Actions.{IsAction, power, power_of}
 use Rattle.scr_orbit.specs.Orbits.{Orbit, IsZeroSumOrbit, IsZeroSumRearrangement, turned_orbit, composed, identity, added_digits, solved_orbit, orbit_action}
 use Rattle.scr_orbit.proofs.OrbitLaws.{zero_sum_laws, IsZeroSumOrbit-solved, parity-turned, parity-composed}
 use Rattle.scr_orbit.proofs.Orders.{TellsIdentity, tells_orbit, tells_both}
 use Rattle.scr_orbit.proofs.Parts.{ap_both, pair_action, IsSeenAs, IsSeenAs-whole, IsAction-two, IsMadeAt}
 use Rattle.scr_orbit.proofs.TableTests.{and_three, is_still, is_zero_sum_turn, IsZeroSumRearrangement-from_test}
-use Rattle.scr_turning.specs.PowerPuzzles.{IsPowerPuzzle, part_turns}
-use Rattle.scr_turning.proofs.FaceLaws.{face_powers, faces_numbered}
+use Rattle.scr_notation.specs.declared.turn.Turn.TheVariants.{Face}
+use Rattle.scr_turning.specs.PowerPuzzles.{IsPowerPuzzle, after_letter, part_turns}
+use Rattle.scr_turning.proofs.FaceLaws.{face_powers, faces_numbered, quarters_of-face}
 use Rattle.scr_turning.proofs.PowerPuzzleLaws.{IsPowerPuzzle-from_test}
 use Rattle.scr_turning.proofs.TurnedAt.{IsTurned, IsTurned-two}
-use Rattle.scr_cube.specs.Cube333.{CubeState, IsCube, CubeTurn, IsCubeTurn, cube_action, cube_powers, solved_cube}
+use Rattle.scr_cube.specs.Cube333.{CubeState, IsCube, CubeTurn, IsCubeTurn, cube_action, cube_quarters, cube_powers, solved_cube}
 
 -- ---- a cube is its corners and its edges, and so is a turn
 
@@ -84,3 +87,13 @@ pub cube_turned : (c : CubeState) (corners edges : Orbit) (n : ℕ) → IsCube c
     → IsMadeAt (part_turns (λ r. r.edges) cube_powers) n (turned_orbit 2 c.edges) edges → IsTurned cube_powers IsCube c n (record { corners = corners; edges = edges })
 cube_turned c corners edges n own =
     IsTurned-two cube_powers lawful_cube c (record { corners = corners; edges = edges }) n own (orbit_action 8 3) (orbit_action 12 2) _ _ seen_as_pair
+
+-- each turn of a face makes something of a cube
+pub turned-some : (c : CubeState) (face amount : ℕ) → face < 6 → 0 < amount → amount < 4 → (d : CubeState) × (after_letter cube_powers c (Face face 1 amount) ≡ Some d)
+unfolding power_of
+turned-some c face amount lt some few =
+    let quarter = slice_get-get_or cube_quarters face cube_action.identity lt in (
+      _,
+      ap (λ o. option_map (cube_action.turned c) (option_and_then (power_of cube_action cube_quarters) o)) (quarters_of-face face amount some few)
+          ∙ ap (λ o. option_map (cube_action.turned c) (option_map (λ r. power cube_action r amount) o)) quarter,
+    )

@@ -1,4 +1,5 @@
 pub mod Cube333
+pub mod Composition
 pub mod Cube222
 pub mod Held
 pub mod Stickers

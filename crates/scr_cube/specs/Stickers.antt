@@ -1,10 +1,8 @@
--- What quarter turns do to stickers, which is where the tables come from. The faces U R F D L B are 0 to 5.
+-- What quarter turns do to stickers. The faces U R F D L B are 0 to 5.
 use Rattle.std.specs.Prelude.{◌≡◌, ℕ, ◌==◌, if◌then◌else◌, List, [], ◌∷◌, ◌++◌, map, slice_index, slice_index_or}
 use Rattle.std.specs.List.{list_any}
 use Rattle.scr_combinatorics.specs.Lists.{numbers_from}
 use Rattle.scr_combinatorics.specs.Permutations.{place_of}
-use Rattle.scr_orbit.specs.Stickers.{IsCarriedBy}
-use Rattle.scr_cube.specs.Cube333.{CubeTurn}
 use Rattle.scr_cube.specs.Held.{centres_turned, hold_centres, opposite_place, turned_face}
 
 -- The faces at which the stickers of each corner place are, clockwise, that of U or D first: URF, UFL, ULB, UBR, DFR, DLF,
@@ -31,11 +29,6 @@ carried_to =
 abbrev pub carried_piece : ℕ → List ℕ → List ℕ
 carried_piece face stickers =
     if list_any (λ s. s == face) stickers then map (slice_index (slice_index_or carried_to face [])) stickers else stickers
-
--- A turn is what a quarter turn of this face does to the stickers of both kinds of pieces.
-pub record CarriesStickers (face : ℕ) (r : CubeTurn) : Type 0 where
-  pub corners : IsCarriedBy (carried_piece face) corner_faces r.corners
-  pub edges : IsCarriedBy (carried_piece face) edge_faces r.edges
 
 -- ---- of a cube as it is held
 

@@ -1,5 +1,7 @@
 //! The state of a 3x3x3.
 ghost use Rattle.std.specs.Prelude.{◌≡◌, ◌↔◌, IsSome, IfSome};
+ghost use Rattle.scr_orbit.specs.Inverses.{IsInverse};
+ghost use Rattle.scr_cube.specs.Composition.{cube_then};
 ghost use Rattle.scr_cube.specs.Cube333.{IsCube, solved_cube};
 
 use scr_orbit::Placed;
@@ -91,6 +93,30 @@ impl Cube {
         ensures { IsCube self.now }
     {
         let _orbits = self.orbits();
+    }
+
+    /// This cube and then another: each corner place gets this cube's corner from the place that `next` has there, with
+    /// both twists added modulo 3, and each edge place its edge so, with both flips added modulo 2. Where words lead from
+    /// the solved cube to both, the one word and then the other lead here.
+    pub fn then(&self, next: &Cube) -> Cube
+        ensures joined { result ≡ cube_then self.now next.now }
+        ensures valid { IsCube self.now }
+    {
+        Cube {
+            corners: self.corners.then(&next.corners, 3),
+            edges: self.edges.then(&next.edges, 2),
+        }
+    }
+
+    /// The inverse: the one cube that is solved with this one, whichever comes first.
+    pub fn inverse(&self) -> Cube
+        ensures inverse { IsInverse cube_then solved_cube IsCube self.now result }
+        ensures valid { IsCube self.now }
+    {
+        Cube {
+            corners: self.corners.inverse(3),
+            edges: self.edges.inverse(2),
+        }
     }
 
     /// Which corner stands at each place.

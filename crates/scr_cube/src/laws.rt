@@ -11,20 +11,25 @@ ghost use Rattle.scr_combinatorics.specs.Back.{IsTakenBack};
 ghost use Rattle.scr_combinatorics.specs.Lawful.{IsLawful};
 ghost use Rattle.scr_combinatorics.specs.Tidy.{IsKeptByTidy};
 ghost use Rattle.scr_orbit.specs.Orbits.{Orbit, IsZeroSumRearrangement, zeros};
-ghost use Rattle.scr_notation.specs.declared.event.Event.TheVariants.{Bf333};
+ghost use Rattle.scr_notation.specs.declared.event.Event.TheVariants.{Bf333, C222, C333};
 ghost use Rattle.scr_notation.specs.declared.turn.Turn.{Turn as Letter};
 ghost use Rattle.scr_notation.specs.declared.turn.Turn.TheVariants.{Face};
 ghost use Rattle.scr_notation.specs.Turning.{opposite, turn_merging};
 ghost use Rattle.scr_notation.specs.Turns.{permits};
 ghost use Rattle.scr_notation.specs.TurnNumbers.{face_turn_at};
 ghost use Rattle.scr_notation.specs.Spelling.{text_of};
+ghost use Rattle.scr_turning.specs.Played.{PlaysTurnsOf};
 ghost use Rattle.scr_turning.specs.PowerPuzzles.{IsPowerPuzzle, HaveOrders, after_letter, power_puzzle};
+ghost use Rattle.scr_cube.specs.Composition.{IsJoined, cube_then};
 ghost use Rattle.scr_cube.specs.Cube333.{CubeTurn, IsCube, IsCubeTurn, cube_quarters, cube_action, cube_powers, solved_cube, cube_numbered};
 ghost use Rattle.scr_cube.specs.Cube222.{IsCorners222, quarters_222, powers_222, solved_222, numbered_222};
 ghost use Rattle.scr_cube.specs.Held.{HeldState, IsHeld, opposite_place, whole_turned, held_cube_after, solved_held, faces_turned, hold_word, holds, held_puzzle, held_numbered};
-ghost use Rattle.scr_cube.specs.Stickers.{CarriesStickers, MovesStickers, piece_faces, carried_piece, carried_whole, carried_wide};
+ghost use Rattle.scr_cube.specs.Stickers.{MovesStickers, piece_faces, carried_piece, carried_whole, carried_wide};
 ghost use Rattle.scr_cube.specs.Symmetry.{ShowsTurns, left_right, up_down, front_back, without_dbl};
 ghost use Rattle.scr_cube.specs.Known.{known_orders, superflip, superflip_word, colours_after};
+
+use crate::cube::Cube;
+use scr_notation::Turn;
 
 /// The turns of both puzzles are lawful: they keep states valid, and composed turns act as one after the other; words are
 /// taken back and tidied, and each comes to one rearrangement, the same for every state. What turns reach is valid. A quarter
@@ -32,6 +37,13 @@ ghost use Rattle.scr_cube.specs.Known.{known_orders, superflip, superflip_word, 
 pub fn turns()
     ensures cube { IsPowerPuzzle cube_powers IsCube IsCubeTurn }
     ensures corners { IsPowerPuzzle powers_222 IsCorners222 (IsZeroSumRearrangement 7 3) }
+{}
+
+/// From each valid state turns lead to a state exactly where each of them is a turn of the event.
+pub fn played_where_all_are_turns()
+    ensures cube { PlaysTurnsOf C333 IsCube (after_letter cube_powers) }
+    ensures corners { PlaysTurnsOf C222 IsCorners222 (after_letter powers_222) }
+    ensures held { PlaysTurnsOf Bf333 IsHeld held_cube_after }
 {}
 
 /// Each number below the count is that of exactly one valid state, and each valid state has exactly one.
@@ -63,6 +75,31 @@ pub fn held_cubes()
         → Needs held_puzzle s least ↔ Needs (power_puzzle cube_powers) s.cube least }
 {}
 
+/// Of three cubes, one then another then the third, it is one whichever two are joined first.
+pub fn associative(a: &Cube, b: &Cube, c: &Cube)
+    ensures { cube_then (cube_then a.now b.now) c.now ≡ cube_then a.now (cube_then b.now c.now) }
+{
+    a.is_valid();
+    b.is_valid();
+    c.is_valid();
+}
+
+/// The solved cube before a cube, or behind it, changes nothing.
+pub fn neutral(a: &Cube)
+    ensures before { cube_then solved_cube a.now ≡ a.now }
+    ensures behind { cube_then a.now solved_cube ≡ a.now }
+{
+    a.is_valid();
+}
+
+/// Two words of turns, one after the other, lead from the solved cube to the cube of the one and then that of the
+/// other.
+pub fn joined(v: &[Turn], w: &[Turn])
+    requires first { All (λ t. IsTrue (permits C333 t)) v.now }
+    requires second { All (λ t. IsTrue (permits C333 t)) w.now }
+    ensures { IsJoined v.now w.now }
+{}
+
 /// Every turn counts once. The state after one turn needs one, and no more.
 pub fn minima()
     ensures counts { (w : List Letter)
@@ -75,11 +112,6 @@ pub fn minima()
 /// R U has order 105, R U' 63, and R U R' U' 6.
 pub fn orders()
     ensures { HaveOrders cube_powers known_orders }
-{}
-
-/// Each table is what a quarter turn does to stickers.
-pub fn stickers()
-    ensures { (face : ℕ) (r : CubeTurn) → slice_get cube_quarters face ≡ Some r → CarriesStickers face r }
 {}
 
 /// A quarter turn of a held cube brings all stickers, the centres' too, to the places where it carries them, in each of the 24

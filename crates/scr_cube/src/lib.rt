@@ -5,10 +5,12 @@
 //! (`specs/Cube333.antt`, `specs/Cube222.antt`), and all else follows by the one theory of `scr_turning`.
 //! [`corner_turns`], [`edge_turns`] and [`turns_222`] are all turns as single rearrangements, for searches and
 //! coordinates; a wrong entry is refused. Both are turned by faces and by scrambles ([`PowerTurned`]). A cube that is held
-//! ([`Held`]) is one with its six centres, which wide turns move (`specs/Held.antt`). `laws` has what
-//! holds of both: that turns are lawful, that the numberings are one to one, and what ties the tables to the puzzles
-//! themselves: stickers that are carried, mirror images, orders, known words and known numbers. The crate stands on
-//! puzzles of pieces, on orbits, on the numbers of lists and on fair drawing.
+//! ([`Held`]) is one with its six centres, which wide turns move (`specs/Held.antt`). Cubes can be joined, one and then
+//! another ([`Cube::then`]), and inverted ([`Cube::inverse`]; `specs/Composition.antt`). `laws` has what holds of both:
+//! that turns are lawful, that the numberings are one to one, that two words lead to the cubes of both joined, and what
+//! ties the tables to the puzzles themselves: mirror images, orders, known words and known numbers, and stickers of a cube
+//! that is held. That the tables are what turns do to stickers in space is said in `scr_net`. The crate stands on puzzles
+//! of pieces, on orbits, on the numbers of lists and on fair drawing.
 #![tactic(auto)]
 
 mod corners;

@@ -61,7 +61,14 @@ pub in_part-few : {change : Change} (size : ℕ) → size ≤ 4097 → ReadsInPa
 in_part-few size small part =
     let range = most_read-range part.bytes in
     let few = part.few in
-    record { bytes = part.bytes; given = part.given; few = omega (arith, range.0, few); no_end = part.no_end; rose = part.rose }
+    record {
+      bytes = part.bytes;
+      given = part.given;
+      few = omega (arith, range.0, few);
+      no_end = part.no_end;
+      rose = part.rose;
+      never_falls = part.never_falls;
+    }
 
 -- a part behind as many bytes as the first version has room for
 pub in_part-after : {left left' left'' : Option (List ℕ)} {faults faults' faults'' ends ends' ends'' : ℕ} (xs : List ℕ) (size : ℕ) →
@@ -78,6 +85,7 @@ in_part-after {left'' = left''} {faults'' = faults''} xs size long room first no
       few = omega (arith, sizes, most, few);
       no_end = part.no_end ∙ no_end;
       rose = subst (λ f. Rose f faults'') first.no_fault part.rose;
+      never_falls = subst (λ f. f ≤ faults'') first.no_fault part.never_falls;
     }
 
 -- What was read into a buffer behind as many bytes as the first version has room for: they are followed by what was read,

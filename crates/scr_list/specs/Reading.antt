@@ -42,6 +42,7 @@ pub record ReadsInPart (change : Change) (most : List ℕ → ℕ) : Type 0 wher
   pub few : length bytes ≤ most bytes
   pub no_end : change.ends_after ≡ change.ends_before
   pub rose : Rose change.faults_before change.faults_after
+  pub never_falls : change.faults_before ≤ change.faults_after
 
 -- why no list was read
 abbrev pub ReadsNoList : Change → ListFault → Type 0

@@ -7,7 +7,7 @@ use Rattle.std.proofs.lemmas.Option.{slice_get-map, slice_get_within, get_or_fro
 use Rattle.std.proofs.lemmas.List.FromFn.{get_or-range_with_len}
 use Rattle.std.proofs.lemmas.Bool.{leb-true}
 use Rattle.scr_notation.specs.declared.event.Event.{Event}
-use Rattle.scr_notation.specs.declared.event.Event.TheVariants.{C222, C333, Oh333, C555, C666, C777, Clock, Minx, Pyram, Skewb, Sq1, Bf333}
+use Rattle.scr_notation.specs.declared.event.Event.TheVariants.{C222, C333, Oh333, C555, C666, C777, Clock, Minx, Pyram, Skewb, Sq1, Bf333, Fm333}
 use Rattle.scr_notation.specs.declared.event.Kind.{Kind}
 use Rattle.scr_notation.specs.declared.event.Kind.TheVariants.{Faces, Axes, LayersAndTwist, PinSets, WideTurns}
 use Rattle.scr_notation.specs.Event.{events, kind_of}
@@ -28,6 +28,7 @@ each_alike f g all Pyram = cc
 each_alike f g all Skewb = cc
 each_alike f g all Sq1 = cc
 each_alike f g all Bf333 = cc
+each_alike f g all Fm333 = cc
 
 -- a test that all events pass is passed by each
 pub each_passes : (test : Event → Bool) → map test events ≡ map (λ event. true) events → (event : Event) → IsTrue (test event)
@@ -48,13 +49,14 @@ number_of Pyram = 8
 number_of Skewb = 9
 number_of Sq1 = 10
 number_of Bf333 = 11
+number_of Fm333 = 12
 
 number-at : (n : ℕ) (event : Event) → slice_get events n ≡ Some event → number_of event ≡ n
 unfolding number_of
 number-at n event at =
-    let below : n < 12 = slice_get_within events n event at in
-    let read : slice_get (range_with_len 0 12) n ≡ Some (number_of event) = slice_get-map number_of events n ∙ ap (option_map number_of) at in
-    sym (get_or_from_slice_get (range_with_len 0 12) n (number_of event) 0 read) ∙ get_or-range_with_len 0 12 n 0 below ∙ zero-add n
+    let below : n < 13 = slice_get_within events n event at in
+    let read : slice_get (range_with_len 0 13) n ≡ Some (number_of event) = slice_get-map number_of events n ∙ ap (option_map number_of) at in
+    sym (get_or_from_slice_get (range_with_len 0 13) n (number_of event) 0 read) ∙ get_or-range_with_len 0 13 n 0 below ∙ zero-add n
 
 -- no two have one number
 pub one_number : (n other : ℕ) (event : Event) → slice_get events n ≡ Some event → slice_get events other ≡ Some event → n ≡ other

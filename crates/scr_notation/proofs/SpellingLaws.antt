@@ -23,9 +23,12 @@ use Rattle.scr_notation.proofs.NumberLaws.{numbered}
 abbrev differs : (ℕ → Turn) → ℕ → ℕ → Bool
 differs at i j = not (same (spelling (at i)) (spelling (at j)))
 
--- each spelling has one to seven bytes, none of which is a space
+-- each spelling has one to seven bytes, none of which is a space, and all of them ASCII
+abbrev is_byte : ℕ → Bool
+is_byte b = not (b == 32) && nat_le b 127
+
 abbrev is_word : List ℕ → Bool
-is_word w = list_all (λ b. not (b == 32)) w && (nat_le 1 (length w) && nat_le (length w) 7)
+is_word w = list_all is_byte w && (nat_le 1 (length w) && nat_le (length w) 7)
 
 -- the spellings of the turns with the numbers below the count are words, and differ
 record AreSpelled (at : ℕ → Turn) (count : ℕ) : Type 0 where
@@ -86,20 +89,22 @@ one_spelling e t u h k q =
 
 -- ---- words
 
--- what a word of a text is: one to seven bytes, none of which is a space
+-- what a word of a text is: one to seven bytes, none of which is a space, and all of them ASCII
 pub record IsWord (w : List ℕ) : Type 0 where
   pub no_space : All (λ b. eqb b 32 ≡ false) w
+  pub ascii : All (λ b. b < 128) w
   pub some : 1 ≤ length w
   pub short : length w ≤ 7
 
 word_of_test : (w : List ℕ) → IsTrue (is_word w) → IsWord w
 word_of_test w h =
-    let p = list_all (λ b. not (b == 32)) w in
+    let p = list_all is_byte w in
     let q = nat_le 1 (length w) in
     let r = nat_le (length w) 7 in
     let ends = and_second p (q && r) h in
     record {
-      no_space = All-from_test (λ b. not (b == 32)) (λ b. eqb b 32 ≡ false) (λ b k. not-true (eqb b 32) k) w (and_first p (q && r) h);
+      no_space = All-from_test is_byte (λ b. eqb b 32 ≡ false) (λ b k. not-true (eqb b 32) (and_first (not (b == 32)) (nat_le b 127) k)) w (and_first p (q && r) h);
+      ascii = All-from_test is_byte (λ b. b < 128) (λ b k. let most = leb-true b 127 (and_second (not (b == 32)) (nat_le b 127) k) in omega (arith, most)) w (and_first p (q && r) h);
       some = leb-true 1 (length w) (and_first q r ends);
       short = leb-true (length w) 7 (and_second q r ends);
     }

@@ -1,10 +1,13 @@
 -- Laws of the texts of turns.
-use Rattle.std.proofs.Common.{◌≡◌, ℕ, ◌+◌, ◌*◌, ◌≤◌, IsTrue, cond, List, [], ◌∷◌, ◌++◌, length, refl, sym, ap, ◌∙◌, arith, ne_eqb, length-append, append_assoc}
+use Rattle.std.proofs.Common.{◌≡◌, ℕ, ◌+◌, ◌*◌, ◌≤◌, ◌<◌, IsTrue, cond, List, [], ◌∷◌, ◌++◌, length, refl, sym, ap, ◌∙◌, arith, ne_eqb, length-append, append_assoc, lit≤}
 use Rattle.std.specs.Prelude.{All, ◌==◌, map}
 use Rattle.std.specs.List.{slice_split, join_with_byte}
+use Rattle.std.specs.Str.{IsUtf8}
+use Rattle.std.proofs.lemmas.Str.{IsUtf8-from_ascii}
+use Rattle.std.proofs.lemmas.Str.Ascii.{IsAscii-from_all}
 use Rattle.std.proofs.lemmas.List.{length-map}
 use Rattle.std.proofs.lemmas.List.Splits.{slice_split_none, slice_split_at}
-use Rattle.std.proofs.lemmas.List.Elements.{All-nil, All-cons, All-head, All-tail}
+use Rattle.std.proofs.lemmas.List.Elements.{All-nil, All-cons, All-append, All-head, All-tail}
 use Rattle.scr_notation.specs.declared.event.Event.{Event}
 use Rattle.scr_notation.specs.declared.turn.Turn.{Turn}
 use Rattle.scr_notation.specs.Turns.{permits}
@@ -42,6 +45,17 @@ All-words e (t ∷ ts) a =
 -- the words of a text of turns are their spellings
 pub words_of-text_of : (e : Event) (ts : List Turn) → All (λ t. IsTrue (permits e t)) ts → spaced_words (text_of ts) ≡ map spelling ts
 words_of-text_of e ts a = words_of-joined (map spelling ts) (All-words e ts a)
+
+-- a text of turns is ASCII
+ascii_joined : (ws : List (List ℕ)) → All IsWord ws → All (λ b. b < 128) (join_with_byte 32 ws)
+ascii_joined [] a = All-nil (λ b. b < 128)
+ascii_joined (w ∷ []) a = (All-head IsWord w [] a).ascii
+ascii_joined (w ∷ v ∷ ws) a =
+    All-append (λ b. b < 128) w (32 ∷ join_with_byte 32 (v ∷ ws)) (All-head IsWord w (v ∷ ws) a).ascii
+    (All-cons (λ b. b < 128) 32 (join_with_byte 32 (v ∷ ws)) (lit≤ tt) (ascii_joined (v ∷ ws) (All-tail IsWord w (v ∷ ws) a)))
+
+pub IsUtf8-text_of : (e : Event) (ts : List Turn) → All (λ t. IsTrue (permits e t)) ts → IsUtf8 (text_of ts)
+IsUtf8-text_of e ts a = IsUtf8-from_ascii (text_of ts) (IsAscii-from_all (text_of ts) (ascii_joined (map spelling ts) (All-words e ts a)))
 
 first_same : (t u : Turn) (ts us : List Turn) → t ≡ u → ts ≡ us → t ∷ ts ≡ u ∷ us
 first_same t u ts us a b = cc

@@ -4,7 +4,7 @@
 use Rattle.std.specs.Prelude.{ℕ, List, [], ◌∷◌, codes, Option, Some, None, find, true, false}
 use Rattle.std.specs.Str.{bytes_eq}
 use Rattle.scr_notation.specs.declared.event.Event.{Event}
-use Rattle.scr_notation.specs.declared.event.Event.TheVariants.{C222, C333, Oh333, C555, C666, C777, Clock, Minx, Pyram, Skewb, Sq1, Bf333}
+use Rattle.scr_notation.specs.declared.event.Event.TheVariants.{C222, C333, Oh333, C555, C666, C777, Clock, Minx, Pyram, Skewb, Sq1, Bf333, Fm333}
 use Rattle.scr_notation.specs.declared.event.Kind.{Kind}
 use Rattle.scr_notation.specs.declared.event.Kind.TheVariants.{Faces, Axes, LayersAndTwist, PinSets, WideTurns}
 use Rattle.scr_notation.specs.declared.event.Minima.{Minima}
@@ -13,7 +13,7 @@ use Rattle.scr_notation.specs.declared.event.Family.TheVariants as family
 
 -- the events, in the order of their numbers
 abbrev pub events : List Event
-events = C222 ∷ C333 ∷ Oh333 ∷ C555 ∷ C666 ∷ C777 ∷ Clock ∷ Minx ∷ Pyram ∷ Skewb ∷ Sq1 ∷ Bf333 ∷ []
+events = C222 ∷ C333 ∷ Oh333 ∷ C555 ∷ C666 ∷ C777 ∷ Clock ∷ Minx ∷ Pyram ∷ Skewb ∷ Sq1 ∷ Bf333 ∷ Fm333 ∷ []
 
 -- How lists and commands name an event, how a sheet names it, and what its turns are; the scrambles of a group without the
 -- two extra ones; the minima of its rounds, where its states are drawn and not its moves; the family of its tables, if it
@@ -61,6 +61,7 @@ row_of Pyram = by_states (codes "pyram") (codes "Pyraminx") (Axes true) 5 6 15 (
 row_of Skewb = by_states (codes "skewb") (codes "Skewb") (Axes false) 5 7 11 (Some family.Skewb)
 row_of Sq1 = by_states (codes "sq1") (codes "Square-1") LayersAndTwist 5 2 4 (Some family.Square1)
 row_of Bf333 = by_states (codes "333bf") (codes "3x3x3 Blindfolded") (Faces 2 1) 3 2 5 (Some family.Cube333)
+row_of Fm333 = by_states (codes "333fm") (codes "3x3x3 Fewest Moves") (Faces 1 1) 3 2 5 (Some family.Cube333)
 
 abbrev pub id_of : Event → List ℕ
 id_of event = (row_of event).id

@@ -34,6 +34,8 @@ pub enum Event {
     Sq1,
     /// 3x3x3 Blindfolded.
     Bf333,
+    /// 3x3x3 Fewest Moves.
+    Fm333,
 }
 
 /// A kind of puzzles, by the turns that they have.
@@ -87,7 +89,7 @@ struct EventRow {
 }
 
 /// The events, in the order of their numbers.
-pub const EVENTS: [Event; 12] = [
+pub const EVENTS: [Event; 13] = [
     Event::C222,
     Event::C333,
     Event::Oh333,
@@ -100,6 +102,7 @@ pub const EVENTS: [Event; 12] = [
     Event::Skewb,
     Event::Sq1,
     Event::Bf333,
+    Event::Fm333,
 ];
 
 impl Event {
@@ -222,6 +225,14 @@ impl Event {
                 "333bf",
                 "3x3x3 Blindfolded",
                 faces(2, 1),
+                3,
+                up_to(5, 2),
+                Some(Cube333),
+            ),
+            Event::Fm333 => (
+                "333fm",
+                "3x3x3 Fewest Moves",
+                faces(1, 1),
                 3,
                 up_to(5, 2),
                 Some(Cube333),

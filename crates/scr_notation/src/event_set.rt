@@ -10,7 +10,7 @@ use std::marker::Model;
 /// A set of events, as a flag for each of them.
 #[derive(Clone, Copy, Debug)]
 pub struct EventSet {
-    flags: [bool; 12],
+    flags: [bool; 13],
 }
 
 impl Model for EventSet {

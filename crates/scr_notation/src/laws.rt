@@ -19,19 +19,19 @@ ghost use Rattle.scr_notation.specs.Reading.{IsFirstFault};
 /// solved states are at least, usually and at most (0 for events without minima).
 pub fn known_events()
     ensures ids { join_with_byte 32 (map id_of events)
-        ≡ codes "222 333 333oh 555 666 777 clock minx pyram skewb sq1 333bf" }
+        ≡ codes "222 333 333oh 555 666 777 clock minx pyram skewb sq1 333bf 333fm" }
     ensures names { join_with_byte 44 (map name_of events)
-        ≡ codes "2x2x2 Cube,3x3x3 Cube,3x3x3 One-Handed,5x5x5 Cube,6x6x6 Cube,7x7x7 Cube,Clock,Megaminx,Pyraminx,Skewb,Square-1,3x3x3 Blindfolded" }
-    ensures groups { map per_group_of events ≡ 5 ∷ 5 ∷ 5 ∷ 5 ∷ 3 ∷ 3 ∷ 5 ∷ 5 ∷ 5 ∷ 5 ∷ 5 ∷ 3 ∷ [] }
-    ensures usual { map usual_of events ≡ 4 ∷ 2 ∷ 2 ∷ 0 ∷ 0 ∷ 0 ∷ 2 ∷ 0 ∷ 6 ∷ 7 ∷ 2 ∷ 2 ∷ [] }
-    ensures greatest { map greatest_of events ≡ 11 ∷ 5 ∷ 5 ∷ 0 ∷ 0 ∷ 0 ∷ 3 ∷ 0 ∷ 15 ∷ 11 ∷ 4 ∷ 5 ∷ [] }
+        ≡ codes "2x2x2 Cube,3x3x3 Cube,3x3x3 One-Handed,5x5x5 Cube,6x6x6 Cube,7x7x7 Cube,Clock,Megaminx,Pyraminx,Skewb,Square-1,3x3x3 Blindfolded,3x3x3 Fewest Moves" }
+    ensures groups { map per_group_of events ≡ 5 ∷ 5 ∷ 5 ∷ 5 ∷ 3 ∷ 3 ∷ 5 ∷ 5 ∷ 5 ∷ 5 ∷ 5 ∷ 3 ∷ 3 ∷ [] }
+    ensures usual { map usual_of events ≡ 4 ∷ 2 ∷ 2 ∷ 0 ∷ 0 ∷ 0 ∷ 2 ∷ 0 ∷ 6 ∷ 7 ∷ 2 ∷ 2 ∷ 2 ∷ [] }
+    ensures greatest { map greatest_of events ≡ 11 ∷ 5 ∷ 5 ∷ 0 ∷ 0 ∷ 0 ∷ 3 ∷ 0 ∷ 15 ∷ 11 ∷ 4 ∷ 5 ∷ 5 ∷ [] }
 {}
 
 /// Which turns the events have: how many, and those by which like events differ.
 #[tactic(auto, unfolding(crate::specs::Spelling::spelling, crate::specs::TurnNumbers::turn_at, crate::specs::TurnNumbers::face_turn_at, crate::specs::TurnNumbers::axis_turn_at))]
 pub fn known_turns()
     ensures counts { map (λ event. turn_count (kind_of event)) events
-        ≡ 9 ∷ 18 ∷ 18 ∷ 36 ∷ 45 ∷ 54 ∷ 109 ∷ 6 ∷ 16 ∷ 8 ∷ 144 ∷ 27 ∷ [] }
+        ≡ 9 ∷ 18 ∷ 18 ∷ 36 ∷ 45 ∷ 54 ∷ 109 ∷ 6 ∷ 16 ∷ 8 ∷ 144 ∷ 27 ∷ 18 ∷ [] }
     ensures small_cube { text_of (map (turn_at (kind_of C222)) (range_with_len 0 9)) ≡ codes "U U2 U' R R2 R' F F2 F'" }
     ensures three_layers { text_of (map (turn_at (kind_of C666)) (range_with_len 36 9))
         ≡ codes "3Uw 3Uw2 3Uw' 3Rw 3Rw2 3Rw' 3Fw 3Fw2 3Fw'" }

@@ -1,5 +1,6 @@
 pub mod DigitLaws
 pub mod OrbitLaws
+pub mod InverseLaws
 pub mod Places
 pub mod TableTests
 pub mod ActionLaws

@@ -3,4 +3,5 @@ pub mod LawfulTurns
 pub mod Orbits
 pub mod PlaceTurns
 pub mod InPlace
+pub mod Inverses
 pub mod Stickers

@@ -71,6 +71,11 @@ solved_orbit n = record { pieces = numbers_from 0 n; digits = zeros n }
 unfoldable pub rearrangement_to : Orbit → Rearrangement
 rearrangement_to o = record { places = o.pieces; added = o.digits }
 
+-- An orbit and then another, each as what is done to the solved one: every place gets the first's piece from the place
+-- that the second has there, and the digits are added.
+abbrev pub orbit_then : ℕ → Orbit → Orbit → Orbit
+orbit_then modulus o p = turned_orbit modulus o (rearrangement_to p)
+
 -- The rearrangements of an orbit of n places.
 abbrev pub orbit_action : ℕ → ℕ → Action Orbit Rearrangement
 orbit_action n modulus =

@@ -5,6 +5,7 @@
 //! A turn is a rearrangement of an orbit: for each place, which place's piece comes there and what is added to its digit.
 //! [`PlaceTurn`] is one in arrays, [`Placed`] an orbit in arrays; turning allocates nothing. `laws` says that turns keep
 //! orbits valid, what becomes of the sum of the digits and of the parity, and that rearrangements can be composed.
+//! Orbits can be joined, one and then another, and inverted.
 //! `specs/Actions.antt` has what puzzles share whose states are orbits: tables of turns, and words that come to one
 //! rearrangement; `specs/LawfulTurns.antt` says what holds of such a puzzle. `proofs/PowerLaws.antt` gives that for letters
 //! that are powers of a few turns, for each puzzle's crate to state.

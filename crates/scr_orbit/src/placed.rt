@@ -1,8 +1,9 @@
 //! Orbits and their turns in arrays.
 ghost use Rattle.std.specs.Prelude.{◌≡◌, ◌≤◌, ◌<◌, ◌↔◌, IsTrue};
-ghost use Rattle.scr_orbit.specs.Orbits.{IsOrbit, IsRearrangement, IsZeroSumOrbit, turned_orbit, solved_orbit};
+ghost use Rattle.scr_orbit.specs.Inverses.{IsInverse};
+ghost use Rattle.scr_orbit.specs.Orbits.{IsOrbit, IsRearrangement, IsZeroSumOrbit, orbit_then, turned_orbit, solved_orbit};
 
-use crate::turning::{add_digits, pick_into};
+use crate::turning::{add_digits, inverse_into, opposite_into, pick_into};
 use crate::validity::{are_twists, is_permutation};
 use std::marker::Model;
 
@@ -77,6 +78,36 @@ impl<const N: usize> Placed<N> {
         pick_into(&self.pieces[..], &turn.places[..], &mut pieces[..]);
         pick_into(&self.digits[..], &turn.places[..], &mut digits[..]);
         add_digits(&mut digits[..], &turn.added[..], modulus);
+        Placed { pieces, digits }
+    }
+
+    /// This orbit and then another: each place gets this one's piece from the place that `next` has there, and the digits
+    /// are added, modulo `modulus`, which is at most 128.
+    pub fn then(&self, next: &Placed<N>, modulus: u8) -> Placed<N>
+        requires small { modulus ≤ 128 }
+        requires valid { IsOrbit N modulus self.now }
+        requires next { IsOrbit N modulus next.now }
+        ensures { result ≡ orbit_then modulus self.now next.now }
+    {
+        let turn = PlaceTurn {
+            places: next.pieces,
+            added: next.digits,
+        };
+        self.turned(&turn, modulus)
+    }
+
+    /// The inverse: the one orbit that comes to the solved one with this one, whichever comes first. There are at most
+    /// 256 places, and `modulus` is at least 1.
+    pub fn inverse(&self, modulus: u8) -> Placed<N>
+        requires few { N ≤ 256 }
+        requires modulus { 0 < modulus }
+        requires valid { IsOrbit N modulus self.now }
+        ensures { IsInverse (orbit_then modulus) (solved_orbit N) (IsOrbit N modulus) self.now result }
+    {
+        let mut pieces = [0; N];
+        let mut digits = [0; N];
+        inverse_into(&self.pieces[..], &mut pieces[..]);
+        opposite_into(&self.digits[..], &pieces[..], modulus, &mut digits[..]);
         Placed { pieces, digits }
     }
 

@@ -1,5 +1,5 @@
 -- What the statuses of refused words, of refused lists and of faults tell.
-use Rattle.std.proofs.Common.{◌≡◌, ℕ, List, Ok, Err, inl, inr, refl, sym, subst}
+use Rattle.std.proofs.Common.{◌≡◌, ◌⊎◌, ℕ, List, Ok, Err, inl, inr, refl, sym, subst}
 use Rattle.std.specs.Prelude.{◌≢◌, Result}
 use Rattle.scr_outside.specs.Change.{Change}
 use Rattle.scr_outside.specs.Faults.{Rose}
@@ -7,7 +7,7 @@ use Rattle.scr_list.specs.declared.fault.ListFault.{ListFault}
 use Rattle.scr_list.specs.declared.fault.ListFault.TheVariants as list
 use Rattle.scr_list.specs.Reading.{ReadsNoList}
 use Rattle.scr_command.specs.declared.command.Command.{Command}
-use Rattle.scr_command.specs.declared.command.Command.TheVariants.{One, Sheet, Tables, Load, Net}
+use Rattle.scr_command.specs.declared.command.Command.TheVariants.{One, Sheet, Tables, Load, Net, Check}
 use Rattle.scr_command.specs.declared.command.UsageFault.{UsageFault}
 use Rattle.scr_command.specs.Command.{command_of}
 use Rattle.scr_table.specs.declared.fault.BuildFault.{BuildFault}
@@ -18,55 +18,12 @@ use Rattle.scr_sheet.specs.declared.fault.Fault.TheVariants as fault
 use Rattle.scr_sheet.specs.declared.status.Status.{Status}
 use Rattle.scr_sheet.specs.declared.status.Status.TheVariants as status
 use Rattle.scr_sheet.specs.Sheet.{Part}
-use Rattle.scr_sheet.specs.Outcome.{EndsMaking, EndsTelling, Ends, fault_of_build, IsRun, status_of, gaining}
+use Rattle.scr_sheet.specs.Causes.{fault_of_build}
+use Rattle.scr_sheet.specs.Check.{ReadsInput, rounds_in}
+use Rattle.scr_sheet.specs.Outcome.{EndsMaking, EndsTelling, Ends, IsRun, gaining}
 use Rattle.scr_sheet.proofs.RunLaws.{not_risen}
-
--- ---- the end that a status has
-
-refused-usage : (ended : Result (Unit {0}) Fault) → status_of ended ≡ status.Usage → (usage : UsageFault) × (ended ≡ Err (fault.Usage usage))
-refused-usage (Ok u) is = cc
-refused-usage (Err (fault.Usage usage)) is = (usage, refl)
-refused-usage (Err (fault.List list.Read)) is = cc
-refused-usage (Err (fault.List (list.TooLong limit))) is = cc
-refused-usage (Err (fault.List (list.Line number cause))) is = cc
-refused-usage (Err (fault.DrawLimit number slot words)) is = cc
-refused-usage (Err fault.Write) is = cc
-refused-usage (Err fault.NoMemory) is = cc
-refused-usage (Err (fault.Gap table index)) is = cc
-
-refused-list : (ended : Result (Unit {0}) Fault) → status_of ended ≡ status.List
-    → (refusal : ListFault) × (ended ≡ Err (fault.List refusal)) × (refusal ≢ list.Read)
-refused-list (Ok u) is = cc
-refused-list (Err (fault.Usage usage)) is = cc
-refused-list (Err (fault.List list.Read)) is = cc
-refused-list (Err (fault.List (list.TooLong limit))) is = (list.TooLong limit, refl, λ same. cc)
-refused-list (Err (fault.List (list.Line number cause))) is = (list.Line number cause, refl, λ same. cc)
-refused-list (Err (fault.DrawLimit number slot words)) is = cc
-refused-list (Err fault.Write) is = cc
-refused-list (Err fault.NoMemory) is = cc
-refused-list (Err (fault.Gap table index)) is = cc
-
-unread : (ended : Result (Unit {0}) Fault) → status_of ended ≡ status.ReadFault → ended ≡ Err (fault.List list.Read)
-unread (Ok u) is = cc
-unread (Err (fault.Usage usage)) is = cc
-unread (Err (fault.List list.Read)) is = refl
-unread (Err (fault.List (list.TooLong limit))) is = cc
-unread (Err (fault.List (list.Line number cause))) is = cc
-unread (Err (fault.DrawLimit number slot words)) is = cc
-unread (Err fault.Write) is = cc
-unread (Err fault.NoMemory) is = cc
-unread (Err (fault.Gap table index)) is = cc
-
-unwritten : (ended : Result (Unit {0}) Fault) → status_of ended ≡ status.WriteFault → ended ≡ Err fault.Write
-unwritten (Ok u) is = cc
-unwritten (Err (fault.Usage usage)) is = cc
-unwritten (Err (fault.List list.Read)) is = cc
-unwritten (Err (fault.List (list.TooLong limit))) is = cc
-unwritten (Err (fault.List (list.Line number cause))) is = cc
-unwritten (Err (fault.DrawLimit number slot words)) is = cc
-unwritten (Err fault.Write) is = refl
-unwritten (Err fault.NoMemory) is = cc
-unwritten (Err (fault.Gap table index)) is = cc
+use Rattle.scr_sheet.proofs.StatusLaws.{end-of}
+use Rattle.scr_sheet.proofs.CheckLaws.{ReadsNoListPart, check-usage, check-list, check-write}
 
 -- ---- tables and parts end with no fault of words or lists, and with a fault of the output only where it failed
 
@@ -132,19 +89,25 @@ words-usage (Ok (Tables event)) source out usage (same, inl ends) = absurd ends
 words-usage (Ok (Tables event)) source out usage (same, inr lacks) = absurd (build-usage usage lacks.why lacks.is)
 words-usage (Ok (Load number)) source out usage ends = absurd (telling-usage _ _ ends.1.sheet _ ends.1.made out usage ends.1.making ends.1.told)
 words-usage (Ok (Net event seed)) source out usage ends = absurd (making-usage _ _ out usage ends.1)
+words-usage (Ok (Check seed attempts)) source out usage ends = absurd (check-usage _ source out usage ends)
+
+-- a list that is refused, or the list part of a sheet that is checked
+abbrev pub IsListRefused : Change → ListFault → Type 0
+IsListRefused source refusal = ReadsNoList source refusal ⊎ ReadsNoListPart source refusal
 
 words-list : (asked : Result Command UsageFault) (source out : Change) (refusal : ListFault) → Ends asked source out (Err (fault.List refusal))
-    → ReadsNoList source refusal
+    → IsListRefused source refusal
 words-list (Err usage) source out refusal ends = let same = ends.0 in cc
 words-list (Ok (One event seed)) source out refusal ends = absurd (making-list _ _ out refusal ends.1)
 words-list (Ok (Sheet seed options)) source out refusal (inl ends) = absurd (making-list _ _ out refusal ends.2)
 words-list (Ok (Sheet seed options)) source out refusal (inr refused) =
     let is = refused.is in
-    let same : refused.list ≡ refusal = cc in subst (ReadsNoList source) same refused.cause
+    let same : refused.list ≡ refusal = cc in inl (subst (ReadsNoList source) same refused.cause)
 words-list (Ok (Tables event)) source out refusal (same, inl ends) = absurd ends
 words-list (Ok (Tables event)) source out refusal (same, inr lacks) = absurd (build-list refusal lacks.why lacks.is)
 words-list (Ok (Load number)) source out refusal ends = absurd (telling-list _ _ ends.1.sheet _ ends.1.made out refusal ends.1.making ends.1.told)
 words-list (Ok (Net event seed)) source out refusal ends = absurd (making-list _ _ out refusal ends.1)
+words-list (Ok (Check seed attempts)) source out refusal ends = inr (check-list _ source out refusal ends)
 
 words-write : (asked : Result Command UsageFault) (source out : Change) → Ends asked source out (Err fault.Write)
     → Rose out.faults_before out.faults_after
@@ -156,6 +119,7 @@ words-write (Ok (Tables event)) source out (same, inl ends) = ends.2.rose
 words-write (Ok (Tables event)) source out (same, inr lacks) = absurd (build-write lacks.why lacks.is)
 words-write (Ok (Load number)) source out ends = telling-write _ _ ends.1.sheet _ ends.1.made out ends.1.making ends.1.told
 words-write (Ok (Net event seed)) source out ends = making-write _ _ out ends.1
+words-write (Ok (Check seed attempts)) source out ends = check-write _ source out ends
 
 -- ---- runs
 
@@ -171,23 +135,36 @@ ends-so words outcome source out err why run is other =
 pub usage-cause : (words : List (List ℕ)) (source out err : Change) → IsRun words status.Usage source out err
     → (usage : UsageFault) × (command_of words ≡ Err usage)
 usage-cause words source out err run =
-    let end = refused-usage run.ended (sym run.answer) in
+    let end = end-of status.Usage run.ended (sym run.answer) in
     (end.0, words-usage (command_of words) source out end.0 (ends-so words status.Usage source out err (fault.Usage end.0) run end.1 (λ same. cc)))
 
+-- a list part that is no list tells so, and where it could not be read the count of faults rose
+no_list-told : (source : Change) (refusal : ListFault) → (refusal ≢ list.Read) → IsListRefused source refusal
+    → ReadsNoList source refusal ⊎ ReadsInput source (λ input. rounds_in input ≡ Err refusal)
+no_list-told source refusal other (inl refused) = inl refused
+no_list-told source list.Read other (inr refused) = absurd (other refl)
+no_list-told source (list.TooLong limit) other (inr refused) = inr refused
+no_list-told source (list.Line number cause) other (inr refused) = inr refused
+
 pub list-cause : (words : List (List ℕ)) (source out err : Change) → IsRun words status.List source out err
-    → (refusal : ListFault) × ReadsNoList source refusal × (refusal ≢ list.Read)
+    → (refusal : ListFault) × (refusal ≢ list.Read) × (ReadsNoList source refusal ⊎ ReadsInput source (λ input. rounds_in input ≡ Err refusal))
 list-cause words source out err run =
-    let end = refused-list run.ended (sym run.answer) in
-    (end.0, words-list (command_of words) source out end.0 (ends-so words status.List source out err (fault.List end.0) run end.1 (λ same. cc)), end.2)
+    let end = end-of status.List run.ended (sym run.answer) in
+    let refused = words-list (command_of words) source out end.0 (ends-so words status.List source out err (fault.List end.0) run end.1 (λ same. cc)) in
+    (end.0, end.2, no_list-told source end.0 end.2 refused)
+
+read_rose : (source : Change) → IsListRefused source list.Read → Rose source.faults_before source.faults_after
+read_rose source (inl refused) = refused.rose
+read_rose source (inr refused) = refused.rose
 
 pub input-cause : (words : List (List ℕ)) (source out err : Change) → IsRun words status.ReadFault source out err
     → Rose source.faults_before source.faults_after
 input-cause words source out err run =
-    let end = unread run.ended (sym run.answer) in
-    (words-list (command_of words) source out list.Read (ends-so words status.ReadFault source out err (fault.List list.Read) run end (λ same. cc))).rose
+    let end = end-of status.ReadFault run.ended (sym run.answer) in
+    read_rose source (words-list (command_of words) source out list.Read (ends-so words status.ReadFault source out err (fault.List list.Read) run end (λ same. cc)))
 
 pub output-cause : (words : List (List ℕ)) (source out err : Change) → IsRun words status.WriteFault source out err
     → Rose out.faults_before out.faults_after
 output-cause words source out err run =
-    let end = unwritten run.ended (sym run.answer) in
+    let end = end-of status.WriteFault run.ended (sym run.answer) in
     words-write (command_of words) source out (ends-so words status.WriteFault source out err fault.Write run end (λ same. cc))

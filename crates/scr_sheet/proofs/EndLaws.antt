@@ -7,9 +7,9 @@ use Rattle.scr_list.specs.declared.fault.ListFault.{ListFault}
 use Rattle.scr_list.specs.declared.fault.ListFault.TheVariants as list
 use Rattle.scr_list.specs.Reading.{ReadsNoList}
 use Rattle.scr_command.specs.declared.command.Command.{Command}
-use Rattle.scr_command.specs.declared.command.Command.TheVariants.{One, Sheet, Tables, Load, Net}
+use Rattle.scr_command.specs.declared.command.Command.TheVariants.{One, Sheet, Tables, Load, Net, Check}
 use Rattle.scr_command.specs.declared.command.UsageFault.{UsageFault}
-use Rattle.scr_command.specs.Command.{command_of, AsksForSheet}
+use Rattle.scr_command.specs.Command.{command_of, HasOptions}
 use Rattle.scr_table.specs.declared.fault.BuildFault.{BuildFault}
 use Rattle.scr_table.specs.declared.fault.BuildFault.TheVariants as build
 use Rattle.scr_table_text.specs.TableText.{IsTablesText}
@@ -20,7 +20,10 @@ use Rattle.scr_sheet.specs.declared.fault.Fault.TheVariants as fault
 use Rattle.scr_sheet.specs.declared.status.Status.{Status}
 use Rattle.scr_sheet.specs.declared.status.Status.TheVariants as status
 use Rattle.scr_sheet.specs.Sheet.{Part}
-use Rattle.scr_sheet.specs.Outcome.{EndsParts, EndsMaking, EndsTables, EndsTelling, EndsCommand, Ends, LacksTables, IsUnwritten, fault_of_build, IsRun, Tells, status_of, TakesMemory}
+use Rattle.scr_sheet.specs.Outcome.{EndsParts, EndsMaking, EndsTables, EndsTelling, EndsCommand, Ends, LacksTables, IsUnwritten, IsRun, Tells, status_of, TakesMemory}
+use Rattle.scr_sheet.specs.Causes.{fault_of_build}
+use Rattle.scr_sheet.proofs.StatusLaws.{end-of}
+use Rattle.scr_sheet.proofs.CheckLaws.{check-input}
 
 -- a count that stayed didn't rise
 stayed : {n m : ℕ} → m ≡ n → n < m → ⊥
@@ -49,6 +52,7 @@ parts-output settings k parts out (Err (fault.DrawLimit number slot words)) ends
 parts-output settings k parts out (Err fault.Write) ends rose = refl
 parts-output settings k parts out (Err fault.NoMemory) ends rose = absurd (gained ends.gained rose)
 parts-output settings k parts out (Err (fault.Gap table index)) ends rose = absurd ends
+parts-output settings k parts out (Err (fault.Differs line)) ends rose = absurd ends
 
 making-output : (settings : Settings) (parts : List Part) (out : Change) (ended : Result (Unit {0}) Fault) → EndsMaking settings parts out ended
     → IsOutputFault out ended
@@ -66,6 +70,7 @@ tables-output event out (Err (fault.DrawLimit number slot words)) ends rose = ab
 tables-output event out (Err fault.Write) ends rose = refl
 tables-output event out (Err fault.NoMemory) ends rose = absurd ends
 tables-output event out (Err (fault.Gap table index)) ends rose = absurd ends
+tables-output event out (Err (fault.Differs line)) ends rose = absurd ends
 
 telling-output : (made : Result (Unit {0}) Fault) (lines : List ℕ) (out : Change) (ended : Result (Unit {0}) Fault) → EndsTelling made lines out ended
     → IsOutputFault out ended
@@ -82,6 +87,7 @@ command-output (Tables event) source out ended (same, inl ends) rose = tables-ou
 command-output (Tables event) source out ended (same, inr lacks) rose = absurd (gained lacks.unwritten rose)
 command-output (Load number) source out ended ends rose = telling-output ends.1.made _ out ended ends.1.told rose
 command-output (Net event seed) source out ended ends rose = making-output _ _ out ended ends.1 rose
+command-output (Check seed attempts) source out ended ends rose = telling-output ends.answer _ out ended ends.told rose
 
 words-output : (asked : Result Command UsageFault) (source out : Change) (ended : Result (Unit {0}) Fault) → Ends asked source out ended
     → IsOutputFault out ended
@@ -113,6 +119,7 @@ command-input (Sheet seed options) source out ended (inr refused) rose = ap stat
 command-input (Tables event) source out ended ends rose = absurd (unchanged ends.0 rose)
 command-input (Load number) source out ended ends rose = absurd (unchanged ends.0 rose)
 command-input (Net event seed) source out ended ends rose = absurd (unchanged ends.0 rose)
+command-input (Check seed attempts) source out ended ends rose = check-input _ source out ended ends rose
 
 words-input : (asked : Result Command UsageFault) (source out : Change) (ended : Result (Unit {0}) Fault) → Ends asked source out ended
     → source.faults_before < source.faults_after → status_of ended ≡ status.ReadFault
@@ -130,53 +137,26 @@ run-input words outcome source out err run rose =
 
 -- ---- what is told
 
--- only a run that ended well has that status
-told-done : (err : Change) (ended : Result (Unit {0}) Fault) → status_of ended ≡ status.Done → Tells err ended → IsUnwritten err
-told-done err (Ok u) is tells = tells
-told-done err (Err (fault.Usage usage)) is tells = cc
-told-done err (Err (fault.List list.Read)) is tells = cc
-told-done err (Err (fault.List (list.TooLong limit))) is tells = cc
-told-done err (Err (fault.List (list.Line number cause))) is tells = cc
-told-done err (Err (fault.DrawLimit number slot words)) is tells = cc
-told-done err (Err fault.Write) is tells = cc
-told-done err (Err fault.NoMemory) is tells = cc
-told-done err (Err (fault.Gap table index)) is tells = cc
+told-done : (err : Change) (ended : Result (Unit {0}) Fault) → ended ≡ Ok tt → Tells err ended → IsUnwritten err
+told-done err ended is tells = subst (λ e. Tells err e) is tells
 
 pub run-done : (words : List (List ℕ)) (source out err : Change) → IsRun words status.Done source out err → IsUnwritten err
-run-done words source out err run = told-done err run.ended (sym run.answer) run.tells
-
--- only want of memory has its status
-wanting : (ended : Result (Unit {0}) Fault) → status_of ended ≡ status.NoMemory → ended ≡ Err fault.NoMemory
-wanting (Ok u) is = cc
-wanting (Err (fault.Usage usage)) is = cc
-wanting (Err (fault.List list.Read)) is = cc
-wanting (Err (fault.List (list.TooLong limit))) is = cc
-wanting (Err (fault.List (list.Line number cause))) is = cc
-wanting (Err (fault.DrawLimit number slot words)) is = cc
-wanting (Err fault.Write) is = cc
-wanting (Err fault.NoMemory) is = refl
-wanting (Err (fault.Gap table index)) is = cc
+run-done words source out err run = told-done err run.ended (end-of status.Done run.ended (sym run.answer)) run.tells
 
 pub run-memory : (words : List (List ℕ)) (source out err : Change) → IsRun words status.NoMemory source out err
-    → AsksForSheet words ⊎ TakesMemory (command_of words)
-run-memory words source out err run = run.performed.memory (wanting run.ended (sym run.answer))
+    → HasOptions words ⊎ TakesMemory (command_of words)
+run-memory words source out err run = run.performed.memory (end-of status.NoMemory run.ended (sym run.answer))
 
 -- the text of tables of which a first part was written
 abbrev pub FaltersInTables : Event → Change → Type 0
 FaltersInTables event out = (text : List ℕ) × IsTablesText (lines_for (event ∷ [])) text × Falters out text
 
-tables-broken : (event : Event) (out : Change) (ended : Result (Unit {0}) Fault) → status_of ended ≡ status.WriteFault
-    → EndsTables event out ended ⊎ LacksTables (event ∷ []) out ended → FaltersInTables event out
-tables-broken event out (Ok u) is (inl ends) = cc
-tables-broken event out (Err (fault.Usage usage)) is (inl ends) = absurd ends
-tables-broken event out (Err (fault.List list)) is (inl ends) = absurd ends
-tables-broken event out (Err (fault.DrawLimit number slot words)) is (inl ends) = absurd ends
-tables-broken event out (Err fault.Write) is (inl ends) = ends
-tables-broken event out (Err fault.NoMemory) is (inl ends) = absurd ends
-tables-broken event out (Err (fault.Gap table index)) is (inl ends) = absurd ends
-tables-broken event out ended is (inr lacks) = absurd (no_write lacks.why (ap status_of (sym lacks.is) ∙ is))
+tables-broken : (event : Event) (out : Change) → EndsTables event out (Err fault.Write) ⊎ LacksTables (event ∷ []) out (Err fault.Write)
+    → FaltersInTables event out
+tables-broken event out (inl ends) = ends
+tables-broken event out (inr lacks) = absurd (no_write lacks.why lacks.is)
   where
-    no_write : (why : BuildFault) → status_of (Err (fault_of_build why)) ≡ status.WriteFault → ⊥
+    no_write : (why : BuildFault) → (let ended : Result (Unit {0}) Fault = Err fault.Write in ended) ≡ Err (fault_of_build why) → ⊥
     no_write build.NoMemory same = cc
     no_write (build.Gap table index) same = cc
 
@@ -185,6 +165,9 @@ pub run-tables : (words : List (List ℕ)) (event : Event) (source out err : Cha
 run-tables words event source out err asks run =
     let P : Result Command UsageFault → Type 0 = λ asked. Ends asked source out run.ended in
     elim run.performed.ends [
-      | inl ends ↦ tables-broken event out run.ended (sym run.answer) (subst P asks ends).1
+      | inl ends ↦
+          let broken : run.ended ≡ Err fault.Write = end-of status.WriteFault run.ended (sym run.answer) in
+          let Q : Result (Unit {0}) Fault → Type 0 = λ e. EndsTables event out e ⊎ LacksTables (event ∷ []) out e in
+          tables-broken event out (subst Q broken (subst P asks ends).1)
       | inr wanting ↦ let none : status.NoMemory ≡ status.WriteFault = ap status_of (sym wanting.is) ∙ sym run.answer in cc
     ]

@@ -10,14 +10,14 @@ use Rattle.scr_words.specs.declared.seed.Seed.{Seed}
 use Rattle.scr_words.specs.declared.seed.SeedFault.{SeedFault}
 use Rattle.scr_words.specs.Seed.{seed_of}
 use Rattle.scr_command.specs.declared.command.Command.{Command}
-use Rattle.scr_command.specs.declared.command.Command.TheVariants.{One, Sheet, Tables, Load, Net}
+use Rattle.scr_command.specs.declared.command.Command.TheVariants.{One, Sheet, Tables, Load, Net, Check}
 use Rattle.scr_command.specs.declared.command.UsageFault.{UsageFault}
 use Rattle.scr_command.specs.declared.command.UsageFault.TheVariants.{Grammar}
 use Rattle.scr_command.specs.declared.options.OptionName.TheVariants as option
 use Rattle.scr_command.specs.declared.options.Options.{Options}
 use Rattle.scr_command.specs.OptionTable.{sheet_options}
 use Rattle.scr_command.specs.OptionWords.{Values, options_of}
-use Rattle.scr_command.specs.Command.{command_of, event_for, net_for, net_side, of_two, one_for, seeded, settings_in, sheet_for, sheet_of}
+use Rattle.scr_command.specs.Command.{command_of, event_for, net_for, net_side, of_two, one_for, seeded, settings_in, command_with, sheet_of}
 use Rattle.scr_round.specs.Made.{turns_of_each}
 use Rattle.scr_slots.specs.declared.settings.Settings.{Settings}
 use Rattle.scr_slots.specs.Shown.{Shown}
@@ -105,6 +105,7 @@ fair-parts settings k parts out (Ok u) asked fair ends =
 fair-parts settings k parts out (Err (fault.Usage usage)) asked fair ends = absurd ends
 fair-parts settings k parts out (Err (fault.List list)) asked fair ends = absurd ends
 fair-parts settings k parts out (Err (fault.Gap table index)) asked fair ends = absurd ends
+fair-parts settings k parts out (Err (fault.Differs line)) asked fair ends = absurd ends
 fair-parts settings k parts out (Err (fault.DrawLimit number slot words)) asked fair ends =
     fair-led settings parts ends.led (ends.failing ∷ ends.rest) ends.text out asked fair ends.before (inl ends.gained)
 fair-parts settings k parts out (Err fault.Write) asked fair ends =
@@ -126,6 +127,7 @@ AsksForParts (Ok (Sheet seed options)) = Unit {0}
 AsksForParts (Ok (Tables event)) = ⊥
 AsksForParts (Ok (Load number)) = ⊥
 AsksForParts (Ok (Net event seed)) = Unit {0}
+AsksForParts (Ok (Check seed attempts)) = ⊥
 AsksForParts (Err usage) = Unit {0}
 
 seeded-parts : (make : Seed → Command) → ((seed : Seed) → AsksForParts (Ok (make seed))) → (read : Result Seed SeedFault)
@@ -152,14 +154,14 @@ of_two-parts command each (first ∷ []) = tt
 of_two-parts command each (first ∷ second ∷ []) = each first second
 of_two-parts command each (first ∷ second ∷ more ∷ others) = tt
 
-sheet_for-parts : (options : Option Options) (seed : Option (List ℕ)) → AsksForParts (sheet_for options seed)
-sheet_for-parts None seed = tt
-sheet_for-parts (Some options) None = tt
-sheet_for-parts (Some options) (Some seed) = seeded-parts (λ s. Sheet s options) (λ s. tt) (seed_of seed)
+sheet-parts : (options : Option Options) (seed : Option (List ℕ)) → AsksForParts (command_with Sheet options seed)
+sheet-parts None seed = tt
+sheet-parts (Some options) None = tt
+sheet-parts (Some options) (Some seed) = seeded-parts (λ s. Sheet s options) (λ s. tt) (seed_of seed)
 
 sheet_of-parts : (values : Option Values) → AsksForParts (sheet_of values)
 sheet_of-parts None = tt
-sheet_of-parts (Some values) = sheet_for-parts (settings_in values) (values option.Seed)
+sheet_of-parts (Some values) = sheet-parts (settings_in values) (values option.Seed)
 
 words-parts : (words : List (List ℕ)) → AsksForScrambles words → AsksForParts (command_of words)
 words-parts [] asks = absurd asks
@@ -185,6 +187,7 @@ fair-command (Ok (Sheet seed options)) source out ended asks (inl ends) = fair-m
 fair-command (Ok (Sheet seed options)) source out ended asks (inr refused) = fair-nothing no_settings out refused.unwritten
 fair-command (Ok (Tables event)) source out ended asks ends = absurd asks
 fair-command (Ok (Load number)) source out ended asks ends = absurd asks
+fair-command (Ok (Check seed attempts)) source out ended asks ends = absurd asks
 fair-command (Err usage) source out ended asks ends = fair-nothing no_settings out ends.2
 
 -- whatever a run writes of scrambles is fair

@@ -2,7 +2,14 @@ pub mod PartLaws
 pub mod LoadRounds
 pub mod RunLaws
 pub mod HeadlineLaws
+pub mod StatusLaws
+pub mod ShortLines
+pub mod SheetLineLaws
+pub mod CheckLaws
+pub mod CheckedInput
+pub mod CheckRuns
 pub mod CauseLaws
 pub mod EndLaws
+pub mod NetLaws
 pub mod SingleLaws
 pub mod SizeLaws

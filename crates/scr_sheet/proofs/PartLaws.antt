@@ -187,6 +187,7 @@ pub made-fault : {settings : Settings} {parts rest : List Part} {part : Part} {k
 made-fault held'' faults'' (fault.Usage usage) made ends = absurd ends
 made-fault held'' faults'' (fault.List list) made ends = absurd ends
 made-fault held'' faults'' (fault.Gap table index) made ends = absurd ends
+made-fault held'' faults'' (fault.Differs line) made ends = absurd ends
 made-fault {rest = rest} held'' faults'' (fault.DrawLimit number slot words) made ends =
     let size = length-append made.led ends.led in
     let place = made.place in

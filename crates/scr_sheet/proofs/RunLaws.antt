@@ -18,7 +18,7 @@ use Rattle.scr_list.specs.Reading.{ReadsList, ReadsNoList}
 use Rattle.scr_list.specs.Rounds.{IsRound, rounds_of}
 use Rattle.scr_list.proofs.ReadLemmas.{too_many-refused}
 use Rattle.scr_command.specs.declared.command.Command.{Command}
-use Rattle.scr_command.specs.declared.command.Command.TheVariants.{One, Sheet, Tables, Load, Net}
+use Rattle.scr_command.specs.declared.command.Command.TheVariants.{One, Sheet, Tables, Load, Net, Check}
 use Rattle.scr_command.specs.declared.command.UsageFault.{UsageFault}
 use Rattle.scr_table.specs.declared.fault.BuildFault.{BuildFault}
 use Rattle.scr_table.specs.declared.fault.BuildFault.TheVariants as build
@@ -32,7 +32,8 @@ use Rattle.scr_sheet.specs.declared.fault.Fault.TheVariants as fault
 use Rattle.scr_sheet.specs.declared.status.Status.{Status}
 use Rattle.scr_sheet.specs.declared.status.Status.TheVariants as status
 use Rattle.scr_sheet.specs.Sheet.{Part, round_part, round_parts, EachSlot, IsPartText, IsText, IsFirstWithout}
-use Rattle.scr_sheet.specs.Outcome.{EndsParts, EndsMaking, EndsCommand, EndsTables, EndsTelling, Ends, LacksTables, gaining, fault_of_build, status_of}
+use Rattle.scr_sheet.specs.Outcome.{EndsParts, EndsMaking, EndsCommand, EndsTables, EndsTelling, Ends, LacksTables, gaining, status_of}
+use Rattle.scr_sheet.specs.Causes.{fault_of_build}
 use Rattle.scr_sheet.specs.Task.{IsTask, IsUnhindered, LacksScramble, EndsWith}
 
 -- the events of a list's parts are those of its rounds
@@ -126,6 +127,7 @@ EndsParts-done settings parts out (Err (fault.DrawLimit number slot words)) ends
 EndsParts-done settings parts out (Err fault.Write) ends written each = absurd (written ends.faltered.rose)
 EndsParts-done settings parts out (Err fault.NoMemory) ends written each = inr (inl refl)
 EndsParts-done settings parts out (Err (fault.Gap table index)) ends written each = absurd ends
+EndsParts-done settings parts out (Err (fault.Differs line)) ends written each = absurd ends
 
 -- parts of which one lacks a scramble
 EndsParts-limit : (settings : Settings) (parts : List Part) (out : Change) (ended : Result (Unit {0}) Fault)
@@ -140,6 +142,7 @@ EndsParts-limit settings parts out (Err (fault.DrawLimit number slot words)) end
 EndsParts-limit settings parts out (Err fault.Write) ends written decided lacks = absurd (written ends.faltered.rose)
 EndsParts-limit settings parts out (Err fault.NoMemory) ends written decided lacks = inr (inl refl)
 EndsParts-limit settings parts out (Err (fault.Gap table index)) ends written decided lacks = absurd ends
+EndsParts-limit settings parts out (Err (fault.Differs line)) ends written decided lacks = absurd ends
 
 -- ---- the ends of runs that nothing hinders
 
@@ -195,7 +198,7 @@ IsWell-written settings parts out ended written making = record {
 }
 
 -- a sheet that is told of and not written
-EndsTelling-same : (made : Result (Unit {0}) Fault) (lines : List ℕ) (out : Change) (ended : Result (Unit {0}) Fault)
+pub EndsTelling-same : (made : Result (Unit {0}) Fault) (lines : List ℕ) (out : Change) (ended : Result (Unit {0}) Fault)
     → ¬ (Rose out.faults_before out.faults_after) → EndsTelling made lines out ended → ended ≡ made
 EndsTelling-same (Ok u) lines out (Ok v) written told = refl
 EndsTelling-same (Ok u) lines out (Err f) written told = absurd (written told.1.rose)
@@ -221,6 +224,7 @@ tables_as_parts settings event out (Err (fault.DrawLimit number slot words)) wri
 tables_as_parts settings event out (Err fault.Write) written (inl ends) = absurd (written ends.2.rose)
 tables_as_parts settings event out (Err fault.NoMemory) written (inl ends) = absurd ends
 tables_as_parts settings event out (Err (fault.Gap table index)) written (inl ends) = absurd ends
+tables_as_parts settings event out (Err (fault.Differs line)) written (inl ends) = absurd ends
 tables_as_parts settings event out ended written (inr lacks) = record {
   sink = out;
   made = ended;
@@ -254,6 +258,7 @@ EndsCommand-parts (Load number) settings parts source out ended whole task read 
 }
 EndsCommand-parts (Net event seed) settings parts source out ended whole task read written ends =
     IsWell-written settings parts out ended written (rw (task.0, task.1) ends.1)
+EndsCommand-parts (Check seed attempts) settings parts source out ended whole task read written ends = absurd task
 
 IsUnhindered-ends : {words : List (List ℕ)} {outcome : Status} {source out err : Change} {settings : Settings} {parts : List Part}
     → ReadWhole → (run : IsUnhindered words outcome source out err settings parts)

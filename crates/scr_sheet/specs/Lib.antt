@@ -1,4 +1,6 @@
 pub mod Sheet
+pub mod Causes
+pub mod Check
 pub mod Headline
 pub mod Load
 pub mod Making

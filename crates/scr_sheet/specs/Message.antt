@@ -23,7 +23,7 @@ abbrev pub usage_text : UsageFault → List ℕ
 usage_text No444 = codes "444 is not supported"
 usage_text (NoSeed fault) = seed_fault_text fault
 usage_text Grammar =
-    codes "usage: one EVENT SEED | sheet --seed HEX [--workers N] [--tries N] [--attempts N] | tables EVENT | load NUMBER | net EVENT SEED"
+    codes "usage: one EVENT SEED | sheet --seed HEX [--workers N] [--tries N] [--attempts N] | tables EVENT | load NUMBER | net EVENT SEED | check --seed HEX [--attempts N]"
 
 -- why a line was refused
 abbrev pub cause_text : ListCause → List ℕ
@@ -51,6 +51,7 @@ fault_text (fault.DrawLimit round slot words) =
 fault_text fault.Write = codes "output could not be written"
 fault_text fault.NoMemory = codes "out of memory"
 fault_text (fault.Gap table index) = codes "table " ++ name_text table ++ codes " has a gap at " ++ decimal index
+fault_text (fault.Differs line) = codes "line " ++ decimal line ++ codes " differs"
 
 -- the line that the program writes for it
 abbrev pub message_of : Fault → List ℕ

@@ -1,5 +1,5 @@
 -- How a run may end.
-use Rattle.std.specs.Prelude.{◌≡◌, ◌+◌, ◌⊎◌, ℕ, List, [], ◌∷◌, ◌++◌, length, map, All, Some, Result, Ok, Err}
+use Rattle.std.specs.Prelude.{◌≡◌, ◌+◌, ◌⊎◌, ℕ, List, [], ◌∷◌, ◌++◌, length, map, codes, All, Some, Result, Ok, Err}
 use Rattle.scr_outside.specs.Change.{Change, IsUnchanged, Gains, Falters}
 use Rattle.scr_list.specs.Reading.{ReadsList, ReadsNoList}
 use Rattle.scr_notation.specs.declared.event.Event.{Event}
@@ -7,13 +7,10 @@ use Rattle.scr_list.specs.declared.round.Round.{Round}
 use Rattle.scr_list.specs.declared.fault.ListFault.{ListFault}
 use Rattle.scr_list.specs.declared.fault.ListFault.TheVariants as list
 use Rattle.scr_command.specs.declared.command.Command.{Command}
-use Rattle.scr_command.specs.declared.command.Command.TheVariants.{One, Sheet, Tables, Load, Net}
+use Rattle.scr_command.specs.declared.command.Command.TheVariants.{One, Sheet, Tables, Load, Net, Check}
 use Rattle.scr_command.specs.declared.command.UsageFault.{UsageFault}
-use Rattle.scr_command.specs.declared.command.CommandFault.{CommandFault}
-use Rattle.scr_command.specs.declared.command.CommandFault.TheVariants as refusal
-use Rattle.scr_command.specs.Command.{usual_options, command_of, AsksForSheet}
+use Rattle.scr_command.specs.Command.{usual_options, command_of, HasOptions}
 use Rattle.scr_table.specs.declared.fault.BuildFault.{BuildFault}
-use Rattle.scr_table.specs.declared.fault.BuildFault.TheVariants as build
 use Rattle.scr_slots.specs.declared.settings.Settings.{Settings}
 use Rattle.scr_slots.specs.Slots.{IsDrawnFairly}
 use Rattle.scr_slots.specs.Events.{scrambling_of}
@@ -26,6 +23,8 @@ use Rattle.scr_sheet.specs.Sheet.{settings_of, IsLimit, Part, round_parts, one_p
 use Rattle.scr_sheet.specs.Load.{load_seed, load_rounds, load_text}
 use Rattle.scr_table_text.specs.TableText.{IsTablesText}
 use Rattle.scr_sheet.specs.Message.{message_of}
+use Rattle.scr_sheet.specs.Causes.{fault_of_build}
+use Rattle.scr_sheet.specs.Check.{EndsChecking, check_settings}
 
 -- nothing was written
 abbrev pub IsUnwritten : Change → Type 0
@@ -80,20 +79,13 @@ EndsParts settings k parts out (Ok _) = IsDone settings parts out
 EndsParts settings k parts out (Err (fault.DrawLimit number slot words)) = IsStopped settings k parts out number slot words
 EndsParts settings k parts out (Err fault.Write) = IsBroken settings parts out
 EndsParts settings k parts out (Err fault.NoMemory) = IsCutShort settings parts out
-EndsParts settings k parts out (Err (fault.Usage usage)) = ⊥
-EndsParts settings k parts out (Err (fault.List list)) = ⊥
-EndsParts settings k parts out (Err (fault.Gap table index)) = ⊥
+EndsParts settings k parts out (Err _) = ⊥
 
 -- how part k ends where this fault comes before anything of it is written
 abbrev pub EndsUnmade : Settings → ℕ → Part → Fault → Type 0
 EndsUnmade settings k part why = (out : Change) → IsUnwritten out → EndsParts settings k (part ∷ []) out (Err why)
 
 -- ---- tables
-
--- why tables could not be built, as a fault of the run
-abbrev pub fault_of_build : BuildFault → Fault
-fault_of_build build.NoMemory = fault.NoMemory
-fault_of_build (build.Gap table index) = fault.Gap table index
 
 -- The tables of these events could not be built: one of them has a gap, or memory was wanting. Nothing was written.
 pub record LacksTables (events : List Event) (out : Change) (ended : Result (Unit {0}) Fault) : Type 0 where
@@ -106,11 +98,7 @@ pub record LacksTables (events : List Event) (out : Change) (ended : Result (Uni
 abbrev pub EndsTables : Event → Change → Result (Unit {0}) Fault → Type 0
 EndsTables event out (Ok _) = (text : List ℕ) × IsTablesText (lines_for (event ∷ [])) text × Gains out text
 EndsTables event out (Err fault.Write) = (text : List ℕ) × IsTablesText (lines_for (event ∷ [])) text × Falters out text
-EndsTables event out (Err (fault.DrawLimit number slot words)) = ⊥
-EndsTables event out (Err fault.NoMemory) = ⊥
-EndsTables event out (Err (fault.Usage usage)) = ⊥
-EndsTables event out (Err (fault.List list)) = ⊥
-EndsTables event out (Err (fault.Gap table index)) = ⊥
+EndsTables event out (Err _) = ⊥
 
 -- ---- the commands
 
@@ -156,6 +144,12 @@ pub record IsRefused (source out : Change) (ended : Result (Unit {0}) Fault) : T
   pub cause : ReadsNoList source list
   pub unwritten : IsUnwritten out
 
+-- how a check ends: where all agrees, it is said so
+pub record EndsCheck (settings : Settings) (source out : Change) (ended : Result (Unit {0}) Fault) : Type 0 where
+  pub answer : Result (Unit {0}) Fault
+  pub checked : EndsChecking settings source answer
+  pub told : EndsTelling answer (codes "agrees\n") out ended
+
 -- how a command ends; `sheet` reads its list to the end of input before it writes
 abbrev pub EndsCommand : Command → Change → Change → Result (Unit {0}) Fault → Type 0
 EndsCommand (One event seed) source out ended =
@@ -168,6 +162,7 @@ EndsCommand (Tables event) source out ended =
 EndsCommand (Load number) source out ended = IsUnchanged source × EndsLoad number out ended
 EndsCommand (Net event seed) source out ended =
     IsUnchanged source × EndsMaking (settings_of seed usual_options) (net_part event ∷ []) out ended
+EndsCommand (Check seed attempts) source out ended = EndsCheck (check_settings seed attempts) source out ended
 
 -- how a run ends on words that are this command, or that are none
 abbrev pub Ends : Result Command UsageFault → Change → Change → Result (Unit {0}) Fault → Type 0
@@ -182,11 +177,6 @@ pub record IsOutOfMemory (source out : Change) (ended : Result (Unit {0}) Fault)
 
 -- ---- a whole run
 
--- why no command was read, as a fault of the run
-abbrev pub fault_of_command : CommandFault → Fault
-fault_of_command (refusal.Usage usage) = fault.Usage usage
-fault_of_command refusal.NoMemory = fault.NoMemory
-
 -- what the words ask for, once they are read, takes memory: it needs the tables of its event, or makes rounds
 abbrev pub TakesMemory : Result Command UsageFault → Type 0
 TakesMemory (Ok (One event seed)) = HasTables event
@@ -194,13 +184,14 @@ TakesMemory (Ok (Sheet seed options)) = Unit {0}
 TakesMemory (Ok (Tables event)) = HasTables event
 TakesMemory (Ok (Load number)) = Unit {0}
 TakesMemory (Ok (Net event seed)) = HasTables event
+TakesMemory (Ok (Check seed attempts)) = Unit {0}
 TakesMemory (Err usage) = ⊥
 
--- What a run on these words does before it tells how it ended. Only words that begin with `sheet`, and what needs
--- tables or makes rounds, take memory.
+-- What a run on these words does before it tells how it ended. Only words that begin with `sheet` or `check`, and what
+-- needs tables or makes rounds, take memory.
 pub record IsPerformed (words : List (List ℕ)) (source out : Change) (ended : Result (Unit {0}) Fault) : Type 0 where
   pub ends : Ends (command_of words) source out ended ⊎ IsOutOfMemory source out ended
-  pub memory : ended ≡ Err fault.NoMemory → AsksForSheet words ⊎ TakesMemory (command_of words)
+  pub memory : ended ≡ Err fault.NoMemory → HasOptions words ⊎ TakesMemory (command_of words)
 
 -- what went wrong is told by its message, or by a first part of it where that could not be written
 abbrev pub Tells : Change → Result (Unit {0}) Fault → Type 0
@@ -218,6 +209,7 @@ status_of (Err (fault.DrawLimit number slot words)) = status.DrawLimit
 status_of (Err fault.Write) = status.WriteFault
 status_of (Err fault.NoMemory) = status.NoMemory
 status_of (Err (fault.Gap table index)) = status.Gap
+status_of (Err (fault.Differs line)) = status.Differs
 
 -- What a run did: how it ended, the status that this has, and what was told of it.
 pub record IsRun (words : List (List ℕ)) (outcome : Status) (source out err : Change) : Type 0 where

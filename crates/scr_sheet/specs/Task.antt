@@ -5,16 +5,19 @@ use Rattle.scr_outside.specs.Faults.{Rose}
 use Rattle.scr_list.specs.declared.round.Round.{Round}
 use Rattle.scr_list.specs.Rounds.{rounds_of}
 use Rattle.scr_command.specs.declared.command.Command.{Command}
-use Rattle.scr_command.specs.declared.command.Command.TheVariants.{One, Sheet, Tables, Load, Net}
+use Rattle.scr_command.specs.declared.command.Command.TheVariants.{One, Sheet, Tables, Load, Net, Check}
 use Rattle.scr_command.specs.Command.{usual_options, command_of}
 use Rattle.scr_slots.specs.declared.settings.Settings.{Settings}
 use Rattle.scr_sheet.specs.declared.status.Status.{Status}
 use Rattle.scr_sheet.specs.declared.status.Status.TheVariants as status
 use Rattle.scr_sheet.specs.Sheet.{settings_of, Part, round_parts, one_part, net_part, IsFirstWithout}
 use Rattle.scr_sheet.specs.Load.{load_seed, load_rounds}
+use Rattle.scr_sheet.specs.Check.{check_settings}
 use Rattle.scr_sheet.specs.Outcome.{IsRun}
+use Rattle.scr_words.specs.declared.seed.Seed.{Seed}
 
--- what a command makes, and writes or sums; only `sheet` asks what its source holds, and `tables` makes no parts
+-- what a command makes, and writes or sums; only `sheet` asks what its source holds, `tables` makes no parts, and a check is
+-- no such task
 abbrev pub IsTask : Command → Change → Settings → List Part → Type 0
 IsTask (One event seed) source settings parts = (settings ≡ settings_of seed usual_options) × (parts ≡ one_part event ∷ [])
 IsTask (Sheet seed options) source settings parts =
@@ -24,6 +27,7 @@ IsTask (Tables event) source settings parts = parts ≡ []
 IsTask (Load number) source settings parts =
     (settings ≡ settings_of (load_seed number) usual_options) × (parts ≡ round_parts 0 (load_rounds number))
 IsTask (Net event seed) source settings parts = (settings ≡ settings_of seed usual_options) × (parts ≡ net_part event ∷ [])
+IsTask (Check seed attempts) source settings parts = ⊥
 
 -- A run whose words are a command with this task; neither input nor output failed.
 pub record IsUnhindered (words : List (List ℕ)) (outcome : Status) (source out err : Change) (settings : Settings) (parts : List Part) : Type 0 where
@@ -31,6 +35,17 @@ pub record IsUnhindered (words : List (List ℕ)) (outcome : Status) (source out
   pub command : Command
   pub asks : command_of words ≡ Ok command
   pub task : IsTask command source settings parts
+  pub read : ¬ (Rose source.faults_before source.faults_after)
+  pub written : ¬ (Rose out.faults_before out.faults_after)
+
+-- A run whose words are a check with these settings, of this input; neither input nor output failed.
+pub record IsUnhinderedCheck (words : List (List ℕ)) (outcome : Status) (source out err : Change) (settings : Settings) (input : List ℕ) : Type 0 where
+  pub run : IsRun words outcome source out err
+  pub seed : Seed
+  pub attempts : ℕ
+  pub asks : command_of words ≡ Ok (Check seed attempts)
+  pub is : settings ≡ check_settings seed attempts
+  pub told : source.bytes_before ≡ Some input
   pub read : ¬ (Rose source.faults_before source.faults_after)
   pub written : ¬ (Rose out.faults_before out.faults_after)
 

@@ -5,6 +5,7 @@ ghost use Rattle.arrayvec.specs.ArrayString.{array_string_len};
 ghost use Rattle.scr_sheet.specs.Message.{message_of, usage_text, seed_fault_text, list_text, cause_text};
 
 use arrayvec::ArrayString;
+use scr_check::{CheckFault, Missing};
 use scr_command::{CommandFault, UsageFault};
 use scr_list::{ListCause, ListFault};
 use scr_outside::Failed;
@@ -28,11 +29,13 @@ pub enum Fault {
     NoMemory,
     /// No word of as many turns as the table's bound leads from this position to a goal.
     Gap { table: TableName, index: u32 },
+    /// This line of a sheet that is checked, from 1, is the first that differs from the one that is expected.
+    Differs { line: u32 },
 }
 
 impl From<CommandFault> for Fault {
     ghost use Rattle.std.specs.Prelude.{◌≡◌};
-    ghost use Rattle.scr_sheet.specs.Outcome.{fault_of_command};
+    ghost use Rattle.scr_sheet.specs.Causes.{fault_of_command};
 
     ghost from_gives = { λ command fault. fault ≡ fault_of_command command };
 
@@ -79,7 +82,7 @@ impl From<AllocError> for Fault {
 
 impl From<BuildFault> for Fault {
     ghost use Rattle.std.specs.Prelude.{◌≡◌};
-    ghost use Rattle.scr_sheet.specs.Outcome.{fault_of_build};
+    ghost use Rattle.scr_sheet.specs.Causes.{fault_of_build};
 
     ghost from_gives = { λ build fault. fault ≡ fault_of_build build };
 
@@ -91,12 +94,29 @@ impl From<BuildFault> for Fault {
     }
 }
 
+impl From<CheckFault> for Fault {
+    ghost use Rattle.std.specs.Prelude.{◌≡◌};
+    ghost use Rattle.scr_sheet.specs.Check.{fault_of_check};
+
+    ghost from_gives = { λ found fault. fault ≡ fault_of_check found };
+
+    fn from(found: CheckFault) -> Fault {
+        match found {
+            CheckFault::Differs { line } => Fault::Differs { line },
+            CheckFault::Limit(Missing { round, slot, words }) => {
+                Fault::DrawLimit { round, slot, words }
+            }
+            CheckFault::Read => Fault::List(ListFault::Read),
+        }
+    }
+}
+
 /// The length of the longest message, and a little more.
-const LONGEST: usize = 160;
+const LONGEST: usize = 224;
 
 /// The words that are commands.
 const GRAMMAR: &str =
-    "usage: one EVENT SEED | sheet --seed HEX [--workers N] [--tries N] [--attempts N] | tables EVENT | load NUMBER | net EVENT SEED";
+    "usage: one EVENT SEED | sheet --seed HEX [--workers N] [--tries N] [--attempts N] | tables EVENT | load NUMBER | net EVENT SEED | check --seed HEX [--attempts N]";
 
 impl Fault {
     /// The line that tells it, with its line feed.
@@ -124,6 +144,11 @@ impl Fault {
                 line.push_str(table.text());
                 line.push_str(" has a gap at ");
                 line.push_str(decimal(index).as_str());
+            }
+            Fault::Differs { line: number } => {
+                line.push_str("line ");
+                line.push_str(decimal(number).as_str());
+                line.push_str(" differs");
             }
         }
         line.push_str("\n");

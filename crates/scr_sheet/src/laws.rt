@@ -1,27 +1,33 @@
 //! What holds of sheets and of runs whatever the code: calls that do nothing, whose contracts are the laws.
 
-ghost use Rattle.std.specs.Prelude.{◌≡◌, ◌≢◌, ◌<◌, ◌⊎◌, ℕ, List, [], ◌∷◌, length, IsTrue, Ok, Err};
+ghost use Rattle.std.specs.Prelude.{◌≡◌, ◌≢◌, ◌<◌, ◌⊎◌, ℕ, List, [], ◌∷◌, length, All, IsTrue, IsSome, Some, Result, Ok, Err};
 ghost use Rattle.scr_outside.specs.Change.{Change, Falters};
 ghost use Rattle.scr_outside.specs.Faults.{Rose};
+ghost use Rattle.scr_combinatorics.specs.Play.{play};
 ghost use Rattle.scr_notation.specs.declared.event.Event.{Event};
+ghost use Rattle.scr_notation.specs.declared.turn.Turn.{Turn};
+ghost use Rattle.scr_notation.specs.Turns.{permits};
+ghost use Rattle.scr_net.specs.Nets.{net_after, solved_net};
 ghost use Rattle.scr_list.specs.declared.round.Round.{Round};
 ghost use Rattle.scr_list.specs.declared.fault.ListFault.{ListFault};
 ghost use Rattle.scr_list.specs.declared.fault.ListFault.TheVariants.{Read};
 ghost use Rattle.scr_list.specs.Reading.{ReadsNoList};
 ghost use Rattle.scr_list.specs.RoundLists.{IsRounds};
 ghost use Rattle.scr_slots.specs.declared.settings.Settings.{Settings};
+ghost use Rattle.scr_sheet.specs.declared.fault.Fault.{Fault};
 ghost use Rattle.scr_sheet.specs.declared.status.Status.{Status};
 ghost use Rattle.scr_command.specs.declared.command.Command.TheVariants.{Tables};
 ghost use Rattle.scr_command.specs.declared.command.UsageFault.{UsageFault};
-ghost use Rattle.scr_command.specs.Command.{command_of, AsksForSheet};
+ghost use Rattle.scr_command.specs.Command.{command_of, net_side, HasOptions};
 ghost use Rattle.scr_table_text.specs.TableText.{IsTablesText};
 ghost use Rattle.scr_slots.specs.Tables.{lines_for};
 ghost use Rattle.scr_sheet.specs.declared.status.Status.TheVariants.{Done, Usage, DrawLimit, ReadFault, WriteFault, NoMemory};
 ghost use Rattle.scr_sheet.specs.declared.status.Status.TheVariants as status;
-ghost use Rattle.scr_sheet.specs.Outcome.{IsRun, IsUnwritten, TakesMemory};
+ghost use Rattle.scr_sheet.specs.Check.{InputComesTo, ReadsInput, rounds_in};
+ghost use Rattle.scr_sheet.specs.Outcome.{IsRun, IsUnwritten, TakesMemory, status_of};
 ghost use Rattle.scr_sheet.specs.Sheet.{Part, round_parts, one_part, IsPartText, IsText};
 ghost use Rattle.scr_sheet.specs.Load.{load_rounds, slots_of_all};
-ghost use Rattle.scr_sheet.specs.Task.{IsUnhindered, LacksScramble, EndsWith};
+ghost use Rattle.scr_sheet.specs.Task.{IsUnhindered, IsUnhinderedCheck, LacksScramble, EndsWith};
 
 use scr_list::laws as list_laws;
 use scr_slots::laws as slot_laws;
@@ -49,6 +55,14 @@ pub fn completeness()
     list_laws::lists_that_were_read();
 }
 
+/// What a check of an input ends with whose source tells its bytes, where neither input nor output fails: the status of what the
+/// input comes to. Want of memory, and a gap in a table, are always free.
+pub fn checks()
+    ensures { (words : List (List ℕ)) (outcome : Status) (source out err : Change) (settings : Settings) (input : List ℕ) (answer : Result (Unit {0}) Fault)
+        → IsUnhinderedCheck words outcome source out err settings input
+        → InputComesTo settings (rounds_in input) input answer → EndsWith outcome (status_of answer) }
+{}
+
 /// Where the input's count of faults rose the status is `ReadFault`, and where the output's did it is `WriteFault`.
 pub fn faults()
     ensures input { (words : List (List ℕ)) (outcome : Status) (source out err : Change)
@@ -58,7 +72,7 @@ pub fn faults()
 {}
 
 /// What the statuses tell: the count of faults of the input rose, or that of the output; the words are no command; the input
-/// was read and is no list.
+/// was read and is no list, or its list part is none.
 pub fn causes()
     ensures input { (words : List (List ℕ)) (source out err : Change) → IsRun words ReadFault source out err
         → Rose source.faults_before source.faults_after }
@@ -67,7 +81,8 @@ pub fn causes()
     ensures words { (words : List (List ℕ)) (source out err : Change) → IsRun words Usage source out err
         → (usage : UsageFault) × (command_of words ≡ Err usage) }
     ensures list { (words : List (List ℕ)) (source out err : Change) → IsRun words status.List source out err
-        → (refusal : ListFault) × ReadsNoList source refusal × (refusal ≢ Read) }
+        → (refusal : ListFault) × (refusal ≢ Read)
+        × (ReadsNoList source refusal ⊎ ReadsInput source (λ input. rounds_in input ≡ Err refusal)) }
 {}
 
 /// A run that ends well tells nothing. Memory is wanted only for a sheet, for tables and for rounds. Where the output fails
@@ -75,10 +90,16 @@ pub fn causes()
 pub fn ends()
     ensures well { (words : List (List ℕ)) (source out err : Change) → IsRun words Done source out err → IsUnwritten err }
     ensures memory { (words : List (List ℕ)) (source out err : Change) → IsRun words NoMemory source out err
-        → AsksForSheet words ⊎ TakesMemory (command_of words) }
+        → HasOptions words ⊎ TakesMemory (command_of words) }
     ensures tables { (words : List (List ℕ)) (event : Event) (source out err : Change) → command_of words ≡ Ok (Tables event)
         → IsRun words WriteFault source out err
         → (text : List ℕ) × IsTablesText (lines_for (event ∷ [])) text × Falters out text }
+{}
+
+/// Where an event has nets, each of its scrambles shows on one: no turn of the event turns the whole cube.
+pub fn nets()
+    ensures { (event : Event) (side : ℕ) → net_side event ≡ Some side → (turns : List Turn)
+        → All (λ t. IsTrue (permits event t)) turns → IsSome (play (net_after side) (solved_net side) turns) }
 {}
 
 /// The rounds that follow from a number are rounds that lists take. Those of 0 are one with 7 slots, and those of 15

@@ -8,6 +8,7 @@
 //! one sheet, and which runs must end with it.
 #![tactic(auto)]
 
+mod check;
 mod fault;
 mod host;
 pub mod laws;
@@ -15,6 +16,7 @@ mod load;
 mod making;
 mod parts;
 mod program;
+mod sheet_lines;
 mod single;
 mod slot_jobs;
 mod status;

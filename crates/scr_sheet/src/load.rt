@@ -25,7 +25,7 @@ use scr_list::Round;
 use scr_notation::EVENTS;
 use scr_outside::{Failed, Sink, write_line};
 use scr_round::{slots, write_round};
-use scr_slots::{Tables, laws};
+use scr_slots::Tables;
 use scr_text::decimal;
 use scr_words::Seed;
 use scr_workers::Gate;
@@ -116,7 +116,6 @@ fn sheet_size<R: Threads + Sync, G: Gate + Sync>(
     ensures { SizesMaking (settings_of seed.now usual_options) (round_parts 0 rounds.now) result }
 {
     let tables = Tables::build(rt, alloc, rounds, 1)?;
-    laws::each_drawn_fairly(&tables);
     let making = Making::new(rt, alloc, &tables, seed, &Options::default(), gate);
     rounds_size(&making, rounds)
 }

@@ -19,7 +19,7 @@ use scr_list::{Round, read_rounds};
 use scr_notation::Event;
 use scr_outside::{Sink, Source};
 use scr_round::{RoundResult, write_round};
-use scr_slots::{Tables, laws, write_tables_of};
+use scr_slots::{Tables, write_tables_of};
 use scr_words::Seed;
 use scr_workers::Gate;
 use std::alloc::Global;
@@ -59,7 +59,6 @@ fn make_sheet<R: Threads + Sync, O: Sink, G: Gate + Sync>(
         (change_of O.held O.faults out.old out.new) result }
 {
     let tables = Tables::build(rt, alloc, rounds, workers_of(options))?;
-    laws::each_drawn_fairly(&tables);
     let making = Making::new(rt, alloc, &tables, seed, options, gate);
     write_rounds(&making, rounds, out)
 }

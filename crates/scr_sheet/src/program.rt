@@ -5,6 +5,7 @@ ghost use Rattle.scr_command.specs.Words.{texts};
 ghost use Rattle.scr_sheet.specs.Outcome.{IsRun, IsPerformed, Tells};
 ghost use Rattle.scr_sheet.specs.Headline.{IsFairlyWritten, AsksForScrambles};
 
+use crate::check::write_check;
 use crate::fault::Fault;
 use crate::load::write_load;
 use crate::parts::{write_event_tables, write_sheet};
@@ -17,7 +18,8 @@ use std::alloc::Global;
 use std::thread::Threads;
 
 /// Does all that the program does, on its words without its own name: reads the round list from `source` where they ask
-/// for a sheet, writes what they ask for to `out`, tells on `err` what goes wrong, and gives the status.
+/// for a sheet, and a list and a sheet where they ask for a check; writes what they ask for to `out`, tells on `err` what
+/// goes wrong, and gives the status.
 ///
 /// Whatever the number of workers says, it writes exactly the sheet that the definitions give for its seed and round
 /// list, or the named part of it at a refusal; every state of an event of random states that turns reach and that needs
@@ -31,11 +33,13 @@ use std::thread::Threads;
 /// | clock | 14 amounts |
 /// | 333, 333oh | 22 turns where the search for two parts finds them, else 52 |
 /// | 333bf | that of 333, and at most two wide turns |
+/// | 333fm | that of 333, between R' U' F and R' U' F |
 /// | sq1 | 76 twists |
 ///
 /// For minx, 555, 666 and 777 no state is drawn: each random move is taken by equally many words.
 ///
-/// It takes memory only where the first word is `sheet`, where tables are needed, or where rounds are made for `load`.
+/// It takes memory only where the first word is `sheet` or `check`, where tables are needed, or where rounds are made for
+/// `load`.
 /// A fault of `err` changes no status.
 ///
 /// The slots of a round are claimed by as many workers as the words ask for, and each passes `gate` before it is drawn.
@@ -82,6 +86,7 @@ fn perform<R: Threads + Sync, S: Source, O: Sink, G: Gate + Sync>(
         Command::Tables(event) => write_event_tables(rt, alloc, event, out),
         Command::Load(number) => write_load(rt, alloc, number, out, gate),
         Command::Net(event, seed) => write_scrambled_net(rt, alloc, event, &seed, out),
+        Command::Check(seed, attempts) => write_check(rt, alloc, &seed, attempts, source, out),
     }
 }
 

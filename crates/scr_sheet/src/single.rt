@@ -18,7 +18,7 @@ use scr_command::Options;
 use scr_net::{Net, write_net};
 use scr_notation::{Event, Scramble, print};
 use scr_outside::{Failed, Sink, write_line};
-use scr_slots::{Tables, laws, slot_answer};
+use scr_slots::{Tables, slot_answer};
 use scr_words::Seed;
 use std::alloc::Global;
 use std::thread::Threads;
@@ -71,7 +71,6 @@ fn one_scramble<R: Threads + Sync>(
     ensures memory { result ≡ Err NoMemory → HasTables event }
 {
     let tables = Tables::of_event(rt, alloc, event)?;
-    laws::each_drawn_fairly(&tables);
     let settings = settings_of(seed, &Options::default());
     match slot_answer(&tables, event, &settings, 0, 0) {
         Some(scramble) => Ok(scramble),
@@ -102,9 +101,13 @@ fn write_net_of<O: Sink>(event: Event, scramble: &Scramble, out: &mut O) -> Resu
         Event::C555 => write_net_after::<O, 5>(scramble, out),
         Event::C666 => write_net_after::<O, 6>(scramble, out),
         Event::C777 => write_net_after::<O, 7>(scramble, out),
-        Event::Bf333 | Event::Clock | Event::Minx | Event::Pyram | Event::Skewb | Event::Sq1 => Ok(
-            (),
-        ),
+        Event::Bf333
+        | Event::Fm333
+        | Event::Clock
+        | Event::Minx
+        | Event::Pyram
+        | Event::Skewb
+        | Event::Sq1 => Ok(()),
     }
 }
 

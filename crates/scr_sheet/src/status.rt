@@ -26,6 +26,8 @@ pub enum Status {
     NoMemory,
     /// A table has a gap.
     Gap,
+    /// A line of a sheet that is checked differs from the one that is expected.
+    Differs,
 }
 
 impl Status {
@@ -42,6 +44,7 @@ impl Status {
             Err(Fault::Write) => Status::WriteFault,
             Err(Fault::NoMemory) => Status::NoMemory,
             Err(Fault::Gap { .. }) => Status::Gap,
+            Err(Fault::Differs { .. }) => Status::Differs,
         }
     }
 
@@ -58,6 +61,7 @@ impl Status {
             Status::WriteFault => 6,
             Status::NoMemory => 7,
             Status::Gap => 8,
+            Status::Differs => 9,
         }
     }
 }

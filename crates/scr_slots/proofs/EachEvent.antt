@@ -2,7 +2,7 @@
 -- scrambled.
 use Rattle.std.proofs.Common.{◌≡◌, ℕ, ◌≤◌, Bool, List, refl, lit≤}
 use Rattle.scr_notation.specs.declared.event.Event.{Event}
-use Rattle.scr_notation.specs.declared.event.Event.TheVariants.{C222, C333, Oh333, C555, C666, C777, Clock, Minx, Pyram, Skewb, Sq1, Bf333}
+use Rattle.scr_notation.specs.declared.event.Event.TheVariants.{C222, C333, Oh333, C555, C666, C777, Clock, Minx, Pyram, Skewb, Sq1, Bf333, Fm333}
 use Rattle.scr_notation.specs.declared.event.Family.TheVariants as family
 use Rattle.scr_notation.specs.Event.{greatest_of}
 use Rattle.scr_notation.specs.EventSets.{Has}
@@ -16,6 +16,7 @@ use Rattle.scr_cube.specs.Held.{held_numbered}
 use Rattle.scr_twophase.specs.TwoParts.{two_parts}
 use Rattle.scr_twophase.proofs.PartLaws.{IsScrambleBy-unique}
 use Rattle.scr_twophase.proofs.HeldScrambles.{IsScramble333bf-unique}
+use Rattle.scr_fewest.proofs.FewestLaws.{IsScrambleFewest-unique}
 use Rattle.scr_small.specs.Puzzles.{numbered_puzzle_222, numbered_puzzle_skewb}
 use Rattle.scr_small.proofs.Lawful222.{lawful_puzzle_222}
 use Rattle.scr_small.proofs.LawfulSkewb.{lawful_puzzle_skewb}
@@ -27,7 +28,7 @@ use Rattle.scr_sq1.specs.Numbers.{sq1_numbered}
 use Rattle.scr_sq1solve.proofs.Solutions.{one_scramble}
 use Rattle.scr_slots.specs.Shown.{Shown, States, Moves}
 use Rattle.scr_slots.specs.Slots.{Scrambling, ByState, ByMoves, by_state, IsDrawnFairly}
-use Rattle.scr_slots.specs.Events.{scrambling_of, shown_of, IsScramble333Within, drawn_222, drawn_333, drawn_held, drawn_pyram, drawn_skewb, drawn_clock, drawn_sq1, cube_random_moves, moves_minx}
+use Rattle.scr_slots.specs.Events.{scrambling_of, shown_of, IsScramble333Within, drawn_222, drawn_333, drawn_held, drawn_fewest, IsScrambleFewestWithin, drawn_pyram, drawn_skewb, drawn_clock, drawn_sq1, cube_random_moves, moves_minx}
 use Rattle.scr_slots.specs.Held.{HasFamily}
 use Rattle.scr_slots.specs.Outcomes.{HasOneAnswer}
 use Rattle.scr_slots.proofs.OneAnswer.{HasOneAnswer-state, HasOneAnswer-moves}
@@ -60,6 +61,9 @@ each_one Sq1 least =
     HasOneAnswer-state Sq1 drawn_sq1 sq1_numbered _ least (lit≤ tt) (λ effort state turns other reached. one_scramble state turns other)
 each_one Bf333 least =
     HasOneAnswer-state Bf333 drawn_held held_numbered _ least (lit≤ tt) (λ effort state turns other reached. IsScramble333bf-unique effort.tries state turns other)
+each_one Fm333 least =
+    HasOneAnswer-state Fm333 drawn_fewest cube_numbered IsScrambleFewestWithin least (lit≤ tt)
+    (λ effort state turns other reached a b. IsScrambleFewest-unique effort.tries state turns other a.0 b.0)
 
 -- ---- fairness
 
@@ -75,6 +79,7 @@ pub record FairFamilies (events : List Bool) : Type 0 where
   pub of_222 : HasFamily events family.Cube222 → AreFair C222
   pub of_333 : HasFamily events family.Cube333 → AreFair C333
   pub of_333bf : HasFamily events family.Cube333 → AreFair Bf333
+  pub of_333fm : HasFamily events family.Cube333 → AreFair Fm333
   pub of_pyram : HasFamily events family.Pyraminx → AreFair Pyram
   pub of_skewb : HasFamily events family.Skewb → AreFair Skewb
   pub of_sq1 : HasFamily events family.Square1 → AreFair Sq1
@@ -94,6 +99,7 @@ each_fair events fair Pyram least has le = fair.of_pyram (record { event = Pyram
 each_fair events fair Skewb least has le = fair.of_skewb (record { event = Skewb; has = has; of_family = refl }) least le
 each_fair events fair Sq1 least has le = fair.of_sq1 (record { event = Sq1; has = has; of_family = refl }) least le
 each_fair events fair Bf333 least has le = fair.of_333bf (record { event = Bf333; has = has; of_family = refl }) least le
+each_fair events fair Fm333 least has le = fair.of_333fm (record { event = Fm333; has = has; of_family = refl }) least le
 
 -- ---- what is promised
 
@@ -116,3 +122,4 @@ same_shown Pyram = refl
 same_shown Skewb = refl
 same_shown Sq1 = refl
 same_shown Bf333 = refl
+same_shown Fm333 = refl

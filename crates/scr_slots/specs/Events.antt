@@ -1,8 +1,8 @@
 -- What each event is: the one place that says by event what a slot draws, what its scramble is and what is promised of it;
 -- and which tables its family needs.
-use Rattle.std.specs.Prelude.{ℕ, ◌≤◌, List, [], ◌∷◌, ◌++◌, length, IsTrue, is_some}
+use Rattle.std.specs.Prelude.{ℕ, ◌≤◌, List, [], ◌∷◌, ◌++◌, length, Option, None, IsTrue, is_some, if◌then◌else◌}
 use Rattle.scr_notation.specs.declared.event.Event.{Event}
-use Rattle.scr_notation.specs.declared.event.Event.TheVariants.{C222, C333, Oh333, C555, C666, C777, Clock, Minx, Pyram, Skewb, Sq1, Bf333}
+use Rattle.scr_notation.specs.declared.event.Event.TheVariants.{C222, C333, Oh333, C555, C666, C777, Clock, Minx, Pyram, Skewb, Sq1, Bf333, Fm333}
 use Rattle.scr_notation.specs.declared.event.Family.{Family}
 use Rattle.scr_notation.specs.declared.event.Family.TheVariants as family
 use Rattle.scr_notation.specs.declared.turn.Turn.{Turn}
@@ -11,12 +11,13 @@ use Rattle.scr_table.specs.Lines.{TableLine}
 use Rattle.scr_orbit.specs.Orbits.{Orbit}
 use Rattle.scr_turning.specs.PowerPuzzles.{PowerPuzzle, after_letter, power_puzzle}
 use Rattle.scr_cube.specs.Cube222.{numbered_222, powers_222}
-use Rattle.scr_cube.specs.Cube333.{CubeState, cube_numbered, cube_powers}
+use Rattle.scr_cube.specs.Cube333.{CubeState, cube_numbered, cube_powers, solved_cube}
 use Rattle.scr_cube.specs.Held.{HeldState, solved_held, held_cube_after, held_puzzle, held_numbered}
 use Rattle.scr_stages.specs.Tables.{stage_lines}
 use Rattle.scr_twophase.specs.TwoParts.{two_parts, IsScramble333}
 use Rattle.scr_twophase.specs.HeldScramble.{IsScramble333bf}
 use Rattle.scr_twophase.specs.Tables.{prune_lines}
+use Rattle.scr_fewest.specs.Fewest.{between, is_framed, IsScrambleFewest}
 use Rattle.scr_tetra.specs.Pyraminx.{PyramState, pyram_powers, numbered_pyram}
 use Rattle.scr_tetra.specs.Skewb.{SkewbState, skewb_numbered, skewb_powers}
 use Rattle.scr_small.specs.NumberedPuzzles.{IsScrambleOf}
@@ -53,6 +54,14 @@ drawn_222 = drawn_by_powers powers_222 11
 
 abbrev pub drawn_333 : DrawnPuzzle CubeState
 drawn_333 = drawn_by_powers cube_powers 52
+
+-- What the turns of a scramble for fewest moves make of the solved cube: those that don't begin and end with R' U' F are none.
+abbrev pub framed_play : List Turn → Option CubeState
+framed_play turns = if is_framed turns then play (after_letter cube_powers) solved_cube turns else None
+
+-- the 3x3x3 for fewest moves: two frames of three turns more
+abbrev pub drawn_fewest : DrawnPuzzle CubeState
+drawn_fewest = drawn_puzzle (power_puzzle cube_powers) framed_play (at_most 58)
 
 -- the 3x3x3 as it is held: two wide turns more
 abbrev pub drawn_held : DrawnPuzzle HeldState
@@ -93,6 +102,7 @@ shown_of Pyram = States PyramState drawn_pyram
 shown_of Skewb = States SkewbState drawn_skewb
 shown_of Sq1 = States Sq1State drawn_sq1
 shown_of Bf333 = States HeldState drawn_held
+shown_of Fm333 = States CubeState drawn_fewest
 
 -- ---- which scramble a state has
 
@@ -105,6 +115,11 @@ IsScramble333Within effort cube turns =
 -- with two hands or with one
 abbrev pub scrambling_333 : Scrambling
 scrambling_333 = by_state C333 drawn_333 cube_numbered IsScramble333Within
+
+-- for fewest moves: that of the cube between the frames, and 28 turns where it is of two parts
+abbrev pub IsScrambleFewestWithin : Effort → CubeState → List Turn → Type 0
+IsScrambleFewestWithin effort cube turns =
+    IsScrambleFewest effort.tries cube turns × (IsTrue (is_some (two_parts (between cube) effort.tries)) → length turns ≤ 28)
 
 -- Puzzles other than the 3x3x3 have one scramble, whatever the effort.
 unfoldable pub scrambling_of : Event → Scrambling
@@ -120,6 +135,7 @@ scrambling_of Pyram = by_state Pyram drawn_pyram numbered_pyram (λ effort. IsSc
 scrambling_of Skewb = by_state Skewb drawn_skewb skewb_numbered (λ effort. IsScrambleOf numbered_puzzle_skewb)
 scrambling_of Sq1 = by_state Sq1 drawn_sq1 sq1_numbered (λ effort. IsScrambleSq1)
 scrambling_of Bf333 = by_state Bf333 drawn_held held_numbered (λ effort. IsScramble333bf effort.tries)
+scrambling_of Fm333 = by_state Fm333 drawn_fewest cube_numbered IsScrambleFewestWithin
 
 -- ---- tables
 

@@ -1,5 +1,6 @@
 pub mod Shown
 pub mod Slots
+pub mod Agreement
 pub mod Outcomes
 pub mod Events
 pub mod Tables

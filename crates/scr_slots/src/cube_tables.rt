@@ -45,7 +45,7 @@ impl CubeTables {
     {
         let stages = StageTables::build(rt, alloc, workers)?;
         let mut prune = PruneTables::build(rt, alloc, workers)?;
-        prune.prepare(alloc, cubes)?;
+        prune.prepare(rt, alloc, cubes, workers)?;
         Ok(CubeTables { stages, prune })
     }
 

@@ -2,7 +2,7 @@
 
 ghost use Rattle.std.specs.Prelude.{◌≡◌, ◌+◌, ◌≤◌, ◌<◌, ℕ};
 ghost use Rattle.scr_notation.specs.declared.event.Event.{Event as EventOf};
-ghost use Rattle.scr_notation.specs.declared.event.Event.TheVariants.{Bf333, C222, C333, Clock, Pyram, Skewb, Sq1};
+ghost use Rattle.scr_notation.specs.declared.event.Event.TheVariants.{Bf333, C222, C333, Clock, Fm333, Pyram, Skewb, Sq1};
 ghost use Rattle.scr_notation.specs.declared.event.Family.TheVariants as family;
 ghost use Rattle.scr_notation.specs.Event.{greatest_of};
 ghost use Rattle.scr_notation.specs.EventSets.{Has};
@@ -16,6 +16,7 @@ use scr_bigs::laws as moves;
 use scr_clock::{ClockNumbers, laws as clock};
 use scr_cube::{Numbers222, laws as cubes};
 use scr_draw::laws as drawing;
+use scr_fewest::DrawFewest;
 use scr_small::{Small222, SmallPyram, SmallSkewb, laws as small};
 use scr_sq1solve::{DrawSq1, laws as square};
 use scr_stages::laws as stages;
@@ -28,8 +29,9 @@ pub fn one_answer()
 {}
 
 /// Each event whose tables are built is drawn fairly at each minimum of its range; of an event that is
-/// scrambled by random moves this says that each of their steps is fair, and no more.
-pub fn each_drawn_fairly(tables: &Tables)
+/// scrambled by random moves this says that each of their steps is fair, and no more. So it is a clause of
+/// [`Tables::build`].
+pub(crate) fn each_drawn_fairly(tables: &Tables)
     ensures { (event : EventOf) (least : ℕ) → Has tables.now event
         → least ≤ greatest_of event → IsDrawnFairly (scrambling_of event) least }
 {
@@ -38,6 +40,7 @@ pub fn each_drawn_fairly(tables: &Tables)
     fairly_222(tables);
     fairly_333(tables);
     fairly_333bf(tables);
+    fairly_333fm(tables);
     fairly_pyram(tables);
     fairly_skewb(tables);
     fairly_sq1(tables);
@@ -83,6 +86,17 @@ fn fairly_333bf(tables: &Tables)
         stages::reached(&tables.stages);
         cubes::held_cubes();
         drawing::drawn_fairly(&DrawHeld::new());
+    }
+}
+
+/// The 3x3x3 for fewest moves, where the tables of the 3x3x3 are built.
+#[tactic(auto, unfolding(crate::specs::Events::scrambling_of))]
+fn fairly_333fm(tables: &Tables)
+    ensures { HasFamily tables.now family.Cube333 → (least : ℕ) → least ≤ 5 → IsDrawnFairly (scrambling_of Fm333) least }
+{
+    if let Some(tables) = tables.of_333() {
+        stages::reached(&tables.stages);
+        drawing::drawn_fairly(&DrawFewest::new());
     }
 }
 

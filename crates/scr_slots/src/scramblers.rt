@@ -5,6 +5,7 @@ use crate::scrambler::Scrambler;
 use crate::settings::Effort;
 use scr_clock::{Clock, ClockNumbers, scramble_clock};
 use scr_cube::{Cube, Held};
+use scr_fewest::scramble_333fm;
 use scr_notation::Scramble;
 use scr_small::{OneTable, SmallPuzzle, SmallPyram};
 use scr_sq1::Sq1;
@@ -80,6 +81,28 @@ impl Scrambler<Cube> for CubeTables {
 
     fn scramble(&self, state: &Cube, effort: Effort) -> Scramble {
         scramble_333(&self.prune, &self.stages, state, effort.tries)
+    }
+}
+
+/// The tables of the 3x3x3, as those of the solver for fewest moves.
+#[derive(Drop)]
+pub(crate) struct ForFewestMoves<'a>(pub &'a CubeTables);
+
+impl Scrambler<Cube> for ForFewestMoves<'_> {
+    ghost use Rattle.scr_notation.specs.declared.event.Event.TheVariants.{Fm333};
+    ghost use Rattle.scr_slots.specs.Events.{drawn_fewest, IsScrambleFewestWithin};
+
+    ghost event = { λ _. Fm333 };
+
+    ghost played = { λ _. drawn_fewest.played };
+
+    ghost is_within = { λ _. drawn_fewest.IsWithin };
+
+    ghost is_scramble = { λ _. IsScrambleFewestWithin };
+
+    fn scramble(&self, state: &Cube, effort: Effort) -> Scramble {
+        let tables = self.0;
+        scramble_333fm(&tables.prune, &tables.stages, state, effort.tries)
     }
 }
 

@@ -11,10 +11,12 @@ ghost use Rattle.scr_slots.specs.Slots.{IsSlotAnswer, by_state};
 
 use crate::moved::{cube_scramble, megaminx_scramble};
 use crate::scrambler::Scrambler;
+use crate::scramblers::ForFewestMoves;
 use crate::settings::Settings;
 use crate::tables::Tables;
 use scr_clock::ClockNumbers;
 use scr_draw::{Numbering, Permit, draw};
+use scr_fewest::DrawFewest;
 use scr_notation::{Event, Scramble};
 use scr_small::{Small222, SmallPyram, SmallSkewb};
 use scr_sq1solve::DrawSq1;
@@ -67,6 +69,10 @@ pub fn slot_answer(
         Event::Bf333 => {
             let solver = tables.of_333().unwrap();
             drawn_answer(&DrawHeld::new(), solver, settings, least, stream)
+        }
+        Event::Fm333 => {
+            let solver = ForFewestMoves(tables.of_333().unwrap());
+            drawn_answer(&DrawFewest::new(), &solver, settings, least, stream)
         }
     }
 }

@@ -1,18 +1,21 @@
 //! The tables of a list's events.
 
-ghost use Rattle.std.specs.Prelude.{◌≡◌, ◌≤◌, ◌↔◌, ◌∷◌, [], All, map, Contains, IfOk, IfSome, IfErr, IsSome, IsSomeAnd, IsTrue};
+ghost use Rattle.std.specs.Prelude.{◌≡◌, ℕ, ◌≤◌, ◌↔◌, ◌∷◌, [], All, map, Contains, IfOk, IfSome, IfErr, IsSome, IsSomeAnd, IsTrue};
 ghost use Rattle.scr_notation.specs.declared.event.Event.{Event as EventOf};
 ghost use Rattle.scr_notation.specs.declared.event.Event.TheVariants.{C222, Pyram, Skewb as EventSkewb};
 ghost use Rattle.scr_notation.specs.declared.event.Family.TheVariants as family;
-ghost use Rattle.scr_notation.specs.Event.{family_of};
+ghost use Rattle.scr_notation.specs.Event.{family_of, greatest_of};
 ghost use Rattle.scr_notation.specs.EventSets.{Has};
 ghost use Rattle.scr_table.specs.Causes.{IsCauseOf};
 ghost use Rattle.scr_table.specs.Lines.{HasNoGap};
 ghost use Rattle.scr_small.specs.Tables.{small_line};
+ghost use Rattle.scr_slots.specs.Events.{scrambling_of};
 ghost use Rattle.scr_slots.specs.Held.{HasFamily, HoldsTable, HoldsTables};
+ghost use Rattle.scr_slots.specs.Slots.{IsDrawnFairly};
 ghost use Rattle.scr_slots.specs.Tables.{IsBuildCause, asks_for, is_family, lines_asked};
 
 use crate::cube_tables::CubeTables;
+use crate::laws::each_drawn_fairly;
 use arrayvec::ArrayString;
 use scr_list::Round;
 use scr_notation::{Event, EventSet, Family};
@@ -65,8 +68,10 @@ impl Drop for Tables {
 }
 
 impl Tables {
-    /// Builds the tables of the events of these rounds by 1 to 64 workers, each family's once, in the order of the families. A
-    /// gap is that of the first table that has one; memory can be wanting only where one of the events needs a table.
+    /// Builds the tables of the events of these rounds by 1 to 64 workers, each family's once, in the order of the
+    /// families. A gap is that of the first table that has one; memory can be wanting only where one of the events
+    /// needs a table. Each event is then drawn fairly at each minimum of its range; of random moves this says that
+    /// each of their steps is fair.
     pub fn build<R: Threads + Sync>(
         rt: &R,
         alloc: Global,
@@ -76,6 +81,8 @@ impl Tables {
         requires workers { (1 ≤ workers) × (workers ≤ 64) }
         ensures events { IfOk result (λ tables.
             (event : EventOf) → Has tables event ↔ Contains (map (λ round. round.event) rounds.now) event) }
+        ensures fair { IfOk result (λ tables. (event : EventOf) (least : ℕ) → Has tables event
+            → least ≤ greatest_of event → IsDrawnFairly (scrambling_of event) least) }
         ensures cause { IfErr result (IsBuildCause (map (λ round. round.event) rounds.now)) }
     {
         let of_222 = small_tables(rt, alloc, rounds, Family::Cube222, Event::C222, workers)?;
@@ -83,23 +90,27 @@ impl Tables {
         let of_pyram = small_tables(rt, alloc, rounds, Family::Pyraminx, Event::Pyram, workers)?;
         let of_skewb = small_tables(rt, alloc, rounds, Family::Skewb, Event::Skewb, workers)?;
         let of_sq1 = sq1_tables(rt, alloc, rounds, workers)?;
-        Ok(Tables {
+        let tables = Tables {
             events: events_of(rounds),
             of_222,
             of_333,
             of_pyram,
             of_skewb,
             of_sq1,
-        })
+        };
+        each_drawn_fairly(&tables);
+        Ok(tables)
     }
 
-    /// The tables of one event, built by one worker.
+    /// The tables of one event, built by one worker. It is then drawn fairly, as above.
     pub fn of_event<R: Threads + Sync>(
         rt: &R,
         alloc: Global,
         event: Event,
     ) -> Result<Tables, BuildFault>
         ensures event { IfOk result (λ tables. Has tables event) }
+        ensures fair { IfOk result (λ _. (least : ℕ) → least ≤ greatest_of event
+            → IsDrawnFairly (scrambling_of event) least) }
         ensures cause { IfErr result (IsBuildCause (event ∷ [])) }
     {
         Tables::build(

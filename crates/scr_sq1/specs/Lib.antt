@@ -2,3 +2,4 @@ pub mod Units
 pub mod Shapes
 pub mod Numbers
 pub mod Known
+pub mod Barred

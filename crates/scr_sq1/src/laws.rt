@@ -1,7 +1,7 @@
 //! What holds of the Square-1 whatever the code: calls that do nothing, whose contracts are the laws.
 //!
 //! That Square-1s are drawn fairly is the law of `scr_draw` for any event that it draws.
-ghost use Rattle.std.specs.Prelude.{◌≡◌, ℕ, ◌+◌, ◌*◌, ◌%◌, ◌<◌, ◌≤◌, ℤ, pos, Bool, true, false, not, List, [], ◌∷◌, ◌++◌, length, map, slice_index, All, IsTrue, Some, None, option_map, codes};
+ghost use Rattle.std.specs.Prelude.{◌≡◌, ◌↔◌, ℕ, ◌+◌, ◌*◌, ◌%◌, ◌<◌, ◌≤◌, ℤ, pos, Bool, true, false, not, List, [], ◌∷◌, ◌++◌, length, map, slice_index, All, IsTrue, Some, None, option_map, codes};
 ghost use Rattle.scr_combinatorics.specs.Lists.{ComesBefore};
 ghost use Rattle.scr_combinatorics.specs.Permutations.{factorial};
 ghost use Rattle.scr_combinatorics.specs.Numbering.{IsOneToOne, IsNumbering};
@@ -13,6 +13,7 @@ ghost use Rattle.scr_combinatorics.specs.Tidy.{IsKeptByTidy};
 ghost use Rattle.scr_notation.specs.declared.turn.Turn.{Turn as Letter};
 ghost use Rattle.scr_notation.specs.declared.turn.Turn.TheVariants.{Layers, Twist};
 ghost use Rattle.scr_notation.specs.Turning.{opposite, turn_merging};
+ghost use Rattle.scr_sq1.specs.Barred.{IsBarredAlong};
 ghost use Rattle.scr_sq1.specs.Units.{Sq1State, IsSq1, is_open, solved_sq1, clockwise, twisted, sq1_after, sq1_puzzle};
 ghost use Rattle.scr_sq1.specs.Shapes.{half_word, IsShape, shape_of, ways_to_have, shape_number, shape_at, shape_count, units_among};
 ghost use Rattle.scr_sq1.specs.Numbers.{sq1_numbered};
@@ -25,6 +26,12 @@ pub fn turns()
     ensures taken_back { IsTakenBack sq1_after opposite IsSq1 }
     ensures tidied { IsKeptByTidy sq1_after turn_merging IsSq1 }
     ensures reached { (s : Sq1State) → IsReached sq1_puzzle s → IsSq1 s }
+{}
+
+/// Turns lead from a state nowhere exactly where one of them, in its place, is no turn of the event or would turn a corner
+/// across the cut.
+pub fn played_where_none_is_barred()
+    ensures { (s : Sq1State) (turns : List Letter) → (play sq1_after s turns ≡ None) ↔ IsBarredAlong s turns }
 {}
 
 /// A turn of the layers takes the piece in each unit so many units on, round its layer, and leaves the equator. A twist exchanges

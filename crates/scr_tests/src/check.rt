@@ -1,7 +1,7 @@
 //! Sheets of a few lines checked, and inputs split, from sources that give one byte a call, that give all at once, and that fail.
 
 ghost use Rattle.std.specs.Prelude.{◌<◌};
-ghost use Rattle.scr_tests.specs.CheckRows.{row_answer, row_no_long, row_by_line};
+ghost use Rattle.scr_tests.specs.CheckRows.{row_lines};
 
 use scr_check::*;
 use scr_outside::{Failed, MemSource};
@@ -16,7 +16,7 @@ struct Rows {
 }
 
 impl Expected for Rows {
-    ghost lines = { λ rows. record { count = rows.count; answer = row_answer rows.count rows.missing } };
+    ghost lines = { λ rows. row_lines rows.count rows.missing };
 
     fn count(&self) -> u32 {
         u32::from(self.count)
@@ -37,10 +37,6 @@ impl Expected for Rows {
         };
         Ok(text == wanted)
     }
-
-    ghost no_long_text = { λ rows line text agrees. row_no_long rows.count rows.missing line text agrees };
-
-    ghost by_line = { λ rows line text other missing is. row_by_line rows.count rows.missing line text other missing is };
 }
 
 /// What a check says of a sheet, from a source that gives at most so many bytes a call and fails at these.

@@ -127,6 +127,9 @@ fn commands_read(rt: HostRuntime) {
         ZEROS,
     ];
     reads(&rt, alloc, &words, sheet(most));
+    let check = |attempts| Ok(Command::Check(zeros, attempts));
+    reads(&rt, alloc, &["check", "--seed", ZEROS], check(1000));
+    reads(&rt, alloc, &["check", "--attempts=7", joined], check(7));
 }
 
 #[test]
@@ -151,6 +154,8 @@ fn commands_refused(rt: HostRuntime) {
         (["sheet", "--seed", "--"], UsageFault::Grammar),
         (["sheet", "--se", ZEROS], UsageFault::Grammar),
         (["sheet", "--workers", "2"], UsageFault::Grammar),
+        (["check", "--seed", "abc"], length(3)),
+        (["check", "--seed", BAD_DIGIT], digit),
         (["tables", "222", ZEROS], UsageFault::Grammar),
         (["load", "15", "15"], UsageFault::Grammar),
         (["Sheet", "--seed", ZEROS], UsageFault::Grammar),
@@ -211,6 +216,15 @@ fn commands_refused(rt: HostRuntime) {
     reads(&rt, alloc, &["tables", "444"], no_444);
     reads(&rt, alloc, &["one", "clock", ZEROS, ZEROS], usage);
     reads(&rt, alloc, &["sheet"], usage);
+    reads(&rt, alloc, &["check"], usage);
+    for last in [
+        "--attempts=0",
+        "--attempts=1000001",
+        "--tries=1",
+        "--workers=1",
+    ] {
+        reads(&rt, alloc, &["check", "--seed", ZEROS, last], usage);
+    }
     reads(&rt, alloc, &["load"], usage);
     for number in ["10000", "015", "+15", "-1", "", "x"] {
         reads(&rt, alloc, &["load", number], usage);

@@ -18,6 +18,8 @@ mod cube;
 #[cfg(test)]
 mod draw;
 #[cfg(test)]
+mod fewest;
+#[cfg(test)]
 mod held;
 #[cfg(test)]
 mod list;

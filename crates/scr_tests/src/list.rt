@@ -264,6 +264,7 @@ fn the_table_of_events(rt: HostRuntime) {
         (Event::Skewb, 5, Some((7, 11))),
         (Event::Sq1, 5, Some((2, 4))),
         (Event::Bf333, 3, Some((2, 5))),
+        (Event::Fm333, 3, Some((2, 5))),
     ] {
         assert_eq!(rt; event.per_group(), per_group);
         let told = event.minima().map(|minima| (minima.usual, minima.greatest));

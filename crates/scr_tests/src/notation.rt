@@ -182,6 +182,7 @@ fn known_events(rt: HostRuntime) {
         (Event::Skewb, "skewb", "Skewb", 8),
         (Event::Sq1, "sq1", "Square-1", 144),
         (Event::Bf333, "333bf", "3x3x3 Blindfolded", 27),
+        (Event::Fm333, "333fm", "3x3x3 Fewest Moves", 18),
     ];
     for (event, id, name, turns) in rows {
         assert_eq!(rt; event.id(), id);
@@ -210,6 +211,7 @@ fn families_and_sets(rt: HostRuntime) {
         (Event::C333, Some(Family::Cube333)),
         (Event::Oh333, Some(Family::Cube333)),
         (Event::Bf333, Some(Family::Cube333)),
+        (Event::Fm333, Some(Family::Cube333)),
         (Event::C777, None),
         (Event::Clock, None),
         (Event::Minx, None),

@@ -109,7 +109,7 @@ fn tables_and_cubes(rt: HostRuntime) -> Result<(), Fail> {
     let stages = StageTables::build(&rt, rt.alloc(), 1)?;
     are_known(&rt, &prune, &stages);
     are_held(&rt, &prune, &stages);
-    prune.prepare(rt.alloc(), 1_000)?;
+    prune.prepare(&rt, rt.alloc(), 1_000, 3)?;
     are_known(&rt, &prune, &stages);
     Ok(())
 }

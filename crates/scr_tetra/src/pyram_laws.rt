@@ -6,9 +6,11 @@ ghost use Rattle.scr_combinatorics.specs.Play.{play, count_in};
 ghost use Rattle.scr_combinatorics.specs.Reach.{Needs};
 ghost use Rattle.scr_orbit.specs.InPlace.{AreDigitsInPlace};
 ghost use Rattle.scr_orbit.specs.Orbits.{zeros};
+ghost use Rattle.scr_notation.specs.declared.event.Event.TheVariants.{Pyram};
 ghost use Rattle.scr_notation.specs.declared.turn.Turn.{Turn as Letter};
 ghost use Rattle.scr_notation.specs.TurnNumbers.{axis_turn_at};
 ghost use Rattle.scr_notation.specs.Spelling.{text_of};
+ghost use Rattle.scr_turning.specs.Played.{PlaysTurnsOf};
 ghost use Rattle.scr_turning.specs.PowerPuzzles.{IsPowerPuzzle, HaveOrders, word_at, after_letter, power_puzzle};
 ghost use Rattle.scr_tetra.specs.Pyraminx.{TetraminxState, IsTetraminx, TetraminxTurn, IsTetraminxTurn, tetraminx_thirds, tetraminx_powers, numbered_tetraminx, PyramState, IsPyram, IsPyramTurn, pyram_powers, solved_pyram, numbered_pyram};
 ghost use Rattle.scr_tetra.specs.PyramStickers.{CarriesPyramStickers, ShowsThirds, about_up, half_round};
@@ -21,6 +23,11 @@ ghost use Rattle.scr_tetra.specs.PyramKnown.{pyram_orders, edge_cycle, edge_flip
 pub fn turns()
     ensures pyraminx { IsPowerPuzzle pyram_powers IsPyram IsPyramTurn }
     ensures tetraminx { IsPowerPuzzle tetraminx_powers IsTetraminx IsTetraminxTurn }
+{}
+
+/// From each valid state turns lead to a state exactly where each of them is a turn of the event.
+pub fn played_where_all_are_turns()
+    ensures { PlaysTurnsOf Pyram IsPyram (after_letter pyram_powers) }
 {}
 
 /// Each number below the count is that of exactly one valid state, and each valid state has exactly one.

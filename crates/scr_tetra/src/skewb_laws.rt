@@ -5,8 +5,10 @@ ghost use Rattle.scr_combinatorics.specs.Numbering.{IsNumbering};
 ghost use Rattle.scr_combinatorics.specs.Play.{play, count_in};
 ghost use Rattle.scr_combinatorics.specs.Reach.{Needs};
 ghost use Rattle.scr_orbit.specs.Orbits.{zeros};
+ghost use Rattle.scr_notation.specs.declared.event.Event.TheVariants.{Skewb};
 ghost use Rattle.scr_notation.specs.declared.turn.Turn.{Turn as Letter};
 ghost use Rattle.scr_notation.specs.Spelling.{text_of};
+ghost use Rattle.scr_turning.specs.Played.{PlaysTurnsOf};
 ghost use Rattle.scr_turning.specs.PowerPuzzles.{IsPowerPuzzle, HaveOrders, word_at, after_letter, power_puzzle};
 ghost use Rattle.scr_tetra.specs.Skewb.{SkewbTurn, IsSkewb, IsSkewbTurn, skewb_thirds, skewb_powers, solved_skewb, skewb_numbered};
 ghost use Rattle.scr_tetra.specs.SkewbStickers.{CarriesAll, skewb_carried_piece, rotated_piece};
@@ -17,6 +19,11 @@ ghost use Rattle.scr_tetra.specs.SkewbKnown.{skewb_orders, after_b_u, after_b_r,
 /// order 3, and each turn has the number that the notation gives it.
 pub fn turns()
     ensures { IsPowerPuzzle skewb_powers IsSkewb IsSkewbTurn }
+{}
+
+/// From each valid state turns lead to a state exactly where each of them is a turn of the event.
+pub fn played_where_all_are_turns()
+    ensures { PlaysTurnsOf Skewb IsSkewb (after_letter skewb_powers) }
 {}
 
 /// Each number below the count is that of exactly one valid state, and each valid state has exactly one.

@@ -4,3 +4,4 @@ pub mod NumberedTurns
 pub mod PowerPuzzleLaws
 pub mod TurnedAt
 pub mod TablesOnLiterals
+pub mod PlayedTurns

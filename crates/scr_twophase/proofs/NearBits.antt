@@ -5,7 +5,6 @@ use Rattle.std.specs.Prelude.{◌==◌}
 use Rattle.std.specs.Int.{bit_at}
 use Rattle.std.specs.Int.Bits.{bit_and, bit_or}
 use Rattle.std.proofs.lemmas.Bool.{cases_eq}
-use Rattle.std.proofs.lemmas.List.{length-set}
 use Rattle.std.proofs.lemmas.Nat.Bits.{bit_at-lt, bit_at_or, bit_at_set_same, shr_and_one}
 use Rattle.scr_twophase.specs.Near.{HasBits, word_of, first_bit, second_bit}
 
@@ -31,20 +30,18 @@ HasBits-entered words number word at first second e f s few_first few_second ins
     let there : get_or (set words at two) (word_of number) 0 ≡ two =
     ap (λ k. get_or (set words at two) k 0) (sym e) ∙ get_or-set_same words at two 0 inside in
     record {
-      first = λ lt.
+      first =
           ap (λ x. bit_at x (first_bit number)) there ∙ ap (bit_at two) (sym f)
           ∙ stays one (1 * 2 ^ second % 2 ^ 64) first (bit_at_set_same w64 word first few_first);
-      second = λ lt. ap (λ x. bit_at x (second_bit number)) there ∙ ap (bit_at two) (sym s) ∙ bit_at_set_same w64 one second few_second;
+      second = ap (λ x. bit_at x (second_bit number)) there ∙ ap (bit_at two) (sym s) ∙ bit_at_set_same w64 one second few_second;
     }
 
 -- a bit that was set is set after a word is written
-still : (words : List ℕ) (seat i word at first second : ℕ) → word ≡ get_or words at 0 → at < length words
-    → (seat < length words → bit_at (get_or words seat 0) i ≡ 1) → seat < length (set words at (both_set word first second))
+still : (words : List ℕ) (seat i word at first second : ℕ) → word ≡ get_or words at 0 → at < length words → bit_at (get_or words seat 0) i ≡ 1
     → bit_at (get_or (set words at (both_set word first second)) seat 0) i ≡ 1
-still words seat i word at first second is inside before lt =
+still words seat i word at first second is inside was =
     let one : ℕ = bit_or word (1 * 2 ^ first % 2 ^ 64) in
     let two : ℕ = both_set word first second in
-    let was = before (omega (arith, lt, length-set words at two)) in
     elim (cases_eq seat at) [
       | inl same ↦
           ap (λ x. bit_at x i) (ap (λ k. get_or (set words at two) k 0) same ∙ get_or-set_same words at two 0 inside)
@@ -63,13 +60,11 @@ HasBits-kept words other word at first second is inside h = record {
 
 -- what a look at both bits answers
 pub both_bits : (words : List ℕ) (number word at first second : ℕ) → word ≡ get_or words at 0 → at ≡ word_of number → first ≡ first_bit number → second ≡ second_bit number
-    → at < length words → HasBits words number
-    → (bit_and (bit_and (word / 2 ^ first) 1) (bit_and (word / 2 ^ second) 1) == 1) ≡ true
-both_bits words number word at first second is e f s inside h =
-    let lt : word_of number < length words = omega (arith, e, inside) in
+    → HasBits words number → (bit_and (bit_and (word / 2 ^ first) 1) (bit_and (word / 2 ^ second) 1) == 1) ≡ true
+both_bits words number word at first second is e f s h =
     let here : word ≡ get_or words (word_of number) 0 = is ∙ ap (λ k. get_or words k 0) e in
     let a : bit_and (word / 2 ^ first) 1 ≡ 1 =
-    shr_and_one word first ∙ ap (λ i. bit_at word i) f ∙ ap (λ x. bit_at x (first_bit number)) here ∙ h.first lt in
+    shr_and_one word first ∙ ap (λ i. bit_at word i) f ∙ ap (λ x. bit_at x (first_bit number)) here ∙ h.first in
     let b : bit_and (word / 2 ^ second) 1 ≡ 1 =
-    shr_and_one word second ∙ ap (λ i. bit_at word i) s ∙ ap (λ x. bit_at x (second_bit number)) here ∙ h.second lt in
+    shr_and_one word second ∙ ap (λ i. bit_at word i) s ∙ ap (λ x. bit_at x (second_bit number)) here ∙ h.second in
     ap (λ x. bit_and x (bit_and (word / 2 ^ second) 1) == 1) a ∙ ap (λ y. bit_and 1 y == 1) b

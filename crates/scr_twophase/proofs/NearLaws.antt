@@ -1,15 +1,20 @@
 -- Near sets have the numbers that they should, and what they leave of a set of turns keeps the ways.
-use Rattle.std.proofs.Common.{◌≡◌, ◌⊎◌, ℕ, suc, ◌+◌, ◌^◌, ◌<◌, Bool, true, List, [], ◌∷◌, ◌++◌, map, length, get_or, Some, inl, inr, sym, ap, ◌∙◌, subst, ne_eqb, eq-eqb, eqb-true, arith}
-use Rattle.std.specs.Prelude.{All, Contains, ◌&&◌, ◌||◌, ◌==◌, not}
+use Rattle.std.proofs.Common.{◌≡◌, ◌⊎◌, ℕ, suc, ◌+◌, ◌/◌, ◌%◌, ◌^◌, ◌<◌, ◌≤◌, Bool, true, List, [], ◌∷◌, ◌++◌, map, length, get_or, Some, inl, inr, refl, sym, ap, ◌∙◌, subst, ne_eqb, eq-eqb, eqb-true, arith, below_more}
+use Rattle.std.specs.Prelude.{All, Contains, Err, IfOk, IsSomeAnd, None, Ok, slice_get, slice_index_or, ◌&&◌, ◌||◌, ◌==◌, not}
 use Rattle.std.proofs.lemmas.Bool.{and_parts, and_from, cases_eq, cases_lt, false≢true, or_cases, or_left, or_right}
-use Rattle.std.proofs.lemmas.List.{get_or_default}
+use Rattle.std.proofs.lemmas.List.{get_or_append_left, get_or-append-add, get_or_default}
 use Rattle.std.proofs.lemmas.List.Elements.{All-contains, All-contains_itself, All-map, All-weaker}
 use Rattle.std.proofs.lemmas.Nat.Bits.{bit_at-zero}
+use Rattle.std.proofs.lemmas.Option.{get_or_from_slice_get, slice_get_within}
 use Rattle.scr_combinatorics.specs.Play.{play}
 use Rattle.scr_combinatorics.proofs.PlayLaws.{play-empty, play-parts}
 use Rattle.scr_cube.specs.Cube333.{CubeState}
-use Rattle.scr_twophase.specs.Near.{AreTakenBack, IsNear, IsSpread, LeavesNear}
+use Rattle.scr_workers.specs.Answered.{AreAnswered}
+use Rattle.scr_twophase.specs.declared.near_set.NearBlock.{NearBlock}
+use Rattle.scr_twophase.specs.declared.near_set.NearSet.{NearSet}
+use Rattle.scr_twophase.specs.Near.{AreTakenBack, HasBits, IsInSet, IsNear, LeavesNear}
 use Rattle.scr_twophase.specs.Search.{KeepsWays}
+use Rattle.scr_twophase.specs.Spread.{IsListed, IsSpread, IsThere, Listed, numbers_in}
 use Rattle.scr_twophase.specs.TurnSets.{contains_turn}
 use Rattle.scr_twophase.specs.TwoParts.{after_turn, leads}
 use Rattle.scr_twophase.specs.Words.{words_of}
@@ -50,47 +55,91 @@ step_of test c t others way =
 
 -- ---- level by level
 
-module _ (turns : List ℕ) (IsSeen : CubeState → Type 0) (number : CubeState → ℕ) (test : CubeState → Bool) where
-  pub IsNear-weaker : (most : ℕ) (Has More : ℕ → Type 0) → ((n : ℕ) → Has n → More n) → IsNear turns IsSeen number test most Has
-      → IsNear turns IsSeen number test most More
-  IsNear-weaker most Has More wider h = record { near = λ c n v seen le there way. wider (number c) (h.near c n v seen le there way) }
+-- one more at the end of a list
+pub each-pushed : {X : Type 0} (P : ℕ → X → Type 0) (xs : List X) (x d : X) → ((k : ℕ) → k < length xs → P k (get_or xs k d)) → P (length xs) x
+    → (k : ℕ) → k < length xs + 1 → P k (get_or (xs ++ x ∷ []) k d)
+each-pushed P xs x d before here =
+    let end : length xs ≡ length xs + 0 = omega arith in
+    let last : get_or (xs ++ x ∷ []) (length xs) d ≡ x = ap (λ k. get_or (xs ++ x ∷ []) k d) end ∙ get_or-append-add xs (x ∷ []) 0 d in
+    below_more (λ k. P k (get_or (xs ++ x ∷ []) k d)) (length xs)
+    (λ k lt. subst (P k) (sym (get_or_append_left xs (x ∷ []) d k lt)) (before k lt))
+    (subst (P (length xs)) (sym last) here)
 
+-- what a worker found, where it did
+found_there : (P : List ℕ → Type 0) (found : Listed) → IsSomeAnd found (λ out. IfOk out (λ list. P list.items)) → IsThere found → P (numbers_in found)
+found_there P (Some (Ok list)) h there = h
+found_there P (Some (Err fault)) h there = absurd there
+found_there P None h there = absurd there
+
+module _ (turns : List ℕ) (IsSeen : CubeState → Type 0) (number : CubeState → ℕ) (test : CubeState → Bool) where
   -- the set of all numbers
   pub IsNear-all : (most : ℕ) (Has : ℕ → Type 0) → ((n : ℕ) → Has n) → IsNear turns IsSeen number test most Has
   IsNear-all most Has all = record { near = λ c n v seen le there way. all (number c) }
 
   -- no turn
-  pub IsNear-end : (end : ℕ) (Has : ℕ → Type 0) → ((c : CubeState) → IsSeen c → test c ≡ true → end ≡ number c) → Has end
-      → IsNear turns IsSeen number test 0 Has
+  pub IsNear-end : (end : ℕ) (Has : ℕ → Type 0) → ((c : CubeState) → IsSeen c → test c ≡ true → end ≡ number c)
+      → ((c : CubeState) → IsSeen c → end ≡ number c → Has end) → IsNear turns IsSeen number test 0 Has
   IsNear-end end Has ends has = record {
     near = λ c n v seen le there way.
         let none : n ≡ 0 = omega (arith, le) in
         let empty : v ≡ [] = words_of-none turns v (subst (λ m. Contains (words_of turns m) v) none there) in
         let passes : test c ≡ true = sym (leads-played test c c [] (play-empty after_turn c)) ∙ ap (leads test c) (sym empty) ∙ way in
-        subst Has (ends c seen passes) has;
+        subst Has (ends c seen passes) (has c seen (ends c seen passes));
   }
 
-  -- one turn more
-  pub IsNear-spread : (most : ℕ) (numbers : List ℕ) (Has : ℕ → Type 0) → AreTakenBack turns IsSeen
-      → IsNear turns IsSeen number test most (Contains numbers)
-      → ((k : ℕ) → k < length numbers → IsSpread turns IsSeen number (get_or numbers k 0) Has) → IsNear turns IsSeen number test (most + 1) Has
-  IsNear-spread most numbers Has back h spread = record {
+  -- a set that has more
+  pub IsSpread-wider : (lists : List Listed) (block : ℕ) (Has More : ℕ → Type 0) → ((n : ℕ) → Has n → More n)
+      → IsSpread turns IsSeen number lists block Has → IsSpread turns IsSeen number lists block More
+  IsSpread-wider lists block Has More wider h = record {
+    here = λ c seen at listed. wider (number c % 2 ^ 32) (h.here c seen at listed);
+    there = λ c d place seen at lt to listed. wider (number c % 2 ^ 32) (h.there c d place seen at lt to listed);
+  }
+
+  -- one turn more, of a block
+  pub near_in_block : (backs : List ℕ) (most : ℕ) (lists : List Listed) (block : ℕ) (Has : ℕ → Type 0) → AreTakenBack turns backs IsSeen
+      → IsNear turns IsSeen number test most (IsListed lists) → IsSpread turns IsSeen number lists block Has
+      → (c : CubeState) (n : ℕ) (v : List ℕ) → IsSeen c → number c / 2 ^ 32 ≡ block → n ≤ most + 1 → Contains (words_of turns n) v → leads test c v ≡ true
+      → Has (number c % 2 ^ 32)
+  near_in_block backs most lists block Has back h spread c n v seen at le there way =
+      elim (cases_lt most n) [
+        | inl more ↦
+            let one : n ≡ suc most = omega (arith, le, more) in
+            let w = All-contains (BeginsWith turns most) (words_of turns (suc most)) v (words_of-first turns most)
+            (subst (λ m. Contains (words_of turns m) v) one there) in
+            let step = step_of test c (get_or turns w.place 0) w.others (ap (leads test c) (sym w.is) ∙ way) in
+            let seen_there = back.seen c step.there w.place seen w.below step.to in
+            spread.there c step.there w.place seen at w.below step.to (h.near step.there most w.others seen_there (omega arith) w.listed step.way)
+        | inr few ↦ spread.here c seen at (h.near c n v seen few there way)
+      ]
+
+  -- of all blocks, as workers list them
+  pub IsNear-listed : (backs : List ℕ) (most : ℕ) (lists next : List Listed) → AreTakenBack turns backs IsSeen
+      → ((c : CubeState) → IsSeen c → number c / 2 ^ 32 < length next)
+      → AreAnswered (λ block out. IfOk out (λ list. IsSpread turns IsSeen number lists block (Contains list.items))) next
+      → ((k : ℕ) → k < length next → IsThere (slice_index_or next k None)) → IsNear turns IsSeen number test most (IsListed lists)
+      → IsNear turns IsSeen number test (most + 1) (IsListed next)
+  IsNear-listed backs most lists next back below answered all h = record {
     near = λ c n v seen le there way.
-        elim (cases_lt most n) [
-          | inl more ↦
-              let one : n ≡ suc most = omega (arith, le, more) in
-              let w = All-contains (BeginsWith turns most) (words_of turns (suc most)) v (words_of-first turns most)
-              (subst (λ m. Contains (words_of turns m) v) one there) in
-              let step = step_of test c (get_or turns w.place 0) w.others (ap (leads test c) (sym w.is) ∙ way) in
-              let undone = back.each c step.there w.place seen w.below step.to in
-              let found = h.near step.there most w.others undone.seen (omega arith) w.listed step.way in
-              let is : get_or numbers found.0 0 ≡ number step.there = sym (get_or_default numbers found.0 (number step.there) 0 found.1) ∙ found.2 in
-              (spread found.0 found.1).there step.there c undone.place undone.seen is undone.below undone.back
-          | inr few ↦
-              let found = h.near c n v seen few there way in
-              let is : get_or numbers found.0 0 ≡ number c = sym (get_or_default numbers found.0 (number c) 0 found.1) ∙ found.2 in
-              subst Has is (spread found.0 found.1).here
-        ];
+        let block : ℕ = number c / 2 ^ 32 in
+        let lt = below c seen in
+        let spread = found_there (λ xs. IsSpread turns IsSeen number lists block (Contains xs)) (slice_index_or next block None) (answered block lt) (all block lt) in
+        near_in_block backs most lists block (Contains (numbers_in (slice_index_or next block None))) back h spread c n v seen refl le there way;
+  }
+
+  -- and as they enter them into a near set
+  pub IsNear-entered : (backs : List ℕ) (most : ℕ) (lists : List Listed) (blocks : List NearBlock) (set : NearSet) → AreTakenBack turns backs IsSeen
+      → set.blocks.items ≡ blocks
+      → ((k : ℕ) (d : NearBlock) → k < length blocks → IsSpread turns IsSeen number lists k (HasBits (slice_index_or blocks k d).words))
+      → IsNear turns IsSeen number test most (IsListed lists) → IsNear turns IsSeen number test (most + 1) (IsInSet set)
+  IsNear-entered backs most lists blocks set back is spread h = record {
+    near = λ c n v seen le there way. record {
+      bits = λ block at.
+          let k : ℕ = number c / 2 ^ 32 in
+          let stands : slice_get blocks k ≡ Some block = ap (λ bs. slice_get bs k) (sym is) ∙ at in
+          let Spread : NearBlock → Type 0 = λ b. IsSpread turns IsSeen number lists k (HasBits b.words) in
+          let here = subst Spread (get_or_from_slice_get blocks k block block stands) (spread k block (slice_get_within blocks k block stands)) in
+          near_in_block backs most lists k (HasBits block.words) back h here c n v seen refl le there way;
+    };
   }
 
 -- ---- turns into a near set
@@ -153,13 +202,13 @@ module _ (turns : List ℕ) (IsSeen : CubeState → Type 0) (number : CubeState 
           ];
     }
 
-    pub LeavesNear-looked : (test : CubeState → Bool) (c : CubeState) (more : ℕ) → others ≡ 0 → AreTakenBack turns IsSeen
+    pub LeavesNear-looked : (backs : List ℕ) (test : CubeState → Bool) (c : CubeState) (more : ℕ) → others ≡ 0 → AreTakenBack turns backs IsSeen
         → IsNear turns IsSeen number test more Has → IsSeen c → Shown c → LeavesNear turns test c more all into
-    LeavesNear-looked test c more none back near seen shown = record {
+    LeavesNear-looked backs test c more none back near seen shown = record {
       among = h.into_among;
       left = λ place v lt listed way is.
           let step = step_of test c (get_or turns place 0) v way in
-          let there = near.near step.there more v (back.each c step.there place seen lt step.to).seen (omega arith) listed step.way in
+          let there = near.near step.there more v (back.seen c step.there place seen lt step.to) (omega arith) listed step.way in
           elim (h.each place is) [
             | inl still ↦ absurd (none_in place (ap (λ b. contains_turn b place) (sym none) ∙ still))
             | inr in_it ↦ in_it c step.there seen shown step.to there

@@ -12,11 +12,6 @@ use Rattle.std.proofs.lemmas.List.{length-append, get_or_append_left, get_or-app
 use Rattle.scr_twophase.proofs.BitSets.{has_turn-all}
 use Rattle.scr_twophase.specs.declared.outlook.Outlook.{Outlook}
 
--- the positions below a number have their outlooks
-pub record AreMade (c : Coordinate) (distances : List ℕ) (done : ℕ) (all : List Outlook) : Type 0 where
-  pub size : length all ≡ done
-  pub each : (p : ℕ) (o : Outlook) → p < done → IsOutlook c distances p (get_or all p o)
-
 taken : {X : Type 0} (P : X → Type 0) (b : Bool) (x y : X) → (b ≡ true → P x) → (b ≡ false → P y) → P (cond b x y)
 taken P true x y f g = f refl
 taken P false x y f g = g refl
@@ -52,31 +47,13 @@ AreFound-none c distances p = record {
   few_level = omega arith;
 }
 
--- one position more
-pub AreMade-pushed : (c : Coordinate) (distances : List ℕ) (done : ℕ) (all : List Outlook) (o : Outlook) → IsOutlook c distances done o
-    → AreMade c distances done all → AreMade c distances (done + 1) (all ++ o ∷ [])
-AreMade-pushed c distances done all o is h = record {
-  size = length-append all (o ∷ []) ∙ omega (arith, h.size);
-  each = λ p d lt.
-      elim (cases_eq p done) [
-        | inl same ↦
-            let at : p ≡ length all + 0 = omega (arith, same, h.size) in
-            let P : ℕ → Outlook → Type 0 = λ q x. IsOutlook c distances q x in
-            subst (λ q. P q (get_or (all ++ o ∷ []) p d)) (sym same)
-            (subst (P done) (sym (ap (λ i. get_or (all ++ o ∷ []) i d) at ∙ get_or-append-add all (o ∷ []) 0 d)) is)
-        | inr other ↦
-            let before : p < length all = omega (arith, lt, other, h.size) in
-            subst (λ x. IsOutlook c distances p x) (sym (get_or_append_left all (o ∷ []) d p before)) (h.each p d (omega (arith, lt, other)))
-      ];
-}
-
--- what is so of each of some findings once one of them is written anew
-pub found_written : (P : ℕ → Found → Type 0) (xs : List Found) (k : ℕ) (x : Found) → k < length xs → P k x → (j : ℕ) (d : Found)
+-- what is so of each place of a list once one is written anew
+pub each_rewritten : {X : Type 0} (P : ℕ → X → Type 0) (xs : List X) (k : ℕ) (x : X) → k < length xs → P k x → (j : ℕ) (d : X)
     → (j ≢ k → P j (get_or xs j d)) → P j (get_or (set xs k x) j d)
-found_written P xs k x inside here j d there = by_place (cases_eq j k)
-  where
-    by_place : (j ≡ k) ⊎ (j ≢ k) → P j (get_or (set xs k x) j d)
-    by_place (inl same) =
-        let Q : ℕ → Type 0 = λ i. P i (get_or (set xs k x) i d) in
-        subst Q (sym same) (rw get_or-set_same here)
-    by_place (inr other) = rw get_or-set_other (there other)
+each_rewritten P xs k x inside here j d there =
+    elim (cases_eq j k) [
+      | inl same ↦
+          let Q : ℕ → Type 0 = λ i. P i (get_or (set xs k x) i d) in
+          subst Q (sym same) (rw get_or-set_same here)
+      | inr other ↦ rw get_or-set_other (there other)
+    ]

@@ -3,6 +3,7 @@ use Rattle.std.proofs.Common.{◌≡◌, ℕ, ◌<◌, List, [], ◌∷◌, map,
 use Rattle.std.specs.Prelude.{All, nat_lt}
 use Rattle.std.proofs.lemmas.List.{get_or-map, length-map}
 use Rattle.scr_combinatorics.proofs.PlayLaws.{play-one}
+use Rattle.scr_notation.specs.declared.turn.Turn.{Turn}
 use Rattle.scr_notation.specs.TurnNumbers.{face_turn_at}
 use Rattle.scr_notation.specs.Turning.{opposite}
 use Rattle.scr_turning.specs.PowerPuzzles.{after_letter}
@@ -10,6 +11,8 @@ use Rattle.scr_cube.specs.Cube333.{CubeState, IsCube, cube_powers}
 use Rattle.scr_cube.proofs.Laws333.{lawful_cube}
 use Rattle.scr_stages.specs.Numbers.{IsDominoCube}
 use Rattle.scr_stages.proofs.FiniteTests.{All-from_test}
+use Rattle.scr_twophase.specs.declared.first.TheConstants as all
+use Rattle.scr_twophase.specs.declared.second.TheConstants as ten
 use Rattle.scr_twophase.specs.Near.{AreTakenBack}
 use Rattle.scr_twophase.specs.TwoParts.{after_turn, domino_turns, turn_numbers}
 use Rattle.scr_twophase.proofs.Admissible.{IsCube-turned}
@@ -19,41 +22,37 @@ use Rattle.scr_twophase.proofs.SecondLaws.{IsDominoCube-turned}
 AreTakenBack-by : (turns backs : List ℕ) (IsSeen : CubeState → Type 0) → ((c : CubeState) → IsSeen c → IsCube c)
     → ((c d : CubeState) (place : ℕ) → IsSeen c → place < length turns → after_turn c (get_or turns place 0) ≡ Some d → IsSeen d)
     → map (λ k. face_turn_at (get_or turns k 0)) backs ≡ map (λ t. opposite (face_turn_at t)) turns → All (λ k. k < length turns) backs
-    → AreTakenBack turns IsSeen
+    → AreTakenBack turns backs IsSeen
 AreTakenBack-by turns backs IsSeen cube kept same below = record {
-  each = λ c d place seen lt to.
+  below = λ place lt. below place 0 (few place lt);
+  seen = λ c d place seen lt to. kept c d place seen lt to;
+  back = λ c d place seen lt to.
       let letter = face_turn_at (get_or turns place 0) in
       let k : ℕ = get_or backs place 0 in
-      let name = λ (j : ℕ). face_turn_at (get_or turns j 0) in
-      let other = λ (t : ℕ). opposite (face_turn_at t) in
-      let few : place < length backs = omega (arith, lt, ap length same, length-map backs name, length-map turns other) in
       let is : face_turn_at (get_or turns k 0) ≡ opposite letter =
-      sym (get_or-map name backs place 0 letter few) ∙ ap (λ xs. get_or xs place letter) same ∙ get_or-map other turns place 0 letter lt in
-      record {
-        seen = kept c d place seen lt to;
-        place = k;
-        below = below place 0 few;
-        back =
-            ap (after_letter cube_powers d) is ∙ sym (play-one (after_letter cube_powers) d (opposite letter))
-            ∙ lawful_cube.lawful.taken_back c d (letter ∷ []) (cube c seen) (play-one (after_letter cube_powers) c letter ∙ to);
-      };
+      sym (get_or-map name backs place 0 letter (few place lt)) ∙ ap (λ xs. get_or xs place letter) same ∙ get_or-map other turns place 0 letter lt in
+      ap (after_letter cube_powers d) is ∙ sym (play-one (after_letter cube_powers) d (opposite letter))
+      ∙ lawful_cube.lawful.taken_back c d (letter ∷ []) (cube c seen) (play-one (after_letter cube_powers) c letter ∙ to);
 }
+  where
+    name : ℕ → Turn
+    name j = face_turn_at (get_or turns j 0)
+
+    other : ℕ → Turn
+    other t = opposite (face_turn_at t)
+
+    few : (place : ℕ) → place < length turns → place < length backs
+    few place lt = omega (arith, lt, ap length same, length-map backs name, length-map turns other)
 
 -- of all turns, and of the ten that keep a domino
-back_turns : List ℕ
-back_turns = 2 ∷ 1 ∷ 0 ∷ 5 ∷ 4 ∷ 3 ∷ 8 ∷ 7 ∷ 6 ∷ 11 ∷ 10 ∷ 9 ∷ 14 ∷ 13 ∷ 12 ∷ 17 ∷ 16 ∷ 15 ∷ []
-
-back_ten : List ℕ
-back_ten = 2 ∷ 1 ∷ 0 ∷ 3 ∷ 4 ∷ 7 ∷ 6 ∷ 5 ∷ 8 ∷ 9 ∷ []
-
-pub AreTakenBack-turns : AreTakenBack turn_numbers IsCube
-unfolding back_turns turn_numbers face_turn_at
+pub AreTakenBack-turns : AreTakenBack turn_numbers all.BACK IsCube
+unfolding turn_numbers face_turn_at
 AreTakenBack-turns =
-    AreTakenBack-by turn_numbers back_turns IsCube (λ c h. h) (λ c d place h lt to. IsCube-turned c d (get_or turn_numbers place 0) h to) refl
-    (All-from_test (λ k. nat_lt k 18) (λ k. k < 18) (λ k. ltb-true k 18) back_turns refl)
+    AreTakenBack-by turn_numbers all.BACK IsCube (λ c h. h) (λ c d place h lt to. IsCube-turned c d (get_or turn_numbers place 0) h to) refl
+    (All-from_test (λ k. nat_lt k 18) (λ k. k < 18) (λ k. ltb-true k 18) all.BACK refl)
 
-pub AreTakenBack-ten : AreTakenBack domino_turns IsDominoCube
-unfolding back_ten domino_turns face_turn_at
+pub AreTakenBack-ten : AreTakenBack domino_turns ten.BACK IsDominoCube
+unfolding domino_turns face_turn_at
 AreTakenBack-ten =
-    AreTakenBack-by domino_turns back_ten IsDominoCube (λ c h. h.cube) (λ c d place h lt to. IsDominoCube-turned c d place h lt to) refl
-    (All-from_test (λ k. nat_lt k 10) (λ k. k < 10) (λ k. ltb-true k 10) back_ten refl)
+    AreTakenBack-by domino_turns ten.BACK IsDominoCube (λ c h. h.cube) (λ c d place h lt to. IsDominoCube-turned c d place h lt to) refl
+    (All-from_test (λ k. nat_lt k 10) (λ k. k < 10) (λ k. ltb-true k 10) ten.BACK refl)

@@ -6,6 +6,7 @@ pub mod Search
 pub mod TurnSets
 pub mod Outlooks
 pub mod Near
+pub mod Spread
 pub mod Built
 pub mod Minima
 pub mod HeldScramble

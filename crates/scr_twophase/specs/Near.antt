@@ -1,8 +1,10 @@
 -- Near sets: sets of numbers that have those of all cubes from which few turns lead to a goal, and maybe others.
-use Rattle.std.specs.Prelude.{◌≡◌, ℕ, ◌+◌, ◌*◌, ◌/◌, ◌%◌, ◌^◌, ◌<◌, ◌≤◌, Bool, Contains, IsTrue, List, length, slice_index, Some, ◌∷◌}
+use Rattle.std.specs.Prelude.{◌≡◌, ℕ, ◌+◌, ◌*◌, ◌/◌, ◌%◌, ◌^◌, ◌<◌, ◌≤◌, Bool, Contains, IsTrue, List, length, slice_get, slice_index, Some, ◌∷◌}
 use Rattle.std.specs.Int.{bit_at}
 use Rattle.scr_cube.specs.Cube333.{CubeState}
 use Rattle.scr_stages.specs.Numbers.{flips_number}
+use Rattle.scr_twophase.specs.declared.near_set.NearBlock.{NearBlock}
+use Rattle.scr_twophase.specs.declared.near_set.NearSet.{NearSet}
 use Rattle.scr_twophase.specs.Tables.{corners_of, middle_edges_of, middle_set_of, outer_edges_of, twists_of}
 use Rattle.scr_twophase.specs.TurnSets.{contains_turn}
 use Rattle.scr_twophase.specs.TwoParts.{after_turn, leads}
@@ -14,21 +16,12 @@ use Rattle.scr_twophase.specs.Words.{words_of}
 pub record IsNear (turns : List ℕ) (IsSeen : CubeState → Type 0) (number : CubeState → ℕ) (test : CubeState → Bool) (most : ℕ) (Has : ℕ → Type 0) : Type 0 where
   pub near : (c : CubeState) (n : ℕ) (v : List ℕ) → IsSeen c → n ≤ most → Contains (words_of turns n) v → IsTrue (leads test c v) → Has (number c)
 
--- It has a number, and those of all cubes to which one turn leads from a cube with this number.
-pub record IsSpread (turns : List ℕ) (IsSeen : CubeState → Type 0) (number : CubeState → ℕ) (from : ℕ) (Has : ℕ → Type 0) : Type 0 where
-  pub here : Has from
-  pub there : (c d : CubeState) (place : ℕ) → IsSeen c → from ≡ number c → place < length turns → after_turn c (slice_index turns place) ≡ Some d → Has (number d)
-
--- a turn that leads back
-pub record IsTakenBack (turns : List ℕ) (IsSeen : CubeState → Type 0) (c d : CubeState) : Type 0 where
-  pub seen : IsSeen d
-  pub place : ℕ
-  pub below : place < length turns
-  pub back : after_turn d (slice_index turns place) ≡ Some c
-
--- Each of these turns leads from a cube to one from which a turn of them leads back.
-pub record AreTakenBack (turns : List ℕ) (IsSeen : CubeState → Type 0) : Type 0 where
-  pub each : (c d : CubeState) (place : ℕ) → IsSeen c → place < length turns → after_turn c (slice_index turns place) ≡ Some d → IsTakenBack turns IsSeen c d
+-- Each of these turns leads from a cube to one from which that at the place which stands at its own in a list leads back.
+pub record AreTakenBack (turns backs : List ℕ) (IsSeen : CubeState → Type 0) : Type 0 where
+  pub below : (place : ℕ) → place < length turns → slice_index backs place < length turns
+  pub seen : (c d : CubeState) (place : ℕ) → IsSeen c → place < length turns → after_turn c (slice_index turns place) ≡ Some d → IsSeen d
+  pub back : (c d : CubeState) (place : ℕ) → IsSeen c → place < length turns → after_turn c (slice_index turns place) ≡ Some d
+      → after_turn d (slice_index turns (slice_index backs place)) ≡ Some c
 
 -- ---- what a near set leaves
 
@@ -50,12 +43,12 @@ second_number c = (corners_of c + 40320 * outer_edges_of c) + 2 ^ 32 * middle_ed
 
 -- ---- bits
 
--- A number's word, of 4,096 for each block of 2^32 numbers, and its two bits in it: by the number in its block, well mixed.
+-- The word of a number of a block, of 4,096, and its two bits in it: by the number, well mixed.
 unfoldable pub mixed : ℕ → ℕ
-mixed number = number % 2 ^ 32 * 2654435761 % 2 ^ 32
+mixed number = number * 2654435761 % 2 ^ 32
 
 unfoldable pub word_of : ℕ → ℕ
-word_of number = number / 2 ^ 32 * 4096 + mixed number / 2 ^ 20
+word_of number = mixed number / 2 ^ 20
 
 unfoldable pub first_bit : ℕ → ℕ
 first_bit number = mixed number / 2 ^ 14 % 64
@@ -63,7 +56,11 @@ first_bit number = mixed number / 2 ^ 14 % 64
 unfoldable pub second_bit : ℕ → ℕ
 second_bit number = mixed number / 2 ^ 8 % 64
 
--- A number has both of its bits in a table, or its word lies behind the table.
+-- a number of a block has both of its bits
 pub record HasBits (words : List ℕ) (number : ℕ) : Type 0 where
-  pub first : word_of number < length words → bit_at (slice_index words (word_of number)) (first_bit number) ≡ 1
-  pub second : word_of number < length words → bit_at (slice_index words (word_of number)) (second_bit number) ≡ 1
+  pub first : bit_at (slice_index words (word_of number)) (first_bit number) ≡ 1
+  pub second : bit_at (slice_index words (word_of number)) (second_bit number) ≡ 1
+
+-- A near set has a number, both of whose bits are set in its block, or whose block lies behind the set.
+pub record IsInSet (set : NearSet) (number : ℕ) : Type 0 where
+  pub bits : (block : NearBlock) → slice_get set.blocks.items (number / 2 ^ 32) ≡ Some block → HasBits block.words (number % 2 ^ 32)

@@ -1,5 +1,5 @@
 //! The first part: what a search for it sees of a cube, and where turns lead.
-ghost use Rattle.std.specs.Prelude.{◌≡◌, ◌+◌, ◌<◌, ◌≤◌, ◌^◌, ℕ, All, IfErr, IfOk, IsSome, Some};
+ghost use Rattle.std.specs.Prelude.{◌≡◌, ◌+◌, ◌<◌, ◌≤◌, ◌^◌, ℕ, All, IfErr, IfOk};
 ghost use Rattle.scr_combinatorics.specs.Permutations.{IsPermutation};
 ghost use Rattle.scr_combinatorics.specs.PlaceSets.{IsPlaceSet};
 ghost use Rattle.scr_coord.specs.Moves.{moves_coordinate};
@@ -10,22 +10,22 @@ ghost use Rattle.scr_table.specs.Lines.{HasNoGap};
 ghost use Rattle.scr_cube.specs.Cube333.{CubeState, IsCube};
 ghost use Rattle.scr_stages.specs.Stages.{middle_edges};
 ghost use Rattle.scr_stages.specs.Tables.{flips_coordinate};
-ghost use Rattle.scr_twophase.specs.Near.{HasBits, IsNear, LeavesNear, first_number};
+ghost use Rattle.scr_twophase.specs.Near.{IsInSet, IsNear, LeavesNear, first_number};
 ghost use Rattle.scr_twophase.specs.Outlooks.{IsPruningTable};
 ghost use Rattle.scr_twophase.specs.Search.{ShowsFirst, IsFirstPosition, LeavesWays, is_domino_position};
 ghost use Rattle.scr_twophase.specs.TwoParts.{is_domino, turn_numbers};
 ghost use Rattle.scr_twophase.specs.Tables.{twists_coordinate, middle_set_coordinate};
 ghost use Rattle.scr_twophase.specs.Tables.{flipslice_line, twistslice_line, first_lines};
 
+use crate::moves::{flip_moves, middle_moves, step, twist_moves};
 use crate::near_set::{NEAR, NearSet};
 use crate::pruning::PruningTable;
-use crate::space::{BLOCK, Space};
+use crate::space::{BLOCK, Positions, Space};
 use crate::turn_set::TurnSet;
-use scr_coord::{Coord, MoveTable, PlaceSet, Product, Twists, places_of};
+use scr_coord::{MoveTable, Product, places_of};
 use scr_cube::Cube;
-use scr_outside::NoMemory;
 use scr_rank::{Choose, TwistRank};
-use scr_stages::{ALL_TURNS, MIDDLE_EDGES, corners_turned, edges_turned};
+use scr_stages::MIDDLE_EDGES;
 use scr_table::{BuildFault, TableName};
 use std::alloc::{AllocError, Global};
 use std::thread::Threads;
@@ -38,6 +38,9 @@ const TWISTS: u32 = 2187;
 
 /// How many sets of the places of the edges of the middle layer there are.
 const MIDDLES: u32 = 495;
+
+/// For each turn the number of the one that takes it back.
+const BACK: [u32; 18] = [2, 1, 0, 5, 4, 3, 8, 7, 6, 11, 10, 9, 14, 13, 12, 17, 16, 15];
 
 /// The numbers of a cube's flips, of its twists, and of the set of the places of the edges of the middle layer.
 #[derive(Clone, Copy)]
@@ -59,6 +62,20 @@ impl FirstPosition {
             flips: TwistRank::<12, 2>::rank(&cube.flips()) as u32,
             twists: TwistRank::<8, 3>::rank(&cube.twists()) as u32,
             middle: Choose::<12, 4>::rank(&middle_places(&cube.edges())) as u32,
+        }
+    }
+
+    /// The position of the cubes with a number.
+    #[inline]
+    fn numbered(number: u64) -> FirstPosition
+        ensures fits { IsFirstPosition result }
+        ensures shows { (c : CubeState) → IsCube c → number ≡ first_number c → ShowsFirst c result }
+    {
+        let low = (number % BLOCK) as u32;
+        FirstPosition {
+            flips: low % FLIPS,
+            twists: low / FLIPS % TWISTS,
+            middle: (number / BLOCK) as u32 % MIDDLES,
         }
     }
 
@@ -86,7 +103,7 @@ pub(crate) struct FirstTables {
     ghost middle_shown: { ShowsSame middle_set_coordinate (moves_coordinate middle) },
     ghost flipslice_is: { IsPruningTable flipslice_line flipslice },
     ghost twistslice_is: { IsPruningTable twistslice_line twistslice },
-    ghost near_is: { IsNear turn_numbers IsCube first_number is_domino 7 (HasBits near.words.items) },
+    ghost near_is: { IsNear turn_numbers IsCube first_number is_domino 7 (IsInSet near) },
 }
 
 impl FirstTables {
@@ -129,16 +146,25 @@ impl FirstTables {
         })
     }
 
-    /// Finds outlooks, and builds the near set.
-    pub fn prepare(&mut self, alloc: Global) -> Result<(), AllocError>
+    /// Finds outlooks, and builds the near set, by 1 to 64 workers.
+    pub fn prepare<R: Threads + Sync>(
+        &mut self,
+        rt: &R,
+        alloc: Global,
+        workers: u32,
+    ) -> Result<(), AllocError>
+        requires workers { (1 ≤ workers) × (workers ≤ 64) }
         ensures flipslice { self.new.flipslice.distances ≡ self.old.flipslice.distances }
         ensures twistslice { self.new.twistslice.distances ≡ self.old.twistslice.distances }
     {
-        self.flipslice
-            .look_out(alloc, &Product::new(&self.flips, &self.middle))?;
-        self.twistslice
-            .look_out(alloc, &Product::new(&self.twists, &self.middle))?;
-        let near = NearSet::build(self, alloc, NEAR)?;
+        self.flipslice.look_out(rt, alloc, &Product::new(&self.flips, &self.middle), workers)?;
+        self.twistslice.look_out(
+            rt,
+            alloc,
+            &Product::new(&self.twists, &self.middle),
+            workers,
+        )?;
+        let near = NearSet::build(rt, alloc, self, NEAR, workers)?;
         self.near = near;
         Ok(())
     }
@@ -175,13 +201,13 @@ impl FirstTables {
 /// All cubes, by all turns, to the dominoes.
 impl Space for FirstTables {
     ghost use Rattle.scr_cube.specs.Cube333.{IsCube};
+    ghost use Rattle.scr_twophase.specs.declared.first.TheConstants.{BACK};
     ghost use Rattle.scr_twophase.specs.Near.{first_number};
-    ghost use Rattle.scr_twophase.specs.Search.{IsFirstPosition, ShowsFirst};
     ghost use Rattle.scr_twophase.specs.TwoParts.{is_domino, turn_numbers};
 
-    type Position = FirstPosition;
-
     ghost turns = { turn_numbers };
+
+    ghost backs = { BACK };
 
     ghost IsSeen = { IsCube };
 
@@ -189,14 +215,46 @@ impl Space for FirstTables {
 
     ghost ends = { is_domino };
 
-    ghost Shows = { ShowsFirst };
-
-    ghost Fits = { IsFirstPosition };
-
     #[inline]
     fn places() -> u32 {
         18
     }
+
+    #[inline]
+    fn back(place: u32) -> u32 {
+        BACK[place as usize]
+    }
+
+    #[inline]
+    fn number_after(&self, number: u64, place: u32) -> u64 {
+        FirstTables::number_of(Positions::after(self, FirstPosition::numbered(number), place))
+    }
+
+    fn end() -> u64 {
+        494 * BLOCK
+    }
+
+    fn blocks() -> u32 {
+        MIDDLES
+    }
+
+    #[inline]
+    fn block_after(&self, block: u32, place: u32) -> u32 {
+        step(&self.middle, block % MIDDLES, place)
+    }
+
+    fn turns_are_taken_back() {}
+}
+
+/// What a search for the part sees of them.
+impl Positions for FirstTables {
+    ghost use Rattle.scr_twophase.specs.Search.{IsFirstPosition, ShowsFirst};
+
+    type Position = FirstPosition;
+
+    ghost Shows = { ShowsFirst };
+
+    ghost Fits = { IsFirstPosition };
 
     #[inline]
     fn after(&self, at: FirstPosition, place: u32) -> FirstPosition {
@@ -212,62 +270,6 @@ impl Space for FirstTables {
         let low = at.twists.wrapping_mul(FLIPS).wrapping_add(at.flips);
         u64::from(at.middle) * BLOCK + u64::from(low)
     }
-
-    #[inline]
-    fn position(number: u64) -> FirstPosition {
-        let low = (number % BLOCK) as u32;
-        FirstPosition {
-            flips: low % FLIPS,
-            twists: low / FLIPS % TWISTS,
-            middle: (number / BLOCK) as u32 % MIDDLES,
-        }
-    }
-
-    fn end() -> u64 {
-        494 * BLOCK
-    }
-
-    fn blocks() -> u32 {
-        MIDDLES
-    }
-
-    fn turns_are_taken_back() {}
-}
-
-/// Where a turn leads, which is barred nowhere.
-#[inline]
-pub(crate) fn step(moves: &MoveTable, position: u32, turn: u32) -> u32
-    requires position { position < moves.now.count }
-    requires turn { turn < moves.now.turns }
-    requires leads { IsSome ((moves_coordinate moves.now).after position turn) }
-    ensures { (moves_coordinate moves.now).after position turn ≡ Some result }
-{
-    let Some(next) = moves.after(position, turn) else {
-        unreachable!()
-    };
-    next
-}
-
-/// Where turns lead from the flips.
-fn flip_moves(alloc: Global) -> Result<MoveTable, NoMemory>
-    ensures { IfOk result (λ table. ShowsSame flips_coordinate (moves_coordinate table)) }
-{
-    MoveTable::build(alloc, &Twists::<12, 2>::new(&edges_turned(&ALL_TURNS)[..]))
-}
-
-/// Where turns lead from the twists.
-fn twist_moves(alloc: Global) -> Result<MoveTable, NoMemory>
-    ensures { IfOk result (λ table. ShowsSame twists_coordinate (moves_coordinate table)) }
-{
-    MoveTable::build(alloc, &Twists::<8, 3>::new(&corners_turned(&ALL_TURNS)[..]))
-}
-
-/// Where turns lead from the sets of the places of the edges of the middle layer.
-fn middle_moves(alloc: Global) -> Result<MoveTable, NoMemory>
-    ensures { IfOk result (λ table. ShowsSame middle_set_coordinate (moves_coordinate table)) }
-{
-    let edges = edges_turned(&ALL_TURNS);
-    MoveTable::build(alloc, &PlaceSet::<12, 4>::new(&edges[..], MIDDLE_EDGES))
 }
 
 /// The places of the edges of the middle layer, in increasing order.

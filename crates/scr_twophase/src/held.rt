@@ -3,7 +3,7 @@ ghost use Rattle.std.specs.Prelude.{◌≡◌, ◌↔◌, ◌<◌, ◌≤◌, �
 ghost use Rattle.std.proofs.Props.{props};
 ghost use Rattle.scr_combinatorics.specs.Play.{play};
 ghost use Rattle.scr_combinatorics.specs.Reach.{Needs};
-ghost use Rattle.scr_notation.specs.declared.event.Event.TheVariants.{Bf333, C333};
+ghost use Rattle.scr_notation.specs.declared.event.Event.TheVariants.{Bf333};
 ghost use Rattle.scr_notation.specs.declared.turn.Turn.{Turn as Letter};
 ghost use Rattle.scr_notation.specs.declared.turn.Turn.TheVariants.{Face};
 ghost use Rattle.scr_notation.specs.Turns.{permits};
@@ -38,7 +38,7 @@ pub fn scramble_333bf(
         unreachable!();
     };
     let first = scramble_333(prune, stages, before.cube(), tries);
-    let mut scramble = blindfolded(&first);
+    let mut scramble = with_event(&first, Event::Bf333);
     push_all(&mut scramble, &word);
     scramble
 }
@@ -100,16 +100,16 @@ fn push_some(scramble: &mut Scramble, turn: Option<Turn>)
     }
 }
 
-/// The turns of a scramble of a 3x3x3, as those of one that is held.
-fn blindfolded(first: &Scramble) -> Scramble
-    requires { first.now.event ≡ C333 }
-    ensures { result ≡ record { event = Bf333; turns = first.now.turns } }
+/// The same turns as a scramble of another event, which has all of them.
+pub fn with_event(scramble: &Scramble, event: Event) -> Scramble
+    requires { (t : Letter) → IsTrue (permits scramble.now.event t) → IsTrue (permits event t) }
+    ensures { result ≡ record { event = event; turns = scramble.now.turns } }
 {
-    let mut scramble = Scramble::new(Event::Bf333);
-    for turn in first.turns() {
-        push_turn(&mut scramble, *turn);
+    let mut same = Scramble::new(event);
+    for turn in scramble.turns() {
+        push_turn(&mut same, *turn);
     }
-    scramble
+    same
 }
 
 /// The 3x3x3 as it is held: its states by their numbers, and the test of its minima, which is that of the cube alone.

@@ -1,13 +1,15 @@
 //! Which turns lead nearer to the goal of a pruning table, and which lead no farther.
-ghost use Rattle.std.specs.Prelude.{◌≡◌, ℕ, ◌+◌, ◌*◌, ◌^◌, ◌<◌, ◌≤◌, IfOk, length, slice_index_or};
+ghost use Rattle.std.specs.Prelude.{◌≡◌, ℕ, ◌+◌, ◌*◌, ◌^◌, ◌<◌, ◌≤◌, IfOk, length, slice_index, slice_index_or};
 ghost use Rattle.scr_coord.specs.Coordinates.{AreTargets, target};
 ghost use Rattle.scr_twophase.specs.declared.outlook.Found.{Found as Finding};
+ghost use Rattle.scr_twophase.specs.declared.outlook.Outlook.{Outlook as Looking};
 ghost use Rattle.scr_twophase.specs.Outlooks.{turns_within, AreFound, IsOutlook, AreOutlooks};
 
 use crate::turn_set::TurnSet;
 use scr_coord::{BARRED, Coord};
 use scr_table::DistanceTable;
 use std::alloc::{AllocError, Global};
+use std::thread::{Threads, for_each_chunk_mut};
 
 /// The bits of all turns.
 const TURNS: u32 = 0x3_ffff;
@@ -60,39 +62,130 @@ const NONE_FOUND: Found = Found {
     no_farther: TurnSet::NONE,
 };
 
-/// The outlooks of the positions of a table, in order. The coordinate has at most 18 turns, and as many positions as
-/// the table.
-pub(crate) fn outlooks<C: Coord>(
+/// The outlook of a position that is not looked at yet.
+const UNSEEN: Outlook = Outlook {
+    nearer: 0,
+    no_farther: 0,
+};
+
+/// The outlooks of the positions of a table, in order, found by 1 to 64 workers. The coordinate has at most 18 turns, and as many
+/// positions as the table.
+pub(crate) fn outlooks<R: Threads + Sync, C: Coord + Sync>(
+    rt: &R,
     alloc: Global,
     coord: &C,
     table: &DistanceTable,
+    workers: u32,
 ) -> Result<Vec<Outlook>, AllocError>
     requires turns { (C.coordinate coord.now).turns ≤ 18 }
     requires positions { length table.now.distances ≡ (C.coordinate coord.now).count }
+    requires workers { (1 ≤ workers) × (workers ≤ 64) }
     ensures { IfOk result (λ all. AreOutlooks (C.coordinate coord.now) table.now.distances all.items) }
 {
-    let count = coord.count();
-    let distances = distances_of(alloc, table)?;
-    let mut all = Vec::with_capacity(alloc, count as usize)?;
-    for start in (0..count).step_by(BLOCK) {
-        let size = ((count - start) as usize).min(BLOCK);
-        let found = found_from(coord, &distances[..], start, size);
-        for k in 0..size {
-            all.push(outlook_of(coord, table, start + k as u32, found[k]))?;
-        }
-    }
+    let distances = distances_of(rt, alloc, table, workers)?;
+    let mut all = vec![in alloc; UNSEEN; distances.len()]?;
+    look_out(rt, coord, &distances[..], &mut all[..], workers);
     Ok(all)
 }
 
 /// The distances of a table, a byte each: a search for outlooks reads them at random.
-fn distances_of(alloc: Global, table: &DistanceTable) -> Result<Vec<u8>, AllocError>
-    ensures { IfOk result (λ distances. distances.items ≡ table.now.distances) }
+fn distances_of<R: Threads + Sync>(
+    rt: &R,
+    alloc: Global,
+    table: &DistanceTable,
+    workers: u32,
+) -> Result<Vec<u8>, AllocError>
+    requires { (1 ≤ workers) × (workers ≤ 64) }
+    ensures same { IfOk result (λ distances. distances.items ≡ table.now.distances) }
+    ensures small { IfOk result (λ distances. (p : ℕ) → slice_index distances.items p ≤ 24) }
 {
-    let mut distances = Vec::with_capacity(alloc, table.positions() as usize)?;
-    for position in 0..table.positions() {
-        distances.push(table.distance(position) as u8)?;
-    }
+    let mut distances = vec![in alloc; 0; table.positions() as usize]?;
+    read_distances(rt, table, &mut distances[..], workers);
     Ok(distances)
+}
+
+/// Reads the distances of a table, as many as there are places.
+fn read_distances<R: Threads + Sync>(rt: &R, table: &DistanceTable, into: &mut [u8], workers: u32)
+    requires positions { length into.old ≡ length table.now.distances }
+    requires workers { (1 ≤ workers) × (workers ≤ 64) }
+    ensures same { into.new ≡ table.now.distances }
+    ensures small { (p : ℕ) → slice_index into.new p ≤ 24 }
+{
+    if into.is_empty() {
+        return;
+    }
+    let size = into.len().div_ceil(workers as usize);
+    for_each_chunk_mut(
+        rt,
+        into,
+        size,
+        &|start: usize, part: &mut [u8]|
+            requires { start + length part.old ≤ length table.now.distances }
+        { read_from(table, start, part) },
+    );
+}
+
+/// Reads those of the positions from `start` on.
+fn read_from(table: &DistanceTable, start: usize, into: &mut [u8])
+    requires { start + length into.old ≤ length table.now.distances }
+    ensures same { (k : ℕ) → k < length into.old → slice_index into.new k ≡ slice_index table.now.distances (start + k) }
+    ensures small { (k : ℕ) → k < length into.old → slice_index into.new k ≤ 24 }
+{
+    let _positions = table.positions();
+    for k in 0..into.len() {
+        into[k] = table.distance((start + k) as u32) as u8;
+    }
+}
+
+/// Finds the outlook of each position, by 1 to 64 workers. Distances are at most 24.
+fn look_out<R: Threads + Sync, C: Coord + Sync>(
+    rt: &R,
+    coord: &C,
+    distances: &[u8],
+    all: &mut [Outlook],
+    workers: u32,
+)
+    requires turns { (C.coordinate coord.now).turns ≤ 18 }
+    requires distances { length distances.now ≡ (C.coordinate coord.now).count }
+    requires small { (p : ℕ) → slice_index distances.now p ≤ 24 }
+    requires positions { length all.old ≡ (C.coordinate coord.now).count }
+    requires workers { (1 ≤ workers) × (workers ≤ 64) }
+    ensures { AreOutlooks (C.coordinate coord.now) distances.now all.new }
+{
+    if all.is_empty() {
+        return;
+    }
+    let size = all.len().div_ceil(workers as usize);
+    for_each_chunk_mut(
+        rt,
+        all,
+        size,
+        &|start: usize, part: &mut [Outlook]|
+            requires turns { (C.coordinate coord.now).turns ≤ 18 }
+            requires distances { length distances.now ≡ (C.coordinate coord.now).count }
+            requires small { (p : ℕ) → slice_index distances.now p ≤ 24 }
+            requires positions { start + length part.old ≤ (C.coordinate coord.now).count }
+        { look_out_from(coord, distances, start, part) },
+    );
+}
+
+/// Finds the outlooks of the positions from `start` on, block by block.
+fn look_out_from<C: Coord>(coord: &C, distances: &[u8], start: usize, into: &mut [Outlook])
+    requires turns { (C.coordinate coord.now).turns ≤ 18 }
+    requires distances { length distances.now ≡ (C.coordinate coord.now).count }
+    requires small { (p : ℕ) → slice_index distances.now p ≤ 24 }
+    requires positions { start + length into.old ≤ (C.coordinate coord.now).count }
+    ensures { let c = C.coordinate coord.now in (k : ℕ) (d : Looking) → k < length into.old
+        → IsOutlook c distances.now (start + k) (slice_index_or into.new k d) }
+{
+    let _count = coord.count();
+    for first in (0..into.len()).step_by(BLOCK) {
+        let size = (into.len() - first).min(BLOCK);
+        let found = found_from(coord, distances, (start + first) as u32, size);
+        for k in 0..size {
+            into[first + k] = outlook_of(coord, distances, start + first + k, found[k]);
+        }
+    }
 }
 
 /// What turns lead to from `size` positions one after another, `start` first, at most as many as a block has.
@@ -181,15 +274,16 @@ fn with_turn<C: Coord>(
 
 /// The outlook of a position, by what all turns lead to.
 #[inline]
-fn outlook_of<C: Coord>(_coord: &C, table: &DistanceTable, position: u32, found: Found) -> Outlook
+fn outlook_of<C: Coord>(_coord: &C, distances: &[u8], position: usize, found: Found) -> Outlook
     requires turns { (C.coordinate _coord.now).turns ≤ 18 }
-    requires positions { length table.now.distances ≡ (C.coordinate _coord.now).count }
+    requires distances { length distances.now ≡ (C.coordinate _coord.now).count }
+    requires small { (p : ℕ) → slice_index distances.now p ≤ 24 }
     requires position { position < (C.coordinate _coord.now).count }
-    requires found { let c = C.coordinate _coord.now in AreFound c table.now.distances position c.turns found }
-    ensures { IsOutlook (C.coordinate _coord.now) table.now.distances position result }
+    requires found { let c = C.coordinate _coord.now in AreFound c distances.now position c.turns found }
+    ensures { IsOutlook (C.coordinate _coord.now) distances.now position result }
 {
     Outlook {
-        nearer: found.nearer.bits + (table.distance(position) << 18),
+        nearer: found.nearer.bits + (u32::from(distances[position]) << 18),
         no_farther: found.no_farther.bits,
     }
 }

@@ -9,7 +9,7 @@ use crate::first::{FirstPosition, FirstTables};
 use crate::near_set::NEAR_AT;
 use crate::search::{Part, search_within};
 use crate::second::SecondTables;
-use crate::space::Space;
+use crate::space::Positions;
 use crate::turn_set::{TurnSet, behind};
 use crate::word::Word;
 use scr_cube::Cube;

@@ -40,16 +40,23 @@ impl PruningTable {
         })
     }
 
-    /// Finds the outlook of each position. The coordinate is that of the table.
-    pub fn look_out<C: Coord>(&mut self, alloc: Global, coord: &C) -> Result<(), AllocError>
+    /// Finds the outlook of each position, by 1 to 64 workers. The coordinate is that of the table.
+    pub fn look_out<R: Threads + Sync, C: Coord + Sync>(
+        &mut self,
+        rt: &R,
+        alloc: Global,
+        coord: &C,
+        workers: u32,
+    ) -> Result<(), AllocError>
         requires turns { (C.coordinate coord.now).turns ≤ 18 }
         requires positions { length self.old.distances.distances ≡ (C.coordinate coord.now).count }
+        requires workers { (1 ≤ workers) × (workers ≤ 64) }
         ensures same { self.new.distances ≡ self.old.distances }
         ensures found { IfOk result (λ _.
             AreOutlooks (C.coordinate coord.now) self.new.distances.distances self.new.outlooks.items) }
         ensures kept { OnErr result (self.new ≡ self.old) }
     {
-        self.outlooks = outlooks(alloc, coord, &self.distances)?;
+        self.outlooks = outlooks(rt, alloc, coord, &self.distances, workers)?;
         Ok(())
     }
 

@@ -1,17 +1,14 @@
 //! The second part: what a search for it sees of a domino, and where turns lead.
 ghost use Rattle.std.specs.Prelude.{◌≡◌, ◌+◌, ◌^◌, ◌<◌, ◌≤◌, ℕ, All, Contains, IfErr, IfOk, IsTrue, List, Some, None, false, if◌then◌else◌, length, map};
-ghost use Rattle.scr_combinatorics.specs.Permutations.{IsPermutation, factorial};
+ghost use Rattle.scr_combinatorics.specs.Permutations.{IsPermutation};
 ghost use Rattle.scr_combinatorics.specs.Play.{play};
 ghost use Rattle.scr_coord.specs.Moves.{moves_coordinate};
-ghost use Rattle.scr_coord.specs.Projections.{projection, pieces_view};
 ghost use Rattle.scr_coord.specs.SearchSpaces.{ShowsSame};
 ghost use Rattle.scr_table.specs.Causes.{IsCauseOf};
 ghost use Rattle.scr_table.specs.Lines.{HasNoGap};
 ghost use Rattle.scr_cube.specs.Cube333.{CubeState};
 ghost use Rattle.scr_stages.specs.Numbers.{IsDominoCube};
-ghost use Rattle.scr_stages.specs.Tables.{block_turn, edges_by};
-ghost use Rattle.scr_stages.specs.Stages.{tetrads_turns};
-ghost use Rattle.scr_twophase.specs.Near.{HasBits, IsNear, LeavesNear, second_number};
+ghost use Rattle.scr_twophase.specs.Near.{IsInSet, IsNear, LeavesNear, second_number};
 ghost use Rattle.scr_twophase.specs.Outlooks.{IsPruningTable};
 ghost use Rattle.scr_twophase.specs.Search.{ShowsSecond, IsSecondPosition, LeavesWays, carried, is_solved_position};
 ghost use Rattle.scr_twophase.specs.Tables.{corners_coordinate, outer_edges_coordinate, middle_edges_coordinate};
@@ -20,21 +17,18 @@ ghost use Rattle.scr_twophase.specs.TurnSets.{contains_turn};
 ghost use Rattle.scr_twophase.specs.TwoParts.{after_turn, domino_turns, is_orderly, is_solved, joined, leads};
 ghost use Rattle.scr_twophase.specs.Words.{words_of};
 
-use crate::first::step;
+use crate::moves::{corner_moves, edge_moves, step};
 use crate::near_set::{NEAR, NEAR_AT, NearSet};
 use crate::pruning::PruningTable;
 use crate::search::{Part, search_within};
-use crate::space::{BLOCK, Space};
+use crate::space::{BLOCK, Positions, Space};
 use crate::turn_set::{TurnSet, behind};
 use crate::word::Word;
-use scr_coord::{Lists, MoveTable, PlaceTurn, Product};
+use scr_coord::{MoveTable, PlaceTurn, Product};
 use scr_cube::{Cube, corner_turns, edge_turns};
 use scr_orbit::pick_into;
-use scr_outside::NoMemory;
 use scr_rank::PermRank;
-use scr_stages::{
-    MIDDLE_EDGES, OUTER_EDGES, TETRADS_TURNS, block_edges_turned, block_number, corners_turned,
-};
+use scr_stages::{MIDDLE_EDGES, OUTER_EDGES, TETRADS_TURNS, block_number};
 use scr_table::{BuildFault, TableName};
 use std::alloc::{AllocError, Global};
 use std::thread::Threads;
@@ -44,6 +38,9 @@ const MIDDLES: u32 = 24;
 
 /// How many lists of corners there are, and of the edges above and below.
 const LISTS: u32 = 40_320;
+
+/// For each of the ten turns the place of the one that takes it back.
+const BACK: [u32; 10] = [2, 1, 0, 3, 4, 7, 6, 5, 8, 9];
 
 /// For each face of U R F D L B, the places of the turns that may stand right behind one of it. Then all places.
 const BEHIND: [u32; 7] = [0x3f8, 0x3f7, 0x3ef, 0x318, 0x2f7, 0x1ef, 0x3ff];
@@ -76,6 +73,20 @@ impl SecondPosition {
         }
     }
 
+    /// The position of the cubes with a number.
+    #[inline]
+    fn numbered(number: u64) -> SecondPosition
+        ensures fits { IsSecondPosition result }
+        ensures shows { (c : CubeState) → IsDominoCube c → number ≡ second_number c → ShowsSecond c result }
+    {
+        let low = (number % BLOCK) as u32;
+        SecondPosition {
+            corners: low % LISTS,
+            outer: low / LISTS % LISTS,
+            middle: (number / BLOCK) as u32 % MIDDLES,
+        }
+    }
+
     /// Whether it is that of the solved cube.
     #[inline]
     pub fn is_solved(self) -> bool
@@ -100,7 +111,7 @@ pub(crate) struct SecondTables {
     ghost middle_shown: { ShowsSame middle_edges_coordinate (moves_coordinate middle) },
     ghost cornerslice_is: { IsPruningTable cornerslice_line cornerslice },
     ghost edgeslice_is: { IsPruningTable edgeslice_line edgeslice },
-    ghost near_is: { IsNear domino_turns IsDominoCube second_number is_solved 7 (HasBits near.words.items) },
+    ghost near_is: { IsNear domino_turns IsDominoCube second_number is_solved 7 (IsInSet near) },
 }
 
 impl SecondTables {
@@ -145,16 +156,25 @@ impl SecondTables {
         })
     }
 
-    /// Builds the near set.
-    pub fn prepare(&mut self, alloc: Global) -> Result<(), AllocError>
+    /// Finds outlooks, and builds the near set, by 1 to 64 workers.
+    pub fn prepare<R: Threads + Sync>(
+        &mut self,
+        rt: &R,
+        alloc: Global,
+        workers: u32,
+    ) -> Result<(), AllocError>
+        requires workers { (1 ≤ workers) × (workers ≤ 64) }
         ensures cornerslice { self.new.cornerslice.distances ≡ self.old.cornerslice.distances }
         ensures edgeslice { self.new.edgeslice.distances ≡ self.old.edgeslice.distances }
     {
-        self.cornerslice
-            .look_out(alloc, &Product::new(&self.middle, &self.corners))?;
-        self.edgeslice
-            .look_out(alloc, &Product::new(&self.middle, &self.outer))?;
-        let near = NearSet::build(self, alloc, NEAR)?;
+        self.cornerslice.look_out(
+            rt,
+            alloc,
+            &Product::new(&self.middle, &self.corners),
+            workers,
+        )?;
+        self.edgeslice.look_out(rt, alloc, &Product::new(&self.middle, &self.outer), workers)?;
+        let near = NearSet::build(rt, alloc, self, NEAR, workers)?;
         self.near = near;
         Ok(())
     }
@@ -219,13 +239,13 @@ impl SecondTables {
 /// The dominoes, by the ten turns that keep them, to solved.
 impl Space for SecondTables {
     ghost use Rattle.scr_stages.specs.Numbers.{IsDominoCube};
+    ghost use Rattle.scr_twophase.specs.declared.second.TheConstants.{BACK};
     ghost use Rattle.scr_twophase.specs.Near.{second_number};
-    ghost use Rattle.scr_twophase.specs.Search.{IsSecondPosition, ShowsSecond};
     ghost use Rattle.scr_twophase.specs.TwoParts.{domino_turns, is_solved};
 
-    type Position = SecondPosition;
-
     ghost turns = { domino_turns };
+
+    ghost backs = { BACK };
 
     ghost IsSeen = { IsDominoCube };
 
@@ -233,14 +253,46 @@ impl Space for SecondTables {
 
     ghost ends = { is_solved };
 
-    ghost Shows = { ShowsSecond };
-
-    ghost Fits = { IsSecondPosition };
-
     #[inline]
     fn places() -> u32 {
         10
     }
+
+    #[inline]
+    fn back(place: u32) -> u32 {
+        BACK[place as usize]
+    }
+
+    #[inline]
+    fn number_after(&self, number: u64, place: u32) -> u64 {
+        SecondTables::number_of(Positions::after(self, SecondPosition::numbered(number), place))
+    }
+
+    fn end() -> u64 {
+        0
+    }
+
+    fn blocks() -> u32 {
+        MIDDLES
+    }
+
+    #[inline]
+    fn block_after(&self, block: u32, place: u32) -> u32 {
+        step(&self.middle, block % MIDDLES, place)
+    }
+
+    fn turns_are_taken_back() {}
+}
+
+/// What a search for the part sees of them.
+impl Positions for SecondTables {
+    ghost use Rattle.scr_twophase.specs.Search.{IsSecondPosition, ShowsSecond};
+
+    type Position = SecondPosition;
+
+    ghost Shows = { ShowsSecond };
+
+    ghost Fits = { IsSecondPosition };
 
     #[inline]
     fn after(&self, at: SecondPosition, place: u32) -> SecondPosition {
@@ -256,26 +308,6 @@ impl Space for SecondTables {
         let low = at.outer.wrapping_mul(LISTS).wrapping_add(at.corners);
         u64::from(at.middle) * BLOCK + u64::from(low)
     }
-
-    #[inline]
-    fn position(number: u64) -> SecondPosition {
-        let low = (number % BLOCK) as u32;
-        SecondPosition {
-            corners: low % LISTS,
-            outer: low / LISTS % LISTS,
-            middle: (number / BLOCK) as u32 % MIDDLES,
-        }
-    }
-
-    fn end() -> u64 {
-        0
-    }
-
-    fn blocks() -> u32 {
-        MIDDLES
-    }
-
-    fn turns_are_taken_back() {}
 }
 
 /// A search by them is for a second part, of the ten turns that keep a domino.
@@ -319,7 +351,7 @@ impl Part for SecondTables {
 
     #[inline]
     fn after(&self, at: SecondPosition, place: u32) -> SecondPosition {
-        Space::after(self, at, place)
+        Positions::after(self, at, place)
     }
 
     #[inline]
@@ -346,26 +378,4 @@ fn carried<const N: usize>(pieces: [u8; N], turns: &[PlaceTurn<N>], word: &[u8])
         );
     }
     at
-}
-
-/// Where the ten turns lead from the lists of corners.
-fn corner_moves(alloc: Global) -> Result<MoveTable, NoMemory>
-    ensures { IfOk result (λ table. ShowsSame corners_coordinate (moves_coordinate table)) }
-{
-    MoveTable::build(alloc, &Lists::<8>::new(&corners_turned(&TETRADS_TURNS)[..]))
-}
-
-/// Where they lead from the lists of the edges of a block of 1 to 12 places, among which they carry these.
-fn edge_moves<const N: usize>(alloc: Global, block: &[u8; N]) -> Result<MoveTable, NoMemory>
-    requires size { (1 ≤ N) × (N ≤ 12) }
-    requires fits { factorial N < 2 ^ 32 }
-    requires places { All (λ place. place < 12) block.now }
-    requires kept { All (λ r. IsPermutation N r.places) (map (block_turn block.now) (edges_by tetrads_turns)) }
-    ensures { IfOk result (λ table.
-        ShowsSame (projection (pieces_view N) (map (block_turn block.now) (edges_by tetrads_turns))) (moves_coordinate table)) }
-{
-    MoveTable::build(
-        alloc,
-        &Lists::<N>::new(&block_edges_turned(block, &TETRADS_TURNS)[..]),
-    )
 }

@@ -68,13 +68,20 @@ impl PruneTables {
     }
 
     /// Makes ready for the search for the parts of so many cubes: where they are many, it builds what makes each search faster and
-    /// changes no answer. The tables stay the same, also where there is no memory for more.
-    pub fn prepare(&mut self, alloc: Global, cubes: u32) -> Result<(), AllocError>
+    /// changes no answer, by 1 to 64 workers. The tables stay the same, also where there is no memory for more.
+    pub fn prepare<R: Threads + Sync>(
+        &mut self,
+        rt: &R,
+        alloc: Global,
+        cubes: u32,
+        workers: u32,
+    ) -> Result<(), AllocError>
+        requires workers { (1 ≤ workers) × (workers ≤ 64) }
         ensures { self.new ≡ self.old }
     {
         if cubes >= MANY {
-            self.parts.second.prepare(alloc)?;
-            self.parts.first.prepare(alloc)?;
+            self.parts.second.prepare(rt, alloc, workers)?;
+            self.parts.first.prepare(rt, alloc, workers)?;
         }
         Ok(())
     }

@@ -50,10 +50,13 @@ fn words_and_lists_refused(rt: HostRuntime) -> Result<(), Fail> {
     let of_three = "scramble: seed has 3 characters, not 64\n";
     let of_none = "scramble: seed has 0 characters, not 64\n";
     let of_65 = "scramble: seed has 65 characters, not 64\n";
-    let runs: [(&[&str], &str); 18] = [
+    let runs: [(&[&str], &str); 21] = [
         (&["net", "444", ZEROS], NO_444),
         (&["net", "pyram", ZEROS], USAGE),
         (&["net", "333bf", ZEROS], USAGE),
+        (&["net", "333fm", ZEROS], USAGE),
+        (&["check", joined, "--tries=1"], USAGE),
+        (&["check", "--seed", "abc"], of_three),
         (&["tables", "444"], NO_444),
         (&["tables", "magic"], USAGE),
         (&["one", "clock", digit], not_a_digit),
@@ -95,7 +98,9 @@ fn events_with_tables(rt: HostRuntime) -> Result<(), Fail> {
         check(&rt, &["tables", event], b"", 0, tables, "")?;
     }
     check(&rt, &["one", "333oh", ZEROS], b"", 0, BY_TABLES[3].1, "")?;
-    check(&rt, &["tables", "333bf"], b"", 0, BY_TABLES[3].2, "")?;
+    for event in ["333bf", "333fm"] {
+        check(&rt, &["tables", event], b"", 0, BY_TABLES[3].2, "")?;
+    }
     // of the Pyraminx, two of the tips of its first draw aren't turned, so that it needs 13 turns at most
     let missed = "scramble: round 1 slot 1: no permitted state in 3 words\n";
     for list in ["222 1 11", "pyram 1 15"] {

@@ -2,10 +2,10 @@ use Rattle.scr_check.proofs.LawLemmas.{agreed-feed, agreed-left-out, agreed-more
 use Rattle.scr_check.proofs.laws.sheets_with_one_end.Goals as goal
 
 pub returns-clause-feed : goal.returns-clause-feed
-returns-clause-feed c = agreed-feed
+returns-clause-feed g c = λ expected. agreed-feed (g.X.Expected.lines expected)
 
 pub returns-clause-left_out : goal.returns-clause-left_out
-returns-clause-left_out c = agreed-left-out
+returns-clause-left_out g c = λ expected. agreed-left-out (g.X.Expected.lines expected)
 
 pub returns-clause-more : goal.returns-clause-more
-returns-clause-more c = agreed-more
+returns-clause-more g c = λ expected. agreed-more (g.X.Expected.lines expected)

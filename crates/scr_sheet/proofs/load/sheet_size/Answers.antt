@@ -17,7 +17,7 @@ returns g c =
       sheet = c.rounds_size.ensures.sheet;
       making =
           inl (record {
-            fair = round_parts-fair tables 0 rounds c.each_drawn_fairly.ensures c.requires.rounds.each (each_asked tables rounds c.in_ok-tables.ensures.events);
+            fair = round_parts-fair tables 0 rounds c.in_ok-tables.ensures.fair c.requires.rounds.each (each_asked tables rounds c.in_ok-tables.ensures.events);
             ends = rw (c.new-making.ensures.settings, c.default.ensures) at c.rounds_size.ensures.ends;
           });
       amounts = c.rounds_size.ensures.amounts;

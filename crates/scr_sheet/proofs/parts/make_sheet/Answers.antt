@@ -14,7 +14,7 @@ returns g c =
     let tables = c.in_ok-tables.tables in
     let rounds = c.args.rounds.now in
     inl (record {
-      fair = round_parts-fair tables 0 rounds c.each_drawn_fairly.ensures c.requires.rounds.each (each_asked tables rounds c.in_ok-tables.ensures.events);
+      fair = round_parts-fair tables 0 rounds c.in_ok-tables.ensures.fair c.requires.rounds.each (each_asked tables rounds c.in_ok-tables.ensures.events);
       ends = rw c.new-making.ensures.settings at c.write_rounds.ensures;
     })
 

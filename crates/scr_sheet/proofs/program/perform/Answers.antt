@@ -35,3 +35,6 @@ returns-in-Net g c =
 pub returns-in-Load : goal.returns-in-Load
 returns-in-Load g c =
     by_command c.in_ok-event.ensures.answer c.in-Load.is (record { bytes = refl; faults = refl; ends = refl }, c.write_load.ensures) (λ wanting. tt)
+
+pub returns-in-Check : goal.returns-in-Check
+returns-in-Check g c = by_command c.in_ok-event.ensures.answer c.in-Check.is c.write_check.ensures (λ wanting. tt)

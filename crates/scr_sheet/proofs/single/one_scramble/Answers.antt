@@ -9,5 +9,5 @@ pub returns-clause-fault : goal.returns-clause-fault
 returns-clause-fault g c = λ text out unwritten.
     let settings = c.settings_of-settings.ensures ∙ ap (settings_of c.args.seed.now) c.default.ensures in
     let none = subst (λ s. HasNoScramble (scrambling_of c.args.event) s 0 0) settings c.in-None.ensures in
-    single-limit text (c.each_drawn_fairly.ensures c.args.event 0 c.in_ok-tables.ensures.event (omega arith)) _ none
+    single-limit text (c.in_ok-tables.ensures.fair 0 (omega arith)) _ none
     (ap (λ s. 3 * s.attempts) settings) unwritten

@@ -12,6 +12,7 @@ returns c =
       of_222 = c.fairly_222.ensures;
       of_333 = c.fairly_333.ensures;
       of_333bf = c.fairly_333bf.ensures;
+      of_333fm = c.fairly_333fm.ensures;
       of_pyram = c.fairly_pyram.ensures;
       of_skewb = c.fairly_skewb.ensures;
       of_sq1 = c.fairly_sq1.ensures;

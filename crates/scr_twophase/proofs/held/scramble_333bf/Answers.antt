@@ -2,15 +2,17 @@ use Rattle.std.proofs.Common.{◌≡◌, ◌≤◌, IsTrue, Some, length, sym, a
 use Rattle.std.specs.Prelude.{◌++◌, is_some}
 use Rattle.scr_combinatorics.specs.Back.{back}
 use Rattle.scr_combinatorics.specs.Play.{play}
+use Rattle.scr_notation.specs.declared.event.Event.{Event}
 use Rattle.scr_notation.specs.declared.event.Event.TheVariants.{Bf333, Clock}
 use Rattle.scr_notation.specs.Turning.{opposite}
+use Rattle.scr_notation.specs.Turns.{permits}
 use Rattle.scr_notation.specs.Written.{Written}
 use Rattle.scr_cube.specs.Cube333.{CubeState}
 use Rattle.scr_cube.specs.Held.{solved_held, held_cube_after, hold_word, hold_of}
 use Rattle.scr_cube.proofs.Holds.{hold_of-lt, IsHoldWord-each}
 use Rattle.scr_cube.proofs.HeldReach.{IsBefore, IsBefore-played, before-some}
 use Rattle.scr_twophase.specs.TwoParts.{two_parts, IsScramble333}
-use Rattle.scr_twophase.proofs.HeldScrambles.{joined-played, IsScramble333bf-unique}
+use Rattle.scr_twophase.proofs.HeldScrambles.{joined-played, IsScramble333bf-unique, permits-held}
 use Rattle.scr_twophase.proofs.held.scramble_333bf.Goals as goal
 
 pub inverse-requires : goal.inverse-requires
@@ -26,6 +28,12 @@ unreachable-requires c =
     let none = c.in_default.ensures ∙ ap (play held_cube_after s) turns ∙ some.1 in
     cc
 
+-- the turns of a 3x3x3 are turns of one that is held
+pub with_event-scramble-requires : goal.with_event-scramble-requires
+with_event-scramble-requires c = λ t h.
+    let Permitted : Event → Type 0 = λ e. IsTrue (permits e t) in
+    permits-held t (subst Permitted c.scramble_333-first.ensures.event h)
+
 -- the word has two turns at most
 pub push_all-requires-clause-room : goal.push_all-requires-clause-room
 push_all-requires-clause-room c =
@@ -36,7 +44,7 @@ push_all-requires-clause-room c =
       arith,
       ap length word,
       short.short,
-      ap (λ (w : Written). length w.turns) c.blindfolded-scramble.ensures,
+      ap (λ (w : Written). length w.turns) c.with_event-scramble.ensures,
       c.scramble_333-first.ensures.at_most,
     )
 
@@ -52,7 +60,7 @@ joined : (c : goal.After-push_all) → c.push_all.new.scramble.turns ≡ c.scram
 joined c =
     let word = ap (λ (w : Written). w.turns) c.word_of_hold-word.ensures ∙ ap hold_word c.hold.ensures.number in
     ap (λ (s : Written). s.turns) c.push_all.ensures
-    ∙ ap (λ (s : Written). s.turns ++ c.word_of_hold-word.result.turns) c.blindfolded-scramble.ensures
+    ∙ ap (λ (s : Written). s.turns ++ c.word_of_hold-word.result.turns) c.with_event-scramble.ensures
     ∙ ap (λ w. c.scramble_333-first.result.turns ++ w) word
 
 pub returns-clause-scramble : goal.returns-clause-scramble

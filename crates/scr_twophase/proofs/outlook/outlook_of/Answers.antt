@@ -4,5 +4,6 @@ use Rattle.scr_twophase.proofs.outlook.outlook_of.Goals as goal
 
 pub returns : goal.returns
 returns g c =
-    IsOutlook-found (g.C.Coord.coordinate c.args._coord.now) c.args.table.now.distances c.args.position _ c.args.found _ c.requires.found
-    (omega arith) (omega arith) c.requires.turns (omega arith) refl
+    let few = c.requires.small c.args.position in
+    IsOutlook-found (g.C.Coord.coordinate c.args._coord.now) c.args.distances.now c.args.position _ c.args.found _ c.requires.found few (omega arith)
+    c.requires.turns (omega (arith, few)) refl

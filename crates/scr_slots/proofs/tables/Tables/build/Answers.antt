@@ -62,8 +62,8 @@ returns-in_err-of_sq1-clause-cause g c =
     (IsCauseOf-behind (lines_asked events Skewb) (lines_asked events Square1) why c.in_ok-of_skewb.ensures.whole
     c.in_err-of_sq1.ensures.cause))))
 
-pub invariant_of-result : goal.invariant_of-result
-invariant_of-result g c =
+pub invariant_of-tables : goal.invariant_of-tables
+invariant_of-tables g c =
     let events = event_list c.args.rounds.now in
     let set = c.events_of.result in
     let has = c.events_of.ensures in (

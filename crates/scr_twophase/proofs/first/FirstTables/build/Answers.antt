@@ -6,7 +6,7 @@ use Rattle.scr_table.proofs.LineLaws.{no_gaps-line}
 use Rattle.scr_cube.specs.Cube333.{IsCube}
 use Rattle.scr_stages.specs.Tables.{flips_coordinate}
 use Rattle.scr_twophase.specs.Tables.{twists_coordinate, middle_set_coordinate, flipslice_line, twistslice_line}
-use Rattle.scr_twophase.specs.Near.{HasBits, first_number}
+use Rattle.scr_twophase.specs.Near.{IsInSet, first_number}
 use Rattle.scr_twophase.specs.TwoParts.{is_domino, turn_numbers}
 use Rattle.scr_twophase.proofs.BuiltLaws.{IfErr-pair, IsPruningTable-pair, no_gap-pair}
 use Rattle.scr_twophase.proofs.NearLaws.{IsNear-all}
@@ -41,7 +41,7 @@ invariant_of-result g c = record {
   twistslice_is = IsPruningTable-pair twists_coordinate middle_set_coordinate c.in_ok-twists.twists
       c.in_ok-middle.middle refl c.in_ok-twists.ensures c.in_ok-middle.ensures _ c.new-2.ensures TwistSlice 12
       c.in_ok-twistslice.twistslice c.in_ok-twistslice.ensures.table;
-  near_is = IsNear-all turn_numbers IsCube first_number is_domino 7 (HasBits c.of_all.result.words.items) c.of_all.ensures;
+  near_is = IsNear-all turn_numbers IsCube first_number is_domino 7 (IsInSet c.of_all.result) c.of_all.ensures;
 }
 
 pub returns-clause-whole : goal.returns-clause-whole

@@ -7,7 +7,7 @@ use Rattle.scr_twophase.proofs.BuiltLaws.{IsPruningTable-found}
 use Rattle.scr_twophase.proofs.first.FirstTables.prepare.Goals as goal
 
 pub invariant_of-self-in_err-look_out-2 : goal.invariant_of-self-in_err-look_out-2
-invariant_of-self-in_err-look_out-2 c =
+invariant_of-self-in_err-look_out-2 g c =
     let self = c.args.self.now in
     record {
       flips_shown = self.flips_shown;
@@ -21,7 +21,7 @@ invariant_of-self-in_err-look_out-2 c =
     }
 
 pub invariant_of-self-2 : goal.invariant_of-self-2
-invariant_of-self-2 c =
+invariant_of-self-2 g c =
     let self = c.args.self.now in
     record {
       flips_shown = self.flips_shown;

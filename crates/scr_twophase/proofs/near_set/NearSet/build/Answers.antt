@@ -1,14 +1,22 @@
-use Rattle.std.proofs.Common.{◌≡◌, ℕ, ◌+◌, ◌-◌, ◌<◌, List, length, get_or, subst, arith}
-use Rattle.scr_twophase.specs.Near.{HasBits, IsNear, IsSpread}
-use Rattle.scr_twophase.proofs.NearLaws.{IsNear-spread}
+use Rattle.std.proofs.Common.{◌≡◌, ℕ, ◌+◌, ◌-◌, List, subst, sym, arith}
+use Rattle.std.specs.Vec.{with_items}
+use Rattle.std.proofs.lemmas.List.{with_items_is}
+use Rattle.scr_twophase.specs.declared.near_set.NearSet.{NearSet}
+use Rattle.scr_twophase.specs.Near.{IsInSet, IsNear}
+use Rattle.scr_twophase.specs.Spread.{IsListed, Listed}
+use Rattle.scr_twophase.proofs.NearLaws.{IsNear-entered}
 use Rattle.scr_twophase.proofs.near_set.NearSet.build.Goals as goal
 
 pub returns : goal.returns
 returns g c =
     let s = g.S.Space in
-    let one : (c.args.most - 1) + 1 ≡ c.args.most = omega (arith, c.requires) in
-    let Has = HasBits c.spread.new.into.words.items in
-    let Spread : List ℕ → Type 0 = λ xs. (k : ℕ) → k < length xs → IsSpread s.turns s.IsSeen s.numbering (get_or xs k 0) Has in
-    subst (λ n. IsNear s.turns s.IsSeen s.numbering s.ends n Has) one
-    (IsNear-spread s.turns s.IsSeen s.numbering s.ends (c.args.most - 1) c.in_ok-numbers.numbers.items Has c.turns_are_taken_back.ensures c.in_ok-numbers.ensures
-    (subst Spread c.deref.ensures.value (λ k lt. c.in_ok-spread.ensures k lt)))
+    let before : ℕ = c.args.most - 1 in
+    let one : before + 1 ≡ c.args.most = omega (arith, c.requires.most) in
+    let blocks = c.fill.new.blocks in
+    let set : NearSet = record { blocks = with_items c.in_ok-blocks.blocks blocks } in
+    let Near : ℕ → Type 0 = λ n. IsNear s.turns s.IsSeen s.numbering s.ends n (IsInSet set) in
+    let Lists : List Listed → Type 0 = λ lists. IsNear s.turns s.IsSeen s.numbering s.ends before (IsListed lists) in
+    subst Near one
+    (IsNear-entered s.turns s.IsSeen s.numbering s.ends s.backs before c.deref.result.now blocks set c.turns_are_taken_back.ensures
+    (with_items_is c.in_ok-blocks.blocks blocks (omega arith)) (λ k d lt. c.fill.ensures k d (omega (arith, lt)))
+    (subst Lists (sym c.deref.ensures.value) c.in_ok-lists.ensures))

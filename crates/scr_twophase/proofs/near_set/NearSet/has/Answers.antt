@@ -1,13 +1,14 @@
-use Rattle.std.proofs.Common.{◌<◌, length, ◌∙◌, arith}
-use Rattle.std.proofs.lemmas.List.{get_or_default}
-use Rattle.scr_twophase.proofs.NearBits.{both_bits}
+use Rattle.std.proofs.Common.{◌≡◌, ℕ, ◌/◌, ◌^◌, List, Some, refl, sym, subst, ltb-true}
+use Rattle.std.specs.Prelude.{slice_get}
+use Rattle.std.proofs.lemmas.Option.{slice_get_read}
+use Rattle.scr_twophase.specs.declared.near_set.NearBlock.{NearBlock}
 use Rattle.scr_twophase.proofs.near_set.NearSet.has.Goals as goal
 
-pub returns : goal.returns
-returns c = λ h.
-    let words = c.args.self.now.words.items in
-    let seat = c.of-seat.result in
-    let inside : seat.word < length words = omega (arith, c.if-seat-len.false) in
-    both_bits words c.args.number c.index-word.result.now seat.word seat.first seat.second
-    (c.index-word.ensures ∙ get_or_default words seat.word c.index-word.result.now 0 inside)
-    c.of-seat.ensures.word c.of-seat.ensures.first c.of-seat.ensures.second inside h
+pub returns-in-Some : goal.returns-in-Some
+returns-in-Some c = λ h.
+    let k : ℕ = c.args.number / 2 ^ 32 in
+    let block = c.in-Some.block.now in
+    let Stands : List NearBlock → Type 0 = λ blocks. slice_get blocks k ≡ Some block in
+    let look = c.in-Some.ensures.lookup in
+    c.has.ensures
+    (h.bits block (subst Stands c.deref.ensures.value (slice_get_read c.deref.result.now _ k block refl (ltb-true _ _ (sym look.0)) look.1)))

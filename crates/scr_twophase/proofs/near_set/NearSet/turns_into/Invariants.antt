@@ -1,5 +1,5 @@
 use Rattle.std.proofs.Common.{length}
-use Rattle.scr_twophase.specs.Near.{HasBits}
+use Rattle.scr_twophase.specs.Near.{IsInSet}
 use Rattle.scr_twophase.specs.TurnSets.{turns_in}
 use Rattle.scr_twophase.proofs.NearLaws.{AreLookedAt}
 use Rattle.scr_twophase.proofs.near_set.NearSet.turns_into.Given as goal
@@ -10,4 +10,4 @@ decreases-loop-place g l = length (turns_in l.others.bits)
 abbrev pub invariant-loop-place : goal.invariant-loop-place
 invariant-loop-place g l =
     let s = g.S.Space in
-    AreLookedAt s.turns s.IsSeen s.numbering (λ c. s.Shows c l.at) (HasBits l.self.words.items) l.fn.turns.bits l.others.bits l.into.bits
+    AreLookedAt s.turns s.IsSeen s.numbering (λ c. g.S.Positions.Shows c l.at) (IsInSet l.self) l.fn.turns.bits l.others.bits l.into.bits

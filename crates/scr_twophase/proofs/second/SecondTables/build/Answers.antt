@@ -7,7 +7,7 @@ use Rattle.scr_stages.specs.Numbers.{IsDominoCube}
 use Rattle.scr_stages.proofs.StageWords.{outer_moves}
 use Rattle.scr_twophase.specs.Tables.{corners_coordinate, outer_edges_coordinate, middle_edges_coordinate}
 use Rattle.scr_twophase.specs.Tables.{cornerslice_line, edgeslice_line}
-use Rattle.scr_twophase.specs.Near.{HasBits, second_number}
+use Rattle.scr_twophase.specs.Near.{IsInSet, second_number}
 use Rattle.scr_twophase.specs.TwoParts.{domino_turns, is_solved}
 use Rattle.scr_twophase.proofs.BuiltLaws.{IfErr-pair, IsPruningTable-pair, no_gap-pair}
 use Rattle.scr_twophase.proofs.NearLaws.{IsNear-all}
@@ -49,7 +49,7 @@ invariant_of-result g c = record {
   edgeslice_is = IsPruningTable-pair middle_edges_coordinate outer_edges_coordinate c.in_ok-middle.middle
       c.in_ok-outer.outer refl c.in_ok-middle.ensures c.in_ok-outer.ensures _ c.new-2.ensures EdgeSlice 18
       c.in_ok-edgeslice.edgeslice c.in_ok-edgeslice.ensures.table;
-  near_is = IsNear-all domino_turns IsDominoCube second_number is_solved 7 (HasBits c.of_all.result.words.items) c.of_all.ensures;
+  near_is = IsNear-all domino_turns IsDominoCube second_number is_solved 7 (IsInSet c.of_all.result) c.of_all.ensures;
 }
 
 pub returns-clause-whole : goal.returns-clause-whole

@@ -6,7 +6,7 @@ use Rattle.scr_stages.specs.Numbers.{IsDominoCube}
 use Rattle.scr_stages.specs.Stages.{tetrads_turns}
 use Rattle.scr_twophase.specs.declared.pruning.PruningTable.{PruningTable}
 use Rattle.scr_twophase.specs.declared.second.SecondPosition.{SecondPosition}
-use Rattle.scr_twophase.specs.Near.{HasBits}
+use Rattle.scr_twophase.specs.Near.{IsInSet}
 use Rattle.scr_twophase.specs.Outlooks.{IsPruningTable}
 use Rattle.scr_twophase.specs.Search.{ShowsSecond}
 use Rattle.scr_twophase.specs.Spaces.{AreCornersHome, AreMiddleHome}
@@ -44,7 +44,7 @@ returns-else-has c = λ cube n v shows lt listed.
     elim (cases_lt n 8) [
       | inl few ↦
           let near = self.near_is.near cube n v shows.domino (omega (arith, few)) listed way in
-          absurd (false≢true (sym c.if-has.false ∙ c.has.ensures (subst (HasBits self.near.words.items) (sym (c.number_of.ensures cube shows)) near)))
+          absurd (false≢true (sym c.if-has.false ∙ c.has.ensures (subst (IsInSet self.near) (sym (c.number_of.ensures cube shows)) near)))
       | inr more ↦ more
     ] in
     omega (arith, corners, far, lt, c.distance-by_corners.ensures, c.max.ensures))

@@ -1,0 +1,17 @@
+use Rattle.std.proofs.Common.{lit≤}
+use Rattle.scr_combinatorics.proofs.PlayedWhere.{played-iff}
+use Rattle.scr_notation.specs.declared.event.Event.TheVariants.{C222, C333}
+use Rattle.scr_turning.proofs.PlayedTurns.{plays_turns, tells_faces}
+use Rattle.scr_cube.specs.Cube222.{powers_222}
+use Rattle.scr_cube.specs.Cube333.{cube_powers}
+use Rattle.scr_cube.proofs.HeldReach.{TellsTurns-held}
+use Rattle.scr_cube.proofs.Laws222.{lawful_222}
+use Rattle.scr_cube.proofs.Laws333.{lawful_cube}
+use Rattle.scr_cube.proofs.laws.played_where_all_are_turns.Goals as goal
+
+pub returns : goal.returns
+returns c = record {
+  cube = plays_turns C333 cube_powers lawful_cube (tells_faces 1 (lit≤ tt));
+  corners = plays_turns C222 powers_222 lawful_222 (tells_faces 0 (lit≤ tt));
+  held = played-iff TellsTurns-held;
+}

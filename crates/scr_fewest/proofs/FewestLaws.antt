@@ -1,0 +1,138 @@
+-- The scramble for fewest moves: a state has one, and it leads to the state.
+use Rattle.std.proofs.Common.{◌≡◌, ℕ, zero, suc, ◌+◌, ◌-◌, Bool, true, List, [], ◌∷◌, ◌++◌, Option, Some, length, refl, sym, ap, ◌∙◌, arith, length-append, le-leb}
+use Rattle.std.specs.Prelude.{◌&&◌, nat_le, slice_index_or, unwrap_or}
+use Rattle.scr_combinatorics.specs.Back.{back}
+use Rattle.scr_combinatorics.specs.Play.{play}
+use Rattle.scr_combinatorics.proofs.PlayLaws.{play-append}
+use Rattle.scr_notation.specs.declared.turn.Turn.{Turn}
+use Rattle.scr_notation.specs.declared.turn.Turn.TheVariants.{Over}
+use Rattle.scr_notation.specs.Turning.{opposite}
+use Rattle.scr_turning.specs.PowerPuzzles.{after_letter}
+use Rattle.scr_orbit.specs.Orbits.{rearrangement_to}
+use Rattle.scr_cube.specs.Composition.{cube_then}
+use Rattle.scr_cube.specs.Cube333.{CubeState, IsCube, cube_powers, solved_cube}
+use Rattle.scr_cube.proofs.CompositionLaws.{IsJoining-cubes, IsCube-then, IsCube-played, play-then}
+use Rattle.scr_cube.proofs.OnLiterals.{cubes_on_literals}
+use Rattle.scr_twophase.specs.TwoParts.{two_parts}
+use Rattle.scr_twophase.proofs.PartLaws.{IsScrambleBy-unique}
+use Rattle.scr_fewest.specs.Fewest.{frame, framed, frame_back, between, is_turn, is_frame_at, is_framed, IsScrambleFewest}
+
+-- ---- the frame
+
+-- the cube to which it leads
+unfoldable frame_cube : CubeState
+unfolding cubes_on_literals frame
+frame_cube = unwrap_or (play (after_letter cube_powers) solved_cube frame) solved_cube
+
+frame-played : play (after_letter cube_powers) solved_cube frame ≡ Some frame_cube
+unfolding cubes_on_literals frame frame_cube
+frame-played = refl
+
+pub frame_back-played : play (after_letter cube_powers) solved_cube (back opposite frame) ≡ Some frame_back
+unfolding cubes_on_literals frame frame_back
+frame_back-played = refl
+
+-- as it is made
+pub frame_back-made : (start : CubeState) (forth undone : List Turn) (end : Option CubeState) → start ≡ solved_cube → forth ≡ frame
+    → undone ≡ back opposite forth → end ≡ play (after_letter cube_powers) start undone → end ≡ Some frame_back
+frame_back-made start forth undone end a b c d =
+    d ∙ ap (λ s. play (after_letter cube_powers) s undone) a ∙ ap (play (after_letter cube_powers) solved_cube) (c ∙ ap (back opposite) b) ∙ frame_back-played
+
+frame_and_back : cube_then frame_cube frame_back ≡ solved_cube
+unfolding cubes_on_literals frame frame_cube frame_back cube_then rearrangement_to
+frame_and_back = refl
+
+back_and_frame : cube_then frame_back frame_cube ≡ solved_cube
+unfolding cubes_on_literals frame frame_cube frame_back cube_then rearrangement_to
+back_and_frame = refl
+
+IsCube-frame : IsCube frame_cube
+IsCube-frame = IsCube-played frame_cube frame frame-played
+
+pub IsCube-frame_back : IsCube frame_back
+IsCube-frame_back = IsCube-played frame_back (back opposite frame) frame_back-played
+
+-- ---- the cube between
+
+-- The frames give the state again: each undoes one of those that were taken back.
+between-again : (s : CubeState) → IsCube s → cube_then (cube_then frame_cube (between s)) frame_cube ≡ s
+unfolding between
+between-again s own =
+    let j = IsJoining-cubes in
+    let rest = cube_then s frame_back in
+    let rest_is = IsCube-then s frame_back own IsCube-frame_back in
+    let first : cube_then frame_cube (cube_then frame_back rest) ≡ rest =
+    sym (j.grouped frame_cube frame_back rest IsCube-frame IsCube-frame_back rest_is)
+    ∙ ap (λ c. cube_then c rest) frame_and_back ∙ j.solved_first rest rest_is in
+    ap (λ c. cube_then c frame_cube) first
+    ∙ j.grouped s frame_back frame_cube own IsCube-frame_back IsCube-frame
+    ∙ ap (cube_then s) back_and_frame ∙ j.solved_last s own
+
+-- as it is made
+pub between-made : (s back rest b : CubeState) → back ≡ frame_back → rest ≡ cube_then s back → b ≡ cube_then back rest → b ≡ between s
+unfolding between
+between-made s back rest b e f g =
+    g ∙ ap (cube_then back) f ∙ ap (λ c. cube_then c (cube_then s c)) e
+
+-- Words that lead from solved to what the frame taken back makes of a state lead on to the cube between.
+pub between-played : (s : CubeState) (v : List Turn) → IsCube s
+    → play (after_letter cube_powers) solved_cube v ≡ play (after_letter cube_powers) s (back opposite frame)
+    → play (after_letter cube_powers) solved_cube (back opposite frame ++ v) ≡ Some (between s)
+unfolding between
+between-played s v own e =
+    let there = play-then s frame_back (back opposite frame) own frame_back-played in
+    play-append (after_letter cube_powers) solved_cube frame_back (back opposite frame) v frame_back-played
+    ∙ play-then frame_back (cube_then s frame_back) v IsCube-frame_back (e ∙ there)
+
+-- ---- the scramble
+
+-- Two frames about a word to the cube between lead to the state.
+pub framed-played : (s : CubeState) (middle : List Turn) → IsCube s → play (after_letter cube_powers) solved_cube middle ≡ Some (between s)
+    → play (after_letter cube_powers) solved_cube (framed middle) ≡ Some s
+unfolding framed
+framed-played s middle own played =
+    let after = after_letter cube_powers in
+    let both = cube_then frame_cube (between s) in
+    let is = IsCube-then frame_cube (between s) IsCube-frame (IsCube-played (between s) middle played) in
+    let begun = play-append after solved_cube frame_cube frame middle frame-played ∙ play-then frame_cube (between s) middle IsCube-frame played in
+    play-append after solved_cube both (frame ++ middle) frame begun
+    ∙ play-then both frame_cube frame is frame-played ∙ ap Some (between-again s own)
+
+pub length-frame : length frame ≡ 3
+unfolding frame
+length-frame = refl
+
+-- they have six turns more
+pub length-framed : (middle : List Turn) → length (framed middle) ≡ length middle + 6
+unfolding framed
+length-framed middle =
+    let joined : framed middle ≡ (frame ++ middle) ++ frame = refl in
+    omega (arith, ap length joined, length-append (frame ++ middle) frame, length-append frame middle, length-frame)
+
+-- a state has one scramble
+pub IsScrambleFewest-unique : (tries : ℕ) (s : CubeState) (turns other : List Turn) → IsScrambleFewest tries s turns → IsScrambleFewest tries s other → turns ≡ other
+IsScrambleFewest-unique tries s turns other a b =
+    let middle : a.middle ≡ b.middle =
+    IsScrambleBy-unique (two_parts (between s) tries) (between s) a.middle b.middle a.scramble b.scramble in
+    a.whole ∙ ap framed middle ∙ sym b.whole
+
+-- ---- the test of frames
+
+-- what stands in the last part of a list
+at_end : (xs ys : List Turn) (n i : ℕ) → n ≡ length xs + i → slice_index_or (xs ++ ys) n Over ≡ slice_index_or ys i Over
+at_end [] ys n i is = ap (λ k. slice_index_or ys k Over) (let e : n ≡ i = omega arith in e)
+at_end (x ∷ xs) ys zero i is = absurd (omega arith)
+at_end (x ∷ xs) ys (suc n) i is = at_end xs ys n i (omega arith)
+
+pub is_framed-framed : (middle : List Turn) → is_framed (framed middle) ≡ true
+unfolding is_framed framed frame is_frame_at
+is_framed-framed middle =
+    let turns = framed middle in
+    let n = length turns in
+    let size = length-framed middle in
+    let both = length-append frame middle in
+    let long : nat_le 6 n ≡ true = le-leb 6 n (omega (arith, size)) in
+    let first : is_turn 1 3 (slice_index_or turns (n - 3) Over) ≡ true = ap (is_turn 1 3) (at_end (frame ++ middle) frame (n - 3) 0 (omega (arith, size, both))) in
+    let second : is_turn 0 3 (slice_index_or turns (n - 3 + 1) Over) ≡ true = ap (is_turn 0 3) (at_end (frame ++ middle) frame (n - 3 + 1) 1 (omega (arith, size, both))) in
+    let third : is_turn 2 1 (slice_index_or turns (n - 3 + 2) Over) ≡ true = ap (is_turn 2 1) (at_end (frame ++ middle) frame (n - 3 + 2) 2 (omega (arith, size, both))) in
+    λ j. long j && (true && (first j && (second j && third j)))

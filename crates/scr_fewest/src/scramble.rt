@@ -1,0 +1,97 @@
+//! The scramble for fewest moves.
+ghost use Rattle.std.specs.Prelude.{◌≡◌, ◌+◌, ◌≤◌, IsTrue, List, Some, is_some, length};
+ghost use Rattle.scr_combinatorics.specs.Play.{play};
+ghost use Rattle.scr_notation.specs.declared.event.Event.TheVariants.{Fm333};
+ghost use Rattle.scr_notation.specs.declared.turn.Turn.{Turn as Letter};
+ghost use Rattle.scr_turning.specs.PowerPuzzles.{after_letter};
+ghost use Rattle.scr_cube.specs.Cube333.{cube_powers, solved_cube};
+ghost use Rattle.scr_twophase.specs.TwoParts.{two_parts};
+ghost use Rattle.scr_fewest.specs.Fewest.{frame, framed, between, is_frame_at, is_framed, is_turn, IsFramed, IsScrambleFewest};
+
+use scr_cube::{Cube, PowerTurned};
+use scr_notation::{Event, Scramble, Turn, inverse, numbered_scramble, push_all};
+use scr_stages::StageTables;
+use scr_twophase::{PruneTables, scramble_333, with_event};
+
+/// The scramble of a cube, of the event 333fm: R' U' F, the scramble of the cube that stands between, and R' U' F
+/// again. It has at most 28 turns where one of the first `tries` first parts of the cube between has a second part, and
+/// else at most 58. Where turns of one face meet at the joints they stand as they are.
+pub fn scramble_333fm(
+    prune: &PruneTables,
+    stages: &StageTables,
+    cube: &Cube,
+    tries: u32,
+) -> Scramble
+    ensures event { result.event ≡ Fm333 }
+    ensures scramble { IsScrambleFewest tries cube.now result.turns }
+    ensures only { (turns : List Letter) → IsScrambleFewest tries cube.now turns → turns ≡ result.turns }
+    ensures framed { IsFramed result.turns }
+    ensures tested { IsTrue (is_framed result.turns) }
+    ensures at_most { length result.turns ≤ 58 }
+    ensures few { IsTrue (is_some (two_parts (between cube.now) tries)) → length result.turns ≤ 28 }
+    ensures played { play (after_letter cube_powers) solved_cube result.turns ≡ Some cube.now }
+{
+    let Some(back) = Cube::solved().play(&inverse(&frame())) else {
+        unreachable!();
+    };
+    let between = back.then(&cube.then(&back));
+    let middle = with_event(&scramble_333(prune, stages, &between, tries), Event::Fm333);
+    framed(&middle)
+}
+
+/// R' U' F, which are the turns number 5, 2 and 6.
+fn frame() -> Scramble
+    ensures { result ≡ record { event = Fm333; turns = frame } }
+{
+    numbered_scramble(Event::Fm333, &[5, 2, 6])
+}
+
+/// A scramble between two frames.
+fn framed(middle: &Scramble) -> Scramble
+    requires event { middle.now.event ≡ Fm333 }
+    requires room { length middle.now.turns ≤ 154 }
+    ensures { result ≡ record { event = Fm333; turns = framed middle.now.turns } }
+{
+    let mut scramble = frame();
+    push_all(&mut scramble, middle);
+    push_all(&mut scramble, &frame());
+    scramble
+}
+
+/// Whether the turns of a scramble are between two frames: at least six, of which the first three and the last three are
+/// R' U' F.
+#[tactic(auto, unfolding(crate::specs::Fewest::is_framed))]
+pub fn is_framed(scramble: &Scramble) -> bool
+    ensures { result ≡ is_framed scramble.now.turns }
+{
+    let turns = scramble.turns();
+    if turns.len() < 6 {
+        return false;
+    }
+    is_frame_at(turns, 0) && is_frame_at(turns, turns.len() - 3)
+}
+
+/// Whether the three turns from a place on are R' U' F.
+#[tactic(auto, unfolding(crate::specs::Fewest::is_frame_at))]
+fn is_frame_at(turns: &[Turn], place: usize) -> bool
+    requires { place + 3 ≤ length turns.now }
+    ensures { result ≡ is_frame_at turns.now place }
+{
+    is_turn(turns[place], 1, 3)
+        && is_turn(turns[place + 1], 0, 3)
+        && is_turn(turns[place + 2], 2, 1)
+}
+
+/// Whether a turn is that of a face alone, by this amount.
+fn is_turn(turn: Turn, face: u8, amount: u8) -> bool
+    ensures { result ≡ is_turn face amount turn }
+{
+    match turn {
+        Turn::Face {
+            face: own,
+            depth,
+            amount: times,
+        } => own == face && depth == 1 && times == amount,
+        _ => false,
+    }
+}

@@ -1,0 +1,198 @@
+-- Laws of orbits that are joined, one and then another, and of what undoes them.
+use Rattle.std.proofs.Common.{◌≡◌, ℕ, suc, ◌+◌, ◌-◌, ◌%◌, ◌<◌, List, [], ◌∷◌, length, map, get_or, refl, sym, ap, ◌∙◌, arith, lit<}
+use Rattle.std.specs.Prelude.{All}
+use Rattle.std.proofs.Math.Nat.{add-mod-mod, mod_self, mod-eq_of_lt}
+use Rattle.std.proofs.lemmas.Nat.{mod_below}
+use Rattle.std.proofs.lemmas.List.{length-map, ext_get_or}
+use Rattle.std.proofs.lemmas.List.Elements.{All-nil, All-cons, All-head, All-tail}
+use Rattle.scr_combinatorics.specs.Lists.{occurrences, total, pick}
+use Rattle.scr_combinatorics.specs.Permutations.{IsPermutation, inverse, parity, place_of}
+use Rattle.scr_combinatorics.proofs.Parities.{inversions-numbers_from}
+use Rattle.scr_combinatorics.proofs.Picks.{length-pick, All-pick}
+use Rattle.scr_combinatorics.proofs.PermutationLaws.{IsPermutation-inverse, pick-inverse, inverse-at, length-inverse, place_of-lt, at-place_of}
+use Rattle.scr_orbit.specs.Inverses.{IsInverse}
+use Rattle.scr_orbit.specs.Orbits.{Orbit, Rearrangement, IsOrbit, IsRearrangement, IsZeroSumOrbit, IsZeroSumRearrangement, added_digits, turned_orbit, composed, zeros, identity, solved_orbit, rearrangement_to, orbit_then}
+use Rattle.scr_orbit.proofs.DigitLaws.{total-zeros}
+use Rattle.scr_orbit.proofs.OrbitLaws.{same_orbit, places_in, total-turned, parity-turned, turned-composed, turned-identity, turned-solved, IsOrbit-zero_sum}
+
+-- ---- states that are joined
+
+-- Joining valid states: whichever two are joined first, and the solved state changes nothing.
+pub record IsJoining {S : Type 0} (joined : S → S → S) (solved : S) (IsValid : S → Type 0) : Type 0 where
+  pub grouped : (a b c : S) → IsValid a → IsValid b → IsValid c → joined (joined a b) c ≡ joined a (joined b c)
+  pub solved_first : (a : S) → IsValid a → joined solved a ≡ a
+  pub solved_last : (a : S) → IsValid a → joined a solved ≡ a
+
+-- a state that is solved with another both ways is its inverse
+pub IsInverse-both : {S : Type 0} (joined : S → S → S) (solved : S) (IsValid : S → Type 0) → IsJoining joined solved IsValid
+    → (s r : S) → IsValid s → IsValid r → joined s r ≡ solved → joined r s ≡ solved → IsInverse joined solved IsValid s r
+IsInverse-both joined solved IsValid j s r own valid after before = record {
+  valid = valid;
+  after = after;
+  before = before;
+  only_after = λ q h e.
+      sym (j.solved_first q h) ∙ ap (λ x. joined x q) (sym before) ∙ j.grouped r s q valid own h
+      ∙ ap (joined r) e ∙ j.solved_last r valid;
+  only_before = λ q h e.
+      sym (j.solved_last q h) ∙ ap (joined q) (sym after) ∙ sym (j.grouped q s r h own valid)
+      ∙ ap (λ x. joined x r) e ∙ j.solved_first r valid;
+}
+
+-- where each state is solved with another, that is its inverse
+pub IsInverse-right : {S : Type 0} (joined : S → S → S) (solved : S) (IsValid : S → Type 0) → IsJoining joined solved IsValid
+    → (inverted : S → S) → ((s : S) → IsValid s → IsValid (inverted s)) → ((s : S) → IsValid s → joined s (inverted s) ≡ solved)
+    → (s : S) → IsValid s → IsInverse joined solved IsValid s (inverted s)
+IsInverse-right joined solved IsValid j inverted valid after s own =
+    let r = inverted s in
+    let r_is = valid s own in
+    let again : inverted r ≡ s =
+    sym (j.solved_first (inverted r) (valid r r_is)) ∙ ap (λ x. joined x (inverted r)) (sym (after s own))
+    ∙ j.grouped s r (inverted r) own r_is (valid r r_is) ∙ ap (joined s) (after r r_is) ∙ j.solved_last s own in
+    IsInverse-both joined solved IsValid j s r own r_is (after s own) (ap (joined r) (sym again) ∙ after r r_is)
+
+-- ---- orbits
+
+pub IsRearrangement-to : (n m : ℕ) (o : Orbit) → IsOrbit n m o → IsRearrangement n m (rearrangement_to o)
+unfolding rearrangement_to
+IsRearrangement-to n m o h = record { places = h.pieces; size = h.size; below = h.below }
+
+pub IsZeroSumRearrangement-to : (n m : ℕ) (o : Orbit) → IsZeroSumOrbit n m o → IsZeroSumRearrangement n m (rearrangement_to o)
+unfolding rearrangement_to
+IsZeroSumRearrangement-to n m o h = record { places = h.pieces; added = h.digits }
+
+-- what an orbit is turned by comes to both, composed
+pub rearrangement_to-turned : (m : ℕ) (o : Orbit) (r : Rearrangement) → rearrangement_to (turned_orbit m o r) ≡ composed m (rearrangement_to o) r
+unfolding rearrangement_to turned_orbit composed
+rearrangement_to-turned m o r = refl
+
+pub rearrangement_to-solved : (n : ℕ) → rearrangement_to (solved_orbit n) ≡ identity n
+unfolding rearrangement_to solved_orbit identity
+rearrangement_to-solved n = refl
+
+pub IsJoining-orbits : (n m : ℕ) → 0 < m → IsJoining (orbit_then m) (solved_orbit n) (IsOrbit n m)
+IsJoining-orbits n m pos = record {
+  grouped = λ a b c h k i.
+      sym (turned-composed n m a (rearrangement_to b) (rearrangement_to c) h (IsRearrangement-to n m b k) (IsRearrangement-to n m c i))
+      ∙ ap (turned_orbit m a) (sym (rearrangement_to-turned m b (rearrangement_to c)));
+  solved_first = turned-solved n m;
+  solved_last = λ a h. ap (turned_orbit m a) (rearrangement_to-solved n) ∙ turned-identity n m a h;
+}
+
+-- ---- the inverse of an orbit
+
+-- what is left of digits to the modulus
+abbrev pub opposite_digits : ℕ → List ℕ → List ℕ
+opposite_digits m ds = map (λ d. (m - d) % m) ds
+
+All-opposite_digits : (m : ℕ) (ds : List ℕ) → 0 < m → All (λ d. d < m) (opposite_digits m ds)
+All-opposite_digits m [] pos = All-nil (λ d. d < m)
+All-opposite_digits m (d ∷ ds) pos = All-cons (λ d. d < m) ((m - d) % m) (opposite_digits m ds) (mod_below (m - d) m pos) (All-opposite_digits m ds pos)
+
+none_left : (m d : ℕ) → d < m → (d + (m - d) % m) % m ≡ 0
+none_left m d lt =
+    let whole : d + (m - d) ≡ m = omega arith in
+    add-mod-mod d (m - d) m ∙ ap (λ z. z % m) whole ∙ mod_self m
+
+-- both come to nothing
+added-opposite_digits : (m : ℕ) (ds : List ℕ) → All (λ d. d < m) ds → added_digits m ds (opposite_digits m ds) ≡ zeros (length ds)
+unfolding added_digits
+added-opposite_digits m [] h = refl
+added-opposite_digits m (d ∷ ds) h =
+    ap (λ x. x ∷ added_digits m ds (opposite_digits m ds)) (none_left m d (All-head (λ x. x < m) d ds h))
+    ∙ ap (λ xs. 0 ∷ xs) (added-opposite_digits m ds (All-tail (λ x. x < m) d ds h))
+
+-- Each piece has the number of the place where the piece with its place's number stands, and what is left of that one's digit.
+pub inverse_orbit : ℕ → Orbit → Orbit
+inverse_orbit m o = record { pieces = inverse o.pieces; digits = opposite_digits m (pick o.digits (inverse o.pieces)) }
+
+IsOrbit-inverse : (n m : ℕ) (o : Orbit) → 0 < m → IsOrbit n m o → IsOrbit n m (inverse_orbit m o)
+unfolding inverse_orbit
+IsOrbit-inverse n m o pos h = record {
+  pieces = IsPermutation-inverse n o.pieces h.pieces;
+  size = length-map (pick o.digits (inverse o.pieces)) (λ d. (m - d) % m)
+      ∙ length-pick o.digits (inverse o.pieces) ∙ length-inverse o.pieces ∙ h.pieces.size;
+  below = All-opposite_digits m (pick o.digits (inverse o.pieces)) pos;
+}
+
+then-inverse_orbit : (n m : ℕ) (o : Orbit) → IsOrbit n m o → orbit_then m o (inverse_orbit m o) ≡ solved_orbit n
+unfolding inverse_orbit turned_orbit rearrangement_to solved_orbit
+then-inverse_orbit n m o h =
+    let from : List ℕ = inverse o.pieces in
+    let picked : List ℕ = pick o.digits from in
+    let below : All (λ d. d < m) picked =
+    All-pick (λ d. d < m) o.digits from h.below (places_in n from o.digits (IsPermutation-inverse n o.pieces h.pieces) h.size) in
+    let size : length picked ≡ n = length-pick o.digits from ∙ length-inverse o.pieces ∙ h.pieces.size in
+    same_orbit _ _ (pick-inverse n o.pieces h.pieces) (added-opposite_digits m picked below ∙ ap zeros size)
+
+pub IsInverse-orbit : (n m : ℕ) (o : Orbit) → 0 < m → IsOrbit n m o → IsInverse (orbit_then m) (solved_orbit n) (IsOrbit n m) o (inverse_orbit m o)
+IsInverse-orbit n m o pos h =
+    IsInverse-right (orbit_then m) (solved_orbit n) (IsOrbit n m) (IsJoining-orbits n m pos) (inverse_orbit m)
+    (λ s k. IsOrbit-inverse n m s pos k) (then-inverse_orbit n m) o h
+
+-- ---- lists that are inverted place by place
+
+-- a list that has at each number of a permutation the number's place
+pub inverse_by_places : (xs ys : List ℕ) → IsPermutation (length xs) xs → length ys ≡ length xs
+    → ((k : ℕ) → k < length xs → get_or ys (get_or xs k 0) 0 ≡ k) → ys ≡ inverse xs
+inverse_by_places xs ys h e each =
+    ext_get_or 0 ys (inverse xs) (e ∙ sym (length-inverse xs))
+    (λ v lt.
+    let n = length xs in
+    let there : 0 < occurrences v xs = omega (arith, h.once v (omega arith)) in
+    let at : get_or xs (place_of v xs) 0 ≡ v = at-place_of v xs there in
+    ap (λ i. get_or ys i 0) (sym at) ∙ each (place_of v xs) (place_of-lt v xs there)
+    ∙ sym (inverse-at n xs refl v (omega arith)))
+
+-- and one that has at each place what is left of the digit that is picked there
+pub opposite_by_places : (m : ℕ) (xs ks ys : List ℕ) → length ys ≡ length ks
+    → ((k : ℕ) → k < length ks → get_or ys k 0 ≡ (m - get_or xs (get_or ks k 0) 0) % m) → ys ≡ opposite_digits m (pick xs ks)
+opposite_by_places m xs [] [] e each = refl
+opposite_by_places m xs [] (y ∷ ys) e each = absurd (omega (arith, e))
+opposite_by_places m xs (k ∷ ks) [] e each = absurd (omega (arith, e))
+opposite_by_places m xs (k ∷ ks) (y ∷ ys) e each =
+    let first : y ≡ (m - get_or xs k 0) % m = each 0 (omega arith) in
+    let rest = opposite_by_places m xs ks ys (omega (arith, e)) (λ i l. each (suc i) (omega arith)) in
+    cc
+
+-- what is left of a digit is reached by at most one subtraction
+pub opposite-digit : (m d : ℕ) → 0 < d → d < m → m - d ≡ (m - d) % m
+opposite-digit m d some lt = let less : m - d < m = omega arith in sym (mod-eq_of_lt less)
+
+pub opposite-zero : (m d : ℕ) → d ≡ 0 → 0 ≡ (m - d) % m
+opposite-zero m d e = let all : m - d ≡ m = omega (arith, e) in sym (ap (λ z. z % m) all ∙ mod_self m)
+
+-- an orbit that is inverted list by list
+pub inverted_by_lists : (m : ℕ) (o : Orbit) (pieces digits : List ℕ) → pieces ≡ inverse o.pieces → digits ≡ opposite_digits m (pick o.digits pieces)
+    → record { pieces = pieces; digits = digits } ≡ inverse_orbit m o
+unfolding inverse_orbit
+inverted_by_lists m o pieces digits a b = same_orbit _ _ a (b ∙ ap (λ ks. opposite_digits m (pick o.digits ks)) a)
+
+-- ---- what the inverse keeps
+
+-- digits that sum to 0
+pub IsZeroSumOrbit-inverse : (n m : ℕ) (o p : Orbit) → IsZeroSumOrbit n m o → IsOrbit n m p → orbit_then m p o ≡ solved_orbit n → IsZeroSumOrbit n m p
+unfolding rearrangement_to solved_orbit
+IsZeroSumOrbit-inverse n m o p h k e =
+    let o_is = IsOrbit-zero_sum n m o h in
+    let sum = total-turned n m p (rearrangement_to o) k (IsRearrangement-to n m o o_is) in
+    let none : total (orbit_then m p o).digits % m ≡ 0 = ap (λ (x : Orbit). total x.digits % m) e ∙ total-zeros m n in
+    let left : (total p.digits + total o.digits) % m ≡ total p.digits % m =
+    sym (add-mod-mod (total p.digits) (total o.digits) m) ∙ ap (λ z. (total p.digits + z) % m) h.digits.sum_fixed ∙ ap (λ z. z % m) (omega arith) in
+    record {
+      pieces = k.pieces;
+      digits = record { size = k.size; below = k.below; sum_fixed = sym left ∙ sym sum ∙ none };
+    }
+
+same_parity : (a b : ℕ) → a < 2 → b < 2 → (a + b) % 2 ≡ 0 → a ≡ b
+same_parity a b h k e = omega arith
+
+-- and the parity
+pub parity-inverse_orbit : (n m : ℕ) (o p : Orbit) → IsOrbit n m o → IsOrbit n m p → orbit_then m p o ≡ solved_orbit n → parity p.pieces ≡ parity o.pieces
+unfolding rearrangement_to solved_orbit
+parity-inverse_orbit n m o p h k e =
+    let sum = parity-turned n m p (rearrangement_to o) k.pieces h.pieces in
+    let even : parity (orbit_then m p o).pieces ≡ 0 = ap (λ (x : Orbit). parity x.pieces) e ∙ ap (λ z. z % 2) (inversions-numbers_from 0 n) in
+    let one : parity p.pieces < 2 = mod_below _ 2 (lit< tt) in
+    let other : parity o.pieces < 2 = mod_below _ 2 (lit< tt) in
+    let none : (parity p.pieces + parity o.pieces) % 2 ≡ 0 = sym sum ∙ even in
+    same_parity (parity p.pieces) (parity o.pieces) one other none

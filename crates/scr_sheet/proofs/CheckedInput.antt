@@ -1,0 +1,200 @@
+-- The check of an input, as a reader reads it.
+use Rattle.std.proofs.Common.{◌≡◌, ℕ, ◌<◌, Bool, true, false, cond, List, [], ◌∷◌, ◌++◌, length, take, Ok, Err, inl, inr, refl, sym, ap, subst, ◌∙◌, arith, append_assoc, length-take-le}
+use Rattle.std.specs.Prelude.{Option, Result, IsTrue, All, Contains, filter, ◌↔◌}
+use Rattle.std.proofs.lemmas.Bool.{cases_lt}
+use Rattle.std.proofs.lemmas.List.Elements.{All-nil, All-cons, All-head, All-tail}
+use Rattle.std.proofs.lemmas.List.Sums.{length-filter, count_by-le-length}
+use Rattle.scr_outside.specs.Change.{intake_of, Gives, TellsEnd}
+use Rattle.scr_outside.specs.Bytes.{put_back}
+use Rattle.scr_check.specs.declared.fault.CheckFault.{CheckFault}
+use Rattle.scr_check.specs.declared.fault.CheckFault.TheVariants as check
+use Rattle.scr_check.specs.Agreement.{ComesTo}
+use Rattle.scr_check.specs.Lines.{cut_lines}
+use Rattle.scr_check.specs.Parts.{list_part, sheet_part, list_room}
+use Rattle.scr_check.specs.Reading.{Reading, Takes, StopsShort, fresh}
+use Rattle.scr_check.specs.Taken.{CanFollow, ChecksSheet, TakesSheet}
+use Rattle.scr_check.proofs.ReadingLemmas.{Takes-append, StopsShort-after}
+use Rattle.scr_list.specs.declared.fault.ListFault.{ListFault}
+use Rattle.scr_list.specs.declared.fault.ListFault.TheVariants as list
+use Rattle.scr_list.specs.declared.round.Round.{Round}
+use Rattle.scr_list.specs.Rounds.{rounds_of}
+use Rattle.scr_list.specs.Versions.{version_of}
+use Rattle.scr_list.proofs.RoundFacts.{most_bytes-le}
+use Rattle.scr_list.proofs.RoundLemmas.{rounds_of-long}
+use Rattle.scr_notation.specs.declared.event.Event.{Event}
+use Rattle.scr_notation.specs.EventSets.{Has}
+use Rattle.scr_table.specs.declared.fault.BuildFault.{BuildFault}
+use Rattle.scr_slots.specs.declared.settings.Settings.{Settings}
+use Rattle.scr_slots.specs.Agreement.{is_tested_by_table}
+use Rattle.scr_slots.specs.Tables.{IsBuildCause}
+use Rattle.scr_sheet.specs.declared.fault.Fault.{Fault}
+use Rattle.scr_sheet.specs.declared.fault.Fault.TheVariants as fault
+use Rattle.scr_sheet.specs.Causes.{fault_of_build}
+use Rattle.scr_sheet.specs.Check.{expected_lines, end_of_check, rounds_in, InputComesTo, ReadsInput, EndsChecking, tested_events, TakesList, ReadsListPart, TakesInput, EndsReading}
+use Rattle.scr_sheet.proofs.RunLaws.{each_asked}
+
+-- a list that names rounds isn't too long
+listed-short : (bytes : List ℕ) (rounds : List Round) → rounds_of bytes ≡ Ok rounds → length bytes < list_room
+listed-short bytes rounds is =
+    let most = most_bytes-le bytes in
+    elim (cases_lt (version_of bytes).most_bytes (length bytes)) [
+      | inl long ↦ let refused = rounds_of-long bytes (version_of bytes) refl long in let no : ⊥ = cc in absurd no
+      | inr short ↦ omega (arith, most, short)
+    ]
+
+-- ---- by a reader
+
+module _ {S : Type 0} (left : S → Option (List ℕ)) (faults ends : S → ℕ) where
+  -- a list part that names rounds, of an input that may follow, tells these rounds
+  told-rounds : {list : List ℕ} {answer : Result (List Round) ListFault} (input : List ℕ) → take list_room (list_part input) ≡ list
+      → rounds_of list ≡ answer → rounds_in input ≡ answer
+  told-rounds input is says = ap rounds_of is ∙ says
+
+  pub takes-rounds : {before after : Reading S} {answer : Result (List Round) ListFault} → TakesList left faults ends before after answer
+      → TakesInput left faults ends before after (λ input. rounds_in input ≡ answer)
+  takes-rounds taken = record {
+    bytes = taken.takes.bytes;
+    takes = taken.takes.takes;
+    tells = λ rest follows. told-rounds (taken.takes.bytes ++ rest) (taken.takes.split rest follows).list_is taken.says;
+  }
+
+  -- a list part that is no list
+  takes-refusal : (settings : Settings) {before after : Reading S} (refusal : ListFault) → TakesList left faults ends before after (Err refusal)
+      → EndsReading left faults ends before after settings (Err (fault.List refusal))
+  takes-refusal settings refusal taken =
+      let read = takes-rounds taken in
+      inl (record {
+        bytes = read.bytes;
+        takes = read.takes;
+        tells = λ rest follows.
+            let answer : Result (Unit {0}) Fault = Err (fault.List refusal) in
+            subst (λ r. InputComesTo settings r (read.bytes ++ rest) answer) (sym (read.tells rest follows)) refl;
+      })
+
+  pub refused-list : (settings : Settings) (before after : Reading S) (refusal : ListFault) → ReadsListPart left faults ends before after (Err refusal)
+      → EndsReading left faults ends before after settings (Err (fault.List refusal))
+  refused-list settings before after list.Read stops = inr (inr (refl, stops))
+  refused-list settings before after (list.TooLong limit) taken = takes-refusal settings (list.TooLong limit) taken
+  refused-list settings before after (list.Line number cause) taken = takes-refusal settings (list.Line number cause) taken
+
+  -- tables that could not be built
+  pub lacks-tests : (settings : Settings) (before after : Reading S) (rounds : List Round) (why : BuildFault)
+      → ReadsListPart left faults ends before after (Ok rounds) → IsBuildCause (tested_events rounds) why
+      → EndsReading left faults ends before after settings (Err (fault_of_build why))
+  lacks-tests settings before after rounds why taken cause =
+      inr (inl (record { rounds = rounds; read = takes-rounds taken; why = why; is = refl; cause = cause }))
+
+  -- what may follow both of two takings follows the first with the second
+  both-follow : {b c : Reading S} {ys : List ℕ} → Takes left faults ends b c ys → (rest : List ℕ) → CanFollow c.ended rest
+      → CanFollow b.ended (ys ++ rest)
+  both-follow {b} {c} {ys} second rest follows ended =
+      let nothing = second.nothing_behind ended in
+      let same : c.ended ≡ true = ap (λ (r : Reading S). r.ended) nothing.0 ∙ ended in
+      ap (λ x. x ++ rest) nothing.1 ∙ follows same
+
+  -- a sheet that was held against the lines of a list's sheet
+  takes-sheet : (settings : Settings) (a b c : Reading S) (rounds : List Round) (found : Result (Unit {0}) CheckFault)
+      → ReadsListPart left faults ends a b (Ok rounds) → TakesSheet left faults ends b c (expected_lines settings rounds) found
+      → TakesInput left faults ends a c (λ input. InputComesTo settings (rounds_in input) input (end_of_check found))
+  takes-sheet settings a b c rounds found taken sheet = record {
+    bytes = taken.takes.bytes ++ sheet.bytes;
+    takes = Takes-append left faults ends taken.takes.takes sheet.takes;
+    tells = λ rest follows.
+        let input = taken.takes.bytes ++ (sheet.bytes ++ rest) in
+        let split = taken.takes.split (sheet.bytes ++ rest) (both-follow sheet.takes rest follows) in
+        let named : rounds_in input ≡ Ok rounds = told-rounds input split.list_is taken.says in
+        let behind : sheet_part input ≡ sheet.bytes ++ rest = split.sheet_is (listed-short taken.list rounds taken.says) in
+        let comes = sheet.comes_to rest follows in
+        let Comes : List ℕ → Type 0 = λ text. ComesTo (expected_lines settings rounds) (cut_lines text) found in
+        let told : InputComesTo settings (Ok rounds) input (end_of_check found) = (found, subst Comes (sym behind) comes, refl) in
+        let whole : input ≡ (taken.takes.bytes ++ sheet.bytes) ++ rest = sym (append_assoc taken.takes.bytes sheet.bytes rest) in
+        subst (λ text. InputComesTo settings (rounds_in text) text (end_of_check found)) whole
+        (subst (λ r. InputComesTo settings r input (end_of_check found)) (sym named) told);
+  }
+
+  pub checked-sheet : (settings : Settings) (a b c : Reading S) (rounds : List Round) (found : Result (Unit {0}) CheckFault)
+      → ReadsListPart left faults ends a b (Ok rounds) → ChecksSheet left faults ends b c (expected_lines settings rounds) found
+      → EndsReading left faults ends a c settings (end_of_check found)
+  checked-sheet settings a b c rounds (Ok u) taken checked = inl (takes-sheet settings a b c rounds (Ok u) taken checked.0)
+  checked-sheet settings a b c rounds (Err (check.Differs line)) taken checked =
+      inl (takes-sheet settings a b c rounds (Err (check.Differs line)) taken checked)
+  checked-sheet settings a b c rounds (Err (check.Limit missing)) taken checked =
+      inl (takes-sheet settings a b c rounds (Err (check.Limit missing)) taken checked)
+  checked-sheet settings a b c rounds (Err check.Read) taken stops =
+      inr (inr (
+        refl,
+        record {
+          bytes = taken.takes.bytes ++ stops.bytes;
+          stops = StopsShort-after left faults ends taken.takes.takes stops.stops;
+        },
+      ))
+
+  -- ---- by the source of a new reader
+
+  -- what was taken, and what was read ahead, the source gave
+  reads-taken : (source : S) (after : Reading S) {Tells : List ℕ → Type 0}
+      → ((bytes : List ℕ) → Takes left faults ends (fresh source) after bytes → Gives (intake_of left faults ends source after.source) (bytes ++ after.ahead))
+      → ((bytes : List ℕ) → Takes left faults ends (fresh source) after bytes → after.ended ≡ true
+      → TellsEnd (intake_of left faults ends source after.source) × (after.ahead ≡ []))
+      → TakesInput left faults ends (fresh source) after Tells → ReadsInput (intake_of left faults ends source after.source) Tells
+  reads-taken source after {Tells} gives end taken = record {
+    bytes = taken.bytes ++ after.ahead;
+    ended = after.ended;
+    gives = gives taken.bytes taken.takes;
+    end = λ ended. (end taken.bytes taken.takes ended).0;
+    no_end = λ unended. taken.takes.no_end unended;
+    tells = λ rest follows.
+        subst Tells (sym (append_assoc taken.bytes after.ahead rest))
+        (taken.tells (after.ahead ++ rest) (λ ended. ap (λ x. x ++ rest) (end taken.bytes taken.takes ended).1 ∙ follows ended));
+  }
+
+  pub ends-reading : (settings : Settings) (source : S) (after : Reading S) (answer : Result (Unit {0}) Fault)
+      → ((bytes : List ℕ) → Takes left faults ends (fresh source) after bytes → Gives (intake_of left faults ends source after.source) (bytes ++ after.ahead))
+      → ((bytes : List ℕ) → Takes left faults ends (fresh source) after bytes → after.ended ≡ true
+      → TellsEnd (intake_of left faults ends source after.source) × (after.ahead ≡ []))
+      → ((bytes : List ℕ) → StopsShort left faults ends (fresh source) after bytes → left source ≡ put_back (bytes ++ after.ahead) (left after.source))
+      → EndsReading left faults ends (fresh source) after settings answer → EndsChecking settings (intake_of left faults ends source after.source) answer
+  ends-reading settings source after answer gives end gave (inl taken) = inl (reads-taken source after gives end taken)
+  ends-reading settings source after answer gives end gave (inr (inl lacks)) =
+      inr (inl (record { rounds = lacks.rounds; read = reads-taken source after gives end lacks.read; why = lacks.why; is = lacks.is; cause = lacks.cause }))
+  ends-reading settings source after answer gives end gave (inr (inr (is, stops))) = inr (inr (
+    is,
+    record {
+      bytes = stops.bytes ++ after.ahead;
+      given = gave stops.bytes stops.stops;
+      few = omega arith;
+      no_end = stops.stops.no_end;
+      rose = stops.stops.rose;
+      never_falls = stops.stops.never_falls;
+    },
+  ))
+
+-- ---- the rounds that are tested by tables
+
+-- where those that pass a test have a property, each element that passes has it
+passing-next : {X : Type 0} (p : X → Bool) (P : X → Type 0) (x : X) (xs : List X) (b : Bool) → p x ≡ b
+    → (All P (filter p xs) → All (λ y. IsTrue (p y) → P y) xs) → All P (cond b (x ∷ filter p xs) (filter p xs))
+    → All (λ y. IsTrue (p y) → P y) (x ∷ xs)
+passing-next p P x xs true is rest own =
+    All-cons (λ y. IsTrue (p y) → P y) x xs (λ passes. All-head P x (filter p xs) own) (rest (All-tail P x (filter p xs) own))
+passing-next p P x xs false is rest own =
+    All-cons (λ y. IsTrue (p y) → P y) x xs (λ passes. let no : false ≡ true = sym is ∙ passes in cc) (rest own)
+
+passing : {X : Type 0} (p : X → Bool) (P : X → Type 0) (xs : List X) → All P (filter p xs) → All (λ x. IsTrue (p x) → P x) xs
+passing p P [] all = All-nil (λ x. IsTrue (p x) → P x)
+passing p P (x ∷ xs) all = passing-next p P x xs (p x) refl (passing p P xs) all
+
+pub each_tested : (events : List Bool) (rounds : List Round)
+    → ((event : Event) → Has events event ↔ Contains (tested_events rounds) event)
+    → All (λ (round : Round). IsTrue (is_tested_by_table round.event) → Has events round.event) rounds
+each_tested events rounds same =
+    passing (λ (round : Round). is_tested_by_table round.event) (λ (round : Round). Has events round.event) rounds
+    (each_asked events (filter (λ (round : Round). is_tested_by_table round.event) rounds) same)
+
+-- so few are tested
+pub tested-few : (p : Round → Bool) (rounds : List Round) (i : ℕ) → i < length rounds → length (filter p (take i rounds)) < length rounds
+tested-few p rounds i below =
+    let size = length-filter p (take i rounds) in
+    let few = count_by-le-length p (take i rounds) in
+    let taken = length-take-le i rounds (omega arith) in
+    omega (arith, size, few, taken, below)

@@ -1,0 +1,211 @@
+-- The lines that a list's sheet has: each text has one answer at each, and which round a line is of.
+use Rattle.std.proofs.Common.{◌≡◌, ℕ, zero, suc, ◌+◌, ◌-◌, ◌*◌, ◌<◌, ◌≤◌, Bool, true, false, List, [], ◌∷◌, ◌++◌, length, take, drop, get_or, Some, Ok, Err, refl, sym, ap, ◌∙◌, subst, arith, length-append, drop-cons, add-one}
+use Rattle.std.specs.Prelude.{Result, map, slice_get}
+use Rattle.std.specs.Str.{bytes_eq}
+use Rattle.std.specs.List.{IsSplitAt}
+use Rattle.std.proofs.lemmas.List.{length-map, drop_all, take_all, take-append-le, take-append-drop}
+use Rattle.std.proofs.lemmas.Option.{same_Some, slice_get-get_or}
+use Rattle.std.proofs.lemmas.Slice.Eq.{bytes_eq-Decides}
+use Rattle.scr_check.specs.declared.fault.Missing.{Missing}
+use Rattle.scr_check.specs.Agreement.{AreLawful}
+use Rattle.scr_draw.proofs.Counting.{tests_agree}
+use Rattle.scr_list.specs.declared.round.Round.{Round}
+use Rattle.scr_list.specs.RoundLists.{IsRounds}
+use Rattle.scr_round.specs.Round.{Line, Fixed, Slot, round_lines}
+use Rattle.scr_slots.specs.declared.settings.Settings.{Settings}
+use Rattle.scr_slots.specs.Agreement.{TextAgrees, IsJudged}
+use Rattle.scr_slots.specs.Events.{scrambling_of}
+use Rattle.scr_slots.specs.Slots.{first_stream}
+use Rattle.scr_sheet.specs.Check.{ListLine, list_lines, IsSlotLineAnswer, IsLineAnswer, IsAnswerAt, expected_lines, IsPlacedAt}
+use Rattle.scr_sheet.proofs.ShortLines.{IsShort, all-at, list_lines-short, agreed-short}
+
+-- ---- one answer
+
+slot_answer-one : (settings : Settings) (k : ℕ) (round : Round) (label : List ℕ) (slot : ℕ) (text : List ℕ) (one other : Result Bool Missing)
+    → IsSlotLineAnswer settings k round label slot text one → IsSlotLineAnswer settings k round label slot text other → one ≡ other
+slot_answer-one settings k round label slot text (Ok a) (Ok b) first second = ap Ok (tests_agree a b first.1 second.1)
+slot_answer-one settings k round label slot text (Ok a) (Err m) first second = absurd (first.0 second.0)
+slot_answer-one settings k round label slot text (Err m) (Ok b) first second = absurd (second.0 first.0)
+slot_answer-one settings k round label slot text (Err m) (Err n) first second = ap Err (first.1 ∙ sym second.1)
+
+line_answer-one : (settings : Settings) (k : ℕ) (round : Round) (line : Line) (text : List ℕ) (one other : Result Bool Missing)
+    → IsLineAnswer settings k round line text one → IsLineAnswer settings k round line text other → one ≡ other
+line_answer-one settings k round (Fixed own) text one other first second = first ∙ sym second
+line_answer-one settings k round (Slot label slot) text one other first second = slot_answer-one settings k round label slot text one other first second
+
+answer-one : (settings : Settings) (lines : List ListLine) (i : ℕ) (text : List ℕ) (one other : Result Bool Missing)
+    → IsAnswerAt settings lines i text one → IsAnswerAt settings lines i text other → one ≡ other
+answer-one settings lines i text one other first second =
+    let same : second.line ≡ first.line = same_Some second.line first.line (sym second.there ∙ first.there) in
+    let P : ListLine → Type 0 = λ l. IsLineAnswer settings l.k l.round l.line text other in
+    line_answer-one settings first.line.k first.line.round first.line.line text one other first.answered (subst P same second.answered)
+
+-- ---- whether a slot has a scramble depends on the line alone
+
+line_missing : (settings : Settings) (k : ℕ) (round : Round) (line : Line) (text other : List ℕ) (missing : Missing)
+    → IsLineAnswer settings k round line text (Err missing) → IsLineAnswer settings k round line other (Err missing)
+line_missing settings k round (Fixed own) text other missing is = cc
+line_missing settings k round (Slot label slot) text other missing is = is
+
+-- ---- texts that agree are short
+
+line_agreed : (settings : Settings) (k : ℕ) (round : Round) (line : Line) (text : List ℕ) → IsShort line → IsLineAnswer settings k round line text (Ok true)
+    → length text ≤ 1300
+line_agreed settings k round (Fixed own) text short is =
+    let agrees : bytes_eq text own ≡ true = cc in
+    subst (λ t. length t ≤ 1300) (sym ((bytes_eq-Decides text own).0 agrees)) short
+line_agreed settings k round (Slot label slot) text short is =
+    let it = is.1.0 refl in
+    let behind = agreed-short _ settings round.least _ it.behind it.agrees in
+    let size = length-append label it.behind in
+    subst (λ t. length t ≤ 1300) (sym it.is) (omega (arith, short, behind, size))
+
+pub lines-lawful : (settings : Settings) (rounds : List Round) → IsRounds rounds → AreLawful (expected_lines settings rounds)
+lines-lawful settings rounds valid = record {
+  one = answer-one settings (list_lines 0 rounds);
+  short = λ i text is.
+      let all = list_lines-short 0 rounds (let few = valid.few in omega (arith, few)) valid.each in
+      line_agreed settings is.line.k is.line.round is.line.line text (all-at (λ (line : ListLine). IsShort line.line) (list_lines 0 rounds) (i - 1) is.line all is.there) is.answered;
+  by_line = λ i text other missing is. record {
+    line = is.line;
+    there = is.there;
+    answered = line_missing settings is.line.k is.line.round is.line.line text other missing is.answered;
+  };
+}
+
+-- ---- the lines of the rounds that are left
+
+slice_get-left : {X : Type 0} (xs ys : List X) (i : ℕ) → i < length xs → slice_get (xs ++ ys) i ≡ slice_get xs i
+slice_get-left [] ys i below = absurd (omega arith)
+slice_get-left (x ∷ xs) ys zero below = refl
+slice_get-left (x ∷ xs) ys (suc i) below = slice_get-left xs ys i (omega arith)
+
+slice_get-right : {X : Type 0} (xs ys : List X) (i n : ℕ) → n ≡ length xs + i → slice_get (xs ++ ys) n ≡ slice_get ys i
+slice_get-right [] ys i n is = ap (slice_get ys) (let e : n ≡ i = omega arith in e)
+slice_get-right (x ∷ xs) ys i zero is = absurd (omega arith)
+slice_get-right (x ∷ xs) ys i (suc n) is = slice_get-right xs ys i n (omega arith)
+
+slice_get-mapped : {X Y : Type 0} (f : X → Y) (xs : List X) (i : ℕ) (x : X) → slice_get xs i ≡ Some x → slice_get (map f xs) i ≡ Some (f x)
+slice_get-mapped f [] i x is = cc
+slice_get-mapped f (y ∷ xs) zero x is = let same : y ≡ x = cc in ap (λ z. Some (f z)) same
+slice_get-mapped f (y ∷ xs) (suc i) x is = slice_get-mapped f xs i x is
+
+-- the lines of round k
+abbrev pub lines_at : ℕ → Round → List ListLine
+lines_at k round = map (λ line. record { k = k; round = round; line = line }) (round_lines k round)
+
+-- the lines of the rounds that are left are those of the next one, and those behind it
+lines-next : (rounds : List Round) (i : ℕ) (round : Round) → round ≡ get_or rounds i round → i < length rounds
+    → list_lines i (drop i rounds) ≡ lines_at i round ++ list_lines (i + 1) (drop (i + 1) rounds)
+lines-next rounds i round is below =
+    ap (list_lines i) (drop-cons rounds i round below) ∙ ap (λ (r : Round). list_lines i (r ∷ drop (suc i) rounds)) (sym is)
+    ∙ ap (λ n. lines_at i round ++ list_lines (i + 1) (drop n rounds)) (sym (add-one i))
+
+length-next : (rounds : List Round) (i count : ℕ) (round : Round) → round ≡ get_or rounds i round → i < length rounds
+    → length (round_lines i round) ≡ count
+    → length (list_lines i (drop i rounds)) ≡ count + length (list_lines (i + 1) (drop (i + 1) rounds))
+length-next rounds i count round is below size =
+    let both = length-append (lines_at i round) (list_lines (i + 1) (drop (i + 1) rounds)) in
+    let own = length-map (round_lines i round) (λ (line : Line). let it : ListLine = record { k = i; round = round; line = line } in it) in
+    ap length (lines-next rounds i round is below) ∙ omega (arith, both, own, size)
+
+-- ---- counting them
+
+-- so many lines were counted before round i
+pub record AreCounted (rounds : List Round) (i total : ℕ) : Type 0 where
+  pub parts : total + length (list_lines i (drop i rounds)) ≡ length (list_lines 0 rounds)
+  pub few : total ≤ i * 235
+
+pub counted-more : (rounds : List Round) (i total count : ℕ) (round : Round) → round ≡ get_or rounds i round → i < length rounds
+    → length (round_lines i round) ≡ count → count ≤ 235 → AreCounted rounds i total → AreCounted rounds (i + 1) (total + count)
+counted-more rounds i total count round is below size few counted =
+    let next = length-next rounds i count round is below size in
+    record { parts = omega (arith, next, counted.parts); few = omega (arith, few, counted.few) }
+
+-- none is left
+lines-none : (rounds : List Round) (i : ℕ) → length rounds ≤ i → length (list_lines i (drop i rounds)) ≡ 0
+lines-none rounds i past = ap (λ left. length (list_lines i left)) (drop_all i rounds past)
+
+pub counted-all : (rounds : List Round) (i total : ℕ) → length rounds ≤ i → AreCounted rounds i total → total ≡ length (list_lines 0 rounds)
+counted-all rounds i total past counted = let none = lines-none rounds i past in omega (arith, none, counted.parts)
+
+-- ---- finding one
+
+-- line number `left` behind round i is line number `line` of all
+pub record IsLeft (rounds : List Round) (line i left : ℕ) : Type 0 where
+  pub there : slice_get (list_lines i (drop i rounds)) left ≡ slice_get (list_lines 0 rounds) line
+  pub below : left < length (list_lines i (drop i rounds))
+
+-- it is not of the next round
+pub left-more : (rounds : List Round) (line i left count : ℕ) (round : Round) → round ≡ get_or rounds i round → i < length rounds
+    → length (round_lines i round) ≡ count → count ≤ left → IsLeft rounds line i left → IsLeft rounds line (i + 1) (left - count)
+left-more rounds line i left count round is below size behind it =
+    let own = length-map (round_lines i round) (λ (l : Line). let at : ListLine = record { k = i; round = round; line = l } in at) in
+    let next = length-next rounds i count round is below size in
+    let here = it.below in
+    record {
+      there =
+          sym (slice_get-right (lines_at i round) (list_lines (i + 1) (drop (i + 1) rounds)) (left - count) left (omega (arith, own, size, behind)))
+          ∙ sym (ap (λ lines. slice_get lines left) (lines-next rounds i round is below)) ∙ it.there;
+      below = omega (arith, next, here, behind);
+    }
+
+-- or it is
+pub left-found : (rounds : List Round) (line i left count : ℕ) (round : Round) → round ≡ get_or rounds i round → i < length rounds
+    → length (round_lines i round) ≡ count → left < count → IsLeft rounds line i left → IsPlacedAt rounds line i left
+left-found rounds line i left count round is below size here it =
+    let inside : left < length (round_lines i round) = omega (arith, size, here) in
+    let own : Line = get_or (round_lines i round) left (Fixed []) in
+    let own_there : slice_get (round_lines i round) left ≡ Some own = slice_get-get_or (round_lines i round) left (Fixed []) inside in
+    let f : Line → ListLine = λ l. record { k = i; round = round; line = l } in
+    let mapped = length-map (round_lines i round) f in
+    record {
+      round = round;
+      round_there = slice_get-get_or rounds i round below ∙ ap Some (sym is);
+      own = own;
+      own_there = own_there;
+      there =
+          sym it.there ∙ ap (λ lines. slice_get lines left) (lines-next rounds i round is below)
+          ∙ slice_get-left (lines_at i round) (list_lines (i + 1) (drop (i + 1) rounds)) left (omega (arith, mapped, inside))
+          ∙ slice_get-mapped f (round_lines i round) left own own_there;
+    }
+
+pub left-none : (rounds : List Round) (line i left : ℕ) → length rounds ≤ i → IsLeft rounds line i left → ⊥
+left-none rounds line i left past it = let none = lines-none rounds i past in let below = it.below in omega (arith, none, below)
+
+-- ---- labels
+
+-- a text that is cut behind as many bytes as a label has begins with it where the front is the label
+pub label_before : (label text front behind : List ℕ) → IsSplitAt text (length label) front behind → front ≡ label → text ≡ label ++ behind
+label_before label text front behind split same =
+    sym (take-append-drop (length label) text) ∙ ap (λ x. x ++ drop (length label) text) (sym split.1 ∙ same) ∙ ap (λ x. label ++ x) (sym split.2)
+
+pub no_label_before : (label text front behind other : List ℕ) → IsSplitAt text (length label) front behind → text ≡ label ++ other
+    → (front ≡ label → ⊥) → ⊥
+no_label_before label text front behind other split is differs =
+    differs (split.1 ∙ ap (take (length label)) is ∙ take-append-le (length label) label other (omega arith) ∙ take_all (length label) label (omega arith))
+
+cancelled : (label behind other : List ℕ) → label ++ behind ≡ label ++ other → behind ≡ other
+cancelled [] behind other same = same
+cancelled (byte ∷ label) behind other same = cancelled label behind other (let rest : label ++ behind ≡ label ++ other = cc in rest)
+
+-- what is told of the text behind a label is answered for the slot's line
+pub slot-judged : (settings : Settings) (k : ℕ) (round : Round) (label : List ℕ) (slot : ℕ) (text behind : List ℕ) (told : Bool) → text ≡ label ++ behind
+    → IsJudged (scrambling_of round.event) settings round.least (first_stream k + slot) behind (Some told)
+    → IsSlotLineAnswer settings k round label slot text (Ok told)
+slot-judged settings k round label slot text behind told is judged = (
+  judged.0,
+  (
+    λ agrees. record { behind = behind; is = is; agrees = judged.1.0 agrees },
+    λ it.
+        let same : it.behind ≡ behind = cancelled label it.behind behind (sym it.is ∙ is) in
+        judged.1.1 (subst (TextAgrees (scrambling_of round.event) settings round.least (first_stream k + slot)) same it.agrees),
+  ),
+)
+
+-- and without the label nothing agrees
+pub slot-unlabelled : (settings : Settings) (k : ℕ) (round : Round) (label : List ℕ) (slot : ℕ) (text other : List ℕ) (told : Bool)
+    → ((behind : List ℕ) → text ≡ label ++ behind → ⊥)
+    → IsJudged (scrambling_of round.event) settings round.least (first_stream k + slot) other (Some told)
+    → IsSlotLineAnswer settings k round label slot text (Ok false)
+slot-unlabelled settings k round label slot text other told none judged = (judged.0, (λ agrees. cc, λ it. absurd (none it.behind it.is)))

@@ -1,0 +1,78 @@
+-- What a text is judged to be, by the state that a slot draws and by what the text is read as.
+use Rattle.std.proofs.Common.{◌≡◌, ℕ, ◌≤◌, Bool, true, false, List, IsTrue, refl, sym, ap, ◌∙◌, subst}
+use Rattle.std.specs.Prelude.{Option, Some, None, ◌↔◌}
+use Rattle.std.specs.Str.{bytes_eq, IsUtf8}
+use Rattle.std.proofs.lemmas.Option.{same_Some}
+use Rattle.std.proofs.lemmas.Slice.Eq.{bytes_eq-Decides}
+use Rattle.scr_draw.specs.StateSpace.{StateSpace, Draws}
+use Rattle.scr_draw.proofs.Outcomes.{Draws-one}
+use Rattle.scr_notation.specs.declared.event.Event.{Event}
+use Rattle.scr_notation.specs.declared.turn.Turn.{Turn}
+use Rattle.scr_notation.specs.Spelling.{text_of}
+use Rattle.scr_notation.specs.Written.{Written, IsWritten}
+use Rattle.scr_notation.proofs.ReadLaws.{one-scramble}
+use Rattle.scr_notation.proofs.TextLaws.{IsUtf8-text_of}
+use Rattle.scr_slots.specs.declared.settings.Settings.{Settings}
+use Rattle.scr_slots.specs.Shown.{RandomMoves, slot_numbers}
+use Rattle.scr_slots.specs.Slots.{ByMoves, IsSlotAnswer}
+use Rattle.scr_slots.specs.Agreement.{LeadToDrawn, IsTextOf, IsTold, IsJudged, IsReadAs}
+
+-- bytes that are no text are no scramble's
+pub unread : (event : Event) (bytes : List ℕ) → ¬ (IsUtf8 bytes) → IsReadAs event bytes None
+unread event bytes none s written of_event is = none (subst IsUtf8 is (IsUtf8-text_of s.event s.turns written.permitted))
+
+module _ {S : Type 0} (event : Event) (played : List Turn → Option S) (drawn_of : StateSpace S) (settings : Settings) (least stream : ℕ)
+    (text : List ℕ) (some : 1 ≤ drawn_of.count) (state : S) (draws : Draws drawn_of least (slot_numbers settings stream) (Some state)) where
+  numbers : List ℕ
+  numbers = slot_numbers settings stream
+
+  abbrev pub IsVerdict : Option Bool → Type 0
+  IsVerdict = IsTold (Draws drawn_of least (slot_numbers settings stream) None)
+      (IsTextOf event (LeadToDrawn played drawn_of settings least stream) text)
+
+  drawn_some : Draws drawn_of least (slot_numbers settings stream) None → ⊥
+  drawn_some none = let same = Draws-one drawn_of least some (slot_numbers settings stream) None (Some state) none draws in cc
+
+  -- a text that is no scramble's doesn't agree
+  pub judged-unread : IsReadAs event text None → IsVerdict (Some false)
+  judged-unread none = (drawn_some, (λ is. cc, λ it. absurd (none it.scramble it.written it.event_is it.is)))
+
+  -- and that of a scramble agrees where the scramble leads to the state
+  pub judged-read : (s : Written) → IsReadAs event text (Some s) → (told : Bool) → IsTrue told ↔ played s.turns ≡ Some state → IsVerdict (Some told)
+  judged-read s read told leads = (
+    drawn_some,
+    (
+      λ is. record {
+        scramble = s;
+        written = read.0;
+        event_is = read.1;
+        is = read.2;
+        agree = record { state = state; draws = draws; lead = leads.0 is };
+      },
+      λ it.
+          let same : s ≡ it.scramble = one-scramble s it.scramble read.0 it.written (it.event_is ∙ sym read.1) (it.is ∙ sym read.2) in
+          let reached : state ≡ it.agree.state =
+          same_Some state it.agree.state (Draws-one drawn_of least some (slot_numbers settings stream) (Some state) (Some it.agree.state) draws it.agree.draws) in
+          leads.1 (ap (λ (w : Written). played w.turns) same ∙ it.agree.lead ∙ ap Some (sym reached)),
+    ),
+  )
+
+-- What is told of a text and random moves, of which there are some.
+pub judged-moves : (event : Event) (random : RandomMoves) (settings : Settings) (least stream : ℕ) (text : List ℕ) (s : Written) → IsWritten s
+    → IsSlotAnswer (ByMoves event random) settings least stream (Some s)
+    → IsJudged (ByMoves event random) settings least stream text (Some (bytes_eq (text_of s.turns) text))
+judged-moves event random settings least stream text s written has = (
+  λ none. let same : Some s.turns ≡ None = sym has.turns ∙ none in cc,
+  (
+    λ is. record {
+      scramble = s;
+      written = written;
+      event_is = has.event;
+      is = (bytes_eq-Decides (text_of s.turns) text).0 is;
+      agree = has.turns;
+    },
+    λ it.
+        let same : s.turns ≡ it.scramble.turns = same_Some s.turns it.scramble.turns (sym has.turns ∙ it.agree) in
+        (bytes_eq-Decides (text_of s.turns) text).1 (ap text_of same ∙ it.is),
+  ),
+)

@@ -1,0 +1,53 @@
+-- Which texts agree with a slot, whoever wrote them.
+use Rattle.std.specs.Prelude.{◌≡◌, ◌↔◌, ℕ, Bool, IsTrue, Option, Some, None, List, is_some}
+use Rattle.scr_draw.specs.StateSpace.{StateSpace, Draws}
+use Rattle.scr_notation.specs.declared.event.Event.{Event}
+use Rattle.scr_notation.specs.declared.turn.Turn.{Turn}
+use Rattle.scr_notation.specs.Spelling.{text_of}
+use Rattle.scr_notation.specs.Written.{Written, IsWritten}
+use Rattle.scr_small.specs.Tables.{small_line}
+use Rattle.scr_slots.specs.declared.settings.Settings.{Settings}
+use Rattle.scr_slots.specs.Shown.{HasMoves, slot_numbers}
+use Rattle.scr_slots.specs.Slots.{Scrambling, ByState, ByMoves, event_of_scrambles, space, HasNoScramble}
+
+-- By what turns make of the solved puzzle, they lead to the state that a slot draws.
+pub record LeadToDrawn {S : Type 0} (played : List Turn → Option S) (drawn_of : StateSpace S) (settings : Settings) (least stream : ℕ) (turns : List Turn) : Type 0 where
+  pub state : S
+  pub draws : Draws drawn_of least (slot_numbers settings stream) (Some state)
+  pub lead : played turns ≡ Some state
+
+-- Turns agree with a slot: they lead to the state that it draws; of random moves, they are those that it has.
+abbrev pub TurnsAgree : Scrambling → Settings → ℕ → ℕ → List Turn → Type 0
+TurnsAgree (ByState S event scrambled) settings least stream = LeadToDrawn scrambled.drawn.played (space scrambled) settings least stream
+TurnsAgree (ByMoves event random) settings least stream = λ turns. HasMoves random settings stream (Some turns)
+
+-- a text is that of a scramble of this event whose turns agree
+pub record IsTextOf (event : Event) (Agree : List Turn → Type 0) (text : List ℕ) : Type 0 where
+  pub scramble : Written
+  pub written : IsWritten scramble
+  pub event_is : scramble.event ≡ event
+  pub is : text_of scramble.turns ≡ text
+  pub agree : Agree scramble.turns
+
+-- What is told of something: whether it agrees, or nothing where there is nothing to agree with.
+abbrev pub IsTold : Type 0 → Type 0 → Option Bool → Type 0
+IsTold HasNone Agrees None = HasNone
+IsTold HasNone Agrees (Some told) = (HasNone → ⊥) × (IsTrue told ↔ Agrees)
+
+-- a text agrees with a slot
+abbrev pub TextAgrees : Scrambling → Settings → ℕ → ℕ → List ℕ → Type 0
+TextAgrees scrambling settings least stream = IsTextOf (event_of_scrambles scrambling) (TurnsAgree scrambling settings least stream)
+
+-- what is told of a slot and a text
+abbrev pub IsJudged : Scrambling → Settings → ℕ → ℕ → List ℕ → Option Bool → Type 0
+IsJudged scrambling settings least stream text =
+    IsTold (HasNoScramble scrambling settings least stream) (TextAgrees scrambling settings least stream text)
+
+-- reading a text gives the scramble of an event whose text it is, or none where it is that of no scramble
+abbrev pub IsReadAs : Event → List ℕ → Option Written → Type 0
+IsReadAs event text (Some s) = IsWritten s × (s.event ≡ event) × (text_of s.turns ≡ text)
+IsReadAs event text None = (s : Written) → IsWritten s → s.event ≡ event → text_of s.turns ≡ text → ⊥
+
+-- The states of an event are tested by its table as they are drawn. (Those of others are tested by trying words.)
+abbrev pub is_tested_by_table : Event → Bool
+is_tested_by_table event = is_some (small_line event)
