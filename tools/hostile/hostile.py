@@ -86,9 +86,14 @@ def rounds_of(sheet):
 
 # ---- refused memory
 
-def refused_memory(tally, pool):
-    """Each allocation refused in turn, from the first to the last: the program answers that it is out of memory and has
-    written whole rounds, or none but a sheet's; or it did without."""
+def tried(count, every):
+    """Of the numbers from 1 to the count the first and the last five hundred, and every so many between."""
+    return [number for number in range(1, count + 1) if number <= 500 or number > count - 500 or number % every == 0]
+
+
+def refused_memory(tally, pool, every=1):
+    """Each allocation refused in turn, from the first to the last, or every so many of a long row: the program answers
+    that it is out of memory and has written whole rounds, or none but a sheet's; or it did without."""
     checked = COMPETITION + SEPARATOR + run(SHEET, COMPETITION).out
     for words, given in [([*SHEET, "--workers", "7"], COMPETITION), (["tables", "333"], b""), (["load", "3"], b""), (CHECK, checked)]:
         tally.heading("refused memory: " + " ".join(words).replace(ZEROS, "Z"))
@@ -101,7 +106,7 @@ def refused_memory(tally, pool):
         def refuse(number):
             return number, run(words, given, {"FAIL_ALLOC": number})
 
-        for number, ended in pool.map(refuse, range(1, count + 1)):
+        for number, ended in pool.map(refuse, tried(count, every)):
             done = ended.status == 0 and ended.out == whole.out and ended.err == b""
             wants = ended.status == 7 and ended.out in wanted and ended.err == NO_MEMORY
             tally.case(f"allocation {number} of {count}", done or wants, ended)
@@ -284,13 +289,15 @@ def main():
     """Tries all of it."""
     reader = argparse.ArgumentParser(description=__doc__.splitlines()[0])
     reader.add_argument("--lists", type=int, default=1000, help="how many random lists (1000)")
+    reader.add_argument("--every", type=int, default=1,
+                        help="of more than a thousand allocations, every so many between the first and the last (1)")
     reader.add_argument("--jobs", type=int, default=os.cpu_count(), help="runs side by side")
     asked = reader.parse_args()
     tally = Tally()
     with ThreadPoolExecutor(asked.jobs) as pool:
         failing_calls(tally)
         real_streams(tally)
-        refused_memory(tally, pool)
+        refused_memory(tally, pool, asked.every)
         random_runs(tally, pool, asked.lists)
     for name, cases, faults in tally.rows:
         print(f"{cases:6} cases {faults:4} faults  {name}")
