@@ -1,6 +1,7 @@
 //! The lines of a text, and the words of a line.
 
-ghost use Rattle.std.specs.Prelude.{◌≡◌, ◌<◌, ◌∷◌, length, slice_get, position, IfSome, option_copied};
+ghost use Rattle.std.specs.Prelude.{◌≡◌, ◌+◌, ◌<◌, ◌∷◌, drop, length, slice_get, position, IfSome, option_copied};
+ghost use Rattle.std.specs.Option.{option_map};
 ghost use Rattle.std.specs.Str.Lines.{strip_carriage_return};
 ghost use Rattle.scr_text.specs.Lines.{lines_of, is_line_feed, is_blank, line_words};
 ghost use Rattle.scr_text.specs.Parts.{more_lines};
@@ -9,6 +10,7 @@ ghost use Rattle.scr_text.specs.Parts.{more_lines};
 /// the line feed, where there is one.
 pub fn split_line(text: &[u8]) -> (&[u8], Option<&[u8]>)
     ensures lines { lines_of text.now ≡ result.0.now ∷ more_lines (option_copied result.1) }
+    ensures rest { option_copied result.1 ≡ option_map (λ end. drop (end + 1) text.now) (position is_line_feed text.now) }
     ensures shorter { IfSome result.1 (λ rest. length rest.now < length text.now) }
 {
     match line_feed(text) {
