@@ -1,6 +1,6 @@
 -- The net of a cube: which letter stands at each row and column of each face. A letter is the number of the face that has it
 -- on a solved cube.
-use Rattle.std.specs.Prelude.{◌≡◌, ℕ, zero, suc, ◌-◌, ◌<◌, ◌≤◌, nat_lt, if◌then◌else◌, List, [], map, length, slice_index, Option, Some, None}
+use Rattle.std.specs.Prelude.{◌≡◌, ℕ, zero, suc, ◌-◌, ◌<◌, ◌≤◌, nat_lt, Bool, false, if◌then◌else◌, List, [], map, length, slice_index, Option, Some, None}
 use Rattle.std.specs.List.{slice_index_or, range_with_len}
 use Rattle.scr_notation.specs.declared.turn.Turn.{Turn}
 use Rattle.scr_notation.specs.declared.turn.Turn.TheVariants.{Face}
@@ -45,6 +45,11 @@ turned_net side face depth (suc amount) net = turned_net side face depth amount 
 abbrev pub net_after : ℕ → Letters → Turn → Option Letters
 net_after side net (Face face depth amount) = if nat_lt depth side then Some (turned_net side face depth amount net) else None
 net_after side net _ = None
+
+-- a turn of layers at a face, fewer than all
+unfoldable pub turns_layers : ℕ → Turn → Bool
+turns_layers side (Face face depth amount) = nat_lt depth side
+turns_layers side _ = false
 
 -- Six faces with so many rows of so many letters.
 pub record HasShape (side : ℕ) (net : Letters) : Type 0 where

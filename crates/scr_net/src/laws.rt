@@ -1,13 +1,15 @@
 //! Laws of nets. The functions do nothing: what each ensures is the law.
-ghost use Rattle.std.specs.Prelude.{◌≡◌, ℕ, ◌-◌, ◌<◌, ◌≤◌, IsSome};
+ghost use Rattle.std.specs.Prelude.{◌≡◌, ◌↔◌, ℕ, ◌-◌, ◌<◌, ◌≤◌, List, IsSome};
+ghost use Rattle.std.specs.List.{AllPass};
 ghost use Rattle.std.specs.Option.{option_map};
 ghost use Rattle.scr_combinatorics.specs.Play.{play};
+ghost use Rattle.scr_notation.specs.declared.turn.Turn.{Turn as Letter};
 ghost use Rattle.scr_turning.specs.PowerPuzzles.{after_letter};
 ghost use Rattle.scr_cube.specs.Cube333.{cube_powers, solved_cube};
 ghost use Rattle.scr_cube.specs.Cube222.{powers_222, solved_222};
 ghost use Rattle.scr_net.specs.declared.geometry.Sticker.{Sticker as Place};
 ghost use Rattle.scr_net.specs.Geometry.{IsSticker, carried, column_of, point_at, row_of, sticker_at};
-ghost use Rattle.scr_net.specs.Nets.{Letters, letter_at, net_after, quarter_net, solved_net};
+ghost use Rattle.scr_net.specs.Nets.{Letters, letter_at, net_after, quarter_net, solved_net, turns_layers};
 ghost use Rattle.scr_net.specs.Pieces.{net_of_corners, net_of_cube};
 
 use scr_notation::Scramble;
@@ -26,6 +28,11 @@ pub fn stickers()
         → IsSticker last (carried last face depth s) }
     ensures moved { (side face depth : ℕ) (net : Letters) (s : Place) → 0 < side → face < 6 → IsSticker (side - 1) s
         → letter_at side (quarter_net side face depth net) (carried (side - 1) face depth s) ≡ letter_at side net s }
+{}
+
+/// Turns lead from a net to a net exactly where each of them is one of layers at a face, fewer than all.
+pub fn played_where_all_turn_layers()
+    ensures { (side : ℕ) (net : Letters) (w : List Letter) → IsSome (play (net_after side) net w) ↔ AllPass (turns_layers side) w }
 {}
 
 /// For every scramble that a 3x3x3 plays, the net of the solved cube after the scramble is the net of the state that the

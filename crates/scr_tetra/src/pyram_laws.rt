@@ -1,5 +1,6 @@
 //! Laws of the Pyraminx. The functions do nothing: what each ensures is the law.
-ghost use Rattle.std.specs.Prelude.{◌≡◌, ℕ, ◌+◌, ◌*◌, ◌/◌, ◌^◌, ◌<◌, ◌≤◌, List, [], ◌∷◌, All, length, slice_get, Some, None, codes};
+ghost use Rattle.std.specs.Prelude.{◌≡◌, ◌↔◌, ℕ, ◌+◌, ◌*◌, ◌/◌, ◌^◌, ◌<◌, ◌≤◌, false, List, [], ◌∷◌, All, length, slice_get, IsSome, Some, None, codes};
+ghost use Rattle.std.specs.List.{AllPass};
 ghost use Rattle.scr_combinatorics.specs.Numbering.{IsNumbering};
 ghost use Rattle.scr_combinatorics.specs.Permutations.{factorial};
 ghost use Rattle.scr_combinatorics.specs.Play.{play, count_in};
@@ -8,6 +9,7 @@ ghost use Rattle.scr_orbit.specs.InPlace.{AreDigitsInPlace};
 ghost use Rattle.scr_orbit.specs.Orbits.{zeros};
 ghost use Rattle.scr_notation.specs.declared.event.Event.TheVariants.{Pyram};
 ghost use Rattle.scr_notation.specs.declared.turn.Turn.{Turn as Letter};
+ghost use Rattle.scr_notation.specs.Axes.{is_axis_turn};
 ghost use Rattle.scr_notation.specs.TurnNumbers.{axis_turn_at};
 ghost use Rattle.scr_notation.specs.Spelling.{text_of};
 ghost use Rattle.scr_turning.specs.Played.{PlaysTurnsOf};
@@ -25,9 +27,12 @@ pub fn turns()
     ensures tetraminx { IsPowerPuzzle tetraminx_powers IsTetraminx IsTetraminxTurn }
 {}
 
-/// From each valid state turns lead to a state exactly where each of them is a turn of the event.
+/// From each valid state turns lead to a state exactly where each of them is a turn of the event; and without tips, where
+/// each is one about an axis.
 pub fn played_where_all_are_turns()
-    ensures { PlaysTurnsOf Pyram IsPyram (after_letter pyram_powers) }
+    ensures pyraminx { PlaysTurnsOf Pyram IsPyram (after_letter pyram_powers) }
+    ensures without_tips { (s : TetraminxState) (w : List Letter) → IsTetraminx s
+        → IsSome (play (after_letter tetraminx_powers) s w) ↔ AllPass (is_axis_turn false) w }
 {}
 
 /// Each number below the count is that of exactly one valid state, and each valid state has exactly one.
