@@ -9,8 +9,8 @@
 //! `IsKept` in `specs/Rule.antt`.
 //!
 //! What is worked at is a [`Jobs`]: any number of slots, with any relation that says what an answer of a slot is.
-//! Threads are started by `for_each_chunk_mut` and `for_each_mut` of the standard library alone. That two of them ran,
-//! in which order, or that it saved time, no contract says. The crate stands on `scr_outside`, for its want of memory,
+//! Threads are started by `for_each_chunk_mut`, `for_each_mut` and `join` of the standard library alone; the last makes
+//! two calls side by side ([`both`]). That two of them ran, in which order, or that it saved time, no contract says. The crate stands on `scr_outside`, for its want of memory,
 //! and on `atomic_table`.
 #![tactic(auto)]
 
@@ -21,6 +21,7 @@ mod gate;
 mod jobs;
 mod lane;
 pub mod laws;
+mod pair;
 mod rule;
 mod table;
 
@@ -30,5 +31,6 @@ pub use claims::run_claims;
 pub use gate::{Gate, OpenGate};
 pub use jobs::Jobs;
 pub use lane::Lane;
+pub use pair::{both, shared};
 pub use rule::{ClaimRule, ClaimSeat, Claims};
 pub use table::ClaimTable;
