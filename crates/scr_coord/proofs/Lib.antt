@@ -9,4 +9,5 @@ pub mod ProjectionLaws
 pub mod MarkedPieces
 pub mod IndexLaws
 pub mod Written
-pub mod RowsEntered
+pub mod RowsSeen
+pub mod PartWritten

@@ -2,7 +2,7 @@
 use Rattle.std.proofs.Common.{◌≡◌, ℕ, ◌+◌, ◌-◌, ◌*◌, ◌/◌, ◌%◌, ◌<◌, ◌≤◌, Bool, true, false, cond, IsTrue, Option, Some, None, refl, sym, ap, ◌∙◌, subst, arith}
 use Rattle.std.specs.Prelude.{nat_lt, ◌&&◌}
 use Rattle.std.specs.Option.{option_map}
-use Rattle.std.proofs.Math.Nat.{add-mul-mod_self_left, div-add-mod, div-lt_iff_lt-mul, mod-eq_of_lt}
+use Rattle.std.proofs.Math.Nat.{add-mul-mod_self_left, div-add-mod, div-lt_iff_lt-mul, mod-eq_of_lt, mul-le-mul_right}
 use Rattle.std.proofs.lemmas.Bool.{and_parts}
 use Rattle.std.proofs.lemmas.Nat.{mul-add-lt, div-mul-add}
 use Rattle.std.proofs.lemmas.Grind.{div_ceil_times}
@@ -49,6 +49,15 @@ row_of n m h p lt e =
 -- the positions below an end lie in the rows that it reaches
 pub row_below : (n p end : ℕ) → 0 < n → p < end → p / n < div_ceil end n
 row_below n p end some lt = (div-lt_iff_lt-mul {k = n} {x = p} {y = div_ceil end n} some).1 (omega (arith, (div_ceil_times end n some).0))
+
+-- and those are the rows that end behind the first position and begin before the end
+pub row_reached : (n m h start size : ℕ) → 0 < size → start + size ≤ n * m → start / n ≤ h → h < div_ceil (start + size) n
+    → (start < (h + 1) * n) × (h * n < start + size)
+row_reached n m h start size some fits from to =
+    let pos : 0 < n = omega (arith, (part_below n m start (omega arith)).0) in (
+      (div-lt_iff_lt-mul {k = n} {x = start} {y = h + 1} pos).0 (omega arith),
+      omega (arith, (div_ceil_times (start + size) n pos).1, mul-le-mul_right {m = h + 1} {n = div_ceil (start + size) n} n (omega arith)),
+    )
 
 -- where a turn leads from a position of a row
 pub row_after : (low high : Coordinate) (h p t : ℕ) → h * low.count ≤ p → p < h * low.count + low.count

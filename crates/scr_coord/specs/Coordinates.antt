@@ -1,5 +1,7 @@
 -- Coordinates: what a search sees of a puzzle's states, as numbers. No puzzle stands here.
 use Rattle.std.specs.Prelude.{◌≡◌, ℕ, ◌+◌, ◌<◌, nat_lt, Bool, IsTrue, List, length, slice_index, Option, Some, None, if◌then◌else◌, unwrap_or}
+use Rattle.std.specs.Option.{option_map_or}
+use Rattle.scr_coord.specs.declared.coordinate.TheConstants.{NOWHERE}
 
 -- Positions, the numbers below a count; turns, the numbers below another; where a turn leads from a position, or nothing
 -- where it is barred there; and which positions are goals.
@@ -28,6 +30,10 @@ barred = 4294967295
 abbrev pub target : Coordinate → ℕ → ℕ → ℕ
 target c p t = unwrap_or (c.after p t) barred
 
--- The targets of a turn from positions one after another, `start` first.
-abbrev pub AreTargets : Coordinate → ℕ → ℕ → List ℕ → Type 0
-AreTargets c start t targets = (k : ℕ) → k < length targets → slice_index targets k ≡ target c (start + k) t
+-- what stands at a position, or the mark where there is none
+abbrev pub value_at : List ℕ → Option ℕ → ℕ
+value_at values o = option_map_or (slice_index values) o NOWHERE
+
+-- What a turn leads to from positions one after another, `start` first, among values of which each position has one.
+abbrev pub AreSeen : Coordinate → List ℕ → ℕ → ℕ → List ℕ → Type 0
+AreSeen c values start t seen = (k : ℕ) → k < length seen → slice_index seen k ≡ value_at values (c.after (start + k) t)

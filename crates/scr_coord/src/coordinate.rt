@@ -1,9 +1,12 @@
 //! What a coordinate is.
 ghost use Rattle.std.specs.Prelude.{◌≡◌, ◌+◌, ◌<◌, ◌≤◌, length};
-ghost use Rattle.scr_coord.specs.Coordinates.{Coordinate, StaysBelow, AreTargets};
+ghost use Rattle.scr_coord.specs.Coordinates.{Coordinate, StaysBelow, AreSeen};
 
 /// What stands in place of a position where a turn is barred. It is no position, since there are fewer than 2^32.
 pub const BARRED: u32 = u32::MAX;
+
+/// What [`Coord::look`] gives in place of a value where a turn is barred, and so leads nowhere.
+pub const NOWHERE: u8 = 255;
 
 /// A coordinate of a puzzle: positions, which are the numbers of the lists that it sees of a state, and where turns lead
 /// from each. A turn may be barred.
@@ -26,17 +29,22 @@ pub trait Coord {
         requires turn { turn < (coordinate self.now).turns }
         ensures { result ≡ (coordinate self.now).after position turn };
 
-    /// Where a turn, below `turns`, leads from positions one after another, `start` first: `BARRED` where it is barred. There
-    /// are so many positions from `start` on.
-    fn targets(&self, start: u32, turn: u32, into: &mut [u32])
+    /// The values that a turn, below `turns`, leads to from positions one after another, `start` first: `NOWHERE` where it is
+    /// barred. There are so many positions from `start` on. `values` has one for each position.
+    fn look(&self, values: &[u8], start: u32, turn: u32, into: &mut [u8])
+        requires values { length values.now ≡ (coordinate self.now).count }
         requires positions { start + length into.old ≤ (coordinate self.now).count }
         requires turn { turn < (coordinate self.now).turns }
-        ensures { AreTargets (coordinate self.now) start turn into.new }
+        ensures { AreSeen (coordinate self.now) values.now start turn into.new }
     {
-        // tells that positions are numbers of 32 bits
+        // tells that turns lead to positions, which are numbers of 32 bits
+        self.stays_below();
         let _count = self.count();
         for k in 0..into.len() {
-            into[k] = self.after(start + k as u32, turn).unwrap_or(BARRED);
+            into[k] = match self.after(start + k as u32, turn) {
+                Some(next) => values[next as usize],
+                None => NOWHERE,
+            };
         }
     }
 
@@ -70,8 +78,8 @@ impl<C: Coord> Coord for &C {
     }
 
     #[inline]
-    fn targets(&self, start: u32, turn: u32, into: &mut [u32]) {
-        (**self).targets(start, turn, into);
+    fn look(&self, values: &[u8], start: u32, turn: u32, into: &mut [u8]) {
+        (**self).look(values, start, turn, into);
     }
 
     #[inline]

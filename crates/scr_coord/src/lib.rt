@@ -22,7 +22,7 @@ mod place_set;
 mod product;
 mod twists;
 
-pub use coordinate::{BARRED, Coord};
+pub use coordinate::{BARRED, Coord, NOWHERE};
 pub use lists::Lists;
 pub use move_table::MoveTable;
 pub use place_set::{PlaceSet, places_of};

@@ -4,7 +4,7 @@ ghost use Rattle.scr_coord.specs.Coordinates.{Coordinate, StaysBelow};
 ghost use Rattle.scr_coord.specs.SearchSpaces.{ShowsSame};
 ghost use Rattle.scr_coord.specs.Moves.{moves_coordinate, moves_row, each_below};
 
-use crate::coordinate::{BARRED, Coord};
+use crate::coordinate::{BARRED, Coord, NOWHERE};
 use scr_outside::NoMemory;
 use std::alloc::{AllocError, Global};
 use std::marker::Model;
@@ -106,6 +106,21 @@ impl Coord for MoveTable {
             Some(target)
         } else {
             None
+        }
+    }
+
+    // The targets of a turn stand one after another.
+    #[inline]
+    fn look(&self, values: &[u8], start: u32, turn: u32, into: &mut [u8]) {
+        let first = turn as usize * self.count as usize + start as usize;
+        let targets = &self.targets[first..first + into.len()];
+        for k in 0..into.len() {
+            let target = targets[k] as usize;
+            into[k] = if target < values.len() {
+                values[target]
+            } else {
+                NOWHERE
+            };
         }
     }
 

@@ -1,10 +1,10 @@
 //! Two coordinates side by side as one.
 ghost use Rattle.std.specs.Prelude.{◌≡◌, ◌≢◌, ◌+◌, ◌*◌, ◌/◌, ◌^◌, ◌<◌, ◌≤◌, ℕ, IfOk, IfSome, length, slice_index};
-ghost use Rattle.scr_coord.specs.Coordinates.{target};
+ghost use Rattle.scr_coord.specs.Coordinates.{value_at};
 ghost use Rattle.scr_coord.specs.Products.{product_coordinate, side_by_side};
 ghost use Rattle.scr_coord.specs.SearchSpaces.{ShowsSame};
 
-use crate::coordinate::{BARRED, Coord};
+use crate::coordinate::{Coord, NOWHERE};
 use crate::move_table::MoveTable;
 use scr_outside::NoMemory;
 use std::alloc::Global;
@@ -52,29 +52,61 @@ impl<L: Coord, H: Coord> Product<L, H> {
         Some(both)
     }
 
-    /// Enters the targets of a turn from the positions with this high part, as far as they are among those that are asked
-    /// for, `start` first.
-    fn enter_row(&self, high: u32, turn: u32, start: u32, into: &mut [u32])
+    /// Enters the values that a turn leads to from the positions with this high part, as far as they are among those that are
+    /// asked for, `start` first.
+    fn look_along_row(&self, values: &[u8], high: u32, turn: u32, start: u32, into: &mut [u8])
+        requires values { length values.now ≡ (L.coordinate self.now.low).count * (H.coordinate self.now.high).count }
         requires high { high < (H.coordinate self.now.high).count }
         requires turn { turn < (L.coordinate self.now.low).turns }
         requires positions { start + length into.old ≤ (L.coordinate self.now.low).count * (H.coordinate self.now.high).count }
+        requires reached { let n = (L.coordinate self.now.low).count in (start < (high + 1) * n) × (high * n < start + length into.old) }
         ensures entered { let c = product_coordinate (L.coordinate self.now.low) (H.coordinate self.now.high) in
             (k : ℕ) → k < length into.old → (start + k) / (L.coordinate self.now.low).count ≡ high
-            → slice_index into.new k ≡ target c (start + k) turn }
+            → slice_index into.new k ≡ value_at values.now (c.after (start + k) turn) }
         ensures kept { (k : ℕ) → k < length into.old → (start + k) / (L.coordinate self.now.low).count ≢ high
             → slice_index into.new k ≡ slice_index into.old k }
     {
         let low_count = self.low.count();
         let first = high * low_count;
         let from = start.max(first);
-        let end = start + into.len() as u32;
-        let to = end.min(first + low_count).max(from);
-        self.low.stays_below();
+        let to = (first + low_count).min(start + into.len() as u32);
         self.high.stays_below();
-        let turned = self.high.after(high, turn);
-        for position in from..to {
-            let both = self.side_by_side(self.low.after(position - first, turn), turned);
-            into[(position - start) as usize] = both.unwrap_or(BARRED);
+        let part = &mut into[(from - start) as usize..(to - start) as usize];
+        self.look_in_row(
+            values,
+            self.high.after(high, turn),
+            turn,
+            from - first,
+            part,
+        );
+    }
+
+    /// Enters the values that a turn leads to from positions with one high part, which it leads to another or nowhere. `start` is
+    /// the low part of the first.
+    fn look_in_row(
+        &self,
+        values: &[u8],
+        turned: Option<u32>,
+        turn: u32,
+        start: u32,
+        into: &mut [u8],
+    )
+        requires values { length values.now ≡ (L.coordinate self.now.low).count * (H.coordinate self.now.high).count }
+        requires turned { IfSome turned (λ b. b < (H.coordinate self.now.high).count) }
+        requires turn { turn < (L.coordinate self.now.low).turns }
+        requires positions { start + length into.old ≤ (L.coordinate self.now.low).count }
+        ensures { let low = L.coordinate self.now.low in (k : ℕ) → k < length into.old
+            → slice_index into.new k ≡ value_at values.now (side_by_side low.count (low.after (start + k) turn) turned) }
+    {
+        match turned {
+            Some(high) => {
+                let low_count = self.low.count() as usize;
+                let first = high as usize * low_count;
+                self.low.stays_below();
+                self.low
+                    .look(&values[first..first + low_count], start, turn, into);
+            }
+            None => into.fill(NOWHERE),
         }
     }
 }
@@ -123,15 +155,16 @@ impl<L: Coord, H: Coord> Coord for Product<L, H> {
         self.side_by_side(low, high)
     }
 
-    // Positions with the same high part are a row, for which the high part is turned once.
-    fn targets(&self, start: u32, turn: u32, into: &mut [u32]) {
+    // Positions with the same high part are a row, for which the high part is turned once. What the turn leads to from there is
+    // a row too, in which the low part looks.
+    fn look(&self, values: &[u8], start: u32, turn: u32, into: &mut [u8]) {
         if into.is_empty() {
             return;
         }
         let low_count = self.low.count();
         let end = start + into.len() as u32;
         for high in start / low_count..end.div_ceil(low_count) {
-            self.enter_row(high, turn, start, into);
+            self.look_along_row(values, high, turn, start, into);
         }
     }
 

@@ -1,17 +1,17 @@
 -- What is so of the entries of a table while it is built.
-use Rattle.std.proofs.Common.{◌≡◌, ◌≢◌, ℕ, zero, suc, ◌+◌, ◌^◌, ◌<◌, ◌≤◌, ◌↔◌, Bool, true, false, List, [], ◌∷◌, ◌⊎◌, inl, inr, length, get_or, Option, Some, None, min, refl, sym, ap, ◌∙◌, subst, arith, length-set}
-use Rattle.std.specs.Prelude.{if◌then◌else◌, nat_eq, unwrap_or}
+use Rattle.std.proofs.Common.{◌≡◌, ◌≢◌, ℕ, zero, suc, ◌+◌, ◌<◌, ◌≤◌, ◌↔◌, Bool, true, false, List, [], ◌∷◌, ◌⊎◌, inl, inr, length, get_or, Option, Some, None, min, refl, sym, ap, ◌∙◌, subst, arith, length-set}
+use Rattle.std.specs.Prelude.{if◌then◌else◌, nat_eq}
 use Rattle.std.proofs.Math.ListN.{set}
 use Rattle.std.proofs.Math.Bool.{Bool-set}
 use Rattle.std.proofs.Math.Logic.{∥∥₁_elim, ∥∥₁_map}
-use Rattle.std.proofs.lemmas.Bool.{cases_order, cases_lt, cases_eq, eqb-true, eqb-false, lt-ltb, le-ltb}
-use Rattle.scr_coord.specs.Coordinates.{Coordinate, StaysBelow, moved, IsGoal, target, barred}
+use Rattle.std.proofs.lemmas.Bool.{cases_order, cases_lt, cases_eq, eqb-true, eqb-false, lt-ltb}
+use Rattle.scr_coord.specs.Coordinates.{Coordinate, StaysBelow, moved, IsGoal, value_at}
 use Rattle.scr_coord.proofs.Written.{written_at}
 use Rattle.scr_combinatorics.specs.FirstWord.{LeadsTo, IsDistance}
 use Rattle.scr_combinatorics.proofs.FirstWordLaws.{LeadsTo-empty, IsGoal-empty, LeadsTo-cons, LeadsTo-parts, IsDistance-goal, IsGoal-distance}
 use Rattle.scr_table.specs.Distances.{Measures, IsFirstGap}
 use Rattle.scr_table.specs.declared.name.TableName.{TableName}
-use Rattle.scr_table.specs.Filled.{IsKnown, AreKnown, AreMarked, Neighbours, IsLeastNeighbour, IsAgreed, IsNextEntry, next_entry, lowered}
+use Rattle.scr_table.specs.Filled.{IsKnown, AreKnown, AreMarked, Neighbours, IsLeastNeighbour, IsAgreed, IsNextEntry, next_entry}
 use Rattle.scr_table.proofs.StepLaws.{moved-turn, moved-below}
 
 module _ (c : Coordinate) where
@@ -256,27 +256,27 @@ module _ (c : Coordinate) (entries : List ℕ) (p turn least : ℕ) (h : IsLeast
 pub IsLeast-none : (c : Coordinate) (entries : List ℕ) (p : ℕ) → IsLeast c entries p 0 255
 IsLeast-none c entries p = record { at_most = λ t q lt e. absurd (omega arith); some = λ known. absurd (known refl) }
 
--- the lower of a number and the entry at a turn's target
-pub IsLeast-lowered : (c : Coordinate) → StaysBelow c → c.count < 2 ^ 32 → (entries : List ℕ) → length entries ≡ c.count
-    → (p turn least new : ℕ) → p < c.count → turn < c.turns → new ≡ lowered entries (target c p turn) least
-    → IsLeast c entries p turn least → IsLeast c entries p (turn + 1) new
-IsLeast-lowered c below few entries positions p turn least new at lt is h = by_target (c.after p turn) refl
+-- the lower of a number and what a turn leads to
+pub IsLeast-seen : (c : Coordinate) (entries : List ℕ) (p turn least new : ℕ) → turn < c.turns
+    → new ≡ min least (value_at entries (c.after p turn)) → IsLeast c entries p turn least → IsLeast c entries p (turn + 1) new
+IsLeast-seen c entries p turn least new lt is h = by_target (c.after p turn) refl
   where
     moves : moved c p turn ≡ c.after p turn
     moves = ap (λ b. if b then c.after p turn else None) (lt-ltb turn c.turns lt)
 
     by_target : (o : Option ℕ) → c.after p turn ≡ o → IsLeast c entries p (turn + 1) new
     by_target None e =
-        let far : length entries ≤ target c p turn = omega (arith, positions, few, ap (λ o. unwrap_or o barred) e) in
-        let same : new ≡ least = is ∙ ap (λ b. if b then min least (get_or entries (target c p turn) 0) else least) (le-ltb (target c p turn) (length entries) far) in
-        rw same (IsLeast-barred c entries p turn least h (moves ∙ e))
+        let mark : new ≡ min least 255 = is ∙ ap (λ o. min least (value_at entries o)) e in
+        let barred = IsLeast-barred c entries p turn least h (moves ∙ e) in
+        let P : ℕ → Type 0 = λ entry. Neighbours c entries p entry in
+        record {
+          at_most = λ t q less leads. omega (arith, mark, barred.at_most t q less leads);
+          some = λ known.
+              let same : least ≡ new = omega (arith, mark, known) in
+              subst P same (barred.some (λ none. known (sym same ∙ none)));
+        }
     by_target (Some q) e =
-        let there : target c p turn ≡ q = ap (λ o. unwrap_or o barred) e in
-        let inside : q < length entries = omega (arith, positions, below p turn q at lt e) in
-        IsLeast-next c entries p turn least h q new (moves ∙ e) (
-        is ∙ ap (λ t. lowered entries t least) there
-        ∙ ap (λ b. if b then min least (get_or entries q 0) else least) (lt-ltb q (length entries) inside)
-        )
+        IsLeast-next c entries p turn least h q new (moves ∙ e) (is ∙ ap (λ o. min least (value_at entries o)) e)
 
 -- all turns
 pub IsLeastNeighbour-all : (c : Coordinate) (entries : List ℕ) (p done least : ℕ) → c.turns ≤ done → IsLeast c entries p done least

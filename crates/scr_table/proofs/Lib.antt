@@ -11,3 +11,7 @@ pub mod LineLaws
 pub mod StageLaws
 pub mod BlockLaws
 pub mod StoredLaws
+pub mod WordLists
+pub mod ListedWords
+pub mod GoalWords
+pub mod WordOrder

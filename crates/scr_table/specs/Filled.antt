@@ -1,5 +1,5 @@
 -- What is so of the entries of a table while it is built. One number stands for 'not known yet'.
-use Rattle.std.specs.Prelude.{◌≡◌, ◌≢◌, ℕ, ◌+◌, ◌*◌, ◌/◌, ◌%◌, ◌<◌, ◌≤◌, ◌↔◌, ◌==◌, ◌&&◌, nat_lt, min, if◌then◌else◌, List, length, slice_index, slice_index_or, Option, Some, None}
+use Rattle.std.specs.Prelude.{◌≡◌, ◌≢◌, ℕ, ◌+◌, ◌*◌, ◌/◌, ◌%◌, ◌<◌, ◌≤◌, ◌↔◌, ◌==◌, ◌&&◌, if◌then◌else◌, List, length, slice_index, slice_index_or, Option, Some, None}
 use Rattle.scr_coord.specs.Coordinates.{Coordinate, moved, IsGoal}
 use Rattle.scr_combinatorics.specs.FirstWord.{IsDistance}
 use Rattle.scr_table.specs.Distances.{NoneWithin}
@@ -28,10 +28,6 @@ Neighbours c entries p entry = (t q : ℕ) × (moved c p t ≡ Some q) × (slice
 pub record IsLeastNeighbour (c : Coordinate) (entries : List ℕ) (p least : ℕ) : Type 0 where
   pub at_most : (t q : ℕ) → moved c p t ≡ Some q → least ≤ slice_index entries q
   pub some : least ≢ UNKNOWN → Neighbours c entries p least
-
--- the lower of a number and the entry at a target, where that is a position
-abbrev pub lowered : List ℕ → ℕ → ℕ → ℕ
-lowered entries target least = if nat_lt target (length entries) then min least (slice_index entries target) else least
 
 -- An entry agrees with the least that turns lead to, where the entries up to a level are there: a distance other than 0 is
 -- greater by one, and beside what isn't known yet nothing is below the level.

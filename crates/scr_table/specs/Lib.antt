@@ -8,3 +8,4 @@ pub mod Moves
 pub mod Row
 pub mod TriedWords
 pub mod StageSpaces
+pub mod Words

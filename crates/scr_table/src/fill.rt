@@ -8,12 +8,13 @@ ghost use Rattle.scr_table.specs.Filled.{AreKnown, AreMarked, block_count};
 
 use crate::blocks::{BLOCK, Made, contains};
 use crate::levels::{checked_level, next_level};
-use scr_coord::{BARRED, Coord};
+use scr_coord::{BARRED, Coord, NOWHERE};
 use std::alloc::{AllocError, Global};
 use std::thread::Threads;
 
-/// What stands at a position whose distance is not known yet. It is greater than any bound.
-pub(crate) const UNKNOWN: u8 = 255;
+/// What stands at a position whose distance is not known yet. It is greater than any bound, and the same as what a look gives
+/// where a turn is barred: neither is lower than a distance.
+pub(crate) const UNKNOWN: u8 = NOWHERE;
 
 /// The entries, one for each position: the position's distance, or `UNKNOWN` where no word of at most `bound` turns leads to
 /// a goal. `bound` is at most 24. 1 to 64 workers share the late levels.

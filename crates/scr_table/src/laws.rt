@@ -1,10 +1,10 @@
-//! What is so of distances, first words and minima, which later crates rest on. The functions do nothing: what each ensures
-//! is the law.
+//! What is so of distances, first words, words to goals and minima, which later crates rest on. The functions do nothing:
+//! what each ensures is the law.
 
-ghost use Rattle.std.specs.Prelude.{◌≡◌, ℕ, suc, ◌+◌, ◌≤◌, ◌↔◌, List, [], ◌∷◌, ◌++◌, All, length, map, codes, Some};
-ghost use Rattle.std.specs.List.{join_with_byte};
+ghost use Rattle.std.specs.Prelude.{◌≡◌, ℕ, suc, ◌+◌, ◌-◌, ◌≤◌, ◌==◌, ◌↔◌, List, [], ◌∷◌, ◌++◌, All, Contains, length, map, slice_get, codes, Some};
+ghost use Rattle.std.specs.List.{AllPairs, join_with_byte};
 ghost use Rattle.scr_combinatorics.specs.Reach.{Needs};
-ghost use Rattle.scr_combinatorics.specs.FirstWord.{IsEarlier, IsFirstWord, IsDistance, LowersFirst};
+ghost use Rattle.scr_combinatorics.specs.FirstWord.{IsEarlier, LeadsTo, IsFirstWord, IsDistance, LowersFirst};
 ghost use Rattle.scr_coord.specs.Coordinates.{Coordinate, moved, IsGoal};
 ghost use Rattle.scr_table.specs.declared.name.TableName.TheVariants.{Corners, Flips, Slice, Tetrads, Halves};
 ghost use Rattle.scr_table.specs.declared.name.TableName.TheVariants.{FlipSlice, TwistSlice, CornerSlice, EdgeSlice};
@@ -17,6 +17,7 @@ ghost use Rattle.scr_table.specs.Lines.{TableLine, HasNoGap, AreTablesOf};
 ghost use Rattle.scr_table.specs.Moves.{NeedsTurns, move_puzzle};
 ghost use Rattle.scr_table.specs.Names.{name_text};
 ghost use Rattle.scr_table.specs.Row.{row_coordinate, row_line};
+ghost use Rattle.scr_table.specs.Words.{words_of, words_within, words_to_goal};
 
 use crate::moves::Moves;
 
@@ -97,4 +98,26 @@ pub fn known_names()
         ∷ FlipSlice ∷ TwistSlice ∷ CornerSlice ∷ EdgeSlice ∷ Pyramid ∷ Skewb ∷ Shapes ∷ Pairings ∷ Square ∷ []))
         ≡ codes "corners flips slice tetrads halves flipslice twistslice cornerslice edgeslice pyramid skewb "
         ++ codes "shapes pairings square" }
+{}
+
+/// The words of two turns, 0 and 3, in order.
+#[tactic(auto, unfolding(crate::specs::Words::words_of, crate::specs::Words::words_within))]
+pub fn known_words()
+    ensures two { words_of (0 ∷ 3 ∷ []) 2 ≡ (0 ∷ 0 ∷ []) ∷ (0 ∷ 3 ∷ []) ∷ (3 ∷ 0 ∷ []) ∷ (3 ∷ 3 ∷ []) ∷ [] }
+    ensures at_most_two { words_within (0 ∷ 3 ∷ []) 2
+        ≡ [] ∷ (0 ∷ []) ∷ (3 ∷ []) ∷ (0 ∷ 0 ∷ []) ∷ (0 ∷ 3 ∷ []) ∷ (3 ∷ 0 ∷ []) ∷ (3 ∷ 3 ∷ []) ∷ [] }
+{}
+
+/// The words to a goal are all words of at most so many turns that lead from the position to one, also those that meet one on
+/// their way, in the order of words: the one that stands first is the first word.
+pub fn goal_words()
+    ensures all { (c : Coordinate) (p most : ℕ) (w : List ℕ)
+        → Contains (words_to_goal c p most) w ↔ (length w ≤ most) × LeadsTo (moved c) (IsGoal c) p w }
+    ensures in_order { (c : Coordinate) (p most : ℕ) → AllPairs IsEarlier (words_to_goal c p most) }
+    ensures first { (c : Coordinate) (p most : ℕ) (w : List ℕ) → slice_get (words_to_goal c p most) 0 ≡ Some w
+        ↔ IsFirstWord (moved c) (IsGoal c) p w × (length w ≤ most) }
+
+    // the one turn exchanges the goal and the other position
+    ensures on_the_way { words_to_goal (record { count = 2; turns = 1; after = λ p t. Some (1 - p); is_goal = λ p. p == 0 }) 1 4
+        ≡ (0 ∷ []) ∷ (0 ∷ 0 ∷ 0 ∷ []) ∷ [] }
 {}

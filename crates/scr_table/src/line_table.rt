@@ -43,8 +43,8 @@ pub trait Line {
 
 /// The built table of a line, with the moves by which it is walked down.
 pub struct LineTable<L: Line> {
-    moves: L::Moves,
-    distances: DistanceTable,
+    pub(crate) moves: L::Moves,
+    pub(crate) distances: DistanceTable,
 }
 
 // A call wherever one is let go, in place of all that lets go of its parts.

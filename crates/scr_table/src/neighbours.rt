@@ -1,12 +1,12 @@
 //! Where turns lead, and the least entries there.
 
-ghost use Rattle.std.specs.Prelude.{◌≡◌, ℕ, ◌+◌, ◌<◌, ◌≤◌, IfSome, length, slice_index};
+ghost use Rattle.std.specs.Prelude.{◌≡◌, ℕ, ◌+◌, ◌<◌, ◌≤◌, IfSome, length, min, slice_index};
 ghost use Rattle.scr_coord.specs.Coordinates.{moved};
-ghost use Rattle.scr_table.specs.Filled.{IsLeastNeighbour, lowered};
+ghost use Rattle.scr_table.specs.Filled.{IsLeastNeighbour};
 
 use crate::blocks::{BLOCK, unknown_block};
 use crate::fill::UNKNOWN;
-use scr_coord::{BARRED, Coord};
+use scr_coord::{Coord, NOWHERE};
 
 /// The position after a turn, which is one of the coordinate's; `None` where the turn is barred.
 #[inline]
@@ -49,28 +49,23 @@ pub(crate) fn least_neighbours<C: Coord>(
     requires block { count ≤ 1024 }
     ensures { (k : ℕ) → k < count → IsLeastNeighbour (C.coordinate coord.now) entries.now (start + k) (slice_index result k) }
 {
-    coord.stays_below();
-    let _positions = coord.count();
-    let mut targets = [BARRED; BLOCK];
+    let mut seen = [NOWHERE; BLOCK];
     let mut least = unknown_block();
     for turn in 0..coord.turns() {
-        let part = &mut targets[..count];
-        coord.targets(start, turn, part);
-        lower(&mut least, entries, part);
+        let part = &mut seen[..count];
+        coord.look(entries, start, turn, part);
+        lower(&mut least, part);
     }
     least
 }
 
-/// Lowers each of some numbers to the entry at its target, where that is a position and its entry is lower.
-fn lower(least: &mut [u8; BLOCK], entries: &[u8], targets: &[u32])
-    requires { length targets.now ≤ 1024 }
-    ensures { (k : ℕ) → k < length targets.now
-        → slice_index least.new k ≡ lowered entries.now (slice_index targets.now k) (slice_index least.old k) }
+/// Lowers each of some numbers to what is seen at its place, where that is lower.
+fn lower(least: &mut [u8; BLOCK], seen: &[u8])
+    requires { length seen.now ≤ 1024 }
+    ensures { (k : ℕ) → k < length seen.now
+        → slice_index least.new k ≡ min (slice_index least.old k) (slice_index seen.now k) }
 {
-    for k in 0..targets.len() {
-        let target = targets[k] as usize;
-        if target < entries.len() {
-            least[k] = least[k].min(entries[target]);
-        }
+    for k in 0..seen.len() {
+        least[k] = least[k].min(seen[k]);
     }
 }

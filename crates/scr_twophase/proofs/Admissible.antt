@@ -20,15 +20,15 @@ use Rattle.scr_cube.proofs.Laws333.{lawful_cube}
 use Rattle.scr_notation.specs.TurnNumbers.{face_turn_at}
 use Rattle.scr_stages.specs.Spaces.{cube_space}
 use Rattle.scr_stages.specs.Stages.{after_of, flips_turns}
+use Rattle.scr_table.specs.Words.{words_of}
+use Rattle.scr_table.proofs.WordLists.{IsWordOf, words_of-each}
 use Rattle.scr_twophase.specs.declared.outlook.Outlook.{Outlook}
 use Rattle.scr_twophase.specs.declared.pruning.PruningTable.{PruningTable}
-use Rattle.scr_twophase.specs.Words.{words_of}
 use Rattle.scr_twophase.specs.TwoParts.{after_turn, leads}
 use Rattle.scr_twophase.specs.TurnSets.{contains_turn}
 use Rattle.scr_twophase.specs.Outlooks.{turns_within, turns_left, AreOutlooks, IsPruningTable}
 use Rattle.scr_twophase.proofs.BitSets.{has_turn-all}
 use Rattle.scr_twophase.proofs.CubeTests.{leads-parts, after_of-place, play-places}
-use Rattle.scr_twophase.proofs.WordLists.{IsWordOf, words_of-each}
 use Rattle.scr_twophase.specs.Spaces.{cubes_to}
 
 -- ---- any views

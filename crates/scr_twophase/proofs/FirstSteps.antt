@@ -16,9 +16,10 @@ use Rattle.scr_stages.specs.Stages.{HasNoFlips, middle_edges}
 use Rattle.scr_stages.specs.Numbers.{flips_number, IsDominoCube}
 use Rattle.scr_stages.proofs.FiniteTests.{agree, agree-same, passes_below, test-below}
 use Rattle.scr_stages.proofs.StageSpaces.{Follows-flips}
+use Rattle.scr_table.specs.Words.{words_of, words_behind, words_within}
+use Rattle.scr_table.proofs.WordLists.{words_behind-end, words_of-none}
 use Rattle.scr_twophase.specs.declared.first.FirstPosition.{FirstPosition}
 use Rattle.scr_twophase.specs.Near.{first_number}
-use Rattle.scr_twophase.specs.Words.{words_of, words_behind, words_within}
 use Rattle.scr_twophase.specs.TurnSets.{contains_turn}
 use Rattle.scr_twophase.specs.TwoParts.{turn_numbers, ends_in_quarter, is_domino, is_first_part, is_orderly, is_side_quarter, joined, leads, first_joined, first_parts, two_parts}
 use Rattle.scr_twophase.specs.Search.{ShowsFirst, IsFirstPosition, IsAt, IsSearched, KeepsWays, first_given, is_domino_position}
@@ -26,7 +27,6 @@ use Rattle.scr_twophase.specs.Tables.{twists_of, middle_set_of}
 use Rattle.scr_twophase.proofs.CubeTests.{IsDomino-test, leads-played, goal_number, same_test}
 use Rattle.scr_twophase.proofs.Orderly.{last-push}
 use Rattle.scr_twophase.proofs.Spaces.{Follows-twists, Follows-middle_set}
-use Rattle.scr_twophase.proofs.WordLists.{words_behind-end, words_of-none}
 
 -- the numbers of a cube are those of a position
 pub IsFirstPosition-shown : (c : CubeState) (at : FirstPosition) → ShowsFirst c at → IsFirstPosition at

@@ -1,6 +1,5 @@
 pub mod CubeTests
-pub mod WordLists
-pub mod ListedWords
+pub mod ListedTurns
 pub mod MinimaLaws
 pub mod Tries
 pub mod Spaces

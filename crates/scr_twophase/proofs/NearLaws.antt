@@ -10,6 +10,8 @@ use Rattle.scr_combinatorics.specs.Play.{play}
 use Rattle.scr_combinatorics.proofs.PlayLaws.{play-empty, play-parts}
 use Rattle.scr_cube.specs.Cube333.{CubeState}
 use Rattle.scr_workers.specs.Answered.{AreAnswered}
+use Rattle.scr_table.specs.Words.{words_of}
+use Rattle.scr_table.proofs.WordLists.{All-flat_map, words_of-none}
 use Rattle.scr_twophase.specs.declared.near_set.NearBlock.{NearBlock}
 use Rattle.scr_twophase.specs.declared.near_set.NearSet.{NearSet}
 use Rattle.scr_twophase.specs.Near.{AreTakenBack, HasBits, IsInSet, IsNear, LeavesNear}
@@ -17,9 +19,7 @@ use Rattle.scr_twophase.specs.Search.{KeepsWays}
 use Rattle.scr_twophase.specs.Spread.{IsListed, IsSpread, IsThere, Listed, numbers_in}
 use Rattle.scr_twophase.specs.TurnSets.{contains_turn}
 use Rattle.scr_twophase.specs.TwoParts.{after_turn, leads}
-use Rattle.scr_twophase.specs.Words.{words_of}
 use Rattle.scr_twophase.proofs.CubeTests.{leads-behind, leads-parts, leads-played}
-use Rattle.scr_twophase.proofs.WordLists.{All-flat_map, words_of-none}
 
 -- ---- words by their first turns
 

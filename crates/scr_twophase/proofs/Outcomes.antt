@@ -1,10 +1,10 @@
 -- A search for the first word that gives something, word by word.
-use Rattle.std.proofs.Common.{◌≡◌, ℕ, zero, suc, ◌+◌, ◌-◌, ◌<◌, ◌≤◌, Bool, true, false, cond, List, [], ◌∷◌, ◌++◌, length, Option, Some, None, inl, inr, refl, sym, ap, ◌∙◌, subst, arith}
+use Rattle.std.proofs.Common.{◌≡◌, ℕ, suc, ◌+◌, ◌-◌, ◌<◌, ◌≤◌, Bool, true, false, cond, List, [], ◌∷◌, ◌++◌, length, Option, Some, None, refl, sym, ap, ◌∙◌, subst, arith}
 use Rattle.std.specs.List.{flat_map}
 use Rattle.std.specs.Option.{option_or}
-use Rattle.std.proofs.lemmas.Bool.{cases_lt}
 use Rattle.std.proofs.lemmas.List.{length-append}
 use Rattle.scr_combinatorics.specs.Lists.{numbers_from}
+use Rattle.scr_table.proofs.WordLists.{numbers_from-next, numbers_from-end}
 use Rattle.scr_twophase.specs.Search.{first_given, IsSearched}
 use Rattle.scr_twophase.proofs.Tries.{first_given-append, first_given-none, first_given-one, first_given-spent}
 
@@ -72,32 +72,6 @@ module _ (gives : List ℕ → Option (List ℕ)) where
         same = same;
         tried = λ f. omega (arith, tried f, ap length e);
       }
-
--- the numbers from one on begin with it
-pub numbers_from-next : (at end : ℕ) → at < end → numbers_from at (end - at) ≡ at ∷ numbers_from (at + 1) (end - (at + 1))
-numbers_from-next at end lt =
-    let more : end - at ≡ suc (end - (at + 1)) = omega arith in
-    let next : suc at ≡ at + 1 = omega arith in
-    ap (numbers_from at) more ∙ ap (λ n. at ∷ numbers_from n (end - (at + 1))) next
-
-pub numbers_from-end : (at end : ℕ) → end ≤ at → numbers_from at (end - at) ≡ []
-numbers_from-end at end le = let none : end - at ≡ 0 = omega arith in ap (numbers_from at) none
-
--- lengths of which there is no word can be left out before all others
-length_skipped : (f : ℕ → List (List ℕ)) (at end : ℕ) → f at ≡ [] → flat_map f (numbers_from at (end - at)) ≡ flat_map f (numbers_from (at + 1) (end - (at + 1)))
-length_skipped f at end none =
-    elim (cases_lt at end) [
-      | inl lt ↦ ap (flat_map f) (numbers_from-next at end lt) ∙ ap (λ ws. ws ++ flat_map f (numbers_from (at + 1) (end - (at + 1)))) none
-      | inr le ↦ ap (flat_map f) (numbers_from-end at end le ∙ sym (numbers_from-end (at + 1) end (omega (arith, le))))
-    ]
-
-pub lengths_from : (f : ℕ → List (List ℕ)) (least end : ℕ) → ((n : ℕ) → n < least → f n ≡ [])
-    → flat_map f (numbers_from 0 (end - 0)) ≡ flat_map f (numbers_from least (end - least))
-lengths_from f zero end none = refl
-lengths_from f (suc k) end none =
-    let next : k + 1 ≡ suc k = omega arith in
-    lengths_from f k end (λ n lt. none n (omega (arith, lt))) ∙ length_skipped f k end (none k (omega arith))
-    ∙ ap (λ n. flat_map f (numbers_from n (end - n))) next
 
 module _ (gives : List ℕ → Option (List ℕ)) (all : List (List ℕ)) (tries left at end : ℕ) (f : ℕ → List (List ℕ))
     (h : IsLeft gives all tries (flat_map f (numbers_from at (end - at))) left) where

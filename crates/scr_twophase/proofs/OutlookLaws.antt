@@ -1,6 +1,6 @@
 -- What the turns from a position come to, one after another.
 use Rattle.std.proofs.Math.ListN.{set}
-use Rattle.std.proofs.Common.{◌≡◌, ◌≢◌, ◌⊎◌, get_or-set_other, get_or-set_same, ℕ, ◌+◌, ◌-◌, ◌*◌, ◌/◌, ◌%◌, ◌^◌, ◌<◌, ◌≤◌, Bool, true, false, cond, List, [], ◌∷◌, ◌++◌, inl, inr, length, get_or, refl, sym, ap, ◌∙◌, subst, arith}
+use Rattle.std.proofs.Common.{◌≡◌, ◌≢◌, get_or-set_other, get_or-set_same, ℕ, ◌+◌, ◌-◌, ◌*◌, ◌/◌, ◌%◌, ◌^◌, ◌<◌, ◌≤◌, Bool, true, false, cond, List, inl, inr, length, get_or, refl, sym, subst, arith}
 use Rattle.std.specs.Prelude.{◌==◌, nat_le}
 use Rattle.std.proofs.lemmas.Bool.{leb-true, eqb-true, cases_eq}
 use Rattle.scr_table.proofs.StepLaws.{moved-turn}
@@ -8,7 +8,6 @@ use Rattle.scr_coord.specs.Coordinates.{Coordinate}
 use Rattle.scr_twophase.specs.TurnSets.{contains_turn}
 use Rattle.scr_twophase.specs.Outlooks.{turns_within, AreFound, IsOutlook}
 use Rattle.scr_twophase.specs.declared.outlook.Found.{Found}
-use Rattle.std.proofs.lemmas.List.{length-append, get_or_append_left, get_or-append-add}
 use Rattle.scr_twophase.proofs.BitSets.{has_turn-all}
 use Rattle.scr_twophase.specs.declared.outlook.Outlook.{Outlook}
 

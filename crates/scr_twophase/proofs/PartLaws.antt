@@ -14,7 +14,7 @@ use Rattle.scr_notation.specs.TurnNumbers.{face_turn_at}
 use Rattle.scr_notation.specs.Turning.{opposite}
 use Rattle.scr_cube.specs.Cube333.{CubeState, solved_cube}
 use Rattle.scr_stages.proofs.SolutionLaws.{IsStageScramble-unique}
-use Rattle.scr_twophase.specs.Words.{words_within}
+use Rattle.scr_table.specs.Words.{words_within}
 use Rattle.scr_twophase.specs.TwoParts.{after_turn, domino_turns, first_joined, first_parts, is_orderly, is_solution, is_solved, joined, leads, second_part, two_parts, IsScrambleBy}
 use Rattle.scr_twophase.proofs.CubeTests.{IsSolved-test, leads-parts}
 

@@ -1,24 +1,23 @@
 -- A search through words, turn by turn.
-use Rattle.std.proofs.Common.{◌≡◌, ℕ, zero, suc, ◌+◌, ◌-◌, ◌^◌, ◌<◌, ◌≤◌, Bool, true, false, cond, List, [], ◌∷◌, ◌++◌, length, length-append, get_or, take, Option, Some, inl, inr, refl, sym, ap, ◌∙◌, subst, append_assoc, arith}
+use Rattle.std.proofs.Common.{◌≡◌, ℕ, zero, suc, ◌+◌, ◌-◌, ◌^◌, ◌<◌, ◌≤◌, Bool, true, false, cond, List, [], ◌∷◌, ◌++◌, length, get_or, Option, Some, inl, inr, refl, sym, ap, ◌∙◌, subst, append_assoc, arith}
 use Rattle.std.specs.Prelude.{All, filter, ◌&&◌, ◌==◌}
 use Rattle.std.specs.List.{flat_map}
 use Rattle.std.proofs.lemmas.Bool.{and_parts, and_from, cases_lt, false≢true}
 use Rattle.std.proofs.lemmas.List.{get_or_default}
 use Rattle.std.proofs.lemmas.List.Elements.{All-nil, All-cons, All-head, All-tail, filter-append}
-use Rattle.std.proofs.Math.Seq.{take-append_seam}
 use Rattle.std.proofs.lemmas.Nat.Bits.{bit_at_above}
 use Rattle.scr_combinatorics.specs.Lists.{numbers_from, pick}
 use Rattle.scr_combinatorics.specs.Play.{play}
 use Rattle.scr_combinatorics.proofs.Picks.{pick-in_order, numbers_from-at, length-numbers_from}
 use Rattle.scr_cube.specs.Cube333.{CubeState}
+use Rattle.scr_table.specs.Words.{words_behind}
+use Rattle.scr_table.proofs.WordLists.{flat_map-kept, words_behind-none, words_behind-turns}
 use Rattle.scr_twophase.specs.TurnSets.{contains_turn, turns_in}
 use Rattle.scr_twophase.specs.TwoParts.{after_turn, turn_numbers, is_orderly, leads}
 use Rattle.scr_twophase.specs.Search.{may_end, IsAt, IsSearched, KeepsWays, LeavesWays, MayFollow}
-use Rattle.scr_twophase.specs.Words.{words_behind}
 use Rattle.scr_twophase.proofs.CubeTests.{leads-behind, not_so, turn_leads, played_more}
 use Rattle.scr_twophase.proofs.Orderly.{is_orderly-push, may_end-orderly}
 use Rattle.scr_twophase.proofs.Outcomes.{IsLeft, IsLeft-all, IsLeft-passed, IsLeft-found, IsLeft-none}
-use Rattle.scr_twophase.proofs.WordLists.{flat_map-kept, words_behind-none, words_behind-turns}
 
 -- ---- turns, told by their places
 
@@ -179,15 +178,6 @@ module _ (turns : List ℕ) (test : List ℕ → Bool) (gives : List ℕ → Opt
         let f = λ (k : ℕ). words_behind turns test (word ++ get_or turns k 0 ∷ []) (left - 1) in
         IsLeft-none gives (words_behind turns test word left) tries word now after same
         (subst (λ ws. IsLeft gives (words_behind turns test word left) tries ws now) (ap (flat_map f) e) h.words)
-
--- a turn that is written, and taken away again
-pub pushed_word : (now before word : List ℕ) (turn t : ℕ) → now ≡ before ++ turn ∷ [] → before ≡ word → turn ≡ t → now ≡ word ++ t ∷ []
-pushed_word now before word turn t e same is = e ∙ ap (λ w. w ++ turn ∷ []) same ∙ ap (λ u. word ++ u ∷ []) is
-
-pub popped_word : (now before word : List ℕ) (t : ℕ) → now ≡ take (length before - 1) before → before ≡ word ++ t ∷ [] → now ≡ word
-popped_word now before word t e is =
-    let short : length before - 1 ≡ length word = omega (arith, ap length is, length-append word (t ∷ [])) in
-    e ∙ ap (λ n. take n before) short ∙ ap (take (length word)) is ∙ take-append_seam word (t ∷ [])
 
 -- one turn more
 pub IsAt-turned : {At : Type 0} (Shows : CubeState → At → Type 0) (c : CubeState) (turns word : List ℕ) (at next : At) (place : ℕ) → get_or turns place 0 < 18

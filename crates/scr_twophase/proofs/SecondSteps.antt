@@ -23,9 +23,10 @@ use Rattle.scr_stages.proofs.Blocks.{pick-append}
 use Rattle.scr_stages.proofs.DominoLaws.{IsPlaceSet-middle}
 use Rattle.scr_stages.proofs.HalfCubes.{pick-in_block}
 use Rattle.scr_stages.proofs.TurnFacts.{length-turns, tetrads_numbers}
+use Rattle.scr_table.specs.Words.{words_behind, words_within}
+use Rattle.scr_table.proofs.WordLists.{find-filter, find-made, words_behind-end}
 use Rattle.scr_twophase.specs.declared.second.SecondPosition.{SecondPosition}
 use Rattle.scr_twophase.specs.Near.{second_number}
-use Rattle.scr_twophase.specs.Words.{words_behind, words_within}
 use Rattle.scr_twophase.specs.TwoParts.{after_turn, domino_turns, is_solved, is_solution, is_orderly, joined, leads, second_part}
 use Rattle.scr_twophase.specs.Tables.{corners_of, outer_edges_of, middle_edges_of}
 use Rattle.scr_twophase.specs.Search.{ShowsSecond, IsSecondPosition, IsAt, IsSearched, carried, first_given, is_solved_position}
@@ -34,7 +35,6 @@ use Rattle.scr_twophase.proofs.Outcomes.{IsSearched-none, IsSearched-one}
 use Rattle.scr_twophase.specs.Spaces.{AreCornersHome, AreOuterHome, AreMiddleHome}
 use Rattle.scr_twophase.proofs.Spaces.{IsPlaceSet-outer_places, outer-kept, Follows-corners, Follows-outer_edges}
 use Rattle.scr_twophase.proofs.Spaces.{Follows-middle_edges}
-use Rattle.scr_twophase.proofs.WordLists.{find-filter, find-made, words_behind-end}
 
 -- ---- positions
 

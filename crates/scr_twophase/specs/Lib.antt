@@ -1,4 +1,3 @@
-pub mod Words
 pub mod TwoParts
 pub mod Tables
 pub mod Spaces

@@ -3,12 +3,12 @@ use Rattle.std.specs.Prelude.{◌≡◌, ℕ, ◌+◌, ◌*◌, ◌/◌, ◌%◌
 use Rattle.std.specs.Int.{bit_at}
 use Rattle.scr_cube.specs.Cube333.{CubeState}
 use Rattle.scr_stages.specs.Numbers.{flips_number}
+use Rattle.scr_table.specs.Words.{words_of}
 use Rattle.scr_twophase.specs.declared.near_set.NearBlock.{NearBlock}
 use Rattle.scr_twophase.specs.declared.near_set.NearSet.{NearSet}
 use Rattle.scr_twophase.specs.Tables.{corners_of, middle_edges_of, middle_set_of, outer_edges_of, twists_of}
 use Rattle.scr_twophase.specs.TurnSets.{contains_turn}
 use Rattle.scr_twophase.specs.TwoParts.{after_turn, leads}
-use Rattle.scr_twophase.specs.Words.{words_of}
 
 -- ---- sets of numbers
 

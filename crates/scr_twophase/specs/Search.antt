@@ -6,10 +6,10 @@ use Rattle.scr_combinatorics.specs.Lists.{pick}
 use Rattle.scr_combinatorics.specs.Play.{play}
 use Rattle.scr_cube.specs.Cube333.{CubeState, IsCube}
 use Rattle.scr_stages.specs.Numbers.{flips_number, IsDominoCube}
+use Rattle.scr_table.specs.Words.{words_of}
 use Rattle.scr_twophase.specs.declared.first.FirstPosition.{FirstPosition}
 use Rattle.scr_twophase.specs.declared.second.SecondPosition.{SecondPosition}
 use Rattle.scr_twophase.specs.declared.word.Word.{Word}
-use Rattle.scr_twophase.specs.Words.{words_of}
 use Rattle.scr_twophase.specs.TwoParts.{may_precede, is_orderly, after_turn, leads}
 use Rattle.scr_twophase.specs.Tables.{twists_of, middle_set_of, corners_of, outer_edges_of, middle_edges_of}
 use Rattle.scr_twophase.specs.TurnSets.{contains_turn}

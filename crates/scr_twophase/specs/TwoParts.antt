@@ -16,7 +16,7 @@ use Rattle.scr_coord.specs.Projections.{marked_places, stands_in}
 use Rattle.scr_turning.specs.PowerPuzzles.{after_letter}
 use Rattle.scr_cube.specs.Cube333.{CubeState, cube_powers}
 use Rattle.scr_stages.specs.Stages.{middle_edges, IsStageScramble, tetrads_turns}
-use Rattle.scr_twophase.specs.Words.{words_within}
+use Rattle.scr_table.specs.Words.{words_within}
 
 -- ---- orderly words
 

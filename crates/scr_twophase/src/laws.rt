@@ -4,20 +4,12 @@ ghost use Rattle.std.specs.Prelude.{length};
 ghost use Rattle.scr_combinatorics.specs.Play.{play};
 ghost use Rattle.scr_coord.specs.SearchSpaces.{positions, Follows};
 ghost use Rattle.scr_cube.specs.Cube333.{CubeState, solved_cube};
+ghost use Rattle.scr_table.specs.Words.{words_of};
 ghost use Rattle.scr_twophase.specs.Spaces.{flipslice_space, twistslice_space, cornerslice_space, edgeslice_space};
 ghost use Rattle.scr_twophase.specs.Spaces.{flipslice_number, twistslice_number, cornerslice_number, edgeslice_number};
 ghost use Rattle.scr_twophase.specs.Tables.{flipslice_line, twistslice_line, cornerslice_line, edgeslice_line};
 ghost use Rattle.scr_twophase.specs.TwoParts.{after_turn, turn_numbers, domino_turns};
 ghost use Rattle.scr_twophase.specs.TwoParts.{is_first_part, first_parts, is_solution, second_part};
-ghost use Rattle.scr_twophase.specs.Words.{words_of, words_within};
-
-/// The words of two turns, 0 and 3, in order.
-#[tactic(auto, unfolding(crate::specs::Words::words_of, crate::specs::Words::words_within))]
-pub fn known_words()
-    ensures two { words_of (0 ∷ 3 ∷ []) 2 ≡ (0 ∷ 0 ∷ []) ∷ (0 ∷ 3 ∷ []) ∷ (3 ∷ 0 ∷ []) ∷ (3 ∷ 3 ∷ []) ∷ [] }
-    ensures at_most_two { words_within (0 ∷ 3 ∷ []) 2
-        ≡ [] ∷ (0 ∷ []) ∷ (3 ∷ []) ∷ (0 ∷ 0 ∷ []) ∷ (0 ∷ 3 ∷ []) ∷ (3 ∷ 0 ∷ []) ∷ (3 ∷ 3 ∷ []) ∷ [] }
-{}
 
 /// The words of n turns in the lists are all lists of n of the 18 turns.
 pub fn words()

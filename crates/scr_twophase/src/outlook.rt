@@ -1,12 +1,12 @@
 //! Which turns lead nearer to the goal of a pruning table, and which lead no farther.
 ghost use Rattle.std.specs.Prelude.{◌≡◌, ℕ, ◌+◌, ◌*◌, ◌^◌, ◌<◌, ◌≤◌, IfOk, length, slice_index, slice_index_or};
-ghost use Rattle.scr_coord.specs.Coordinates.{AreTargets, target};
+ghost use Rattle.scr_coord.specs.Coordinates.{AreSeen, value_at};
 ghost use Rattle.scr_twophase.specs.declared.outlook.Found.{Found as Finding};
 ghost use Rattle.scr_twophase.specs.declared.outlook.Outlook.{Outlook as Looking};
 ghost use Rattle.scr_twophase.specs.Outlooks.{turns_within, AreFound, IsOutlook, AreOutlooks};
 
 use crate::turn_set::TurnSet;
-use scr_coord::{BARRED, Coord};
+use scr_coord::{Coord, NOWHERE};
 use scr_table::DistanceTable;
 use std::alloc::{AllocError, Global};
 use std::thread::{Threads, for_each_chunk_mut};
@@ -197,75 +197,70 @@ fn found_from<C: Coord>(coord: &C, distances: &[u8], start: u32, size: usize) ->
     ensures { let c = C.coordinate coord.now in (k : ℕ) (d : Finding) → k < size
         → AreFound c distances.now (start + k) c.turns (slice_index_or result k d) }
 {
-    let mut targets = [BARRED; BLOCK];
+    let mut seen = [NOWHERE; BLOCK];
     let mut found = [NONE_FOUND; BLOCK];
     for turn in 0..coord.turns() {
-        let part = &mut targets[..size];
-        coord.targets(start, turn, part);
+        let part = &mut seen[..size];
+        coord.look(distances, start, turn, part);
         enter_turn(coord, distances, start, turn, part, &mut found);
     }
     found
 }
 
-/// Enters where one more turn leads.
+/// Enters one more turn, by the distances that it leads to.
 fn enter_turn<C: Coord>(
     coord: &C,
     distances: &[u8],
     start: u32,
     turn: u32,
-    targets: &[u32],
+    seen: &[u8],
     found: &mut [Found; BLOCK],
 )
     requires turns { (C.coordinate coord.now).turns ≤ 18 }
     requires distances { length distances.now ≡ (C.coordinate coord.now).count }
-    requires positions { start + length targets.now ≤ (C.coordinate coord.now).count }
-    requires block { length targets.now ≤ 1024 }
+    requires positions { start + length seen.now ≤ (C.coordinate coord.now).count }
+    requires block { length seen.now ≤ 1024 }
     requires turn { turn < (C.coordinate coord.now).turns }
-    requires targets { AreTargets (C.coordinate coord.now) start turn targets.now }
+    requires seen { AreSeen (C.coordinate coord.now) distances.now start turn seen.now }
     requires long { length found.old ≡ 1024 }
-    requires found { (k : ℕ) (d : Finding) → k < length targets.now
+    requires found { (k : ℕ) (d : Finding) → k < length seen.now
         → AreFound (C.coordinate coord.now) distances.now (start + k) turn (slice_index_or found.old k d) }
     ensures long { length found.new ≡ 1024 }
-    ensures found { (k : ℕ) (d : Finding) → k < length targets.now
+    ensures found { (k : ℕ) (d : Finding) → k < length seen.now
         → AreFound (C.coordinate coord.now) distances.now (start + k) (turn + 1) (slice_index_or found.new k d) }
 {
-    for k in 0..targets.len() {
+    for k in 0..seen.len() {
         found[k] = with_turn(
             coord,
             distances,
             start as usize + k,
             turn,
-            targets[k],
+            seen[k],
             found[k],
         );
     }
 }
 
-/// What turns lead to from a position, with one turn more, which leads to this target.
+/// What turns lead to from a position, with one turn more, which leads to this distance. Where it is barred it leads to
+/// `NOWHERE`, which is farther than all.
 #[inline]
 fn with_turn<C: Coord>(
-    coord: &C,
+    _coord: &C,
     distances: &[u8],
     position: usize,
     turn: u32,
-    next: u32,
+    there: u8,
     found: Found,
 ) -> Found
-    requires turns { (C.coordinate coord.now).turns ≤ 18 }
-    requires distances { length distances.now ≡ (C.coordinate coord.now).count }
-    requires position { position < (C.coordinate coord.now).count }
-    requires turn { turn < (C.coordinate coord.now).turns }
-    requires target { next ≡ target (C.coordinate coord.now) position turn }
-    requires found { AreFound (C.coordinate coord.now) distances.now position turn found }
-    ensures { AreFound (C.coordinate coord.now) distances.now position (turn + 1) result }
+    requires turns { (C.coordinate _coord.now).turns ≤ 18 }
+    requires distances { length distances.now ≡ (C.coordinate _coord.now).count }
+    requires position { position < (C.coordinate _coord.now).count }
+    requires turn { turn < (C.coordinate _coord.now).turns }
+    requires there { there ≡ value_at distances.now ((C.coordinate _coord.now).after position turn) }
+    requires found { AreFound (C.coordinate _coord.now) distances.now position turn found }
+    ensures { AreFound (C.coordinate _coord.now) distances.now position (turn + 1) result }
 {
-    coord.stays_below();
-    let _positions = coord.count();
-    if next as usize >= distances.len() {
-        return found;
-    }
     let here = distances[position];
-    let there = distances[next as usize];
     Found {
         nearer: found.nearer.with_if(turn, there < here),
         no_farther: found.no_farther.with_if(turn, there <= here),

@@ -1,8 +1,8 @@
 //! The search for a part of a solution: through the words of its turns, depth first and by rising length.
 ghost use Rattle.std.specs.Prelude.{◌≡◌, ◌+◌, ◌++◌, ◌≤◌, filter, length, map};
 ghost use Rattle.scr_cube.specs.Cube333.{CubeState};
+ghost use Rattle.scr_table.specs.Words.{words_behind, words_within};
 ghost use Rattle.scr_twophase.specs.Search.{letters, IsAt, IsSearched};
-ghost use Rattle.scr_twophase.specs.Words.{words_behind, words_within};
 
 use crate::turn_set::TurnSet;
 use crate::word::Word;
@@ -15,7 +15,7 @@ pub(crate) trait Part {
     ghost use Rattle.scr_cube.specs.Cube333.{CubeState};
     ghost use Rattle.scr_twophase.specs.Search.{letters, IsAt, IsSearched, KeepsWays};
     ghost use Rattle.scr_twophase.specs.TwoParts.{after_turn};
-    ghost use Rattle.scr_twophase.specs.Words.{words_behind};
+    ghost use Rattle.scr_table.specs.Words.{words_behind};
 
     /// What the search sees of the cube to which a word leads.
     type Position: Copy;

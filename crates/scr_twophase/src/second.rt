@@ -8,6 +8,7 @@ ghost use Rattle.scr_table.specs.Causes.{IsCauseOf};
 ghost use Rattle.scr_table.specs.Lines.{HasNoGap};
 ghost use Rattle.scr_cube.specs.Cube333.{CubeState};
 ghost use Rattle.scr_stages.specs.Numbers.{IsDominoCube};
+ghost use Rattle.scr_table.specs.Words.{words_of};
 ghost use Rattle.scr_twophase.specs.Near.{IsInSet, IsNear, LeavesNear, second_number};
 ghost use Rattle.scr_twophase.specs.Outlooks.{IsPruningTable};
 ghost use Rattle.scr_twophase.specs.Search.{ShowsSecond, IsSecondPosition, LeavesWays, carried, is_solved_position};
@@ -15,7 +16,6 @@ ghost use Rattle.scr_twophase.specs.Tables.{corners_coordinate, outer_edges_coor
 ghost use Rattle.scr_twophase.specs.Tables.{cornerslice_line, edgeslice_line, second_lines};
 ghost use Rattle.scr_twophase.specs.TurnSets.{contains_turn};
 ghost use Rattle.scr_twophase.specs.TwoParts.{after_turn, domino_turns, is_orderly, is_solved, joined, leads};
-ghost use Rattle.scr_twophase.specs.Words.{words_of};
 
 use crate::moves::{corner_moves, edge_moves, step};
 use crate::near_set::{NEAR, NEAR_AT, NearSet};

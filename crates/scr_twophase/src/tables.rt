@@ -2,12 +2,13 @@
 ghost use Rattle.std.specs.Prelude.{◌≡◌, ◌≤◌, All, IfErr, IfOk, map};
 ghost use Rattle.scr_table.specs.Causes.{IsCauseOf};
 ghost use Rattle.scr_table.specs.Lines.{AreTablesOf, HasNoGap};
-ghost use Rattle.scr_twophase.specs.Tables.{prune_lines};
+ghost use Rattle.scr_twophase.specs.Tables.{first_lines, prune_lines, second_lines};
 
 use crate::first::FirstTables;
 use crate::parts::PartTables;
 use crate::second::SecondTables;
 use scr_table::{BuildFault, DistanceTable, TableName, TableSet, table_named};
+use scr_workers::{both, shared};
 use std::alloc::{AllocError, Global};
 use std::marker::Model;
 use std::thread::Threads;
@@ -49,8 +50,8 @@ impl TableSet for PruneTables {
 }
 
 impl PruneTables {
-    /// The tables, built in their order, each by 1 to 64 workers, or why they are not: there is no memory, or one has a gap. The
-    /// first gap of the first such table is named.
+    /// The tables, built by 1 to 64 workers, who share out the two parts, or why they are not: there is no memory, or one has a
+    /// gap. The first gap of the first such table is named.
     pub fn build<R: Threads + Sync>(
         rt: &R,
         alloc: Global,
@@ -60,10 +61,26 @@ impl PruneTables {
         ensures whole { IfOk result (λ _. All HasNoGap prune_lines) }
         ensures cause { IfErr result (IsCauseOf prune_lines) }
     {
-        let first = FirstTables::build(rt, alloc, workers)?;
-        let second = SecondTables::build(rt, alloc, workers)?;
+        let (front, back) = shared(workers);
+        let (first, second) = both(
+            rt,
+            workers,
+            || -> Result<FirstTables, BuildFault>
+                requires { (1 ≤ front) × (front ≤ 64) }
+                ensures whole { IfOk result (λ _. All HasNoGap first_lines) }
+                ensures cause { IfErr result (IsCauseOf first_lines) }
+            { FirstTables::build(rt, alloc, front) },
+            || -> Result<SecondTables, BuildFault>
+                requires { (1 ≤ back) × (back ≤ 64) }
+                ensures whole { IfOk result (λ _. All HasNoGap second_lines) }
+                ensures cause { IfErr result (IsCauseOf second_lines) }
+            { SecondTables::build(rt, alloc, back) },
+        );
         Ok(PruneTables {
-            parts: PartTables { first, second },
+            parts: PartTables {
+                first: first?,
+                second: second?,
+            },
         })
     }
 

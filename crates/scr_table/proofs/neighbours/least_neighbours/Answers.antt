@@ -1,7 +1,6 @@
-use Rattle.std.proofs.Common.{ℕ, ◌+◌, ap, ◌∙◌, sym, subst, arith, get_or}
+use Rattle.std.proofs.Common.{ℕ, ◌+◌, ap, ◌∙◌, sym, subst, arith, get_or, min}
 use Rattle.std.proofs.lemmas.List.{length-take}
-use Rattle.scr_table.specs.Filled.{lowered}
-use Rattle.scr_table.proofs.FilledLaws.{IsLeast, IsLeast-none, IsLeast-lowered}
+use Rattle.scr_table.proofs.FilledLaws.{IsLeast, IsLeast-none, IsLeast-seen}
 use Rattle.scr_table.proofs.neighbours.least_neighbours.Goals as goal
 
 pub loop-turn-init : goal.loop-turn-init
@@ -13,9 +12,9 @@ loop-turn-init g c =
 pub loop-turn-preserved : goal.loop-turn-preserved
 loop-turn-preserved g c =
     λ k lt.
-    let coordinate = g.C.Coord.coordinate c.args.coord.now in
-    let taken = length-take c.args.count c.loop-turn.targets in
-    IsLeast-lowered coordinate c.stays_below.ensures (omega arith) c.args.entries.now (omega arith) (c.args.start + k) c.loop-turn.turn
-    (get_or c.loop-turn.least k 0) (get_or c.lower.new.least k 0) (omega arith) (omega arith) (
-    c.lower.ensures k (omega (arith, taken, c.loop-turn-test.array_long)) ∙ ap (λ t. lowered c.args.entries.now t (get_or c.loop-turn.least k 0)) (c.targets.ensures k (omega (arith, taken, c.loop-turn-test.array_long)))
+    let taken = length-take c.args.count c.loop-turn.seen in
+    IsLeast-seen (g.C.Coord.coordinate c.args.coord.now) c.args.entries.now (c.args.start + k) c.loop-turn.turn (get_or c.loop-turn.least k 0)
+    (get_or c.lower.new.least k 0) (omega arith) (
+    c.lower.ensures k (omega (arith, taken, c.loop-turn-test.array_long))
+    ∙ ap (min (get_or c.loop-turn.least k 0)) (c.look.ensures k (omega (arith, taken, c.loop-turn-test.array_long)))
     ) (c.loop-turn.invariant k lt)

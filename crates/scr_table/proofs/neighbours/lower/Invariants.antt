@@ -1,8 +1,7 @@
-use Rattle.std.proofs.Common.{◌≡◌, ℕ, ◌<◌, ◌≤◌, get_or}
-use Rattle.scr_table.specs.Filled.{lowered}
+use Rattle.std.proofs.Common.{◌≡◌, ℕ, ◌<◌, ◌≤◌, get_or, min}
 use Rattle.scr_table.proofs.neighbours.lower.Given as goal
 
 abbrev pub invariant-loop-k : goal.invariant-loop-k
 invariant-loop-k l =
-    ((j : ℕ) → j < l.k → get_or l.least j 0 ≡ lowered l.entries (get_or l.targets j 0) (get_or l.initial.least j 0))
+    ((j : ℕ) → j < l.k → get_or l.least j 0 ≡ min (get_or l.initial.least j 0) (get_or l.seen j 0))
     × ((j : ℕ) → l.k ≤ j → get_or l.least j 0 ≡ get_or l.initial.least j 0)

@@ -5,13 +5,13 @@ use Rattle.std.proofs.lemmas.Bool.{and_from}
 use Rattle.scr_combinatorics.specs.Play.{play}
 use Rattle.scr_orbit.specs.Orbits.{solved_orbit}
 use Rattle.scr_cube.specs.Cube333.{CubeState, solved_cube}
+use Rattle.scr_table.specs.Words.{words_within}
+use Rattle.scr_table.proofs.ListedWords.{Contains-words_within, IsWithin-listed, Contains-filter, Contains-passed}
 use Rattle.scr_stages.proofs.FiniteTests.{All-from_test}
 use Rattle.scr_twophase.specs.TwoParts.{after_turn, turn_numbers, may_precede, may_begin, is_orderly, ends_in_quarter}
 use Rattle.scr_twophase.specs.TwoParts.{leads, is_domino, is_first_part, first_parts}
-use Rattle.scr_twophase.specs.Words.{words_within}
 use Rattle.scr_twophase.proofs.CubeTests.{leads-played}
-use Rattle.scr_twophase.proofs.ListedWords.{Contains-words_within, IsWithin-listed, All-turns, All-below_18}
-use Rattle.scr_twophase.proofs.ListedWords.{Contains-filter, Contains-passed}
+use Rattle.scr_twophase.proofs.ListedTurns.{All-turns, All-below_18}
 use Rattle.scr_twophase.proofs.laws.first_parts.Goals as goal
 
 first_part : (c : CubeState) (w : List ℕ) → length w ≤ 12 → All (λ t. t < 18) w → IsTrue (is_first_part c w)

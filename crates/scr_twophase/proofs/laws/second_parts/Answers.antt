@@ -1,7 +1,7 @@
 use Rattle.std.proofs.Common.{◌++◌}
+use Rattle.scr_table.specs.Words.{words_within}
+use Rattle.scr_table.proofs.ListedWords.{Contains-words_within, IsWithin, IsWithin-each, IsSome-find, found}
 use Rattle.scr_twophase.specs.TwoParts.{domino_turns, is_solution, second_part}
-use Rattle.scr_twophase.specs.Words.{words_within}
-use Rattle.scr_twophase.proofs.ListedWords.{Contains-words_within, IsWithin, IsWithin-each, IsSome-find, found}
 use Rattle.scr_twophase.proofs.laws.second_parts.Goals as goal
 
 pub returns-clause-such : goal.returns-clause-such

@@ -1,5 +1,6 @@
+use Rattle.scr_table.proofs.ListedWords.{Contains-words_of, IsListed-listed}
 use Rattle.scr_twophase.specs.TwoParts.{turn_numbers}
-use Rattle.scr_twophase.proofs.ListedWords.{Contains-words_of, IsListed-listed, All-turns, All-below_18}
+use Rattle.scr_twophase.proofs.ListedTurns.{All-turns, All-below_18}
 use Rattle.scr_twophase.proofs.laws.words.Goals as goal
 
 pub returns : goal.returns

@@ -1,8 +1,9 @@
 use Rattle.std.proofs.Common.{◌-◌, ◌<◌, false, true, [], ◌∷◌, length, length-append, get_or, refl, sym, ap, ◌∙◌, subst, arith}
+use Rattle.scr_table.specs.Words.{words_behind}
+use Rattle.scr_table.proofs.WordLists.{popped_word, pushed_word}
 use Rattle.scr_twophase.specs.Search.{letters, IsAt, IsSearched}
-use Rattle.scr_twophase.specs.Words.{words_behind}
 use Rattle.scr_twophase.proofs.Outcomes.{IsSearched-spent}
-use Rattle.scr_twophase.proofs.SearchSteps.{IsAt-turned, IsUnderWay-begin, IsUnderWay-next, IsUnderWay-found, IsUnderWay-end, popped_word, pushed_word, turn_follows}
+use Rattle.scr_twophase.proofs.SearchSteps.{IsAt-turned, IsUnderWay-begin, IsUnderWay-next, IsUnderWay-found, IsUnderWay-end, turn_follows}
 use Rattle.scr_twophase.proofs.search.+search_behind.Goals as goal
 
 pub returns-then-tries-eq0 : goal.returns-then-tries-eq0

@@ -2,10 +2,10 @@ use Rattle.std.proofs.Common.{◌≡◌, ◌+◌, ◌-◌, ◌++◌, false, true
 use Rattle.std.specs.Prelude.{filter}
 use Rattle.std.specs.List.{flat_map}
 use Rattle.scr_combinatorics.specs.Lists.{numbers_from}
+use Rattle.scr_table.specs.Words.{words_behind, words_within}
+use Rattle.scr_table.proofs.WordLists.{lengths_from, words_behind-within}
 use Rattle.scr_twophase.specs.Search.{letters, IsAt, IsSearched}
-use Rattle.scr_twophase.specs.Words.{words_behind, words_within}
-use Rattle.scr_twophase.proofs.Outcomes.{IsLeft-all, IsLeft-passed, IsLeft-found, IsLeft-none, lengths_from, lengths_next, lengths_end}
-use Rattle.scr_twophase.proofs.WordLists.{words_behind-within}
+use Rattle.scr_twophase.proofs.Outcomes.{IsLeft-all, IsLeft-passed, IsLeft-found, IsLeft-none, lengths_next, lengths_end}
 use Rattle.scr_twophase.proofs.search.search_within.Goals as goal
 
 pub least-left-requires : goal.least-left-requires

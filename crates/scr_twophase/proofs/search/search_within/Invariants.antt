@@ -2,8 +2,8 @@ use Rattle.std.proofs.Common.{◌≡◌, ◌+◌, ◌-◌, ◌++◌, map}
 use Rattle.std.specs.Prelude.{filter}
 use Rattle.std.specs.List.{flat_map}
 use Rattle.scr_combinatorics.specs.Lists.{numbers_from}
+use Rattle.scr_table.specs.Words.{words_behind, words_within}
 use Rattle.scr_twophase.specs.Search.{letters}
-use Rattle.scr_twophase.specs.Words.{words_behind, words_within}
 use Rattle.scr_twophase.proofs.Outcomes.{IsLeft}
 use Rattle.scr_twophase.proofs.search.search_within.Given as goal
 

@@ -4,6 +4,7 @@ use Rattle.std.proofs.lemmas.Bool.{cases_lt, false≢true}
 use Rattle.scr_cube.specs.Cube333.{CubeState}
 use Rattle.scr_stages.specs.Numbers.{IsDominoCube}
 use Rattle.scr_stages.specs.Stages.{tetrads_turns}
+use Rattle.scr_table.specs.Words.{words_of}
 use Rattle.scr_twophase.specs.declared.pruning.PruningTable.{PruningTable}
 use Rattle.scr_twophase.specs.declared.second.SecondPosition.{SecondPosition}
 use Rattle.scr_twophase.specs.Near.{IsInSet}
@@ -12,7 +13,6 @@ use Rattle.scr_twophase.specs.Search.{ShowsSecond}
 use Rattle.scr_twophase.specs.Spaces.{AreCornersHome, AreMiddleHome}
 use Rattle.scr_twophase.specs.Tables.{corners_of, middle_edges_of, cornerslice_line}
 use Rattle.scr_twophase.specs.TwoParts.{domino_turns, is_solved, leads}
-use Rattle.scr_twophase.specs.Words.{words_of}
 use Rattle.scr_twophase.proofs.Admissible.{near-way}
 use Rattle.scr_twophase.proofs.CubeTests.{not_so}
 use Rattle.scr_twophase.proofs.SecondSteps.{corners_home, so_there}

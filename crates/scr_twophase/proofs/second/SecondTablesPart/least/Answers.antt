@@ -1,10 +1,10 @@
 use Rattle.std.proofs.Common.{◌++◌, sym, ◌∙◌}
 use Rattle.std.proofs.lemmas.Bool.{false≢true}
+use Rattle.scr_table.proofs.WordLists.{words_behind-none}
 use Rattle.scr_twophase.specs.Search.{letters}
 use Rattle.scr_twophase.specs.TwoParts.{domino_turns, is_solution, is_solved}
 use Rattle.scr_twophase.proofs.CubeTests.{leads-behind, not_so}
 use Rattle.scr_twophase.proofs.SecondSteps.{IsSecondPosition-shown, solution_ways}
-use Rattle.scr_twophase.proofs.WordLists.{words_behind-none}
 use Rattle.scr_twophase.proofs.second.SecondTablesPart.least.Goals as goal
 
 pub least_from-requires : goal.least_from-requires

@@ -1,32 +1,34 @@
 -- The words behind a word: what a search goes through, turn by turn.
-use Rattle.std.proofs.Common.{◌≡◌, ℕ, zero, suc, ◌+◌, ◌<◌, Bool, true, false, cond, List, [], ◌∷◌, ◌++◌, map, length}
-use Rattle.std.proofs.Common.{get_or, Option, Some, refl, sym, ap, ◌∙◌, append_assoc}
+use Rattle.std.proofs.Common.{◌≡◌, ℕ, zero, suc, ◌+◌, ◌-◌, ◌<◌, ◌≤◌, Bool, true, false, cond, List, [], ◌∷◌, ◌++◌, map, length}
+use Rattle.std.proofs.Common.{get_or, take, Option, Some, inl, inr, refl, sym, ap, ◌∙◌, append_assoc, length-append, arith}
 use Rattle.std.specs.Prelude.{All, Contains, filter, find, slice_get}
 use Rattle.std.specs.List.{flat_map}
 use Rattle.std.specs.Option.{option_map}
+use Rattle.std.proofs.Math.Seq.{take-append_seam}
+use Rattle.std.proofs.lemmas.Bool.{cases_lt}
 use Rattle.std.proofs.lemmas.List.{append-nil, map-append, get_or_default}
 use Rattle.std.proofs.lemmas.List.Elements.{All-nil, All-cons, All-head, All-tail, All-append, All-contains, All-map, All-weaker}
 use Rattle.std.proofs.lemmas.List.Elements.{All-contains_itself, filter-append}
 use Rattle.scr_combinatorics.specs.Lists.{numbers_from, pick}
-use Rattle.scr_twophase.specs.Words.{words_of, words_within, words_behind}
+use Rattle.scr_table.specs.Words.{words_of, words_within, words_behind}
 
 -- ---- lists of lists
 
-filter-none : {X : Type 0} (test : X → Bool) (xs : List X) → All (λ x. test x ≡ false) xs → filter test xs ≡ []
+pub filter-none : {X : Type 0} (test : X → Bool) (xs : List X) → All (λ x. test x ≡ false) xs → filter test xs ≡ []
 filter-none test [] h = refl
 filter-none test (x ∷ xs) h =
     ap (λ b. cond b (x ∷ filter test xs) (filter test xs)) (All-head (λ y. test y ≡ false) x xs h)
     ∙ filter-none test xs (All-tail (λ y. test y ≡ false) x xs h)
 
-filter-flat_map : {X A : Type 0} (test : A → Bool) (f : X → List A) (xs : List X) → filter test (flat_map f xs) ≡ flat_map (λ x. filter test (f x)) xs
+pub filter-flat_map : {X A : Type 0} (test : A → Bool) (f : X → List A) (xs : List X) → filter test (flat_map f xs) ≡ flat_map (λ x. filter test (f x)) xs
 filter-flat_map test f [] = refl
 filter-flat_map test f (x ∷ xs) = filter-append test (f x) (flat_map f xs) ∙ ap (λ ys. filter test (f x) ++ ys) (filter-flat_map test f xs)
 
-map-flat_map : {X A B : Type 0} (g : A → B) (f : X → List A) (xs : List X) → map g (flat_map f xs) ≡ flat_map (λ x. map g (f x)) xs
+pub map-flat_map : {X A B : Type 0} (g : A → B) (f : X → List A) (xs : List X) → map g (flat_map f xs) ≡ flat_map (λ x. map g (f x)) xs
 map-flat_map g f [] = refl
 map-flat_map g f (x ∷ xs) = map-append g (f x) (flat_map f xs) ∙ ap (λ ys. map g (f x) ++ ys) (map-flat_map g f xs)
 
-flat_map-same : {X A : Type 0} (f g : X → List A) → ((x : X) → f x ≡ g x) → (xs : List X) → flat_map f xs ≡ flat_map g xs
+pub flat_map-same : {X A : Type 0} (f g : X → List A) → ((x : X) → f x ≡ g x) → (xs : List X) → flat_map f xs ≡ flat_map g xs
 flat_map-same f g h [] = refl
 flat_map-same f g h (x ∷ xs) = ap (λ ys. ys ++ flat_map f xs) (h x) ∙ ap (λ ys. g x ++ ys) (flat_map-same f g h xs)
 
@@ -67,6 +69,34 @@ pub find-made : {X Y : Type 0} (made : X → Y) (test : Y → Bool) (xs : List X
 find-made made test [] = refl
 find-made made test (x ∷ xs) =
     made_by made (test (made x)) x (find (λ x. test (made x)) xs) (find test (map made xs)) (find-made made test xs)
+
+-- ---- lists by numbers, as by the lengths of words
+
+-- the numbers from one on begin with it
+pub numbers_from-next : (at end : ℕ) → at < end → numbers_from at (end - at) ≡ at ∷ numbers_from (at + 1) (end - (at + 1))
+numbers_from-next at end lt =
+    let more : end - at ≡ suc (end - (at + 1)) = omega arith in
+    let next : suc at ≡ at + 1 = omega arith in
+    ap (numbers_from at) more ∙ ap (λ n. at ∷ numbers_from n (end - (at + 1))) next
+
+pub numbers_from-end : (at end : ℕ) → end ≤ at → numbers_from at (end - at) ≡ []
+numbers_from-end at end le = let none : end - at ≡ 0 = omega arith in ap (numbers_from at) none
+
+-- lengths of which there is no word can be left out before all others
+length_skipped : {X : Type 0} (f : ℕ → List X) (at end : ℕ) → f at ≡ [] → flat_map f (numbers_from at (end - at)) ≡ flat_map f (numbers_from (at + 1) (end - (at + 1)))
+length_skipped f at end none =
+    elim (cases_lt at end) [
+      | inl lt ↦ ap (flat_map f) (numbers_from-next at end lt) ∙ ap (λ xs. xs ++ flat_map f (numbers_from (at + 1) (end - (at + 1)))) none
+      | inr le ↦ ap (flat_map f) (numbers_from-end at end le ∙ sym (numbers_from-end (at + 1) end (omega (arith, le))))
+    ]
+
+pub lengths_from : {X : Type 0} (f : ℕ → List X) (least end : ℕ) → ((n : ℕ) → n < least → f n ≡ [])
+    → flat_map f (numbers_from 0 (end - 0)) ≡ flat_map f (numbers_from least (end - least))
+lengths_from f zero end none = refl
+lengths_from f (suc k) end none =
+    let next : k + 1 ≡ suc k = omega arith in
+    lengths_from f k end (λ n lt. none n (omega (arith, lt))) ∙ length_skipped f k end (none k (omega arith))
+    ∙ ap (λ n. flat_map f (numbers_from n (end - n))) next
 
 -- ---- words of some turns
 
@@ -141,3 +171,12 @@ module _ (turns : List ℕ) (test : List ℕ → Bool) where
   words_behind-within word most =
       ap (filter test) (map-flat_map (λ v. word ++ v) (words_of turns) (numbers_from 0 (most + 1)))
       ∙ filter-flat_map test (λ n. map (λ v. word ++ v) (words_of turns n)) (numbers_from 0 (most + 1))
+
+-- a turn that is written, and taken away again
+pub pushed_word : (now before word : List ℕ) (turn t : ℕ) → now ≡ before ++ turn ∷ [] → before ≡ word → turn ≡ t → now ≡ word ++ t ∷ []
+pushed_word now before word turn t e same is = e ∙ ap (λ w. w ++ turn ∷ []) same ∙ ap (λ u. word ++ u ∷ []) is
+
+pub popped_word : (now before word : List ℕ) (t : ℕ) → now ≡ take (length before - 1) before → before ≡ word ++ t ∷ [] → now ≡ word
+popped_word now before word t e is =
+    let short : length before - 1 ≡ length word = omega (arith, ap length is, length-append word (t ∷ [])) in
+    e ∙ ap (λ n. take n before) short ∙ ap (take (length word)) is ∙ take-append_seam word (t ∷ [])

@@ -9,9 +9,8 @@ use Rattle.std.proofs.lemmas.List.Elements.{All-nil, All-cons, All-head, All-tai
 use Rattle.std.proofs.lemmas.List.Elements.{All-contains_itself, Contains-append_left, Contains-append_right}
 use Rattle.scr_combinatorics.specs.Lists.{numbers_from}
 use Rattle.scr_combinatorics.proofs.Picks.{length-numbers_from, numbers_from-at, length-pick, All-pick}
-use Rattle.scr_twophase.specs.Words.{words_of, words_within}
-use Rattle.scr_twophase.specs.TwoParts.{turn_numbers}
-use Rattle.scr_twophase.proofs.WordLists.{IsWordOf, words_of-each, All-flat_map}
+use Rattle.scr_table.specs.Words.{words_of, words_within}
+use Rattle.scr_table.proofs.WordLists.{IsWordOf, words_of-each, All-flat_map}
 
 -- ---- lists of lists
 
@@ -26,7 +25,7 @@ Contains-flat_map f (y ∷ xs) x a (suc k, lt, e) h =
 Contains-map : {X A : Type 0} (f : X → A) (xs : List X) (x : X) → Contains xs x → Contains (map f xs) (f x)
 Contains-map f xs x (k, lt, e) = (k, omega (arith, length-map xs f), get_or-map f xs k x (f x) lt ∙ ap f e)
 
-Contains-numbers : (n k : ℕ) → k < n → Contains (numbers_from 0 n) k
+pub Contains-numbers : (n k : ℕ) → k < n → Contains (numbers_from 0 n) k
 Contains-numbers n k lt =
     let inside : k < length (numbers_from 0 n) = omega (arith, length-numbers_from 0 n) in
     (k, inside, get_or_default (numbers_from 0 n) k k 0 inside ∙ numbers_from-at 0 n k lt ∙ omega arith)
@@ -89,20 +88,17 @@ module _ (turns : List ℕ) where
   pub IsWithin-listed : (most : ℕ) (w : List ℕ) → Contains (words_within turns most) w → IsWithin most w
   IsWithin-listed most w there = All-contains (IsWithin most) (words_within turns most) w (IsWithin-each most) there
 
--- ---- those of the 18 turns
+-- those of the turns below a number
+pub All-numbers : (n : ℕ) (w : List ℕ) → All (λ t. t < n) w → All (Contains (numbers_from 0 n)) w
+All-numbers n w below k d lt = Contains-numbers n (slice_index_or w k d) (below k d lt)
 
-pub All-turns : (w : List ℕ) → All (λ t. t < 18) w → All (Contains turn_numbers) w
-unfolding turn_numbers
-All-turns w below k d lt = Contains-numbers 18 (slice_index_or w k d) (below k d lt)
-
-pub All-below_18 : (w : List ℕ) → All (Contains turn_numbers) w → All (λ t. t < 18) w
-unfolding turn_numbers
-All-below_18 w each k d lt =
+pub All-below : (n : ℕ) (w : List ℕ) → All (Contains (numbers_from 0 n)) w → All (λ t. t < n) w
+All-below n w each k d lt =
     let there = each k d lt in
     let t : ℕ = slice_index_or w k d in
-    let below : there.0 < 18 = omega (arith, there.1, length-numbers_from 0 18) in
+    let below : there.0 < n = omega (arith, there.1, length-numbers_from 0 n) in
     let is : t ≡ there.0 =
-    sym there.2 ∙ get_or_default (numbers_from 0 18) there.0 t 0 there.1 ∙ numbers_from-at 0 18 there.0 below
+    sym there.2 ∙ get_or_default (numbers_from 0 n) there.0 t 0 there.1 ∙ numbers_from-at 0 n there.0 below
     ∙ omega arith in
     omega (arith, is, below)
 
