@@ -1,12 +1,14 @@
 -- The scramble for fewest moves: a state has one, and it leads to the state.
-use Rattle.std.proofs.Common.{◌≡◌, ℕ, zero, suc, ◌+◌, ◌-◌, Bool, true, List, [], ◌∷◌, ◌++◌, Option, Some, length, refl, sym, ap, ◌∙◌, arith, length-append, le-leb}
-use Rattle.std.specs.Prelude.{◌&&◌, nat_le, slice_index_or, unwrap_or}
+use Rattle.std.proofs.Common.{◌≡◌, ℕ, zero, suc, ◌+◌, ◌-◌, ◌≤◌, Bool, true, IsTrue, List, [], ◌∷◌, ◌++◌, Option, Some, length, refl, sym, ap, ◌∙◌, arith, length-append, append_assoc, le-leb}
+use Rattle.std.specs.Prelude.{◌==◌, ◌&&◌, nat_le, slice_index_or, unwrap_or}
+use Rattle.std.proofs.lemmas.Bool.{false≢true, eqb-true, leb-true}
 use Rattle.scr_combinatorics.specs.Back.{back}
 use Rattle.scr_combinatorics.specs.Play.{play}
 use Rattle.scr_combinatorics.proofs.PlayLaws.{play-append}
 use Rattle.scr_notation.specs.declared.turn.Turn.{Turn}
-use Rattle.scr_notation.specs.declared.turn.Turn.TheVariants.{Over}
+use Rattle.scr_notation.specs.declared.turn.Turn.TheVariants.{Face, Over}
 use Rattle.scr_notation.specs.Turning.{opposite}
+use Rattle.scr_notation.proofs.Below.{and_first, and_second}
 use Rattle.scr_turning.specs.PowerPuzzles.{after_letter}
 use Rattle.scr_orbit.specs.Orbits.{rearrangement_to}
 use Rattle.scr_cube.specs.Composition.{cube_then}
@@ -15,7 +17,7 @@ use Rattle.scr_cube.proofs.CompositionLaws.{IsJoining-cubes, IsCube-then, IsCube
 use Rattle.scr_cube.proofs.OnLiterals.{cubes_on_literals}
 use Rattle.scr_twophase.specs.TwoParts.{two_parts}
 use Rattle.scr_twophase.proofs.PartLaws.{IsScrambleBy-unique}
-use Rattle.scr_fewest.specs.Fewest.{frame, framed, frame_back, between, is_turn, is_frame_at, is_framed, IsScrambleFewest}
+use Rattle.scr_fewest.specs.Fewest.{frame, framed, frame_back, between, is_turn, is_frame_at, is_framed, IsFramed, IsScrambleFewest}
 
 -- ---- the frame
 
@@ -136,3 +138,64 @@ is_framed-framed middle =
     let second : is_turn 0 3 (slice_index_or turns (n - 3 + 1) Over) ≡ true = ap (is_turn 0 3) (at_end (frame ++ middle) frame (n - 3 + 1) 1 (omega (arith, size, both))) in
     let third : is_turn 2 1 (slice_index_or turns (n - 3 + 2) Over) ≡ true = ap (is_turn 2 1) (at_end (frame ++ middle) frame (n - 3 + 2) 2 (omega (arith, size, both))) in
     λ j. long j && (true && (first j && (second j && third j)))
+
+-- a turn that passes is the one
+is_turn-is : (face amount : ℕ) (t : Turn) → IsTrue (is_turn face amount t) → t ≡ Face face 1 amount
+is_turn-is face amount (Face own depth times) is =
+    let rest = and_second (own == face) (depth == 1 && times == amount) is in
+    let a = eqb-true own face (and_first (own == face) (depth == 1 && times == amount) is) in
+    let b = eqb-true depth 1 (and_first (depth == 1) (times == amount) rest) in
+    let c = eqb-true times amount (and_second (depth == 1) (times == amount) rest) in
+    ap (λ f. Face f depth times) a ∙ ap (λ d. Face face d times) b ∙ ap (λ n. Face face 1 n) c
+is_turn-is face amount _ is = absurd (false≢true is)
+
+-- three turns that pass are the frame
+three-are : (a b c : Turn) → IsTrue (is_turn 1 3 a && (is_turn 0 3 b && is_turn 2 1 c)) → a ∷ b ∷ c ∷ [] ≡ frame
+unfolding frame
+three-are a b c is =
+    let rest = and_second (is_turn 1 3 a) (is_turn 0 3 b && is_turn 2 1 c) is in
+    let first = is_turn-is 1 3 a (and_first (is_turn 1 3 a) (is_turn 0 3 b && is_turn 2 1 c) is) in
+    let second = is_turn-is 0 3 b (and_first (is_turn 0 3 b) (is_turn 2 1 c) rest) in
+    let third = is_turn-is 2 1 c (and_second (is_turn 0 3 b) (is_turn 2 1 c) rest) in
+    ap (λ t. t ∷ b ∷ c ∷ []) first ∙ ap (λ t. Face 1 1 3 ∷ t ∷ c ∷ []) second ∙ ap (λ t. Face 1 1 3 ∷ Face 0 1 3 ∷ t ∷ []) third
+
+-- the test of a frame in the last part of a list
+frame_behind : (xs ys : List Turn) (n i : ℕ) → n ≡ length xs + i → is_frame_at (xs ++ ys) n ≡ is_frame_at ys i
+unfolding is_frame_at
+frame_behind xs ys n i is =
+    let second = slice_index_or (xs ++ ys) (n + 1) Over in
+    let third = slice_index_or (xs ++ ys) (n + 2) Over in
+    ap (λ t. is_turn 1 3 t && (is_turn 0 3 second && is_turn 2 1 third)) (at_end xs ys n i is)
+    ∙ ap (λ t. is_turn 1 3 (slice_index_or ys i Over) && (is_turn 0 3 t && is_turn 2 1 third)) (at_end xs ys (n + 1) (i + 1) (omega (arith, is)))
+    ∙ ap (λ t. is_turn 1 3 (slice_index_or ys i Over) && (is_turn 0 3 (slice_index_or ys (i + 1) Over) && is_turn 2 1 t))
+    (at_end xs ys (n + 2) (i + 2) (omega (arith, is)))
+
+-- turns whose last three pass end in the frame
+ends : (turns : List Turn) (n : ℕ) → length turns ≡ n + 3 → IsTrue (is_frame_at turns n) → (middle : List Turn) × (turns ≡ middle ++ frame)
+unfolding is_frame_at
+ends [] n size is = absurd (omega (arith, size))
+ends (a ∷ []) n size is = absurd (omega (arith, size))
+ends (a ∷ b ∷ []) n size is = absurd (omega (arith, size))
+ends (a ∷ b ∷ c ∷ []) zero size is = ([], three-are a b c is)
+ends (a ∷ b ∷ c ∷ []) (suc n) size is = absurd (omega (arith, size))
+ends (a ∷ b ∷ c ∷ d ∷ rest) zero size is = absurd (omega (arith, size))
+ends (a ∷ b ∷ c ∷ d ∷ rest) (suc n) size is =
+    let later = ends (b ∷ c ∷ d ∷ rest) n (omega (arith, size)) (sym (frame_behind (a ∷ []) (b ∷ c ∷ d ∷ rest) (suc n) n (omega arith)) ∙ is) in
+    (a ∷ later.0, ap (λ turns. a ∷ turns) later.1)
+
+-- the test tells what is between two frames
+pub is_framed-is : (turns : List Turn) → IsTrue (is_framed turns) → IsFramed turns
+unfolding is_framed is_frame_at framed
+is_framed-is [] is = absurd (false≢true is)
+is_framed-is (a ∷ []) is = absurd (false≢true is)
+is_framed-is (a ∷ b ∷ []) is = absurd (false≢true is)
+is_framed-is (a ∷ b ∷ c ∷ rest) is =
+    let turns = a ∷ b ∷ c ∷ rest in
+    let n = length turns - 3 in
+    let tests = and_second (nat_le 6 (length turns)) (is_frame_at turns 0 && is_frame_at turns n) is in
+    let long : 6 ≤ length turns = leb-true 6 (length turns) (and_first (nat_le 6 (length turns)) (is_frame_at turns 0 && is_frame_at turns n) is) in
+    let first = three-are a b c (and_first (is_frame_at turns 0) (is_frame_at turns n) tests) in
+    let end = and_second (is_frame_at turns 0) (is_frame_at turns n) tests in
+    let m = length rest - 3 in
+    let last = ends rest m (omega (arith, long)) (sym (frame_behind (a ∷ b ∷ c ∷ []) rest n m (omega (arith, long))) ∙ end) in
+    record { middle = last.0; whole = ap (λ front. front ++ rest) first ∙ ap (λ end. frame ++ end) last.1 ∙ sym (append_assoc frame last.0 frame) }
