@@ -53,5 +53,5 @@ pub equator-solution : (s : Sq1State) (layers w : List Turn) → IsSq1 s → IsS
 equator-solution s layers w valid a b =
     let home = layers-end s layers a in
     IsSolution-unique sq1_after sq1_stages s w ((let e : List Turn = cond home.0.equator equator_word [] in e) ++ layers) b
-    (with_equator s valid layers a home.0 home.1 home.2)
+    (with_equator s valid layers home.0 home.1 home.2 a)
     ∙ ap (λ b. (let e : List Turn = cond b equator_word [] in e) ++ layers) (equator-played s home.0 layers home.1)

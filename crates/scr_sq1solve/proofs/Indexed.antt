@@ -1,11 +1,8 @@
 -- States by an index: where words do the same to the indexes of states that have one index, a search finds the same on the
 -- indexes as on the states.
-use Rattle.std.proofs.Common.{◌≡◌, ℕ, ◌<◌, Bool, true, false, IsTrue, cond, List, Option, Some, None, inl, inr, refl, sym, ap, ◌∙◌, eq-eqb, eqb-true, ltb-true}
+use Rattle.std.proofs.Common.{◌≡◌, ℕ, ◌<◌, Bool, true, false, IsTrue, cond, List, Option, Some, None, refl, sym, ap, ◌∙◌, eq-eqb, eqb-true, ltb-true}
 use Rattle.std.specs.Prelude.{◌↔◌, ◌==◌, nat_lt}
 use Rattle.std.specs.Option.{option_map}
-use Rattle.std.specs.List.{list_any}
-use Rattle.std.proofs.lemmas.Bool.{false≢true}
-use Rattle.scr_combinatorics.specs.Lists.{numbers_from}
 use Rattle.scr_combinatorics.specs.Play.{play}
 use Rattle.scr_coord.specs.Coordinates.{StaysBelow}
 use Rattle.scr_coord.specs.SearchSpaces.{positions, Follows}
@@ -16,9 +13,8 @@ use Rattle.scr_coord.proofs.IndexLaws.{StaysBelow-indexed}
 use Rattle.scr_sq1solve.specs.Tables.{has_index, lettered_coordinate}
 use Rattle.scr_combinatorics.specs.Stages.{Stage, by_letters, HasStageWord}
 use Rattle.scr_combinatorics.proofs.StageLaws.{by_letters-parts}
-use Rattle.scr_combinatorics.proofs.OneLetter.{Ends, IsEnding, ending_word, some_letter}
-use Rattle.scr_table.proofs.FoundWords.{least_below}
-use Rattle.scr_sq1solve.proofs.SomeBelow.{some-one, one-below}
+use Rattle.scr_combinatorics.proofs.OneLetter.{IsEnding}
+use Rattle.scr_sq1solve.proofs.EndingTests.{TellsLetters, word-tested, tested-word}
 
 -- What holds of states by an index: each index below the count is that of a valid state; words do the same to the indexes of
 -- valid states that have one index; a stage's letters keep states valid; and where a letter of the next stage leads, that one's
@@ -82,31 +78,15 @@ module _ {IsValid : Sq1State → Type 0} {count : ℕ} {index_of : Sq1State → 
     index_found None t = absurd (cc)
     index_found (Some r) t = (r, refl, eqb-true (index_of r) (index_of solved_sq1) t)
 
-    ends-tested : (k : ℕ) (r : Sq1State) → Ends sq1_after next s k r → IsTrue (test k)
-    ends-tested k r e =
-        tested k ∙ ap (has_index index_of (index_of solved_sq1)) e.played
-        ∙ eq-eqb (index_of r) (index_of solved_sq1) ((h.ended s r k v e.below e.played).0 e.goal)
-
-    tested-ends : (k : ℕ) → k < next.letters → IsTrue (test k) → (r : Sq1State) × Ends sq1_after next s k r
-    tested-ends k lt t =
-        let found = index_found (play sq1_after s (next.letter k)) (sym (tested k) ∙ t) in
-        (found.0, record { below = lt; played = found.1; goal = (h.ended s found.0 k v lt found.1).1 found.2 })
-
-    word-tested : HasStageWord sq1_after next s → IsTrue (list_any test (numbers_from 0 next.letters))
-    word-tested found =
-        let some = some_letter sq1_after next h.ending s found in
-        some-one test next.letters some.0 some.2.below (ends-tested some.0 some.1 some.2)
-
-    tested-word : IsTrue (list_any test (numbers_from 0 next.letters)) → HasStageWord sq1_after next s
-    tested-word t =
-        elim (least_below test next.letters) [
-          | inl least ↦
-              let ends = tested-ends least.0 least.1 least.2 in
-              let word = ending_word sq1_after next h.ending s ends.0 least.0 ends.1
-              (λ k r lt e. false≢true (sym (least.3 k lt) ∙ ends-tested k r e)) in
-              (word.0, word.1)
-          | inr none ↦ let one = one-below test next.letters t in absurd (false≢true (sym (none one.0 one.1) ∙ one.2))
-        ]
+    TellsLetters-index : TellsLetters next s test
+    TellsLetters-index = record {
+      passes = λ k r e.
+          tested k ∙ ap (has_index index_of (index_of solved_sq1)) e.played
+          ∙ eq-eqb (index_of r) (index_of solved_sq1) ((h.ended s r k v e.below e.played).0 e.goal);
+      ends = λ k lt t.
+          let found = index_found (play sq1_after s (next.letter k)) (sym (tested k) ∙ t) in
+          (found.0, record { below = lt; played = found.1; goal = (h.ended s found.0 k v lt found.1).1 found.2 });
+    }
 
   -- letters keep states valid
   kept : (s r : Sq1State) (n : ℕ) → IsValid s → lettered s n ≡ Some r → IsValid r
@@ -123,7 +103,9 @@ module _ {IsValid : Sq1State → Type 0} {count : ℕ} {index_of : Sq1State → 
     kept = kept;
     valid = h.below;
     turned = turned;
-    goals = λ s v. (word-tested s v, tested-word s v);
+    goals = λ s v.
+        let tells = TellsLetters-index s v in
+        (word-tested next h.ending s (test s v) tells, tested-word next h.ending s (test s v) tells);
   }
 
   -- letters lead from indexes to indexes

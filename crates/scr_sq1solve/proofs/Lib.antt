@@ -1,5 +1,5 @@
 mod Joins
-mod Walks
+mod WalkLaws
 mod LetterWords
 mod Filled
 mod ShapeSteps
@@ -12,11 +12,14 @@ mod Equator
 mod Flipped
 pub mod Solutions
 mod Bounds
+pub mod TotalLaws
+pub mod ShapeWordLaws
 mod EquatorLaws
 pub mod MinimaLaws
 mod Renamed
 mod Bases
 mod SomeBelow
+mod EndingTests
 mod Indexed
 mod ShapeStage
 mod Pairs
@@ -24,6 +27,6 @@ mod NormalLetters
 mod PairingStage
 mod PairedLists
 mod HomeStage
-mod Lengths
+pub mod Lengths
 mod ListCoordinates
 mod CodeSteps

@@ -15,9 +15,9 @@ use Rattle.scr_sq1.specs.Numbers.{corners_of, edges_of}
 use Rattle.scr_sq1.proofs.StatePieces.{StatePieces-valid}
 use Rattle.scr_sq1.proofs.Lawful.{IsSq1-solved}
 use Rattle.scr_sq1solve.specs.Stages.{oddness}
-use Rattle.scr_sq1solve.specs.Tables.{shapes_index, units_after}
+use Rattle.scr_sq1solve.specs.Tables.{has_index, shapes_index, units_after}
 use Rattle.scr_sq1solve.specs.Spaces.{IsNormalSq1}
-use Rattle.scr_sq1solve.specs.Placed.{is_normal, are_normal}
+use Rattle.scr_sq1solve.specs.Placed.{are_normal}
 use Rattle.scr_sq1solve.proofs.Renamed.{Names, renamed}
 use Rattle.scr_sq1solve.proofs.Bases.{names_of, AreNames-valid, corners_of-named, edges_of-named, shape_of-named}
 use Rattle.scr_sq1solve.proofs.Bases.{keeps_sq1, oddness-renamed}
@@ -29,7 +29,7 @@ module _ (letter : ℕ → List Turn) (tested : IsTrue (are_normal letter)) wher
     pub played : play sq1_after solved_sq1 (letter n) ≡ Some state
     pub are : IsNormalSq1 state
 
-  made_of : (n : ℕ) (o : Option Sq1State) → play sq1_after solved_sq1 (letter n) ≡ o → IsTrue (is_normal o) → IsMade n
+  made_of : (n : ℕ) (o : Option Sq1State) → play sq1_after solved_sq1 (letter n) ≡ o → IsTrue (has_index shapes_index (shapes_index solved_sq1) o) → IsMade n
   made_of n None e t = absurd (false≢true t)
   made_of n (Some r) e t =
       let valid = keeps_sq1 solved_sq1 r (letter n) IsSq1-solved e in
@@ -43,7 +43,7 @@ module _ (letter : ℕ → List Turn) (tested : IsTrue (are_normal letter)) wher
   unfolding are_normal
   made n lt =
       made_of n (play sq1_after solved_sq1 (letter n)) refl
-      (at_below (λ k. is_normal (play sq1_after solved_sq1 (letter k))) 32 n tested lt)
+      (at_below (λ k. has_index shapes_index (shapes_index solved_sq1) (play sq1_after solved_sq1 (letter k))) 32 n tested lt)
 
   units-made : (n : ℕ) (lt : n < 32) → units_after letter n ≡ (made n lt).state.units
   unfolding units_after

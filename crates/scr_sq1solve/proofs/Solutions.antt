@@ -52,37 +52,47 @@ play-solution s w a =
 
 -- ---- the solution of the layers, and before it the word that turns the equator, where that would stand turned
 
-module _ (s : Sq1State) (valid : IsSq1 s) (w : List Turn) (a : IsSolution sq1_after layer_stages s w) (home : Sq1State)
-    (played : play sq1_after s w ≡ Some home) (solved : HasSolvedLayers home) where
+module _ (s : Sq1State) (valid : IsSq1 s) (w : List Turn) (home : Sq1State) (played : play sq1_after s w ≡ Some home) (solved : HasSolvedLayers home) where
   -- where the layers are solved, the equator tells the state
   is_home : (b : Bool) → home.equator ≡ b → home ≡ record { units = solved_sq1.units; equator = b }
   is_home b is =
       ap (λ us. let r : Sq1State = record { units = us; equator = home.equator } in r) solved
       ∙ ap (λ e. let r : Sq1State = record { units = solved_sq1.units; equator = e } in r) is
 
-  by_equator : (b : Bool) → home.equator ≡ b → IsSolution sq1_after sq1_stages s ((let e : List Turn = cond b equator_word [] in e) ++ w)
-  by_equator true is =
-      let lettered = by_letters sq1_after 1 equator_stage.letter in
-      let there : play sq1_after (flipped s) w ≡ Some solved_sq1 =
-      play-flipped s w valid ∙ ap (option_map flipped) played ∙ ap (λ r. Some (flipped r)) (is_home true is) in
-      let flipped_solution = layers-flipped s w valid a in
-      let ends : Ends sq1_after equator_stage s 0 (flipped s) =
-      record { below = lit< tt; played = play-equator s valid; goal = (w, flipped_solution, there) } in
-      let apart : equator_stage.IsGoal s → ⊥ = λ goal.
-      let one = IsSolution-unique sq1_after layer_stages s goal.0 w goal.1 a in
-      let same = same_Some home solved_sq1 (sym played ∙ ap (play sq1_after s) (sym one) ∙ goal.2) in
-      false≢true (sym (ap (λ r. r.equator) same) ∙ is) in
-      solution_step sq1_after equator_stage s (flipped s) (0 ∷ [])
-      (one_letter sq1_after equator_stage s (flipped s) 0 (lit≤ tt) apart ends (λ k q lt e. absurd (omega (arith, lt))))
-      (play-one lettered s 0 ∙ by_letters-played sq1_after 1 equator_stage.letter s 0 (lit< tt) ∙ play-equator s valid)
-      layer_stages w flipped_solution
-  by_equator false is =
-      let there : play sq1_after s w ≡ Some solved_sq1 = played ∙ ap Some (is_home false is) in
-      solution_step sq1_after equator_stage s s [] (no_letter sq1_after equator_stage s (w, a, there))
-      (play-empty (by_letters sq1_after 1 equator_stage.letter) s) layer_stages w a
+  upright : home.equator ≡ false → play sq1_after s w ≡ Some solved_sq1
+  upright is = played ∙ ap Some (is_home false is)
 
-  pub with_equator : IsSolution sq1_after sq1_stages s ((let e : List Turn = cond home.equator equator_word [] in e) ++ w)
-  with_equator = by_equator home.equator refl
+  turned : home.equator ≡ true → play sq1_after (flipped s) w ≡ Some solved_sq1
+  turned is = play-flipped s w valid ∙ ap (option_map flipped) played ∙ ap (λ r. Some (flipped r)) (is_home true is)
+
+  played_by : (b : Bool) → home.equator ≡ b → play sq1_after s ((let e : List Turn = cond b equator_word [] in e) ++ w) ≡ Some solved_sq1
+  played_by true is = play-append sq1_after s (flipped s) equator_word w (play-equator s valid) ∙ turned is
+  played_by false is = upright is
+
+  pub play-with_equator : play sq1_after s ((let e : List Turn = cond home.equator equator_word [] in e) ++ w) ≡ Some solved_sq1
+  play-with_equator = played_by home.equator refl
+
+  module _ (a : IsSolution sq1_after layer_stages s w) where
+    by_equator : (b : Bool) → home.equator ≡ b → IsSolution sq1_after sq1_stages s ((let e : List Turn = cond b equator_word [] in e) ++ w)
+    by_equator true is =
+        let lettered = by_letters sq1_after 1 equator_stage.letter in
+        let flipped_solution = layers-flipped s w valid a in
+        let ends : Ends sq1_after equator_stage s 0 (flipped s) =
+        record { below = lit< tt; played = play-equator s valid; goal = (w, flipped_solution, turned is) } in
+        let apart : equator_stage.IsGoal s → ⊥ = λ goal.
+        let one = IsSolution-unique sq1_after layer_stages s goal.0 w goal.1 a in
+        let same = same_Some home solved_sq1 (sym played ∙ ap (play sq1_after s) (sym one) ∙ goal.2) in
+        false≢true (sym (ap (λ r. r.equator) same) ∙ is) in
+        solution_step sq1_after equator_stage s (flipped s) (0 ∷ [])
+        (one_letter sq1_after equator_stage s (flipped s) 0 (lit≤ tt) apart ends (λ k q lt e. absurd (omega (arith, lt))))
+        (play-one lettered s 0 ∙ by_letters-played sq1_after 1 equator_stage.letter s 0 (lit< tt) ∙ play-equator s valid)
+        layer_stages w flipped_solution
+    by_equator false is =
+        solution_step sq1_after equator_stage s s [] (no_letter sq1_after equator_stage s (w, a, upright is))
+        (play-empty (by_letters sq1_after 1 equator_stage.letter) s) layer_stages w a
+
+    pub with_equator : IsSolution sq1_after sq1_stages s ((let e : List Turn = cond home.equator equator_word [] in e) ++ w)
+    with_equator = by_equator home.equator refl
 
 -- ---- there is one
 
@@ -123,7 +133,7 @@ module _ (tables : List Distances) (built : AreTablesOf sq1_lines tables) where
       let layers = layers_by shapes.0 pairings.0 square.0 shapes.1 pairings.1 square.1 s valid in
       let home = layers-end s layers.0 layers.1 in (
         (let e : List Turn = cond home.0.equator equator_word [] in e) ++ layers.0,
-        with_equator s valid layers.0 layers.1 home.0 home.1 home.2,
+        with_equator s valid layers.0 home.0 home.1 home.2 layers.1,
       )
 
   -- so turns reach it, and they reach no other

@@ -6,3 +6,4 @@ pub mod Letters
 pub mod Codes
 pub mod Placed
 pub mod Minima
+pub mod Totals

@@ -1,15 +1,15 @@
 -- Moves of pieces, each told by the places from which the places get their pieces; letters that keep states normal and
 -- mates together.
-use Rattle.std.specs.Prelude.{◌≡◌, ℕ, ◌==◌, ◌&&◌, Bool, false, IsTrue, List, [], map, Option, Some, None}
+use Rattle.std.specs.Prelude.{◌≡◌, ℕ, ◌&&◌, Bool, IsTrue, List, [], map}
 use Rattle.scr_combinatorics.specs.Permutations.{IsPermutation}
 use Rattle.scr_orbit.specs.Orbits.{Rearrangement}
 use Rattle.scr_combinatorics.specs.Play.{play}
 use Rattle.scr_notation.specs.declared.turn.Turn.{Turn}
 use Rattle.scr_notation.specs.Ranges.{all_below, same}
-use Rattle.scr_sq1.specs.Units.{Sq1State, solved_sq1, sq1_after}
+use Rattle.scr_sq1.specs.Units.{solved_sq1, sq1_after}
 use Rattle.scr_sq1.specs.Numbers.{corners_of, edges_of}
 use Rattle.scr_sq1solve.specs.Stages.{mates}
-use Rattle.scr_sq1solve.specs.Tables.{shapes_index, units_after, carried_pairing}
+use Rattle.scr_sq1solve.specs.Tables.{has_index, shapes_index, units_after, carried_pairing}
 
 abbrev pub move_by : List ℕ → Rearrangement
 move_by places = record { places = places; added = [] }
@@ -25,12 +25,9 @@ pub record KeepsMates (places : List ℕ) : Type 0 where
 -- ---- letters
 
 -- All letters of a later stage leave the solved state normal,
-abbrev pub is_normal : Option Sq1State → Bool
-is_normal None = false
-is_normal (Some r) = shapes_index r == shapes_index solved_sq1
-
 unfoldable pub are_normal : (ℕ → List Turn) → Bool
-are_normal letter = all_below (λ n. is_normal (play sq1_after solved_sq1 (letter n))) 32
+are_normal letter =
+    all_below (λ n. has_index shapes_index (shapes_index solved_sq1) (play sq1_after solved_sq1 (letter n))) 32
 
 -- and mates opposite to each other.
 abbrev pub keeps_mates : (ℕ → List Turn) → ℕ → Bool

@@ -114,9 +114,13 @@ home_stage = record { letters = 32; letter = home_letter; IsGoal = HasStageWord 
 
 -- ---- the solution, and the scramble
 
+-- the stages that begin at the square shape
+abbrev pub later_stages : List (Stage Sq1State Turn)
+later_stages = squaring_stage ∷ pairing_stage ∷ home_stage ∷ last_stage ∷ []
+
 -- the stages that solve the layers
 abbrev pub layer_stages : List (Stage Sq1State Turn)
-layer_stages = shape_stage ∷ squaring_stage ∷ pairing_stage ∷ home_stage ∷ last_stage ∷ []
+layer_stages = shape_stage ∷ later_stages
 
 -- They lead from here to solved, the equator too.
 abbrev pub IsSolvedByLayers : Sq1State → Type 0

@@ -1,13 +1,18 @@
 //! What holds of the stages whatever the code: calls that do nothing, whose contracts are the laws.
-ghost use Rattle.std.specs.Prelude.{◌≡◌, ◌≤◌, ◌↔◌, ◌++◌, [], if◌then◌else◌, List, Some};
+ghost use Rattle.std.specs.Prelude.{◌≡◌, ◌≤◌, ◌↔◌, ◌++◌, [], if◌then◌else◌, Contains, IsTrue, List, Some, ℕ, length, slice_get};
+ghost use Rattle.std.specs.List.{AllPairs};
+ghost use Rattle.scr_combinatorics.specs.Back.{back};
+ghost use Rattle.scr_combinatorics.specs.FirstWord.{LeadsTo, IsEarlier};
 ghost use Rattle.scr_combinatorics.specs.Play.{play};
-ghost use Rattle.scr_combinatorics.specs.Stages.{IsSolution};
+ghost use Rattle.scr_combinatorics.specs.Stages.{by_letters, IsSolution, IsStageWord};
 ghost use Rattle.scr_combinatorics.specs.Reach.{IsReached};
 ghost use Rattle.scr_table.specs.Distances.{Distances};
 ghost use Rattle.scr_table.specs.Lines.{AreTablesOf};
 ghost use Rattle.scr_notation.specs.declared.turn.Turn.{Turn as Letter};
 ghost use Rattle.scr_sq1.specs.Units.{Sq1State, IsSq1, solved_sq1, sq1_after, sq1_puzzle};
-ghost use Rattle.scr_sq1solve.specs.Stages.{layer_stages, sq1_stages, equator_word, IsScrambleSq1};
+ghost use Rattle.scr_notation.specs.Turning.{opposite};
+ghost use Rattle.scr_sq1solve.specs.Stages.{shape_letter, shape_stage, layer_stages, sq1_stages, equator_word, IsScrambleSq1};
+ghost use Rattle.scr_sq1solve.specs.Totals.{is_squared, is_shape_word, shape_words, IsTotal};
 ghost use Rattle.scr_sq1solve.specs.Counts.{twists_in, turned_over, IsWithinBounds};
 ghost use Rattle.scr_coord.specs.SearchSpaces.{positions, Follows};
 ghost use Rattle.scr_sq1.specs.Numbers.{sq1_numbered};
@@ -70,4 +75,31 @@ pub fn equator()
         → w ≡ (if turned_over (twists_in layers) s.equator then equator_word else []) ++ layers }
     ensures word { (s r : Sq1State) (w : List Letter) → play sq1_after s w ≡ Some r
         → r.equator ≡ turned_over (twists_in w) s.equator }
+{}
+
+/// The test of the square shape tells exactly where the first stage ends, and that of shape words exactly the words of
+/// its letters that lead there. Those of at most 13 letters are listed in the order of words, and the first of them is
+/// the first stage's word.
+pub fn shape_words()
+    ensures squared { (s : Sq1State) → IsTrue (is_squared s) ↔ shape_stage.IsGoal s }
+    ensures led { (s : Sq1State) (word : List ℕ) → IsTrue (is_shape_word s word)
+        ↔ LeadsTo (by_letters sq1_after 144 shape_letter) shape_stage.IsGoal s word }
+    ensures all { (s : Sq1State) (word : List ℕ) → Contains (shape_words s) word
+        ↔ (length word ≤ 13) × IsTrue (is_shape_word s word) }
+    ensures in_order { (s : Sq1State) → AllPairs IsEarlier (shape_words s) }
+    ensures first { (s : Sq1State) (word : List ℕ) → slice_get (shape_words s) 0 ≡ Some word
+        ↔ IsStageWord sq1_after shape_stage s word }
+{}
+
+/// A word has one total, which solves the state from which it is taken. The scramble of a state is the total of the
+/// first stage's word, taken back.
+pub fn totals()
+    ensures one { (s : Sq1State) (word : List ℕ) (v w : List Letter) → IsTotal s word v → IsTotal s word w → v ≡ w }
+    ensures solves { (s : Sq1State) (word : List ℕ) (total : List Letter) → IsSq1 s → IsTotal s word total
+        → play sq1_after s total ≡ Some solved_sq1 }
+    ensures of_first { (s : Sq1State) (word : List ℕ) (total : List Letter) → IsSq1 s → IsTotal s word total
+        → IsStageWord sq1_after shape_stage s word → IsScrambleSq1 s (back opposite total) }
+    ensures scramble { (s : Sq1State) (turns : List Letter) → IsSq1 s → IsScrambleSq1 s turns
+        → (word : List ℕ) × (total : List Letter) × IsStageWord sq1_after shape_stage s word × IsTotal s word total
+        × (turns ≡ back opposite total) }
 {}

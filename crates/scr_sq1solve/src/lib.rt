@@ -5,9 +5,11 @@
 //! their layers; all pieces home. [`Sq1Tables`] are the three tables by which these words are found, each over what its
 //! stage sees of a state as a number (`specs/Tables.antt`). The turns that end the first and the last of these are stages
 //! of at most one letter, found by trying. The first stage of all turns the equator alone, where the others would leave
-//! it turned. [`scramble_sq1`] joins the words, tidies the solution, and takes it back. That each state has exactly one
-//! solution, which leads to solved, is the law `laws::solutions`; so each state is reached. [`needs_sq1`] tests minima by
-//! looking at all short words, and [`DrawSq1`] draws by it.
+//! it turned. [`Sq1Tables::shape_words`] gives the first words to the square shape; [`total_from`] joins the words of the
+//! later stages to one of them, and tidies the whole, its total (`specs/Totals.antt`); and [`scramble_sq1`] takes the total
+//! of the first of them back. That each state has exactly one solution, which leads to solved, is the law
+//! `laws::solutions`; so each state is reached. [`needs_sq1`] tests minima by looking at all short words, and [`DrawSq1`]
+//! draws by it.
 //!
 //! The moves of every table are built of small ones, or of a state for each position, so that no step of a build or a
 //! descent reads a state's number. Only the builds take memory. The crate stands on the Square-1 of `scr_sq1`, on
@@ -29,8 +31,11 @@ mod solving;
 mod stage_letters;
 mod stages;
 mod tables;
+mod totals;
+mod walks;
 
 pub use draw::DrawSq1;
 pub use minima::needs_sq1;
 pub use solving::scramble_sq1;
 pub use tables::Sq1Tables;
+pub use totals::total_from;

@@ -1,11 +1,19 @@
 //! The tables of the stages.
-ghost use Rattle.std.specs.Prelude.{◌≡◌, ◌≤◌, [], ◌∷◌, All, IfErr, IfOk, map};
+ghost use Rattle.std.specs.Prelude.{◌≡◌, ℕ, ◌≤◌, [], ◌∷◌, All, IfErr, IfOk, IsTrue, List, Some, length, map, slice_get, take};
+ghost use Rattle.scr_combinatorics.specs.Stages.{IsStageWord};
+ghost use Rattle.scr_sq1.specs.Units.{sq1_after};
+ghost use Rattle.scr_sq1solve.specs.Stages.{shape_stage};
 ghost use Rattle.scr_table.specs.Causes.{IsCauseOf};
 ghost use Rattle.scr_table.specs.Lines.{AreTablesOf, HasNoGap};
 ghost use Rattle.scr_sq1solve.specs.Tables.{sq1_lines};
+ghost use Rattle.scr_sq1solve.specs.Totals.{is_shape_word, shape_words};
 
+use crate::indexes::shapes_index;
 use crate::lines::{PairingsLine, ShapesLine, SquareLine};
-use scr_table::{BuildFault, DistanceTable, LineTable, TableName, TableSet, table_named};
+use scr_sq1::Sq1;
+use scr_table::{
+    BuildFault, DistanceTable, FirstWords, LineTable, TableName, TableSet, table_named,
+};
 use std::alloc::Global;
 use std::thread::Threads;
 
@@ -61,5 +69,21 @@ impl Sq1Tables {
             self.pairings.distances(),
             self.square.distances(),
         ]
+    }
+
+    /// The first `wanted` shape words of a state, of at most 13 letters, in the order of words: by length, and then by the
+    /// letters' numbers; at most 1,000, and all where there are fewer. It takes no memory.
+    pub fn shape_words(&self, state: &Sq1, wanted: u32) -> FirstWords
+        requires { wanted ≤ 1000 }
+        ensures words { result ≡ take wanted (shape_words state.now) }
+        ensures each { All (λ word. IsTrue (is_shape_word state.now word)) result }
+        ensures short { All (λ word. length word ≤ 13) result }
+
+        // the first of them is the word of the first stage, by which a solution by stages begins
+        ensures first { 1 ≤ wanted
+            → (word : List ℕ) × IsStageWord sq1_after shape_stage state.now word × (slice_get result 0 ≡ Some word) }
+    {
+        let _units = state.units();
+        self.shapes.first_words(shapes_index(state), 13, wanted)
     }
 }

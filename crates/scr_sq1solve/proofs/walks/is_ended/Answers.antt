@@ -3,7 +3,7 @@ use Rattle.std.specs.Prelude.{◌↔◌, ◌==◌}
 use Rattle.scr_sq1solve.specs.Letters.{stage_of}
 use Rattle.scr_sq1solve.proofs.ShapeStage.{IsNormal-iff}
 use Rattle.scr_sq1solve.proofs.ShapeSteps.{normal_index}
-use Rattle.scr_sq1solve.proofs.solving.is_ended.Goals as goal
+use Rattle.scr_sq1solve.proofs.walks.is_ended.Goals as goal
 
 pub returns-in-Squarings : goal.returns-in-Squarings
 returns-in-Squarings c =

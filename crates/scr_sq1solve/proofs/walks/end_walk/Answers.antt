@@ -5,8 +5,8 @@ use Rattle.scr_notation.specs.Written.{Written}
 use Rattle.scr_sq1.specs.Units.{sq1_after}
 use Rattle.scr_sq1solve.specs.Letters.{stage_of, letter_of}
 use Rattle.scr_sq1solve.proofs.Lengths.{Costs-ending}
-use Rattle.scr_sq1solve.proofs.Walks.{IsEnding-short, IsWalk-played, walk-costs}
-use Rattle.scr_sq1solve.proofs.solving.end_walk.Goals as goal
+use Rattle.scr_sq1solve.proofs.WalkLaws.{IsEnding-short, IsWalk-played, walk-costs}
+use Rattle.scr_sq1solve.proofs.walks.end_walk.Goals as goal
 
 pub unreachable-requires : goal.unreachable-requires
 unreachable-requires c =

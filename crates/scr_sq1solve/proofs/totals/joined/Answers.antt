@@ -8,7 +8,7 @@ use Rattle.scr_notation.specs.Written.{Written}
 use Rattle.scr_sq1solve.specs.Counts.{twists_of, twists_in}
 use Rattle.scr_sq1solve.proofs.Lengths.{twists-tidy, length-tidy, OfSq1-permitted}
 use Rattle.scr_sq1solve.proofs.Joins.{IsTidy-sq1}
-use Rattle.scr_sq1solve.proofs.solving.joined.Goals as goal
+use Rattle.scr_sq1solve.proofs.totals.joined.Goals as goal
 
 pub returns-clause-word : goal.returns-clause-word
 returns-clause-word c =

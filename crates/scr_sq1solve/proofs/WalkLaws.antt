@@ -1,12 +1,12 @@
--- The words of the stages, as they are found and played, and the solution that they are joined to.
+-- The words of the stages, as they are found and played, and the total that they are joined to.
 use Rattle.std.proofs.Common.{◌≡◌, ℕ, ◌*◌, ◌<◌, ◌≤◌, cond, List, [], ◌∷◌, ◌++◌, length, Some, refl, sym, ap, ◌∙◌, subst}
 use Rattle.std.proofs.Common.{arith}
-use Rattle.std.specs.Prelude.{All}
+use Rattle.std.specs.Prelude.{All, false}
+use Rattle.std.specs.Option.{option_map_or}
 use Rattle.std.proofs.Math.Nat.{mul-le-mul_right}
 use Rattle.std.proofs.lemmas.List.{append-nil}
 use Rattle.std.proofs.lemmas.Option.{same_Some}
 use Rattle.scr_combinatorics.specs.Play.{play}
-use Rattle.scr_combinatorics.specs.Back.{back}
 use Rattle.scr_combinatorics.specs.FirstWord.{IsFirstWord}
 use Rattle.scr_combinatorics.specs.Tidy.{tidy}
 use Rattle.scr_combinatorics.specs.Stages.{Stage, IsStageWord, spelled, IsSolution}
@@ -17,21 +17,21 @@ use Rattle.scr_orbit.proofs.Minima.{count_once}
 use Rattle.scr_coord.specs.Coordinates.{moved, IsGoal}
 use Rattle.scr_coord.specs.SearchSpaces.{positions, Follows}
 use Rattle.scr_notation.specs.declared.turn.Turn.{Turn}
-use Rattle.scr_notation.specs.Turning.{opposite, turn_merging}
+use Rattle.scr_notation.specs.Turning.{turn_merging}
 use Rattle.scr_table.specs.Distances.{Distances}
 use Rattle.scr_table.specs.Lines.{TableLine, IsTableOf}
 use Rattle.scr_table.specs.StageSpaces.{stage_space}
 use Rattle.scr_table.proofs.StageLaws.{end_valid, IsStageWord-first}
-use Rattle.scr_sq1.specs.Units.{Sq1State, IsSq1, sq1_after}
-use Rattle.scr_sq1solve.specs.Stages.{shape_stage, squaring_stage, pairing_stage, home_stage, last_stage, equator_word, IsScrambleSq1}
+use Rattle.scr_sq1.specs.Units.{Sq1State, sq1_after}
+use Rattle.scr_sq1solve.specs.Stages.{shape_letter, squaring_stage, pairing_stage, home_stage, last_stage, equator_word}
+use Rattle.scr_sq1solve.specs.Totals.{equator_part, IsTotal}
 use Rattle.scr_sq1solve.specs.declared.stage_letters.Letters.{Letters}
 use Rattle.scr_sq1solve.specs.declared.stage_letters.Letters.TheVariants.{OfShapes, OfPairings, OfHome, Squarings, Quarters}
 use Rattle.scr_sq1solve.specs.Letters.{stage_of, IsWalk}
-use Rattle.scr_sq1solve.specs.Counts.{twists_of, twists_in, Costs}
+use Rattle.scr_sq1solve.specs.Counts.{twists_of, Costs}
 use Rattle.scr_sq1solve.proofs.Joins.{tidy-rest}
 use Rattle.scr_sq1solve.proofs.ShapeStage.{IsEnding-squaring}
 use Rattle.scr_sq1solve.proofs.HomeStage.{IsEnding-last}
-use Rattle.scr_sq1solve.proofs.Solutions.{with_equator}
 
 -- the turns of a stage's word, where they are played
 pub IsWalk-played : (stage : Stage Sq1State Turn) (s end : Sq1State) (word : List ℕ) (turns : List Turn) → IsStageWord sq1_after stage s word → turns ≡ spelled stage.letter word
@@ -43,25 +43,31 @@ IsWalk-played stage s end word turns is are played = record {
   end_is = same_Some is.first.leads.end end (sym (play-stage_word sq1_after stage s word is) ∙ ap (play sq1_after s) (sym are) ∙ played);
 }
 
+-- so many letters come to so many turns and twists
+pub Costs-spelled : (letter : ℕ → List Turn) (each_turns each_twists : ℕ) → ((n : ℕ) → Costs (letter n) each_turns each_twists)
+    → (word : List ℕ) (most : ℕ) → length word ≤ most → Costs (spelled letter word) (most * each_turns) (most * each_twists)
+Costs-spelled letter each_turns each_twists costs word most few = record {
+  turns = omega (
+    arith,
+    count_once (spelled letter word),
+    count-spelled (λ t. 1) letter each_turns (λ n. omega (arith, count_once (letter n), (costs n).turns)) word,
+    mul-le-mul_right each_turns few,
+  );
+  twists = omega (
+    arith,
+    count-spelled twists_of letter each_twists (λ n. (costs n).twists) word,
+    mul-le-mul_right each_twists few,
+  );
+}
+
 -- what is so where a stage's word has led
 module _ {stage : Stage Sq1State Turn} {s end : Sq1State} {turns : List Turn} (w : IsWalk stage s turns end) where
   pub walk-costs : (each_turns each_twists : ℕ) → ((n : ℕ) → Costs (stage.letter n) each_turns each_twists)
       → Costs turns (stage.bound * each_turns) (stage.bound * each_twists)
-  walk-costs each_turns each_twists costs = record {
-    turns = omega (
-      arith,
-      ap length w.turns_are,
-      count_once (spelled stage.letter w.word),
-      count-spelled (λ t. 1) stage.letter each_turns (λ n. omega (arith, count_once (stage.letter n), (costs n).turns)) w.word,
-      mul-le-mul_right each_turns w.is.within,
-    );
-    twists = omega (
-      arith,
-      ap twists_in w.turns_are,
-      count-spelled twists_of stage.letter each_twists (λ n. (costs n).twists) w.word,
-      mul-le-mul_right each_twists w.is.within,
-    );
-  }
+  walk-costs each_turns each_twists costs =
+      let most = stage.bound in
+      subst (λ ts. Costs ts (most * each_turns) (most * each_twists)) (sym w.turns_are)
+      (Costs-spelled stage.letter each_turns each_twists costs w.word most w.is.within)
 
   pub walk-kept : (IsValid : Sq1State → Type 0) (line : TableLine) (view : Sq1State → ℕ)
       → Follows (stage_space sq1_after stage IsValid) (positions line.coordinate) view → IsValid s → IsValid end
@@ -98,25 +104,33 @@ Solves-next {stage} {rest} {s} {end} {home} {turns} {more} w h = record {
 onward : (v all : List Turn) {w rest : List Turn} → w ≡ tidy turn_merging (v ++ rest) → rest ≡ tidy turn_merging all → w ≡ tidy turn_merging (v ++ all)
 onward v all here before = here ∙ ap (λ r. tidy turn_merging (v ++ r)) before ∙ tidy-rest v all
 
-module _ {s shaped normal paired homed home : Sq1State} {shape squaring pairing homing last : List Turn} (valid : IsSq1 s)
-    (a : IsWalk shape_stage s shape shaped) (b : IsWalk squaring_stage shaped squaring normal) (c : IsWalk pairing_stage normal pairing paired)
+module _ {s shaped normal paired homed home : Sq1State} {word : List ℕ} {shape squaring pairing homing last : List Turn}
+    (a : shape ≡ spelled shape_letter word) (led : play sq1_after s shape ≡ Some shaped)
+    (b : IsWalk squaring_stage shaped squaring normal) (c : IsWalk pairing_stage normal pairing paired)
     (d : IsWalk home_stage paired homing homed) (e : IsWalk last_stage homed last home) where
-  -- the words, joined from their end and tidied whenever one is joined, are the tidied solution
-  pub IsScramble-joined : (first : List Turn) {h p q r w : List Turn} → h ≡ tidy turn_merging (homing ++ last) → p ≡ tidy turn_merging (pairing ++ h)
+  -- the words, joined from their end and tidied whenever one is joined, are the total
+  pub IsTotal-joined : (first : List Turn) {h p q r w : List Turn} → h ≡ tidy turn_merging (homing ++ last) → p ≡ tidy turn_merging (pairing ++ h)
       → q ≡ tidy turn_merging (squaring ++ p) → r ≡ tidy turn_merging (shape ++ q)
       → first ≡ (let e : List Turn = cond home.equator equator_word [] in e) → w ≡ tidy turn_merging (first ++ r)
-      → IsScrambleSq1 s (back opposite w)
-  IsScramble-joined first homed_is paired_is squared_is shaped_is first_is whole_is =
-      let layers : List Turn = shape ++ (squaring ++ (pairing ++ (homing ++ last))) in
-      let solves = Solves-next a (Solves-next b (Solves-next c (Solves-next d (Solves-last e)))) in
+      → IsTotal s word w
+  unfolding equator_part
+  IsTotal-joined first homed_is paired_is squared_is shaped_is first_is whole_is =
+      let later : List Turn = squaring ++ (pairing ++ (homing ++ last)) in
+      let solves = Solves-next b (Solves-next c (Solves-next d (Solves-last e))) in
+      let end : play sq1_after s (shape ++ later) ≡ Some home = play-append sq1_after s shaped shape later led ∙ solves.played in
+      let turned : first ≡ equator_part s (shape ++ later) =
+      first_is ∙ ap (λ o. let e : List Turn = cond (option_map_or (λ r. r.equator) o false) equator_word [] in e) (sym end) in
+      let whole =
+      onward first (shape ++ later) whole_is
+      (onward shape later shaped_is
+      (onward squaring (pairing ++ (homing ++ last)) squared_is (onward pairing (homing ++ last) paired_is homed_is)))
+      ∙ ap (λ f. tidy turn_merging (f ++ (shape ++ later))) turned in
       record {
-        solution = (let e : List Turn = cond home.equator equator_word [] in e) ++ layers;
-        is = with_equator s valid layers solves.is home solves.played (walk-goal e);
-        taken_back = ap (back opposite)
-            (onward first layers whole_is
-            (onward shape (squaring ++ (pairing ++ (homing ++ last))) shaped_is
-            (onward squaring (pairing ++ (homing ++ last)) squared_is (onward pairing (homing ++ last) paired_is homed_is)))
-            ∙ ap (λ f. tidy turn_merging (f ++ layers)) first_is);
+        end = shaped;
+        shaped = ap (play sq1_after s) (sym a) ∙ led;
+        later = later;
+        solved = solves.is;
+        tidied = whole ∙ ap (λ ts. tidy turn_merging (equator_part s (ts ++ later) ++ (ts ++ later))) a;
       }
 
 -- ---- stages of one letter at most
@@ -135,13 +149,12 @@ pub below-word : (stage : Stage Sq1State Turn) (s : Sq1State) (w : List ℕ) →
 below-word stage s w is few =
     let below = All-stage_word sq1_after stage s w is in λ k d lt. omega (arith, below k d lt, few)
 
--- the word that a table of a line finds from a state's position, where it is read and copied
+-- the word that a table of a line finds from a state's position
 module _ (stage : Stage Sq1State Turn) (IsValid : Sq1State → Type 0) (line : TableLine) (view : Sq1State → ℕ)
     (follows : Follows (stage_space sq1_after stage IsValid) (positions line.coordinate) view) (bound : line.bound ≤ stage.bound)
-    (table : Distances) (is : IsTableOf line table) (s : Sq1State) (p : ℕ) (items word : List ℕ) where
-  pub IsStageWord-found : IsValid s → p ≡ view s → word ≡ items → IsFirstWord (moved line.coordinate) (IsGoal line.coordinate) p items
+    (table : Distances) (is : IsTableOf line table) (s : Sq1State) (p : ℕ) (word : List ℕ) where
+  pub IsStageWord-found : IsValid s → p ≡ view s → IsFirstWord (moved line.coordinate) (IsGoal line.coordinate) p word
       → IsStageWord sq1_after stage s word
-  IsStageWord-found valid at copied first =
-      subst (IsStageWord sq1_after stage s) (sym copied)
-      (IsStageWord-first sq1_after stage IsValid line view follows bound table is s items valid
-      (subst (λ q. IsFirstWord (moved line.coordinate) (IsGoal line.coordinate) q items) at first))
+  IsStageWord-found valid at first =
+      IsStageWord-first sq1_after stage IsValid line view follows bound table is s word valid
+      (subst (λ q. IsFirstWord (moved line.coordinate) (IsGoal line.coordinate) q word) at first)

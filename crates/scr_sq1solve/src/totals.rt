@@ -1,0 +1,92 @@
+//! The words of a Square-1 to the square shape, and the solutions that they begin.
+ghost use Rattle.std.specs.Prelude.{◌≡◌, ◌+◌, ◌*◌, ◌≤◌, ◌++◌, [], if◌then◌else◌, List, Some, IsTrue, length};
+ghost use Rattle.scr_combinatorics.specs.Play.{play};
+ghost use Rattle.scr_combinatorics.specs.Back.{back};
+ghost use Rattle.scr_combinatorics.specs.Stages.{spelled};
+ghost use Rattle.scr_combinatorics.specs.Tidy.{tidy};
+ghost use Rattle.scr_notation.specs.declared.event.Event.TheVariants.{Sq1 as EventSq1};
+ghost use Rattle.scr_notation.specs.declared.turn.Turn.{Turn as Letter};
+ghost use Rattle.scr_notation.specs.Turning.{opposite, turn_merging};
+ghost use Rattle.scr_sq1.specs.Units.{solved_sq1, sq1_after};
+ghost use Rattle.scr_sq1solve.specs.Counts.{twists_in};
+ghost use Rattle.scr_sq1solve.specs.Stages.{equator_word, shape_letter, shape_stage};
+ghost use Rattle.scr_sq1solve.specs.Totals.{is_shape_word, IsTotal};
+
+use crate::stage_letters::{Letters, equator_word};
+use crate::tables::Sq1Tables;
+use crate::walks::{Walk, end_walk, stage_walk, walked};
+use scr_notation::{Event, Scramble, push_all, tidy};
+use scr_sq1::Sq1;
+
+/// The solution that a word to the square shape begins, tidied: its total, of at most 76 twists and 153 turns. The word
+/// is told by the numbers of its letters, which are below 144, and is a shape word of the state, of at most 13 letters;
+/// the caller sees to that. The scramble is the total taken back. There is no refusal, and no memory is taken.
+///
+/// It is joined from its end, and each part is tidied when it is joined.
+pub fn total_from(tables: &Sq1Tables, state: &Sq1, shape_word: &[u8]) -> Scramble
+    requires shape_word { IsTrue (is_shape_word state.now shape_word.now) }
+    requires short { length shape_word.now ≤ 13 }
+    ensures event { result.event ≡ EventSq1 }
+    ensures total { IsTotal state.now shape_word.now result.turns }
+    ensures only { (turns : List Letter) → IsTotal state.now shape_word.now turns → turns ≡ result.turns }
+    ensures twists { twists_in result.turns ≤ 76 }
+    ensures at_most { length result.turns ≤ 153 }
+    ensures solves { play sq1_after state.now result.turns ≡ Some solved_sq1 }
+    ensures taken_back { play sq1_after solved_sq1 (back opposite result.turns) ≡ Some state.now }
+{
+    let _units = state.units();
+    let shaped = shape_walk(state, shape_word);
+    let squared = end_walk(Letters::Squarings, &shaped.end);
+    let paired = stage_walk(&tables.pairings, &squared.end);
+    let homed = stage_walk(&tables.square, &paired.end);
+    let last = end_walk(Letters::Quarters, &homed.end);
+    let homing = joined(&homed.turns, &last.turns);
+    let pairing = joined(&paired.turns, &homing);
+    let squaring = joined(&squared.turns, &pairing);
+    let shaping = joined(&shaped.turns, &squaring);
+    joined(&equator_part(&last.end), &shaping)
+}
+
+/// The turns of a shape word of at most 13 letters, and where they lead.
+fn shape_walk(state: &Sq1, shape_word: &[u8]) -> Walk
+    requires shape_word { IsTrue (is_shape_word state.now shape_word.now) }
+    requires short { length shape_word.now ≤ 13 }
+    ensures event { result.turns.event ≡ EventSq1 }
+    ensures turns { result.turns.turns ≡ spelled shape_letter shape_word.now }
+    ensures end { play sq1_after state.now result.turns.turns ≡ Some result.end }
+    ensures goal { shape_stage.IsGoal result.end }
+    ensures at_most { length result.turns.turns ≤ 26 }
+    ensures twists { twists_in result.turns.turns ≤ 13 }
+{
+    walked(Letters::OfShapes, shape_word, state)
+}
+
+/// The word that turns the equator alone, where it stands turned.
+#[tactic(auto, unfolding(scr_combinatorics::specs::Play::count_in))]
+fn equator_part(state: &Sq1) -> Scramble
+    ensures event { result.event ≡ EventSq1 }
+    ensures turns { result.turns ≡ (if state.now.equator then equator_word else []) }
+    ensures twists { twists_in result.turns ≤ 3 }
+{
+    if state.equator() {
+        equator_word()
+    } else {
+        Scramble::new(Event::Sq1)
+    }
+}
+
+/// Two words one after the other, tidied. Together they have at most 160 turns.
+fn joined(first: &Scramble, second: &Scramble) -> Scramble
+    requires first { first.now.event ≡ EventSq1 }
+    requires second { second.now.event ≡ EventSq1 }
+    requires room { length first.now.turns + length second.now.turns ≤ 160 }
+    ensures event { result.event ≡ EventSq1 }
+    ensures word { result.turns ≡ tidy turn_merging (first.now.turns ++ second.now.turns) }
+    ensures twists { twists_in result.turns ≤ twists_in first.now.turns + twists_in second.now.turns }
+    ensures short { length result.turns ≤ 2 * twists_in result.turns + 1 }
+{
+    let mut both = Scramble::new(Event::Sq1);
+    push_all(&mut both, first);
+    push_all(&mut both, second);
+    tidy(&both)
+}
