@@ -5,7 +5,7 @@ use Rattle.std.specs.List.{find, list_all}
 use Rattle.std.specs.Str.{bytes_eq}
 use Rattle.std.proofs.lemmas.Slice.Eq.{bytes_eq-Decides}
 use Rattle.scr_command.specs.declared.options.OptionName.{OptionName}
-use Rattle.scr_command.specs.declared.options.OptionName.TheVariants.{Seed, Workers, Tries, Attempts}
+use Rattle.scr_command.specs.declared.options.OptionName.TheVariants.{Seed, Workers, Tries, Attempts, Short}
 use Rattle.scr_command.specs.OptionTable.{Text, all_options, flag_of, is_option, option_name}
 use Rattle.scr_command.specs.OptionWords.{spelled_option}
 
@@ -15,6 +15,7 @@ each_alike f g all Seed = cc
 each_alike f g all Workers = cc
 each_alike f g all Tries = cc
 each_alike f g all Attempts = cc
+each_alike f g all Short = cc
 
 -- ---- tests of all options
 
@@ -34,10 +35,11 @@ pub all_pass : (p : OptionName → Bool) → ((option : OptionName) → p option
 all_pass p each = all-true p all_options each
 
 pub one_fails : (p : OptionName → Bool) (option : OptionName) → p option ≡ false → list_all p all_options ≡ false
-one_fails p Seed not = all-false p [] (Workers ∷ Tries ∷ Attempts ∷ []) Seed not
-one_fails p Workers not = all-false p (Seed ∷ []) (Tries ∷ Attempts ∷ []) Workers not
-one_fails p Tries not = all-false p (Seed ∷ Workers ∷ []) (Attempts ∷ []) Tries not
-one_fails p Attempts not = all-false p (Seed ∷ Workers ∷ Tries ∷ []) [] Attempts not
+one_fails p Seed not = all-false p [] (Workers ∷ Tries ∷ Attempts ∷ Short ∷ []) Seed not
+one_fails p Workers not = all-false p (Seed ∷ []) (Tries ∷ Attempts ∷ Short ∷ []) Workers not
+one_fails p Tries not = all-false p (Seed ∷ Workers ∷ []) (Attempts ∷ Short ∷ []) Tries not
+one_fails p Attempts not = all-false p (Seed ∷ Workers ∷ Tries ∷ []) (Short ∷ []) Attempts not
+one_fails p Short not = all-false p (Seed ∷ Workers ∷ Tries ∷ Attempts ∷ []) [] Short not
 
 -- ---- names
 

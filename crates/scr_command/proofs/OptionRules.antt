@@ -1,7 +1,7 @@
 -- The command that splits the words, as it is built, and what its rules come to.
 use Rattle.std.proofs.Common.{◌≡◌, refl, cond, map, List, [], ◌∷◌, Bool, true, false, Some, None, codes}
 use Rattle.scr_command.specs.declared.options.OptionName.{OptionName}
-use Rattle.scr_command.specs.declared.options.OptionName.TheVariants.{Seed, Workers, Tries, Attempts}
+use Rattle.scr_command.specs.declared.options.OptionName.TheVariants.{Seed, Workers, Tries, Attempts, Short}
 use Rattle.scr_command.specs.OptionTable.{Text, all_options, option_name}
 use Rattle.scr_command.specs.OptionsCommand.{raw_rule, options_app, shape_with}
 use Rattle.scr_command.proofs.EachOption.{each_alike}
@@ -78,7 +78,7 @@ no_default k rows = go (has_row (option_name k) rows) refl
 pub finished_is : (h : Held) → finished rules h ≡ (settled rules h).rows
 finished_is h =
     let rows = (settled rules h).rows in
-    rw ((no_default Seed rows).0, (no_default Workers rows).0, (no_default Tries rows).0, (no_default Attempts rows).0) refl
+    rw ((no_default Seed rows).0, (no_default Workers rows).0, (no_default Tries rows).0, (no_default Attempts rows).0, (no_default Short rows).0) refl
 
 pub defaults_pass : (rows : List Row) → defaults_fault rows rules ≡ []
 unfolding defaults_fault
@@ -90,7 +90,9 @@ defaults_pass rows =
       (no_default Workers rows).1,
       (no_default Tries rows).0,
       (no_default Tries rows).1,
+      (no_default Attempts rows).0,
       (no_default Attempts rows).1,
+      (no_default Short rows).1,
     ) refl
 
 -- the seed alone is required

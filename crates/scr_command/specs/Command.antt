@@ -15,7 +15,7 @@ use Rattle.scr_command.specs.declared.command.Command.TheVariants.{One, Sheet, T
 use Rattle.scr_command.specs.declared.command.UsageFault.{UsageFault}
 use Rattle.scr_command.specs.declared.command.UsageFault.TheVariants.{No444, NoSeed, Grammar}
 use Rattle.scr_command.specs.declared.options.OptionName.{OptionName}
-use Rattle.scr_command.specs.declared.options.OptionName.TheVariants.{Workers, Tries, Attempts}
+use Rattle.scr_command.specs.declared.options.OptionName.TheVariants.{Workers, Tries, Attempts, Short}
 use Rattle.scr_command.specs.declared.options.OptionName.TheVariants as option
 use Rattle.scr_command.specs.declared.options.Range.{Range}
 use Rattle.scr_command.specs.OptionTable.{option_row, usual_number, sheet_options, check_options}
@@ -29,6 +29,7 @@ usual_options = record {
   workers = usual_number (option_row Workers).range;
   tries = usual_number (option_row Tries).range;
   attempts = usual_number (option_row Attempts).range;
+  short = usual_number (option_row Short).range;
 }
 
 -- the number that an option sets in its range, or the usual one where the option isn't there
@@ -37,13 +38,14 @@ setting range None = Some (usual_number range)
 setting None (Some text) = None
 setting (Some range) (Some text) = number_between range.least range.greatest text
 
--- the three numbers, where each is one
-abbrev pub options_with : Option ℕ → Option ℕ → Option ℕ → Option Options
-options_with (Some workers) (Some tries) (Some attempts) =
-    Some (record { workers = workers; tries = tries; attempts = attempts })
-options_with None tries attempts = None
-options_with (Some workers) None attempts = None
-options_with (Some workers) (Some tries) None = None
+-- the four numbers, where each is one
+abbrev pub options_with : Option ℕ → Option ℕ → Option ℕ → Option ℕ → Option Options
+options_with (Some workers) (Some tries) (Some attempts) (Some short) =
+    Some (record { workers = workers; tries = tries; attempts = attempts; short = short })
+options_with None tries attempts short = None
+options_with (Some workers) None attempts short = None
+options_with (Some workers) (Some tries) None short = None
+options_with (Some workers) (Some tries) (Some attempts) None = None
 
 -- the number of an option, by the values that were given
 abbrev pub number_in : Values → OptionName → Option ℕ
@@ -51,7 +53,8 @@ number_in values option = setting (option_row option).range (values option)
 
 -- the numbers of the options of a sheet
 abbrev pub settings_in : Values → Option Options
-settings_in values = options_with (number_in values Workers) (number_in values Tries) (number_in values Attempts)
+settings_in values =
+    options_with (number_in values Workers) (number_in values Tries) (number_in values Attempts) (number_in values Short)
 
 -- ---- a seed
 
@@ -111,7 +114,7 @@ command_with command None seed = Err Grammar
 command_with command (Some numbers) None = Err Grammar
 command_with command (Some numbers) (Some seed) = seeded (λ s. command s numbers) (seed_of seed)
 
--- ---- `sheet --seed HEX [--workers N] [--tries N] [--attempts N]`
+-- ---- `sheet --seed HEX [--workers N] [--tries N] [--attempts N] [--short N]`
 
 -- the command of the values that its options were given
 abbrev pub sheet_of : Option Values → Result Command UsageFault

@@ -2,7 +2,7 @@
 use Rattle.std.specs.Prelude.{◌≤◌, ℕ, Bool, List, [], ◌∷◌, ◌++◌, Option, Some, None, codes}
 use Rattle.std.specs.Str.{bytes_eq}
 use Rattle.scr_command.specs.declared.options.OptionName.{OptionName}
-use Rattle.scr_command.specs.declared.options.OptionName.TheVariants.{Seed, Workers, Tries, Attempts}
+use Rattle.scr_command.specs.declared.options.OptionName.TheVariants.{Seed, Workers, Tries, Attempts, Short}
 use Rattle.scr_command.specs.declared.options.Range.{Range}
 
 abbrev pub Text : Type 0
@@ -23,14 +23,15 @@ option_row Seed = record { name = codes "seed"; range = None }
 option_row Workers = sets_number (codes "workers") 1 64 1
 option_row Tries = sets_number (codes "tries") 0 100000 2000
 option_row Attempts = sets_number (codes "attempts") 1 1000000 1000
+option_row Short = sets_number (codes "short") 1 1000 1
 
 -- all options, in this order
 abbrev pub all_options : List OptionName
-all_options = Seed ∷ Workers ∷ Tries ∷ Attempts ∷ []
+all_options = Seed ∷ Workers ∷ Tries ∷ Attempts ∷ Short ∷ []
 
 -- those of the command `sheet`
 abbrev pub sheet_options : List OptionName
-sheet_options = Seed ∷ Workers ∷ Tries ∷ Attempts ∷ []
+sheet_options = Seed ∷ Workers ∷ Tries ∷ Attempts ∷ Short ∷ []
 
 -- those of the command `check`
 abbrev pub check_options : List OptionName

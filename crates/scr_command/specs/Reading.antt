@@ -7,7 +7,7 @@ use Rattle.scr_command.specs.declared.command.UsageFault.{UsageFault}
 use Rattle.scr_command.specs.declared.command.CommandFault.{CommandFault}
 use Rattle.scr_command.specs.declared.command.CommandFault.TheVariants as refusal
 use Rattle.scr_command.specs.declared.options.OptionName.{OptionName}
-use Rattle.scr_command.specs.declared.options.OptionName.TheVariants.{Workers, Tries, Attempts}
+use Rattle.scr_command.specs.declared.options.OptionName.TheVariants.{Workers, Tries, Attempts, Short}
 use Rattle.scr_command.specs.OptionTable.{option_row, IsSettable}
 use Rattle.scr_command.specs.OptionWords.{Values, options_of}
 use Rattle.scr_command.specs.Command.{command_of, net_side, HasOptions}
@@ -17,6 +17,7 @@ pub record AreOptions (options : Options) : Type 0 where
   pub workers : IsSettable (option_row Workers).range options.workers
   pub tries : IsSettable (option_row Tries).range options.tries
   pub attempts : IsSettable (option_row Attempts).range options.attempts
+  pub short : IsSettable (option_row Short).range options.short
 
 -- a command that words can ask for: its numbers are in their ranges, and a net is that of a cube
 abbrev pub IsCommand : Command → Type 0

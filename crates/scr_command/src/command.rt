@@ -251,10 +251,12 @@ fn read_numbers(split: &SplitOptions<'_>) -> Option<Options>
     let workers = read_number(split, OptionName::Workers)?;
     let tries = read_number(split, OptionName::Tries)?;
     let attempts = read_number(split, OptionName::Attempts)?;
+    let short = read_number(split, OptionName::Short)?;
     Some(Options {
         workers,
         tries,
         attempts,
+        short,
     })
 }
 

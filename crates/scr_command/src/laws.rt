@@ -17,21 +17,22 @@ pub fn words_write_what_is_read()
 
 /// The numbers of a sheet: the usual ones, the least and the greatest, and those just outside.
 pub fn numbers_of_a_sheet()
-    ensures usual { Sets [] (record { workers = 1; tries = 2000; attempts = 1000 }) }
-    ensures least { Sets (codes "--workers=1" ∷ codes "--tries=0" ∷ codes "--attempts=1" ∷ [])
-        (record { workers = 1; tries = 0; attempts = 1 }) }
-    ensures greatest { Sets (codes "--attempts=1000000" ∷ codes "--tries=100000" ∷ codes "--workers=64" ∷ [])
-        (record { workers = 64; tries = 100000; attempts = 1000000 }) }
+    ensures usual { Sets [] (record { workers = 1; tries = 2000; attempts = 1000; short = 1 }) }
+    ensures least { Sets (codes "--short=1" ∷ codes "--workers=1" ∷ codes "--tries=0" ∷ codes "--attempts=1" ∷ [])
+        (record { workers = 1; tries = 0; attempts = 1; short = 1 }) }
+    ensures greatest { Sets (codes "--attempts=1000000" ∷ codes "--tries=100000" ∷ codes "--short=1000" ∷ codes "--workers=64" ∷ [])
+        (record { workers = 64; tries = 100000; attempts = 1000000; short = 1000 }) }
     ensures workers { AreRefused (codes "--workers=0" ∷ []) × AreRefused (codes "--workers=65" ∷ []) }
     ensures tries { AreRefused (codes "--tries=100001" ∷ []) }
     ensures attempts { AreRefused (codes "--attempts=0" ∷ []) × AreRefused (codes "--attempts=1000001" ∷ []) }
+    ensures short { AreRefused (codes "--short=0" ∷ []) × AreRefused (codes "--short=1001" ∷ []) }
 {}
 
 /// The attempts of a check: the usual ones and the greatest. It has no other number.
 pub fn numbers_of_a_check()
     ensures usual { SetsAttempts [] 1000 }
     ensures greatest { SetsAttempts (codes "--attempts=1000000" ∷ []) 1000000 }
-    ensures others { AreNoCheck (codes "--tries=1" ∷ []) × AreNoCheck (codes "--workers=1" ∷ []) }
+    ensures others { AreNoCheck (codes "--tries=1" ∷ []) × AreNoCheck (codes "--workers=1" ∷ []) × AreNoCheck (codes "--short=1" ∷ []) }
 {}
 
 /// Words that are no command: options twice, short, cut off, or of no name, values that are missing, and no words.

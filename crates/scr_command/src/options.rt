@@ -14,6 +14,8 @@ pub enum OptionName {
     Tries,
     /// How many attempts the draw of a slot has.
     Attempts,
+    /// How many ways to the square shape the solver of a Square-1 tries.
+    Short,
 }
 
 /// The numbers that an option may set.
@@ -35,19 +37,21 @@ struct OptionRow {
 }
 
 /// All options.
-pub(crate) const OPTIONS: [OptionName; 4] = [
+pub(crate) const OPTIONS: [OptionName; 5] = [
     OptionName::Seed,
     OptionName::Workers,
     OptionName::Tries,
     OptionName::Attempts,
+    OptionName::Short,
 ];
 
 /// The options of the command `sheet`.
-pub const SHEET_OPTIONS: [OptionName; 4] = [
+pub const SHEET_OPTIONS: [OptionName; 5] = [
     OptionName::Seed,
     OptionName::Workers,
     OptionName::Tries,
     OptionName::Attempts,
+    OptionName::Short,
 ];
 
 /// The options of the command `check`.
@@ -78,6 +82,7 @@ impl OptionName {
             OptionName::Workers => ("workers", from_to(1, 64, 1)),
             OptionName::Tries => ("tries", from_to(0, 100_000, 2000)),
             OptionName::Attempts => ("attempts", from_to(1, 1_000_000, 1000)),
+            OptionName::Short => ("short", from_to(1, 1000, 1)),
         };
         OptionRow { name, range }
     }
@@ -112,6 +117,9 @@ pub struct Options {
     pub tries: u32,
     /// How many attempts the draw of a slot has, from 1 to 1,000,000.
     pub attempts: u32,
+    /// How many ways to the square shape the solver of a Square-1 tries, from 1 to 1,000: the shortest solution among
+    /// them gives the scramble.
+    pub short: u32,
 }
 
 impl Default for Options {
@@ -120,12 +128,13 @@ impl Default for Options {
 
     ghost is_default = { λ options. options ≡ usual_options };
 
-    /// One worker, 2,000 tries, 1,000 attempts.
+    /// One worker, 2,000 tries, 1,000 attempts, one way to the square shape.
     fn default() -> Options {
         Options {
             workers: usual(OptionName::Workers),
             tries: usual(OptionName::Tries),
             attempts: usual(OptionName::Attempts),
+            short: usual(OptionName::Short),
         }
     }
 }

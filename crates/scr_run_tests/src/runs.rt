@@ -20,7 +20,7 @@ mod workers;
 pub(crate) const ZEROS: &str = "0000000000000000000000000000000000000000000000000000000000000000";
 
 pub(crate) const USAGE: &str =
-    "scramble: usage: one EVENT SEED | sheet --seed HEX [--workers N] [--tries N] [--attempts N] | tables EVENT | load NUMBER | net EVENT SEED | check --seed HEX [--attempts N]\n";
+    "scramble: usage: one EVENT SEED | sheet --seed HEX [--workers N] [--tries N] [--attempts N] [--short N] | tables EVENT | load NUMBER | net EVENT SEED | check --seed HEX [--attempts N]\n";
 
 pub(crate) const NO_444: &str = "scramble: 444 is not supported\n";
 

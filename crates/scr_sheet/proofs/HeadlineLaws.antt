@@ -177,7 +177,7 @@ words-parts (word ∷ words) (inr (inr is)) =
 
 -- where nothing is made with settings, any will do
 no_settings : Settings
-no_settings = record { seed = record { 0 = [] }; attempts = 0; effort = record { tries = 0 } }
+no_settings = record { seed = record { 0 = [] }; attempts = 0; effort = record { tries = 0; short = 1 } }
 
 fair-command : (asked : Result Command UsageFault) (source out : Change) (ended : Result (Unit {0}) Fault) → AsksForParts asked
     → Ends asked source out ended → IsFairlyWritten out

@@ -142,7 +142,7 @@ EndsChecking settings source = EndsBy (ReadsInput source) (ReadsInPart source (�
 
 -- a check is made with a seed and so many attempts a slot; no scramble is looked for
 abbrev pub check_settings : Seed → ℕ → Settings
-check_settings seed attempts = record { seed = seed; attempts = attempts; effort = record { tries = 0 } }
+check_settings seed attempts = record { seed = seed; attempts = attempts; effort = record { tries = 0; short = 1 } }
 
 -- ---- what the calls on that way give
 

@@ -23,7 +23,7 @@ abbrev pub usage_text : UsageFault → List ℕ
 usage_text No444 = codes "444 is not supported"
 usage_text (NoSeed fault) = seed_fault_text fault
 usage_text Grammar =
-    codes "usage: one EVENT SEED | sheet --seed HEX [--workers N] [--tries N] [--attempts N] | tables EVENT | load NUMBER | net EVENT SEED | check --seed HEX [--attempts N]"
+    codes "usage: one EVENT SEED | sheet --seed HEX [--workers N] [--tries N] [--attempts N] [--short N] | tables EVENT | load NUMBER | net EVENT SEED | check --seed HEX [--attempts N]"
 
 -- why a line was refused
 abbrev pub cause_text : ListCause → List ℕ

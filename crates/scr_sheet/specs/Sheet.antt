@@ -20,7 +20,11 @@ use Rattle.scr_slots.specs.Events.{scrambling_of}
 
 -- what a sheet is made with
 abbrev pub settings_of : Seed → Options → Settings
-settings_of seed options = record { seed = seed; attempts = options.attempts; effort = record { tries = options.tries } }
+settings_of seed options = record {
+  seed = seed;
+  attempts = options.attempts;
+  effort = record { tries = options.tries; short = options.short };
+}
 
 -- A part: slots of an event with one minimum, on streams one after another, and its text with their scrambles.
 pub record Part : Type 0 where

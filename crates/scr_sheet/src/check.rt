@@ -38,7 +38,7 @@ pub(crate) fn write_check<R: Threads + Sync, S: Source, O: Sink>(
     let settings = Settings {
         seed: *seed,
         attempts,
-        effort: Effort { tries: 0 },
+        effort: Effort { tries: 0, short: 1 },
     };
     check_input(rt, alloc, &settings, source)?;
     write_line(out, "", "agrees")?;

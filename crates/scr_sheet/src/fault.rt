@@ -116,7 +116,7 @@ const LONGEST: usize = 224;
 
 /// The words that are commands.
 const GRAMMAR: &str =
-    "usage: one EVENT SEED | sheet --seed HEX [--workers N] [--tries N] [--attempts N] | tables EVENT | load NUMBER | net EVENT SEED | check --seed HEX [--attempts N]";
+    "usage: one EVENT SEED | sheet --seed HEX [--workers N] [--tries N] [--attempts N] [--short N] | tables EVENT | load NUMBER | net EVENT SEED | check --seed HEX [--attempts N]";
 
 impl Fault {
     /// The line that tells it, with its line feed.

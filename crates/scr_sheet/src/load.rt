@@ -10,6 +10,7 @@ ghost use Rattle.scr_outside.specs.Change.{change_of, Writes};
 ghost use Rattle.scr_list.specs.Rounds.{IsRound};
 ghost use Rattle.scr_list.specs.RoundLists.{IsRounds};
 ghost use Rattle.scr_command.specs.Command.{usual_options};
+ghost use Rattle.scr_slots.specs.Ranges.{AreInRange};
 ghost use Rattle.scr_sheet.specs.Sheet.{settings_of, round_part, round_parts};
 ghost use Rattle.scr_sheet.specs.Load.{load_seed, load_round, load_rounds, slots_of_all, four_lines, load_text};
 ghost use Rattle.scr_sheet.specs.Outcome.{EndsLoad, EndsUnmade};
@@ -128,7 +129,7 @@ fn rounds_size<R: Threads + Sync, G: Gate + Sync>(
     requires tables { All (λ round. Has making.now.tables.now round.event) rounds.now }
     requires rounds { IsRounds rounds.now }
     requires few { length rounds.now ≤ 16 }
-    requires attempts { making.now.settings.attempts ≤ 1000000 }
+    requires settings { AreInRange making.now.settings }
     ensures { SizesParts making.now.settings (round_parts 0 rounds.now) result }
 {
     let mut size = Size { bytes: 0, sum: 0 };
@@ -149,7 +150,7 @@ fn round_size<R: Threads + Sync, G: Gate + Sync>(
     requires tables { Has making.now.tables.now round.now.event }
     requires index { index < 256 }
     requires round { IsRound round.now }
-    requires attempts { making.now.settings.attempts ≤ 1000000 }
+    requires settings { AreInRange making.now.settings }
     ensures size { let settings = making.now.settings in
         MatchResult result (IsPartSize settings (round_part index round.now)) (EndsUnmade settings index (round_part index round.now)) }
     ensures few { IfOk result (λ size. size.bytes ≤ TEXT_ROOM) }

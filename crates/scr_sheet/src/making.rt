@@ -4,6 +4,7 @@ ghost use Rattle.std.specs.Prelude.{◌≡◌, ◌<◌, ◌≤◌, ◌++◌, [],
 ghost use Rattle.std.specs.Vec.{vec_len, vec_capacity};
 ghost use Rattle.scr_notation.specs.EventSets.{Has};
 ghost use Rattle.scr_list.specs.Rounds.{IsRound};
+ghost use Rattle.scr_slots.specs.Ranges.{AreInRange, IsShort};
 ghost use Rattle.scr_sheet.specs.Making.{answer_at, IsRoundMade, IsPartFault, IsFirstNone};
 ghost use Rattle.scr_sheet.specs.Sheet.{settings_of, round_part};
 
@@ -57,7 +58,7 @@ const MOST_WORKERS: u32 = 64;
 /// how many there are changes no scramble. Each slot passes the gate before it is drawn.
 ///
 /// The tables have the round's event, `index` is below 256, the round is one that a list can name, and there are at most
-/// 1,000,000 attempts. All memory is taken before the first draw. `Limit` names the first slot whose attempts give no
+/// 1,000,000 attempts, and 1 to 1,000 ways to the square shape. All memory is taken before the first draw. `Limit` names the first slot whose attempts give no
 /// permitted state, and comes exactly where there is one.
 pub fn make_round<R: Threads + Sync, G: Gate + Sync>(
     rt: &R,
@@ -73,6 +74,7 @@ pub fn make_round<R: Threads + Sync, G: Gate + Sync>(
     requires index { index < 256 }
     requires round { IsRound round.now }
     requires attempts { options.now.attempts ≤ 1000000 }
+    requires short { IsShort options.now.short }
     ensures { let settings = settings_of seed.now options.now in
         MatchResult result (IsRoundMade settings index round.now) (IsPartFault settings (round_part index round.now)) }
 {
@@ -88,6 +90,7 @@ pub(crate) fn settings_of(seed: &Seed, options: &Options) -> Settings
         attempts: options.attempts,
         effort: Effort {
             tries: options.tries,
+            short: options.short,
         },
     }
 }
@@ -145,7 +148,7 @@ impl<'a, R: Threads + Sync, G: Gate + Sync> Making<'a, R, G> {
         requires tables { Has self.now.tables.now round.now.event }
         requires index { index < 256 }
         requires round { IsRound round.now }
-        requires attempts { self.now.settings.attempts ≤ 1000000 }
+        requires settings { AreInRange self.now.settings }
         ensures { let settings = self.now.settings in
             MatchResult result (IsRoundMade settings index round.now) (IsPartFault settings (round_part index round.now)) }
     {

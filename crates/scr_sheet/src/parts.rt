@@ -7,6 +7,7 @@ ghost use Rattle.scr_list.specs.Rounds.{IsRound};
 ghost use Rattle.scr_list.specs.RoundLists.{IsRounds};
 ghost use Rattle.scr_command.specs.declared.command.Command.TheVariants.{Sheet};
 ghost use Rattle.scr_slots.specs.Tables.{HasTables};
+ghost use Rattle.scr_slots.specs.Ranges.{AreInRange, IsShort};
 ghost use Rattle.scr_sheet.specs.declared.fault.Fault.TheVariants.{NoMemory};
 ghost use Rattle.scr_sheet.specs.Sheet.{settings_of, round_part, round_parts};
 ghost use Rattle.scr_sheet.specs.Outcome.{EndsCommand, EndsMaking, EndsParts, EndsTables, EndsUnmade, LacksTables};
@@ -35,7 +36,8 @@ pub(crate) fn write_sheet<R: Threads + Sync, S: Source, O: Sink, G: Gate + Sync>
     out: &mut O,
     gate: &G,
 ) -> Result<(), Fault>
-    requires { options.now.attempts ≤ 1000000 }
+    requires attempts { options.now.attempts ≤ 1000000 }
+    requires short { IsShort options.now.short }
     ensures { EndsCommand (Sheet seed.now options.now) (intake_of S.left S.faults S.ends source.old source.new)
         (change_of O.held O.faults out.old out.new) result }
 {
@@ -55,6 +57,7 @@ fn make_sheet<R: Threads + Sync, O: Sink, G: Gate + Sync>(
 ) -> Result<(), Fault>
     requires rounds { IsRounds rounds.now }
     requires attempts { options.now.attempts ≤ 1000000 }
+    requires short { IsShort options.now.short }
     ensures { EndsMaking (settings_of seed.now options.now) (round_parts 0 rounds.now)
         (change_of O.held O.faults out.old out.new) result }
 {
@@ -71,7 +74,7 @@ fn write_rounds<R: Threads + Sync, O: Sink, G: Gate + Sync>(
 ) -> Result<(), Fault>
     requires tables { All (λ round. Has making.now.tables.now round.event) rounds.now }
     requires rounds { IsRounds rounds.now }
-    requires attempts { making.now.settings.attempts ≤ 1000000 }
+    requires settings { AreInRange making.now.settings }
     ensures { EndsParts making.now.settings 0 (round_parts 0 rounds.now)
         (change_of O.held O.faults out.old out.new) result }
 {
@@ -91,7 +94,7 @@ fn write_one_round<R: Threads + Sync, O: Sink, G: Gate + Sync>(
     requires tables { Has making.now.tables.now round.now.event }
     requires index { index < 256 }
     requires round { IsRound round.now }
-    requires attempts { making.now.settings.attempts ≤ 1000000 }
+    requires settings { AreInRange making.now.settings }
     ensures { EndsParts making.now.settings index (round_part index round.now ∷ [])
         (change_of O.held O.faults out.old out.new) result }
 {
@@ -109,7 +112,7 @@ pub(crate) fn made_round<R: Threads + Sync, G: Gate + Sync>(
     requires tables { Has making.now.tables.now round.now.event }
     requires index { index < 256 }
     requires round { IsRound round.now }
-    requires attempts { making.now.settings.attempts ≤ 1000000 }
+    requires settings { AreInRange making.now.settings }
     ensures { let settings = making.now.settings in
         MatchResult result (IsRoundMade settings index round.now) (EndsUnmade settings index (round_part index round.now)) }
 {

@@ -3,6 +3,7 @@
 ghost use Rattle.std.specs.Prelude.{◌≡◌, ◌≤◌, ◌<◌};
 ghost use Rattle.scr_notation.specs.EventSets.{Has};
 ghost use Rattle.scr_list.specs.Rounds.{IsRound};
+ghost use Rattle.scr_slots.specs.Ranges.{AreInRange};
 ghost use Rattle.scr_sheet.specs.Making.{RoundSlots};
 
 use scr_list::Round;
@@ -25,6 +26,7 @@ impl<'a> Model for SlotJobs<'a> {
     ghost use Rattle.std.specs.Prelude.{◌<◌, ◌≤◌};
     ghost use Rattle.scr_notation.specs.EventSets.{Has};
     ghost use Rattle.scr_list.specs.Rounds.{IsRound};
+    ghost use Rattle.scr_slots.specs.Ranges.{AreInRange};
     ghost use Rattle.scr_sheet.specs.Making.{RoundSlots};
 
     ghost Value = { RoundSlots };
@@ -32,7 +34,7 @@ impl<'a> Model for SlotJobs<'a> {
     ghost view = { λ jobs. record { settings = jobs.settings.now; index = jobs.index; round = jobs.round.now } };
 
     ghost invariant = { λ jobs. Has jobs.tables.now jobs.round.now.event × (jobs.index < 256) × IsRound jobs.round.now
-        × (jobs.settings.now.attempts ≤ 1000000) };
+        × AreInRange jobs.settings.now };
 }
 
 impl<'a> SlotJobs<'a> {
@@ -46,7 +48,7 @@ impl<'a> SlotJobs<'a> {
         requires tables { Has tables.now round.now.event }
         requires index { index < 256 }
         requires round { IsRound round.now }
-        requires attempts { settings.now.attempts ≤ 1000000 }
+        requires settings { AreInRange settings.now }
         ensures { result ≡ record { settings = settings.now; index = index; round = round.now } }
     {
         SlotJobs {

@@ -25,7 +25,7 @@ use Rattle.scr_small.proofs.PyramLaws.{IsScramblePyram-unique}
 use Rattle.scr_tetra.specs.Pyraminx.{numbered_pyram}
 use Rattle.scr_tetra.specs.Skewb.{skewb_numbered}
 use Rattle.scr_sq1.specs.Numbers.{sq1_numbered}
-use Rattle.scr_sq1solve.proofs.Solutions.{one_scramble}
+use Rattle.scr_sq1short.proofs.ShortestLaws.{IsShortScramble-unique}
 use Rattle.scr_slots.specs.Shown.{Shown, States, Moves}
 use Rattle.scr_slots.specs.Slots.{Scrambling, ByState, ByMoves, by_state, IsDrawnFairly}
 use Rattle.scr_slots.specs.Events.{scrambling_of, shown_of, IsScramble333Within, drawn_222, drawn_333, drawn_held, drawn_fewest, IsScrambleFewestWithin, drawn_pyram, drawn_skewb, drawn_clock, drawn_sq1, cube_random_moves, moves_minx}
@@ -58,7 +58,7 @@ each_one Pyram least =
 each_one Skewb least =
     HasOneAnswer-state Skewb drawn_skewb skewb_numbered _ least (lit≤ tt) (λ effort state turns other reached. IsScrambleOf-unique numbered_puzzle_skewb lawful_puzzle_skewb state turns other)
 each_one Sq1 least =
-    HasOneAnswer-state Sq1 drawn_sq1 sq1_numbered _ least (lit≤ tt) (λ effort state turns other reached. one_scramble state turns other)
+    HasOneAnswer-state Sq1 drawn_sq1 sq1_numbered _ least (lit≤ tt) (λ effort state turns other reached. IsShortScramble-unique effort.short state turns other)
 each_one Bf333 least =
     HasOneAnswer-state Bf333 drawn_held held_numbered _ least (lit≤ tt) (λ effort state turns other reached. IsScramble333bf-unique effort.tries state turns other)
 each_one Fm333 least =

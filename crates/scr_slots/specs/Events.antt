@@ -24,7 +24,7 @@ use Rattle.scr_small.specs.NumberedPuzzles.{IsScrambleOf}
 use Rattle.scr_small.specs.Puzzles.{numbered_puzzle_222, numbered_puzzle_skewb, corners_line, pyramid_line, skewb_line, IsScramblePyram}
 use Rattle.scr_sq1.specs.Units.{Sq1State, solved_sq1, sq1_after, sq1_puzzle}
 use Rattle.scr_sq1.specs.Numbers.{sq1_numbered}
-use Rattle.scr_sq1solve.specs.Stages.{IsScrambleSq1}
+use Rattle.scr_sq1short.specs.ShortScrambles.{IsShortScramble}
 use Rattle.scr_sq1solve.specs.Counts.{IsWithinBounds}
 use Rattle.scr_sq1solve.specs.Tables.{sq1_lines}
 use Rattle.scr_clock.specs.Dials.{solved, clock_puzzle}
@@ -121,7 +121,7 @@ abbrev pub IsScrambleFewestWithin : Effort → CubeState → List Turn → Type 
 IsScrambleFewestWithin effort cube turns =
     IsScrambleFewest effort.tries cube turns × (IsTrue (is_some (two_parts (between cube) effort.tries)) → length turns ≤ 28)
 
--- Puzzles other than the 3x3x3 have one scramble, whatever the effort.
+-- Puzzles other than the 3x3x3 and the Square-1 have one scramble, whatever the effort.
 unfoldable pub scrambling_of : Event → Scrambling
 scrambling_of C222 = by_state C222 drawn_222 numbered_222 (λ effort. IsScrambleOf numbered_puzzle_222)
 scrambling_of C333 = scrambling_333
@@ -133,7 +133,7 @@ scrambling_of Clock = by_state Clock drawn_clock clock_numbered (λ effort. IsCl
 scrambling_of Minx = ByMoves Minx moves_minx
 scrambling_of Pyram = by_state Pyram drawn_pyram numbered_pyram (λ effort. IsScramblePyram)
 scrambling_of Skewb = by_state Skewb drawn_skewb skewb_numbered (λ effort. IsScrambleOf numbered_puzzle_skewb)
-scrambling_of Sq1 = by_state Sq1 drawn_sq1 sq1_numbered (λ effort. IsScrambleSq1)
+scrambling_of Sq1 = by_state Sq1 drawn_sq1 sq1_numbered (λ effort. IsShortScramble effort.short)
 scrambling_of Bf333 = by_state Bf333 drawn_held held_numbered (λ effort. IsScramble333bf effort.tries)
 scrambling_of Fm333 = by_state Fm333 drawn_fewest cube_numbered IsScrambleFewestWithin
 

@@ -1,4 +1,5 @@
 pub mod Shown
+pub mod Ranges
 pub mod Slots
 pub mod Agreement
 pub mod Outcomes

@@ -5,10 +5,13 @@ ghost use Rattle.scr_table.specs.Causes.{IsCauseOf};
 ghost use Rattle.scr_table.specs.Lines.{AreTablesOf, HasNoGap};
 ghost use Rattle.scr_notation.specs.declared.event.Family.TheVariants as family;
 ghost use Rattle.scr_slots.specs.Events.{family_lines};
+ghost use Rattle.scr_stages.specs.Tables.{stage_lines};
+ghost use Rattle.scr_twophase.specs.Tables.{prune_lines};
 
 use scr_stages::StageTables;
 use scr_table::{BuildFault, DistanceTable};
 use scr_twophase::PruneTables;
+use scr_workers::{both, shared};
 use std::alloc::Global;
 use std::thread::Threads;
 
@@ -31,7 +34,8 @@ impl Drop for CubeTables {
 }
 
 impl CubeTables {
-    /// All eight, built by 1 to 64 workers, or why one isn't built. They are made ready for so many cubes.
+    /// All eight, built by 1 to 64 workers, who share out the stages and the parts, or why one isn't built. They are made ready
+    /// for so many cubes.
     #[tactic(auto, unfolding(crate::specs::Events::family_lines))]
     pub fn build<R: Threads + Sync>(
         rt: &R,
@@ -43,8 +47,23 @@ impl CubeTables {
         ensures whole { IfOk result (λ _. All HasNoGap (family_lines family.Cube333)) }
         ensures cause { IfErr result (IsCauseOf (family_lines family.Cube333)) }
     {
-        let stages = StageTables::build(rt, alloc, workers)?;
-        let mut prune = PruneTables::build(rt, alloc, workers)?;
+        let (front, back) = shared(workers);
+        let (stages, prune) = both(
+            rt,
+            workers,
+            || -> Result<StageTables, BuildFault>
+                requires { (1 ≤ front) × (front ≤ 64) }
+                ensures whole { IfOk result (λ _. All HasNoGap stage_lines) }
+                ensures cause { IfErr result (IsCauseOf stage_lines) }
+            { StageTables::build(rt, alloc, front) },
+            || -> Result<PruneTables, BuildFault>
+                requires { (1 ≤ back) × (back ≤ 64) }
+                ensures whole { IfOk result (λ _. All HasNoGap prune_lines) }
+                ensures cause { IfErr result (IsCauseOf prune_lines) }
+            { PruneTables::build(rt, alloc, back) },
+        );
+        let stages = stages?;
+        let mut prune = prune?;
         prune.prepare(rt, alloc, cubes, workers)?;
         Ok(CubeTables { stages, prune })
     }

@@ -10,6 +10,8 @@ use scr_notation::Scramble;
 
 /// Finds the scrambles of a puzzle's states by one rule.
 pub trait Scrambler<S> {
+    ghost use Rattle.scr_slots.specs.Ranges.{IsShort};
+
     /// The event that its scrambles are of.
     ghost event: { Self → Event };
 
@@ -22,8 +24,9 @@ pub trait Scrambler<S> {
     /// Which turns are the scramble of a state, to which it gives so much effort.
     ghost is_scramble: { Self → EffortOf → S → List Turn → Type 0 };
 
-    /// The scramble of a state: played on the solved puzzle it gives the state.
+    /// The scramble of a state: played on the solved puzzle it gives the state. The effort is in its range.
     fn scramble(&self, state: &S, effort: Effort) -> Scramble
+        requires { IsShort effort.short }
         ensures event { result.event ≡ event self.now }
         ensures gives { played self.now result.turns ≡ Some state.now }
         ensures within { is_within self.now result.turns }

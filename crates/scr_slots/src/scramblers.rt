@@ -9,7 +9,8 @@ use scr_fewest::scramble_333fm;
 use scr_notation::Scramble;
 use scr_small::{OneTable, SmallPuzzle, SmallPyram};
 use scr_sq1::Sq1;
-use scr_sq1solve::{Sq1Tables, scramble_sq1};
+use scr_sq1short::scramble_sq1_short;
+use scr_sq1solve::Sq1Tables;
 use scr_tetra::Pyraminx;
 use scr_twophase::{scramble_333, scramble_333bf};
 
@@ -126,7 +127,7 @@ impl Scrambler<Held> for CubeTables {
 
 impl Scrambler<Sq1> for Sq1Tables {
     ghost use Rattle.scr_notation.specs.declared.event.Event.TheVariants.{Sq1 as EventSq1};
-    ghost use Rattle.scr_sq1solve.specs.Stages.{IsScrambleSq1};
+    ghost use Rattle.scr_sq1short.specs.ShortScrambles.{IsShortScramble};
     ghost use Rattle.scr_slots.specs.Events.{drawn_sq1};
 
     ghost event = { λ _. EventSq1 };
@@ -135,9 +136,9 @@ impl Scrambler<Sq1> for Sq1Tables {
 
     ghost is_within = { λ _. drawn_sq1.IsWithin };
 
-    ghost is_scramble = { λ _ _. IsScrambleSq1 };
+    ghost is_scramble = { λ _ effort. IsShortScramble effort.short };
 
-    fn scramble(&self, state: &Sq1, _effort: Effort) -> Scramble {
-        scramble_sq1(self, state)
+    fn scramble(&self, state: &Sq1, effort: Effort) -> Scramble {
+        scramble_sq1_short(self, state, effort.short)
     }
 }

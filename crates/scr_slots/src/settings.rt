@@ -6,6 +6,8 @@ use scr_words::Seed;
 pub struct Effort {
     /// How many first parts the solver of a 3x3x3 tries, up to 100,000.
     pub tries: u32,
+    /// How many ways to the square shape the solver of a Square-1 tries, from 1 to 1,000.
+    pub short: u32,
 }
 
 /// The seed of a sheet, and how much work its scrambles may take.

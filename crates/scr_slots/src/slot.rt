@@ -6,6 +6,7 @@ ghost use Rattle.scr_notation.specs.declared.turn.Turn.{Turn};
 ghost use Rattle.scr_notation.specs.Event.{greatest_of};
 ghost use Rattle.scr_notation.specs.EventSets.{Has};
 ghost use Rattle.scr_slots.specs.Events.{scrambling_of};
+ghost use Rattle.scr_slots.specs.Ranges.{AreInRange};
 ghost use Rattle.scr_slots.specs.Shown.{drawn_puzzle};
 ghost use Rattle.scr_slots.specs.Slots.{IsSlotAnswer, by_state};
 
@@ -26,7 +27,7 @@ use scr_words::ChaChaWords;
 /// The scramble of a slot of an event on this stream; `None` exactly where its attempts draw no state that needs at least
 /// `least` turns, or where all those of a random move are refused.
 ///
-/// The tables are those of a list with the event; `least` is in its range, and there are at most 1,000,000 attempts.
+/// The tables are those of a list with the event; `least` and the settings are in their ranges.
 #[tactic(auto, unfolding(crate::specs::Events::scrambling_of))]
 pub fn slot_answer(
     tables: &Tables,
@@ -37,7 +38,7 @@ pub fn slot_answer(
 ) -> Option<Scramble>
     requires tables { Has tables.now event }
     requires least { least ≤ greatest_of event }
-    requires attempts { settings.now.attempts ≤ 1000000 }
+    requires settings { AreInRange settings.now }
     ensures { IsSlotAnswer (scrambling_of event) settings.now least stream result }
 {
     match event {
@@ -80,8 +81,8 @@ pub fn slot_answer(
 /// The answer of a slot whose state is drawn of an event, and scrambled by a scrambler of its states; this is one body for
 /// all of them.
 ///
-/// `least` is in the event's range, and there are at most 1,000,000 attempts. What the scrambler's turns make of the solved
-/// puzzle is what the event's turns reach.
+/// `least` and the settings are in their ranges. What the scrambler's turns make of the solved puzzle is what the event's
+/// turns reach.
 pub fn drawn_answer<E: Numbering + Permit<E::State>, Z: Scrambler<E::State>>(
     event: &E,
     scrambler: &Z,
@@ -90,7 +91,7 @@ pub fn drawn_answer<E: Numbering + Permit<E::State>, Z: Scrambler<E::State>>(
     stream: u64,
 ) -> Option<Scramble>
     requires least { least ≤ E.greatest event.now }
-    requires attempts { settings.now.attempts ≤ 1000000 }
+    requires settings { AreInRange settings.now }
     requires reaches { (turns : List Turn) (state : E.State) → Z.played scrambler.now turns ≡ Some state
         → IsReached (E.puzzle event.now) state }
     ensures { let drawn = drawn_puzzle (E.puzzle event.now) (Z.played scrambler.now) (Z.is_within scrambler.now) in

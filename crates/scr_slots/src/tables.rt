@@ -12,7 +12,7 @@ ghost use Rattle.scr_small.specs.Tables.{small_line};
 ghost use Rattle.scr_slots.specs.Events.{scrambling_of};
 ghost use Rattle.scr_slots.specs.Held.{HasFamily, HoldsTable, HoldsTables};
 ghost use Rattle.scr_slots.specs.Slots.{IsDrawnFairly};
-ghost use Rattle.scr_slots.specs.Tables.{IsBuildCause, asks_for, is_family, lines_asked};
+ghost use Rattle.scr_slots.specs.Tables.{IsBuildCause, asks_for, is_family, lines_asked, lines_for};
 
 use crate::cube_tables::CubeTables;
 use crate::laws::each_drawn_fairly;
@@ -69,8 +69,8 @@ impl Drop for Tables {
 
 impl Tables {
     /// Builds the tables of the events of these rounds by 1 to 64 workers, each family's once, in the order of the
-    /// families. A gap is that of the first table that has one; memory can be wanting only where one of the events
-    /// needs a table. Each event is then drawn fairly at each minimum of its range; of random moves this says that
+    /// families. None of them has a gap; where one has, it is that of the first table that has one. Memory can be wanting
+    /// only where one of the events needs a table. Each event is then drawn fairly at each minimum of its range; of random moves this says that
     /// each of their steps is fair.
     pub fn build<R: Threads + Sync>(
         rt: &R,
@@ -83,6 +83,7 @@ impl Tables {
             (event : EventOf) → Has tables event ↔ Contains (map (λ round. round.event) rounds.now) event) }
         ensures fair { IfOk result (λ tables. (event : EventOf) (least : ℕ) → Has tables event
             → least ≤ greatest_of event → IsDrawnFairly (scrambling_of event) least) }
+        ensures no_gap { IfOk result (λ _. All HasNoGap (lines_for (map (λ round. round.event) rounds.now))) }
         ensures cause { IfErr result (IsBuildCause (map (λ round. round.event) rounds.now)) }
     {
         let of_222 = small_tables(rt, alloc, rounds, Family::Cube222, Event::C222, workers)?;
@@ -111,6 +112,7 @@ impl Tables {
         ensures event { IfOk result (λ tables. Has tables event) }
         ensures fair { IfOk result (λ _. (least : ℕ) → least ≤ greatest_of event
             → IsDrawnFairly (scrambling_of event) least) }
+        ensures no_gap { IfOk result (λ _. All HasNoGap (lines_for (event ∷ []))) }
         ensures cause { IfErr result (IsBuildCause (event ∷ [])) }
     {
         Tables::build(

@@ -46,6 +46,8 @@ mod small;
 #[cfg(test)]
 mod sq1;
 #[cfg(test)]
+mod sq1short;
+#[cfg(test)]
 mod sq1solve;
 #[cfg(test)]
 mod stages;

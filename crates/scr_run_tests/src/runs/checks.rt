@@ -5,12 +5,13 @@ use std::alloc::Global;
 use std::process::Abort;
 use std::test::Fail;
 
-/// A list, the line behind it, and the sheet that is written for the list.
+/// A list, the line behind it, and the sheet that is written for the list under an option.
 fn input_of<R: AllocGlobal + std::thread::Threads + Sync>(
     rt: &R,
     list: &str,
+    option: &str,
 ) -> Result<Vec<u8>, Fail> {
-    let words = ["sheet", "--seed", ZEROS];
+    let words = ["sheet", "--seed", ZEROS, option];
     let sheet = run_with(rt, &words, list.as_bytes(), 4096, [&[], &[], &[]])?;
     let mut input = Vec::new(rt.alloc());
     input.extend_from_slice(list.as_bytes())?;
@@ -36,7 +37,7 @@ const CHECK: [&str; 3] = ["check", "--seed", ZEROS];
 
 #[test]
 fn sheets_of_clocks(rt: HostRuntime) -> Result<(), Fail> {
-    let input = input_of(&rt, "clock 1\n")?;
+    let input = input_of(&rt, "clock 1\n", "--workers=1")?;
     check(&rt, &CHECK, &input, 0, "agrees\n", "")?;
     let other = with_text(rt.alloc(), &input, "U3-", "U2-")?;
     check(&rt, &CHECK, &other, 9, "", "scramble: line 3 differs\n")?;
@@ -54,7 +55,11 @@ fn sheets_of_clocks(rt: HostRuntime) -> Result<(), Fail> {
 // Turns that undo each other change no state, and the way in which a scramble leads to it isn't asked.
 #[test]
 fn sheets_by_play(rt: HostRuntime) -> Result<(), Fail> {
-    let input = input_of(&rt, "222 1\npyram 1\nskewb 1\n777 1\nminx 1\n")?;
+    let input = input_of(
+        &rt,
+        "222 1\npyram 1\nskewb 1\n777 1\nminx 1\n",
+        "--workers=3",
+    )?;
     check(&rt, &CHECK, &input, 0, "agrees\n", "")?;
     let undone = with_text(rt.alloc(), &input, "\n2. ", " U U'\n2. ")?;
     check(&rt, &CHECK, &undone, 0, "agrees\n", "")?;
@@ -62,6 +67,18 @@ fn sheets_by_play(rt: HostRuntime) -> Result<(), Fail> {
     check(&rt, &CHECK, &turned, 9, "", "scramble: line 3 differs\n")?;
     let label = with_text(rt.alloc(), &input, "\n2. ", "\n3. ")?;
     check(&rt, &CHECK, &label, 9, "", "scramble: line 4 differs\n")?;
+    Ok(())
+}
+
+// A Square-1 may have another scramble under another option; one for fewest moves stands between its frames.
+#[test]
+fn sheets_by_more_than_play(rt: HostRuntime) -> Result<(), Fail> {
+    let shorter = input_of(&rt, "sq1 1\n", "--short=50")?;
+    check(&rt, &CHECK, &shorter, 0, "agrees\n", "")?;
+    let fewest = input_of(&rt, "333fm 1\n", "--tries=0")?;
+    check(&rt, &CHECK, &fewest, 0, "agrees\n", "")?;
+    let undone = with_text(rt.alloc(), &fewest, "F\n2. ", "F U U'\n2. ")?;
+    check(&rt, &CHECK, &undone, 9, "", "scramble: line 3 differs\n")?;
     Ok(())
 }
 

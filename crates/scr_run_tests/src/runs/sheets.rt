@@ -52,6 +52,14 @@ fn sheets_of_two_events(rt: HostRuntime) -> Result<(), Fail> {
             20,
             "",
         ),
+        // the shortest of fifty solutions
+        (
+            "sq1 1\nclock 1 0",
+            "--short=50",
+            "Round 1: Square-1, at least 2\nGroup A\n1. (4,6) / (2,2) / (-2,4) / (-1,-1) / (-2,-5) / (-1,-1) / ",
+            20,
+            "",
+        ),
         (
             "minx 1\n777 2",
             "--attempts=1",

@@ -15,4 +15,4 @@ returns-clause-greatest c = λ digits seed is. ap (seeded (λ s. Check s 1000000
 
 pub returns-clause-others : goal.returns-clause-others
 unfolding options_read number_between number_of_text
-returns-clause-others c = (λ digits. refl, λ digits. refl)
+returns-clause-others c = (λ digits. refl, λ digits. refl, λ digits. refl)

@@ -7,15 +7,15 @@ use Rattle.scr_command.proofs.laws.numbers_of_a_sheet.Goals as goal
 
 pub returns-clause-usual : goal.returns-clause-usual
 unfolding options_read
-returns-clause-usual c = λ digits seed is. ap (seeded (λ s. Sheet s (record { workers = 1; tries = 2000; attempts = 1000 }))) is
+returns-clause-usual c = λ digits seed is. ap (seeded (λ s. Sheet s (record { workers = 1; tries = 2000; attempts = 1000; short = 1 }))) is
 
 pub returns-clause-least : goal.returns-clause-least
 unfolding options_read number_between number_of_text
-returns-clause-least c = λ digits seed is. ap (seeded (λ s. Sheet s (record { workers = 1; tries = 0; attempts = 1 }))) is
+returns-clause-least c = λ digits seed is. ap (seeded (λ s. Sheet s (record { workers = 1; tries = 0; attempts = 1; short = 1 }))) is
 
 pub returns-clause-greatest : goal.returns-clause-greatest
 unfolding options_read number_between number_of_text
-returns-clause-greatest c = λ digits seed is. ap (seeded (λ s. Sheet s (record { workers = 64; tries = 100000; attempts = 1000000 }))) is
+returns-clause-greatest c = λ digits seed is. ap (seeded (λ s. Sheet s (record { workers = 64; tries = 100000; attempts = 1000000; short = 1000 }))) is
 
 pub returns-clause-workers : goal.returns-clause-workers
 unfolding options_read number_between number_of_text
@@ -28,3 +28,7 @@ returns-clause-tries c = λ digits. refl
 pub returns-clause-attempts : goal.returns-clause-attempts
 unfolding options_read number_between number_of_text
 returns-clause-attempts c = (λ digits. refl, λ digits. refl)
+
+pub returns-clause-short : goal.returns-clause-short
+unfolding options_read number_between number_of_text
+returns-clause-short c = (λ digits. refl, λ digits. refl)

@@ -1,3 +1,6 @@
+use Rattle.std.proofs.Common.{subst, ap, ◌∙◌, IfOk, IfErr}
+use Rattle.std.specs.List.{All}
+use Rattle.std.specs.Result.{result_from_control_flow}
 use Rattle.std.proofs.lemmas.List.Elements.{All-append}
 use Rattle.scr_table.specs.Causes.{IsCauseOf}
 use Rattle.scr_table.specs.Lines.{HasNoGap}
@@ -13,15 +16,15 @@ unfolding family_lines
 returns-in_err-stages-clause-cause g c =
     let why = c.in_err-stages.field-0.0 in
     IfErr-handed (IsCauseOf (family_lines family.Cube333)) why c.from_residual.result c.from_residual.ensures.1
-    (IsCauseOf-before stage_lines prune_lines why c.in_err-stages.ensures.cause)
+    (IsCauseOf-before stage_lines prune_lines why (subst (λ r. IfErr r (IsCauseOf stage_lines)) (c.branch-stages.ensures ∙ ap result_from_control_flow c.in_err-stages.is) c.both-stages.ensures.first.1))
 
 pub returns-in_err-prune-clause-cause : goal.returns-in_err-prune-clause-cause
 unfolding family_lines
 returns-in_err-prune-clause-cause g c =
     let why = c.in_err-prune.field-0.0 in
     IfErr-handed (IsCauseOf (family_lines family.Cube333)) why c.from_residual-in_err-prune.result c.from_residual-in_err-prune.ensures.1
-    (IsCauseOf-behind stage_lines prune_lines why c.in_ok-stages.ensures.whole c.in_err-prune.ensures.cause)
+    (IsCauseOf-behind stage_lines prune_lines why (subst (λ r. IfOk r (λ _. All HasNoGap stage_lines)) (c.branch-stages.ensures ∙ ap result_from_control_flow c.in_ok-stages.is) c.both-stages.ensures.first.0) (subst (λ r. IfErr r (IsCauseOf prune_lines)) (c.branch-prune.ensures ∙ ap result_from_control_flow c.in_err-prune.is) c.both-stages.ensures.second.1))
 
 pub returns-clause-whole : goal.returns-clause-whole
 unfolding family_lines
-returns-clause-whole g c = All-append HasNoGap stage_lines prune_lines c.in_ok-stages.ensures.whole c.in_ok-prune.ensures.whole
+returns-clause-whole g c = All-append HasNoGap stage_lines prune_lines (subst (λ r. IfOk r (λ _. All HasNoGap stage_lines)) (c.branch-stages.ensures ∙ ap result_from_control_flow c.in_ok-stages.is) c.both-stages.ensures.first.0) (subst (λ r. IfOk r (λ _. All HasNoGap prune_lines)) (c.branch-prune.ensures ∙ ap result_from_control_flow c.in_ok-prune.is) c.both-stages.ensures.second.0)

@@ -1,7 +1,8 @@
 use Rattle.std.proofs.Common.{List, ◌++◌}
+use Rattle.std.proofs.lemmas.List.Elements.{All-append}
 use Rattle.scr_notation.specs.declared.event.Event.{Event}
 use Rattle.scr_notation.specs.declared.event.Family.TheVariants.{Cube222, Cube333, Pyraminx, Skewb, Square1}
-use Rattle.scr_table.specs.Lines.{TableLine}
+use Rattle.scr_table.specs.Lines.{HasNoGap, TableLine}
 use Rattle.scr_table.proofs.LineLaws.{IfErr-handed, IsCauseOf-before, IsCauseOf-behind}
 use Rattle.scr_slots.specs.Tables.{IsBuildCause, lines_asked}
 use Rattle.scr_slots.proofs.BuildCauses.{event_list, HoldsTables-asked}
@@ -61,6 +62,15 @@ returns-in_err-of_sq1-clause-cause g c =
     (IsCauseOf-behind (lines_asked events Pyraminx) (from_skewb events) why c.in_ok-of_pyram.ensures.whole
     (IsCauseOf-behind (lines_asked events Skewb) (lines_asked events Square1) why c.in_ok-of_skewb.ensures.whole
     c.in_err-of_sq1.ensures.cause))))
+
+pub returns-clause-no_gap : goal.returns-clause-no_gap
+returns-clause-no_gap g c =
+    let events = event_list c.args.rounds.now in
+    All-append HasNoGap (lines_asked events Cube222) (from_333 events) c.in_ok-of_222.ensures.whole
+    (All-append HasNoGap (lines_asked events Cube333) (from_pyraminx events) c.in_ok-of_333.ensures.whole
+    (All-append HasNoGap (lines_asked events Pyraminx) (from_skewb events) c.in_ok-of_pyram.ensures.whole
+    (All-append HasNoGap (lines_asked events Skewb) (lines_asked events Square1) c.in_ok-of_skewb.ensures.whole
+    c.in_ok-of_sq1.ensures.whole)))
 
 pub invariant_of-tables : goal.invariant_of-tables
 invariant_of-tables g c =

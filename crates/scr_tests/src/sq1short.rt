@@ -1,0 +1,41 @@
+//! Short scrambles of states known from elsewhere.
+
+use scr_draw::Numbering;
+use scr_notation::{Turn, print};
+use scr_sq1::{Sq1, Sq1Numbers};
+use scr_sq1short::scramble_sq1_short;
+use scr_sq1solve::Sq1Tables;
+use std::test::Fail;
+
+/// Numbers of states, how many words are looked at, and how many twists the scramble may have: solved; solved but for the
+/// equator; solved but for the edges 6 and 7, which the first word alone solves with 24. Where the scramble is known, its
+/// text.
+const STATES: [(u128, u32, usize, Option<&str>); 7] = [
+    (3_810_646_425_600, 1, 0, Some("")),
+    (3_810_646_425_600, 2, 0, Some("")),
+    (3_810_646_425_600, 1000, 0, Some("")),
+    (3_810_646_425_601, 1, 3, Some("(6,0) / (6,0) / (6,0) /")),
+    (3_810_646_425_601, 1000, 3, None),
+    (3_810_646_506_240, 2, 24, None),
+    (3_810_646_506_240, 1000, 24, None),
+];
+
+#[test]
+fn scrambles(rt: HostRuntime) -> Result<(), Fail> {
+    let tables = Sq1Tables::build(&rt, rt.alloc(), 2)?;
+    for (number, short, most, text) in STATES {
+        let state = Sq1Numbers.state_at(number);
+        let scramble = scramble_sq1_short(&tables, &state, short);
+        let turns = scramble.turns();
+        let twists = turns
+            .iter()
+            .filter(|turn| matches!(turn, Turn::Twist))
+            .count();
+        assert!(rt; twists <= most);
+        assert!(rt; Sq1::solved().play(&scramble) == Some(state));
+        if let Some(text) = text {
+            assert_eq!(rt; print(&scramble).as_str(), text);
+        }
+    }
+    Ok(())
+}
