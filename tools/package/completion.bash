@@ -1,0 +1,38 @@
+# Completion in bash: of the commands, options and events of scramble, and of the options of scramble-pages. Numbers, seeds and
+# names are not completed, and files behind < and > by bash itself.
+
+# Of these words those that begin as what is typed.
+_scramble_offer() { COMPREPLY=($(compgen -W "$1" -- "${COMP_WORDS[COMP_CWORD]}")); }
+
+# Of these options those that were not given yet, where no value of one is due.
+_scramble_options() {
+    local option offered= given=" ${COMP_WORDS[*]:0:COMP_CWORD} "
+    case ${COMP_WORDS[COMP_CWORD - 1]} in --html) ;; = | --*) return ;; esac
+    for option in $1; do
+        case $given in *" $option "*) ;; *) offered="$offered $option" ;; esac
+    done
+    _scramble_offer "$offered"
+}
+
+_scramble() {
+    local nets="222 333 333oh 555 666 777"
+    COMPREPLY=()
+    if [ "$COMP_CWORD" -eq 1 ]; then
+        _scramble_offer "one sheet tables load net check"
+        return
+    fi
+    case ${COMP_WORDS[1]} in
+        sheet) _scramble_options "--seed --workers --tries --attempts --short" ;;
+        check) _scramble_options "--seed --attempts" ;;
+        one | tables) [ "$COMP_CWORD" -ne 2 ] || _scramble_offer "$nets clock minx pyram skewb sq1 333bf 333fm" ;;
+        net) [ "$COMP_CWORD" -ne 2 ] || _scramble_offer "$nets" ;;
+    esac
+}
+
+_scramble_pages() {
+    COMPREPLY=()
+    _scramble_options "--html --name"
+}
+
+complete -F _scramble scramble
+complete -F _scramble_pages scramble-pages
