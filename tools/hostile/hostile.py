@@ -249,8 +249,10 @@ def random_words(chance):
     options = [[f"--seed={seed}"] if chance.random() < 0.5 else ["--seed", seed], ["--tries", str(chance.randrange(20))]]
     if chance.random() < 0.3:
         options.append(["--attempts", str(chance.choice([1, 2, 50, 1000000]))])
+    if chance.random() < 0.3:
+        options.append(["--short", str(chance.choice([1, 2, 50, 1000]))])
     if chance.random() < 0.03:
-        options.append([chance.choice(["--", "--help", "-s", "--tries=1", "--seeds", "--attempts=0", "x", "--attempts"])])
+        options.append([chance.choice(["--", "--help", "-s", "--tries=1", "--seeds", "--attempts=0", "--short=1001", "x", "--attempts"])])
     chance.shuffle(options)
     return ["sheet", *itertools.chain(*options)]
 
