@@ -97,6 +97,7 @@ fn commands_read(rt: HostRuntime) {
             workers: 1,
             tries: 2000,
             attempts: 1000,
+            short: 1,
         }),
     );
     let joined = "--seed=0000000000000000000000000000000000000000000000000000000000000000";
@@ -108,12 +109,14 @@ fn commands_read(rt: HostRuntime) {
             workers: 2,
             tries: 2000,
             attempts: 1000,
+            short: 1,
         }),
     );
     let most = Options {
         workers: 64,
         tries: 100_000,
         attempts: 1_000_000,
+        short: 1000,
     };
     let words = [
         "sheet",
@@ -121,6 +124,7 @@ fn commands_read(rt: HostRuntime) {
         "64",
         "--attempts",
         "1000000",
+        "--short=1000",
         "--tries",
         "100000",
         "--seed",
