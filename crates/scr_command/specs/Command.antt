@@ -6,8 +6,8 @@ use Rattle.scr_words.specs.declared.seed.Seed.{Seed}
 use Rattle.scr_words.specs.declared.seed.SeedFault.{SeedFault}
 use Rattle.scr_words.specs.Seed.{seed_of}
 use Rattle.scr_notation.specs.declared.event.Event.{Event}
-use Rattle.scr_notation.specs.declared.event.Event.TheVariants.{C222, C333, Oh333, C555, C666, C777}
 use Rattle.scr_text.specs.Numbers.{number_between}
+use Rattle.scr_notation.specs.Event.{net_side_of}
 use Rattle.scr_list.specs.Events.{event_named}
 use Rattle.scr_command.specs.declared.options.Options.{Options}
 use Rattle.scr_command.specs.declared.command.Command.{Command}
@@ -87,20 +87,10 @@ one_of words = of_two (λ event. one_for (event_for event)) words
 
 -- ---- `net EVENT SEED`
 
--- how many layers the cube of an event has whose nets are shown
-abbrev pub net_side : Event → Option ℕ
-net_side C222 = Some 2
-net_side C333 = Some 3
-net_side Oh333 = Some 3
-net_side C555 = Some 5
-net_side C666 = Some 6
-net_side C777 = Some 7
-net_side _ = None
-
 -- the command, with its event, where it has nets, and what was read where its seed stands
 abbrev pub net_for : Result Event UsageFault → List ℕ → Result Command UsageFault
 net_for (Err fault) seed = Err fault
-net_for (Ok event) seed = if is_some (net_side event) then seeded (Net event) (seed_of seed) else Err Grammar
+net_for (Ok event) seed = if is_some (net_side_of event) then seeded (Net event) (seed_of seed) else Err Grammar
 
 -- the words after `net`
 abbrev pub net_of : List (List ℕ) → Result Command UsageFault

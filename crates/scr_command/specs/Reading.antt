@@ -1,5 +1,6 @@
 -- What reading the words of the command line finds: a command that words can ask for, or why there is none.
 use Rattle.std.specs.Prelude.{◌≡◌, ◌≤◌, List, ℕ, Option, Result, IsSome, Err}
+use Rattle.scr_notation.specs.Event.{net_side_of}
 use Rattle.scr_command.specs.declared.options.Options.{Options}
 use Rattle.scr_command.specs.declared.command.Command.{Command}
 use Rattle.scr_command.specs.declared.command.Command.TheVariants.{One, Sheet, Tables, Load, Net, Check}
@@ -10,7 +11,7 @@ use Rattle.scr_command.specs.declared.options.OptionName.{OptionName}
 use Rattle.scr_command.specs.declared.options.OptionName.TheVariants.{Workers, Tries, Attempts, Short}
 use Rattle.scr_command.specs.OptionTable.{option_row, IsSettable}
 use Rattle.scr_command.specs.OptionWords.{Values, options_of}
-use Rattle.scr_command.specs.Command.{command_of, net_side, HasOptions}
+use Rattle.scr_command.specs.Command.{command_of, HasOptions}
 
 -- numbers that words can set
 pub record AreOptions (options : Options) : Type 0 where
@@ -25,7 +26,7 @@ IsCommand (One event seed) = Unit {0}
 IsCommand (Sheet seed options) = AreOptions options
 IsCommand (Tables event) = Unit {0}
 IsCommand (Load number) = number ≤ 9999
-IsCommand (Net event seed) = IsSome (net_side event)
+IsCommand (Net event seed) = IsSome (net_side_of event)
 IsCommand (Check seed attempts) = IsSettable (option_row Attempts).range attempts
 
 -- why no command was read: the words are none, or memory was wanting

@@ -7,7 +7,7 @@ ghost use Rattle.scr_command.specs.OptionTable.{option_row, sheet_options, check
 ghost use Rattle.scr_command.specs.OptionWords.{options_of};
 ghost use Rattle.scr_command.specs.Split.{found_values, fault_of_options};
 ghost use Rattle.scr_command.specs.Words.{texts};
-ghost use Rattle.scr_command.specs.Command.{command_of, sheet_of, check_of, one_of, net_of, net_side, tables_of, load_of, event_for, number_in};
+ghost use Rattle.scr_command.specs.Command.{command_of, sheet_of, check_of, one_of, net_of, tables_of, load_of, event_for, number_in};
 ghost use Rattle.scr_command.specs.Command.{settings_in};
 ghost use Rattle.scr_command.specs.Reading.{IsRefusal, IsOptionsRefusal, IsCommand, AreOptions};
 
@@ -139,25 +139,11 @@ fn read_cube_and_seed(event: &str, seed: &str) -> Result<Command, UsageFault>
     ensures command { IfOk result IsCommand }
 {
     let event = read_event(event)?;
-    if net_side(event).is_none() {
+    if event.net_side().is_none() {
         return Err(UsageFault::Grammar);
     }
     let seed = read_seed(seed)?;
     Ok(Command::Net(event, seed))
-}
-
-/// How many layers the cube of an event has whose nets are shown; `None` for every other event.
-pub fn net_side(event: Event) -> Option<u8>
-    ensures { result ≡ net_side event }
-{
-    match event {
-        Event::C222 => Some(2),
-        Event::C333 | Event::Oh333 => Some(3),
-        Event::C555 => Some(5),
-        Event::C666 => Some(6),
-        Event::C777 => Some(7),
-        _ => None,
-    }
 }
 
 /// Reads the words after `tables`.

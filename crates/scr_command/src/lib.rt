@@ -15,6 +15,6 @@ pub mod laws;
 mod options;
 mod splitting;
 
-pub use command::{Command, CommandFault, UsageFault, net_side, read_command};
+pub use command::{Command, CommandFault, UsageFault, read_command};
 pub use options::{CHECK_OPTIONS, OptionName, Options, Range, SHEET_OPTIONS};
 pub use splitting::{OptionsFault, SplitOptions, split_options};

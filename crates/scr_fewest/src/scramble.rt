@@ -11,7 +11,7 @@ ghost use Rattle.scr_fewest.specs.Fewest.{frame, framed, between, is_frame_at, i
 use scr_cube::{Cube, PowerTurned};
 use scr_notation::{Event, Scramble, Turn, inverse, numbered_scramble, push_all};
 use scr_stages::StageTables;
-use scr_twophase::{PruneTables, scramble_333, with_event};
+use scr_twophase::{PruneTables, scramble_333};
 
 /// The scramble of a cube, of the event 333fm: R' U' F, the scramble of the cube that stands between, and R' U' F
 /// again. It has at most 28 turns where one of the first `tries` first parts of the cube between has a second part, and
@@ -35,7 +35,7 @@ pub fn scramble_333fm(
         unreachable!();
     };
     let between = back.then(&cube.then(&back));
-    let middle = with_event(&scramble_333(prune, stages, &between, tries), Event::Fm333);
+    let middle = scramble_333(prune, stages, &between, tries).with_event(Event::Fm333);
     framed(&middle)
 }
 

@@ -1,6 +1,6 @@
 -- The events and the one table of them: how each is named, what its turns are, how many scrambles a group has, how far from
 -- solved its states may be asked to be, and which tables its scrambles are found by. (WCA Regulations, articles 9 and 12 for
--- ids, names and turns, 4b3 and 9b for scrambles; the range of minima and what is usual are our own choice.)
+-- ids, names and turns, 4b3 and 9b for scrambles; the range of minima, what is usual, and which nets are shown are our own choice.)
 use Rattle.std.specs.Prelude.{ℕ, List, [], ◌∷◌, codes, Option, Some, None, find, true, false}
 use Rattle.std.specs.Str.{bytes_eq}
 use Rattle.scr_notation.specs.declared.event.Event.{Event}
@@ -17,7 +17,7 @@ events = C222 ∷ C333 ∷ Oh333 ∷ C555 ∷ C666 ∷ C777 ∷ Clock ∷ Minx �
 
 -- How lists and commands name an event, how a sheet names it, and what its turns are; the scrambles of a group without the
 -- two extra ones; the minima of its rounds, where its states are drawn and not its moves; the family of its tables, if it
--- has any.
+-- has any; and how many layers the cube has whose net is shown, if one is.
 pub record EventRow : Type 0 where
   pub id : List ℕ
   pub name : List ℕ
@@ -25,43 +25,37 @@ pub record EventRow : Type 0 where
   pub per_group : ℕ
   pub minima : Option Minima
   pub family : Option Family
+  pub net_side : Option ℕ
 
--- an event of random states, whose minimum is from 0 to the greatest
-abbrev pub by_states : List ℕ → List ℕ → Kind → ℕ → ℕ → ℕ → Option Family → EventRow
-by_states id name kind per_group usual greatest family = record {
+abbrev pub row : List ℕ → List ℕ → Kind → ℕ → Option Minima → Option Family → Option ℕ → EventRow
+row id name kind per_group minima family net_side = record {
   id = id;
   name = name;
   kind = kind;
   per_group = per_group;
+  minima = minima;
   family = family;
-  minima = Some (record { usual = usual; greatest = greatest });
+  net_side = net_side;
 }
 
--- an event of random moves
-abbrev pub by_moves : List ℕ → List ℕ → Kind → ℕ → EventRow
-by_moves id name kind per_group = record {
-  id = id;
-  name = name;
-  kind = kind;
-  per_group = per_group;
-  minima = None;
-  family = None;
-}
+-- minima up to the greatest, with the usual one
+abbrev pub up_to : ℕ → ℕ → Option Minima
+up_to greatest usual = Some (record { usual = usual; greatest = greatest })
 
 abbrev pub row_of : Event → EventRow
-row_of C222 = by_states (codes "222") (codes "2x2x2 Cube") (Faces 1 0) 5 4 11 (Some family.Cube222)
-row_of C333 = by_states (codes "333") (codes "3x3x3 Cube") (Faces 1 1) 5 2 5 (Some family.Cube333)
-row_of Oh333 = by_states (codes "333oh") (codes "3x3x3 One-Handed") (Faces 1 1) 5 2 5 (Some family.Cube333)
-row_of C555 = by_moves (codes "555") (codes "5x5x5 Cube") (Faces 2 2) 5
-row_of C666 = by_moves (codes "666") (codes "6x6x6 Cube") (Faces 3 2) 3
-row_of C777 = by_moves (codes "777") (codes "7x7x7 Cube") (Faces 3 3) 3
-row_of Clock = by_states (codes "clock") (codes "Clock") PinSets 5 2 3 None
-row_of Minx = by_moves (codes "minx") (codes "Megaminx") WideTurns 5
-row_of Pyram = by_states (codes "pyram") (codes "Pyraminx") (Axes true) 5 6 15 (Some family.Pyraminx)
-row_of Skewb = by_states (codes "skewb") (codes "Skewb") (Axes false) 5 7 11 (Some family.Skewb)
-row_of Sq1 = by_states (codes "sq1") (codes "Square-1") LayersAndTwist 5 2 4 (Some family.Square1)
-row_of Bf333 = by_states (codes "333bf") (codes "3x3x3 Blindfolded") (Faces 2 1) 3 2 5 (Some family.Cube333)
-row_of Fm333 = by_states (codes "333fm") (codes "3x3x3 Fewest Moves") (Faces 1 1) 3 2 5 (Some family.Cube333)
+row_of C222 = row (codes "222") (codes "2x2x2 Cube") (Faces 1 0) 5 (up_to 11 4) (Some family.Cube222) (Some 2)
+row_of C333 = row (codes "333") (codes "3x3x3 Cube") (Faces 1 1) 5 (up_to 5 2) (Some family.Cube333) (Some 3)
+row_of Oh333 = row (codes "333oh") (codes "3x3x3 One-Handed") (Faces 1 1) 5 (up_to 5 2) (Some family.Cube333) (Some 3)
+row_of C555 = row (codes "555") (codes "5x5x5 Cube") (Faces 2 2) 5 None None (Some 5)
+row_of C666 = row (codes "666") (codes "6x6x6 Cube") (Faces 3 2) 3 None None (Some 6)
+row_of C777 = row (codes "777") (codes "7x7x7 Cube") (Faces 3 3) 3 None None (Some 7)
+row_of Clock = row (codes "clock") (codes "Clock") PinSets 5 (up_to 3 2) None None
+row_of Minx = row (codes "minx") (codes "Megaminx") WideTurns 5 None None None
+row_of Pyram = row (codes "pyram") (codes "Pyraminx") (Axes true) 5 (up_to 15 6) (Some family.Pyraminx) None
+row_of Skewb = row (codes "skewb") (codes "Skewb") (Axes false) 5 (up_to 11 7) (Some family.Skewb) None
+row_of Sq1 = row (codes "sq1") (codes "Square-1") LayersAndTwist 5 (up_to 4 2) (Some family.Square1) None
+row_of Bf333 = row (codes "333bf") (codes "3x3x3 Blindfolded") (Faces 2 1) 3 (up_to 5 2) (Some family.Cube333) None
+row_of Fm333 = row (codes "333fm") (codes "3x3x3 Fewest Moves") (Faces 1 1) 3 (up_to 5 2) (Some family.Cube333) None
 
 abbrev pub id_of : Event → List ℕ
 id_of event = (row_of event).id
@@ -80,6 +74,9 @@ minima_of event = (row_of event).minima
 
 abbrev pub family_of : Event → Option Family
 family_of event = (row_of event).family
+
+abbrev pub net_side_of : Event → Option ℕ
+net_side_of event = (row_of event).net_side
 
 -- the greatest minimum of a round; 0 where it has none
 abbrev pub greatest_in : Option Minima → ℕ

@@ -1,7 +1,7 @@
 //! The events.
 
 ghost use Rattle.std.specs.Prelude.{◌≡◌, ◌≤◌, IfSome, Some, slice_get};
-ghost use Rattle.scr_notation.specs.Event.{events, row_of, id_of, name_of, kind_of, per_group_of, minima_of, family_of, event_of};
+ghost use Rattle.scr_notation.specs.Event.{events, row_of, id_of, name_of, kind_of, per_group_of, minima_of, family_of, net_side_of, event_of};
 ghost use Rattle.scr_notation.specs.Kinds.{IsKind};
 ghost use Rattle.scr_notation.specs.declared.event.Kind.TheVariants.{Faces, Axes};
 
@@ -86,6 +86,7 @@ struct EventRow {
     per_group: u8,
     minima: Option<Minima>,
     family: Option<Family>,
+    net_side: Option<u8>,
 }
 
 /// The events, in the order of their numbers.
@@ -151,6 +152,14 @@ impl Event {
         self.row().family
     }
 
+    /// How many layers the cube has whose net is shown, 2 to 7; `None` where none is.
+    pub fn net_side(self) -> Option<u8>
+        ensures value { result ≡ net_side_of self }
+        ensures range { IfSome result (λ side. (2 ≤ side) × (side ≤ 7)) }
+    {
+        self.row().net_side
+    }
+
     /// Its number, which is its place among the events, from 0.
     pub fn number(self) -> u8
         ensures { slice_get events result ≡ Some self }
@@ -173,8 +182,9 @@ impl Event {
         ensures per_group { result.per_group ≡ (row_of self).per_group }
         ensures minima { result.minima ≡ (row_of self).minima }
         ensures family { result.family ≡ (row_of self).family }
+        ensures net_side { result.net_side ≡ (row_of self).net_side }
     {
-        let (id, name, kind, per_group, minima, family) = match self {
+        let (id, name, kind, per_group, minima, family, net_side) = match self {
             Event::C222 => (
                 "222",
                 "2x2x2 Cube",
@@ -182,6 +192,7 @@ impl Event {
                 5,
                 up_to(11, 4),
                 Some(Cube222),
+                Some(2),
             ),
             Event::C333 => (
                 "333",
@@ -190,6 +201,7 @@ impl Event {
                 5,
                 up_to(5, 2),
                 Some(Cube333),
+                Some(3),
             ),
             Event::Oh333 => (
                 "333oh",
@@ -198,12 +210,13 @@ impl Event {
                 5,
                 up_to(5, 2),
                 Some(Cube333),
+                Some(3),
             ),
-            Event::C555 => ("555", "5x5x5 Cube", faces(2, 2), 5, None, None),
-            Event::C666 => ("666", "6x6x6 Cube", faces(3, 2), 3, None, None),
-            Event::C777 => ("777", "7x7x7 Cube", faces(3, 3), 3, None, None),
-            Event::Clock => ("clock", "Clock", Kind::PinSets, 5, up_to(3, 2), None),
-            Event::Minx => ("minx", "Megaminx", Kind::WideTurns, 5, None, None),
+            Event::C555 => ("555", "5x5x5 Cube", faces(2, 2), 5, None, None, Some(5)),
+            Event::C666 => ("666", "6x6x6 Cube", faces(3, 2), 3, None, None, Some(6)),
+            Event::C777 => ("777", "7x7x7 Cube", faces(3, 3), 3, None, None, Some(7)),
+            Event::Clock => ("clock", "Clock", Kind::PinSets, 5, up_to(3, 2), None, None),
+            Event::Minx => ("minx", "Megaminx", Kind::WideTurns, 5, None, None, None),
             Event::Pyram => (
                 "pyram",
                 "Pyraminx",
@@ -211,8 +224,17 @@ impl Event {
                 5,
                 up_to(15, 6),
                 Some(Pyraminx),
+                None,
             ),
-            Event::Skewb => ("skewb", "Skewb", axes(false), 5, up_to(11, 7), Some(Skewb)),
+            Event::Skewb => (
+                "skewb",
+                "Skewb",
+                axes(false),
+                5,
+                up_to(11, 7),
+                Some(Skewb),
+                None,
+            ),
             Event::Sq1 => (
                 "sq1",
                 "Square-1",
@@ -220,6 +242,7 @@ impl Event {
                 5,
                 up_to(4, 2),
                 Some(Square1),
+                None,
             ),
             Event::Bf333 => (
                 "333bf",
@@ -228,6 +251,7 @@ impl Event {
                 3,
                 up_to(5, 2),
                 Some(Cube333),
+                None,
             ),
             Event::Fm333 => (
                 "333fm",
@@ -236,6 +260,7 @@ impl Event {
                 3,
                 up_to(5, 2),
                 Some(Cube333),
+                None,
             ),
         };
         EventRow {
@@ -245,6 +270,7 @@ impl Event {
             per_group,
             minima,
             family,
+            net_side,
         }
     }
 }

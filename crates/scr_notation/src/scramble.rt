@@ -1,6 +1,7 @@
 //! A scramble: an event and its turns.
 ghost use Rattle.std.specs.Prelude.{◌≡◌, ◌+◌, ◌<◌, ◌≤◌, ◌↔◌, [], ◌∷◌, ◌++◌, All, length, map, IsTrue};
 ghost use Rattle.std.specs.Bool.{OnTrue, OnFalse};
+ghost use Rattle.scr_notation.specs.declared.turn.Turn.{Turn as Letter};
 ghost use Rattle.scr_notation.specs.Event.{kind_of};
 ghost use Rattle.scr_notation.specs.TurnNumbers.{turn_at, turn_count};
 ghost use Rattle.scr_notation.specs.Turns.{permits};
@@ -59,6 +60,17 @@ impl Scramble {
         ensures valid { IsWritten self.now }
     {
         self.turns.as_slice()
+    }
+
+    /// The same turns as a scramble of another event, which has all of them.
+    pub fn with_event(self, event: Event) -> Scramble
+        requires { (t : Letter) → IsTrue (permits self.event t) → IsTrue (permits event t) }
+        ensures { result ≡ record { event = event; turns = self.turns } }
+    {
+        Scramble {
+            event,
+            turns: self.turns,
+        }
     }
 
     /// Adds a turn at the end. It answers false exactly where 160 turns are there or the event hasn't this turn, and then

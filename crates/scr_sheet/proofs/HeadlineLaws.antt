@@ -6,6 +6,7 @@ use Rattle.std.specs.Prelude.{Result, Option, Some, None, is_some}
 use Rattle.scr_outside.specs.Change.{Change, Gains, Falters}
 use Rattle.scr_notation.specs.Written.{Written}
 use Rattle.scr_notation.specs.declared.event.Event.{Event}
+use Rattle.scr_notation.specs.Event.{net_side_of}
 use Rattle.scr_words.specs.declared.seed.Seed.{Seed}
 use Rattle.scr_words.specs.declared.seed.SeedFault.{SeedFault}
 use Rattle.scr_words.specs.Seed.{seed_of}
@@ -17,7 +18,7 @@ use Rattle.scr_command.specs.declared.options.OptionName.TheVariants as option
 use Rattle.scr_command.specs.declared.options.Options.{Options}
 use Rattle.scr_command.specs.OptionTable.{sheet_options}
 use Rattle.scr_command.specs.OptionWords.{Values, options_of}
-use Rattle.scr_command.specs.Command.{command_of, event_for, net_for, net_side, of_two, one_for, seeded, settings_in, command_with, sheet_of}
+use Rattle.scr_command.specs.Command.{command_of, event_for, net_for, of_two, one_for, seeded, settings_in, command_with, sheet_of}
 use Rattle.scr_round.specs.Made.{turns_of_each}
 use Rattle.scr_slots.specs.declared.settings.Settings.{Settings}
 use Rattle.scr_slots.specs.Shown.{Shown}
@@ -141,7 +142,7 @@ one_for-parts (Ok event) seed = seeded-parts (One event) (λ s. tt) (seed_of see
 
 net_for-parts : (event : Result Event UsageFault) (seed : List ℕ) → AsksForParts (net_for event seed)
 net_for-parts (Err fault) seed = tt
-net_for-parts (Ok event) seed = by_side (is_some (net_side event))
+net_for-parts (Ok event) seed = by_side (is_some (net_side_of event))
   where
     by_side : (has : Bool) → AsksForParts (cond has (seeded (Net event) (seed_of seed)) (Err Grammar))
     by_side true = seeded-parts (Net event) (λ s. tt) (seed_of seed)

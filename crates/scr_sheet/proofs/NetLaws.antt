@@ -1,18 +1,21 @@
 -- Each turn of an event that has nets shows on its net.
-use Rattle.std.proofs.Common.{◌≡◌, ℕ, ◌<◌, IsTrue, cond, List, [], ◌∷◌, Option, Some, None, refl, sym, ap, subst, arith, lit≤, lt-ltb, ⊎_elim}
-use Rattle.std.specs.Prelude.{All, IsSome}
+use Rattle.std.proofs.Common.{◌≡◌, ℕ, ◌<◌, Bool, true, false, IsTrue, cond, List, [], ◌∷◌, Option, Some, None, refl, sym, ap, subst, arith, lt-ltb, ltb-true, ⊎_elim}
+use Rattle.std.specs.Prelude.{◌&&◌, All, IsSome, nat_lt}
 use Rattle.std.proofs.lemmas.Bool.{cases_lt}
 use Rattle.std.proofs.lemmas.List.Elements.{All-head, All-tail}
 use Rattle.scr_combinatorics.specs.Play.{play}
 use Rattle.scr_combinatorics.proofs.PlayLaws.{play-empty, play-first}
 use Rattle.scr_notation.specs.declared.event.Event.{Event}
-use Rattle.scr_notation.specs.declared.event.Event.TheVariants.{C222, C333, Oh333, C555, C666, C777, Clock, Minx, Pyram, Skewb, Sq1, Bf333, Fm333}
+use Rattle.scr_notation.specs.declared.event.Kind.{Kind}
+use Rattle.scr_notation.specs.declared.event.Kind.TheVariants.{Faces, Axes, LayersAndTwist, PinSets, WideTurns}
 use Rattle.scr_notation.specs.declared.turn.Turn.{Turn}
 use Rattle.scr_notation.specs.declared.turn.Turn.TheVariants.{Face, Axis, Tip, Layers, Twist, Pins, Over, Wide}
 use Rattle.scr_notation.specs.Faces.{is_face_turn}
-use Rattle.scr_notation.specs.Turns.{permits}
+use Rattle.scr_notation.specs.Event.{kind_of, net_side_of}
+use Rattle.scr_notation.specs.Turns.{has_turn, permits}
+use Rattle.scr_notation.proofs.Below.{and_first, and_second}
+use Rattle.scr_notation.proofs.EachEvent.{each_passes}
 use Rattle.scr_notation.proofs.NumberLaws.{face_turn_parts}
-use Rattle.scr_command.specs.Command.{net_side}
 use Rattle.scr_net.specs.Nets.{Letters, net_after, solved_net, turned_net}
 
 -- turns of fewer layers than the cube has, at the near faces and at the far ones
@@ -40,25 +43,32 @@ module _ (near far side : ℕ) (near_inside : near < side) (far_inside : far < s
       let first = shown t (All-head P t turns all) net in
       subst IsSome (sym (play-first (net_after side) net first.0 t turns first.1)) (all_shown turns (All-tail P t turns all) first.0)
 
--- the event's turns, whatever the net
-abbrev ShowsAll : Event → ℕ → Type 0
-ShowsAll event side = (turns : List Turn) → All (λ t. IsTrue (permits event t)) turns → IsSome (play (net_after side) (solved_net side) turns)
+-- ---- of each event
 
-at_side : (event : Event) (own side : ℕ) → ShowsAll event own → (let some : Option ℕ = Some own in some) ≡ Some side → ShowsAll event side
-at_side event own side all is = let same : own ≡ side = cc in subst (ShowsAll event) same all
+-- a cube of so many layers has those of each turn of a kind, and one more
+fits : Kind → Option ℕ → Bool
+fits kind None = true
+fits (Faces near far) (Some side) = nat_lt near side && nat_lt far side
+fits (Axes tips) (Some side) = false
+fits LayersAndTwist (Some side) = false
+fits PinSets (Some side) = false
+fits WideTurns (Some side) = false
 
-pub nets-shown : (event : Event) (side : ℕ) → net_side event ≡ Some side → (turns : List Turn) → All (λ t. IsTrue (permits event t)) turns
+by_kind : (kind : Kind) (side : ℕ) → IsTrue (fits kind (Some side)) → (turns : List Turn) → All (λ t. IsTrue (has_turn kind t)) turns
     → IsSome (play (net_after side) (solved_net side) turns)
-nets-shown C222 side is = at_side C222 2 side (λ turns all. all_shown 1 0 2 (lit≤ tt) (lit≤ tt) turns all (solved_net 2)) is
-nets-shown C333 side is = at_side C333 3 side (λ turns all. all_shown 1 1 3 (lit≤ tt) (lit≤ tt) turns all (solved_net 3)) is
-nets-shown Oh333 side is = at_side Oh333 3 side (λ turns all. all_shown 1 1 3 (lit≤ tt) (lit≤ tt) turns all (solved_net 3)) is
-nets-shown C555 side is = at_side C555 5 side (λ turns all. all_shown 2 2 5 (lit≤ tt) (lit≤ tt) turns all (solved_net 5)) is
-nets-shown C666 side is = at_side C666 6 side (λ turns all. all_shown 3 2 6 (lit≤ tt) (lit≤ tt) turns all (solved_net 6)) is
-nets-shown C777 side is = at_side C777 7 side (λ turns all. all_shown 3 3 7 (lit≤ tt) (lit≤ tt) turns all (solved_net 7)) is
-nets-shown Clock side is = cc
-nets-shown Minx side is = cc
-nets-shown Pyram side is = cc
-nets-shown Skewb side is = cc
-nets-shown Sq1 side is = cc
-nets-shown Bf333 side is = cc
-nets-shown Fm333 side is = cc
+unfolding fits
+by_kind (Faces near far) side inside turns all =
+    let near_inside = ltb-true near side (and_first (nat_lt near side) (nat_lt far side) inside) in
+    let far_inside = ltb-true far side (and_second (nat_lt near side) (nat_lt far side) inside) in
+    all_shown near far side near_inside far_inside turns all (solved_net side)
+by_kind (Axes tips) side inside turns all = cc
+by_kind LayersAndTwist side inside turns all = cc
+by_kind PinSets side inside turns all = cc
+by_kind WideTurns side inside turns all = cc
+
+pub nets-shown : (event : Event) (side : ℕ) → net_side_of event ≡ Some side → (turns : List Turn) → All (λ t. IsTrue (permits event t)) turns
+    → IsSome (play (net_after side) (solved_net side) turns)
+unfolding fits
+nets-shown event side is turns all =
+    let inside = each_passes (λ e. fits (kind_of e) (net_side_of e)) refl event in
+    by_kind (kind_of event) side (subst (λ o. IsTrue (fits (kind_of event) o)) is inside) turns all

@@ -3,13 +3,13 @@ use Rattle.std.specs.Prelude.{◌≡◌, ℕ, ◌+◌, ◌*◌, ◌<◌, List, [
 use Rattle.std.specs.Option.{option_map_or}
 use Rattle.scr_combinatorics.specs.Play.{play}
 use Rattle.scr_notation.specs.declared.event.Event.{Event}
+use Rattle.scr_notation.specs.Event.{net_side_of}
 use Rattle.scr_notation.specs.declared.turn.Turn.{Turn}
 use Rattle.scr_notation.specs.Spelling.{text_of}
 use Rattle.scr_notation.specs.Written.{Written}
 use Rattle.scr_words.specs.declared.seed.Seed.{Seed}
 use Rattle.scr_list.specs.declared.round.Round.{Round}
 use Rattle.scr_command.specs.declared.options.Options.{Options}
-use Rattle.scr_command.specs.Command.{net_side}
 use Rattle.scr_net.specs.Nets.{net_after, solved_net}
 use Rattle.scr_net.specs.NetText.{net_text}
 use Rattle.scr_round.specs.Round.{slots_of, round_text}
@@ -74,7 +74,7 @@ shown_net (Some side) turns = option_map_or (net_text side) (play (net_after sid
 
 -- the scramble and the net of the cube that it scrambles
 abbrev pub net_part : Event → Part
-net_part event = single_part event (λ turns. line_of turns ++ shown_net (net_side event) turns)
+net_part event = single_part event (λ turns. line_of turns ++ shown_net (net_side_of event) turns)
 
 -- it is so of what slots have, one after another, the first of them on this stream
 abbrev pub EachSlot : {X : Type 0} → (ℕ → X → Type 0) → ℕ → List X → Type 0

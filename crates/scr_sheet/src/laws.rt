@@ -18,7 +18,8 @@ ghost use Rattle.scr_sheet.specs.declared.fault.Fault.{Fault};
 ghost use Rattle.scr_sheet.specs.declared.status.Status.{Status};
 ghost use Rattle.scr_command.specs.declared.command.Command.TheVariants.{Tables};
 ghost use Rattle.scr_command.specs.declared.command.UsageFault.{UsageFault};
-ghost use Rattle.scr_command.specs.Command.{command_of, net_side, HasOptions};
+ghost use Rattle.scr_notation.specs.Event.{net_side_of};
+ghost use Rattle.scr_command.specs.Command.{command_of, HasOptions};
 ghost use Rattle.scr_table_text.specs.TableText.{IsTablesText};
 ghost use Rattle.scr_slots.specs.Tables.{lines_for};
 ghost use Rattle.scr_sheet.specs.declared.status.Status.TheVariants.{Done, Usage, DrawLimit, ReadFault, WriteFault, NoMemory};
@@ -98,7 +99,7 @@ pub fn ends()
 
 /// Where an event has nets, each of its scrambles shows on one: no turn of the event turns the whole cube.
 pub fn nets()
-    ensures { (event : Event) (side : ℕ) → net_side event ≡ Some side → (turns : List Turn)
+    ensures { (event : Event) (side : ℕ) → net_side_of event ≡ Some side → (turns : List Turn)
         → All (λ t. IsTrue (permits event t)) turns → IsSome (play (net_after side) (solved_net side) turns) }
 {}
 

@@ -3,7 +3,8 @@
 ghost use Rattle.std.specs.Prelude.{◌≡◌, ◌++◌, ◌∷◌, [], ℕ, List, IfOk, IfErr, Err, Some};
 ghost use Rattle.scr_outside.specs.Change.{Change, change_of, Writes};
 ghost use Rattle.scr_notation.specs.declared.turn.Turn.{Turn};
-ghost use Rattle.scr_command.specs.Command.{net_side, usual_options};
+ghost use Rattle.scr_notation.specs.Event.{net_side_of};
+ghost use Rattle.scr_command.specs.Command.{usual_options};
 ghost use Rattle.scr_net.specs.Nets.{IsSide};
 ghost use Rattle.scr_slots.specs.Events.{scrambling_of};
 ghost use Rattle.scr_slots.specs.Slots.{IsDrawnFairly, IsSlotScramble};
@@ -85,7 +86,7 @@ fn one_scramble<R: Threads + Sync>(
 /// Writes the line of a scramble of an event, and the net of its cube.
 fn write_with_net<O: Sink>(event: Event, scramble: &Scramble, out: &mut O) -> Result<(), Failed>
     ensures { Writes (change_of O.held O.faults out.old out.new)
-        (line_of scramble.now.turns ++ shown_net (net_side event) scramble.now.turns) result }
+        (line_of scramble.now.turns ++ shown_net (net_side_of event) scramble.now.turns) result }
 {
     write_line(out, "", print(scramble).as_str())?;
     write_net_of(event, scramble, out)
@@ -93,21 +94,17 @@ fn write_with_net<O: Sink>(event: Event, scramble: &Scramble, out: &mut O) -> Re
 
 /// Writes the net of the cube of an event after a scramble; nothing where the event has none.
 fn write_net_of<O: Sink>(event: Event, scramble: &Scramble, out: &mut O) -> Result<(), Failed>
-    ensures { Writes (change_of O.held O.faults out.old out.new) (shown_net (net_side event) scramble.now.turns) result }
+    ensures { Writes (change_of O.held O.faults out.old out.new) (shown_net (net_side_of event) scramble.now.turns) result }
 {
-    match event {
-        Event::C222 => write_net_after::<O, 2>(scramble, out),
-        Event::C333 | Event::Oh333 => write_net_after::<O, 3>(scramble, out),
-        Event::C555 => write_net_after::<O, 5>(scramble, out),
-        Event::C666 => write_net_after::<O, 6>(scramble, out),
-        Event::C777 => write_net_after::<O, 7>(scramble, out),
-        Event::Bf333
-        | Event::Fm333
-        | Event::Clock
-        | Event::Minx
-        | Event::Pyram
-        | Event::Skewb
-        | Event::Sq1 => Ok(()),
+    match event.net_side() {
+        None => Ok(()),
+        Some(2) => write_net_after::<O, 2>(scramble, out),
+        Some(3) => write_net_after::<O, 3>(scramble, out),
+        Some(4) => write_net_after::<O, 4>(scramble, out),
+        Some(5) => write_net_after::<O, 5>(scramble, out),
+        Some(6) => write_net_after::<O, 6>(scramble, out),
+        Some(7) => write_net_after::<O, 7>(scramble, out),
+        Some(_) => unreachable!(),
     }
 }
 

@@ -38,7 +38,7 @@ pub fn scramble_333bf(
         unreachable!();
     };
     let first = scramble_333(prune, stages, before.cube(), tries);
-    let mut scramble = with_event(&first, Event::Bf333);
+    let mut scramble = first.with_event(Event::Bf333);
     push_all(&mut scramble, &word);
     scramble
 }
@@ -98,18 +98,6 @@ fn push_some(scramble: &mut Scramble, turn: Option<Turn>)
     if let Some(turn) = turn {
         push_turn(scramble, turn);
     }
-}
-
-/// The same turns as a scramble of another event, which has all of them.
-pub fn with_event(scramble: &Scramble, event: Event) -> Scramble
-    requires { (t : Letter) → IsTrue (permits scramble.now.event t) → IsTrue (permits event t) }
-    ensures { result ≡ record { event = event; turns = scramble.now.turns } }
-{
-    let mut same = Scramble::new(event);
-    for turn in scramble.turns() {
-        push_turn(&mut same, *turn);
-    }
-    same
 }
 
 /// The 3x3x3 as it is held: its states by their numbers, and the test of its minima, which is that of the cube alone.

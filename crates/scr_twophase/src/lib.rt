@@ -35,7 +35,7 @@ mod turn_set;
 mod word;
 
 pub use draw::Draw333;
-pub use held::{DrawHeld, scramble_333bf, with_event};
+pub use held::{DrawHeld, scramble_333bf};
 pub use needs::needs_333;
 pub use scramble::{scramble_333, two_parts};
 pub use tables::PruneTables;

@@ -1,7 +1,7 @@
 use Rattle.std.proofs.Common.{◌++◌}
 use Rattle.std.proofs.lemmas.Result.{err_from_is_err_and}
 use Rattle.scr_outside.proofs.ChangeLemmas.{Gains-nothing}
-use Rattle.scr_command.specs.Command.{net_side}
+use Rattle.scr_notation.specs.Event.{net_side_of}
 use Rattle.scr_sheet.specs.Sheet.{line_of, shown_net}
 use Rattle.scr_sheet.proofs.SingleLaws.{single-done, single-broken}
 use Rattle.scr_sheet.proofs.single.write_scrambled_net.Goals as goal
@@ -9,16 +9,16 @@ use Rattle.scr_sheet.proofs.single.write_scrambled_net.Goals as goal
 pub returns-in_err-scramble-clause-ends : goal.returns-in_err-scramble-clause-ends
 returns-in_err-scramble-clause-ends g c =
     let p = err_from_is_err_and c.from_residual.result c.from_residual.ensures.1 in
-    rw (p.1, p.2) (c.in_err-scramble.ensures.fault (λ turns. line_of turns ++ shown_net (net_side c.args.event) turns) _ Gains-nothing)
+    rw (p.1, p.2) (c.in_err-scramble.ensures.fault (λ turns. line_of turns ++ shown_net (net_side_of c.args.event) turns) _ Gains-nothing)
 
 pub returns-in_err-write_with_net-clause-ends : goal.returns-in_err-write_with_net-clause-ends
 returns-in_err-write_with_net-clause-ends g c =
     let p = err_from_is_err_and c.from_residual-in_err-write_with_net.result c.from_residual-in_err-write_with_net.ensures.1 in
     rw (p.1, p.2)
-    (single-broken (λ turns. line_of turns ++ shown_net (net_side c.args.event) turns) c.in_ok-scramble.ensures.fair
+    (single-broken (λ turns. line_of turns ++ shown_net (net_side_of c.args.event) turns) c.in_ok-scramble.ensures.fair
     c.in_ok-scramble.scramble c.in_ok-scramble.ensures.scramble c.in_err-write_with_net.ensures)
 
 pub returns-clause-ends : goal.returns-clause-ends
 returns-clause-ends g c =
-    single-done (λ turns. line_of turns ++ shown_net (net_side c.args.event) turns) c.in_ok-scramble.ensures.fair
+    single-done (λ turns. line_of turns ++ shown_net (net_side_of c.args.event) turns) c.in_ok-scramble.ensures.fair
     c.in_ok-scramble.scramble c.in_ok-scramble.ensures.scramble c.in_ok-write_with_net.ensures
