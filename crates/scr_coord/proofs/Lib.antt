@@ -4,6 +4,7 @@ pub mod MoveLaws
 pub mod MarkedSteps
 pub mod GoalNumbers
 pub mod ProductLaws
+pub mod ProductGoals
 pub mod SearchLaws
 pub mod ProjectionLaws
 pub mod MarkedPieces

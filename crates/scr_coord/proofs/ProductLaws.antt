@@ -26,10 +26,10 @@ pair_below low high n p t a b e same f g at turn to_a to_b =
 
 -- ---- the parts of a position
 
-part-low : (n a b : ℕ) → a < n → (a + n * b) % n ≡ a
+pub part-low : (n a b : ℕ) → a < n → (a + n * b) % n ≡ a
 part-low n a b lt = add-mul-mod_self_left a n b ∙ mod-eq_of_lt lt
 
-part-high : (n a b : ℕ) → a < n → (a + n * b) / n ≡ b
+pub part-high : (n a b : ℕ) → a < n → (a + n * b) / n ≡ b
 part-high n a b lt = ap (λ k. k / n) (omega arith) ∙ div-mul-add b n a lt
 
 -- The positions of a row: those with one high part.

@@ -1,5 +1,5 @@
 -- Coordinates: what a search sees of a puzzle's states, as numbers. No puzzle stands here.
-use Rattle.std.specs.Prelude.{◌≡◌, ℕ, ◌+◌, ◌<◌, nat_lt, Bool, IsTrue, List, length, slice_index, Option, Some, None, if◌then◌else◌, unwrap_or}
+use Rattle.std.specs.Prelude.{◌≡◌, ℕ, ◌+◌, ◌<◌, ◌≤◌, nat_lt, Bool, false, IsTrue, List, length, slice_index, Option, Some, None, if◌then◌else◌, unwrap_or}
 use Rattle.std.specs.Option.{option_map_or}
 use Rattle.scr_coord.specs.declared.coordinate.TheConstants.{NOWHERE}
 
@@ -21,6 +21,17 @@ moved c p t = if nat_lt t c.turns then c.after p t else None
 
 abbrev pub IsGoal : Coordinate → ℕ → Type 0
 IsGoal c p = IsTrue (c.is_goal p)
+
+-- no position from one on and below another is a goal
+abbrev pub HasNoGoal : Coordinate → ℕ → ℕ → Type 0
+HasNoGoal c from to = (p : ℕ) → from ≤ p → p < to → c.is_goal p ≡ false
+
+-- the first goal from a position on
+pub record IsNextGoal (c : Coordinate) (from position : ℕ) : Type 0 where
+  pub from_on : from ≤ position
+  pub below : position < c.count
+  pub goal : IsGoal c position
+  pub first : HasNoGoal c from position
 
 -- the mark of a barred turn, above each position that a number of 32 bits can be
 abbrev pub barred : ℕ

@@ -1,6 +1,6 @@
 //! What a coordinate is.
-ghost use Rattle.std.specs.Prelude.{◌≡◌, ◌+◌, ◌<◌, ◌≤◌, length};
-ghost use Rattle.scr_coord.specs.Coordinates.{Coordinate, StaysBelow, AreSeen};
+ghost use Rattle.std.specs.Prelude.{◌≡◌, ◌+◌, ◌<◌, ◌≤◌, IfNone, IfSome, length};
+ghost use Rattle.scr_coord.specs.Coordinates.{Coordinate, StaysBelow, AreSeen, HasNoGoal, IsNextGoal};
 
 /// What stands in place of a position where a turn is barred. It is no position, since there are fewer than 2^32.
 pub const BARRED: u32 = u32::MAX;
@@ -53,6 +53,20 @@ pub trait Coord {
         requires { position < (coordinate self.now).count }
         ensures { result ≡ (coordinate self.now).is_goal position };
 
+    /// The first goal from a position on, which is at most `count`; `None` exactly where there is none.
+    fn next_goal(&self, from: u32) -> Option<u32>
+        requires { from ≤ (coordinate self.now).count }
+        ensures goal { IfSome result (IsNextGoal (coordinate self.now) from) }
+        ensures none { IfNone result (HasNoGoal (coordinate self.now) from (coordinate self.now).count) }
+    {
+        for position in from..self.count() {
+            if self.is_goal(position) {
+                return Some(position);
+            }
+        }
+        None
+    }
+
     /// Does nothing: turns lead from positions to positions.
     fn stays_below(&self)
         ensures { StaysBelow (coordinate self.now) };
@@ -85,6 +99,11 @@ impl<C: Coord> Coord for &C {
     #[inline]
     fn is_goal(&self, position: u32) -> bool {
         (**self).is_goal(position)
+    }
+
+    #[inline]
+    fn next_goal(&self, from: u32) -> Option<u32> {
+        (**self).next_goal(from)
     }
 
     #[inline]

@@ -1,6 +1,6 @@
 //! Two coordinates side by side as one.
-ghost use Rattle.std.specs.Prelude.{◌≡◌, ◌≢◌, ◌+◌, ◌*◌, ◌/◌, ◌^◌, ◌<◌, ◌≤◌, ℕ, IfOk, IfSome, length, slice_index};
-ghost use Rattle.scr_coord.specs.Coordinates.{value_at};
+ghost use Rattle.std.specs.Prelude.{◌≡◌, ◌≢◌, ◌+◌, ◌*◌, ◌/◌, ◌^◌, ◌<◌, ◌≤◌, ℕ, IfNone, IfOk, IfSome, length, slice_index};
+ghost use Rattle.scr_coord.specs.Coordinates.{value_at, HasNoGoal, IsNextGoal};
 ghost use Rattle.scr_coord.specs.Products.{product_coordinate, side_by_side};
 ghost use Rattle.scr_coord.specs.SearchSpaces.{ShowsSame};
 
@@ -111,6 +111,39 @@ impl<L: Coord, H: Coord> Product<L, H> {
     }
 }
 
+impl<L: Coord, H: Coord> Product<L, H> {
+    /// The first goal from a position on, if there is one with the same high part.
+    fn goal_in_row(&self, from: u32) -> Option<u32>
+        requires { from < (L.coordinate self.now.low).count * (H.coordinate self.now.high).count }
+        ensures goal { IfSome result (IsNextGoal (product_coordinate (L.coordinate self.now.low) (H.coordinate self.now.high)) from) }
+        ensures none { let n = (L.coordinate self.now.low).count in
+            IfNone result (HasNoGoal (product_coordinate (L.coordinate self.now.low) (H.coordinate self.now.high)) from (n * (from / n + 1))) }
+    {
+        let low_count = self.low.count();
+        let row = from / low_count;
+        if !self.high.is_goal(row) {
+            return None;
+        }
+        let low = self.low.next_goal(from % low_count)?;
+        let goal = low + low_count * row;
+        Some(goal)
+    }
+
+    /// The first goal with this high part, which is at most that of the last position and one, or a greater one.
+    fn goal_from_row(&self, row: u32) -> Option<u32>
+        requires { row ≤ (H.coordinate self.now.high).count }
+        ensures goal { let n = (L.coordinate self.now.low).count in
+            IfSome result (IsNextGoal (product_coordinate (L.coordinate self.now.low) (H.coordinate self.now.high)) (n * row)) }
+        ensures none { let n = (L.coordinate self.now.low).count in let m = (H.coordinate self.now.high).count in
+            IfNone result (HasNoGoal (product_coordinate (L.coordinate self.now.low) (H.coordinate self.now.high)) (n * row) (n * m)) }
+    {
+        let high = self.high.next_goal(row)?;
+        let low = self.low.next_goal(0)?;
+        let goal = low + self.low.count() * high;
+        Some(goal)
+    }
+}
+
 impl Product<MoveTable, MoveTable> {
     /// The moves of two coordinates that have the same turns, and fewer than 2^32 pairs of positions. Only memory can be
     /// wanting.
@@ -172,6 +205,17 @@ impl<L: Coord, H: Coord> Coord for Product<L, H> {
     fn is_goal(&self, position: u32) -> bool {
         let low_count = self.low.count();
         self.low.is_goal(position % low_count) && self.high.is_goal(position / low_count)
+    }
+
+    // Positions with the same high part are a row, and a goal is where both parts have one.
+    fn next_goal(&self, from: u32) -> Option<u32> {
+        if from == self.count() {
+            return None;
+        }
+        match self.goal_in_row(from) {
+            Some(goal) => Some(goal),
+            None => self.goal_from_row(from / self.low.count() + 1),
+        }
     }
 
     #[inline]

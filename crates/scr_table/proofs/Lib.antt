@@ -1,5 +1,6 @@
 pub mod StepLaws
 pub mod FilledLaws
+pub mod GoalsMarked
 pub mod DescentLaws
 pub mod CountLaws
 pub mod MovesLaws

@@ -93,8 +93,12 @@ fn mark_goals<C: Coord>(coord: &C, entries: &mut [u8])
     requires { length entries.old ≡ (C.coordinate coord.now).count }
     ensures { AreKnown (C.coordinate coord.now) 0 entries.new }
 {
-    for position in 0..coord.count() {
-        entries[position as usize] = if coord.is_goal(position) { 0 } else { UNKNOWN };
+    let _positions = coord.count();
+    entries.fill(UNKNOWN);
+    let mut from = 0;
+    while let Some(goal) = coord.next_goal(from) {
+        entries[goal as usize] = 0;
+        from = goal + 1;
     }
 }
 

@@ -1,6 +1,9 @@
-use Rattle.std.proofs.Common.{ℕ, ◌<◌, get_or}
-use Rattle.scr_table.specs.Filled.{IsKnown}
+use Rattle.std.proofs.Common.{◌-◌}
+use Rattle.scr_table.proofs.GoalsMarked.{AreMarkedBelow}
 use Rattle.scr_table.proofs.fill.mark_goals.Given as goal
 
-abbrev pub invariant-loop-position : goal.invariant-loop-position
-invariant-loop-position g l = (k : ℕ) → k < l.position → IsKnown (g.C.Coord.coordinate l.coord) 0 k (get_or l.entries k 0)
+abbrev pub decreases-loop-goal : goal.decreases-loop-goal
+decreases-loop-goal g l = (g.C.Coord.coordinate l.coord).count - l.from
+
+abbrev pub invariant-loop-goal : goal.invariant-loop-goal
+invariant-loop-goal g l = AreMarkedBelow (g.C.Coord.coordinate l.coord) l.from l.entries
