@@ -2,7 +2,7 @@
 """Tries the built program at its worst: refused memory, failing and short reads and writes, real streams, random lists and
 words. Says how many cases there were and which were at fault, and ends with 1 where any was.
 
-    tools/hostile/hostile.py [--lists N] [--jobs N]
+    tools/hostile/hostile.py [--lists N] [--jobs N] [--every N]
 
 The program has to be built (bin/scramble). What each case must give is told by the manual: docs/MANUAL.md."""
 

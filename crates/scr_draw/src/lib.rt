@@ -1,5 +1,5 @@
 //! Fair drawing: attempts on words, the first permitted state, and the law that each permitted state
-//! is drawn by equally many words.
+//! is drawn by equally many lists of numbers.
 //!
 //! It stands on the words of `scr_words`, and on the numberings and the puzzles of `scr_combinatorics`.
 //! An event gives its states by a `Numbering` and its minimum by a `Permit`, whose test is exact for the puzzle that it

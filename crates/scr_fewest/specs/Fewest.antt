@@ -1,4 +1,4 @@
--- The scramble of a 3x3x3 for fewest moves. It begins and ends with R' U' F (WCA Regulations, article E); what stands
+-- The scramble of a 3x3x3 for fewest moves. It begins and ends with R' U' F, as at competitions; what stands
 -- between is our own choice: the scramble of the cube that the two frames leave. Where turns of one face meet at a
 -- joint, both stand.
 use Rattle.std.specs.Prelude.{◌≡◌, ◌==◌, ◌+◌, ◌-◌, ◌&&◌, ℕ, Bool, false, nat_le, List, [], ◌∷◌, ◌++◌, length, slice_index_or, unwrap_or}

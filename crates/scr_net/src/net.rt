@@ -61,7 +61,8 @@ impl<const SIDE: usize> Net<SIDE> {
         }
     }
 
-    /// The letter at a row and a column of a face.
+    /// The letter, below 6, at a row and a column of a face: faces are 0 to 5 for U R F D L B, rows and columns below the
+    /// number of layers.
     pub fn cell(&self, face: u8, row: u8, column: u8) -> u8
         requires face { face < 6 }
         requires row { row < SIDE }
@@ -73,7 +74,8 @@ impl<const SIDE: usize> Net<SIDE> {
         self.letters[usize::from(face)][usize::from(row)][usize::from(column)]
     }
 
-    /// The net after the `depth` outer layers at a face were turned, clockwise by `amount` quarters.
+    /// The net after the `depth` outer layers at a face, at least 1 and fewer than all, were turned, clockwise by `amount`
+    /// quarters, 1 to 3. Faces are 0 to 5 for U R F D L B.
     pub fn turn(&self, face: u8, depth: u8, amount: u8) -> Net<SIDE>
         requires side { IsSide SIDE }
         requires face { face < 6 }

@@ -4,7 +4,9 @@ ghost use Rattle.std.specs.Prelude.{◌≡◌, ◌<◌, ◌≤◌, ◌++◌, [],
 ghost use Rattle.std.specs.Vec.{vec_len, vec_capacity};
 ghost use Rattle.scr_notation.specs.EventSets.{Has};
 ghost use Rattle.scr_list.specs.Rounds.{IsRound};
+ghost use Rattle.scr_slots.specs.Events.{scrambling_of};
 ghost use Rattle.scr_slots.specs.Ranges.{AreInRange, IsShort};
+ghost use Rattle.scr_slots.specs.Slots.{IsDrawnFairly};
 ghost use Rattle.scr_sheet.specs.Making.{answer_at, IsRoundMade, IsPartFault, IsFirstNone};
 ghost use Rattle.scr_sheet.specs.Sheet.{settings_of, round_part};
 
@@ -14,6 +16,7 @@ use scr_list::Round;
 use scr_notation::Scramble;
 use scr_outside::NoMemory;
 use scr_round::{RoundResult, slots};
+use scr_slots::laws::each_drawn_fairly;
 use scr_slots::{Effort, Settings, Tables};
 use scr_words::Seed;
 use scr_workers::{Board, Gate, run_claims};
@@ -58,8 +61,9 @@ const MOST_WORKERS: u32 = 64;
 /// how many there are changes no scramble. Each slot passes the gate before it is drawn.
 ///
 /// The tables have the round's event, `index` is below 256, the round is one that a list can name, and there are at most
-/// 1,000,000 attempts, and 1 to 1,000 ways to the square shape. All memory is taken before the first draw. `Limit` names the first slot whose attempts give no
-/// permitted state, and comes exactly where there is one.
+/// 1,000,000 attempts, and 1 to 1,000 ways to the square shape. All memory is taken before the first draw. `Limit` names
+/// the first slot whose attempts give no permitted state, and comes exactly where there is one. The event is drawn fairly
+/// at the round's minimum; of random moves this says that each of their steps is fair.
 pub fn make_round<R: Threads + Sync, G: Gate + Sync>(
     rt: &R,
     alloc: Global,
@@ -75,9 +79,11 @@ pub fn make_round<R: Threads + Sync, G: Gate + Sync>(
     requires round { IsRound round.now }
     requires attempts { options.now.attempts ≤ 1000000 }
     requires short { IsShort options.now.short }
-    ensures { let settings = settings_of seed.now options.now in
+    ensures made { let settings = settings_of seed.now options.now in
         MatchResult result (IsRoundMade settings index round.now) (IsPartFault settings (round_part index round.now)) }
+    ensures fair { IsDrawnFairly (scrambling_of round.now.event) round.now.least }
 {
+    each_drawn_fairly(tables);
     Making::new(rt, alloc, tables, seed, options, gate).round(index, round)
 }
 

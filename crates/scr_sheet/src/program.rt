@@ -23,7 +23,7 @@ use std::thread::Threads;
 ///
 /// Whatever the number of workers says, it writes exactly the sheet that the definitions give for its seed and round
 /// list, or the named part of it at a refusal; every state of an event of random states that turns reach and that needs
-/// at least the set number of turns is drawn by equally many lists of words; every printed scramble of such a state,
+/// at least the set number of turns is drawn by equally many lists of numbers; every printed scramble of such a state,
 /// played on the solved puzzle, gives it within the puzzle's bound:
 ///
 /// | event | bound |
@@ -36,7 +36,7 @@ use std::thread::Threads;
 /// | 333fm | that of 333, between R' U' F and R' U' F |
 /// | sq1 | 76 twists |
 ///
-/// For minx, 555, 666 and 777 no state is drawn: each random move is taken by equally many words.
+/// For minx, 555, 666 and 777 no state is drawn: each random move is taken by equally many numbers.
 ///
 /// It takes memory only where the first word is `sheet` or `check`, where tables are needed, or where rounds are made for
 /// `load`.

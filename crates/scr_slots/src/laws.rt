@@ -31,7 +31,7 @@ pub fn one_answer()
 /// Each event whose tables are built is drawn fairly at each minimum of its range; of an event that is
 /// scrambled by random moves this says that each of their steps is fair, and no more. So it is a clause of
 /// [`Tables::build`].
-pub(crate) fn each_drawn_fairly(tables: &Tables)
+pub fn each_drawn_fairly(tables: &Tables)
     ensures { (event : EventOf) (least : ℕ) → Has tables.now event
         → least ≤ greatest_of event → IsDrawnFairly (scrambling_of event) least }
 {

@@ -37,8 +37,7 @@ abbrev pub middle_edges : List ℕ
 middle_edges = 8 ∷ 9 ∷ 10 ∷ 11 ∷ []
 
 -- Second, by all turns but quarter turns of F and B: besides, no corner is twisted, and the edges of the middle layer
--- are in it. What turns may then lead to solved by U and D alone, and by half turns of the other faces, is called a
--- domino.
+-- are in it. A cube that turns of U and D and half turns of the other faces solve is called a domino.
 pub record IsDomino (c : CubeState) : Type 0 where
   pub no_flips : HasNoFlips c
   pub no_twists : c.corners.digits ≡ zeros 8

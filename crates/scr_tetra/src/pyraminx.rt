@@ -124,7 +124,7 @@ impl Pyraminx {
         self.tips
     }
 
-    /// The state after a turn of a tip alone, clockwise by `amount` thirds, 1 or 2.
+    /// The state after a turn of a tip alone, 0 to 3 for u l r b, clockwise by `amount` thirds, 1 or 2.
     pub fn tip(&self, tip: u8, amount: u8) -> Pyraminx
         requires tip { tip < 4 }
         requires some { 0 < amount }
