@@ -26,6 +26,21 @@ fn rows(rt: HostRuntime) {
     assert_eq!(rt; MixedRadix::new([2, 3, 4]).rank(&[1, 2, 3]), 23);
 }
 
+// Each list of 1 to 7 pieces has the number that it is the list of.
+#[test]
+fn round_trips(rt: HostRuntime) {
+    macro_rules! round_trips {
+        ($($length:literal: $count:literal),*) => {
+            $(for number in 0..$count {
+                let number = u128::from(number);
+                let list = PermRank::<$length>::unrank(number);
+                assert_eq!(rt; PermRank::<$length>::rank(&list), number);
+            })*
+        };
+    }
+    round_trips!(1: 1_u32, 2: 2_u32, 3: 6_u32, 4: 24_u32, 5: 120_u32, 6: 720_u32, 7: 5040_u32);
+}
+
 #[test]
 fn pairing_rows(rt: HostRuntime) {
     assert_eq!(rt; Pairing8::unrank(0), [1, 0, 3, 2, 5, 4, 7, 6]);
