@@ -1,17 +1,19 @@
 -- What is written of scrambles is fair.
-use Rattle.std.proofs.Common.{◌∙◌, ℕ, ◌⊎◌, Bool, true, false, cond, List, [], ◌∷◌, ◌++◌, Ok, Err, inl, inr, refl, sym, subst, append-nil, All}
+use Rattle.std.proofs.Common.{◌≡◌, ◌∙◌, ℕ, ◌+◌, ◌⊎◌, Bool, true, false, cond, List, [], ◌∷◌, ◌++◌, length, Ok, Err, inl, inr, refl, sym, ap, subst, append-nil, append_assoc, arith, All}
 use Rattle.std.proofs.lemmas.List.{length-map}
 use Rattle.std.proofs.lemmas.List.Elements.{All-head, All-tail}
-use Rattle.std.specs.Prelude.{Result, Option, Some, None, is_some}
+use Rattle.std.specs.Prelude.{Result, Option, Some, None, is_some, codes}
 use Rattle.scr_outside.specs.Change.{Change, Gains, Falters}
 use Rattle.scr_notation.specs.Written.{Written}
 use Rattle.scr_notation.specs.declared.event.Event.{Event}
 use Rattle.scr_notation.specs.Event.{net_side_of}
+use Rattle.scr_notation.specs.declared.turn.Turn.{Turn}
+use Rattle.scr_notation.specs.Spelling.{text_of}
 use Rattle.scr_words.specs.declared.seed.Seed.{Seed}
 use Rattle.scr_words.specs.declared.seed.SeedFault.{SeedFault}
 use Rattle.scr_words.specs.Seed.{seed_of}
 use Rattle.scr_command.specs.declared.command.Command.{Command}
-use Rattle.scr_command.specs.declared.command.Command.TheVariants.{One, Sheet, Tables, Load, Net, Check}
+use Rattle.scr_command.specs.declared.command.Command.TheVariants.{One, Sheet, Net}
 use Rattle.scr_command.specs.declared.command.UsageFault.{UsageFault}
 use Rattle.scr_command.specs.declared.command.UsageFault.TheVariants.{Grammar}
 use Rattle.scr_command.specs.declared.options.OptionName.TheVariants as option
@@ -19,17 +21,19 @@ use Rattle.scr_command.specs.declared.options.Options.{Options}
 use Rattle.scr_command.specs.OptionTable.{sheet_options}
 use Rattle.scr_command.specs.OptionWords.{Values, options_of}
 use Rattle.scr_command.specs.Command.{command_of, event_for, net_for, of_two, one_for, seeded, settings_in, command_with, sheet_of}
+use Rattle.scr_list.specs.declared.round.Round.{Round}
 use Rattle.scr_round.specs.Made.{turns_of_each}
 use Rattle.scr_slots.specs.declared.settings.Settings.{Settings}
 use Rattle.scr_slots.specs.Shown.{Shown}
 use Rattle.scr_slots.specs.Slots.{Scrambling, ByState, ByMoves, IsSlotScramble, IsDrawnFairly}
-use Rattle.scr_slots.specs.Events.{scrambling_of}
+use Rattle.scr_slots.specs.Events.{scrambling_of, shown_of}
 use Rattle.scr_slots.proofs.EachEvent.{shown_by, same_shown}
 use Rattle.scr_sheet.specs.declared.fault.Fault.{Fault}
 use Rattle.scr_sheet.specs.declared.fault.Fault.TheVariants as fault
-use Rattle.scr_sheet.specs.Sheet.{Part, EachSlot, IsPartText, IsText}
-use Rattle.scr_sheet.specs.Outcome.{IsLed, EndsParts, EndsMaking, Ends, IsPerformed, IsUnwritten}
-use Rattle.scr_sheet.specs.Headline.{AreFairScrambles, ArePartsAsked, IsFairText, IsFairlyWritten, AsksForScrambles}
+use Rattle.scr_sheet.specs.Sheet.{Part, round_part, round_parts, single_part, line_of, shown_net, EachSlot, IsPartText, IsText}
+use Rattle.scr_sheet.specs.Outcome.{IsLed, EndsParts, EndsMaking, EndsCommand, Ends, IsPerformed, IsUnwritten}
+use Rattle.scr_sheet.specs.Headline.{AreFairScrambles, IsFairRound, AreFairRounds, IsFairLine, WritesOnly, IsFairRun}
+use Rattle.scr_sheet.proofs.SlotOrder.{round-in_order}
 use Rattle.scr_sheet.proofs.PartLaws.{EachSlot-map}
 use Rattle.scr_sheet.proofs.RunLaws.{IsFairPart}
 
@@ -46,7 +50,16 @@ fair_scrambles (ByState S event scrambled) settings least stream scrambles fair 
 fair_scrambles (ByMoves event random) settings least stream scrambles fair each =
     (fair, EachSlot-map _ _ (λ (w : Written). w.turns) (λ s w is. is.turns) stream scrambles each)
 
--- the text of a part that is drawn fairly
+-- ---- parts
+
+-- the text of a part's scrambles, one for each slot, which are fair
+record IsFairText (settings : Settings) (part : Part) (text : List ℕ) : Type 0 where
+  scrambles : List (List Turn)
+  each_slot : length scrambles ≡ part.slots
+  fair : AreFairScrambles (shown_of part.event) settings part.least part.first_stream scrambles
+  is : text ≡ part.text scrambles
+
+-- so is the text of a part that is drawn fairly
 fair_text : (settings : Settings) (part : Part) (text : List ℕ) → IsFairPart part → IsPartText settings part text → IsFairText settings part text
 fair_text settings part text fair is =
     let P : Shown → Type 0 = λ shown. AreFairScrambles shown settings part.least part.first_stream (turns_of_each is.scrambles) in
@@ -69,133 +82,258 @@ fair_texts settings (part ∷ led) rest text fair is = (
   is.4,
 )
 
--- nothing is fair
-pub fair-nothing : (settings : Settings) (out : Change) → IsUnwritten out → IsFairlyWritten out
-fair-nothing settings out none = record {
-  settings = settings;
-  parts = [];
-  asked = inr ([], refl);
-  led = [];
-  rest = [];
-  leading = refl;
-  text = [];
-  fair = refl;
-  written = inl none;
-}
+-- what was written of parts is the text of the first of them, which are fair, or a first part of that text
+record IsFairlyLed (settings : Settings) (parts : List Part) (out : Change) : Type 0 where
+  led : List Part
+  rest : List Part
+  are : parts ≡ led ++ rest
+  text : List ℕ
+  fair : IsText (IsFairText settings) led text
+  written : Gains out text ⊎ Falters out text
 
--- so are leading parts of those that are asked for
-fair-led : (settings : Settings) (parts led rest : List Part) (text : List ℕ) (out : Change) → ArePartsAsked parts → All IsFairPart parts
-    → IsLed settings parts led rest text → Gains out text ⊎ Falters out text → IsFairlyWritten out
-fair-led settings parts led rest text out asked fair before written = record {
-  settings = settings;
-  parts = parts;
-  asked = asked;
+fair-led : (settings : Settings) (parts led rest : List Part) (text : List ℕ) (out : Change) → All IsFairPart parts
+    → IsLed settings parts led rest text → Gains out text ⊎ Falters out text → IsFairlyLed settings parts out
+fair-led settings parts led rest text out fair before written = record {
   led = led;
   rest = rest;
-  leading = before.are;
+  are = before.are;
   text = text;
   fair = fair_texts settings led rest text (subst (All IsFairPart) before.are fair) before.has;
   written = written;
 }
 
--- so is what parts end with
-pub fair-parts : (settings : Settings) (k : ℕ) (parts : List Part) (out : Change) (ended : Result (Unit {0}) Fault) → ArePartsAsked parts
-    → All IsFairPart parts → EndsParts settings k parts out ended → IsFairlyWritten out
-fair-parts settings k parts out (Ok u) asked fair ends =
-    fair-led settings parts parts [] ends.text out asked fair (record { are = sym (append-nil parts); has = ends.all }) (inl ends.gained)
-fair-parts settings k parts out (Err (fault.Usage usage)) asked fair ends = absurd ends
-fair-parts settings k parts out (Err (fault.List list)) asked fair ends = absurd ends
-fair-parts settings k parts out (Err (fault.Gap table index)) asked fair ends = absurd ends
-fair-parts settings k parts out (Err (fault.Differs line)) asked fair ends = absurd ends
-fair-parts settings k parts out (Err (fault.DrawLimit number slot words)) asked fair ends =
-    fair-led settings parts ends.led (ends.failing ∷ ends.rest) ends.text out asked fair ends.before (inl ends.gained)
-fair-parts settings k parts out (Err fault.Write) asked fair ends =
-    fair-led settings parts ends.led ends.rest ends.text out asked fair ends.before (inr ends.faltered)
-fair-parts settings k parts out (Err fault.NoMemory) asked fair ends =
-    fair-led settings parts ends.led (ends.wanting ∷ ends.rest) ends.text out asked fair ends.before (inl ends.gained)
+-- so it is however parts end
+fair-parts : (settings : Settings) (k : ℕ) (parts : List Part) (out : Change) (ended : Result (Unit {0}) Fault) → All IsFairPart parts
+    → EndsParts settings k parts out ended → IsFairlyLed settings parts out
+fair-parts settings k parts out (Ok u) fair ends =
+    fair-led settings parts parts [] ends.text out fair (record { are = sym (append-nil parts); has = ends.all }) (inl ends.gained)
+fair-parts settings k parts out (Err (fault.Usage usage)) fair ends = absurd ends
+fair-parts settings k parts out (Err (fault.List list)) fair ends = absurd ends
+fair-parts settings k parts out (Err (fault.Gap table index)) fair ends = absurd ends
+fair-parts settings k parts out (Err (fault.Differs line)) fair ends = absurd ends
+fair-parts settings k parts out (Err (fault.DrawLimit number slot words)) fair ends =
+    fair-led settings parts ends.led (ends.failing ∷ ends.rest) ends.text out fair ends.before (inl ends.gained)
+fair-parts settings k parts out (Err fault.Write) fair ends =
+    fair-led settings parts ends.led ends.rest ends.text out fair ends.before (inr ends.faltered)
+fair-parts settings k parts out (Err fault.NoMemory) fair ends =
+    fair-led settings parts ends.led (ends.wanting ∷ ends.rest) ends.text out fair ends.before (inl ends.gained)
 
-pub fair-making : (settings : Settings) (parts : List Part) (out : Change) (ended : Result (Unit {0}) Fault) → ArePartsAsked parts
-    → EndsMaking settings parts out ended → IsFairlyWritten out
-fair-making settings parts out ended asked making =
-    elim making [ inl making ↦ fair-parts settings 0 parts out ended asked making.fair making.ends | inr lacks ↦ fair-nothing settings out lacks.unwritten ]
+fair-making : (settings : Settings) (parts : List Part) (out : Change) (ended : Result (Unit {0}) Fault)
+    → EndsMaking settings parts out ended → IsFairlyLed settings parts out
+fair-making settings parts out ended making =
+    elim making [
+      | inl making ↦ fair-parts settings 0 parts out ended making.fair making.ends
+      | inr lacks ↦ record { led = []; rest = parts; are = refl; text = []; fair = refl; written = inl lacks.unwritten }
+    ]
+
+-- ---- one line
+
+-- of one part its text was written, or nothing
+led-one : (settings : Settings) (part : Part) (led rest : List Part) (text : List ℕ) → part ∷ [] ≡ led ++ rest
+    → IsText (IsFairText settings) led text → (text ≡ []) ⊎ IsFairText settings part text
+led-one settings part [] rest text are fair = inl fair
+led-one settings part (first ∷ []) rest text are fair =
+    let same : first ≡ part = cc in
+    let whole : text ≡ fair.0 = fair.4 ∙ ap (λ t. fair.0 ++ t) fair.3 ∙ append-nil fair.0 in
+    inr (subst (λ p. IsFairText settings p text) same (subst (IsFairText settings first) (sym whole) fair.2))
+led-one settings part (first ∷ second ∷ led) rest text are fair =
+    let none : ⊥ = cc in
+    absurd none
+
+-- the one scramble of a part, and what is written of it
+record IsFairSingle (settings : Settings) (event : Event) (print : List Turn → List ℕ) (text : List ℕ) : Type 0 where
+  turns : List Turn
+  fair : AreFairScrambles (shown_of event) settings 0 0 (turns ∷ [])
+  is : text ≡ print turns
+
+fair-single : (settings : Settings) (event : Event) (print : List Turn → List ℕ) (text : List ℕ)
+    → IsFairText settings (single_part event print) text → IsFairSingle settings event print text
+fair-single settings event print text it = of_scrambles it.scrambles it.each_slot it.fair it.is
+  where
+    of_scrambles : (scrambles : List (List Turn)) → length scrambles ≡ 1 → AreFairScrambles (shown_of event) settings 0 0 scrambles
+        → text ≡ (single_part event print).text scrambles → IsFairSingle settings event print text
+    of_scrambles [] size fair is = absurd (omega (arith, size))
+    of_scrambles (turns ∷ []) size fair is = record { turns = turns; fair = fair; is = is }
+    of_scrambles (turns ∷ other ∷ others) size fair is = absurd (omega (arith, size))
+
+-- what a command of one scramble writes
+single-writes : (Is : Settings → List ℕ → Type 0) (settings : Settings) (event : Event) (print : List Turn → List ℕ) (out : Change)
+    (ended : Result (Unit {0}) Fault) → ((text : List ℕ) → IsFairSingle settings event print text → Is settings text)
+    → EndsMaking settings (single_part event print ∷ []) out ended → WritesOnly Is out
+single-writes Is settings event print out ended so making =
+    let led = fair-making settings (single_part event print ∷ []) out ended making in
+    let text = led-one settings (single_part event print) led.led led.rest led.text led.are led.fair in
+    record {
+      settings = settings;
+      text = led.text;
+      such = elim text [ inl none ↦ inl none | inr it ↦ inr (so led.text (fair-single settings event print led.text it)) ];
+      written = led.written;
+    }
+
+-- ---- rounds
+
+fair-round : (settings : Settings) (k : ℕ) (round : Round) (text : List ℕ) → IsFairText settings (round_part k round) text
+    → IsFairRound k round settings text
+fair-round settings k round text it =
+    let order = round-in_order k round it.scrambles it.each_slot in
+    record {
+      scrambles = it.scrambles;
+      each_slot = it.each_slot;
+      fair = it.fair;
+      below = order.0;
+      in_order = order.1;
+      is = it.is ∙ order.2;
+    }
+
+-- the first of a list's parts are the parts of its first rounds
+fair-rounds : (settings : Settings) (k : ℕ) (rounds : List Round) (led rest : List Part) (text : List ℕ) → round_parts k rounds ≡ led ++ rest
+    → IsText (IsFairText settings) led text → (first : List Round) × AreFairRounds k first settings text
+fair-rounds settings k rounds [] rest text are fair = ([], fair)
+fair-rounds settings k [] (part ∷ led) rest text are fair =
+    let none : ⊥ = cc in
+    absurd none
+fair-rounds settings k (round ∷ rounds) (part ∷ led) rest text are fair =
+    let same : part ≡ round_part k round = cc in
+    let others : round_parts (k + 1) rounds ≡ led ++ rest = cc in
+    let behind = fair-rounds settings (k + 1) rounds led rest fair.1 others fair.3 in
+    let here = fair-round settings k round fair.0 (subst (λ p. IsFairText settings p fair.0) same fair.2) in
+    (round ∷ behind.0, (fair.0, fair.1, here, behind.1, fair.4))
 
 -- ---- the commands that write scrambles
 
--- what is asked for makes parts, if it is a command
-abbrev AsksForParts : Result Command UsageFault → Type 0
-AsksForParts (Ok (One event seed)) = Unit {0}
-AsksForParts (Ok (Sheet seed options)) = Unit {0}
-AsksForParts (Ok (Tables event)) = ⊥
-AsksForParts (Ok (Load number)) = ⊥
-AsksForParts (Ok (Net event seed)) = Unit {0}
-AsksForParts (Ok (Check seed attempts)) = ⊥
-AsksForParts (Err usage) = Unit {0}
+-- where nothing is written, any settings will do
+nothing-written : (Is : Settings → List ℕ → Type 0) (out : Change) → IsUnwritten out → WritesOnly Is out
+nothing-written Is out none = record {
+  settings = record { seed = record { 0 = [] }; attempts = 0; effort = record { tries = 0; short = 1 } };
+  text = [];
+  such = inl refl;
+  written = inl none;
+}
 
-seeded-parts : (make : Seed → Command) → ((seed : Seed) → AsksForParts (Ok (make seed))) → (read : Result Seed SeedFault)
-    → AsksForParts (seeded make read)
-seeded-parts make makes (Ok seed) = makes seed
-seeded-parts make makes (Err fault) = tt
+-- what words ask for is such a command, if it is one
+abbrev IsAsked : (Command → Type 0) → Result Command UsageFault → Type 0
+IsAsked Is (Ok command) = Is command
+IsAsked Is (Err usage) = Unit {0}
 
-one_for-parts : (event : Result Event UsageFault) (seed : List ℕ) → AsksForParts (one_for event seed)
-one_for-parts (Err fault) seed = tt
-one_for-parts (Ok event) seed = seeded-parts (One event) (λ s. tt) (seed_of seed)
+abbrev IsOne : Command → Type 0
+IsOne command = (event : Event) × (seed : Seed) × (command ≡ One event seed)
 
-net_for-parts : (event : Result Event UsageFault) (seed : List ℕ) → AsksForParts (net_for event seed)
-net_for-parts (Err fault) seed = tt
-net_for-parts (Ok event) seed = by_side (is_some (net_side_of event))
+abbrev IsNet : Command → Type 0
+IsNet command = (event : Event) × (seed : Seed) × (command ≡ Net event seed)
+
+abbrev IsSheet : Command → Type 0
+IsSheet command = (seed : Seed) × (options : Options) × (command ≡ Sheet seed options)
+
+seeded-asked : (Is : Command → Type 0) (make : Seed → Command) → ((seed : Seed) → Is (make seed)) → (read : Result Seed SeedFault)
+    → IsAsked Is (seeded make read)
+seeded-asked Is make makes (Ok seed) = makes seed
+seeded-asked Is make makes (Err fault) = tt
+
+one_for-asked : (event : Result Event UsageFault) (seed : List ℕ) → IsAsked IsOne (one_for event seed)
+one_for-asked (Err fault) seed = tt
+one_for-asked (Ok event) seed = seeded-asked IsOne (One event) (λ s. (event, s, refl)) (seed_of seed)
+
+net_for-asked : (event : Result Event UsageFault) (seed : List ℕ) → IsAsked IsNet (net_for event seed)
+net_for-asked (Err fault) seed = tt
+net_for-asked (Ok event) seed = by_side (is_some (net_side_of event))
   where
-    by_side : (has : Bool) → AsksForParts (cond has (seeded (Net event) (seed_of seed)) (Err Grammar))
-    by_side true = seeded-parts (Net event) (λ s. tt) (seed_of seed)
+    by_side : (has : Bool) → IsAsked IsNet (cond has (seeded (Net event) (seed_of seed)) (Err Grammar))
+    by_side true = seeded-asked IsNet (Net event) (λ s. (event, s, refl)) (seed_of seed)
     by_side false = tt
 
-of_two-parts : (command : List ℕ → List ℕ → Result Command UsageFault) → ((first second : List ℕ) → AsksForParts (command first second))
-    → (words : List (List ℕ)) → AsksForParts (of_two command words)
-of_two-parts command each [] = tt
-of_two-parts command each (first ∷ []) = tt
-of_two-parts command each (first ∷ second ∷ []) = each first second
-of_two-parts command each (first ∷ second ∷ more ∷ others) = tt
+of_two-asked : (Is : Command → Type 0) (command : List ℕ → List ℕ → Result Command UsageFault)
+    → ((first second : List ℕ) → IsAsked Is (command first second)) → (words : List (List ℕ)) → IsAsked Is (of_two command words)
+of_two-asked Is command each [] = tt
+of_two-asked Is command each (first ∷ []) = tt
+of_two-asked Is command each (first ∷ second ∷ []) = each first second
+of_two-asked Is command each (first ∷ second ∷ more ∷ others) = tt
 
-sheet-parts : (options : Option Options) (seed : Option (List ℕ)) → AsksForParts (command_with Sheet options seed)
-sheet-parts None seed = tt
-sheet-parts (Some options) None = tt
-sheet-parts (Some options) (Some seed) = seeded-parts (λ s. Sheet s options) (λ s. tt) (seed_of seed)
+sheet-asked : (options : Option Options) (seed : Option (List ℕ)) → IsAsked IsSheet (command_with Sheet options seed)
+sheet-asked None seed = tt
+sheet-asked (Some options) None = tt
+sheet-asked (Some options) (Some seed) = seeded-asked IsSheet (λ s. Sheet s options) (λ s. (s, options, refl)) (seed_of seed)
 
-sheet_of-parts : (values : Option Values) → AsksForParts (sheet_of values)
-sheet_of-parts None = tt
-sheet_of-parts (Some values) = sheet-parts (settings_in values) (values option.Seed)
+sheet_of-asked : (values : Option Values) → IsAsked IsSheet (sheet_of values)
+sheet_of-asked None = tt
+sheet_of-asked (Some values) = sheet-asked (settings_in values) (values option.Seed)
 
-words-parts : (words : List (List ℕ)) → AsksForScrambles words → AsksForParts (command_of words)
-words-parts [] asks = absurd asks
-words-parts (word ∷ words) (inl is) =
-    let P : List ℕ → Type 0 = λ w. AsksForParts (command_of (w ∷ words)) in
-    subst P (sym is) (of_two-parts _ (λ event seed. one_for-parts (event_for event) seed) words)
-words-parts (word ∷ words) (inr (inl is)) =
-    let P : List ℕ → Type 0 = λ w. AsksForParts (command_of (w ∷ words)) in
-    subst P (sym is) (of_two-parts _ (λ event seed. net_for-parts (event_for event) seed) words)
-words-parts (word ∷ words) (inr (inr is)) =
-    let P : List ℕ → Type 0 = λ w. AsksForParts (command_of (w ∷ words)) in
-    subst P (sym is) (sheet_of-parts (options_of sheet_options words))
+one-asked : (words : List (List ℕ)) → IsAsked IsOne (command_of (codes "one" ∷ words))
+one-asked words = of_two-asked IsOne _ (λ event seed. one_for-asked (event_for event) seed) words
 
--- where nothing is made with settings, any will do
-no_settings : Settings
-no_settings = record { seed = record { 0 = [] }; attempts = 0; effort = record { tries = 0; short = 1 } }
+net-asked : (words : List (List ℕ)) → IsAsked IsNet (command_of (codes "net" ∷ words))
+net-asked words = of_two-asked IsNet _ (λ event seed. net_for-asked (event_for event) seed) words
 
-fair-command : (asked : Result Command UsageFault) (source out : Change) (ended : Result (Unit {0}) Fault) → AsksForParts asked
-    → Ends asked source out ended → IsFairlyWritten out
-fair-command (Ok (One event seed)) source out ended asks ends = fair-making _ _ out ended (inl (event, inl refl)) ends.1
-fair-command (Ok (Net event seed)) source out ended asks ends = fair-making _ _ out ended (inl (event, inr refl)) ends.1
-fair-command (Ok (Sheet seed options)) source out ended asks (inl ends) = fair-making _ _ out ended (inr (ends.0, refl)) ends.2
-fair-command (Ok (Sheet seed options)) source out ended asks (inr refused) = fair-nothing no_settings out refused.unwritten
-fair-command (Ok (Tables event)) source out ended asks ends = absurd asks
-fair-command (Ok (Load number)) source out ended asks ends = absurd asks
-fair-command (Ok (Check seed attempts)) source out ended asks ends = absurd asks
-fair-command (Err usage) source out ended asks ends = fair-nothing no_settings out ends.2
+sheet-words-asked : (words : List (List ℕ)) → IsAsked IsSheet (command_of (codes "sheet" ∷ words))
+sheet-words-asked words = sheet_of-asked (options_of sheet_options words)
+
+-- ---- what they write
+
+abbrev IsBelow : Settings → List ℕ → Type 0
+IsBelow settings text = (below : List ℕ) × IsFairLine below settings text
+
+abbrev IsOfRounds : Settings → List ℕ → Type 0
+IsOfRounds settings text = (rounds : List Round) × AreFairRounds 0 rounds settings text
+
+one-writes : (source out : Change) (ended : Result (Unit {0}) Fault) (asked : Result Command UsageFault) → IsAsked IsOne asked
+    → Ends asked source out ended → WritesOnly (IsFairLine []) out
+one-writes source out ended (Err usage) asks ends = nothing-written (IsFairLine []) out ends.2
+one-writes source out ended (Ok command) (event, seed, is) ends =
+    let making = (subst (λ c. EndsCommand c source out ended) is ends).1 in
+    single-writes (IsFairLine []) _ event line_of out ended (λ text it. record { event = event; turns = it.turns; fair = it.fair; is = it.is }) making
+
+net-writes : (source out : Change) (ended : Result (Unit {0}) Fault) (asked : Result Command UsageFault) → IsAsked IsNet asked
+    → Ends asked source out ended → WritesOnly IsBelow out
+net-writes source out ended (Err usage) asks ends = nothing-written IsBelow out ends.2
+net-writes source out ended (Ok command) (event, seed, is) ends =
+    let making = (subst (λ c. EndsCommand c source out ended) is ends).1 in
+    let net : List Turn → List ℕ = shown_net (net_side_of event) in
+    single-writes IsBelow _ event (λ turns. line_of turns ++ net turns) out ended
+    (λ text it. (
+      net it.turns,
+      record {
+        event = event;
+        turns = it.turns;
+        fair = it.fair;
+        is = it.is ∙ append_assoc (text_of it.turns) (codes "\n") (net it.turns);
+      },
+    )) making
+
+rounds-write : (settings : Settings) (rounds : List Round) (out : Change) (ended : Result (Unit {0}) Fault)
+    → EndsMaking settings (round_parts 0 rounds) out ended → WritesOnly IsOfRounds out
+rounds-write settings rounds out ended making =
+    let led = fair-making settings (round_parts 0 rounds) out ended making in
+    record {
+      settings = settings;
+      text = led.text;
+      such = inr (fair-rounds settings 0 rounds led.led led.rest led.text led.are led.fair);
+      written = led.written;
+    }
+
+sheet-writes : (source out : Change) (ended : Result (Unit {0}) Fault) (asked : Result Command UsageFault) → IsAsked IsSheet asked
+    → Ends asked source out ended → WritesOnly IsOfRounds out
+sheet-writes source out ended (Err usage) asks ends = nothing-written IsOfRounds out ends.2
+sheet-writes source out ended (Ok command) (seed, options, is) ends =
+    elim (subst (λ c. EndsCommand c source out ended) is ends) [
+      | inl made ↦ rounds-write _ made.0 out ended made.2
+      | inr refused ↦ nothing-written IsOfRounds out refused.unwritten
+    ]
+
+-- a run whose first word is this one, where each end of its command has written only such a text
+word-writes : (Is : Settings → List ℕ → Type 0) (name word : List ℕ) (words : List (List ℕ)) (source out : Change)
+    (ended : Result (Unit {0}) Fault) → IsPerformed (word ∷ words) source out ended
+    → (Ends (command_of (name ∷ words)) source out ended → WritesOnly Is out) → word ≡ name → WritesOnly Is out
+word-writes Is name word words source out ended performed so is =
+    elim performed.ends [
+      | inl ends ↦ so (subst (λ w. Ends (command_of (w ∷ words)) source out ended) is ends)
+      | inr wanting ↦ nothing-written Is out wanting.unwritten
+    ]
 
 -- whatever a run writes of scrambles is fair
 pub fair-run : (words : List (List ℕ)) (source out : Change) (ended : Result (Unit {0}) Fault) → IsPerformed words source out ended
-    → AsksForScrambles words → IsFairlyWritten out
-fair-run words source out ended performed asks =
-    elim performed.ends [
-      | inl ends ↦ fair-command (command_of words) source out ended (words-parts words asks) ends
-      | inr wanting ↦ fair-nothing no_settings out wanting.unwritten
-    ]
+    → IsFairRun words out
+fair-run [] source out ended performed = tt
+fair-run (word ∷ words) source out ended performed = (
+  word-writes (IsFairLine []) (codes "one") word words source out ended performed (one-writes source out ended _ (one-asked words)),
+  word-writes IsBelow (codes "net") word words source out ended performed (net-writes source out ended _ (net-asked words)),
+  word-writes IsOfRounds (codes "sheet") word words source out ended performed (sheet-writes source out ended _ (sheet-words-asked words)),
+)

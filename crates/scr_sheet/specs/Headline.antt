@@ -1,15 +1,19 @@
 -- The headline: what is promised of fairness and of play where scrambles are written, by whatever the states are numbered,
--- whichever scramble a state has, and however a sheet is laid out.
-use Rattle.std.specs.Prelude.{◌≡◌, ◌⊎◌, ℕ, List, [], ◌∷◌, ◌++◌, Some, length, codes}
+-- whichever scramble a state has, and however a sheet is laid out below the heads of its rounds.
+use Rattle.std.specs.Prelude.{◌≡◌, ◌⊎◌, ℕ, ◌+◌, ◌==◌, false, List, [], ◌∷◌, ◌++◌, Some, length, codes}
+use Rattle.std.specs.List.{list_any}
 use Rattle.scr_outside.specs.Change.{Change, Gains, Falters}
 use Rattle.scr_draw.specs.StateSpace.{IsFairFor}
 use Rattle.scr_notation.specs.declared.event.Event.{Event}
 use Rattle.scr_notation.specs.declared.turn.Turn.{Turn}
+use Rattle.scr_notation.specs.Spelling.{text_of}
 use Rattle.scr_list.specs.declared.round.Round.{Round}
+use Rattle.scr_round.specs.Round.{slots_of, heading}
 use Rattle.scr_slots.specs.declared.settings.Settings.{Settings}
 use Rattle.scr_slots.specs.Shown.{DrawnPuzzle, Shown, States, Moves, GivesDrawn, HasMoves, slot_numbers}
+use Rattle.scr_slots.specs.Slots.{first_stream}
 use Rattle.scr_slots.specs.Events.{shown_of}
-use Rattle.scr_sheet.specs.Sheet.{Part, EachSlot, IsText, one_part, net_part, round_parts}
+use Rattle.scr_sheet.specs.Sheet.{EachSlot}
 
 -- The slots of a puzzle's states on streams one after another: by some numbers of the states, every state that turns reach
 -- and that needs so many is drawn by equally many lists of numbers, and no other state by any; and these turns give the
@@ -27,32 +31,53 @@ AreFairScrambles (States S drawn) settings least stream scrambles = AreFairlyDra
 AreFairScrambles (Moves random) settings least stream scrambles =
     random.AreFair × EachSlot (λ s turns. HasMoves random settings s (Some turns)) stream scrambles
 
--- the text of a part's scrambles, one for each slot, which are fair
-pub record IsFairText (settings : Settings) (part : Part) (text : List ℕ) : Type 0 where
+-- no dot, which is byte 46, stands in it
+abbrev pub HasNoDot : List ℕ → Type 0
+HasNoDot text = list_any (λ byte. byte == 46) text ≡ false
+
+-- A text in which these scrambles stand in order: each behind a dot and a space, to the end of its line (byte 10). There is
+-- no other dot. (No turn is spelled with one.)
+pub data StandInOrder : List (List Turn) → List ℕ → Type 0 where
+  no_more : (text : List ℕ) → HasNoDot text → StandInOrder [] text
+  next : (before : List ℕ) (turns : List Turn) (scrambles : List (List Turn)) (below : List ℕ) → HasNoDot before
+      → StandInOrder scrambles below → StandInOrder (turns ∷ scrambles) (before ++ codes ". " ++ text_of turns ++ 10 ∷ below)
+
+-- The text of round k, counted from 0: its head, which names its event and its minimum, and below it the scrambles of its
+-- slots in order, which are fair.
+pub record IsFairRound (k : ℕ) (round : Round) (settings : Settings) (text : List ℕ) : Type 0 where
   pub scrambles : List (List Turn)
-  pub each_slot : length scrambles ≡ part.slots
-  pub fair : AreFairScrambles (shown_of part.event) settings part.least part.first_stream scrambles
-  pub is : text ≡ part.text scrambles
+  pub each_slot : length scrambles ≡ slots_of round
+  pub fair : AreFairScrambles (shown_of round.event) settings round.least (first_stream k) scrambles
+  pub below : List ℕ
+  pub in_order : StandInOrder scrambles below
+  pub is : text ≡ heading k round ++ 10 ∷ below
 
--- the parts of a command that writes scrambles: the one line of an event, with its net or without, or the rounds of a list
-abbrev pub ArePartsAsked : List Part → Type 0
-ArePartsAsked parts = ((event : Event) × ((parts ≡ one_part event ∷ []) ⊎ (parts ≡ net_part event ∷ [])))
-    ⊎ ((rounds : List Round) × (parts ≡ round_parts 0 rounds))
+-- the text of rounds one after another, the first of them round k
+abbrev pub AreFairRounds : ℕ → List Round → Settings → List ℕ → Type 0
+AreFairRounds k [] settings text = text ≡ []
+AreFairRounds k (round ∷ rounds) settings text =
+    (first : List ℕ) × (rest : List ℕ) × IsFairRound k round settings first × AreFairRounds (k + 1) rounds settings rest
+    × (text ≡ first ++ rest)
 
--- What was written is the text of such parts, or of the first of them, all of whose scrambles are fair; or a first part of
--- that text, where the output failed.
-pub record IsFairlyWritten (out : Change) : Type 0 where
+-- the line of the one scramble of an event, which is fair, on stream 0 and with no minimum; and below it this text
+pub record IsFairLine (below : List ℕ) (settings : Settings) (text : List ℕ) : Type 0 where
+  pub event : Event
+  pub turns : List Turn
+  pub fair : AreFairScrambles (shown_of event) settings 0 0 (turns ∷ [])
+  pub is : text ≡ text_of turns ++ 10 ∷ below
+
+-- What was written is nothing, or such a text for some settings; or a first part of it, where the output failed.
+pub record WritesOnly (IsSuch : Settings → List ℕ → Type 0) (out : Change) : Type 0 where
   pub settings : Settings
-  pub parts : List Part
-  pub asked : ArePartsAsked parts
-  pub led : List Part
-  pub rest : List Part
-  pub leading : parts ≡ led ++ rest
   pub text : List ℕ
-  pub fair : IsText (IsFairText settings) led text
+  pub such : (text ≡ []) ⊎ IsSuch settings text
   pub written : Gains out text ⊎ Falters out text
 
--- the words ask for scrambles: the first is `one`, `net` or `sheet`
-abbrev pub AsksForScrambles : List (List ℕ) → Type 0
-AsksForScrambles [] = ⊥
-AsksForScrambles (word ∷ words) = (word ≡ codes "one") ⊎ ((word ≡ codes "net") ⊎ (word ≡ codes "sheet"))
+-- What a run on these words writes of scrambles is fair: by `one` a line, by `net` a line with a text below it, by `sheet`
+-- rounds.
+abbrev pub IsFairRun : List (List ℕ) → Change → Type 0
+IsFairRun [] out = Unit {0}
+IsFairRun (command ∷ words) out =
+    (command ≡ codes "one" → WritesOnly (IsFairLine []) out)
+    × (command ≡ codes "net" → WritesOnly (λ settings text. (below : List ℕ) × IsFairLine below settings text) out)
+    × (command ≡ codes "sheet" → WritesOnly (λ settings text. (rounds : List Round) × AreFairRounds 0 rounds settings text) out)

@@ -3,7 +3,7 @@
 ghost use Rattle.scr_outside.specs.Change.{change_of, intake_of};
 ghost use Rattle.scr_command.specs.Words.{texts};
 ghost use Rattle.scr_sheet.specs.Outcome.{IsRun, IsPerformed, Tells};
-ghost use Rattle.scr_sheet.specs.Headline.{IsFairlyWritten, AsksForScrambles};
+ghost use Rattle.scr_sheet.specs.Headline.{IsFairRun};
 
 use crate::check::write_check;
 use crate::fault::Fault;
@@ -57,9 +57,10 @@ pub fn run<'w, R: Threads + Sync, S: Source, O: Sink, E: Sink, G: Gate + Sync>(
     // its bound; of random moves each step is fair.
     ensures whole { IsRun (texts words.now) result (intake_of S.left S.faults S.ends source.old source.new)
         (change_of O.held O.faults out.old out.new) (change_of E.held E.faults err.old err.new) }
-    // Of this, what speaks of fairness and of play alone: whatever is written of scrambles is the text of rounds that are
-    // drawn fairly, and each of their scrambles gives the state that was drawn, within its puzzle's bound.
-    ensures headline { AsksForScrambles (texts words.now) → IsFairlyWritten (change_of O.held O.faults out.old out.new) }
+    // Of this, what speaks of fairness and of play alone: whatever is written of scrambles is the spelling of those of
+    // rounds that are drawn fairly, in the order of their slots, and each gives the state that was drawn, within its
+    // puzzle's bound.
+    ensures headline { IsFairRun (texts words.now) (change_of O.held O.faults out.old out.new) }
 {
     let ended = perform(rt, alloc, words, source, out, gate);
     tell(err, ended);
