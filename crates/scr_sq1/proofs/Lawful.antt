@@ -1,5 +1,5 @@
 -- The turns of a Square-1 are lawful.
-use Rattle.std.proofs.Common.{◌≡◌, ℕ, ◌+◌, ◌%◌, ◌<◌, Bool, true, false, IsTrue, cond, List, [], ◌∷◌, length, Option, Some, None, refl, sym, ap, ◌∙◌, subst}
+use Rattle.std.proofs.Common.{◌≡◌, ℕ, ◌+◌, ◌%◌, ◌<◌, Bool, true, false, IsTrue, cond, List, [], ◌∷◌, length, Option, Some, None, refl, sym, ap, ◌∙◌, subst, arith}
 use Rattle.std.specs.Prelude.{not, ℤ, pos, neg_ℤ, ◌+ℤ◌, All, nat_lt}
 use Rattle.std.proofs.lemmas.Bool.{false≢true, cond-true, cond-false, ltb-true}
 use Rattle.std.proofs.Math.Bool.{not-not}
@@ -112,6 +112,14 @@ turned-both s x y z w =
     (subst (λ n. All (λ k. k < n) (turn_places (clockwise z) (clockwise w))) (sym p.size) (All-permutation 24 (turn_places (clockwise z) (clockwise w)) q))
     ∙ ap (pick s.units) (turn_places-both (clockwise x) (clockwise y) (clockwise z) (clockwise w) (clockwise-lt x) (clockwise-lt y) (clockwise-lt z) (clockwise-lt w)))
 
+-- the top, and then the bottom
+pub turned-apart : (s : Sq1State) (x y : ℤ) → turned (turned s x (pos 0)) (pos 0) y ≡ turned s x y
+unfolding turned turned_by
+turned-apart s x y =
+    turned-both s x (pos 0) (pos 0) y
+    ∙ ap (λ n. turned_by s n ((0 + clockwise y) % 12)) {x = (clockwise x + 0) % 12} {y = clockwise x} (omega (arith, clockwise-lt x))
+    ∙ ap (turned_by s (clockwise x)) {x = (0 + clockwise y) % 12} {y = clockwise y} (omega (arith, clockwise-lt y))
+
 turned_by-none : (s : Sq1State) (n m : ℕ) → length s.units ≡ 24 → n ≡ 0 → m ≡ 0 → turned_by s n m ≡ s
 unfolding turned_by
 turned_by-none s n m size e f =
@@ -131,7 +139,7 @@ turned-back s x y size =
     turned-both s x y (twelfths (neg_ℤ x)) (twelfths (neg_ℤ y)) ∙ turned_by-none s _ _ size (clockwise-back x) (clockwise-back y)
 
 -- turned by nothing
-turned-still : (s : Sq1State) (x y : ℤ) → length s.units ≡ 24 → x ≡ pos 0 → y ≡ pos 0 → turned s x y ≡ s
+pub turned-still : (s : Sq1State) (x y : ℤ) → length s.units ≡ 24 → x ≡ pos 0 → y ≡ pos 0 → turned s x y ≡ s
 unfolding turned turned_by
 turned-still s x y size e f = turned_by-none s (clockwise x) (clockwise y) size (ap clockwise e) (ap clockwise f)
 

@@ -9,6 +9,7 @@ pub mod Places
 pub mod TurnLaws
 pub mod Clockwise
 pub mod Lawful
+pub mod LayersApart
 mod Barred
 mod Motions
 mod Minima

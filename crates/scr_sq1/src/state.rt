@@ -12,7 +12,7 @@ ghost use Rattle.scr_sq1.specs.Units.{IsSq1, solved_sq1, after_layers, twisted, 
 use crate::pieces::{corners_in, edges_in};
 use crate::shapes::{Shape, shape_in};
 use crate::turning::{UNITS, clockwise, turned, twisted};
-use crate::validity::{are_corners_whole, has_each_piece, is_open};
+use crate::validity::{are_corners_whole, has_each_piece, is_open, is_open_turned};
 use scr_notation::{Scramble, Turn};
 use std::marker::Model;
 
@@ -121,10 +121,11 @@ impl Sq1 {
         requires bottom { IsTrue (is_twelfths bottom) }
         ensures { result ≡ after_layers self.now top bottom }
     {
-        let units = turned(&self.units, clockwise(top), clockwise(bottom));
-        if is_open(&units) {
+        let top = clockwise(top);
+        let bottom = clockwise(bottom);
+        if is_open_turned(&self.units, top, bottom) {
             Some(Sq1 {
-                units,
+                units: turned(&self.units, top, bottom),
                 equator: self.equator,
             })
         } else {

@@ -59,7 +59,7 @@ fn turn_places(top: u8, bottom: u8) -> [u8; UNITS]
 
 /// Where the piece of a unit stood.
 #[inline]
-fn place_before(top: u8, bottom: u8, unit: u8) -> u8
+pub(crate) fn place_before(top: u8, bottom: u8, unit: u8) -> u8
     requires top { top < 12 }
     requires bottom { bottom < 12 }
     requires unit { unit < 24 }

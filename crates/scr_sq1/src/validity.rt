@@ -1,9 +1,9 @@
 //! Tests of what makes a state valid.
 ghost use Rattle.std.specs.Prelude.{◌≡◌, ℕ, ◌<◌, ◌↔◌, IsTrue, slice_index};
-ghost use Rattle.scr_combinatorics.specs.Lists.{occurrences};
-ghost use Rattle.scr_sq1.specs.Units.{is_corner, fills_neighbour, are_of_one_corner, is_open, units_filled};
+ghost use Rattle.scr_combinatorics.specs.Lists.{occurrences, pick};
+ghost use Rattle.scr_sq1.specs.Units.{is_corner, fills_neighbour, are_of_one_corner, is_open, turn_places, units_filled};
 
-use crate::turning::UNITS;
+use crate::turning::{UNITS, place_before};
 
 /// Whether no corner lies across the cut.
 #[inline]
@@ -24,6 +24,34 @@ fn are_of_one_corner(units: &[u8; UNITS], unit: usize, other: usize) -> bool
     ensures { result ≡ are_of_one_corner units.now unit other }
 {
     units[unit] < 8 && units[other] == units[unit]
+}
+
+/// Whether no corner lies across the cut once the layers are turned by so many twelfths clockwise. No unit is moved for it,
+/// since most turns of most states are barred.
+#[inline]
+pub(crate) fn is_open_turned(units: &[u8; UNITS], top: u8, bottom: u8) -> bool
+    requires top { top < 12 }
+    requires bottom { bottom < 12 }
+    ensures { result ≡ is_open (pick units.now (turn_places top bottom)) }
+{
+    !come_of_one_corner(units, top, bottom, 11, 0)
+        && !come_of_one_corner(units, top, bottom, 5, 6)
+        && !come_of_one_corner(units, top, bottom, 23, 12)
+        && !come_of_one_corner(units, top, bottom, 17, 18)
+}
+
+/// Whether two units are of one corner once the layers are turned so.
+#[inline]
+fn come_of_one_corner(units: &[u8; UNITS], top: u8, bottom: u8, unit: u8, other: u8) -> bool
+    requires top { top < 12 }
+    requires bottom { bottom < 12 }
+    requires unit { unit < 24 }
+    requires other { other < 24 }
+    ensures { result ≡ are_of_one_corner (pick units.now (turn_places top bottom)) unit other }
+{
+    let from = place_before(top, bottom, unit);
+    let other_from = place_before(top, bottom, other);
+    are_of_one_corner(units, usize::from(from), usize::from(other_from))
 }
 
 /// Whether each corner fills two units and each edge one.
