@@ -3,6 +3,7 @@ mod WalkLaws
 mod LetterWords
 mod Filled
 mod ShapeSteps
+mod ShapeParts
 mod Ends
 mod Codes
 mod CodeMovesLaws

@@ -1,5 +1,6 @@
 pub mod Stages
 pub mod Tables
+pub mod Parts
 pub mod Spaces
 pub mod Counts
 pub mod Letters

@@ -28,6 +28,11 @@ abbrev pub has_index : (Sq1State → ℕ) → ℕ → Option Sq1State → Bool
 has_index index_of i None = false
 has_index index_of i (Some s) = index_of s == i
 
+-- the same of an index, if there is one
+abbrev pub has_number : ℕ → Option ℕ → Bool
+has_number i None = false
+has_number i (Some n) = n == i
+
 -- What a search for a stage's words sees that knows of a state its index alone: letters lead from index to index, and the
 -- goals are the indexes from which a letter of the next stage leads to that of the solved state.
 abbrev pub lettered_coordinate : Numbered Sq1State → Stage Sq1State Turn → Stage Sq1State Turn → Coordinate

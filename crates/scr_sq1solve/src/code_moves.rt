@@ -12,7 +12,7 @@ ghost use Rattle.scr_sq1.specs.Units.{sq1_after, solved_sq1};
 ghost use Rattle.scr_sq1solve.specs.declared.stage_letters.Letters.TheVariants.{OfHome, Quarters};
 ghost use Rattle.scr_sq1solve.specs.Codes.{codes_coordinate};
 ghost use Rattle.scr_sq1solve.specs.Letters.{letter_of};
-ghost use Rattle.scr_sq1solve.specs.Tables.{square_coordinate, square_index, square_state, has_index, last_bit};
+ghost use Rattle.scr_sq1solve.specs.Tables.{square_coordinate, square_index, square_state, has_index, has_number, last_bit};
 ghost use Rattle.scr_sq1solve.specs.Placed.{IsKept};
 ghost use Rattle.scr_combinatorics.specs.Stages.{by_letters};
 
@@ -61,6 +61,32 @@ impl CodeMoves {
         let corners = self.corners.after(position / 192, turn)?;
         let edges = self.edges.after(edges_code(position), turn)?;
         Some(position_of(edges, corners))
+    }
+
+    /// Whether a letter leads to the first position. Mostly the corners tell that it doesn't.
+    #[inline]
+    pub fn leads_home(&self, position: u32, turn: u32) -> bool
+        requires position { position < 73728 }
+        requires turn { turn < 32 }
+        ensures { result ≡ has_number 0
+            (option_map square_index (by_letters sq1_after 32 (letter_of self.now.letters) (square_state position) turn)) }
+    {
+        if is_first(self.corners.after(position / 192, turn)) {
+            is_first(self.after(position, turn))
+        } else {
+            false
+        }
+    }
+}
+
+/// Whether this is the first position, or code, if there is one.
+#[inline]
+fn is_first(position: Option<u32>) -> bool
+    ensures { result ≡ has_number 0 position }
+{
+    match position {
+        Some(position) => position == 0,
+        None => false,
     }
 }
 
@@ -121,13 +147,8 @@ impl Coord for SquareMoves {
 
     fn is_goal(&self, position: u32) -> bool {
         for number in 0..16 {
-            match self.quarters.after(position, number) {
-                Some(end) => {
-                    if end == 0 {
-                        return true;
-                    }
-                }
-                None => {}
+            if self.quarters.leads_home(position, number) {
+                return true;
             }
         }
         false

@@ -26,6 +26,7 @@ mod lines;
 mod minima;
 mod pairing_lists;
 mod pieces;
+mod shape_moves;
 mod shape_states;
 mod solving;
 mod stage_letters;

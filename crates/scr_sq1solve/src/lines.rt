@@ -3,7 +3,7 @@
 use crate::code_moves::SquareMoves;
 use crate::letter_places::letter_places;
 use crate::pairing_lists::PairingLists;
-use crate::shape_states::ShapeStates;
+use crate::shape_moves::ShapeMoves;
 use crate::stage_letters::Letters;
 use scr_coord::{MoveTable, Product};
 use scr_outside::NoMemory;
@@ -25,8 +25,8 @@ impl Line for ShapesLine {
     type Moves = MoveTable;
 
     fn moves(alloc: Global) -> Result<MoveTable, NoMemory> {
-        let states = ShapeStates::build(alloc)?;
-        MoveTable::build(alloc, &states)
+        let moves = ShapeMoves::build(alloc)?;
+        MoveTable::build(alloc, &moves)
     }
 }
 
@@ -42,14 +42,13 @@ impl Line for PairingsLine {
         (TableName::Pairings, 20)
     }
 
-    type Moves = MoveTable;
+    type Moves = Product<MoveTable, MoveTable>;
 
-    fn moves(alloc: Global) -> Result<MoveTable, NoMemory> {
+    fn moves(alloc: Global) -> Result<Product<MoveTable, MoveTable>, NoMemory> {
         let places = letter_places(Letters::OfPairings);
         let corners = PairingLists::new(&places.corners);
         let edges = PairingLists::new(&places.edges);
-        let pair = Product::of_moves(alloc, &corners, &edges)?;
-        MoveTable::build(alloc, &pair)
+        Product::of_moves(alloc, &corners, &edges)
     }
 }
 
@@ -65,10 +64,9 @@ impl Line for SquareLine {
         (TableName::Square, 20)
     }
 
-    type Moves = MoveTable;
+    type Moves = SquareMoves;
 
-    fn moves(alloc: Global) -> Result<MoveTable, NoMemory> {
-        let moves = SquareMoves::build(alloc)?;
-        MoveTable::build(alloc, &moves)
+    fn moves(alloc: Global) -> Result<SquareMoves, NoMemory> {
+        SquareMoves::build(alloc)
     }
 }

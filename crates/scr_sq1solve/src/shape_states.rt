@@ -1,27 +1,21 @@
-//! A state for each index of the table `shapes`, as a coordinate.
-ghost use Rattle.std.specs.Prelude.{◌≡◌, ◌<◌, true};
-ghost use Rattle.std.specs.List.{list_any};
+//! A state for each index of the table `shapes`, and where the parts of letters lead from it, as a coordinate.
+ghost use Rattle.std.specs.Prelude.{◌≡◌, ◌<◌};
 ghost use Rattle.std.proofs.Props.{props};
 ghost use Rattle.scr_combinatorics.specs.Play.{play};
 ghost use Rattle.scr_coord.specs.Coordinates.{StaysBelow};
 ghost use Rattle.scr_coord.specs.Moves.{each_below};
-ghost use Rattle.scr_sq1.specs.Units.{sq1_after, solved_sq1};
-ghost use Rattle.scr_combinatorics.specs.Lists.{numbers_from};
-ghost use Rattle.scr_sq1solve.specs.Stages.{shape_letter, squaring_letter};
-ghost use Rattle.scr_sq1solve.specs.Tables.{shapes_coordinate, shapes_state, shapes_index, has_index};
+ghost use Rattle.scr_sq1.specs.Units.{sq1_after};
+ghost use Rattle.scr_sq1solve.specs.Parts.{shape_part, shape_parts_coordinate};
+ghost use Rattle.scr_sq1solve.specs.Tables.{shapes_state};
 
 use crate::indexes::shapes_index;
-use crate::stage_letters::{Letters, are_still, letter};
 use scr_coord::Coord;
 use scr_draw::Numbering;
 use scr_sq1::{Sq1, Sq1Numbers};
 use std::alloc::{AllocError, Global};
 
 /// How many indexes there are.
-const INDEXES: u32 = 7356;
-
-/// The index of the solved state, which is that of all normal ones.
-pub(crate) const NORMAL: u32 = 2344;
+pub(crate) const INDEXES: u32 = 7356;
 
 /// How many lists of eight pieces there are.
 const LISTS: u128 = 40_320;
@@ -29,12 +23,13 @@ const LISTS: u128 = 40_320;
 /// The number of the list of eight pieces in which the first two are exchanged.
 const EXCHANGED: u128 = 5040;
 
-/// The states that stand for the indexes, so that a step reads no state's number.
+/// The states that stand for the indexes, so that a step reads no state's number. The turns are the parts of the letters of
+/// the first stage.
 #[derive(Drop)]
 pub(crate) struct ShapeStates {
     states: Vec<Sq1>,
     ghost each: { states.items ≡ each_below shapes_state 7356 },
-    ghost stays: { StaysBelow shapes_coordinate } by { Prim.hlevel props },
+    ghost stays: { StaysBelow shape_parts_coordinate } by { Prim.hlevel props },
 }
 
 impl ShapeStates {
@@ -67,58 +62,41 @@ fn state_of(index: u32) -> Sq1
     Sq1Numbers.state_at(2 * LISTS * (edges + LISTS * u128::from(index / 2)))
 }
 
-/// A state after the letter with a number of the first stage, or none where it is barred.
+/// A state after a part of a letter of the first stage, or none where it is barred.
 #[inline]
-fn lettered(state: &Sq1, number: u32) -> Option<Sq1>
-    requires { number < 144 }
-    ensures { result ≡ play sq1_after state.now (shape_letter number) }
+fn after_part(state: &Sq1, part: u32) -> Option<Sq1>
+    requires { part < 25 }
+    ensures { result ≡ play sq1_after state.now (shape_part part) }
 {
-    let top = (number / 12) as i8 - 5;
-    let bottom = (number % 12) as i8 - 5;
-    if are_still(top, bottom) {
-        return Some(state.twist());
+    let _units = state.units();
+    if part < 12 {
+        state.turn(part as i8 - 5, 0)
+    } else if part < 24 {
+        state.turn(0, (part - 12) as i8 - 5)
+    } else {
+        Some(state.twist())
     }
-    let turned = state.turn(top, bottom)?;
-    Some(turned.twist())
-}
-
-/// Whether one of the four turns makes a state normal.
-fn is_square(state: &Sq1) -> bool
-    ensures { result ≡ list_any (λ k. has_index shapes_index (shapes_index solved_sq1)
-        (play sq1_after state.now (squaring_letter k))) (numbers_from 0 4) }
-{
-    for number in 0..4 {
-        match state.play(&letter(Letters::Squarings, number)) {
-            Some(end) => {
-                if shapes_index(&end) == NORMAL {
-                    return true;
-                }
-            }
-            None => {}
-        }
-    }
-    false
 }
 
 impl Coord for ShapeStates {
-    ghost coordinate = { λ _. shapes_coordinate };
+    ghost coordinate = { λ _. shape_parts_coordinate };
 
     fn count(&self) -> u32 {
         INDEXES
     }
 
     fn turns(&self) -> u32 {
-        144
+        25
     }
 
     #[inline]
     fn after(&self, position: u32, turn: u32) -> Option<u32> {
-        let end = lettered(self.state_at(position), turn)?;
+        let end = after_part(self.state_at(position), turn)?;
         Some(shapes_index(&end))
     }
 
-    fn is_goal(&self, position: u32) -> bool {
-        is_square(self.state_at(position))
+    fn is_goal(&self, _position: u32) -> bool {
+        false
     }
 
     #[inline]

@@ -8,7 +8,7 @@ ghost use Rattle.scr_sq1solve.specs.Counts.{twists_in};
 ghost use Rattle.scr_sq1solve.specs.Letters.{stage_of, letter_of, IsWalk};
 
 use crate::indexes::shapes_index;
-use crate::shape_states::NORMAL;
+use crate::shape_moves::NORMAL;
 use crate::stage_letters::{Letters, letter, word_of};
 use crate::stages::StageLine;
 use arrayvec::ArrayVec;

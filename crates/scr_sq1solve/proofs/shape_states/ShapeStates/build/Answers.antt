@@ -2,7 +2,7 @@ use Rattle.std.proofs.Common.{◌++◌, ◌∷◌, [], sym, ap, ◌∙◌}
 use Rattle.scr_coord.specs.Moves.{each_below}
 use Rattle.scr_coord.proofs.MoveLaws.{each_below-none, each_below-more}
 use Rattle.scr_sq1solve.specs.Tables.{shapes_state}
-use Rattle.scr_sq1solve.proofs.ShapeStage.{StaysBelow-shapes}
+use Rattle.scr_sq1solve.proofs.ShapeParts.{StaysBelow-parts}
 use Rattle.scr_sq1solve.proofs.shape_states.ShapeStates.build.Goals as goal
 
 pub loop-index-init : goal.loop-index-init
@@ -15,4 +15,4 @@ loop-index-preserved c =
     ∙ ap (λ s. each_below shapes_state index ++ s ∷ []) c.state_of.ensures ∙ sym (each_below-more shapes_state index)
 
 pub invariant_of-result-clause-stays : goal.invariant_of-result-clause-stays
-invariant_of-result-clause-stays c = StaysBelow-shapes
+invariant_of-result-clause-stays c = StaysBelow-parts

@@ -1,17 +1,17 @@
 use Rattle.std.proofs.Common.{Some, sym, ap, ◌∙◌}
 use Rattle.std.specs.Option.{option_map}
 use Rattle.scr_sq1solve.specs.Tables.{shapes_index}
-use Rattle.scr_sq1solve.proofs.ShapeSteps.{shape-after}
+use Rattle.scr_sq1solve.proofs.ShapeParts.{part-made}
 use Rattle.scr_sq1solve.proofs.shape_states.ShapeStatesCoord.after.Goals as goal
 
 pub returns-in_err-end : goal.returns-in_err-end
 returns-in_err-end c =
     c.from_residual.ensures
     ∙ sym (ap (option_map shapes_index)
-    (shape-after c.state_at.result.now c.args.position c.args.turn c.lettered.result c.requires.turn c.state_at.ensures c.lettered.ensures ∙ c.in_err-end.was))
+    (part-made c.state_at.result.now c.args.position c.args.turn c.after_part.result c.requires.turn c.state_at.ensures c.after_part.ensures ∙ c.in_err-end.was))
 
 pub returns : goal.returns
 returns c =
     ap Some c.shapes_index.ensures.value
     ∙ sym (ap (option_map shapes_index)
-    (shape-after c.state_at.result.now c.args.position c.args.turn c.lettered.result c.requires.turn c.state_at.ensures c.lettered.ensures ∙ c.in_ok-end.was))
+    (part-made c.state_at.result.now c.args.position c.args.turn c.after_part.result c.requires.turn c.state_at.ensures c.after_part.ensures ∙ c.in_ok-end.was))
