@@ -1,5 +1,5 @@
 //! Where letters lead from states in which mates stand opposite to each other.
-ghost use Rattle.std.specs.Prelude.{◌≡◌, ◌+◌, ◌*◌, ◌<◌, ◌%◌, ◌/◌, IfOk, map};
+ghost use Rattle.std.specs.Prelude.{◌≡◌, ◌<◌, ◌/◌, IfOk, IsSome, Some};
 ghost use Rattle.std.specs.Option.{option_map};
 ghost use Rattle.std.specs.List.{list_any};
 ghost use Rattle.std.proofs.Props.{props};
@@ -7,31 +7,31 @@ ghost use Rattle.scr_combinatorics.specs.Play.{play};
 ghost use Rattle.scr_coord.specs.Coordinates.{StaysBelow};
 ghost use Rattle.scr_coord.specs.Moves.{moves_coordinate};
 ghost use Rattle.scr_coord.specs.SearchSpaces.{ShowsSame};
-ghost use Rattle.scr_sq1.specs.Numbers.{corners_of, edges_of};
+ghost use Rattle.scr_sq1.specs.Numbers.{corners_of};
 ghost use Rattle.scr_sq1.specs.Units.{sq1_after, solved_sq1};
 ghost use Rattle.scr_sq1solve.specs.declared.stage_letters.Letters.TheVariants.{OfHome, Quarters};
-ghost use Rattle.scr_sq1solve.specs.Codes.{codes_coordinate};
+ghost use Rattle.scr_sq1solve.specs.Codes.{codes_coordinate, row_parity, rows_coordinate};
 ghost use Rattle.scr_sq1solve.specs.Letters.{letter_of};
-ghost use Rattle.scr_sq1solve.specs.Tables.{square_coordinate, square_index, square_state, has_index, has_number, last_bit};
+ghost use Rattle.scr_sq1solve.specs.Tables.{square_coordinate, square_index, square_state, has_index, has_number};
 ghost use Rattle.scr_sq1solve.specs.Placed.{IsKept};
 ghost use Rattle.scr_combinatorics.specs.Stages.{by_letters};
 
 use crate::code_lists::CodeLists;
-use crate::indexes::position_of;
+use crate::edge_rows::EdgeRows;
 use crate::letter_places::letter_places;
 use crate::stage_letters::Letters;
 use scr_coord::{Coord, MoveTable};
 use scr_outside::NoMemory;
 use std::alloc::Global;
 
-/// Where 32 letters lead from the lists of corners and from those of edges.
+/// Where 32 letters lead from the lists of corners, and from those of edges in a row, which has one list of corners.
 #[derive(Drop)]
 pub(crate) struct CodeMoves {
     corners: MoveTable,
-    edges: MoveTable,
+    rows: MoveTable,
     letters: Letters,
     ghost shows_corners: { ShowsSame (codes_coordinate corners_of (letter_of letters)) (moves_coordinate corners) },
-    ghost shows_edges: { ShowsSame (codes_coordinate edges_of (letter_of letters)) (moves_coordinate edges) },
+    ghost shows_rows: { ShowsSame (rows_coordinate (letter_of letters)) (moves_coordinate rows) },
     ghost kept: { IsKept (letter_of letters) },
 }
 
@@ -46,7 +46,7 @@ impl CodeMoves {
         let edges = MoveTable::build(alloc, &CodeLists::new(&places.edges))?;
         Ok(CodeMoves {
             corners,
-            edges,
+            rows: MoveTable::build(alloc, &EdgeRows::new(&edges, letters))?,
             letters,
         })
     }
@@ -58,9 +58,11 @@ impl CodeMoves {
         requires turn { turn < 32 }
         ensures { result ≡ option_map square_index (by_letters sq1_after 32 (letter_of self.now.letters) (square_state position) turn) }
     {
-        let corners = self.corners.after(position / 192, turn)?;
-        let edges = self.edges.after(edges_code(position), turn)?;
-        Some(position_of(edges, corners))
+        let corners = position / 192;
+        let place = position % 192 + 192 * row_parity(corners);
+        let row = target(&self.corners, corners, turn);
+        let low = target(&self.rows, place, turn);
+        Some(low + 192 * row)
     }
 
     /// Whether a letter leads to the first position. Mostly the corners tell that it doesn't.
@@ -90,23 +92,30 @@ fn is_first(position: Option<u32>) -> bool
     }
 }
 
-/// The code of the list of edges at a position: the last bit is the one that makes both lists even or both odd.
+/// 1 where the list of corners with a code is odd.
 #[inline]
-fn edges_code(position: u32) -> u32
-    requires { position < 73728 }
-    ensures value { result ≡ position % 8 + 8 * last_bit (position % 8) (position / 192 % 16) + 16 * (position / 8 % 24) }
-    ensures below { result < 384 }
+fn row_parity(corners: u32) -> u32
+    ensures value { result ≡ row_parity corners }
+    ensures below { result < 2 }
 {
-    let low = position % 8;
-    let corners = position / 192 % 16;
-    let last = low % 2
-        + low / 2 % 2
-        + low / 2 / 2 % 2
-        + corners % 2
-        + corners / 2 % 2
-        + corners / 2 / 2 % 2
-        + corners / 2 / 2 / 2 % 2;
-    low + 8 * (last % 2) + 16 * (position / 8 % 24)
+    let bits = corners % 16;
+    (bits % 2 + bits / 2 % 2 + bits / 2 / 2 % 2 + bits / 2 / 2 / 2 % 2) % 2
+}
+
+/// Where a letter leads that is not barred.
+#[inline]
+fn target(moves: &MoveTable, position: u32, turn: u32) -> u32
+    requires position { position < (moves_coordinate moves.now).count }
+    requires turn { turn < (moves_coordinate moves.now).turns }
+    requires led { IsSome ((moves_coordinate moves.now).after position turn) }
+    ensures value { Some result ≡ (moves_coordinate moves.now).after position turn }
+    ensures below { result < (moves_coordinate moves.now).count }
+{
+    moves.stays_below();
+    match moves.after(position, turn) {
+        Some(end) => end,
+        None => unreachable!(),
+    }
 }
 
 /// The moves of the table `square`, built of small ones.

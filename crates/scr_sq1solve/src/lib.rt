@@ -19,6 +19,7 @@
 mod code_lists;
 mod code_moves;
 mod draw;
+mod edge_rows;
 mod indexes;
 pub mod laws;
 mod letter_places;

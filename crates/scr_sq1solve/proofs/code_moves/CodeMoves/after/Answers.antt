@@ -1,24 +1,21 @@
-use Rattle.std.proofs.Common.{sym, ◌∙◌}
-use Rattle.scr_sq1solve.proofs.CodeMovesLaws.{no-corners, no-edges, made}
+use Rattle.std.proofs.Common.{◌+◌, ◌*◌, ◌/◌, ◌%◌, refl, ap}
+use Rattle.scr_sq1solve.proofs.CodeMovesLaws.{corners-led, rows-led, made}
 use Rattle.scr_sq1solve.proofs.code_moves.CodeMoves.after.Goals as goal
 
-pub returns-in_err-corners : goal.returns-in_err-corners
-returns-in_err-corners c =
+pub target-row-requires-clause-led : goal.target-row-requires-clause-led
+target-row-requires-clause-led c =
     let m = c.args.self.now in
-    absurd (no-corners m.kept m.shows_corners m.shows_edges c.requires.position c.requires.turn
-    (sym (c.in_err-corners.was) ∙ c.after.ensures))
+    corners-led m.kept m.shows_corners m.shows_rows c.requires.position c.requires.turn
 
-pub returns-in_err-edges : goal.returns-in_err-edges
-returns-in_err-edges c =
+pub target-low-requires-clause-led : goal.target-low-requires-clause-led
+target-low-requires-clause-led c =
     let m = c.args.self.now in
-    absurd (no-edges m.kept m.shows_corners m.shows_edges c.requires.position c.requires.turn
-    c.edges_code.ensures.value
-    (sym (c.in_err-edges.was) ∙ c.after-2.ensures))
+    let p = c.args.position in
+    rows-led m.kept m.shows_corners m.shows_rows c.requires.position c.requires.turn (ap (λ k. p % 192 + 192 * k) c.row_parity.ensures.value)
 
 pub returns : goal.returns
 returns c =
     let m = c.args.self.now in
-    made m.kept m.shows_corners m.shows_edges c.requires.position c.requires.turn
-    c.edges_code.ensures.value
-    (sym (c.in_ok-corners.was) ∙ c.after.ensures)
-    (sym (c.in_ok-edges.was) ∙ c.after-2.ensures) c.position_of.ensures.value
+    let p = c.args.position in
+    made m.kept m.shows_corners m.shows_rows c.requires.position c.requires.turn (ap (λ k. p % 192 + 192 * k) c.row_parity.ensures.value)
+    c.target-row.ensures.value c.target-low.ensures.value refl

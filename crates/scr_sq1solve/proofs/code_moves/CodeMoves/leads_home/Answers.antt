@@ -9,5 +9,5 @@ returns-then-is_first c = c.is_first-then-is_first.ensures ∙ ap (has_number 0)
 pub returns-else-is_first : goal.returns-else-is_first
 returns-else-is_first c =
     let m = c.args.self.now in
-    sym (elsewhere m.kept m.shows_corners m.shows_edges c.requires.position c.requires.turn
+    sym (elsewhere m.kept m.shows_corners m.shows_rows c.requires.position c.requires.turn
     (ap (has_number 0) (sym c.after.ensures) ∙ sym c.is_first.ensures ∙ c.if-is_first.false))
