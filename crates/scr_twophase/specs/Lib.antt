@@ -7,5 +7,6 @@ pub mod Outlooks
 pub mod Near
 pub mod Spread
 pub mod Built
+pub mod Ready
 pub mod Minima
 pub mod HeldScramble

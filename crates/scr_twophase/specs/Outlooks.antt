@@ -32,6 +32,10 @@ pub record AreFound (c : Coordinate) (distances : List ℕ) (p turn : ℕ) (foun
 pub record AreOutlooks (c : Coordinate) (distances : List ℕ) (all : List Outlook) : Type 0 where
   pub each : (p : ℕ) (o : Outlook) → p < c.count → slice_get all p ≡ Some o → IsOutlook c distances p o
 
+-- They are those of a pruning table of a line.
+abbrev pub AreOutlooksOf : TableLine → PruningTable → List Outlook → Type 0
+AreOutlooksOf line table all = AreOutlooks line.coordinate table.distances.distances all
+
 -- The turns that a pruning table leaves where so many turns may still be made: those of the position's outlook, where it has
 -- one; else all, if the goal is no farther.
 unfoldable pub turns_left : PruningTable → ℕ → ℕ → ℕ

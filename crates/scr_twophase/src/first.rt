@@ -11,7 +11,7 @@ ghost use Rattle.scr_cube.specs.Cube333.{CubeState, IsCube};
 ghost use Rattle.scr_stages.specs.Stages.{middle_edges};
 ghost use Rattle.scr_stages.specs.Tables.{flips_coordinate};
 ghost use Rattle.scr_twophase.specs.Near.{IsInSet, IsNear, LeavesNear, first_number};
-ghost use Rattle.scr_twophase.specs.Outlooks.{IsPruningTable};
+ghost use Rattle.scr_twophase.specs.Outlooks.{AreOutlooksOf, IsPruningTable};
 ghost use Rattle.scr_twophase.specs.Search.{ShowsFirst, IsFirstPosition, LeavesWays, is_domino_position};
 ghost use Rattle.scr_twophase.specs.TwoParts.{is_domino, turn_numbers};
 ghost use Rattle.scr_twophase.specs.Tables.{twists_coordinate, middle_set_coordinate};
@@ -19,6 +19,7 @@ ghost use Rattle.scr_twophase.specs.Tables.{flipslice_line, twistslice_line, fir
 
 use crate::moves::{flip_moves, middle_moves, step, twist_moves};
 use crate::near_set::{NEAR, NearSet};
+use crate::outlook::{Outlook, outlooks};
 use crate::pruning::PruningTable;
 use crate::space::{BLOCK, Positions, Space};
 use crate::turn_set::TurnSet;
@@ -146,27 +147,58 @@ impl FirstTables {
         })
     }
 
-    /// Finds outlooks, and builds the near set, by 1 to 64 workers.
-    pub fn prepare<R: Threads + Sync>(
-        &mut self,
+    /// The outlooks by flips, found by 1 to 64 workers.
+    pub fn outlooks_by_flips<R: Threads + Sync>(
+        &self,
         rt: &R,
         alloc: Global,
         workers: u32,
-    ) -> Result<(), AllocError>
+    ) -> Result<Vec<Outlook>, AllocError>
         requires workers { (1 ≤ workers) × (workers ≤ 64) }
+        ensures { IfOk result (λ all. AreOutlooksOf flipslice_line self.now.flipslice all.items) }
+    {
+        let moves = Product::new(&self.flips, &self.middle);
+        outlooks(rt, alloc, &moves, &self.flipslice.distances, workers)
+    }
+
+    /// The outlooks by twists, found by 1 to 64 workers.
+    pub fn outlooks_by_twists<R: Threads + Sync>(
+        &self,
+        rt: &R,
+        alloc: Global,
+        workers: u32,
+    ) -> Result<Vec<Outlook>, AllocError>
+        requires workers { (1 ≤ workers) × (workers ≤ 64) }
+        ensures { IfOk result (λ all. AreOutlooksOf twistslice_line self.now.twistslice all.items) }
+    {
+        let moves = Product::new(&self.twists, &self.middle);
+        outlooks(rt, alloc, &moves, &self.twistslice.distances, workers)
+    }
+
+    /// The near set, built by 1 to 64 workers.
+    pub fn near_set<R: Threads + Sync>(
+        &self,
+        rt: &R,
+        alloc: Global,
+        workers: u32,
+    ) -> Result<NearSet, AllocError>
+        requires workers { (1 ≤ workers) × (workers ≤ 64) }
+        ensures { IfOk result (λ near. IsNear turn_numbers IsCube first_number is_domino 7 (IsInSet near)) }
+    {
+        NearSet::build(rt, alloc, self, NEAR, workers)
+    }
+
+    /// Takes in outlooks and a near set.
+    pub fn take_in(&mut self, by_flips: Vec<Outlook>, by_twists: Vec<Outlook>, near: NearSet)
+        requires by_flips { AreOutlooksOf flipslice_line self.old.flipslice by_flips.items }
+        requires by_twists { AreOutlooksOf twistslice_line self.old.twistslice by_twists.items }
+        requires near { IsNear turn_numbers IsCube first_number is_domino 7 (IsInSet near) }
         ensures flipslice { self.new.flipslice.distances ≡ self.old.flipslice.distances }
         ensures twistslice { self.new.twistslice.distances ≡ self.old.twistslice.distances }
     {
-        self.flipslice.look_out(rt, alloc, &Product::new(&self.flips, &self.middle), workers)?;
-        self.twistslice.look_out(
-            rt,
-            alloc,
-            &Product::new(&self.twists, &self.middle),
-            workers,
-        )?;
-        let near = NearSet::build(rt, alloc, self, NEAR, workers)?;
+        self.flipslice.outlooks = by_flips;
+        self.twistslice.outlooks = by_twists;
         self.near = near;
-        Ok(())
     }
 
     /// The turns of which one may be the next of a word of `left` turns to a domino.

@@ -26,6 +26,7 @@ mod numbers;
 mod outlook;
 mod parts;
 mod pruning;
+mod ready;
 mod scramble;
 mod search;
 mod second;

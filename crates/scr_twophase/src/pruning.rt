@@ -1,13 +1,13 @@
 //! Pruning tables.
-ghost use Rattle.std.specs.Prelude.{◌≡◌, ◌<◌, ◌≤◌, ◌^◌, IfOk, IfErr, OnErr, length, slice_index};
+ghost use Rattle.std.specs.Prelude.{◌≡◌, ◌<◌, ◌≤◌, ◌^◌, IfOk, IfErr, length, slice_index};
 ghost use Rattle.scr_table.specs.Causes.{IsCause};
-ghost use Rattle.scr_twophase.specs.Outlooks.{AreOutlooks, IsPruningTable, turns_left};
+ghost use Rattle.scr_twophase.specs.Outlooks.{IsPruningTable, turns_left};
 
-use crate::outlook::{Outlook, outlooks};
+use crate::outlook::Outlook;
 use crate::turn_set::TurnSet;
 use scr_coord::Coord;
 use scr_table::{BuildFault, DistanceTable, TableName};
-use std::alloc::{AllocError, Global};
+use std::alloc::Global;
 use std::thread::Threads;
 
 /// A distance table, with the outlook of each position once these are found.
@@ -38,26 +38,6 @@ impl PruningTable {
             distances,
             outlooks: Vec::new(alloc),
         })
-    }
-
-    /// Finds the outlook of each position, by 1 to 64 workers. The coordinate is that of the table.
-    pub fn look_out<R: Threads + Sync, C: Coord + Sync>(
-        &mut self,
-        rt: &R,
-        alloc: Global,
-        coord: &C,
-        workers: u32,
-    ) -> Result<(), AllocError>
-        requires turns { (C.coordinate coord.now).turns ≤ 18 }
-        requires positions { length self.old.distances.distances ≡ (C.coordinate coord.now).count }
-        requires workers { (1 ≤ workers) × (workers ≤ 64) }
-        ensures same { self.new.distances ≡ self.old.distances }
-        ensures found { IfOk result (λ _.
-            AreOutlooks (C.coordinate coord.now) self.new.distances.distances self.new.outlooks.items) }
-        ensures kept { OnErr result (self.new ≡ self.old) }
-    {
-        self.outlooks = outlooks(rt, alloc, coord, &self.distances, workers)?;
-        Ok(())
     }
 
     /// How many turns a word from a position to the goal has at least.

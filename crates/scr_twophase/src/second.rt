@@ -10,7 +10,7 @@ ghost use Rattle.scr_cube.specs.Cube333.{CubeState};
 ghost use Rattle.scr_stages.specs.Numbers.{IsDominoCube};
 ghost use Rattle.scr_table.specs.Words.{words_of};
 ghost use Rattle.scr_twophase.specs.Near.{IsInSet, IsNear, LeavesNear, second_number};
-ghost use Rattle.scr_twophase.specs.Outlooks.{IsPruningTable};
+ghost use Rattle.scr_twophase.specs.Outlooks.{AreOutlooksOf, IsPruningTable};
 ghost use Rattle.scr_twophase.specs.Search.{ShowsSecond, IsSecondPosition, LeavesWays, carried, is_solved_position};
 ghost use Rattle.scr_twophase.specs.Tables.{corners_coordinate, outer_edges_coordinate, middle_edges_coordinate};
 ghost use Rattle.scr_twophase.specs.Tables.{cornerslice_line, edgeslice_line, second_lines};
@@ -19,6 +19,7 @@ ghost use Rattle.scr_twophase.specs.TwoParts.{after_turn, domino_turns, is_order
 
 use crate::moves::{corner_moves, edge_moves, step};
 use crate::near_set::{NEAR, NEAR_AT, NearSet};
+use crate::outlook::{Outlook, outlooks};
 use crate::pruning::PruningTable;
 use crate::search::{Part, search_within};
 use crate::space::{BLOCK, Positions, Space};
@@ -156,27 +157,58 @@ impl SecondTables {
         })
     }
 
-    /// Finds outlooks, and builds the near set, by 1 to 64 workers.
-    pub fn prepare<R: Threads + Sync>(
-        &mut self,
+    /// The outlooks by corners, found by 1 to 64 workers.
+    pub fn outlooks_by_corners<R: Threads + Sync>(
+        &self,
         rt: &R,
         alloc: Global,
         workers: u32,
-    ) -> Result<(), AllocError>
+    ) -> Result<Vec<Outlook>, AllocError>
         requires workers { (1 ≤ workers) × (workers ≤ 64) }
+        ensures { IfOk result (λ all. AreOutlooksOf cornerslice_line self.now.cornerslice all.items) }
+    {
+        let moves = Product::new(&self.middle, &self.corners);
+        outlooks(rt, alloc, &moves, &self.cornerslice.distances, workers)
+    }
+
+    /// The outlooks by edges, found by 1 to 64 workers.
+    pub fn outlooks_by_edges<R: Threads + Sync>(
+        &self,
+        rt: &R,
+        alloc: Global,
+        workers: u32,
+    ) -> Result<Vec<Outlook>, AllocError>
+        requires workers { (1 ≤ workers) × (workers ≤ 64) }
+        ensures { IfOk result (λ all. AreOutlooksOf edgeslice_line self.now.edgeslice all.items) }
+    {
+        let moves = Product::new(&self.middle, &self.outer);
+        outlooks(rt, alloc, &moves, &self.edgeslice.distances, workers)
+    }
+
+    /// The near set, built by 1 to 64 workers.
+    pub fn near_set<R: Threads + Sync>(
+        &self,
+        rt: &R,
+        alloc: Global,
+        workers: u32,
+    ) -> Result<NearSet, AllocError>
+        requires workers { (1 ≤ workers) × (workers ≤ 64) }
+        ensures { IfOk result (λ near. IsNear domino_turns IsDominoCube second_number is_solved 7 (IsInSet near)) }
+    {
+        NearSet::build(rt, alloc, self, NEAR, workers)
+    }
+
+    /// Takes in outlooks and a near set.
+    pub fn take_in(&mut self, by_corners: Vec<Outlook>, by_edges: Vec<Outlook>, near: NearSet)
+        requires by_corners { AreOutlooksOf cornerslice_line self.old.cornerslice by_corners.items }
+        requires by_edges { AreOutlooksOf edgeslice_line self.old.edgeslice by_edges.items }
+        requires near { IsNear domino_turns IsDominoCube second_number is_solved 7 (IsInSet near) }
         ensures cornerslice { self.new.cornerslice.distances ≡ self.old.cornerslice.distances }
         ensures edgeslice { self.new.edgeslice.distances ≡ self.old.edgeslice.distances }
     {
-        self.cornerslice.look_out(
-            rt,
-            alloc,
-            &Product::new(&self.middle, &self.corners),
-            workers,
-        )?;
-        self.edgeslice.look_out(rt, alloc, &Product::new(&self.middle, &self.outer), workers)?;
-        let near = NearSet::build(rt, alloc, self, NEAR, workers)?;
+        self.cornerslice.outlooks = by_corners;
+        self.edgeslice.outlooks = by_edges;
         self.near = near;
-        Ok(())
     }
 
     /// Makes of a first part what it is joined with its second part, if it has one.

@@ -6,6 +6,7 @@ ghost use Rattle.scr_twophase.specs.Tables.{first_lines, prune_lines, second_lin
 
 use crate::first::FirstTables;
 use crate::parts::PartTables;
+use crate::ready::prepare;
 use crate::second::SecondTables;
 use scr_table::{BuildFault, DistanceTable, TableName, TableSet, table_named};
 use scr_workers::{both, shared};
@@ -97,8 +98,7 @@ impl PruneTables {
         ensures { self.new ≡ self.old }
     {
         if cubes >= MANY {
-            self.parts.second.prepare(rt, alloc, workers)?;
-            self.parts.first.prepare(rt, alloc, workers)?;
+            prepare(rt, alloc, &mut self.parts, workers)?;
         }
         Ok(())
     }

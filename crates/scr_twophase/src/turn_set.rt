@@ -58,6 +58,7 @@ impl TurnSet {
         ensures others { IfSome result (λ t. (other : ℕ)
             → contains_turn self.new.bits other ≡ (contains_turn self.old.bits other && not (other == t))) }
         ensures none { IfNone result (self.old.bits ≡ 0) }
+        ensures same { IfNone result (self.new ≡ self.old) }
         ensures few { self.new.bits < 2 ^ 18 }
     {
         if self.bits == 0 {
