@@ -17,5 +17,6 @@ pub mod WordSteps
 pub mod PartLaws
 pub mod NearLaws
 pub mod NearBits
+pub mod RowLaws
 pub mod TakenBack
 pub mod HeldScrambles

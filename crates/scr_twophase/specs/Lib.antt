@@ -8,5 +8,6 @@ pub mod Near
 pub mod Spread
 pub mod Built
 pub mod Ready
+pub mod Rows
 pub mod Minima
 pub mod HeldScramble

@@ -12,12 +12,13 @@ ghost use Rattle.scr_stages.specs.Stages.{middle_edges};
 ghost use Rattle.scr_stages.specs.Tables.{flips_coordinate};
 ghost use Rattle.scr_twophase.specs.Near.{IsInSet, IsNear, LeavesNear, first_number};
 ghost use Rattle.scr_twophase.specs.Outlooks.{AreOutlooksOf, IsPruningTable};
+ghost use Rattle.scr_twophase.specs.Rows.{AreRows};
 ghost use Rattle.scr_twophase.specs.Search.{ShowsFirst, IsFirstPosition, LeavesWays, is_domino_position};
 ghost use Rattle.scr_twophase.specs.TwoParts.{is_domino, turn_numbers};
 ghost use Rattle.scr_twophase.specs.Tables.{twists_coordinate, middle_set_coordinate};
 ghost use Rattle.scr_twophase.specs.Tables.{flipslice_line, twistslice_line, first_lines};
 
-use crate::moves::{flip_moves, middle_moves, step, twist_moves};
+use crate::moves::{flip_moves, middle_moves, rows_of, step, target, twist_moves};
 use crate::near_set::{NEAR, NearSet};
 use crate::outlook::{Outlook, outlooks};
 use crate::pruning::PruningTable;
@@ -66,20 +67,6 @@ impl FirstPosition {
         }
     }
 
-    /// The position of the cubes with a number.
-    #[inline]
-    fn numbered(number: u64) -> FirstPosition
-        ensures fits { IsFirstPosition result }
-        ensures shows { (c : CubeState) → IsCube c → number ≡ first_number c → ShowsFirst c result }
-    {
-        let low = (number % BLOCK) as u32;
-        FirstPosition {
-            flips: low % FLIPS,
-            twists: low / FLIPS % TWISTS,
-            middle: (number / BLOCK) as u32 % MIDDLES,
-        }
-    }
-
     /// Whether it is that of a domino: no flips, no twists, and the edges of the middle layer in it.
     #[inline]
     pub fn is_domino(self) -> bool
@@ -90,7 +77,7 @@ impl FirstPosition {
 }
 
 /// What the search for a first part goes by: where turns lead, the two pruning tables, and the near set, which is that of all
-/// cubes until it is built.
+/// cubes until it is built. Where turns lead from flips and twists stands in bare rows besides, by which it is built.
 #[derive(Drop)]
 pub(crate) struct FirstTables {
     flips: MoveTable,
@@ -99,11 +86,15 @@ pub(crate) struct FirstTables {
     pub flipslice: PruningTable,
     pub twistslice: PruningTable,
     near: NearSet,
+    flip_rows: Vec<u32>,
+    twist_rows: Vec<u32>,
     ghost flips_shown: { ShowsSame flips_coordinate (moves_coordinate flips) },
     ghost twists_shown: { ShowsSame twists_coordinate (moves_coordinate twists) },
     ghost middle_shown: { ShowsSame middle_set_coordinate (moves_coordinate middle) },
     ghost flipslice_is: { IsPruningTable flipslice_line flipslice },
     ghost twistslice_is: { IsPruningTable twistslice_line twistslice },
+    ghost flip_rows_are: { AreRows (moves_coordinate flips) flip_rows.items },
+    ghost twist_rows_are: { AreRows (moves_coordinate twists) twist_rows.items },
     ghost near_is: { IsNear turn_numbers IsCube first_number is_domino 7 (IsInSet near) },
 }
 
@@ -121,6 +112,8 @@ impl FirstTables {
         let flips = flip_moves(alloc)?;
         let twists = twist_moves(alloc)?;
         let middle = middle_moves(alloc)?;
+        let flip_rows = rows_of(alloc, &flips)?;
+        let twist_rows = rows_of(alloc, &twists)?;
         let flipslice = PruningTable::build(
             rt,
             alloc,
@@ -144,6 +137,8 @@ impl FirstTables {
             flipslice,
             twistslice,
             near: NearSet::of_all(alloc),
+            flip_rows,
+            twist_rows,
         })
     }
 
@@ -258,8 +253,10 @@ impl Space for FirstTables {
     }
 
     #[inline]
-    fn number_after(&self, number: u64, place: u32) -> u64 {
-        FirstTables::number_of(Positions::after(self, FirstPosition::numbered(number), place))
+    fn number_after(&self, _block: u32, number: u32, place: u32) -> u32 {
+        let flips = target(&self.flip_rows[..], place * FLIPS + number % FLIPS);
+        let twists = target(&self.twist_rows[..], place * TWISTS + number / FLIPS);
+        twists.wrapping_mul(FLIPS).wrapping_add(flips)
     }
 
     fn end() -> u64 {

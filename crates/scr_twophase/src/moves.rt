@@ -1,11 +1,12 @@
 //! Where turns lead from the numbers of positions, as tables.
-ghost use Rattle.std.specs.Prelude.{◌≡◌, ◌^◌, ◌<◌, ◌≤◌, All, IfOk, IsSome, Some, map};
+ghost use Rattle.std.specs.Prelude.{◌≡◌, ℕ, ◌*◌, ◌^◌, ◌<◌, ◌≤◌, All, IfOk, IsSome, Some, map, slice_index};
 ghost use Rattle.scr_combinatorics.specs.Permutations.{IsPermutation, factorial};
 ghost use Rattle.scr_coord.specs.Moves.{moves_coordinate};
 ghost use Rattle.scr_coord.specs.Projections.{pieces_view, projection};
 ghost use Rattle.scr_coord.specs.SearchSpaces.{ShowsSame};
 ghost use Rattle.scr_stages.specs.Stages.{tetrads_turns};
 ghost use Rattle.scr_stages.specs.Tables.{block_turn, edges_by, flips_coordinate};
+ghost use Rattle.scr_twophase.specs.Rows.{AreRows};
 ghost use Rattle.scr_twophase.specs.Tables.{corners_coordinate, middle_set_coordinate, twists_coordinate};
 
 use scr_coord::{Coord, Lists, MoveTable, PlaceSet, Twists};
@@ -13,7 +14,7 @@ use scr_outside::NoMemory;
 use scr_stages::{
     ALL_TURNS, MIDDLE_EDGES, TETRADS_TURNS, block_edges_turned, corners_turned, edges_turned,
 };
-use std::alloc::Global;
+use std::alloc::{AllocError, Global};
 
 /// Where a turn leads, which is barred nowhere.
 #[inline]
@@ -27,6 +28,33 @@ pub(crate) fn step(moves: &MoveTable, position: u32, turn: u32) -> u32
         unreachable!()
     };
     next
+}
+
+/// Where turns lead from the positions of a table of moves that bars them nowhere: bare numbers, turn after turn.
+pub(crate) fn rows_of(alloc: Global, moves: &MoveTable) -> Result<Vec<u32>, AllocError>
+    requires fits { moves.now.count * moves.now.turns < 2 ^ 32 }
+    requires leads { (position turn : ℕ) → position < moves.now.count → turn < moves.now.turns
+        → IsSome ((moves_coordinate moves.now).after position turn) }
+    ensures { IfOk result (λ rows. AreRows (moves_coordinate moves.now) rows.items) }
+{
+    let count = moves.count();
+    let all = count * moves.turns();
+    let mut rows = Vec::with_capacity(alloc, all as usize)?;
+    for k in 0..all {
+        rows.push(step(moves, k % count, k / count))?;
+    }
+    Ok(rows)
+}
+
+/// What stands at a place of rows, if it is one.
+#[inline]
+pub(crate) fn target(rows: &[u32], place: u32) -> u32
+    ensures { result ≡ slice_index rows.now place }
+{
+    match rows.get(place as usize) {
+        Some(target) => *target,
+        None => 0,
+    }
 }
 
 /// Where turns lead from the flips.

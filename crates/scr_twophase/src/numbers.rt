@@ -74,6 +74,16 @@ pub(crate) fn spread<S: Space, N: Numbers>(space: &S, lists: &[Listed], block: u
     }
 }
 
+/// How many numbers are entered so. It is but the room that is reserved for them: no clause says so, and none needs to.
+fn room_for<S: Space>(space: &S, lists: &[Listed], block: u32) -> usize {
+    let mut room = numbers_in(lists, block).len();
+    for turn in 0..S::places() {
+        let from = space.block_after(block, turn);
+        room = room.saturating_add(numbers_in(lists, from).len());
+    }
+    room
+}
+
 /// The listed numbers of a block.
 fn numbers_in(lists: &[Listed], block: u32) -> &[u32]
     ensures { result.now ≡ numbers_in (slice_index_or lists.now block None) }
@@ -108,8 +118,7 @@ fn enter_turned<S: Space, N: Numbers>(
     ensures kept { (other : ℕ) → N.Has into.old other → N.Has into.new other }
 {
     for number in numbers {
-        let next = space.number_after(u64::from(block) * BLOCK + u64::from(*number), place);
-        into.enter((next % BLOCK) as u32);
+        into.enter(space.number_after(block, *number, place));
     }
 }
 
@@ -186,8 +195,9 @@ impl<S: Space> Jobs for OneTurnMore<'_, S> {
     ghost is_answer = { λ s block out. IfOk out (λ list. IsSpread S.turns S.IsSeen S.numbering s.lists.now block (Contains list.items)) };
 
     fn job(&self, slot: u32) -> Result<Vec<u32>, AllocError> {
+        let room = room_for(self.space, self.lists, slot);
         let mut into = Growing {
-            numbers: Vec::new(self.alloc),
+            numbers: Vec::with_capacity(self.alloc, room)?,
             is_cut: false,
         };
         spread(self.space, self.lists, slot, &mut into);

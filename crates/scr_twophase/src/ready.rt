@@ -1,7 +1,7 @@
 //! What makes searches faster and changes no answer: the outlooks of both parts' tables, and their near sets, found side by side.
 ghost use Rattle.std.specs.Prelude.{◌≡◌, ◌≤◌, IfOk};
 ghost use Rattle.scr_twophase.specs.Built.{distances_of};
-ghost use Rattle.scr_twophase.specs.Ready.{AreAllOutlooks, AreNearSets, FlipsAndCorners, TwistsAndEdges};
+ghost use Rattle.scr_twophase.specs.Ready.{AreOthers, FlipsAndCorners, IsNearFirst, TwistsAndEdges};
 
 use crate::near_set::NearSet;
 use crate::outlook::Outlook;
@@ -10,13 +10,6 @@ use scr_workers::{both, shared};
 use std::alloc::{AllocError, Global};
 use std::thread::Threads;
 
-/// The near sets of both parts.
-#[derive(Drop)]
-struct NearSets {
-    first: NearSet,
-    second: NearSet,
-}
-
 /// The outlooks of a table of each part.
 #[derive(Drop)]
 struct OutlookPair {
@@ -24,13 +17,14 @@ struct OutlookPair {
     second: Vec<Outlook>,
 }
 
-/// The outlooks of all four tables.
+/// All but the near set of the first part.
 #[derive(Drop)]
-struct AllOutlooks {
+struct Others {
     flips: Vec<Outlook>,
     twists: Vec<Outlook>,
     corners: Vec<Outlook>,
     edges: Vec<Outlook>,
+    near: NearSet,
 }
 
 /// Finds outlooks, and builds near sets, by 1 to 64 workers. The tables stay the same.
@@ -43,72 +37,55 @@ pub(crate) fn prepare<R: Threads + Sync>(
     requires workers { (1 ≤ workers) × (workers ≤ 64) }
     ensures { distances_of parts.new ≡ distances_of parts.old }
 {
-    let (sets, outlooks) = sets_and_outlooks(rt, alloc, parts, workers);
-    let NearSets { first, second } = sets?;
-    let AllOutlooks {
+    let (first, others) = first_and_others(rt, alloc, parts, workers);
+    let first = first?;
+    let Others {
         flips,
         twists,
         corners,
         edges,
-    } = outlooks?;
+        near,
+    } = others?;
     parts.first.take_in(flips, twists, first);
-    parts.second.take_in(corners, edges, second);
+    parts.second.take_in(corners, edges, near);
     Ok(())
 }
 
-/// Both, by workers who share them out: they take about the same time.
-fn sets_and_outlooks<R: Threads + Sync>(
+/// The near set of the first part, and all else, by workers who share them out: they take about the same time.
+fn first_and_others<R: Threads + Sync>(
     rt: &R,
     alloc: Global,
     parts: &PartTables,
     workers: u32,
-) -> (
-    Result<NearSets, AllocError>,
-    Result<AllOutlooks, AllocError>,
-)
+) -> (Result<NearSet, AllocError>, Result<Others, AllocError>)
     requires workers { (1 ≤ workers) × (workers ≤ 64) }
-    ensures sets { IfOk result.0 AreNearSets }
-    ensures outlooks { IfOk result.1 (AreAllOutlooks parts.now) }
+    ensures first { IfOk result.0 IsNearFirst }
+    ensures others { IfOk result.1 (AreOthers parts.now) }
 {
     let (front, back) = shared(workers);
     both(
         rt,
         workers,
-        || -> Result<NearSets, AllocError>
+        || -> Result<NearSet, AllocError>
             requires { (1 ≤ front) × (front ≤ 64) }
-            ensures { IfOk result AreNearSets }
-        { near_sets(rt, alloc, parts, front) },
-        || -> Result<AllOutlooks, AllocError>
+            ensures { IfOk result IsNearFirst }
+        { parts.first.near_set(rt, alloc, front) },
+        || -> Result<Others, AllocError>
             requires { (1 ≤ back) × (back ≤ 64) }
-            ensures { IfOk result (AreAllOutlooks parts.entry.now) }
-        { all_outlooks(rt, alloc, parts, back) },
+            ensures { IfOk result (AreOthers parts.entry.now) }
+        { find_others(rt, alloc, parts, back) },
     )
 }
 
-/// The near sets, built by 1 to 64 workers.
-fn near_sets<R: Threads + Sync>(
+/// All but the near set of the first part, found by 1 to 64 workers, who share out the tables.
+fn find_others<R: Threads + Sync>(
     rt: &R,
     alloc: Global,
     parts: &PartTables,
     workers: u32,
-) -> Result<NearSets, AllocError>
+) -> Result<Others, AllocError>
     requires workers { (1 ≤ workers) × (workers ≤ 64) }
-    ensures { IfOk result AreNearSets }
-{
-    let first = parts.first.near_set(rt, alloc, workers)?;
-    let second = parts.second.near_set(rt, alloc, workers)?;
-    Ok(NearSets { first, second })
-}
-
-/// The outlooks, found by 1 to 64 workers, who share out the tables.
-fn all_outlooks<R: Threads + Sync>(
-    rt: &R,
-    alloc: Global,
-    parts: &PartTables,
-    workers: u32,
-) -> Result<AllOutlooks, AllocError>
-    requires workers { (1 ≤ workers) × (workers ≤ 64) }
-    ensures { IfOk result (AreAllOutlooks parts.now) }
+    ensures { IfOk result (AreOthers parts.now) }
 {
     let (front, back) = shared(workers);
     let (one, other) = both(
@@ -125,11 +102,13 @@ fn all_outlooks<R: Threads + Sync>(
     );
     let one = one?;
     let other = other?;
-    Ok(AllOutlooks {
+    let near = parts.second.near_set(rt, alloc, workers)?;
+    Ok(Others {
         flips: one.first,
         twists: other.first,
         corners: one.second,
         edges: other.second,
+        near,
     })
 }
 

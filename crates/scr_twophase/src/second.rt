@@ -296,8 +296,9 @@ impl Space for SecondTables {
     }
 
     #[inline]
-    fn number_after(&self, number: u64, place: u32) -> u64 {
-        SecondTables::number_of(Positions::after(self, SecondPosition::numbered(number), place))
+    fn number_after(&self, block: u32, number: u32, place: u32) -> u32 {
+        let at = SecondPosition::numbered(u64::from(block) * BLOCK + u64::from(number));
+        (SecondTables::number_of(Positions::after(self, at, place)) % BLOCK) as u32
     }
 
     fn end() -> u64 {

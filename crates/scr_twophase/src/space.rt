@@ -6,7 +6,7 @@ pub(crate) const BLOCK: u64 = 1 << 32;
 /// Cubes as a part of their solution sees them, by their numbers. Where a turn leads from the cubes of a block of numbers, is one
 /// block.
 pub(crate) trait Space {
-    ghost use Rattle.std.specs.Prelude.{◌≡◌, ℕ, ◌/◌, ◌^◌, ◌<◌, ◌≤◌, Bool, IsTrue, List, Some, length, slice_index};
+    ghost use Rattle.std.specs.Prelude.{◌≡◌, ℕ, ◌/◌, ◌%◌, ◌^◌, ◌<◌, ◌≤◌, Bool, IsTrue, List, Some, length, slice_index};
     ghost use Rattle.scr_cube.specs.Cube333.{CubeState};
     ghost use Rattle.scr_twophase.specs.Near.{AreTakenBack};
     ghost use Rattle.scr_twophase.specs.TwoParts.{after_turn};
@@ -36,11 +36,12 @@ pub(crate) trait Space {
         requires { place < length turns }
         ensures { result ≡ slice_index backs place };
 
-    /// The number of the cubes to which the turn at a place leads from those with a number, if there are any.
-    fn number_after(&self, number: u64, place: u32) -> u64
+    /// The place in its block of the number of the cubes to which the turn at a place leads from those with a number, which is
+    /// told by its block and its place in it, if there are any.
+    fn number_after(&self, block: u32, number: u32, place: u32) -> u32
         requires { place < length turns }
-        ensures { (c d : CubeState) → IsSeen c → number ≡ numbering c → after_turn c (slice_index turns place) ≡ Some d
-            → result ≡ numbering d };
+        ensures { (c d : CubeState) → IsSeen c → block ≡ numbering c / 2 ^ 32 → number ≡ numbering c % 2 ^ 32
+            → after_turn c (slice_index turns place) ≡ Some d → result ≡ numbering d % 2 ^ 32 };
 
     /// The number of the cubes to which the words of the part lead.
     fn end() -> u64
