@@ -1,13 +1,15 @@
 //! Filling the entries of a table. Early levels, of few positions, are pushed from the goals, and nothing is proved of them but
 //! that 0 stands at the goals. One pass then checks that each entry agrees with those around it, from which it follows that
 //! these levels are exact, and makes the next level by the same looks; each level behind is made from the one before. Where
-//! the entries don't agree, as where turns can't be undone, all levels are made so.
+//! the entries don't agree, all levels are made so; and at once where a turn from a goal can't be taken back, since then they
+//! hardly would.
 
-ghost use Rattle.std.specs.Prelude.{◌≡◌, ◌≤◌, IfOk, length};
+ghost use Rattle.std.specs.Prelude.{◌≡◌, ◌<◌, ◌≤◌, IfOk, length};
 ghost use Rattle.scr_table.specs.Filled.{AreKnown, AreMarked, block_count};
 
 use crate::blocks::{BLOCK, Made, contains};
 use crate::levels::{checked_level, next_level};
+use crate::neighbours::step;
 use scr_coord::{BARRED, Coord, NOWHERE};
 use std::alloc::{AllocError, Global};
 use std::thread::Threads;
@@ -80,6 +82,9 @@ fn early_levels<R: Threads + Sync, C: Coord + Sync>(
     ensures level { result ≤ 25 }
 {
     mark_goals(coord, entries);
+    if !are_taken_back(coord, entries) {
+        return 0;
+    }
     let pushed = push_levels(coord, entries, bound);
     if checked_level(rt, coord, entries, blocks, pushed, workers) {
         return pushed + 1;
@@ -100,6 +105,47 @@ fn mark_goals<C: Coord>(coord: &C, entries: &mut [u8])
         entries[goal as usize] = 0;
         from = goal + 1;
     }
+}
+
+/// Whether each turn from the first goal is taken back by a turn. It tells whether it is worth while to push, and nothing
+/// rests on it.
+fn are_taken_back<C: Coord>(coord: &C, entries: &[u8]) -> bool
+    requires { length entries.now ≡ (C.coordinate coord.now).count }
+{
+    for goal in 0..coord.count() {
+        if entries[goal as usize] == 0 {
+            return leads_back(coord, goal);
+        }
+    }
+    false
+}
+
+/// Whether each turn from a position is taken back.
+fn leads_back<C: Coord>(coord: &C, position: u32) -> bool
+    requires { position < (C.coordinate coord.now).count }
+{
+    for turn in 0..coord.turns() {
+        if let Some(next) = step(coord, position, turn) {
+            if !leads_to(coord, next, position) {
+                return false;
+            }
+        }
+    }
+    true
+}
+
+/// Whether a turn leads from one position to another.
+fn leads_to<C: Coord>(coord: &C, from: u32, to: u32) -> bool
+    requires { from < (C.coordinate coord.now).count }
+{
+    for turn in 0..coord.turns() {
+        if let Some(next) = step(coord, from, turn) {
+            if next == to {
+                return true;
+            }
+        }
+    }
+    false
 }
 
 /// Spreads the distances from the goals along turns, and answers the level that is reached, at most `bound`. This gives the
