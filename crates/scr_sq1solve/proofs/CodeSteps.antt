@@ -120,9 +120,6 @@ module _ (p : ℕ) (at : p < 73728) where
             ∙ ap (λ g. p % 8 + 8 * last_bit (p % 8) (p / 192 % 16) + 16 * g) digits.edge_pairs;
       }
 
-  pub edges_at-lt : edges_at p < 384
-  edges_at-lt = subst (λ n. n < 384) AreCodes-at.edges (code-lt (edges_of (square_state p).units) codes.edges)
-
   module _ (letter : ℕ → List Turn) (kept : IsKept letter) (t : ℕ) (turn : t < 32) where
     -- where the letter leads from the position, and from the codes there
     pub record IsCodeStep : Type 0 where

@@ -164,6 +164,25 @@ unfolding squaring_letter
 squaring-index n few =
     ap (λ z. turn_word z (pos (n / 2))) (omega (arith, ints)) ∙ ap (turn_word (amount (5 - n % 2))) (omega (arith, ints))
 
+-- a part that turns nothing
+still-index : (i k : ℕ) → i < 7356 → k < 25 → play sq1_after (shapes_state i) (shape_part k) ≡ after_layers (shapes_state i) (pos 0) (pos 0)
+    → Some i ≡ option_map shapes_index (by_letters sq1_after 25 shape_part (shapes_state i) k)
+still-index i k at part played =
+    sym (ap (option_map shapes_index)
+    (by_letters-played sq1_after 25 shape_part (shapes_state i) k part ∙ played
+    ∙ sym (still-layers (shapes_state i) (pos 0) (pos 0) (valid i at) IsTwelfths-none IsTwelfths-none refl))
+    ∙ ap Some (IsIndex-shapes.again i at))
+
+pub still-top : (i k : ℕ) → i < 7356 → k ≡ 5 → Some i ≡ option_map shapes_index (by_letters sq1_after 25 shape_part (shapes_state i) k)
+still-top i k at is =
+    still-index i 5 at (lit< tt) (play-top (shapes_state i) (valid i at) 5 (lit< tt))
+    ∙ ap (λ n. option_map shapes_index (by_letters sq1_after 25 shape_part (shapes_state i) n)) (sym is)
+
+pub still-bottom : (i k : ℕ) → i < 7356 → k ≡ 17 → Some i ≡ option_map shapes_index (by_letters sq1_after 25 shape_part (shapes_state i) k)
+still-bottom i k at is =
+    still-index i 17 at (lit< tt) (play-bottom (shapes_state i) (valid i at) 17 5 refl (lit< tt))
+    ∙ ap (λ n. option_map shapes_index (by_letters sq1_after 25 shape_part (shapes_state i) n)) (sym is)
+
 -- ---- the coordinate of the parts
 
 pub StaysBelow-parts : StaysBelow shape_parts_coordinate

@@ -17,6 +17,12 @@ use std::alloc::{AllocError, Global};
 /// How many indexes there are.
 pub(crate) const INDEXES: u32 = 7356;
 
+/// The part that turns the top by nothing.
+const STILL_TOP: u32 = 5;
+
+/// The one that turns the bottom by nothing.
+const STILL_BOTTOM: u32 = 17;
+
 /// How many lists of eight pieces there are.
 const LISTS: u128 = 40_320;
 
@@ -91,6 +97,12 @@ impl Coord for ShapeStates {
 
     #[inline]
     fn after(&self, position: u32, turn: u32) -> Option<u32> {
+        if turn == STILL_TOP {
+            return Some(position);
+        }
+        if turn == STILL_BOTTOM {
+            return Some(position);
+        }
         let end = after_part(self.state_at(position), turn)?;
         Some(shapes_index(&end))
     }
