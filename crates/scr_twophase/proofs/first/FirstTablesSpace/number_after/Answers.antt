@@ -1,4 +1,4 @@
-use Rattle.std.proofs.Common.{◌≡◌, ℕ, ◌+◌, ◌*◌, ◌/◌, ◌%◌, ◌<◌, Some, ap, sym, ◌∙◌, get_or, arith}
+use Rattle.std.proofs.Common.{◌≡◌, ℕ, ◌+◌, ◌*◌, ◌/◌, ◌%◌, ◌<◌, Some, ap, ◌∙◌, get_or, arith}
 use Rattle.scr_combinatorics.proofs.Picks.{numbers_from-at}
 use Rattle.scr_coord.specs.Moves.{moves_coordinate}
 use Rattle.scr_stages.specs.Numbers.{flips_number}

@@ -1,4 +1,4 @@
-use Rattle.std.proofs.Common.{◌≡◌, ◌+◌, ◌*◌, ◌%◌, ◌^◌, ap, ◌∙◌, arith}
+use Rattle.std.proofs.Common.{◌≡◌, ◌+◌, ◌*◌, ◌%◌, ◌^◌, ap, arith}
 use Rattle.scr_twophase.specs.Near.{second_number}
 use Rattle.scr_twophase.proofs.second.SecondTablesSpace.number_after.Goals as goal
 
