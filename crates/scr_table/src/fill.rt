@@ -82,7 +82,7 @@ fn early_levels<R: Threads + Sync, C: Coord + Sync>(
     ensures level { result ≤ 25 }
 {
     mark_goals(coord, entries);
-    if !are_taken_back(coord, entries) {
+    if !are_taken_back(coord) {
         return 0;
     }
     let pushed = push_levels(coord, entries, bound);
@@ -109,15 +109,11 @@ fn mark_goals<C: Coord>(coord: &C, entries: &mut [u8])
 
 /// Whether each turn from the first goal is taken back by a turn. It tells whether it is worth while to push, and nothing
 /// rests on it.
-fn are_taken_back<C: Coord>(coord: &C, entries: &[u8]) -> bool
-    requires { length entries.now ≡ (C.coordinate coord.now).count }
-{
-    for goal in 0..coord.count() {
-        if entries[goal as usize] == 0 {
-            return leads_back(coord, goal);
-        }
+fn are_taken_back<C: Coord>(coord: &C) -> bool {
+    match coord.next_goal(0) {
+        Some(goal) => leads_back(coord, goal),
+        None => false,
     }
-    false
 }
 
 /// Whether each turn from a position is taken back.
