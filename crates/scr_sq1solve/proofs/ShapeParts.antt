@@ -1,6 +1,6 @@
 -- The letters of the first stage are played by parts, and so are their indexes.
 use Rattle.std.proofs.Common.{◌≡◌, ℕ, ◌+◌, ◌-◌, ◌/◌, ◌%◌, ◌<◌, Bool, true, false, cond, List, [], ◌∷◌, ◌++◌, Option, Some, None, refl, sym, ap, ◌∙◌, arith, lit<}
-use Rattle.std.specs.Prelude.{ℤ, pos, neg_ℤ, ◌-ℤ◌, nat_lt, option_and_then, IfSome}
+use Rattle.std.specs.Prelude.{ℤ, pos, ◌-ℤ◌, nat_lt, option_and_then, IfSome}
 use Rattle.std.specs.Option.{option_map}
 use mir.Syntax.{w8}
 use mir.Val.{to_z, of_z}
@@ -8,7 +8,7 @@ use Rattle.std.proofs.lemmas.Bool.{cond-true, cond-false, lt-ltb, le-ltb}
 use Rattle.std.proofs.lemmas.Int.{ints}
 use Rattle.scr_combinatorics.specs.Play.{play}
 use Rattle.scr_combinatorics.specs.Stages.{by_letters}
-use Rattle.scr_combinatorics.proofs.PlayLaws.{and_then-some, play-empty, play-one}
+use Rattle.scr_combinatorics.proofs.PlayLaws.{play-empty, play-one}
 use Rattle.scr_combinatorics.proofs.StageLaws.{by_letters-played, by_letters-parts}
 use Rattle.scr_coord.specs.Coordinates.{Coordinate, StaysBelow}
 use Rattle.scr_coord.specs.SearchSpaces.{ShowsSame}

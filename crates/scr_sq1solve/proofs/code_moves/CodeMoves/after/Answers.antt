@@ -1,4 +1,4 @@
-use Rattle.std.proofs.Common.{◌+◌, ◌*◌, ◌/◌, ◌%◌, refl, ap}
+use Rattle.std.proofs.Common.{◌+◌, ◌*◌, ◌%◌, refl, ap}
 use Rattle.scr_sq1solve.proofs.CodeMovesLaws.{corners-led, rows-led, made}
 use Rattle.scr_sq1solve.proofs.code_moves.CodeMoves.after.Goals as goal
 

@@ -1,7 +1,7 @@
-use Rattle.std.proofs.Common.{Some, sym, ap, ◌∙◌}
+use Rattle.std.proofs.Common.{sym, ap, ◌∙◌}
 use Rattle.std.specs.Option.{option_map}
 use Rattle.scr_sq1.specs.Numbers.{edges_of}
-use Rattle.scr_sq1solve.specs.Codes.{code_in_row, codes_coordinate, place_in_row}
+use Rattle.scr_sq1solve.specs.Codes.{codes_coordinate, place_in_row}
 use Rattle.scr_sq1solve.specs.Letters.{letter_of}
 use Rattle.scr_sq1solve.proofs.edge_rows.EdgeRowsCoord.after.Goals as goal
 

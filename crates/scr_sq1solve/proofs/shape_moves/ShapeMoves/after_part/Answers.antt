@@ -1,4 +1,4 @@
-use Rattle.std.proofs.Common.{sym, ◌∙◌}
+use Rattle.std.proofs.Common.{◌∙◌}
 use Rattle.scr_sq1solve.proofs.ShapeParts.{part-seen, parts-below}
 use Rattle.scr_sq1solve.proofs.shape_moves.ShapeMoves.after_part.Goals as goal
 
