@@ -32,7 +32,7 @@ use Rattle.scr_sheet.specs.declared.fault.Fault.{Fault}
 use Rattle.scr_sheet.specs.declared.fault.Fault.TheVariants as fault
 use Rattle.scr_sheet.specs.Sheet.{Part, round_part, round_parts, single_part, line_of, shown_net, EachSlot, IsPartText, IsText}
 use Rattle.scr_sheet.specs.Outcome.{IsLed, EndsParts, EndsMaking, EndsCommand, Ends, IsPerformed, IsUnwritten}
-use Rattle.scr_sheet.specs.Headline.{AreFairScrambles, IsFairRound, AreFairRounds, IsFairLine, WritesOnly, IsFairRun}
+use Rattle.scr_sheet.specs.Headline.{AreFairScrambles, IsFairRound, AreFairRounds, no_round, another, IsFairLine, WritesOnly, IsFairRun}
 use Rattle.scr_sheet.proofs.SlotOrder.{round-in_order}
 use Rattle.scr_sheet.proofs.PartLaws.{EachSlot-map}
 use Rattle.scr_sheet.proofs.RunLaws.{IsFairPart}
@@ -41,12 +41,14 @@ use Rattle.scr_sheet.proofs.RunLaws.{IsFairPart}
 fair_scrambles : (scrambling : Scrambling) (settings : Settings) (least stream : ℕ) (scrambles : List Written) → IsDrawnFairly scrambling least
     → EachSlot (IsSlotScramble scrambling settings least) stream scrambles
     → AreFairScrambles (shown_by scrambling) settings least stream (turns_of_each scrambles)
-fair_scrambles (ByState S event scrambled) settings least stream scrambles fair each = record {
-  count = scrambled.numbered.count;
-  state_at = scrambled.numbered.state_at;
-  fair = fair;
-  each = EachSlot-map _ _ (λ (w : Written). w.turns) (λ s w is. is.turns.of_state) stream scrambles each;
-}
+fair_scrambles (ByState S event scrambled) settings least stream scrambles fair each = (
+  scrambled.numbered.count,
+  scrambled.numbered.state_at,
+  record {
+    fair = fair;
+    each = EachSlot-map _ _ (λ (w : Written). w.turns) (λ s w is. is.turns.of_state) stream scrambles each;
+  },
+)
 fair_scrambles (ByMoves event random) settings least stream scrambles fair each =
     (fair, EachSlot-map _ _ (λ (w : Written). w.turns) (λ s w is. is.turns) stream scrambles each)
 
@@ -173,10 +175,11 @@ single-writes Is settings event print out ended so making =
 -- ---- rounds
 
 fair-round : (settings : Settings) (k : ℕ) (round : Round) (text : List ℕ) → IsFairText settings (round_part k round) text
-    → IsFairRound k round settings text
+    → IsFairRound k settings text
 fair-round settings k round text it =
     let order = round-in_order k round it.scrambles it.each_slot in
     record {
+      round = round;
       scrambles = it.scrambles;
       each_slot = it.each_slot;
       fair = it.fair;
@@ -185,10 +188,10 @@ fair-round settings k round text it =
       is = it.is ∙ order.2;
     }
 
--- the first of a list's parts are the parts of its first rounds
+-- the first of a list's parts are rounds
 fair-rounds : (settings : Settings) (k : ℕ) (rounds : List Round) (led rest : List Part) (text : List ℕ) → round_parts k rounds ≡ led ++ rest
-    → IsText (IsFairText settings) led text → (first : List Round) × AreFairRounds k first settings text
-fair-rounds settings k rounds [] rest text are fair = ([], fair)
+    → IsText (IsFairText settings) led text → AreFairRounds k settings text
+fair-rounds settings k rounds [] rest text are fair = subst (AreFairRounds k settings) (sym fair) (no_round k settings)
 fair-rounds settings k [] (part ∷ led) rest text are fair =
     let none : ⊥ = cc in
     absurd none
@@ -197,7 +200,7 @@ fair-rounds settings k (round ∷ rounds) (part ∷ led) rest text are fair =
     let others : round_parts (k + 1) rounds ≡ led ++ rest = cc in
     let behind = fair-rounds settings (k + 1) rounds led rest fair.1 others fair.3 in
     let here = fair-round settings k round fair.0 (subst (λ p. IsFairText settings p fair.0) same fair.2) in
-    (round ∷ behind.0, (fair.0, fair.1, here, behind.1, fair.4))
+    subst (AreFairRounds k settings) (sym fair.4) (another k settings fair.0 fair.1 here behind)
 
 -- ---- the commands that write scrambles
 
@@ -271,9 +274,6 @@ sheet-words-asked words = sheet_of-asked (options_of sheet_options words)
 abbrev IsBelow : Settings → List ℕ → Type 0
 IsBelow settings text = (below : List ℕ) × IsFairLine below settings text
 
-abbrev IsOfRounds : Settings → List ℕ → Type 0
-IsOfRounds settings text = (rounds : List Round) × AreFairRounds 0 rounds settings text
-
 one-writes : (source out : Change) (ended : Result (Unit {0}) Fault) (asked : Result Command UsageFault) → IsAsked IsOne asked
     → Ends asked source out ended → WritesOnly (IsFairLine []) out
 one-writes source out ended (Err usage) asks ends = nothing-written (IsFairLine []) out ends.2
@@ -299,7 +299,7 @@ net-writes source out ended (Ok command) (event, seed, is) ends =
     )) making
 
 rounds-write : (settings : Settings) (rounds : List Round) (out : Change) (ended : Result (Unit {0}) Fault)
-    → EndsMaking settings (round_parts 0 rounds) out ended → WritesOnly IsOfRounds out
+    → EndsMaking settings (round_parts 0 rounds) out ended → WritesOnly (AreFairRounds 0) out
 rounds-write settings rounds out ended making =
     let led = fair-making settings (round_parts 0 rounds) out ended making in
     record {
@@ -310,12 +310,12 @@ rounds-write settings rounds out ended making =
     }
 
 sheet-writes : (source out : Change) (ended : Result (Unit {0}) Fault) (asked : Result Command UsageFault) → IsAsked IsSheet asked
-    → Ends asked source out ended → WritesOnly IsOfRounds out
-sheet-writes source out ended (Err usage) asks ends = nothing-written IsOfRounds out ends.2
+    → Ends asked source out ended → WritesOnly (AreFairRounds 0) out
+sheet-writes source out ended (Err usage) asks ends = nothing-written (AreFairRounds 0) out ends.2
 sheet-writes source out ended (Ok command) (seed, options, is) ends =
     elim (subst (λ c. EndsCommand c source out ended) is ends) [
       | inl made ↦ rounds-write _ made.0 out ended made.2
-      | inr refused ↦ nothing-written IsOfRounds out refused.unwritten
+      | inr refused ↦ nothing-written (AreFairRounds 0) out refused.unwritten
     ]
 
 -- a run whose first word is this one, where each end of its command has written only such a text
@@ -335,5 +335,5 @@ fair-run [] source out ended performed = tt
 fair-run (word ∷ words) source out ended performed = (
   word-writes (IsFairLine []) (codes "one") word words source out ended performed (one-writes source out ended _ (one-asked words)),
   word-writes IsBelow (codes "net") word words source out ended performed (net-writes source out ended _ (net-asked words)),
-  word-writes IsOfRounds (codes "sheet") word words source out ended performed (sheet-writes source out ended _ (sheet-words-asked words)),
+  word-writes (AreFairRounds 0) (codes "sheet") word words source out ended performed (sheet-writes source out ended _ (sheet-words-asked words)),
 )

@@ -1,9 +1,9 @@
--- The headline: what is promised of fairness and of play where scrambles are written, by whatever the states are numbered,
--- whichever scramble a state has, and however a sheet is laid out below the heads of its rounds.
+-- The headline: what is promised of fairness and of play where scrambles are written, by whatever the states are
+-- numbered, whichever scramble a state has, and however a sheet is laid out below the heads of its rounds.
 use Rattle.std.specs.Prelude.{◌≡◌, ◌⊎◌, ℕ, ◌+◌, ◌==◌, false, List, [], ◌∷◌, ◌++◌, Some, length, codes}
 use Rattle.std.specs.List.{list_any}
 use Rattle.scr_outside.specs.Change.{Change, Gains, Falters}
-use Rattle.scr_draw.specs.StateSpace.{IsFairFor}
+use Rattle.scr_draw.specs.StateSpace.{StateSpace, IsFairFor}
 use Rattle.scr_notation.specs.declared.event.Event.{Event}
 use Rattle.scr_notation.specs.declared.turn.Turn.{Turn}
 use Rattle.scr_notation.specs.Spelling.{text_of}
@@ -15,19 +15,21 @@ use Rattle.scr_slots.specs.Slots.{first_stream}
 use Rattle.scr_slots.specs.Events.{shown_of}
 use Rattle.scr_sheet.specs.Sheet.{EachSlot}
 
--- The slots of a puzzle's states on streams one after another: by some numbers of the states, every state that turns reach
--- and that needs so many is drawn by equally many lists of numbers, and no other state by any; and these turns give the
--- states that the slots' numbers draw.
-pub record AreFairlyDrawn {S : Type 0} (drawn : DrawnPuzzle S) (settings : Settings) (least stream : ℕ) (scrambles : List (List Turn)) : Type 0 where
-  pub count : ℕ
-  pub state_at : ℕ → S
-  pub fair : IsFairFor (record { count = count; state_at = state_at; puzzle = drawn.puzzle }) least
-  pub each : EachSlot (λ s turns. GivesDrawn drawn (record { count = count; state_at = state_at; puzzle = drawn.puzzle }) least (slot_numbers settings s) turns)
-      stream scrambles
+-- The slots of a puzzle's states on streams one after another: every state that turns reach and that needs so many is
+-- drawn by equally many lists of numbers, and no other state by any; and these turns give the states that the slots'
+-- numbers draw.
+pub record AreFairlyDrawn {S : Type 0} (drawn : DrawnPuzzle S) (space : StateSpace S) (settings : Settings)
+    (least stream : ℕ) (scrambles : List (List Turn)) : Type 0 where
+  pub fair : IsFairFor space least
+  pub each : EachSlot (λ s turns. GivesDrawn drawn space least (slot_numbers settings s) turns) stream scrambles
 
--- Of random moves: each step takes each of its choices by equally many numbers, and the slots have those of their streams.
+-- The slots are drawn fairly, by some numbers of the states. Of random moves: each step takes each of its choices by
+-- equally many numbers, and the slots have those of their streams.
 abbrev pub AreFairScrambles : Shown → Settings → ℕ → ℕ → List (List Turn) → Type 0
-AreFairScrambles (States S drawn) settings least stream scrambles = AreFairlyDrawn drawn settings least stream scrambles
+AreFairScrambles (States S drawn) settings least stream scrambles =
+    (count : ℕ) × (state_at : ℕ → S)
+    × AreFairlyDrawn drawn (record { count = count; state_at = state_at; puzzle = drawn.puzzle }) settings least stream
+    scrambles
 AreFairScrambles (Moves random) settings least stream scrambles =
     random.AreFair × EachSlot (λ s turns. HasMoves random settings s (Some turns)) stream scrambles
 
@@ -35,16 +37,17 @@ AreFairScrambles (Moves random) settings least stream scrambles =
 abbrev pub HasNoDot : List ℕ → Type 0
 HasNoDot text = list_any (λ byte. byte == 46) text ≡ false
 
--- A text in which these scrambles stand in order: each behind a dot and a space, to the end of its line (byte 10). There is
--- no other dot. (No turn is spelled with one.)
+-- A text in which these scrambles stand in order: each behind a dot and a space, to the end of its line (byte 10), and
+-- there is no other dot. (No turn is spelled with one.)
 pub data StandInOrder : List (List Turn) → List ℕ → Type 0 where
   no_more : (text : List ℕ) → HasNoDot text → StandInOrder [] text
-  next : (before : List ℕ) (turns : List Turn) (scrambles : List (List Turn)) (below : List ℕ) → HasNoDot before
-      → StandInOrder scrambles below → StandInOrder (turns ∷ scrambles) (before ++ codes ". " ++ text_of turns ++ 10 ∷ below)
+  next : (before : List ℕ) (turns : List Turn) (others : List (List Turn)) (below : List ℕ) → HasNoDot before
+      → StandInOrder others below → StandInOrder (turns ∷ others) (before ++ codes ". " ++ text_of turns ++ 10 ∷ below)
 
--- The text of round k, counted from 0: its head, which names its event and its minimum, and below it the scrambles of its
--- slots in order, which are fair.
-pub record IsFairRound (k : ℕ) (round : Round) (settings : Settings) (text : List ℕ) : Type 0 where
+-- The text of a round, which is round k, counted from 0: its head, which names its event and its minimum, and below it
+-- the scrambles of its slots in order, which are fair.
+pub record IsFairRound (k : ℕ) (settings : Settings) (text : List ℕ) : Type 0 where
+  pub round : Round
   pub scrambles : List (List Turn)
   pub each_slot : length scrambles ≡ slots_of round
   pub fair : AreFairScrambles (shown_of round.event) settings round.least (first_stream k) scrambles
@@ -53,11 +56,10 @@ pub record IsFairRound (k : ℕ) (round : Round) (settings : Settings) (text : L
   pub is : text ≡ heading k round ++ 10 ∷ below
 
 -- the text of rounds one after another, the first of them round k
-abbrev pub AreFairRounds : ℕ → List Round → Settings → List ℕ → Type 0
-AreFairRounds k [] settings text = text ≡ []
-AreFairRounds k (round ∷ rounds) settings text =
-    (first : List ℕ) × (rest : List ℕ) × IsFairRound k round settings first × AreFairRounds (k + 1) rounds settings rest
-    × (text ≡ first ++ rest)
+pub data AreFairRounds : ℕ → Settings → List ℕ → Type 0 where
+  no_round : (k : ℕ) (settings : Settings) → AreFairRounds k settings []
+  another : (k : ℕ) (settings : Settings) (first rest : List ℕ) → IsFairRound k settings first
+      → AreFairRounds (k + 1) settings rest → AreFairRounds k settings (first ++ rest)
 
 -- the line of the one scramble of an event, which is fair, on stream 0 and with no minimum; and below it this text
 pub record IsFairLine (below : List ℕ) (settings : Settings) (text : List ℕ) : Type 0 where
@@ -73,11 +75,11 @@ pub record WritesOnly (IsSuch : Settings → List ℕ → Type 0) (out : Change)
   pub such : (text ≡ []) ⊎ IsSuch settings text
   pub written : Gains out text ⊎ Falters out text
 
--- What a run on these words writes of scrambles is fair: by `one` a line, by `net` a line with a text below it, by `sheet`
--- rounds.
+-- What a run on these words writes of scrambles is fair: by `one` a line, by `net` a line with a text below it, by
+-- `sheet` rounds.
 abbrev pub IsFairRun : List (List ℕ) → Change → Type 0
 IsFairRun [] out = Unit {0}
 IsFairRun (command ∷ words) out =
     (command ≡ codes "one" → WritesOnly (IsFairLine []) out)
     × (command ≡ codes "net" → WritesOnly (λ settings text. (below : List ℕ) × IsFairLine below settings text) out)
-    × (command ≡ codes "sheet" → WritesOnly (λ settings text. (rounds : List Round) × AreFairRounds 0 rounds settings text) out)
+    × (command ≡ codes "sheet" → WritesOnly (AreFairRounds 0) out)

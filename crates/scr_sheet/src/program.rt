@@ -57,9 +57,9 @@ pub fn run<'w, R: Threads + Sync, S: Source, O: Sink, E: Sink, G: Gate + Sync>(
     // its bound; of random moves each step is fair.
     ensures whole { IsRun (texts words.now) result (intake_of S.left S.faults S.ends source.old source.new)
         (change_of O.held O.faults out.old out.new) (change_of E.held E.faults err.old err.new) }
-    // Of this, what speaks of fairness and of play alone: whatever is written of scrambles is the spelling of those of
-    // rounds that are drawn fairly, in the order of their slots, and each gives the state that was drawn, within its
-    // puzzle's bound.
+    // Of this, what speaks of fairness and of play alone: the slots of what is written are drawn fairly, and their
+    // scrambles stand in order, each as it is spelled, and give the states that were drawn, within their puzzles' bounds.
+    // What else a round has below its head, and what `net` writes below its line, is left to `whole`.
     ensures headline { IsFairRun (texts words.now) (change_of O.held O.faults out.old out.new) }
 {
     let ended = perform(rt, alloc, words, source, out, gate);
