@@ -2,6 +2,7 @@ pub mod PartLaws
 pub mod LoadRounds
 pub mod RunLaws
 pub mod SlotOrder
+pub mod OneReading
 pub mod HeadlineLaws
 pub mod StatusLaws
 pub mod ShortLines

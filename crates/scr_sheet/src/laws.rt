@@ -1,11 +1,12 @@
 //! What holds of sheets and of runs whatever the code: calls that do nothing, whose contracts are the laws.
 
-ghost use Rattle.std.specs.Prelude.{◌≡◌, ◌≢◌, ◌<◌, ◌⊎◌, ℕ, List, [], ◌∷◌, length, All, IsTrue, IsSome, Some, Result, Ok, Err};
+ghost use Rattle.std.specs.Prelude.{◌≡◌, ◌≢◌, ◌<◌, ◌⊎◌, ℕ, List, [], ◌∷◌, map, length, All, IsTrue, IsSome, Some, Result, Ok, Err};
 ghost use Rattle.scr_outside.specs.Change.{Change, Falters};
 ghost use Rattle.scr_outside.specs.Faults.{Rose};
 ghost use Rattle.scr_combinatorics.specs.Play.{play};
 ghost use Rattle.scr_notation.specs.declared.event.Event.{Event};
 ghost use Rattle.scr_notation.specs.declared.turn.Turn.{Turn};
+ghost use Rattle.scr_notation.specs.Spelling.{text_of};
 ghost use Rattle.scr_notation.specs.Turns.{permits};
 ghost use Rattle.scr_net.specs.Nets.{net_after, solved_net};
 ghost use Rattle.scr_list.specs.declared.round.Round.{Round};
@@ -27,6 +28,7 @@ ghost use Rattle.scr_sheet.specs.declared.status.Status.TheVariants as status;
 ghost use Rattle.scr_sheet.specs.Check.{InputComesTo, ReadsInput, rounds_in};
 ghost use Rattle.scr_sheet.specs.Outcome.{IsRun, IsUnwritten, TakesMemory, status_of};
 ghost use Rattle.scr_sheet.specs.Sheet.{Part, round_parts, one_part, IsPartText, IsText};
+ghost use Rattle.scr_sheet.specs.Headline.{StandInOrder};
 ghost use Rattle.scr_sheet.specs.Load.{load_rounds, slots_of_all};
 ghost use Rattle.scr_sheet.specs.Task.{IsUnhindered, IsUnhinderedCheck, LacksScramble, EndsWith};
 
@@ -109,4 +111,10 @@ pub fn load_lists()
     ensures each { (number : ℕ) → IsRounds (load_rounds number) }
     ensures first { (length (load_rounds 0) ≡ 1) × (slots_of_all (load_rounds 0) ≡ 7) }
     ensures fifteenth { (length (load_rounds 15) ≡ 16) × (slots_of_all (load_rounds 15) ≡ 456) }
+{}
+
+/// A text in which scrambles stand in order tells how each is spelled: no other spellings can be read in it so.
+pub fn one_reading()
+    ensures { (text : List ℕ) (some other : List (List Turn)) → StandInOrder some text → StandInOrder other text
+        → map text_of some ≡ map text_of other }
 {}
