@@ -5,7 +5,7 @@
 use Rattle.std.specs.Prelude.{ℕ, List, [], ◌∷◌, slice_index}
 use Rattle.scr_combinatorics.specs.Permutations.{permutation_number, permutation_at}
 use Rattle.scr_combinatorics.specs.Twists.{twists_number, twists_at}
-use Rattle.scr_combinatorics.specs.Numbered.{Numbered, numbered_by_digits}
+use Rattle.scr_combinatorics.specs.Numbered.{Numbers, numbers_by_digits, Numbered, numbered_by_digits}
 use Rattle.scr_orbit.specs.Actions.{Action}
 use Rattle.scr_orbit.specs.Orbits.{Orbit, Rearrangement, IsZeroSumOrbit, zeros, solved_orbit, orbit_action}
 use Rattle.scr_turning.specs.Faces.{letters_of_faces}
@@ -43,10 +43,14 @@ bases_222 = 729 ∷ 5040 ∷ []
 unfoldable pub digits_222 : Orbit → List ℕ
 digits_222 c = twists_number 3 c.digits ∷ permutation_number c.pieces ∷ []
 
+-- The numbered states, 3,674,160 of them: the number of the twists is the least digit.
+abbrev pub numbers_222 : Numbers Orbit
+numbers_222 = numbers_by_digits bases_222 digits_222 IsCorners222
+
 -- The state with these two numbers.
 unfoldable pub corners_of_digits : List ℕ → Orbit
 corners_of_digits ds = record { pieces = permutation_at 7 (slice_index ds 1); digits = twists_at 7 3 (slice_index ds 0) }
 
--- The numbered states, 3,674,160 of them: the number of the twists is the least digit.
+-- and with the state of each number
 abbrev pub numbered_222 : Numbered Orbit
 numbered_222 = numbered_by_digits bases_222 corners_of_digits digits_222 IsCorners222

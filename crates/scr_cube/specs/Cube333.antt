@@ -8,7 +8,7 @@ use Rattle.std.specs.Prelude.{◌≡◌, ℕ, ◌/◌, List, [], ◌∷◌, map,
 use Rattle.std.specs.List.{zip}
 use Rattle.scr_combinatorics.specs.Permutations.{parity, permutation_number, permutation_at, half_at}
 use Rattle.scr_combinatorics.specs.Twists.{twists_number, twists_at}
-use Rattle.scr_combinatorics.specs.Numbered.{Numbered, numbered_by_digits}
+use Rattle.scr_combinatorics.specs.Numbered.{Numbers, numbers_by_digits, Numbered, numbered_by_digits}
 use Rattle.scr_orbit.specs.Actions.{Action}
 use Rattle.scr_orbit.specs.Orbits.{Orbit, Rearrangement, IsZeroSumOrbit, IsZeroSumRearrangement, turned_orbit, composed, zeros, identity, solved_orbit}
 use Rattle.scr_turning.specs.Faces.{letters_of_faces}
@@ -93,6 +93,10 @@ cube_digits c =
     twists_number 2 c.edges.digits ∷ twists_number 3 c.corners.digits ∷ permutation_number c.corners.pieces
     ∷ permutation_number c.edges.pieces / 2 ∷ []
 
+-- The numbered cubes, 43,252,003,274,489,856,000 of them: the number of the flips is the least digit.
+abbrev pub cube_numbers : Numbers CubeState
+cube_numbers = numbers_by_digits cube_bases cube_digits IsCube
+
 -- The cube with these four numbers.
 unfoldable pub cube_of_digits : List ℕ → CubeState
 cube_of_digits ds =
@@ -102,6 +106,6 @@ cube_of_digits ds =
       edges = record { pieces = half_at 12 (parity corners) (slice_index ds 3); digits = twists_at 12 2 (slice_index ds 0) };
     }
 
--- The numbered cubes, 43,252,003,274,489,856,000 of them: the number of the flips is the least digit.
+-- and with the state of each number
 abbrev pub cube_numbered : Numbered CubeState
 cube_numbered = numbered_by_digits cube_bases cube_of_digits cube_digits IsCube

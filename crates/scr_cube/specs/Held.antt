@@ -9,7 +9,7 @@ use Rattle.std.specs.Prelude.{◌≡◌, ℕ, zero, suc, ◌+◌, ◌/◌, ◌%�
 use Rattle.std.specs.Option.{option_map, option_map_or}
 use Rattle.std.specs.Str.{bytes_eq}
 use Rattle.scr_combinatorics.specs.Lists.{numbers_from, pick}
-use Rattle.scr_combinatorics.specs.Numbered.{Numbered, numbered_by_digits}
+use Rattle.scr_combinatorics.specs.Numbered.{Numbers, numbers_by_digits, Numbered, numbered_by_digits}
 use Rattle.scr_combinatorics.specs.Play.{play}
 use Rattle.scr_combinatorics.specs.Reach.{Puzzle}
 use Rattle.scr_notation.specs.declared.event.Event.TheVariants.{Bf333}
@@ -17,7 +17,7 @@ use Rattle.scr_notation.specs.declared.turn.Turn.{Turn}
 use Rattle.scr_notation.specs.declared.turn.Turn.TheVariants.{Face}
 use Rattle.scr_notation.specs.Turns.{permits}
 use Rattle.scr_turning.specs.PowerPuzzles.{after_letter}
-use Rattle.scr_cube.specs.Cube333.{CubeState, IsCube, solved_cube, cube_powers, cube_numbered}
+use Rattle.scr_cube.specs.Cube333.{CubeState, IsCube, solved_cube, cube_powers, cube_numbers, cube_numbered}
 
 -- The cube, and which centre stands at each place.
 pub record HeldState : Type 0 where
@@ -119,17 +119,21 @@ held_puzzle = record { Turn = Turn; after = held_cube_after; IsSolved = IsSolved
 
 -- How many holds and cubes there are.
 abbrev pub held_bases : List ℕ
-held_bases = 24 ∷ cube_numbered.count ∷ []
+held_bases = 24 ∷ cube_numbers.count ∷ []
 
 -- The numbers of the hold and of the cube.
 unfoldable pub held_digits : HeldState → List ℕ
-held_digits s = hold_of s.centres ∷ cube_numbered.number_of s.cube ∷ []
+held_digits s = hold_of s.centres ∷ cube_numbers.number_of s.cube ∷ []
+
+-- The numbered states, 1,038,048,078,587,756,544,000 of them: the number of the hold is the least digit.
+abbrev pub held_numbers : Numbers HeldState
+held_numbers = numbers_by_digits held_bases held_digits IsHeld
 
 -- The held cube with these two numbers.
 unfoldable pub held_of_digits : List ℕ → HeldState
 held_of_digits ds =
     record { cube = cube_numbered.state_at (slice_index ds 1); centres = hold_centres (slice_index ds 0) }
 
--- The numbered states, 1,038,048,078,587,756,544,000 of them: the number of the hold is the least digit.
+-- and with the state of each number
 abbrev pub held_numbered : Numbered HeldState
 held_numbered = numbered_by_digits held_bases held_of_digits held_digits IsHeld

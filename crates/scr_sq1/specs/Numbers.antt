@@ -1,7 +1,7 @@
 -- The numbers of the states of a Square-1.
 use Rattle.std.specs.Prelude.{ℕ, ◌+◌, ◌-◌, Bool, true, false, not, ◌==◌, if◌then◌else◌, List, [], ◌∷◌, map, slice_index, filter, flat_map}
 use Rattle.scr_combinatorics.specs.Permutations.{permutation_number, permutation_at}
-use Rattle.scr_combinatorics.specs.Numbered.{Numbered, numbered_by_digits}
+use Rattle.scr_combinatorics.specs.Numbered.{Numbers, numbers_by_digits, Numbered, numbered_by_digits}
 use Rattle.scr_sq1.specs.Units.{Sq1State, IsSq1, is_corner}
 use Rattle.scr_sq1.specs.Shapes.{half_word, shape_of, shape_number, shape_at}
 
@@ -42,12 +42,16 @@ sq1_digits s =
     (if s.equator then 1 else 0) ∷ permutation_number (corners_of s.units) ∷ permutation_number (edges_of s.units)
     ∷ shape_number (shape_of s.units) ∷ []
 
+-- The numbered states of a Square-1, 11,958,666,854,400 of them: the equator is the least digit.
+abbrev pub sq1_numbers : Numbers Sq1State
+sq1_numbers = numbers_by_digits sq1_bases sq1_digits IsSq1
+
 unfoldable pub sq1_of_digits : List ℕ → Sq1State
 sq1_of_digits ds = record {
   units = laid (shape_word (shape_at (slice_index ds 3))) (permutation_at 8 (slice_index ds 1)) (permutation_at 8 (slice_index ds 2));
   equator = slice_index ds 0 == 1;
 }
 
--- The numbered states of a Square-1, 11,958,666,854,400 of them: the equator is the least digit.
+-- and with the state of each number
 abbrev pub sq1_numbered : Numbered Sq1State
 sq1_numbered = numbered_by_digits sq1_bases sq1_of_digits sq1_digits IsSq1

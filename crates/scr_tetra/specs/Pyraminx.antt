@@ -10,7 +10,7 @@ use Rattle.std.specs.List.{zip}
 use Rattle.scr_combinatorics.specs.Permutations.{IsEven, permutation_number, half_at}
 use Rattle.scr_combinatorics.specs.Twists.{twists_number, twists_at}
 use Rattle.scr_combinatorics.specs.Digits.{mixed_number, mixed_digits}
-use Rattle.scr_combinatorics.specs.Numbered.{Numbered, numbered_by_digits}
+use Rattle.scr_combinatorics.specs.Numbered.{Numbers, numbers_by_digits, Numbered, numbered_by_digits}
 use Rattle.scr_orbit.specs.Actions.{Action}
 use Rattle.scr_orbit.specs.Orbits.{Orbit, Rearrangement, IsZeroSumOrbit, IsZeroSumRearrangement, added_digits, turned_orbit, composed, identity, solved_orbit, zeros}
 use Rattle.scr_orbit.specs.InPlace.{AreDigitsInPlace}
@@ -136,13 +136,17 @@ unfoldable pub tetraminx_digits : TetraminxState → List ℕ
 tetraminx_digits s =
     thirds_number s.axials ∷ twists_number 2 s.edges.digits ∷ permutation_number s.edges.pieces / 2 ∷ []
 
+-- The numbered states of a Tetraminx, 933,120 of them.
+abbrev pub tetraminx_numbers : Numbers TetraminxState
+tetraminx_numbers = numbers_by_digits tetraminx_bases tetraminx_digits IsTetraminx
+
 unfoldable pub tetraminx_of_digits : List ℕ → TetraminxState
 tetraminx_of_digits ds = record {
   edges = record { pieces = half_at 6 0 (slice_index ds 2); digits = twists_at 6 2 (slice_index ds 1) };
   axials = mixed_digits (replicate 4 3) (slice_index ds 0);
 }
 
--- The numbered states of a Tetraminx, 933,120 of them.
+-- and with the state of each number
 abbrev pub numbered_tetraminx : Numbered TetraminxState
 numbered_tetraminx = numbered_by_digits tetraminx_bases tetraminx_of_digits tetraminx_digits IsTetraminx
 
@@ -151,7 +155,11 @@ abbrev pub pyram_bases : List ℕ
 pyram_bases = 81 ∷ 933120 ∷ []
 
 unfoldable pub pyram_digits : PyramState → List ℕ
-pyram_digits s = thirds_number s.tips ∷ numbered_tetraminx.number_of s.body ∷ []
+pyram_digits s = thirds_number s.tips ∷ tetraminx_numbers.number_of s.body ∷ []
+
+-- The numbered states of a Pyraminx, 75,582,720 of them: the number of the tips is the least digit.
+abbrev pub pyram_numbers : Numbers PyramState
+pyram_numbers = numbers_by_digits pyram_bases pyram_digits IsPyram
 
 unfoldable pub pyram_of_digits : List ℕ → PyramState
 pyram_of_digits ds = record {
@@ -159,6 +167,6 @@ pyram_of_digits ds = record {
   tips = mixed_digits (replicate 4 3) (slice_index ds 0);
 }
 
--- The numbered states of a Pyraminx, 75,582,720 of them: the number of the tips is the least digit.
+-- and with the state of each number
 abbrev pub numbered_pyram : Numbered PyramState
 numbered_pyram = numbered_by_digits pyram_bases pyram_of_digits pyram_digits IsPyram

@@ -8,7 +8,7 @@ use Rattle.std.specs.List.{zip}
 use Rattle.scr_combinatorics.specs.Lists.{total}
 use Rattle.scr_combinatorics.specs.Permutations.{IsEven, permutation_number, half_at}
 use Rattle.scr_combinatorics.specs.Digits.{mixed_number, mixed_digits}
-use Rattle.scr_combinatorics.specs.Numbered.{Numbered, numbered_by_digits}
+use Rattle.scr_combinatorics.specs.Numbered.{Numbers, numbers_by_digits, Numbered, numbered_by_digits}
 use Rattle.scr_orbit.specs.Actions.{Action}
 use Rattle.scr_orbit.specs.Orbits.{Orbit, Rearrangement, IsOrbit, turned_orbit, composed, identity, solved_orbit, zeros}
 use Rattle.scr_turning.specs.Axes.{letters_about_axes}
@@ -121,6 +121,10 @@ skewb_digits s =
 abbrev pub completing : ℕ → ℕ
 completing sum = (3 - sum % 3) % 3
 
+-- The numbered states, 3,149,280 of them: the number of the four's twists is the least digit.
+abbrev pub skewb_numbers : Numbers SkewbState
+skewb_numbers = numbers_by_digits skewb_bases skewb_digits IsSkewb
+
 -- The Skewb with these four numbers. The even list of the three that begins with k has number 2 k or 2 k + 1.
 unfoldable pub skewb_of_digits : List ℕ → SkewbState
 skewb_of_digits ds =
@@ -133,6 +137,6 @@ skewb_of_digits ds =
       centres = record { pieces = half_at 6 0 (slice_index ds 3); digits = zeros 6 };
     }
 
--- The numbered states, 3,149,280 of them: the number of the four's twists is the least digit.
+-- and with the state of each number
 abbrev pub skewb_numbered : Numbered SkewbState
 skewb_numbered = numbered_by_digits skewb_bases skewb_of_digits skewb_digits IsSkewb
