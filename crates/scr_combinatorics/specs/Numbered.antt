@@ -15,6 +15,10 @@ pub record Numbered (S : Type 0) : Type 1 where
   pub number_of : S → ℕ
   pub IsValid : S → Type 0
 
+-- of these, which number each state has
+abbrev pub numbers_of : {S : Type 0} → Numbered S → Numbers S
+numbers_of n = record { count = n.count; number_of = n.number_of; IsValid = n.IsValid }
+
 -- States that are told by digits, each below its own base: a state's number is the one that its digits write.
 abbrev pub numbers_by_digits : {S : Type 0} → List ℕ → (S → List ℕ) → (S → Type 0) → Numbers S
 numbers_by_digits bases digits_of IsValid =

@@ -24,10 +24,11 @@ use Rattle.scr_command.specs.Command.{command_of, event_for, net_for, of_two, on
 use Rattle.scr_list.specs.declared.round.Round.{Round}
 use Rattle.scr_round.specs.Made.{turns_of_each}
 use Rattle.scr_slots.specs.declared.settings.Settings.{Settings}
-use Rattle.scr_slots.specs.Shown.{Shown}
+use Rattle.scr_slots.specs.Shown.{Shown, slot_numbers}
 use Rattle.scr_slots.specs.Slots.{Scrambling, ByState, ByMoves, IsSlotScramble, IsDrawnFairly}
 use Rattle.scr_slots.specs.Events.{scrambling_of, shown_of}
 use Rattle.scr_slots.proofs.EachEvent.{shown_by, same_shown}
+use Rattle.scr_slots.proofs.Listings.{Draws-alike}
 use Rattle.scr_sheet.specs.declared.fault.Fault.{Fault}
 use Rattle.scr_sheet.specs.declared.fault.Fault.TheVariants as fault
 use Rattle.scr_sheet.specs.Sheet.{Part, round_part, round_parts, single_part, line_of, shown_net, EachSlot, IsPartText, IsText}
@@ -41,12 +42,21 @@ use Rattle.scr_sheet.proofs.RunLaws.{IsFairPart}
 fair_scrambles : (scrambling : Scrambling) (settings : Settings) (least stream : ℕ) (scrambles : List Written) → IsDrawnFairly scrambling least
     → EachSlot (IsSlotScramble scrambling settings least) stream scrambles
     → AreFairScrambles (shown_by scrambling) settings least stream (turns_of_each scrambles)
-fair_scrambles (ByState S event scrambled) settings least stream scrambles fair each = (
-  scrambled.numbered.count,
-  scrambled.numbered.state_at,
+fair_scrambles (ByState S event drawn numbers IsScramble) settings least stream scrambles fair each = (
+  numbers.count,
+  fair.state_at,
   record {
-    fair = fair;
-    each = EachSlot-map _ _ (λ (w : Written). w.turns) (λ s w is. is.turns.of_state) stream scrambles each;
+    fair = fair.is;
+    each = EachSlot-map _ _ (λ (w : Written). w.turns)
+        (λ s w is.
+        let given = is.turns.is.of_state in record {
+          state = given.state;
+          draws = Draws-alike numbers drawn.puzzle is.turns.state_at fair.state_at is.turns.listing fair.listing
+              least (slot_numbers settings s) (Some given.state) given.draws;
+          permitted = given.permitted;
+          gives = given.gives;
+          within = given.within;
+        }) stream scrambles each;
   },
 )
 fair_scrambles (ByMoves event random) settings least stream scrambles fair each =

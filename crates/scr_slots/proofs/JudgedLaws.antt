@@ -4,8 +4,8 @@ use Rattle.std.specs.Prelude.{Option, Some, None, ◌↔◌}
 use Rattle.std.specs.Str.{bytes_eq, IsUtf8}
 use Rattle.std.proofs.lemmas.Option.{same_Some}
 use Rattle.std.proofs.lemmas.Slice.Eq.{bytes_eq-Decides}
-use Rattle.scr_draw.specs.StateSpace.{StateSpace, Draws}
-use Rattle.scr_draw.proofs.Outcomes.{Draws-one}
+use Rattle.scr_combinatorics.specs.Numbered.{Numbers}
+use Rattle.scr_combinatorics.specs.Reach.{Puzzle}
 use Rattle.scr_notation.specs.declared.event.Event.{Event}
 use Rattle.scr_notation.specs.declared.turn.Turn.{Turn}
 use Rattle.scr_notation.specs.Spelling.{text_of}
@@ -14,24 +14,23 @@ use Rattle.scr_notation.proofs.ReadLaws.{one-scramble}
 use Rattle.scr_notation.proofs.TextLaws.{IsUtf8-text_of}
 use Rattle.scr_slots.specs.declared.settings.Settings.{Settings}
 use Rattle.scr_slots.specs.Shown.{RandomMoves, slot_numbers}
-use Rattle.scr_slots.specs.Slots.{ByMoves, IsSlotAnswer}
+use Rattle.scr_slots.specs.Slots.{ByMoves, ByListing, IsSlotAnswer}
 use Rattle.scr_slots.specs.Agreement.{LeadToDrawn, IsTextOf, IsTold, IsJudged, IsReadAs}
+use Rattle.scr_slots.proofs.Listings.{IsOutcome, one-outcome}
 
 -- bytes that are no text are no scramble's
 pub unread : (event : Event) (bytes : List ℕ) → ¬ (IsUtf8 bytes) → IsReadAs event bytes None
 unread event bytes none s written of_event is = none (subst IsUtf8 is (IsUtf8-text_of s.event s.turns written.permitted))
 
-module _ {S : Type 0} (event : Event) (played : List Turn → Option S) (drawn_of : StateSpace S) (settings : Settings) (least stream : ℕ)
-    (text : List ℕ) (some : 1 ≤ drawn_of.count) (state : S) (draws : Draws drawn_of least (slot_numbers settings stream) (Some state)) where
-  numbers : List ℕ
-  numbers = slot_numbers settings stream
-
+module _ {S : Type 0} (event : Event) (n : Numbers S) (puzzle : Puzzle S) (played : List Turn → Option S) (settings : Settings)
+    (least stream : ℕ) (text : List ℕ) (some : 1 ≤ n.count) (state : S)
+    (draws : IsOutcome n puzzle least (slot_numbers settings stream) (Some state)) where
   abbrev pub IsVerdict : Option Bool → Type 0
-  IsVerdict = IsTold (Draws drawn_of least (slot_numbers settings stream) None)
-      (IsTextOf event (LeadToDrawn played drawn_of settings least stream) text)
+  IsVerdict = IsTold (IsOutcome n puzzle least (slot_numbers settings stream) None)
+      (IsTextOf event (λ turns. ByListing n puzzle (LeadToDrawn played settings least stream turns)) text)
 
-  drawn_some : Draws drawn_of least (slot_numbers settings stream) None → ⊥
-  drawn_some none = let same = Draws-one drawn_of least some (slot_numbers settings stream) None (Some state) none draws in cc
+  drawn_some : IsOutcome n puzzle least (slot_numbers settings stream) None → ⊥
+  drawn_some none = let same = one-outcome n puzzle least some (slot_numbers settings stream) None (Some state) none draws in cc
 
   -- a text that is no scramble's doesn't agree
   pub judged-unread : IsReadAs event text None → IsVerdict (Some false)
@@ -47,13 +46,19 @@ module _ {S : Type 0} (event : Event) (played : List Turn → Option S) (drawn_o
         written = read.0;
         event_is = read.1;
         is = read.2;
-        agree = record { state = state; draws = draws; lead = leads.0 is };
+        agree = record {
+          state_at = draws.state_at;
+          listing = draws.listing;
+          is = record { state = state; draws = draws.is; lead = leads.0 is };
+        };
       },
       λ it.
           let same : s ≡ it.scramble = one-scramble s it.scramble read.0 it.written (it.event_is ∙ sym read.1) (it.is ∙ sym read.2) in
-          let reached : state ≡ it.agree.state =
-          same_Some state it.agree.state (Draws-one drawn_of least some (slot_numbers settings stream) (Some state) (Some it.agree.state) draws it.agree.draws) in
-          leads.1 (ap (λ (w : Written). played w.turns) same ∙ it.agree.lead ∙ ap Some (sym reached)),
+          let other : IsOutcome n puzzle least (slot_numbers settings stream) (Some it.agree.is.state) =
+          record { state_at = it.agree.state_at; listing = it.agree.listing; is = it.agree.is.draws } in
+          let reached : state ≡ it.agree.is.state =
+          same_Some state it.agree.is.state (one-outcome n puzzle least some (slot_numbers settings stream) (Some state) (Some it.agree.is.state) draws other) in
+          leads.1 (ap (λ (w : Written). played w.turns) same ∙ it.agree.is.lead ∙ ap Some (sym reached)),
     ),
   )
 

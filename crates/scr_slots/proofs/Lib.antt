@@ -1,3 +1,4 @@
+pub mod Listings
 pub mod JudgedLaws
 pub mod OneAnswer
 pub mod EachEvent

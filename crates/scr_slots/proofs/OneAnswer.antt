@@ -1,17 +1,17 @@
 -- A slot has one answer.
-use Rattle.std.proofs.Common.{◌≡◌, ℕ, ◌≤◌, List, Some, None, refl, sym, ap, ◌∙◌, subst}
+use Rattle.std.proofs.Common.{◌≡◌, ℕ, ◌≤◌, List, Option, Some, None, refl, sym, ap, ◌∙◌, subst}
 use Rattle.std.proofs.lemmas.Option.{same_Some}
-use Rattle.scr_combinatorics.specs.Numbered.{Numbered}
+use Rattle.scr_combinatorics.specs.Numbered.{Numbers}
 use Rattle.scr_combinatorics.specs.Reach.{Puzzle, IsReached}
-use Rattle.scr_draw.specs.StateSpace.{space_of}
-use Rattle.scr_draw.proofs.Outcomes.{Draws-one}
 use Rattle.scr_notation.specs.declared.turn.Turn.{Turn}
 use Rattle.scr_notation.specs.declared.event.Event.{Event}
 use Rattle.scr_notation.specs.Written.{Written}
 use Rattle.scr_slots.specs.declared.settings.Effort.{Effort}
+use Rattle.scr_slots.specs.declared.settings.Settings.{Settings}
 use Rattle.scr_slots.specs.Shown.{DrawnPuzzle, RandomMoves, slot_numbers}
-use Rattle.scr_slots.specs.Slots.{ByMoves, by_state}
+use Rattle.scr_slots.specs.Slots.{ByState, ByMoves, IsSlotScramble}
 use Rattle.scr_slots.specs.Outcomes.{HasOneAnswer}
+use Rattle.scr_slots.proofs.Listings.{IsOutcome, one-outcome}
 
 -- two scrambles of one event with one list of turns
 one_scramble_by : (a b : Written) → a.event ≡ b.event → a.turns ≡ b.turns → a ≡ b
@@ -25,24 +25,34 @@ IsOnly {S} puzzle IsScramble = (effort : Effort) (state : S) (turns other : List
     → IsScramble effort state other → turns ≡ other
 
 -- Then a slot has one answer: its numbers draw one state at most, whichever test tells what states need.
-module _ {S : Type 0} (event : Event) (drawn : DrawnPuzzle S) (n : Numbered S) (IsScramble : Effort → S → List Turn → Type 0)
+module _ {S : Type 0} (event : Event) (drawn : DrawnPuzzle S) (n : Numbers S) (IsScramble : Effort → S → List Turn → Type 0)
     (least : ℕ) (some : 1 ≤ n.count) (only : IsOnly drawn.puzzle IsScramble) where
-  pub HasOneAnswer-state : HasOneAnswer (by_state event drawn n IsScramble) least
+  abbrev IsDrawn : Settings → ℕ → Option S → Type 0
+  IsDrawn settings stream = IsOutcome n drawn.puzzle least (slot_numbers settings stream)
+
+  one_drawn : (settings : Settings) (stream : ℕ) (o p : Option S) → IsDrawn settings stream o → IsDrawn settings stream p → o ≡ p
+  one_drawn settings stream = one-outcome n drawn.puzzle least some (slot_numbers settings stream)
+
+  -- what the slot of a scramble draws
+  drawn_of : (settings : Settings) (stream : ℕ) (a : Written)
+      → (is : IsSlotScramble (ByState S event drawn n IsScramble) settings least stream a) → IsDrawn settings stream (Some is.turns.is.of_state.state)
+  drawn_of settings stream a is = record { state_at = is.turns.state_at; listing = is.turns.listing; is = is.turns.is.of_state.draws }
+
+  pub HasOneAnswer-state : HasOneAnswer (ByState S event drawn n IsScramble) least
   HasOneAnswer-state settings stream (Some a) (Some b) first second =
-      let one = first.turns.of_state in
-      let two = second.turns.of_state in
-      let drawn_states = Draws-one (space_of n drawn.puzzle) least some (slot_numbers settings stream) (Some one.state) (Some two.state) one.draws two.draws in
-      let same : one.state ≡ two.state = same_Some one.state two.state drawn_states in
+      let one = first.turns.is in
+      let two = second.turns.is in
+      let outcomes = one_drawn settings stream (Some one.of_state.state) (Some two.of_state.state)
+      (drawn_of settings stream a first) (drawn_of settings stream b second) in
+      let same : one.of_state.state ≡ two.of_state.state = same_Some one.of_state.state two.of_state.state outcomes in
       let P : S → Type 0 = λ s. IsScramble settings.effort s a.turns in
-      let turns = only settings.effort two.state a.turns b.turns two.permitted.0 (subst P same first.turns.scramble) second.turns.scramble in
+      let turns = only settings.effort two.of_state.state a.turns b.turns two.of_state.permitted.0 (subst P same one.scramble) two.scramble in
       ap Some (one_scramble_by a b (first.event ∙ sym second.event) turns)
   HasOneAnswer-state settings stream (Some a) None first second =
-      let one = first.turns.of_state in
-      let none = Draws-one (space_of n drawn.puzzle) least some (slot_numbers settings stream) (Some one.state) None one.draws second in
+      let none = one_drawn settings stream (Some first.turns.is.of_state.state) None (drawn_of settings stream a first) second in
       cc
   HasOneAnswer-state settings stream None (Some b) first second =
-      let two = second.turns.of_state in
-      let none = Draws-one (space_of n drawn.puzzle) least some (slot_numbers settings stream) None (Some two.state) first two.draws in
+      let none = one_drawn settings stream None (Some second.turns.is.of_state.state) first (drawn_of settings stream b second) in
       cc
   HasOneAnswer-state settings stream None None first second = refl
 

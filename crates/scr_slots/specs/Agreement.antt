@@ -8,17 +8,19 @@ use Rattle.scr_notation.specs.Written.{Written, IsWritten}
 use Rattle.scr_small.specs.Tables.{small_line}
 use Rattle.scr_slots.specs.declared.settings.Settings.{Settings}
 use Rattle.scr_slots.specs.Shown.{HasMoves, slot_numbers}
-use Rattle.scr_slots.specs.Slots.{Scrambling, ByState, ByMoves, event_of_scrambles, space, HasNoScramble}
+use Rattle.scr_slots.specs.Slots.{Scrambling, ByState, ByMoves, event_of_scrambles, ByListing, HasNoScramble}
 
 -- By what turns make of the solved puzzle, they lead to the state that a slot draws.
-pub record LeadToDrawn {S : Type 0} (played : List Turn → Option S) (drawn_of : StateSpace S) (settings : Settings) (least stream : ℕ) (turns : List Turn) : Type 0 where
+pub record LeadToDrawn {S : Type 0} (played : List Turn → Option S) (settings : Settings) (least stream : ℕ) (turns : List Turn)
+    (space : StateSpace S) : Type 0 where
   pub state : S
-  pub draws : Draws drawn_of least (slot_numbers settings stream) (Some state)
+  pub draws : Draws space least (slot_numbers settings stream) (Some state)
   pub lead : played turns ≡ Some state
 
 -- Turns agree with a slot: they lead to the state that it draws; of random moves, they are those that it has.
 abbrev pub TurnsAgree : Scrambling → Settings → ℕ → ℕ → List Turn → Type 0
-TurnsAgree (ByState S event scrambled) settings least stream = LeadToDrawn scrambled.drawn.played (space scrambled) settings least stream
+TurnsAgree (ByState S event drawn numbers IsScramble) settings least stream =
+    λ turns. ByListing numbers drawn.puzzle (LeadToDrawn drawn.played settings least stream turns)
 TurnsAgree (ByMoves event random) settings least stream = λ turns. HasMoves random settings stream (Some turns)
 
 -- a text is that of a scramble of this event whose turns agree

@@ -10,25 +10,25 @@ use Rattle.scr_combinatorics.specs.Play.{play}
 use Rattle.scr_table.specs.Lines.{TableLine}
 use Rattle.scr_orbit.specs.Orbits.{Orbit}
 use Rattle.scr_turning.specs.PowerPuzzles.{PowerPuzzle, after_letter, power_puzzle}
-use Rattle.scr_cube.specs.Cube222.{numbered_222, powers_222}
-use Rattle.scr_cube.specs.Cube333.{CubeState, cube_numbered, cube_powers, solved_cube}
-use Rattle.scr_cube.specs.Held.{HeldState, solved_held, held_cube_after, held_puzzle, held_numbered}
+use Rattle.scr_cube.specs.Cube222.{numbers_222, powers_222}
+use Rattle.scr_cube.specs.Cube333.{CubeState, cube_numbers, cube_powers, solved_cube}
+use Rattle.scr_cube.specs.Held.{HeldState, solved_held, held_cube_after, held_puzzle, held_numbers}
 use Rattle.scr_stages.specs.Tables.{stage_lines}
 use Rattle.scr_twophase.specs.TwoParts.{two_parts, IsScramble333}
 use Rattle.scr_twophase.specs.HeldScramble.{IsScramble333bf}
 use Rattle.scr_twophase.specs.Tables.{prune_lines}
 use Rattle.scr_fewest.specs.Fewest.{between, is_framed, IsScrambleFewest}
-use Rattle.scr_tetra.specs.Pyraminx.{PyramState, pyram_powers, numbered_pyram}
-use Rattle.scr_tetra.specs.Skewb.{SkewbState, skewb_numbered, skewb_powers}
+use Rattle.scr_tetra.specs.Pyraminx.{PyramState, pyram_powers, pyram_numbers}
+use Rattle.scr_tetra.specs.Skewb.{SkewbState, skewb_numbers, skewb_powers}
 use Rattle.scr_small.specs.NumberedPuzzles.{IsScrambleOf}
 use Rattle.scr_small.specs.Puzzles.{numbered_puzzle_222, numbered_puzzle_skewb, corners_line, pyramid_line, skewb_line, IsScramblePyram}
 use Rattle.scr_sq1.specs.Units.{Sq1State, solved_sq1, sq1_after, sq1_puzzle}
-use Rattle.scr_sq1.specs.Numbers.{sq1_numbered}
+use Rattle.scr_sq1.specs.Numbers.{sq1_numbers}
 use Rattle.scr_sq1short.specs.ShortScrambles.{IsShortScramble}
 use Rattle.scr_sq1solve.specs.Counts.{IsWithinBounds}
 use Rattle.scr_sq1solve.specs.Tables.{sq1_lines}
 use Rattle.scr_clock.specs.Dials.{solved, clock_puzzle}
-use Rattle.scr_clock.specs.Numbers.{clock_numbered}
+use Rattle.scr_clock.specs.Numbers.{clock_numbers}
 use Rattle.scr_clock.specs.Held.{clock_after}
 use Rattle.scr_clock.specs.Written.{IsClockScramble}
 use Rattle.scr_bigs.specs.BigCubes.{BigCube, cube_555, cube_666, cube_777}
@@ -37,7 +37,7 @@ use Rattle.scr_bigs.specs.Megaminx.{megaminx_moves}
 use Rattle.scr_bigs.specs.Fairness.{AreFairTurns, AreFairBits}
 use Rattle.scr_slots.specs.declared.settings.Effort.{Effort}
 use Rattle.scr_slots.specs.Shown.{DrawnPuzzle, drawn_puzzle, RandomMoves, Shown, States, Moves}
-use Rattle.scr_slots.specs.Slots.{Scrambling, ByMoves, by_state}
+use Rattle.scr_slots.specs.Slots.{Scrambling, ByState, ByMoves}
 
 -- ---- what is promised
 
@@ -114,7 +114,7 @@ IsScramble333Within effort cube turns =
 
 -- with two hands or with one
 abbrev pub scrambling_333 : Scrambling
-scrambling_333 = by_state C333 drawn_333 cube_numbered IsScramble333Within
+scrambling_333 = ByState CubeState C333 drawn_333 cube_numbers IsScramble333Within
 
 -- for fewest moves: that of the cube between the frames, and 28 turns where it is of two parts
 abbrev pub IsScrambleFewestWithin : Effort → CubeState → List Turn → Type 0
@@ -123,19 +123,19 @@ IsScrambleFewestWithin effort cube turns =
 
 -- Puzzles other than the 3x3x3 and the Square-1 have one scramble, whatever the effort.
 unfoldable pub scrambling_of : Event → Scrambling
-scrambling_of C222 = by_state C222 drawn_222 numbered_222 (λ effort. IsScrambleOf numbered_puzzle_222)
+scrambling_of C222 = ByState Orbit C222 drawn_222 numbers_222 (λ effort. IsScrambleOf numbered_puzzle_222)
 scrambling_of C333 = scrambling_333
 scrambling_of Oh333 = scrambling_333
 scrambling_of C555 = ByMoves C555 (cube_random_moves cube_555)
 scrambling_of C666 = ByMoves C666 (cube_random_moves cube_666)
 scrambling_of C777 = ByMoves C777 (cube_random_moves cube_777)
-scrambling_of Clock = by_state Clock drawn_clock clock_numbered (λ effort. IsClockScramble)
+scrambling_of Clock = ByState (List ℕ) Clock drawn_clock clock_numbers (λ effort. IsClockScramble)
 scrambling_of Minx = ByMoves Minx moves_minx
-scrambling_of Pyram = by_state Pyram drawn_pyram numbered_pyram (λ effort. IsScramblePyram)
-scrambling_of Skewb = by_state Skewb drawn_skewb skewb_numbered (λ effort. IsScrambleOf numbered_puzzle_skewb)
-scrambling_of Sq1 = by_state Sq1 drawn_sq1 sq1_numbered (λ effort. IsShortScramble effort.short)
-scrambling_of Bf333 = by_state Bf333 drawn_held held_numbered (λ effort. IsScramble333bf effort.tries)
-scrambling_of Fm333 = by_state Fm333 drawn_fewest cube_numbered IsScrambleFewestWithin
+scrambling_of Pyram = ByState PyramState Pyram drawn_pyram pyram_numbers (λ effort. IsScramblePyram)
+scrambling_of Skewb = ByState SkewbState Skewb drawn_skewb skewb_numbers (λ effort. IsScrambleOf numbered_puzzle_skewb)
+scrambling_of Sq1 = ByState Sq1State Sq1 drawn_sq1 sq1_numbers (λ effort. IsShortScramble effort.short)
+scrambling_of Bf333 = ByState HeldState Bf333 drawn_held held_numbers (λ effort. IsScramble333bf effort.tries)
+scrambling_of Fm333 = ByState CubeState Fm333 drawn_fewest cube_numbers IsScrambleFewestWithin
 
 -- ---- tables
 

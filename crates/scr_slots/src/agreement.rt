@@ -2,7 +2,8 @@
 
 ghost use Rattle.std.specs.Prelude.{◌≡◌, ◌≤◌, IsTrue, Some, None, IfSome};
 ghost use Rattle.std.specs.Str.{bytes_eq};
-ghost use Rattle.scr_draw.specs.StateSpace.{Draws, space_of};
+ghost use Rattle.scr_combinatorics.specs.Numbered.{numbers_of};
+ghost use Rattle.scr_draw.specs.StateSpace.{Draws};
 ghost use Rattle.scr_notation.specs.Event.{greatest_of};
 ghost use Rattle.scr_notation.specs.EventSets.{Has};
 ghost use Rattle.scr_notation.specs.Spelling.{text_of};
@@ -10,6 +11,7 @@ ghost use Rattle.scr_notation.specs.Written.{IsWritten};
 ghost use Rattle.scr_slots.specs.Agreement.{IsJudged, IsReadAs, IsTextOf, IsTold, LeadToDrawn, is_tested_by_table};
 ghost use Rattle.scr_slots.specs.Events.{scrambling_of};
 ghost use Rattle.scr_slots.specs.Shown.{slot_numbers};
+ghost use Rattle.scr_slots.specs.Slots.{ByListing};
 
 use crate::moved::{cube_scramble, megaminx_scramble};
 use crate::plays::Plays;
@@ -106,9 +108,11 @@ fn drawn_agrees<E: Numbering + Permit<E::State> + Plays<E::State>>(
 ) -> Option<bool>
     requires least { least ≤ E.greatest puzzle.now }
     requires attempts { settings.now.attempts ≤ 1000000 }
-    ensures { let drawn_of = space_of (E.numbered puzzle.now) (E.puzzle puzzle.now) in
-        IsTold (Draws drawn_of least (slot_numbers settings.now stream) None)
-        (IsTextOf event (LeadToDrawn (E.played puzzle.now) drawn_of settings.now least stream) text.now) result }
+    ensures { let numbers = numbers_of (E.numbered puzzle.now) in
+        IsTold (ByListing numbers (E.puzzle puzzle.now) (λ space. Draws space least (slot_numbers settings.now stream) None))
+        (IsTextOf event (λ turns.
+        ByListing numbers (E.puzzle puzzle.now) (LeadToDrawn (E.played puzzle.now) settings.now least stream turns)) text.now)
+        result }
 {
     let _numbering = puzzle.count();
     let mut words = ChaChaWords::new(&settings.seed, stream);

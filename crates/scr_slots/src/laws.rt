@@ -1,6 +1,9 @@
 //! What holds of slots whatever the code: calls that do nothing, whose contracts are the laws.
 
-ghost use Rattle.std.specs.Prelude.{◌≡◌, ◌+◌, ◌≤◌, ◌<◌, ℕ};
+ghost use Rattle.std.specs.Prelude.{◌≡◌, ◌↔◌, ◌+◌, ◌≤◌, ◌<◌, ℕ};
+ghost use Rattle.scr_combinatorics.specs.Numbered.{numbers_of};
+ghost use Rattle.scr_combinatorics.specs.Reach.{IsReached};
+ghost use Rattle.scr_draw.specs.StateSpace.{IsFairFor};
 ghost use Rattle.scr_notation.specs.declared.event.Event.{Event as EventOf};
 ghost use Rattle.scr_notation.specs.declared.event.Event.TheVariants.{Bf333, C222, C333, Clock, Fm333, Pyram, Skewb, Sq1};
 ghost use Rattle.scr_notation.specs.declared.event.Family.TheVariants as family;
@@ -8,25 +11,38 @@ ghost use Rattle.scr_notation.specs.Event.{greatest_of};
 ghost use Rattle.scr_notation.specs.EventSets.{Has};
 ghost use Rattle.scr_slots.specs.Events.{scrambling_of};
 ghost use Rattle.scr_slots.specs.Held.{HasFamily};
-ghost use Rattle.scr_slots.specs.Slots.{IsDrawnFairly, first_stream};
-ghost use Rattle.scr_slots.specs.Outcomes.{HasOneAnswer};
+ghost use Rattle.scr_slots.specs.Slots.{ByListing, IsDrawnFairly, first_stream};
+ghost use Rattle.scr_slots.specs.Outcomes.{HasOneAnswer, HasOneListing};
 
 use crate::tables::Tables;
 use scr_bigs::laws as moves;
 use scr_clock::{ClockNumbers, laws as clock};
 use scr_cube::{Numbers222, laws as cubes};
-use scr_draw::laws as drawing;
+use scr_draw::{Numbering, Permit, laws as drawing};
 use scr_fewest::DrawFewest;
 use scr_small::{Small222, SmallPyram, SmallSkewb, laws as small};
+use scr_sq1::laws as units;
 use scr_sq1solve::{DrawSq1, laws as square};
 use scr_stages::laws as stages;
-use scr_tetra::SkewbNumbers;
+use scr_tetra::{SkewbNumbers, pyram_laws, skewb_laws};
 use scr_twophase::{Draw333, DrawHeld};
 
 /// What a slot of an event has does not depend on how it is found: it has one answer.
 pub fn one_answer()
     ensures { (event : EventOf) (least : ℕ) → HasOneAnswer (scrambling_of event) least }
 {}
+
+/// The states of an event that are drawn have one listing by their numbers, up to what stands behind their count: what a
+/// slot draws, and that it is drawn fairly, does not depend on it.
+pub fn one_listing()
+    ensures { (event : EventOf) → HasOneListing (scrambling_of event) }
+{
+    ClockNumbers.count();
+    cubes::numberings();
+    pyram_laws::numberings();
+    skewb_laws::numbering();
+    units::numbering();
+}
 
 /// Each event whose tables are built is drawn fairly at each minimum of its range; of an event that is
 /// scrambled by random moves this says that each of their steps is fair, and no more. So it is a clause of
@@ -46,13 +62,23 @@ pub fn each_drawn_fairly(tables: &Tables)
     fairly_sq1(tables);
 }
 
+/// An event whose valid states are those that turns reach, by the listing of its states.
+fn fairly<P: Numbering + Permit<P::State>>(event: &P)
+    requires reached { (s : P.State) → (P.numbered event.now).IsValid s ↔ IsReached (P.puzzle event.now) s }
+    ensures { let numbers = numbers_of (P.numbered event.now) in
+        (least : ℕ) → least ≤ P.greatest event.now → ByListing numbers (P.puzzle event.now) (λ space. IsFairFor space least) }
+{
+    event.count();
+    drawing::drawn_fairly(event);
+}
+
 /// Clock, which needs no table.
 #[tactic(auto, unfolding(crate::specs::Events::scrambling_of))]
 fn fairly_clock()
     ensures { (least : ℕ) → least ≤ 3 → IsDrawnFairly (scrambling_of Clock) least }
 {
     clock::each_clock_is_reached();
-    drawing::drawn_fairly(&ClockNumbers);
+    fairly(&ClockNumbers);
 }
 
 /// The 2x2x2, where its table is built.
@@ -62,7 +88,7 @@ fn fairly_222(tables: &Tables)
 {
     if let Some(tables) = tables.of_222() {
         small::reached_by_table::<Numbers222>(tables);
-        drawing::drawn_fairly(&Small222::new(tables));
+        fairly(&Small222::new(tables));
     }
 }
 
@@ -73,7 +99,7 @@ fn fairly_333(tables: &Tables)
 {
     if let Some(tables) = tables.of_333() {
         stages::reached(&tables.stages);
-        drawing::drawn_fairly(&Draw333::new());
+        fairly(&Draw333::new());
     }
 }
 
@@ -85,7 +111,7 @@ fn fairly_333bf(tables: &Tables)
     if let Some(tables) = tables.of_333() {
         stages::reached(&tables.stages);
         cubes::held_cubes();
-        drawing::drawn_fairly(&DrawHeld::new());
+        fairly(&DrawHeld::new());
     }
 }
 
@@ -96,7 +122,7 @@ fn fairly_333fm(tables: &Tables)
 {
     if let Some(tables) = tables.of_333() {
         stages::reached(&tables.stages);
-        drawing::drawn_fairly(&DrawFewest::new());
+        fairly(&DrawFewest::new());
     }
 }
 
@@ -107,7 +133,7 @@ fn fairly_pyram(tables: &Tables)
 {
     if let Some(tables) = tables.of_pyram() {
         small::pyram_reached_by_table(tables);
-        drawing::drawn_fairly(&SmallPyram::new(tables));
+        fairly(&SmallPyram::new(tables));
     }
 }
 
@@ -118,7 +144,7 @@ fn fairly_skewb(tables: &Tables)
 {
     if let Some(tables) = tables.of_skewb() {
         small::reached_by_table::<SkewbNumbers>(tables);
-        drawing::drawn_fairly(&SmallSkewb::new(tables));
+        fairly(&SmallSkewb::new(tables));
     }
 }
 
@@ -129,7 +155,7 @@ fn fairly_sq1(tables: &Tables)
 {
     if let Some(tables) = tables.of_sq1() {
         square::reached(tables);
-        drawing::drawn_fairly(&DrawSq1::new());
+        fairly(&DrawSq1::new());
     }
 }
 

@@ -1,6 +1,7 @@
 //! The answer of a slot, by its event.
 
 ghost use Rattle.std.specs.Prelude.{◌≡◌, ◌≤◌, Some, List};
+ghost use Rattle.scr_combinatorics.specs.Numbered.{numbers_of};
 ghost use Rattle.scr_combinatorics.specs.Reach.{IsReached};
 ghost use Rattle.scr_notation.specs.declared.turn.Turn.{Turn};
 ghost use Rattle.scr_notation.specs.Event.{greatest_of};
@@ -8,7 +9,7 @@ ghost use Rattle.scr_notation.specs.EventSets.{Has};
 ghost use Rattle.scr_slots.specs.Events.{scrambling_of};
 ghost use Rattle.scr_slots.specs.Ranges.{AreInRange};
 ghost use Rattle.scr_slots.specs.Shown.{drawn_puzzle};
-ghost use Rattle.scr_slots.specs.Slots.{IsSlotAnswer, by_state};
+ghost use Rattle.scr_slots.specs.Slots.{IsSlotAnswer, ByState};
 
 use crate::moved::{cube_scramble, megaminx_scramble};
 use crate::scrambler::Scrambler;
@@ -95,9 +96,11 @@ pub fn drawn_answer<E: Numbering + Permit<E::State>, Z: Scrambler<E::State>>(
     requires reaches { (turns : List Turn) (state : E.State) → Z.played scrambler.now turns ≡ Some state
         → IsReached (E.puzzle event.now) state }
     ensures { let drawn = drawn_puzzle (E.puzzle event.now) (Z.played scrambler.now) (Z.is_within scrambler.now) in
-        let scrambling = by_state (Z.event scrambler.now) drawn (E.numbered event.now) (Z.is_scramble scrambler.now) in
+        let numbers = numbers_of (E.numbered event.now) in
+        let scrambling = ByState E.State (Z.event scrambler.now) drawn numbers (Z.is_scramble scrambler.now) in
         IsSlotAnswer scrambling settings.now least stream result }
 {
+    let _numbering = event.count();
     let mut words = ChaChaWords::new(&settings.seed, stream);
     match draw(&mut words, event, least, settings.attempts) {
         Ok(state) => Some(scrambler.scramble(&state, settings.effort)),

@@ -3,11 +3,27 @@ use Rattle.scr_slots.proofs.agreement.drawn_agrees.Goals as goal
 
 pub returns-in-Some : goal.returns-in-Some
 returns-in-Some g c =
-    judged-read c.args.event _ _ c.args.settings.now c.args.least c.args.stream c.args.text.now c.count-numbering.ensures.numbering.some c.in-Ok.state
-    (rw (c.new-words.ensures.words, c.new-words.ensures.none_taken) at c.in-Ok.ensures.draws) c.in-Some.scramble c.in-Some.ensures
-    c.leads_to.result c.leads_to.ensures
+    let numbering = c.count-numbering.ensures.numbering in
+    judged-read c.args.event _ _ _ c.args.settings.now c.args.least c.args.stream c.args.text.now numbering.some c.in-Ok.state
+    (record {
+      state_at = _;
+      listing = numbering.one_to_one;
+      is = rw (c.new-words.ensures.words, c.new-words.ensures.none_taken) at c.in-Ok.ensures.draws;
+    }) c.in-Some.scramble c.in-Some.ensures c.leads_to.result c.leads_to.ensures
+
+pub returns-in_default : goal.returns-in_default
+returns-in_default g c = record {
+  state_at = _;
+  listing = c.count-numbering.ensures.numbering.one_to_one;
+  is = rw (c.new-words.ensures.words, c.new-words.ensures.none_taken) at c.in_default.ensures.draws;
+}
 
 pub returns : goal.returns
 returns g c =
-    judged-unread c.args.event _ _ c.args.settings.now c.args.least c.args.stream c.args.text.now c.count-numbering.ensures.numbering.some c.in-Ok.state
-    (rw (c.new-words.ensures.words, c.new-words.ensures.none_taken) at c.in-Ok.ensures.draws) c.in-None.ensures
+    let numbering = c.count-numbering.ensures.numbering in
+    judged-unread c.args.event _ _ _ c.args.settings.now c.args.least c.args.stream c.args.text.now numbering.some c.in-Ok.state
+    (record {
+      state_at = _;
+      listing = numbering.one_to_one;
+      is = rw (c.new-words.ensures.words, c.new-words.ensures.none_taken) at c.in-Ok.ensures.draws;
+    }) c.in-None.ensures
