@@ -55,7 +55,7 @@ making-list settings parts out refusal (inr lacks) = build-list refusal lacks.wh
 
 making-write : (settings : Settings) (parts : List Part) (out : Change) → EndsMaking settings parts out (Err fault.Write)
     → Rose out.faults_before out.faults_after
-making-write settings parts out (inl made) = made.ends.faltered.rose
+making-write settings parts out (inl made) = made.ends.is.rose
 making-write settings parts out (inr lacks) = absurd (build-write lacks.why lacks.is)
 
 -- a sheet that is told of

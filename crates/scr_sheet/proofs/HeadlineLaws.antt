@@ -103,32 +103,41 @@ record IsFairlyLed (settings : Settings) (parts : List Part) (out : Change) : Ty
   fair : IsText (IsFairText settings) led text
   written : Gains out text ⊎ Falters out text
 
-fair-led : (settings : Settings) (parts led rest : List Part) (text : List ℕ) (out : Change) → All IsFairPart parts
-    → IsLed settings parts led rest text → Gains out text ⊎ Falters out text → IsFairlyLed settings parts out
-fair-led settings parts led rest text out fair before written = record {
-  led = led;
-  rest = rest;
-  are = before.are;
-  text = text;
-  fair = fair_texts settings led rest text (subst (All IsFairPart) before.are fair) before.has;
-  written = written;
+fair-led : (settings : Settings) (parts : List Part) (out : Change) (Is : List ℕ → Type 0) (Leaves : ℕ → List Part → Type 0)
+    → All IsFairPart parts → ((text : List ℕ) → Is text → Gains out text ⊎ Falters out text) → IsLed settings parts Is Leaves
+    → IsFairlyLed settings parts out
+fair-led settings parts out Is Leaves fair writes ends = record {
+  led = ends.led;
+  rest = ends.rest;
+  are = ends.are;
+  text = ends.text;
+  fair = fair_texts settings ends.led ends.rest ends.text (subst (All IsFairPart) ends.are fair) ends.has;
+  written = writes ends.text ends.is;
 }
 
 -- so it is however parts end
 fair-parts : (settings : Settings) (k : ℕ) (parts : List Part) (out : Change) (ended : Result (Unit {0}) Fault) → All IsFairPart parts
     → EndsParts settings k parts out ended → IsFairlyLed settings parts out
 fair-parts settings k parts out (Ok u) fair ends =
-    fair-led settings parts parts [] ends.text out fair (record { are = sym (append-nil parts); has = ends.all }) (inl ends.gained)
+    let are : parts ≡ parts ++ [] = sym (append-nil parts) in
+    record {
+      led = parts;
+      rest = [];
+      are = are;
+      text = ends.text;
+      fair = fair_texts settings parts [] ends.text (subst (All IsFairPart) are fair) ends.all;
+      written = inl ends.gained;
+    }
 fair-parts settings k parts out (Err (fault.Usage usage)) fair ends = absurd ends
 fair-parts settings k parts out (Err (fault.List list)) fair ends = absurd ends
 fair-parts settings k parts out (Err (fault.Gap table index)) fair ends = absurd ends
 fair-parts settings k parts out (Err (fault.Differs line)) fair ends = absurd ends
 fair-parts settings k parts out (Err (fault.DrawLimit number slot words)) fair ends =
-    fair-led settings parts ends.led (ends.failing ∷ ends.rest) ends.text out fair ends.before (inl ends.gained)
+    fair-led settings parts out (Gains out) _ fair (λ text. inl) ends
 fair-parts settings k parts out (Err fault.Write) fair ends =
-    fair-led settings parts ends.led ends.rest ends.text out fair ends.before (inr ends.faltered)
+    fair-led settings parts out (Falters out) _ fair (λ text. inr) ends
 fair-parts settings k parts out (Err fault.NoMemory) fair ends =
-    fair-led settings parts ends.led (ends.wanting ∷ ends.rest) ends.text out fair ends.before (inl ends.gained)
+    fair-led settings parts out (Gains out) _ fair (λ text. inl) ends
 
 fair-making : (settings : Settings) (parts : List Part) (out : Change) (ended : Result (Unit {0}) Fault)
     → EndsMaking settings parts out ended → IsFairlyLed settings parts out

@@ -17,7 +17,7 @@ use Rattle.scr_round.specs.Made.{Made, turns_of_each}
 use Rattle.scr_workers.specs.Answered.{AreAnswered}
 use Rattle.scr_sheet.specs.Making.{answer_at, AreAnswers, IsFirstNone, IsRoundMade}
 use Rattle.scr_sheet.specs.Sheet.{IsLimit, IsFirstWithout, Part, round_part, round_parts, EachSlot, ArePartScrambles, IsPartText, IsText}
-use Rattle.scr_sheet.specs.Outcome.{IsUnwritten, IsLed, IsDone, IsStopped, IsBroken, IsCutShort, EndsParts}
+use Rattle.scr_sheet.specs.Outcome.{IsUnwritten, IsLed, IsDone, IsStopped, EndsParts}
 
 -- ---- slots one after another
 
@@ -134,14 +134,15 @@ IsText-append IsOne (part ∷ parts) more text next before after = (
 pub record IsMadeUpTo (settings : Settings) (parts rest : List Part) (k : ℕ) (out : Change) : Type 0 where
   pub led : List Part
   pub text : List ℕ
-  pub before : IsLed settings parts led rest text
+  pub are : parts ≡ led ++ rest
+  pub has : IsText (IsPartText settings) led text
   pub place : k ≡ length led
   pub gained : Gains out text
 
 -- none is written yet
 pub made-none : {settings : Settings} {parts : List Part} {held : Option (List ℕ)} {faults : ℕ} →
     IsMadeUpTo settings parts parts 0 (from_to held faults held faults)
-made-none = record { led = []; text = []; before = record { are = refl; has = refl }; place = refl; gained = Gains-nothing }
+made-none = record { led = []; text = []; are = refl; has = refl; place = refl; gained = Gains-nothing }
 
 -- one more part
 pub made-more : {settings : Settings} {parts rest : List Part} {part : Part} {k : ℕ} {held held' held'' : Option (List ℕ)}
@@ -151,10 +152,8 @@ pub made-more : {settings : Settings} {parts rest : List Part} {part : Part} {k 
 made-more {settings = settings} {rest = rest} {part = part} made done = record {
   led = made.led ++ part ∷ [];
   text = made.text ++ done.text;
-  before = record {
-    are = made.before.are ∙ sym (append_assoc made.led (part ∷ []) rest);
-    has = IsText-append (IsPartText settings) made.led (part ∷ []) made.text done.text made.before.has done.all;
-  };
+  are = made.are ∙ sym (append_assoc made.led (part ∷ []) rest);
+  has = IsText-append (IsPartText settings) made.led (part ∷ []) made.text done.text made.has done.all;
   place = ap (λ n. n + 1) made.place ∙ sym (length-append made.led (part ∷ []));
   gained = Gains-append made.gained done.gained;
 }
@@ -164,20 +163,35 @@ pub made-all : {settings : Settings} {parts : List Part} {k : ℕ} {out : Change
     → IsDone settings parts out
 made-all {settings = settings} made = record {
   text = made.text;
-  all = subst (λ p. IsText (IsPartText settings) p made.text) (sym (made.before.are ∙ append-nil made.led)) made.before.has;
+  all = subst (λ p. IsText (IsPartText settings) p made.text) (sym (made.are ∙ append-nil made.led)) made.has;
   gained = made.gained;
 }
 
 -- leading parts behind others
-IsLed-after : {settings : Settings} {parts more led rest' : List Part} {k : ℕ} {out : Change} {text : List ℕ} (rest : List Part)
-    (made : IsMadeUpTo settings parts (more ++ rest) k out) → IsLed settings more led rest' text
-    → IsLed settings parts (made.led ++ led) (rest' ++ rest) (made.text ++ text)
-IsLed-after {settings} {led = led} {rest' = rest'} {text = text} rest made before = record {
-  are =
-      made.before.are ∙ ap (λ p. made.led ++ (p ++ rest)) before.are ∙ ap (λ p. made.led ++ p) (append_assoc led rest' rest)
-      ∙ sym (append_assoc made.led led (rest' ++ rest));
-  has = IsText-append (IsPartText settings) made.led led made.text text made.before.has before.has;
-}
+IsLed-behind : {settings : Settings} {parts more : List Part} {k : ℕ} {out : Change} {Is Is' : List ℕ → Type 0} {Leaves Leaves' : ℕ → List Part → Type 0}
+    (rest : List Part) (made : IsMadeUpTo settings parts (more ++ rest) k out) → ((text : List ℕ) → Is text → Is' (made.text ++ text))
+    → ((led : ℕ) (left : List Part) → Leaves led left → Leaves' (k + led) (left ++ rest)) → IsLed settings more Is Leaves
+    → IsLed settings parts Is' Leaves'
+IsLed-behind {settings} {k = k} {Leaves' = Leaves'} rest made so leaving ends =
+    let size = length-append made.led ends.led in
+    let place = made.place in
+    let there : k + length ends.led ≡ length (made.led ++ ends.led) = omega (arith, size, place) in
+    record {
+      led = made.led ++ ends.led;
+      rest = ends.rest ++ rest;
+      are = made.are ∙ ap (λ p. made.led ++ (p ++ rest)) ends.are ∙ ap (λ p. made.led ++ p) (append_assoc ends.led ends.rest rest)
+          ∙ sym (append_assoc made.led ends.led (ends.rest ++ rest));
+      text = made.text ++ ends.text;
+      has = IsText-append (IsPartText settings) made.led ends.led made.text ends.text made.has ends.has;
+      is = so ends.text ends.is;
+      leaves = subst (λ n. Leaves' n (ends.rest ++ rest)) there (leaving (length ends.led) ends.rest ends.leaves);
+    }
+
+-- a slot without a scramble, of the first of some parts, with others behind them
+IsStopped-before : (settings : Settings) (number slot words k k' : ℕ) (left rest : List Part) → k ≡ k' → IsStopped settings number slot words k left
+    → IsStopped settings number slot words k' (left ++ rest)
+IsStopped-before settings number slot words k k' [] rest same stopped = absurd stopped
+IsStopped-before settings number slot words k k' (failing ∷ left) rest same stopped = (stopped.0 ∙ ap (λ n. n + 1) same, stopped.1)
 
 -- a part that ends the command
 pub made-fault : {settings : Settings} {parts rest : List Part} {part : Part} {k : ℕ} {held held' : Option (List ℕ)}
@@ -188,37 +202,14 @@ made-fault held'' faults'' (fault.Usage usage) made ends = absurd ends
 made-fault held'' faults'' (fault.List list) made ends = absurd ends
 made-fault held'' faults'' (fault.Gap table index) made ends = absurd ends
 made-fault held'' faults'' (fault.Differs line) made ends = absurd ends
-made-fault {rest = rest} held'' faults'' (fault.DrawLimit number slot words) made ends =
-    let size = length-append made.led ends.led in
-    let place = made.place in
-    let numbered = ends.numbered in
-    record {
-      led = made.led ++ ends.led;
-      failing = ends.failing;
-      rest = ends.rest ++ rest;
-      text = made.text ++ ends.text;
-      before = IsLed-after rest made ends.before;
-      numbered = omega (arith, size, place, numbered);
-      j = ends.j;
-      numbered_slot = ends.numbered_slot;
-      limit = ends.limit;
-      gained = Gains-append made.gained ends.gained;
-    }
-made-fault {rest = rest} held'' faults'' fault.Write made ends = record {
-  led = made.led ++ ends.led;
-  rest = ends.rest ++ rest;
-  text = made.text ++ ends.text;
-  before = IsLed-after rest made ends.before;
-  faltered = Falters-after made.gained ends.faltered;
-}
-made-fault {rest = rest} held'' faults'' fault.NoMemory made ends = record {
-  led = made.led ++ ends.led;
-  wanting = ends.wanting;
-  rest = ends.rest ++ rest;
-  text = made.text ++ ends.text;
-  before = IsLed-after rest made ends.before;
-  gained = Gains-append made.gained ends.gained;
-}
+made-fault {settings = settings} {rest = rest} {k = k} held'' faults'' (fault.DrawLimit number slot words) made ends =
+    IsLed-behind rest made (λ text. Gains-append made.gained)
+    (λ led left. IsStopped-before settings number slot words (k + led) (0 + (k + led)) left rest (omega arith)) ends
+made-fault {rest = rest} held'' faults'' fault.Write made ends =
+    IsLed-behind rest made (λ text. Falters-after made.gained) (λ led left u. tt) ends
+made-fault {rest = rest} held'' faults'' fault.NoMemory made ends =
+    IsLed-behind rest made (λ text. Gains-append made.gained)
+    (λ led left some. let size = length-append left rest in omega (arith, size)) ends
 
 -- ---- the rounds of a list
 
@@ -259,42 +250,40 @@ IsPartText-made {k = k} {made = made} is = record {
       ∙ ap (λ r. round_text k r (turns_of_each made.scrambles)) is.same_round;
 }
 
--- a part that stands alone has a slot without a scramble
-pub IsStopped-first : {settings : Settings} {part : Part} {words : ℕ} {out : Change} (k j : ℕ)
-    → IsLimit settings part j words → IsUnwritten out → IsStopped settings k (part ∷ []) out (k + 1) (j + 1) words
-IsStopped-first {part = part} k j limit unwritten = record {
+-- nothing was written of some parts
+IsLed-none : {settings : Settings} {parts : List Part} {out : Change} {Leaves : ℕ → List Part → Type 0} → Leaves 0 parts → IsUnwritten out
+    → IsLed settings parts (Gains out) Leaves
+IsLed-none {parts = parts} leaves unwritten = record {
   led = [];
-  failing = part;
-  rest = [];
+  rest = parts;
+  are = refl;
   text = [];
-  before = record { are = refl; has = refl };
-  numbered = omega arith;
-  j = j;
-  numbered_slot = refl;
-  limit = limit;
-  gained = unwritten;
+  has = refl;
+  is = unwritten;
+  leaves = leaves;
 }
+
+-- a part that stands alone has a slot without a scramble
+pub first-stopped : {settings : Settings} {part : Part} {words : ℕ} {out : Change} (k j : ℕ)
+    → IsLimit settings part j words → IsUnwritten out → EndsParts settings k (part ∷ []) out (Err (fault.DrawLimit (k + 1) (j + 1) words))
+first-stopped k j limit = IsLed-none (omega arith, (j, refl, limit))
 
 -- a part that stands alone is not made for want of memory
-pub IsCutShort-first : {settings : Settings} {part : Part} {out : Change} → IsUnwritten out → IsCutShort settings (part ∷ []) out
-IsCutShort-first {part = part} unwritten = record {
-  led = [];
-  wanting = part;
-  rest = [];
-  text = [];
-  before = record { are = refl; has = refl };
-  gained = unwritten;
-}
+pub first-unmade : {settings : Settings} {part : Part} {out : Change} → IsUnwritten out
+    → IsLed settings (part ∷ []) (Gains out) (λ led rest. 0 < length rest)
+first-unmade = IsLed-none (omega arith)
 
 -- a part that stands alone was written in part
-pub IsBroken-first : {settings : Settings} {part : Part} {text : List ℕ} {out : Change} → IsPartText settings part text → Falters out text
-    → IsBroken settings (part ∷ []) out
-IsBroken-first {settings = settings} {part = part} {text = text} is faltered = record {
+pub first-broken : {settings : Settings} {part : Part} {text : List ℕ} {out : Change} → IsPartText settings part text → Falters out text
+    → IsLed settings (part ∷ []) (Falters out) (λ led rest. Unit {0})
+first-broken {settings = settings} {part = part} {text = text} is faltered = record {
   led = part ∷ [];
   rest = [];
+  are = refl;
   text = text;
-  before = record { are = refl; has = IsText-one (IsPartText settings) part text is };
-  faltered = faltered;
+  has = IsText-one (IsPartText settings) part text is;
+  is = faltered;
+  leaves = tt;
 }
 
 -- and whole

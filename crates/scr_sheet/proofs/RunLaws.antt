@@ -32,7 +32,7 @@ use Rattle.scr_sheet.specs.declared.fault.Fault.TheVariants as fault
 use Rattle.scr_sheet.specs.declared.status.Status.{Status}
 use Rattle.scr_sheet.specs.declared.status.Status.TheVariants as status
 use Rattle.scr_sheet.specs.Sheet.{Part, round_part, round_parts, EachSlot, IsPartText, IsText, IsFirstWithout}
-use Rattle.scr_sheet.specs.Outcome.{EndsParts, EndsMaking, EndsCommand, EndsTables, EndsTelling, Ends, LacksTables, gaining, status_of}
+use Rattle.scr_sheet.specs.Outcome.{IsStopped, EndsParts, EndsMaking, EndsCommand, EndsTables, EndsTelling, Ends, LacksTables, gaining, status_of}
 use Rattle.scr_sheet.specs.Causes.{fault_of_build}
 use Rattle.scr_sheet.specs.Task.{IsTask, IsUnhindered, LacksScramble, EndsWith}
 
@@ -115,6 +115,13 @@ IsText-apart : (settings : Settings) (led : List Part) (part : Part) (rest : Lis
 IsText-apart settings [] part rest text j decided is lacks = IsPartText-apart settings part is.0 j (All-head IsDecided part rest decided) is.2 lacks
 IsText-apart settings (other ∷ led) part rest text j decided is lacks = IsText-apart settings led part rest is.1 j (All-tail IsDecided other (led ++ part ∷ rest) decided) is.3 lacks
 
+-- where one of them has none
+LacksScramble-stopped : (settings : Settings) (parts : List Part) (number slot words k : ℕ) (led rest : List Part) → parts ≡ led ++ rest
+    → IsStopped settings number slot words k rest → LacksScramble settings parts
+LacksScramble-stopped settings parts number slot words k led [] are stopped = absurd stopped
+LacksScramble-stopped settings parts number slot words k led (failing ∷ rest) are (first, (j, place, limit)) =
+    record { led = led; part = failing; rest = rest; are = are; slot = j; first = limit.first }
+
 -- parts whose slots all have scrambles, where the output doesn't fail
 EndsParts-done : (settings : Settings) (parts : List Part) (out : Change) (ended : Result (Unit {0}) Fault)
     → EndsParts settings 0 parts out ended → ¬ (Rose out.faults_before out.faults_after) → ¬ (LacksScramble settings parts)
@@ -123,8 +130,8 @@ EndsParts-done settings parts out (Ok u) ends written each = inl refl
 EndsParts-done settings parts out (Err (fault.Usage usage)) ends written each = absurd ends
 EndsParts-done settings parts out (Err (fault.List list)) ends written each = absurd ends
 EndsParts-done settings parts out (Err (fault.DrawLimit number slot words)) ends written each =
-    absurd (each (record { led = ends.led; part = ends.failing; rest = ends.rest; are = ends.before.are; slot = ends.j; first = ends.limit.first }))
-EndsParts-done settings parts out (Err fault.Write) ends written each = absurd (written ends.faltered.rose)
+    absurd (each (LacksScramble-stopped settings parts number slot words (0 + length ends.led) ends.led ends.rest ends.are ends.leaves))
+EndsParts-done settings parts out (Err fault.Write) ends written each = absurd (written ends.is.rose)
 EndsParts-done settings parts out (Err fault.NoMemory) ends written each = inr (inl refl)
 EndsParts-done settings parts out (Err (fault.Gap table index)) ends written each = absurd ends
 EndsParts-done settings parts out (Err (fault.Differs line)) ends written each = absurd ends
@@ -139,7 +146,7 @@ EndsParts-limit settings parts out (Ok u) ends written decided lacks =
 EndsParts-limit settings parts out (Err (fault.Usage usage)) ends written decided lacks = absurd ends
 EndsParts-limit settings parts out (Err (fault.List list)) ends written decided lacks = absurd ends
 EndsParts-limit settings parts out (Err (fault.DrawLimit number slot words)) ends written decided lacks = inl refl
-EndsParts-limit settings parts out (Err fault.Write) ends written decided lacks = absurd (written ends.faltered.rose)
+EndsParts-limit settings parts out (Err fault.Write) ends written decided lacks = absurd (written ends.is.rose)
 EndsParts-limit settings parts out (Err fault.NoMemory) ends written decided lacks = inr (inl refl)
 EndsParts-limit settings parts out (Err (fault.Gap table index)) ends written decided lacks = absurd ends
 EndsParts-limit settings parts out (Err (fault.Differs line)) ends written decided lacks = absurd ends

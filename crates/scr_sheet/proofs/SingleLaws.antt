@@ -14,7 +14,7 @@ use Rattle.scr_sheet.specs.declared.fault.Fault.{Fault}
 use Rattle.scr_sheet.specs.declared.fault.Fault.TheVariants as fault
 use Rattle.scr_sheet.specs.Sheet.{Part, IsPartText, single_part}
 use Rattle.scr_sheet.specs.Outcome.{EndsMaking, EndsParts, IsUnwritten}
-use Rattle.scr_sheet.proofs.PartLaws.{IsStopped-first, IsBroken-first, IsDone-first}
+use Rattle.scr_sheet.proofs.PartLaws.{first-stopped, first-broken, IsDone-first}
 
 -- a part is drawn fairly
 abbrev Fair : Part → Type 0
@@ -42,14 +42,14 @@ module _ {settings : Settings} {event : Event} (text : List Turn → List ℕ) (
   -- it was written in part
   pub single-broken : {out : Change} (scramble : Written) → IsSlotScramble (scrambling_of event) settings 0 0 scramble
       → Falters out (text scramble.turns) → EndsMaking settings (single_part event text ∷ []) out (Err fault.Write)
-  single-broken {out = out} scramble slot falters = fair_part out (Err fault.Write) (IsBroken-first (written scramble slot) falters)
+  single-broken {out = out} scramble slot falters = fair_part out (Err fault.Write) (first-broken (written scramble slot) falters)
 
   -- there is none
   pub single-limit : {out : Change} (words : ℕ) → HasNoScramble (scrambling_of event) settings 0 0 → words ≡ 3 * settings.attempts
       → IsUnwritten out → EndsMaking settings (single_part event text ∷ []) out (Err (fault.DrawLimit 1 1 words))
   single-limit {out = out} words none taken unwritten =
       fair_part out (Err (fault.DrawLimit 1 1 words))
-      (IsStopped-first 0 0 (record {
+      (first-stopped 0 0 (record {
         first = record { below = omega arith; nothing = none; before = []; as_many = refl; each = tt };
         taken = taken;
       }) unwritten)

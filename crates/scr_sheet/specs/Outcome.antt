@@ -1,5 +1,5 @@
 -- How a run may end.
-use Rattle.std.specs.Prelude.{◌≡◌, ◌+◌, ◌⊎◌, ℕ, List, [], ◌∷◌, ◌++◌, length, map, codes, All, Some, Result, Ok, Err}
+use Rattle.std.specs.Prelude.{◌≡◌, ◌<◌, ◌+◌, ◌⊎◌, ℕ, List, [], ◌∷◌, ◌++◌, length, map, codes, All, Some, Result, Ok, Err}
 use Rattle.scr_outside.specs.Change.{Change, IsUnchanged, Gains, Falters}
 use Rattle.scr_list.specs.Reading.{ReadsList, ReadsNoList}
 use Rattle.scr_notation.specs.declared.event.Event.{Event}
@@ -32,53 +32,36 @@ IsUnwritten out = Gains out []
 
 -- ---- the one table of outcomes, over the parts that a command writes; the first of them is part k
 
--- The leading parts have this text, and those behind them are left.
-pub record IsLed (settings : Settings) (parts led rest : List Part) (text : List ℕ) : Type 0 where
-  pub are : parts ≡ led ++ rest
-  pub has : IsText (IsPartText settings) led text
-
 -- All parts were written.
 pub record IsDone (settings : Settings) (parts : List Part) (out : Change) : Type 0 where
   pub text : List ℕ
   pub all : IsText (IsPartText settings) parts text
   pub gained : Gains out text
 
--- A slot has no scramble: the parts before its own were written. Its part and it are told by their numbers, from 1.
-pub record IsStopped (settings : Settings) (k : ℕ) (parts : List Part) (out : Change) (number slot words : ℕ) : Type 0 where
-  pub led : List Part
-  pub failing : Part
-  pub rest : List Part
-  pub text : List ℕ
-  pub before : IsLed settings parts led (failing ∷ rest) text
-  pub numbered : number ≡ k + length led + 1
-  pub j : ℕ
-  pub numbered_slot : slot ≡ j + 1
-  pub limit : IsLimit settings failing j words
-  pub gained : Gains out text
-
--- The output failed: a first part was written of the text of some leading parts, which have their scrambles.
-pub record IsBroken (settings : Settings) (parts : List Part) (out : Change) : Type 0 where
+-- Some leading parts have their scrambles, and it is so of their text; and so of how many they are and of the parts behind.
+pub record IsLed (settings : Settings) (parts : List Part) (Is : List ℕ → Type 0) (Leaves : ℕ → List Part → Type 0) : Type 0 where
   pub led : List Part
   pub rest : List Part
+  pub are : parts ≡ led ++ rest
   pub text : List ℕ
-  pub before : IsLed settings parts led rest text
-  pub faltered : Falters out text
+  pub has : IsText (IsPartText settings) led text
+  pub is : Is text
+  pub leaves : Leaves (length led) rest
 
--- Memory was wanting for a part: the parts before it were written.
-pub record IsCutShort (settings : Settings) (parts : List Part) (out : Change) : Type 0 where
-  pub led : List Part
-  pub wanting : Part
-  pub rest : List Part
-  pub text : List ℕ
-  pub before : IsLed settings parts led (wanting ∷ rest) text
-  pub gained : Gains out text
+-- The first of these parts, which is part k, has a slot without a scramble. It and the slot are told by their numbers, from 1.
+abbrev pub IsStopped : Settings → ℕ → ℕ → ℕ → ℕ → List Part → Type 0
+IsStopped settings number slot words k [] = ⊥
+IsStopped settings number slot words k (failing ∷ rest) =
+    (number ≡ k + 1) × ((j : ℕ) × (slot ≡ j + 1) × IsLimit settings failing j words)
 
--- how the parts end that are made and written one after another
+-- How the parts end that are made and written one after another. A slot has no scramble, or memory was wanting for a part:
+-- those before it were written. Or the output failed: a first part was written of the text of some leading parts.
 abbrev pub EndsParts : Settings → ℕ → List Part → Change → Result (Unit {0}) Fault → Type 0
 EndsParts settings k parts out (Ok _) = IsDone settings parts out
-EndsParts settings k parts out (Err (fault.DrawLimit number slot words)) = IsStopped settings k parts out number slot words
-EndsParts settings k parts out (Err fault.Write) = IsBroken settings parts out
-EndsParts settings k parts out (Err fault.NoMemory) = IsCutShort settings parts out
+EndsParts settings k parts out (Err (fault.DrawLimit number slot words)) =
+    IsLed settings parts (Gains out) (λ led. IsStopped settings number slot words (k + led))
+EndsParts settings k parts out (Err fault.NoMemory) = IsLed settings parts (Gains out) (λ led rest. 0 < length rest)
+EndsParts settings k parts out (Err fault.Write) = IsLed settings parts (Falters out) (λ led rest. Unit {0})
 EndsParts settings k parts out (Err _) = ⊥
 
 -- how part k ends where this fault comes before anything of it is written

@@ -1,6 +1,6 @@
 use Rattle.std.proofs.lemmas.Result.{err_from_is_err_and}
 use Rattle.scr_outside.proofs.ChangeLemmas.{Gains-nothing}
-use Rattle.scr_sheet.proofs.PartLaws.{IsBroken-first, IsDone-first, IsPartText-made}
+use Rattle.scr_sheet.proofs.PartLaws.{first-broken, IsDone-first, IsPartText-made}
 use Rattle.scr_sheet.proofs.parts.write_one_round.Goals as goal
 
 pub returns-in_err-made : goal.returns-in_err-made
@@ -11,7 +11,7 @@ returns-in_err-made g c =
 pub returns-in_err-write_round : goal.returns-in_err-write_round
 returns-in_err-write_round g c =
     let p = err_from_is_err_and c.from_residual-in_err-write_round.result c.from_residual-in_err-write_round.ensures.1 in
-    rw (p.1, p.2) (IsBroken-first (IsPartText-made c.in_ok-made.ensures) c.in_err-write_round.ensures)
+    rw (p.1, p.2) (first-broken (IsPartText-made c.in_ok-made.ensures) c.in_err-write_round.ensures)
 
 pub returns : goal.returns
 returns g c = IsDone-first (IsPartText-made c.in_ok-made.ensures) c.in_ok-write_round.ensures
