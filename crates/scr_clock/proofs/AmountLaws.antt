@@ -5,7 +5,7 @@ use Rattle.std.proofs.lemmas.List.Elements.{All-map}
 use Rattle.scr_notation.specs.declared.turn.Turn.{Turn}
 use Rattle.scr_clock.specs.Dials.{IsClock, gain_at, dials_turned, solved}
 use Rattle.scr_clock.specs.Held.{clock_after}
-use Rattle.scr_clock.specs.Written.{IsAmounts, written, IsClockScramble}
+use Rattle.scr_clock.specs.Written.{written, IsClockScramble}
 use Rattle.scr_clock.proofs.Hours.{Hours, listed, clock_by_dials, cons_same}
 use Rattle.scr_clock.proofs.HeldLaws.{side_turned, given, clock_after-written}
 
@@ -36,9 +36,9 @@ unfoldable pub amounts_of : List ℕ → List ℕ
 amounts_of dials = map (λ sum. sum % 12) (sums_of dials)
 
 -- they are fourteen hours
-pub IsAmounts-amounts_of : (dials : List ℕ) → IsAmounts (amounts_of dials)
+pub IsClock-amounts_of : (dials : List ℕ) → IsClock (amounts_of dials)
 unfolding amounts_of
-IsAmounts-amounts_of dials =
+IsClock-amounts_of dials =
     record { fourteen = refl; below = All-map (λ a. a < 12) (λ sum. sum % 12) (sums_of dials) (λ k d l. omega arith) }
 
 -- dial by dial, an hour comes again; hours are added modulo twelve
@@ -66,11 +66,11 @@ amounts_again h =
 -- they lead to the Clock
 pub amounts_of-give : (dials : List ℕ) → IsClock dials → clock_after solved (written (amounts_of dials)) ≡ Some dials
 amounts_of-give dials c =
-    clock_after-written (amounts_of dials) (IsAmounts-amounts_of dials)
+    clock_after-written (amounts_of dials) (IsClock-amounts_of dials)
     ∙ ap Some (clock_by_dials (λ d. given (amounts_of d) ≡ d) given_again dials c)
 
 -- and no others do
-pub amounts_of-only : (amounts dials : List ℕ) → IsAmounts amounts → clock_after solved (written amounts) ≡ Some dials
+pub amounts_of-only : (amounts dials : List ℕ) → IsClock amounts → clock_after solved (written amounts) ≡ Some dials
     → amounts ≡ amounts_of dials
 amounts_of-only amounts dials c e =
     let f : Some (given amounts) ≡ Some dials = sym (clock_after-written amounts c) ∙ e in

@@ -11,9 +11,9 @@ use Rattle.scr_combinatorics.proofs.PlayLaws.{play-empty, play-first, play-parts
 use Rattle.scr_notation.specs.declared.turn.Turn.{Turn}
 use Rattle.scr_notation.specs.declared.turn.Turn.TheVariants.{Pins, Over}
 use Rattle.scr_notation.specs.Pins.{pin_sets, is_clock_turn}
-use Rattle.scr_clock.specs.Dials.{DialTurn, is_turn, dials_turned, solved, dials_after, dial_turn}
+use Rattle.scr_clock.specs.Dials.{IsClock, DialTurn, is_turn, dials_turned, solved, dials_after, dial_turn}
 use Rattle.scr_clock.specs.Held.{HeldClock, held_after, clock_after, held_clock}
-use Rattle.scr_clock.specs.Written.{IsAmounts, pins_at, written}
+use Rattle.scr_clock.specs.Written.{pins_at, written}
 use Rattle.scr_clock.proofs.TurnLaws.{dials_after-turn}
 
 -- ---- written turns are turns of the dials
@@ -99,7 +99,7 @@ pub after_over : (back : Bool) (dials : List ℕ) → held_after (held_clock dia
 unfolding held_after
 after_over back dials = refl
 
-pub clock_after-written : (amounts : List ℕ) → IsAmounts amounts → clock_after solved (written amounts) ≡ Some (given amounts)
+pub clock_after-written : (amounts : List ℕ) → IsClock amounts → clock_after solved (written amounts) ≡ Some (given amounts)
 unfolding written given
 clock_after-written amounts h =
     let front = side_turned false solved pin_sets (take 9 amounts) in

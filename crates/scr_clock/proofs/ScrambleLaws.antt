@@ -21,7 +21,8 @@ use Rattle.scr_notation.specs.Turns.{has_turn, permits}
 use Rattle.scr_notation.specs.Pins.{pin_sets, is_clock_turn}
 use Rattle.scr_notation.specs.Written.{Written}
 use Rattle.scr_clock.specs.Held.{HeldClock, held_after, clock_after, held_clock}
-use Rattle.scr_clock.specs.Written.{IsAmounts, pins_at, written}
+use Rattle.scr_clock.specs.Dials.{IsClock}
+use Rattle.scr_clock.specs.Written.{pins_at, written}
 use Rattle.scr_clock.proofs.HeldLaws.{after_pins, after_over}
 
 -- turns of pins are a Clock's
@@ -89,7 +90,7 @@ push-more old s new sets amounts k b clock room same all low l e exact h =
     (append_assoc old.turns (take k turns) (t ∷ [])
     ∙ ap (λ x. old.turns ++ x) (ap (λ u. take k turns ++ u ∷ []) (sym here) ∙ sym (take_more turns k t (omega (arith, long)))))
 
-nine : (amounts : List ℕ) → IsAmounts amounts → length (pins_at pin_sets (take 9 amounts)) ≡ 9
+nine : (amounts : List ℕ) → IsClock amounts → length (pins_at pin_sets (take 9 amounts)) ≡ 9
 unfolding pins_at
 nine amounts h =
     length-zip2 (λ p a. Pins p a) pin_sets (take 9 amounts) (sym (length-take-le 9 amounts (omega (arith, h.fourteen))))
@@ -99,7 +100,7 @@ abbrev pub of_clock : List Turn → Written
 of_clock turns = record { event = Clock; turns = turns }
 
 -- nine turns of the front, and the Clock turned over, pushed onto the empty scramble
-pub front_pushed : (empty front over : Written) (amounts : List ℕ) (b : Bool) → IsAmounts amounts → empty ≡ of_clock []
+pub front_pushed : (empty front over : Written) (amounts : List ℕ) (b : Bool) → IsClock amounts → empty ≡ of_clock []
     → front ≡ With empty (pins_at pin_sets (take 9 amounts))
     → (IsTrue b ↔ ((length front.turns < 160) × IsTrue (permits front.event Over))) → OnTrue b (over ≡ With front (Over ∷ []))
     → over ≡ of_clock (pins_at pin_sets (take 9 amounts) ++ Over ∷ [])
@@ -111,13 +112,13 @@ front_pushed empty front over amounts b h e f exact g =
     ∙ ap (λ x. With x (Over ∷ [])) own
 
 -- leave room for five more
-pub room_behind : (over : Written) (amounts : List ℕ) → IsAmounts amounts
+pub room_behind : (over : Written) (amounts : List ℕ) → IsClock amounts
     → over ≡ of_clock (pins_at pin_sets (take 9 amounts) ++ Over ∷ []) → length over.turns + 5 ≤ 160
 room_behind over amounts h e =
     omega (arith, ap (λ x. length x.turns) e, nine amounts h, length-append (pins_at pin_sets (take 9 amounts)) (Over ∷ []))
 
 -- and with those behind them they are the written turns
-pub all_written : (over whole : Written) (amounts : List ℕ) → IsAmounts amounts
+pub all_written : (over whole : Written) (amounts : List ℕ) → IsClock amounts
     → over ≡ of_clock (pins_at pin_sets (take 9 amounts) ++ Over ∷ [])
     → whole ≡ With over (pins_at (drop 4 pin_sets) (take 5 (drop 9 amounts))) → whole.turns ≡ written amounts
 unfolding written
@@ -130,7 +131,7 @@ all_written over whole amounts h e f =
     ∙ append_assoc (pins_at pin_sets (take 9 amounts)) (Over ∷ []) behind
 
 -- they are fifteen
-pub length-written : (amounts : List ℕ) → IsAmounts amounts → length (written amounts) ≡ 15
+pub length-written : (amounts : List ℕ) → IsClock amounts → length (written amounts) ≡ 15
 unfolding pins_at written
 length-written amounts h =
     let five : List ℕ = drop 4 pin_sets in

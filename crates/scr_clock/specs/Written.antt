@@ -7,10 +7,6 @@ use Rattle.scr_notation.specs.Pins.{pin_sets}
 use Rattle.scr_clock.specs.Dials.{IsClock, solved}
 use Rattle.scr_clock.specs.Held.{clock_after}
 
--- The amounts of a scramble: fourteen hours from 0 to 11, as fourteen dials are.
-abbrev pub IsAmounts : List ℕ → Type 0
-IsAmounts amounts = IsClock amounts
-
 -- the turns of these pin sets, each by the amount at its place
 unfoldable pub pins_at : List ℕ → List ℕ → List Turn
 pins_at sets amounts = zip2 (λ pins amount. Pins pins amount) sets amounts
@@ -20,9 +16,10 @@ pins_at sets amounts = zip2 (λ pins amount. Pins pins amount) sets amounts
 unfoldable pub written : List ℕ → List Turn
 written amounts = pins_at pin_sets (take 9 amounts) ++ Over ∷ pins_at (drop 4 pin_sets) (drop 9 amounts)
 
--- The scramble of a Clock: the turns, by some amounts, that lead to it from solved.
+-- The scramble of a Clock: the turns that lead to it from solved, by some amounts, which are fourteen hours from 0 to 11, as
+-- the dials of a Clock are.
 pub record IsClockScramble (dials : List ℕ) (turns : List Turn) : Type 0 where
   pub amounts : List ℕ
-  pub hours : IsAmounts amounts
+  pub hours : IsClock amounts
   pub turns_are : turns ≡ written amounts
   pub gives : clock_after solved turns ≡ Some dials

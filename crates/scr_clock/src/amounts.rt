@@ -1,8 +1,8 @@
 //! The scramble of a Clock as fourteen amounts.
 ghost use Rattle.std.specs.Prelude.{◌≡◌, ℕ, ◌%◌, List, Some};
-ghost use Rattle.scr_clock.specs.Dials.{solved};
+ghost use Rattle.scr_clock.specs.Dials.{IsClock, solved};
 ghost use Rattle.scr_clock.specs.Held.{clock_after};
-ghost use Rattle.scr_clock.specs.Written.{IsAmounts, written};
+ghost use Rattle.scr_clock.specs.Written.{written};
 
 use crate::clock::Clock;
 
@@ -12,10 +12,10 @@ use crate::clock::Clock;
 /// the front turns alone made of the front's corners. There each corner pin's amount is the centre less the two edges
 /// that it doesn't touch, plus the opposite corner; the other amounts follow in the same way.
 pub fn solve(clock: &Clock) -> [u8; 14]
-    ensures amounts { IsAmounts result }
+    ensures amounts { IsClock result }
     ensures gives { clock_after solved (written result) ≡ Some clock.now }
     ensures only { (amounts : List ℕ)
-        → IsAmounts amounts → clock_after solved (written amounts) ≡ Some clock.now → amounts ≡ result }
+        → IsClock amounts → clock_after solved (written amounts) ≡ Some clock.now → amounts ≡ result }
 {
     let dials = clock.dials();
     let (up, left, centre) = (dials[1] as u32, dials[3] as u32, dials[4] as u32);

@@ -8,7 +8,7 @@ ghost use Rattle.scr_notation.specs.declared.turn.Turn.{Turn};
 ghost use Rattle.scr_notation.specs.Pins.{is_clock_turn};
 ghost use Rattle.scr_clock.specs.Dials.{IsClock, DialTurn, front_pins, back_pins, dials_turned, solved, clock_puzzle, dial_turn};
 ghost use Rattle.scr_clock.specs.Held.{clock_after};
-ghost use Rattle.scr_clock.specs.Written.{IsAmounts, written, IsClockScramble};
+ghost use Rattle.scr_clock.specs.Written.{written, IsClockScramble};
 ghost use Rattle.scr_clock.specs.Least.{needs_test_clock};
 ghost use Rattle.scr_clock.specs.Known.{IsKnownClock, corners, front_cross, back_cross, mirrored_dial, turned_over_clock};
 
@@ -20,8 +20,8 @@ pub fn each_clock_is_reached()
 /// Exactly one list of amounts leads to each Clock, and so each has exactly one scramble.
 pub fn one_list_of_amounts()
     ensures some { (dials : List ℕ) → IsClock dials
-        → (amounts : List ℕ) × IsAmounts amounts × (clock_after solved (written amounts) ≡ Some dials) }
-    ensures no_other { (some other : List ℕ) → IsAmounts some → IsAmounts other
+        → (amounts : List ℕ) × IsClock amounts × (clock_after solved (written amounts) ≡ Some dials) }
+    ensures no_other { (some other : List ℕ) → IsClock some → IsClock other
         → clock_after solved (written some) ≡ clock_after solved (written other) → some ≡ other }
     ensures one_scramble { (dials : List ℕ) (some other : List Turn)
         → IsClockScramble dials some → IsClockScramble dials other → some ≡ other }

@@ -1,8 +1,8 @@
 use Rattle.std.proofs.Common.{◌≡◌, List, ℕ, [], ◌∷◌, sym, ap, ◌∙◌, subst}
-use Rattle.scr_clock.specs.Dials.{solved}
+use Rattle.scr_clock.specs.Dials.{IsClock, solved}
 use Rattle.scr_clock.specs.Held.{clock_after}
-use Rattle.scr_clock.specs.Written.{IsAmounts, written}
-use Rattle.scr_clock.proofs.AmountLaws.{amounts_of, IsAmounts-amounts_of, amounts_of-give, amounts_of-only}
+use Rattle.scr_clock.specs.Written.{written}
+use Rattle.scr_clock.proofs.AmountLaws.{amounts_of, IsClock-amounts_of, amounts_of-give, amounts_of-only}
 use Rattle.scr_clock.proofs.amounts.solve.Goals as goal
 
 abbrev hours : goal.After-hour-14 → List ℕ
@@ -17,8 +17,8 @@ hours_are c = let same = c.dials-dials.ensures.same in cc
 
 pub returns-clause-amounts : goal.returns-clause-amounts
 returns-clause-amounts c =
-    let P : List ℕ → Type 0 = λ amounts. IsAmounts amounts in
-    subst P (sym (hours_are c)) (IsAmounts-amounts_of c.args.clock.now)
+    let P : List ℕ → Type 0 = λ amounts. IsClock amounts in
+    subst P (sym (hours_are c)) (IsClock-amounts_of c.args.clock.now)
 
 pub returns-clause-gives : goal.returns-clause-gives
 returns-clause-gives c =

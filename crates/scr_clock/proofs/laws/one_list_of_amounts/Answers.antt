@@ -1,10 +1,10 @@
 use Rattle.std.proofs.Common.{sym, ◌∙◌}
 use Rattle.scr_clock.proofs.HeldLaws.{given, clock_after-written}
-use Rattle.scr_clock.proofs.AmountLaws.{amounts_of, IsAmounts-amounts_of, amounts_of-give, amounts_of-only, IsScrambleOf-one}
+use Rattle.scr_clock.proofs.AmountLaws.{amounts_of, IsClock-amounts_of, amounts_of-give, amounts_of-only, IsScrambleOf-one}
 use Rattle.scr_clock.proofs.laws.one_list_of_amounts.Goals as goal
 
 pub returns-clause-some : goal.returns-clause-some
-returns-clause-some c = λ dials clock. (amounts_of dials, IsAmounts-amounts_of dials, amounts_of-give dials clock)
+returns-clause-some c = λ dials clock. (amounts_of dials, IsClock-amounts_of dials, amounts_of-give dials clock)
 
 pub returns-clause-no_other : goal.returns-clause-no_other
 returns-clause-no_other c = λ some other h k same.
