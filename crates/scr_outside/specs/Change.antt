@@ -13,17 +13,6 @@ pub record Change : Type 0 where
   pub ends_before : ℕ
   pub ends_after : ℕ
 
--- the change between two states of a sink, by what they tell of bytes and of faults
-abbrev pub change_of : {X : Type 0} → (X → Option (List ℕ)) → (X → ℕ) → X → X → Change
-change_of held faults before after = record {
-  bytes_before = held before;
-  bytes_after = held after;
-  faults_before = faults before;
-  faults_after = faults after;
-  ends_before = 0;
-  ends_after = 0;
-}
-
 -- the change between two states of a source, by what they tell of bytes, of faults and of ends
 abbrev pub intake_of : {X : Type 0} → (X → Option (List ℕ)) → (X → ℕ) → (X → ℕ) → X → X → Change
 intake_of left faults ends before after = record {
@@ -34,6 +23,10 @@ intake_of left faults ends before after = record {
   ends_before = ends before;
   ends_after = ends after;
 }
+
+-- of a sink, by what they tell of bytes and of faults
+abbrev pub change_of : {X : Type 0} → (X → Option (List ℕ)) → (X → ℕ) → X → X → Change
+change_of held faults = intake_of held faults (λ sink. 0)
 
 -- nothing was changed
 pub record IsUnchanged (change : Change) : Type 0 where

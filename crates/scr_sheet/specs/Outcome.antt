@@ -1,6 +1,6 @@
 -- How a run may end.
 use Rattle.std.specs.Prelude.{◌≡◌, ◌<◌, ◌+◌, ◌⊎◌, ℕ, List, [], ◌∷◌, ◌++◌, length, map, codes, All, Some, Result, Ok, Err}
-use Rattle.scr_outside.specs.Change.{Change, IsUnchanged, Gains, Falters}
+use Rattle.scr_outside.specs.Change.{Change, change_of, IsUnchanged, Gains, Falters}
 use Rattle.scr_list.specs.Reading.{ReadsList, ReadsNoList}
 use Rattle.scr_notation.specs.declared.event.Event.{Event}
 use Rattle.scr_list.specs.declared.round.Round.{Round}
@@ -98,14 +98,7 @@ EndsMaking settings parts out ended =
 
 -- a sink that gained this text, and did not fail
 abbrev pub gaining : List ℕ → Change
-gaining text = record {
-  bytes_before = Some [];
-  bytes_after = Some text;
-  faults_before = 0;
-  faults_after = 0;
-  ends_before = 0;
-  ends_after = 0;
-}
+gaining text = change_of Some (λ held. 0) [] text
 
 -- How the telling of a sheet ends whose making ended so: where the sheet is whole, these lines on it are written.
 abbrev pub EndsTelling : Result (Unit {0}) Fault → List ℕ → Change → Result (Unit {0}) Fault → Type 0
