@@ -27,7 +27,6 @@ use Rattle.scr_notation.proofs.LayersLaws.{AreTwelfths-twelfths, layers_of_parts
 use Rattle.scr_sq1.specs.Units.{Sq1State, IsSq1, is_open, solved_sq1, clockwise, turn_places, twist_places, turned, after_layers, twisted, sq1_after, sq1_puzzle}
 use Rattle.scr_sq1.specs.Shapes.{half_words, half_word, corner_counts, corner_count, IsShape}
 use Rattle.scr_sq1.specs.Numbers.{shape_word}
-use Rattle.scr_sq1.proofs.InHalves.{IsSq1-halves}
 use Rattle.scr_sq1.proofs.StatePieces.{LaidState-pieces}
 use Rattle.scr_sq1.proofs.Places.{IsTurnTable-turn, turn_places-both, turn_places-none, twist_places-twice, IsPermutation-twist_places}
 use Rattle.scr_sq1.proofs.TurnLaws.{IsSq1-moved, IsSq1-twisted}
@@ -215,7 +214,7 @@ unfolding half_words half_word shape_word corner_counts corner_count
 IsSq1-solved =
     let shape : IsShape (7 ∷ 7 ∷ 10 ∷ 10 ∷ []) = record { size = refl; below = All-from_test (λ h. nat_lt h 13) (λ h. h < 13) (λ h. ltb-true h 13) (7 ∷ 7 ∷ 10 ∷ 10 ∷ []) refl; corners = refl } in
     let order = IsPermutation-numbers_from 8 in
-    IsSq1-halves solved_sq1.units (LaidState-pieces (7 ∷ 7 ∷ 10 ∷ 10 ∷ []) (numbers_from 0 8) (numbers_from 0 8) shape order order).halves false
+    (LaidState-pieces (7 ∷ 7 ∷ 10 ∷ 10 ∷ []) (numbers_from 0 8) (numbers_from 0 8) shape order order).valid false
 
 pub IsSq1-reached : (s : Sq1State) → IsReached sq1_puzzle s → IsSq1 s
 IsSq1-reached = IsReached-keeps sq1_puzzle IsSq1 (λ s e. subst IsSq1 (sym e) IsSq1-solved) keeps

@@ -1,6 +1,6 @@
 -- A turn of both layers is one of the top, and then one of the bottom: whether a corner comes across the cut in a layer is told by
 -- how far that layer is turned.
-use Rattle.std.proofs.Common.{◌≡◌, ℕ, ◌<◌, Bool, true, false, cond, List, slice_index, Option, Some, None, refl, sym, ap, ◌∙◌, arith, lit<}
+use Rattle.std.proofs.Common.{◌≡◌, ℕ, ◌<◌, Bool, true, false, cond, List, slice_index, Option, Some, None, sym, ap, ◌∙◌, arith, lit<}
 use Rattle.std.specs.Prelude.{◌&&◌, not, ◌==◌, ℤ, pos, option_and_then}
 use Rattle.scr_combinatorics.specs.Lists.{pick}
 use Rattle.scr_combinatorics.proofs.Picks.{pick-at}

@@ -9,7 +9,6 @@ use Rattle.scr_combinatorics.proofs.Numberings.{GivesState, HasDigits, numbering
 use Rattle.scr_sq1.specs.Units.{Sq1State, IsSq1}
 use Rattle.scr_sq1.specs.Shapes.{shape_of, shape_number, shape_at}
 use Rattle.scr_sq1.specs.Numbers.{corners_of, edges_of, laid, shape_word, sq1_bases, sq1_digits, sq1_of_digits, sq1_numbered}
-use Rattle.scr_sq1.proofs.InHalves.{IsSq1-halves}
 use Rattle.scr_sq1.proofs.HalfNumbers.{shapes_one_to_one}
 use Rattle.scr_sq1.proofs.StatePieces.{StatePieces-valid, LaidState-pieces}
 
@@ -40,7 +39,7 @@ state_of_four q c e h lq lc le lh =
     let hs : List ℕ = shape_at h in
     let l = LaidState-pieces hs cs es (shapes_one_to_one.valid h lh) (lists.valid c lc) (lists.valid e le) in
     record {
-      valid = IsSq1-halves (laid (shape_word hs) cs es) l.halves (q == 1);
+      valid = l.valid (q == 1);
       again = ap (λ x. x ∷ permutation_number (corners_of (laid (shape_word hs) cs es)) ∷ permutation_number (edges_of (laid (shape_word hs) cs es)) ∷ shape_number (shape_of (laid (shape_word hs) cs es)) ∷ []) (digit_again q lq)
           ∙ ap (λ x. q ∷ x ∷ permutation_number (edges_of (laid (shape_word hs) cs es)) ∷ shape_number (shape_of (laid (shape_word hs) cs es)) ∷ []) (ap permutation_number l.corners_again ∙ lists.number_again c lc)
           ∙ ap (λ x. q ∷ c ∷ x ∷ shape_number (shape_of (laid (shape_word hs) cs es)) ∷ []) (ap permutation_number l.edges_again ∙ lists.number_again e le)

@@ -1,6 +1,6 @@
 -- The corners and the edges of valid states, in unit order, are permutations; and permutations laid by a shape are a valid
 -- state.
-use Rattle.std.proofs.Common.{◌≡◌, ℕ, zero, suc, ◌+◌, ◌-◌, ◌*◌, ◌<◌, eqb, List, [], ◌∷◌, map, length, refl, sym, ap, ◌∙◌, subst, arith}
+use Rattle.std.proofs.Common.{◌≡◌, ℕ, zero, suc, ◌+◌, ◌-◌, ◌*◌, ◌<◌, eqb, Bool, List, [], ◌∷◌, map, length, refl, sym, ap, ◌∙◌, subst, arith}
 use Rattle.std.specs.Prelude.{All}
 use Rattle.std.proofs.lemmas.Bool.Decides.{nat_tests}
 use Rattle.std.proofs.lemmas.List.Elements.{All-head, All-tail}
@@ -11,7 +11,7 @@ use Rattle.scr_combinatorics.proofs.PermutationLaws.{All-permutation}
 use Rattle.scr_sq1.specs.Units.{Sq1State, IsSq1}
 use Rattle.scr_sq1.specs.Shapes.{half_word, corners_among, corner_count, halves_in, shape_of, AreHalves, IsShape, units_among, Fits}
 use Rattle.scr_sq1.specs.Numbers.{corners_of, edges_of, laid, shape_word}
-use Rattle.scr_sq1.proofs.InHalves.{InHalves, InHalves-valid}
+use Rattle.scr_sq1.proofs.InHalves.{InHalves, InHalves-valid, IsSq1-halves}
 use Rattle.scr_sq1.proofs.LaidLaws.{corners_among-append, edges_among-append, length-laid, occurrences-laid, corners_of-laid, edges_of-laid}
 use Rattle.scr_sq1.proofs.HalfWords.{IsKnownHalf-below}
 use Rattle.scr_sq1.proofs.HalfByHalf.{ArePaired-in_halves, HalfPieces-paired, ShapeUnits-laid}
@@ -105,10 +105,10 @@ AreCounted-halves (h ∷ hs) below =
       units = omega (arith, corners, edges, known.six, others.units);
     }
 
--- a shape's pieces
+-- the state of a shape with these corners and these edges in unit order
 pub record LaidState (hs cs es : List ℕ) : Type 0 where
   pub fits : Fits (shape_word hs) cs es
-  pub halves : InHalves (laid (shape_word hs) cs es)
+  pub valid : (equator : Bool) → IsSq1 (record { units = laid (shape_word hs) cs es; equator = equator })
   pub shape_again : shape_of (laid (shape_word hs) cs es) ≡ hs
   pub corners_again : corners_of (laid (shape_word hs) cs es) ≡ cs
   pub edges_again : edges_of (laid (shape_word hs) cs es) ≡ es
@@ -125,7 +125,7 @@ LaidState-pieces hs cs es shape corners edges =
     let units = ShapeUnits-laid hs cs es shape.below below fits in
     record {
       fits = fits;
-      halves = record {
+      valid = IsSq1-halves (laid w cs es) (record {
         size = length-laid w cs es fits ∙ all_units;
         corners = λ p lt. omega (arith, occurrences-laid p w cs es fits, corners.once p lt, occurrences-raised_low p es lt);
         edges = λ p le lt.
@@ -140,7 +140,7 @@ LaidState-pieces hs cs es shape corners edges =
               edges.once q (omega arith),
             );
         partners = λ k lt corner. units.partners k (omega (arith, shape.size)) corner;
-      };
+      });
       shape_again = ap (λ n. halves_in n (laid w cs es)) (sym shape.size) ∙ units.halves;
       corners_again = corners_of-laid w cs es fits below;
       edges_again = edges_of-laid w cs es fits below;

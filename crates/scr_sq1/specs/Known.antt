@@ -1,5 +1,5 @@
 -- Words and states that are known from elsewhere, and the puzzle turned over.
-use Rattle.std.specs.Prelude.{◌≡◌, ℕ, ◌++◌, ℤ, pos, neg_ℤ, Bool, List, [], ◌∷◌, Some, replicate, flat_map}
+use Rattle.std.specs.Prelude.{◌≡◌, ℕ, ◌-◌, ◌++◌, ℤ, pos, neg_ℤ, Bool, if◌then◌else◌, nat_lt, List, [], ◌∷◌, Some, map, replicate, flat_map, codes}
 use Rattle.scr_combinatorics.specs.Lists.{numbers_from, pick}
 use Rattle.scr_combinatorics.specs.Play.{play}
 use Rattle.scr_notation.specs.declared.turn.Turn.{Turn}
@@ -28,15 +28,20 @@ pub record IsKnownWord (word : List Turn) (text : List ℕ) (s : Sq1State) : Typ
 abbrev pub ReturnsAfter : ℕ → List Turn → Type 0
 ReturnsAfter times word = play sq1_after solved_sq1 (flat_map (λ again. again) (replicate times word)) ≡ Some solved_sq1
 
--- solved but for these units
+-- Units as they are written here: each by its piece as a digit in base 16, 0 to 7 for corners and 8 to f for edges.
+abbrev pub units_written : List ℕ → List ℕ
+units_written digits = map (λ digit. if nat_lt digit 97 then digit - 48 else digit - 87) digits
+
+-- the layers of the solved state
 abbrev pub solved_top : List ℕ
-solved_top = 0 ∷ 0 ∷ 8 ∷ 1 ∷ 1 ∷ 9 ∷ 2 ∷ 2 ∷ 10 ∷ 3 ∷ 3 ∷ 11 ∷ []
+solved_top = codes "00811922a33b"
 
 abbrev pub solved_bottom : List ℕ
-solved_bottom = 12 ∷ 4 ∷ 4 ∷ 13 ∷ 5 ∷ 5 ∷ 14 ∷ 6 ∷ 6 ∷ 15 ∷ 7 ∷ 7 ∷ []
+solved_bottom = codes "c44d55e66f77"
 
+-- the state with these layers
 abbrev pub layers : List ℕ → List ℕ → Bool → Sq1State
-layers top bottom equator = record { units = top ++ bottom; equator = equator }
+layers top bottom equator = record { units = units_written (top ++ bottom); equator = equator }
 
 -- The algorithm that exchanges the edges at the right of the front and at the left of the back, and nothing else.
 abbrev pub parity_word : List Turn
@@ -58,29 +63,25 @@ long_word =
 -- Units that have a corner across the cut, at one of the four places: units 11 and 0, 5 and 6, 23 and 12, 17 and 18.
 abbrev pub barred_units : List (List ℕ)
 barred_units =
-    ((0 ∷ 8 ∷ 1 ∷ 1 ∷ 9 ∷ 10 ∷ 2 ∷ 2 ∷ 3 ∷ 3 ∷ 11 ∷ 0 ∷ []) ++ solved_bottom)
-    ∷ ((0 ∷ 0 ∷ 8 ∷ 9 ∷ 10 ∷ 1 ∷ 1 ∷ 2 ∷ 2 ∷ 3 ∷ 3 ∷ 11 ∷ []) ++ solved_bottom)
-    ∷ (solved_top ++ (4 ∷ 12 ∷ 5 ∷ 5 ∷ 13 ∷ 14 ∷ 6 ∷ 6 ∷ 7 ∷ 7 ∷ 15 ∷ 4 ∷ []))
-    ∷ (solved_top ++ (4 ∷ 4 ∷ 12 ∷ 13 ∷ 14 ∷ 5 ∷ 5 ∷ 6 ∷ 6 ∷ 7 ∷ 7 ∷ 15 ∷ []))
-    ∷ []
+    map units_written
+    ((codes "08119a2233b0" ++ solved_bottom) ∷ (codes "0089a112233b" ++ solved_bottom) ∷ (solved_top ++ codes "4c55de6677f4")
+    ∷ (solved_top ++ codes "44cde556677f") ∷ [])
 
 -- Units that can't be put together: edge 8 stands twice; corner 0 is split in one layer; it is split between the layers; a unit
 -- is missing.
 abbrev pub impossible_units : List (List ℕ)
 impossible_units =
-    ((0 ∷ 0 ∷ 8 ∷ 1 ∷ 1 ∷ 8 ∷ 2 ∷ 2 ∷ 10 ∷ 3 ∷ 3 ∷ 11 ∷ []) ++ solved_bottom)
-    ∷ ((0 ∷ 8 ∷ 0 ∷ 1 ∷ 1 ∷ 9 ∷ 2 ∷ 2 ∷ 10 ∷ 3 ∷ 3 ∷ 11 ∷ []) ++ solved_bottom)
-    ∷ ((0 ∷ 12 ∷ 8 ∷ 1 ∷ 1 ∷ 9 ∷ 2 ∷ 2 ∷ 10 ∷ 3 ∷ 3 ∷ 11 ∷ []) ++ (0 ∷ 4 ∷ 4 ∷ 13 ∷ 5 ∷ 5 ∷ 14 ∷ 6 ∷ 6 ∷ 15 ∷ 7 ∷ 7 ∷ []))
-    ∷ ((0 ∷ 0 ∷ 8 ∷ 1 ∷ 1 ∷ 9 ∷ 2 ∷ 2 ∷ 10 ∷ 3 ∷ 3 ∷ []) ++ solved_bottom)
-    ∷ []
+    map units_written
+    ((codes "00811822a33b" ++ solved_bottom) ∷ (codes "08011922a33b" ++ solved_bottom) ∷ codes "0c811922a33b044d55e66f77"
+    ∷ (codes "00811922a33" ++ solved_bottom) ∷ [])
 
 -- These units are of no state.
 abbrev pub AreOfNoState : List ℕ → Type 0
 AreOfNoState units = (equator : Bool) → IsSq1 (record { units = units; equator = equator }) → ⊥
 
--- Units whose halves have these numbers, and the number of the shape that these make.
-pub record HasShape (units halves : List ℕ) (number : ℕ) : Type 0 where
-  pub consists : shape_of units ≡ halves
+-- Written units whose halves have these numbers, and the number of the shape that these make.
+pub record HasShape (digits halves : List ℕ) (number : ℕ) : Type 0 where
+  pub consists : shape_of (units_written digits) ≡ halves
   pub numbered : shape_number halves ≡ number
 
 -- ---- turned over

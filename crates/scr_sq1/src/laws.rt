@@ -97,13 +97,10 @@ pub fn refused_units()
 /// Turns of solved: the top is free clockwise, and the bottom anticlockwise.
 #[tactic(auto, unfolding(crate::proofs::OnLiterals::sq1_on_literals))]
 pub fn known_turns()
-    ensures top { sq1_after solved_sq1 (Layers (pos 1) (pos 0)) ≡ Some
-        (layers (11 ∷ 0 ∷ 0 ∷ 8 ∷ 1 ∷ 1 ∷ 9 ∷ 2 ∷ 2 ∷ 10 ∷ 3 ∷ 3 ∷ []) solved_bottom false) }
+    ensures top { sq1_after solved_sq1 (Layers (pos 1) (pos 0)) ≡ Some (layers (codes "b00811922a33") solved_bottom false) }
     ensures bottom { sq1_after solved_sq1 (Layers (pos 0) (anticlockwise 1)) ≡ Some
-        (layers solved_top (4 ∷ 4 ∷ 13 ∷ 5 ∷ 5 ∷ 14 ∷ 6 ∷ 6 ∷ 15 ∷ 7 ∷ 7 ∷ 12 ∷ []) false) }
-    ensures twist { sq1_after solved_sq1 Twist ≡ Some
-        (layers (12 ∷ 4 ∷ 4 ∷ 13 ∷ 5 ∷ 5 ∷ 2 ∷ 2 ∷ 10 ∷ 3 ∷ 3 ∷ 11 ∷ [])
-        (0 ∷ 0 ∷ 8 ∷ 1 ∷ 1 ∷ 9 ∷ 14 ∷ 6 ∷ 6 ∷ 15 ∷ 7 ∷ 7 ∷ []) true) }
+        (layers solved_top (codes "44d55e66f77c") false) }
+    ensures twist { sq1_after solved_sq1 Twist ≡ Some (layers (codes "c44d5522a33b") (codes "008119e66f77") true) }
     ensures top_barred { sq1_after solved_sq1 (Layers (anticlockwise 1) (pos 0)) ≡ None }
     ensures bottom_barred { sq1_after solved_sq1 (Layers (pos 0) (pos 1)) ≡ None }
     ensures no_turn { sq1_after solved_sq1 (Layers (pos 0) (pos 0)) ≡ None }
@@ -115,21 +112,18 @@ pub fn known_turns()
 pub fn known_words()
     ensures edges { IsKnownWord (slices ((pos 1, pos 0) ∷ (anticlockwise 1, anticlockwise 1) ∷ []) ++ Layers (pos 0) (pos 1) ∷ [])
         (codes "(1,0) / (-1,-1) / (0,1)")
-        (layers (0 ∷ 0 ∷ 8 ∷ 1 ∷ 1 ∷ 14 ∷ 2 ∷ 2 ∷ 10 ∷ 3 ∷ 3 ∷ 12 ∷ [])
-        (11 ∷ 4 ∷ 4 ∷ 13 ∷ 5 ∷ 5 ∷ 9 ∷ 6 ∷ 6 ∷ 15 ∷ 7 ∷ 7 ∷ []) false) }
+        (layers (codes "00811e22a33c") (codes "b44d55966f77") false) }
     ensures corners { IsKnownWord (slices ((pos 0, anticlockwise 1) ∷ (anticlockwise 2, anticlockwise 2) ∷ []) ++ Layers (pos 2) (pos 3) ∷ [])
         (codes "(0,-1) / (-2,-2) / (2,3)")
-        (layers (4 ∷ 4 ∷ 8 ∷ 1 ∷ 1 ∷ 9 ∷ 6 ∷ 6 ∷ 10 ∷ 3 ∷ 3 ∷ 11 ∷ [])
-        (12 ∷ 0 ∷ 0 ∷ 13 ∷ 5 ∷ 5 ∷ 14 ∷ 2 ∷ 2 ∷ 15 ∷ 7 ∷ 7 ∷ []) false) }
+        (layers (codes "44811966a33b") (codes "c00d55e22f77") false) }
     ensures parity { IsKnownWord parity_word
         (codes "/ (3,3) / (1,0) / (-2,-2) / (2,0) / (2,2) / (-1,0) / (-3,-3) / (-2,0) / (3,3) / (3,0) / (-1,-1) / (-3,0) / (1,1) / (-4,-3)")
-        (layers (0 ∷ 0 ∷ 8 ∷ 1 ∷ 1 ∷ 11 ∷ 2 ∷ 2 ∷ 10 ∷ 3 ∷ 3 ∷ 9 ∷ []) solved_bottom false) }
+        (layers (codes "00811b22a339") solved_bottom false) }
     ensures equator { IsKnownWord (slices ((pos 6, pos 0) ∷ (pos 6, pos 0) ∷ (pos 6, pos 0) ∷ []))
         (codes "(6,0) / (6,0) / (6,0) /") (layers solved_top solved_bottom true) }
     ensures long { IsKnownWord long_word
         (codes "(1,3) / (-4,-1) / (0,1) / (3,0) / (1,2) / (-4,-3) / (0,6) / (4,-3) / (6,2) / (6,4) / (2,-4) / (5,-5) / (-5,6) / (-4,5) / (-2,6) / (-1,-2) /")
-        (layers (11 ∷ 10 ∷ 4 ∷ 4 ∷ 2 ∷ 2 ∷ 7 ∷ 7 ∷ 9 ∷ 1 ∷ 1 ∷ 13 ∷ [])
-        (0 ∷ 0 ∷ 3 ∷ 3 ∷ 15 ∷ 12 ∷ 14 ∷ 8 ∷ 5 ∷ 5 ∷ 6 ∷ 6 ∷ []) false) }
+        (layers (codes "ba442277911d") (codes "0033fce85566") false) }
     ensures twists { ReturnsAfter 2 (Twist ∷ []) }
     ensures top_quarters { ReturnsAfter 6 (slices ((pos 3, pos 0) ∷ [])) }
     ensures both_quarters { ReturnsAfter 4 (slices ((pos 3, pos 3) ∷ [])) }
@@ -142,41 +136,19 @@ pub fn known_numbers()
     ensures solved_number { sq1_numbered.number_of solved_sq1 ≡ 3810646425600 }
     ensures equator { sq1_numbered.state_at 3810646425601 ≡ layers solved_top solved_bottom true }
     ensures two_edges { sq1_numbered.state_at 3810646506240 ≡ layers solved_top
-        (12 ∷ 4 ∷ 4 ∷ 13 ∷ 5 ∷ 5 ∷ 15 ∷ 6 ∷ 6 ∷ 14 ∷ 7 ∷ 7 ∷ []) false }
-    ensures first { sq1_numbered.state_at 0 ≡ layers
-        (8 ∷ 9 ∷ 10 ∷ 11 ∷ 12 ∷ 13 ∷ 0 ∷ 0 ∷ 1 ∷ 1 ∷ 14 ∷ 15 ∷ [])
-        (2 ∷ 2 ∷ 3 ∷ 3 ∷ 4 ∷ 4 ∷ 5 ∷ 5 ∷ 6 ∷ 6 ∷ 7 ∷ 7 ∷ []) false }
-    ensures last { sq1_numbered.state_at 11958666854399 ≡ layers
-        (7 ∷ 7 ∷ 6 ∷ 6 ∷ 5 ∷ 5 ∷ 4 ∷ 4 ∷ 3 ∷ 3 ∷ 2 ∷ 2 ∷ [])
-        (15 ∷ 14 ∷ 1 ∷ 1 ∷ 0 ∷ 0 ∷ 13 ∷ 12 ∷ 11 ∷ 10 ∷ 9 ∷ 8 ∷ []) true }
+        (codes "c44d55f66e77") false }
+    ensures first { sq1_numbered.state_at 0 ≡ layers (codes "89abcd0011ef") (codes "223344556677") false }
+    ensures last { sq1_numbered.state_at 11958666854399 ≡ layers (codes "776655443322") (codes "fe1100dcba98") true }
 {}
 
 /// Shapes that are known from elsewhere, in which each of the thirteen halves stands: named by where the corner of the top right
 /// half lies, or how many corners it has.
 #[tactic(auto, unfolding(crate::proofs::OnLiterals::sq1_on_literals))]
 pub fn known_shapes()
-    ensures corner_second { HasShape
-        (8 ∷ 0 ∷ 0 ∷ 9 ∷ 10 ∷ 11 ∷ 12 ∷ 13 ∷ 1 ∷ 1 ∷ 14 ∷ 15
-        ∷ 2 ∷ 2 ∷ 3 ∷ 3 ∷ 4 ∷ 4 ∷ 5 ∷ 5 ∷ 6 ∷ 6 ∷ 7 ∷ 7 ∷ [])
-        (2 ∷ 3 ∷ 12 ∷ 12 ∷ []) 143 }
-    ensures corner_third { HasShape
-        (8 ∷ 9 ∷ 0 ∷ 0 ∷ 10 ∷ 11 ∷ 12 ∷ 1 ∷ 1 ∷ 13 ∷ 14 ∷ 15
-        ∷ 2 ∷ 2 ∷ 3 ∷ 3 ∷ 4 ∷ 4 ∷ 5 ∷ 5 ∷ 6 ∷ 6 ∷ 7 ∷ 7 ∷ [])
-        (3 ∷ 2 ∷ 12 ∷ 12 ∷ []) 265 }
-    ensures corner_first { HasShape
-        (0 ∷ 0 ∷ 8 ∷ 9 ∷ 10 ∷ 11 ∷ 12 ∷ 13 ∷ 14 ∷ 1 ∷ 1 ∷ 15
-        ∷ 2 ∷ 2 ∷ 3 ∷ 3 ∷ 4 ∷ 4 ∷ 5 ∷ 5 ∷ 6 ∷ 6 ∷ 7 ∷ 7 ∷ [])
-        (1 ∷ 4 ∷ 12 ∷ 12 ∷ []) 21 }
-    ensures corner_last { HasShape
-        (8 ∷ 9 ∷ 10 ∷ 11 ∷ 0 ∷ 0 ∷ 12 ∷ 13 ∷ 1 ∷ 1 ∷ 2 ∷ 2
-        ∷ 3 ∷ 3 ∷ 4 ∷ 4 ∷ 5 ∷ 5 ∷ 14 ∷ 6 ∷ 6 ∷ 15 ∷ 7 ∷ 7 ∷ [])
-        (5 ∷ 11 ∷ 12 ∷ 10 ∷ []) 585 }
-    ensures two_corners { HasShape
-        (0 ∷ 0 ∷ 1 ∷ 1 ∷ 8 ∷ 9 ∷ 2 ∷ 2 ∷ 10 ∷ 3 ∷ 3 ∷ 11
-        ∷ 4 ∷ 4 ∷ 12 ∷ 13 ∷ 5 ∷ 5 ∷ 14 ∷ 6 ∷ 6 ∷ 7 ∷ 7 ∷ 15 ∷ [])
-        (6 ∷ 7 ∷ 8 ∷ 9 ∷ []) 760 }
-    ensures no_corner { HasShape
-        (8 ∷ 9 ∷ 10 ∷ 11 ∷ 12 ∷ 13 ∷ 0 ∷ 0 ∷ 1 ∷ 1 ∷ 2 ∷ 2
-        ∷ 3 ∷ 3 ∷ 4 ∷ 4 ∷ 5 ∷ 5 ∷ 14 ∷ 15 ∷ 6 ∷ 6 ∷ 7 ∷ 7 ∷ [])
-        (0 ∷ 12 ∷ 12 ∷ 11 ∷ []) 17 }
+    ensures corner_second { HasShape (codes "8009abcd11ef223344556677") (2 ∷ 3 ∷ 12 ∷ 12 ∷ []) 143 }
+    ensures corner_third { HasShape (codes "8900abc11def223344556677") (3 ∷ 2 ∷ 12 ∷ 12 ∷ []) 265 }
+    ensures corner_first { HasShape (codes "0089abcde11f223344556677") (1 ∷ 4 ∷ 12 ∷ 12 ∷ []) 21 }
+    ensures corner_last { HasShape (codes "89ab00cd1122334455e66f77") (5 ∷ 11 ∷ 12 ∷ 10 ∷ []) 585 }
+    ensures two_corners { HasShape (codes "00118922a33b44cd55e6677f") (6 ∷ 7 ∷ 8 ∷ 9 ∷ []) 760 }
+    ensures no_corner { HasShape (codes "89abcd001122334455ef6677") (0 ∷ 12 ∷ 12 ∷ 11 ∷ []) 17 }
 {}

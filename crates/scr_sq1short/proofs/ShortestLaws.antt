@@ -11,7 +11,7 @@ use Rattle.scr_notation.specs.declared.turn.Turn.{Turn}
 use Rattle.scr_notation.specs.Turning.{opposite}
 use Rattle.scr_notation.specs.Written.{Written}
 use Rattle.scr_sq1.specs.Units.{Sq1State, IsSq1, sq1_after}
-use Rattle.scr_sq1solve.specs.Counts.{twists_in}
+use Rattle.scr_sq1solve.specs.Counts.{twists_in, IsWithinBounds}
 use Rattle.scr_sq1solve.specs.Stages.{shape_stage, IsScrambleSq1}
 use Rattle.scr_sq1solve.specs.Totals.{shape_words, IsTotal}
 use Rattle.scr_sq1solve.proofs.Lengths.{twists-back}
@@ -79,32 +79,41 @@ module _ (s : Sq1State) (words : List (List ℕ)) (least : List Turn) (h : IsSho
       no_fewer_behind = All-nil (NoFewer s total);
     }
 
--- the words as they are looked at, one place after another
-module _ (s : Sq1State) (words : List (List ℕ)) where
-  pub IsShortest-begun : (word : List ℕ) (total : List Turn) → 0 < length words → word ≡ get_or words 0 [] → IsTotal s word total
-      → IsShortest s (take 1 words) total
-  IsShortest-begun word total some at is =
-      subst (λ ws. IsShortest s ws total) (sym (take_more words 0 [] some ∙ ap (λ w. w ∷ []) (sym at))) (IsShortest-one s word total is)
-
-  module _ (place : ℕ) (word : List ℕ) (inside : place < length words) (at : word ≡ get_or words place []) where
-    more_words : take place words ++ word ∷ [] ≡ take (place + 1) words
-    more_words = ap (λ w. take place words ++ w ∷ []) at ∙ sym (take_more words place [] inside)
-
-    module _ (least total : List Turn) (h : IsShortest s (take place words) least) (is : IsTotal s word total) where
-      pub IsShortest-kept_by : twists_in least ≤ twists_in total → IsShortest s (take (place + 1) words) least
-      IsShortest-kept_by no_fewer =
-          subst (λ ws. IsShortest s ws least) more_words (IsShortest-kept s (take place words) least h word total is no_fewer)
-
-      pub IsShortest-new_by : twists_in total < twists_in least → IsShortest s (take (place + 1) words) total
-      IsShortest-new_by fewer =
-          subst (λ ws. IsShortest s ws total) more_words (IsShortest-new s (take place words) least h word total is fewer)
+-- a total as it is written
+pub record IsWritten (total : Written) : Type 0 where
+  pub event : total.event ≡ EventSq1
+  pub bounds : IsWithinBounds total.turns
 
 -- the total that is the shortest of the words that were looked at
 pub record IsLeast (s : Sq1State) (words : List (List ℕ)) (least : Written) : Type 0 where
   pub shortest : IsShortest s words least.turns
-  pub event : least.event ≡ EventSq1
-  pub twists : twists_in least.turns ≤ 76
-  pub turns : length least.turns ≤ 153
+  pub written : IsWritten least
+
+-- the words as they are looked at, one place after another
+module _ (s : Sq1State) (words : List (List ℕ)) where
+  pub IsLeast-begun : (word : List ℕ) (total : Written) → 0 < length words → word ≡ get_or words 0 [] → IsTotal s word total.turns
+      → IsWritten total → IsLeast s (take 1 words) total
+  IsLeast-begun word total some at is written = record {
+    shortest = subst (λ ws. IsShortest s ws total.turns) (sym (take_more words 0 [] some ∙ ap (λ w. w ∷ []) (sym at)))
+        (IsShortest-one s word total.turns is);
+    written = written;
+  }
+
+  module _ (place : ℕ) (word : List ℕ) (inside : place < length words) (at : word ≡ get_or words place []) (least total : Written)
+      (h : IsLeast s (take place words) least) (is : IsTotal s word total.turns) where
+    by_words : (t : Written) → IsShortest s (take place words ++ word ∷ []) t.turns → IsWritten t → IsLeast s (take (place + 1) words) t
+    by_words t shortest written = record {
+      shortest = subst (λ ws. IsShortest s ws t.turns) (ap (λ w. take place words ++ w ∷ []) at ∙ sym (take_more words place [] inside)) shortest;
+      written = written;
+    }
+
+    pub IsLeast-kept : twists_in least.turns ≤ twists_in total.turns → IsLeast s (take (place + 1) words) least
+    IsLeast-kept no_fewer =
+        by_words least (IsShortest-kept s (take place words) least.turns h.shortest word total.turns is no_fewer) h.written
+
+    pub IsLeast-new : IsWritten total → twists_in total.turns < twists_in least.turns → IsLeast s (take (place + 1) words) total
+    IsLeast-new written fewer =
+        by_words total (IsShortest-new s (take place words) least.turns h.shortest word total.turns is fewer) written
 
 -- ---- there is but one
 

@@ -18,9 +18,8 @@ use Rattle.scr_notation.specs.declared.turn.Turn.{Turn}
 use Rattle.scr_sq1.specs.Units.{Sq1State, IsSq1, is_corner, sq1_after}
 use Rattle.scr_sq1.specs.Shapes.{IsShape, corner_bits, half_bits, half_of, halves_in, shape_of, Fits}
 use Rattle.scr_sq1.specs.Numbers.{every_second, corners_of, edges_of, laid, shape_word}
-use Rattle.scr_sq1.proofs.InHalves.{IsSq1-halves}
 use Rattle.scr_sq1.proofs.LaidLaws.{by_pieces}
-use Rattle.scr_sq1.proofs.StatePieces.{StatePieces-valid, LaidState-pieces}
+use Rattle.scr_sq1.proofs.StatePieces.{StatePieces-valid, LaidState, LaidState-pieces}
 use Rattle.scr_sq1.proofs.Lawful.{IsLawful-sq1}
 use Rattle.scr_sq1solve.specs.Stages.{oddness}
 use Rattle.scr_sq1solve.proofs.Renamed.{Names, AreNames, named, other_if, renamed, named-corner, named-edge}
@@ -118,22 +117,8 @@ names_of s = record { corners = corners_of s.units; edges = edges_of s.units; eq
 pub AreNames-valid : (s : Sq1State) → IsSq1 s → AreNames (names_of s)
 AreNames-valid s h = let p = StatePieces-valid s h in record { corners = p.corners; edges = p.edges }
 
-pub record IsBase (hs : List ℕ) : Type 0 where
-  pub valid : IsSq1 (base_of hs)
-  pub shape : shape_of (base_of hs).units ≡ hs
-  pub corners : corners_of (base_of hs).units ≡ in_order
-  pub edges : edges_of (base_of hs).units ≡ in_order
-
-pub IsBase-shape : (hs : List ℕ) → IsShape hs → IsBase hs
-IsBase-shape hs shape =
-    let p = IsPermutation-numbers_from 8 in
-    let l = LaidState-pieces hs in_order in_order shape p p in
-    record {
-      valid = IsSq1-halves (laid (shape_word hs) in_order in_order) l.halves false;
-      shape = l.shape_again;
-      corners = l.corners_again;
-      edges = l.edges_again;
-    }
+pub IsBase-shape : (hs : List ℕ) → IsShape hs → LaidState hs in_order in_order
+IsBase-shape hs shape = let p = IsPermutation-numbers_from 8 in LaidState-pieces hs in_order in_order shape p p
 
 module _ (n : Names) (h : AreNames n) where
   laid-named : (w : List Bool) (ks js : List ℕ) → Fits w ks js → All (λ k. k < 8) ks
@@ -156,12 +141,11 @@ renamed-base s valid =
     let n : Names = names_of s in
     let h = AreNames-valid s valid in
     let w = shape_word (shape_of s.units) in
-    let o = IsPermutation-numbers_from 8 in
-    let l = LaidState-pieces (shape_of s.units) in_order in_order p.shape o o in
+    let l = IsBase-shape (shape_of s.units) p.shape in
     let cs : pick n.corners in_order ≡ n.corners = ap (λ k. pick n.corners (numbers_from 0 k)) (sym p.corners.size) ∙ pick-in_order n.corners in
     let es : pick n.edges in_order ≡ n.edges = ap (λ k. pick n.edges (numbers_from 0 k)) (sym p.edges.size) ∙ pick-in_order n.edges in
     let units : map (named n) (laid w in_order in_order) ≡ s.units =
-    sym (laid-named n h w in_order in_order l.fits (All-permutation 8 in_order o))
+    sym (laid-named n h w in_order in_order l.fits (All-permutation 8 in_order (IsPermutation-numbers_from 8)))
     ∙ ap (λ xs. laid w xs (pick n.edges in_order)) cs ∙ ap (laid w n.corners) es ∙ p.laid_again in
     ap (λ us. let r : Sq1State = record { units = us; equator = other_if s.equator false } in r) units
     ∙ ap (λ b. let r : Sq1State = record { units = s.units; equator = b } in r) (other_if-false s.equator)
@@ -177,7 +161,7 @@ play-base s w valid =
     let p = StatePieces-valid s valid in
     let b = IsBase-shape (shape_of s.units) p.shape in
     ap (λ r. play sq1_after r w) (sym (renamed-base s valid))
-    ∙ play-renamed (names_of s) (AreNames-valid s valid) (base_of (shape_of s.units)) w b.valid
+    ∙ play-renamed (names_of s) (AreNames-valid s valid) (base_of (shape_of s.units)) w (b.valid false)
 
 -- ---- parity
 

@@ -14,9 +14,9 @@ use Rattle.scr_sq1.specs.Units.{Sq1State, IsSq1, solved_sq1, sq1_after}
 use Rattle.scr_sq1.proofs.Lawful.{sq1_kept_by_tidy}
 use Rattle.scr_sq1solve.specs.Stages.{sq1_stages, IsScrambleSq1}
 use Rattle.scr_sq1solve.specs.Counts.{twists_of, twists_in, IsWithinBounds}
-use Rattle.scr_sq1solve.specs.declared.stage_letters.Letters.TheVariants.{Squarings, Quarters}
+use Rattle.scr_sq1solve.specs.declared.stage_letters.Letters.TheVariants.{OfShapes, OfPairings, OfHome, Squarings, Quarters}
 use Rattle.scr_sq1solve.proofs.Solutions.{play-solution}
-use Rattle.scr_sq1solve.proofs.Lengths.{Costs-shape, Costs-pairing, Costs-home, Costs-ending}
+use Rattle.scr_sq1solve.proofs.Lengths.{Costs-letter}
 use Rattle.scr_sq1solve.proofs.Lengths.{twists-tidy, length-tidy, OfSq1-played, twists-back, length-back}
 
 -- each letter of the equator's stage has three twists, one of the first stage has one, and so on
@@ -26,10 +26,13 @@ twists-solution s w h =
     count-solution sq1_after twists_of sq1_stages (3 ∷ 1 ∷ 0 ∷ 1 ∷ 2 ∷ 0 ∷ []) s w (
       (λ n. lit≤ tt),
       (
-        (λ n. (Costs-shape n).twists),
+        (λ n. (Costs-letter OfShapes n).twists),
         (
-          (λ n. (Costs-ending Squarings refl n).twists),
-          ((λ n. (Costs-pairing n).twists), ((λ n. (Costs-home n).twists), ((λ n. (Costs-ending Quarters refl n).twists), tt))),
+          (λ n. (Costs-letter Squarings n).twists),
+          (
+            (λ n. (Costs-letter OfPairings n).twists),
+            ((λ n. (Costs-letter OfHome n).twists), ((λ n. (Costs-letter Quarters n).twists), tt)),
+          ),
         ),
       ),
     )

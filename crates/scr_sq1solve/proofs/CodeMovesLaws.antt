@@ -1,7 +1,7 @@
 -- The moves of the lists of corners and of edges, side by side, are those of the states that have them.
-use Rattle.std.proofs.Common.{◌≡◌, ℕ, ◌+◌, ◌*◌, ◌/◌, ◌%◌, ◌<◌, false, List, [], ◌∷◌, Some, sym, ap, ◌∙◌, arith}
+use Rattle.std.proofs.Common.{◌≡◌, ℕ, ◌+◌, ◌*◌, ◌/◌, ◌%◌, ◌<◌, List, [], ◌∷◌, Some, refl, sym, ap, ◌∙◌, arith}
 use Rattle.std.specs.Prelude.{◌==◌, IsSome, is_some}
-use Rattle.std.proofs.lemmas.Bool.{eq-eqb, ne_eqb, false≢true}
+use Rattle.std.proofs.lemmas.Bool.{ne_eqb}
 use Rattle.std.specs.Option.{option_map}
 use Rattle.std.proofs.lemmas.Option.{same_Some}
 use Rattle.scr_combinatorics.specs.Digits.{mixed_digits}
@@ -88,17 +88,23 @@ module _ {letter : ℕ → List Turn} (kept : IsKept letter) {corners rows : Coo
   pub rows-led : {r : ℕ} → r ≡ p % 192 + 192 * row_parity (p / 192) → IsSome (rows.after r t)
   rows-led is = ap is_some (rows-made is)
 
-  -- where the corners aren't brought home
-  pub elsewhere : has_number 0 (corners.after (p / 192) t) ≡ false
-      → has_number 0 (option_map square_index (by_letters sq1_after 32 letter (square_state p) t)) ≡ false
-  elsewhere away =
-      let corners_away : (step.corners == 0) ≡ false = ap (has_number 0) (sym corners-made) ∙ away in
-      ap (has_number 0) step.made
-      ∙ ne_eqb (position_of step.edges step.corners) 0 (λ e. false≢true (sym corners_away ∙ eq-eqb step.corners 0 (omega (arith, e))))
+  module _ {cs : ℕ} (a : Some cs ≡ corners.after (p / 192) t) where
+    row : cs ≡ step.corners
+    row = same_Some cs step.corners (a ∙ corners-made)
 
-  pub made : {cs low r n : ℕ} → r ≡ p % 192 + 192 * row_parity (p / 192) → Some cs ≡ corners.after (p / 192) t → Some low ≡ rows.after r t
-      → n ≡ low + 192 * cs → Some n ≡ option_map square_index (by_letters sq1_after 32 letter (square_state p) t)
-  made {cs} {low} {r} {n} is a b e =
-      let row : cs ≡ step.corners = same_Some cs step.corners (a ∙ corners-made) in
-      let place : low ≡ place_in_row step.edges = same_Some low (place_in_row step.edges) (b ∙ rows-made is) in
-      ap Some {x = n} {y = position_of step.edges step.corners} (omega (arith, e, row, place)) ∙ sym step.made
+    -- where the corners aren't brought home
+    pub elsewhere : (cs ≡ 0 → ⊥) → (cs == 0) ≡ has_number 0 (option_map square_index (by_letters sq1_after 32 letter (square_state p) t))
+    elsewhere away =
+        ne_eqb cs 0 away
+        ∙ sym (ap (has_number 0) step.made ∙ ne_eqb (position_of step.edges step.corners) 0 (λ e. away (omega (arith, e, row))))
+
+    pub made : {low n : ℕ} → Some low ≡ rows.after (p % 192 + 192 * row_parity (p / 192)) t → n ≡ low + 192 * cs
+        → Some n ≡ option_map square_index (by_letters sq1_after 32 letter (square_state p) t)
+    made {low} {n} b e =
+        let place : low ≡ place_in_row step.edges = same_Some low (place_in_row step.edges) (b ∙ rows-made refl) in
+        ap Some {x = n} {y = position_of step.edges step.corners} (omega (arith, e, row, place)) ∙ sym step.made
+
+    -- where they are, the place in the row tells
+    pub told_by_place : {low : ℕ} → cs ≡ 0 → Some low ≡ rows.after (p % 192 + 192 * row_parity (p / 192)) t
+        → (low == 0) ≡ has_number 0 (option_map square_index (by_letters sq1_after 32 letter (square_state p) t))
+    told_by_place {low} first b = ap (λ n. n == 0) {x = low} {y = low + 192 * cs} (omega (arith, first)) ∙ ap (has_number 0) (made b refl)

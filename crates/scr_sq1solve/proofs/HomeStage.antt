@@ -14,8 +14,7 @@ use Rattle.scr_notation.proofs.Below.{at_below}
 use Rattle.scr_sq1.specs.Units.{Sq1State, solved_sq1, sq1_after, turn_places, twist_places, turned, after_layers, twisted}
 use Rattle.scr_sq1.specs.Shapes.{half_words, half_word, half_bits, half_of, halves_in, shape_of, halves_number, ways_to_have, corner_count, corner_counts, shape_number}
 use Rattle.scr_sq1.specs.Numbers.{corners_of, edges_of, laid, shape_word}
-use Rattle.scr_sq1.proofs.InHalves.{IsSq1-halves}
-use Rattle.scr_sq1.proofs.StatePieces.{StatePieces-valid, LaidState-pieces}
+use Rattle.scr_sq1.proofs.StatePieces.{StatePieces-valid}
 use Rattle.scr_sq1.proofs.Lawful.{IsSq1-solved}
 use Rattle.scr_combinatorics.proofs.OneLetter.{IsEnding}
 use Rattle.scr_sq1solve.specs.Stages.{oddness, turn_word, quarter_word, mates, pairing_of, home_letter, home_stage, last_stage}
@@ -24,7 +23,7 @@ use Rattle.scr_sq1solve.specs.Spaces.{IsPairedSq1, square_space}
 use Rattle.scr_sq1solve.proofs.Renamed.{named, renamed}
 use Rattle.scr_sq1solve.proofs.Bases.{names_of}
 use Rattle.scr_sq1solve.proofs.Indexed.{IsIndex, Follows-index, StaysBelow-index}
-use Rattle.scr_sq1solve.proofs.ShapeStage.{oddness-solved, play-normal}
+use Rattle.scr_sq1solve.proofs.ShapeStage.{oddness-solved, IsSquareOf-lists, play-normal}
 use Rattle.scr_sq1solve.specs.Placed.{are_normal, keeps_mates, keep_mates}
 use Rattle.scr_sq1solve.proofs.NormalLetters.{IsMovedBy, IsMovedBy-normal, IsMovedBy-is}
 use Rattle.scr_sq1solve.proofs.NormalLetters.{corners-permutation, edges-permutation}
@@ -169,7 +168,7 @@ record IsSquareState (i : ℕ) : Type 0 where
   pub index : square_index (square_state i) ≡ i
 
 IsSquareState-below : (i : ℕ) → i < 73728 → IsSquareState i
-unfolding square_state square_index oddness
+unfolding square_state square_index
 IsSquareState-below i lt =
     let low : ℕ = i % 8 in
     let g : ℕ = i / 8 % 24 in
@@ -180,32 +179,17 @@ IsSquareState-below i lt =
     let small : last < 2 = omega arith in
     let c = IsCoded-below d h (omega arith) (omega arith) in
     let e = IsCoded-below bits g (omega arith) (omega arith) in
-    let hs : List ℕ = shape_of solved_sq1.units in
-    let l = LaidState-pieces hs (paired_at d h) (paired_at bits g) (StatePieces-valid solved_sq1 IsSq1-solved).shape c.permutation e.permutation in
+    let even : (parity (paired_at d h) + parity (paired_at bits g)) % 2 ≡ 0 =
+    omega (arith, c.odd, e.odd, parity-last low last (omega arith) small) in
+    let q = IsSquareOf-lists (paired_at d h) (paired_at bits g) c.permutation e.permutation even in
     record {
-      paired = record {
-        normal = record {
-          valid = IsSq1-halves (laid (shape_word hs) (paired_at d h) (paired_at bits g)) l.halves false;
-          normal = record {
-            shape = l.shape_again;
-            even = omega (
-              arith,
-              ap parity l.corners_again,
-              ap parity l.edges_again,
-              c.odd,
-              e.odd,
-              parity-last low last (omega arith) small,
-            );
-          };
-        };
-        paired = (ap pairing_of l.corners_again ∙ c.paired, ap pairing_of l.edges_again ∙ e.paired);
-      };
+      paired = record { normal = q.normal; paired = (ap pairing_of q.corners ∙ c.paired, ap pairing_of q.edges ∙ e.paired) };
       index = omega (
         arith,
-        ap bits_number l.corners_again,
-        ap pairs_number l.corners_again,
-        ap bits_number l.edges_again,
-        ap pairs_number l.edges_again,
+        ap bits_number q.corners,
+        ap pairs_number q.corners,
+        ap bits_number q.edges,
+        ap pairs_number q.edges,
         c.bits_again,
         c.pairs_again,
         e.bits_again,

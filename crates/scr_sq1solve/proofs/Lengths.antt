@@ -19,7 +19,7 @@ use Rattle.scr_sq1.specs.Units.{Sq1State, sq1_after}
 use Rattle.scr_sq1solve.specs.declared.stage_letters.Letters.{Letters}
 use Rattle.scr_sq1solve.specs.declared.stage_letters.Letters.TheVariants.{OfShapes, OfPairings, OfHome, Squarings, Quarters}
 use Rattle.scr_sq1solve.specs.Stages.{turn_word, quarters, quarter_word, squaring_letter, shape_letter, pairing_letter, home_letter}
-use Rattle.scr_sq1solve.specs.Letters.{stage_of, letter_of}
+use Rattle.scr_sq1solve.specs.Letters.{letter_of, each_of}
 use Rattle.scr_sq1solve.specs.Counts.{twists_of, twists_in, Costs}
 
 -- ---- turns and twists of letters
@@ -59,11 +59,11 @@ three a b c d = let whole = Costs-append (Costs-turn_word a b) (Costs-append Cos
 five : (a b c d e f : ℤ) → Costs (turn_word a b ++ Twist ∷ turn_word c d ++ Twist ∷ turn_word e f) 5 2
 five a b c d e f = let whole = Costs-append (three a b c d) (Costs-append Costs-twist (Costs-turn_word e f)) in whole
 
-pub Costs-shape : (n : ℕ) → Costs (shape_letter n) 2 1
+Costs-shape : (n : ℕ) → Costs (shape_letter n) 2 1
 unfolding shape_letter
 Costs-shape n = let whole = Costs-append (Costs-turn_word (pos (n / 12) -ℤ pos 5) (pos (n % 12) -ℤ pos 5)) Costs-twist in whole
 
-pub Costs-pairing : (n : ℕ) → Costs (pairing_letter n) 3 1
+Costs-pairing : (n : ℕ) → Costs (pairing_letter n) 3 1
 unfolding pairing_letter
 Costs-pairing n =
     let top : ℤ = quarters (n / 4 % 4) in
@@ -74,7 +74,7 @@ Costs-quarter : (n : ℕ) → Costs (quarter_word n) 1 0
 unfolding quarter_word
 Costs-quarter n = Costs-turn_word (quarters (n / 4)) (quarters (n % 4))
 
-pub Costs-home : (n : ℕ) → Costs (home_letter n) 6 2
+Costs-home : (n : ℕ) → Costs (home_letter n) 6 2
 unfolding home_letter
 Costs-home n =
     let exchange =
@@ -83,14 +83,13 @@ Costs-home n =
     let whole = Costs-append (Costs-quarter (n % 16)) exchange in
     whole
 
--- a letter of a stage of one letter at most is one turn at most, and no twist
-pub Costs-ending : (letters : Letters) → (stage_of letters).bound ≡ 1 → (n : ℕ) → Costs (letter_of letters n) 1 0
+pub Costs-letter : (letters : Letters) (n : ℕ) → Costs (letter_of letters n) (each_of letters).turns (each_of letters).twists
 unfolding squaring_letter
-Costs-ending OfShapes short n = absurd (omega (arith, short))
-Costs-ending OfPairings short n = absurd (omega (arith, short))
-Costs-ending OfHome short n = absurd (omega (arith, short))
-Costs-ending Squarings short n = Costs-turn_word (neg_ℤ (pos (n % 2))) (pos (n / 2))
-Costs-ending Quarters short n = Costs-quarter n
+Costs-letter OfShapes n = Costs-shape n
+Costs-letter OfPairings n = Costs-pairing n
+Costs-letter OfHome n = Costs-home n
+Costs-letter Squarings n = Costs-turn_word (neg_ℤ (pos (n % 2))) (pos (n / 2))
+Costs-letter Quarters n = Costs-quarter n
 
 -- ---- tidying adds no twists
 

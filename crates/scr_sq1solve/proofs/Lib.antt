@@ -28,6 +28,7 @@ mod NormalLetters
 mod PairingStage
 mod PairedLists
 mod HomeStage
+pub mod EachIndex
 pub mod Lengths
 mod ListCoordinates
 mod CodeSteps

@@ -12,7 +12,6 @@ use Rattle.scr_sq1.specs.Units.{Sq1State, IsSq1, solved_sq1, sq1_after}
 use Rattle.scr_sq1.specs.Shapes.{shape_of, shape_number, shape_at, half_words, half_word, half_bits, half_of, halves_in}
 use Rattle.scr_sq1.specs.Numbers.{corners_of, edges_of, laid, shape_word}
 use Rattle.scr_sq1.proofs.HalfNumbers.{shapes_one_to_one}
-use Rattle.scr_sq1.proofs.InHalves.{IsSq1-halves}
 use Rattle.scr_sq1.proofs.StatePieces.{StatePieces-valid, LaidState-pieces}
 use Rattle.scr_sq1.proofs.Lawful.{IsSq1-solved}
 use Rattle.scr_combinatorics.proofs.OneLetter.{IsEnding}
@@ -21,7 +20,7 @@ use Rattle.scr_sq1solve.specs.Tables.{shapes_index, shapes_state, pieces_of_pari
 use Rattle.scr_sq1solve.proofs.Renamed.{Names, AreNames, renamed}
 use Rattle.scr_sq1solve.proofs.Bases.{in_order, base_of, names_of, AreNames-valid, IsBase-shape, shape_of-named}
 use Rattle.scr_sq1solve.proofs.Bases.{play-base, keeps_sq1, oddness-lt, oddness-renamed}
-use Rattle.scr_sq1solve.specs.Spaces.{shapes_space}
+use Rattle.scr_sq1solve.specs.Spaces.{IsNormalSq1, shapes_space}
 use Rattle.scr_sq1solve.proofs.Indexed.{IsIndex, Follows-index, StaysBelow-index}
 
 -- ---- the index of states of one shape
@@ -68,7 +67,7 @@ shapes_alike s r w vs vr e =
     let b = IsBase-shape (shape_of s.units) (StatePieces-valid s vs).shape in
     ap (option_map shapes_index) (play-base s w vs)
     ∙ both_renamed (names_of s) (names_of r) (play sq1_after base w) (AreNames-valid s vs) (AreNames-valid r vr)
-    (sym (names_odd s) ∙ same.odd ∙ names_odd r) (λ q p. keeps_sq1 base q w b.valid p)
+    (sym (names_odd s) ∙ same.odd ∙ names_odd r) (λ q p. keeps_sq1 base q w (b.valid false) p)
     ∙ ap (λ hs. option_map shapes_index (option_map (renamed (names_of r)) (play sq1_after (base_of hs) w))) same.shape
     ∙ ap (option_map shapes_index) (sym (play-base r w vr))
 
@@ -98,7 +97,7 @@ IsStateOf-below i lt =
     let l = LaidState-pieces hs in_order es (shapes_one_to_one.valid (i / 2) low) o (IsPermutation-parity (i % 2) (omega arith)) in
     let none : parity in_order ≡ 0 = refl in
     record {
-      valid = IsSq1-halves (laid (shape_word hs) in_order es) l.halves false;
+      valid = l.valid false;
       index = omega (
         arith,
         ap parity l.corners_again,
@@ -122,6 +121,30 @@ IsNormal-iff s valid = (
   λ n. omega (arith, n.even, oddness-solved, ap shape_number n.shape),
   λ e. let same = SameIndex-index s solved_sq1 valid IsSq1-solved e in record { shape = same.shape; even = same.odd ∙ oddness-solved },
 )
+
+-- the state of the square shape with these corners and these edges in unit order
+abbrev pub square_of : List ℕ → List ℕ → Sq1State
+square_of cs es = record { units = laid (shape_word (shape_of solved_sq1.units)) cs es; equator = false }
+
+-- It is normal where both lists have one parity.
+pub record IsSquareOf (cs es : List ℕ) : Type 0 where
+  pub normal : IsNormalSq1 (square_of cs es)
+  pub corners : corners_of (square_of cs es).units ≡ cs
+  pub edges : edges_of (square_of cs es).units ≡ es
+
+pub IsSquareOf-lists : (cs es : List ℕ) → IsPermutation 8 cs → IsPermutation 8 es → (parity cs + parity es) % 2 ≡ 0 → IsSquareOf cs es
+unfolding oddness
+IsSquareOf-lists cs es p q even =
+    let hs : List ℕ = shape_of solved_sq1.units in
+    let l = LaidState-pieces hs cs es (StatePieces-valid solved_sq1 IsSq1-solved).shape p q in
+    record {
+      normal = record {
+        valid = l.valid false;
+        normal = record { shape = l.shape_again; even = omega (arith, even, ap parity l.corners_again, ap parity l.edges_again) };
+      };
+      corners = l.corners_again;
+      edges = l.edges_again;
+    }
 
 pub IsEnding-squaring : IsEnding sq1_after squaring_stage
 unfolding squaring_letter turn_word

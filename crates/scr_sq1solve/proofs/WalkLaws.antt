@@ -27,9 +27,10 @@ use Rattle.scr_sq1solve.specs.Stages.{shape_letter, squaring_stage, pairing_stag
 use Rattle.scr_sq1solve.specs.Totals.{equator_part, IsTotal}
 use Rattle.scr_sq1solve.specs.declared.stage_letters.Letters.{Letters}
 use Rattle.scr_sq1solve.specs.declared.stage_letters.Letters.TheVariants.{OfShapes, OfPairings, OfHome, Squarings, Quarters}
-use Rattle.scr_sq1solve.specs.Letters.{stage_of, IsWalk}
+use Rattle.scr_sq1solve.specs.Letters.{stage_of, letter_of, each_of, IsWalk}
 use Rattle.scr_sq1solve.specs.Counts.{twists_of, Costs}
 use Rattle.scr_sq1solve.proofs.Joins.{tidy-rest}
+use Rattle.scr_sq1solve.proofs.Lengths.{Costs-letter}
 use Rattle.scr_sq1solve.proofs.ShapeStage.{IsEnding-squaring}
 use Rattle.scr_sq1solve.proofs.HomeStage.{IsEnding-last}
 
@@ -44,31 +45,35 @@ IsWalk-played stage s end word turns is are played = record {
 }
 
 -- so many letters come to so many turns and twists
-pub Costs-spelled : (letter : ℕ → List Turn) (each_turns each_twists : ℕ) → ((n : ℕ) → Costs (letter n) each_turns each_twists)
-    → (word : List ℕ) (most : ℕ) → length word ≤ most → Costs (spelled letter word) (most * each_turns) (most * each_twists)
-Costs-spelled letter each_turns each_twists costs word most few = record {
-  turns = omega (
-    arith,
-    count_once (spelled letter word),
-    count-spelled (λ t. 1) letter each_turns (λ n. omega (arith, count_once (letter n), (costs n).turns)) word,
-    mul-le-mul_right each_turns few,
-  );
-  twists = omega (
-    arith,
-    count-spelled twists_of letter each_twists (λ n. (costs n).twists) word,
-    mul-le-mul_right each_twists few,
-  );
-}
+pub Costs-spelled : (letters : Letters) (word : List ℕ) (most : ℕ) → length word ≤ most
+    → Costs (spelled (letter_of letters) word) (most * (each_of letters).turns) (most * (each_of letters).twists)
+Costs-spelled letters word most few =
+    let letter = letter_of letters in
+    let each = each_of letters in
+    record {
+      turns = omega (
+        arith,
+        count_once (spelled letter word),
+        count-spelled (λ t. 1) letter each.turns (λ n. omega (arith, count_once (letter n), (Costs-letter letters n).turns)) word,
+        mul-le-mul_right each.turns few,
+      );
+      twists = omega (
+        arith,
+        count-spelled twists_of letter each.twists (λ n. (Costs-letter letters n).twists) word,
+        mul-le-mul_right each.twists few,
+      );
+    }
+
+-- and so do those of a stage's word
+pub walk-costs : (letters : Letters) {s end : Sq1State} {turns : List Turn} → IsWalk (stage_of letters) s turns end
+    → Costs turns ((stage_of letters).bound * (each_of letters).turns) ((stage_of letters).bound * (each_of letters).twists)
+walk-costs letters w =
+    let most = (stage_of letters).bound in
+    subst (λ ts. Costs ts (most * (each_of letters).turns) (most * (each_of letters).twists)) (sym w.turns_are)
+    (Costs-spelled letters w.word most w.is.within)
 
 -- what is so where a stage's word has led
 module _ {stage : Stage Sq1State Turn} {s end : Sq1State} {turns : List Turn} (w : IsWalk stage s turns end) where
-  pub walk-costs : (each_turns each_twists : ℕ) → ((n : ℕ) → Costs (stage.letter n) each_turns each_twists)
-      → Costs turns (stage.bound * each_turns) (stage.bound * each_twists)
-  walk-costs each_turns each_twists costs =
-      let most = stage.bound in
-      subst (λ ts. Costs ts (most * each_turns) (most * each_twists)) (sym w.turns_are)
-      (Costs-spelled stage.letter each_turns each_twists costs w.word most w.is.within)
-
   pub walk-kept : (IsValid : Sq1State → Type 0) (line : TableLine) (view : Sq1State → ℕ)
       → Follows (stage_space sq1_after stage IsValid) (positions line.coordinate) view → IsValid s → IsValid end
   walk-kept IsValid line view follows valid =

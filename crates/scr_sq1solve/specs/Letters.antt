@@ -2,7 +2,10 @@
 use Rattle.std.specs.Prelude.{◌≡◌, ℕ, ◌/◌, ◌%◌, ◌≤◌, nat_lt, pos, ◌-ℤ◌, ◌+ℤ◌, if◌then◌else◌, List, [], ◌∷◌}
 use Rattle.scr_notation.specs.declared.turn.Turn.{Turn}
 use Rattle.scr_notation.specs.declared.turn.Turn.TheVariants.{Twist}
-use Rattle.scr_sq1.specs.Units.{Sq1State, sq1_after}
+use Rattle.scr_sq1.specs.Units.{Sq1State, IsSq1, sq1_after}
+use Rattle.scr_sq1solve.specs.Counts.{Cost}
+use Rattle.scr_sq1solve.specs.Spaces.{IsNormalSq1, IsPairedSq1}
+use Rattle.scr_sq1solve.specs.Tables.{shapes_index, pairings_index, square_index}
 use Rattle.scr_sq1solve.specs.Stages.{turn_word, quarters, quarter_word, squaring_letter, shape_stage, squaring_stage, pairing_stage, home_stage, last_stage}
 use Rattle.scr_sq1solve.specs.declared.stage_letters.Letters.{Letters}
 use Rattle.scr_sq1solve.specs.declared.stage_letters.Letters.TheVariants.{OfShapes, OfPairings, OfHome, Squarings, Quarters}
@@ -35,6 +38,30 @@ first_word Quarters n = quarter_word n
 abbrev pub step_word : Step → List Turn
 step_word (Turned top bottom) = turn_word top bottom
 step_word Twisted = Twist ∷ []
+
+-- the states from which a stage with these letters sets out
+abbrev pub starts_of : Letters → Sq1State → Type 0
+starts_of OfShapes = IsSq1
+starts_of OfPairings = IsNormalSq1
+starts_of OfHome = IsPairedSq1
+starts_of Squarings = IsSq1
+starts_of Quarters = IsPairedSq1
+
+-- the index by which a search for its words sees these, or one for those of the stage that it ends
+abbrev pub index_by : Letters → Sq1State → ℕ
+index_by OfShapes = shapes_index
+index_by OfPairings = pairings_index
+index_by OfHome = square_index
+index_by Squarings = shapes_index
+index_by Quarters = square_index
+
+-- so many turns, and so many twists, one of these letters has at most
+abbrev pub each_of : Letters → Cost
+each_of OfShapes = record { turns = 2; twists = 1 }
+each_of OfPairings = record { turns = 3; twists = 1 }
+each_of OfHome = record { turns = 6; twists = 2 }
+each_of Squarings = record { turns = 1; twists = 0 }
+each_of Quarters = record { turns = 1; twists = 0 }
 
 -- A stage's table may reach so far: no farther than the stage, whose words have at most 24 of at most 144 letters.
 pub record IsInReach (stage : Stage Sq1State Turn) (bound : ℕ) : Type 0 where

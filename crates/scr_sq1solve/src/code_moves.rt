@@ -1,5 +1,5 @@
 //! Where letters lead from states in which mates stand opposite to each other.
-ghost use Rattle.std.specs.Prelude.{◌≡◌, ◌<◌, ◌/◌, IfOk, IsSome, Some};
+ghost use Rattle.std.specs.Prelude.{◌≡◌, ◌<◌, ◌+◌, ◌*◌, ◌/◌, ◌%◌, IfOk, IsSome, Some};
 ghost use Rattle.std.specs.Option.{option_map};
 ghost use Rattle.std.specs.List.{list_any};
 ghost use Rattle.std.proofs.Props.{props};
@@ -58,11 +58,7 @@ impl CodeMoves {
         requires turn { turn < 32 }
         ensures { result ≡ option_map square_index (by_letters sq1_after 32 (letter_of self.now.letters) (square_state position) turn) }
     {
-        let corners = position / 192;
-        let place = position % 192 + 192 * row_parity(corners);
-        let row = target(&self.corners, corners, turn);
-        let low = target(&self.rows, place, turn);
-        Some(low + 192 * row)
+        Some(self.place_after(position, turn) + 192 * self.corners_after(position, turn))
     }
 
     /// Whether a letter leads to the first position. Mostly the corners tell that it doesn't.
@@ -73,22 +69,33 @@ impl CodeMoves {
         ensures { result ≡ has_number 0
             (option_map square_index (by_letters sq1_after 32 (letter_of self.now.letters) (square_state position) turn)) }
     {
-        if is_first(self.corners.after(position / 192, turn)) {
-            is_first(self.after(position, turn))
-        } else {
-            false
-        }
+        self.corners_after(position, turn) == 0 && self.place_after(position, turn) == 0
     }
-}
 
-/// Whether this is the first position, or code, if there is one.
-#[inline]
-fn is_first(position: Option<u32>) -> bool
-    ensures { result ≡ has_number 0 position }
-{
-    match position {
-        Some(position) => position == 0,
-        None => false,
+    /// The code of the list of corners after a letter.
+    #[inline]
+    fn corners_after(&self, position: u32, turn: u32) -> u32
+        requires position { position < 73728 }
+        requires turn { turn < 32 }
+        ensures value { Some result ≡ (moves_coordinate self.now.corners).after (position / 192) turn }
+        ensures below { result < 384 }
+    {
+        target(&self.corners, position / 192, turn)
+    }
+
+    /// The place in its row of the list of edges after a letter.
+    #[inline]
+    fn place_after(&self, position: u32, turn: u32) -> u32
+        requires position { position < 73728 }
+        requires turn { turn < 32 }
+        ensures value { Some result ≡ (moves_coordinate self.now.rows).after (position % 192 + 192 * row_parity (position / 192)) turn }
+        ensures below { result < 384 }
+    {
+        target(
+            &self.rows,
+            position % 192 + 192 * row_parity(position / 192),
+            turn,
+        )
     }
 }
 

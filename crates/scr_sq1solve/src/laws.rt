@@ -1,5 +1,5 @@
 //! What holds of the stages whatever the code: calls that do nothing, whose contracts are the laws.
-ghost use Rattle.std.specs.Prelude.{◌≡◌, ◌≤◌, ◌↔◌, ◌++◌, [], if◌then◌else◌, Contains, IsTrue, List, Some, ℕ, length, slice_get};
+ghost use Rattle.std.specs.Prelude.{◌≡◌, ◌<◌, ◌≤◌, ◌↔◌, ◌++◌, [], if◌then◌else◌, Contains, IsTrue, List, Some, ℕ, length, slice_get};
 ghost use Rattle.std.specs.List.{AllPairs};
 ghost use Rattle.scr_combinatorics.specs.Back.{back};
 ghost use Rattle.scr_combinatorics.specs.FirstWord.{LeadsTo, IsEarlier};
@@ -46,11 +46,17 @@ pub fn reached(tables: &Sq1Tables)
 
 /// From every state with an index, of those of which a table speaks, a letter of the table's stage leads to one and the
 /// same index, that to which the table's coordinate leads, or is barred as it is there; and all of them are at the
-/// stage's goal, or none.
+/// stage's goal, or none. Each number below the table's count is the index of one of these states.
 pub fn indexes()
     ensures shapes { Follows shapes_space (positions shapes_line.coordinate) shapes_index }
     ensures pairings { Follows pairings_space (positions pairings_line.coordinate) pairings_index }
     ensures square { Follows square_space (positions square_line.coordinate) square_index }
+    ensures shapes_each { (i : ℕ) → i < shapes_line.coordinate.count
+        → (s : Sq1State) × shapes_space.IsValid s × (shapes_index s ≡ i) }
+    ensures pairings_each { (i : ℕ) → i < pairings_line.coordinate.count
+        → (s : Sq1State) × pairings_space.IsValid s × (pairings_index s ≡ i) }
+    ensures square_each { (i : ℕ) → i < square_line.coordinate.count
+        → (s : Sq1State) × square_space.IsValid s × (square_index s ≡ i) }
 {}
 
 /// Two normal states in which mates stand opposite to each other have one index in `square` exactly where they are

@@ -97,10 +97,8 @@ impl Coord for ShapeStates {
 
     #[inline]
     fn after(&self, position: u32, turn: u32) -> Option<u32> {
-        if turn == STILL_TOP {
-            return Some(position);
-        }
-        if turn == STILL_BOTTOM {
+        // No state bars these two, which turn nothing: of the states that would be made and numbered here, a sixth is spared.
+        if turn == STILL_TOP || turn == STILL_BOTTOM {
             return Some(position);
         }
         let end = after_part(self.state_at(position), turn)?;

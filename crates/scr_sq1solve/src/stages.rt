@@ -1,4 +1,6 @@
 //! The stages, whose words their tables find.
+ghost use Rattle.std.specs.Prelude.{◌≡◌};
+ghost use Rattle.scr_sq1solve.specs.Letters.{index_by};
 
 use crate::indexes::{pairings_index, shapes_index, square_index};
 use crate::lines::{PairingsLine, ShapesLine, SquareLine};
@@ -8,113 +10,63 @@ use scr_table::Line;
 
 /// A stage by the line of its table: a state's index tells the first word of its letters to its goal.
 pub(crate) trait StageLine: Line {
-    ghost use Rattle.std.specs.Prelude.{◌≡◌, ℕ};
     ghost use Rattle.scr_coord.specs.SearchSpaces.{positions, Follows};
-    ghost use Rattle.scr_combinatorics.specs.Stages.{Stage};
     ghost use Rattle.scr_table.specs.StageSpaces.{stage_space};
-    ghost use Rattle.scr_notation.specs.declared.turn.Turn.{Turn as Letter};
-    ghost use Rattle.scr_sq1.specs.Units.{Sq1State, sq1_after};
-    ghost use Rattle.scr_sq1solve.specs.Counts.{Cost, Costs};
-    ghost use Rattle.scr_sq1solve.specs.Letters.{letter_of, IsInReach};
-
-    /// Its letters, its goal and its bound.
-    ghost stage: { Stage Sq1State Letter };
-
-    /// The states that it starts from.
-    ghost starts: { Sq1State → Type 0 };
-
-    /// The index of a state in the table.
-    ghost index: { Sq1State → ℕ };
-
-    /// How many turns one of its letters has at most, and how many twists.
-    ghost each: { Cost };
+    ghost use Rattle.scr_sq1.specs.Units.{sq1_after};
+    ghost use Rattle.scr_sq1solve.specs.declared.stage_letters.Letters.{Letters as LettersOf};
+    ghost use Rattle.scr_sq1solve.specs.Letters.{stage_of, starts_of, index_by, IsInReach};
 
     /// Its letters.
-    fn letters() -> Letters
-        ensures { letter_of result ≡ stage.letter };
+    ghost LETTERS: { LettersOf };
 
-    /// The index of a state in the table.
-    fn index_of(state: &Sq1) -> u32
-        ensures { result ≡ index state.now };
+    const LETTERS: Letters;
 
-    /// What a walk down the table rests on: from a state and from its index a search finds the same, a letter has no more
-    /// turns and twists, and the table reaches no farther than the stage, whose words and letters are few. The call does
-    /// nothing.
+    /// What a walk down the table rests on: from a state and from its index a search finds the same, and the table reaches
+    /// no farther than the stage, whose words and letters are few. The call does nothing.
     fn is_found_by_index()
-        ensures follows { Follows (stage_space sq1_after stage starts)
-            (positions Self.line.coordinate) index }
-        ensures costs { (number : ℕ) → Costs (stage.letter number) each.turns each.twists }
-        ensures in_reach { IsInReach stage Self.line.bound };
+        ensures follows { Follows (stage_space sq1_after (stage_of LETTERS) (starts_of LETTERS))
+            (positions Self.line.coordinate) (index_by LETTERS) }
+        ensures in_reach { IsInReach (stage_of LETTERS) Self.line.bound };
 }
 
 impl StageLine for ShapesLine {
-    ghost use Rattle.scr_sq1.specs.Units.{IsSq1};
-    ghost use Rattle.scr_sq1solve.specs.Stages.{shape_stage};
-    ghost use Rattle.scr_sq1solve.specs.Tables.{shapes_index};
+    ghost use Rattle.scr_sq1solve.specs.declared.stage_letters.Letters.TheVariants.{OfShapes};
 
-    ghost stage = { shape_stage };
+    ghost LETTERS = { OfShapes };
 
-    ghost starts = { IsSq1 };
-
-    ghost index = { shapes_index };
-
-    ghost each = { record { turns = 2; twists = 1 } };
-
-    fn letters() -> Letters {
-        Letters::OfShapes
-    }
-
-    fn index_of(state: &Sq1) -> u32 {
-        shapes_index(state)
-    }
+    const LETTERS: Letters = Letters::OfShapes;
 
     fn is_found_by_index() {}
 }
 
 impl StageLine for PairingsLine {
-    ghost use Rattle.scr_sq1solve.specs.Stages.{pairing_stage};
-    ghost use Rattle.scr_sq1solve.specs.Tables.{pairings_index};
-    ghost use Rattle.scr_sq1solve.specs.Spaces.{IsNormalSq1};
+    ghost use Rattle.scr_sq1solve.specs.declared.stage_letters.Letters.TheVariants.{OfPairings};
 
-    ghost stage = { pairing_stage };
+    ghost LETTERS = { OfPairings };
 
-    ghost starts = { IsNormalSq1 };
-
-    ghost index = { pairings_index };
-
-    ghost each = { record { turns = 3; twists = 1 } };
-
-    fn letters() -> Letters {
-        Letters::OfPairings
-    }
-
-    fn index_of(state: &Sq1) -> u32 {
-        pairings_index(state)
-    }
+    const LETTERS: Letters = Letters::OfPairings;
 
     fn is_found_by_index() {}
 }
 
 impl StageLine for SquareLine {
-    ghost use Rattle.scr_sq1solve.specs.Stages.{home_stage};
-    ghost use Rattle.scr_sq1solve.specs.Tables.{square_index};
-    ghost use Rattle.scr_sq1solve.specs.Spaces.{IsPairedSq1};
+    ghost use Rattle.scr_sq1solve.specs.declared.stage_letters.Letters.TheVariants.{OfHome};
 
-    ghost stage = { home_stage };
+    ghost LETTERS = { OfHome };
 
-    ghost starts = { IsPairedSq1 };
-
-    ghost index = { square_index };
-
-    ghost each = { record { turns = 6; twists = 2 } };
-
-    fn letters() -> Letters {
-        Letters::OfHome
-    }
-
-    fn index_of(state: &Sq1) -> u32 {
-        square_index(state)
-    }
+    const LETTERS: Letters = Letters::OfHome;
 
     fn is_found_by_index() {}
+}
+
+/// The index of a state in the table of the stage with these letters, or of the stage that these letters end.
+#[inline]
+pub(crate) fn index_by(letters: Letters, state: &Sq1) -> u32
+    ensures { result ≡ index_by letters state.now }
+{
+    match letters {
+        Letters::OfShapes | Letters::Squarings => shapes_index(state),
+        Letters::OfPairings => pairings_index(state),
+        Letters::OfHome | Letters::Quarters => square_index(state),
+    }
 }

@@ -5,12 +5,12 @@ ghost use Rattle.scr_combinatorics.specs.Stages.{IsStageWord, HasStageWord, spel
 ghost use Rattle.scr_notation.specs.declared.event.Event.TheVariants.{Sq1 as EventSq1};
 ghost use Rattle.scr_sq1.specs.Units.{sq1_after};
 ghost use Rattle.scr_sq1solve.specs.Counts.{twists_in};
-ghost use Rattle.scr_sq1solve.specs.Letters.{stage_of, letter_of, IsWalk};
+ghost use Rattle.scr_sq1solve.specs.Letters.{stage_of, letter_of, starts_of, each_of, IsWalk};
 
 use crate::indexes::shapes_index;
 use crate::shape_moves::NORMAL;
 use crate::stage_letters::{Letters, letter, word_of};
-use crate::stages::StageLine;
+use crate::stages::{StageLine, index_by};
 use arrayvec::ArrayVec;
 use scr_notation::Scramble;
 use scr_sq1::Sq1;
@@ -25,26 +25,26 @@ pub(crate) struct Walk {
 
 /// The first word of a stage, from a state that it starts from.
 pub(crate) fn stage_word<L: StageLine>(table: &LineTable<L>, state: &Sq1) -> ArrayVec<u8, 24>
-    requires { L.starts state.now }
-    ensures { IsStageWord sq1_after L.stage state.now result.items }
+    requires { starts_of L.LETTERS state.now }
+    ensures { IsStageWord sq1_after (stage_of L.LETTERS) state.now result.items }
 {
     L::is_found_by_index();
-    table.descend(L::index_of(state))
+    table.descend(index_by(L::LETTERS, state))
 }
 
 /// The turns of that word, and where they lead.
 pub(crate) fn stage_walk<L: StageLine>(table: &LineTable<L>, state: &Sq1) -> Walk
-    requires { L.starts state.now }
+    requires { starts_of L.LETTERS state.now }
     ensures event { result.turns.event ≡ EventSq1 }
-    ensures walk { IsWalk L.stage state.now result.turns.turns result.end }
-    ensures goal { L.stage.IsGoal result.end }
-    ensures kept { L.starts result.end }
-    ensures at_most { length result.turns.turns ≤ L.stage.bound * L.each.turns }
-    ensures twists { twists_in result.turns.turns ≤ L.stage.bound * L.each.twists }
+    ensures walk { IsWalk (stage_of L.LETTERS) state.now result.turns.turns result.end }
+    ensures goal { (stage_of L.LETTERS).IsGoal result.end }
+    ensures kept { starts_of L.LETTERS result.end }
+    ensures at_most { length result.turns.turns ≤ (stage_of L.LETTERS).bound * (each_of L.LETTERS).turns }
+    ensures twists { twists_in result.turns.turns ≤ (stage_of L.LETTERS).bound * (each_of L.LETTERS).twists }
 {
     L::is_found_by_index();
     let word = stage_word(table, state);
-    walked(L::letters(), &word[..], state)
+    walked(L::LETTERS, &word[..], state)
 }
 
 /// The turns of a word of at most 25 letters, whose numbers are below 144, and where they lead.
@@ -70,8 +70,8 @@ pub(crate) fn end_walk(letters: Letters, state: &Sq1) -> Walk
     ensures event { result.turns.event ≡ EventSq1 }
     ensures walk { IsWalk (stage_of letters) state.now result.turns.turns result.end }
     ensures goal { (stage_of letters).IsGoal result.end }
-    ensures at_most { length result.turns.turns ≤ 1 }
-    ensures twists { twists_in result.turns.turns ≡ 0 }
+    ensures at_most { length result.turns.turns ≤ (each_of letters).turns }
+    ensures twists { twists_in result.turns.turns ≤ (each_of letters).twists }
 {
     for number in 0..letter_count(letters) {
         let turns = letter(letters, number);

@@ -12,7 +12,7 @@ use Rattle.scr_sq1solve.specs.Totals.{is_shape_word}
 use Rattle.scr_sq1solve.proofs.Lengths.{twists-back, length-back}
 use Rattle.scr_sq1solve.proofs.TotalLaws.{play-total_back}
 use Rattle.scr_sq1short.specs.ShortScrambles.{IsShortest}
-use Rattle.scr_sq1short.proofs.ShortestLaws.{IsLeast, IsShortest-begun, IsShortest-kept_by, IsShortest-new_by, IsShortScramble-unique, no_more_twists}
+use Rattle.scr_sq1short.proofs.ShortestLaws.{IsLeast, IsLeast-begun, IsLeast-kept, IsLeast-new, IsShortScramble-unique, no_more_twists}
 use Rattle.scr_sq1short.proofs.scramble.scramble_sq1_short.Goals as goal
 use Rattle.scr_sq1short.proofs.scramble.scramble_sq1_short.Goals.{then-is_shorter, else-is_shorter}
 
@@ -31,47 +31,35 @@ total_from-total-requires-clause-short c =
 pub loop-place-init : goal.loop-place-init
 loop-place-init c =
     let first = c.shape_words-words.ensures.first (omega (arith, c.requires.short.0)) in
+    let words = c.shape_words-words.result in
     let total = c.total_from-least.ensures in
-    record {
-      shortest = IsShortest-begun c.args.state.now c.shape_words-words.result c.word.result.now c.total_from-least.result.turns
-          (slice_get_within c.shape_words-words.result 0 first.0 first.2) c.word.ensures.word total.total;
-      event = total.event;
-      twists = total.twists;
-      turns = total.at_most;
-    }
+    IsLeast-begun c.args.state.now words c.word.result.now c.total_from-least.result (slice_get_within words 0 first.0 first.2)
+    c.word.ensures.word total.total (record { event = total.event; bounds = record { twists = total.twists; turns = total.at_most } })
 
 pub loop-place-preserved : goal.loop-place-preserved
 loop-place-preserved c =
     let s = c.args.state.now in
     let words = c.shape_words-words.result in
     let place = c.loop-place.place in
-    let least = c.loop-place.invariant in
     let word = c.word-in-loop-place in
     let total = c.total_from-total.ensures in
     let inside : place < length words = omega (arith, c.loop-place-test.true, c.len-place-end.ensures.count) in
     elim c.if-is_shorter.branch [
       | then-is_shorter w ↦
-          subst (IsLeast s (take (place + 1) words)) (sym w.least-is) (record {
-            shortest = IsShortest-new_by s words place word.result.now inside word.ensures.word c.loop-place.least.turns
-                c.total_from-total.result.turns least.shortest total.total
-                (omega (arith, w.if-is_shorter.true, c.twist_count.ensures, c.twist_count-in-loop-place.ensures));
-            event = total.event;
-            twists = total.twists;
-            turns = total.at_most;
-          })
+          subst (IsLeast s (take (place + 1) words)) (sym w.least-is)
+          (IsLeast-new s words place word.result.now inside word.ensures.word c.loop-place.least c.total_from-total.result
+          c.loop-place.invariant total.total
+          (record { event = total.event; bounds = record { twists = total.twists; turns = total.at_most } })
+          (omega (arith, w.if-is_shorter.true, c.twist_count.ensures, c.twist_count-in-loop-place.ensures)))
       | else-is_shorter w ↦
-          subst (IsLeast s (take (place + 1) words)) (sym w.least-is) (record {
-            shortest = IsShortest-kept_by s words place word.result.now inside word.ensures.word c.loop-place.least.turns
-                c.total_from-total.result.turns least.shortest total.total
-                (omega (arith, w.if-is_shorter.false, c.twist_count.ensures, c.twist_count-in-loop-place.ensures));
-            event = least.event;
-            twists = least.twists;
-            turns = least.turns;
-          })
+          subst (IsLeast s (take (place + 1) words)) (sym w.least-is)
+          (IsLeast-kept s words place word.result.now inside word.ensures.word c.loop-place.least c.total_from-total.result
+          c.loop-place.invariant total.total
+          (omega (arith, w.if-is_shorter.false, c.twist_count.ensures, c.twist_count-in-loop-place.ensures)))
     ]
 
 pub inverse-requires : goal.inverse-requires
-inverse-requires c = λ clock. let event = c.loop-place.invariant.event in cc
+inverse-requires c = λ clock. let event = c.loop-place.invariant.written.event in cc
 
 -- all words are looked at
 whole : (c : goal.After-inverse) → take c.loop-place.place c.shape_words-words.result ≡ c.shape_words-words.result
@@ -82,7 +70,7 @@ made : (c : goal.After-inverse) → c.inverse.result.turns ≡ back opposite c.l
 made c = ap (λ (w : Written). w.turns) c.inverse.ensures.value
 
 pub returns-clause-event : goal.returns-clause-event
-returns-clause-event c = ap (λ (w : Written). w.event) c.inverse.ensures.value ∙ c.loop-place.invariant.event
+returns-clause-event c = ap (λ (w : Written). w.event) c.inverse.ensures.value ∙ c.loop-place.invariant.written.event
 
 pub returns-clause-scramble : goal.returns-clause-scramble
 returns-clause-scramble c = record {
@@ -112,10 +100,10 @@ returns-clause-no_more c = λ turns scramble.
     )
 
 pub returns-clause-twists : goal.returns-clause-twists
-returns-clause-twists c = omega (arith, ap twists_in (made c), twists-back c.loop-place.least.turns, c.loop-place.invariant.twists)
+returns-clause-twists c = omega (arith, ap twists_in (made c), twists-back c.loop-place.least.turns, c.loop-place.invariant.written.bounds.twists)
 
 pub returns-clause-at_most : goal.returns-clause-at_most
-returns-clause-at_most c = omega (arith, ap length (made c), length-back c.loop-place.least.turns, c.loop-place.invariant.turns)
+returns-clause-at_most c = omega (arith, ap length (made c), length-back c.loop-place.least.turns, c.loop-place.invariant.written.bounds.turns)
 
 pub returns-clause-played : goal.returns-clause-played
 returns-clause-played c =

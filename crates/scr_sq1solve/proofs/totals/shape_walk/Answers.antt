@@ -3,8 +3,7 @@ use Rattle.std.specs.Prelude.{is_some}
 use Rattle.scr_combinatorics.specs.Play.{play}
 use Rattle.scr_sq1.specs.Units.{sq1_after}
 use Rattle.scr_sq1solve.specs.Counts.{Costs}
-use Rattle.scr_sq1solve.specs.Stages.{shape_letter}
-use Rattle.scr_sq1solve.proofs.Lengths.{Costs-shape}
+use Rattle.scr_sq1solve.specs.declared.stage_letters.Letters.TheVariants.{OfShapes}
 use Rattle.scr_sq1solve.proofs.TotalLaws.{All-shape_word, play-shape_word, shape_word-goal}
 use Rattle.scr_sq1solve.proofs.WalkLaws.{Costs-spelled}
 use Rattle.scr_sq1solve.proofs.totals.shape_walk.Goals as goal
@@ -24,7 +23,7 @@ returns-clause-goal c =
 costs : (c : goal.After-walked) → Costs c.walked.result.turns.turns 26 13
 costs c =
     subst (λ turns. Costs turns 26 13) (sym c.walked.ensures.turns)
-    (Costs-spelled shape_letter 2 1 Costs-shape c.args.shape_word.now 13 c.requires.short)
+    (Costs-spelled OfShapes c.args.shape_word.now 13 c.requires.short)
 
 pub returns-clause-at_most : goal.returns-clause-at_most
 returns-clause-at_most c = (costs c).turns

@@ -4,7 +4,6 @@ use Rattle.scr_combinatorics.specs.Digits.{mixed_digits}
 use Rattle.scr_sq1.specs.Units.{Sq1State, IsSq1}
 use Rattle.scr_sq1.specs.Shapes.{IsShape, shape_at}
 use Rattle.scr_sq1.specs.Numbers.{laid, shape_word, sq1_bases, sq1_of_digits}
-use Rattle.scr_sq1.proofs.InHalves.{IsSq1-halves}
 use Rattle.scr_sq1.proofs.StatePieces.{LaidState-pieces}
 use Rattle.scr_sq1.proofs.numbers.Sq1NumbersNumbering.state_at.Goals as goal
 
@@ -17,7 +16,7 @@ of_valid-requires c =
     let l = LaidState-pieces hs cs es shape c.unrank-2.ensures.valid c.unrank-3.ensures.valid in
     let equator = nat_eq (slice_index_or c.unrank.result 0 0) 1 in
     subst (λ us. let s : Sq1State = record { units = us; equator = equator } in IsSq1 s) (sym c.units_of-units.ensures)
-    (IsSq1-halves (laid (shape_word hs) cs es) l.halves equator)
+    (l.valid equator)
 
 -- states that are laid of the same
 same_laid : (hs gs cs bs es ds : List ℕ) (q r : Bool) → hs ≡ gs → cs ≡ bs → es ≡ ds → q ≡ r → (let s : Sq1State = record { units = laid (shape_word hs) cs es; equator = q } in let t : Sq1State = record { units = laid (shape_word gs) bs ds; equator = r } in s ≡ t)

@@ -1,50 +1,43 @@
-use Rattle.std.proofs.Common.{◌≡◌, ℕ, Some, List, refl, sym, ap, ◌∙◌, subst}
-use Rattle.std.specs.Prelude.{ℤ}
+use Rattle.std.proofs.Common.{◌≡◌, ℕ, List, Some, refl, sym, ap, ◌∙◌, subst}
 use Rattle.std.proofs.lemmas.Int.{to_z-of_z}
 use Rattle.scr_combinatorics.specs.Lists.{pick}
 use Rattle.scr_sq1.specs.Units.{Sq1State, IsSq1, is_open, clockwise, turn_places, turned, after_layers}
 use Rattle.scr_sq1.proofs.Lawful.{after_layers-open, after_layers-closed, units_turned, IsSq1-turned}
 use Rattle.scr_sq1.proofs.state.Sq1.turn.Goals as goal
+use Rattle.scr_sq1.proofs.state.Sq1.turn.Goals.{After-is_open_turned}
 
--- what was tested of the units is so of the turned state
-tested : (s : Sq1State) (x y : ℤ) (n m : ℕ) → n ≡ clockwise x → m ≡ clockwise y
-    → is_open (pick s.units (turn_places n m)) ≡ is_open (turned s x y).units
-tested s x y n m top bottom = ap (λ r. is_open r.units) (units_turned s x y n m (pick s.units (turn_places n m)) top bottom refl)
+abbrev state : After-is_open_turned → Sq1State
+state c = record { units = c.self.inside.units; equator = c.self.inside.equator }
+
+-- units that are moved by the amounts as they are read are those of the turned state
+moved : (c : After-is_open_turned) (units : List ℕ) → units ≡ pick (state c).units (turn_places c.clockwise-top.result c.clockwise-bottom.result)
+    → (let r : Sq1State = record { units = units; equator = (state c).equator } in r) ≡ turned (state c) c.args.top c.args.bottom
+moved c units are =
+    let top = c.ranges.top in
+    let bottom = c.ranges.bottom in
+    let n : c.clockwise-top.result ≡ clockwise c.args.top = simp to_z-of_z at c.clockwise-top.ensures.value in
+    let m : c.clockwise-bottom.result ≡ clockwise c.args.bottom = simp to_z-of_z at c.clockwise-bottom.ensures.value in
+    units_turned (state c) c.args.top c.args.bottom c.clockwise-top.result c.clockwise-bottom.result units n m are
+
+-- and what is tested of them is so of that state
+tested : (c : After-is_open_turned) → is_open (turned (state c) c.args.top c.args.bottom).units ≡ c.is_open_turned.result
+tested c = sym (ap (λ r. is_open r.units) (moved c _ refl)) ∙ sym c.is_open_turned.ensures
 
 pub invariant_of-result : goal.invariant_of-result
 invariant_of-result c =
-    let s : Sq1State = record { units = c.self.inside.units; equator = c.self.inside.equator } in
-    let top = c.ranges.top in
-    let bottom = c.ranges.bottom in
-    let n = simp to_z-of_z at c.clockwise-top.ensures.value in
-    let m = simp to_z-of_z at c.clockwise-bottom.ensures.value in
-    subst IsSq1
-    (sym (units_turned s c.args.top c.args.bottom c.clockwise-top.result c.clockwise-bottom.result c.turned.result n m c.turned.ensures))
-    (IsSq1-turned s c.args.top c.args.bottom c.self.invariant
-    (sym (tested s c.args.top c.args.bottom c.clockwise-top.result c.clockwise-bottom.result n m) ∙ sym c.is_open_turned.ensures
-    ∙ c.if-is_open_turned.true))
+    let a = (goal.at.invariant_of-result c).After-is_open_turned in
+    subst IsSq1 (sym (moved a c.turned.result c.turned.ensures))
+    (IsSq1-turned (state a) c.args.top c.args.bottom c.self.invariant (tested a ∙ c.if-is_open_turned.true))
 
 pub returns-then-is_open_turned : goal.returns-then-is_open_turned
 returns-then-is_open_turned c =
-    let s : Sq1State = record { units = c.self.inside.units; equator = c.self.inside.equator } in
-    let top = c.ranges.top in
-    let bottom = c.ranges.bottom in
-    let n = simp to_z-of_z at c.clockwise-top.ensures.value in
-    let m = simp to_z-of_z at c.clockwise-bottom.ensures.value in
-    ap Some (units_turned s c.args.top c.args.bottom c.clockwise-top.result c.clockwise-bottom.result c.turned.result n m c.turned.ensures)
-    ∙ sym (after_layers-open s c.args.top c.args.bottom
-    (sym (tested s c.args.top c.args.bottom c.clockwise-top.result c.clockwise-bottom.result n m) ∙ sym c.is_open_turned.ensures
-    ∙ c.if-is_open_turned.true))
+    let a = (goal.at.returns-then-is_open_turned c).After-is_open_turned in
+    ap Some (moved a c.turned.result c.turned.ensures)
+    ∙ sym (after_layers-open (state a) c.args.top c.args.bottom (tested a ∙ c.if-is_open_turned.true))
     ∙ ap (λ r. after_layers r c.args.top c.args.bottom) c.self.view_is
 
 pub returns-else-is_open_turned : goal.returns-else-is_open_turned
 returns-else-is_open_turned c =
-    let s : Sq1State = record { units = c.self.inside.units; equator = c.self.inside.equator } in
-    let top = c.ranges.top in
-    let bottom = c.ranges.bottom in
-    let n = simp to_z-of_z at c.clockwise-top.ensures.value in
-    let m = simp to_z-of_z at c.clockwise-bottom.ensures.value in
-    sym (after_layers-closed s c.args.top c.args.bottom
-    (sym (tested s c.args.top c.args.bottom c.clockwise-top.result c.clockwise-bottom.result n m) ∙ sym c.is_open_turned.ensures
-    ∙ c.if-is_open_turned.false))
+    let a = (goal.at.returns-else-is_open_turned c).After-is_open_turned in
+    sym (after_layers-closed (state a) c.args.top c.args.bottom (tested a ∙ c.if-is_open_turned.false))
     ∙ ap (λ r. after_layers r c.args.top c.args.bottom) c.self.view_is
