@@ -138,7 +138,7 @@ module _ (n k : ℕ) (block xs : List ℕ) (set : IsPlaceSet n k block) (h : IsP
 
 -- ---- places with marked pieces, and the others
 
-occurrences-append : (x : ℕ) (xs ys : List ℕ) → occurrences x (xs ++ ys) ≡ occurrences x xs + occurrences x ys
+pub occurrences-append : (x : ℕ) (xs ys : List ℕ) → occurrences x (xs ++ ys) ≡ occurrences x xs + occurrences x ys
 occurrences-append x [] ys = omega arith
 occurrences-append x (z ∷ zs) ys = omega (arith, occurrences-append x zs ys)
 

@@ -144,7 +144,7 @@ module _ (c : CubeState) (d : IsDominoCube c) where
 
 -- ---- turns of the edges above and below
 
-marked-none : (marked : ℕ → Bool) (low : ℕ) (xs : List ℕ) → All (λ x. marked x ≡ false) xs → marked_from marked low xs ≡ []
+pub marked-none : (marked : ℕ → Bool) (low : ℕ) (xs : List ℕ) → All (λ x. marked x ≡ false) xs → marked_from marked low xs ≡ []
 marked-none marked low [] h = refl
 marked-none marked low (x ∷ xs) h =
     ap (λ b. cond b (low ∷ marked_from marked (suc low) xs) (marked_from marked (suc low) xs)) (All-head (λ y. marked y ≡ false) x xs h)

@@ -63,7 +63,7 @@ pub record PicksBlocks (edges a b c : List ℕ) : Type 0 where
   pub third : pick edges middle_edges ≡ pick middle_edges c
 
 -- lists that are joined alike are the same
-joined_parts : (a b x y : List ℕ) → length a ≡ length x → a ++ b ≡ x ++ y → (a ≡ x) × (b ≡ y)
+pub joined_parts : (a b x y : List ℕ) → length a ≡ length x → a ++ b ≡ x ++ y → (a ≡ x) × (b ≡ y)
 joined_parts a b x y same e = (
   sym (take_at a b (length a) refl) ∙ ap (take (length a)) e ∙ take_at x y (length a) (sym same),
   sym (drop_at a b (length a) refl) ∙ ap (drop (length a)) e ∙ drop_at x y (length a) (sym same),

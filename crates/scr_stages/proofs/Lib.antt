@@ -19,3 +19,4 @@ pub mod SolutionLaws
 pub mod FollowSteps
 pub mod PlaceSteps
 pub mod TetradTables
+pub mod EachIndex

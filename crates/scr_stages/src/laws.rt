@@ -1,5 +1,5 @@
 //! What holds of the stages whatever the code: calls that do nothing, whose contracts are the laws.
-ghost use Rattle.std.specs.Prelude.{◌≡◌, ◌↔◌, ◌≤◌, List, Some, length};
+ghost use Rattle.std.specs.Prelude.{◌≡◌, ℕ, ◌<◌, ◌↔◌, ◌≤◌, List, Some, length};
 ghost use Rattle.scr_combinatorics.specs.Lists.{numbers_from};
 ghost use Rattle.scr_combinatorics.specs.Play.{play};
 ghost use Rattle.scr_combinatorics.specs.Reach.{IsReached};
@@ -41,12 +41,21 @@ pub fn reached(tables: &StageTables)
 }
 
 /// From every cube with an index, of those of which a table speaks, a turn leads to one and the same index, that to
-/// which the table's coordinate leads; and all of them are at the table's goal, or none.
+/// which the table's coordinate leads; and all of them are at the table's goal, or none. Each number below the table's
+/// count is the index of such a cube.
 pub fn indexes()
     ensures flips { Follows flips_space (positions flips_line.coordinate) flips_number }
     ensures slice { Follows slice_space (positions slice_line.coordinate) slice_number }
     ensures tetrads { Follows tetrads_space (positions tetrads_line.coordinate) tetrads_number }
     ensures halves { Follows halves_space (positions halves_line.coordinate) half_cubes.number_of }
+    ensures flips_each { (i : ℕ) → i < flips_line.coordinate.count
+        → (c : CubeState) × flips_space.IsValid c × (flips_number c ≡ i) }
+    ensures slice_each { (i : ℕ) → i < slice_line.coordinate.count
+        → (c : CubeState) × slice_space.IsValid c × (slice_number c ≡ i) }
+    ensures tetrads_each { (i : ℕ) → i < tetrads_line.coordinate.count
+        → (c : CubeState) × tetrads_space.IsValid c × (tetrads_number c ≡ i) }
+    ensures halves_each { (i : ℕ) → i < halves_line.coordinate.count
+        → (c : CubeState) × halves_space.IsValid c × (half_cubes.number_of c ≡ i) }
 {}
 
 /// Where the four tables are built, a domino has the index of solved in `tetrads` exactly where half turns lead to it

@@ -20,3 +20,4 @@ pub mod NearBits
 pub mod RowLaws
 pub mod TakenBack
 pub mod HeldScrambles
+pub mod EachIndex

@@ -17,12 +17,21 @@ pub fn words()
 {}
 
 /// From every cube with an index, of those of which a table speaks, a turn leads to one and the same index, that to
-/// which the table's coordinate leads; and all of them are at the table's goal, or none.
+/// which the table's coordinate leads; and all of them are at the table's goal, or none. Each number below the table's
+/// count is the index of such a cube.
 pub fn indexes()
     ensures flipslice { Follows flipslice_space (positions flipslice_line.coordinate) flipslice_number }
     ensures twistslice { Follows twistslice_space (positions twistslice_line.coordinate) twistslice_number }
     ensures cornerslice { Follows cornerslice_space (positions cornerslice_line.coordinate) cornerslice_number }
     ensures edgeslice { Follows edgeslice_space (positions edgeslice_line.coordinate) edgeslice_number }
+    ensures flipslice_each { (i : ℕ) → i < flipslice_line.coordinate.count
+        → (c : CubeState) × flipslice_space.IsValid c × (flipslice_number c ≡ i) }
+    ensures twistslice_each { (i : ℕ) → i < twistslice_line.coordinate.count
+        → (c : CubeState) × twistslice_space.IsValid c × (twistslice_number c ≡ i) }
+    ensures cornerslice_each { (i : ℕ) → i < cornerslice_line.coordinate.count
+        → (c : CubeState) × cornerslice_space.IsValid c × (cornerslice_number c ≡ i) }
+    ensures edgeslice_each { (i : ℕ) → i < edgeslice_line.coordinate.count
+        → (c : CubeState) × edgeslice_space.IsValid c × (edgeslice_number c ≡ i) }
 {}
 
 /// A first part has at most twelve of the 18 turns, and each word of so many that is such is one.
