@@ -29,14 +29,6 @@ first-begun : (byte : ℕ) (text rest : List ℕ) → IsPlain (byte ∷ text) �
 first-begun byte text rest plain =
     ap (λ x. line_at (cut_lines (x ++ rest)) 1) (append-nil (byte ∷ text)) ∙ ap (λ x. line_at x 1) (cut-begun byte text rest plain)
 
-comes-differs : (expected : ExpectedLines) (i : ℕ) (found : Option CutLine) (line : CutLine) → found ≡ Some line →
-    (LineAgrees expected i line → ⊥) → ((missing : Missing) → IsMissing expected i line missing → ⊥) → LineComesTo expected i found (Differs i)
-comes-differs expected i found line is differs there = rw is (refl, differs, there)
-
-comes-limit : (expected : ExpectedLines) (i : ℕ) (found : Option CutLine) (line : CutLine) (missing : Missing) → found ≡ Some line →
-    IsMissing expected i line missing → LineComesTo expected i found (Limit missing)
-comes-limit expected i found line missing is so = rw is so
-
 module _ (expected : ExpectedLines) (lawful : AreLawful expected) (i byte : ℕ) (text : List ℕ) (stopped : Bool)
     (full : stopped ≡ false → length (byte ∷ text) ≡ most_bytes + 1) where
   begun-differs : (rest : List ℕ) → CanFollow stopped rest → (stopped ≡ true) ⊎ (stopped ≡ false) → LineAgrees expected i (begun-line byte text rest) → ⊥
@@ -69,28 +61,15 @@ module _ {S : Type 0} (left : S → Option (List ℕ)) (faults ends : S → ℕ)
       ChecksLine left faults ends before after expected i (Ok tt)
   line-good before after expected i text plain takes agrees = record { text = text; takes = takes; plain = plain; agrees = agrees }
 
-  line-ended-differs : (before after : Reading S) (expected : ExpectedLines) → AreLawful expected → (i : ℕ) (text : List ℕ) → IsPlain text →
-      Takes left faults ends before after (text ++ 10 ∷ []) → length text ≤ most_bytes → expected.IsAnswer i text (Ok false) →
-      ChecksLine left faults ends before after expected i (Err (Differs i))
-  line-ended-differs before after expected lawful i text plain takes short answer = record {
+  -- an ended line, read whole, comes to a fault
+  line-ended : (before after : Reading S) (expected : ExpectedLines) (i : ℕ) (text : List ℕ) (fault : CheckFault) → IsPlain text →
+      Takes left faults ends before after (text ++ 10 ∷ []) → length text ≤ most_bytes →
+      LineComesTo expected i (Some (record { bytes = text; ended = true })) fault → TakesBadLine left faults ends before after expected i fault
+  line-ended before after expected i text fault plain takes short comes = record {
     bytes = text ++ 10 ∷ [];
     takes = takes;
     few = omega (arith, length-append text (10 ∷ []));
-    comes_to = λ rest may. comes-differs expected i (line_at (cut_lines ((text ++ 10 ∷ []) ++ rest)) 1)
-        (record { bytes = text; ended = true }) (first-ended text rest plain)
-        (λ agrees. let same = lawful.one i text (Ok false) (Ok true) answer agrees.1 in cc)
-        (λ missing lacks. let same = lawful.one i text (Ok false) (Err missing) answer lacks in cc);
-  }
-
-  line-ended-limit : (before after : Reading S) (expected : ExpectedLines) (i : ℕ) (text : List ℕ) (missing : Missing) → IsPlain text →
-      Takes left faults ends before after (text ++ 10 ∷ []) → length text ≤ most_bytes → expected.IsAnswer i text (Err missing) →
-      ChecksLine left faults ends before after expected i (Err (Limit missing))
-  line-ended-limit before after expected i text missing plain takes short answer = record {
-    bytes = text ++ 10 ∷ [];
-    takes = takes;
-    few = omega (arith, length-append text (10 ∷ []));
-    comes_to = λ rest may. comes-limit expected i (line_at (cut_lines ((text ++ 10 ∷ []) ++ rest)) 1)
-        (record { bytes = text; ended = true }) missing (first-ended text rest plain) answer;
+    comes_to = λ rest may. subst (λ found. LineComesTo expected i found fault) (sym (first-ended text rest plain)) comes;
   }
 
   -- there was no line
@@ -103,30 +82,16 @@ module _ {S : Type 0} (left : S → Option (List ℕ)) (faults ends : S → ℕ)
     comes_to = λ rest may. none-there expected i rest (may (ended-by after.ended full));
   }
 
-  line-begun-differs : (before after : Reading S) (expected : ExpectedLines) → AreLawful expected → (i byte : ℕ) (text : List ℕ) →
-      IsPlain (byte ∷ text) → Takes left faults ends before after ((byte ∷ text) ++ []) → length (byte ∷ text) ≤ most_bytes + 1 →
-      (after.ended ≡ false → length (byte ∷ text) ≡ most_bytes + 1) → (answer : Bool) → expected.IsAnswer i (byte ∷ text) (Ok answer) →
-      ChecksLine left faults ends before after expected i (Err (Differs i))
-  line-begun-differs before after expected lawful i byte text plain takes few full answer is = record {
+  -- so does one of which the first bytes are read
+  line-begun : (before after : Reading S) (expected : ExpectedLines) (i byte : ℕ) (text : List ℕ) (fault : CheckFault) → IsPlain (byte ∷ text) →
+      Takes left faults ends before after ((byte ∷ text) ++ []) → length (byte ∷ text) ≤ most_bytes + 1 →
+      ((rest : List ℕ) → CanFollow after.ended rest → LineComesTo expected i (Some (begun-line byte text rest)) fault) →
+      TakesBadLine left faults ends before after expected i fault
+  line-begun before after expected i byte text fault plain takes few comes = record {
     bytes = (byte ∷ text) ++ [];
     takes = takes;
     few = omega (arith, ap length (append-nil text));
-    comes_to = λ rest may. comes-differs expected i (line_at (cut_lines (((byte ∷ text) ++ []) ++ rest)) 1)
-        (begun-line byte text rest) (first-begun byte text rest plain)
-        (begun-differs expected lawful i byte text after.ended full rest may (cases_Bool after.ended))
-        (begun-there expected lawful i byte text after.ended full rest answer is);
-  }
-
-  line-begun-limit : (before after : Reading S) (expected : ExpectedLines) → AreLawful expected → (i byte : ℕ) (text : List ℕ) (missing : Missing) →
-      IsPlain (byte ∷ text) → Takes left faults ends before after ((byte ∷ text) ++ []) → length (byte ∷ text) ≤ most_bytes + 1 →
-      expected.IsAnswer i (byte ∷ text) (Err missing) → ChecksLine left faults ends before after expected i (Err (Limit missing))
-  line-begun-limit before after expected lawful i byte text missing plain takes few is = record {
-    bytes = (byte ∷ text) ++ [];
-    takes = takes;
-    few = omega (arith, ap length (append-nil text));
-    comes_to = λ rest may. comes-limit expected i (line_at (cut_lines (((byte ∷ text) ++ []) ++ rest)) 1)
-        (begun-line byte text rest) missing (first-begun byte text rest plain)
-        (lawful.by_line i (byte ∷ text) (byte ∷ (text ++ first_bytes (cut_lines rest))) missing is);
+    comes_to = λ rest may. subst (λ found. LineComesTo expected i found fault) (sym (first-begun byte text rest plain)) (comes rest may);
   }
 
   -- what reading a line left: its bytes, and whether its line feed was read
@@ -149,21 +114,30 @@ module _ {S : Type 0} (left : S → Option (List ℕ)) (faults ends : S → ℕ)
       IsLineRead before after text ended → (text ≡ [] → ended ≡ true) → expected.IsAnswer i text (Err missing) →
       ChecksLine left faults ends before after expected i (Err (Limit missing))
   line-limit before after expected lawful i text true missing read there is =
-      line-ended-limit before after expected i text missing read.plain read.taken (read.short refl) is
+      line-ended before after expected i text (Limit missing) read.plain read.taken (read.short refl) is
   line-limit before after expected lawful i [] false missing read there is = absurd (false≢true (there refl))
   line-limit before after expected lawful i (byte ∷ text) false missing read there is =
-      line-begun-limit before after expected lawful i byte text missing read.plain read.taken read.few is
+      line-begun before after expected i byte text (Limit missing) read.plain read.taken read.few
+      (λ rest may. lawful.by_line i (byte ∷ text) (byte ∷ (text ++ first_bytes (cut_lines rest))) missing is)
 
   -- it doesn't agree, or isn't ended
   pub line-differs : (before after : Reading S) (expected : ExpectedLines) → AreLawful expected → (i : ℕ) (text : List ℕ) (ended answer : Bool) →
       IsLineRead before after text ended → (text ≡ [] → ended ≡ true) → expected.IsAnswer i text (Ok answer) → (ended ≡ true → answer ≡ false) →
       ChecksLine left faults ends before after expected i (Err (Differs i))
   line-differs before after expected lawful i text true answer read there is not =
-      line-ended-differs before after expected lawful i text read.plain read.taken (read.short refl)
-      (subst (λ a. expected.IsAnswer i text (Ok a)) (not refl) is)
+      let no : expected.IsAnswer i text (Ok false) = subst (λ a. expected.IsAnswer i text (Ok a)) (not refl) is in
+      line-ended before after expected i text (Differs i) read.plain read.taken (read.short refl) (
+        refl,
+        λ agrees. let same = lawful.one i text (Ok false) (Ok true) no agrees.1 in cc,
+        λ missing lacks. let same = lawful.one i text (Ok false) (Err missing) no lacks in cc,
+      )
   line-differs before after expected lawful i [] false answer read there is not = absurd (false≢true (there refl))
   line-differs before after expected lawful i (byte ∷ text) false answer read there is not =
-      line-begun-differs before after expected lawful i byte text read.plain read.taken read.few (read.full refl) answer is
+      line-begun before after expected i byte text (Differs i) read.plain read.taken read.few (λ rest may. (
+        refl,
+        begun-differs expected lawful i byte text after.ended (read.full refl) rest may (cases_Bool after.ended),
+        begun-there expected lawful i byte text after.ended (read.full refl) rest answer is,
+      ))
 
   -- ---- one line after another
 

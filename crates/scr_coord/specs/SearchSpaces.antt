@@ -3,7 +3,7 @@ use Rattle.std.specs.Prelude.{◌≡◌, ℕ, ◌<◌, ◌↔◌, Bool, IsTrue, 
 use Rattle.std.specs.Option.{option_map}
 use Rattle.scr_combinatorics.specs.Play.{play}
 use Rattle.scr_combinatorics.specs.FirstWord.{LeadsTo, IsFirstWord, IsDistance}
-use Rattle.scr_coord.specs.Coordinates.{Coordinate, moved, IsGoal}
+use Rattle.scr_coord.specs.Coordinates.{Coordinate, moved, IsGoal as IsGoalOf}
 
 -- States, those of them that are valid, where the turn of a number leads from each, or nothing where it is barred, and
 -- which states are goals.
@@ -18,7 +18,7 @@ tested_space valid after goal = record { IsValid = λ s. IsTrue (valid s); after
 
 -- The positions of a coordinate.
 abbrev pub positions : Coordinate → SearchSpace ℕ
-positions c = record { IsValid = λ p. p < c.count; after = moved c; IsGoal = IsGoal c }
+positions c = record { IsValid = λ p. p < c.count; after = moved c; IsGoal = IsGoalOf c }
 
 -- A view of the states of one space as those of another goes along with turns: from a valid state a turn is defined in
 -- both or in neither, and leads to the view of the turned state. Turns keep states valid; the view of a valid state is

@@ -1,5 +1,5 @@
 //! Move tables: where each turn leads from each position of a coordinate, in one flat list, turn after turn.
-ghost use Rattle.std.specs.Prelude.{◌≡◌, ◌+◌, ◌*◌, ◌^◌, ◌<◌, ◌++◌, ◌∷◌, [], IfOk, OnOk, length};
+ghost use Rattle.std.specs.Prelude.{◌≡◌, ℕ, ◌+◌, ◌*◌, ◌^◌, ◌<◌, ◌++◌, ◌∷◌, [], IfOk, OnOk, Some, length};
 ghost use Rattle.scr_coord.specs.Coordinates.{Coordinate, StaysBelow};
 ghost use Rattle.scr_coord.specs.SearchSpaces.{ShowsSame};
 ghost use Rattle.scr_coord.specs.Moves.{moves_coordinate, moves_row, each_below};
@@ -60,6 +60,20 @@ impl MoveTable {
             targets,
             goals,
         })
+    }
+
+    /// Where a turn leads from a position, if it is one and the turn is not barred there: else any number.
+    #[inline]
+    pub fn target(&self, position: u32, turn: u32) -> u32
+        ensures { (next : ℕ) → (moves_coordinate self.now).after position turn ≡ Some next → result ≡ next }
+    {
+        match self
+            .targets
+            .get(turn as usize * self.count as usize + position as usize)
+        {
+            Some(target) => *target,
+            None => 0,
+        }
     }
 }
 

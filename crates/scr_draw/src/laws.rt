@@ -48,11 +48,15 @@ pub fn same_ways<P: Numbering + Permit<P::State>>(puzzle: &P, least: u32)
 }
 
 /// Where the valid states are those that turns reach, the states that are drawn are those that turns reach and that
-/// need a minimum of the event's range, each by the same number of lists.
+/// need a minimum of the event's range, each by the same number of lists. Numbers have one outcome at each minimum,
+/// whichever test tells what states need: the state that the first number which doesn't miss hits, and it is permitted;
+/// or none, where each misses.
 pub fn drawn_fairly<P: Numbering + Permit<P::State>>(event: &P)
     requires reached { (s : P.State) → (P.numbered event.now).IsValid s ↔ IsReached (P.puzzle event.now) s }
-    ensures { let space = space_of (P.numbered event.now) (P.puzzle event.now) in
+    ensures fair { let space = space_of (P.numbered event.now) (P.puzzle event.now) in
         (least : ℕ) → least ≤ P.greatest event.now → IsFairFor space least }
+    ensures one_outcome { let space = space_of (P.numbered event.now) (P.puzzle event.now) in
+        (least : ℕ) → least ≤ P.greatest event.now → HasOneOutcome space least }
 {
     event.count();
     event.is_exact();
@@ -82,18 +86,6 @@ pub fn first_hit<P: Numbering + Permit<P::State>>(puzzle: &P, least: u32)
         (word : ℕ → ℕ) (place all : ℕ) (s : P.State) (tried : ℕ) → IsFirstHit hits word place all s tried
         → numbers_read hits (attempt_values word place all) ≡ suc tried }
 {}
-
-/// Where the valid states are those that turns reach, numbers have one outcome at each minimum of the event's range,
-/// whichever test tells what states need: the state that the first number which doesn't miss hits, and it is permitted;
-/// or none, where each misses.
-pub fn one_outcome<P: Numbering + Permit<P::State>>(event: &P)
-    requires reached { (s : P.State) → (P.numbered event.now).IsValid s ↔ IsReached (P.puzzle event.now) s }
-    ensures { let space = space_of (P.numbered event.now) (P.puzzle event.now) in
-        (least : ℕ) → least ≤ P.greatest event.now → HasOneOutcome space least }
-{
-    event.count();
-    event.is_exact();
-}
 
 /// The definitions at worked numbers.
 #[tactic(auto, unfolding(crate::proofs::OnLiterals::draws_on_literals))]

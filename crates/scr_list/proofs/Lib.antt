@@ -5,3 +5,4 @@ pub mod RoundLemmas
 pub mod RoundFacts
 pub mod ReadLemmas
 pub mod PrintedLemmas
+pub mod OnLiterals

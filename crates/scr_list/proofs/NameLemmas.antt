@@ -1,7 +1,7 @@
 -- Names of rounds, and the line that one follows.
 use Rattle.std.proofs.Common.{◌≡◌, ℕ, suc, ◌+◌, ◌-◌, ◌<◌, ◌≤◌, Bool, true, false, cond, List, [], ◌∷◌, ◌++◌, take, drop, length, get_or, reverse, Option, Some, None, refl, sym, ap, ◌∙◌, subst, arith, length-append, length-drop, length-take-le}
 use Rattle.std.specs.Prelude.{◌&&◌, nat_le, nat_lt, All, position, option_map}
-use Rattle.std.specs.List.{prefix_len, suffix_len, position_or_len}
+use Rattle.std.specs.List.{list_all, prefix_len, suffix_len, position_or_len}
 use Rattle.std.specs.Str.{IsUtf8}
 use Rattle.std.proofs.lemmas.List.{get_or-drop, get_or-take, get_or-reverse, length-reverse, take_all, take-append-le}
 use Rattle.std.proofs.lemmas.List.Elements.{All-head, All-tail}
@@ -10,7 +10,7 @@ use Rattle.std.proofs.lemmas.List.Sums.{prefix_len_is, prefix_len_stops, suffix_
 use Rattle.std.proofs.lemmas.Str.{IsUtf8-from_ascii}
 use Rattle.std.proofs.lemmas.Str.Ascii.{IsAscii-from_all}
 use borrow.Author.Tests.{leb-true, lt-ltb, le-ltb, ltb-false}
-use Rattle.scr_text.specs.Lines.{is_blank}
+use Rattle.scr_text.specs.Lines.{has_bytes, is_blank}
 use Rattle.scr_list.specs.Names.{is_colon, told_part, name_part, without_blanks_before, without_blanks_behind, trimmed, is_name_byte, is_name, name_in, IsName}
 
 -- ---- what a name holds
@@ -39,6 +39,11 @@ is_name-HasNameBytes text is =
       low = λ k d h. leb-true 32 (get_or text k d) (each k d h).0;
       high = λ k d h. leb-true (get_or text k d) 126 (each k d h).1;
     }
+
+-- a round's name has such bytes alone, if it has one
+pub name-bytes : (name : List ℕ) → (has_bytes name ≡ true → IsName name) → list_all is_name_byte name ≡ true
+name-bytes [] named = refl
+name-bytes (byte ∷ name) named = (both _ _ (named refl).test).1
 
 -- such bytes are text
 pub is_name-IsUtf8 : (text : List ℕ) → is_name text ≡ true → IsUtf8 text

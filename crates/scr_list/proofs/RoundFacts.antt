@@ -174,7 +174,7 @@ most_bytes-le bytes = elim (version_of-cases bytes) [
   | inr second ↦ subst (λ (v : Version). v.most_bytes ≤ 16384) (sym second) (lit≤ tt)
 ]
 
-rounds_of-IsRounds : (bytes : List ℕ) (rounds : List Round) → rounds_of bytes ≡ Ok rounds → IsRounds rounds
+pub rounds_of-IsRounds : (bytes : List ℕ) (rounds : List Round) → rounds_of bytes ≡ Ok rounds → IsRounds rounds
 unfolding rounds_of
 rounds_of-IsRounds bytes rounds found =
     at (version_of bytes) (most_rounds-le bytes) (nat_lt (version_of bytes).most_bytes (length bytes)) (version_of bytes).has_version_line found

@@ -61,6 +61,7 @@ pub fn lists_that_were_not_read()
 
 /// Lists of which each rule of blanks, lines and ranges is told by a row: tabs and a space about the words, a carriage
 /// return at a line's end, an empty line that is counted, and groups past the last letter.
+#[tactic(auto, unfolding(crate::proofs::OnLiterals::lists_on_literals))]
 pub fn known_lists()
     ensures tabs { rounds_of (codes "\tclock\t\t1 ")
         ≡ Ok (record { event = Clock; groups = 1; least = 2; name = [] } ∷ []) }
@@ -72,6 +73,7 @@ pub fn known_lists()
 
 /// Rows of the second version: names with blanks about them and with a colon inside, lines with a colon that lack a name
 /// or words, and first lines that tell no version.
+#[tactic(auto, unfolding(crate::proofs::OnLiterals::lists_on_literals))]
 pub fn known_lists_with_names()
     ensures name { rounds_of (codes "version 2\r\n\nclock 1 :\tFinal: A \r\n")
         ≡ Ok (record { event = Clock; groups = 1; least = 2; name = codes "Final: A" } ∷ []) }

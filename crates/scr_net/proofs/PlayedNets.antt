@@ -75,26 +75,26 @@ module _ {S R : Type 0} (a : Action S R) (IsValid : S → Type 0) (IsTurn : R �
       let step = IsFollowed-after s parts.0 t own parts.1 in
       play-first (net_after side) (net s) (net parts.0) t w step.shows ∙ net-played w parts.0 e step.valid parts.2
 
-  -- the net of what a word makes is what the word makes of the net
-  pub net-of_played : (w : List Turn) (s : S) → IsValid s → IsSome (play after s w) → play (net_after side) (net s) w ≡ option_map net (play after s w)
-  net-of_played w s own some = by (play after s w) refl some
+  -- from a state with a solved net, the net of what a word makes is what the word makes of the net
+  played_net : (s : S) → IsValid s → net s ≡ solved_net side → (w : List Turn) → IsSome (play after s w)
+      → play (net_after side) (solved_net side) w ≡ option_map net (play after s w)
+  played_net s own solved w some = ap (λ n. play (net_after side) n w) (sym solved) ∙ by (play after s w) refl some
     where
       by : (o : Option S) → play after s w ≡ o → IsSome o → play (net_after side) (net s) w ≡ option_map net (play after s w)
       by None e h = absurd (cc)
       by (Some r) e h = net-played w s r own e ∙ sym (ap (option_map net) e)
 
--- a net by a rule turns as the rule does
-net-quarter : (side face : ℕ) (letter other : Sticker → ℕ) → 0 < side
-    → ((f row column : ℕ) → f < 6 → row < side → column < side
-    → letter (brought_from (side - 1) face 1 (sticker_at (side - 1) f row column)) ≡ other (sticker_at (side - 1) f row column))
+-- a net by a rule turns as the rule does, where it does so at each sticker that passes a test, as all do
+net-quarter : (side face : ℕ) (letter other : Sticker → ℕ) (test : Sticker → Bool) → 0 < side → each_sticker side test ≡ true
+    → ((s : Sticker) → test s ≡ true → letter (brought_from (side - 1) face 1 s) ≡ other s)
     → quarter_net side face 1 (net_of side letter) ≡ net_of side other
 unfolding quarter_net
-net-quarter side face letter other some same =
+net-quarter side face letter other test some passed same =
     net_of-same side (λ s. letter_at side (net_of side letter) (brought_from (side - 1) face 1 s)) other (λ f row column lf lr lc.
     let s : Sticker = sticker_at (side - 1) f row column in
     let is : IsSticker (side - 1) s = IsSticker-at (side - 1) f row column lf (omega arith) (omega arith) in
     letter_at-net_of side letter (brought_from (side - 1) face 1 s) some (IsSticker-brought (side - 1) face 1 s is)
-    ∙ same f row column lf lr lc)
+    ∙ same s (each_sticker-at side test passed f row column lf lr lc))
 
 -- ---- the 3x3x3
 
@@ -144,23 +144,15 @@ cube_letter-turned face q c s own turn h =
 cube_quarter : (face : ℕ) (q : CubeTurn) → slice_get cube_quarters face ≡ Some q → (c : CubeState) → IsCube c
     → quarter_net 3 face 1 (net_of_cube c) ≡ net_of_cube (cube_action.turned c q)
 cube_quarter face q there c own =
-    net-quarter 3 face (cube_letter c) (cube_letter (cube_action.turned c q)) (lit< tt) (λ f row column lf lr lc.
-    cube_letter-turned face q c (sticker_at 2 f row column) own (cube_turns face q there)
-    (each_sticker-at 3 (cube_comes_from face q) (cube_tests face q there) f row column lf lr lc))
-
-IsCube-solved : IsCube solved_cube
-unfolding solved_cube solved_orbit
-IsCube-solved = record { corners = IsZeroSumOrbit-solved 8 3 (lit< tt); edges = IsZeroSumOrbit-solved 12 2 (lit< tt); same_parity = refl }
-
-net_of_cube-solved : net_of_cube solved_cube ≡ solved_net 3
-unfolding net_of cube_letter letter_of_pieces solved_cube solved_orbit
-net_of_cube-solved = refl
+    net-quarter 3 face (cube_letter c) (cube_letter (cube_action.turned c q)) (cube_comes_from face q) (lit< tt) (cube_tests face q there)
+    (λ s. cube_letter-turned face q c s own (cube_turns face q there))
 
 pub cube_nets : (w : List Turn) → IsSome (play (after_letter cube_powers) solved_cube w)
     → play (net_after 3) (solved_net 3) w ≡ option_map net_of_cube (play (after_letter cube_powers) solved_cube w)
-cube_nets w some =
-    ap (λ net. play (net_after 3) net w) (sym net_of_cube-solved)
-    ∙ net-of_played cube_action IsCube IsCubeTurn lawful_cube.lawful.acts cube_quarters cube_turns 3 (lit< tt) net_of_cube cube_quarter w solved_cube IsCube-solved some
+unfolding net_of cube_letter letter_of_pieces solved_cube solved_orbit
+cube_nets =
+    played_net cube_action IsCube IsCubeTurn lawful_cube.lawful.acts cube_quarters cube_turns 3 (lit< tt) net_of_cube cube_quarter solved_cube
+    (record { corners = IsZeroSumOrbit-solved 8 3 (lit< tt); edges = IsZeroSumOrbit-solved 12 2 (lit< tt); same_parity = refl }) refl
 
 -- ---- the 2x2x2
 
@@ -189,20 +181,12 @@ corners_letter-turned face q o s own turn h =
 corners_quarter : (face : ℕ) (q : Rearrangement) → slice_get quarters_222 face ≡ Some q → (o : Orbit) → IsCorners222 o
     → quarter_net 2 face 1 (net_of_corners o) ≡ net_of_corners (action_222.turned o q)
 corners_quarter face q there o own =
-    net-quarter 2 face (corners_letter o) (corners_letter (action_222.turned o q)) (lit< tt) (λ f row column lf lr lc.
-    corners_letter-turned face q o (sticker_at 1 f row column) own (corners_turns face q there)
-    (each_sticker-at 2 (corners_come_from face q) (corners_tests face q there) f row column lf lr lc))
-
-IsCorners222-solved : IsCorners222 solved_222
-unfolding solved_222
-IsCorners222-solved = IsZeroSumOrbit-solved 7 3 (lit< tt)
-
-net_of_corners-solved : net_of_corners solved_222 ≡ solved_net 2
-unfolding net_of corners_letter letter_of_pieces solved_222 solved_orbit
-net_of_corners-solved = refl
+    net-quarter 2 face (corners_letter o) (corners_letter (action_222.turned o q)) (corners_come_from face q) (lit< tt) (corners_tests face q there)
+    (λ s. corners_letter-turned face q o s own (corners_turns face q there))
 
 pub corners_nets : (w : List Turn) → IsSome (play (after_letter powers_222) solved_222 w)
     → play (net_after 2) (solved_net 2) w ≡ option_map net_of_corners (play (after_letter powers_222) solved_222 w)
-corners_nets w some =
-    ap (λ net. play (net_after 2) net w) (sym net_of_corners-solved)
-    ∙ net-of_played action_222 IsCorners222 (IsZeroSumRearrangement 7 3) lawful_222.lawful.acts quarters_222 corners_turns 2 (lit< tt) net_of_corners corners_quarter w solved_222 IsCorners222-solved some
+unfolding net_of corners_letter letter_of_pieces solved_222 solved_orbit
+corners_nets =
+    played_net action_222 IsCorners222 (IsZeroSumRearrangement 7 3) lawful_222.lawful.acts quarters_222 corners_turns 2 (lit< tt) net_of_corners corners_quarter
+    solved_222 (IsZeroSumOrbit-solved 7 3 (lit< tt)) refl

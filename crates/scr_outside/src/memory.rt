@@ -30,12 +30,7 @@ pub struct MemSource {
 impl Model for MemSource {
     ghost Value = { SourceMemory };
 
-    ghost view = { λ s. record {
-      left = drop s.place s.bytes.items;
-      most = s.most;
-      ends = s.ends;
-      calls = s.calls;
-    } };
+    ghost view = { λ s. record { left = drop s.place s.bytes.items; most = s.most; ends = s.ends; calls = s.calls } };
 
     ghost invariant = { λ s. (s.place ≤ vec_len s.bytes) × (0 < s.most) };
 }
@@ -104,12 +99,7 @@ pub struct MemSink {
 impl Model for MemSink {
     ghost Value = { SinkMemory };
 
-    ghost view = { λ s. record {
-      held = s.held.items;
-      room = s.room;
-      most = s.most;
-      calls = s.calls;
-    } };
+    ghost view = { λ s. record { held = s.held.items; room = s.room; most = s.most; calls = s.calls } };
 
     ghost invariant = { λ s. (0 < s.most) × (vec_len s.held ≤ s.room) × (s.room ≤ vec_capacity s.held) };
 }

@@ -34,12 +34,12 @@ written_round i i' r r' s s' same_index same_round same_scrambles written = reco
 
 -- ---- an element of two lists in a row
 
-slice_get-left : {X : Type 0} (xs ys : List X) (i : ℕ) → i < length xs → slice_get (xs ++ ys) i ≡ slice_get xs i
+pub slice_get-left : {X : Type 0} (xs ys : List X) (i : ℕ) → i < length xs → slice_get (xs ++ ys) i ≡ slice_get xs i
 slice_get-left [] ys i below = absurd (omega arith)
 slice_get-left (x ∷ xs) ys zero below = refl
 slice_get-left (x ∷ xs) ys (suc i) below = slice_get-left xs ys i (omega arith)
 
-slice_get-right : {X : Type 0} (xs ys : List X) (i n : ℕ) → n ≡ length xs + i → slice_get (xs ++ ys) n ≡ slice_get ys i
+pub slice_get-right : {X : Type 0} (xs ys : List X) (i n : ℕ) → n ≡ length xs + i → slice_get (xs ++ ys) n ≡ slice_get ys i
 slice_get-right [] ys i n is = ap (slice_get ys) (let e : n ≡ i = omega arith in e)
 slice_get-right (x ∷ xs) ys i zero is = absurd (omega arith)
 slice_get-right (x ∷ xs) ys i (suc n) is = slice_get-right xs ys i n (omega arith)

@@ -89,20 +89,6 @@ command-output (Load number) source out ended ends rose = telling-output ends.1.
 command-output (Net event seed) source out ended ends rose = making-output _ _ out ended ends.1 rose
 command-output (Check seed attempts) source out ended ends rose = telling-output ends.answer _ out ended ends.told rose
 
-words-output : (asked : Result Command UsageFault) (source out : Change) (ended : Result (Unit {0}) Fault) → Ends asked source out ended
-    → IsOutputFault out ended
-words-output (Ok command) source out ended ends rose = command-output command source out ended ends rose
-words-output (Err usage) source out ended ends rose = absurd (gained ends.2 rose)
-
-pub run-output : (words : List (List ℕ)) (outcome : Status) (source out err : Change) → IsRun words outcome source out err
-    → out.faults_before < out.faults_after → outcome ≡ status.WriteFault
-run-output words outcome source out err run rose =
-    run.answer
-    ∙ elim run.performed.ends as (λ e. status_of run.ended ≡ status.WriteFault) [
-      | inl ends ↦ words-output (command_of words) source out run.ended ends rose
-      | inr wanting ↦ absurd (gained wanting.unwritten rose)
-    ]
-
 -- ---- the input
 
 refused-input : (source : Change) (refusal : ListFault) → ReadsNoList source refusal → source.faults_before < source.faults_after
@@ -121,19 +107,36 @@ command-input (Load number) source out ended ends rose = absurd (unchanged ends.
 command-input (Net event seed) source out ended ends rose = absurd (unchanged ends.0 rose)
 command-input (Check seed attempts) source out ended ends rose = check-input _ source out ended ends rose
 
-words-input : (asked : Result Command UsageFault) (source out : Change) (ended : Result (Unit {0}) Fault) → Ends asked source out ended
-    → source.faults_before < source.faults_after → status_of ended ≡ status.ReadFault
-words-input (Ok command) source out ended ends rose = command-input command source out ended ends rose
-words-input (Err usage) source out ended ends rose = absurd (unchanged ends.1 rose)
+-- ---- a whole run
+
+-- a count that rises only where a command ends for it
+module _ (Rises : Change → Change → Type 0) (status_then : Status)
+    (command_then : (command : Command) (source out : Change) (ended : Result (Unit {0}) Fault) → EndsCommand command source out ended
+    → Rises source out → status_of ended ≡ status_then)
+    (unmoved : (source out : Change) → IsUnchanged source → IsUnwritten out → Rises source out → ⊥) where
+  words-then : (asked : Result Command UsageFault) (source out : Change) (ended : Result (Unit {0}) Fault) → Ends asked source out ended
+      → Rises source out → status_of ended ≡ status_then
+  words-then (Ok command) source out ended ends rose = command_then command source out ended ends rose
+  words-then (Err usage) source out ended ends rose = absurd (unmoved source out ends.1 ends.2 rose)
+
+  run-then : (words : List (List ℕ)) (outcome : Status) (source out err : Change) → IsRun words outcome source out err
+      → Rises source out → outcome ≡ status_then
+  run-then words outcome source out err run rose =
+      run.answer
+      ∙ elim run.performed.ends as (λ e. status_of run.ended ≡ status_then) [
+        | inl ends ↦ words-then (command_of words) source out run.ended ends rose
+        | inr wanting ↦ absurd (unmoved source out wanting.unread wanting.unwritten rose)
+      ]
+
+pub run-output : (words : List (List ℕ)) (outcome : Status) (source out err : Change) → IsRun words outcome source out err
+    → out.faults_before < out.faults_after → outcome ≡ status.WriteFault
+run-output =
+    run-then (λ source out. out.faults_before < out.faults_after) status.WriteFault command-output (λ source out unread unwritten rose. gained unwritten rose)
 
 pub run-input : (words : List (List ℕ)) (outcome : Status) (source out err : Change) → IsRun words outcome source out err
     → source.faults_before < source.faults_after → outcome ≡ status.ReadFault
-run-input words outcome source out err run rose =
-    run.answer
-    ∙ elim run.performed.ends as (λ e. status_of run.ended ≡ status.ReadFault) [
-      | inl ends ↦ words-input (command_of words) source out run.ended ends rose
-      | inr wanting ↦ absurd (unchanged wanting.unread rose)
-    ]
+run-input =
+    run-then (λ source out. source.faults_before < source.faults_after) status.ReadFault command-input (λ source out unread unwritten rose. unchanged unread rose)
 
 -- ---- what is told
 

@@ -22,6 +22,9 @@ use Rattle.scr_command.specs.OptionTable.{sheet_options}
 use Rattle.scr_command.specs.OptionWords.{Values, options_of}
 use Rattle.scr_command.specs.Command.{command_of, event_for, net_for, of_two, one_for, seeded, settings_in, command_with, sheet_of}
 use Rattle.scr_list.specs.declared.round.Round.{Round}
+use Rattle.scr_list.specs.Rounds.{IsRound}
+use Rattle.scr_list.proofs.NameLemmas.{name-bytes}
+use Rattle.scr_list.proofs.RoundFacts.{rounds_of-IsRounds}
 use Rattle.scr_round.specs.Made.{turns_of_each}
 use Rattle.scr_slots.specs.declared.settings.Settings.{Settings}
 use Rattle.scr_slots.specs.Shown.{Shown, slot_numbers}
@@ -193,9 +196,9 @@ single-writes Is settings event print out ended so making =
 
 -- ---- rounds
 
-fair-round : (settings : Settings) (k : ℕ) (round : Round) (text : List ℕ) → IsFairText settings (round_part k round) text
+fair-round : (settings : Settings) (k : ℕ) (round : Round) (text : List ℕ) → IsRound round → IsFairText settings (round_part k round) text
     → IsFairRound k settings text
-fair-round settings k round text it =
+fair-round settings k round text is_round it =
     let order = round-in_order k round it.scrambles it.each_slot in
     record {
       round = round;
@@ -204,21 +207,22 @@ fair-round settings k round text it =
       fair = it.fair;
       below = order.0;
       in_order = order.1;
+      one_line = name-bytes round.name is_round.name;
       is = it.is ∙ order.2;
     }
 
 -- the first of a list's parts are rounds
-fair-rounds : (settings : Settings) (k : ℕ) (rounds : List Round) (led rest : List Part) (text : List ℕ) → round_parts k rounds ≡ led ++ rest
-    → IsText (IsFairText settings) led text → AreFairRounds k settings text
-fair-rounds settings k rounds [] rest text are fair = subst (AreFairRounds k settings) (sym fair) (no_round k settings)
-fair-rounds settings k [] (part ∷ led) rest text are fair =
+fair-rounds : (settings : Settings) (k : ℕ) (rounds : List Round) (led rest : List Part) (text : List ℕ) → All IsRound rounds
+    → round_parts k rounds ≡ led ++ rest → IsText (IsFairText settings) led text → AreFairRounds k settings text
+fair-rounds settings k rounds [] rest text each are fair = subst (AreFairRounds k settings) (sym fair) (no_round k settings)
+fair-rounds settings k [] (part ∷ led) rest text each are fair =
     let none : ⊥ = cc in
     absurd none
-fair-rounds settings k (round ∷ rounds) (part ∷ led) rest text are fair =
+fair-rounds settings k (round ∷ rounds) (part ∷ led) rest text each are fair =
     let same : part ≡ round_part k round = cc in
     let others : round_parts (k + 1) rounds ≡ led ++ rest = cc in
-    let behind = fair-rounds settings (k + 1) rounds led rest fair.1 others fair.3 in
-    let here = fair-round settings k round fair.0 (subst (λ p. IsFairText settings p fair.0) same fair.2) in
+    let behind = fair-rounds settings (k + 1) rounds led rest fair.1 (All-tail IsRound round rounds each) others fair.3 in
+    let here = fair-round settings k round fair.0 (All-head IsRound round rounds each) (subst (λ p. IsFairText settings p fair.0) same fair.2) in
     subst (AreFairRounds k settings) (sym fair.4) (another k settings fair.0 fair.1 here behind)
 
 -- ---- the commands that write scrambles
@@ -317,14 +321,14 @@ net-writes source out ended (Ok command) (event, seed, is) ends =
       },
     )) making
 
-rounds-write : (settings : Settings) (rounds : List Round) (out : Change) (ended : Result (Unit {0}) Fault)
+rounds-write : (settings : Settings) (rounds : List Round) → All IsRound rounds → (out : Change) (ended : Result (Unit {0}) Fault)
     → EndsMaking settings (round_parts 0 rounds) out ended → WritesOnly (AreFairRounds 0) out
-rounds-write settings rounds out ended making =
+rounds-write settings rounds each out ended making =
     let led = fair-making settings (round_parts 0 rounds) out ended making in
     record {
       settings = settings;
       text = led.text;
-      such = inr (fair-rounds settings 0 rounds led.led led.rest led.text led.are led.fair);
+      such = inr (fair-rounds settings 0 rounds led.led led.rest led.text each led.are led.fair);
       written = led.written;
     }
 
@@ -333,7 +337,7 @@ sheet-writes : (source out : Change) (ended : Result (Unit {0}) Fault) (asked : 
 sheet-writes source out ended (Err usage) asks ends = nothing-written (AreFairRounds 0) out ends.2
 sheet-writes source out ended (Ok command) (seed, options, is) ends =
     elim (subst (λ c. EndsCommand c source out ended) is ends) [
-      | inl made ↦ rounds-write _ made.0 out ended made.2
+      | inl made ↦ rounds-write _ made.0 (rounds_of-IsRounds made.1.bytes made.0 made.1.says).each out ended made.2
       | inr refused ↦ nothing-written (AreFairRounds 0) out refused.unwritten
     ]
 

@@ -319,7 +319,7 @@ IsFairPart part = IsDrawnFairly (scrambling_of part.event) part.least
 abbrev pub AreFairEvents : List Bool → Type 0
 AreFairEvents events = (event : Event) (least : ℕ) → Has events event → least ≤ greatest_of event → IsDrawnFairly (scrambling_of event) least
 
-pub round_parts-fair : (events : List Bool) (k : ℕ) (rounds : List Round) → AreFairEvents events → All IsRound rounds
+round_parts-fair : (events : List Bool) (k : ℕ) (rounds : List Round) → AreFairEvents events → All IsRound rounds
     → All (λ (round : Round). Has events round.event) rounds → All IsFairPart (round_parts k rounds)
 round_parts-fair events k [] fair each asked = All-nil IsFairPart
 round_parts-fair events k (round ∷ rounds) fair each asked =
@@ -340,3 +340,8 @@ pub each_asked : (events : List Bool) (rounds : List Round)
 each_asked events rounds same =
     All-weaker (Contains rounds) (λ (round : Round). Has events round.event)
     (λ round there. (same round.event).1 (contains_map (λ (r : Round). r.event) rounds round there)) rounds (All-contains_itself rounds)
+
+-- where the events of a list's rounds are drawn fairly, so are the parts of its sheet
+pub parts_of_rounds-fair : (events : List Bool) (rounds : List Round) → AreFairEvents events → All IsRound rounds
+    → ((event : Event) → Has events event ↔ Contains (map (λ (round : Round). round.event) rounds) event) → All IsFairPart (round_parts 0 rounds)
+parts_of_rounds-fair events rounds fair each same = round_parts-fair events 0 rounds fair each (each_asked events rounds same)

@@ -3,8 +3,9 @@ use Rattle.std.proofs.Common.{◌≡◌, ℕ, zero, suc, ◌+◌, ◌-◌, ◌*�
 use Rattle.std.specs.Prelude.{Result, map, slice_get}
 use Rattle.std.specs.Str.{bytes_eq}
 use Rattle.std.specs.List.{IsSplitAt}
+use Rattle.std.specs.Option.{option_map}
 use Rattle.std.proofs.lemmas.List.{length-map, drop_all, take_all, take-append-le, take-append-drop}
-use Rattle.std.proofs.lemmas.Option.{same_Some, slice_get-get_or}
+use Rattle.std.proofs.lemmas.Option.{same_Some, slice_get-get_or, slice_get-map}
 use Rattle.std.proofs.lemmas.Slice.Eq.{bytes_eq-Decides}
 use Rattle.scr_check.specs.declared.fault.Missing.{Missing}
 use Rattle.scr_check.specs.Agreement.{AreLawful}
@@ -12,6 +13,7 @@ use Rattle.scr_draw.proofs.Counting.{tests_agree}
 use Rattle.scr_list.specs.declared.round.Round.{Round}
 use Rattle.scr_list.specs.RoundLists.{IsRounds}
 use Rattle.scr_round.specs.Round.{Line, Fixed, Slot, round_lines}
+use Rattle.scr_round.proofs.LineLaws.{slice_get-left, slice_get-right}
 use Rattle.scr_slots.specs.declared.settings.Settings.{Settings}
 use Rattle.scr_slots.specs.Agreement.{TextAgrees, IsJudged}
 use Rattle.scr_slots.specs.Events.{scrambling_of}
@@ -74,21 +76,6 @@ lines-lawful settings rounds valid = record {
 }
 
 -- ---- the lines of the rounds that are left
-
-slice_get-left : {X : Type 0} (xs ys : List X) (i : ℕ) → i < length xs → slice_get (xs ++ ys) i ≡ slice_get xs i
-slice_get-left [] ys i below = absurd (omega arith)
-slice_get-left (x ∷ xs) ys zero below = refl
-slice_get-left (x ∷ xs) ys (suc i) below = slice_get-left xs ys i (omega arith)
-
-slice_get-right : {X : Type 0} (xs ys : List X) (i n : ℕ) → n ≡ length xs + i → slice_get (xs ++ ys) n ≡ slice_get ys i
-slice_get-right [] ys i n is = ap (slice_get ys) (let e : n ≡ i = omega arith in e)
-slice_get-right (x ∷ xs) ys i zero is = absurd (omega arith)
-slice_get-right (x ∷ xs) ys i (suc n) is = slice_get-right xs ys i n (omega arith)
-
-slice_get-mapped : {X Y : Type 0} (f : X → Y) (xs : List X) (i : ℕ) (x : X) → slice_get xs i ≡ Some x → slice_get (map f xs) i ≡ Some (f x)
-slice_get-mapped f [] i x is = cc
-slice_get-mapped f (y ∷ xs) zero x is = let same : y ≡ x = cc in ap (λ z. Some (f z)) same
-slice_get-mapped f (y ∷ xs) (suc i) x is = slice_get-mapped f xs i x is
 
 -- the lines of round k
 abbrev pub lines_at : ℕ → Round → List ListLine
@@ -167,7 +154,7 @@ left-found rounds line i left count round is below size here it =
       there =
           sym it.there ∙ ap (λ lines. slice_get lines left) (lines-next rounds i round is below)
           ∙ slice_get-left (lines_at i round) (list_lines (i + 1) (drop (i + 1) rounds)) left (omega (arith, mapped, inside))
-          ∙ slice_get-mapped f (round_lines i round) left own own_there;
+          ∙ slice_get-map f (round_lines i round) left ∙ ap (option_map f) own_there;
     }
 
 pub left-none : (rounds : List Round) (line i left : ℕ) → length rounds ≤ i → IsLeft rounds line i left → ⊥

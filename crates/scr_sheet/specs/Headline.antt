@@ -1,13 +1,14 @@
 -- The headline: what is promised of fairness and of play where scrambles are written, by whatever the states are
 -- numbered, whichever scramble a state has, and however a sheet is laid out below the heads of its rounds.
-use Rattle.std.specs.Prelude.{◌≡◌, ◌⊎◌, ℕ, ◌+◌, ◌==◌, false, List, [], ◌∷◌, ◌++◌, Some, length, codes}
-use Rattle.std.specs.List.{list_any}
+use Rattle.std.specs.Prelude.{◌≡◌, ◌⊎◌, ℕ, ◌+◌, ◌==◌, true, false, List, [], ◌∷◌, ◌++◌, Some, length, codes}
+use Rattle.std.specs.List.{list_all, list_any}
 use Rattle.scr_outside.specs.Change.{Change, Gains, Falters}
 use Rattle.scr_draw.specs.StateSpace.{StateSpace, IsFairFor}
 use Rattle.scr_notation.specs.declared.event.Event.{Event}
 use Rattle.scr_notation.specs.declared.turn.Turn.{Turn}
 use Rattle.scr_notation.specs.Spelling.{text_of}
 use Rattle.scr_list.specs.declared.round.Round.{Round}
+use Rattle.scr_list.specs.Names.{is_name_byte}
 use Rattle.scr_round.specs.Round.{slots_of, heading}
 use Rattle.scr_slots.specs.declared.settings.Settings.{Settings}
 use Rattle.scr_slots.specs.Shown.{DrawnPuzzle, Shown, States, Moves, GivesDrawn, HasMoves, slot_numbers}
@@ -44,8 +45,8 @@ pub data StandInOrder : List (List Turn) → List ℕ → Type 0 where
   next : (before : List ℕ) (turns : List Turn) (others : List (List Turn)) (below : List ℕ) → HasNoDot before
       → StandInOrder others below → StandInOrder (turns ∷ others) (before ++ codes ". " ++ text_of turns ++ 10 ∷ below)
 
--- The text of a round, which is round k, counted from 0: its head, which names its event and its minimum, and below it
--- the scrambles of its slots in order, which are fair.
+-- The text of a round, which is round k, counted from 0: its head, a line that names its event and its minimum, and below
+-- it the scrambles of its slots in order, which are fair.
 pub record IsFairRound (k : ℕ) (settings : Settings) (text : List ℕ) : Type 0 where
   pub round : Round
   pub scrambles : List (List Turn)
@@ -53,6 +54,7 @@ pub record IsFairRound (k : ℕ) (settings : Settings) (text : List ℕ) : Type 
   pub fair : AreFairScrambles (shown_of round.event) settings round.least (first_stream k) scrambles
   pub below : List ℕ
   pub in_order : StandInOrder scrambles below
+  pub one_line : list_all is_name_byte round.name ≡ true
   pub is : text ≡ heading k round ++ 10 ∷ below
 
 -- the text of rounds one after another, the first of them round k

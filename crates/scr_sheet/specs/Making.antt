@@ -1,8 +1,11 @@
 -- What the making of a round gives.
-use Rattle.std.specs.Prelude.{◌≡◌, ℕ, List, ◌∷◌, ◌++◌, Option, Some, None, length, map}
+use Rattle.std.specs.Prelude.{◌≡◌, ℕ, ◌<◌, Bool, List, ◌∷◌, ◌++◌, Option, Some, None, length, map}
+use Rattle.scr_notation.specs.EventSets.{Has}
 use Rattle.scr_notation.specs.Written.{Written}
 use Rattle.scr_list.specs.declared.round.Round.{Round}
+use Rattle.scr_list.specs.Rounds.{IsRound}
 use Rattle.scr_slots.specs.declared.settings.Settings.{Settings}
+use Rattle.scr_slots.specs.Ranges.{AreInRange}
 use Rattle.scr_slots.specs.Slots.{IsSlotAnswer}
 use Rattle.scr_slots.specs.Events.{scrambling_of}
 use Rattle.scr_round.specs.Made.{Made}
@@ -15,6 +18,14 @@ pub record RoundSlots : Type 0 where
   pub settings : Settings
   pub index : ℕ
   pub round : Round
+
+-- round k of a list can be made: there are the tables of its event, k is small, a list can name it, and the settings are in
+-- their ranges
+pub record CanBeMade (tables : List Bool) (settings : Settings) (k : ℕ) (round : Round) : Type 0 where
+  pub has_tables : Has tables round.event
+  pub few_before : k < 256
+  pub named : IsRound round
+  pub in_range : AreInRange settings
 
 -- what stands at a place for an answer: where nothing does, there is no scramble
 abbrev pub answer_at : Option (Option Written) → Option Written

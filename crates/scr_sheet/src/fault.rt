@@ -2,6 +2,9 @@
 
 ghost use Rattle.std.specs.Prelude.{◌≡◌, ◌++◌, ◌≤◌, ◌<◌, length};
 ghost use Rattle.arrayvec.specs.ArrayString.{array_string_len};
+ghost use Rattle.scr_sheet.specs.declared.fault.Fault.TheVariants.{List, NoMemory, Write};
+ghost use Rattle.scr_sheet.specs.Causes.{fault_of_build, fault_of_command};
+ghost use Rattle.scr_sheet.specs.Check.{fault_of_check};
 ghost use Rattle.scr_sheet.specs.Message.{message_of, usage_text, seed_fault_text, list_text, cause_text};
 
 use arrayvec::ArrayString;
@@ -34,9 +37,6 @@ pub enum Fault {
 }
 
 impl From<CommandFault> for Fault {
-    ghost use Rattle.std.specs.Prelude.{◌≡◌};
-    ghost use Rattle.scr_sheet.specs.Causes.{fault_of_command};
-
     ghost from_gives = { λ command fault. fault ≡ fault_of_command command };
 
     fn from(fault: CommandFault) -> Fault {
@@ -48,9 +48,6 @@ impl From<CommandFault> for Fault {
 }
 
 impl From<ListFault> for Fault {
-    ghost use Rattle.std.specs.Prelude.{◌≡◌};
-    ghost use Rattle.scr_sheet.specs.declared.fault.Fault.TheVariants.{List};
-
     ghost from_gives = { λ list fault. fault ≡ List list };
 
     fn from(fault: ListFault) -> Fault {
@@ -59,9 +56,6 @@ impl From<ListFault> for Fault {
 }
 
 impl From<Failed> for Fault {
-    ghost use Rattle.std.specs.Prelude.{◌≡◌};
-    ghost use Rattle.scr_sheet.specs.declared.fault.Fault.TheVariants.{Write};
-
     ghost from_gives = { λ _ fault. fault ≡ Write };
 
     fn from(_failed: Failed) -> Fault {
@@ -70,9 +64,6 @@ impl From<Failed> for Fault {
 }
 
 impl From<AllocError> for Fault {
-    ghost use Rattle.std.specs.Prelude.{◌≡◌};
-    ghost use Rattle.scr_sheet.specs.declared.fault.Fault.TheVariants.{NoMemory};
-
     ghost from_gives = { λ _ fault. fault ≡ NoMemory };
 
     fn from(_wanting: AllocError) -> Fault {
@@ -81,9 +72,6 @@ impl From<AllocError> for Fault {
 }
 
 impl From<BuildFault> for Fault {
-    ghost use Rattle.std.specs.Prelude.{◌≡◌};
-    ghost use Rattle.scr_sheet.specs.Causes.{fault_of_build};
-
     ghost from_gives = { λ build fault. fault ≡ fault_of_build build };
 
     fn from(fault: BuildFault) -> Fault {
@@ -95,9 +83,6 @@ impl From<BuildFault> for Fault {
 }
 
 impl From<CheckFault> for Fault {
-    ghost use Rattle.std.specs.Prelude.{◌≡◌};
-    ghost use Rattle.scr_sheet.specs.Check.{fault_of_check};
-
     ghost from_gives = { λ found fault. fault ≡ fault_of_check found };
 
     fn from(found: CheckFault) -> Fault {

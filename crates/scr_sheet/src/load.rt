@@ -7,12 +7,12 @@ ghost use Rattle.std.specs.Prelude.{◌≡◌, ◌*◌, ◌<◌, ◌≤◌, ℕ,
 ghost use Rattle.scr_notation.specs.EventSets.{Has};
 ghost use Rattle.std.specs.Fmt.{decimal};
 ghost use Rattle.scr_outside.specs.Change.{change_of, Writes};
-ghost use Rattle.scr_list.specs.Rounds.{IsRound};
 ghost use Rattle.scr_list.specs.RoundLists.{IsRounds};
 ghost use Rattle.scr_command.specs.Command.{usual_options};
 ghost use Rattle.scr_slots.specs.Ranges.{AreInRange};
 ghost use Rattle.scr_sheet.specs.Sheet.{settings_of, round_part, round_parts};
 ghost use Rattle.scr_sheet.specs.Load.{load_seed, load_round, load_rounds, slots_of_all, four_lines, load_text};
+ghost use Rattle.scr_sheet.specs.Making.{CanBeMade};
 ghost use Rattle.scr_sheet.specs.Outcome.{EndsLoad, EndsUnmade};
 ghost use Rattle.scr_sheet.specs.Sizes.{IsSizeOf, IsPartSize, SizesMaking, SizesParts};
 
@@ -147,10 +147,7 @@ fn round_size<R: Threads + Sync, G: Gate + Sync>(
     index: u32,
     round: &Round,
 ) -> Result<Size, Fault>
-    requires tables { Has making.now.tables.now round.now.event }
-    requires index { index < 256 }
-    requires round { IsRound round.now }
-    requires settings { AreInRange making.now.settings }
+    requires { CanBeMade making.now.tables.now making.now.settings index round.now }
     ensures size { let settings = making.now.settings in
         MatchResult result (IsPartSize settings (round_part index round.now)) (EndsUnmade settings index (round_part index round.now)) }
     ensures few { IfOk result (λ size. size.bytes ≤ TEXT_ROOM) }

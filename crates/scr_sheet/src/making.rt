@@ -2,12 +2,10 @@
 
 ghost use Rattle.std.specs.Prelude.{◌≡◌, ◌<◌, ◌≤◌, ◌++◌, [], ◌∷◌, map, Some, IfOk, MatchResult};
 ghost use Rattle.std.specs.Vec.{vec_len, vec_capacity};
-ghost use Rattle.scr_notation.specs.EventSets.{Has};
-ghost use Rattle.scr_list.specs.Rounds.{IsRound};
 ghost use Rattle.scr_slots.specs.Events.{scrambling_of};
-ghost use Rattle.scr_slots.specs.Ranges.{AreInRange, IsShort};
 ghost use Rattle.scr_slots.specs.Slots.{IsDrawnFairly};
-ghost use Rattle.scr_sheet.specs.Making.{answer_at, IsRoundMade, IsPartFault, IsFirstNone};
+ghost use Rattle.scr_sheet.specs.declared.making.RoundFault.TheVariants as fault;
+ghost use Rattle.scr_sheet.specs.Making.{answer_at, CanBeMade, IsRoundMade, IsPartFault, IsFirstNone};
 ghost use Rattle.scr_sheet.specs.Sheet.{settings_of, round_part};
 
 use crate::slot_jobs::SlotJobs;
@@ -33,10 +31,7 @@ pub enum RoundFault {
 }
 
 impl From<AllocError> for RoundFault {
-    ghost use Rattle.std.specs.Prelude.{◌≡◌};
-    ghost use Rattle.scr_sheet.specs.declared.making.RoundFault.TheVariants.{NoMemory};
-
-    ghost from_gives = { λ _ fault. fault ≡ NoMemory };
+    ghost from_gives = { λ _ given. given ≡ fault.NoMemory };
 
     fn from(_wanting: AllocError) -> RoundFault {
         RoundFault::NoMemory
@@ -44,9 +39,6 @@ impl From<AllocError> for RoundFault {
 }
 
 impl From<NoMemory> for RoundFault {
-    ghost use Rattle.std.specs.Prelude.{◌≡◌};
-    ghost use Rattle.scr_sheet.specs.declared.making.RoundFault.TheVariants as fault;
-
     ghost from_gives = { λ _ given. given ≡ fault.NoMemory };
 
     fn from(_wanting: NoMemory) -> RoundFault {
@@ -74,11 +66,7 @@ pub fn make_round<R: Threads + Sync, G: Gate + Sync>(
     options: &Options,
     gate: &G,
 ) -> Result<RoundResult, RoundFault>
-    requires tables { Has tables.now round.now.event }
-    requires index { index < 256 }
-    requires round { IsRound round.now }
-    requires attempts { options.now.attempts ≤ 1000000 }
-    requires short { IsShort options.now.short }
+    requires { CanBeMade tables.now (settings_of seed.now options.now) index round.now }
     ensures made { let settings = settings_of seed.now options.now in
         MatchResult result (IsRoundMade settings index round.now) (IsPartFault settings (round_part index round.now)) }
     ensures fair { IsDrawnFairly (scrambling_of round.now.event) round.now.least }
@@ -151,10 +139,7 @@ impl<'a, R: Threads + Sync, G: Gate + Sync> Making<'a, R, G> {
     /// Makes round `index` of a list: all slots are answered, and the first without a scramble is named. Memory is taken
     /// before the first slot is drawn.
     pub fn round(&self, index: u32, round: &Round) -> Result<RoundResult, RoundFault>
-        requires tables { Has self.now.tables.now round.now.event }
-        requires index { index < 256 }
-        requires round { IsRound round.now }
-        requires settings { AreInRange self.now.settings }
+        requires { CanBeMade self.now.tables.now self.now.settings index round.now }
         ensures { let settings = self.now.settings in
             MatchResult result (IsRoundMade settings index round.now) (IsPartFault settings (round_part index round.now)) }
     {

@@ -1,9 +1,8 @@
 //! What the commands make and write.
 
-ghost use Rattle.std.specs.Prelude.{◌≡◌, ◌≢◌, ◌≤◌, ◌<◌, ◌⊎◌, [], ◌∷◌, map, All, IsTrue, MatchResult, Err};
+ghost use Rattle.std.specs.Prelude.{◌≡◌, ◌≢◌, ◌≤◌, ◌⊎◌, [], ◌∷◌, map, All, IsTrue, MatchResult, Err};
 ghost use Rattle.scr_outside.specs.Change.{change_of, intake_of};
 ghost use Rattle.scr_notation.specs.EventSets.{Has};
-ghost use Rattle.scr_list.specs.Rounds.{IsRound};
 ghost use Rattle.scr_list.specs.RoundLists.{IsRounds};
 ghost use Rattle.scr_command.specs.declared.command.Command.TheVariants.{Sheet};
 ghost use Rattle.scr_slots.specs.Tables.{HasTables};
@@ -11,7 +10,7 @@ ghost use Rattle.scr_slots.specs.Ranges.{AreInRange, IsShort};
 ghost use Rattle.scr_sheet.specs.declared.fault.Fault.TheVariants.{NoMemory};
 ghost use Rattle.scr_sheet.specs.Sheet.{settings_of, round_part, round_parts};
 ghost use Rattle.scr_sheet.specs.Outcome.{EndsCommand, EndsMaking, EndsParts, EndsTables, EndsUnmade, LacksTables};
-ghost use Rattle.scr_sheet.specs.Making.{IsRoundMade};
+ghost use Rattle.scr_sheet.specs.Making.{CanBeMade, IsRoundMade};
 
 use crate::fault::Fault;
 use crate::making::{Making, RoundFault, workers_of};
@@ -91,10 +90,7 @@ fn write_one_round<R: Threads + Sync, O: Sink, G: Gate + Sync>(
     round: &Round,
     out: &mut O,
 ) -> Result<(), Fault>
-    requires tables { Has making.now.tables.now round.now.event }
-    requires index { index < 256 }
-    requires round { IsRound round.now }
-    requires settings { AreInRange making.now.settings }
+    requires { CanBeMade making.now.tables.now making.now.settings index round.now }
     ensures { EndsParts making.now.settings index (round_part index round.now ∷ [])
         (change_of O.held O.faults out.old out.new) result }
 {
@@ -109,10 +105,7 @@ pub(crate) fn made_round<R: Threads + Sync, G: Gate + Sync>(
     index: u32,
     round: &Round,
 ) -> Result<RoundResult, Fault>
-    requires tables { Has making.now.tables.now round.now.event }
-    requires index { index < 256 }
-    requires round { IsRound round.now }
-    requires settings { AreInRange making.now.settings }
+    requires { CanBeMade making.now.tables.now making.now.settings index round.now }
     ensures { let settings = making.now.settings in
         MatchResult result (IsRoundMade settings index round.now) (EndsUnmade settings index (round_part index round.now)) }
 {

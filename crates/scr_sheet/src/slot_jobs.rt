@@ -1,10 +1,7 @@
 //! The slots of a round as jobs for workers.
 
-ghost use Rattle.std.specs.Prelude.{◌≡◌, ◌≤◌, ◌<◌};
-ghost use Rattle.scr_notation.specs.EventSets.{Has};
-ghost use Rattle.scr_list.specs.Rounds.{IsRound};
-ghost use Rattle.scr_slots.specs.Ranges.{AreInRange};
-ghost use Rattle.scr_sheet.specs.Making.{RoundSlots};
+ghost use Rattle.std.specs.Prelude.{◌≡◌};
+ghost use Rattle.scr_sheet.specs.Making.{CanBeMade};
 
 use scr_list::Round;
 use scr_notation::Scramble;
@@ -23,18 +20,13 @@ pub(crate) struct SlotJobs<'a> {
 
 // Clauses see which slots they are, and not by which tables they are answered.
 impl<'a> Model for SlotJobs<'a> {
-    ghost use Rattle.std.specs.Prelude.{◌<◌, ◌≤◌};
-    ghost use Rattle.scr_notation.specs.EventSets.{Has};
-    ghost use Rattle.scr_list.specs.Rounds.{IsRound};
-    ghost use Rattle.scr_slots.specs.Ranges.{AreInRange};
-    ghost use Rattle.scr_sheet.specs.Making.{RoundSlots};
+    ghost use Rattle.scr_sheet.specs.Making.{CanBeMade, RoundSlots};
 
     ghost Value = { RoundSlots };
 
     ghost view = { λ jobs. record { settings = jobs.settings.now; index = jobs.index; round = jobs.round.now } };
 
-    ghost invariant = { λ jobs. Has jobs.tables.now jobs.round.now.event × (jobs.index < 256) × IsRound jobs.round.now
-        × AreInRange jobs.settings.now };
+    ghost invariant = { λ jobs. CanBeMade jobs.tables.now jobs.settings.now jobs.index jobs.round.now };
 }
 
 impl<'a> SlotJobs<'a> {
@@ -45,10 +37,7 @@ impl<'a> SlotJobs<'a> {
         index: u32,
         round: &'a Round,
     ) -> SlotJobs<'a>
-        requires tables { Has tables.now round.now.event }
-        requires index { index < 256 }
-        requires round { IsRound round.now }
-        requires settings { AreInRange settings.now }
+        requires { CanBeMade tables.now settings.now index round.now }
         ensures { result ≡ record { settings = settings.now; index = index; round = round.now } }
     {
         SlotJobs {

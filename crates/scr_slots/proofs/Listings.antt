@@ -10,7 +10,7 @@ use Rattle.scr_combinatorics.proofs.Numberings.{only_one}
 use Rattle.scr_draw.specs.Attempt.{is_accepted, quotient}
 use Rattle.scr_draw.specs.Drawn.{drawn, hit}
 use Rattle.scr_draw.specs.Fair.{IsFair}
-use Rattle.scr_draw.specs.StateSpace.{StateSpace, TellsNeed, Draws, IsFairFor}
+use Rattle.scr_draw.specs.StateSpace.{StateSpace, space_of, TellsNeed, Draws, IsFairFor}
 use Rattle.scr_draw.proofs.Outcomes.{Draws-one}
 use Rattle.scr_slots.specs.Slots.{ByListing}
 use Rattle.scr_slots.specs.Outcomes.{HaveOneListing}
@@ -92,10 +92,15 @@ module _ {S : Type 0} (n : Numbers S) (puzzle : Puzzle S) where
       Draws-one (listed second.state_at) least count values some other
       (Draws-alike first.state_at second.state_at first.listing second.listing least values some first.is) second.is
 
+-- what is so by a numbering's own listing
+pub by-numbering : {S : Type 0} {n : Numbered S} {puzzle : Puzzle S} {Is : StateSpace S → Type 0} → IsNumbering n → Is (space_of n puzzle)
+    → ByListing (numbers_of n) puzzle Is
+by-numbering {n = n} numbering is = record { state_at = n.state_at; listing = numbering.one_to_one; is = is }
+
 -- And states that are numbered one to one have one listing.
 pub HaveOneListing-numbered : {S : Type 0} (n : Numbered S) (puzzle : Puzzle S) → IsNumbering n → HaveOneListing (numbers_of n) puzzle
 HaveOneListing-numbered n puzzle numbering = record {
-  some = record { state_at = n.state_at; listing = numbering.one_to_one; is = tt };
+  some = by-numbering numbering tt;
   alike = λ one first other second. listings-alike (numbers_of n) puzzle one other first second;
   draws = λ least values outcome by other second.
       Draws-alike (numbers_of n) puzzle by.state_at other by.listing second least values outcome by.is;

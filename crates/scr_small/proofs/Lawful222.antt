@@ -14,7 +14,7 @@ use Rattle.scr_small.specs.Puzzles.{numbered_puzzle_222}
 use Rattle.scr_small.specs.StateParts.{MovesByParts}
 use Rattle.scr_small.proofs.PartLaws.{AreParts, MovesByParts-powers}
 use Rattle.scr_small.proofs.DigitParts.{AreParts-digits}
-use Rattle.scr_small.specs.Tables.{table_222}
+use Rattle.scr_small.specs.Tables.{state_table_222}
 use Rattle.scr_small.specs.SolvedByTable.{IsSolvedByTable}
 use Rattle.scr_small.proofs.TurnedByPowers.{IsNumberedPuzzle-powers, IsSolvedByTable-powers}
 
@@ -38,8 +38,8 @@ parts_222 =
 
 -- ---- its table
 
-pub solved_by_table_222 : IsSolvedByTable numbered_puzzle_222 table_222
+pub solved_by_table_222 : IsSolvedByTable numbered_puzzle_222 state_table_222
 unfolding turn_at solved_222 solved_orbit digits_222
 solved_by_table_222 =
-    IsSolvedByTable-powers numbered_222 powers_222 table_222 lawful_puzzle_222 parts_222 refl refl refl
+    IsSolvedByTable-powers numbered_222 powers_222 state_table_222 lawful_puzzle_222 parts_222 refl refl refl
     (lit≤ tt, lit≤ tt, lit< tt, lit≤ tt)

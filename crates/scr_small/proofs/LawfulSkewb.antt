@@ -12,7 +12,7 @@ use Rattle.scr_small.specs.Puzzles.{numbered_puzzle_skewb}
 use Rattle.scr_small.specs.StateParts.{MovesByParts}
 use Rattle.scr_small.proofs.PartLaws.{AreParts, MovesByParts-powers}
 use Rattle.scr_small.proofs.DigitParts.{AreParts-digits}
-use Rattle.scr_small.specs.Tables.{table_skewb}
+use Rattle.scr_small.specs.Tables.{state_table_skewb}
 use Rattle.scr_small.specs.SolvedByTable.{IsSolvedByTable}
 use Rattle.scr_small.proofs.TurnedByPowers.{IsNumberedPuzzle-powers, IsSolvedByTable-powers}
 
@@ -43,8 +43,8 @@ parts_skewb =
 
 -- ---- its table
 
-pub solved_by_table_skewb : IsSolvedByTable numbered_puzzle_skewb table_skewb
+pub solved_by_table_skewb : IsSolvedByTable numbered_puzzle_skewb state_table_skewb
 unfolding turn_at solved_skewb solved_orbit skewb_digits
 solved_by_table_skewb =
-    IsSolvedByTable-powers skewb_numbered skewb_powers table_skewb lawful_puzzle_skewb parts_skewb refl refl refl
+    IsSolvedByTable-powers skewb_numbered skewb_powers state_table_skewb lawful_puzzle_skewb parts_skewb refl refl refl
     (lit≤ tt, lit≤ tt, lit< tt, lit≤ tt)

@@ -14,7 +14,7 @@ use Rattle.scr_small.specs.Puzzles.{numbered_puzzle_tetraminx}
 use Rattle.scr_small.specs.StateParts.{MovesByParts}
 use Rattle.scr_small.proofs.PartLaws.{AreParts, MovesByParts-powers}
 use Rattle.scr_small.proofs.DigitParts.{AreParts-digits}
-use Rattle.scr_small.specs.Tables.{table_tetraminx}
+use Rattle.scr_small.specs.Tables.{state_table_tetraminx}
 use Rattle.scr_small.specs.SolvedByTable.{IsSolvedByTable}
 use Rattle.scr_small.proofs.TurnedByPowers.{IsNumberedPuzzle-powers, IsSolvedByTable-powers}
 
@@ -46,8 +46,8 @@ parts_tetraminx =
 
 -- ---- its table
 
-pub solved_by_table_tetraminx : IsSolvedByTable numbered_puzzle_tetraminx table_tetraminx
+pub solved_by_table_tetraminx : IsSolvedByTable numbered_puzzle_tetraminx state_table_tetraminx
 unfolding turn_at solved_tetraminx solved_orbit tetraminx_digits
 solved_by_table_tetraminx =
-    IsSolvedByTable-powers numbered_tetraminx tetraminx_powers table_tetraminx lawful_puzzle_tetraminx parts_tetraminx refl refl refl
+    IsSolvedByTable-powers numbered_tetraminx tetraminx_powers state_table_tetraminx lawful_puzzle_tetraminx parts_tetraminx refl refl refl
     (lit≤ tt, lit≤ tt, lit< tt, lit≤ tt)

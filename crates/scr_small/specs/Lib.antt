@@ -1,3 +1,5 @@
+pub mod FirstScrambles
+pub mod SearchTables
 pub mod NumberedPuzzles
 pub mod LawfulPuzzles
 pub mod StateParts

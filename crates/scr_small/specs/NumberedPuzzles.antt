@@ -1,8 +1,7 @@
 -- Puzzles whose states and turns have numbers, so that one table over the numbers of the states solves them. No puzzle
 -- stands here.
-use Rattle.std.specs.Prelude.{◌≡◌, ℕ, List, map, Option}
+use Rattle.std.specs.Prelude.{◌≡◌, ℕ, List, Option}
 use Rattle.scr_combinatorics.specs.Numbered.{Numbered}
-use Rattle.scr_combinatorics.specs.Back.{back}
 use Rattle.scr_combinatorics.specs.FirstWord.{IsFirstWord}
 use Rattle.scr_combinatorics.specs.Reach.{Puzzle}
 use Rattle.scr_coord.specs.Coordinates.{Coordinate}
@@ -12,6 +11,7 @@ use Rattle.scr_notation.specs.Turning.{opposite as opposite_turn}
 use Rattle.scr_turning.specs.PowerPuzzles.{PowerPuzzle, after_letter, power_turn_count}
 use Rattle.scr_table.specs.declared.name.TableName.{TableName}
 use Rattle.scr_table.specs.Lines.{TableLine}
+use Rattle.scr_small.specs.FirstScrambles.{by_number, IsFirstScramble}
 
 -- Numbered states; what a letter makes of one, or nothing where it is no turn of the puzzle; which state is solved; how
 -- many turns there are, and the letter of each number below that; and the letter that takes a letter's turn back.
@@ -40,7 +40,7 @@ puzzle_of {T = T} p = record { Turn = T; after = p.after; IsSolved = λ s. s ≡
 
 -- what the turn of a number makes of a state: over this, words of turn numbers are played
 abbrev pub after_number : {S T : Type 0} → NumberedPuzzle S T → S → ℕ → Option S
-after_number p s n = p.after s (p.letter_at n)
+after_number p = by_number p.after p.letter_at
 
 -- The puzzle as a coordinate, over the numbers of its states.
 abbrev pub state_coordinate : {S T : Type 0} → NumberedPuzzle S T → Coordinate
@@ -55,8 +55,6 @@ state_line p name bound = record { name = name; coordinate = state_coordinate p;
 abbrev pub IsFirstSolution : {S T : Type 0} → NumberedPuzzle S T → S → List ℕ → Type 0
 IsFirstSolution p s word = IsFirstWord (after_number p) (λ r. r ≡ p.solved) s word
 
--- The scramble of a state: the first word that solves it, as letters, taken back.
-pub record IsScrambleOf {S T : Type 0} (p : NumberedPuzzle S T) (s : S) (turns : List T) : Type 0 where
-  pub solution : List ℕ
-  pub first : IsFirstSolution p s solution
-  pub taken_back : turns ≡ back p.opposite (map p.letter_at solution)
+-- The scramble of a state: the first such word, as letters, taken back.
+abbrev pub IsScrambleOf : {S T : Type 0} → NumberedPuzzle S T → S → List T → Type 0
+IsScrambleOf p = IsFirstScramble p.after p.letter_at p.opposite p.solved

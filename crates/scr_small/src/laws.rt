@@ -8,6 +8,7 @@ ghost use Rattle.scr_coord.specs.Coordinates.{StaysBelow};
 ghost use Rattle.scr_coord.specs.Products.{product_coordinate};
 ghost use Rattle.scr_coord.specs.SearchSpaces.{ShowsSame};
 ghost use Rattle.scr_table.specs.Distances.{Distances, Measures};
+ghost use Rattle.scr_table.specs.TableStates.{IsLineOf};
 ghost use Rattle.scr_turning.specs.PowerPuzzles.{after_letter, power_puzzle};
 ghost use Rattle.scr_tetra.specs.Pyraminx.{numbered_tetraminx, numbered_pyram, PyramState, IsPyram};
 ghost use Rattle.scr_tetra.specs.Pyraminx.{pyram_powers, solved_pyram};
@@ -16,6 +17,8 @@ ghost use Rattle.scr_small.specs.LawfulPuzzles.{IsNumberedPuzzle};
 ghost use Rattle.scr_small.specs.NumberedPuzzles.{puzzle_of, state_coordinate, IsScrambleOf};
 ghost use Rattle.scr_small.specs.StateParts.{MovesByParts, low_part, high_part};
 ghost use Rattle.scr_small.specs.Puzzles.{numbered_puzzle_222, numbered_puzzle_skewb, coordinate_tetraminx, IsScramblePyram};
+ghost use Rattle.scr_small.specs.Puzzles.{corners_line, pyramid_line, skewb_line};
+ghost use Rattle.scr_small.specs.SearchTables.{corners_table, pyramid_table, skewb_table};
 ghost use Rattle.scr_small.specs.Rows.{HasRow};
 
 use crate::one_table::OneTable;
@@ -32,6 +35,14 @@ pub fn shown_by_parts<P: OneTable>()
 {
     P::is_solved_by_table();
 }
+
+/// The lines by which the tables are built are those of the tables as their states tell them: turns lead from numbers to
+/// numbers as from states to states, and each number is that of a state.
+pub fn told_by_states()
+    ensures corners { IsLineOf corners_table corners_line }
+    ensures pyramid { IsLineOf pyramid_table pyramid_line }
+    ensures skewb { IsLineOf skewb_table skewb_line }
+{}
 
 /// Where its table is built, the valid states of such a puzzle are those that turns reach. The tables are those of its
 /// event.

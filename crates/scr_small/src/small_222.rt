@@ -25,11 +25,11 @@ impl OneTable for Numbers222 {
     ghost use Rattle.std.proofs.Common.{lit≤};
     ghost use Rattle.scr_cube.proofs.Numbered222.{numbering_222};
     ghost use Rattle.scr_small.specs.Puzzles.{numbered_puzzle_222};
-    ghost use Rattle.scr_small.specs.Tables.{table_222};
+    ghost use Rattle.scr_small.specs.Tables.{state_table_222};
 
     ghost shown = { numbered_puzzle_222 };
 
-    ghost TABLE = { table_222 };
+    ghost TABLE = { state_table_222 };
 
     const TABLE: StateTable = StateTable {
         event: Event::C222,

@@ -26,11 +26,11 @@ impl OneTable for TetraminxNumbers {
     ghost use Rattle.std.proofs.Common.{lit≤};
     ghost use Rattle.scr_tetra.proofs.NumberedPyram.{tetraminx_numbering};
     ghost use Rattle.scr_small.specs.Puzzles.{numbered_puzzle_tetraminx};
-    ghost use Rattle.scr_small.specs.Tables.{table_tetraminx};
+    ghost use Rattle.scr_small.specs.Tables.{state_table_tetraminx};
 
     ghost shown = { numbered_puzzle_tetraminx };
 
-    ghost TABLE = { table_tetraminx };
+    ghost TABLE = { state_table_tetraminx };
 
     const TABLE: StateTable = StateTable {
         event: Event::Pyram,

@@ -25,11 +25,11 @@ impl OneTable for SkewbNumbers {
     ghost use Rattle.std.proofs.Common.{lit≤};
     ghost use Rattle.scr_tetra.proofs.NumberedSkewb.{skewb_numbering};
     ghost use Rattle.scr_small.specs.Puzzles.{numbered_puzzle_skewb};
-    ghost use Rattle.scr_small.specs.Tables.{table_skewb};
+    ghost use Rattle.scr_small.specs.Tables.{state_table_skewb};
 
     ghost shown = { numbered_puzzle_skewb };
 
-    ghost TABLE = { table_skewb };
+    ghost TABLE = { state_table_skewb };
 
     const TABLE: StateTable = StateTable {
         event: Event::Skewb,

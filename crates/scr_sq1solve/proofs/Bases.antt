@@ -117,8 +117,8 @@ names_of s = record { corners = corners_of s.units; edges = edges_of s.units; eq
 pub AreNames-valid : (s : Sq1State) → IsSq1 s → AreNames (names_of s)
 AreNames-valid s h = let p = StatePieces-valid s h in record { corners = p.corners; edges = p.edges }
 
-pub IsBase-shape : (hs : List ℕ) → IsShape hs → LaidState hs in_order in_order
-IsBase-shape hs shape = let p = IsPermutation-numbers_from 8 in LaidState-pieces hs in_order in_order shape p p
+pub LaidState-base : (hs : List ℕ) → IsShape hs → LaidState hs in_order in_order
+LaidState-base hs shape = let p = IsPermutation-numbers_from 8 in LaidState-pieces hs in_order in_order shape p p
 
 module _ (n : Names) (h : AreNames n) where
   laid-named : (w : List Bool) (ks js : List ℕ) → Fits w ks js → All (λ k. k < 8) ks
@@ -141,7 +141,7 @@ renamed-base s valid =
     let n : Names = names_of s in
     let h = AreNames-valid s valid in
     let w = shape_word (shape_of s.units) in
-    let l = IsBase-shape (shape_of s.units) p.shape in
+    let l = LaidState-base (shape_of s.units) p.shape in
     let cs : pick n.corners in_order ≡ n.corners = ap (λ k. pick n.corners (numbers_from 0 k)) (sym p.corners.size) ∙ pick-in_order n.corners in
     let es : pick n.edges in_order ≡ n.edges = ap (λ k. pick n.edges (numbers_from 0 k)) (sym p.edges.size) ∙ pick-in_order n.edges in
     let units : map (named n) (laid w in_order in_order) ≡ s.units =
@@ -159,7 +159,7 @@ pub play-base : (s : Sq1State) (w : List Turn) → IsSq1 s
     → play sq1_after s w ≡ option_map (renamed (names_of s)) (play sq1_after (base_of (shape_of s.units)) w)
 play-base s w valid =
     let p = StatePieces-valid s valid in
-    let b = IsBase-shape (shape_of s.units) p.shape in
+    let b = LaidState-base (shape_of s.units) p.shape in
     ap (λ r. play sq1_after r w) (sym (renamed-base s valid))
     ∙ play-renamed (names_of s) (AreNames-valid s valid) (base_of (shape_of s.units)) w (b.valid false)
 

@@ -18,7 +18,7 @@ use Rattle.scr_combinatorics.proofs.OneLetter.{IsEnding}
 use Rattle.scr_sq1solve.specs.Stages.{IsNormal, oddness, turn_word, shape_letter, squaring_letter, shape_stage, squaring_stage}
 use Rattle.scr_sq1solve.specs.Tables.{shapes_index, shapes_state, pieces_of_parity, shapes_coordinate}
 use Rattle.scr_sq1solve.proofs.Renamed.{Names, AreNames, renamed}
-use Rattle.scr_sq1solve.proofs.Bases.{in_order, base_of, names_of, AreNames-valid, IsBase-shape, shape_of-named}
+use Rattle.scr_sq1solve.proofs.Bases.{in_order, base_of, names_of, AreNames-valid, LaidState-base, shape_of-named}
 use Rattle.scr_sq1solve.proofs.Bases.{play-base, keeps_sq1, oddness-lt, oddness-renamed}
 use Rattle.scr_sq1solve.specs.Spaces.{IsNormalSq1, shapes_space}
 use Rattle.scr_sq1solve.proofs.Indexed.{IsIndex, Follows-index, StaysBelow-index}
@@ -64,7 +64,7 @@ pub shapes_alike : (s r : Sq1State) (w : List Turn) → IsSq1 s → IsSq1 r → 
 shapes_alike s r w vs vr e =
     let same = SameIndex-index s r vs vr e in
     let base : Sq1State = base_of (shape_of s.units) in
-    let b = IsBase-shape (shape_of s.units) (StatePieces-valid s vs).shape in
+    let b = LaidState-base (shape_of s.units) (StatePieces-valid s vs).shape in
     ap (option_map shapes_index) (play-base s w vs)
     ∙ both_renamed (names_of s) (names_of r) (play sq1_after base w) (AreNames-valid s vs) (AreNames-valid r vr)
     (sym (names_odd s) ∙ same.odd ∙ names_odd r) (λ q p. keeps_sq1 base q w (b.valid false) p)

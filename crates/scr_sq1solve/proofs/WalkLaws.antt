@@ -72,6 +72,15 @@ walk-costs letters w =
     subst (λ ts. Costs ts (most * (each_of letters).turns) (most * (each_of letters).twists)) (sym w.turns_are)
     (Costs-spelled letters w.word most w.is.within)
 
+pub walk-costs_one : (letters : Letters) {s end : Sq1State} {turns : List Turn} → (stage_of letters).bound ≡ 1 → IsWalk (stage_of letters) s turns end
+    → Costs turns (each_of letters).turns (each_of letters).twists
+walk-costs_one letters short w =
+    let costs = walk-costs letters w in
+    record {
+      turns = omega (arith, costs.turns, ap (λ most. most * (each_of letters).turns) short);
+      twists = omega (arith, costs.twists, ap (λ most. most * (each_of letters).twists) short);
+    }
+
 -- what is so where a stage's word has led
 module _ {stage : Stage Sq1State Turn} {s end : Sq1State} {turns : List Turn} (w : IsWalk stage s turns end) where
   pub walk-kept : (IsValid : Sq1State → Type 0) (line : TableLine) (view : Sq1State → ℕ)

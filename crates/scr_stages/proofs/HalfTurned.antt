@@ -30,7 +30,7 @@ use Rattle.scr_stages.specs.Tables.{turns_of, halves_coordinate}
 use Rattle.scr_stages.specs.Tetrads.{corner_index, corners_at}
 use Rattle.scr_coord.proofs.IndexLaws.{Follows-numbered, StaysBelow-numbered}
 use Rattle.scr_stages.proofs.ViewLaws.{TurnsStates, kept_by}
-use Rattle.scr_stages.proofs.TurnFacts.{after_of-is, after_of-turns, IsHalfTurn, halves_numbers, halves_turns}
+use Rattle.scr_stages.proofs.TurnFacts.{after_of-is, after_of-turns, IsHalfTurn, All-numbers, halves_turns}
 use Rattle.scr_stages.proofs.TetradTests.{corners_at-solved, corner_index-solved}
 use Rattle.scr_stages.proofs.TetradLaws.{corner_index-turned}
 use Rattle.scr_stages.proofs.DominoLaws.{IsDominoCube-turned, places-turned}
@@ -68,7 +68,7 @@ IsHalfCube-turned c r h t =
     }
 
 pub halves_moves : TurnsStates cube_action.turned (turns_of half_turns) (after_of half_turns) IsHalfCube IsHalfTurn
-halves_moves = record { each = halves_turns; after_is = after_of-turns half_turns halves_numbers; keeps = IsHalfCube-turned }
+halves_moves = record { each = halves_turns; after_is = after_of-turns half_turns (All-numbers half_turns refl); keeps = IsHalfCube-turned }
 
 pub IsHalfCube-after : (c d : CubeState) (place : ℕ) → IsHalfCube c → after_of half_turns c place ≡ Some d → IsHalfCube d
 IsHalfCube-after = kept_by cube_action.turned (turns_of half_turns) (after_of half_turns) IsHalfCube IsHalfTurn halves_moves

@@ -20,3 +20,4 @@ pub mod FollowSteps
 pub mod PlaceSteps
 pub mod TetradTables
 pub mod EachIndex
+pub mod StateTables

@@ -19,6 +19,7 @@ use Rattle.scr_stages.specs.Stages.{half_turns, middle_edges}
 use Rattle.scr_stages.specs.Numbers.{first_edges, second_edges}
 use Rattle.scr_stages.proofs.FiniteTests.{All-from_test}
 use Rattle.scr_stages.specs.Tables.{block_turn, block_turns, turns_of, edges_by}
+use Rattle.scr_stages.specs.Turned.{AreTurned}
 use Rattle.scr_stages.proofs.TurnFacts.{All-turns, length-turns}
 
 pub AreTurns-moves : {n : ℕ} (IsMove : Rearrangement → Type 0) (turns : List (PlaceTurn n)) (moves : List Rearrangement)
@@ -80,12 +81,6 @@ corners_whole = refl
 pub edges_whole : map (block_turn (numbers_from 0 12)) (map (λ r. r.edges) (all_turns cube_powers)) ≡ map (λ r. r.edges) (all_turns cube_powers)
 unfolding all_turns all_powers power composed identity added_digits
 edges_whole = refl
-
--- what is so of them: they are these, and they are turns
-pub record AreTurned (n base : ℕ) (moves : List Rearrangement) (turned : List (PlaceTurn n)) : Type 0 where
-  pub turns : map rearrangement_of turned ≡ moves
-  pub valid : AreTurns (λ turn. IsZeroSumRearrangement n base (rearrangement_of turn)) turned
-  pub places : AreTurns (λ (turn : PlaceTurn n). IsPermutation n turn.places) turned
 
 module _ (n base : ℕ) (part : CubeTurn → Rearrangement)
     (whole : map (block_turn (numbers_from 0 n)) (map part (all_turns cube_powers)) ≡ map part (all_turns cube_powers))

@@ -198,28 +198,20 @@ IsHalfTurn-from_test r e =
 
 -- ---- the turns of each stage
 
-are_numbers : List ℕ → Bool
+abbrev pub are_numbers : List ℕ → Bool
 are_numbers numbers = list_all (λ t. nat_lt t 18) numbers
 
-All-numbers : (numbers : List ℕ) → are_numbers numbers ≡ true → All (λ t. t < 18) numbers
-unfolding are_numbers
+pub All-numbers : (numbers : List ℕ) → are_numbers numbers ≡ true → All (λ t. t < 18) numbers
 All-numbers numbers e = All-from_test (λ t. nat_lt t 18) (λ t. t < 18) (λ t. ltb-true t 18) numbers e
 
 pub flips_numbers : All (λ t. t < 18) flips_turns
-unfolding are_numbers
 flips_numbers = All-numbers flips_turns refl
 
 pub slice_numbers : All (λ t. t < 18) slice_turns
-unfolding are_numbers
 slice_numbers = All-numbers slice_turns refl
 
 pub tetrads_numbers : All (λ t. t < 18) tetrads_turns
-unfolding are_numbers
 tetrads_numbers = All-numbers tetrads_turns refl
-
-pub halves_numbers : All (λ t. t < 18) half_turns
-unfolding are_numbers
-halves_numbers = All-numbers half_turns refl
 
 pub flips_each : All IsCubeTurn (turns_of flips_turns)
 flips_each = All-turns flips_turns flips_numbers

@@ -3,3 +3,5 @@ pub mod Tetrads
 pub mod Numbers
 pub mod Spaces
 pub mod Tables
+pub mod Turned
+pub mod SearchTables

@@ -14,6 +14,8 @@ ghost use Rattle.scr_stages.specs.Numbers.{flips_number, slice_number, tetrads_n
 ghost use Rattle.scr_stages.specs.Spaces.{flips_space, slice_space, tetrads_space, halves_space};
 ghost use Rattle.scr_stages.specs.Tables.{flips_line, slice_line, tetrads_line, halves_line, stage_lines};
 ghost use Rattle.scr_stages.specs.Tetrads.{corner_index};
+ghost use Rattle.scr_stages.specs.SearchTables.{stage_tables};
+ghost use Rattle.scr_table.specs.TableStates.{AreLinesOf};
 
 use crate::tables::StageTables;
 
@@ -68,4 +70,10 @@ pub fn half_turned()
 /// The index of the corners of solved.
 pub fn known_index()
     ensures { corner_index (numbers_from 0 8) ≡ 138 }
+{}
+
+/// The lines by which the tables are built are those of the tables as cubes tell them: turns lead from numbers to numbers as
+/// from cubes to cubes, and each number is that of one.
+pub fn told_by_states()
+    ensures { AreLinesOf stage_tables stage_lines }
 {}

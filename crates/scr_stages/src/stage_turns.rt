@@ -1,10 +1,10 @@
 //! The turns of the stages, and what turns do to corners, to edges, and to the edges of a block.
 ghost use Rattle.std.specs.Prelude.{◌≡◌, ◌<◌, ◌≤◌, All, map};
 ghost use Rattle.scr_combinatorics.specs.Permutations.{IsPermutation};
-ghost use Rattle.scr_orbit.specs.Orbits.{IsZeroSumRearrangement};
 ghost use Rattle.scr_orbit.specs.PlaceTurns.{rearrangement_of};
 ghost use Rattle.scr_coord.specs.Projections.{AreTurns};
 ghost use Rattle.scr_stages.specs.Tables.{block_turn, corners_by, edges_by};
+ghost use Rattle.scr_stages.specs.Turned.{AreTurned};
 
 use crate::block_turns::block_turns;
 use scr_cube::{corner_turns, edge_turns};
@@ -30,24 +30,18 @@ const EDGES: [u8; 12] = [0, 1, 2, 3, 4, 5, 6, 7, 8, 9, 10, 11];
 
 /// What the turns with these numbers, each below 18, do to corners. There are 1 to 256.
 pub fn corners_turned<const K: usize>(numbers: &[u8; K]) -> [PlaceTurn<8>; K]
-    requires some { 1 ≤ K }
-    requires few { K ≤ 256 }
+    requires count { (1 ≤ K) × (K ≤ 256) }
     requires numbers { All (λ t. t < 18) numbers.now }
-    ensures turns { map rearrangement_of result ≡ corners_by numbers.now }
-    ensures valid { AreTurns (λ turn. IsZeroSumRearrangement 8 3 (rearrangement_of turn)) result }
-    ensures places { AreTurns (λ turn. IsPermutation 8 turn.places) result }
+    ensures { AreTurned 8 3 (corners_by numbers.now) result }
 {
     block_turns(corner_turns(), &CORNERS, numbers)
 }
 
 /// What the turns with these numbers, each below 18, do to edges. There are 1 to 256.
 pub fn edges_turned<const K: usize>(numbers: &[u8; K]) -> [PlaceTurn<12>; K]
-    requires some { 1 ≤ K }
-    requires few { K ≤ 256 }
+    requires count { (1 ≤ K) × (K ≤ 256) }
     requires numbers { All (λ t. t < 18) numbers.now }
-    ensures turns { map rearrangement_of result ≡ edges_by numbers.now }
-    ensures valid { AreTurns (λ turn. IsZeroSumRearrangement 12 2 (rearrangement_of turn)) result }
-    ensures places { AreTurns (λ turn. IsPermutation 12 turn.places) result }
+    ensures { AreTurned 12 2 (edges_by numbers.now) result }
 {
     block_turns(edge_turns(), &EDGES, numbers)
 }

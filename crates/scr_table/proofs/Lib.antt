@@ -9,6 +9,7 @@ pub mod SameTables
 pub mod TriedWords
 pub mod RowLaws
 pub mod LineLaws
+pub mod TableStatesLaws
 pub mod StageLaws
 pub mod BlockLaws
 pub mod StoredLaws

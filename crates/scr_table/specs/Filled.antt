@@ -1,5 +1,5 @@
 -- What is so of the entries of a table while it is built. One number stands for 'not known yet'.
-use Rattle.std.specs.Prelude.{◌≡◌, ◌≢◌, ℕ, ◌+◌, ◌*◌, ◌/◌, ◌%◌, ◌<◌, ◌≤◌, ◌↔◌, ◌==◌, ◌&&◌, if◌then◌else◌, List, length, slice_index, slice_index_or, Option, Some, None}
+use Rattle.std.specs.Prelude.{◌≡◌, ◌≢◌, ℕ, ◌+◌, ◌*◌, ◌/◌, ◌%◌, ◌<◌, ◌≤◌, ◌↔◌, ◌==◌, ◌&&◌, if◌then◌else◌, Bool, true, false, List, length, slice_index, slice_index_or, Option, Some, None}
 use Rattle.scr_coord.specs.Coordinates.{Coordinate, moved, IsGoal}
 use Rattle.scr_combinatorics.specs.FirstWord.{IsDistance}
 use Rattle.scr_table.specs.Distances.{NoneWithin}
@@ -67,6 +67,11 @@ abbrev pub IsCheckedBlock : Coordinate → ℕ → List ℕ → ℕ → Option (
 IsCheckedBlock c level entries block (Some next) =
     OfBlock (λ p k. IsAgreed c level entries p × IsNextEntry c level entries p (slice_index next k)) (length entries) block
 IsCheckedBlock c level entries block None = Unit {0}
+
+-- which of the two it is, by whether the entries are checked
+abbrev pub IsBlockBehind : Bool → Coordinate → ℕ → List ℕ → ℕ → Option (List ℕ) → Type 0
+IsBlockBehind true = IsCheckedBlock
+IsBlockBehind false = IsNextBlock
 
 -- a block is there
 abbrev pub IsThere : Option (Option (List ℕ)) → Type 0

@@ -2,6 +2,8 @@ pub mod Names
 pub mod Distances
 pub mod Lines
 pub mod Causes
+pub mod SearchTables
+pub mod TableStates
 pub mod Filled
 pub mod Halves
 pub mod Moves

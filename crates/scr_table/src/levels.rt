@@ -12,12 +12,14 @@ use scr_workers::{Jobs, OpenGate, run_chunks};
 use std::thread::Threads;
 
 /// The entries of the level `level` and those before it, of which the next level is made. A block's answer is the block on the
-/// next level, or none where nothing in it is unknown.
+/// next level. Where each position is checked, there is none where the block doesn't agree; else there is none where nothing in
+/// it is unknown.
 #[derive(Drop)]
 struct NextLevel<'a, C: Coord> {
     coord: &'a C,
     entries: &'a [u8],
     level: u8,
+    checked: bool,
     ghost positions: { length entries.now ≡ (C.coordinate coord.now).count },
     ghost few: { length entries.now < 2 ^ 32 },
     ghost early: { level ≤ 25 },
@@ -25,17 +27,21 @@ struct NextLevel<'a, C: Coord> {
 
 impl<C: Coord> Jobs for NextLevel<'_, C> {
     ghost use Rattle.std.specs.Prelude.{length};
-    ghost use Rattle.scr_table.specs.Filled.{IsNextBlock, block_count};
+    ghost use Rattle.scr_table.specs.Filled.{IsBlockBehind, block_count};
 
     type Out = Option<[u8; BLOCK]>;
 
     ghost slots = { λ s. block_count (length s.entries.now) };
 
-    ghost is_answer = { λ s block out. IsNextBlock (C.coordinate s.coord.now) s.level s.entries.now block out };
+    ghost is_answer = { λ s block out. IsBlockBehind s.checked (C.coordinate s.coord.now) s.level s.entries.now block out };
 
     fn job(&self, slot: u32) -> Option<[u8; BLOCK]> {
         let start = slot as usize * BLOCK;
         let end = self.entries.len().min(start + BLOCK);
+        if self.checked {
+            let least = least_neighbours(self.coord, self.entries, start as u32, end - start);
+            return checked_block(self.entries, start, end, &least, self.level);
+        }
         if !contains(self.entries, start, end, UNKNOWN) {
             return None;
         }
@@ -109,38 +115,10 @@ pub(crate) fn next_level<R: Threads + Sync, C: Coord + Sync>(
         coord,
         entries: &*entries,
         level,
+        checked: false,
     };
     run_chunks(rt, &next, blocks, workers, &OpenGate);
     enter_blocks(entries, blocks);
-}
-
-/// The same, where each position is looked at, and none is answered where a block doesn't agree.
-#[derive(Drop)]
-struct CheckedLevel<'a, C: Coord> {
-    coord: &'a C,
-    entries: &'a [u8],
-    level: u8,
-    ghost positions: { length entries.now ≡ (C.coordinate coord.now).count },
-    ghost few: { length entries.now < 2 ^ 32 },
-    ghost early: { level ≤ 24 },
-}
-
-impl<C: Coord> Jobs for CheckedLevel<'_, C> {
-    ghost use Rattle.std.specs.Prelude.{length};
-    ghost use Rattle.scr_table.specs.Filled.{IsCheckedBlock, block_count};
-
-    type Out = Option<[u8; BLOCK]>;
-
-    ghost slots = { λ s. block_count (length s.entries.now) };
-
-    ghost is_answer = { λ s block out. IsCheckedBlock (C.coordinate s.coord.now) s.level s.entries.now block out };
-
-    fn job(&self, slot: u32) -> Option<[u8; BLOCK]> {
-        let start = slot as usize * BLOCK;
-        let end = self.entries.len().min(start + BLOCK);
-        let least = least_neighbours(self.coord, self.entries, start as u32, end - start);
-        checked_block(self.entries, start, end, &least, self.level)
-    }
 }
 
 /// The entries of the positions from `start` up to `end` on the next level, where each agrees with the least that a turn
@@ -154,7 +132,7 @@ fn checked_block(
 ) -> Option<[u8; BLOCK]>
     requires end { end ≤ length entries.now }
     requires block { end ≤ start + 1024 }
-    requires level { level ≤ 24 }
+    requires level { level ≤ 25 }
     ensures agree { IfSome result (λ _. (k : ℕ) → start + k < end
         → Agrees level (slice_index entries.now (start + k)) (slice_index least.now k)) }
     ensures next { IfSome result (λ next. (k : ℕ) → start + k < end
@@ -200,12 +178,13 @@ pub(crate) fn checked_level<R: Threads + Sync, C: Coord + Sync>(
 {
     coord.stays_below();
     let _count = coord.count();
-    let checked = CheckedLevel {
+    let next = NextLevel {
         coord,
         entries: &*entries,
         level,
+        checked: true,
     };
-    run_chunks(rt, &checked, blocks, workers, &OpenGate);
+    run_chunks(rt, &next, blocks, workers, &OpenGate);
     if !are_all_there(blocks) {
         return false;
     }

@@ -1,4 +1,4 @@
--- What a table's entries count, as what its coordinate has.
+-- What a table's entries count, as what the positions of its line have.
 use Rattle.std.proofs.Common.{◌≡◌, ℕ, zero, suc, ◌+◌, ◌<◌, ◌≤◌, Bool, true, false, cond, List, [], ◌∷◌, length, get_or, take, inl, inr, refl, sym, ap, ◌∙◌, subst, arith, add-one, add-zero}
 use Rattle.std.specs.Prelude.{◌==◌, All, count_by, slice_index}
 use Rattle.std.proofs.Math.Seq.{take-length}
@@ -7,11 +7,14 @@ use Rattle.std.proofs.lemmas.Bool.{eq-eqb, eqb-true, cases_lt}
 use Rattle.std.proofs.lemmas.List.Sums.{count_by_more_yes, count_by_more_no, get_or-le-sum_by}
 use Rattle.std.proofs.lemmas.List.Elements.{All-get_or, All-from_get_or}
 use Rattle.scr_coord.specs.Coordinates.{Coordinate, moved, IsGoal}
+use Rattle.scr_combinatorics.specs.FirstWord.{IsDistance}
 use Rattle.scr_combinatorics.proofs.FirstWordLaws.{IsDistance-unique}
 use Rattle.scr_draw.specs.Count.{count_below}
 use Rattle.scr_table.specs.Distances.{Distances, Measures}
 use Rattle.scr_table.specs.Lines.{TableLine}
-use Rattle.scr_table_text.specs.TableText.{IsAtDistance, AreCounts, IsTableText}
+use Rattle.scr_table.specs.SearchTables.{IsAtDistance}
+use Rattle.scr_table.specs.TableStates.{by_positions}
+use Rattle.scr_table_text.specs.TableText.{AreCounts, IsTableText}
 use Rattle.scr_table_text.specs.Counted.{AreEntryCounts, counted_text}
 
 -- how many of the first n elements pass is how many of the places below n have one that does
@@ -32,33 +35,42 @@ count_below-entries p xs (suc n) le =
         ap (λ b. count_below (λ k. p (slice_index xs k)) n + cond b 1 0) is ∙ add-zero _ ∙ before
         ∙ sym (count_by_more_no p xs n 0 there is) ∙ ap (λ m. count_by p (take m xs)) (add-one n)
 
--- the counts of a table's entries are those of its coordinate
+-- the counts of a table's entries are those of its line's positions
 pub AreCounts-measured : (line : TableLine) (table : Distances) (counts : List ℕ) → Measures line.coordinate table
-    → AreEntryCounts table.distances counts → AreCounts line.coordinate counts
+    → AreEntryCounts table.distances counts → AreCounts (by_positions line) counts
 AreCounts-measured line table counts measures entries =
     let c : Coordinate = line.coordinate in
     let size = measures.positions in
+    let same : (p d : ℕ) → p < c.count → IsAtDistance (by_positions line) p d → slice_index table.distances p ≡ d =
+    λ p d below at. IsDistance-unique (moved c) (IsGoal c) p (slice_index table.distances p) d (measures.exact p below)
+    (subst (λ q. IsDistance (moved c) (IsGoal c) q d) at.number at.so) in
     record {
       counted = λ d lt. record {
         test = λ p. slice_index table.distances p == d;
         tells = λ p below. (
-          λ h. subst (λ e. IsAtDistance c p e) (eqb-true (slice_index table.distances p) d h) (measures.exact p below),
-          λ at. eq-eqb (slice_index table.distances p) d (IsDistance-unique (moved c) (IsGoal c) p (slice_index table.distances p) d (measures.exact p below) at),
+          λ h. record {
+            state = p;
+            valid = below;
+            number = refl;
+            so = subst (λ e. IsDistance (moved c) (IsGoal c) p e) (eqb-true (slice_index table.distances p) d h) (measures.exact p below);
+          },
+          λ at. eq-eqb (slice_index table.distances p) d (same p d below at),
         );
         counted = count_below-entries (λ e. e == d) table.distances c.count (omega (arith, size))
             ∙ ap (λ n. count_by (λ e. e == d) (take n table.distances)) (sym size)
             ∙ ap (count_by (λ e. e == d)) (take-length table.distances)
             ∙ sym (entries.counted d lt);
       };
-      each = λ p d below at.
-          subst (λ e. e < length counts) (IsDistance-unique (moved c) (IsGoal c) p (slice_index table.distances p) d (measures.exact p below) at)
+      each = λ p d at.
+          let below : p < c.count = subst (λ q. q < c.count) at.number at.valid in
+          subst (λ e. e < length counts) (same p d below at)
           (All-get_or (λ e. e < length counts) table.distances p 0 (omega (arith, size, below)) entries.each);
       greatest = entries.greatest;
     }
 
 -- the text of a table that measures a coordinate
 pub IsTableText-measured : (line : TableLine) (table : Distances) (counts : List ℕ) → Measures line.coordinate table
-    → table.name ≡ line.name → table.bound ≡ line.bound → AreEntryCounts table.distances counts → IsTableText line (counted_text table counts)
+    → table.name ≡ line.name → table.bound ≡ line.bound → AreEntryCounts table.distances counts → IsTableText (by_positions line) (counted_text table counts)
 IsTableText-measured line table counts measures name bound entries = record {
   counts = counts;
   are = AreCounts-measured line table counts measures entries;

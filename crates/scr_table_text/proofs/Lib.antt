@@ -1,3 +1,4 @@
 pub mod CountLaws
 pub mod CountLines
 pub mod TextsLaws
+pub mod StateTexts

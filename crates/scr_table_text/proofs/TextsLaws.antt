@@ -7,6 +7,7 @@ use Rattle.scr_outside.specs.Change.{Change, Gains, Falters, Writes}
 use Rattle.scr_outside.proofs.ChangeLemmas.{from_to, Gains-nothing, written-none, written-more, written-last, Falters-longer}
 use Rattle.scr_table.specs.Distances.{Distances}
 use Rattle.scr_table.specs.Lines.{TableLine, AreTablesOf}
+use Rattle.scr_table.specs.TableStates.{all_by_positions}
 use Rattle.scr_table_text.specs.TableText.{AreTableTexts}
 use Rattle.scr_table_text.specs.Counted.{AreEntryCounts, counted_text, tables_in, WritesTexts, WritesTables}
 use Rattle.scr_table_text.proofs.CountLaws.{IsTableText-measured, counts_of-entries}
@@ -25,7 +26,7 @@ tables_in-none [] none = refl
 tables_in-none (table ∷ tables) none = absurd (omega arith)
 
 -- built tables have texts
-texts_of-tables : (lines : List TableLine) (tables : List Distances) → AreTablesOf lines tables → (text : List ℕ) × AreTableTexts lines text
+texts_of-tables : (lines : List TableLine) (tables : List Distances) → AreTablesOf lines tables → (text : List ℕ) × AreTableTexts (all_by_positions lines) text
 texts_of-tables [] [] are = ([], refl)
 texts_of-tables [] (table ∷ tables) are = absurd are
 texts_of-tables (line ∷ lines) [] are = absurd are
@@ -37,7 +38,7 @@ texts_of-tables (line ∷ lines) (table ∷ tables) are =
 
 -- nothing is left to write
 pub texts-none : {held : Option (List ℕ)} {faults : ℕ} (lines : List TableLine) → AreTablesOf lines []
-    → (text : List ℕ) × AreTableTexts lines text × Gains (from_to held faults held faults) text
+    → (text : List ℕ) × AreTableTexts (all_by_positions lines) text × Gains (from_to held faults held faults) text
 texts-none [] are = ([], refl, Gains-nothing)
 texts-none (line ∷ lines) are = absurd are
 
@@ -46,8 +47,8 @@ pub texts-more : {E : Type 0} {held held' : Option (List ℕ)} {faults faults' :
     (table : Distances) (tables : List Distances) (counts : List ℕ) (r : Result (Unit {0}) E)
     → AreTablesOf lines (table ∷ tables) → AreEntryCounts table.distances counts
     → Gains (from_to held faults held' faults') (counted_text table counts)
-    → ((others : List TableLine) → AreTablesOf others tables → WritesTexts others (from_to held' faults' held'' faults'') r)
-    → WritesTexts lines (from_to held faults held'' faults'') r
+    → ((others : List TableLine) → AreTablesOf others tables → WritesTexts (all_by_positions others) (from_to held' faults' held'' faults'') r)
+    → WritesTexts (all_by_positions lines) (from_to held faults held'' faults'') r
 texts-more held'' faults'' [] table tables counts r are entries gains rest = absurd are
 texts-more held'' faults'' (line ∷ lines) table tables counts r are entries gains rest =
     let first = counted_text table counts in
@@ -60,7 +61,7 @@ texts-more held'' faults'' (line ∷ lines) table tables counts r are entries ga
 -- the first text could not be written whole
 pub texts-part : {change : Change} (lines : List TableLine) (table : Distances) (tables : List Distances) (counts : List ℕ)
     → AreTablesOf lines (table ∷ tables) → AreEntryCounts table.distances counts → Falters change (counted_text table counts)
-    → (text : List ℕ) × AreTableTexts lines text × Falters change text
+    → (text : List ℕ) × AreTableTexts (all_by_positions lines) text × Falters change text
 texts-part [] table tables counts are entries falters = absurd are
 texts-part (line ∷ lines) table tables counts are entries falters =
     let first = counted_text table counts in
@@ -72,6 +73,14 @@ texts-part (line ∷ lines) table tables counts are entries falters =
 
 -- the text of an event that has no tables
 pub tables-none : {E : Type 0} (change : Change) (r : Result (Unit {0}) E) (lines : List TableLine) → AreTablesOf lines []
-    → Writes change (codes "no tables\n") r → WritesTables lines change r
+    → Writes change (codes "no tables\n") r → WritesTables (all_by_positions lines) change r
 tables-none change r [] are writes = (codes "no tables\n", refl, writes)
 tables-none change r (line ∷ lines) are writes = absurd are
+
+-- and of one that has some
+pub tables-some : {E : Type 0} (change : Change) (r : Result (Unit {0}) E) (lines : List TableLine) (tables : List Distances)
+    → 1 ≤ length tables → AreTablesOf lines tables → WritesTexts (all_by_positions lines) change r
+    → WritesTables (all_by_positions lines) change r
+tables-some change r [] [] some are writes = absurd (omega arith)
+tables-some change r [] (table ∷ tables) some are writes = absurd are
+tables-some change r (line ∷ lines) tables some are writes = writes

@@ -3,7 +3,7 @@ use Rattle.std.specs.Prelude.{◌≡◌, ℕ, ◌+◌, ◌<◌, ◌==◌, List, 
 use Rattle.std.specs.Borrow.{Bor}
 use Rattle.scr_text.specs.Lines.{text_of_lines}
 use Rattle.scr_table.specs.Distances.{Distances}
-use Rattle.scr_table.specs.Lines.{TableLine}
+use Rattle.scr_table.specs.SearchTables.{SearchTable}
 use Rattle.scr_outside.specs.Change.{Change, Writes}
 use Rattle.scr_table_text.specs.TableText.{head_text, count_lines, AreTableTexts, IsTablesText}
 
@@ -22,9 +22,9 @@ abbrev pub tables_in : List (Bor Distances) → List Distances
 tables_in = map (λ table. table.now)
 
 -- the texts of tables were written, or a first part of them, where the sink failed
-abbrev pub WritesTexts : {E : Type 0} → List TableLine → Change → Result (Unit {0}) E → Type 0
-WritesTexts lines change result = (text : List ℕ) × AreTableTexts lines text × Writes change text result
+abbrev pub WritesTexts : {E : Type 0} → List SearchTable → Change → Result (Unit {0}) E → Type 0
+WritesTexts tables change result = (text : List ℕ) × AreTableTexts tables text × Writes change text result
 
 -- the same of the tables of an event, which may have none
-abbrev pub WritesTables : {E : Type 0} → List TableLine → Change → Result (Unit {0}) E → Type 0
-WritesTables lines change result = (text : List ℕ) × IsTablesText lines text × Writes change text result
+abbrev pub WritesTables : {E : Type 0} → List SearchTable → Change → Result (Unit {0}) E → Type 0
+WritesTables tables change result = (text : List ℕ) × IsTablesText tables text × Writes change text result

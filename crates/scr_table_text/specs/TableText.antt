@@ -3,21 +3,15 @@
 use Rattle.std.specs.Prelude.{◌≡◌, ℕ, ◌+◌, ◌<◌, List, [], ◌∷◌, ◌++◌, codes, length, slice_index}
 use Rattle.std.specs.Fmt.{decimal}
 use Rattle.scr_text.specs.Lines.{text_of_lines}
-use Rattle.scr_combinatorics.specs.FirstWord.{IsDistance}
 use Rattle.scr_draw.specs.Count.{IsCount}
-use Rattle.scr_coord.specs.Coordinates.{Coordinate, moved, IsGoal}
 use Rattle.scr_table.specs.declared.name.TableName.{TableName}
 use Rattle.scr_table.specs.Names.{name_text}
-use Rattle.scr_table.specs.Lines.{TableLine}
+use Rattle.scr_table.specs.SearchTables.{SearchTable, IsAtDistance}
 
--- a position of a coordinate is so many turns from a goal
-abbrev pub IsAtDistance : Coordinate → ℕ → ℕ → Type 0
-IsAtDistance c p d = IsDistance (moved c) (IsGoal c) p d
-
--- how many positions there are at each distance, from 0 up to the greatest that occurs
-pub record AreCounts (c : Coordinate) (counts : List ℕ) : Type 0 where
-  pub counted : (d : ℕ) → d < length counts → IsCount (λ p. IsAtDistance c p d) c.count (slice_index counts d)
-  pub each : (p d : ℕ) → p < c.count → IsAtDistance c p d → d < length counts
+-- how many numbers of a table are those of states at each distance, from 0 up to the greatest that occurs
+pub record AreCounts (table : SearchTable) (counts : List ℕ) : Type 0 where
+  pub counted : (d : ℕ) → d < length counts → IsCount (λ i. IsAtDistance table i d) table.count (slice_index counts d)
+  pub each : (i d : ℕ) → IsAtDistance table i d → d < length counts
   pub greatest : (d : ℕ) → length counts ≡ d + 1 → 0 < slice_index counts d
 
 -- the head of a table: its name, how many positions it has, and how far it may reach
@@ -31,18 +25,18 @@ count_lines d [] = []
 count_lines d (count ∷ counts) = (decimal d ++ 32 ∷ decimal count) ∷ count_lines (d + 1) counts
 
 -- the text of one table
-pub record IsTableText (line : TableLine) (text : List ℕ) : Type 0 where
+pub record IsTableText (table : SearchTable) (text : List ℕ) : Type 0 where
   pub counts : List ℕ
-  pub are : AreCounts line.coordinate counts
-  pub is : text ≡ text_of_lines (head_text line.name line.coordinate.count line.bound ∷ count_lines 0 counts)
+  pub are : AreCounts table counts
+  pub is : text ≡ text_of_lines (head_text table.name table.count table.bound ∷ count_lines 0 counts)
 
 -- the texts of tables, one after another
-abbrev pub AreTableTexts : List TableLine → List ℕ → Type 0
+abbrev pub AreTableTexts : List SearchTable → List ℕ → Type 0
 AreTableTexts [] text = text ≡ []
-AreTableTexts (line ∷ lines) text =
-    (first : List ℕ) × (rest : List ℕ) × IsTableText line first × AreTableTexts lines rest × (text ≡ first ++ rest)
+AreTableTexts (table ∷ tables) text =
+    (first : List ℕ) × (rest : List ℕ) × IsTableText table first × AreTableTexts tables rest × (text ≡ first ++ rest)
 
 -- the text of an event's tables, or that it has none
-abbrev pub IsTablesText : List TableLine → List ℕ → Type 0
+abbrev pub IsTablesText : List SearchTable → List ℕ → Type 0
 IsTablesText [] text = text ≡ codes "no tables\n"
-IsTablesText (line ∷ lines) text = AreTableTexts (line ∷ lines) text
+IsTablesText (table ∷ tables) text = AreTableTexts (table ∷ tables) text

@@ -8,6 +8,7 @@ ghost use Rattle.scr_text.specs.Lines.{text_of_lines};
 ghost use Rattle.scr_table.specs.Names.{name_text};
 ghost use Rattle.scr_table_text.specs.TableText.{head_text, count_lines};
 ghost use Rattle.scr_table.specs.Lines.{TableLine, AreTablesOf};
+ghost use Rattle.scr_table.specs.TableStates.{all_by_positions};
 ghost use Rattle.scr_table_text.specs.Counted.{AreEntryCounts, counted_text, tables_in, WritesTables, WritesTexts};
 
 use arrayvec::ArrayString;
@@ -15,11 +16,12 @@ use scr_outside::{Failed, Sink, write_line};
 use scr_table::{DistanceTable, TableName};
 use scr_text::decimal;
 
-/// Writes the texts of an event's tables, one after another, or the line of an event that has none. At `Failed`, which
-/// comes only where the sink's count of faults rose, a first part of it was written.
+/// Writes the texts of an event's tables, one after another, or the line of an event that has none. They are those of the
+/// tables as their lines have them, by positions. At `Failed`, which comes only where the sink's count of faults rose, a
+/// first part of it was written.
 pub fn write_tables<O: Sink>(out: &mut O, tables: &[&DistanceTable]) -> Result<(), Failed>
     ensures { (lines : List TableLine) → AreTablesOf lines (tables_in tables.now)
-        → WritesTables lines (change_of O.held O.faults out.old out.new) result }
+        → WritesTables (all_by_positions lines) (change_of O.held O.faults out.old out.new) result }
 {
     match tables {
         [] => write_line(out, "no tables", ""),
@@ -30,7 +32,7 @@ pub fn write_tables<O: Sink>(out: &mut O, tables: &[&DistanceTable]) -> Result<(
 /// Writes the texts of tables, one after another.
 fn write_each<O: Sink>(out: &mut O, tables: &[&DistanceTable]) -> Result<(), Failed>
     ensures { (lines : List TableLine) → AreTablesOf lines (tables_in tables.now)
-        → WritesTexts lines (change_of O.held O.faults out.old out.new) result }
+        → WritesTexts (all_by_positions lines) (change_of O.held O.faults out.old out.new) result }
 {
     match tables {
         [] => Ok(()),

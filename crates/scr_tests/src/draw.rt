@@ -116,5 +116,4 @@ fn draws_of_a_stream(rt: HostRuntime) {
     is_reached();
     laws::drawn_fairly(&Row);
     laws::first_hit(&Row, 2);
-    laws::one_outcome(&Row);
 }

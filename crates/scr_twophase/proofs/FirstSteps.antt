@@ -1,6 +1,6 @@
 -- What a search for first parts sees: its positions, the turns that lead on, and where its words end.
-use Rattle.std.proofs.Common.{◌≡◌, ℕ, ◌<◌, Bool, true, false, cond, List, [], ◌∷◌, ◌++◌, map, get_or, Some, None, refl, sym, ap, ◌∙◌, eqb-true, arith}
-use Rattle.std.specs.Prelude.{filter, ◌&&◌, ◌==◌}
+use Rattle.std.proofs.Common.{◌≡◌, ℕ, ◌<◌, Bool, true, false, cond, List, [], ◌∷◌, ◌++◌, map, get_or, Some, None, refl, sym, ap, ◌∙◌, arith, lit<, lit≤}
+use Rattle.std.specs.Prelude.{filter, ◌&&◌}
 use Rattle.std.specs.Option.{option_map_or}
 use Rattle.std.proofs.lemmas.Bool.{and_parts, and_from}
 use Rattle.std.proofs.lemmas.List.{map-id}
@@ -18,70 +18,58 @@ use Rattle.scr_stages.proofs.FiniteTests.{agree, agree-same, passes_below, test-
 use Rattle.scr_stages.proofs.StageSpaces.{Follows-flips}
 use Rattle.scr_table.specs.Words.{words_of, words_behind, words_within}
 use Rattle.scr_table.proofs.WordLists.{words_behind-end, words_of-none}
-use Rattle.scr_twophase.specs.declared.first.FirstPosition.{FirstPosition}
-use Rattle.scr_twophase.specs.Near.{first_number}
+use Rattle.scr_twophase.specs.declared.first.TheConstants.{FIRST_EXTENT}
+use Rattle.scr_twophase.specs.declared.position.PartPosition.{PartPosition}
 use Rattle.scr_twophase.specs.TurnSets.{contains_turn}
 use Rattle.scr_twophase.specs.TwoParts.{turn_numbers, ends_in_quarter, is_domino, is_first_part, is_orderly, is_side_quarter, joined, leads, first_joined, first_parts, two_parts}
-use Rattle.scr_twophase.specs.Search.{ShowsFirst, IsFirstPosition, IsAt, IsSearched, KeepsWays, first_given, is_domino_position}
+use Rattle.scr_twophase.specs.Search.{IsAt, IsSearched, IsTestOf, KeepsWays, first_given, is_domino_position}
 use Rattle.scr_twophase.specs.Tables.{twists_of, middle_set_of}
-use Rattle.scr_twophase.proofs.CubeTests.{IsDomino-test, leads-played, goal_number, same_test}
+use Rattle.scr_twophase.specs.Views.{AreViews, Shows, first_views, part_number}
+use Rattle.scr_twophase.proofs.CubeTests.{IsDomino-test, leads-played, goal_number}
 use Rattle.scr_twophase.proofs.Orderly.{last-push}
 use Rattle.scr_twophase.proofs.Spaces.{Follows-twists, Follows-middle_set}
+use Rattle.scr_twophase.proofs.ViewLaws.{Sees-follows, part_number-end, tests_agree}
 
--- the numbers of a cube are those of a position
-pub IsFirstPosition-shown : (c : CubeState) (at : FirstPosition) → ShowsFirst c at → IsFirstPosition at
-IsFirstPosition-shown c at h = record {
-  flips = omega (arith, h.flips, Follows-flips.valid c h.cube);
-  twists = omega (arith, h.twists, Follows-twists.valid c h.cube);
-  middle = omega (arith, h.middle, Follows-middle_set.valid c h.cube);
+-- ---- positions
+
+-- what a search for first parts sees
+pub AreViews-first : AreViews first_views FIRST_EXTENT
+unfolding turn_numbers
+AreViews-first = record {
+  one = Sees-follows first_views HasNoFlips first_views.one refl Follows-flips (λ c h e. let d = (IsDomino-test c).0 e in d.no_flips);
+  other = Sees-follows first_views IsUntwisted first_views.other refl Follows-twists (λ c h e. let d = (IsDomino-test c).0 e in d.no_twists);
+  middle = Sees-follows first_views IsInMiddle first_views.middle refl Follows-middle_set (λ c h e. let d = (IsDomino-test c).0 e in d.middle);
+  counts = (refl, refl, refl);
+  block = (lit< tt, lit< tt, lit≤ tt);
+  slices = (lit< tt, lit< tt);
+  few = (lit≤ tt, lit≤ tt, refl);
 }
 
--- the position of a cube
-abbrev pub first_position : CubeState → FirstPosition
-first_position c = record { flips = flips_number c; twists = twists_of c; middle = middle_set_of c }
-
-pub ShowsFirst-of : (c : CubeState) → IsCube c → ShowsFirst c (first_position c)
-ShowsFirst-of c h = record { cube = h; flips = refl; twists = refl; middle = refl }
-
-pub IsFirstPosition-of : (c : CubeState) → IsCube c → IsFirstPosition (first_position c)
-IsFirstPosition-of c h = IsFirstPosition-shown c (first_position c) (ShowsFirst-of c h)
-
 -- a position shows whether a cube is a domino
-pub is_domino-shown : (c : CubeState) (at : FirstPosition) → ShowsFirst c at → is_domino c ≡ is_domino_position at
+pub is_domino-shown : (c : CubeState) (at : PartPosition) → Shows first_views c at → is_domino c ≡ is_domino_position at
 is_domino-shown c at h =
     let flips =
-    goal_number (HasNoFlips c) (flips_number c) (twists_number 2 (zeros 12)) at.flips 0 (Follows-flips.goals c h.cube) h.flips (twists_number-zeros 12 2) in
+    goal_number (HasNoFlips c) (flips_number c) (twists_number 2 (zeros 12)) at.one 0 (Follows-flips.goals c h.seen) h.one (twists_number-zeros 12 2) in
     let twists =
-    goal_number (IsUntwisted c) (twists_of c) (twists_number 3 (zeros 8)) at.twists 0 (Follows-twists.goals c h.cube) h.twists (twists_number-zeros 8 3) in
+    goal_number (IsUntwisted c) (twists_of c) (twists_number 3 (zeros 8)) at.other 0 (Follows-twists.goals c h.seen) h.other (twists_number-zeros 8 3) in
     let middle =
-    goal_number (IsInMiddle c) (middle_set_of c) (place_set_number 12 middle_edges) at.middle 494 (Follows-middle_set.goals c h.cube) h.middle refl in
+    goal_number (IsInMiddle c) (middle_set_of c) (place_set_number 12 middle_edges) at.middle 494 (Follows-middle_set.goals c h.seen) h.middle refl in
     let tests = IsDomino-test c in
-    same_test (is_domino c) (is_domino_position at)
-    (λ e. let d = tests.0 e in and_from ((at.flips == 0) && (at.twists == 0)) (at.middle == 494)
-    (and_from (at.flips == 0) (at.twists == 0) (flips.0 d.no_flips) (twists.0 d.no_twists)) (middle.0 d.middle))
-    (λ e.
-    let whole = and_parts ((at.flips == 0) && (at.twists == 0)) (at.middle == 494) e in
-    let both = and_parts (at.flips == 0) (at.twists == 0) whole.0 in
-    tests.1 (record { no_flips = flips.1 both.0; no_twists = twists.1 both.1; middle = middle.1 whole.1 }))
+    tests_agree (is_domino c) at 494 (λ e. let d = tests.0 e in (flips.0 d.no_flips, twists.0 d.no_twists, middle.0 d.middle))
+    (λ all. tests.1 (record { no_flips = flips.1 all.0; no_twists = twists.1 all.1; middle = middle.1 all.2 }))
 
 -- the number of the dominoes
-pub first_number-domino : (c : CubeState) → IsCube c → is_domino c ≡ true → 2121713844224 ≡ first_number c
-first_number-domino c h e =
-    let at = first_position c in
-    let whole = and_parts ((at.flips == 0) && (at.twists == 0)) (at.middle == 494) (sym (is_domino-shown c at (ShowsFirst-of c h)) ∙ e) in
-    let both = and_parts (at.flips == 0) (at.twists == 0) whole.0 in
-    let flips = eqb-true (flips_number c) 0 both.0 in
-    let twists = eqb-true (twists_of c) 0 both.1 in
-    let middle = eqb-true (middle_set_of c) 494 whole.1 in
-    omega (arith, flips, twists, middle)
+pub first_number-domino : (c : CubeState) → IsCube c → is_domino c ≡ true → 2121713844224 ≡ part_number first_views c
+first_number-domino c h e = part_number-end first_views c 494 h (is_domino-shown c) e
 
 -- ---- the turns that lead on
 
-pub first_part_ways : (c : CubeState) (w : List ℕ) → is_first_part c w ≡ true → (is_orderly w ≡ true) × (leads is_domino c w ≡ true)
+pub IsTestOf-first : (c : CubeState) → IsTestOf is_domino c (is_first_part c)
 unfolding is_first_part
-first_part_ways c w e =
-    let parts = and_parts (is_orderly w && ends_in_quarter w) (leads is_domino c w) e in
-    ((and_parts (is_orderly w) (ends_in_quarter w) parts.0).0, parts.1)
+IsTestOf-first c = record {
+  orderly = λ w e. (and_parts (is_orderly w) (ends_in_quarter w) (and_parts (is_orderly w && ends_in_quarter w) (leads is_domino c w) e).0).0;
+  leads_there = λ w e. (and_parts (is_orderly w && ends_in_quarter w) (leads is_domino c w) e).1;
+}
 
 -- the last turn of a first part is one of these
 unfoldable pub side_quarters : ℕ
@@ -120,7 +108,7 @@ KeepsWays-quarters c word bits both keeps and = record {
 
 -- ---- at the end of a word
 
-module _ (c : CubeState) (word : List ℕ) (at : FirstPosition) (h : IsAt ShowsFirst c word at) where
+module _ (c : CubeState) (word : List ℕ) (at : PartPosition) (h : IsAt (Shows first_views) c word at) where
   test_is : is_first_part c word ≡ (ends_in_quarter word && is_domino_position at)
   unfolding is_first_part
   test_is =
@@ -137,8 +125,8 @@ module _ (c : CubeState) (word : List ℕ) (at : FirstPosition) (h : IsAt ShowsF
   one_part e = at_end true e
 
 -- a position of dominoes is that of one
-pub domino_there : (c : CubeState) (at : FirstPosition) → ShowsFirst c at → is_domino_position at ≡ true → IsDominoCube c
-domino_there c at h e = record { cube = h.cube; domino = (IsDomino-test c).0 (is_domino-shown c at h ∙ e) }
+pub domino_there : (c : CubeState) (at : PartPosition) → Shows first_views c at → is_domino_position at ≡ true → IsDominoCube c
+domino_there c at h e = record { cube = h.seen; domino = (IsDomino-test c).0 (is_domino-shown c at h ∙ e) }
 
 -- ---- both parts
 

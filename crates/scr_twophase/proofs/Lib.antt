@@ -7,6 +7,7 @@ pub mod Orderly
 pub mod BitSets
 pub mod OutlookLaws
 pub mod BuiltLaws
+pub mod ViewLaws
 pub mod Admissible
 pub mod Outcomes
 pub mod SearchSteps
@@ -17,7 +18,6 @@ pub mod WordSteps
 pub mod PartLaws
 pub mod NearLaws
 pub mod NearBits
-pub mod RowLaws
 pub mod TakenBack
 pub mod HeldScrambles
 pub mod EachIndex

@@ -1,10 +1,12 @@
 -- A search for the first word that gives something, word by word.
-use Rattle.std.proofs.Common.{◌≡◌, ℕ, suc, ◌+◌, ◌-◌, ◌<◌, ◌≤◌, Bool, true, false, cond, List, [], ◌∷◌, ◌++◌, length, Option, Some, None, refl, sym, ap, ◌∙◌, subst, arith}
+use Rattle.std.proofs.Common.{◌≡◌, ℕ, suc, ◌+◌, ◌-◌, ◌<◌, ◌≤◌, Bool, true, false, cond, List, [], ◌∷◌, ◌++◌, length, map, Option, Some, None, refl, sym, ap, ◌∙◌, subst, arith}
+use Rattle.std.specs.Prelude.{filter}
 use Rattle.std.specs.List.{flat_map}
 use Rattle.std.specs.Option.{option_or}
 use Rattle.std.proofs.lemmas.List.{length-append}
 use Rattle.scr_combinatorics.specs.Lists.{numbers_from}
-use Rattle.scr_table.proofs.WordLists.{numbers_from-next, numbers_from-end}
+use Rattle.scr_table.specs.Words.{words_behind, words_within}
+use Rattle.scr_table.proofs.WordLists.{lengths_from, numbers_from-next, numbers_from-end, words_behind-within}
 use Rattle.scr_twophase.specs.Search.{first_given, IsSearched}
 use Rattle.scr_twophase.proofs.Tries.{first_given-append, first_given-none, first_given-one, first_given-spent}
 
@@ -73,11 +75,44 @@ module _ (gives : List ℕ → Option (List ℕ)) where
         tried = λ f. omega (arith, tried f, ap length e);
       }
 
-module _ (gives : List ℕ → Option (List ℕ)) (all : List (List ℕ)) (tries left at end : ℕ) (f : ℕ → List (List ℕ))
-    (h : IsLeft gives all tries (flat_map f (numbers_from at (end - at))) left) where
-  -- the words of one length more, and then the longer ones
-  pub lengths_next : at < end → IsLeft gives all tries (f at ++ flat_map f (numbers_from (at + 1) (end - (at + 1)))) left
-  lengths_next lt = subst (λ ns. IsLeft gives all tries (flat_map f ns) left) (numbers_from-next at end lt) h
+-- Through the words that go on from a word, by rising length up to so many turns, to those that pass a test.
+module _ (turns : List ℕ) (test : List ℕ → Bool) (gives : List ℕ → Option (List ℕ)) (word : List ℕ) (most tries : ℕ) where
+  abbrev all_words : List (List ℕ)
+  all_words = filter test (map (λ v. word ++ v) (words_within turns most))
 
-  pub lengths_end : end ≤ at → IsLeft gives all tries [] left
-  lengths_end le = subst (λ ns. IsLeft gives all tries (flat_map f ns) left) (numbers_from-end at end le) h
+  abbrev longer : ℕ → List (List ℕ)
+  longer from = flat_map (words_behind turns test word) (numbers_from from (most + 1 - from))
+
+  -- those with so many turns and more are left
+  pub record AreLongerLeft (from left : ℕ) : Type 0 where
+    pub words : IsLeft gives all_words tries (longer from) left
+
+  pub AreLongerLeft-begin : (least : ℕ) → ((n : ℕ) → n < least → words_behind turns test word n ≡ []) → AreLongerLeft least tries
+  AreLongerLeft-begin least none =
+      let all : most + 1 ≡ most + 1 - 0 = omega arith in
+      record {
+        words = IsLeft-all gives all_words tries word (longer least)
+            (words_behind-within turns test word most ∙ ap (λ n. flat_map (words_behind turns test word) (numbers_from 0 n)) all
+            ∙ lengths_from (words_behind turns test word) least (most + 1) none);
+      }
+
+  module _ (from left : ℕ) (h : AreLongerLeft from left) where
+    next : from < most + 1 → IsLeft gives all_words tries (words_behind turns test word from ++ longer (from + 1)) left
+    next lt = subst (λ ns. IsLeft gives all_words tries (flat_map (words_behind turns test word) ns) left) (numbers_from-next from (most + 1) lt) h.words
+
+    module _ (lt : from < most + 1) (now : ℕ) (at after : List ℕ) (is : at ≡ word) where
+      pub AreLongerLeft-next : IsSearched gives (words_behind turns test at from) left at false after now → AreLongerLeft (from + 1) now
+      AreLongerLeft-next s = record {
+        words = IsLeft-passed gives all_words tries word (words_behind turns test word from) (longer (from + 1)) left now at after (next lt)
+            (subst (λ w. IsSearched gives (words_behind turns test w from) left at false after now) is s);
+      }
+
+      pub AreLongerLeft-found : IsSearched gives (words_behind turns test at from) left at true after now → IsSearched gives all_words tries word true after now
+      AreLongerLeft-found s =
+          IsLeft-found gives all_words tries word (words_behind turns test word from) (longer (from + 1)) left now at after (next lt)
+          (subst (λ w. IsSearched gives (words_behind turns test w from) left at true after now) is s)
+
+    pub AreLongerLeft-end : most + 1 ≤ from → (after : List ℕ) → after ≡ word → IsSearched gives all_words tries word false after left
+    AreLongerLeft-end le after same =
+        IsLeft-none gives all_words tries word left after same
+        (subst (λ ns. IsLeft gives all_words tries (flat_map (words_behind turns test word) ns) left) (numbers_from-end from (most + 1) le) h.words)

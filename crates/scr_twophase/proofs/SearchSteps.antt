@@ -156,21 +156,25 @@ module _ (turns : List ℕ) (test : List ℕ → Bool) (gives : List ℕ → Opt
     turn_follows place other e =
         All-head (MayFollow turns word) place (turns_in other) (subst (All (MayFollow turns word)) e h.follow)
 
-    pub IsUnderWay-next : (place other later : ℕ) (before after : List ℕ) → turns_in bits ≡ place ∷ turns_in other → other < 2 ^ 18
-        → IsSearched gives (words_behind turns test (word ++ get_or turns place 0 ∷ []) (left - 1)) now before false after later → IsUnderWay other later
-    IsUnderWay-next place other later before after e few s = record {
-      words = IsLeft-passed gives (words_behind turns test word left) tries word (words_behind turns test (word ++ get_or turns place 0 ∷ []) (left - 1))
-          (words_by turns test word (left - 1) other) now later before after (others_by place other e) s;
-      follow = All-tail (MayFollow turns word) place (turns_in other) (subst (All (MayFollow turns word)) e h.follow);
-      few = few;
-    }
+    -- the words by that turn are searched, behind the word with the turn
+    module _ (place other later : ℕ) (pushed after : List ℕ) (e : turns_in bits ≡ place ∷ turns_in other) (is : pushed ≡ word ++ get_or turns place 0 ∷ []) where
+      behind_it : (found : Bool) → IsSearched gives (words_behind turns test pushed (left - 1)) now pushed found after later
+          → IsSearched gives (words_behind turns test (word ++ get_or turns place 0 ∷ []) (left - 1)) now pushed found after later
+      behind_it found s = subst (λ w. IsSearched gives (words_behind turns test w (left - 1)) now pushed found after later) is s
 
-    pub IsUnderWay-found : (place other later : ℕ) (before after : List ℕ) → turns_in bits ≡ place ∷ turns_in other
-        → IsSearched gives (words_behind turns test (word ++ get_or turns place 0 ∷ []) (left - 1)) now before true after later
-        → IsSearched gives (words_behind turns test word left) tries word true after later
-    IsUnderWay-found place other later before after e s =
-        IsLeft-found gives (words_behind turns test word left) tries word (words_behind turns test (word ++ get_or turns place 0 ∷ []) (left - 1))
-        (words_by turns test word (left - 1) other) now later before after (others_by place other e) s
+      pub IsUnderWay-next : other < 2 ^ 18 → IsSearched gives (words_behind turns test pushed (left - 1)) now pushed false after later → IsUnderWay other later
+      IsUnderWay-next few s = record {
+        words = IsLeft-passed gives (words_behind turns test word left) tries word (words_behind turns test (word ++ get_or turns place 0 ∷ []) (left - 1))
+            (words_by turns test word (left - 1) other) now later pushed after (others_by place other e) (behind_it false s);
+        follow = All-tail (MayFollow turns word) place (turns_in other) (subst (All (MayFollow turns word)) e h.follow);
+        few = few;
+      }
+
+      pub IsUnderWay-found : IsSearched gives (words_behind turns test pushed (left - 1)) now pushed true after later
+          → IsSearched gives (words_behind turns test word left) tries word true after later
+      IsUnderWay-found s =
+          IsLeft-found gives (words_behind turns test word left) tries word (words_behind turns test (word ++ get_or turns place 0 ∷ []) (left - 1))
+          (words_by turns test word (left - 1) other) now later pushed after (others_by place other e) (behind_it true s)
 
     pub IsUnderWay-end : (after : List ℕ) → after ≡ word → turns_in bits ≡ [] → IsSearched gives (words_behind turns test word left) tries word false after now
     unfolding words_by

@@ -1,21 +1,17 @@
--- What a search for a second part sees goes along with the ten turns, and no pruning table says that solved is farther than it is.
+-- The ten turns keep dominoes.
 use Rattle.std.proofs.Common.{◌≡◌, ℕ, ◌<◌, map, get_or, Some, refl, ◌∙◌}
 use Rattle.std.specs.Prelude.{All}
 use Rattle.scr_combinatorics.specs.Permutations.{IsPermutation, is_permutation}
 use Rattle.scr_combinatorics.proofs.PermutationLaws.{IsPermutation-from_test}
 use Rattle.scr_orbit.specs.Actions.{all_powers, power}
 use Rattle.scr_orbit.specs.Orbits.{added_digits, composed, identity}
-use Rattle.scr_coord.specs.Coordinates.{Coordinate}
-use Rattle.scr_coord.specs.SearchSpaces.{positions, Follows, ShowsSame}
 use Rattle.scr_turning.specs.PowerPuzzles.{all_turns}
 use Rattle.scr_cube.specs.Cube333.{CubeState}
 use Rattle.scr_stages.specs.Numbers.{IsDominoCube}
 use Rattle.scr_stages.specs.Stages.{after_of, middle_edges, tetrads_turns}
 use Rattle.scr_stages.specs.Tables.{block_turn, edges_by}
 use Rattle.scr_stages.proofs.FiniteTests.{All-from_test}
-use Rattle.scr_twophase.specs.TwoParts.{after_turn, domino_turns, leads}
-use Rattle.scr_twophase.proofs.Admissible.{step-shown}
-use Rattle.scr_twophase.specs.Spaces.{dominoes_to}
+use Rattle.scr_twophase.specs.TwoParts.{after_turn, domino_turns}
 use Rattle.scr_twophase.proofs.Spaces.{Follows-corners}
 use Rattle.scr_twophase.proofs.CubeTests.{after_of-place}
 
@@ -26,14 +22,6 @@ place-turn c place lt = after_of-place tetrads_turns c place lt
 -- the ten turns keep dominoes
 pub IsDominoCube-turned : (c d : CubeState) (place : ℕ) → IsDominoCube c → place < 10 → after_turn c (get_or domino_turns place 0) ≡ Some d → IsDominoCube d
 IsDominoCube-turned c d place h lt to = Follows-corners.kept c d place h (place-turn c place lt ∙ to)
-
-pub second_step : (coordinate shown : Coordinate) (number : CubeState → ℕ) (IsGoal : CubeState → Type 0)
-    → Follows (dominoes_to IsGoal) (positions coordinate) number → ShowsSame coordinate shown
-    → (c d : CubeState) (p place q : ℕ) → IsDominoCube c → p ≡ number c → place < 10 → place < coordinate.turns
-    → after_turn c (get_or domino_turns place 0) ≡ Some d → shown.after p place ≡ Some q → q ≡ number d
-second_step coordinate shown number IsGoal f same c d p place q h at lt few to leads =
-    step-shown (dominoes_to IsGoal) coordinate shown number f same c d p place q h at few
-    (place-turn c place lt ∙ to) leads
 
 -- the ten turns carry the edges of the middle layer among its places
 pub middle_moves : All (λ r. IsPermutation 4 r.places) (map (block_turn middle_edges) (edges_by tetrads_turns))

@@ -1,7 +1,7 @@
 -- What a search for second parts sees: its positions, and where its words end.
-use Rattle.std.proofs.Common.{◌≡◌, ℕ, ◌<◌, Bool, true, false, cond, List, [], ◌∷◌, ◌++◌, map, length, get_or, Some, None, refl, sym, ap, ◌∙◌, subst, eqb-true, arith}
-use Rattle.std.specs.Prelude.{◌&&◌, ◌==◌, filter, slice_get}
-use Rattle.std.proofs.lemmas.Bool.{and_parts, and_from}
+use Rattle.std.proofs.Common.{◌≡◌, ℕ, ◌<◌, Bool, true, false, cond, List, [], ◌∷◌, ◌++◌, map, length, get_or, Some, None, refl, sym, ap, ◌∙◌, subst, arith, lit<, lit≤}
+use Rattle.std.specs.Prelude.{◌&&◌, filter, slice_get}
+use Rattle.std.proofs.lemmas.Bool.{and_parts}
 use Rattle.std.proofs.lemmas.List.{get_or-map, length-map}
 use Rattle.std.proofs.lemmas.Option.{same_Some}
 use Rattle.scr_combinatorics.specs.Lists.{numbers_from, pick}
@@ -25,35 +25,37 @@ use Rattle.scr_stages.proofs.HalfCubes.{pick-in_block}
 use Rattle.scr_stages.proofs.TurnFacts.{length-turns, tetrads_numbers}
 use Rattle.scr_table.specs.Words.{words_behind, words_within}
 use Rattle.scr_table.proofs.WordLists.{find-filter, find-made, words_behind-end}
-use Rattle.scr_twophase.specs.declared.second.SecondPosition.{SecondPosition}
-use Rattle.scr_twophase.specs.Near.{second_number}
+use Rattle.scr_twophase.specs.declared.second.TheConstants.{SECOND_EXTENT}
+use Rattle.scr_twophase.specs.declared.position.PartPosition.{PartPosition}
 use Rattle.scr_twophase.specs.TwoParts.{after_turn, domino_turns, is_solved, is_solution, is_orderly, joined, leads, second_part}
 use Rattle.scr_twophase.specs.Tables.{corners_of, outer_edges_of, middle_edges_of}
-use Rattle.scr_twophase.specs.Search.{ShowsSecond, IsSecondPosition, IsAt, IsSearched, carried, first_given, is_solved_position}
-use Rattle.scr_twophase.proofs.CubeTests.{after_turn-is, turn-below, same_cube, IsSolved-test, leads-played, same_test, goal_number}
+use Rattle.scr_twophase.specs.Search.{IsAt, IsSearched, IsTestOf, carried, first_given, is_solved_position}
+use Rattle.scr_twophase.specs.Views.{AreViews, Shows, part_number, second_views}
+use Rattle.scr_twophase.proofs.CubeTests.{after_turn-is, turn-below, same_cube, IsSolved-test, leads-played, goal_number}
 use Rattle.scr_twophase.proofs.Outcomes.{IsSearched-none, IsSearched-one}
+use Rattle.scr_twophase.proofs.ViewLaws.{Sees-follows, part_number-end, tests_agree}
 use Rattle.scr_twophase.specs.Spaces.{AreCornersHome, AreOuterHome, AreMiddleHome}
 use Rattle.scr_twophase.proofs.Spaces.{IsPlaceSet-outer_places, outer-kept, Follows-corners, Follows-outer_edges}
 use Rattle.scr_twophase.proofs.Spaces.{Follows-middle_edges}
 
 -- ---- positions
 
-pub IsSecondPosition-shown : (c : CubeState) (at : SecondPosition) → ShowsSecond c at → IsSecondPosition at
-IsSecondPosition-shown c at h = record {
-  corners = omega (arith, h.corners, Follows-corners.valid c h.domino);
-  outer = omega (arith, h.outer, Follows-outer_edges.valid c h.domino);
-  middle = omega (arith, h.middle, Follows-middle_edges.valid c h.domino);
+-- what is so of the solved cube
+so_there : (P : CubeState → Type 0) → P solved_cube → (e : CubeState) → is_solved e ≡ true → P e
+so_there P home e test = subst P (sym ((IsSolved-test e).0 test)) home
+
+-- what a search for second parts sees
+pub AreViews-second : AreViews second_views SECOND_EXTENT
+unfolding domino_turns solved_cube solved_orbit
+AreViews-second = record {
+  one = Sees-follows second_views AreCornersHome second_views.one refl Follows-corners (λ c h e. so_there AreCornersHome refl c e);
+  other = Sees-follows second_views AreOuterHome second_views.other refl Follows-outer_edges (λ c h e. so_there AreOuterHome refl c e);
+  middle = Sees-follows second_views AreMiddleHome second_views.middle refl Follows-middle_edges (λ c h e. so_there AreMiddleHome refl c e);
+  counts = (refl, refl, refl);
+  block = (lit< tt, lit< tt, lit≤ tt);
+  slices = (lit< tt, lit< tt);
+  few = (lit≤ tt, lit≤ tt, refl);
 }
-
--- the position of a domino
-abbrev pub second_position : CubeState → SecondPosition
-second_position c = record { corners = corners_of c; outer = outer_edges_of c; middle = middle_edges_of c }
-
-pub ShowsSecond-of : (c : CubeState) → IsDominoCube c → ShowsSecond c (second_position c)
-ShowsSecond-of c h = record { domino = h; corners = refl; outer = refl; middle = refl }
-
-pub IsSecondPosition-of : (c : CubeState) → IsDominoCube c → IsSecondPosition (second_position c)
-IsSecondPosition-of c h = IsSecondPosition-shown c (second_position c) (ShowsSecond-of c h)
 
 -- the turn at a place of the ten
 pub domino_turn-lt : (place d : ℕ) → place < 10 → get_or domino_turns place d < 18
@@ -76,55 +78,35 @@ all_home c d outer middle =
     ∙ pick-append p outer_places middle_edges ∙ ap (λ xs. xs ++ pick p middle_edges) first ∙ ap (λ xs. outer_places ++ xs) last
 
 -- a position shows whether a domino is solved
-pub is_solved-shown : (c : CubeState) (at : SecondPosition) → ShowsSecond c at → is_solved c ≡ is_solved_position at
+pub is_solved-shown : (c : CubeState) (at : PartPosition) → Shows second_views c at → is_solved c ≡ is_solved_position at
 unfolding solved_cube solved_orbit
 is_solved-shown c at h =
-    let corners = goal_number (AreCornersHome c) (corners_of c) (permutation_number (numbers_from 0 8)) at.corners 0 (Follows-corners.goals c h.domino) h.corners (permutation_number-in_order 8) in
-    let outer = goal_number (AreOuterHome c) (outer_edges_of c) (permutation_number (numbers_from 0 8)) at.outer 0 (Follows-outer_edges.goals c h.domino) h.outer (permutation_number-in_order 8) in
-    let middle = goal_number (AreMiddleHome c) (middle_edges_of c) (permutation_number (numbers_from 0 4)) at.middle 0 (Follows-middle_edges.goals c h.domino) h.middle (permutation_number-in_order 4) in
+    let corners = goal_number (AreCornersHome c) (corners_of c) (permutation_number (numbers_from 0 8)) at.one 0 (Follows-corners.goals c h.seen) h.one (permutation_number-in_order 8) in
+    let outer = goal_number (AreOuterHome c) (outer_edges_of c) (permutation_number (numbers_from 0 8)) at.other 0 (Follows-outer_edges.goals c h.seen) h.other (permutation_number-in_order 8) in
+    let middle = goal_number (AreMiddleHome c) (middle_edges_of c) (permutation_number (numbers_from 0 4)) at.middle 0 (Follows-middle_edges.goals c h.seen) h.middle (permutation_number-in_order 4) in
     let tests = IsSolved-test c in
-    same_test (is_solved c) (is_solved_position at)
+    tests_agree (is_solved c) at 0
     (λ e.
     let s = tests.0 e in
-    and_from ((at.corners == 0) && (at.outer == 0)) (at.middle == 0)
-    (and_from (at.corners == 0) (at.outer == 0) (corners.0 (ap (λ d. d.corners.pieces) s)) (outer.0 (ap (λ d. in_block outer_places d.edges.pieces) s)))
-    (middle.0 (ap (λ d. in_block middle_edges d.edges.pieces) s)))
-    (λ e.
-    let whole = and_parts ((at.corners == 0) && (at.outer == 0)) (at.middle == 0) e in
-    let both = and_parts (at.corners == 0) (at.outer == 0) whole.0 in
-    tests.1 (same_cube c solved_cube (corners.1 both.0) h.domino.domino.no_twists (all_home c h.domino (outer.1 both.1) (middle.1 whole.1)) h.domino.domino.no_flips))
-
-pub corners_home : AreMiddleHome solved_cube × AreCornersHome solved_cube
-unfolding solved_cube solved_orbit
-corners_home = (refl, refl)
-
-pub outer_home : AreMiddleHome solved_cube × AreOuterHome solved_cube
-unfolding solved_cube solved_orbit
-outer_home = (refl, refl)
-
--- what is so of the solved cube
-pub so_there : (P : CubeState → Type 0) → P solved_cube → (e : CubeState) → is_solved e ≡ true → P e
-so_there P home e test = subst P (sym ((IsSolved-test e).0 test)) home
+    (corners.0 (ap (λ d. d.corners.pieces) s), outer.0 (ap (λ d. in_block outer_places d.edges.pieces) s), middle.0 (ap (λ d. in_block middle_edges d.edges.pieces) s)))
+    (λ all.
+    tests.1 (same_cube c solved_cube (corners.1 all.0) h.seen.domino.no_twists (all_home c h.seen (outer.1 all.1) (middle.1 all.2)) h.seen.domino.no_flips))
 
 -- the number of the solved cube
-pub second_number-solved : (c : CubeState) → IsDominoCube c → is_solved c ≡ true → 0 ≡ second_number c
-second_number-solved c h e =
-    let at = second_position c in
-    let whole = and_parts ((at.corners == 0) && (at.outer == 0)) (at.middle == 0) (sym (is_solved-shown c at (ShowsSecond-of c h)) ∙ e) in
-    let both = and_parts (at.corners == 0) (at.outer == 0) whole.0 in
-    let corners = eqb-true (corners_of c) 0 both.0 in
-    let outer = eqb-true (outer_edges_of c) 0 both.1 in
-    let middle = eqb-true (middle_edges_of c) 0 whole.1 in
-    omega (arith, corners, outer, middle)
+pub second_number-solved : (c : CubeState) → IsDominoCube c → is_solved c ≡ true → 0 ≡ part_number second_views c
+second_number-solved c h e = part_number-end second_views c 0 h (is_solved-shown c) e
 
 -- ---- words
 
-pub solution_ways : (c : CubeState) (w : List ℕ) → is_solution c w ≡ true → (is_orderly w ≡ true) × (leads is_solved c w ≡ true)
+pub IsTestOf-solution : (c : CubeState) → IsTestOf is_solved c (is_solution c)
 unfolding is_solution
-solution_ways c w e = and_parts (is_orderly w) (leads is_solved c w) e
+IsTestOf-solution c = record {
+  orderly = λ w e. (and_parts (is_orderly w) (leads is_solved c w) e).0;
+  leads_there = λ w e. (and_parts (is_orderly w) (leads is_solved c w) e).1;
+}
 
 -- a whole word is a solution where it leads to solved
-pub IsSearched-solution : (c : CubeState) (word : List ℕ) (at : SecondPosition) (tries : ℕ) (found : Bool) → IsAt ShowsSecond c word at → 0 < tries
+pub IsSearched-solution : (c : CubeState) (word : List ℕ) (at : PartPosition) (tries : ℕ) (found : Bool) → IsAt (Shows second_views) c word at → 0 < tries
     → found ≡ is_solved_position at → IsSearched (λ w. Some w) (words_behind domino_turns (is_solution c) word 0) tries word found word tries
 unfolding is_solution
 IsSearched-solution c word at tries found h some e = by found (sym (is ∙ sym e))
@@ -159,18 +141,9 @@ joined-searched c word after found left s =
 
 -- ---- where words lead
 
--- the pieces of a kind are carried as the turns say
-module _ (pieces : CubeState → List ℕ) (places : List (List ℕ)) (turned : (c d : CubeState) (t : ℕ) → after_turn c t ≡ Some d → pieces d ≡ pick (pieces c) (get_or places t [])) where
-  pub carried-played : (c d : CubeState) (word : List ℕ) → play after_turn c word ≡ Some d → carried places (pieces c) word ≡ pieces d
-  unfolding play
-  carried-played c d [] e = ap pieces (same_Some c d e)
-  carried-played c d (t ∷ word) e =
-      let parts = play-parts after_turn c d t word e in
-      ap (λ xs. carried places xs word) (sym (turned c parts.0 t parts.1)) ∙ carried-played parts.0 d word parts.2
-
 -- what a turn in an array carries where is what it does by its number
 module _ {n : ℕ} (part : CubeTurn → Rearrangement) (turns : List (PlaceTurn n)) (defined : map rearrangement_of turns ≡ part_turns part cube_powers) where
-  pub turn-places : (t : ℕ) → t < 18 → get_or (map (λ u. u.places) turns) t [] ≡ (part (get_or (all_turns cube_powers) t cube_action.identity)).places
+  turn-places : (t : ℕ) → t < 18 → get_or (map (λ u. u.places) turns) t [] ≡ (part (get_or (all_turns cube_powers) t cube_action.identity)).places
   turn-places t lt =
       let all = all_turns cube_powers in
       let few : t < length all = omega (arith, length-turns, lt) in
@@ -183,27 +156,34 @@ module _ {n : ℕ} (part : CubeTurn → Rearrangement) (turns : List (PlaceTurn 
       map-map [] = refl
       map-map (u ∷ us) = ap (λ xs. u.places ∷ xs) (map-map us)
 
-pub corners-carried : (turns : List (PlaceTurn 8)) → map rearrangement_of turns ≡ part_turns (λ r. r.corners) cube_powers → (c d : CubeState) (word : List ℕ)
-    → play after_turn c word ≡ Some d → carried (map (λ u. u.places) turns) c.corners.pieces word ≡ d.corners.pieces
-unfolding turned_orbit
-corners-carried turns defined =
-    carried-played (λ c. c.corners.pieces) (map (λ u. u.places) turns) (λ c d t to.
-    ap (λ e. e.corners.pieces) (after_turn-is c d t to) ∙ ap (pick c.corners.pieces) (sym (turn-places (λ r. r.corners) turns defined t (turn-below c d t to))))
+  -- the pieces of a kind are carried as the turns say
+  pub carried-played : (pieces : CubeState → List ℕ) → ((c : CubeState) (r : CubeTurn) → pieces (cube_action.turned c r) ≡ pick (pieces c) (part r).places)
+      → (c d : CubeState) (word : List ℕ) → play after_turn c word ≡ Some d → carried (map (λ u. u.places) turns) (pieces c) word ≡ pieces d
+  unfolding play
+  carried-played pieces turned c d [] e = ap pieces (same_Some c d e)
+  carried-played pieces turned c d (t ∷ word) e =
+      let parts = play-parts after_turn c d t word e in
+      let next : pieces parts.0 ≡ pick (pieces c) (get_or (map (λ u. u.places) turns) t []) =
+      ap pieces (after_turn-is c parts.0 t parts.1) ∙ turned c (get_or (all_turns cube_powers) t cube_action.identity)
+      ∙ ap (pick (pieces c)) (sym (turn-places t (turn-below c parts.0 t parts.1))) in
+      ap (λ xs. carried (map (λ u. u.places) turns) xs word) (sym next) ∙ carried-played pieces turned parts.0 d word parts.2
 
-pub edges-carried : (turns : List (PlaceTurn 12)) → map rearrangement_of turns ≡ part_turns (λ r. r.edges) cube_powers → (c d : CubeState) (word : List ℕ)
-    → play after_turn c word ≡ Some d → carried (map (λ u. u.places) turns) c.edges.pieces word ≡ d.edges.pieces
+-- of corners and of edges
+pub corners-turned : (c : CubeState) (r : CubeTurn) → (cube_action.turned c r).corners.pieces ≡ pick c.corners.pieces r.corners.places
 unfolding turned_orbit
-edges-carried turns defined =
-    carried-played (λ c. c.edges.pieces) (map (λ u. u.places) turns) (λ c d t to.
-    ap (λ e. e.edges.pieces) (after_turn-is c d t to) ∙ ap (pick c.edges.pieces) (sym (turn-places (λ r. r.edges) turns defined t (turn-below c d t to))))
+corners-turned c r = refl
+
+pub edges-turned : (c : CubeState) (r : CubeTurn) → (cube_action.turned c r).edges.pieces ≡ pick c.edges.pieces r.edges.places
+unfolding turned_orbit
+edges-turned c r = refl
 
 -- a position is that of a domino by the numbers of its pieces
-pub ShowsSecond-numbers : (c : CubeState) (at : SecondPosition) (corners edges : List ℕ) → IsDominoCube c → corners ≡ c.corners.pieces → edges ≡ c.edges.pieces
-    → at.corners ≡ permutation_number corners → at.outer ≡ permutation_number (in_block outer_places edges)
-    → at.middle ≡ permutation_number (in_block middle_edges edges) → ShowsSecond c at
-ShowsSecond-numbers c at corners edges domino same_corners same_edges a b d = record {
-  domino = domino;
-  corners = a ∙ ap permutation_number same_corners;
-  outer = b ∙ ap (λ xs. permutation_number (in_block outer_places xs)) same_edges;
+pub Shows-numbers : (c : CubeState) (at : PartPosition) (corners edges : List ℕ) → IsDominoCube c → corners ≡ c.corners.pieces → edges ≡ c.edges.pieces
+    → at.one ≡ permutation_number corners → at.other ≡ permutation_number (in_block outer_places edges)
+    → at.middle ≡ permutation_number (in_block middle_edges edges) → Shows second_views c at
+Shows-numbers c at corners edges domino same_corners same_edges a b d = record {
+  seen = domino;
+  one = a ∙ ap permutation_number same_corners;
+  other = b ∙ ap (λ xs. permutation_number (in_block outer_places xs)) same_edges;
   middle = d ∙ ap (λ xs. permutation_number (in_block middle_edges xs)) same_edges;
 }

@@ -1,6 +1,7 @@
 pub mod TwoParts
 pub mod Tables
 pub mod Spaces
+pub mod Views
 pub mod Search
 pub mod TurnSets
 pub mod Outlooks
@@ -8,6 +9,5 @@ pub mod Near
 pub mod Spread
 pub mod Built
 pub mod Ready
-pub mod Rows
 pub mod Minima
 pub mod HeldScramble

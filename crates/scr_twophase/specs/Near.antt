@@ -1,12 +1,10 @@
 -- Near sets: sets of numbers that have those of all cubes from which few turns lead to a goal, and maybe others.
-use Rattle.std.specs.Prelude.{◌≡◌, ℕ, ◌+◌, ◌*◌, ◌/◌, ◌%◌, ◌^◌, ◌<◌, ◌≤◌, Bool, Contains, IsTrue, List, length, slice_get, slice_index, Some, ◌∷◌}
+use Rattle.std.specs.Prelude.{◌≡◌, ℕ, ◌*◌, ◌/◌, ◌%◌, ◌^◌, ◌<◌, ◌≤◌, Bool, Contains, IsTrue, List, length, slice_get, slice_index, Some, ◌∷◌}
 use Rattle.std.specs.Int.{bit_at}
 use Rattle.scr_cube.specs.Cube333.{CubeState}
-use Rattle.scr_stages.specs.Numbers.{flips_number}
 use Rattle.scr_table.specs.Words.{words_of}
 use Rattle.scr_twophase.specs.declared.near_set.NearBlock.{NearBlock}
 use Rattle.scr_twophase.specs.declared.near_set.NearSet.{NearSet}
-use Rattle.scr_twophase.specs.Tables.{corners_of, middle_edges_of, middle_set_of, outer_edges_of, twists_of}
 use Rattle.scr_twophase.specs.TurnSets.{contains_turn}
 use Rattle.scr_twophase.specs.TwoParts.{after_turn, leads}
 
@@ -30,16 +28,6 @@ pub record LeavesNear (turns : List ℕ) (test : CubeState → Bool) (c : CubeSt
   pub among : (place : ℕ) → IsTrue (contains_turn after place) → IsTrue (contains_turn before place)
   pub left : (place : ℕ) (v : List ℕ) → place < length turns → Contains (words_of turns more) v
       → IsTrue (leads test c (slice_index turns place ∷ v)) → IsTrue (contains_turn before place) → IsTrue (contains_turn after place)
-
--- ---- the numbers of cubes
-
--- in the first part: flips and twists, in a block for each set of the places of the edges of the middle layer
-abbrev pub first_number : CubeState → ℕ
-first_number c = (flips_number c + 2048 * twists_of c) + 2 ^ 32 * middle_set_of c
-
--- in the second part: corners and the edges above and below, in a block for each list of the edges of the middle layer
-abbrev pub second_number : CubeState → ℕ
-second_number c = (corners_of c + 40320 * outer_edges_of c) + 2 ^ 32 * middle_edges_of c
 
 -- ---- bits
 

@@ -4,14 +4,11 @@ use Rattle.std.specs.List.{filter_map}
 use Rattle.std.specs.Option.{option_map_or}
 use Rattle.scr_combinatorics.specs.Lists.{pick}
 use Rattle.scr_combinatorics.specs.Play.{play}
-use Rattle.scr_cube.specs.Cube333.{CubeState, IsCube}
-use Rattle.scr_stages.specs.Numbers.{flips_number, IsDominoCube}
+use Rattle.scr_cube.specs.Cube333.{CubeState}
 use Rattle.scr_table.specs.Words.{words_of}
-use Rattle.scr_twophase.specs.declared.first.FirstPosition.{FirstPosition}
-use Rattle.scr_twophase.specs.declared.second.SecondPosition.{SecondPosition}
+use Rattle.scr_twophase.specs.declared.position.PartPosition.{PartPosition}
 use Rattle.scr_twophase.specs.declared.word.Word.{Word}
 use Rattle.scr_twophase.specs.TwoParts.{may_precede, is_orderly, after_turn, leads}
-use Rattle.scr_twophase.specs.Tables.{twists_of, middle_set_of, corners_of, outer_edges_of, middle_edges_of}
 use Rattle.scr_twophase.specs.TurnSets.{contains_turn}
 
 -- a turn may stand right behind the last letter of a word, if it has one
@@ -50,6 +47,11 @@ pub record KeepsWays (turns : List ℕ) (test : List ℕ → Bool) (word : List 
       → IsTrue (test (word ++ slice_index turns place ∷ v)) → IsTrue (contains_turn bits place)
   pub follow : (place : ℕ) → IsTrue (contains_turn bits place) → MayFollow turns word place
 
+-- A test of words passes only orderly ones that lead the cube to one that passes the other test.
+pub record IsTestOf (goal : CubeState → Bool) (c : CubeState) (test : List ℕ → Bool) : Type 0 where
+  pub orderly : (word : List ℕ) → IsTrue (test word) → IsTrue (is_orderly word)
+  pub leads_there : (word : List ℕ) → IsTrue (test word) → IsTrue (leads goal c word)
+
 -- For each of six faces a set of the turns that may stand right behind one of it, and behind these the set of all turns.
 pub record AreBehind (turns sets : List ℕ) : Type 0 where
   pub each : (last place : ℕ) → last < 18 → place < length turns
@@ -69,46 +71,18 @@ pub record IsSearched (gives : List ℕ → Option (List ℕ)) (words : List (Li
   pub same : found ≡ false → after ≡ before
   pub tried : found ≡ false → left ≡ tries - length words
 
--- ---- the first part
-
--- a position shows a cube
-pub record ShowsFirst (c : CubeState) (at : FirstPosition) : Type 0 where
-  pub cube : IsCube c
-  pub flips : at.flips ≡ flips_number c
-  pub twists : at.twists ≡ twists_of c
-  pub middle : at.middle ≡ middle_set_of c
-
--- the numbers of a position are those of positions
-pub record IsFirstPosition (at : FirstPosition) : Type 0 where
-  pub flips : at.flips < 2048
-  pub twists : at.twists < 2187
-  pub middle : at.middle < 495
+-- ---- positions
 
 -- The position is that of the dominoes: no flips, no twists, and the set of the places of the middle layer.
-abbrev pub is_domino_position : FirstPosition → Bool
-is_domino_position at = (at.flips == 0 && at.twists == 0) && at.middle == 494
+abbrev pub is_domino_position : PartPosition → Bool
+is_domino_position at = (at.one == 0 && at.other == 0) && at.middle == 494
 
--- ---- the second part
-
--- a position shows a domino
-pub record ShowsSecond (c : CubeState) (at : SecondPosition) : Type 0 where
-  pub domino : IsDominoCube c
-  pub corners : at.corners ≡ corners_of c
-  pub outer : at.outer ≡ outer_edges_of c
-  pub middle : at.middle ≡ middle_edges_of c
-
--- the numbers of a position are those of positions
-pub record IsSecondPosition (at : SecondPosition) : Type 0 where
-  pub corners : at.corners < 40320
-  pub outer : at.outer < 40320
-  pub middle : at.middle < 24
+-- The position is that of the solved cube: all three lists are in order.
+abbrev pub is_solved_position : PartPosition → Bool
+is_solved_position at = (at.one == 0 && at.other == 0) && at.middle == 0
 
 -- Which piece stands at each place after turns, where each turn's number has a list that says for each place which place's
 -- piece comes there.
 abbrev pub carried : List (List ℕ) → List ℕ → List ℕ → List ℕ
 carried places pieces [] = pieces
 carried places pieces (t ∷ word) = carried places (pick pieces (slice_index_or places t [])) word
-
--- The position is that of the solved cube: all three lists are in order.
-abbrev pub is_solved_position : SecondPosition → Bool
-is_solved_position at = (at.corners == 0 && at.outer == 0) && at.middle == 0

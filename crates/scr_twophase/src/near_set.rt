@@ -120,7 +120,6 @@ impl NearSet {
     /// Of some turns those that lead from a position to a number that it has.
     #[inline]
     pub fn turns_into<S: Positions>(&self, space: &S, at: S::Position, turns: TurnSet) -> TurnSet
-        requires at { S.Fits at }
         requires few { turns.bits < 2 ^ 18 }
         requires below { (place : ℕ) → IsTrue (contains_turn turns.bits place) → place < length S.turns }
         ensures left { (c : CubeState) (more : ℕ) → IsNear S.turns S.IsSeen S.numbering S.ends more (IsInSet self.now)

@@ -5,20 +5,15 @@ ghost use Rattle.scr_cube.specs.Cube333.{IsCube};
 ghost use Rattle.scr_twophase.specs.Search.{letters, is_domino_position};
 ghost use Rattle.scr_twophase.specs.TwoParts.{ends_in_quarter, two_parts};
 
-use crate::first::{FirstPosition, FirstTables};
-use crate::near_set::NEAR_AT;
+use crate::first::{FirstPart, first_position, is_domino};
+use crate::position::PartPosition;
 use crate::search::{Part, search_within};
-use crate::second::SecondTables;
+use crate::search_tables::SearchTables;
+use crate::second::SecondPart;
 use crate::space::Positions;
-use crate::turn_set::{TurnSet, behind};
+use crate::turn_set::TurnSet;
 use crate::word::Word;
 use scr_cube::Cube;
-
-/// For each face of U R F D L B, the turns that may stand right behind one of it: those of its own are left out, and
-/// behind D, L and B those of the opposite face too. Then all turns.
-const BEHIND: [u32; 7] = [
-    0x3_fff8, 0x3_ffc7, 0x3_fe3f, 0x3_f1f8, 0x3_8fc7, 0x0_7e3f, 0x3_ffff,
-];
 
 /// The quarter turns of R, F, L and B.
 const SIDE_QUARTERS: TurnSet = TurnSet { bits: 0x2_d168 };
@@ -27,39 +22,37 @@ const SIDE_QUARTERS: TurnSet = TurnSet { bits: 0x2_d168 };
 /// it.
 #[derive(Drop)]
 pub(crate) struct PartTables {
-    pub first: FirstTables,
-    pub second: SecondTables,
+    pub first: SearchTables<FirstPart>,
+    pub second: SearchTables<SecondPart>,
 }
 
 impl Part for PartTables {
     ghost use Rattle.std.proofs.Common.{lit≤};
-    ghost use Rattle.scr_twophase.specs.Search.{ShowsFirst};
     ghost use Rattle.scr_twophase.specs.TwoParts.{turn_numbers, is_first_part, joined};
+    ghost use Rattle.scr_twophase.specs.Views.{Shows, first_views};
 
-    type Position = FirstPosition;
+    type Position = PartPosition;
 
     ghost turns = { turn_numbers };
 
     ghost most = { 12 };
 
-    ghost Shows = { ShowsFirst };
+    ghost Shows = { Shows first_views };
 
     ghost passes = { is_first_part };
 
     ghost gives = { joined };
 
     #[inline]
-    fn least(&self, _word: &Word, _at: FirstPosition) -> u32 {
+    fn least(&self, _word: &Word, _at: PartPosition) -> u32 {
         0
     }
 
     #[inline]
-    fn turns_from(&self, word: &Word, at: FirstPosition, left: u32) -> TurnSet {
-        let turns = behind(word, &BEHIND).and(self.first.turns_within(at, left));
+    fn turns_from(&self, word: &Word, at: PartPosition, left: u32) -> TurnSet {
+        let turns = self.first.turns_behind(word, at, left);
         if left == 1 {
             turns.and(SIDE_QUARTERS)
-        } else if left == NEAR_AT {
-            self.first.turns_into_near(at, turns)
         } else {
             turns
         }
@@ -71,12 +64,12 @@ impl Part for PartTables {
     }
 
     #[inline]
-    fn after(&self, at: FirstPosition, place: u32) -> FirstPosition {
+    fn after(&self, at: PartPosition, place: u32) -> PartPosition {
         self.first.after(at, place)
     }
 
     #[inline]
-    fn at_end(&self, cube: &Cube, word: &mut Word, at: FirstPosition, tries: &mut u32) -> bool {
+    fn at_end(&self, cube: &Cube, word: &mut Word, at: PartPosition, tries: &mut u32) -> bool {
         if !is_first_part(word, at) {
             return false;
         }
@@ -92,7 +85,7 @@ pub(crate) fn joined_parts(tables: &PartTables, cube: &Cube, tries: u32) -> Opti
     ensures parts { option_map letters result ≡ two_parts cube.now tries }
     ensures valid { IsCube cube.now }
 {
-    let at = FirstPosition::of(cube);
+    let at = first_position(cube);
     let mut word = Word::empty();
     let mut left = tries;
     if search_within(tables, cube, &mut word, at, 12, &mut left) {
@@ -104,10 +97,10 @@ pub(crate) fn joined_parts(tables: &PartTables, cube: &Cube, tries: u32) -> Opti
 
 /// Whether an orderly word is a first part, by the position that it leads to.
 #[inline]
-fn is_first_part(word: &Word, at: FirstPosition) -> bool
+fn is_first_part(word: &Word, at: PartPosition) -> bool
     ensures { result ≡ (ends_in_quarter (letters word.now) && is_domino_position at) }
 {
-    ends_in_quarter(word) && at.is_domino()
+    ends_in_quarter(word) && is_domino(at)
 }
 
 /// Whether a word is empty or ends in a quarter turn of R, L, F or B.

@@ -1,11 +1,15 @@
 //! Pruning tables.
-ghost use Rattle.std.specs.Prelude.{◌≡◌, ◌<◌, ◌≤◌, ◌^◌, IfOk, IfErr, length, slice_index};
+ghost use Rattle.std.specs.Prelude.{◌≡◌, ◌*◌, ◌<◌, ◌≤◌, ◌^◌, IfErr, IfOk, length, slice_index};
+ghost use Rattle.scr_coord.specs.Coordinates.{Coordinate};
+ghost use Rattle.scr_coord.specs.Moves.{moves_coordinate};
+ghost use Rattle.scr_coord.specs.SearchSpaces.{ShowsSame};
 ghost use Rattle.scr_table.specs.Causes.{IsCause};
 ghost use Rattle.scr_twophase.specs.Outlooks.{IsPruningTable, turns_left};
+ghost use Rattle.scr_twophase.specs.Views.{beside, index_beside};
 
 use crate::outlook::Outlook;
 use crate::turn_set::TurnSet;
-use scr_coord::Coord;
+use scr_coord::{Coord, MoveTable, Product};
 use scr_table::{BuildFault, DistanceTable, TableName};
 use std::alloc::Global;
 use std::thread::Threads;
@@ -18,21 +22,24 @@ pub(crate) struct PruningTable {
 }
 
 impl PruningTable {
-    /// The table of a coordinate of at most 18 turns, built by 1 to 64 workers, or why it isn't built. `bound` is at most 24.
+    /// The table of a name and of what a coordinate of at most 18 turns shows, built by 1 to 64 workers, or why it isn't built. It may
+    /// reach at most 24 turns.
     pub fn build<R: Threads + Sync, C: Coord + Sync>(
         rt: &R,
         alloc: Global,
-        name: TableName,
+        reach: (TableName, u32),
         coord: &C,
-        bound: u32,
         workers: u32,
     ) -> Result<PruningTable, BuildFault>
-        requires bound { bound ≤ 24 }
+        requires bound { reach.1 ≤ 24 }
         requires turns { (C.coordinate coord.now).turns ≤ 18 }
         requires workers { (1 ≤ workers) × (workers ≤ 64) }
-        ensures table { IfOk result (IsPruningTable (record { name = name; coordinate = C.coordinate coord.now; bound = bound })) }
-        ensures cause { IfErr result (IsCause name (C.coordinate coord.now) bound) }
+        ensures table { (c : Coordinate) → ShowsSame c (C.coordinate coord.now)
+            → IfOk result (IsPruningTable (record { name = reach.0; coordinate = c; bound = reach.1 })) }
+        ensures cause { (c : Coordinate) → ShowsSame c (C.coordinate coord.now) → IfErr result (IsCause reach.0 c reach.1) }
     {
+        coord.stays_below();
+        let (name, bound) = reach;
         let distances = DistanceTable::build(rt, alloc, name, coord, bound, workers)?;
         Ok(PruningTable {
             distances,
@@ -62,5 +69,46 @@ impl PruningTable {
             None if self.distances.distance(position) <= left => TurnSet::ALL,
             None => TurnSet::NONE,
         }
+    }
+}
+
+/// Where turns lead in two coordinates side by side, of which the second comes first where `middle_first` says so.
+pub(crate) fn beside<'a>(
+    middle_first: bool,
+    own: &'a MoveTable,
+    middle: &'a MoveTable,
+) -> Product<&'a MoveTable, &'a MoveTable>
+    requires turns { middle.now.turns ≡ own.now.turns }
+    requires fits { own.now.count * middle.now.count < 2 ^ 32 }
+    ensures turns { (⟦<Product<&'a MoveTable, &'a MoveTable> as Coord>⟧.coordinate result).turns ≡ own.now.turns }
+    ensures shows { (c d : Coordinate) → d.turns ≡ c.turns → ShowsSame c (moves_coordinate own.now) → ShowsSame d (moves_coordinate middle.now)
+        → ShowsSame (beside middle_first c d) (⟦<Product<&'a MoveTable, &'a MoveTable> as Coord>⟧.coordinate result) }
+{
+    if middle_first {
+        Product::new(middle, own)
+    } else {
+        Product::new(own, middle)
+    }
+}
+
+/// The position that stands there for one of each, where they have so many.
+#[inline]
+pub(crate) fn index_beside(
+    middle_first: bool,
+    owns: u32,
+    middles: u32,
+    own: u32,
+    middle: u32,
+) -> u32
+    requires own { own < owns }
+    requires middle { middle < middles }
+    requires fits { owns * middles < 2 ^ 32 }
+    ensures index { result ≡ index_beside middle_first owns middles own middle }
+    ensures below { result < owns * middles }
+{
+    if middle_first {
+        middle + middles * own
+    } else {
+        own + owns * middle
     }
 }

@@ -1,9 +1,10 @@
 //! What makes searches faster and changes no answer: the outlooks of both parts' tables, and their near sets, found side by side.
-ghost use Rattle.std.specs.Prelude.{◌≡◌, ◌≤◌, IfOk};
+ghost use Rattle.std.specs.Prelude.{◌≡◌, ◌≤◌, IfOk, true, false};
 ghost use Rattle.scr_twophase.specs.Built.{distances_of};
-ghost use Rattle.scr_twophase.specs.Ready.{AreOthers, FlipsAndCorners, IsNearFirst, TwistsAndEdges};
+ghost use Rattle.scr_twophase.specs.Ready.{AreOthers, AreOutlookPair, IsNearOf};
+ghost use Rattle.scr_twophase.specs.Views.{first_views};
 
-use crate::near_set::NearSet;
+use crate::near_set::{NEAR, NearSet};
 use crate::outlook::Outlook;
 use crate::parts::PartTables;
 use scr_workers::{both, shared};
@@ -20,10 +21,10 @@ struct OutlookPair {
 /// All but the near set of the first part.
 #[derive(Drop)]
 struct Others {
-    flips: Vec<Outlook>,
-    twists: Vec<Outlook>,
-    corners: Vec<Outlook>,
-    edges: Vec<Outlook>,
+    /// By flips and by corners.
+    ones: OutlookPair,
+    /// By twists and by edges.
+    others: OutlookPair,
     near: NearSet,
 }
 
@@ -39,15 +40,9 @@ pub(crate) fn prepare<R: Threads + Sync>(
 {
     let (first, others) = first_and_others(rt, alloc, parts, workers);
     let first = first?;
-    let Others {
-        flips,
-        twists,
-        corners,
-        edges,
-        near,
-    } = others?;
-    parts.first.take_in(flips, twists, first);
-    parts.second.take_in(corners, edges, near);
+    let Others { ones, others, near } = others?;
+    parts.first.take_in(ones.first, others.first, first);
+    parts.second.take_in(ones.second, others.second, near);
     Ok(())
 }
 
@@ -59,7 +54,7 @@ fn first_and_others<R: Threads + Sync>(
     workers: u32,
 ) -> (Result<NearSet, AllocError>, Result<Others, AllocError>)
     requires workers { (1 ≤ workers) × (workers ≤ 64) }
-    ensures first { IfOk result.0 IsNearFirst }
+    ensures first { IfOk result.0 (IsNearOf first_views) }
     ensures others { IfOk result.1 (AreOthers parts.now) }
 {
     let (front, back) = shared(workers);
@@ -68,8 +63,8 @@ fn first_and_others<R: Threads + Sync>(
         workers,
         || -> Result<NearSet, AllocError>
             requires { (1 ≤ front) × (front ≤ 64) }
-            ensures { IfOk result IsNearFirst }
-        { parts.first.near_set(rt, alloc, front) },
+            ensures { IfOk result (IsNearOf first_views) }
+        { NearSet::build(rt, alloc, &parts.first, NEAR, front) },
         || -> Result<Others, AllocError>
             requires { (1 ≤ back) × (back ≤ 64) }
             ensures { IfOk result (AreOthers parts.entry.now) }
@@ -88,56 +83,36 @@ fn find_others<R: Threads + Sync>(
     ensures { IfOk result (AreOthers parts.now) }
 {
     let (front, back) = shared(workers);
-    let (one, other) = both(
+    let (ones, others) = both(
         rt,
         workers,
         || -> Result<OutlookPair, AllocError>
             requires { (1 ≤ front) × (front ≤ 64) }
-            ensures { IfOk result (FlipsAndCorners parts.entry.now) }
-        { flips_and_corners(rt, alloc, parts, front) },
+            ensures { IfOk result (AreOutlookPair true parts.entry.now) }
+        { outlook_pair(rt, alloc, parts, true, front) },
         || -> Result<OutlookPair, AllocError>
             requires { (1 ≤ back) × (back ≤ 64) }
-            ensures { IfOk result (TwistsAndEdges parts.entry.now) }
-        { twists_and_edges(rt, alloc, parts, back) },
+            ensures { IfOk result (AreOutlookPair false parts.entry.now) }
+        { outlook_pair(rt, alloc, parts, false, back) },
     );
-    let one = one?;
-    let other = other?;
-    let near = parts.second.near_set(rt, alloc, workers)?;
-    Ok(Others {
-        flips: one.first,
-        twists: other.first,
-        corners: one.second,
-        edges: other.second,
-        near,
-    })
+    let ones = ones?;
+    let others = others?;
+    let near = NearSet::build(rt, alloc, &parts.second, NEAR, workers)?;
+    Ok(Others { ones, others, near })
 }
 
-/// The outlooks by flips and those by corners, found by 1 to 64 workers.
-fn flips_and_corners<R: Threads + Sync>(
+/// The outlooks of one table of each part, or of the other, found by 1 to 64 workers.
+fn outlook_pair<R: Threads + Sync>(
     rt: &R,
     alloc: Global,
     parts: &PartTables,
+    of_one: bool,
     workers: u32,
 ) -> Result<OutlookPair, AllocError>
     requires workers { (1 ≤ workers) × (workers ≤ 64) }
-    ensures { IfOk result (FlipsAndCorners parts.now) }
+    ensures { IfOk result (AreOutlookPair of_one parts.now) }
 {
-    let first = parts.first.outlooks_by_flips(rt, alloc, workers)?;
-    let second = parts.second.outlooks_by_corners(rt, alloc, workers)?;
-    Ok(OutlookPair { first, second })
-}
-
-/// The outlooks by twists and those by edges, found by 1 to 64 workers.
-fn twists_and_edges<R: Threads + Sync>(
-    rt: &R,
-    alloc: Global,
-    parts: &PartTables,
-    workers: u32,
-) -> Result<OutlookPair, AllocError>
-    requires workers { (1 ≤ workers) × (workers ≤ 64) }
-    ensures { IfOk result (TwistsAndEdges parts.now) }
-{
-    let first = parts.first.outlooks_by_twists(rt, alloc, workers)?;
-    let second = parts.second.outlooks_by_edges(rt, alloc, workers)?;
+    let first = parts.first.outlooks(rt, alloc, of_one, workers)?;
+    let second = parts.second.outlooks(rt, alloc, of_one, workers)?;
     Ok(OutlookPair { first, second })
 }

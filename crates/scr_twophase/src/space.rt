@@ -75,13 +75,9 @@ pub(crate) trait Positions: Space {
     /// A position shows a cube.
     ghost Shows: { CubeState → Self.Position → Type 0 };
 
-    /// The numbers of a position are in range.
-    ghost Fits: { Self.Position → Type 0 };
-
     /// Where the turn at a place leads.
     fn after(&self, at: Self::Position, place: u32) -> Self::Position
-        requires at { Fits at }
-        requires place { place < length Self.turns }
+        requires { place < length Self.turns }
         ensures { (c d : CubeState) → Shows c at → after_turn c (slice_index Self.turns place) ≡ Some d → Shows d result };
 
     /// The number of the cubes that a position shows, if it shows any.

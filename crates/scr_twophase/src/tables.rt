@@ -4,10 +4,11 @@ ghost use Rattle.scr_table.specs.Causes.{IsCauseOf};
 ghost use Rattle.scr_table.specs.Lines.{AreTablesOf, HasNoGap};
 ghost use Rattle.scr_twophase.specs.Tables.{first_lines, prune_lines, second_lines};
 
-use crate::first::FirstTables;
+use crate::first::FirstPart;
 use crate::parts::PartTables;
 use crate::ready::prepare;
-use crate::second::SecondTables;
+use crate::search_tables::SearchTables;
+use crate::second::SecondPart;
 use scr_table::{BuildFault, DistanceTable, TableName, TableSet, table_named};
 use scr_workers::{both, shared};
 use std::alloc::{AllocError, Global};
@@ -66,16 +67,16 @@ impl PruneTables {
         let (first, second) = both(
             rt,
             workers,
-            || -> Result<FirstTables, BuildFault>
+            || -> Result<SearchTables<FirstPart>, BuildFault>
                 requires { (1 ≤ front) × (front ≤ 64) }
                 ensures whole { IfOk result (λ _. All HasNoGap first_lines) }
                 ensures cause { IfErr result (IsCauseOf first_lines) }
-            { FirstTables::build(rt, alloc, front) },
-            || -> Result<SecondTables, BuildFault>
+            { SearchTables::build(rt, alloc, front) },
+            || -> Result<SearchTables<SecondPart>, BuildFault>
                 requires { (1 ≤ back) × (back ≤ 64) }
                 ensures whole { IfOk result (λ _. All HasNoGap second_lines) }
                 ensures cause { IfErr result (IsCauseOf second_lines) }
-            { SecondTables::build(rt, alloc, back) },
+            { SearchTables::build(rt, alloc, back) },
         );
         Ok(PruneTables {
             parts: PartTables {
@@ -110,10 +111,10 @@ impl PruneTables {
         ensures whole { All HasNoGap prune_lines }
     {
         [
-            &self.parts.first.flipslice.distances,
-            &self.parts.first.twistslice.distances,
-            &self.parts.second.cornerslice.distances,
-            &self.parts.second.edgeslice.distances,
+            &self.parts.first.one_slice.distances,
+            &self.parts.first.other_slice.distances,
+            &self.parts.second.one_slice.distances,
+            &self.parts.second.other_slice.distances,
         ]
     }
 }

@@ -1,4 +1,4 @@
-use Rattle.std.proofs.Common.{◌≡◌, ◌++◌, length, take, drop, sym, ap, ◌∙◌, arith, length-append, length-take-le}
+use Rattle.std.proofs.Common.{◌≡◌, ◌++◌, length, take, drop, sym, ap, ◌∙◌, arith, rules, length-append, length-take-le}
 use Rattle.std.proofs.lemmas.List.{take_all}
 use Rattle.std.proofs.lemmas.Result.{err_from_is_err_and}
 use Rattle.scr_outside.proofs.ChangeLemmas.{Gives-append}
@@ -48,52 +48,25 @@ returns-in_err-more-clause-part g c =
     (rw (take_all c.in_ok-filled.filled c.read_all.new.buffer (omega (arith, first, c.if-filled-lt-FIRST_ROOM.false))) at c.in_ok-filled.ensures.taken)
     no_end c.in_err-more.ensures.part)
 
-pub returns-clause-most : goal.returns-clause-most
-returns-clause-most g c =
+pub returns : goal.returns
+returns g c =
     let first : length c.read_all.new.buffer ≡ 4097 = omega (arith, c.read_all.auto.buffer, length-take-le 4097 c.args.buffer.now (omega (arith, c.requires))) in
+    let more = c.in_ok-more.ensures in
     let read =
     read-on c.args.buffer.now c.read_all.new.buffer c.read_all-2.new.buffer c.read_room-room.result c.in_ok-more.more (omega (arith, c.requires)) first
-    c.read_room-room.ensures.room c.read_room-room.ensures.most (omega (arith, c.read_all-2.auto.buffer)) (omega (arith, c.in_ok-more.ensures.within, c.read_all-2.auto.buffer))
-    in
-    let most = read.most in
-    let size = read.size in
-    omega (arith, most, size, c.in_ok-more.ensures.within, c.read_room-room.ensures.least)
-
-pub returns-clause-taken : goal.returns-clause-taken
-returns-clause-taken g c =
-    let first : length c.read_all.new.buffer ≡ 4097 = omega (arith, c.read_all.auto.buffer, length-take-le 4097 c.args.buffer.now (omega (arith, c.requires))) in
-    let read =
-    read-on c.args.buffer.now c.read_all.new.buffer c.read_all-2.new.buffer c.read_room-room.result c.in_ok-more.more (omega (arith, c.requires)) first
-    c.read_room-room.ensures.room c.read_room-room.ensures.most (omega (arith, c.read_all-2.auto.buffer)) (omega (arith, c.in_ok-more.ensures.within, c.read_all-2.auto.buffer))
-    in
-    let most = read.most in
-    let size = read.size in
-    rw read.whole
-    (Gives-append
-    (rw (take_all c.in_ok-filled.filled c.read_all.new.buffer (omega (arith, first, c.if-filled-lt-FIRST_ROOM.false))) at c.in_ok-filled.ensures.taken)
-    c.in_ok-more.ensures.taken)
-
-pub returns-clause-end : goal.returns-clause-end
-returns-clause-end g c = λ few.
-    let first : length c.read_all.new.buffer ≡ 4097 = omega (arith, c.read_all.auto.buffer, length-take-le 4097 c.args.buffer.now (omega (arith, c.requires))) in
-    let read =
-    read-on c.args.buffer.now c.read_all.new.buffer c.read_all-2.new.buffer c.read_room-room.result c.in_ok-more.more (omega (arith, c.requires)) first
-    c.read_room-room.ensures.room c.read_room-room.ensures.most (omega (arith, c.read_all-2.auto.buffer)) (omega (arith, c.in_ok-more.ensures.within, c.read_all-2.auto.buffer))
+    c.read_room-room.ensures.room c.read_room-room.ensures.most (omega (arith, c.read_all-2.auto.buffer)) (omega (arith, more.within, c.read_all-2.auto.buffer))
     in
     let most = read.most in
     let size = read.size in
     let no_end = c.in_ok-filled.ensures.no_end (omega (arith, c.in_ok-filled.ensures.within, c.read_all.auto.buffer, first)) in
-    let told = c.in_ok-more.ensures.end (omega (arith, most, size, few)) in
-    record { spent = told.spent; once = told.once ∙ ap raised no_end }
-
-pub returns-clause-no_end : goal.returns-clause-no_end
-returns-clause-no_end g c = λ many.
-    let first : length c.read_all.new.buffer ≡ 4097 = omega (arith, c.read_all.auto.buffer, length-take-le 4097 c.args.buffer.now (omega (arith, c.requires))) in
-    let read =
-    read-on c.args.buffer.now c.read_all.new.buffer c.read_all-2.new.buffer c.read_room-room.result c.in_ok-more.more (omega (arith, c.requires)) first
-    c.read_room-room.ensures.room c.read_room-room.ensures.most (omega (arith, c.read_all-2.auto.buffer)) (omega (arith, c.in_ok-more.ensures.within, c.read_all-2.auto.buffer))
-    in
-    let most = read.most in
-    let size = read.size in
-    let no_end = c.in_ok-filled.ensures.no_end (omega (arith, c.in_ok-filled.ensures.within, c.read_all.auto.buffer, first)) in
-    c.in_ok-more.ensures.no_end (omega (arith, most, size, many, c.read_room-room.ensures.least)) ∙ no_end
+    record {
+      within = search rules;
+      most = omega (arith, most, size, more.within, c.read_room-room.ensures.least);
+      taken = rw read.whole
+          (Gives-append
+          (rw (take_all c.in_ok-filled.filled c.read_all.new.buffer (omega (arith, first, c.if-filled-lt-FIRST_ROOM.false))) at c.in_ok-filled.ensures.taken)
+          more.taken);
+      end = λ few. let told = more.end (omega (arith, most, size, few)) in record { spent = told.spent; once = told.once ∙ ap raised no_end };
+      no_end = λ many. more.no_end (omega (arith, most, size, many, c.read_room-room.ensures.least)) ∙ no_end;
+      part = search rules;
+    }

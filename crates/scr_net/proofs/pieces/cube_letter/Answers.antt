@@ -15,21 +15,11 @@ returns c =
     record { value = value; below = subst (λ x. x < 6) (sym value) (cube_letter-below c.args.cube.now c.args.sticker c.requires.face) }
 
 pub letter_of_pieces-corner-requires : goal.letter_of_pieces-corner-requires
-letter_of_pieces-corner-requires c = (
-  lit< tt,
-  (
-    c.requires,
-    valid_lists 8 3 corner_faces c.args.cube.now.corners c.corners-corners.result c.twists-twists.result refl c.corners-corners.ensures.valid.corners
-        c.corners-corners.ensures.same c.twists-twists.ensures.same,
-  ),
-)
+letter_of_pieces-corner-requires c =
+    let whole = c.corners-corners.ensures in
+    (lit< tt, (c.requires, valid_lists 8 3 corner_faces _ _ _ refl whole.valid.corners whole.same c.twists-twists.ensures.same))
 
 pub letter_of_pieces-edge-requires : goal.letter_of_pieces-edge-requires
-letter_of_pieces-edge-requires c = (
-  lit< tt,
-  (
-    c.requires,
-    valid_lists 12 2 edge_faces c.args.cube.now.edges c.edges-edges.result c.flips-flips.result refl c.edges-edges.ensures.valid.edges
-        c.edges-edges.ensures.same c.flips-flips.ensures.same,
-  ),
-)
+letter_of_pieces-edge-requires c =
+    let whole = c.edges-edges.ensures in
+    (lit< tt, (c.requires, valid_lists 12 2 edge_faces _ _ _ refl whole.valid.edges whole.same c.flips-flips.ensures.same))

@@ -2,7 +2,7 @@ use Rattle.std.proofs.Common.{[], inl, inr, refl, sym, subst}
 use Rattle.std.proofs.lemmas.Result.{err_from_is_err_and}
 use Rattle.scr_outside.proofs.ChangeLemmas.{Gains-nothing}
 use Rattle.scr_slots.specs.Tables.{IsBuildCause}
-use Rattle.scr_sheet.proofs.RunLaws.{events_of_parts, each_asked, round_parts-fair}
+use Rattle.scr_sheet.proofs.RunLaws.{events_of_parts, each_asked, parts_of_rounds-fair}
 use Rattle.scr_sheet.proofs.load.sheet_size.Goals as goal
 
 pub rounds_size-requires-clause-tables : goal.rounds_size-requires-clause-tables
@@ -10,18 +10,15 @@ rounds_size-requires-clause-tables g c κs within =
     rw c.new-making.ensures.tables (each_asked c.in_ok-tables.tables c.args.rounds.now c.in_ok-tables.ensures.events)
 
 pub returns : goal.returns
-returns g c =
-    let tables = c.in_ok-tables.tables in
-    let rounds = c.args.rounds.now in
-    record {
-      sheet = c.rounds_size.ensures.sheet;
-      making =
-          inl (record {
-            fair = round_parts-fair tables 0 rounds c.in_ok-tables.ensures.fair c.requires.rounds.each (each_asked tables rounds c.in_ok-tables.ensures.events);
-            ends = rw (c.new-making.ensures.settings, c.default.ensures) at c.rounds_size.ensures.ends;
-          });
-      amounts = c.rounds_size.ensures.amounts;
-    }
+returns g c = record {
+  sheet = c.rounds_size.ensures.sheet;
+  making =
+      inl (record {
+        fair = parts_of_rounds-fair c.in_ok-tables.tables c.args.rounds.now c.in_ok-tables.ensures.fair c.requires.rounds.each c.in_ok-tables.ensures.events;
+        ends = rw (c.new-making.ensures.settings, c.default.ensures) at c.rounds_size.ensures.ends;
+      });
+  amounts = c.rounds_size.ensures.amounts;
+}
 
 pub returns-in_err-tables : goal.returns-in_err-tables
 returns-in_err-tables g c =

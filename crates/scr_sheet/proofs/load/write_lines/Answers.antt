@@ -25,36 +25,32 @@ line_first label number others = first_line (label ++ decimal number) others
 pub returns-in_err-write_number : goal.returns-in_err-write_number
 returns-in_err-write_number g c =
     let p = err_from_is_err_and c.from_residual.result c.from_residual.ensures.1 in
-    let n = c.args in
-    let one = line_first (codes "rounds ") n.rounds (scrambles_lines n.scrambles n.size.bytes n.size.sum) in
+    let one = line_first (codes "rounds ") c.args.rounds (scrambles_lines c.args.scrambles c.args.size.bytes c.args.size.sum) in
     rw p.1 (written-part _ (written-at one written-none) c.in_err-write_number.ensures)
 
 pub returns-in_err-write_number-2 : goal.returns-in_err-write_number-2
 returns-in_err-write_number-2 g c =
     let p = err_from_is_err_and c.from_residual-in_err-write_number-2.result c.from_residual-in_err-write_number-2.ensures.1 in
-    let n = c.args in
-    let one = line_first (codes "rounds ") n.rounds (scrambles_lines n.scrambles n.size.bytes n.size.sum) in
-    let two = line_first (codes "scrambles ") n.scrambles (bytes_lines n.size.bytes n.size.sum) in
+    let one = line_first (codes "rounds ") c.args.rounds (scrambles_lines c.args.scrambles c.args.size.bytes c.args.size.sum) in
+    let two = line_first (codes "scrambles ") c.args.scrambles (bytes_lines c.args.size.bytes c.args.size.sum) in
     rw p.1
     (written-part _ (written-at two (written-more (written-at one written-none) c.in_ok-write_number.ensures)) c.in_err-write_number-2.ensures)
 
 pub returns-in_err-write_number-3 : goal.returns-in_err-write_number-3
 returns-in_err-write_number-3 g c =
     let p = err_from_is_err_and c.from_residual-in_err-write_number-3.result c.from_residual-in_err-write_number-3.ensures.1 in
-    let n = c.args in
-    let one = line_first (codes "rounds ") n.rounds (scrambles_lines n.scrambles n.size.bytes n.size.sum) in
-    let two = line_first (codes "scrambles ") n.scrambles (bytes_lines n.size.bytes n.size.sum) in
-    let three = line_first (codes "bytes ") n.size.bytes (sum_line n.size.sum) in
+    let one = line_first (codes "rounds ") c.args.rounds (scrambles_lines c.args.scrambles c.args.size.bytes c.args.size.sum) in
+    let two = line_first (codes "scrambles ") c.args.scrambles (bytes_lines c.args.size.bytes c.args.size.sum) in
+    let three = line_first (codes "bytes ") c.args.size.bytes (sum_line c.args.size.sum) in
     let before = written-more (written-at one written-none) c.in_ok-write_number.ensures in
     rw p.1
     (written-part _ (written-at three (written-more (written-at two before) c.in_ok-write_number-2.ensures)) c.in_err-write_number-3.ensures)
 
 pub returns : goal.returns
 returns g c =
-    let n = c.args in
-    let one = line_first (codes "rounds ") n.rounds (scrambles_lines n.scrambles n.size.bytes n.size.sum) in
-    let two = line_first (codes "scrambles ") n.scrambles (bytes_lines n.size.bytes n.size.sum) in
-    let three = line_first (codes "bytes ") n.size.bytes (sum_line n.size.sum) in
+    let one = line_first (codes "rounds ") c.args.rounds (scrambles_lines c.args.scrambles c.args.size.bytes c.args.size.sum) in
+    let two = line_first (codes "scrambles ") c.args.scrambles (bytes_lines c.args.size.bytes c.args.size.sum) in
+    let three = line_first (codes "bytes ") c.args.size.bytes (sum_line c.args.size.sum) in
     let before = written-more (written-at one written-none) c.in_ok-write_number.ensures in
     written-last _ _ c.write_number-4.result
     (written-more (written-at three (written-more (written-at two before) c.in_ok-write_number-2.ensures)) c.in_ok-write_number-3.ensures)

@@ -2,7 +2,7 @@ use Rattle.std.proofs.Common.{Err, inl, inr, sym, ap, ◌∙◌, subst}
 use Rattle.std.proofs.lemmas.Result.{err_from_is_err_and}
 use Rattle.scr_outside.proofs.ChangeLemmas.{Gains-nothing}
 use Rattle.scr_slots.specs.Tables.{IsBuildCause}
-use Rattle.scr_sheet.proofs.RunLaws.{events_of_parts, each_asked, round_parts-fair}
+use Rattle.scr_sheet.proofs.RunLaws.{events_of_parts, each_asked, parts_of_rounds-fair}
 use Rattle.scr_sheet.proofs.parts.make_sheet.Goals as goal
 
 pub write_rounds-requires-clause-tables : goal.write_rounds-requires-clause-tables
@@ -11,10 +11,8 @@ write_rounds-requires-clause-tables g c κs within =
 
 pub returns : goal.returns
 returns g c =
-    let tables = c.in_ok-tables.tables in
-    let rounds = c.args.rounds.now in
     inl (record {
-      fair = round_parts-fair tables 0 rounds c.in_ok-tables.ensures.fair c.requires.rounds.each (each_asked tables rounds c.in_ok-tables.ensures.events);
+      fair = parts_of_rounds-fair c.in_ok-tables.tables c.args.rounds.now c.in_ok-tables.ensures.fair c.requires.rounds.each c.in_ok-tables.ensures.events;
       ends = rw c.new-making.ensures.settings at c.write_rounds.ensures;
     })
 

@@ -1,3 +1,4 @@
+use Rattle.scr_slots.proofs.Listings.{by-numbering}
 use Rattle.scr_slots.proofs.JudgedLaws.{judged-read, judged-unread}
 use Rattle.scr_slots.proofs.agreement.drawn_agrees.Goals as goal
 
@@ -5,25 +6,15 @@ pub returns-in-Some : goal.returns-in-Some
 returns-in-Some g c =
     let numbering = c.count-numbering.ensures.numbering in
     judged-read c.args.event _ _ _ c.args.settings.now c.args.least c.args.stream c.args.text.now numbering.some c.in-Ok.state
-    (record {
-      state_at = _;
-      listing = numbering.one_to_one;
-      is = rw (c.new-words.ensures.words, c.new-words.ensures.none_taken) at c.in-Ok.ensures.draws;
-    }) c.in-Some.scramble c.in-Some.ensures c.leads_to.result c.leads_to.ensures
+    (by-numbering numbering (rw (c.new-words.ensures.words, c.new-words.ensures.none_taken) at c.in-Ok.ensures.draws))
+    c.in-Some.scramble c.in-Some.ensures c.leads_to.result c.leads_to.ensures
 
 pub returns-in_default : goal.returns-in_default
-returns-in_default g c = record {
-  state_at = _;
-  listing = c.count-numbering.ensures.numbering.one_to_one;
-  is = rw (c.new-words.ensures.words, c.new-words.ensures.none_taken) at c.in_default.ensures.draws;
-}
+returns-in_default g c =
+    by-numbering c.count-numbering.ensures.numbering (rw (c.new-words.ensures.words, c.new-words.ensures.none_taken) at c.in_default.ensures.draws)
 
 pub returns : goal.returns
 returns g c =
     let numbering = c.count-numbering.ensures.numbering in
     judged-unread c.args.event _ _ _ c.args.settings.now c.args.least c.args.stream c.args.text.now numbering.some c.in-Ok.state
-    (record {
-      state_at = _;
-      listing = numbering.one_to_one;
-      is = rw (c.new-words.ensures.words, c.new-words.ensures.none_taken) at c.in-Ok.ensures.draws;
-    }) c.in-None.ensures
+    (by-numbering numbering (rw (c.new-words.ensures.words, c.new-words.ensures.none_taken) at c.in-Ok.ensures.draws)) c.in-None.ensures

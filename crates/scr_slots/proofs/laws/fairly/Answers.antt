@@ -1,8 +1,5 @@
+use Rattle.scr_slots.proofs.Listings.{by-numbering}
 use Rattle.scr_slots.proofs.laws.fairly.Goals as goal
 
 pub returns : goal.returns
-returns g c = λ least range. record {
-  state_at = _;
-  listing = c.count.ensures.numbering.one_to_one;
-  is = c.drawn_fairly.ensures least range;
-}
+returns g c = λ least range. by-numbering c.count.ensures.numbering (c.drawn_fairly.ensures.fair least range)

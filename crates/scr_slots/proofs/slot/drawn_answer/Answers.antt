@@ -1,27 +1,21 @@
+use Rattle.scr_slots.proofs.Listings.{by-numbering}
 use Rattle.scr_slots.proofs.slot.drawn_answer.Goals as goal
 
 pub returns-in-Ok : goal.returns-in-Ok
 returns-in-Ok g c = record {
   event = c.scramble.ensures.event;
-  turns = record {
-    state_at = _;
-    listing = c.count-numbering.ensures.numbering.one_to_one;
-    is = record {
-      of_state = record {
-        state = c.in-Ok.state;
-        draws = rw (c.new-words.ensures.words, c.new-words.ensures.none_taken) at c.in-Ok.ensures.draws;
-        permitted = (c.requires.reaches c.scramble.result.turns c.in-Ok.state c.scramble.ensures.gives, c.in-Ok.ensures.needs);
-        gives = c.scramble.ensures.gives;
-        within = c.scramble.ensures.within;
-      };
-      scramble = c.scramble.ensures.scramble;
+  turns = by-numbering c.count-numbering.ensures.numbering (record {
+    of_state = record {
+      state = c.in-Ok.state;
+      draws = rw (c.new-words.ensures.words, c.new-words.ensures.none_taken) at c.in-Ok.ensures.draws;
+      permitted = (c.requires.reaches c.scramble.result.turns c.in-Ok.state c.scramble.ensures.gives, c.in-Ok.ensures.needs);
+      gives = c.scramble.ensures.gives;
+      within = c.scramble.ensures.within;
     };
-  };
+    scramble = c.scramble.ensures.scramble;
+  });
 }
 
 pub returns-in-Err : goal.returns-in-Err
-returns-in-Err g c = record {
-  state_at = _;
-  listing = c.count-numbering.ensures.numbering.one_to_one;
-  is = rw (c.new-words.ensures.words, c.new-words.ensures.none_taken) at c.in-Err.ensures.draws;
-}
+returns-in-Err g c =
+    by-numbering c.count-numbering.ensures.numbering (rw (c.new-words.ensures.words, c.new-words.ensures.none_taken) at c.in-Err.ensures.draws)

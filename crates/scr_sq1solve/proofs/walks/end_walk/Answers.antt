@@ -1,10 +1,10 @@
-use Rattle.std.proofs.Common.{◌≡◌, ◌*◌, ◌<◌, Some, sym, ap, ◌∙◌, arith}
+use Rattle.std.proofs.Common.{◌≡◌, ◌<◌, Some, sym, ap, ◌∙◌, arith}
 use Rattle.scr_combinatorics.specs.Play.{play}
 use Rattle.scr_combinatorics.proofs.OneLetter.{Ends, ending_word, some_letter}
 use Rattle.scr_notation.specs.Written.{Written}
 use Rattle.scr_sq1.specs.Units.{sq1_after}
-use Rattle.scr_sq1solve.specs.Letters.{stage_of, letter_of, each_of}
-use Rattle.scr_sq1solve.proofs.WalkLaws.{IsEnding-short, IsWalk-played, walk-costs}
+use Rattle.scr_sq1solve.specs.Letters.{stage_of, letter_of}
+use Rattle.scr_sq1solve.proofs.WalkLaws.{IsEnding-short, IsWalk-played, walk-costs_one}
 use Rattle.scr_sq1solve.proofs.walks.end_walk.Goals as goal
 
 pub unreachable-requires : goal.unreachable-requires
@@ -30,16 +30,8 @@ returns-then-is_ended-clause-walk c =
 
 pub returns-then-is_ended-clause-at_most : goal.returns-then-is_ended-clause-at_most
 returns-then-is_ended-clause-at_most c =
-    omega (
-      arith,
-      (walk-costs c.args.letters (returns-then-is_ended-clause-walk c)).turns,
-      ap (λ most. most * (each_of c.args.letters).turns) c.requires.short,
-    )
+    (walk-costs_one c.args.letters c.requires.short (returns-then-is_ended-clause-walk c)).turns
 
 pub returns-then-is_ended-clause-twists : goal.returns-then-is_ended-clause-twists
 returns-then-is_ended-clause-twists c =
-    omega (
-      arith,
-      (walk-costs c.args.letters (returns-then-is_ended-clause-walk c)).twists,
-      ap (λ most. most * (each_of c.args.letters).twists) c.requires.short,
-    )
+    (walk-costs_one c.args.letters c.requires.short (returns-then-is_ended-clause-walk c)).twists

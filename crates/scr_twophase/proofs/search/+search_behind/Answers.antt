@@ -1,4 +1,4 @@
-use Rattle.std.proofs.Common.{◌-◌, ◌<◌, false, true, [], ◌∷◌, length, length-append, get_or, refl, sym, ap, ◌∙◌, subst, arith}
+use Rattle.std.proofs.Common.{ℕ, ◌<◌, [], ◌∷◌, length, length-append, get_or, refl, sym, ap, ◌∙◌, subst, arith}
 use Rattle.scr_table.specs.Words.{words_behind}
 use Rattle.scr_table.proofs.WordLists.{popped_word, pushed_word}
 use Rattle.scr_twophase.specs.Search.{letters, IsAt, IsSearched}
@@ -80,35 +80,27 @@ search_behind-requires g t c = λ κs lives.
 
 pub returns-then-search_behind : goal.returns-then-search_behind
 returns-then-search_behind g t c =
+    let p = g.P.Part in
     let cube = c.args.cube.now in
     let word = letters c.args.word.now in
-    let turns = g.P.Part.turns in
-    let place = c.in-Some.place in
-    let gives = g.P.Part.gives cube in
-    let pushed = pushed_word (letters c.push.new.self) (letters c.loop-place.word) word c.turn.result (get_or turns place 0) c.push.ensures
-    c.loop-place.invariant.0 c.turn.ensures.turn in
-    IsUnderWay-found turns (g.P.Part.passes cube) gives word c.args.left c.args.tries.now c.loop-place.turns.bits
-    c.loop-place.tries c.loop-place.invariant.1 place c.pop.new.self.bits c.search_behind.new.tries (letters c.push.new.self) (letters c.search_behind.new.word)
-    c.in-Some.ensures.first
-    (subst (λ w. IsSearched gives (words_behind turns (g.P.Part.passes cube) w (c.args.left - 1)) c.loop-place.tries (letters c.push.new.self) true
-    (letters c.search_behind.new.word) c.search_behind.new.tries) pushed c.if-search_behind.ensures)
+    let turn : ℕ = get_or p.turns c.in-Some.place 0 in
+    IsUnderWay-found p.turns (p.passes cube) (p.gives cube) word c.args.left c.args.tries.now c.loop-place.turns.bits c.loop-place.tries c.loop-place.invariant.1
+    c.in-Some.place c.pop.new.self.bits c.search_behind.new.tries (letters c.push.new.self) (letters c.search_behind.new.word) c.in-Some.ensures.first
+    (pushed_word (letters c.push.new.self) (letters c.loop-place.word) word c.turn.result turn c.push.ensures c.loop-place.invariant.0 c.turn.ensures.turn)
+    c.if-search_behind.ensures
 
 pub loop-place-preserved : goal.loop-place-preserved
 loop-place-preserved g t c =
+    let p = g.P.Part in
     let cube = c.args.cube.now in
-    let word = letters c.args.word.now in
-    let turns = g.P.Part.turns in
-    let place = c.in-Some.place in
-    let gives = g.P.Part.gives cube in
-    let pushed = pushed_word (letters c.push.new.self) (letters c.loop-place.word) word c.turn.result (get_or turns place 0) c.push.ensures
+    let before = letters c.args.word.now in
+    let pushed = pushed_word (letters c.push.new.self) (letters c.loop-place.word) before c.turn.result (get_or p.turns c.in-Some.place 0) c.push.ensures
     c.loop-place.invariant.0 c.turn.ensures.turn in (
-      popped_word (letters c.pop-in-Some.new.self) (letters c.search_behind.new.word) word (get_or turns place 0) c.pop-in-Some.ensures
+      popped_word (letters c.pop-in-Some.new.self) (letters c.search_behind.new.word) before (get_or p.turns c.in-Some.place 0) c.pop-in-Some.ensures
           (c.if-search_behind.ensures.same refl ∙ pushed),
-      IsUnderWay-next turns (g.P.Part.passes cube) gives word c.args.left c.args.tries.now c.loop-place.turns.bits
-          c.loop-place.tries c.loop-place.invariant.1 place c.pop.new.self.bits c.search_behind.new.tries (letters c.push.new.self) (letters c.search_behind.new.word)
-          c.in-Some.ensures.first c.in-Some.ensures.few
-          (subst (λ w. IsSearched gives (words_behind turns (g.P.Part.passes cube) w (c.args.left - 1)) c.loop-place.tries (letters c.push.new.self) false
-          (letters c.search_behind.new.word) c.search_behind.new.tries) pushed c.if-search_behind.ensures),
+      IsUnderWay-next p.turns (p.passes cube) (p.gives cube) before c.args.left c.args.tries.now c.loop-place.turns.bits c.loop-place.tries
+          c.loop-place.invariant.1 c.in-Some.place c.pop.new.self.bits c.search_behind.new.tries (letters c.push.new.self) (letters c.search_behind.new.word)
+          c.in-Some.ensures.first pushed c.in-Some.ensures.few c.if-search_behind.ensures,
     )
 
 pub returns : goal.returns

@@ -10,17 +10,16 @@ loop-turn-init c = play-empty held_cube_after c.args.self.now
 
 pub loop-turn-preserved : goal.loop-turn-preserved
 loop-turn-preserved c =
-    play-more held_cube_after c.args.self.now c.loop-turn.state c.turns-turn-items.result.now c.loop-turn.turn-index c.loop-turn.invariant _ c.loop-turn-test.true
+    play-more held_cube_after _ _ _ _ c.loop-turn.invariant _ c.loop-turn-test.true
     ∙ sym c.after.ensures ∙ c.in_ok-state.was
 
 pub returns-in_err-state : goal.returns-in_err-state
 returns-in_err-state c =
     c.from_residual.ensures
-    ∙ sym (play-barred held_cube_after c.args.self.now c.loop-turn.state c.turns-turn-items.result.now c.loop-turn.turn-index c.loop-turn.invariant _ c.loop-turn-test.true
-    (sym c.after.ensures ∙ c.in_err-state.was))
+    ∙ sym (play-barred held_cube_after _ _ _ _ c.loop-turn.invariant _ c.loop-turn-test.true (sym c.after.ensures ∙ c.in_err-state.was))
     ∙ ap (play held_cube_after c.args.self.now) c.turns-turn-items.ensures.value
 
 pub returns : goal.returns
 returns c =
-    sym (play-whole held_cube_after c.args.self.now c.loop-turn.state c.turns-turn-items.result.now c.loop-turn.turn-index c.loop-turn.invariant (omega arith))
+    sym (play-whole held_cube_after _ _ _ _ c.loop-turn.invariant (omega arith))
     ∙ ap (play held_cube_after c.args.self.now) c.turns-turn-items.ensures.value

@@ -1,31 +1,36 @@
-use Rattle.std.proofs.Common.{[], refl}
+use Rattle.std.proofs.Common.{◌≡◌, [], ◌∷◌, refl}
+use Rattle.std.specs.Prelude.{Result, IfErr, IsErrAnd}
 use Rattle.std.proofs.lemmas.List.Elements.{All-nil}
-use Rattle.scr_table.specs.Lines.{HasNoGap}
+use Rattle.scr_table.specs.declared.fault.BuildFault.{BuildFault}
+use Rattle.scr_table.specs.Causes.{IsCause, IsCauseOf}
+use Rattle.scr_table.specs.Lines.{TableLine, HasNoGap}
 use Rattle.scr_table.proofs.LineLaws.{IfErr-cause, no_gaps-line}
 use Rattle.scr_small.specs.Puzzles.{corners_line, pyramid_line, skewb_line}
 use Rattle.scr_small.proofs.tables.SmallTables.build.Goals.{in-C222+in_ok-build-in-C222, in-Pyram+in_ok-build-in-Pyram}
 use Rattle.scr_small.proofs.tables.SmallTables.build.Goals.{in-Skewb+in_ok-build-in-Skewb}
 use Rattle.scr_small.proofs.tables.SmallTables.build.Goals as goal
 
+-- a fault of the one table has a cause
+caused : {A : Type 0} (line : TableLine) (fault : BuildFault) (r : Result A BuildFault) → IsErrAnd r (λ f. f ≡ fault)
+    → IsCause line.name line.coordinate line.bound fault → IfErr r (IsCauseOf (line ∷ []))
+caused line = IfErr-cause [] line [] (All-nil HasNoGap)
+
 pub returns-in_err-build-in-C222-clause-cause : goal.returns-in_err-build-in-C222-clause-cause
 returns-in_err-build-in-C222-clause-cause g c =
     rw c.in-C222.is
-    (IfErr-cause [] corners_line [] (All-nil HasNoGap) c.in_err-build-in-C222.field-0.0 c.from_residual.result
-    c.from_residual.ensures.1 c.in_err-build-in-C222.ensures.cause)
+    (caused corners_line c.in_err-build-in-C222.field-0.0 c.from_residual.result c.from_residual.ensures.1 c.in_err-build-in-C222.ensures.cause)
 
 pub returns-in_err-build-in-Pyram-clause-cause : goal.returns-in_err-build-in-Pyram-clause-cause
 returns-in_err-build-in-Pyram-clause-cause g c =
-    rw c.in-Pyram.is
-    (IfErr-cause [] pyramid_line [] (All-nil HasNoGap) c.in_err-build-in-Pyram.field-0.0
-    c.from_residual-in_err-build-in-Pyram.result c.from_residual-in_err-build-in-Pyram.ensures.1
-    c.in_err-build-in-Pyram.ensures.cause)
+    let given = c.from_residual-in_err-build-in-Pyram in
+    let fault = c.in_err-build-in-Pyram in
+    rw c.in-Pyram.is (caused pyramid_line fault.field-0.0 given.result given.ensures.1 fault.ensures.cause)
 
 pub returns-in_err-build-in-Skewb-clause-cause : goal.returns-in_err-build-in-Skewb-clause-cause
 returns-in_err-build-in-Skewb-clause-cause g c =
-    rw c.in-Skewb.is
-    (IfErr-cause [] skewb_line [] (All-nil HasNoGap) c.in_err-build-in-Skewb.field-0.0
-    c.from_residual-in_err-build-in-Skewb.result c.from_residual-in_err-build-in-Skewb.ensures.1
-    c.in_err-build-in-Skewb.ensures.cause)
+    let given = c.from_residual-in_err-build-in-Skewb in
+    let fault = c.in_err-build-in-Skewb in
+    rw c.in-Skewb.is (caused skewb_line fault.field-0.0 given.result given.ensures.1 fault.ensures.cause)
 
 pub returns-clause-table : goal.returns-clause-table
 returns-clause-table g c =

@@ -10,7 +10,7 @@ loop-place-init g c =
 
 pub after-requires : goal.after-requires
 after-requires g c =
-    record { at = c.requires.at; place = c.requires.below c.in-Some.place (c.loop-place.invariant.others_among c.in-Some.place c.in-Some.ensures.taken) }
+    c.requires.below c.in-Some.place (c.loop-place.invariant.others_among c.in-Some.place c.in-Some.ensures.taken)
 
 pub loop-place-preserved : goal.loop-place-preserved
 loop-place-preserved g c =
