@@ -14,7 +14,7 @@ use Rattle.scr_table.specs.declared.fault.BuildFault.{BuildFault}
 use Rattle.scr_table.specs.declared.fault.BuildFault.TheVariants as build
 use Rattle.scr_table_text.specs.TableText.{IsTablesText}
 use Rattle.scr_slots.specs.declared.settings.Settings.{Settings}
-use Rattle.scr_slots.specs.Tables.{lines_for}
+use Rattle.scr_slots.specs.Tables.{tables_for}
 use Rattle.scr_sheet.specs.declared.fault.Fault.{Fault}
 use Rattle.scr_sheet.specs.declared.fault.Fault.TheVariants as fault
 use Rattle.scr_sheet.specs.declared.status.Status.{Status}
@@ -152,7 +152,7 @@ run-memory words source out err run = run.performed.memory (end-of status.NoMemo
 
 -- the text of tables of which a first part was written
 abbrev pub FaltersInTables : Event → Change → Type 0
-FaltersInTables event out = (text : List ℕ) × IsTablesText (lines_for (event ∷ [])) text × Falters out text
+FaltersInTables event out = (text : List ℕ) × IsTablesText (tables_for (event ∷ [])) text × Falters out text
 
 tables-broken : (event : Event) (out : Change) → EndsTables event out (Err fault.Write) ⊎ LacksTables (event ∷ []) out (Err fault.Write)
     → FaltersInTables event out

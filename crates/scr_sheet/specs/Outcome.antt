@@ -14,7 +14,7 @@ use Rattle.scr_table.specs.declared.fault.BuildFault.{BuildFault}
 use Rattle.scr_slots.specs.declared.settings.Settings.{Settings}
 use Rattle.scr_slots.specs.Slots.{IsDrawnFairly}
 use Rattle.scr_slots.specs.Events.{scrambling_of}
-use Rattle.scr_slots.specs.Tables.{HasTables, IsBuildCause, lines_for}
+use Rattle.scr_slots.specs.Tables.{HasTables, IsBuildCause, tables_for}
 use Rattle.scr_sheet.specs.declared.fault.Fault.{Fault}
 use Rattle.scr_sheet.specs.declared.fault.Fault.TheVariants as fault
 use Rattle.scr_sheet.specs.declared.status.Status.{Status}
@@ -79,8 +79,8 @@ pub record LacksTables (events : List Event) (out : Change) (ended : Result (Uni
 
 -- how the text of an event's tables ends that is written
 abbrev pub EndsTables : Event → Change → Result (Unit {0}) Fault → Type 0
-EndsTables event out (Ok _) = (text : List ℕ) × IsTablesText (lines_for (event ∷ [])) text × Gains out text
-EndsTables event out (Err fault.Write) = (text : List ℕ) × IsTablesText (lines_for (event ∷ [])) text × Falters out text
+EndsTables event out (Ok _) = (text : List ℕ) × IsTablesText (tables_for (event ∷ [])) text × Gains out text
+EndsTables event out (Err fault.Write) = (text : List ℕ) × IsTablesText (tables_for (event ∷ [])) text × Falters out text
 EndsTables event out (Err _) = ⊥
 
 -- ---- the commands

@@ -22,7 +22,7 @@ ghost use Rattle.scr_command.specs.declared.command.UsageFault.{UsageFault};
 ghost use Rattle.scr_notation.specs.Event.{net_side_of};
 ghost use Rattle.scr_command.specs.Command.{command_of, HasOptions};
 ghost use Rattle.scr_table_text.specs.TableText.{IsTablesText};
-ghost use Rattle.scr_slots.specs.Tables.{lines_for};
+ghost use Rattle.scr_slots.specs.Tables.{tables_for};
 ghost use Rattle.scr_sheet.specs.declared.status.Status.TheVariants.{Done, Usage, DrawLimit, ReadFault, WriteFault, NoMemory};
 ghost use Rattle.scr_sheet.specs.declared.status.Status.TheVariants as status;
 ghost use Rattle.scr_sheet.specs.Check.{InputComesTo, ReadsInput, rounds_in};
@@ -96,7 +96,7 @@ pub fn ends()
         → HasOptions words ⊎ TakesMemory (command_of words) }
     ensures tables { (words : List (List ℕ)) (event : Event) (source out err : Change) → command_of words ≡ Ok (Tables event)
         → IsRun words WriteFault source out err
-        → (text : List ℕ) × IsTablesText (lines_for (event ∷ [])) text × Falters out text }
+        → (text : List ℕ) × IsTablesText (tables_for (event ∷ [])) text × Falters out text }
 {}
 
 /// Where an event has nets, each of its scrambles shows on one: no turn of the event turns the whole cube.

@@ -1,11 +1,11 @@
--- What the events of a list have to do with the lines of their tables, family by family.
-use Rattle.std.proofs.Common.{◌≡◌, ℕ, zero, suc, Bool, true, false, ◌||◌, List, [], ◌∷◌, Option, Some, refl, ap, ◌∙◌, sym, subst, arith, if◌then◌else◌, inl, inr, map, take, length, get_or, ◌+◌, ◌<◌, ◌++◌, ◌↔◌, ◌⊎◌, Bor}
+-- What the events of a list have to do with their tables and the lines of these, family by family.
+use Rattle.std.proofs.Common.{◌≡◌, ℕ, zero, suc, Bool, true, false, ◌||◌, List, [], ◌∷◌, Option, Some, None, refl, ap, ◌∙◌, sym, subst, arith, cond, inl, inr, map, take, length, get_or, ◌+◌, ◌<◌, ◌++◌, ◌↔◌, ◌⊎◌, Bor}
 use Rattle.std.proofs.Math.Seq.{take-length}
 use Rattle.std.proofs.lemmas.List.{take_more, map-append, length-map}
 use Rattle.std.proofs.Math.ListN.{get_or-map}
-use Rattle.std.proofs.lemmas.List.Elements.{All-nil, All-map, Contains-append_left, Contains-push, Contains-push_cases}
+use Rattle.std.proofs.lemmas.List.Elements.{All-map, Contains-append_left, Contains-push, Contains-push_cases}
 use Rattle.std.proofs.lemmas.List.Folds.{list_any_none, list_any_at}
-use Rattle.std.specs.Prelude.{All, Contains, IfSome, IsSome, IsTrue}
+use Rattle.std.specs.Prelude.{All, Contains, IfSome, IsSome, IsTrue, Result}
 use Rattle.std.specs.Option.{option_to_list}
 use Rattle.scr_notation.specs.declared.event.Event.{Event}
 use Rattle.scr_notation.specs.EventSets.{Has}
@@ -15,10 +15,18 @@ use Rattle.scr_notation.specs.declared.event.Family.TheVariants.{Cube222, Cube33
 use Rattle.scr_notation.specs.Event.{family_of}
 use Rattle.scr_table.specs.Distances.{Distances}
 use Rattle.scr_table.specs.Lines.{AreTablesOf, HasNoGap}
+use Rattle.scr_table.specs.Causes.{IsCauseOf}
+use Rattle.scr_table.specs.declared.fault.BuildFault.{BuildFault}
+use Rattle.scr_table.specs.SearchTables.{IsCauseAmong}
+use Rattle.scr_table.specs.TableStates.{AreLinesOf, AreWhole, all_by_positions}
+use Rattle.scr_table.proofs.TableStatesLaws.{AreWhole-lines, IsCauseAmong-lines}
+use Rattle.scr_table_text.specs.Counted.{WritesTables}
+use Rattle.scr_table_text.proofs.StateTexts.{IsTablesText-states}
+use Rattle.scr_outside.specs.Change.{Change}
 use Rattle.scr_small.specs.Tables.{BuiltTable, IsBuilt, family_line, small_line, small_lines}
-use Rattle.scr_slots.specs.Events.{family_lines}
+use Rattle.scr_slots.specs.TableLines.{family_lines}
 use Rattle.scr_slots.specs.Held.{HoldsTables}
-use Rattle.scr_slots.specs.Tables.{is_family, asks_for, lines_asked, lines_for}
+use Rattle.scr_slots.specs.Tables.{is_family, asks_for, family_tables, tables_asked, tables_for}
 
 -- ---- which families are asked for
 
@@ -110,16 +118,29 @@ pub HoldsTables-asked : {Built : Type 0} (events : List Event) (set : List Bool)
 HoldsTables-asked events set family tables same built has =
     built (asks_for-event events family has.event ((same has.event).0 has.has) has.of_family)
 
--- ---- the lines of the families that are asked for
+-- ---- the tables of the families that are asked for
 
-pub lines_asked-of : (events : List Event) (family : Family) → IsTrue (asks_for events family) → lines_asked events family ≡ family_lines family
-lines_asked-of events family asked = ap (λ b. if b then family_lines family else []) asked
+tables_asked-of : (events : List Event) (family : Family) → IsTrue (asks_for events family) → tables_asked events family ≡ family_tables family
+tables_asked-of events family asked = ap (λ b. cond b (family_tables family) []) asked
 
-pub no_gaps-unasked : (events : List Event) (family : Family) → asks_for events family ≡ false → All HasNoGap (lines_asked events family)
-no_gaps-unasked events family unasked =
-    let none : lines_asked events family ≡ [] = ap (λ b. if b then family_lines family else []) unasked in
-    subst (All HasNoGap) (sym none) (All-nil HasNoGap)
+pub whole-unasked : (events : List Event) (family : Family) → asks_for events family ≡ false → AreWhole (tables_asked events family)
+whole-unasked events family unasked =
+    let none : tables_asked events family ≡ [] = ap (λ b. cond b (family_tables family) []) unasked in
+    subst AreWhole (sym none) tt
 
+-- what is so of the lines of such a family is so of its tables
+pub whole-asked : (events : List Event) (family : Family) → AreLinesOf (family_tables family) (family_lines family)
+    → IsTrue (asks_for events family) → All HasNoGap (family_lines family) → AreWhole (tables_asked events family)
+whole-asked events family told asked none =
+    subst AreWhole (sym (tables_asked-of events family asked)) (AreWhole-lines (family_tables family) (family_lines family) told none)
+
+pub cause-asked : (events : List Event) (family : Family) (why : BuildFault) → AreLinesOf (family_tables family) (family_lines family)
+    → IsTrue (asks_for events family) → IsCauseOf (family_lines family) why → IsCauseAmong (tables_asked events family) why
+cause-asked events family why told asked cause =
+    subst (λ tables. IsCauseAmong tables why) (sym (tables_asked-of events family asked))
+    (IsCauseAmong-lines (family_tables family) (family_lines family) why told cause)
+
+-- the line of a family that one table solves
 small_lines-of : (family : Family) → IsSome (family_line (Some family)) → option_to_list (family_line (Some family)) ≡ family_lines family
 unfolding family_lines
 small_lines-of Cube222 some = refl
@@ -128,12 +149,10 @@ small_lines-of Pyraminx some = refl
 small_lines-of Skewb some = refl
 small_lines-of Square1 some = let none : ⊥ = cc in absurd none
 
--- those of a family that one table solves
-pub lines_asked-small : (events : List Event) (family : Family) (event : Event) → IsSome (small_line event) → family_of event ≡ Some family
-    → IsTrue (asks_for events family) → lines_asked events family ≡ small_lines event
-lines_asked-small events family event some of_family asked =
-    lines_asked-of events family asked ∙ sym (small_lines-of family (subst (λ f. IsSome (family_line f)) of_family some))
-    ∙ ap (λ f. option_to_list (family_line f)) (sym of_family)
+pub small_lines-event : (family : Family) (event : Event) → IsSome (small_line event) → family_of event ≡ Some family
+    → small_lines event ≡ family_lines family
+small_lines-event family event some of_family =
+    ap (λ f. option_to_list (family_line f)) of_family ∙ small_lines-of family (subst (λ f. IsSome (family_line f)) of_family some)
 
 -- the one table of a family is that of its lines
 pub small-are : (family : Family) (event : Event) (found : Option (Bor BuiltTable)) (built : Bor BuiltTable) (table : Distances)
@@ -147,10 +166,24 @@ small-are family event found built table some of_family of_event there same is =
     (subst (λ lines. AreTablesOf lines (built.now.distances ∷ [])) line (is.table, tt))
 
 -- one event needs the tables of its family
-pub lines_for-one : (event : Event) (family : Family) → family_of event ≡ Some family → lines_for (event ∷ []) ≡ family_lines family
-unfolding family_lines
-lines_for-one event Cube222 is = rw is refl
-lines_for-one event Cube333 is = rw is refl
-lines_for-one event Pyraminx is = rw is refl
-lines_for-one event Skewb is = rw is refl
-lines_for-one event Square1 is = rw is refl
+tables_for-one : (event : Event) (family : Family) → family_of event ≡ Some family → tables_for (event ∷ []) ≡ family_tables family
+unfolding family_tables
+tables_for-one event Cube222 is = rw is refl
+tables_for-one event Cube333 is = rw is refl
+tables_for-one event Pyraminx is = rw is refl
+tables_for-one event Skewb is = rw is refl
+tables_for-one event Square1 is = rw is refl
+
+pub tables_for-none : (event : Event) → family_of event ≡ None → tables_for (event ∷ []) ≡ []
+tables_for-none event is = rw is refl
+
+-- their texts, told by the positions of the lines, are those of the tables
+pub texts-one : {E : Type 0} (event : Event) (family : Family) (change : Change) (r : Result (Unit {0}) E) → family_of event ≡ Some family
+    → AreLinesOf (family_tables family) (family_lines family) → WritesTables (all_by_positions (family_lines family)) change r
+    → WritesTables (tables_for (event ∷ [])) change r
+texts-one event family change r of_family told writes =
+    subst (λ tables. WritesTables tables change r) (sym (tables_for-one event family of_family)) (
+      writes.0,
+      IsTablesText-states (family_tables family) (family_lines family) told writes.0 writes.1,
+      writes.2,
+    )

@@ -1,32 +1,24 @@
--- What each event is: the one place that says by event what a slot draws, what its scramble is and what is promised of it;
--- and which tables its family needs.
-use Rattle.std.specs.Prelude.{ℕ, ◌≤◌, List, [], ◌∷◌, ◌++◌, length, Option, None, IsTrue, is_some, if◌then◌else◌}
+-- What each event is: the one place that says by event what a slot draws, what its scramble is and what is promised of it.
+use Rattle.std.specs.Prelude.{ℕ, ◌≤◌, List, length, Option, None, IsTrue, is_some, if◌then◌else◌}
 use Rattle.scr_notation.specs.declared.event.Event.{Event}
 use Rattle.scr_notation.specs.declared.event.Event.TheVariants.{C222, C333, Oh333, C555, C666, C777, Clock, Minx, Pyram, Skewb, Sq1, Bf333, Fm333}
-use Rattle.scr_notation.specs.declared.event.Family.{Family}
-use Rattle.scr_notation.specs.declared.event.Family.TheVariants as family
 use Rattle.scr_notation.specs.declared.turn.Turn.{Turn}
 use Rattle.scr_combinatorics.specs.Play.{play}
-use Rattle.scr_table.specs.Lines.{TableLine}
 use Rattle.scr_orbit.specs.Orbits.{Orbit}
 use Rattle.scr_turning.specs.PowerPuzzles.{PowerPuzzle, after_letter, power_puzzle}
 use Rattle.scr_cube.specs.Cube222.{numbers_222, powers_222}
 use Rattle.scr_cube.specs.Cube333.{CubeState, cube_numbers, cube_powers, solved_cube}
 use Rattle.scr_cube.specs.Held.{HeldState, solved_held, held_cube_after, held_puzzle, held_numbers}
-use Rattle.scr_stages.specs.Tables.{stage_lines}
 use Rattle.scr_twophase.specs.TwoParts.{two_parts, IsScramble333}
 use Rattle.scr_twophase.specs.HeldScramble.{IsScramble333bf}
-use Rattle.scr_twophase.specs.Tables.{prune_lines}
 use Rattle.scr_fewest.specs.Fewest.{between, is_framed, IsScrambleFewest}
 use Rattle.scr_tetra.specs.Pyraminx.{PyramState, pyram_powers, pyram_numbers}
 use Rattle.scr_tetra.specs.Skewb.{SkewbState, skewb_numbers, skewb_powers}
-use Rattle.scr_small.specs.NumberedPuzzles.{IsScrambleOf}
-use Rattle.scr_small.specs.Puzzles.{numbered_puzzle_222, numbered_puzzle_skewb, corners_line, pyramid_line, skewb_line, IsScramblePyram}
+use Rattle.scr_small.specs.Puzzles.{IsScramble222, IsScramblePyram, IsScrambleSkewb}
 use Rattle.scr_sq1.specs.Units.{Sq1State, solved_sq1, sq1_after, sq1_puzzle}
 use Rattle.scr_sq1.specs.Numbers.{sq1_numbers}
 use Rattle.scr_sq1short.specs.ShortScrambles.{IsShortScramble}
 use Rattle.scr_sq1solve.specs.Counts.{IsWithinBounds}
-use Rattle.scr_sq1solve.specs.Tables.{sq1_lines}
 use Rattle.scr_clock.specs.Dials.{solved, clock_puzzle}
 use Rattle.scr_clock.specs.Numbers.{clock_numbers}
 use Rattle.scr_clock.specs.Held.{clock_after}
@@ -123,7 +115,7 @@ IsScrambleFewestWithin effort cube turns =
 
 -- Puzzles other than the 3x3x3 and the Square-1 have one scramble, whatever the effort.
 unfoldable pub scrambling_of : Event → Scrambling
-scrambling_of C222 = ByState Orbit C222 drawn_222 numbers_222 (λ effort. IsScrambleOf numbered_puzzle_222)
+scrambling_of C222 = ByState Orbit C222 drawn_222 numbers_222 (λ effort. IsScramble222)
 scrambling_of C333 = scrambling_333
 scrambling_of Oh333 = scrambling_333
 scrambling_of C555 = ByMoves C555 (cube_random_moves cube_555)
@@ -132,17 +124,7 @@ scrambling_of C777 = ByMoves C777 (cube_random_moves cube_777)
 scrambling_of Clock = ByState (List ℕ) Clock drawn_clock clock_numbers (λ effort. IsClockScramble)
 scrambling_of Minx = ByMoves Minx moves_minx
 scrambling_of Pyram = ByState PyramState Pyram drawn_pyram pyram_numbers (λ effort. IsScramblePyram)
-scrambling_of Skewb = ByState SkewbState Skewb drawn_skewb skewb_numbers (λ effort. IsScrambleOf numbered_puzzle_skewb)
+scrambling_of Skewb = ByState SkewbState Skewb drawn_skewb skewb_numbers (λ effort. IsScrambleSkewb)
 scrambling_of Sq1 = ByState Sq1State Sq1 drawn_sq1 sq1_numbers (λ effort. IsShortScramble effort.short)
 scrambling_of Bf333 = ByState HeldState Bf333 drawn_held held_numbers (λ effort. IsScramble333bf effort.tries)
 scrambling_of Fm333 = ByState CubeState Fm333 drawn_fewest cube_numbers IsScrambleFewestWithin
-
--- ---- tables
-
--- the tables of a family, in the order in which they are built and printed
-unfoldable pub family_lines : Family → List TableLine
-family_lines family.Cube222 = corners_line ∷ []
-family_lines family.Cube333 = stage_lines ++ prune_lines
-family_lines family.Pyraminx = pyramid_line ∷ []
-family_lines family.Skewb = skewb_line ∷ []
-family_lines family.Square1 = sq1_lines

@@ -6,3 +6,4 @@ pub mod Outcomes
 pub mod Events
 pub mod Tables
 pub mod Held
+pub mod TableLines

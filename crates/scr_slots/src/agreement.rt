@@ -20,7 +20,7 @@ use crate::tables::Tables;
 use scr_clock::ClockNumbers;
 use scr_draw::{Numbering, Permit, draw};
 use scr_fewest::DrawFewest;
-use scr_notation::{Event, Family, Scramble, parse, print};
+use scr_notation::{Event, Scramble, parse, print};
 use scr_small::{Small222, SmallPyram, SmallSkewb};
 use scr_sq1solve::DrawSq1;
 use scr_twophase::{Draw333, DrawHeld};
@@ -90,11 +90,7 @@ pub fn slot_agrees(
 pub fn is_tested_by_table(event: Event) -> bool
     ensures { result ≡ is_tested_by_table event }
 {
-    match event.family() {
-        Some(Family::Cube222 | Family::Pyraminx | Family::Skewb) => true,
-        Some(Family::Cube333 | Family::Square1) => false,
-        None => false,
-    }
+    matches!(event, Event::C222 | Event::Pyram | Event::Skewb)
 }
 
 /// Whether a text, played from solved, gives the state that a slot draws of a puzzle whose scrambles are of this event.

@@ -4,7 +4,7 @@ ghost use Rattle.std.specs.Prelude.{◌≤◌, All, map, IfErr, IfOk};
 ghost use Rattle.scr_table.specs.Causes.{IsCauseOf};
 ghost use Rattle.scr_table.specs.Lines.{AreTablesOf, HasNoGap};
 ghost use Rattle.scr_notation.specs.declared.event.Family.TheVariants as family;
-ghost use Rattle.scr_slots.specs.Events.{family_lines};
+ghost use Rattle.scr_slots.specs.TableLines.{family_lines};
 ghost use Rattle.scr_stages.specs.Tables.{stage_lines};
 ghost use Rattle.scr_twophase.specs.Tables.{prune_lines};
 
@@ -36,7 +36,7 @@ impl Drop for CubeTables {
 impl CubeTables {
     /// All eight, built by 1 to 64 workers, who share out the stages and the parts, or why one isn't built. They are made ready
     /// for so many cubes.
-    #[tactic(auto, unfolding(crate::specs::Events::family_lines))]
+    #[tactic(auto, unfolding(crate::specs::TableLines::family_lines))]
     pub fn build<R: Threads + Sync>(
         rt: &R,
         alloc: Global,
@@ -69,7 +69,7 @@ impl CubeTables {
     }
 
     /// All eight, in the order in which they are built.
-    #[tactic(auto, unfolding(crate::specs::Events::family_lines))]
+    #[tactic(auto, unfolding(crate::specs::TableLines::family_lines))]
     pub fn all(&self) -> [&DistanceTable; 8]
         ensures { AreTablesOf (family_lines family.Cube333) (map (λ table. table.now) result) }
     {

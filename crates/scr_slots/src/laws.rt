@@ -6,6 +6,7 @@ ghost use Rattle.scr_combinatorics.specs.Reach.{IsReached};
 ghost use Rattle.scr_draw.specs.StateSpace.{IsFairFor};
 ghost use Rattle.scr_notation.specs.declared.event.Event.{Event as EventOf};
 ghost use Rattle.scr_notation.specs.declared.event.Event.TheVariants.{Bf333, C222, C333, Clock, Fm333, Pyram, Skewb, Sq1};
+ghost use Rattle.scr_notation.specs.declared.event.Family.{Family as FamilyOf};
 ghost use Rattle.scr_notation.specs.declared.event.Family.TheVariants as family;
 ghost use Rattle.scr_notation.specs.Event.{greatest_of};
 ghost use Rattle.scr_notation.specs.EventSets.{Has};
@@ -13,6 +14,9 @@ ghost use Rattle.scr_slots.specs.Events.{scrambling_of};
 ghost use Rattle.scr_slots.specs.Held.{HasFamily};
 ghost use Rattle.scr_slots.specs.Slots.{ByListing, IsDrawnFairly, first_stream};
 ghost use Rattle.scr_slots.specs.Outcomes.{HasOneAnswer, HasOneListing};
+ghost use Rattle.scr_slots.specs.TableLines.{family_lines};
+ghost use Rattle.scr_slots.specs.Tables.{family_tables};
+ghost use Rattle.scr_table.specs.TableStates.{AreLinesOf, EachSeesAlike};
 
 use crate::tables::Tables;
 use scr_bigs::laws as moves;
@@ -25,7 +29,7 @@ use scr_sq1::laws as units;
 use scr_sq1solve::{DrawSq1, laws as square};
 use scr_stages::laws as stages;
 use scr_tetra::{SkewbNumbers, pyram_laws, skewb_laws};
-use scr_twophase::{Draw333, DrawHeld};
+use scr_twophase::{Draw333, DrawHeld, laws as parts};
 
 /// What a slot of an event has does not depend on how it is found: it has one answer.
 pub fn one_answer()
@@ -42,6 +46,19 @@ pub fn one_listing()
     pyram_laws::numberings();
     skewb_laws::numbering();
     units::numbering();
+}
+
+/// The tables of each family, as their states tell them, are those of the lines by which they are built. It makes no
+/// difference of which state with a number they tell: each number below a table's count is that of some state of which
+/// the table speaks, and all those with one number have the same words to goals, and the same distances.
+pub fn tables_told_by_states()
+    ensures lines { (family : FamilyOf) → AreLinesOf (family_tables family) (family_lines family) }
+    ensures alike { (family : FamilyOf) → EachSeesAlike (family_tables family) }
+{
+    small::told_by_states();
+    stages::told_by_states();
+    parts::told_by_states();
+    square::told_by_states();
 }
 
 /// Each event whose tables are built is drawn fairly at each minimum of its range; of an event that is

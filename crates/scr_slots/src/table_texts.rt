@@ -4,8 +4,9 @@ ghost use Rattle.std.specs.Prelude.{[], ◌∷◌};
 ghost use Rattle.scr_outside.specs.Change.{change_of};
 ghost use Rattle.scr_notation.specs.EventSets.{Has};
 ghost use Rattle.scr_table_text.specs.Counted.{WritesTables};
-ghost use Rattle.scr_slots.specs.Tables.{lines_for};
+ghost use Rattle.scr_slots.specs.Tables.{tables_for};
 
+use crate::laws::tables_told_by_states;
 use crate::tables::Tables;
 use scr_notation::{Event, Family};
 use scr_outside::{Failed, Sink};
@@ -17,8 +18,9 @@ use scr_table_text::write_tables;
 /// The tables are those of a list with the event.
 pub fn write_tables_of<O: Sink>(tables: &Tables, event: Event, out: &mut O) -> Result<(), Failed>
     requires { Has tables.now event }
-    ensures { WritesTables (lines_for (event ∷ [])) (change_of O.held O.faults out.old out.new) result }
+    ensures { WritesTables (tables_for (event ∷ [])) (change_of O.held O.faults out.old out.new) result }
 {
+    tables_told_by_states();
     match event.family() {
         Some(Family::Cube222) => write_tables(out, &[tables.of_222().unwrap().only()]),
         Some(Family::Cube333) => write_tables(out, &tables.of_333().unwrap().all()),

@@ -1,21 +1,21 @@
 //! The tables of a list's events.
 
-ghost use Rattle.std.specs.Prelude.{◌≡◌, ℕ, ◌≤◌, ◌↔◌, ◌∷◌, [], All, map, Contains, IfOk, IfSome, IfErr, IsSome, IsSomeAnd, IsTrue};
+ghost use Rattle.std.specs.Prelude.{◌≡◌, ℕ, ◌≤◌, ◌↔◌, ◌∷◌, [], map, Contains, IfOk, IfSome, IfErr, IsSome, IsSomeAnd, IsTrue};
 ghost use Rattle.scr_notation.specs.declared.event.Event.{Event as EventOf};
 ghost use Rattle.scr_notation.specs.declared.event.Event.TheVariants.{C222, Pyram, Skewb as EventSkewb};
 ghost use Rattle.scr_notation.specs.declared.event.Family.TheVariants as family;
 ghost use Rattle.scr_notation.specs.Event.{family_of, greatest_of};
 ghost use Rattle.scr_notation.specs.EventSets.{Has};
-ghost use Rattle.scr_table.specs.Causes.{IsCauseOf};
-ghost use Rattle.scr_table.specs.Lines.{HasNoGap};
+ghost use Rattle.scr_table.specs.SearchTables.{IsCauseAmong};
+ghost use Rattle.scr_table.specs.TableStates.{AreWhole};
 ghost use Rattle.scr_small.specs.Tables.{small_line};
 ghost use Rattle.scr_slots.specs.Events.{scrambling_of};
 ghost use Rattle.scr_slots.specs.Held.{HasFamily, HoldsTable, HoldsTables};
 ghost use Rattle.scr_slots.specs.Slots.{IsDrawnFairly};
-ghost use Rattle.scr_slots.specs.Tables.{IsBuildCause, asks_for, is_family, lines_asked, lines_for};
+ghost use Rattle.scr_slots.specs.Tables.{IsBuildCause, asks_for, is_family, tables_asked, tables_for};
 
 use crate::cube_tables::CubeTables;
-use crate::laws::each_drawn_fairly;
+use crate::laws::{each_drawn_fairly, tables_told_by_states};
 use arrayvec::ArrayString;
 use scr_list::Round;
 use scr_notation::{Event, EventSet, Family};
@@ -83,7 +83,7 @@ impl Tables {
             (event : EventOf) → Has tables event ↔ Contains (map (λ round. round.event) rounds.now) event) }
         ensures fair { IfOk result (λ tables. (event : EventOf) (least : ℕ) → Has tables event
             → least ≤ greatest_of event → IsDrawnFairly (scrambling_of event) least) }
-        ensures no_gap { IfOk result (λ _. All HasNoGap (lines_for (map (λ round. round.event) rounds.now))) }
+        ensures no_gap { IfOk result (λ _. AreWhole (tables_for (map (λ round. round.event) rounds.now))) }
         ensures cause { IfErr result (IsBuildCause (map (λ round. round.event) rounds.now)) }
     {
         let of_222 = small_tables(rt, alloc, rounds, Family::Cube222, Event::C222, workers)?;
@@ -112,7 +112,7 @@ impl Tables {
         ensures event { IfOk result (λ tables. Has tables event) }
         ensures fair { IfOk result (λ _. (least : ℕ) → least ≤ greatest_of event
             → IsDrawnFairly (scrambling_of event) least) }
-        ensures no_gap { IfOk result (λ _. All HasNoGap (lines_for (event ∷ []))) }
+        ensures no_gap { IfOk result (λ _. AreWhole (tables_for (event ∷ []))) }
         ensures cause { IfErr result (IsBuildCause (event ∷ [])) }
     {
         Tables::build(
@@ -239,10 +239,11 @@ fn small_tables<R: Threads + Sync>(
     ensures built { let events = map (λ round. round.event) rounds.now in
         IfOk result (λ tables. IsTrue (asks_for events family) → IsSome tables) }
     ensures event { IfOk result (λ tables. IfSome tables (λ built. built.event ≡ event)) }
-    ensures whole { IfOk result (λ _. All HasNoGap (lines_asked (map (λ round. round.event) rounds.now) family)) }
-    ensures cause { IfErr result (IsCauseOf (lines_asked (map (λ round. round.event) rounds.now) family)) }
+    ensures whole { IfOk result (λ _. AreWhole (tables_asked (map (λ round. round.event) rounds.now) family)) }
+    ensures cause { IfErr result (IsCauseAmong (tables_asked (map (λ round. round.event) rounds.now) family)) }
 {
     if asks_for(rounds, family) {
+        tables_told_by_states();
         let tables = SmallTables::build(rt, alloc, event, workers)?;
         Ok(Some(tables))
     } else {
@@ -260,10 +261,11 @@ fn cube_tables<R: Threads + Sync>(
     requires workers { (1 ≤ workers) × (workers ≤ 64) }
     ensures built { let events = map (λ round. round.event) rounds.now in
         IfOk result (λ tables. IsTrue (asks_for events family.Cube333) → IsSome tables) }
-    ensures whole { IfOk result (λ _. All HasNoGap (lines_asked (map (λ round. round.event) rounds.now) family.Cube333)) }
-    ensures cause { IfErr result (IsCauseOf (lines_asked (map (λ round. round.event) rounds.now) family.Cube333)) }
+    ensures whole { IfOk result (λ _. AreWhole (tables_asked (map (λ round. round.event) rounds.now) family.Cube333)) }
+    ensures cause { IfErr result (IsCauseAmong (tables_asked (map (λ round. round.event) rounds.now) family.Cube333)) }
 {
     if asks_for(rounds, Family::Cube333) {
+        tables_told_by_states();
         let cubes = slots_of(rounds, Family::Cube333);
         let tables = CubeTables::build(rt, alloc, cubes, workers)?;
         Ok(Some(tables))
@@ -282,10 +284,11 @@ fn sq1_tables<R: Threads + Sync>(
     requires workers { (1 ≤ workers) × (workers ≤ 64) }
     ensures built { let events = map (λ round. round.event) rounds.now in
         IfOk result (λ tables. IsTrue (asks_for events family.Square1) → IsSome tables) }
-    ensures whole { IfOk result (λ _. All HasNoGap (lines_asked (map (λ round. round.event) rounds.now) family.Square1)) }
-    ensures cause { IfErr result (IsCauseOf (lines_asked (map (λ round. round.event) rounds.now) family.Square1)) }
+    ensures whole { IfOk result (λ _. AreWhole (tables_asked (map (λ round. round.event) rounds.now) family.Square1)) }
+    ensures cause { IfErr result (IsCauseAmong (tables_asked (map (λ round. round.event) rounds.now) family.Square1)) }
 {
     if asks_for(rounds, Family::Square1) {
+        tables_told_by_states();
         let tables = Sq1Tables::build(rt, alloc, workers)?;
         Ok(Some(tables))
     } else {

@@ -32,3 +32,4 @@ pub mod EachIndex
 pub mod Lengths
 mod ListCoordinates
 mod CodeSteps
+pub mod StateTables

@@ -8,3 +8,4 @@ pub mod Codes
 pub mod Placed
 pub mod Minima
 pub mod Totals
+pub mod SearchTables

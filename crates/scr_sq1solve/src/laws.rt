@@ -19,6 +19,8 @@ ghost use Rattle.scr_sq1.specs.Numbers.{sq1_numbered};
 ghost use Rattle.scr_sq1solve.specs.Spaces.{IsPairedSq1, shapes_space, pairings_space, square_space};
 ghost use Rattle.scr_sq1solve.specs.Tables.{shapes_index, pairings_index, square_index};
 ghost use Rattle.scr_sq1solve.specs.Tables.{shapes_line, pairings_line, square_line, sq1_lines};
+ghost use Rattle.scr_sq1solve.specs.SearchTables.{sq1_tables};
+ghost use Rattle.scr_table.specs.TableStates.{AreLinesOf};
 
 use crate::tables::Sq1Tables;
 
@@ -108,4 +110,10 @@ pub fn totals()
     ensures scramble { (s : Sq1State) (turns : List Letter) → IsSq1 s → IsScrambleSq1 s turns
         → (word : List ℕ) × (total : List Letter) × IsStageWord sq1_after shape_stage s word × IsTotal s word total
         × (turns ≡ back opposite total) }
+{}
+
+/// The lines by which the tables are built are those of the tables as states tell them: turns lead from numbers to numbers as
+/// from states to states, and each number is that of one.
+pub fn told_by_states()
+    ensures { AreLinesOf sq1_tables sq1_lines }
 {}

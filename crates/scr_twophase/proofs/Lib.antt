@@ -21,3 +21,4 @@ pub mod NearBits
 pub mod TakenBack
 pub mod HeldScrambles
 pub mod EachIndex
+pub mod StateTables

@@ -11,3 +11,4 @@ pub mod Built
 pub mod Ready
 pub mod Minima
 pub mod HeldScramble
+pub mod SearchTables

@@ -7,9 +7,11 @@ ghost use Rattle.scr_cube.specs.Cube333.{CubeState, solved_cube};
 ghost use Rattle.scr_table.specs.Words.{words_of};
 ghost use Rattle.scr_twophase.specs.Spaces.{flipslice_space, twistslice_space, cornerslice_space, edgeslice_space};
 ghost use Rattle.scr_twophase.specs.Spaces.{flipslice_number, twistslice_number, cornerslice_number, edgeslice_number};
-ghost use Rattle.scr_twophase.specs.Tables.{flipslice_line, twistslice_line, cornerslice_line, edgeslice_line};
+ghost use Rattle.scr_twophase.specs.Tables.{flipslice_line, twistslice_line, cornerslice_line, edgeslice_line, prune_lines};
 ghost use Rattle.scr_twophase.specs.TwoParts.{after_turn, turn_numbers, domino_turns};
 ghost use Rattle.scr_twophase.specs.TwoParts.{is_first_part, first_parts, is_solution, second_part};
+ghost use Rattle.scr_twophase.specs.SearchTables.{prune_tables};
+ghost use Rattle.scr_table.specs.TableStates.{AreLinesOf};
 
 /// The words of n turns in the lists are all lists of n of the 18 turns.
 pub fn words()
@@ -54,4 +56,10 @@ pub fn second_parts()
         → (length w ≤ 10) × All (Contains domino_turns) w × IsTrue (is_solution c (first ++ w)) }
     ensures some { (c : CubeState) (first w : List ℕ) → length w ≤ 10 → All (Contains domino_turns) w
         → IsTrue (is_solution c (first ++ w)) → IsSome (second_part c first) }
+{}
+
+/// The lines by which the tables are built are those of the tables as cubes tell them: turns lead from numbers to numbers as
+/// from cubes to cubes, and each number is that of one.
+pub fn told_by_states()
+    ensures { AreLinesOf prune_tables prune_lines }
 {}

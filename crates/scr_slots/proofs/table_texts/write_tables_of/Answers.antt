@@ -1,11 +1,11 @@
-use Rattle.std.proofs.Common.{◌≡◌, Some, refl, sym, subst}
+use Rattle.std.proofs.Common.{◌≡◌, [], Some, None, refl, sym, subst}
 use Rattle.scr_outside.specs.Change.{change_of}
+use Rattle.scr_table_text.specs.Counted.{WritesTables}
 use Rattle.scr_notation.specs.declared.event.Event.TheVariants.{C222, Pyram, Skewb}
 use Rattle.scr_notation.specs.declared.event.Family.TheVariants as family
 use Rattle.scr_notation.specs.Event.{family_of}
-use Rattle.scr_table_text.specs.Counted.{WritesTables}
-use Rattle.scr_slots.specs.Events.{family_lines}
-use Rattle.scr_slots.proofs.BuildCauses.{small-are, lines_for-one}
+use Rattle.scr_slots.specs.TableLines.{family_lines}
+use Rattle.scr_slots.proofs.BuildCauses.{small-are, tables_for-none, texts-one}
 use Rattle.scr_slots.proofs.table_texts.write_tables_of.Goals as goal
 
 pub returns-in-Some-Cube222 : goal.returns-in-Some-Cube222
@@ -13,35 +13,40 @@ returns-in-Some-Cube222 g c =
     let of_family : family_of c.args.event ≡ Some family.Cube222 = cc in
     let are = small-are family.Cube222 C222 _ _ _ refl refl c.of_222.ensures.event c.unwrap.ensures
     c.only.ensures.same c.only.ensures.built in
-    subst (λ lines. WritesTables lines (change_of g.O.Sink.held g.O.Sink.faults c.args.out.now c.write_tables.new.out) c.write_tables.result)
-    (sym (lines_for-one c.args.event family.Cube222 of_family)) (c.write_tables.ensures (family_lines family.Cube222) are)
+    texts-one c.args.event family.Cube222 _ _ of_family (c.tables_told_by_states.ensures.lines family.Cube222)
+    (c.write_tables.ensures (family_lines family.Cube222) are)
 
 pub returns-in-Some-Cube333 : goal.returns-in-Some-Cube333
 returns-in-Some-Cube333 g c =
     let of_family : family_of c.args.event ≡ Some family.Cube333 = cc in
-    subst (λ lines. WritesTables lines (change_of g.O.Sink.held g.O.Sink.faults c.args.out.now c.write_tables-in-Some-Cube333.new.out) c.write_tables-in-Some-Cube333.result)
-    (sym (lines_for-one c.args.event family.Cube333 of_family)) (c.write_tables-in-Some-Cube333.ensures (family_lines family.Cube333) c.all.ensures)
+    texts-one c.args.event family.Cube333 _ _ of_family (c.tables_told_by_states.ensures.lines family.Cube333)
+    (c.write_tables-in-Some-Cube333.ensures (family_lines family.Cube333) c.all.ensures)
 
 pub returns-in-Some-Pyraminx : goal.returns-in-Some-Pyraminx
 returns-in-Some-Pyraminx g c =
     let of_family : family_of c.args.event ≡ Some family.Pyraminx = cc in
     let are = small-are family.Pyraminx Pyram _ _ _ refl refl c.of_pyram.ensures.event c.unwrap-in-Some-Pyraminx.ensures
     c.only-in-Some-Pyraminx.ensures.same c.only-in-Some-Pyraminx.ensures.built in
-    subst (λ lines. WritesTables lines (change_of g.O.Sink.held g.O.Sink.faults c.args.out.now c.write_tables-in-Some-Pyraminx.new.out) c.write_tables-in-Some-Pyraminx.result)
-    (sym (lines_for-one c.args.event family.Pyraminx of_family)) (c.write_tables-in-Some-Pyraminx.ensures (family_lines family.Pyraminx) are)
+    texts-one c.args.event family.Pyraminx _ _ of_family (c.tables_told_by_states.ensures.lines family.Pyraminx)
+    (c.write_tables-in-Some-Pyraminx.ensures (family_lines family.Pyraminx) are)
 
 pub returns-in-Some-Skewb : goal.returns-in-Some-Skewb
 returns-in-Some-Skewb g c =
     let of_family : family_of c.args.event ≡ Some family.Skewb = cc in
     let are = small-are family.Skewb Skewb _ _ _ refl refl c.of_skewb.ensures.event c.unwrap-in-Some-Skewb.ensures
     c.only-in-Some-Skewb.ensures.same c.only-in-Some-Skewb.ensures.built in
-    subst (λ lines. WritesTables lines (change_of g.O.Sink.held g.O.Sink.faults c.args.out.now c.write_tables-in-Some-Skewb.new.out) c.write_tables-in-Some-Skewb.result)
-    (sym (lines_for-one c.args.event family.Skewb of_family)) (c.write_tables-in-Some-Skewb.ensures (family_lines family.Skewb) are)
+    texts-one c.args.event family.Skewb _ _ of_family (c.tables_told_by_states.ensures.lines family.Skewb)
+    (c.write_tables-in-Some-Skewb.ensures (family_lines family.Skewb) are)
 
 pub returns-in-Some-Square1 : goal.returns-in-Some-Square1
 unfolding family_lines
 returns-in-Some-Square1 g c =
     let of_family : family_of c.args.event ≡ Some family.Square1 = cc in
-    subst (λ lines. WritesTables lines (change_of g.O.Sink.held g.O.Sink.faults c.args.out.now c.write_tables-in-Some-Square1.new.out) c.write_tables-in-Some-Square1.result)
-    (sym (lines_for-one c.args.event family.Square1 of_family))
+    texts-one c.args.event family.Square1 _ _ of_family (c.tables_told_by_states.ensures.lines family.Square1)
     (c.write_tables-in-Some-Square1.ensures (family_lines family.Square1) c.all-in-Some-Square1.ensures.built)
+
+pub returns-in-None : goal.returns-in-None
+returns-in-None g c =
+    let none : family_of c.args.event ≡ None = cc in
+    subst (λ tables. WritesTables tables (change_of g.O.Sink.held g.O.Sink.faults c.args.out.now c.write_tables-in-None.new.out) c.write_tables-in-None.result)
+    (sym (tables_for-none c.args.event none)) (c.write_tables-in-None.ensures [] tt)

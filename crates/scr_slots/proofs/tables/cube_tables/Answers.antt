@@ -1,13 +1,25 @@
-use Rattle.std.proofs.Common.{◌≡◌, true, sym, ◌∙◌, subst}
-use Rattle.std.specs.Prelude.{All}
+use Rattle.std.proofs.Common.{◌≡◌, true, sym, ◌∙◌}
 use Rattle.scr_notation.specs.declared.event.Family.TheVariants as family
-use Rattle.scr_table.specs.Lines.{HasNoGap}
-use Rattle.scr_slots.specs.Tables.{asks_for}
-use Rattle.scr_slots.proofs.BuildCauses.{event_list, lines_asked-of}
+use Rattle.scr_table.specs.SearchTables.{IsCauseAmong}
+use Rattle.scr_table.proofs.LineLaws.{IfErr-handed}
+use Rattle.scr_slots.specs.Tables.{asks_for, tables_asked}
+use Rattle.scr_slots.proofs.BuildCauses.{event_list, whole-asked, cause-asked, whole-unasked}
 use Rattle.scr_slots.proofs.tables.cube_tables.Goals as goal
+
+pub returns-in_err-tables-clause-cause : goal.returns-in_err-tables-clause-cause
+returns-in_err-tables-clause-cause g c =
+    let events = event_list c.args.rounds.now in
+    let asked : asks_for events family.Cube333 ≡ true = sym c.asks_for.ensures ∙ c.if-asks_for.true in
+    let why = c.in_err-tables.field-0.0 in
+    IfErr-handed (IsCauseAmong (tables_asked events family.Cube333)) why c.from_residual.result c.from_residual.ensures.1
+    (cause-asked events family.Cube333 why (c.tables_told_by_states.ensures.lines family.Cube333) asked c.in_err-tables.ensures.cause)
 
 pub returns-in_ok-tables-clause-whole : goal.returns-in_ok-tables-clause-whole
 returns-in_ok-tables-clause-whole g c =
     let events = event_list c.args.rounds.now in
     let asked : asks_for events family.Cube333 ≡ true = sym c.asks_for.ensures ∙ c.if-asks_for.true in
-    subst (All HasNoGap) (sym (lines_asked-of events family.Cube333 asked)) c.in_ok-tables.ensures.whole
+    whole-asked events family.Cube333 (c.tables_told_by_states.ensures.lines family.Cube333) asked c.in_ok-tables.ensures.whole
+
+pub returns-else-asks_for-clause-whole : goal.returns-else-asks_for-clause-whole
+returns-else-asks_for-clause-whole g c =
+    whole-unasked (event_list c.args.rounds.now) family.Cube333 (sym c.asks_for.ensures ∙ c.if-asks_for.false)

@@ -8,7 +8,7 @@ use Rattle.scr_table.proofs.LineLaws.{IfErr-handed, IsCauseOf-before, IsCauseOf-
 use Rattle.scr_stages.specs.Tables.{stage_lines}
 use Rattle.scr_twophase.specs.Tables.{prune_lines}
 use Rattle.scr_notation.specs.declared.event.Family.TheVariants as family
-use Rattle.scr_slots.specs.Events.{family_lines}
+use Rattle.scr_slots.specs.TableLines.{family_lines}
 use Rattle.scr_slots.proofs.cube_tables.CubeTables.build.Goals as goal
 
 pub returns-in_err-stages-clause-cause : goal.returns-in_err-stages-clause-cause
