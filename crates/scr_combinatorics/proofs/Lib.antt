@@ -14,6 +14,7 @@ pub mod EvenLists
 pub mod PlayLaws
 pub mod StepLaws
 pub mod PlayedWhere
+pub mod PowerLetterLaws
 pub mod BackLaws
 pub mod TidyLaws
 pub mod MergeLaws

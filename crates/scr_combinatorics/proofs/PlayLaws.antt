@@ -1,6 +1,8 @@
 -- Laws of words over any puzzle.
 use Rattle.std.proofs.Common.{◌≡◌, ℕ, ◌+◌, ◌≤◌, List, [], ◌∷◌, ◌++◌, Option, Some, None, refl, sym, ap, subst, ◌∙◌, zero-add, add_assoc, arith}
 use Rattle.std.specs.Prelude.{option_and_then}
+use Rattle.std.specs.Option.{option_map}
+use Rattle.std.proofs.lemmas.Option.{same_Some}
 use Rattle.scr_combinatorics.specs.Play.{play, count_in}
 use Rattle.scr_combinatorics.specs.Reach.{Puzzle, IsReached, Needs}
 
@@ -9,6 +11,11 @@ pub and_then-some : {A B : Type 0} (f : A → Option B) (o : Option A) (b : B) �
     → (a : A) × (o ≡ Some a) × (f a ≡ Some b)
 and_then-some f None b e = absurd (cc)
 and_then-some f (Some a) b e = (a, refl, e)
+
+-- what a step gives came from what it was done to
+pub map-some : {A B : Type 0} (f : A → B) (o : Option A) (b : B) → option_map f o ≡ Some b → (a : A) × (o ≡ Some a) × (f a ≡ b)
+map-some f None b e = absurd (cc)
+map-some f (Some a) b e = (a, refl, same_Some (f a) b e)
 
 -- the empty word does nothing
 pub play-empty : {S T : Type 0} (after : S → T → Option S) (s : S) → play after s [] ≡ Some s

@@ -11,5 +11,6 @@ pub mod Reach
 pub mod Back
 pub mod Tidy
 pub mod Lawful
+pub mod PowerLetters
 pub mod FirstWord
 pub mod Stages

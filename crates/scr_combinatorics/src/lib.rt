@@ -6,8 +6,9 @@
 //! `Permutations` (permutations, parity, inverses, numbers), `PlaceSets` (sets of places), `Pairings` (places in pairs),
 //! `Digits` (digits, each below a base of its own), `Twists` (digits whose sum is fixed), `Numbered` (numbered states) and
 //! `Numbering` (what it is for states or lists to be numbered); `Play`, `Reach` (a puzzle), `FirstWord`, `Stages`, `Back`,
-//! `Tidy` and `Lawful`. The crate stands on nothing but `std`, names no puzzle and has no code: its functions are laws over
-//! those definitions, and each contract is the theorem; what is proved of words is stated by each puzzle's crate.
+//! `Tidy` and `Lawful`; `PowerLetters` (letters as powers of a puzzle's generators, and their numbers). The crate
+//! stands on nothing but `std`, names no puzzle and has no code: its functions are laws over those definitions, and
+//! each contract is the theorem; what is proved of words and of letters is stated by each puzzle's crate.
 #![tactic(auto)]
 
 pub mod laws;

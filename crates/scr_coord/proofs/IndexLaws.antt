@@ -5,7 +5,7 @@ use Rattle.std.specs.Option.{option_map}
 use Rattle.std.proofs.lemmas.Bool.{eq-eqb, eqb-true, ltb-false}
 use Rattle.scr_combinatorics.specs.Numbered.{Numbered}
 use Rattle.scr_combinatorics.specs.Numbering.{IsOneToOne}
-use Rattle.scr_orbit.proofs.ActionLaws.{map-some}
+use Rattle.scr_combinatorics.proofs.PlayLaws.{map-some}
 use Rattle.scr_coord.specs.Coordinates.{StaysBelow}
 use Rattle.scr_coord.specs.Indexes.{indexed_coordinate, numbered_coordinate}
 use Rattle.scr_coord.specs.SearchSpaces.{positions, Follows}

@@ -1,13 +1,8 @@
-pub mod MarkedLaws
 pub mod StaysBelowLaws
 pub mod MoveLaws
-pub mod MarkedSteps
-pub mod GoalNumbers
 pub mod ProductLaws
 pub mod ProductGoals
 pub mod SearchLaws
-pub mod ProjectionLaws
-pub mod MarkedPieces
 pub mod IndexLaws
 pub mod Written
 pub mod RowsSeen

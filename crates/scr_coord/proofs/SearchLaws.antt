@@ -7,8 +7,7 @@ use Rattle.std.proofs.lemmas.Bool.{ltb-true}
 use Rattle.std.proofs.lemmas.Iterator.Adapters.{option_map_id}
 use Rattle.scr_combinatorics.specs.Play.{play}
 use Rattle.scr_combinatorics.specs.FirstWord.{LeadsTo, IsFirstWord, IsDistance}
-use Rattle.scr_combinatorics.proofs.PlayLaws.{play-keeps}
-use Rattle.scr_orbit.proofs.ActionLaws.{map-some}
+use Rattle.scr_combinatorics.proofs.PlayLaws.{play-keeps, map-some}
 use Rattle.scr_coord.specs.Coordinates.{Coordinate, StaysBelow, moved}
 use Rattle.scr_coord.specs.SearchSpaces.{SearchSpace, positions, Follows, FindsTheSame, ShowsSame}
 

@@ -2,5 +2,4 @@ pub mod Coordinates
 pub mod SearchSpaces
 pub mod Products
 pub mod Moves
-pub mod Projections
 pub mod Indexes

@@ -1,15 +1,9 @@
 //! Laws of coordinates. The functions do nothing: what each ensures is the law.
-ghost use Rattle.std.specs.Prelude.{◌≡◌, ℕ, ◌+◌, ◌*◌, ◌<◌, ◌&&◌, Bool, true, false, List, [], ◌∷◌, Option, Some, None, All, length};
-ghost use Rattle.scr_combinatorics.specs.Lists.{numbers_from};
-ghost use Rattle.scr_combinatorics.specs.Permutations.{permutation_number};
-ghost use Rattle.scr_combinatorics.specs.PlaceSets.{IsPlaceSet, place_set_number};
-ghost use Rattle.scr_combinatorics.specs.Twists.{twists_number};
-ghost use Rattle.scr_orbit.specs.Orbits.{Rearrangement, IsOrbit, IsRearrangement, IsZeroSumOrbit, IsZeroSumRearrangement, zeros};
+ghost use Rattle.std.specs.Prelude.{◌≡◌, ℕ, ◌+◌, ◌*◌, ◌&&◌, Bool, true, false, [], ◌∷◌, Option, Some, None};
 ghost use Rattle.scr_coord.specs.Coordinates.{Coordinate, StaysBelow};
 ghost use Rattle.scr_coord.specs.SearchSpaces.{positions, tested_space, Follows, FindsTheSame, ShowsSame};
 ghost use Rattle.scr_coord.specs.Products.{side_by_side, product_coordinate};
 ghost use Rattle.scr_coord.specs.Moves.{moves_coordinate};
-ghost use Rattle.scr_coord.specs.Projections.{AreTurns, projection, twists_view, pieces_view, place_set_view, marked_places, turned_set, orbit_space};
 
 /// A search finds the same on coordinates that show the same, as on a move table and what it was made of: the same words
 /// to goals, distances and first words. Products of such coordinates show the same too.
@@ -40,35 +34,8 @@ pub fn views<S, R>()
         (λ s. v s + low.count * u s) }
 {}
 
-/// The numbers of an orbit's digits, of its pieces, and of the places at which marked pieces stand go along with turns, so
-/// that a search finds the same on them. `marked` marks `k` of the `n` pieces.
-pub fn projections()
-    ensures twists { (n base : ℕ) (turns : List Rearrangement) → 0 < n → 0 < base → All (IsZeroSumRearrangement n base) turns
-        → Follows (orbit_space base turns (IsZeroSumOrbit n base) (λ o. o.digits ≡ zeros n))
-        (positions (projection (twists_view n base) turns)) (λ o. twists_number base o.digits) }
-    ensures pieces { (n m : ℕ) (turns : List Rearrangement) → 0 < m → All (IsRearrangement n m) turns
-        → Follows (orbit_space m turns (IsOrbit n m) (λ o. o.pieces ≡ numbers_from 0 n))
-        (positions (projection (pieces_view n) turns)) (λ o. permutation_number o.pieces) }
-    ensures place_sets { (n m k : ℕ) (marked : ℕ → Bool) (home : List ℕ) (turns : List Rearrangement)
-        → 0 < m → All (IsRearrangement n m) turns
-        → IsPlaceSet n k home → length (marked_places marked (numbers_from 0 n)) ≡ k
-        → Follows (orbit_space m turns (IsOrbit n m) (λ o. marked_places marked o.pieces ≡ home))
-        (positions (projection (place_set_view n k home) turns)) (λ o. place_set_number n (marked_places marked o.pieces)) }
-{}
-
-/// The definitions at lists worked by hand, and what they refuse. The turn is a cycle of three places: place 0 gets what
-/// stands at place 2, place 1 what stands at 0, and place 2 what stands at 1.
+/// The definitions at positions worked by hand.
 pub fn rows()
-    // the digits 1 2 0 are carried to 0 1 2, and 0 1 2 is added to them, modulo 3
-    ensures digits { (twists_view 3 3).turned (1 ∷ 2 ∷ 0 ∷ []) (record { places = 2 ∷ 0 ∷ 1 ∷ []; added = 0 ∷ 1 ∷ 2 ∷ [] })
-        ≡ 0 ∷ 2 ∷ 1 ∷ [] }
-    ensures pieces { (pieces_view 3).turned (1 ∷ 0 ∷ 2 ∷ []) (record { places = 2 ∷ 0 ∷ 1 ∷ []; added = [] })
-        ≡ 2 ∷ 1 ∷ 0 ∷ [] }
-
-    // what stands at the places 0 and 1 goes to the places 1 and 2
-    ensures set { turned_set (0 ∷ 1 ∷ []) (record { places = 2 ∷ 0 ∷ 1 ∷ []; added = [] }) ≡ 1 ∷ 2 ∷ [] }
-    ensures no_turns { AreTurns (λ (turn : ℕ). turn ≡ turn) [] → ⊥ }
-
     // position 3 of five and position 2 are 3 + 5 * 2; with a barred turn there is none
     ensures pair { (side_by_side 5 (Some 3) (Some 2) ≡ Some 13) × (side_by_side 5 None (Some 2) ≡ None)
         × (side_by_side 5 (Some 3) None ≡ None) }

@@ -5,11 +5,12 @@ use Rattle.std.specs.Option.{option_map}
 use Rattle.std.proofs.lemmas.Bool.{false≢true, cases_lt}
 use Rattle.std.proofs.lemmas.List.Elements.{All-head, All-tail}
 use Rattle.scr_combinatorics.specs.Play.{play}
-use Rattle.scr_combinatorics.proofs.PlayLaws.{play-empty, play-first, play-append, play-keeps}
+use Rattle.scr_combinatorics.proofs.PlayLaws.{play-empty, play-first, play-append, play-keeps, map-some}
 use Rattle.scr_orbit.specs.Actions.{composed_word}
 use Rattle.scr_orbit.specs.Inverses.{IsInverse}
 use Rattle.scr_orbit.specs.Orbits.{Orbit, Rearrangement, IsOrbit, orbit_then, rearrangement_to, solved_orbit}
-use Rattle.scr_orbit.proofs.ActionLaws.{IsTurn-word, map-some}
+use Rattle.scr_orbit.specs.PowerPuzzles.{after_letter, letter_table}
+use Rattle.scr_orbit.proofs.ActionLaws.{IsTurn-word}
 use Rattle.scr_orbit.proofs.InverseLaws.{IsJoining, IsJoining-orbits, IsInverse-both, IsZeroSumRearrangement-to, IsZeroSumOrbit-inverse, parity-inverse_orbit, rearrangement_to-turned, rearrangement_to-solved}
 use Rattle.scr_orbit.proofs.OrbitLaws.{IsOrbit-zero_sum}
 use Rattle.scr_orbit.proofs.Parts.{ap_both}
@@ -18,7 +19,6 @@ use Rattle.scr_notation.specs.declared.turn.Turn.{Turn}
 use Rattle.scr_notation.specs.declared.turn.Turn.TheVariants.{Face}
 use Rattle.scr_notation.specs.Turns.{permits}
 use Rattle.scr_notation.proofs.NumberLaws.{face_turn_parts}
-use Rattle.scr_turning.specs.PowerPuzzles.{after_letter, letter_table}
 use Rattle.scr_cube.specs.Composition.{cube_then, IsJoined}
 use Rattle.scr_cube.specs.Cube333.{CubeState, IsCube, CubeTurn, IsCubeTurn, cube_action, cube_powers, solved_cube}
 use Rattle.scr_cube.proofs.Laws333.{same_cube, cube_laws, lawful_cube, turned-some, IsCube-solved}

@@ -1,7 +1,7 @@
 -- Turns of a held cube: what they do to the cube itself, that they can be taken back and merged, and the words at places that
 -- the cube's own words are.
 use Rattle.std.proofs.Common.{◌≡◌, ℕ, suc, ◌+◌, ◌-◌, ◌/◌, ◌%◌, ◌<◌, ◌≤◌, Bool, true, false, IsTrue, cond, List, [], ◌∷◌, Option, Some, None, length, refl, sym, ap, ◌∙◌, subst, arith, lit≤, eqb, eqb-true, eq-eqb, inl, inr, append-nil}
-use Rattle.std.specs.Prelude.{Contains, option_and_then, slice_index}
+use Rattle.std.specs.Prelude.{Contains, slice_index}
 use Rattle.std.specs.Option.{option_map}
 use Rattle.std.specs.Cmp.Derive.{both_true}
 use Rattle.std.proofs.lemmas.Bool.{false≢true, cases_lt, eqb-false}
@@ -11,9 +11,9 @@ use Rattle.scr_combinatorics.specs.Permutations.{place_of}
 use Rattle.scr_combinatorics.specs.Play.{play}
 use Rattle.scr_combinatorics.specs.Lawful.{IsLawful}
 use Rattle.scr_combinatorics.specs.Tidy.{word_of, with_turn, tidy}
-use Rattle.scr_combinatorics.proofs.PlayLaws.{play-empty, play-first, play-parts, play-one}
+use Rattle.scr_combinatorics.proofs.PlayLaws.{play-empty, play-first, play-parts, play-one, map-some}
 use Rattle.scr_combinatorics.proofs.TidyLaws.{with_turn-alike}
-use Rattle.scr_orbit.proofs.ActionLaws.{map-some}
+use Rattle.scr_orbit.specs.PowerPuzzles.{after_letter}
 use Rattle.scr_orbit.proofs.Parts.{ap_both}
 use Rattle.scr_notation.specs.declared.event.Event.TheVariants.{Bf333}
 use Rattle.scr_notation.specs.declared.turn.Turn.{Turn}
@@ -24,7 +24,6 @@ use Rattle.scr_notation.specs.Turns.{permits}
 use Rattle.scr_notation.proofs.Below.{and_first, and_second}
 use Rattle.scr_notation.proofs.NumberLaws.{IsFaceTurn, face_turn_parts, face_turn_of_parts}
 use Rattle.scr_notation.proofs.OppositeLaws.{permits-opposite}
-use Rattle.scr_turning.specs.PowerPuzzles.{after_letter}
 use Rattle.scr_cube.specs.Cube333.{CubeState, IsCube, cube_powers}
 use Rattle.scr_cube.specs.Held.{HeldState, IsHeld, opposite_place, whole_turned, turned_face, centres_turned, face_letter, centres_after, held_cube_after, faces_turned, holds}
 use Rattle.scr_cube.proofs.Laws333.{lawful_cube, turned-some}

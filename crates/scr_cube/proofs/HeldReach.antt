@@ -11,12 +11,12 @@ use Rattle.scr_combinatorics.proofs.BackLaws.{IsTakenBack-lawful}
 use Rattle.scr_combinatorics.proofs.PlayLaws.{play-append, play-keeps, IsReached-play}
 use Rattle.scr_combinatorics.proofs.PlayedWhere.{TellsTurns, played-turns}
 use Rattle.scr_combinatorics.proofs.TidyPlay.{IsKeptByTidy-lawful}
+use Rattle.scr_orbit.specs.PowerPuzzles.{after_letter, power_puzzle}
 use Rattle.scr_orbit.proofs.Minima.{count_once}
 use Rattle.scr_notation.specs.declared.event.Event.TheVariants.{Bf333}
 use Rattle.scr_notation.specs.declared.turn.Turn.{Turn}
 use Rattle.scr_notation.specs.Turning.{opposite, turn_merging}
 use Rattle.scr_notation.specs.Turns.{permits}
-use Rattle.scr_turning.specs.PowerPuzzles.{after_letter, power_puzzle}
 use Rattle.scr_cube.specs.Cube333.{IsCube, solved_cube, cube_powers}
 use Rattle.scr_cube.specs.Held.{HeldState, IsHeld, IsSolvedHeld, solved_held, held_cube_after, faces_turned, hold_word, hold_centres, hold_of, holds, held_puzzle}
 use Rattle.scr_cube.proofs.Laws333.{IsCube-solved}

@@ -4,9 +4,9 @@ use Rattle.std.specs.Prelude.{slice_get}
 use Rattle.std.proofs.lemmas.Option.{same_Some}
 use Rattle.scr_orbit.specs.Actions.{power, composed_word, power_of}
 use Rattle.scr_orbit.specs.Orbits.{composed, identity, added_digits}
+use Rattle.scr_orbit.specs.PowerPuzzles.{HaveOrders, letter_table}
 use Rattle.scr_orbit.proofs.Orders.{All-word_orders}
 use Rattle.scr_notation.specs.TurnNumbers.{face_turn_at}
-use Rattle.scr_turning.specs.PowerPuzzles.{HaveOrders, letter_table}
 use Rattle.scr_cube.specs.Cube333.{CubeTurn, cube_quarters, cube_action, cube_powers}
 use Rattle.scr_cube.specs.Known.{known_orders}
 use Rattle.scr_cube.proofs.Laws333.{moves_nothing, tells_cube}

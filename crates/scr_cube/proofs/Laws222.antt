@@ -2,15 +2,16 @@
 use Rattle.std.proofs.Common.{refl, lit<, lit≤}
 use Rattle.scr_orbit.specs.Actions.{power}
 use Rattle.scr_orbit.specs.Orbits.{IsZeroSumRearrangement, composed, identity, added_digits}
+use Rattle.scr_orbit.specs.PowerPuzzles.{IsPowerPuzzle}
 use Rattle.scr_orbit.proofs.OrbitLaws.{zero_sum_laws, IsZeroSumOrbit-solved}
 use Rattle.scr_orbit.proofs.Orders.{tells_orbit}
 use Rattle.scr_orbit.proofs.TableTests.{is_still, is_zero_sum_turn, IsZeroSumRearrangement-from_test}
-use Rattle.scr_turning.specs.PowerPuzzles.{IsPowerPuzzle}
-use Rattle.scr_turning.proofs.FaceLaws.{face_powers, faces_numbered}
-use Rattle.scr_turning.proofs.PowerPuzzleLaws.{IsPowerPuzzle-from_test}
+use Rattle.scr_orbit.proofs.PowerPuzzleLaws.{IsPowerPuzzle-from_test}
+use Rattle.scr_notation.specs.Turning.{opposite, turn_merging}
+use Rattle.scr_notation.proofs.FaceLaws.{face_powers, faces_numbered}
 use Rattle.scr_cube.specs.Cube222.{IsCorners222, powers_222, solved_222}
 
-pub lawful_222 : IsPowerPuzzle powers_222 IsCorners222 (IsZeroSumRearrangement 7 3)
+pub lawful_222 : IsPowerPuzzle powers_222 IsCorners222 (IsZeroSumRearrangement 7 3) opposite turn_merging
 unfolding power composed identity added_digits solved_222
 lawful_222 =
     IsPowerPuzzle-from_test powers_222 IsCorners222 (IsZeroSumRearrangement 7 3)

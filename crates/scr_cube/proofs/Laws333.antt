@@ -6,15 +6,16 @@ use Rattle.std.proofs.lemmas.Option.{slice_get-get_or}
 use Rattle.scr_combinatorics.specs.Permutations.{parity}
 use Rattle.scr_orbit.specs.Actions.{IsAction, power, power_of}
 use Rattle.scr_orbit.specs.Orbits.{Orbit, IsZeroSumOrbit, IsZeroSumRearrangement, turned_orbit, composed, identity, added_digits, solved_orbit, orbit_action}
+use Rattle.scr_orbit.specs.PowerPuzzles.{IsPowerPuzzle, after_letter, part_turns}
 use Rattle.scr_orbit.proofs.OrbitLaws.{zero_sum_laws, IsZeroSumOrbit-solved, parity-turned, parity-composed}
 use Rattle.scr_orbit.proofs.Orders.{TellsIdentity, tells_orbit, tells_both}
 use Rattle.scr_orbit.proofs.Parts.{ap_both, pair_action, IsSeenAs, IsSeenAs-whole, IsAction-two, IsMadeAt}
 use Rattle.scr_orbit.proofs.TableTests.{and_three, is_still, is_zero_sum_turn, IsZeroSumRearrangement-from_test}
 use Rattle.scr_notation.specs.declared.turn.Turn.TheVariants.{Face}
-use Rattle.scr_turning.specs.PowerPuzzles.{IsPowerPuzzle, after_letter, part_turns}
-use Rattle.scr_turning.proofs.FaceLaws.{face_powers, faces_numbered, quarters_of-face}
-use Rattle.scr_turning.proofs.PowerPuzzleLaws.{IsPowerPuzzle-from_test}
-use Rattle.scr_turning.proofs.TurnedAt.{IsTurned, IsTurned-two}
+use Rattle.scr_notation.specs.Turning.{opposite, turn_merging}
+use Rattle.scr_notation.proofs.FaceLaws.{face_powers, faces_numbered, quarters_of-face}
+use Rattle.scr_orbit.proofs.PowerPuzzleLaws.{IsPowerPuzzle-from_test}
+use Rattle.scr_orbit.proofs.TurnedAt.{IsTurned, IsTurned-two}
 use Rattle.scr_cube.specs.Cube333.{CubeState, IsCube, CubeTurn, IsCubeTurn, cube_action, cube_quarters, cube_powers, solved_cube}
 
 -- ---- a cube is its corners and its edges, and so is a turn
@@ -76,7 +77,7 @@ pub IsCube-solved : IsCube solved_cube
 unfolding solved_cube solved_orbit
 IsCube-solved = record { corners = IsZeroSumOrbit-solved 8 3 (lit< tt); edges = IsZeroSumOrbit-solved 12 2 (lit< tt); same_parity = refl }
 
-pub lawful_cube : IsPowerPuzzle cube_powers IsCube IsCubeTurn
+pub lawful_cube : IsPowerPuzzle cube_powers IsCube IsCubeTurn opposite turn_merging
 unfolding is_turn moves_nothing power composed identity added_digits
 lawful_cube =
     IsPowerPuzzle-from_test cube_powers IsCube IsCubeTurn (record { numbered = faces_numbered; powers = face_powers; few = lit≤ tt })

@@ -8,8 +8,8 @@ use Rattle.scr_combinatorics.proofs.PlayLaws.{play-one}
 use Rattle.scr_orbit.proofs.Minima.{one_needed as needs_one, enough}
 use Rattle.scr_orbit.specs.Actions.{power, power_of}
 use Rattle.scr_orbit.specs.Orbits.{Orbit, turned_orbit, composed, identity, solved_orbit, added_digits}
+use Rattle.scr_orbit.specs.PowerPuzzles.{letter_table, after_letter, power_puzzle}
 use Rattle.scr_notation.specs.TurnNumbers.{face_turn_at}
-use Rattle.scr_turning.specs.PowerPuzzles.{letter_table, after_letter, power_puzzle}
 use Rattle.scr_cube.specs.Cube333.{cube_action, cube_powers, solved_cube}
 use Rattle.scr_cube.specs.Cube222.{action_222, powers_222, solved_222}
 use Rattle.scr_cube.specs.Known.{superflip, superflip_word}

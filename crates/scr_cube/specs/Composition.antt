@@ -3,8 +3,8 @@
 use Rattle.std.specs.Prelude.{◌≡◌, List, ◌++◌, Some}
 use Rattle.scr_combinatorics.specs.Play.{play}
 use Rattle.scr_orbit.specs.Orbits.{orbit_then}
+use Rattle.scr_orbit.specs.PowerPuzzles.{after_letter}
 use Rattle.scr_notation.specs.declared.turn.Turn.{Turn}
-use Rattle.scr_turning.specs.PowerPuzzles.{after_letter}
 use Rattle.scr_cube.specs.Cube333.{CubeState, cube_powers, solved_cube}
 
 -- Each corner place has the first cube's corner from the place that the second has there, with both twists added; so have

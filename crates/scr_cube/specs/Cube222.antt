@@ -8,8 +8,9 @@ use Rattle.scr_combinatorics.specs.Twists.{twists_number, twists_at}
 use Rattle.scr_combinatorics.specs.Numbered.{Numbers, numbers_by_digits, Numbered, numbered_by_digits}
 use Rattle.scr_orbit.specs.Actions.{Action}
 use Rattle.scr_orbit.specs.Orbits.{Orbit, Rearrangement, IsZeroSumOrbit, zeros, solved_orbit, orbit_action}
-use Rattle.scr_turning.specs.Faces.{letters_of_faces}
-use Rattle.scr_turning.specs.PowerPuzzles.{PowerPuzzle}
+use Rattle.scr_orbit.specs.PowerPuzzles.{PowerPuzzle}
+use Rattle.scr_notation.specs.declared.turn.Turn.{Turn}
+use Rattle.scr_notation.specs.FaceLetters.{letters_of_faces}
 
 -- Seven corners that can be put together without taking the cube apart: twists sum to 0 modulo 3.
 abbrev pub IsCorners222 : Orbit → Type 0
@@ -30,7 +31,7 @@ unfoldable pub solved_222 : Orbit
 solved_222 = solved_orbit 7
 
 -- The 2x2x2 as data. Its 9 turns are U U2 U' R R2 R' F F2 F', in the order of their numbers.
-abbrev pub powers_222 : PowerPuzzle Orbit Rearrangement
+abbrev pub powers_222 : PowerPuzzle Orbit Rearrangement Turn
 powers_222 = record { letters = letters_of_faces; action = action_222; generators = quarters_222; solved = solved_222 }
 
 -- ---- numbers

@@ -11,8 +11,9 @@ use Rattle.scr_combinatorics.specs.Twists.{twists_number, twists_at}
 use Rattle.scr_combinatorics.specs.Numbered.{Numbers, numbers_by_digits, Numbered, numbered_by_digits}
 use Rattle.scr_orbit.specs.Actions.{Action}
 use Rattle.scr_orbit.specs.Orbits.{Orbit, Rearrangement, IsZeroSumOrbit, IsZeroSumRearrangement, turned_orbit, composed, zeros, identity, solved_orbit}
-use Rattle.scr_turning.specs.Faces.{letters_of_faces}
-use Rattle.scr_turning.specs.PowerPuzzles.{PowerPuzzle}
+use Rattle.scr_orbit.specs.PowerPuzzles.{PowerPuzzle}
+use Rattle.scr_notation.specs.declared.turn.Turn.{Turn}
+use Rattle.scr_notation.specs.FaceLetters.{letters_of_faces}
 
 -- The corners with their twists, and the edges with their flips.
 pub record CubeState : Type 0 where
@@ -77,7 +78,7 @@ unfoldable pub solved_cube : CubeState
 solved_cube = record { corners = solved_orbit 8; edges = solved_orbit 12 }
 
 -- The 3x3x3 as data. Its 18 turns are U U2 U' R R2 R' F F2 F' D D2 D' L L2 L' B B2 B', in the order of their numbers.
-abbrev pub cube_powers : PowerPuzzle CubeState CubeTurn
+abbrev pub cube_powers : PowerPuzzle CubeState CubeTurn Turn
 cube_powers = record { letters = letters_of_faces; action = cube_action; generators = cube_quarters; solved = solved_cube }
 
 -- ---- numbers

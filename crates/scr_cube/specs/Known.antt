@@ -4,8 +4,8 @@ use Rattle.std.specs.Option.{option_map}
 use Rattle.scr_combinatorics.specs.Lists.{numbers_from}
 use Rattle.scr_combinatorics.specs.Play.{play}
 use Rattle.scr_orbit.specs.Orbits.{solved_orbit}
+use Rattle.scr_orbit.specs.PowerPuzzles.{word_at}
 use Rattle.scr_notation.specs.declared.turn.Turn.{Turn}
-use Rattle.scr_turning.specs.PowerPuzzles.{word_at}
 use Rattle.scr_cube.specs.Cube333.{CubeState, cube_powers}
 use Rattle.scr_cube.specs.Held.{held_cube_after, solved_held}
 

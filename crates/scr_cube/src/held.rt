@@ -6,8 +6,7 @@ ghost use Rattle.scr_notation.specs.declared.turn.Turn.TheVariants.{Face};
 ghost use Rattle.scr_cube.specs.Held.{IsHeld, centres_turned, held_cube_after, hold_centres, hold_of, holds, solved_held, turned_face, whole_quarters};
 
 use crate::cube::Cube;
-use scr_notation::{Event, Scramble, Turn};
-use scr_turning::PowerTurned;
+use scr_notation::{Event, PowerTurned, Scramble, Turn};
 use std::marker::Model;
 
 /// A 3x3x3 and how it is held: which face's centre stands at each of the places U R F D L B, where turns are done. Places are

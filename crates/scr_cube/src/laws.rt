@@ -11,6 +11,7 @@ ghost use Rattle.scr_combinatorics.specs.Back.{IsTakenBack};
 ghost use Rattle.scr_combinatorics.specs.Lawful.{IsLawful};
 ghost use Rattle.scr_combinatorics.specs.Tidy.{IsKeptByTidy};
 ghost use Rattle.scr_orbit.specs.Orbits.{Orbit, IsZeroSumRearrangement, zeros};
+ghost use Rattle.scr_orbit.specs.PowerPuzzles.{IsPowerPuzzle, HaveOrders, after_letter, power_puzzle};
 ghost use Rattle.scr_notation.specs.declared.event.Event.TheVariants.{Bf333, C222, C333};
 ghost use Rattle.scr_notation.specs.declared.turn.Turn.{Turn as Letter};
 ghost use Rattle.scr_notation.specs.declared.turn.Turn.TheVariants.{Face};
@@ -18,8 +19,7 @@ ghost use Rattle.scr_notation.specs.Turning.{opposite, turn_merging};
 ghost use Rattle.scr_notation.specs.Turns.{permits};
 ghost use Rattle.scr_notation.specs.TurnNumbers.{face_turn_at};
 ghost use Rattle.scr_notation.specs.Spelling.{text_of};
-ghost use Rattle.scr_turning.specs.Played.{PlaysTurnsOf};
-ghost use Rattle.scr_turning.specs.PowerPuzzles.{IsPowerPuzzle, HaveOrders, after_letter, power_puzzle};
+ghost use Rattle.scr_notation.specs.Played.{PlaysTurnsOf};
 ghost use Rattle.scr_cube.specs.Composition.{IsJoined, cube_then};
 ghost use Rattle.scr_cube.specs.Cube333.{CubeTurn, IsCube, IsCubeTurn, cube_quarters, cube_action, cube_powers, solved_cube, cube_numbered};
 ghost use Rattle.scr_cube.specs.Cube222.{IsCorners222, quarters_222, powers_222, solved_222, numbered_222};
@@ -35,8 +35,8 @@ use scr_notation::Turn;
 /// taken back and tidied, and each comes to one rearrangement, the same for every state. What turns reach is valid. A quarter
 /// turn has order 4, and each turn has the number that the notation gives it.
 pub fn turns()
-    ensures cube { IsPowerPuzzle cube_powers IsCube IsCubeTurn }
-    ensures corners { IsPowerPuzzle powers_222 IsCorners222 (IsZeroSumRearrangement 7 3) }
+    ensures cube { IsPowerPuzzle cube_powers IsCube IsCubeTurn opposite turn_merging }
+    ensures corners { IsPowerPuzzle powers_222 IsCorners222 (IsZeroSumRearrangement 7 3) opposite turn_merging }
 {}
 
 /// From each valid state turns lead to a state exactly where each of them is a turn of the event.

@@ -2,7 +2,7 @@
 //! three quarters. A wrong entry is refused, since the calls ensure that the tables are those of the definitions.
 ghost use Rattle.scr_orbit.specs.Orbits.{IsZeroSumRearrangement};
 ghost use Rattle.scr_orbit.specs.PlaceTurns.{IsTurnTable};
-ghost use Rattle.scr_turning.specs.PowerPuzzles.{all_turns, part_turns};
+ghost use Rattle.scr_orbit.specs.PowerPuzzles.{all_turns, part_turns};
 ghost use Rattle.scr_cube.specs.Cube333.{cube_powers};
 ghost use Rattle.scr_cube.specs.Cube222.{powers_222};
 

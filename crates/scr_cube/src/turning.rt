@@ -1,14 +1,14 @@
 //! Turns of both cubes. The faces U R F D L B are the generators 0 to 5.
 ghost use Rattle.std.proofs.Common.{lit≤};
-ghost use Rattle.scr_turning.specs.PowerPuzzles.{after_letter};
-ghost use Rattle.scr_turning.proofs.TurnedAt.{HasGenerators-puzzle};
+ghost use Rattle.scr_orbit.specs.PowerPuzzles.{after_letter};
+ghost use Rattle.scr_orbit.proofs.TurnedAt.{HasGenerators-puzzle};
 ghost use Rattle.scr_cube.specs.Cube333.{cube_powers};
 ghost use Rattle.scr_cube.specs.Cube222.{powers_222};
 
 use crate::corners::Corners222;
 use crate::cube::Cube;
 use crate::tables::{corner_turns, edge_turns, turns_222};
-use scr_turning::{Faces, PowerTurned};
+use scr_notation::{Faces, PowerTurned};
 
 impl PowerTurned for Cube {
     type Kind = Faces;

@@ -9,8 +9,8 @@ use Rattle.scr_notation.specs.declared.turn.Turn.{Turn}
 use Rattle.scr_notation.specs.declared.turn.Turn.TheVariants.{Face, Over}
 use Rattle.scr_notation.specs.Turning.{opposite}
 use Rattle.scr_notation.proofs.Below.{and_first, and_second}
-use Rattle.scr_turning.specs.PowerPuzzles.{after_letter}
 use Rattle.scr_orbit.specs.Orbits.{rearrangement_to}
+use Rattle.scr_orbit.specs.PowerPuzzles.{after_letter}
 use Rattle.scr_cube.specs.Composition.{cube_then}
 use Rattle.scr_cube.specs.Cube333.{CubeState, IsCube, cube_powers, solved_cube}
 use Rattle.scr_cube.proofs.CompositionLaws.{IsJoining-cubes, IsCube-then, IsCube-played, play-then}

@@ -4,10 +4,10 @@
 use Rattle.std.specs.Prelude.{◌≡◌, ◌==◌, ◌+◌, ◌-◌, ◌&&◌, ℕ, Bool, false, nat_le, List, [], ◌∷◌, ◌++◌, length, slice_index_or, unwrap_or}
 use Rattle.scr_combinatorics.specs.Back.{back}
 use Rattle.scr_combinatorics.specs.Play.{play}
+use Rattle.scr_orbit.specs.PowerPuzzles.{after_letter}
 use Rattle.scr_notation.specs.declared.turn.Turn.{Turn}
 use Rattle.scr_notation.specs.declared.turn.Turn.TheVariants.{Face, Over}
 use Rattle.scr_notation.specs.Turning.{opposite}
-use Rattle.scr_turning.specs.PowerPuzzles.{after_letter}
 use Rattle.scr_cube.specs.Composition.{cube_then}
 use Rattle.scr_cube.specs.Cube333.{CubeState, cube_powers, solved_cube}
 use Rattle.scr_twophase.specs.TwoParts.{IsScramble333}

@@ -1,5 +1,5 @@
 //! The 3x3x3 for fewest moves, as states are drawn of it.
-ghost use Rattle.scr_turning.specs.PowerPuzzles.{power_puzzle};
+ghost use Rattle.scr_orbit.specs.PowerPuzzles.{power_puzzle};
 ghost use Rattle.scr_cube.specs.Cube333.{cube_numbered, cube_powers};
 ghost use Rattle.scr_twophase.specs.Minima.{needs_turns};
 

@@ -3,10 +3,10 @@ ghost use Rattle.std.specs.Prelude.{◌≡◌, ◌++◌, ◌↔◌, IsTrue, List
 ghost use Rattle.std.specs.Option.{option_map};
 ghost use Rattle.scr_combinatorics.specs.Back.{back};
 ghost use Rattle.scr_combinatorics.specs.Play.{play};
+ghost use Rattle.scr_orbit.specs.PowerPuzzles.{after_letter};
 ghost use Rattle.scr_notation.specs.declared.turn.Turn.{Turn};
 ghost use Rattle.scr_notation.specs.Spelling.{text_of};
 ghost use Rattle.scr_notation.specs.Turning.{opposite};
-ghost use Rattle.scr_turning.specs.PowerPuzzles.{after_letter};
 ghost use Rattle.scr_cube.specs.Cube333.{CubeState, IsCube, cube_powers, solved_cube};
 ghost use Rattle.scr_fewest.specs.Fewest.{frame, between, is_framed, IsFramed};
 

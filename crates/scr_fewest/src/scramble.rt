@@ -1,9 +1,9 @@
 //! The scramble for fewest moves.
 ghost use Rattle.std.specs.Prelude.{◌≡◌, ◌+◌, ◌≤◌, IsTrue, List, Some, is_some, length};
 ghost use Rattle.scr_combinatorics.specs.Play.{play};
+ghost use Rattle.scr_orbit.specs.PowerPuzzles.{after_letter};
 ghost use Rattle.scr_notation.specs.declared.event.Event.TheVariants.{Fm333};
 ghost use Rattle.scr_notation.specs.declared.turn.Turn.{Turn as Letter};
-ghost use Rattle.scr_turning.specs.PowerPuzzles.{after_letter};
 ghost use Rattle.scr_cube.specs.Cube333.{cube_powers, solved_cube};
 ghost use Rattle.scr_twophase.specs.TwoParts.{two_parts};
 ghost use Rattle.scr_fewest.specs.Fewest.{frame, framed, between, is_frame_at, is_framed, is_turn, IsFramed, IsScrambleFewest};

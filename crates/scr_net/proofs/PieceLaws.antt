@@ -9,11 +9,10 @@ use Rattle.std.proofs.lemmas.List.FromFn.{get_or-range_with_len, length-range_wi
 use Rattle.std.proofs.lemmas.List.Sums.{AllPass-from_list_all}
 use Rattle.scr_combinatorics.specs.Lists.{pick}
 use Rattle.scr_combinatorics.proofs.PermutationLaws.{All-permutation}
-use Rattle.scr_combinatorics.proofs.PlayLaws.{and_then-some}
+use Rattle.scr_combinatorics.proofs.PlayLaws.{and_then-some, map-some}
 use Rattle.scr_combinatorics.proofs.Picks.{length-pick, pick-at}
 use Rattle.scr_orbit.specs.Orbits.{Orbit, Rearrangement, IsZeroSumOrbit, IsZeroSumRearrangement, turned_orbit}
 use Rattle.scr_orbit.specs.Stickers.{standing}
-use Rattle.scr_orbit.proofs.ActionLaws.{map-some}
 use Rattle.scr_orbit.proofs.DigitLaws.{added_digits-at}
 use Rattle.scr_cube.specs.Cube333.{CubeState}
 use Rattle.scr_cube.specs.Stickers.{corner_faces, edge_faces}

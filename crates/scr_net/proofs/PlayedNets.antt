@@ -4,17 +4,17 @@ use Rattle.std.specs.Prelude.{◌==◌, IsSome, slice_get, unwrap_or}
 use Rattle.std.specs.Option.{option_map}
 use Rattle.std.proofs.lemmas.Option.{same_Some}
 use Rattle.scr_combinatorics.specs.Play.{play}
-use Rattle.scr_combinatorics.proofs.PlayLaws.{and_then-some, play-empty, play-first, play-parts}
+use Rattle.scr_combinatorics.proofs.PlayLaws.{and_then-some, play-empty, play-first, play-parts, map-some}
 use Rattle.scr_orbit.specs.Actions.{Action, IsAction, after_by, power, power_of, power_table}
 use Rattle.scr_orbit.specs.Orbits.{Orbit, Rearrangement, IsZeroSumRearrangement, solved_orbit, turned_orbit}
-use Rattle.scr_orbit.proofs.ActionLaws.{map-some, IsTurn-power}
+use Rattle.scr_orbit.specs.PowerPuzzles.{after_letter}
+use Rattle.scr_orbit.proofs.ActionLaws.{IsTurn-power}
 use Rattle.scr_orbit.proofs.OrbitLaws.{IsZeroSumOrbit-solved}
 use Rattle.scr_orbit.proofs.Orders.{each_at}
 use Rattle.scr_orbit.proofs.TableTests.{IsZeroSumRearrangement-from_test}
 use Rattle.scr_notation.specs.declared.turn.Turn.{Turn}
-use Rattle.scr_turning.specs.Faces.{quarters_of}
-use Rattle.scr_turning.specs.PowerPuzzles.{after_letter}
-use Rattle.scr_turning.proofs.FaceLaws.{IsQuartersOf-read}
+use Rattle.scr_notation.specs.FaceLetters.{quarters_of}
+use Rattle.scr_notation.proofs.FaceLaws.{IsQuartersOf-read}
 use Rattle.scr_cube.specs.Cube333.{CubeState, CubeTurn, IsCube, IsCubeTurn, cube_quarters, cube_action, cube_powers, solved_cube}
 use Rattle.scr_cube.specs.Cube222.{IsCorners222, quarters_222, action_222, powers_222, solved_222}
 use Rattle.scr_cube.specs.Stickers.{corner_faces, edge_faces}

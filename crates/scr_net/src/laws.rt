@@ -3,8 +3,8 @@ ghost use Rattle.std.specs.Prelude.{◌≡◌, ◌↔◌, ℕ, ◌-◌, ◌<◌,
 ghost use Rattle.std.specs.List.{AllPass};
 ghost use Rattle.std.specs.Option.{option_map};
 ghost use Rattle.scr_combinatorics.specs.Play.{play};
+ghost use Rattle.scr_orbit.specs.PowerPuzzles.{after_letter};
 ghost use Rattle.scr_notation.specs.declared.turn.Turn.{Turn as Letter};
-ghost use Rattle.scr_turning.specs.PowerPuzzles.{after_letter};
 ghost use Rattle.scr_cube.specs.Cube333.{cube_powers, solved_cube};
 ghost use Rattle.scr_cube.specs.Cube222.{powers_222, solved_222};
 ghost use Rattle.scr_net.specs.declared.geometry.Sticker.{Sticker as Place};

@@ -10,3 +10,6 @@ pub mod MergingLaws
 pub mod OppositeLaws
 pub mod FaultLaws
 pub mod TidyingLaws
+pub mod FaceLaws
+pub mod AxisLaws
+pub mod TellsPowers

@@ -9,6 +9,9 @@ pub mod Pins
 pub mod Wide
 pub mod Turns
 pub mod TurnNumbers
+pub mod FaceLetters
+pub mod AxisLetters
+pub mod Played
 pub mod Spelling
 pub mod Written
 pub mod Reading

@@ -7,23 +7,33 @@
 //! other is refused at its first word at fault, with the byte at which that word begins. `inverse` is the reversed list of
 //! opposite turns, and `tidy` what is left when turns of one face, turns of layers and twists are merged, in whatever order.
 //!
-//! Nothing takes memory. The crate stands on `scr_combinatorics` for words taken back and tidied.
+//! Turns at faces ([`Faces`]), and those about axes and of tips ([`Axes`]), are powers of quarter turns and of thirds,
+//! as a half turn of a face is its quarter turn twice; each has its number (`specs/FaceLetters.antt`,
+//! `specs/AxisLetters.antt`). A puzzle with such turns says what the turn with a number makes of its state
+//! ([`PowerTurned`]); what a letter does, and what a scramble, follows here once for all of them.
+//!
+//! Nothing takes memory. The crate stands on `scr_combinatorics` for words taken back and tidied, and for letters as
+//! powers.
 #![tactic(auto)]
 
 mod event;
 mod event_set;
 pub mod laws;
+mod letters;
 mod printing;
 mod reading;
 mod scramble;
 mod spelling;
 mod turn;
+mod turned;
 mod turning;
 
 pub use event::{EVENTS, Event, Family, Kind, Minima};
 pub use event_set::EventSet;
+pub use letters::{Axes, Faces, Letters};
 pub use printing::print;
 pub use reading::{NotationFault, parse};
 pub use scramble::{MOST_TURNS, Scramble, numbered_scramble, push_all, push_numbered, push_turn};
 pub use turn::{PIN_SETS, Turn, turn_at, turn_count};
+pub use turned::PowerTurned;
 pub use turning::{inverse, tidy};

@@ -7,13 +7,8 @@ use Rattle.std.proofs.lemmas.Option.{same_Some}
 use Rattle.scr_combinatorics.specs.Play.{play}
 use Rattle.scr_combinatorics.specs.Tidy.{Merging, word_of}
 use Rattle.scr_combinatorics.specs.Lawful.{IsLawful}
-use Rattle.scr_combinatorics.proofs.PlayLaws.{and_then-some, play-empty, play-one}
+use Rattle.scr_combinatorics.proofs.PlayLaws.{and_then-some, map-some, play-empty, play-one}
 use Rattle.scr_orbit.specs.Actions.{Action, IsAction, after_by, composed_word, power}
-
--- what a step gives came from what it was done to
-pub map-some : {A B : Type 0} (f : A → B) (o : Option A) (b : B) → option_map f o ≡ Some b → (a : A) × (o ≡ Some a) × (f a ≡ b)
-map-some f None b e = absurd (cc)
-map-some f (Some a) b e = (a, refl, same_Some (f a) b e)
 
 -- what a letter or none rearranges
 abbrev pub merged_turn : {S R T : Type 0} → Action S R → (T → Option R) → Option T → Option R

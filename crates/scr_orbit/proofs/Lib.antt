@@ -5,7 +5,12 @@ pub mod Places
 pub mod TableTests
 pub mod ActionLaws
 pub mod PowerLaws
+pub mod NumberedTurns
 pub mod Orders
 pub mod Parts
+pub mod PowerPuzzleLaws
+pub mod TurnedAt
+pub mod TablesOnLiterals
+pub mod PlayedTurns
 pub mod Minima
 pub mod InPlaceLaws

@@ -7,14 +7,16 @@ use Rattle.std.proofs.lemmas.List.{length-map}
 use Rattle.std.proofs.lemmas.Option.{same_Some, slice_get_within, slice_get_past, get_or_from_slice_get, slice_get-map, slice_get-get_or}
 use Rattle.scr_combinatorics.specs.Lists.{numbers_from}
 use Rattle.scr_combinatorics.proofs.Picks.{length-numbers_from, numbers_from-at}
+use Rattle.scr_combinatorics.specs.PowerLetters.{Power}
 use Rattle.scr_combinatorics.specs.Tidy.{Merging}
 use Rattle.scr_combinatorics.specs.Lawful.{IsLawful}
-use Rattle.scr_combinatorics.proofs.PlayLaws.{and_then-some, play-keeps}
+use Rattle.scr_combinatorics.proofs.PlayLaws.{and_then-some, map-some, play-keeps}
 use Rattle.scr_combinatorics.proofs.BackLaws.{IsTakenBack-lawful}
 use Rattle.scr_combinatorics.proofs.TidyPlay.{IsKeptByTidy-lawful}
-use Rattle.scr_orbit.specs.Actions.{Action, IsAction, after_by, power, Power, power_of, power_table, all_powers}
+use Rattle.scr_combinatorics.proofs.PowerLetterLaws.{merged_power, ArePowers}
+use Rattle.scr_orbit.specs.Actions.{Action, IsAction, after_by, power, power_of, power_table, all_powers}
 use Rattle.scr_orbit.specs.LawfulTurns.{HasLawfulTurns}
-use Rattle.scr_orbit.proofs.ActionLaws.{map-some, IsTurn-power, power-add, power-mod, merged_turn, IsLawful-table, play-composed_word}
+use Rattle.scr_orbit.proofs.ActionLaws.{IsTurn-power, power-add, power-mod, merged_turn, IsLawful-table, play-composed_word}
 
 -- what holds of each element holds of the one at a place
 pub All-got : {X : Type 0} (P : X → Type 0) (xs : List X) (k : ℕ) (x : X) → All P xs → slice_get xs k ≡ Some x → P x
@@ -75,23 +77,6 @@ power_table-at a order generators power_at t g e some lt read =
     ap (option_and_then (power_of a generators)) read ∙ sym (all_powers-at a order generators g e some lt)
 
 -- ---- lawful turns
-
--- the power of one generator that a letter or none is
-abbrev pub merged_power : {T : Type 0} → (T → Option Power) → ℕ → Option T → Option Power
-merged_power power_at generator None = Some (record { generator = generator; exponent = 0 })
-merged_power power_at generator (Some t) = power_at t
-
--- Of letters that are powers of generators of one order: the opposite letter has what is left to the order, and two
--- letters of one generator come to the sum of their exponents.
-pub record ArePowers {T : Type 0} (order : ℕ) (power_at : T → Option Power) (opposite : T → T) (m : Merging T) : Type 0 where
-  pub below : (t : T) (p : Power) → power_at t ≡ Some p → (0 < p.exponent) × (p.exponent < order)
-  pub opposites : (t : T) (p : Power) → power_at t ≡ Some p
-      → power_at (opposite t) ≡ Some (record { generator = p.generator; exponent = order - p.exponent })
-  pub same : (t u : T) (p q : Power) → IsTrue (m.alike t u) → power_at t ≡ Some p → power_at u ≡ Some q
-      → p.generator ≡ q.generator
-  pub merges : (t u : T) (p q : Power) → IsTrue (m.alike t u) → power_at t ≡ Some p → power_at u ≡ Some q
-      → merged_power power_at p.generator (m.merged t u)
-      ≡ Some (record { generator = p.generator; exponent = (p.exponent + q.exponent) % order })
 
 -- a turn of this order
 pub record IsGenerator {S R : Type 0} (a : Action S R) (IsTurn : R → Type 0) (order : ℕ) (r : R) : Type 0 where

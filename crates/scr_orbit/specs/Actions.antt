@@ -5,6 +5,7 @@ use Rattle.std.specs.Prelude.{◌≡◌, ℕ, zero, suc, ◌-◌, ◌<◌, List,
 use Rattle.std.specs.Option.{option_map}
 use Rattle.std.specs.List.{flat_map}
 use Rattle.scr_combinatorics.specs.Lists.{numbers_from}
+use Rattle.scr_combinatorics.specs.PowerLetters.{Power}
 use Rattle.scr_combinatorics.specs.Reach.{Puzzle}
 
 -- What rearrangements R do: what one makes of a state, one and then another as one, and the one that moves nothing.
@@ -60,11 +61,6 @@ pub record IsWordOrder {S R T : Type 0} (a : Action S R) (table : T → Option R
   pub turn : R
   pub comes_to : composed_word a table w ≡ Some turn
   pub order : IsOrder a turn n
-
--- Which generator of a puzzle, from 0, and how many times.
-pub record Power : Type 0 where
-  pub generator : ℕ
-  pub exponent : ℕ
 
 -- What a power of one of these generators rearranges.
 unfoldable pub power_of : {S R : Type 0} → Action S R → List R → Power → Option R

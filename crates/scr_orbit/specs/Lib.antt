@@ -1,5 +1,6 @@
 pub mod Actions
 pub mod LawfulTurns
+pub mod PowerPuzzles
 pub mod Orbits
 pub mod PlaceTurns
 pub mod InPlace

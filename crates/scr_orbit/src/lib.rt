@@ -7,8 +7,13 @@
 //! orbits valid, what becomes of the sum of the digits and of the parity, and that rearrangements can be composed.
 //! Orbits can be joined, one and then another, and inverted.
 //! `specs/Actions.antt` has what puzzles share whose states are orbits: tables of turns, and words that come to one
-//! rearrangement; `specs/LawfulTurns.antt` says what holds of such a puzzle. `proofs/PowerLaws.antt` gives that for letters
-//! that are powers of a few turns, for each puzzle's crate to state.
+//! rearrangement; `specs/LawfulTurns.antt` says what holds of such a puzzle.
+//!
+//! A puzzle of pieces is data (`specs/PowerPuzzles.antt`): its letters, each a power of one of a few turns, what
+//! rearrangements make of its states, these turns, and its solved state. What holds of all such puzzles is one record,
+//! which `proofs/PowerPuzzleLaws.antt` gives from one test of the turns, for each puzzle's crate to state;
+//! `proofs/TurnedAt.antt` says what the turn with a number makes of a state, `proofs/PlayedTurns.antt` which letters
+//! are turns.
 #![tactic(auto)]
 
 pub mod laws;

@@ -5,7 +5,7 @@ use Rattle.scr_notation.specs.declared.event.Event.TheVariants.{C222, C333, Oh33
 use Rattle.scr_notation.specs.declared.turn.Turn.{Turn}
 use Rattle.scr_combinatorics.specs.Play.{play}
 use Rattle.scr_orbit.specs.Orbits.{Orbit}
-use Rattle.scr_turning.specs.PowerPuzzles.{PowerPuzzle, after_letter, power_puzzle}
+use Rattle.scr_orbit.specs.PowerPuzzles.{PowerPuzzle, after_letter, power_puzzle}
 use Rattle.scr_cube.specs.Cube222.{numbers_222, powers_222}
 use Rattle.scr_cube.specs.Cube333.{CubeState, cube_numbers, cube_powers, solved_cube}
 use Rattle.scr_cube.specs.Held.{HeldState, solved_held, held_cube_after, held_puzzle, held_numbers}
@@ -38,7 +38,7 @@ abbrev pub at_most : ℕ → List Turn → Type 0
 at_most most turns = length turns ≤ most
 
 -- a puzzle of pieces, with scrambles of at most so many turns
-abbrev pub drawn_by_powers : {S R : Type 0} → PowerPuzzle S R → ℕ → DrawnPuzzle S
+abbrev pub drawn_by_powers : {S R : Type 0} → PowerPuzzle S R Turn → ℕ → DrawnPuzzle S
 drawn_by_powers p most = drawn_puzzle (power_puzzle p) (play (after_letter p) p.solved) (at_most most)
 
 abbrev pub drawn_222 : DrawnPuzzle Orbit

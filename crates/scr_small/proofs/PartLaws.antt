@@ -5,11 +5,11 @@ use Rattle.std.proofs.lemmas.Nat.{mod_below}
 use Rattle.std.proofs.lemmas.Option.{same_Some}
 use Rattle.std.proofs.Math.Nat.{mul-lt-mul_of_pos_left}
 use Rattle.scr_combinatorics.specs.Numbered.{Numbered}
-use Rattle.scr_orbit.proofs.ActionLaws.{map-some}
+use Rattle.scr_combinatorics.proofs.PlayLaws.{map-some}
+use Rattle.scr_orbit.specs.PowerPuzzles.{PowerPuzzle, after_letter, letter_table}
 use Rattle.scr_coord.specs.Coordinates.{StaysBelow}
 use Rattle.scr_coord.proofs.StaysBelowLaws.{part_below}
 use Rattle.scr_notation.specs.declared.turn.Turn.{Turn}
-use Rattle.scr_turning.specs.PowerPuzzles.{PowerPuzzle, after_letter, letter_table}
 use Rattle.scr_small.specs.NumberedPuzzles.{NumberedPuzzle, numbered_powers, after_number}
 use Rattle.scr_small.specs.LawfulPuzzles.{IsNumberedPuzzle}
 use Rattle.scr_small.specs.StateParts.{MovesByParts, low_part, high_part}
@@ -51,7 +51,7 @@ pub record AreParts {S L H : Type 0} (n : Numbered S) (low_count : ℕ) (low_of 
   pub high_number : (s r : S) → n.IsValid s → n.IsValid r → high_of s ≡ high_of r
       → n.number_of s / low_count ≡ n.number_of r / low_count
 
-module _ {S R L H : Type 0} (n : Numbered S) (p : PowerPuzzle S R) (l : IsNumberedPuzzle (numbered_powers n p))
+module _ {S R L H : Type 0} (n : Numbered S) (p : PowerPuzzle S R Turn) (l : IsNumberedPuzzle (numbered_powers n p))
     (low_count high_count : ℕ) (pairs : n.count ≡ low_count * high_count)
     (low_of : S → L) (high_of : S → H) (parts : AreParts n low_count low_of high_of)
     (low_turned : (s r : S) (x : R) → low_of s ≡ low_of r → low_of (p.action.turned s x) ≡ low_of (p.action.turned r x))

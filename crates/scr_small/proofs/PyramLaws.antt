@@ -9,12 +9,12 @@ use Rattle.scr_combinatorics.specs.Back.{back}
 use Rattle.scr_combinatorics.specs.Reach.{IsReached, Needs}
 use Rattle.scr_combinatorics.proofs.PlayLaws.{play-append}
 use Rattle.scr_orbit.specs.Orbits.{zeros}
+use Rattle.scr_orbit.specs.PowerPuzzles.{after_letter, power_puzzle}
 use Rattle.scr_orbit.proofs.InPlaceLaws.{AreDigitsInPlace-zeros}
 use Rattle.scr_notation.specs.declared.turn.Turn.{Turn}
 use Rattle.scr_notation.specs.Turning.{opposite}
 use Rattle.scr_orbit.proofs.Minima.{count_once}
 use Rattle.scr_table.specs.Distances.{Distances, Measures}
-use Rattle.scr_turning.specs.PowerPuzzles.{after_letter, power_puzzle}
 use Rattle.scr_tetra.specs.Pyraminx.{numbered_tetraminx, tetraminx_powers, solved_tetraminx, PyramState, IsPyram, pyram_powers, solved_pyram, numbered_pyram, pyram_digits}
 use Rattle.scr_tetra.proofs.NumberedPyram.{thirds_one_to_one, tetraminx_numbering}
 use Rattle.scr_tetra.specs.PyramParts.{large_turns, turned_count, tips_word}

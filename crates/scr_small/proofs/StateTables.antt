@@ -1,7 +1,8 @@
 -- The lines of the tables of puzzles that one table solves, as their states tell them.
 use Rattle.std.proofs.Common.{ℕ, refl}
 use Rattle.scr_combinatorics.specs.Numbered.{Numbered}
-use Rattle.scr_turning.specs.PowerPuzzles.{PowerPuzzle}
+use Rattle.scr_orbit.specs.PowerPuzzles.{PowerPuzzle}
+use Rattle.scr_notation.specs.declared.turn.Turn.{Turn}
 use Rattle.scr_table.specs.declared.name.TableName.{TableName}
 use Rattle.scr_table.specs.TableStates.{IsLineOf}
 use Rattle.scr_cube.specs.Cube222.{numbered_222, powers_222}
@@ -16,7 +17,7 @@ use Rattle.scr_small.proofs.Lawful222.{lawful_puzzle_222}
 use Rattle.scr_small.proofs.LawfulTetraminx.{lawful_puzzle_tetraminx}
 use Rattle.scr_small.proofs.LawfulSkewb.{lawful_puzzle_skewb}
 
-IsLineOf-powers : {S R : Type 0} (n : Numbered S) (p : PowerPuzzle S R) → IsNumberedPuzzle (numbered_powers n p) → (name : TableName) (bound : ℕ)
+IsLineOf-powers : {S R : Type 0} (n : Numbered S) (p : PowerPuzzle S R Turn) → IsNumberedPuzzle (numbered_powers n p) → (name : TableName) (bound : ℕ)
     → IsLineOf (powers_table name (record { count = n.count; number_of = n.number_of; IsValid = n.IsValid }) p bound)
     (state_line (numbered_powers n p) name bound)
 IsLineOf-powers n p l name bound = record {

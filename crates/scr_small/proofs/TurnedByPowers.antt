@@ -3,9 +3,11 @@ use Rattle.std.proofs.Common.{◌≡◌, ℕ, ◌*◌, ◌^◌, ◌<◌, ◌≤�
 use Rattle.scr_combinatorics.specs.Numbered.{Numbered}
 use Rattle.scr_combinatorics.specs.Numbering.{IsNumbering}
 use Rattle.scr_combinatorics.proofs.PlayLaws.{play-empty}
+use Rattle.scr_orbit.specs.PowerPuzzles.{PowerPuzzle, IsPowerPuzzle, after_letter}
+use Rattle.scr_notation.specs.declared.turn.Turn.{Turn}
 use Rattle.scr_notation.specs.Event.{kind_of}
 use Rattle.scr_notation.specs.TurnNumbers.{turn_at, turn_count}
-use Rattle.scr_turning.specs.PowerPuzzles.{PowerPuzzle, IsPowerPuzzle, after_letter}
+use Rattle.scr_notation.specs.Turning.{opposite, turn_merging}
 use Rattle.scr_small.specs.declared.state_table.StateTable.{StateTable}
 use Rattle.scr_small.specs.NumberedPuzzles.{numbered_powers}
 use Rattle.scr_small.specs.LawfulPuzzles.{IsNumberedPuzzle}
@@ -13,8 +15,8 @@ use Rattle.scr_small.specs.SolvedByTable.{IsSolvedByTable}
 use Rattle.scr_small.specs.StateParts.{MovesByParts}
 use Rattle.scr_small.specs.Tables.{small_line, table_line}
 
-pub IsNumberedPuzzle-powers : {S R : Type 0} (n : Numbered S) (p : PowerPuzzle S R) (IsTurn : R → Type 0)
-    → IsNumbering n → IsPowerPuzzle p n.IsValid IsTurn → IsNumberedPuzzle (numbered_powers n p)
+pub IsNumberedPuzzle-powers : {S R : Type 0} (n : Numbered S) (p : PowerPuzzle S R Turn) (IsTurn : R → Type 0)
+    → IsNumbering n → IsPowerPuzzle p n.IsValid IsTurn opposite turn_merging → IsNumberedPuzzle (numbered_powers n p)
 IsNumberedPuzzle-powers n p IsTurn numbering powers = record {
   numbering = numbering;
   solved = powers.lawful.reached (λ t. 1) p.solved ([], p.solved, refl, play-empty (after_letter p) p.solved);
@@ -28,7 +30,7 @@ IsNumberedPuzzle-powers n p IsTurn numbering powers = record {
 abbrev AreSmall : ℕ → ℕ → StateTable → Type 0
 AreSmall turns all table = (turns ≤ all) × (turns ≤ 256) × (table.low * table.high < 2 ^ 32) × (table.bound ≤ 24)
 
-pub IsSolvedByTable-powers : {S R : Type 0} (n : Numbered S) (p : PowerPuzzle S R) (table : StateTable)
+pub IsSolvedByTable-powers : {S R : Type 0} (n : Numbered S) (p : PowerPuzzle S R Turn) (table : StateTable)
     → IsNumberedPuzzle (numbered_powers n p) → MovesByParts (numbered_powers n p) table.low table.high
     → n.number_of p.solved ≡ 0 → p.letters.letter_at ≡ turn_at (kind_of table.event)
     → small_line table.event ≡ Some (table_line (numbered_powers n p) table)

@@ -2,9 +2,9 @@
 use Rattle.std.specs.Prelude.{◌≡◌, ℕ, List, map, Option}
 use Rattle.scr_combinatorics.specs.Back.{back}
 use Rattle.scr_combinatorics.specs.FirstWord.{IsFirstWord}
+use Rattle.scr_orbit.specs.PowerPuzzles.{PowerPuzzle, after_letter}
 use Rattle.scr_notation.specs.declared.turn.Turn.{Turn}
 use Rattle.scr_notation.specs.Turning.{opposite as opposite_turn}
-use Rattle.scr_turning.specs.PowerPuzzles.{PowerPuzzle, after_letter}
 
 -- what the letter of a number makes of a state: over this, words of turn numbers are played
 abbrev pub by_number : {S T : Type 0} → (S → T → Option S) → (ℕ → T) → S → ℕ → Option S
@@ -19,5 +19,5 @@ pub record IsFirstScramble {S T : Type 0} (after : S → T → Option S) (letter
   pub taken_back : turns ≡ back opposite (map letter_at solution)
 
 -- The same of states that are turned by powers of generators: the letters have the numbers of the powers.
-abbrev pub IsScrambleByPowers : {S R : Type 0} → PowerPuzzle S R → S → List Turn → Type 0
+abbrev pub IsScrambleByPowers : {S R : Type 0} → PowerPuzzle S R Turn → S → List Turn → Type 0
 IsScrambleByPowers p = IsFirstScramble (after_letter p) p.letters.letter_at opposite_turn p.solved

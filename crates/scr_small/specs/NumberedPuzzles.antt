@@ -6,9 +6,9 @@ use Rattle.scr_combinatorics.specs.FirstWord.{IsFirstWord}
 use Rattle.scr_combinatorics.specs.Reach.{Puzzle}
 use Rattle.scr_coord.specs.Coordinates.{Coordinate}
 use Rattle.scr_coord.specs.Indexes.{numbered_coordinate}
+use Rattle.scr_orbit.specs.PowerPuzzles.{PowerPuzzle, after_letter, power_turn_count}
 use Rattle.scr_notation.specs.declared.turn.Turn.{Turn}
 use Rattle.scr_notation.specs.Turning.{opposite as opposite_turn}
-use Rattle.scr_turning.specs.PowerPuzzles.{PowerPuzzle, after_letter, power_turn_count}
 use Rattle.scr_table.specs.declared.name.TableName.{TableName}
 use Rattle.scr_table.specs.Lines.{TableLine}
 use Rattle.scr_small.specs.FirstScrambles.{by_number, IsFirstScramble}
@@ -24,7 +24,7 @@ pub record NumberedPuzzle (S T : Type 0) : Type 1 where
   pub opposite : T → T
 
 -- Numbered states that are turned by powers of generators: the letters have the numbers of the powers.
-abbrev pub numbered_powers : {S R : Type 0} → Numbered S → PowerPuzzle S R → NumberedPuzzle S Turn
+abbrev pub numbered_powers : {S R : Type 0} → Numbered S → PowerPuzzle S R Turn → NumberedPuzzle S Turn
 numbered_powers n p = record {
   numbered = n;
   after = (after_letter p);

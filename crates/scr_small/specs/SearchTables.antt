@@ -1,7 +1,8 @@
 -- The tables of the puzzles that one table solves, as told by their states.
 use Rattle.std.specs.Prelude.{◌≡◌, ℕ}
 use Rattle.scr_combinatorics.specs.Numbered.{Numbers}
-use Rattle.scr_turning.specs.PowerPuzzles.{PowerPuzzle, after_letter}
+use Rattle.scr_orbit.specs.PowerPuzzles.{PowerPuzzle, after_letter}
+use Rattle.scr_notation.specs.declared.turn.Turn.{Turn}
 use Rattle.scr_table.specs.declared.name.TableName.{TableName}
 use Rattle.scr_table.specs.declared.name.TableName.TheVariants.{Corners, Pyramid, Skewb}
 use Rattle.scr_table.specs.SearchTables.{SearchTable, table_over}
@@ -12,7 +13,7 @@ use Rattle.scr_small.specs.FirstScrambles.{by_number}
 
 -- The table of this name over the numbered states that powers of generators turn, where none is farther from solved than so
 -- many turns.
-abbrev pub powers_table : {S R : Type 0} → TableName → Numbers S → PowerPuzzle S R → ℕ → SearchTable
+abbrev pub powers_table : {S R : Type 0} → TableName → Numbers S → PowerPuzzle S R Turn → ℕ → SearchTable
 powers_table name n p bound =
     table_over name (record { IsValid = n.IsValid; after = by_number (after_letter p) p.letters.letter_at; IsGoal = λ s. s ≡ p.solved })
     n.number_of n.count bound

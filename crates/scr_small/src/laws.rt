@@ -2,6 +2,7 @@
 ghost use Rattle.std.specs.Prelude.{◌≡◌, ℕ, ◌+◌, ◌/◌, ◌≤◌, ◌↔◌, List, Some, None, true, false, length, slice_index};
 ghost use Rattle.scr_combinatorics.specs.Play.{play};
 ghost use Rattle.scr_combinatorics.specs.Reach.{IsReached, Needs};
+ghost use Rattle.scr_orbit.specs.PowerPuzzles.{after_letter, power_puzzle};
 ghost use Rattle.scr_notation.specs.declared.event.Event.TheVariants.{Pyram};
 ghost use Rattle.scr_notation.specs.declared.turn.Turn.{Turn as Letter};
 ghost use Rattle.scr_coord.specs.Coordinates.{StaysBelow};
@@ -9,7 +10,6 @@ ghost use Rattle.scr_coord.specs.Products.{product_coordinate};
 ghost use Rattle.scr_coord.specs.SearchSpaces.{ShowsSame};
 ghost use Rattle.scr_table.specs.Distances.{Distances, Measures};
 ghost use Rattle.scr_table.specs.TableStates.{IsLineOf};
-ghost use Rattle.scr_turning.specs.PowerPuzzles.{after_letter, power_puzzle};
 ghost use Rattle.scr_tetra.specs.Pyraminx.{numbered_tetraminx, numbered_pyram, PyramState, IsPyram};
 ghost use Rattle.scr_tetra.specs.Pyraminx.{pyram_powers, solved_pyram};
 ghost use Rattle.scr_tetra.specs.PyramParts.{turned_count};

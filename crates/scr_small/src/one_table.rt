@@ -2,7 +2,7 @@
 
 use crate::state_table::StateTable;
 use scr_draw::Numbering;
-use scr_turning::{Letters, PowerTurned};
+use scr_notation::{Letters, PowerTurned};
 
 /// A puzzle with numbered states and turns, whose states are two parts that turns move each by itself.
 pub trait OneTable: Numbering<State: PowerTurned> + Copy {

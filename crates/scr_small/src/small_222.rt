@@ -2,9 +2,9 @@
 ghost use Rattle.std.specs.Prelude.{◌≡◌, ◌≤◌, ◌↔◌, nat_le, List, Some, IsTrue, length, slice_index};
 ghost use Rattle.scr_combinatorics.specs.Play.{play};
 ghost use Rattle.scr_combinatorics.specs.Reach.{Needs};
+ghost use Rattle.scr_orbit.specs.PowerPuzzles.{after_letter, power_puzzle};
 ghost use Rattle.scr_notation.specs.declared.event.Event.TheVariants.{C222};
 ghost use Rattle.scr_notation.specs.declared.turn.Turn.{Turn as Letter};
-ghost use Rattle.scr_turning.specs.PowerPuzzles.{after_letter, power_puzzle};
 ghost use Rattle.scr_cube.specs.Cube222.{powers_222, numbered_222, solved_222};
 ghost use Rattle.scr_small.specs.Puzzles.{IsScramble222};
 

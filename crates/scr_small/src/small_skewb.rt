@@ -2,9 +2,9 @@
 ghost use Rattle.std.specs.Prelude.{◌≡◌, ◌≤◌, ◌↔◌, nat_le, List, Some, IsTrue, length, slice_index};
 ghost use Rattle.scr_combinatorics.specs.Play.{play};
 ghost use Rattle.scr_combinatorics.specs.Reach.{Needs};
+ghost use Rattle.scr_orbit.specs.PowerPuzzles.{after_letter, power_puzzle};
 ghost use Rattle.scr_notation.specs.declared.event.Event.TheVariants.{Skewb as EventSkewb};
 ghost use Rattle.scr_notation.specs.declared.turn.Turn.{Turn as Letter};
-ghost use Rattle.scr_turning.specs.PowerPuzzles.{after_letter, power_puzzle};
 ghost use Rattle.scr_tetra.specs.Skewb.{skewb_powers, skewb_numbered, solved_skewb};
 ghost use Rattle.scr_small.specs.Puzzles.{IsScrambleSkewb};
 

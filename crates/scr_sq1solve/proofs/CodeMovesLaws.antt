@@ -6,7 +6,6 @@ use Rattle.std.specs.Option.{option_map}
 use Rattle.std.proofs.lemmas.Option.{same_Some}
 use Rattle.scr_combinatorics.specs.Digits.{mixed_digits}
 use Rattle.scr_combinatorics.specs.Lists.{total}
-use Rattle.scr_orbit.proofs.ActionLaws.{map-some}
 use Rattle.scr_coord.specs.Coordinates.{Coordinate, StaysBelow}
 use Rattle.scr_coord.specs.SearchSpaces.{ShowsSame}
 use Rattle.scr_notation.specs.declared.turn.Turn.{Turn}
@@ -16,6 +15,7 @@ use Rattle.scr_sq1solve.specs.Codes.{codes_coordinate, code_in_row, place_in_row
 use Rattle.scr_sq1solve.specs.Placed.{IsKept}
 use Rattle.scr_sq1solve.proofs.CodeSteps.{edges_at, position_of, IsCodeStep, IsCodeStep-at}
 use Rattle.scr_combinatorics.specs.Stages.{by_letters}
+use Rattle.scr_combinatorics.proofs.PlayLaws.{map-some}
 use Rattle.scr_sq1.specs.Units.{sq1_after}
 
 -- ---- places in rows

@@ -2,7 +2,7 @@
 ghost use Rattle.std.specs.Prelude.{◌≡◌, All, length};
 ghost use Rattle.std.proofs.Props.{props};
 ghost use Rattle.scr_coord.specs.Coordinates.{StaysBelow};
-ghost use Rattle.scr_coord.specs.Projections.{projection};
+ghost use Rattle.scr_projections.specs.Projections.{projection};
 ghost use Rattle.scr_sq1solve.specs.Codes.{codes_view};
 ghost use Rattle.scr_sq1solve.specs.Placed.{KeepsMates, moves_of};
 

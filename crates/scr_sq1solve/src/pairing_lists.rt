@@ -3,7 +3,7 @@ ghost use Rattle.std.specs.Prelude.{◌≡◌, All, length};
 ghost use Rattle.std.proofs.Props.{props};
 ghost use Rattle.scr_combinatorics.specs.Permutations.{IsPermutation};
 ghost use Rattle.scr_coord.specs.Coordinates.{StaysBelow};
-ghost use Rattle.scr_coord.specs.Projections.{projection};
+ghost use Rattle.scr_projections.specs.Projections.{projection};
 ghost use Rattle.scr_sq1solve.specs.Tables.{pairings_view};
 ghost use Rattle.scr_sq1solve.specs.Placed.{moves_of};
 

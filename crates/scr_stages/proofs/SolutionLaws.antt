@@ -10,10 +10,10 @@ use Rattle.scr_combinatorics.specs.Stages.{spelled, IsSolution}
 use Rattle.scr_combinatorics.proofs.PlayLaws.{play-keeps}
 use Rattle.scr_combinatorics.proofs.StageLaws.{play-spelled, Leads-solution, last_goal, next_solution, CountsWithin, bounds, count-solution, one_scramble, play-scramble}
 use Rattle.scr_combinatorics.proofs.TidyLaws.{length-tidy}
+use Rattle.scr_orbit.specs.PowerPuzzles.{after_letter, power_puzzle}
 use Rattle.scr_orbit.proofs.Minima.{count_once}
 use Rattle.scr_notation.specs.declared.turn.Turn.{Turn}
 use Rattle.scr_notation.specs.Turning.{opposite, turn_merging}
-use Rattle.scr_turning.specs.PowerPuzzles.{after_letter, power_puzzle}
 use Rattle.scr_table.specs.Distances.{Distances}
 use Rattle.scr_table.specs.Lines.{IsTableOf, AreTablesOf}
 use Rattle.scr_table.proofs.LineLaws.{table_of_line}

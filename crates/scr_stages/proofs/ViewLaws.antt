@@ -5,12 +5,12 @@ use Rattle.std.specs.Prelude.{All, nat_lt, slice_get, ◌↔◌}
 use Rattle.std.specs.Option.{option_map}
 use Rattle.std.proofs.lemmas.Bool.{eq-eqb, eqb-true, ltb-false}
 use Rattle.std.proofs.lemmas.Option.{slice_get-map, slice_get_past}
+use Rattle.scr_combinatorics.proofs.PlayLaws.{map-some}
 use Rattle.scr_orbit.specs.Orbits.{Rearrangement}
-use Rattle.scr_orbit.proofs.ActionLaws.{map-some}
 use Rattle.scr_orbit.proofs.PowerLaws.{All-got}
 use Rattle.scr_coord.specs.Coordinates.{Coordinate}
-use Rattle.scr_coord.specs.Projections.{ListView, projection}
 use Rattle.scr_coord.specs.SearchSpaces.{positions, Follows}
+use Rattle.scr_projections.specs.Projections.{ListView, projection}
 
 -- What turns make of states, which of them are valid, and turns that are asked for: the turn of a number is at that
 -- place of a list, and keeps states valid.

@@ -2,13 +2,13 @@
 use Rattle.std.specs.Prelude.{ℕ, List, [], ◌∷◌, map, slice_index_or}
 use Rattle.scr_combinatorics.specs.Lists.{numbers_from, pick}
 use Rattle.scr_orbit.specs.Orbits.{Rearrangement}
+use Rattle.scr_orbit.specs.PowerPuzzles.{all_turns}
 use Rattle.scr_coord.specs.Coordinates.{Coordinate}
 use Rattle.scr_coord.specs.Indexes.{numbered_coordinate}
 use Rattle.scr_coord.specs.Products.{product_coordinate}
-use Rattle.scr_coord.specs.Projections.{projection, twists_view, place_set_view, pieces_view}
+use Rattle.scr_projections.specs.Projections.{projection, twists_view, place_set_view, pieces_view}
 use Rattle.scr_table.specs.declared.name.TableName.TheVariants.{Flips, Slice, Tetrads, Halves}
 use Rattle.scr_table.specs.Lines.{TableLine}
-use Rattle.scr_turning.specs.PowerPuzzles.{all_turns}
 use Rattle.scr_cube.specs.Cube333.{CubeTurn, cube_action, cube_powers, solved_cube}
 use Rattle.scr_stages.specs.Stages.{middle_edges, after_of, half_turns, flips_stage, slice_stage, tetrads_stage, halves_stage, flips_turns, slice_turns, tetrads_turns}
 use Rattle.scr_stages.specs.Tetrads.{in_block, tetrads_view, half_corners_view}

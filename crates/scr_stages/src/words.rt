@@ -1,6 +1,6 @@
 //! The words of the stages from a cube, by the tables.
 ghost use Rattle.scr_combinatorics.specs.Stages.{IsStageWord};
-ghost use Rattle.scr_turning.specs.PowerPuzzles.{after_letter};
+ghost use Rattle.scr_orbit.specs.PowerPuzzles.{after_letter};
 ghost use Rattle.scr_cube.specs.Cube333.{IsCube, cube_powers};
 ghost use Rattle.scr_stages.specs.Stages.{flips_stage, slice_stage, tetrads_stage, halves_stage};
 ghost use Rattle.scr_stages.specs.Numbers.{IsUnflippedCube, IsDominoCube, IsHalfCube};
@@ -9,8 +9,8 @@ use crate::corners::corner_index;
 use crate::half_parts::{FIRST_EDGES, HalfParts, MIDDLE_EDGES};
 use crate::tables::StageTables;
 use arrayvec::ArrayVec;
-use scr_coord::places_of;
 use scr_cube::Cube;
+use scr_projections::places_of;
 use scr_rank::{Choose, TwistRank};
 
 /// The word of the first stage.

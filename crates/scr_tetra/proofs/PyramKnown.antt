@@ -3,9 +3,9 @@ use Rattle.std.proofs.Common.{◌≡◌, ℕ, Some, refl}
 use Rattle.std.specs.Prelude.{slice_get}
 use Rattle.scr_orbit.specs.Actions.{power, composed_word, power_of}
 use Rattle.scr_orbit.specs.Orbits.{composed, identity, added_digits}
+use Rattle.scr_orbit.specs.PowerPuzzles.{HaveOrders, letter_table}
 use Rattle.scr_orbit.proofs.Orders.{All-word_orders, each_at}
 use Rattle.scr_notation.specs.TurnNumbers.{axis_turn_at}
-use Rattle.scr_turning.specs.PowerPuzzles.{HaveOrders, letter_table}
 use Rattle.scr_tetra.specs.Pyraminx.{TetraminxTurn, tetraminx_thirds, pyram_action, pyram_powers}
 use Rattle.scr_tetra.specs.PyramStickers.{CarriesPyramStickers}
 use Rattle.scr_tetra.specs.PyramKnown.{pyram_orders}

@@ -8,15 +8,16 @@ use Rattle.scr_combinatorics.specs.Permutations.{parity}
 use Rattle.scr_orbit.specs.Actions.{IsAction, power}
 use Rattle.scr_orbit.specs.Orbits.{Orbit, IsZeroSumOrbit, IsZeroSumRearrangement, turned_orbit, composed, identity, added_digits, solved_orbit, orbit_action, zeros}
 use Rattle.scr_orbit.specs.InPlace.{AreDigitsInPlace, in_place_action}
+use Rattle.scr_orbit.specs.PowerPuzzles.{IsPowerPuzzle, part_turns}
 use Rattle.scr_orbit.proofs.OrbitLaws.{zero_sum_laws, IsZeroSumOrbit-solved, parity-turned, parity-composed}
 use Rattle.scr_orbit.proofs.InPlaceLaws.{in_place_laws, AreDigitsInPlace-zeros}
 use Rattle.scr_orbit.proofs.Orders.{TellsIdentity, tells_orbit, tells_in_place, tells_both}
 use Rattle.scr_orbit.proofs.Parts.{ap_both, pair_action, IsSeenAs, IsSeenAs-whole, IsAction-two, IsMadeAt}
 use Rattle.scr_orbit.proofs.TableTests.{and_three, is_still, is_zero_sum_turn, IsZeroSumRearrangement-from_test, are_in_place, AreDigitsInPlace-from_test}
-use Rattle.scr_turning.specs.PowerPuzzles.{IsPowerPuzzle, part_turns}
-use Rattle.scr_turning.proofs.AxisLaws.{axis_powers, axes_numbered}
-use Rattle.scr_turning.proofs.PowerPuzzleLaws.{IsPowerPuzzle-from_test}
-use Rattle.scr_turning.proofs.TurnedAt.{IsTurned, IsTurned-two}
+use Rattle.scr_notation.specs.Turning.{opposite, turn_merging}
+use Rattle.scr_notation.proofs.AxisLaws.{axis_powers, axes_numbered}
+use Rattle.scr_orbit.proofs.PowerPuzzleLaws.{IsPowerPuzzle-from_test}
+use Rattle.scr_orbit.proofs.TurnedAt.{IsTurned, IsTurned-two}
 use Rattle.scr_tetra.specs.Pyraminx.{TetraminxState, IsTetraminx, TetraminxTurn, IsTetraminxTurn, tetraminx_action, tetraminx_powers, solved_tetraminx, PyramState, IsPyram, PyramTurn, IsPyramTurn, pyram_action, pyram_powers, solved_pyram}
 
 -- ---- a state is its parts, and so is a turn
@@ -113,7 +114,7 @@ unfolding solved_tetraminx solved_orbit
 IsTetraminx-solved =
     record { edges = IsZeroSumOrbit-solved 6 2 (lit< tt); even = refl; axials = AreDigitsInPlace-zeros 4 3 (lit< tt) }
 
-pub lawful_tetraminx : IsPowerPuzzle tetraminx_powers IsTetraminx IsTetraminxTurn
+pub lawful_tetraminx : IsPowerPuzzle tetraminx_powers IsTetraminx IsTetraminxTurn opposite turn_merging
 unfolding turns_body moves_no_body power composed identity added_digits
 lawful_tetraminx =
     IsPowerPuzzle-from_test tetraminx_powers IsTetraminx IsTetraminxTurn (record { numbered = axes_numbered; powers = axis_powers; few = lit≤ tt })
@@ -123,7 +124,7 @@ IsPyram-solved : IsPyram solved_pyram
 unfolding solved_pyram
 IsPyram-solved = record { body = IsTetraminx-solved; tips = AreDigitsInPlace-zeros 4 3 (lit< tt) }
 
-pub lawful_pyram : IsPowerPuzzle pyram_powers IsPyram IsPyramTurn
+pub lawful_pyram : IsPowerPuzzle pyram_powers IsPyram IsPyramTurn opposite turn_merging
 unfolding is_turn turns_body moves_nothing moves_no_body power composed identity added_digits
 lawful_pyram =
     IsPowerPuzzle-from_test pyram_powers IsPyram IsPyramTurn (record { numbered = axes_numbered; powers = axis_powers; few = lit≤ tt })

@@ -7,15 +7,14 @@ use Rattle.std.proofs.lemmas.List.Sums.{AllPass-from_list_all}
 use Rattle.std.proofs.lemmas.Option.{same_Some}
 use Rattle.scr_combinatorics.specs.Play.{play}
 use Rattle.scr_combinatorics.specs.Reach.{Needs}
-use Rattle.scr_combinatorics.proofs.PlayLaws.{play-empty, play-one}
+use Rattle.scr_combinatorics.proofs.PlayLaws.{play-empty, play-one, map-some}
 use Rattle.scr_orbit.specs.Actions.{power, power_of, all_powers}
 use Rattle.scr_orbit.specs.Orbits.{turned_orbit, composed, identity, solved_orbit, added_digits, zeros}
-use Rattle.scr_orbit.proofs.ActionLaws.{map-some}
+use Rattle.scr_orbit.specs.PowerPuzzles.{letter_table, word_at, after_letter, all_turns, power_puzzle}
 use Rattle.scr_orbit.proofs.Minima.{count_once, enough}
 use Rattle.scr_orbit.proofs.PowerLaws.{All-got}
 use Rattle.scr_notation.specs.declared.turn.Turn.{Turn}
 use Rattle.scr_notation.specs.TurnNumbers.{axis_turn_at}
-use Rattle.scr_turning.specs.PowerPuzzles.{letter_table, word_at, after_letter, all_turns, power_puzzle}
 use Rattle.scr_tetra.specs.Pyraminx.{solved_tetraminx, PyramState, PyramTurn, pyram_action, pyram_powers, solved_pyram}
 use Rattle.scr_tetra.specs.PyramKnown.{two_tips}
 use Rattle.scr_tetra.proofs.PyramLaws.{lawful_pyram}

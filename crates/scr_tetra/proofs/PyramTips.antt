@@ -14,10 +14,10 @@ use Rattle.scr_combinatorics.specs.Play.{play}
 use Rattle.scr_orbit.specs.Actions.{power, power_of, composed_word}
 use Rattle.scr_orbit.specs.Orbits.{composed, identity, added_digits, zeros}
 use Rattle.scr_orbit.specs.InPlace.{AreDigitsInPlace}
+use Rattle.scr_orbit.specs.PowerPuzzles.{letter_table, after_letter}
 use Rattle.scr_orbit.proofs.InPlaceLaws.{in_place_laws}
 use Rattle.scr_orbit.proofs.Parts.{ap_both}
 use Rattle.scr_orbit.proofs.PowerLaws.{All-got}
-use Rattle.scr_turning.specs.PowerPuzzles.{letter_table, after_letter}
 use Rattle.scr_tetra.specs.Pyraminx.{TetraminxState, IsTetraminx, PyramTurn, tip_turn, pyram_action, pyram_powers, thirds_number}
 use Rattle.scr_tetra.proofs.NumberedPyram.{thirds_one_to_one}
 use Rattle.scr_tetra.specs.PyramParts.{tips_word, turned_count}

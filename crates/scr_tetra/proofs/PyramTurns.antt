@@ -4,15 +4,15 @@ use Rattle.std.specs.Prelude.{slice_get}
 use Rattle.std.specs.Option.{option_map}
 use Rattle.std.proofs.lemmas.List.{length-map}
 use Rattle.std.proofs.lemmas.Option.{slice_get-map}
+use Rattle.scr_combinatorics.proofs.PlayLaws.{map-some}
 use Rattle.scr_orbit.specs.Actions.{power, all_powers}
 use Rattle.scr_orbit.specs.Orbits.{added_digits, composed, identity}
-use Rattle.scr_orbit.proofs.ActionLaws.{map-some}
+use Rattle.scr_orbit.specs.PowerPuzzles.{letter_table, after_letter, all_turns, part_turns}
 use Rattle.scr_orbit.proofs.InPlaceLaws.{added_digits-still}
 use Rattle.scr_orbit.proofs.Parts.{IsMadeAt}
 use Rattle.scr_orbit.proofs.PowerLaws.{get-append, get-append_past}
+use Rattle.scr_orbit.proofs.TurnedAt.{IsTurned, IsTurned-at}
 use Rattle.scr_notation.specs.TurnNumbers.{axis_turn_at}
-use Rattle.scr_turning.specs.PowerPuzzles.{letter_table, after_letter, all_turns, part_turns}
-use Rattle.scr_turning.proofs.TurnedAt.{IsTurned, IsTurned-at}
 use Rattle.scr_tetra.specs.Pyraminx.{TetraminxState, tetraminx_action, tetraminx_powers, PyramState, IsPyram, large_turn, tip_turn, pyram_powers}
 use Rattle.scr_tetra.proofs.PyramLaws.{same_pyram, tetraminx_laws, lawful_tetraminx, lawful_pyram}
 

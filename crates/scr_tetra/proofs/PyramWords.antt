@@ -6,19 +6,18 @@ use Rattle.std.proofs.Math.Nat.{mod-eq_of_lt}
 use Rattle.std.proofs.lemmas.List.Elements.{All-head, All-tail, All-from_recursion}
 use Rattle.std.proofs.lemmas.Option.{same_Some}
 use Rattle.scr_combinatorics.specs.Play.{play}
-use Rattle.scr_combinatorics.proofs.PlayLaws.{and_then-some, play-empty, play-first, play-parts}
+use Rattle.scr_combinatorics.proofs.PlayLaws.{and_then-some, play-empty, play-first, play-parts, map-some}
 use Rattle.scr_orbit.specs.Actions.{power, power_of, all_powers}
 use Rattle.scr_orbit.specs.Orbits.{composed, identity, added_digits}
-use Rattle.scr_orbit.proofs.ActionLaws.{map-some}
+use Rattle.scr_orbit.specs.PowerPuzzles.{letter_table, after_letter, all_turns, part_turns}
 use Rattle.scr_orbit.proofs.PowerLaws.{All-got}
 use Rattle.scr_orbit.proofs.InPlaceLaws.{added_digits-still}
 use Rattle.scr_notation.specs.declared.turn.Turn.{Turn}
 use Rattle.scr_notation.specs.declared.turn.Turn.TheVariants.{Axis, Tip}
-use Rattle.scr_turning.specs.Axes.{thirds_of}
-use Rattle.scr_turning.specs.PowerPuzzles.{letter_table, after_letter, all_turns, part_turns}
+use Rattle.scr_notation.specs.AxisLetters.{thirds_of}
+use Rattle.scr_notation.proofs.AxisLaws.{IsThirdsOf-read, axis_turn_at-axis, axis_turn_at-tip}
 use Rattle.scr_tetra.specs.Pyraminx.{TetraminxState, tetraminx_action, tetraminx_powers, PyramState, IsPyram, large_turn, tip_turn, pyram_thirds, pyram_action, pyram_powers}
 use Rattle.scr_tetra.specs.PyramParts.{large_turns, tip_turn_count, turned_count}
-use Rattle.scr_turning.proofs.AxisLaws.{IsThirdsOf-read, axis_turn_at-axis, axis_turn_at-tip}
 use Rattle.scr_tetra.proofs.PyramLaws.{tetraminx_laws, lawful_tetraminx, lawful_pyram}
 use Rattle.scr_tetra.proofs.PyramTurns.{large_at, tip_at, pyram_large}
 

@@ -5,10 +5,10 @@ use Rattle.scr_combinatorics.specs.Play.{play}
 use Rattle.scr_combinatorics.specs.Reach.{Needs}
 use Rattle.scr_orbit.specs.Actions.{power, composed_word, power_of}
 use Rattle.scr_orbit.specs.Orbits.{composed, identity, added_digits, turned_orbit, solved_orbit}
+use Rattle.scr_orbit.specs.PowerPuzzles.{HaveOrders, letter_table, word_at, after_letter, power_puzzle}
 use Rattle.scr_orbit.proofs.Minima.{one_needed, enough}
 use Rattle.scr_orbit.proofs.Orders.{All-word_orders, each_at}
 use Rattle.scr_notation.specs.TurnNumbers.{axis_turn_at}
-use Rattle.scr_turning.specs.PowerPuzzles.{HaveOrders, letter_table, word_at, after_letter, power_puzzle}
 use Rattle.scr_tetra.specs.Skewb.{SkewbTurn, skewb_thirds, skewb_action, skewb_powers, solved_skewb}
 use Rattle.scr_tetra.specs.SkewbStickers.{CarriesAll, skewb_carried_piece}
 use Rattle.scr_tetra.specs.SkewbKnown.{skewb_orders, after_b_u}

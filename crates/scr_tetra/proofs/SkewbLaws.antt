@@ -6,14 +6,15 @@ use Rattle.scr_combinatorics.specs.Lists.{total, pick}
 use Rattle.scr_combinatorics.specs.Permutations.{IsEven, parity, permutation_at, half_at}
 use Rattle.scr_orbit.specs.Actions.{IsAction, power}
 use Rattle.scr_orbit.specs.Orbits.{Orbit, Rearrangement, IsOrbit, IsRearrangement, turned_orbit, composed, identity, added_digits, solved_orbit, orbit_action}
+use Rattle.scr_orbit.specs.PowerPuzzles.{IsPowerPuzzle, all_turns, part_turns}
 use Rattle.scr_orbit.proofs.OrbitLaws.{orbit_laws, IsOrbit-turned, IsOrbit-solved, total-turned, parity-turned}
 use Rattle.scr_orbit.proofs.Orders.{TellsIdentity}
 use Rattle.scr_orbit.proofs.Parts.{ap_three, pair_action, IsAction-pair, IsSeenAs, IsSeenAs-whole, IsAction-two, IsMadeAt, IsMadeAt-part, IsMadeAt-both}
 use Rattle.scr_orbit.proofs.TableTests.{and_three, is_still, still, is_rearrangement, IsRearrangement-from_test}
-use Rattle.scr_turning.specs.PowerPuzzles.{IsPowerPuzzle, all_turns, part_turns}
-use Rattle.scr_turning.proofs.AxisLaws.{axis_powers, axes_numbered}
-use Rattle.scr_turning.proofs.PowerPuzzleLaws.{IsPowerPuzzle-from_test}
-use Rattle.scr_turning.proofs.TurnedAt.{IsTurned, IsTurned-seen}
+use Rattle.scr_notation.specs.Turning.{opposite, turn_merging}
+use Rattle.scr_notation.proofs.AxisLaws.{axis_powers, axes_numbered}
+use Rattle.scr_orbit.proofs.PowerPuzzleLaws.{IsPowerPuzzle-from_test}
+use Rattle.scr_orbit.proofs.TurnedAt.{IsTurned, IsTurned-seen}
 use Rattle.scr_tetra.specs.Skewb.{SkewbState, class_of, IsSkewb, SkewbTurn, made_of_solved, IsSkewbTurn, skewb_action, skewb_powers, solved_skewb}
 use Rattle.scr_combinatorics.proofs.EvenLists.{IsEvenPermutation, passes_all, test-even}
 
@@ -173,7 +174,7 @@ IsSkewbTurn-from_test r h =
 
 -- ---- what follows of that
 
-pub lawful_skewb : IsPowerPuzzle skewb_powers IsSkewb IsSkewbTurn
+pub lawful_skewb : IsPowerPuzzle skewb_powers IsSkewb IsSkewbTurn opposite turn_merging
 unfolding is_turn rearranges is_even sums_up moves_nothing power composed identity added_digits
 lawful_skewb =
     IsPowerPuzzle-from_test skewb_powers IsSkewb IsSkewbTurn (record { numbered = axes_numbered; powers = axis_powers; few = lit≤ tt })

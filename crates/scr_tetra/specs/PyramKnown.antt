@@ -1,8 +1,8 @@
 -- Words and states of a Pyraminx that are known from elsewhere.
 use Rattle.std.specs.Prelude.{ℕ, List, [], ◌∷◌}
 use Rattle.scr_orbit.specs.Orbits.{zeros}
+use Rattle.scr_orbit.specs.PowerPuzzles.{word_at}
 use Rattle.scr_notation.specs.declared.turn.Turn.{Turn}
-use Rattle.scr_turning.specs.PowerPuzzles.{word_at}
 use Rattle.scr_tetra.specs.Pyraminx.{PyramState, pyram_powers}
 
 -- The usual words of the last layer: R U' R' U' R U' R' exchanges three edges in a cycle, and R' L R L' U L' U' L flips two.

@@ -14,8 +14,9 @@ use Rattle.scr_combinatorics.specs.Numbered.{Numbers, numbers_by_digits, Numbere
 use Rattle.scr_orbit.specs.Actions.{Action}
 use Rattle.scr_orbit.specs.Orbits.{Orbit, Rearrangement, IsZeroSumOrbit, IsZeroSumRearrangement, added_digits, turned_orbit, composed, identity, solved_orbit, zeros}
 use Rattle.scr_orbit.specs.InPlace.{AreDigitsInPlace}
-use Rattle.scr_turning.specs.Axes.{letters_about_axes}
-use Rattle.scr_turning.specs.PowerPuzzles.{PowerPuzzle}
+use Rattle.scr_orbit.specs.PowerPuzzles.{PowerPuzzle}
+use Rattle.scr_notation.specs.declared.turn.Turn.{Turn}
+use Rattle.scr_notation.specs.AxisLetters.{letters_about_axes}
 
 -- ---- the Tetraminx: edges with their flips, and the digits of the axial pieces
 
@@ -69,7 +70,7 @@ unfoldable pub solved_tetraminx : TetraminxState
 solved_tetraminx = record { edges = solved_orbit 6; axials = zeros 4 }
 
 -- The Tetraminx as data. Its 8 turns are U U' L L' R R' B B', in the order of their numbers.
-abbrev pub tetraminx_powers : PowerPuzzle TetraminxState TetraminxTurn
+abbrev pub tetraminx_powers : PowerPuzzle TetraminxState TetraminxTurn Turn
 tetraminx_powers = record {
   letters = letters_about_axes;
   action = tetraminx_action;
@@ -118,7 +119,7 @@ unfoldable pub solved_pyram : PyramState
 solved_pyram = record { body = solved_tetraminx; tips = zeros 4 }
 
 -- The Pyraminx as data. Its 16 turns are U U' L L' R R' B B', and then u u' l l' r r' b b', in the order of their numbers.
-abbrev pub pyram_powers : PowerPuzzle PyramState PyramTurn
+abbrev pub pyram_powers : PowerPuzzle PyramState PyramTurn Turn
 pyram_powers = record { letters = letters_about_axes; action = pyram_action; generators = pyram_thirds; solved = solved_pyram }
 
 -- ---- numbers

@@ -11,8 +11,9 @@ use Rattle.scr_combinatorics.specs.Digits.{mixed_number, mixed_digits}
 use Rattle.scr_combinatorics.specs.Numbered.{Numbers, numbers_by_digits, Numbered, numbered_by_digits}
 use Rattle.scr_orbit.specs.Actions.{Action}
 use Rattle.scr_orbit.specs.Orbits.{Orbit, Rearrangement, IsOrbit, turned_orbit, composed, identity, solved_orbit, zeros}
-use Rattle.scr_turning.specs.Axes.{letters_about_axes}
-use Rattle.scr_turning.specs.PowerPuzzles.{PowerPuzzle}
+use Rattle.scr_orbit.specs.PowerPuzzles.{PowerPuzzle}
+use Rattle.scr_notation.specs.declared.turn.Turn.{Turn}
+use Rattle.scr_notation.specs.AxisLetters.{letters_about_axes}
 
 -- The four and the three corners with their twists, and the centres.
 pub record SkewbState : Type 0 where
@@ -101,7 +102,7 @@ unfoldable pub solved_skewb : SkewbState
 solved_skewb = record { four = solved_orbit 4; three = solved_orbit 3; centres = solved_orbit 6 }
 
 -- The Skewb as data. Its 8 turns are U U' L L' R R' B B', in the order of their numbers.
-abbrev pub skewb_powers : PowerPuzzle SkewbState SkewbTurn
+abbrev pub skewb_powers : PowerPuzzle SkewbState SkewbTurn Turn
 skewb_powers = record { letters = letters_about_axes; action = skewb_action; generators = skewb_thirds; solved = solved_skewb }
 
 -- ---- numbers

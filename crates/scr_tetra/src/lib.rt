@@ -1,14 +1,14 @@
 //! The Pyraminx and the Skewb: their states, their turns, what a scramble makes of them, and their numberings, by which they
 //! are drawn fairly.
 //!
-//! A Pyraminx is the orbit of its six edges, and digits of its axial pieces and its tips, which stay at their places; without
-//! tips it is a [`Tetraminx`]. A [`Skewb`] is three orbits: of four corners, of three, and of the centres. A puzzle is the
-//! table of its thirds over them (`specs/Pyraminx.antt`, `specs/Skewb.antt`), and all else follows by the one theory of
-//! `scr_turning`. [`edge_turns`], [`axial_turns`], [`four_turns`], [`three_turns`] and [`centre_turns`] are all large turns as
-//! single rearrangements, for searches and coordinates; a wrong entry is refused. They are turned by axes and by scrambles
-//! ([`PowerTurned`]). `pyram_laws` and `skewb_laws` have what holds: that turns are lawful, that the numberings are one to one,
-//! and what ties the tables to the puzzles themselves. The crate stands on puzzles of pieces, on orbits, on the numbers
-//! of lists and on fair drawing.
+//! A Pyraminx is the orbit of its six edges, and digits of its axial pieces and its tips, which stay at their places;
+//! without tips it is a [`Tetraminx`]. A [`Skewb`] is three orbits: of four corners, of three, and of the centres. A
+//! puzzle is the table of its thirds over them (`specs/Pyraminx.antt`, `specs/Skewb.antt`), and all else follows by the
+//! one theory of puzzles of powers. [`edge_turns`], [`axial_turns`], [`four_turns`], [`three_turns`] and
+//! [`centre_turns`] are all large turns as single rearrangements, for searches and coordinates; a wrong entry is
+//! refused. They are turned by axes and by scrambles ([`PowerTurned`]). `pyram_laws` and `skewb_laws` have what holds:
+//! that turns are lawful, that the numberings are one to one, and what ties the tables to the puzzles themselves. The
+//! crate stands on the notation of turns, on orbits, on the numbers of lists and on fair drawing.
 #![tactic(auto)]
 
 pub mod pyram_laws;
@@ -26,7 +26,7 @@ mod tetraminx;
 pub use pyram_numbers::{PyramNumbers, TetraminxNumbers};
 pub use pyram_tables::{axial_turns, edge_turns};
 pub use pyraminx::Pyraminx;
-pub use scr_turning::PowerTurned;
+pub use scr_notation::PowerTurned;
 pub use skewb::Skewb;
 pub use skewb_numbers::SkewbNumbers;
 pub use skewb_tables::{centre_turns, four_turns, three_turns};

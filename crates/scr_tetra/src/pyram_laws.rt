@@ -7,13 +7,14 @@ ghost use Rattle.scr_combinatorics.specs.Play.{play, count_in};
 ghost use Rattle.scr_combinatorics.specs.Reach.{Needs};
 ghost use Rattle.scr_orbit.specs.InPlace.{AreDigitsInPlace};
 ghost use Rattle.scr_orbit.specs.Orbits.{zeros};
+ghost use Rattle.scr_orbit.specs.PowerPuzzles.{IsPowerPuzzle, HaveOrders, word_at, after_letter, power_puzzle};
 ghost use Rattle.scr_notation.specs.declared.event.Event.TheVariants.{Pyram};
 ghost use Rattle.scr_notation.specs.declared.turn.Turn.{Turn as Letter};
 ghost use Rattle.scr_notation.specs.Axes.{is_axis_turn};
 ghost use Rattle.scr_notation.specs.TurnNumbers.{axis_turn_at};
 ghost use Rattle.scr_notation.specs.Spelling.{text_of};
-ghost use Rattle.scr_turning.specs.Played.{PlaysTurnsOf};
-ghost use Rattle.scr_turning.specs.PowerPuzzles.{IsPowerPuzzle, HaveOrders, word_at, after_letter, power_puzzle};
+ghost use Rattle.scr_notation.specs.Turning.{opposite, turn_merging};
+ghost use Rattle.scr_notation.specs.Played.{PlaysTurnsOf};
 ghost use Rattle.scr_tetra.specs.Pyraminx.{TetraminxState, IsTetraminx, TetraminxTurn, IsTetraminxTurn, tetraminx_thirds, tetraminx_powers, numbered_tetraminx, PyramState, IsPyram, IsPyramTurn, pyram_powers, solved_pyram, numbered_pyram};
 ghost use Rattle.scr_tetra.specs.PyramStickers.{CarriesPyramStickers, ShowsThirds, about_up, half_round};
 ghost use Rattle.scr_tetra.specs.PyramParts.{large_turns, tip_turn_count, turned_count, tips_word};
@@ -23,8 +24,8 @@ ghost use Rattle.scr_tetra.specs.PyramKnown.{pyram_orders, edge_cycle, edge_flip
 /// are taken back, and each comes to one rearrangement, the same for every state. What turns reach is valid. A third has order
 /// 3, and each turn has the number that the notation gives it.
 pub fn turns()
-    ensures pyraminx { IsPowerPuzzle pyram_powers IsPyram IsPyramTurn }
-    ensures tetraminx { IsPowerPuzzle tetraminx_powers IsTetraminx IsTetraminxTurn }
+    ensures pyraminx { IsPowerPuzzle pyram_powers IsPyram IsPyramTurn opposite turn_merging }
+    ensures tetraminx { IsPowerPuzzle tetraminx_powers IsTetraminx IsTetraminxTurn opposite turn_merging }
 {}
 
 /// From each valid state turns lead to a state exactly where each of them is a turn of the event; and without tips, where

@@ -4,7 +4,7 @@ ghost use Rattle.std.specs.Prelude.{◌≡◌, length, All};
 ghost use Rattle.scr_orbit.specs.InPlace.{AreDigitsInPlace};
 ghost use Rattle.scr_orbit.specs.Orbits.{IsZeroSumRearrangement};
 ghost use Rattle.scr_orbit.specs.PlaceTurns.{IsTurnTable};
-ghost use Rattle.scr_turning.specs.PowerPuzzles.{part_turns};
+ghost use Rattle.scr_orbit.specs.PowerPuzzles.{part_turns};
 ghost use Rattle.scr_tetra.specs.Pyraminx.{tetraminx_powers};
 
 use scr_orbit::{PlaceTurn, place_turns};

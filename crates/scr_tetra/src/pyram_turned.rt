@@ -1,13 +1,13 @@
 //! Turns of a Pyraminx, without its tips and with them. The axes U L R B are the generators 0 to 3, the tips 4 to 7.
 ghost use Rattle.std.proofs.Common.{lit≤};
-ghost use Rattle.scr_turning.specs.PowerPuzzles.{after_letter};
-ghost use Rattle.scr_turning.proofs.TurnedAt.{HasGenerators-puzzle};
+ghost use Rattle.scr_orbit.specs.PowerPuzzles.{after_letter};
+ghost use Rattle.scr_orbit.proofs.TurnedAt.{HasGenerators-puzzle};
 ghost use Rattle.scr_tetra.specs.Pyraminx.{tetraminx_powers, pyram_powers};
 
 use crate::pyram_tables::{axial_turns, edge_turns};
 use crate::pyraminx::Pyraminx;
 use crate::tetraminx::{Tetraminx, turned_in_place};
-use scr_turning::{Axes, PowerTurned};
+use scr_notation::{Axes, PowerTurned};
 
 impl PowerTurned for Tetraminx {
     type Kind = Axes;

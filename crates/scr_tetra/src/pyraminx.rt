@@ -1,12 +1,12 @@
 //! The state of a Pyraminx.
 ghost use Rattle.std.specs.Prelude.{◌≡◌, ◌↔◌, ◌<◌, ◌+◌, ◌*◌, Some, IsTrue, IsSome, IfSome};
+ghost use Rattle.scr_orbit.specs.PowerPuzzles.{after_letter};
 ghost use Rattle.scr_notation.specs.declared.turn.Turn.{Turn as Letter};
 ghost use Rattle.scr_notation.specs.declared.turn.Turn.TheVariants.{Tip};
-ghost use Rattle.scr_turning.specs.PowerPuzzles.{after_letter};
 ghost use Rattle.scr_tetra.specs.Pyraminx.{IsPyram, solved_pyram, pyram_powers};
 
 use crate::tetraminx::{Tetraminx, are_thirds};
-use scr_turning::PowerTurned;
+use scr_notation::PowerTurned;
 use std::marker::Model;
 
 /// A Pyraminx that can be put together without taking one apart: the list of edges is even, flips sum to 0 modulo 2, and

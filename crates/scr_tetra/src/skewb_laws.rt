@@ -5,11 +5,12 @@ ghost use Rattle.scr_combinatorics.specs.Numbering.{IsNumbering};
 ghost use Rattle.scr_combinatorics.specs.Play.{play, count_in};
 ghost use Rattle.scr_combinatorics.specs.Reach.{Needs};
 ghost use Rattle.scr_orbit.specs.Orbits.{zeros};
+ghost use Rattle.scr_orbit.specs.PowerPuzzles.{IsPowerPuzzle, HaveOrders, word_at, after_letter, power_puzzle};
 ghost use Rattle.scr_notation.specs.declared.event.Event.TheVariants.{Skewb};
 ghost use Rattle.scr_notation.specs.declared.turn.Turn.{Turn as Letter};
 ghost use Rattle.scr_notation.specs.Spelling.{text_of};
-ghost use Rattle.scr_turning.specs.Played.{PlaysTurnsOf};
-ghost use Rattle.scr_turning.specs.PowerPuzzles.{IsPowerPuzzle, HaveOrders, word_at, after_letter, power_puzzle};
+ghost use Rattle.scr_notation.specs.Turning.{opposite, turn_merging};
+ghost use Rattle.scr_notation.specs.Played.{PlaysTurnsOf};
 ghost use Rattle.scr_tetra.specs.Skewb.{SkewbTurn, IsSkewb, IsSkewbTurn, skewb_thirds, skewb_powers, solved_skewb, skewb_numbered};
 ghost use Rattle.scr_tetra.specs.SkewbStickers.{CarriesAll, skewb_carried_piece, rotated_piece};
 ghost use Rattle.scr_tetra.specs.SkewbKnown.{skewb_orders, after_b_u, after_b_r, rotation, RotatesTurns};
@@ -18,7 +19,7 @@ ghost use Rattle.scr_tetra.specs.SkewbKnown.{skewb_orders, after_b_u, after_b_r,
 /// tidied, and each comes to one rearrangement, the same for every state. What turns reach is valid. A turn by one third has
 /// order 3, and each turn has the number that the notation gives it.
 pub fn turns()
-    ensures { IsPowerPuzzle skewb_powers IsSkewb IsSkewbTurn }
+    ensures { IsPowerPuzzle skewb_powers IsSkewb IsSkewbTurn opposite turn_merging }
 {}
 
 /// From each valid state turns lead to a state exactly where each of them is a turn of the event.

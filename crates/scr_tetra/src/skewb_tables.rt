@@ -2,7 +2,7 @@
 //! wrong entry is refused, since the calls ensure that the tables are those of the definitions.
 ghost use Rattle.scr_orbit.specs.Orbits.{IsRearrangement};
 ghost use Rattle.scr_orbit.specs.PlaceTurns.{IsTurnTable};
-ghost use Rattle.scr_turning.specs.PowerPuzzles.{part_turns};
+ghost use Rattle.scr_orbit.specs.PowerPuzzles.{part_turns};
 ghost use Rattle.scr_tetra.specs.Skewb.{skewb_powers};
 
 use scr_orbit::{PlaceTurn, place_turns};

@@ -1,12 +1,12 @@
 //! Turns of a Skewb. The axes U L R B are the generators 0 to 3.
 ghost use Rattle.std.proofs.Common.{lit≤};
-ghost use Rattle.scr_turning.specs.PowerPuzzles.{after_letter};
-ghost use Rattle.scr_turning.proofs.TurnedAt.{HasGenerators-puzzle};
+ghost use Rattle.scr_orbit.specs.PowerPuzzles.{after_letter};
+ghost use Rattle.scr_orbit.proofs.TurnedAt.{HasGenerators-puzzle};
 ghost use Rattle.scr_tetra.specs.Skewb.{skewb_powers};
 
 use crate::skewb::Skewb;
 use crate::skewb_tables::{centre_turns, four_turns, three_turns};
-use scr_turning::{Axes, PowerTurned};
+use scr_notation::{Axes, PowerTurned};
 
 impl PowerTurned for Skewb {
     type Kind = Axes;

@@ -7,12 +7,12 @@ use Rattle.scr_combinatorics.specs.Lists.{numbers_from}
 use Rattle.scr_combinatorics.specs.Play.{play}
 use Rattle.scr_combinatorics.specs.Reach.{Needs}
 use Rattle.scr_combinatorics.proofs.PlayLaws.{play-append}
+use Rattle.scr_orbit.specs.PowerPuzzles.{after_letter}
 use Rattle.scr_notation.specs.declared.event.Event.TheVariants.{Bf333, C333}
 use Rattle.scr_notation.specs.declared.turn.Turn.{Turn}
 use Rattle.scr_notation.specs.declared.turn.Turn.TheVariants.{Face}
 use Rattle.scr_notation.specs.Turns.{permits}
 use Rattle.scr_notation.proofs.NumberLaws.{face_turn_parts, face_turn_of_parts}
-use Rattle.scr_turning.specs.PowerPuzzles.{after_letter}
 use Rattle.scr_cube.specs.Cube333.{cube_powers, solved_cube}
 use Rattle.scr_cube.specs.Held.{HeldState, IsHeld, solved_held, held_cube_after, hold_word, hold_of, held_puzzle}
 use Rattle.scr_cube.proofs.HeldLaws.{at_places, same_held}

@@ -8,10 +8,10 @@ use Rattle.std.proofs.lemmas.List.Elements.{All-nil, All-cons}
 use Rattle.scr_combinatorics.specs.Play.{play}
 use Rattle.scr_combinatorics.specs.Reach.{Needs}
 use Rattle.scr_combinatorics.proofs.PlayLaws.{play-empty, play-first, play-parts}
+use Rattle.scr_orbit.specs.PowerPuzzles.{after_letter, power_puzzle}
 use Rattle.scr_orbit.proofs.Minima.{count_once}
 use Rattle.scr_notation.specs.declared.turn.Turn.{Turn}
 use Rattle.scr_notation.specs.TurnNumbers.{face_turn_at}
-use Rattle.scr_turning.specs.PowerPuzzles.{after_letter, power_puzzle}
 use Rattle.scr_cube.specs.Cube333.{CubeState, cube_powers}
 use Rattle.scr_cube.proofs.Laws333.{lawful_cube}
 use Rattle.scr_twophase.specs.TwoParts.{after_turn, is_solved}

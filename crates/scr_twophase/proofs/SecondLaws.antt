@@ -5,7 +5,7 @@ use Rattle.scr_combinatorics.specs.Permutations.{IsPermutation, is_permutation}
 use Rattle.scr_combinatorics.proofs.PermutationLaws.{IsPermutation-from_test}
 use Rattle.scr_orbit.specs.Actions.{all_powers, power}
 use Rattle.scr_orbit.specs.Orbits.{added_digits, composed, identity}
-use Rattle.scr_turning.specs.PowerPuzzles.{all_turns}
+use Rattle.scr_orbit.specs.PowerPuzzles.{all_turns}
 use Rattle.scr_cube.specs.Cube333.{CubeState}
 use Rattle.scr_stages.specs.Numbers.{IsDominoCube}
 use Rattle.scr_stages.specs.Stages.{after_of, middle_edges, tetrads_turns}

@@ -9,11 +9,11 @@ use Rattle.scr_combinatorics.specs.Permutations.{permutation_number}
 use Rattle.scr_combinatorics.specs.Play.{play}
 use Rattle.scr_combinatorics.proofs.Picks.{pick-in_order}
 use Rattle.scr_combinatorics.proofs.PlayLaws.{play-parts}
-use Rattle.scr_coord.proofs.GoalNumbers.{permutation_number-in_order}
+use Rattle.scr_projections.proofs.GoalNumbers.{permutation_number-in_order}
 use Rattle.scr_orbit.specs.declared.placed.PlaceTurn.{PlaceTurn}
 use Rattle.scr_orbit.specs.Orbits.{Rearrangement, solved_orbit, turned_orbit}
 use Rattle.scr_orbit.specs.PlaceTurns.{rearrangement_of}
-use Rattle.scr_turning.specs.PowerPuzzles.{all_turns, part_turns}
+use Rattle.scr_orbit.specs.PowerPuzzles.{all_turns, part_turns}
 use Rattle.scr_cube.specs.Cube333.{CubeState, CubeTurn, cube_action, cube_powers, solved_cube}
 use Rattle.scr_stages.specs.Stages.{middle_edges}
 use Rattle.scr_stages.specs.Numbers.{IsDominoCube}

@@ -3,10 +3,10 @@ use Rattle.std.proofs.Common.{◌≡◌, ℕ, ◌<◌, List, [], ◌∷◌, map,
 use Rattle.std.specs.Prelude.{All, nat_lt}
 use Rattle.std.proofs.lemmas.List.{get_or-map, length-map}
 use Rattle.scr_combinatorics.proofs.PlayLaws.{play-one}
+use Rattle.scr_orbit.specs.PowerPuzzles.{after_letter}
 use Rattle.scr_notation.specs.declared.turn.Turn.{Turn}
 use Rattle.scr_notation.specs.TurnNumbers.{face_turn_at}
 use Rattle.scr_notation.specs.Turning.{opposite}
-use Rattle.scr_turning.specs.PowerPuzzles.{after_letter}
 use Rattle.scr_cube.specs.Cube333.{CubeState, IsCube, cube_powers}
 use Rattle.scr_cube.proofs.Laws333.{lawful_cube}
 use Rattle.scr_stages.specs.Numbers.{IsDominoCube}

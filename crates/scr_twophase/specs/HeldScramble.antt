@@ -3,9 +3,9 @@
 use Rattle.std.specs.Prelude.{◌≡◌, ℕ, ◌≤◌, IsTrue, List, ◌++◌, length, Some, is_some}
 use Rattle.scr_combinatorics.specs.Back.{back}
 use Rattle.scr_combinatorics.specs.Play.{play}
+use Rattle.scr_orbit.specs.PowerPuzzles.{after_letter}
 use Rattle.scr_notation.specs.declared.turn.Turn.{Turn}
 use Rattle.scr_notation.specs.Turning.{opposite}
-use Rattle.scr_turning.specs.PowerPuzzles.{after_letter}
 use Rattle.scr_cube.specs.Cube333.{CubeState, cube_powers}
 use Rattle.scr_cube.specs.Held.{HeldState, solved_held, faces_turned, hold_word, hold_of}
 use Rattle.scr_twophase.specs.TwoParts.{two_parts, IsScramble333}

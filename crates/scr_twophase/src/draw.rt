@@ -2,7 +2,7 @@
 ghost use Rattle.std.specs.Prelude.{◌↔◌, ℕ, IsTrue};
 ghost use Rattle.std.proofs.Props.{props};
 ghost use Rattle.scr_combinatorics.specs.Reach.{Needs};
-ghost use Rattle.scr_turning.specs.PowerPuzzles.{power_puzzle};
+ghost use Rattle.scr_orbit.specs.PowerPuzzles.{power_puzzle};
 ghost use Rattle.scr_cube.specs.Cube333.{CubeState, cube_numbered, cube_powers};
 ghost use Rattle.scr_twophase.specs.Minima.{needs_turns};
 

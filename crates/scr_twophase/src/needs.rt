@@ -1,7 +1,7 @@
 //! The minima of the 3x3x3.
 ghost use Rattle.std.specs.Prelude.{◌≡◌, ◌↔◌, ◌≤◌, IsTrue};
 ghost use Rattle.scr_combinatorics.specs.Reach.{Needs};
-ghost use Rattle.scr_turning.specs.PowerPuzzles.{power_puzzle};
+ghost use Rattle.scr_orbit.specs.PowerPuzzles.{power_puzzle};
 ghost use Rattle.scr_cube.specs.Cube333.{cube_powers};
 ghost use Rattle.scr_twophase.specs.Minima.{needs_turns};
 

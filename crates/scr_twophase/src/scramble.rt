@@ -2,10 +2,10 @@
 ghost use Rattle.std.specs.Prelude.{◌≡◌, ◌≤◌, IfSome, IsTrue, List, Some, is_some, length, map};
 ghost use Rattle.std.specs.Option.{option_map};
 ghost use Rattle.scr_combinatorics.specs.Play.{play};
+ghost use Rattle.scr_orbit.specs.PowerPuzzles.{after_letter};
 ghost use Rattle.scr_notation.specs.declared.event.Event.TheVariants.{C333};
 ghost use Rattle.scr_notation.specs.declared.turn.Turn.{Turn as Letter};
 ghost use Rattle.scr_notation.specs.TurnNumbers.{face_turn_at};
-ghost use Rattle.scr_turning.specs.PowerPuzzles.{after_letter};
 ghost use Rattle.scr_cube.specs.Cube333.{IsCube, cube_powers, solved_cube};
 ghost use Rattle.scr_twophase.specs.TwoParts.{two_parts, IsScramble333};
 

@@ -1,6 +1,6 @@
 use Rattle.std.proofs.Common.{refl}
 use Rattle.scr_orbit.proofs.TableTests.{All-zero_sum_turns}
-use Rattle.scr_turning.proofs.TablesOnLiterals.{turns_on_literals}
+use Rattle.scr_orbit.proofs.TablesOnLiterals.{turns_on_literals}
 use Rattle.scr_cube.specs.declared.tables.TheConstants.{EDGE_TABLE}
 use Rattle.scr_cube.proofs.tables.edge_turns.Goals as goal
 

@@ -2,8 +2,8 @@ use Rattle.std.proofs.Common.{◌≡◌, ◌≤◌, IsTrue, Some, length, sym, a
 use Rattle.std.specs.Prelude.{is_some}
 use Rattle.std.proofs.lemmas.Option.{same_Some}
 use Rattle.scr_combinatorics.specs.Play.{play}
+use Rattle.scr_orbit.specs.PowerPuzzles.{after_letter}
 use Rattle.scr_notation.specs.Written.{Written}
-use Rattle.scr_turning.specs.PowerPuzzles.{after_letter}
 use Rattle.scr_cube.specs.Cube333.{CubeState, cube_powers, solved_cube}
 use Rattle.scr_twophase.specs.TwoParts.{two_parts, IsScramble333}
 use Rattle.scr_fewest.specs.Fewest.{framed, frame_back, between, is_framed}

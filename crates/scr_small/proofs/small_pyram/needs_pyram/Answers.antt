@@ -1,7 +1,7 @@
 use Rattle.std.proofs.Common.{◌≡◌, ℕ, ◌+◌, get_or, IsTrue, sym, ap, ◌∙◌, subst}
 use Rattle.std.specs.Prelude.{nat_le, ◌↔◌}
 use Rattle.scr_combinatorics.specs.Reach.{Needs}
-use Rattle.scr_turning.specs.PowerPuzzles.{power_puzzle}
+use Rattle.scr_orbit.specs.PowerPuzzles.{power_puzzle}
 use Rattle.scr_tetra.specs.Pyraminx.{numbered_tetraminx, pyram_powers}
 use Rattle.scr_tetra.specs.PyramParts.{turned_count}
 use Rattle.scr_small.proofs.PyramLaws.{pyram_distance, tested_pyram}

@@ -3,12 +3,12 @@ use Rattle.std.proofs.lemmas.List.{append-nil, length-append, length-take-le, ta
 use Rattle.scr_combinatorics.specs.Play.{play}
 use Rattle.scr_combinatorics.proofs.PlayLaws.{play-empty}
 use Rattle.scr_combinatorics.specs.Stages.{spelled}
+use Rattle.scr_orbit.specs.PowerPuzzles.{after_letter}
 use Rattle.scr_notation.specs.declared.event.Event.TheVariants.{C333}
 use Rattle.scr_notation.specs.Event.{kind_of}
 use Rattle.scr_notation.specs.TurnNumbers.{face_turn_at, turn_at}
 use Rattle.scr_notation.proofs.NumberLaws.{turns_333}
 use Rattle.scr_notation.specs.Written.{Written}
-use Rattle.scr_turning.specs.PowerPuzzles.{after_letter}
 use Rattle.scr_cube.specs.Cube333.{cube_powers}
 use Rattle.scr_stages.specs.Stages.{letter_in, after_of}
 use Rattle.scr_stages.proofs.FollowSteps.{follow_more, length-spelled, letters_more}

@@ -1,6 +1,6 @@
 use Rattle.std.proofs.Common.{refl}
 use Rattle.scr_orbit.proofs.TableTests.{All-rearrangements}
-use Rattle.scr_turning.proofs.TablesOnLiterals.{turns_on_literals}
+use Rattle.scr_orbit.proofs.TablesOnLiterals.{turns_on_literals}
 use Rattle.scr_tetra.specs.declared.skewb_tables.TheConstants.{FOUR_TABLE}
 use Rattle.scr_tetra.proofs.skewb_tables.four_turns.Goals as goal
 

@@ -3,11 +3,11 @@ use Rattle.std.specs.Prelude.{All}
 use Rattle.std.specs.Option.{option_map}
 use Rattle.std.proofs.lemmas.List.{length-map}
 use Rattle.scr_combinatorics.specs.Play.{play}
+use Rattle.scr_orbit.specs.PowerPuzzles.{after_letter}
 use Rattle.scr_notation.specs.declared.event.Event.TheVariants.{C333}
 use Rattle.scr_notation.specs.Event.{kind_of}
 use Rattle.scr_notation.specs.TurnNumbers.{face_turn_at, turn_at}
 use Rattle.scr_notation.proofs.NumberLaws.{turns_333}
-use Rattle.scr_turning.specs.PowerPuzzles.{after_letter}
 use Rattle.scr_cube.specs.Cube333.{cube_powers}
 use Rattle.scr_twophase.specs.Search.{letters}
 use Rattle.scr_twophase.proofs.MinimaLaws.{play-spelled}

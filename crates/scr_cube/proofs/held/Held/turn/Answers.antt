@@ -1,8 +1,8 @@
 use Rattle.std.proofs.Common.{ℕ, ◌<◌, sym, ap, ◌∙◌, subst}
 use Rattle.std.specs.Prelude.{Contains}
+use Rattle.scr_orbit.specs.PowerPuzzles.{after_letter}
 use Rattle.scr_notation.specs.declared.turn.Turn.TheVariants.{Face}
 use Rattle.scr_notation.proofs.NumberLaws.{face_turn_of_parts}
-use Rattle.scr_turning.specs.PowerPuzzles.{after_letter}
 use Rattle.scr_cube.specs.Cube333.{cube_powers}
 use Rattle.scr_cube.specs.Held.{holds, held_cube_after}
 use Rattle.scr_cube.proofs.HeldLaws.{place_parts, turned_face-lt, Contains-turned, step-made}

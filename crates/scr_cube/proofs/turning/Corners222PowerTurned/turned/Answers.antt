@@ -1,6 +1,6 @@
 use Rattle.std.proofs.Common.{Some, ap, ◌∙◌, sym, arith}
 use Rattle.scr_orbit.proofs.Places.{turned-at}
-use Rattle.scr_turning.proofs.TurnedAt.{IsTurned-made}
+use Rattle.scr_orbit.proofs.TurnedAt.{IsTurned-made}
 use Rattle.scr_cube.specs.Cube222.{powers_222}
 use Rattle.scr_cube.proofs.Laws222.{lawful_222}
 use Rattle.scr_cube.proofs.turning.Corners222PowerTurned.turned.Goals as goal

@@ -1,6 +1,6 @@
 use Rattle.std.proofs.Common.{sym, ap, ◌∙◌, refl}
-use Rattle.scr_turning.proofs.AxisLaws.{letter-high}
-use Rattle.scr_turning.specs.PowerPuzzles.{after_letter}
+use Rattle.scr_orbit.specs.PowerPuzzles.{after_letter}
+use Rattle.scr_notation.proofs.AxisLaws.{letter-high}
 use Rattle.scr_tetra.specs.Pyraminx.{pyram_powers}
 use Rattle.scr_tetra.proofs.pyraminx.Pyraminx.tip.Goals as goal
 

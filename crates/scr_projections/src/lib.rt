@@ -1,0 +1,18 @@
+//! Projections: coordinates that see one list of an orbit's pieces, numbered as in `scr_rank`. [`Twists`] sees its digits,
+//! [`PlaceSet`] the places of marked pieces, and [`Lists`] the pieces themselves. They step by the lists
+//! (`specs/Projections.antt`), and take no memory; a search goes over tables of moves that are made of them.
+//!
+//! `laws` says that the numbers of an orbit's lists go along with its turns, so that a search finds the same on them. Over
+//! any states these are lemmas, for a puzzle's crate to state: `proofs/ProjectionLaws.antt` and `proofs/MarkedPieces.antt`.
+//! The crate stands on coordinates, on orbits and on the numbers of lists.
+#![tactic(auto)]
+
+pub mod laws;
+mod lists;
+mod place_set;
+mod twists;
+
+pub use lists::Lists;
+pub use place_set::{PlaceSet, places_of};
+pub use scr_orbit::PlaceTurn;
+pub use twists::Twists;

@@ -1,5 +1,0 @@
-pub mod Letters
-pub mod Faces
-pub mod Axes
-pub mod PowerPuzzles
-pub mod Played
