@@ -1,5 +1,5 @@
 //! Which turns lead nearer to the goal of a pruning table, and which lead no farther.
-ghost use Rattle.std.specs.Prelude.{◌≡◌, ℕ, ◌+◌, ◌*◌, ◌^◌, ◌<◌, ◌≤◌, IfOk, length, slice_index, slice_index_or};
+ghost use Rattle.std.specs.Prelude.{◌≡◌, ℕ, ◌+◌, ◌^◌, ◌<◌, ◌≤◌, IfOk, length, slice_index, slice_index_or};
 ghost use Rattle.scr_coord.specs.Coordinates.{AreSeen, value_at};
 ghost use Rattle.scr_twophase.specs.declared.outlook.Found.{Found as Finding};
 ghost use Rattle.scr_twophase.specs.declared.outlook.Outlook.{Outlook as Looking};
