@@ -1,14 +1,15 @@
 //! The scramblers of the puzzles.
 
 ghost use Rattle.scr_combinatorics.specs.Play.{play};
-ghost use Rattle.scr_notation.specs.declared.event.Event.TheVariants.{C333, Bf333, Fm333, Pyram, Clock as EventClock, Sq1 as EventSq1};
+ghost use Rattle.scr_notation.specs.declared.event.Event.TheVariants.{C333, Bf333, Fm333, Pyram};
+ghost use Rattle.scr_notation.specs.declared.event.Event.TheVariants.{Clock as EventClock, Sq1 as EventSq1};
 ghost use Rattle.scr_clock.specs.Written.{IsClockScramble};
 ghost use Rattle.scr_small.specs.NumberedPuzzles.{IsScrambleOf, puzzle_of};
 ghost use Rattle.scr_small.specs.Puzzles.{IsScramblePyram};
 ghost use Rattle.scr_sq1short.specs.ShortScrambles.{IsShortScramble};
 ghost use Rattle.scr_twophase.specs.HeldScramble.{IsScramble333bf};
-ghost use Rattle.scr_slots.specs.Events.{at_most, drawn_333, drawn_clock, drawn_fewest, drawn_held, drawn_pyram, drawn_sq1};
-ghost use Rattle.scr_slots.specs.Events.{IsScramble333Within, IsScrambleFewestWithin};
+ghost use Rattle.scr_slots.specs.Events.{drawn_333, drawn_clock, drawn_fewest, drawn_held, drawn_pyram, drawn_sq1};
+ghost use Rattle.scr_slots.specs.Events.{at_most, IsScramble333Within, IsScrambleFewestWithin};
 ghost use Rattle.scr_slots.specs.Shown.{drawn_puzzle};
 
 use crate::cube_tables::CubeTables;

@@ -95,10 +95,10 @@ pub fn totals()
         × (turns ≡ back opposite total) }
 {}
 
-/// The lines by which the tables are built are those of the tables as states tell them. From every state with a number, of
-/// those of which a table speaks, a letter of the table's stage leads to one and the same number, that to which the line's
-/// coordinate leads, or is barred as it is there; and all of them are at the coordinate's goal, or none. Each number below
-/// the table's count is that of such a state.
+/// The lines by which the tables are built are those of the tables as states tell them. From every state with a number,
+/// of those of which a table speaks, a letter of the table's stage leads to one and the same number, that to which the
+/// line's coordinate leads, or is barred as it is there; and all of them are at the coordinate's goal, or none. Each
+/// number below the table's count is that of such a state.
 pub fn told_by_states()
     ensures { AreLinesOf sq1_tables sq1_lines }
 {}

@@ -68,8 +68,8 @@ fn fill<R: Threads + Sync, C: Coord + Sync>(
     }
 }
 
-/// Enters the first levels, as many as are cheaper to push, and answers the last of them, at most `bound`: that of the goals
-/// where it isn't worth while to push. Nothing is said of what stands beyond the goals.
+/// Enters the first levels, as many as are cheaper to push, and answers the last of them, at most `bound`: that of the
+/// goals where it isn't worth while to push. Nothing is said of what stands beyond the goals.
 fn early_levels<C: Coord>(coord: &C, entries: &mut [u8], bound: u8) -> u8
     requires entries { length entries.old ≡ (C.coordinate coord.now).count }
     requires few_turns { (C.coordinate coord.now).turns ≤ 256 }

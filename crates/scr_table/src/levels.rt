@@ -134,8 +134,8 @@ fn agrees(entry: u8, least: u8, level: u8) -> bool
     }
 }
 
-/// Makes the level behind `level`, and answers whether it did. Where each position is checked, that is whether the entries up
-/// to `level` agree; if they don't, nothing is said of the entries.
+/// Makes the level behind `level`, and answers whether it did. Where each position is checked, that is whether the
+/// entries up to `level` agree; if they don't, nothing is said of the entries.
 pub(crate) fn next_level<R: Threads + Sync, C: Coord + Sync>(
     rt: &R,
     coord: &C,

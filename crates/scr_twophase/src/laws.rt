@@ -37,9 +37,10 @@ pub fn second_parts()
         → IsTrue (is_solution c (first ++ w)) → IsSome (second_part c first) }
 {}
 
-/// The lines by which the tables are built are those of the tables as cubes tell them. From every cube with a number, of
-/// those of which a table speaks, a turn leads to one and the same number, that to which the line's coordinate leads; and
-/// all of them are at the coordinate's goal, or none. Each number below the table's count is that of such a cube.
+/// The lines by which the tables are built are those of the tables as cubes tell them. From every cube with a number,
+/// of those of which a table speaks, a turn leads to one and the same number, that to which the line's coordinate
+/// leads; and all of them are at the coordinate's goal, or none. Each number below the table's count is that of such a
+/// cube.
 pub fn told_by_states()
     ensures { AreLinesOf prune_tables prune_lines }
 {}

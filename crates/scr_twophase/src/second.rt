@@ -12,7 +12,8 @@ ghost use Rattle.scr_stages.specs.Stages.{tetrads_turns};
 ghost use Rattle.scr_stages.specs.Tables.{block_turn, edges_by};
 ghost use Rattle.scr_table.specs.Words.{words_of};
 ghost use Rattle.scr_twophase.specs.Search.{carried, is_solved_position};
-ghost use Rattle.scr_twophase.specs.TwoParts.{after_turn, domino_turns, is_orderly, is_solution, is_solved, joined, leads};
+ghost use Rattle.scr_twophase.specs.TwoParts.{after_turn, domino_turns, is_orderly, is_solution, is_solved, joined};
+ghost use Rattle.scr_twophase.specs.TwoParts.{leads};
 ghost use Rattle.scr_twophase.specs.Views.{IsPosition, Shows, second_views};
 
 use crate::near_set::NEAR;
