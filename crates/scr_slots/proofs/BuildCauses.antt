@@ -5,7 +5,7 @@ use Rattle.std.proofs.lemmas.List.{take_more, map-append, length-map}
 use Rattle.std.proofs.Math.ListN.{get_or-map}
 use Rattle.std.proofs.lemmas.List.Elements.{All-map, Contains-append_left, Contains-push, Contains-push_cases}
 use Rattle.std.proofs.lemmas.List.Folds.{list_any_none, list_any_at}
-use Rattle.std.specs.Prelude.{All, Contains, IfSome, IsSome, IsTrue, Result}
+use Rattle.std.specs.Prelude.{All, Contains, IfErr, IfSome, IsErrAnd, IsSome, IsTrue, Result}
 use Rattle.std.specs.Option.{option_to_list}
 use Rattle.scr_notation.specs.declared.event.Event.{Event}
 use Rattle.scr_notation.specs.EventSets.{Has}
@@ -14,16 +14,17 @@ use Rattle.scr_notation.specs.declared.event.Family.{Family}
 use Rattle.scr_notation.specs.declared.event.Family.TheVariants.{Cube222, Cube333, Pyraminx, Skewb, Square1}
 use Rattle.scr_notation.specs.Event.{family_of}
 use Rattle.scr_table.specs.Distances.{Distances}
-use Rattle.scr_table.specs.Lines.{AreTablesOf, HasNoGap}
+use Rattle.scr_table.specs.Lines.{AreTablesOf, HasNoGap, TableLine}
 use Rattle.scr_table.specs.Causes.{IsCauseOf}
 use Rattle.scr_table.specs.declared.fault.BuildFault.{BuildFault}
-use Rattle.scr_table.specs.SearchTables.{IsCauseAmong}
+use Rattle.scr_table.specs.SearchTables.{SearchTable, IsCauseAmong}
 use Rattle.scr_table.specs.TableStates.{AreLinesOf, AreWhole, all_by_positions}
-use Rattle.scr_table.proofs.TableStatesLaws.{AreWhole-lines, IsCauseAmong-lines}
+use Rattle.scr_table.proofs.LineLaws.{IfErr-handed}
+use Rattle.scr_table.proofs.TableStatesLaws.{AreWhole-append, AreWhole-lines, IsCauseAmong-before, IsCauseAmong-behind, IsCauseAmong-lines}
 use Rattle.scr_table_text.specs.Counted.{WritesTables}
 use Rattle.scr_table_text.proofs.StateTexts.{IsTablesText-states}
 use Rattle.scr_outside.specs.Change.{Change}
-use Rattle.scr_small.specs.Tables.{BuiltTable, IsBuilt, family_line, small_line, small_lines}
+use Rattle.scr_small.specs.Tables.{BuiltTable, IsBuilt, family_line}
 use Rattle.scr_slots.specs.TableLines.{family_lines}
 use Rattle.scr_slots.specs.Held.{HoldsTables}
 use Rattle.scr_slots.specs.Tables.{is_family, asks_for, family_tables, tables_asked, tables_for}
@@ -149,11 +150,6 @@ small_lines-of Pyraminx some = refl
 small_lines-of Skewb some = refl
 small_lines-of Square1 some = let none : ⊥ = cc in absurd none
 
-pub small_lines-event : (family : Family) (event : Event) → IsSome (small_line event) → family_of event ≡ Some family
-    → small_lines event ≡ family_lines family
-small_lines-event family event some of_family =
-    ap (λ f. option_to_list (family_line f)) of_family ∙ small_lines-of family (subst (λ f. IsSome (family_line f)) of_family some)
-
 -- the one table of a family is that of its lines
 pub small-are : (family : Family) (event : Event) (found : Option (Bor BuiltTable)) (built : Bor BuiltTable) (table : Distances)
     → IsSome (family_line (Some family)) → family_of event ≡ Some family → IfSome found (λ tables. tables.now.event ≡ event)
@@ -187,3 +183,51 @@ texts-one event family change r of_family told writes =
       IsTablesText-states (family_tables family) (family_lines family) told writes.0 writes.1,
       writes.2,
     )
+
+-- and so is that of the one table of a family
+pub texts-small : {E : Type 0} (event : Event) (family : Family) (own : Event) (found : Option (Bor BuiltTable)) (built : Bor BuiltTable) (table : Distances)
+    (change : Change) (r : Result (Unit {0}) E) → IsSome (family_line (Some family)) → family_of own ≡ Some family → IfSome found (λ tables. tables.now.event ≡ own)
+    → found ≡ Some built → table ≡ built.now.distances → IsBuilt built.now → family_of event ≡ Some family → AreLinesOf (family_tables family) (family_lines family)
+    → ((lines : List TableLine) → AreTablesOf lines (table ∷ []) → WritesTables (all_by_positions lines) change r)
+    → WritesTables (tables_for (event ∷ [])) change r
+texts-small event family own found built table change r some of_own of_event there same is of_family told writes =
+    texts-one event family change r of_family told
+    (writes (family_lines family) (small-are family own found built table some of_own of_event there same is))
+
+-- ---- families whose tables are built one after another
+
+abbrev asked_of : List Event → List Family → List SearchTable
+asked_of events [] = []
+asked_of events (family ∷ []) = tables_asked events family
+asked_of events (family ∷ next ∷ more) = tables_asked events family ++ asked_of events (next ∷ more)
+
+-- those of each have no gap
+abbrev pub AreWholeOf : List Event → List Family → Type 0
+AreWholeOf events [] = Unit {0}
+AreWholeOf events (family ∷ more) = AreWhole (tables_asked events family) × AreWholeOf events more
+
+pub AreWhole-of : (events : List Event) (families : List Family) → AreWholeOf events families → AreWhole (asked_of events families)
+AreWhole-of events [] whole = tt
+AreWhole-of events (family ∷ []) whole = whole.0
+AreWhole-of events (family ∷ next ∷ more) whole =
+    AreWhole-append (tables_asked events family) (asked_of events (next ∷ more)) whole.0 (AreWhole-of events (next ∷ more) whole.1)
+
+-- The cause of those of one family is that of all, where those of the families before it have no gap,
+cause-among : (events : List Event) (why : BuildFault) (before : List Family) (family : Family) (behind : List Family) → AreWholeOf events before
+    → IsCauseAmong (tables_asked events family) why → IsCauseAmong (asked_of events (before ++ family ∷ behind)) why
+cause-among events why [] family [] whole cause = cause
+cause-among events why [] family (next ∷ behind) whole cause =
+    IsCauseAmong-before (tables_asked events family) (asked_of events (next ∷ behind)) why cause
+cause-among events why (first ∷ []) family behind whole cause =
+    IsCauseAmong-behind (tables_asked events first) (asked_of events (family ∷ behind)) why whole.0
+    (cause-among events why [] family behind tt cause)
+cause-among events why (first ∷ second ∷ before) family behind whole cause =
+    IsCauseAmong-behind (tables_asked events first) (asked_of events (second ∷ before ++ family ∷ behind)) why whole.0
+    (cause-among events why (second ∷ before) family behind whole.1 cause)
+
+-- and is handed on as such.
+pub cause-handed : {A : Type 0} (events : List Event) (why : BuildFault) (r : Result A BuildFault) → IsErrAnd r (λ f. f ≡ why)
+    → (before : List Family) (family : Family) (behind : List Family) → AreWholeOf events before → IsCauseAmong (tables_asked events family) why
+    → IfErr r (IsCauseAmong (asked_of events (before ++ family ∷ behind)))
+cause-handed events why r handed before family behind whole cause =
+    IfErr-handed (IsCauseAmong (asked_of events (before ++ family ∷ behind))) why r handed (cause-among events why before family behind whole cause)

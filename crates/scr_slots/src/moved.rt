@@ -1,6 +1,6 @@
 //! Events whose scrambles are random moves.
 
-ghost use Rattle.std.specs.Prelude.{◌≤◌, Some};
+ghost use Rattle.std.specs.Prelude.{◌≤◌};
 ghost use Rattle.scr_notation.specs.declared.event.Event.TheVariants.{Minx};
 ghost use Rattle.scr_bigs.specs.BigCubes.{IsSide, cube_of};
 ghost use Rattle.scr_slots.specs.Slots.{ByMoves, IsSlotAnswer, IsSlotScramble};

@@ -1,5 +1,17 @@
 //! The scramblers of the puzzles.
 
+ghost use Rattle.scr_combinatorics.specs.Play.{play};
+ghost use Rattle.scr_notation.specs.declared.event.Event.TheVariants.{C333, Bf333, Fm333, Pyram};
+ghost use Rattle.scr_notation.specs.declared.event.Event.TheVariants.{Clock as EventClock, Sq1 as EventSq1};
+ghost use Rattle.scr_clock.specs.Written.{IsClockScramble};
+ghost use Rattle.scr_small.specs.NumberedPuzzles.{IsScrambleOf, puzzle_of};
+ghost use Rattle.scr_small.specs.Puzzles.{IsScramblePyram};
+ghost use Rattle.scr_sq1short.specs.ShortScrambles.{IsShortScramble};
+ghost use Rattle.scr_twophase.specs.HeldScramble.{IsScramble333bf};
+ghost use Rattle.scr_slots.specs.Events.{drawn_333, drawn_clock, drawn_fewest, drawn_held, drawn_pyram, drawn_sq1};
+ghost use Rattle.scr_slots.specs.Events.{at_most, IsScramble333Within, IsScrambleFewestWithin};
+ghost use Rattle.scr_slots.specs.Shown.{drawn_puzzle};
+
 use crate::cube_tables::CubeTables;
 use crate::scrambler::Scrambler;
 use crate::settings::Effort;
@@ -15,15 +27,9 @@ use scr_tetra::Pyraminx;
 use scr_twophase::{scramble_333, scramble_333bf};
 
 impl Scrambler<Clock> for ClockNumbers {
-    ghost use Rattle.scr_notation.specs.declared.event.Event.TheVariants.{Clock as EventClock};
-    ghost use Rattle.scr_clock.specs.Written.{IsClockScramble};
-    ghost use Rattle.scr_slots.specs.Events.{drawn_clock};
-
     ghost event = { λ _. EventClock };
 
-    ghost played = { λ _. drawn_clock.played };
-
-    ghost is_within = { λ _. drawn_clock.IsWithin };
+    ghost drawn = { λ _. drawn_clock };
 
     ghost is_scramble = { λ _ _. IsClockScramble };
 
@@ -33,15 +39,9 @@ impl Scrambler<Clock> for ClockNumbers {
 }
 
 impl<P: OneTable> Scrambler<P::State> for SmallPuzzle<'_, P> {
-    ghost use Rattle.scr_combinatorics.specs.Play.{play};
-    ghost use Rattle.scr_small.specs.NumberedPuzzles.{IsScrambleOf};
-    ghost use Rattle.scr_slots.specs.Events.{at_most};
-
     ghost event = { λ _. P.TABLE.event };
 
-    ghost played = { λ _. play P.shown.after P.shown.solved };
-
-    ghost is_within = { λ _. at_most P.TABLE.bound };
+    ghost drawn = { λ _. drawn_puzzle (puzzle_of P.shown) (play P.shown.after P.shown.solved) (at_most P.TABLE.bound) };
 
     ghost is_scramble = { λ _ _. IsScrambleOf P.shown };
 
@@ -51,15 +51,9 @@ impl<P: OneTable> Scrambler<P::State> for SmallPuzzle<'_, P> {
 }
 
 impl Scrambler<Pyraminx> for SmallPyram<'_> {
-    ghost use Rattle.scr_notation.specs.declared.event.Event.TheVariants.{Pyram};
-    ghost use Rattle.scr_small.specs.Puzzles.{IsScramblePyram};
-    ghost use Rattle.scr_slots.specs.Events.{drawn_pyram};
-
     ghost event = { λ _. Pyram };
 
-    ghost played = { λ _. drawn_pyram.played };
-
-    ghost is_within = { λ _. drawn_pyram.IsWithin };
+    ghost drawn = { λ _. drawn_pyram };
 
     ghost is_scramble = { λ _ _. IsScramblePyram };
 
@@ -69,14 +63,9 @@ impl Scrambler<Pyraminx> for SmallPyram<'_> {
 }
 
 impl Scrambler<Cube> for CubeTables {
-    ghost use Rattle.scr_notation.specs.declared.event.Event.TheVariants.{C333};
-    ghost use Rattle.scr_slots.specs.Events.{drawn_333, IsScramble333Within};
-
     ghost event = { λ _. C333 };
 
-    ghost played = { λ _. drawn_333.played };
-
-    ghost is_within = { λ _. drawn_333.IsWithin };
+    ghost drawn = { λ _. drawn_333 };
 
     ghost is_scramble = { λ _. IsScramble333Within };
 
@@ -90,14 +79,9 @@ impl Scrambler<Cube> for CubeTables {
 pub(crate) struct ForFewestMoves<'a>(pub &'a CubeTables);
 
 impl Scrambler<Cube> for ForFewestMoves<'_> {
-    ghost use Rattle.scr_notation.specs.declared.event.Event.TheVariants.{Fm333};
-    ghost use Rattle.scr_slots.specs.Events.{drawn_fewest, IsScrambleFewestWithin};
-
     ghost event = { λ _. Fm333 };
 
-    ghost played = { λ _. drawn_fewest.played };
-
-    ghost is_within = { λ _. drawn_fewest.IsWithin };
+    ghost drawn = { λ _. drawn_fewest };
 
     ghost is_scramble = { λ _. IsScrambleFewestWithin };
 
@@ -108,15 +92,9 @@ impl Scrambler<Cube> for ForFewestMoves<'_> {
 }
 
 impl Scrambler<Held> for CubeTables {
-    ghost use Rattle.scr_notation.specs.declared.event.Event.TheVariants.{Bf333};
-    ghost use Rattle.scr_twophase.specs.HeldScramble.{IsScramble333bf};
-    ghost use Rattle.scr_slots.specs.Events.{drawn_held};
-
     ghost event = { λ _. Bf333 };
 
-    ghost played = { λ _. drawn_held.played };
-
-    ghost is_within = { λ _. drawn_held.IsWithin };
+    ghost drawn = { λ _. drawn_held };
 
     ghost is_scramble = { λ _ effort. IsScramble333bf effort.tries };
 
@@ -126,15 +104,9 @@ impl Scrambler<Held> for CubeTables {
 }
 
 impl Scrambler<Sq1> for Sq1Tables {
-    ghost use Rattle.scr_notation.specs.declared.event.Event.TheVariants.{Sq1 as EventSq1};
-    ghost use Rattle.scr_sq1short.specs.ShortScrambles.{IsShortScramble};
-    ghost use Rattle.scr_slots.specs.Events.{drawn_sq1};
-
     ghost event = { λ _. EventSq1 };
 
-    ghost played = { λ _. drawn_sq1.played };
-
-    ghost is_within = { λ _. drawn_sq1.IsWithin };
+    ghost drawn = { λ _. drawn_sq1 };
 
     ghost is_scramble = { λ _ effort. IsShortScramble effort.short };
 

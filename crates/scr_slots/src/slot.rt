@@ -93,9 +93,10 @@ pub fn drawn_answer<E: Numbering + Permit<E::State>, Z: Scrambler<E::State>>(
 ) -> Option<Scramble>
     requires least { least ≤ E.greatest event.now }
     requires settings { AreInRange settings.now }
-    requires reaches { (turns : List Turn) (state : E.State) → Z.played scrambler.now turns ≡ Some state
+    requires reaches { (turns : List Turn) (state : E.State) → (Z.drawn scrambler.now).played turns ≡ Some state
         → IsReached (E.puzzle event.now) state }
-    ensures { let drawn = drawn_puzzle (E.puzzle event.now) (Z.played scrambler.now) (Z.is_within scrambler.now) in
+    ensures { let promised = Z.drawn scrambler.now in
+        let drawn = drawn_puzzle (E.puzzle event.now) promised.played promised.IsWithin in
         let numbers = numbers_of (E.numbered event.now) in
         let scrambling = ByState E.State (Z.event scrambler.now) drawn numbers (Z.is_scramble scrambler.now) in
         IsSlotAnswer scrambling settings.now least stream result }

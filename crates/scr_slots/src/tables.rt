@@ -1,17 +1,19 @@
 //! The tables of a list's events.
 
-ghost use Rattle.std.specs.Prelude.{◌≡◌, ℕ, ◌≤◌, ◌↔◌, ◌∷◌, [], map, Contains, IfOk, IfSome, IfErr, IsSome, IsSomeAnd, IsTrue};
+ghost use Rattle.std.specs.Prelude.{◌≡◌, ℕ, ◌≤◌, ◌↔◌, ◌∷◌, [], map, All, Contains, IfOk, IfSome, IfErr, IsSome, IsTrue};
 ghost use Rattle.scr_notation.specs.declared.event.Event.{Event as EventOf};
 ghost use Rattle.scr_notation.specs.declared.event.Event.TheVariants.{C222, Pyram, Skewb as EventSkewb};
 ghost use Rattle.scr_notation.specs.declared.event.Family.TheVariants as family;
 ghost use Rattle.scr_notation.specs.Event.{family_of, greatest_of};
 ghost use Rattle.scr_notation.specs.EventSets.{Has};
+ghost use Rattle.scr_table.specs.Causes.{IsCauseOf};
+ghost use Rattle.scr_table.specs.Lines.{HasNoGap};
 ghost use Rattle.scr_table.specs.SearchTables.{IsCauseAmong};
 ghost use Rattle.scr_table.specs.TableStates.{AreWhole};
-ghost use Rattle.scr_small.specs.Tables.{small_line};
 ghost use Rattle.scr_slots.specs.Events.{scrambling_of};
 ghost use Rattle.scr_slots.specs.Held.{HasFamily, HoldsTable, HoldsTables};
 ghost use Rattle.scr_slots.specs.Slots.{IsDrawnFairly};
+ghost use Rattle.scr_slots.specs.TableLines.{family_lines};
 ghost use Rattle.scr_slots.specs.Tables.{IsBuildCause, asks_for, is_family, tables_asked, tables_for};
 
 use crate::cube_tables::CubeTables;
@@ -72,6 +74,7 @@ impl Tables {
     /// families. None of them has a gap; where one has, it is that of the first table that has one. Memory can be wanting
     /// only where one of the events needs a table. Each event is then drawn fairly at each minimum of its range; of random moves this says that
     /// each of their steps is fair.
+    #[tactic(auto, unfolding(crate::specs::TableLines::family_lines))]
     pub fn build<R: Threads + Sync>(
         rt: &R,
         alloc: Global,
@@ -86,11 +89,42 @@ impl Tables {
         ensures no_gap { IfOk result (λ _. AreWhole (tables_for (map (λ round. round.event) rounds.now))) }
         ensures cause { IfErr result (IsBuildCause (map (λ round. round.event) rounds.now)) }
     {
-        let of_222 = small_tables(rt, alloc, rounds, Family::Cube222, Event::C222, workers)?;
-        let of_333 = cube_tables(rt, alloc, rounds, workers)?;
-        let of_pyram = small_tables(rt, alloc, rounds, Family::Pyraminx, Event::Pyram, workers)?;
-        let of_skewb = small_tables(rt, alloc, rounds, Family::Skewb, Event::Skewb, workers)?;
-        let of_sq1 = sq1_tables(rt, alloc, rounds, workers)?;
+        let cubes = slots_of(rounds, Family::Cube333);
+        let of_222 = asked_tables(
+            rounds,
+            Family::Cube222,
+            || -> Result<SmallTables, BuildFault>
+                requires { (1 ≤ workers) × (workers ≤ 64) }
+            { SmallTables::build(rt, alloc, Event::C222, workers) },
+        )?;
+        let of_333 = asked_tables(
+            rounds,
+            Family::Cube333,
+            || -> Result<CubeTables, BuildFault>
+                requires { (1 ≤ workers) × (workers ≤ 64) }
+            { CubeTables::build(rt, alloc, cubes, workers) },
+        )?;
+        let of_pyram = asked_tables(
+            rounds,
+            Family::Pyraminx,
+            || -> Result<SmallTables, BuildFault>
+                requires { (1 ≤ workers) × (workers ≤ 64) }
+            { SmallTables::build(rt, alloc, Event::Pyram, workers) },
+        )?;
+        let of_skewb = asked_tables(
+            rounds,
+            Family::Skewb,
+            || -> Result<SmallTables, BuildFault>
+                requires { (1 ≤ workers) × (workers ≤ 64) }
+            { SmallTables::build(rt, alloc, Event::Skewb, workers) },
+        )?;
+        let of_sq1 = asked_tables(
+            rounds,
+            Family::Square1,
+            || -> Result<Sq1Tables, BuildFault>
+                requires { (1 ≤ workers) × (workers ≤ 64) }
+            { Sq1Tables::build(rt, alloc, workers) },
+        )?;
         let tables = Tables {
             events: events_of(rounds),
             of_222,
@@ -224,72 +258,24 @@ fn is_of(event: Event, family: Family) -> bool
     }
 }
 
-/// The table of the event of a family that one table solves, where one of these rounds is of it.
-fn small_tables<R: Threads + Sync>(
-    rt: &R,
-    alloc: Global,
+/// The tables of a family, where one of these rounds is of it, as `build` makes them.
+fn asked_tables<T, B: FnOnce() -> Result<T, BuildFault>>(
     rounds: &[Round],
     family: Family,
-    event: Event,
-    workers: u32,
-) -> Result<Option<SmallTables>, BuildFault>
-    requires small { IsSome (small_line event) }
-    requires of_family { family_of event ≡ Some family }
-    requires workers { (1 ≤ workers) × (workers ≤ 64) }
+    build: B,
+) -> Result<Option<T>, BuildFault>
+    requires callable { B.IsAlwaysCallable build }
+    requires no_gap { (built : _) → B.post build built → IfOk built (λ _. All HasNoGap (family_lines family)) }
+    requires why { (built : _) → B.post build built → IfErr built (IsCauseOf (family_lines family)) }
     ensures built { let events = map (λ round. round.event) rounds.now in
         IfOk result (λ tables. IsTrue (asks_for events family) → IsSome tables) }
-    ensures event { IfOk result (λ tables. IfSome tables (λ built. built.event ≡ event)) }
+    ensures made { IfOk result (λ tables. IfSome tables (λ built. B.post build (Ok built))) }
     ensures whole { IfOk result (λ _. AreWhole (tables_asked (map (λ round. round.event) rounds.now) family)) }
     ensures cause { IfErr result (IsCauseAmong (tables_asked (map (λ round. round.event) rounds.now) family)) }
 {
     if asks_for(rounds, family) {
         tables_told_by_states();
-        let tables = SmallTables::build(rt, alloc, event, workers)?;
-        Ok(Some(tables))
-    } else {
-        Ok(None)
-    }
-}
-
-/// The tables of the 3x3x3, where one of these rounds is of one.
-fn cube_tables<R: Threads + Sync>(
-    rt: &R,
-    alloc: Global,
-    rounds: &[Round],
-    workers: u32,
-) -> Result<Option<CubeTables>, BuildFault>
-    requires workers { (1 ≤ workers) × (workers ≤ 64) }
-    ensures built { let events = map (λ round. round.event) rounds.now in
-        IfOk result (λ tables. IsTrue (asks_for events family.Cube333) → IsSome tables) }
-    ensures whole { IfOk result (λ _. AreWhole (tables_asked (map (λ round. round.event) rounds.now) family.Cube333)) }
-    ensures cause { IfErr result (IsCauseAmong (tables_asked (map (λ round. round.event) rounds.now) family.Cube333)) }
-{
-    if asks_for(rounds, Family::Cube333) {
-        tables_told_by_states();
-        let cubes = slots_of(rounds, Family::Cube333);
-        let tables = CubeTables::build(rt, alloc, cubes, workers)?;
-        Ok(Some(tables))
-    } else {
-        Ok(None)
-    }
-}
-
-/// The tables of the Square-1, where one of these rounds is of it.
-fn sq1_tables<R: Threads + Sync>(
-    rt: &R,
-    alloc: Global,
-    rounds: &[Round],
-    workers: u32,
-) -> Result<Option<Sq1Tables>, BuildFault>
-    requires workers { (1 ≤ workers) × (workers ≤ 64) }
-    ensures built { let events = map (λ round. round.event) rounds.now in
-        IfOk result (λ tables. IsTrue (asks_for events family.Square1) → IsSome tables) }
-    ensures whole { IfOk result (λ _. AreWhole (tables_asked (map (λ round. round.event) rounds.now) family.Square1)) }
-    ensures cause { IfErr result (IsCauseAmong (tables_asked (map (λ round. round.event) rounds.now) family.Square1)) }
-{
-    if asks_for(rounds, Family::Square1) {
-        tables_told_by_states();
-        let tables = Sq1Tables::build(rt, alloc, workers)?;
+        let tables = build()?;
         Ok(Some(tables))
     } else {
         Ok(None)

@@ -1,5 +1,5 @@
 //! Laws of the puzzles that one table solves. The functions do nothing: what each ensures is the law.
-ghost use Rattle.std.specs.Prelude.{◌≡◌, ℕ, ◌+◌, ◌/◌, ◌≤◌, ◌↔◌, List, Some, None, true, false, length, slice_index};
+ghost use Rattle.std.specs.Prelude.{◌≡◌, ℕ, ◌+◌, ◌/◌, ◌≤◌, ◌↔◌, List, Some, length, slice_index};
 ghost use Rattle.scr_combinatorics.specs.Play.{play};
 ghost use Rattle.scr_combinatorics.specs.Reach.{IsReached, Needs};
 ghost use Rattle.scr_orbit.specs.PowerPuzzles.{after_letter, power_puzzle};

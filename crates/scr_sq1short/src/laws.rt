@@ -1,5 +1,5 @@
 //! Laws of the short scrambles. The functions do nothing: what each ensures is the law.
-ghost use Rattle.std.specs.Prelude.{◌≡◌, ◌≤◌, ◌↔◌, ℕ, List};
+ghost use Rattle.std.specs.Prelude.{◌≤◌, ◌↔◌, ℕ, List};
 ghost use Rattle.scr_notation.specs.declared.turn.Turn.{Turn};
 ghost use Rattle.scr_sq1.specs.Units.{Sq1State, IsSq1};
 ghost use Rattle.scr_sq1solve.specs.Counts.{twists_in};

@@ -1,5 +1,5 @@
 //! What holds of the stages whatever the code: calls that do nothing, whose contracts are the laws.
-ghost use Rattle.std.specs.Prelude.{◌≡◌, ◌<◌, ◌≤◌, ◌↔◌, ◌++◌, [], if◌then◌else◌, Contains, IsTrue, List, Some, ℕ, length, slice_get};
+ghost use Rattle.std.specs.Prelude.{◌≡◌, ◌≤◌, ◌↔◌, ◌++◌, [], if◌then◌else◌, Contains, IsTrue, List, Some, ℕ, length, slice_get};
 ghost use Rattle.std.specs.List.{AllPairs};
 ghost use Rattle.scr_combinatorics.specs.Back.{back};
 ghost use Rattle.scr_combinatorics.specs.FirstWord.{LeadsTo, IsEarlier};
@@ -14,11 +14,9 @@ ghost use Rattle.scr_notation.specs.Turning.{opposite};
 ghost use Rattle.scr_sq1solve.specs.Stages.{shape_letter, shape_stage, layer_stages, sq1_stages, equator_word, IsScrambleSq1};
 ghost use Rattle.scr_sq1solve.specs.Totals.{is_squared, is_shape_word, shape_words, IsTotal};
 ghost use Rattle.scr_sq1solve.specs.Counts.{twists_in, turned_over, IsWithinBounds};
-ghost use Rattle.scr_coord.specs.SearchSpaces.{positions, Follows};
 ghost use Rattle.scr_sq1.specs.Numbers.{sq1_numbered};
-ghost use Rattle.scr_sq1solve.specs.Spaces.{IsPairedSq1, shapes_space, pairings_space, square_space};
-ghost use Rattle.scr_sq1solve.specs.Tables.{shapes_index, pairings_index, square_index};
-ghost use Rattle.scr_sq1solve.specs.Tables.{shapes_line, pairings_line, square_line, sq1_lines};
+ghost use Rattle.scr_sq1solve.specs.Spaces.{IsPairedSq1};
+ghost use Rattle.scr_sq1solve.specs.Tables.{square_index, sq1_lines};
 ghost use Rattle.scr_sq1solve.specs.SearchTables.{sq1_tables};
 ghost use Rattle.scr_table.specs.TableStates.{AreLinesOf};
 
@@ -45,21 +43,6 @@ pub fn reached(tables: &Sq1Tables)
     // `all` says that they are built
     let _built = tables.all();
 }
-
-/// From every state with an index, of those of which a table speaks, a letter of the table's stage leads to one and the
-/// same index, that to which the table's coordinate leads, or is barred as it is there; and all of them are at the
-/// stage's goal, or none. Each number below the table's count is the index of one of these states.
-pub fn indexes()
-    ensures shapes { Follows shapes_space (positions shapes_line.coordinate) shapes_index }
-    ensures pairings { Follows pairings_space (positions pairings_line.coordinate) pairings_index }
-    ensures square { Follows square_space (positions square_line.coordinate) square_index }
-    ensures shapes_each { (i : ℕ) → i < shapes_line.coordinate.count
-        → (s : Sq1State) × shapes_space.IsValid s × (shapes_index s ≡ i) }
-    ensures pairings_each { (i : ℕ) → i < pairings_line.coordinate.count
-        → (s : Sq1State) × pairings_space.IsValid s × (pairings_index s ≡ i) }
-    ensures square_each { (i : ℕ) → i < square_line.coordinate.count
-        → (s : Sq1State) × square_space.IsValid s × (square_index s ≡ i) }
-{}
 
 /// Two normal states in which mates stand opposite to each other have one index in `square` exactly where they are
 /// equal, up to the equator.
@@ -112,8 +95,10 @@ pub fn totals()
         × (turns ≡ back opposite total) }
 {}
 
-/// The lines by which the tables are built are those of the tables as states tell them: turns lead from numbers to numbers as
-/// from states to states, and each number is that of one.
+/// The lines by which the tables are built are those of the tables as states tell them. From every state with a number,
+/// of those of which a table speaks, a letter of the table's stage leads to one and the same number, that to which the
+/// line's coordinate leads, or is barred as it is there; and all of them are at the coordinate's goal, or none. Each
+/// number below the table's count is that of such a state.
 pub fn told_by_states()
     ensures { AreLinesOf sq1_tables sq1_lines }
 {}

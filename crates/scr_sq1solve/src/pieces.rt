@@ -2,7 +2,7 @@
 ghost use Rattle.std.specs.Prelude.{◌≡◌, ◌<◌, slice_index};
 ghost use Rattle.scr_combinatorics.specs.Permutations.{IsPermutation, place_of};
 ghost use Rattle.scr_combinatorics.specs.Pairings.{IsPairing};
-ghost use Rattle.scr_sq1solve.specs.Stages.{mates, pairing_of};
+ghost use Rattle.scr_sq1solve.specs.Stages.{pairing_of};
 ghost use Rattle.scr_sq1solve.specs.Tables.{carried_pairing, is_larger, bits_number, pairs_number};
 ghost use Rattle.scr_sq1solve.specs.Codes.{code_number, code_at};
 

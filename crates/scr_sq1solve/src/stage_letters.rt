@@ -1,5 +1,5 @@
 //! The letters of the stages, as words of turns.
-ghost use Rattle.std.specs.Prelude.{◌≡◌, ◌+◌, ◌<◌, ◌≤◌, ◌∷◌, [], ◌++◌, All, flat_map, length};
+ghost use Rattle.std.specs.Prelude.{◌≡◌, ◌+◌, ◌<◌, ◌≤◌, [], ◌++◌, All, flat_map, length};
 ghost use Rattle.scr_notation.specs.declared.event.Event.TheVariants.{Sq1 as EventSq1};
 ghost use Rattle.scr_notation.specs.Layers.{twelfths, are_still};
 ghost use Rattle.scr_sq1solve.specs.Stages.{turn_word, equator_word};

@@ -1,8 +1,8 @@
 -- A half turn of a half cube by its number: the four parts are turned each by itself.
-use Rattle.std.proofs.Common.{◌≡◌, ℕ, ◌+◌, ◌*◌, ◌/◌, ◌%◌, ◌<◌, Bool, true, cond, List, slice_index, Option, Some, None, refl, sym, ap, ◌∙◌, lit<, arith, eqb-true, lt-ltb}
+use Rattle.std.proofs.Common.{◌≡◌, ℕ, get_or, ◌+◌, ◌*◌, ◌/◌, ◌%◌, ◌<◌, Bool, true, cond, List, slice_index, Option, Some, None, refl, sym, ap, ◌∙◌, lit<, arith, eqb-true, lt-ltb}
 use Rattle.std.specs.Prelude.{◌==◌, nat_lt}
 use Rattle.std.specs.Option.{option_map}
-use Rattle.std.proofs.lemmas.Option.{same_Some}
+use Rattle.std.proofs.lemmas.Option.{slice_get-get_or}
 use Rattle.scr_combinatorics.specs.Digits.{mixed_digits}
 use Rattle.scr_combinatorics.specs.Permutations.{parity, permutation_number, permutation_at}
 use Rattle.scr_combinatorics.proofs.Digits.{mixed_digits-mixed_number}
@@ -11,15 +11,16 @@ use Rattle.scr_coord.specs.Coordinates.{Coordinate}
 use Rattle.scr_coord.specs.Moves.{Moves, moves_coordinate}
 use Rattle.scr_coord.specs.SearchSpaces.{positions, Follows, ShowsSame}
 use Rattle.scr_coord.proofs.StaysBelowLaws.{StaysBelow-moves}
-use Rattle.scr_cube.specs.Cube333.{CubeState}
+use Rattle.scr_cube.specs.Cube333.{CubeState, cube_action}
 use Rattle.scr_stages.specs.Stages.{half_turns, after_of, middle_edges}
 use Rattle.scr_stages.specs.Numbers.{first_edges, second_edges, IsHalfCube, AreParts, ArePartNumbers, half_bases, half_digits, half_cubes}
-use Rattle.scr_stages.specs.Tables.{half_corners_coordinate, half_block_coordinate, halves_coordinate}
+use Rattle.scr_stages.specs.Tables.{turns_of, half_corners_coordinate, half_block_coordinate, halves_coordinate}
 use Rattle.scr_stages.specs.Tetrads.{in_block, half_corners_number, half_corners_at}
 use Rattle.scr_stages.specs.declared.half_moves.HalfMoves.{HalfMoves}
 use Rattle.scr_stages.specs.declared.half_parts.HalfParts.{HalfParts}
 use Rattle.scr_stages.proofs.FiniteTests.{passes_below, test-below}
 use Rattle.scr_stages.proofs.HalfCubes.{number-lt, AreDigits-half, AreOrders-blocks, IsDominoCube-half, IsTetradsHome-half, half_corners_at-number, half_cubes-numbered, parity-middle}
+use Rattle.scr_stages.proofs.HalfTurned.{halves_moves}
 use Rattle.scr_stages.proofs.HalfParts.{IsHalfBlock, IsHalfBlock-first, IsHalfBlock-second, IsHalfBlock-middle, Follows-half_corners, Follows-half_block}
 
 -- ---- the number of the middle edges, by its half and by parities
@@ -133,37 +134,25 @@ module _ (c : CubeState) (half : IsHalfCube c) (t : ℕ) (lt : t < 6) where
       → (half_block_coordinate block).after q t ≡ option_map (λ d. permutation_number (in_block block d.edges.pieces)) after
   block_after block b q e = part_after (half_block_coordinate block) _ (λ d. permutation_number (in_block block d.edges.pieces)) q (Follows-half_block block b) e lt
 
--- the parts of the turned cube are told by what the parts' turns tell
-together : (o : Option CubeState) (third second first corners n : ℕ)
-    → ((c : CubeState) → AreParts c third second first corners → n ≡ half_cubes.number_of c)
-    → option_map (λ d. permutation_number (in_block middle_edges d.edges.pieces)) o ≡ Some third
-    → option_map (λ d. permutation_number (in_block second_edges d.edges.pieces)) o ≡ Some second
-    → option_map (λ d. permutation_number (in_block first_edges d.edges.pieces)) o ≡ Some first
-    → option_map (λ d. half_corners_number d.corners.pieces) o ≡ Some corners
-    → Some n ≡ option_map half_cubes.number_of o
-together None third second first corners n by a b c d = absurd Prim.cc
-together (Some r) third second first corners n by a b c d =
-    ap Some (by r (record {
-      middle_is = sym (same_Some _ _ a);
-      second_is = sym (same_Some _ _ b);
-      first_is = sym (same_Some _ _ c);
-      corners_is = sym (same_Some _ _ d);
-    }))
-
-none_by : {A B : Type 0} (view : CubeState → A) (other : CubeState → B) (o : Option CubeState) → option_map view o ≡ None → None ≡ option_map other o
-none_by view other None e = refl
-none_by view other (Some r) e = absurd Prim.cc
-
 -- ---- the same in move tables
 
--- where a move table leads, as what it shows does
-module _ (part : Coordinate) (moves : Moves) (shows : ShowsSame part (moves_coordinate moves)) (q t : ℕ) (at : q < part.count) (turn : t < part.turns) where
-  pub shown_after : (r : Option ℕ) → r ≡ (moves_coordinate moves).after q t → part.after q t ≡ r
-  shown_after r e = sym (e ∙ shows.after q t at turn)
+-- a half turn leads from every cube to one
+turned_cube : (c : CubeState) (t : ℕ) → t < 6 → (d : CubeState) × (after_of half_turns c t ≡ Some d)
+turned_cube c t lt =
+    let r = get_or (turns_of half_turns) t cube_action.identity in (
+      cube_action.turned c r,
+      halves_moves.after_is c t ∙ ap (option_map (cube_action.turned c)) (slice_get-get_or (turns_of half_turns) t cube_action.identity lt),
+    )
 
-  pub shown_below : (r : ℕ) → Some r ≡ (moves_coordinate moves).after q t → r < part.count
-  shown_below r e =
-      omega (arith, shows.count, StaysBelow-moves moves q t r (omega (arith, shows.count, at)) (omega (arith, shows.turns, turn)) (sym e))
+-- a table that shows a coordinate leads below its count
+shown_below : (part : Coordinate) (moves : Moves) → ShowsSame part (moves_coordinate moves) → (q t r : ℕ) → q < part.count → t < part.turns
+    → (moves_coordinate moves).after q t ≡ Some r → r < part.count
+shown_below part moves shows q t r at turn e =
+    omega (arith, shows.count, StaysBelow-moves moves q t r (omega (arith, shows.count, at)) (omega (arith, shows.turns, turn)) e)
+
+-- a number is the one to which a table leads
+abbrev pub IsTarget : Moves → ℕ → ℕ → ℕ → Type 0
+IsTarget moves q t r = (next : ℕ) → (moves_coordinate moves).after q t ≡ Some next → r ≡ next
 
 module _ (me : HalfMoves) (p : ℕ) (at : p < 663552) (parts : HalfParts)
     (is : AreParts (half_cubes.state_at p) parts.middle parts.second parts.first parts.corners)
@@ -171,61 +160,49 @@ module _ (me : HalfMoves) (p : ℕ) (at : p < 663552) (parts : HalfParts)
   abbrev start : CubeState
   start = half_cubes.state_at p
 
-  block_leads : (block : List ℕ) → IsHalfBlock block → (moves : Moves) → ShowsSame (half_block_coordinate block) (moves_coordinate moves)
-      → (q : ℕ) → q ≡ permutation_number (in_block block start.edges.pieces) → q < 24 → (r : Option ℕ) → r ≡ (moves_coordinate moves).after q t
-      → option_map (λ d. permutation_number (in_block block d.edges.pieces)) (after_of half_turns start t) ≡ r
-  block_leads block b moves shows q of q_lt r e =
-      sym (block_after start (half p at) t lt block b q of) ∙ shown_after (half_block_coordinate block) moves shows q t q_lt lt r e
+  to : (d : CubeState) × (after_of half_turns start t ≡ Some d)
+  to = turned_cube start t lt
 
-  middle_leads : (r : Option ℕ) → r ≡ (moves_coordinate me.middle).after parts.middle t
-      → option_map (λ d. permutation_number (in_block middle_edges d.edges.pieces)) (after_of half_turns start t) ≡ r
-  middle_leads = block_leads middle_edges IsHalfBlock-middle me.middle me.shows_middle parts.middle is.middle_is below.middle_below
+  block_to : (block : List ℕ) → IsHalfBlock block → (moves : Moves) → ShowsSame (half_block_coordinate block) (moves_coordinate moves)
+      → (q : ℕ) → q ≡ permutation_number (in_block block start.edges.pieces) → q < 24
+      → (moves_coordinate moves).after q t ≡ Some (permutation_number (in_block block to.0.edges.pieces))
+  block_to block b moves shows q of q_lt =
+      shows.after q t q_lt lt ∙ block_after start (half p at) t lt block b q of
+      ∙ ap (option_map (λ d. permutation_number (in_block block d.edges.pieces))) to.1
 
-  second_leads : (r : Option ℕ) → r ≡ (moves_coordinate me.second).after parts.second t
-      → option_map (λ d. permutation_number (in_block second_edges d.edges.pieces)) (after_of half_turns start t) ≡ r
-  second_leads = block_leads second_edges IsHalfBlock-second me.second me.shows_second parts.second is.second_is below.second_below
+  middle_to : (moves_coordinate me.middle).after parts.middle t ≡ Some (permutation_number (in_block middle_edges to.0.edges.pieces))
+  middle_to = block_to middle_edges IsHalfBlock-middle me.middle me.shows_middle parts.middle is.middle_is below.middle_below
 
-  first_leads : (r : Option ℕ) → r ≡ (moves_coordinate me.first).after parts.first t
-      → option_map (λ d. permutation_number (in_block first_edges d.edges.pieces)) (after_of half_turns start t) ≡ r
-  first_leads = block_leads first_edges IsHalfBlock-first me.first me.shows_first parts.first is.first_is below.first_below
+  second_to : (moves_coordinate me.second).after parts.second t ≡ Some (permutation_number (in_block second_edges to.0.edges.pieces))
+  second_to = block_to second_edges IsHalfBlock-second me.second me.shows_second parts.second is.second_is below.second_below
 
-  corners_lead : (r : Option ℕ) → r ≡ (moves_coordinate me.corners).after parts.corners t
-      → option_map (λ d. half_corners_number d.corners.pieces) (after_of half_turns start t) ≡ r
-  corners_lead r e =
-      sym (corners_after start (half p at) t lt parts.corners is.corners_is)
-      ∙ shown_after half_corners_coordinate me.corners me.shows_corners parts.corners t below.corners_below lt r e
+  first_to : (moves_coordinate me.first).after parts.first t ≡ Some (permutation_number (in_block first_edges to.0.edges.pieces))
+  first_to = block_to first_edges IsHalfBlock-first me.first me.shows_first parts.first is.first_is below.first_below
 
-  -- where one part has no turn, there is none
-  pub no_part : {A : Type 0} (view : CubeState → A) → option_map view (after_of half_turns start t) ≡ None → None ≡ halves_coordinate.after p t
-  no_part view e = none_by view half_cubes.number_of (after_of half_turns start t) e
+  corners_to : (moves_coordinate me.corners).after parts.corners t ≡ Some (half_corners_number to.0.corners.pieces)
+  corners_to =
+      me.shows_corners.after parts.corners t below.corners_below lt ∙ corners_after start (half p at) t lt parts.corners is.corners_is
+      ∙ ap (option_map (λ d. half_corners_number d.corners.pieces)) to.1
 
-  pub no_middle : None ≡ (moves_coordinate me.middle).after parts.middle t → None ≡ halves_coordinate.after p t
-  no_middle e = no_part _ (middle_leads None e)
-
-  pub no_second : None ≡ (moves_coordinate me.second).after parts.second t → None ≡ halves_coordinate.after p t
-  no_second e = no_part _ (second_leads None e)
-
-  pub no_first : None ≡ (moves_coordinate me.first).after parts.first t → None ≡ halves_coordinate.after p t
-  no_first e = no_part _ (first_leads None e)
-
-  pub no_corners : None ≡ (moves_coordinate me.corners).after parts.corners t → None ≡ halves_coordinate.after p t
-  no_corners e = no_part _ (corners_lead None e)
-
-  module _ (turned : HalfParts) (a : Some turned.middle ≡ (moves_coordinate me.middle).after parts.middle t)
-      (b : Some turned.second ≡ (moves_coordinate me.second).after parts.second t)
-      (c : Some turned.first ≡ (moves_coordinate me.first).after parts.first t)
-      (d : Some turned.corners ≡ (moves_coordinate me.corners).after parts.corners t) where
+  module _ (turned : HalfParts) (middle : IsTarget me.middle parts.middle t turned.middle) (second : IsTarget me.second parts.second t turned.second)
+      (first : IsTarget me.first parts.first t turned.first) (corners : IsTarget me.corners parts.corners t turned.corners) where
     pub turned_below : ArePartNumbers turned.middle turned.second turned.first turned.corners
     turned_below = record {
-      middle_below = shown_below (half_block_coordinate middle_edges) me.middle me.shows_middle parts.middle t below.middle_below lt turned.middle a;
-      second_below = shown_below (half_block_coordinate second_edges) me.second me.shows_second parts.second t below.second_below lt turned.second b;
-      first_below = shown_below (half_block_coordinate first_edges) me.first me.shows_first parts.first t below.first_below lt turned.first c;
-      corners_below = shown_below half_corners_coordinate me.corners me.shows_corners parts.corners t below.corners_below lt turned.corners d;
+      middle_below = omega (arith, middle _ middle_to, shown_below (half_block_coordinate middle_edges) me.middle me.shows_middle parts.middle t _ below.middle_below lt middle_to);
+      second_below = omega (arith, second _ second_to, shown_below (half_block_coordinate second_edges) me.second me.shows_second parts.second t _ below.second_below lt second_to);
+      first_below = omega (arith, first _ first_to, shown_below (half_block_coordinate first_edges) me.first me.shows_first parts.first t _ below.first_below lt first_to);
+      corners_below = omega (arith, corners _ corners_to, shown_below half_corners_coordinate me.corners me.shows_corners parts.corners t _ below.corners_below lt corners_to);
     }
 
+    -- the parts of the turned cube are told by what the parts' turns tell
     pub turned_number : (n : ℕ)
         → ((cube : CubeState) → AreParts cube turned.middle turned.second turned.first turned.corners → n ≡ half_cubes.number_of cube)
         → Some n ≡ halves_coordinate.after p t
     turned_number n by =
-        together (after_of half_turns start t) turned.middle turned.second turned.first turned.corners n by (middle_leads (Some turned.middle) a)
-        (second_leads (Some turned.second) b) (first_leads (Some turned.first) c) (corners_lead (Some turned.corners) d)
+        ap Some (by to.0 (record {
+          middle_is = middle _ middle_to;
+          second_is = second _ second_to;
+          first_is = first _ first_to;
+          corners_is = corners _ corners_to;
+        }))
+        ∙ sym (ap (option_map half_cubes.number_of) to.1)

@@ -1,6 +1,5 @@
 //! Some of the turns of a puzzle, as what they do to the places of a block.
-ghost use Rattle.std.specs.Prelude.{◌≡◌, ◌<◌, ◌≤◌, All, map, length, slice_index_or};
-ghost use Rattle.scr_combinatorics.specs.Permutations.{IsPermutation};
+ghost use Rattle.std.specs.Prelude.{◌≡◌, ◌<◌, ◌≤◌, All, map, length};
 ghost use Rattle.scr_orbit.specs.PlaceTurns.{rearrangement_of};
 ghost use Rattle.scr_stages.specs.Tables.{block_turn, block_turns};
 

@@ -134,10 +134,10 @@ impl Coord for HalfMoves {
     fn after(&self, position: u32, turn: u32) -> Option<u32> {
         let parts = self.parts(position);
         let turned = HalfParts {
-            middle: self.middle.after(parts.middle, turn)?,
-            second: self.second.after(parts.second, turn)?,
-            first: self.first.after(parts.first, turn)?,
-            corners: self.corners.after(parts.corners, turn)?,
+            middle: self.middle.target(parts.middle, turn),
+            second: self.second.target(parts.second, turn),
+            first: self.first.target(parts.first, turn),
+            corners: self.corners.target(parts.corners, turn),
         };
         Some(turned.number())
     }

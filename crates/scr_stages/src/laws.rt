@@ -1,5 +1,5 @@
 //! What holds of the stages whatever the code: calls that do nothing, whose contracts are the laws.
-ghost use Rattle.std.specs.Prelude.{◌≡◌, ℕ, ◌<◌, ◌↔◌, ◌≤◌, List, Some, length};
+ghost use Rattle.std.specs.Prelude.{◌≡◌, ◌↔◌, ◌≤◌, List, Some, length};
 ghost use Rattle.scr_combinatorics.specs.Lists.{numbers_from};
 ghost use Rattle.scr_combinatorics.specs.Play.{play};
 ghost use Rattle.scr_combinatorics.specs.Reach.{IsReached};
@@ -7,12 +7,10 @@ ghost use Rattle.scr_table.specs.Distances.{Distances};
 ghost use Rattle.scr_table.specs.Lines.{AreTablesOf};
 ghost use Rattle.scr_orbit.specs.PowerPuzzles.{after_letter, power_puzzle};
 ghost use Rattle.scr_notation.specs.declared.turn.Turn.{Turn as Letter};
-ghost use Rattle.scr_coord.specs.SearchSpaces.{positions, Follows};
 ghost use Rattle.scr_cube.specs.Cube333.{CubeState, IsCube, cube_numbered, cube_powers, solved_cube};
 ghost use Rattle.scr_stages.specs.Stages.{IsDomino, IsHalfTurned, IsStageScramble};
-ghost use Rattle.scr_stages.specs.Numbers.{flips_number, slice_number, tetrads_number, half_cubes};
-ghost use Rattle.scr_stages.specs.Spaces.{flips_space, slice_space, tetrads_space, halves_space};
-ghost use Rattle.scr_stages.specs.Tables.{flips_line, slice_line, tetrads_line, halves_line, stage_lines};
+ghost use Rattle.scr_stages.specs.Numbers.{tetrads_number};
+ghost use Rattle.scr_stages.specs.Tables.{stage_lines};
 ghost use Rattle.scr_stages.specs.Tetrads.{corner_index};
 ghost use Rattle.scr_stages.specs.SearchTables.{stage_tables};
 ghost use Rattle.scr_table.specs.TableStates.{AreLinesOf};
@@ -42,24 +40,6 @@ pub fn reached(tables: &StageTables)
     let _built = tables.all();
 }
 
-/// From every cube with an index, of those of which a table speaks, a turn leads to one and the same index, that to
-/// which the table's coordinate leads; and all of them are at the table's goal, or none. Each number below the table's
-/// count is the index of such a cube.
-pub fn indexes()
-    ensures flips { Follows flips_space (positions flips_line.coordinate) flips_number }
-    ensures slice { Follows slice_space (positions slice_line.coordinate) slice_number }
-    ensures tetrads { Follows tetrads_space (positions tetrads_line.coordinate) tetrads_number }
-    ensures halves { Follows halves_space (positions halves_line.coordinate) half_cubes.number_of }
-    ensures flips_each { (i : ℕ) → i < flips_line.coordinate.count
-        → (c : CubeState) × flips_space.IsValid c × (flips_number c ≡ i) }
-    ensures slice_each { (i : ℕ) → i < slice_line.coordinate.count
-        → (c : CubeState) × slice_space.IsValid c × (slice_number c ≡ i) }
-    ensures tetrads_each { (i : ℕ) → i < tetrads_line.coordinate.count
-        → (c : CubeState) × tetrads_space.IsValid c × (tetrads_number c ≡ i) }
-    ensures halves_each { (i : ℕ) → i < halves_line.coordinate.count
-        → (c : CubeState) × halves_space.IsValid c × (half_cubes.number_of c ≡ i) }
-{}
-
 /// Where the four tables are built, a domino has the index of solved in `tetrads` exactly where half turns lead to it
 /// from solved.
 pub fn half_turned()
@@ -72,8 +52,10 @@ pub fn known_index()
     ensures { corner_index (numbers_from 0 8) ≡ 138 }
 {}
 
-/// The lines by which the tables are built are those of the tables as cubes tell them: turns lead from numbers to numbers as
-/// from cubes to cubes, and each number is that of one.
+/// The lines by which the tables are built are those of the tables as cubes tell them. From every cube with a number,
+/// of those of which a table speaks, a turn leads to one and the same number, that to which the line's coordinate
+/// leads; and all of them are at the coordinate's goal, or none. Each number below the table's count is that of such a
+/// cube.
 pub fn told_by_states()
     ensures { AreLinesOf stage_tables stage_lines }
 {}

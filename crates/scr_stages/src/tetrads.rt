@@ -1,7 +1,6 @@
 //! The corners of a 3x3x3 by tetrads. Each two corners of a tetrad are at one face together, which is their axis.
 ghost use Rattle.std.specs.Prelude.{◌≡◌, ◌<◌, ◌++◌, All, slice_index};
-ghost use Rattle.scr_combinatorics.specs.Permutations.{IsPermutation};
-ghost use Rattle.scr_stages.specs.Tetrads.{first_tetrad, second_tetrad, axes_of, relation_number, corners_related, second_with};
+ghost use Rattle.scr_stages.specs.Tetrads.{second_tetrad, axes_of, relation_number, corners_related, second_with};
 
 use crate::places::place_of;
 use scr_rank::permutations::rank_permutation;

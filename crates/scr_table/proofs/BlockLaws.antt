@@ -1,11 +1,12 @@
 -- Blocks that workers answer, and the entries after they are entered.
-use Rattle.std.proofs.Common.{◌≡◌, ◌≢◌, ℕ, ◌+◌, ◌*◌, ◌/◌, ◌%◌, ◌<◌, List, length, get_or, Option, Some, None, IsSomeAnd, IfSome, refl, ap, ◌∙◌, subst, arith}
+use Rattle.std.proofs.Common.{◌≡◌, ◌≢◌, ℕ, ◌+◌, ◌*◌, ◌/◌, ◌%◌, ◌<◌, Bool, true, false, List, length, get_or, Option, Some, None, IsSomeAnd, IfSome, refl, ap, ◌∙◌, subst, arith}
 use Rattle.std.specs.Prelude.{slice_index_or, nat_eq, ◌&&◌, if◌then◌else◌}
+use Rattle.std.specs.Bool.{OnTrue, OnFalse}
 use Rattle.std.proofs.lemmas.Bool.{ne_eqb}
 use Rattle.std.proofs.Math.Nat.{div-add-mod}
 use Rattle.scr_coord.specs.Coordinates.{Coordinate, StaysBelow}
 use Rattle.scr_workers.specs.Answered.{AreAnswered}
-use Rattle.scr_table.specs.Filled.{AreKnown, AreMarked, IsLeastNeighbour, Agrees, IsAgreed, IsNextEntry, next_entry, OfBlock, IsNextBlock, IsCheckedBlock, IsThere, block_count, entered_at, entered}
+use Rattle.scr_table.specs.Filled.{AreKnown, AreMarked, IsLeastNeighbour, Agrees, IsAgreed, IsNextEntry, next_entry, OfBlock, IsNextBlock, IsCheckedBlock, IsBlockBehind, IsThere, block_count, entered_at, entered}
 use Rattle.scr_table.proofs.FilledLaws.{AreKnown-agreed, IsKnown-next}
 
 -- the entry of the next level by the least that turns lead to
@@ -62,13 +63,13 @@ module _ (c : Coordinate) (below : StaysBelow c) (level : ℕ) (small : level < 
   }
 
   -- A level of blocks that are answered, or that all agree, is made of the one before.
-  pub AreKnown-next : AreKnown c level entries → AreAnswered (IsNextBlock c level entries) blocks → AreKnown c (level + 1) now
+  AreKnown-next : AreKnown c level entries → AreAnswered (IsNextBlock c level entries) blocks → AreKnown c (level + 1) now
   AreKnown-next known answered =
       next_level_of known (λ p lt.
       next_at c level entries p lt (slice_index_or blocks (p / 1024) None)
       (answered (p / 1024) (omega (arith, count, block_of (length entries) p lt))))
 
-  pub AreKnown-checked : AreMarked c entries → AreAnswered (IsCheckedBlock c level entries) blocks
+  AreKnown-checked : AreMarked c entries → AreAnswered (IsCheckedBlock c level entries) blocks
       → ((k : ℕ) → k < length blocks → IsThere (slice_index_or blocks k None)) → AreKnown c (level + 1) now
   AreKnown-checked marked answered there =
       let fits : level < 255 = omega arith in
@@ -84,6 +85,13 @@ module _ (c : Coordinate) (below : StaysBelow c) (level : ℕ) (small : level < 
       agreed p lt =
           let inside : p < length entries = omega (arith, lt, marked.positions) in
           (checked p inside).0
+
+  -- which of the two it is, by whether the entries are checked
+  pub AreKnown-behind : (checked : Bool) → OnTrue checked (AreMarked c entries) → OnFalse checked (AreKnown c level entries)
+      → AreAnswered (IsBlockBehind checked c level entries) blocks
+      → (checked ≡ true → (k : ℕ) → k < length blocks → IsThere (slice_index_or blocks k None)) → AreKnown c (level + 1) now
+  AreKnown-behind true marked known answered there = AreKnown-checked marked answered (there refl)
+  AreKnown-behind false marked known answered there = AreKnown-next known answered
 
 -- A block whose entries agree with the least that turns lead to, and whose next level is made of these.
 pub IsCheckedBlock-of : (c : Coordinate) (level : ℕ) (entries : List ℕ) (block start end : ℕ) (least : List ℕ) → start ≡ 1024 * block

@@ -1,7 +1,7 @@
 //! How the entries of a distance table are stored: at four bits each, in blocks, beside a list of the deep ones, which
 //! don't fit. All else sees them as a list of numbers.
 
-ghost use Rattle.std.specs.Prelude.{◌≡◌, ℕ, ◌+◌, ◌*◌, ◌^◌, ◌<◌, ◌≤◌, IfOk, length, slice_index};
+ghost use Rattle.std.specs.Prelude.{◌≡◌, ℕ, ◌+◌, ◌*◌, ◌^◌, ◌<◌, IfOk, length, slice_index};
 ghost use Rattle.scr_table.specs.Halves.{AreBlocksOf, AreRising, IsBlockFrom, IsDeepIn, StandsAt, deep_at, deep_of, half_byte_at, half_byte_of};
 
 use std::alloc::{AllocError, Global};

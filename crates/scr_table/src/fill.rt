@@ -8,7 +8,7 @@ ghost use Rattle.std.specs.Prelude.{◌≡◌, ◌<◌, ◌≤◌, IfOk, length}
 ghost use Rattle.scr_table.specs.Filled.{AreKnown, AreMarked, block_count};
 
 use crate::blocks::{BLOCK, Made, contains};
-use crate::levels::{checked_level, next_level};
+use crate::levels::next_level;
 use crate::neighbours::step;
 use scr_coord::{BARRED, Coord, NOWHERE};
 use std::alloc::{AllocError, Global};
@@ -54,43 +54,35 @@ fn fill<R: Threads + Sync, C: Coord + Sync>(
     requires workers { (1 ≤ workers) × (workers ≤ 64) }
     ensures { AreKnown (C.coordinate coord.now) bound entries.new }
 {
-    let first = early_levels(rt, coord, entries, blocks, bound, workers);
+    let pushed = early_levels(coord, entries, bound);
+    let mut first = pushed + 1;
+    if !next_level(rt, coord, entries, blocks, pushed, true, workers) {
+        mark_goals(coord, entries);
+        first = 0;
+    }
     for level in first..bound {
         if !contains(entries, 0, entries.len(), UNKNOWN) {
             return;
         }
-        next_level(rt, coord, entries, blocks, level, workers);
+        next_level(rt, coord, entries, blocks, level, false, workers);
     }
 }
 
-/// Enters the first levels, as many as are cheaper to push, and answers the last of them. It may be one beyond `bound`, which
-/// is at most 24.
-fn early_levels<R: Threads + Sync, C: Coord + Sync>(
-    rt: &R,
-    coord: &C,
-    entries: &mut [u8],
-    blocks: &mut [Made],
-    bound: u8,
-    workers: u32,
-) -> u8
+/// Enters the first levels, as many as are cheaper to push, and answers the last of them, at most `bound`: that of the
+/// goals where it isn't worth while to push. Nothing is said of what stands beyond the goals.
+fn early_levels<C: Coord>(coord: &C, entries: &mut [u8], bound: u8) -> u8
     requires entries { length entries.old ≡ (C.coordinate coord.now).count }
-    requires blocks { length blocks.old ≡ block_count (length entries.old) }
     requires few_turns { (C.coordinate coord.now).turns ≤ 256 }
     requires bound { bound ≤ 24 }
-    requires workers { (1 ≤ workers) × (workers ≤ 64) }
-    ensures known { AreKnown (C.coordinate coord.now) result entries.new }
-    ensures level { result ≤ 25 }
+    ensures marked { AreMarked (C.coordinate coord.now) entries.new }
+    ensures level { result ≤ bound }
 {
     mark_goals(coord, entries);
-    if !are_taken_back(coord) {
-        return 0;
+    if are_taken_back(coord) {
+        push_levels(coord, entries, bound)
+    } else {
+        0
     }
-    let pushed = push_levels(coord, entries, bound);
-    if checked_level(rt, coord, entries, blocks, pushed, workers) {
-        return pushed + 1;
-    }
-    mark_goals(coord, entries);
-    0
 }
 
 /// Enters 0 at the goals, and `UNKNOWN` elsewhere.

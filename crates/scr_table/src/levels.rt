@@ -1,7 +1,7 @@
 //! The levels of a table, each made from the one before by workers: a slot is a block.
 
 ghost use Rattle.std.specs.Prelude.{◌≡◌, ℕ, ◌+◌, ◌^◌, ◌<◌, ◌≤◌, IsTrue, IfSome, None, length, slice_index, slice_index_or};
-ghost use Rattle.std.specs.Bool.{OnTrue};
+ghost use Rattle.std.specs.Bool.{OnTrue, OnFalse};
 ghost use Rattle.scr_table.specs.Filled.{AreKnown, AreMarked, Agrees, IsNextEntry, IsThere, block_count, next_entry};
 
 use crate::blocks::{BLOCK, Made, contains, enter_blocks, unknown_block};
@@ -94,33 +94,6 @@ fn next_entry(entry: u8, least: u8, level: u8) -> u8
     }
 }
 
-/// Makes the level behind `level`.
-pub(crate) fn next_level<R: Threads + Sync, C: Coord + Sync>(
-    rt: &R,
-    coord: &C,
-    entries: &mut [u8],
-    blocks: &mut [Made],
-    level: u8,
-    workers: u32,
-)
-    requires known { AreKnown (C.coordinate coord.now) level entries.old }
-    requires blocks { length blocks.old ≡ block_count (length entries.old) }
-    requires level { level ≤ 25 }
-    requires workers { (1 ≤ workers) × (workers ≤ 64) }
-    ensures { AreKnown (C.coordinate coord.now) (level + 1) entries.new }
-{
-    coord.stays_below();
-    let _count = coord.count();
-    let next = NextLevel {
-        coord,
-        entries: &*entries,
-        level,
-        checked: false,
-    };
-    run_chunks(rt, &next, blocks, workers, &OpenGate);
-    enter_blocks(entries, blocks);
-}
-
 /// The entries of the positions from `start` up to `end` on the next level, where each agrees with the least that a turn
 /// leads to from its position.
 fn checked_block(
@@ -161,20 +134,24 @@ fn agrees(entry: u8, least: u8, level: u8) -> bool
     }
 }
 
-/// Whether the entries up to `level` agree; and then makes the level behind it. Otherwise nothing is said of the entries.
-pub(crate) fn checked_level<R: Threads + Sync, C: Coord + Sync>(
+/// Makes the level behind `level`, and answers whether it did. Where each position is checked, that is whether the
+/// entries up to `level` agree; if they don't, nothing is said of the entries.
+pub(crate) fn next_level<R: Threads + Sync, C: Coord + Sync>(
     rt: &R,
     coord: &C,
     entries: &mut [u8],
     blocks: &mut [Made],
     level: u8,
+    checked: bool,
     workers: u32,
 ) -> bool
-    requires marked { AreMarked (C.coordinate coord.now) entries.old }
+    requires marked { OnTrue checked (AreMarked (C.coordinate coord.now) entries.old) }
+    requires known { OnFalse checked (AreKnown (C.coordinate coord.now) level entries.old) }
     requires blocks { length blocks.old ≡ block_count (length entries.old) }
-    requires level { level ≤ 24 }
+    requires level { level ≤ 25 }
     requires workers { (1 ≤ workers) × (workers ≤ 64) }
-    ensures { OnTrue result (AreKnown (C.coordinate coord.now) (level + 1) entries.new) }
+    ensures known { OnTrue result (AreKnown (C.coordinate coord.now) (level + 1) entries.new) }
+    ensures made { OnFalse checked (IsTrue result) }
 {
     coord.stays_below();
     let _count = coord.count();
@@ -182,10 +159,10 @@ pub(crate) fn checked_level<R: Threads + Sync, C: Coord + Sync>(
         coord,
         entries: &*entries,
         level,
-        checked: true,
+        checked,
     };
     run_chunks(rt, &next, blocks, workers, &OpenGate);
-    if !are_all_there(blocks) {
+    if checked && !are_all_there(blocks) {
         return false;
     }
     enter_blocks(entries, blocks);

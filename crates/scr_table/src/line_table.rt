@@ -1,5 +1,5 @@
 //! The tables that searches go by, each a type of its own.
-ghost use Rattle.std.specs.Prelude.{◌≡◌, ◌<◌, ◌≤◌, IfOk, IfErr, length};
+ghost use Rattle.std.specs.Prelude.{◌≡◌, ◌<◌, ◌≤◌, IfOk, IfErr};
 ghost use Rattle.scr_combinatorics.specs.FirstWord.{IsFirstWord};
 ghost use Rattle.scr_coord.specs.Coordinates.{moved, IsGoal};
 ghost use Rattle.scr_coord.specs.SearchSpaces.{ShowsSame};

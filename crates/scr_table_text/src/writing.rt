@@ -1,11 +1,10 @@
 //! The text of a table, written.
 
-ghost use Rattle.std.specs.Prelude.{◌≡◌, ◌+◌, ◌==◌, ◌≤◌, ◌<◌, ◌++◌, ℕ, List, All, IfNone, IfSome, count_by, length, slice_index, take, codes};
+ghost use Rattle.std.specs.Prelude.{◌≡◌, ◌+◌, ◌≤◌, ◌<◌, ◌++◌, ℕ, List, length, slice_index, codes};
 ghost use Rattle.std.specs.Fmt.{decimal};
 ghost use Rattle.arrayvec.specs.ArrayString.{array_string_len};
 ghost use Rattle.scr_outside.specs.Change.{change_of, Writes};
 ghost use Rattle.scr_text.specs.Lines.{text_of_lines};
-ghost use Rattle.scr_table.specs.Names.{name_text};
 ghost use Rattle.scr_table_text.specs.TableText.{head_text, count_lines};
 ghost use Rattle.scr_table.specs.Lines.{TableLine, AreTablesOf};
 ghost use Rattle.scr_table.specs.TableStates.{all_by_positions};

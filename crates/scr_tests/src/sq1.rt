@@ -5,50 +5,49 @@ use crate::read;
 use scr_draw::Numbering;
 use scr_notation::{Event, print};
 use scr_sq1::{Shape, Sq1, Sq1Numbers, shape_at, shape_number};
-use std::process::Abort;
 
 /// The solved units.
 const SOLVED: [u8; 24] = [
     0, 0, 8, 1, 1, 9, 2, 2, 10, 3, 3, 11, 12, 4, 4, 13, 5, 5, 14, 6, 6, 15, 7, 7,
 ];
 
-/// A text is read, printed again, and played from solved.
-fn leads(rt: &impl Abort, text: &str, units: [u8; 24], equator: bool) {
-    let scramble = read::scramble(rt, Event::Sq1, text);
-    assert_eq!(rt; print(&scramble).as_str(), text);
-    let state = Sq1::solved().play(&scramble);
-    assert!(rt; state.is_some(), "{text}");
-    assert_eq!(rt; state, Sq1::from_units(units, equator));
-}
-
-#[test]
-fn known_words(rt: HostRuntime) {
-    leads(&rt, "", SOLVED, false);
-    leads(
-        &rt,
+/// Texts, the units to which they lead from solved, and whether the equator is turned then.
+const KNOWN_WORDS: [(&str, [u8; 24], bool); 5] = [
+    ("", SOLVED, false),
+    (
         "/",
         [
             12, 4, 4, 13, 5, 5, 2, 2, 10, 3, 3, 11, 0, 0, 8, 1, 1, 9, 14, 6, 6, 15, 7, 7,
         ],
         true,
-    );
-    leads(&rt, "(6,0) / (6,0) / (6,0) /", SOLVED, true);
-    leads(
-        &rt,
+    ),
+    ("(6,0) / (6,0) / (6,0) /", SOLVED, true),
+    (
         "/ (3,3) / (1,0) / (-2,-2) / (2,0) / (2,2) / (-1,0) / (-3,-3) / (-2,0) / (3,3) / (3,0) / (-1,-1) / (-3,0) / (1,1) / (-4,-3)",
         [
             0, 0, 8, 1, 1, 11, 2, 2, 10, 3, 3, 9, 12, 4, 4, 13, 5, 5, 14, 6, 6, 15, 7, 7,
         ],
         false,
-    );
-    leads(
-        &rt,
+    ),
+    (
         "(1,3) / (-4,-1) / (0,1) / (3,0) / (1,2) / (-4,-3) / (0,6) / (4,-3) / (6,2) / (6,4) / (2,-4) / (5,-5) / (-5,6) / (-4,5) / (-2,6) / (-1,-2) /",
         [
             11, 10, 4, 4, 2, 2, 7, 7, 9, 1, 1, 13, 0, 0, 3, 3, 15, 12, 14, 8, 5, 5, 6, 6,
         ],
         false,
-    );
+    ),
+];
+
+/// Each is read, printed again, and played from solved.
+#[test]
+fn known_words(rt: HostRuntime) {
+    for (text, units, equator) in KNOWN_WORDS {
+        let scramble = read::scramble(&rt, Event::Sq1, text);
+        assert_eq!(rt; print(&scramble).as_str(), text);
+        let state = Sq1::solved().play(&scramble);
+        assert!(rt; state.is_some(), "{text}");
+        assert_eq!(rt; state, Sq1::from_units(units, equator));
+    }
 }
 
 #[test]

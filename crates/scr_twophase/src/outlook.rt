@@ -1,5 +1,5 @@
 //! Which turns lead nearer to the goal of a pruning table, and which lead no farther.
-ghost use Rattle.std.specs.Prelude.{◌≡◌, ℕ, ◌+◌, ◌*◌, ◌^◌, ◌<◌, ◌≤◌, IfOk, length, slice_index, slice_index_or};
+ghost use Rattle.std.specs.Prelude.{◌≡◌, ℕ, ◌+◌, ◌^◌, ◌<◌, ◌≤◌, IfOk, length, slice_index, slice_index_or};
 ghost use Rattle.scr_coord.specs.Coordinates.{AreSeen, value_at};
 ghost use Rattle.scr_twophase.specs.declared.outlook.Found.{Found as Finding};
 ghost use Rattle.scr_twophase.specs.declared.outlook.Outlook.{Outlook as Looking};
@@ -104,6 +104,14 @@ fn distances_of<R: Threads + Sync>(
     Ok(distances)
 }
 
+/// How many of so many places a chunk has, of which each worker takes one. It is never empty.
+fn chunk_size(places: usize, workers: u32) -> usize
+    requires { 1 ≤ workers }
+    ensures { 1 ≤ result }
+{
+    places.div_ceil(workers as usize).max(1)
+}
+
 /// Reads the distances of a table, as many as there are places.
 fn read_distances<R: Threads + Sync>(rt: &R, table: &DistanceTable, into: &mut [u8], workers: u32)
     requires positions { length into.old ≡ length table.now.distances }
@@ -111,14 +119,10 @@ fn read_distances<R: Threads + Sync>(rt: &R, table: &DistanceTable, into: &mut [
     ensures same { into.new ≡ table.now.distances }
     ensures small { (p : ℕ) → slice_index into.new p ≤ 24 }
 {
-    if into.is_empty() {
-        return;
-    }
-    let size = into.len().div_ceil(workers as usize);
     for_each_chunk_mut(
         rt,
         into,
-        size,
+        chunk_size(into.len(), workers),
         &|start: usize, part: &mut [u8]|
             requires { start + length part.old ≤ length table.now.distances }
         { read_from(table, start, part) },
@@ -152,14 +156,10 @@ fn look_out<R: Threads + Sync, C: Coord + Sync>(
     requires workers { (1 ≤ workers) × (workers ≤ 64) }
     ensures { AreOutlooks (C.coordinate coord.now) distances.now all.new }
 {
-    if all.is_empty() {
-        return;
-    }
-    let size = all.len().div_ceil(workers as usize);
     for_each_chunk_mut(
         rt,
         all,
-        size,
+        chunk_size(all.len(), workers),
         &|start: usize, part: &mut [Outlook]|
             requires turns { (C.coordinate coord.now).turns ≤ 18 }
             requires distances { length distances.now ≡ (C.coordinate coord.now).count }

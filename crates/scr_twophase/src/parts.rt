@@ -1,9 +1,11 @@
 //! The two parts: first parts, and the second part of each.
 ghost use Rattle.std.specs.Prelude.{◌≡◌, ◌&&◌};
 ghost use Rattle.std.specs.Option.{option_map};
+ghost use Rattle.std.proofs.Common.{lit≤};
 ghost use Rattle.scr_cube.specs.Cube333.{IsCube};
 ghost use Rattle.scr_twophase.specs.Search.{letters, is_domino_position};
-ghost use Rattle.scr_twophase.specs.TwoParts.{ends_in_quarter, two_parts};
+ghost use Rattle.scr_twophase.specs.TwoParts.{ends_in_quarter, is_first_part, joined, turn_numbers, two_parts};
+ghost use Rattle.scr_twophase.specs.Views.{Shows, first_views};
 
 use crate::first::{FirstPart, first_position, is_domino};
 use crate::position::PartPosition;
@@ -27,10 +29,6 @@ pub(crate) struct PartTables {
 }
 
 impl Part for PartTables {
-    ghost use Rattle.std.proofs.Common.{lit≤};
-    ghost use Rattle.scr_twophase.specs.TwoParts.{turn_numbers, is_first_part, joined};
-    ghost use Rattle.scr_twophase.specs.Views.{Shows, first_views};
-
     type Position = PartPosition;
 
     ghost turns = { turn_numbers };

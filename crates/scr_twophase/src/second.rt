@@ -1,5 +1,6 @@
 //! The second part: what a search for it sees of a domino, and where turns lead.
 ghost use Rattle.std.specs.Prelude.{◌≡◌, ◌^◌, ◌<◌, ◌≤◌, ℕ, All, Contains, IfOk, IsTrue, List, Some, None, false, if◌then◌else◌, length, map};
+ghost use Rattle.std.proofs.Common.{lit≤};
 ghost use Rattle.scr_combinatorics.specs.Permutations.{IsPermutation, factorial};
 ghost use Rattle.scr_combinatorics.specs.Play.{play};
 ghost use Rattle.scr_coord.specs.Moves.{moves_coordinate};
@@ -11,7 +12,8 @@ ghost use Rattle.scr_stages.specs.Stages.{tetrads_turns};
 ghost use Rattle.scr_stages.specs.Tables.{block_turn, edges_by};
 ghost use Rattle.scr_table.specs.Words.{words_of};
 ghost use Rattle.scr_twophase.specs.Search.{carried, is_solved_position};
-ghost use Rattle.scr_twophase.specs.TwoParts.{after_turn, domino_turns, is_orderly, is_solved, joined, leads};
+ghost use Rattle.scr_twophase.specs.TwoParts.{after_turn, domino_turns, is_orderly, is_solution, is_solved, joined};
+ghost use Rattle.scr_twophase.specs.TwoParts.{leads};
 ghost use Rattle.scr_twophase.specs.Views.{IsPosition, Shows, second_views};
 
 use crate::near_set::NEAR;
@@ -180,11 +182,6 @@ impl SearchTables<SecondPart> {
 
 /// A search by them is for a second part, of the ten turns that keep a domino.
 impl Part for SearchTables<SecondPart> {
-    ghost use Rattle.std.specs.Prelude.{Some};
-    ghost use Rattle.std.proofs.Common.{lit≤};
-    ghost use Rattle.scr_twophase.specs.TwoParts.{domino_turns, is_solution};
-    ghost use Rattle.scr_twophase.specs.Views.{Shows, second_views};
-
     type Position = PartPosition;
 
     ghost turns = { domino_turns };

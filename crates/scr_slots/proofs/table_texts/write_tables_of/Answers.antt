@@ -5,16 +5,13 @@ use Rattle.scr_notation.specs.declared.event.Event.TheVariants.{C222, Pyram, Ske
 use Rattle.scr_notation.specs.declared.event.Family.TheVariants as family
 use Rattle.scr_notation.specs.Event.{family_of}
 use Rattle.scr_slots.specs.TableLines.{family_lines}
-use Rattle.scr_slots.proofs.BuildCauses.{small-are, tables_for-none, texts-one}
+use Rattle.scr_slots.proofs.BuildCauses.{tables_for-none, texts-one, texts-small}
 use Rattle.scr_slots.proofs.table_texts.write_tables_of.Goals as goal
 
 pub returns-in-Some-Cube222 : goal.returns-in-Some-Cube222
 returns-in-Some-Cube222 g c =
-    let of_family : family_of c.args.event ≡ Some family.Cube222 = cc in
-    let are = small-are family.Cube222 C222 _ _ _ refl refl c.of_222.ensures.event c.unwrap.ensures
-    c.only.ensures.same c.only.ensures.built in
-    texts-one c.args.event family.Cube222 _ _ of_family (c.tables_told_by_states.ensures.lines family.Cube222)
-    (c.write_tables.ensures (family_lines family.Cube222) are)
+    texts-small c.args.event family.Cube222 C222 _ _ _ _ _ refl refl c.of_222.ensures.event c.unwrap.ensures
+    c.only.ensures.same c.only.ensures.built (cc) (c.tables_told_by_states.ensures.lines family.Cube222) c.write_tables.ensures
 
 pub returns-in-Some-Cube333 : goal.returns-in-Some-Cube333
 returns-in-Some-Cube333 g c =
@@ -24,19 +21,15 @@ returns-in-Some-Cube333 g c =
 
 pub returns-in-Some-Pyraminx : goal.returns-in-Some-Pyraminx
 returns-in-Some-Pyraminx g c =
-    let of_family : family_of c.args.event ≡ Some family.Pyraminx = cc in
-    let are = small-are family.Pyraminx Pyram _ _ _ refl refl c.of_pyram.ensures.event c.unwrap-in-Some-Pyraminx.ensures
-    c.only-in-Some-Pyraminx.ensures.same c.only-in-Some-Pyraminx.ensures.built in
-    texts-one c.args.event family.Pyraminx _ _ of_family (c.tables_told_by_states.ensures.lines family.Pyraminx)
-    (c.write_tables-in-Some-Pyraminx.ensures (family_lines family.Pyraminx) are)
+    texts-small c.args.event family.Pyraminx Pyram _ _ _ _ _ refl refl c.of_pyram.ensures.event c.unwrap-in-Some-Pyraminx.ensures
+    c.only-in-Some-Pyraminx.ensures.same c.only-in-Some-Pyraminx.ensures.built (cc) (c.tables_told_by_states.ensures.lines family.Pyraminx)
+    c.write_tables-in-Some-Pyraminx.ensures
 
 pub returns-in-Some-Skewb : goal.returns-in-Some-Skewb
 returns-in-Some-Skewb g c =
-    let of_family : family_of c.args.event ≡ Some family.Skewb = cc in
-    let are = small-are family.Skewb Skewb _ _ _ refl refl c.of_skewb.ensures.event c.unwrap-in-Some-Skewb.ensures
-    c.only-in-Some-Skewb.ensures.same c.only-in-Some-Skewb.ensures.built in
-    texts-one c.args.event family.Skewb _ _ of_family (c.tables_told_by_states.ensures.lines family.Skewb)
-    (c.write_tables-in-Some-Skewb.ensures (family_lines family.Skewb) are)
+    texts-small c.args.event family.Skewb Skewb _ _ _ _ _ refl refl c.of_skewb.ensures.event c.unwrap-in-Some-Skewb.ensures
+    c.only-in-Some-Skewb.ensures.same c.only-in-Some-Skewb.ensures.built (cc) (c.tables_told_by_states.ensures.lines family.Skewb)
+    c.write_tables-in-Some-Skewb.ensures
 
 pub returns-in-Some-Square1 : goal.returns-in-Some-Square1
 unfolding family_lines
