@@ -1,6 +1,6 @@
 -- What the ends of a check tell.
 use Rattle.std.proofs.Common.{◌≡◌, ℕ, ◌<◌, List, [], ◌++◌, length, Ok, Err, inl, inr, refl, sym, ap, subst, ◌∙◌, arith}
-use Rattle.std.specs.Prelude.{Result}
+use Rattle.std.specs.Prelude.{Result, codes}
 use Rattle.scr_outside.specs.Change.{Change}
 use Rattle.scr_outside.specs.Faults.{Rose}
 use Rattle.scr_check.specs.declared.fault.CheckFault.TheVariants as check
@@ -18,7 +18,7 @@ use Rattle.scr_sheet.specs.declared.fault.Fault.TheVariants as fault
 use Rattle.scr_sheet.specs.declared.status.Status.TheVariants as status
 use Rattle.scr_sheet.specs.Causes.{fault_of_build}
 use Rattle.scr_sheet.specs.Check.{InputComesTo, ReadsInput, EndsChecking, rounds_in}
-use Rattle.scr_sheet.specs.Outcome.{EndsTelling, EndsCheck, status_of}
+use Rattle.scr_sheet.specs.Outcome.{EndsTelling, status_of}
 
 -- A list part is no list, or could not be read.
 abbrev pub ReadsNoListPart : Change → ListFault → Type 0
@@ -113,6 +113,11 @@ checking-list settings source refusal (inr (inr unread)) =
     subst (ReadsNoListPart source) same unread.1
 
 -- ---- the command
+
+-- how a check ends: where all agrees, it is said so
+abbrev pub EndsCheck : Settings → Change → Change → Result (Unit {0}) Fault → Type 0
+EndsCheck settings source out ended =
+    (answer : Result (Unit {0}) Fault) × EndsChecking settings source answer × EndsTelling answer (codes "agrees\n") out ended
 
 -- where it told a fault that isn't the output's, the check ended with it
 told-fault : (answer : Result (Unit {0}) Fault) (lines : List ℕ) (out : Change) (why : Fault) → (why ≡ fault.Write → ⊥)

@@ -22,7 +22,8 @@ use Rattle.scr_sheet.specs.declared.status.Status.{Status}
 use Rattle.scr_sheet.specs.Causes.{fault_of_build}
 use Rattle.std.specs.Result.{result_map_both}
 use Rattle.scr_sheet.specs.Check.{InputComesTo, expected_lines, fault_of_check, ReadsInput, EndsChecking, rounds_in}
-use Rattle.scr_sheet.specs.Outcome.{EndsCheck, Ends, status_of}
+use Rattle.scr_sheet.specs.Outcome.{Ends, status_of}
+use Rattle.scr_sheet.proofs.CheckLaws.{EndsCheck}
 use Rattle.scr_sheet.specs.Task.{IsUnhinderedCheck, EndsWith}
 use Rattle.scr_sheet.proofs.RunLaws.{EndsTelling-same}
 use Rattle.scr_sheet.proofs.SheetLineLaws.{lines-lawful}

@@ -101,14 +101,8 @@ pub record EndsLoad (number : ℕ) (out : Change) (ended : Result (Unit {0}) Fau
       (load_text (length (load_rounds number)) (sum_by slots_of (load_rounds number)) (length sheet) (sum sheet))
       out ended
 
--- how a check ends: where all agrees, it is said so
-abbrev pub EndsCheck : Settings → Change → Change → Result (Unit {0}) Fault → Type 0
-EndsCheck settings source out ended =
-    (answer : Result (Unit {0}) Fault) × EndsChecking settings source answer
-    × EndsTelling answer (codes "agrees\n") out ended
-
 -- How a run ends on words that are this command, or that are none. `sheet` reads its list to the end of input before it
--- writes; or the input is no round list, or could not be read.
+-- writes; or the input is no round list, or could not be read. Where all agrees that `check` reads, it is said so.
 abbrev pub Ends : Result Command UsageFault → Change → Change → Result (Unit {0}) Fault → Type 0
 Ends (Ok (One event seed)) source out ended =
     IsUnchanged source × EndsMaking (settings_of seed usual_options) (one_part event ∷ []) out ended
@@ -121,7 +115,9 @@ Ends (Ok (Tables event)) source out ended =
 Ends (Ok (Load number)) source out ended = IsUnchanged source × EndsLoad number out ended
 Ends (Ok (Net event seed)) source out ended =
     IsUnchanged source × EndsMaking (settings_of seed usual_options) (net_part event ∷ []) out ended
-Ends (Ok (Check seed attempts)) source out ended = EndsCheck (check_settings seed attempts) source out ended
+Ends (Ok (Check seed attempts)) source out ended =
+    (answer : Result (Unit {0}) Fault) × EndsChecking (check_settings seed attempts) source answer
+    × EndsTelling answer (codes "agrees\n") out ended
 Ends (Err usage) source out ended = IsUnchanged source × Stops (fault.Usage usage) out ended
 
 -- ---- a whole run
