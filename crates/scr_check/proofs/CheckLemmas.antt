@@ -6,8 +6,8 @@ use Rattle.scr_check.specs.declared.fault.CheckFault.{CheckFault}
 use Rattle.scr_check.specs.declared.fault.CheckFault.TheVariants.{Differs, Limit, Read}
 use Rattle.scr_check.specs.Lines.{CutLine, cut_lines, line_end, IsPlain, AreEnded}
 use Rattle.scr_check.specs.Reading.{Reading, Takes, StopsShort}
-use Rattle.scr_check.specs.Agreement.{ExpectedLines, AreLawful, most_bytes, line_at, LineAgrees, IsMissing, ComesTo}
-use Rattle.scr_check.specs.Taken.{CanFollow, AreTakenByLines, LineComesTo, TakesGoodLine, TakesBadLine, ChecksLine, TakesSheet, ChecksSheet}
+use Rattle.scr_check.specs.Agreement.{ExpectedLines, AreLawful, most_bytes, line_at, LineAgrees, ComesTo}
+use Rattle.scr_check.specs.Taken.{IsMissing, CanFollow, AreTakenByLines, LineComesTo, TakesGoodLine, TakesBadLine, ChecksLine, TakesSheet, ChecksSheet}
 use Rattle.scr_check.proofs.CutLemmas.{cut-none, cut-ended, cut-begun, cut-append, cut-push, cut-some, first_bytes, is_first_ended, AreEnded-none, AreEnded-one, AreEnded-append}
 use Rattle.scr_check.proofs.ReadingLemmas.{Takes-none, Takes-append, StopsShort-after}
 use Rattle.scr_check.proofs.FaultLemmas.{OfEach, OfEach-none, OfEach-push, all-agree, each-faultless, comes-to-line, comes-to-agreement, comes-to-more}

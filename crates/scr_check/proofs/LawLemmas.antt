@@ -1,5 +1,5 @@
 -- What the laws say.
-use Rattle.std.proofs.Common.{◌≡◌, ℕ, suc, ◌+◌, ◌<◌, ◌≤◌, Bool, true, false, List, [], ◌∷◌, ◌++◌, length, Result, Ok, Err, refl, sym, ap, subst, ◌∙◌, append-nil, append_assoc, inl, inr, ◌⊎◌, length-append, arith}
+use Rattle.std.proofs.Common.{◌≡◌, ℕ, suc, Option, Some, None, ◌+◌, ◌<◌, ◌≤◌, Bool, true, false, List, [], ◌∷◌, ◌++◌, length, Result, Ok, Err, refl, sym, ap, subst, ◌∙◌, append-nil, append_assoc, inl, inr, ◌⊎◌, length-append, arith}
 use Rattle.std.specs.Prelude.{nat_eq, bytes_eq, ◌≢◌}
 use Rattle.std.proofs.lemmas.Bool.{false≢true, cases_Bool, cases_lt, cases_order}
 use Rattle.scr_check.specs.declared.fault.Missing.{Missing}
@@ -8,11 +8,11 @@ use Rattle.scr_check.specs.declared.fault.CheckFault.TheVariants.{Differs, Limit
 use Rattle.scr_check.specs.Lines.{CutLine, with_byte, cut_lines, joined_lines, line_end, IsPlain, AreEnded}
 use Rattle.scr_check.specs.Parts.{separator}
 use Rattle.scr_check.specs.Shapes.{AreCut, IsEndedOrLast}
-use Rattle.scr_check.specs.Agreement.{ExpectedLines, AreLawful, HaveAnswers, IsExpected, line_at, LineAgrees, IsFirstAtFault, Lacks, LacksFirst, IsMissing, ComesTo}
+use Rattle.scr_check.specs.Agreement.{ExpectedLines, AreLawful, HaveAnswers, line_at, LineAgrees, IsFirstAtFault, Lacks, ComesTo}
 use Rattle.scr_check.specs.Taken.{LineComesTo}
 use Rattle.scr_check.proofs.CutLemmas.{cut-none, cut-other, cut-feed, cut-ended, cut-append, cut-push, cut-some, joined-cut, IsPlain-none}
 use Rattle.scr_check.proofs.PartLemmas.{cut-last}
-use Rattle.scr_check.proofs.FaultLemmas.{OfEach, OfEach-none, OfEach-push, Some-line, IsFaultless, faultless, line-within, past-end, there-within, at-before, at-behind, comes-to-line, comes-to-agreement, comes-to-more}
+use Rattle.scr_check.proofs.FaultLemmas.{OfEach, OfEach-none, OfEach-push, IsFaultless, OrderOf, LackOf, faultless, line-there, line-within, past-end, at-before, at-behind, comes-to-line, comes-to-agreement, comes-to-more}
 
 -- ---- the shape of lines
 
@@ -89,37 +89,38 @@ separator-same = refl
 same-first : (expected : ExpectedLines) (lines : List CutLine) (i j : ℕ) → IsFirstAtFault expected lines i → IsFirstAtFault expected lines j → i ≡ j
 same-first expected lines i j one other = elim (cases_order i j) [
   | inl same ↦ same
-  | inr (inl less) ↦ absurd (other.none_before i less one.at_fault)
-  | inr (inr more) ↦ absurd (one.none_before j more other.at_fault)
+  | inr (inl less) ↦ absurd (one.at_fault (other.none_before i less))
+  | inr (inr more) ↦ absurd (other.at_fault (one.none_before j more))
 ]
 
 same-missing : (expected : ExpectedLines) → AreLawful expected → (lines : List CutLine) (i : ℕ) (one other : Missing) →
     Lacks expected lines i one → Lacks expected lines i other → one ≡ other
-same-missing expected lawful lines i one other is also =
-    let same : also.line ≡ is.line = Some-line (sym also.is_there ∙ is.is_there) in
-    let answers = lawful.one i is.line.bytes (Err one) (Err other) is.so (subst (λ (l : CutLine). IsMissing expected i l other) same also.so) in
-    cc
+same-missing expected lawful lines i one other is also = by-line (line_at lines i) is.1 also.1
+  where
+    by-line : (found : Option CutLine) → LackOf expected i one found → LackOf expected i other found → one ≡ other
+    by-line None here also = absurd here
+    by-line (Some line) here also = let answers = lawful.one i line.bytes (Err one) (Err other) here also in cc
 
 differs-limit : (expected : ExpectedLines) (lines : List CutLine) (i : ℕ) (missing : Missing) →
-    ComesTo expected lines (Err (Differs i)) → LacksFirst expected lines missing → ⊥
+    ComesTo expected lines (Err (Differs i)) → ComesTo expected lines (Err (Limit missing)) → ⊥
 differs-limit expected lines i missing differs lacks =
-    differs.1 missing (subst (λ n. Lacks expected lines n missing) (same-first expected lines lacks.number i lacks.first differs.0) lacks.lacks)
+    differs.1 missing (subst (λ n. Lacks expected lines n missing) (same-first expected lines lacks.0 i lacks.1 differs.0) lacks.2)
 
 pub one-answer : (expected : ExpectedLines) → AreLawful expected → (lines : List CutLine) (one other : Result (Unit {0}) CheckFault) →
     ComesTo expected lines one → ComesTo expected lines other → one ≡ other
 one-answer expected lawful lines (Ok done) (Ok also_done) is also = refl
-one-answer expected lawful lines (Ok done) (Err (Differs i)) is also = absurd (is i also.0.at_fault)
-one-answer expected lawful lines (Ok done) (Err (Limit missing)) is also = absurd (is also.number also.first.at_fault)
+one-answer expected lawful lines (Ok done) (Err (Differs i)) is also = absurd (also.0.at_fault (is i))
+one-answer expected lawful lines (Ok done) (Err (Limit missing)) is also = absurd (also.1.at_fault (is also.0))
 one-answer expected lawful lines one (Err Read) is also = absurd also
-one-answer expected lawful lines (Err (Differs i)) (Ok done) is also = absurd (also i is.0.at_fault)
+one-answer expected lawful lines (Err (Differs i)) (Ok done) is also = absurd (is.0.at_fault (also i))
 one-answer expected lawful lines (Err (Differs i)) (Err (Differs j)) is also = ap (λ n. Err (Differs n)) (same-first expected lines i j is.0 also.0)
 one-answer expected lawful lines (Err (Differs i)) (Err (Limit missing)) is also = absurd (differs-limit expected lines i missing is also)
-one-answer expected lawful lines (Err (Limit missing)) (Ok done) is also = absurd (also is.number is.first.at_fault)
+one-answer expected lawful lines (Err (Limit missing)) (Ok done) is also = absurd (is.1.at_fault (also is.0))
 one-answer expected lawful lines (Err (Limit missing)) (Err (Differs i)) is also = absurd (differs-limit expected lines i missing also is)
 one-answer expected lawful lines (Err (Limit missing)) (Err (Limit other)) is also =
-    let number : also.number ≡ is.number = same-first expected lines also.number is.number also.first is.first in
-    ap (λ m. Err (Limit m)) (same-missing expected lawful lines is.number missing other is.lacks
-    (subst (λ n. Lacks expected lines n other) number also.lacks))
+    let number : also.0 ≡ is.0 = same-first expected lines also.0 is.0 also.1 is.1 in
+    ap (λ m. Err (Limit m)) (same-missing expected lawful lines is.0 missing other is.2
+    (subst (λ n. Lacks expected lines n other) number also.2))
 one-answer expected lawful lines (Err Read) other is also = absurd is
 
 -- what a check of some lines comes to
@@ -185,9 +186,12 @@ module _ (expected : ExpectedLines) (lines : List CutLine) (agrees : ComesTo exp
   as-many-by : (length lines ≡ expected.count) ⊎ ((length lines < expected.count) ⊎ (expected.count < length lines)) → length lines ≡ expected.count
   as-many-by (inl same) = same
   as-many-by (inr (inl less)) =
-      absurd (agrees (suc (length lines)) (inl (inl ((omega arith, omega arith), past-end lines (length lines) (omega arith)))))
+      let order = subst (OrderOf expected (suc (length lines))) (past-end lines (length lines) (omega arith)) (agrees (suc (length lines))) in
+      absurd (order (omega arith, omega arith))
   as-many-by (inr (inr more)) =
-      absurd (agrees (suc expected.count) (inl (inr (λ is. absurd (omega (arith, is.1)), there-within lines expected.count more))))
+      let there = line-there lines expected.count more in
+      let order = subst (OrderOf expected (suc expected.count)) there.1 (agrees (suc expected.count)) in
+      absurd (omega (arith, order.0.1))
 
   -- there are as many lines as are expected
   pub as-many : length lines ≡ expected.count
@@ -196,16 +200,8 @@ module _ (expected : ExpectedLines) (lines : List CutLine) (agrees : ComesTo exp
   -- and none of them is at fault
   pub all-faultless : OfEach (IsFaultless expected) lines
   all-faultless k line there =
-      let is : IsExpected expected (suc k) = (omega arith, omega (arith, line-within lines k line there, as-many)) in
-      record {
-        agrees = λ differs. agrees (suc k) (inr (inl (record { is_expected = is; line = line; is_there = there; so = differs })));
-        there = λ missing lacks.
-            agrees (suc k) (inr (inr (record { is_expected = is; line = line; is_there = there; so = (missing, lacks) })));
-      }
-
-ended-by : (expected : ExpectedLines) (i : ℕ) (line : CutLine) → IsFaultless expected i line → (ended : Bool) → line.ended ≡ ended → line.ended ≡ true
-ended-by expected i line so true is = is
-ended-by expected i line so false is = absurd (so.agrees (λ agrees. false≢true (sym is ∙ agrees.0)))
+      let order = subst (OrderOf expected (suc k)) there (agrees (suc k)) in
+      record { agrees = order.1; there = order.2 }
 
 each-ended : (lines : List CutLine) → OfEach (λ _ line. line.ended ≡ true) lines → AreEnded lines
 unfolding AreEnded
@@ -214,7 +210,7 @@ each-ended (line ∷ lines) each = (each 0 line refl, each-ended lines (λ k nex
 
 -- so a line feed ends each of them
 ended-of : (expected : ExpectedLines) (lines : List CutLine) → OfEach (IsFaultless expected) lines → AreEnded lines
-ended-of expected lines so = each-ended lines (λ k line there. ended-by expected (suc k) line (so k line there) line.ended refl)
+ended-of expected lines so = each-ended lines (λ k line there. (so k line there).agrees.0)
 
 -- ---- one end
 

@@ -1,11 +1,12 @@
 -- The list part of an input, of which the first bytes were taken.
-use Rattle.std.proofs.Common.{◌≡◌, ℕ, ◌+◌, ◌≤◌, Bool, true, false, List, [], ◌∷◌, ◌++◌, length, take, refl, sym, ap, subst, ◌∙◌, append_assoc, append-nil, length-append, inl, inr, ◌⊎◌, arith}
+use Rattle.std.proofs.Common.{◌≡◌, ℕ, suc, ◌+◌, ◌≤◌, Bool, true, false, List, [], ◌∷◌, ◌++◌, length, take, refl, sym, ap, subst, ◌∙◌, append_assoc, append-nil, length-append, inl, inr, ◌⊎◌, arith}
+use Rattle.std.specs.List.{before_first, after_first, position_or_len}
 use Rattle.std.specs.Str.{bytes_eq}
 use Rattle.std.proofs.lemmas.List.{take-append-le}
 use Rattle.std.proofs.lemmas.Slice.Eq.{bytes_eq-Decides}
 use Rattle.std.proofs.lemmas.Bool.{cases_Bool, false≢true}
 use Rattle.scr_check.specs.Lines.{CutLine, cut_lines, joined_lines, line_end, IsPlain}
-use Rattle.scr_check.specs.Parts.{separator, is_separator, lines_before, lines_after, list_part, sheet_part}
+use Rattle.scr_check.specs.Parts.{separator, is_separator, list_part, sheet_part}
 use Rattle.scr_check.specs.Shapes.{NoneSeparates, IsListText}
 use Rattle.scr_check.proofs.CutLemmas.{cut-append, cut-begun, cut-ended, cut-none, joined-cut, joined-append, begun, first_bytes, is_first_ended, lines_behind}
 
@@ -23,34 +24,45 @@ unfolding NoneSeparates
 NoneSeparates-append [] ys p q = q
 NoneSeparates-append (x ∷ xs) ys p q = (p.0, NoneSeparates-append xs ys p.1 q)
 
-before-append : (xs ys : List CutLine) → NoneSeparates xs → lines_before (xs ++ ys) ≡ xs ++ lines_before ys
-unfolding NoneSeparates lines_before
-before-append [] ys none = refl
-before-append (x ∷ xs) ys none = rw none.0 (ap (λ z. x ∷ z) (before-append xs ys none.1))
+-- the lines before the first that separates, and those after it
+abbrev lines_before : List CutLine → List CutLine
+lines_before lines = before_first is_separator lines
 
-after-append : (xs ys : List CutLine) → NoneSeparates xs → lines_after (xs ++ ys) ≡ lines_after ys
-unfolding NoneSeparates lines_after
-after-append [] ys none = refl
-after-append (x ∷ xs) ys none = rw none.0 (after-append xs ys none.1)
+abbrev lines_after : List CutLine → List CutLine
+lines_after lines = after_first is_separator lines
 
 before-separator : (line : CutLine) (lines : List CutLine) → is_separator line ≡ true → lines_before (line ∷ lines) ≡ []
-unfolding lines_before
 before-separator line lines is = rw is refl
 
 after-separator : (line : CutLine) (lines : List CutLine) → is_separator line ≡ true → lines_after (line ∷ lines) ≡ lines
-unfolding lines_after
 after-separator line lines is = rw is refl
 
 before-other : (line : CutLine) (lines : List CutLine) → is_separator line ≡ false → lines_before (line ∷ lines) ≡ line ∷ lines_before lines
-unfolding lines_before
-before-other line lines other = rw other refl
+before-other line lines other =
+    let n = position_or_len is_separator lines in
+    let next : 1 + n ≡ suc n = omega arith in
+    rw (other, next) refl
+
+after-other : (line : CutLine) (lines : List CutLine) → is_separator line ≡ false → lines_after (line ∷ lines) ≡ lines_after lines
+after-other line lines other =
+    let n = position_or_len is_separator lines in
+    let next : 1 + n + 1 ≡ suc (n + 1) = omega arith in
+    rw (other, next) refl
+
+before-append : (xs ys : List CutLine) → NoneSeparates xs → lines_before (xs ++ ys) ≡ xs ++ lines_before ys
+unfolding NoneSeparates
+before-append [] ys none = refl
+before-append (x ∷ xs) ys none = before-other x (xs ++ ys) none.0 ∙ ap (λ z. x ∷ z) (before-append xs ys none.1)
+
+after-append : (xs ys : List CutLine) → NoneSeparates xs → lines_after (xs ++ ys) ≡ lines_after ys
+unfolding NoneSeparates
+after-append [] ys none = refl
+after-append (x ∷ xs) ys none = after-other x (xs ++ ys) none.0 ∙ after-append xs ys none.1
 
 before-none : lines_before [] ≡ []
-unfolding lines_before
 before-none = refl
 
 after-none : lines_after [] ≡ []
-unfolding lines_after
 after-none = refl
 
 joined-none : joined_lines [] ≡ []

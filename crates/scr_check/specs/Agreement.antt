@@ -1,6 +1,6 @@
 -- When a sheet agrees with what is expected, and which line is the first at fault.
-use Rattle.std.specs.Prelude.{ℕ, zero, suc, Bool, true, ◌≡◌, ◌<◌, ◌≤◌, ◌≢◌, ◌⊎◌, Option, Some, None, List, [], ◌∷◌}
-use Rattle.std.specs.Prelude.{Result, Ok, Err, length}
+use Rattle.std.specs.Prelude.{ℕ, zero, suc, Bool, true, ◌≡◌, ◌<◌, ◌≤◌, Option, Some, None, List}
+use Rattle.std.specs.Prelude.{Result, Ok, Err, length, slice_get, MatchOption, IsSomeAnd}
 use Rattle.scr_check.specs.declared.fault.Missing.{Missing}
 use Rattle.scr_check.specs.declared.fault.CheckFault.{CheckFault}
 use Rattle.scr_check.specs.declared.fault.CheckFault.TheVariants.{Differs, Limit, Read}
@@ -35,14 +35,9 @@ HaveAnswers expected =
     (i : ℕ) (text : List ℕ) → IsExpected expected i → (answer : Result Bool Missing) × expected.IsAnswer i text answer
 
 -- line i of a sheet, counted from 1
-abbrev pub line_from_zero : List CutLine → ℕ → Option CutLine
-line_from_zero [] i = None
-line_from_zero (line ∷ lines) zero = Some line
-line_from_zero (line ∷ lines) (suc i) = line_from_zero lines i
-
 abbrev pub line_at : List CutLine → ℕ → Option CutLine
 line_at lines zero = None
-line_at lines (suc i) = line_from_zero lines i
+line_at lines (suc i) = slice_get lines i
 
 -- a line of a sheet agrees with line i: a line feed ends it, and its bytes agree
 abbrev pub LineAgrees : ExpectedLines → ℕ → CutLine → Type 0
@@ -52,50 +47,28 @@ LineAgrees expected i line = (line.ended ≡ true) × expected.IsAnswer i line.b
 abbrev pub AllAgree : ExpectedLines → List CutLine → Type 0
 AllAgree expected lines = (i : ℕ) (line : CutLine) → line_at lines i ≡ Some line → LineAgrees expected i line
 
--- its slot is missing
-abbrev pub IsMissing : ExpectedLines → ℕ → CutLine → Missing → Type 0
-IsMissing expected i line missing = expected.IsAnswer i line.bytes (Err missing)
-
--- both have a line i, and this is so of the sheet's
-pub record BothHave (expected : ExpectedLines) (lines : List CutLine) (i : ℕ) (P : CutLine → Type 0) : Type 0 where
-  pub is_expected : IsExpected expected i
-  pub line : CutLine
-  pub is_there : line_at lines i ≡ Some line
-  pub so : P line
-
--- exactly one of the two has a line i
-abbrev pub OneHas : ExpectedLines → List CutLine → ℕ → Type 0
-OneHas expected lines i =
-    (IsExpected expected i × (line_at lines i ≡ None)) ⊎ ((IsExpected expected i → ⊥) × (line_at lines i ≢ None))
-
--- Line i is at fault: exactly one of the two has it; or both have it, and they don't agree; or both have it, and its slot
--- is missing.
-abbrev pub IsAtFault : ExpectedLines → List CutLine → ℕ → Type 0
-IsAtFault expected lines i =
-    OneHas expected lines i
-    ⊎ (BothHave expected lines i (λ line. LineAgrees expected i line → ⊥)
-    ⊎ BothHave expected lines i (λ line. (missing : Missing) × IsMissing expected i line missing))
-
--- line i is the first at fault
-pub record IsFirstAtFault (expected : ExpectedLines) (lines : List CutLine) (i : ℕ) : Type 0 where
-  pub at_fault : IsAtFault expected lines i
-  pub none_before : (j : ℕ) → j < i → IsAtFault expected lines j → ⊥
-
 -- both have a line i, and it is that of this slot, which is missing
 abbrev pub Lacks : ExpectedLines → List CutLine → ℕ → Missing → Type 0
-Lacks expected lines i missing = BothHave expected lines i (λ line. IsMissing expected i line missing)
+Lacks expected lines i missing =
+    IsExpected expected i × IsSomeAnd (line_at lines i) (λ line. expected.IsAnswer i line.bytes (Err missing))
 
--- the first line at fault is that of this slot, which is missing
-pub record LacksFirst (expected : ExpectedLines) (lines : List CutLine) (missing : Missing) : Type 0 where
-  pub number : ℕ
-  pub first : IsFirstAtFault expected lines number
-  pub lacks : Lacks expected lines number missing
+-- Line i is in order: neither of the two has it; or both have it, they agree, and its slot isn't missing.
+abbrev pub IsInOrder : ExpectedLines → List CutLine → ℕ → Type 0
+IsInOrder expected lines i =
+    MatchOption (line_at lines i) (IsExpected expected i → ⊥) (λ l. IsExpected expected i × LineAgrees expected i l
+    × ((missing : Missing) → expected.IsAnswer i l.bytes (Err missing) → ⊥))
+
+-- line i is the first at fault: it isn't in order, and those before it are
+pub record IsFirstAtFault (expected : ExpectedLines) (lines : List CutLine) (i : ℕ) : Type 0 where
+  pub at_fault : IsInOrder expected lines i → ⊥
+  pub none_before : (j : ℕ) → j < i → IsInOrder expected lines j
 
 -- What a check of a sheet's lines comes to: nothing where no line is at fault, and else what the first such line tells,
 -- which is that its slot is missing, where that is so, or that it differs.
 abbrev pub ComesTo : ExpectedLines → List CutLine → Result (Unit {0}) CheckFault → Type 0
-ComesTo expected lines (Ok _) = (i : ℕ) → IsAtFault expected lines i → ⊥
+ComesTo expected lines (Ok _) = (i : ℕ) → IsInOrder expected lines i
 ComesTo expected lines (Err (Differs i)) =
     IsFirstAtFault expected lines i × ((missing : Missing) → Lacks expected lines i missing → ⊥)
-ComesTo expected lines (Err (Limit missing)) = LacksFirst expected lines missing
+ComesTo expected lines (Err (Limit missing)) =
+    (i : ℕ) × IsFirstAtFault expected lines i × Lacks expected lines i missing
 ComesTo expected lines (Err Read) = ⊥

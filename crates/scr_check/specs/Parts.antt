@@ -1,5 +1,6 @@
 -- The two parts of an input: a round list, and a sheet. The first line `=====` stands between them.
-use Rattle.std.specs.Prelude.{ℕ, Bool, true, cond, nat_eq, Option, Some, None, List, [], ◌∷◌, codes}
+use Rattle.std.specs.Prelude.{ℕ, Bool, true, nat_eq, Option, Some, None, List, codes}
+use Rattle.std.specs.List.{before_first, after_first}
 use Rattle.std.specs.Str.{bytes_eq}
 use Rattle.scr_check.specs.Lines.{CutLine, cut_lines, joined_lines}
 
@@ -16,22 +17,13 @@ ends_line (Some byte) = nat_eq byte 10
 abbrev pub is_separator : CutLine → Bool
 is_separator line = bytes_eq line.bytes separator
 
--- the lines before the first that separates, and those after it
-unfoldable pub lines_before : List CutLine → List CutLine
-lines_before [] = []
-lines_before (line ∷ lines) = cond (is_separator line) [] (line ∷ lines_before lines)
-
-unfoldable pub lines_after : List CutLine → List CutLine
-lines_after [] = []
-lines_after (line ∷ lines) = cond (is_separator line) lines (lines_after lines)
-
 -- the list part of an input: all before the first line that separates; without one it is the whole input
 abbrev pub list_part : List ℕ → List ℕ
-list_part input = joined_lines (lines_before (cut_lines input))
+list_part input = joined_lines (before_first is_separator (cut_lines input))
 
 -- its sheet part: all after that line; without one it is empty
 abbrev pub sheet_part : List ℕ → List ℕ
-sheet_part input = joined_lines (lines_after (cut_lines input))
+sheet_part input = joined_lines (after_first is_separator (cut_lines input))
 
 -- So many bytes of a list part are given at most: more than any list has, so that they tell of one that it is too long.
 -- The number is our own choice.

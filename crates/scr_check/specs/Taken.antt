@@ -8,7 +8,7 @@ use Rattle.scr_check.specs.declared.fault.CheckFault.TheVariants.{Differs, Limit
 use Rattle.scr_check.specs.Lines.{CutLine, cut_lines, IsPlain}
 use Rattle.scr_check.specs.Parts.{list_part, sheet_part, list_room}
 use Rattle.scr_check.specs.Reading.{Reading, Takes, StopsShort}
-use Rattle.scr_check.specs.Agreement.{ExpectedLines, most_bytes, LineAgrees, AllAgree, IsMissing, line_at, ComesTo}
+use Rattle.scr_check.specs.Agreement.{ExpectedLines, most_bytes, LineAgrees, AllAgree, line_at, ComesTo}
 
 -- these bytes may follow those that were taken: none, where the end of input was met
 abbrev pub CanFollow : Bool → List ℕ → Type 0
@@ -27,6 +27,10 @@ pub record AreTakenByLines (expected : ExpectedLines) (most : ℕ) (bytes : List
   pub parts : bytes ≡ whole ++ part
   pub agree : AllAgree expected (cut_lines whole)
   pub few : length part ≤ most
+
+-- its slot is missing
+abbrev pub IsMissing : ExpectedLines → ℕ → CutLine → Missing → Type 0
+IsMissing expected i line missing = expected.IsAnswer i line.bytes (Err missing)
 
 -- what a check of line i comes to, where the sheet has this in its place
 abbrev pub LineComesTo : ExpectedLines → ℕ → Option CutLine → CheckFault → Type 0

@@ -8,3 +8,4 @@ pub mod SpellingLaws
 pub mod Turns
 pub mod Walked
 pub mod WordForms
+pub mod OptionSteps

@@ -2,8 +2,8 @@
 use Rattle.std.proofs.Common.{◌≡◌, refl, cond, map, List, [], ◌∷◌, Bool, true, false, Some, None, codes}
 use Rattle.scr_command.specs.declared.options.OptionName.{OptionName}
 use Rattle.scr_command.specs.declared.options.OptionName.TheVariants.{Seed, Workers, Tries, Attempts, Short}
-use Rattle.scr_command.specs.OptionTable.{Text, all_options, option_name}
-use Rattle.scr_command.specs.OptionsCommand.{raw_rule, options_app, shape_with}
+use Rattle.scr_command.specs.OptionTable.{Text, all_options}
+use Rattle.scr_command.specs.OptionsCommand.{raw_rule, options_app, shape_with, option_name}
 use Rattle.scr_command.proofs.EachOption.{each_alike}
 use Rattle.clap.specs.Walk.{Held, Row, Rule, arg_by_id, arg_by_index, finished, has_row, settled, used, with_values, without, with_default}
 use Rattle.clap.specs.Simple.{Shape, built, filled}

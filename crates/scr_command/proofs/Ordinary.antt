@@ -12,7 +12,8 @@ use Rattle.std.proofs.lemmas.Str.{IsUtf8-past_char, encode_ascii, encodes-chars}
 use Rattle.scr_command.specs.Hyphens.{IsOrdinary, is_bare}
 use Rattle.scr_command.specs.declared.options.OptionName.{OptionName}
 use Rattle.scr_command.specs.OptionTable.{Text}
-use Rattle.scr_command.specs.OptionWords.{attached_value, begins_with_hyphen, option_read, options_of, options_read, option_spelling, spelled_option, values_in, with_given, with_own}
+use Rattle.scr_command.specs.OptionWords.{attached_value, begins_with_hyphen, options_of, options_read, option_spelling, spelled_option, with_given}
+use Rattle.scr_command.proofs.OptionSteps.{option_read, values_in, with_own, options_in_turn}
 use Rattle.scr_command.specs.Words.{texts}
 use Rattle.scr_command.proofs.Walked.{AreLeft, IsLeft}
 
@@ -102,7 +103,8 @@ none_read (word ∷ rest) h waiting = go (is_bare word) refl (none_read rest)
     go false e later = refused_later word rest waiting (later (ap (λ t. t || list_any is_bare rest) (sym e) ∙ h))
 
 pub bare_refused : (own : List OptionName) (words : List Text) → list_any is_bare words ≡ true → options_of own words ≡ None
-bare_refused own words h = ap (λ o. option_and_then (with_own own) (option_and_then values_in o)) (none_read words h None)
+bare_refused own words h =
+    options_in_turn own words ∙ ap (λ o. option_and_then (with_own own) (option_and_then values_in o)) (none_read words h None)
 
 -- ---- the loop that looks for them
 

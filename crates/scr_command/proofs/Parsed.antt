@@ -6,9 +6,11 @@ use Rattle.std.proofs.Math.Seq.{take-suc}
 use Rattle.std.proofs.lemmas.List.{map-append}
 use Rattle.scr_command.specs.declared.options.OptionName.{OptionName}
 use Rattle.scr_command.specs.declared.options.OptionName.TheVariants.{Seed}
-use Rattle.scr_command.specs.OptionTable.{Text, all_options, option_name}
-use Rattle.scr_command.specs.OptionWords.{Values, is_own, options_of, with_own, with_seed}
-use Rattle.scr_command.specs.OptionsCommand.{app_with, options_app, raw_rule}
+use Rattle.scr_command.specs.OptionTable.{Text, all_options}
+use Rattle.scr_command.specs.OptionWords.{Values, options_of}
+use Rattle.scr_command.specs.Split.{are_own}
+use Rattle.scr_command.proofs.OptionSteps.{options_in_turn, with_own, with_seed}
+use Rattle.scr_command.specs.OptionsCommand.{app_with, options_app, raw_rule, option_name}
 use Rattle.scr_command.proofs.Slots.{no_values, given_by, all_words}
 use Rattle.scr_command.proofs.OptionRules.{built_is, rules, shape}
 use Rattle.scr_command.proofs.Rows.{no_rows_hold}
@@ -69,7 +71,7 @@ matches_give words f left none rows =
 
 -- words that give no values are refused, and so are values for options that the command doesn't have
 pub none_given : (own : List OptionName) (words : List Text) → given_by words ≡ None → options_of own words ≡ None
-none_given own words none = ap (option_and_then (with_own own)) none
+none_given own words none = options_in_turn own words ∙ ap (option_and_then (with_own own)) none
 
 -- what the value of the seed tells, as it was found
 pub no_seed_given : (own : List OptionName) (words : List Text) (values : Values) (seed : Option (Bor Text)) → given_by words ≡ with_seed values
@@ -81,12 +83,12 @@ some_given : (own : List OptionName) (words : List Text) (values : Values) (seed
     → option_map (λ text. text.now) seed ≡ values Seed → is_some seed ≡ true → options_of own words ≡ with_own own values
 some_given own words values None given is some = cc
 some_given own words values (Some seed) given is some =
-    ap (option_and_then (with_own own)) (given ∙ ap (option_map (λ seed. values)) (sym is))
+    options_in_turn own words ∙ ap (option_and_then (with_own own)) (given ∙ ap (option_map (λ seed. values)) (sym is))
 
 pub own_given : (own : List OptionName) (words : List Text) (values : Values) (seed : Option (Bor Text)) → given_by words ≡ with_seed values
-    → option_map (λ text. text.now) seed ≡ values Seed → is_some seed ≡ true → is_own own values ≡ true → options_of own words ≡ Some values
+    → option_map (λ text. text.now) seed ≡ values Seed → is_some seed ≡ true → are_own own values ≡ true → options_of own words ≡ Some values
 own_given own words values seed given is some all = some_given own words values seed given is some ∙ ap (λ t. cond t (Some values) None) all
 
 pub other_given : (own : List OptionName) (words : List Text) (values : Values) (seed : Option (Bor Text)) → given_by words ≡ with_seed values
-    → option_map (λ text. text.now) seed ≡ values Seed → is_some seed ≡ true → is_own own values ≡ false → options_of own words ≡ None
+    → option_map (λ text. text.now) seed ≡ values Seed → is_some seed ≡ true → are_own own values ≡ false → options_of own words ≡ None
 other_given own words values seed given is some all = some_given own words values seed given is some ∙ ap (λ t. cond t (Some values) None) all

@@ -3,7 +3,8 @@ use Rattle.std.proofs.Common.{◌≡◌, ◌∙◌, refl, sym, ap, cond, List, [
 use Rattle.std.specs.List.{find}
 use Rattle.std.specs.Str.{bytes_eq}
 use Rattle.scr_command.specs.declared.options.OptionName.{OptionName}
-use Rattle.scr_command.specs.OptionTable.{Text, is_option, option_name}
+use Rattle.scr_command.specs.OptionTable.{Text, is_option}
+use Rattle.scr_command.specs.OptionsCommand.{option_name}
 use Rattle.scr_command.specs.OptionWords.{Values}
 use Rattle.scr_command.proofs.EachOption.{same_option}
 use Rattle.scr_command.proofs.Slots.{no_values, set_value, other_value, own_value}

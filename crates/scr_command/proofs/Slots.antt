@@ -4,7 +4,8 @@ use Rattle.std.specs.Prelude.{nat_le, option_and_then, slice_get}
 use Rattle.std.proofs.lemmas.Bool.{lt-leb}
 use Rattle.scr_command.specs.declared.options.OptionName.{OptionName}
 use Rattle.scr_command.specs.OptionTable.{Text, is_option}
-use Rattle.scr_command.specs.OptionWords.{Given, Values, is_each_once, options_read, values_in, values_of, with_given, with_seed}
+use Rattle.scr_command.specs.OptionWords.{Given, Values, options_read, values_of, with_given}
+use Rattle.scr_command.proofs.OptionSteps.{is_each_once, values_in, with_seed}
 use Rattle.scr_command.proofs.EachOption.{all_pass, is_itself, one_fails, same_option}
 
 -- nothing was given so far

@@ -4,7 +4,8 @@ use Rattle.std.specs.Prelude.{unwrap_or}
 use Rattle.std.proofs.lemmas.Bool.Decides.{nat_tests}
 use Rattle.scr_command.specs.declared.options.OptionName.{OptionName}
 use Rattle.scr_command.specs.OptionTable.{Text, flag_of}
-use Rattle.scr_command.specs.OptionWords.{Given, attached_value, begins_with_hyphen, is_equals, option_read, options_read, option_spelling, spelled_option, with_given}
+use Rattle.scr_command.specs.OptionWords.{Given, attached_value, begins_with_hyphen, is_equals, options_read, option_spelling, spelled_option, with_given}
+use Rattle.scr_command.proofs.OptionSteps.{option_read}
 use Rattle.scr_command.specs.Spelling.{AllFit, ReadsBack, ReadsNothingElse, WrittenOption, option_words, written_options}
 use Rattle.scr_command.proofs.EachOption.{each_alike, spelled}
 use Rattle.scr_command.proofs.WordForms.{attached-cons, option_spelling-cons, option_spelling-equals}

@@ -1,7 +1,8 @@
 -- What the parser makes of one word.
 use Rattle.std.proofs.Common.{length, ◌≡◌, ◌∙◌, refl, ap, cond, ℕ, ◌==◌, List, [], ◌∷◌, Bool, true, false, Option, Some, None}
 use Rattle.scr_command.specs.declared.options.OptionName.{OptionName}
-use Rattle.scr_command.specs.OptionTable.{Text, option_name}
+use Rattle.scr_command.specs.OptionTable.{Text}
+use Rattle.scr_command.specs.OptionsCommand.{option_name}
 use Rattle.scr_command.specs.OptionWords.{attached_value, begins_with_hyphen, option_spelling}
 use Rattle.scr_command.proofs.EachOption.{each_alike}
 use Rattle.scr_command.proofs.OptionRules.{rule_for, rules, shape}

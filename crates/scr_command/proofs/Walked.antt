@@ -5,8 +5,10 @@ use Rattle.std.specs.Str.{chars}
 use Rattle.std.specs.List.{fold}
 use Rattle.scr_command.specs.declared.options.OptionName.{OptionName}
 use Rattle.scr_command.specs.declared.options.OptionName.TheVariants.{Seed}
-use Rattle.scr_command.specs.OptionTable.{Text, option_name}
-use Rattle.scr_command.specs.OptionWords.{Values, attached_value, begins_with_hyphen, spelled_option, option_read, options_read, option_spelling, with_given, with_seed}
+use Rattle.scr_command.specs.OptionTable.{Text}
+use Rattle.scr_command.specs.OptionsCommand.{option_name}
+use Rattle.scr_command.specs.OptionWords.{Values, attached_value, begins_with_hyphen, spelled_option, options_read, option_spelling, with_given}
+use Rattle.scr_command.proofs.OptionSteps.{option_read, with_seed}
 use Rattle.scr_command.proofs.Slots.{if_free, set_value, given_after, no_more_words, value_missing, with_given_after, words_after}
 use Rattle.scr_command.proofs.OptionRules.{defaults_pass, finished_is, rule_for, rules, seed_required, shape, use_of_none, use_of_one}
 use Rattle.scr_command.proofs.Rows.{RowsHold, first_use_holds, held_first, held_given, held_row}

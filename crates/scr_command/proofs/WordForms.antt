@@ -4,7 +4,8 @@ use Rattle.std.specs.List.{find, position_or_len}
 use Rattle.std.specs.Str.{bytes_eq}
 use Rattle.std.proofs.lemmas.Bool.Decides.{nat_tests}
 use Rattle.scr_command.specs.declared.options.OptionName.{OptionName}
-use Rattle.scr_command.specs.OptionTable.{Text, all_options, flag_of, option_name}
+use Rattle.scr_command.specs.OptionTable.{Text, all_options, flag_of}
+use Rattle.scr_command.specs.OptionsCommand.{option_name}
 use Rattle.scr_command.specs.OptionWords.{attached_value, begins_with_hyphen, is_equals, spelled_option, option_spelling}
 use Rattle.scr_command.proofs.OptionRules.{rule_for, rules}
 use Rattle.clap.specs.Walk.{arg_by_long}

@@ -1,12 +1,13 @@
 -- What the words of the command line ask for.
 use Rattle.std.specs.Prelude.{◌≡◌, ℕ, if◌then◌else◌, ◌||◌, true, List, [], ◌∷◌, codes, Option, Some, None, Result, Ok, Err}
-use Rattle.std.specs.Prelude.{ok_or, is_some}
+use Rattle.std.specs.Prelude.{ok_or, is_some, option_map}
+use Rattle.std.specs.Result.{result_map_both}
 use Rattle.std.specs.Str.{bytes_eq}
 use Rattle.scr_words.specs.declared.seed.Seed.{Seed}
-use Rattle.scr_words.specs.declared.seed.SeedFault.{SeedFault}
 use Rattle.scr_words.specs.Seed.{seed_of}
 use Rattle.scr_notation.specs.declared.event.Event.{Event}
 use Rattle.scr_text.specs.Numbers.{number_between}
+use Rattle.scr_text.specs.Steps.{and_then}
 use Rattle.scr_notation.specs.Event.{net_side_of}
 use Rattle.scr_list.specs.Events.{event_named}
 use Rattle.scr_command.specs.declared.options.Options.{Options}
@@ -18,7 +19,7 @@ use Rattle.scr_command.specs.declared.options.OptionName.{OptionName}
 use Rattle.scr_command.specs.declared.options.OptionName.TheVariants.{Workers, Tries, Attempts, Short}
 use Rattle.scr_command.specs.declared.options.OptionName.TheVariants as option
 use Rattle.scr_command.specs.declared.options.Range.{Range}
-use Rattle.scr_command.specs.OptionTable.{option_row, usual_number, sheet_options, check_options}
+use Rattle.scr_command.specs.OptionTable.{option_row, usual_number, all_options, check_options}
 use Rattle.scr_command.specs.OptionWords.{Values, options_of}
 
 -- ---- the numbers of a run
@@ -38,111 +39,58 @@ setting range None = Some (usual_number range)
 setting None (Some text) = None
 setting (Some range) (Some text) = number_between range.least range.greatest text
 
--- the four numbers, where each is one
-abbrev pub options_with : Option ℕ → Option ℕ → Option ℕ → Option ℕ → Option Options
-options_with (Some workers) (Some tries) (Some attempts) (Some short) =
-    Some (record { workers = workers; tries = tries; attempts = attempts; short = short })
-options_with None tries attempts short = None
-options_with (Some workers) None attempts short = None
-options_with (Some workers) (Some tries) None short = None
-options_with (Some workers) (Some tries) (Some attempts) None = None
-
 -- the number of an option, by the values that were given
-abbrev pub number_in : Values → OptionName → Option ℕ
-number_in values option = setting (option_row option).range (values option)
+abbrev pub number_in : Values → OptionName → Result ℕ UsageFault
+number_in values option = ok_or (setting (option_row option).range (values option)) Grammar
 
--- the numbers of the options of a sheet
-abbrev pub settings_in : Values → Option Options
-settings_in values =
-    options_with (number_in values Workers) (number_in values Tries) (number_in values Attempts) (number_in values Short)
+-- ---- what stands behind the name of a command
 
--- ---- a seed
-
--- a command, with what was read where its seed stands
-abbrev pub seeded : (Seed → Command) → Result Seed SeedFault → Result Command UsageFault
-seeded command (Ok seed) = Ok (command seed)
-seeded command (Err fault) = Err (NoSeed fault)
-
--- ---- `one EVENT SEED`
-
--- what two words ask for; others ask for nothing
-abbrev pub of_two : (List ℕ → List ℕ → Result Command UsageFault) → List (List ℕ) → Result Command UsageFault
-of_two command [] = Err Grammar
-of_two command (first ∷ []) = Err Grammar
-of_two command (first ∷ second ∷ []) = command first second
-of_two command (first ∷ second ∷ more ∷ others) = Err Grammar
+-- a command with the seed that a word is
+abbrev pub seeded : (Seed → Command) → List ℕ → Result Command UsageFault
+seeded command word = result_map_both command NoSeed (seed_of word)
 
 -- the event that a word names
 abbrev pub event_for : List ℕ → Result Event UsageFault
 event_for word = if bytes_eq word (codes "444") then Err No444 else ok_or (event_named word) Grammar
 
--- the command, with its event and what was read where its seed stands
-abbrev pub one_for : Result Event UsageFault → List ℕ → Result Command UsageFault
-one_for (Err fault) seed = Err fault
-one_for (Ok event) seed = seeded (One event) (seed_of seed)
-
--- the words after `one`
+-- `one EVENT SEED`
 abbrev pub one_of : List (List ℕ) → Result Command UsageFault
-one_of words = of_two (λ event. one_for (event_for event)) words
+one_of (event ∷ seed ∷ []) = and_then (event_for event) (λ e. seeded (One e) seed)
+one_of words = Err Grammar
 
--- ---- `net EVENT SEED`
-
--- the command, with its event, where it has nets, and what was read where its seed stands
-abbrev pub net_for : Result Event UsageFault → List ℕ → Result Command UsageFault
-net_for (Err fault) seed = Err fault
-net_for (Ok event) seed = if is_some (net_side_of event) then seeded (Net event) (seed_of seed) else Err Grammar
-
--- the words after `net`
+-- `net EVENT SEED`, of an event that has nets
 abbrev pub net_of : List (List ℕ) → Result Command UsageFault
-net_of words = of_two (λ event. net_for (event_for event)) words
+net_of (event ∷ seed ∷ []) =
+    and_then (event_for event) (λ e. if is_some (net_side_of e) then seeded (Net e) seed else Err Grammar)
+net_of words = Err Grammar
 
--- ---- commands with options
-
--- the command, where its numbers are in their ranges: only then can the seed alone be amiss
-abbrev pub command_with : {N : Type 0} → (Seed → N → Command) → Option N → Option (List ℕ) → Result Command UsageFault
-command_with command None seed = Err Grammar
-command_with command (Some numbers) None = Err Grammar
-command_with command (Some numbers) (Some seed) = seeded (λ s. command s numbers) (seed_of seed)
-
--- ---- `sheet --seed HEX [--workers N] [--tries N] [--attempts N] [--short N]`
-
--- the command of the values that its options were given
-abbrev pub sheet_of : Option Values → Result Command UsageFault
-sheet_of None = Err Grammar
-sheet_of (Some values) = command_with Sheet (settings_in values) (values option.Seed)
-
--- ---- `check --seed HEX [--attempts N]`
-
--- the command of the values that its options were given
-abbrev pub check_of : Option Values → Result Command UsageFault
-check_of None = Err Grammar
-check_of (Some values) = command_with Check (number_in values Attempts) (values option.Seed)
-
--- ---- `tables EVENT`
-
--- the command, with its event
-abbrev pub tables_for : Result Event UsageFault → Result Command UsageFault
-tables_for (Err fault) = Err fault
-tables_for (Ok event) = Ok (Tables event)
-
--- the words after `tables`
+-- `tables EVENT`
 abbrev pub tables_of : List (List ℕ) → Result Command UsageFault
-tables_of [] = Err Grammar
-tables_of (event ∷ []) = tables_for (event_for event)
-tables_of (event ∷ more ∷ others) = Err Grammar
+tables_of (event ∷ []) = and_then (event_for event) (λ e. Ok (Tables e))
+tables_of words = Err Grammar
 
--- ---- `load NUMBER`
-
--- the command, with its number from 0 to 9,999
-abbrev pub load_for : Option ℕ → Result Command UsageFault
-load_for None = Err Grammar
-load_for (Some number) = Ok (Load number)
-
--- the words after `load`
+-- `load NUMBER`, from 0 to 9,999
 abbrev pub load_of : List (List ℕ) → Result Command UsageFault
-load_of [] = Err Grammar
-load_of (number ∷ []) = load_for (number_between 0 9999 number)
-load_of (number ∷ more ∷ others) = Err Grammar
+load_of (number ∷ []) = ok_or (option_map Load (number_between 0 9999 number)) Grammar
+load_of words = Err Grammar
+
+-- a command with options whose numbers were read: only where they are in their ranges can the seed alone be amiss
+abbrev pub with_seed : Values → (Seed → Command) → Result Command UsageFault
+with_seed values command = and_then (ok_or (values option.Seed) Grammar) (seeded command)
+
+-- `sheet --seed HEX [--workers N] [--tries N] [--attempts N] [--short N]`, by the values of the options
+abbrev pub sheet_of : Values → Result Command UsageFault
+sheet_of values =
+    and_then (number_in values Workers) (λ workers.
+    and_then (number_in values Tries) (λ tries.
+    and_then (number_in values Attempts) (λ attempts.
+    and_then (number_in values Short) (λ short.
+    with_seed values (λ seed.
+    Sheet seed (record { workers = workers; tries = tries; attempts = attempts; short = short }))))))
+
+-- `check --seed HEX [--attempts N]`
+abbrev pub check_of : Values → Result Command UsageFault
+check_of values = and_then (number_in values Attempts) (λ attempts. with_seed values (λ seed. Check seed attempts))
 
 -- ---- all commands
 
@@ -151,12 +99,12 @@ load_of (number ∷ more ∷ others) = Err Grammar
 abbrev pub command_of : List (List ℕ) → Result Command UsageFault
 command_of [] = Err Grammar
 command_of (command ∷ words) =
-    if bytes_eq command (codes "sheet") then sheet_of (options_of sheet_options words)
+    if bytes_eq command (codes "sheet") then and_then (ok_or (options_of all_options words) Grammar) sheet_of
     else if bytes_eq command (codes "one") then one_of words
     else if bytes_eq command (codes "tables") then tables_of words
     else if bytes_eq command (codes "load") then load_of words
     else if bytes_eq command (codes "net") then net_of words
-    else if bytes_eq command (codes "check") then check_of (options_of check_options words)
+    else if bytes_eq command (codes "check") then and_then (ok_or (options_of check_options words) Grammar) check_of
     else Err Grammar
 
 -- the words begin with `sheet` or with `check`: only these does a run split into options, for which it takes memory

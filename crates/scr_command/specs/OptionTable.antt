@@ -25,28 +25,21 @@ option_row Tries = sets_number (codes "tries") 0 100000 2000
 option_row Attempts = sets_number (codes "attempts") 1 1000000 1000
 option_row Short = sets_number (codes "short") 1 1000 1
 
--- all options, in this order
+-- all options, in this order; the command `sheet` has them all
 abbrev pub all_options : List OptionName
 all_options = Seed ∷ Workers ∷ Tries ∷ Attempts ∷ Short ∷ []
-
--- those of the command `sheet`
-abbrev pub sheet_options : List OptionName
-sheet_options = Seed ∷ Workers ∷ Tries ∷ Attempts ∷ Short ∷ []
 
 -- those of the command `check`
 abbrev pub check_options : List OptionName
 check_options = Seed ∷ Attempts ∷ []
 
-abbrev pub option_name : OptionName → Text
-option_name option = (option_row option).name
-
 -- how words spell an option: two hyphens, and its name. There are no short forms, and a part of a spelling is none.
 abbrev pub flag_of : OptionName → Text
-flag_of option = codes "--" ++ option_name option
+flag_of option = codes "--" ++ (option_row option).name
 
 -- an option is this one: names tell options apart
 abbrev pub is_option : OptionName → OptionName → Bool
-is_option option other = bytes_eq (option_name other) (option_name option)
+is_option option other = bytes_eq (option_row other).name (option_row option).name
 
 -- the number of an option that sets one and isn't there
 abbrev pub usual_number : Option Range → ℕ

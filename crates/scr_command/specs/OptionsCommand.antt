@@ -4,7 +4,11 @@ use Rattle.clap.specs.Walk.{Rule}
 use Rattle.clap.specs.Simple.{App, Shape, new_rule, new_shape}
 use Rattle.clap.specs.declared.builder.action.ArgAction.TheVariants.{Set}
 use Rattle.scr_command.specs.declared.options.OptionName.{OptionName}
-use Rattle.scr_command.specs.OptionTable.{Text, all_options, option_name, option_row}
+use Rattle.scr_command.specs.OptionTable.{Text, all_options, option_row}
+
+-- the id of an option is its name
+abbrev pub option_name : OptionName → Text
+option_name option = (option_row option).name
 
 -- an option with one value, whose long name is its id
 abbrev pub given_rule : Bool → Text → Rule

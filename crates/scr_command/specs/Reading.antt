@@ -1,10 +1,12 @@
 -- What reading the words of the command line finds: a command that words can ask for, or why there is none.
-use Rattle.std.specs.Prelude.{◌≡◌, ◌≤◌, List, ℕ, Option, Result, IsSome, Err}
+use Rattle.std.specs.Prelude.{◌≡◌, ◌≤◌, List, ℕ, Result, IsSome, Err, ok_or}
 use Rattle.scr_notation.specs.Event.{net_side_of}
+use Rattle.scr_text.specs.Steps.{and_then}
 use Rattle.scr_command.specs.declared.options.Options.{Options}
 use Rattle.scr_command.specs.declared.command.Command.{Command}
 use Rattle.scr_command.specs.declared.command.Command.TheVariants.{One, Sheet, Tables, Load, Net, Check}
 use Rattle.scr_command.specs.declared.command.UsageFault.{UsageFault}
+use Rattle.scr_command.specs.declared.command.UsageFault.TheVariants.{Grammar}
 use Rattle.scr_command.specs.declared.command.CommandFault.{CommandFault}
 use Rattle.scr_command.specs.declared.command.CommandFault.TheVariants as refusal
 use Rattle.scr_command.specs.declared.options.OptionName.{OptionName}
@@ -35,6 +37,7 @@ IsRefusal words (refusal.Usage usage) = command_of words ≡ Err usage
 IsRefusal words refusal.NoMemory = HasOptions words
 
 -- the same, for the words after a command with options
-abbrev pub IsOptionsRefusal : (Option Values → Result Command UsageFault) → List OptionName → List (List ℕ) → CommandFault → Type 0
-IsOptionsRefusal command_of_values own words (refusal.Usage usage) = command_of_values (options_of own words) ≡ Err usage
+abbrev pub IsOptionsRefusal : (Values → Result Command UsageFault) → List OptionName → List (List ℕ) → CommandFault → Type 0
+IsOptionsRefusal command_of_values own words (refusal.Usage usage) =
+    and_then (ok_or (options_of own words) Grammar) command_of_values ≡ Err usage
 IsOptionsRefusal command_of_values own words refusal.NoMemory = Unit {0}

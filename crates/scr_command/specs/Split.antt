@@ -1,4 +1,6 @@
 -- The answer of `split_options` as a contract sees it.
+use Rattle.std.specs.Prelude.{◌||◌, Bool, List, is_none}
+use Rattle.std.specs.List.{list_all, list_any}
 use Rattle.clap.specs.Words.{first_value}
 use Rattle.clap.specs.declared.parser.matches.Found.{Found}
 use Rattle.scr_command.specs.declared.command.CommandFault.{CommandFault}
@@ -6,7 +8,9 @@ use Rattle.scr_command.specs.declared.command.CommandFault.TheVariants as refusa
 use Rattle.scr_command.specs.declared.command.UsageFault.TheVariants.{Grammar}
 use Rattle.scr_command.specs.declared.splitting.OptionsFault.{OptionsFault}
 use Rattle.scr_command.specs.declared.splitting.OptionsFault.TheVariants as options
-use Rattle.scr_command.specs.OptionTable.{option_name}
+use Rattle.scr_command.specs.OptionsCommand.{option_name}
+use Rattle.scr_command.specs.declared.options.OptionName.{OptionName}
+use Rattle.scr_command.specs.OptionTable.{all_options, is_option}
 use Rattle.scr_command.specs.OptionWords.{Values}
 
 -- the values that the parser found
@@ -17,3 +21,7 @@ found_values found option = first_value found (option_name option)
 abbrev pub fault_of_options : OptionsFault → CommandFault
 fault_of_options options.Usage = refusal.Usage Grammar
 fault_of_options options.NoMemory = refusal.NoMemory
+
+-- no option was given but these
+abbrev pub are_own : List OptionName → Values → Bool
+are_own own values = list_all (λ option. list_any (is_option option) own || is_none (values option)) all_options

@@ -1,15 +1,15 @@
 //! The words of the command line.
 
-ghost use Rattle.std.specs.Prelude.{◌≡◌, ◌≤◌, [], ◌∷◌, IsTrue, Option, Some, MatchResult, option_map, Ok, IfOk, IfSome};
+ghost use Rattle.std.specs.Prelude.{◌≡◌, ◌≤◌, [], ◌∷◌, IsTrue, Option, Some, MatchResult, option_map, Ok, IfOk, ok_or};
 ghost use Rattle.scr_command.specs.declared.command.UsageFault.TheVariants.{Grammar, NoSeed};
 ghost use Rattle.scr_command.specs.declared.command.CommandFault.TheVariants.{Usage, NoMemory};
-ghost use Rattle.scr_command.specs.OptionTable.{option_row, sheet_options, check_options, IsSettable};
+ghost use Rattle.scr_command.specs.OptionTable.{option_row, all_options, check_options, IsSettable};
 ghost use Rattle.scr_command.specs.OptionWords.{options_of};
 ghost use Rattle.scr_command.specs.Split.{found_values, fault_of_options};
 ghost use Rattle.scr_command.specs.Words.{texts};
 ghost use Rattle.scr_command.specs.Command.{command_of, sheet_of, check_of, one_of, net_of, tables_of, load_of, event_for, number_in};
-ghost use Rattle.scr_command.specs.Command.{settings_in};
-ghost use Rattle.scr_command.specs.Reading.{IsRefusal, IsOptionsRefusal, IsCommand, AreOptions};
+ghost use Rattle.scr_text.specs.Steps.{and_then};
+ghost use Rattle.scr_command.specs.Reading.{IsRefusal, IsOptionsRefusal, IsCommand};
 
 use crate::options::{CHECK_OPTIONS, OptionName, Options, SHEET_OPTIONS, usual};
 use crate::splitting::{OptionsFault, SplitOptions, split_options};
@@ -189,8 +189,9 @@ fn read_event(event: &str) -> Result<Event, UsageFault>
 
 /// Reads the words after `sheet`.
 fn read_sheet(alloc: Global, words: &[&str]) -> Result<Command, CommandFault>
-    ensures answer { MatchResult result (λ command. sheet_of (options_of sheet_options (texts words.now)) ≡ Ok command)
-        (IsOptionsRefusal sheet_of sheet_options (texts words.now)) }
+    ensures answer { MatchResult result
+        (λ command. and_then (ok_or (options_of all_options (texts words.now)) Grammar) sheet_of ≡ Ok command)
+        (IsOptionsRefusal sheet_of all_options (texts words.now)) }
     ensures command { IfOk result IsCommand }
 {
     let split = split_options(alloc, &SHEET_OPTIONS, words)?;
@@ -199,7 +200,8 @@ fn read_sheet(alloc: Global, words: &[&str]) -> Result<Command, CommandFault>
 
 /// Reads the words after `check`.
 fn read_check(alloc: Global, words: &[&str]) -> Result<Command, CommandFault>
-    ensures answer { MatchResult result (λ command. check_of (options_of check_options (texts words.now)) ≡ Ok command)
+    ensures answer { MatchResult result
+        (λ command. and_then (ok_or (options_of check_options (texts words.now)) Grammar) check_of ≡ Ok command)
         (IsOptionsRefusal check_of check_options (texts words.now)) }
     ensures command { IfOk result IsCommand }
 {
@@ -209,10 +211,15 @@ fn read_check(alloc: Global, words: &[&str]) -> Result<Command, CommandFault>
 
 /// Reads the options of `sheet`, which are split.
 fn read_options(split: &SplitOptions<'_>) -> Result<Command, UsageFault>
-    ensures answer { result ≡ sheet_of (Some (found_values split.now)) }
+    ensures answer { result ≡ sheet_of (found_values split.now) }
     ensures command { IfOk result IsCommand }
 {
-    let options = read_numbers(split).ok_or(UsageFault::Grammar)?;
+    let options = Options {
+        workers: read_number(split, OptionName::Workers)?,
+        tries: read_number(split, OptionName::Tries)?,
+        attempts: read_number(split, OptionName::Attempts)?,
+        short: read_number(split, OptionName::Short)?,
+    };
     let seed = split.value(OptionName::Seed).ok_or(UsageFault::Grammar)?;
     let seed = read_seed(seed)?;
     Ok(Command::Sheet(seed, options))
@@ -220,40 +227,25 @@ fn read_options(split: &SplitOptions<'_>) -> Result<Command, UsageFault>
 
 /// Reads the options of `check`, which are split.
 fn read_seed_and_attempts(split: &SplitOptions<'_>) -> Result<Command, UsageFault>
-    ensures answer { result ≡ check_of (Some (found_values split.now)) }
+    ensures answer { result ≡ check_of (found_values split.now) }
     ensures command { IfOk result IsCommand }
 {
-    let attempts = read_number(split, OptionName::Attempts).ok_or(UsageFault::Grammar)?;
+    let attempts = read_number(split, OptionName::Attempts)?;
     let seed = split.value(OptionName::Seed).ok_or(UsageFault::Grammar)?;
     let seed = read_seed(seed)?;
     Ok(Command::Check(seed, attempts))
 }
 
-/// Reads the numbers among the options.
-fn read_numbers(split: &SplitOptions<'_>) -> Option<Options>
-    ensures answer { result ≡ settings_in (found_values split.now) }
-    ensures range { IfSome result AreOptions }
-{
-    let workers = read_number(split, OptionName::Workers)?;
-    let tries = read_number(split, OptionName::Tries)?;
-    let attempts = read_number(split, OptionName::Attempts)?;
-    let short = read_number(split, OptionName::Short)?;
-    Some(Options {
-        workers,
-        tries,
-        attempts,
-        short,
-    })
-}
-
 /// Reads an option's number in its range; the usual one stands where the option isn't there.
-fn read_number(split: &SplitOptions<'_>, option: OptionName) -> Option<u32>
+fn read_number(split: &SplitOptions<'_>, option: OptionName) -> Result<u32, UsageFault>
     ensures answer { result ≡ number_in (found_values split.now) option }
-    ensures range { IfSome result (IsSettable (option_row option).range) }
+    ensures range { IfOk result (IsSettable (option_row option).range) }
 {
     match (split.value(option), option.range()) {
-        (Some(text), Some(range)) => number_within(text.as_bytes(), range.least, range.greatest),
-        (Some(_), None) => None,
-        (None, _) => Some(usual(option)),
+        (Some(text), Some(range)) => {
+            number_within(text.as_bytes(), range.least, range.greatest).ok_or(UsageFault::Grammar)
+        }
+        (Some(_), None) => Err(UsageFault::Grammar),
+        (None, _) => Ok(usual(option)),
     }
 }

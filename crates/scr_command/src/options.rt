@@ -1,7 +1,7 @@
 //! The options of commands, and the numbers that a run is made with.
 
 ghost use Rattle.std.specs.Prelude.{◌≡◌, Some};
-ghost use Rattle.scr_command.specs.OptionTable.{option_row, usual_number, all_options, sheet_options, check_options};
+ghost use Rattle.scr_command.specs.OptionTable.{option_row, usual_number, all_options, check_options};
 
 /// An option of a command.
 #[derive(Clone, Copy, Debug, PartialEq, Eq)]

@@ -13,9 +13,9 @@ ghost use Rattle.std.specs.Str.{IsUtf8};
 ghost use Rattle.clap.specs.Words.{FailsBy, app_of, fault_of, found_of, matches_of, rows_of, rule_of, with_rule};
 ghost use Rattle.scr_command.specs.Hyphens.{IsOrdinary, is_bare};
 ghost use Rattle.scr_command.specs.OptionTable.{is_option};
-ghost use Rattle.scr_command.specs.OptionWords.{options_of, is_own};
+ghost use Rattle.scr_command.specs.OptionWords.{options_of};
 ghost use Rattle.scr_command.specs.OptionsCommand.{app_with, given_rule, options_app, raw_rule};
-ghost use Rattle.scr_command.specs.Split.{found_values};
+ghost use Rattle.scr_command.specs.Split.{found_values, are_own};
 ghost use Rattle.scr_command.specs.Words.{texts};
 
 use crate::options::{OPTIONS, OptionName};
@@ -49,7 +49,7 @@ impl<'w> SplitOptions<'w> {
 
     /// Whether no option was given but these.
     fn is_own(&self, own: &[OptionName]) -> bool
-        ensures { result ≡ is_own own.now (found_values self.now) }
+        ensures { result ≡ are_own own.now (found_values self.now) }
     {
         OPTIONS.iter().all(|option| has_option(own, *option) || self.value(*option).is_none())
     }

@@ -1,6 +1,6 @@
 -- A list that was written line by line is read back.
 use Rattle.std.proofs.Common.{◌≡◌, ℕ, ◌+◌, ◌*◌, ◌^◌, ◌<◌, ◌≤◌, Bool, true, false, List, [], ◌∷◌, ◌++◌, map, drop, length, get_or, Option, Some, None, Ok, refl, sym, ap, ◌∙◌, arith, lit<, length-append, append_assoc, append-nil}
-use Rattle.std.specs.Prelude.{nat_lt, All}
+use Rattle.std.specs.Prelude.{nat_lt, All, option_and_then}
 use Rattle.std.specs.Char.{is_ascii_digit}
 use Rattle.std.specs.Fmt.{decimal}
 use Rattle.std.specs.List.{join_with_byte}
@@ -22,7 +22,7 @@ use Rattle.scr_notation.specs.Event.{minima_of, greatest_in, usual_in}
 use Rattle.scr_list.specs.declared.version.Version.{Version}
 use Rattle.scr_list.specs.Versions.{version_1, version_2, version_line, version_of}
 use Rattle.scr_list.specs.Names.{is_colon, told_part, name_part, IsName}
-use Rattle.scr_list.specs.Rounds.{IsRound, least_of, set_least, round_name, named_round, placed_round, round_of_words, round_of_line, rounds_of_lines, rounds_of}
+use Rattle.scr_list.specs.Rounds.{IsRound, least_of, round_name, named_round, placed_round, round_of_words, round_of_line, rounds_of_lines, rounds_of}
 use Rattle.scr_list.specs.RoundLists.{IsRounds}
 use Rattle.scr_list.specs.Printed.{least_words, round_words, name_behind_colon, round_line, text_of_rounds}
 use Rattle.scr_list.proofs.EventLemmas.{id-IsId, id-no_colon, event_named-id}
@@ -105,7 +105,7 @@ round_words-named most before round name low it called = at (minima_of round.eve
         named-round most before round None name low it (ap Some (ap usual_in is ∙ none)) called
     at (Some minima) is few range usual =
         named-round most before round (Some (decimal round.least)) name low it
-        (ap (λ m. set_least m (decimal round.least)) is ∙ number_between-decimal 0 minima.greatest round.least (omega arith) (omega arith) few)
+        (ap (option_and_then (λ (m : Minima). number_between 0 m.greatest (decimal round.least))) is ∙ number_between-decimal 0 minima.greatest round.least (omega arith) (omega arith) few)
         called
 
 -- ---- a line

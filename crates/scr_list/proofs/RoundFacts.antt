@@ -1,28 +1,30 @@
 -- What holds of each round that a list names.
 use Rattle.std.proofs.Common.{◌≡◌, ℕ, ◌+◌, ◌<◌, ◌≤◌, Bool, true, false, cond, List, [], ◌∷◌, drop, length, Option, Some, None, Result, Ok, Err, refl, sym, ap, ◌∙◌, subst, arith, inl, inr, lit≤}
-use Rattle.std.specs.Prelude.{nat_lt, nat_le, ◌&&◌, ◌⊎◌, All, codes, option_and_then, IfOk, IfErr}
+use Rattle.std.specs.Prelude.{nat_lt, nat_le, ◌&&◌, ◌⊎◌, All, codes, is_none, ok_or, option_and_then, IfOk, IfErr}
 use Rattle.std.specs.Str.{bytes_eq}
 use Rattle.std.proofs.lemmas.List.Elements.{All-cons, All-nil}
 use borrow.Author.Tests.{ltb-true, leb-true}
 use Rattle.arrayvec.specs.ArrayVec.{ArrayVec}
 use Rattle.scr_text.specs.Lines.{has_bytes, lines_of, line_words}
 use Rattle.scr_text.specs.Numbers.{in_range, number_of_text, number_between}
+use Rattle.scr_text.specs.Steps.{and_then}
 use Rattle.scr_notation.specs.declared.event.Minima.{Minima}
 use Rattle.scr_list.specs.declared.round.Round.{Round}
 use Rattle.scr_list.specs.declared.version.Version.{Version}
 use Rattle.scr_list.specs.declared.fault.ListCause.{ListCause}
+use Rattle.scr_list.specs.declared.fault.ListCause.TheVariants.{Words}
 use Rattle.scr_list.specs.declared.fault.ListFault.{ListFault}
 use Rattle.scr_list.specs.declared.fault.ListFault.TheVariants.{TooLong, Read}
 use Rattle.scr_notation.specs.Event.{minima_of, greatest_in, usual_in}
 use Rattle.scr_list.specs.Events.{event_named}
 use Rattle.scr_list.specs.Names.{IsName, name_part, told_part}
 use Rattle.scr_list.specs.Versions.{version_of}
-use Rattle.scr_list.specs.Rounds.{IsRound, least_of, round_name, or_cause, named_round, placed_round, wordless, round_of_words, round_of_line, with_round, then_rounds, rounds_of_lines, rounds_of}
+use Rattle.scr_list.specs.Rounds.{IsRound, least_of, round_name, named_round, placed_round, round_of_words, round_of_line, rounds_of_lines, rounds_of}
 use Rattle.scr_list.specs.RoundLists.{IsRounds}
 use Rattle.scr_list.specs.Reading.{listed}
 use Rattle.scr_list.proofs.EventLemmas.{id-IsId}
 use Rattle.scr_list.proofs.NameLemmas.{name_in-IsName}
-use Rattle.scr_list.proofs.RoundLemmas.{TellsLength, rounds_of-TellsLength}
+use Rattle.scr_list.proofs.RoundLemmas.{TellsLength, rounds_of-TellsLength, then_rounds, with_named}
 use Rattle.scr_list.proofs.VersionLemmas.{version_of-cases}
 
 -- a number between two others
@@ -50,7 +52,7 @@ least_of-le None (Some word) least usual is = cc
 least_of-le (Some minima) (Some word) least usual is = (number_between-range 0 minima.greatest word least is).1
 
 -- a part that a line has
-or_cause-part : {X Y : Type 0} (why : ListCause) (o : Option X) (next : X → Result Y ListCause) (y : Y) → or_cause why o next ≡ Ok y →
+or_cause-part : {X Y : Type 0} (why : ListCause) (o : Option X) (next : X → Result Y ListCause) (y : Y) → and_then (ok_or o why) next ≡ Ok y →
     (x : X) × (o ≡ Some x) × (next x ≡ Ok y)
 or_cause-part why None next y is = cc
 or_cause-part why (Some x) next y is = (x, refl, is)
@@ -104,14 +106,14 @@ placed-is most before (Ok x) round each is = at (nat_lt before most) refl is
         record { few = ltb-true before most low; is_round = subst IsRound same (each x refl) }
     at false low is = cc
 
-wordless-none : (name : Option (List ℕ)) (round : Round) → wordless name ≡ Ok (Some round) → ⊥
-wordless-none None round is = cc
-wordless-none (Some name) round is = cc
+wordless-none : (bare : Bool) (round : Round) → cond bare (Ok None) (Err Words) ≡ Ok (Some round) → ⊥
+wordless-none true round is = cc
+wordless-none false round is = cc
 
 pub round_of_words-IsPlaced : (most before : ℕ) (name : Option (List ℕ)) (words : List (List ℕ)) (round : Round) →
     round_of_words most before name words ≡ Ok (Some round) → IsPlaced most before round
 unfolding round_of_words
-round_of_words-IsPlaced most before name [] round is = absurd (wordless-none name round is)
+round_of_words-IsPlaced most before name [] round is = absurd (wordless-none (is_none name) round is)
 round_of_words-IsPlaced most before name (event ∷ []) round is = cc
 round_of_words-IsPlaced most before name (event ∷ groups ∷ []) round is =
     placed-is most before (named_round event groups None name) round (named-IsRound event groups None name) is
@@ -147,18 +149,22 @@ rounds_of_lines-AreLeft version before number (line ∷ lines) =
     count size (inr some) low = omega arith
 
     behind : (round : Round) → IsPlaced version.most_rounds before round → (answer : Result (List Round) ListFault) → IfLeft version.most_rounds (before + 1) answer →
-        IfLeft version.most_rounds before (with_round round answer)
+        IfLeft version.most_rounds before (with_named (round ∷ []) answer)
     behind round placed (Ok rounds) it = record {
       each = All-cons IsRound round rounds placed.is_round it.each;
       few = inr (let few = count (length rounds) it.few placed.few in omega arith);
     }
     behind round placed (Err fault) it = tt
 
+    nothing : (answer : Result (List Round) ListFault) → IfLeft version.most_rounds (before + 0) answer → IfLeft version.most_rounds before (with_named [] answer)
+    nothing (Ok rounds) it = record { each = it.each; few = elim it.few [ inl none ↦ inl none | inr some ↦ inr (omega arith) ] }
+    nothing (Err fault) it = tt
+
     at : (r : Result (Option Round) ListCause) → ((round : Round) → r ≡ Ok (Some round) → IsPlaced version.most_rounds before round) →
         ((stand : ℕ) → IfLeft version.most_rounds stand (rounds_of_lines version stand (number + 1) lines)) →
-        IfLeft version.most_rounds before (then_rounds before number r (λ stand. rounds_of_lines version stand (number + 1) lines))
+        IfLeft version.most_rounds before (then_rounds number r (λ named. rounds_of_lines version (before + length named) (number + 1) lines))
     at (Err cause) placed rest = tt
-    at (Ok None) placed rest = rest before
+    at (Ok None) placed rest = nothing (rounds_of_lines version (before + 0) (number + 1) lines) (rest (before + 0))
     at (Ok (Some round)) placed rest = behind round (placed round refl) (rounds_of_lines version (before + 1) (number + 1) lines) (rest (before + 1))
 
 -- no version has room for more than the second

@@ -1,9 +1,11 @@
 -- A list read line by line.
 use Rattle.std.proofs.Common.{◌≡◌, ℕ, ◌+◌, ◌<◌, ◌≤◌, Bool, true, false, cond, List, [], ◌∷◌, ◌++◌, drop, length, Option, Some, None, Result, Ok, Err, refl, sym, ap, ◌∙◌, append_assoc, append-nil, length-append, Bor, arith}
-use Rattle.std.specs.Prelude.{slice_get, nat_lt, option_copied, IfSome}
+use Rattle.std.specs.Prelude.{slice_get, nat_lt, option_copied, option_to_list, is_none, if◌then◌else◌, IfSome}
+use Rattle.std.specs.Result.{result_map_both}
 use borrow.Author.Tests.{lt-ltb, le-ltb, ltb-true, ltb-false}
 use Rattle.scr_text.specs.Lines.{lines_of}
 use Rattle.scr_text.specs.Parts.{more_lines}
+use Rattle.scr_text.specs.Steps.{and_then}
 use Rattle.scr_list.specs.declared.round.Round.{Round}
 use Rattle.scr_list.specs.declared.version.Version.{Version}
 use Rattle.scr_list.specs.declared.fault.ListCause.{ListCause}
@@ -11,11 +13,11 @@ use Rattle.scr_list.specs.declared.fault.ListCause.TheVariants.{Words}
 use Rattle.scr_list.specs.declared.fault.ListFault.{ListFault}
 use Rattle.scr_list.specs.declared.fault.ListFault.TheVariants.{TooLong, Line, Read}
 use Rattle.scr_list.specs.Versions.{version_of}
-use Rattle.scr_list.specs.Rounds.{named_round, placed_round, wordless, round_of_words, round_of_line, with_round, then_rounds, rounds_of_lines, rounds_of}
+use Rattle.scr_list.specs.Rounds.{named_round, placed_round, round_of_words, round_of_line, rounds_of_lines, rounds_of}
 
 -- a line by its first four words, and what follows its colon
 abbrev pub by_words : ℕ → ℕ → Option (List ℕ) → Option (List ℕ) → Option (List ℕ) → Option (List ℕ) → Option (List ℕ) → Result (Option Round) ListCause
-by_words most before name None second third fourth = wordless name
+by_words most before name None second third fourth = if is_none name then Ok None else Err Words
 by_words most before name (Some event) None third fourth = Err Words
 by_words most before name (Some event) (Some groups) third (Some more) = Err Words
 by_words most before name (Some event) (Some groups) third None = placed_round most before (named_round event groups third name)
@@ -38,6 +40,14 @@ pub round_of_words-named : (most before : ℕ) (name : Option (List ℕ)) (words
 round_of_words-named most before name words first second fourth third event groups zeroth one three two is_event is_groups no_more =
     rw (round_of_words-by, ← zeroth, ← one, ← three, ← two, is_event, is_groups, no_more) refl
 
+-- the rounds that a line names, one or none, before those of the lines that follow
+abbrev pub with_named : List Round → Result (List Round) ListFault → Result (List Round) ListFault
+with_named named answer = and_then answer (λ others. Ok (named ++ others))
+
+-- what a line names before what the lines after it name
+abbrev pub then_rounds : ℕ → Result (Option Round) ListCause → (List Round → Result (List Round) ListFault) → Result (List Round) ListFault
+then_rounds number r others = and_then (result_map_both option_to_list (Line number) r) (λ named. with_named named (others named))
+
 -- rounds that were read, before those of the lines that follow
 abbrev pub after_rounds : List Round → Result (List Round) ListFault → Result (List Round) ListFault
 after_rounds done (Ok more) = Ok (done ++ more)
@@ -47,10 +57,10 @@ after_rounds-none : (answer : Result (List Round) ListFault) → answer ≡ afte
 after_rounds-none (Ok more) = refl
 after_rounds-none (Err fault) = refl
 
-after_rounds-with_round : (done : List Round) (round : Round) (answer : Result (List Round) ListFault) →
-    after_rounds done (with_round round answer) ≡ after_rounds (done ++ round ∷ []) answer
-after_rounds-with_round done round (Ok more) = ap Ok (sym (append_assoc done (round ∷ []) more))
-after_rounds-with_round done round (Err fault) = refl
+after_rounds-with_named : (done named : List Round) (answer : Result (List Round) ListFault) →
+    after_rounds done (with_named named answer) ≡ after_rounds (done ++ named) answer
+after_rounds-with_named done named (Ok more) = ap Ok (sym (append_assoc done named more))
+after_rounds-with_named done named (Err fault) = refl
 
 -- the rounds of a list, where these were read and these lines are left, of which the first has this number
 abbrev pub read_on : Version → List Round → ℕ → List (List ℕ) → Result (List Round) ListFault
@@ -64,7 +74,12 @@ pub read_on-none : (version : Version) (done : List Round) (number : ℕ) (line 
     round_of_line version (length done) line ≡ Ok None →
     read_on version done number (line ∷ lines) ≡ read_on version done (number + 1) lines
 unfolding rounds_of_lines
-read_on-none version done number line lines is = rw is refl
+read_on-none version done number line lines is =
+    let same : length done + 0 ≡ length done = omega arith in
+    rw is
+    (after_rounds-with_named done [] (rounds_of_lines version (length done + 0) (number + 1) lines)
+    ∙ ap (λ r. after_rounds r (rounds_of_lines version (length done + 0) (number + 1) lines)) (append-nil done)
+    ∙ ap (λ n. after_rounds done (rounds_of_lines version n (number + 1) lines)) same)
 
 pub read_on-round : (version : Version) (done : List Round) (number : ℕ) (line : List ℕ) (lines : List (List ℕ)) (round : Round) →
     round_of_line version (length done) line ≡ Ok (Some round) →
@@ -72,7 +87,7 @@ pub read_on-round : (version : Version) (done : List Round) (number : ℕ) (line
 unfolding rounds_of_lines
 read_on-round version done number line lines round is =
     rw is
-    (after_rounds-with_round done round (rounds_of_lines version (length done + 1) (number + 1) lines)
+    (after_rounds-with_named done (round ∷ []) (rounds_of_lines version (length done + 1) (number + 1) lines)
     ∙ ap (λ n. after_rounds (done ++ round ∷ []) (rounds_of_lines version n (number + 1) lines)) (sym (length-append done (round ∷ []))))
 
 pub read_on-fault : (version : Version) (done : List Round) (number : ℕ) (line : List ℕ) (lines : List (List ℕ)) (cause : ListCause) →
@@ -131,15 +146,16 @@ lines-TellsLength most bytes version before number [] short = short
 lines-TellsLength most bytes version before number (line ∷ lines) short =
     at (round_of_line version before line) (λ stand. lines-TellsLength most bytes version stand (number + 1) lines short)
   where
-    behind : (round : Round) (answer : Result (List Round) ListFault) → TellsLength most bytes answer → TellsLength most bytes (with_round round answer)
-    behind round (Ok rounds) it = it
-    behind round (Err fault) it = it
+    behind : (named : List Round) (answer : Result (List Round) ListFault) → TellsLength most bytes answer → TellsLength most bytes (with_named named answer)
+    behind named (Ok rounds) it = it
+    behind named (Err fault) it = it
 
     at : (r : Result (Option Round) ListCause) → ((stand : ℕ) → TellsLength most bytes (rounds_of_lines version stand (number + 1) lines)) →
-        TellsLength most bytes (then_rounds before number r (λ stand. rounds_of_lines version stand (number + 1) lines))
+        TellsLength most bytes (then_rounds number r (λ named. rounds_of_lines version (before + length named) (number + 1) lines))
     at (Err cause) rest = short
-    at (Ok None) rest = rest before
-    at (Ok (Some round)) rest = behind round (rounds_of_lines version (before + 1) (number + 1) lines) (rest (before + 1))
+    at (Ok named) rest =
+        let stand = before + length (option_to_list named) in
+        behind (option_to_list named) (rounds_of_lines version stand (number + 1) lines) (rest stand)
 
 pub rounds_of-TellsLength : (bytes : List ℕ) → TellsLength (version_of bytes).most_bytes bytes (rounds_of bytes)
 unfolding rounds_of

@@ -10,13 +10,11 @@ is_colon byte = byte == 58
 
 -- what a line tells of its round: where names are taken, what stands before its first colon, and all of it where it has none
 unfoldable pub told_part : Bool → List ℕ → List ℕ
-told_part true line = before_first is_colon line
-told_part false line = line
+told_part takes_names line = if takes_names then before_first is_colon line else line
 
 -- what follows that colon, where the line has one
 unfoldable pub name_part : Bool → List ℕ → Option (List ℕ)
-name_part true line = option_map (λ colon. drop (colon + 1) line) (position is_colon line)
-name_part false line = None
+name_part takes_names line = if takes_names then option_map (λ k. drop (k + 1) line) (position is_colon line) else None
 
 -- ---- names
 

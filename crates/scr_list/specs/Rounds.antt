@@ -1,9 +1,12 @@
 -- The round list: what rounds a competition's list names, as a function of its bytes. The grammar is our own choice.
 use Rattle.std.specs.Prelude.{ℕ, ◌≡◌, ◌+◌, ◌≤◌, true, if◌then◌else◌, nat_lt, Option, Some, None, List, [], ◌∷◌, drop, Result, Ok, Err}
-use Rattle.std.specs.Prelude.{codes, length}
+use Rattle.std.specs.Prelude.{◌++◌, codes, is_none, length, ok_or, option_and_then, option_to_list}
+use Rattle.std.specs.Option.{option_map_or}
+use Rattle.std.specs.Result.{result_map_both}
 use Rattle.std.specs.Str.{bytes_eq}
 use Rattle.scr_text.specs.Lines.{has_bytes, lines_of, line_words}
 use Rattle.scr_text.specs.Numbers.{number_between}
+use Rattle.scr_text.specs.Steps.{and_then}
 use Rattle.scr_notation.specs.declared.event.Minima.{Minima}
 use Rattle.scr_list.specs.declared.round.Round.{Round}
 use Rattle.scr_list.specs.declared.version.Version.{Version}
@@ -25,54 +28,37 @@ pub record IsRound (round : Round) : Type 0 where
 
 -- ---- a line
 
--- the minimum that a word sets
-abbrev pub set_least : Option Minima → List ℕ → Option ℕ
-set_least None word = None
-set_least (Some minima) word = number_between 0 minima.greatest word
-
--- the minimum of a round: that of its line's third word, and the usual one where the line has none
+-- the minimum of a round: what its line's third word sets, where its event has minima, and the usual one where the line
+-- has no third word
 abbrev pub least_of : Option Minima → Option (List ℕ) → Option ℕ
 least_of minima None = Some (usual_in minima)
-least_of minima (Some word) = set_least minima word
+least_of minima (Some word) = option_and_then (λ m. number_between 0 m.greatest word) minima
 
 -- the name of a round: what follows its line's colon, and none where the line has no colon
 abbrev pub round_name : Option (List ℕ) → Option (List ℕ)
-round_name None = Some []
-round_name (Some text) = name_in text
-
--- what follows from a part that a line has, or the cause why it lacks it
-abbrev pub or_cause : {X Y : Type 0} → ListCause → Option X → (X → Result Y ListCause) → Result Y ListCause
-or_cause why None next = Err why
-or_cause why (Some part) next = next part
+round_name text = option_map_or name_in text (Some [])
 
 -- The round that a first, a second and maybe a third word and a name tell, or the first cause why they tell none.
 abbrev pub named_round : List ℕ → List ℕ → Option (List ℕ) → Option (List ℕ) → Result Round ListCause
 named_round event groups least name =
     if bytes_eq event (codes "444") then Err cause.No444
-    else or_cause cause.Event (event_named event) (λ e.
-    or_cause cause.Groups (number_between 1 26 groups) (λ g.
-    or_cause cause.Minimum (least_of (minima_of e) least) (λ m.
-    or_cause cause.Name (round_name name) (λ n.
+    else and_then (ok_or (event_named event) cause.Event) (λ e.
+    and_then (ok_or (number_between 1 26 groups) cause.Groups) (λ g.
+    and_then (ok_or (least_of (minima_of e) least) cause.Minimum) (λ m.
+    and_then (ok_or (round_name name) cause.Name) (λ n.
     Ok (record { event = e; groups = g; least = m; name = n })))))
 
 -- a round, where fewer rounds stand before it than a list may have
 abbrev pub placed_round : ℕ → ℕ → Result Round ListCause → Result (Option Round) ListCause
-placed_round most before (Ok round) = if nat_lt before most then Ok (Some round) else Err cause.Rounds
-placed_round most before (Err cause) = Err cause
+placed_round most before named = and_then named (λ r. if nat_lt before most then Ok (Some r) else Err cause.Rounds)
 
--- what a line without words names: no round, unless a name follows
-abbrev pub wordless : Option (List ℕ) → Result (Option Round) ListCause
-wordless None = Ok None
-wordless (Some name) = Err cause.Words
-
--- the round that the words of a line name, and what follows its colon, where it has words
+-- the round that the words of a line name, and what follows its colon; a line with neither names none
 unfoldable pub round_of_words : ℕ → ℕ → Option (List ℕ) → List (List ℕ) → Result (Option Round) ListCause
-round_of_words most before name [] = wordless name
-round_of_words most before name (event ∷ []) = Err cause.Words
+round_of_words most before name [] = if is_none name then Ok None else Err cause.Words
 round_of_words most before name (event ∷ groups ∷ []) = placed_round most before (named_round event groups None name)
 round_of_words most before name (event ∷ groups ∷ least ∷ []) =
     placed_round most before (named_round event groups (Some least) name)
-round_of_words most before name (event ∷ groups ∷ least ∷ more ∷ others) = Err cause.Words
+round_of_words most before name words = Err cause.Words
 
 -- the round that a line of a list of this version names, before which this many stand
 abbrev pub round_of_line : Version → ℕ → List ℕ → Result (Option Round) ListCause
@@ -82,24 +68,13 @@ round_of_line version before line =
 
 -- ---- a list
 
--- a round before others
-abbrev pub with_round : Round → Result (List Round) ListFault → Result (List Round) ListFault
-with_round round (Ok rounds) = Ok (round ∷ rounds)
-with_round round (Err fault) = Err fault
-
--- what a line names before what the lines after it name: the first line at fault decides
-abbrev pub then_rounds : ℕ → ℕ → Result (Option Round) ListCause → (ℕ → Result (List Round) ListFault)
-    → Result (List Round) ListFault
-then_rounds before number (Err cause) others = Err (Line number cause)
-then_rounds before number (Ok None) others = others before
-then_rounds before number (Ok (Some round)) others = with_round round (others (before + 1))
-
--- the rounds that lines name, where this many rounds stand before them and the first of them has this number
+-- the rounds that lines name, where this many rounds stand before them and the first of them has this number: the first
+-- line at fault decides
 unfoldable pub rounds_of_lines : Version → ℕ → ℕ → List (List ℕ) → Result (List Round) ListFault
 rounds_of_lines version before number [] = Ok []
 rounds_of_lines version before number (line ∷ lines) =
-    then_rounds before number (round_of_line version before line)
-    (λ stand. rounds_of_lines version stand (number + 1) lines)
+    and_then (result_map_both option_to_list (Line number) (round_of_line version before line)) (λ named.
+    and_then (rounds_of_lines version (before + length named) (number + 1) lines) (λ others. Ok (named ++ others)))
 
 -- The rounds that a list of this version names, or why it is none: it's too long, or a line is at fault. Lines are
 -- counted from 1, and the one that tells the version names no round.

@@ -1,11 +1,12 @@
 //! The grammar of lists.
 
-ghost use Rattle.std.specs.Prelude.{◌≡◌, ◌≢◌, ◌≤◌, length, option_copied, option_map, IfOk, IfErr, IfSome, Ok};
+ghost use Rattle.std.specs.Prelude.{◌≡◌, ◌≢◌, ◌≤◌, length, option_copied, option_map, IfOk, IfErr, IfSome, Ok, is_none, if◌then◌else◌};
 ghost use Rattle.scr_list.specs.declared.fault.ListFault.TheVariants.{Read};
 ghost use Rattle.scr_text.specs.Numbers.{number_between};
 ghost use Rattle.scr_text.specs.Parts.{more_lines};
 ghost use Rattle.scr_list.specs.Rounds.{rounds_of, rounds_of_lines, round_of_line, named_round, placed_round};
-ghost use Rattle.scr_list.specs.Rounds.{wordless, round_name, least_of};
+ghost use Rattle.scr_list.specs.Rounds.{round_name, least_of};
+ghost use Rattle.scr_list.specs.declared.fault.ListCause.TheVariants.{Words};
 ghost use Rattle.scr_list.specs.RoundLists.{IsRounds};
 ghost use Rattle.scr_list.specs.Reading.{listed};
 
@@ -91,7 +92,7 @@ fn round_of_line(version: Version, line: &[u8], before: usize) -> Result<Option<
 
 /// What a line without words names: no round, unless a name follows.
 fn wordless(name: Option<&[u8]>) -> Result<Option<Round>, ListCause>
-    ensures { result ≡ wordless (option_copied name.entry) }
+    ensures { result ≡ (if is_none (option_copied name.entry) then Ok None else Err Words) }
 {
     match name {
         None => Ok(None),

@@ -1,5 +1,5 @@
 -- What the statuses of refused words, of refused lists and of faults tell.
-use Rattle.std.proofs.Common.{◌≡◌, ◌⊎◌, ℕ, List, Ok, Err, inl, inr, refl, sym, subst}
+use Rattle.std.proofs.Common.{◌≡◌, ◌⊎◌, ℕ, List, [], ◌∷◌, Ok, Err, inl, inr, refl, sym, subst}
 use Rattle.std.specs.Prelude.{◌≢◌, Result}
 use Rattle.scr_outside.specs.Change.{Change}
 use Rattle.scr_outside.specs.Faults.{Rose}
@@ -9,7 +9,7 @@ use Rattle.scr_list.specs.Reading.{ReadsNoList}
 use Rattle.scr_command.specs.declared.command.Command.{Command}
 use Rattle.scr_command.specs.declared.command.Command.TheVariants.{One, Sheet, Tables, Load, Net, Check}
 use Rattle.scr_command.specs.declared.command.UsageFault.{UsageFault}
-use Rattle.scr_command.specs.Command.{command_of}
+use Rattle.scr_command.specs.Command.{command_of, usual_options}
 use Rattle.scr_table.specs.declared.fault.BuildFault.{BuildFault}
 use Rattle.scr_table.specs.declared.fault.BuildFault.TheVariants as build
 use Rattle.scr_slots.specs.declared.settings.Settings.{Settings}
@@ -17,7 +17,7 @@ use Rattle.scr_sheet.specs.declared.fault.Fault.{Fault}
 use Rattle.scr_sheet.specs.declared.fault.Fault.TheVariants as fault
 use Rattle.scr_sheet.specs.declared.status.Status.{Status}
 use Rattle.scr_sheet.specs.declared.status.Status.TheVariants as status
-use Rattle.scr_sheet.specs.Sheet.{Part}
+use Rattle.scr_sheet.specs.Sheet.{Part, settings_of, one_part, net_part, round_parts}
 use Rattle.scr_sheet.specs.Causes.{fault_of_build}
 use Rattle.scr_sheet.specs.Check.{ReadsInput, rounds_in}
 use Rattle.scr_sheet.specs.Outcome.{EndsMaking, EndsTelling, Ends, IsRun, gaining}
@@ -45,18 +45,18 @@ build-write (build.Gap table index) is = cc
 
 making-usage : (settings : Settings) (parts : List Part) (out : Change) (usage : UsageFault)
     → EndsMaking settings parts out (Err (fault.Usage usage)) → ⊥
-making-usage settings parts out usage (inl made) = made.ends
-making-usage settings parts out usage (inr lacks) = build-usage usage lacks.why lacks.is
+making-usage settings parts out usage (inl made) = made.1
+making-usage settings parts out usage (inr lacks) = build-usage usage lacks.0.0 lacks.0.2
 
 making-list : (settings : Settings) (parts : List Part) (out : Change) (refusal : ListFault)
     → EndsMaking settings parts out (Err (fault.List refusal)) → ⊥
-making-list settings parts out refusal (inl made) = made.ends
-making-list settings parts out refusal (inr lacks) = build-list refusal lacks.why lacks.is
+making-list settings parts out refusal (inl made) = made.1
+making-list settings parts out refusal (inr lacks) = build-list refusal lacks.0.0 lacks.0.2
 
 making-write : (settings : Settings) (parts : List Part) (out : Change) → EndsMaking settings parts out (Err fault.Write)
     → Rose out.faults_before out.faults_after
-making-write settings parts out (inl made) = made.ends.is.rose
-making-write settings parts out (inr lacks) = absurd (build-write lacks.why lacks.is)
+making-write settings parts out (inl made) = made.1.is.rose
+making-write settings parts out (inr lacks) = absurd (build-write lacks.0.0 lacks.0.2)
 
 -- a sheet that is told of
 telling-usage : (settings : Settings) (parts : List Part) (sheet lines : List ℕ) (made : Result (Unit {0}) Fault) (out : Change) (usage : UsageFault)
@@ -81,14 +81,14 @@ telling-write settings parts sheet lines (Err why) out making told =
 
 words-usage : (asked : Result Command UsageFault) (source out : Change) (usage : UsageFault) → Ends asked source out (Err (fault.Usage usage))
     → asked ≡ Err usage
-words-usage (Err other) source out usage ends = let same = ends.0 in cc
-words-usage (Ok (One event seed)) source out usage ends = absurd (making-usage _ _ out usage ends.1)
-words-usage (Ok (Sheet seed options)) source out usage (inl ends) = absurd (making-usage _ _ out usage ends.2)
-words-usage (Ok (Sheet seed options)) source out usage (inr refused) = let same = refused.is in cc
-words-usage (Ok (Tables event)) source out usage (same, inl ends) = absurd ends
-words-usage (Ok (Tables event)) source out usage (same, inr lacks) = absurd (build-usage usage lacks.why lacks.is)
+words-usage (Err other) source out usage ends = let same = ends.1.0 in cc
+words-usage (Ok (One event seed)) source out usage ends = absurd (making-usage (settings_of seed usual_options) (one_part event ∷ []) out usage ends.1)
+words-usage (Ok (Sheet seed options)) source out usage (inl ends) = absurd (making-usage (settings_of seed options) (round_parts 0 ends.0) out usage ends.2)
+words-usage (Ok (Sheet seed options)) source out usage (inr refused) = let same = refused.2.0 in cc
+words-usage (Ok (Tables event)) source out usage (same, inl ends) = let other = ends.2.0 in cc
+words-usage (Ok (Tables event)) source out usage (same, inr lacks) = absurd (build-usage usage lacks.0.0 lacks.0.2)
 words-usage (Ok (Load number)) source out usage ends = absurd (telling-usage _ _ ends.1.sheet _ ends.1.made out usage ends.1.making ends.1.told)
-words-usage (Ok (Net event seed)) source out usage ends = absurd (making-usage _ _ out usage ends.1)
+words-usage (Ok (Net event seed)) source out usage ends = absurd (making-usage (settings_of seed usual_options) (net_part event ∷ []) out usage ends.1)
 words-usage (Ok (Check seed attempts)) source out usage ends = absurd (check-usage _ source out usage ends)
 
 -- a list that is refused, or the list part of a sheet that is checked
@@ -97,28 +97,28 @@ IsListRefused source refusal = ReadsNoList source refusal ⊎ ReadsNoListPart so
 
 words-list : (asked : Result Command UsageFault) (source out : Change) (refusal : ListFault) → Ends asked source out (Err (fault.List refusal))
     → IsListRefused source refusal
-words-list (Err usage) source out refusal ends = let same = ends.0 in cc
-words-list (Ok (One event seed)) source out refusal ends = absurd (making-list _ _ out refusal ends.1)
-words-list (Ok (Sheet seed options)) source out refusal (inl ends) = absurd (making-list _ _ out refusal ends.2)
+words-list (Err usage) source out refusal ends = let same = ends.1.0 in cc
+words-list (Ok (One event seed)) source out refusal ends = absurd (making-list (settings_of seed usual_options) (one_part event ∷ []) out refusal ends.1)
+words-list (Ok (Sheet seed options)) source out refusal (inl ends) = absurd (making-list (settings_of seed options) (round_parts 0 ends.0) out refusal ends.2)
 words-list (Ok (Sheet seed options)) source out refusal (inr refused) =
-    let is = refused.is in
-    let same : refused.list ≡ refusal = cc in inl (subst (ReadsNoList source) same refused.cause)
-words-list (Ok (Tables event)) source out refusal (same, inl ends) = absurd ends
-words-list (Ok (Tables event)) source out refusal (same, inr lacks) = absurd (build-list refusal lacks.why lacks.is)
+    let is = refused.2.0 in
+    let same : refused.0 ≡ refusal = cc in inl (subst (ReadsNoList source) same refused.1)
+words-list (Ok (Tables event)) source out refusal (same, inl ends) = let other = ends.2.0 in cc
+words-list (Ok (Tables event)) source out refusal (same, inr lacks) = absurd (build-list refusal lacks.0.0 lacks.0.2)
 words-list (Ok (Load number)) source out refusal ends = absurd (telling-list _ _ ends.1.sheet _ ends.1.made out refusal ends.1.making ends.1.told)
-words-list (Ok (Net event seed)) source out refusal ends = absurd (making-list _ _ out refusal ends.1)
+words-list (Ok (Net event seed)) source out refusal ends = absurd (making-list (settings_of seed usual_options) (net_part event ∷ []) out refusal ends.1)
 words-list (Ok (Check seed attempts)) source out refusal ends = inr (check-list _ source out refusal ends)
 
 words-write : (asked : Result Command UsageFault) (source out : Change) → Ends asked source out (Err fault.Write)
     → Rose out.faults_before out.faults_after
-words-write (Err usage) source out ends = let same = ends.0 in cc
-words-write (Ok (One event seed)) source out ends = making-write _ _ out ends.1
-words-write (Ok (Sheet seed options)) source out (inl ends) = making-write _ _ out ends.2
-words-write (Ok (Sheet seed options)) source out (inr refused) = let same = refused.is in cc
-words-write (Ok (Tables event)) source out (same, inl ends) = ends.2.rose
-words-write (Ok (Tables event)) source out (same, inr lacks) = absurd (build-write lacks.why lacks.is)
+words-write (Err usage) source out ends = let same = ends.1.0 in cc
+words-write (Ok (One event seed)) source out ends = making-write (settings_of seed usual_options) (one_part event ∷ []) out ends.1
+words-write (Ok (Sheet seed options)) source out (inl ends) = making-write (settings_of seed options) (round_parts 0 ends.0) out ends.2
+words-write (Ok (Sheet seed options)) source out (inr refused) = let same = refused.2.0 in cc
+words-write (Ok (Tables event)) source out (same, inl ends) = ends.2.1.rose
+words-write (Ok (Tables event)) source out (same, inr lacks) = absurd (build-write lacks.0.0 lacks.0.2)
 words-write (Ok (Load number)) source out ends = telling-write _ _ ends.1.sheet _ ends.1.made out ends.1.making ends.1.told
-words-write (Ok (Net event seed)) source out ends = making-write _ _ out ends.1
+words-write (Ok (Net event seed)) source out ends = making-write (settings_of seed usual_options) (net_part event ∷ []) out ends.1
 words-write (Ok (Check seed attempts)) source out ends = check-write _ source out ends
 
 -- ---- runs
@@ -129,7 +129,7 @@ ends-so : (words : List (List ℕ)) (outcome : Status) (source out err : Change)
 ends-so words outcome source out err why run is other =
     elim run.performed.ends [
       | inl ends ↦ subst (λ e. Ends (command_of words) source out e) is ends
-      | inr wanting ↦ let same = wanting.is in let none : why ≡ fault.NoMemory = cc in absurd (other none)
+      | inr wanting ↦ let same = wanting.1.0 in let none : why ≡ fault.NoMemory = cc in absurd (other none)
     ]
 
 pub usage-cause : (words : List (List ℕ)) (source out err : Change) → IsRun words status.Usage source out err

@@ -1,6 +1,6 @@
 -- What the ends of a check tell.
 use Rattle.std.proofs.Common.{◌≡◌, ℕ, ◌<◌, List, [], ◌++◌, length, Ok, Err, inl, inr, refl, sym, ap, subst, ◌∙◌, arith}
-use Rattle.std.specs.Prelude.{Result}
+use Rattle.std.specs.Prelude.{Result, codes}
 use Rattle.scr_outside.specs.Change.{Change}
 use Rattle.scr_outside.specs.Faults.{Rose}
 use Rattle.scr_check.specs.declared.fault.CheckFault.TheVariants as check
@@ -18,7 +18,7 @@ use Rattle.scr_sheet.specs.declared.fault.Fault.TheVariants as fault
 use Rattle.scr_sheet.specs.declared.status.Status.TheVariants as status
 use Rattle.scr_sheet.specs.Causes.{fault_of_build}
 use Rattle.scr_sheet.specs.Check.{InputComesTo, ReadsInput, EndsChecking, rounds_in}
-use Rattle.scr_sheet.specs.Outcome.{EndsTelling, EndsCheck, status_of}
+use Rattle.scr_sheet.specs.Outcome.{EndsTelling, status_of}
 
 -- A list part is no list, or could not be read.
 abbrev pub ReadsNoListPart : Change → ListFault → Type 0
@@ -62,7 +62,7 @@ Fails f why = (let ended : Result (Unit {0}) Fault = Err f in ended) ≡ Err (fa
 
 checking-usage : (settings : Settings) (source : Change) (usage : UsageFault) → EndsChecking settings source (Err (fault.Usage usage)) → ⊥
 checking-usage settings source usage (inl reads) = read-fault settings source (fault.Usage usage) reads
-checking-usage settings source usage (inr (inl lacks)) = at lacks.why lacks.is
+checking-usage settings source usage (inr (inl lacks)) = at lacks.2.0 lacks.2.2
   where
     at : (why : BuildFault) → Fails (fault.Usage usage) why → ⊥
     at build.NoMemory is = cc
@@ -71,7 +71,7 @@ checking-usage settings source usage (inr (inr unread)) = let same = unread.0 in
 
 checking-write : (settings : Settings) (source : Change) → EndsChecking settings source (Err fault.Write) → ⊥
 checking-write settings source (inl reads) = read-fault settings source fault.Write reads
-checking-write settings source (inr (inl lacks)) = at lacks.why lacks.is
+checking-write settings source (inr (inl lacks)) = at lacks.2.0 lacks.2.2
   where
     at : (why : BuildFault) → Fails fault.Write why → ⊥
     at build.NoMemory is = cc
@@ -102,7 +102,7 @@ no_list-read settings source (list.Line number cause) reads = record {
 checking-list : (settings : Settings) (source : Change) (refusal : ListFault) → EndsChecking settings source (Err (fault.List refusal))
     → ReadsNoListPart source refusal
 checking-list settings source refusal (inl reads) = no_list-read settings source refusal reads
-checking-list settings source refusal (inr (inl lacks)) = absurd (at lacks.why lacks.is)
+checking-list settings source refusal (inr (inl lacks)) = absurd (at lacks.2.0 lacks.2.2)
   where
     at : (why : BuildFault) → Fails (fault.List refusal) why → ⊥
     at build.NoMemory is = cc
@@ -114,6 +114,11 @@ checking-list settings source refusal (inr (inr unread)) =
 
 -- ---- the command
 
+-- how a check ends: where all agrees, it is said so
+abbrev pub EndsCheck : Settings → Change → Change → Result (Unit {0}) Fault → Type 0
+EndsCheck settings source out ended =
+    (answer : Result (Unit {0}) Fault) × EndsChecking settings source answer × EndsTelling answer (codes "agrees\n") out ended
+
 -- where it told a fault that isn't the output's, the check ended with it
 told-fault : (answer : Result (Unit {0}) Fault) (lines : List ℕ) (out : Change) (why : Fault) → (why ≡ fault.Write → ⊥)
     → EndsTelling answer lines out (Err why) → answer ≡ Err why
@@ -123,17 +128,17 @@ told-fault (Err found) lines out why other told = sym told.0
 pub check-usage : (settings : Settings) (source out : Change) (usage : UsageFault) → EndsCheck settings source out (Err (fault.Usage usage)) → ⊥
 check-usage settings source out usage ends =
     checking-usage settings source usage
-    (subst (EndsChecking settings source) (told-fault ends.answer _ out (fault.Usage usage) (λ same. cc) ends.told) ends.checked)
+    (subst (EndsChecking settings source) (told-fault ends.0 _ out (fault.Usage usage) (λ same. cc) ends.2) ends.1)
 
 pub check-list : (settings : Settings) (source out : Change) (refusal : ListFault) → EndsCheck settings source out (Err (fault.List refusal))
     → ReadsNoListPart source refusal
 check-list settings source out refusal ends =
     checking-list settings source refusal
-    (subst (EndsChecking settings source) (told-fault ends.answer _ out (fault.List refusal) (λ same. cc) ends.told) ends.checked)
+    (subst (EndsChecking settings source) (told-fault ends.0 _ out (fault.List refusal) (λ same. cc) ends.2) ends.1)
 
 pub check-write : (settings : Settings) (source out : Change) → EndsCheck settings source out (Err fault.Write)
     → Rose out.faults_before out.faults_after
-check-write settings source out ends = at ends.answer _ ends.checked ends.told
+check-write settings source out ends = at ends.0 _ ends.1 ends.2
   where
     at : (answer : Result (Unit {0}) Fault) (lines : List ℕ) → EndsChecking settings source answer → EndsTelling answer lines out (Err fault.Write)
         → Rose out.faults_before out.faults_after
@@ -143,7 +148,7 @@ check-write settings source out ends = at ends.answer _ ends.checked ends.told
 -- a source that failed ends the check for just that
 pub check-input : (settings : Settings) (source out : Change) (ended : Result (Unit {0}) Fault) → EndsCheck settings source out ended
     → source.faults_before < source.faults_after → status_of ended ≡ status.ReadFault
-check-input settings source out ended ends rose = at ends.checked
+check-input settings source out ended ends rose = at ends.1
   where
     stays : {P : List ℕ → Type 0} → ReadsInput source P → ⊥
     stays reads = let same = reads.gives.no_fault in omega (arith, same, rose)
@@ -153,7 +158,7 @@ check-input settings source out ended ends rose = at ends.checked
     told (Ok u) lines is tells = cc
     told (Err found) lines is tells = tells.0 ∙ is
 
-    at : EndsChecking settings source ends.answer → status_of ended ≡ status.ReadFault
+    at : EndsChecking settings source ends.0 → status_of ended ≡ status.ReadFault
     at (inl reads) = absurd (stays reads)
-    at (inr (inl lacks)) = absurd (stays lacks.read)
-    at (inr (inr unread)) = ap status_of (told ends.answer _ unread.0 ends.told)
+    at (inr (inl lacks)) = absurd (stays lacks.1)
+    at (inr (inr unread)) = ap status_of (told ends.0 _ unread.0 ends.2)

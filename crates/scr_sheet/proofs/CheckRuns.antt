@@ -20,8 +20,10 @@ use Rattle.scr_slots.specs.declared.settings.Settings.{Settings}
 use Rattle.scr_sheet.specs.declared.fault.Fault.{Fault}
 use Rattle.scr_sheet.specs.declared.status.Status.{Status}
 use Rattle.scr_sheet.specs.Causes.{fault_of_build}
-use Rattle.scr_sheet.specs.Check.{InputComesTo, end_of_check, expected_lines, ReadsInput, EndsChecking, rounds_in}
-use Rattle.scr_sheet.specs.Outcome.{EndsCheck, Ends, status_of}
+use Rattle.std.specs.Result.{result_map_both}
+use Rattle.scr_sheet.specs.Check.{InputComesTo, expected_lines, fault_of_check, ReadsInput, EndsChecking, rounds_in}
+use Rattle.scr_sheet.specs.Outcome.{Ends, status_of}
+use Rattle.scr_sheet.proofs.CheckLaws.{EndsCheck}
 use Rattle.scr_sheet.specs.Task.{IsUnhinderedCheck, EndsWith}
 use Rattle.scr_sheet.proofs.RunLaws.{EndsTelling-same}
 use Rattle.scr_sheet.proofs.SheetLineLaws.{lines-lawful}
@@ -40,7 +42,7 @@ comes-one settings (Err list) input one other valid first second = first ∙ sym
 comes-one settings (Ok rounds) input one other valid first second =
     let same = one-answer (expected_lines settings rounds) (lines-lawful settings rounds (valid rounds refl)) (cut_lines (sheet_part input)) first.0 second.0
     first.1 second.1 in
-    first.2 ∙ ap end_of_check same ∙ sym second.2
+    first.2 ∙ ap (result_map_both (λ done. done) fault_of_check) same ∙ sym second.2
 
 -- what was read of an input that is told whole tells it of this input
 left_of : (input bytes : List ℕ) (left : Option (List ℕ)) → Some input ≡ put_back bytes left → (rest : List ℕ) × (left ≡ Some rest) × (input ≡ bytes ++ rest)
@@ -67,17 +69,17 @@ check-ends {source = source} {out = out} {settings = settings} {input = input} r
       | inl ends ↦
           let P : Result Command UsageFault → Type 0 = λ asked. Ends asked source out run.run.ended in
           ended (rw run.is (subst P run.asks ends))
-      | inr wanting ↦ inr (inl (ap status_of wanting.is))
+      | inr wanting ↦ inr (inl (ap status_of wanting.1.0))
     ])
   where
     checked : (found : Result (Unit {0}) Fault) → EndsChecking settings source found → EndsWith (status_of found) (status_of answer)
     checked found (inl reads) =
         inl (ap status_of (comes-one settings (rounds_in input) input found answer (λ named is. named-rounds _ named is)
         (told-whole source input run.told reads) comes))
-    checked found (inr (inl lacks)) = lacks-ends lacks.why found (status_of answer) lacks.is
+    checked found (inr (inl lacks)) = lacks-ends lacks.2.0 found (status_of answer) lacks.2.2
     checked found (inr (inr unread)) = absurd (run.read unread.1.rose)
 
     ended : EndsCheck settings source out run.run.ended → EndsWith (status_of run.run.ended) (status_of answer)
     ended ends =
-        let same = EndsTelling-same ends.answer _ out run.run.ended run.written ends.told in
-        rw same (checked ends.answer ends.checked)
+        let same = EndsTelling-same ends.0 _ out run.run.ended run.written ends.2 in
+        rw same (checked ends.0 ends.1)

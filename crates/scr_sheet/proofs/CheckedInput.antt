@@ -30,8 +30,13 @@ use Rattle.scr_slots.specs.Tables.{IsBuildCause}
 use Rattle.scr_sheet.specs.declared.fault.Fault.{Fault}
 use Rattle.scr_sheet.specs.declared.fault.Fault.TheVariants as fault
 use Rattle.scr_sheet.specs.Causes.{fault_of_build}
-use Rattle.scr_sheet.specs.Check.{expected_lines, end_of_check, rounds_in, InputComesTo, ReadsInput, EndsChecking, tested_events, TakesList, ReadsListPart, TakesInput, EndsReading}
+use Rattle.std.specs.Result.{result_map_both}
+use Rattle.scr_sheet.specs.Check.{expected_lines, fault_of_check, rounds_in, InputComesTo, ReadsInput, EndsChecking, tested_events, TakesList, ReadsListPart, TakesInput, EndsReading}
 use Rattle.scr_sheet.proofs.RunLaws.{each_asked}
+
+-- what a check found, as the end of a run
+abbrev pub end_of_check : Result (Unit {0}) CheckFault → Result (Unit {0}) Fault
+end_of_check found = result_map_both (λ done. done) fault_of_check found
 
 -- a list that names rounds isn't too long
 listed-short : (bytes : List ℕ) (rounds : List Round) → rounds_of bytes ≡ Ok rounds → length bytes < list_room
@@ -82,7 +87,7 @@ module _ {S : Type 0} (left : S → Option (List ℕ)) (faults ends : S → ℕ)
       → ReadsListPart left faults ends before after (Ok rounds) → IsBuildCause (tested_events rounds) why
       → EndsReading left faults ends before after settings (Err (fault_of_build why))
   lacks-tests settings before after rounds why taken cause =
-      inr (inl (record { rounds = rounds; read = takes-rounds taken; why = why; is = refl; cause = cause }))
+      inr (inl (rounds, takes-rounds taken, (why, cause, refl)))
 
   -- what may follow both of two takings follows the first with the second
   both-follow : {b c : Reading S} {ys : List ℕ} → Takes left faults ends b c ys → (rest : List ℕ) → CanFollow c.ended rest
@@ -156,7 +161,7 @@ module _ {S : Type 0} (left : S → Option (List ℕ)) (faults ends : S → ℕ)
       → EndsReading left faults ends (fresh source) after settings answer → EndsChecking settings (intake_of left faults ends source after.source) answer
   ends-reading settings source after answer gives end gave (inl taken) = inl (reads-taken source after gives end taken)
   ends-reading settings source after answer gives end gave (inr (inl lacks)) =
-      inr (inl (record { rounds = lacks.rounds; read = reads-taken source after gives end lacks.read; why = lacks.why; is = lacks.is; cause = lacks.cause }))
+      inr (inl (lacks.0, reads-taken source after gives end lacks.1, lacks.2))
   ends-reading settings source after answer gives end gave (inr (inr (is, stops))) = inr (inr (
     is,
     record {

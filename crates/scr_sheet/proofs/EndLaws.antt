@@ -20,8 +20,8 @@ use Rattle.scr_sheet.specs.declared.fault.Fault.TheVariants as fault
 use Rattle.scr_sheet.specs.declared.status.Status.{Status}
 use Rattle.scr_sheet.specs.declared.status.Status.TheVariants as status
 use Rattle.scr_sheet.specs.Sheet.{Part}
-use Rattle.scr_sheet.specs.Outcome.{EndsParts, EndsMaking, EndsTables, EndsTelling, EndsCommand, Ends, LacksTables, IsUnwritten, IsRun, Tells, status_of, TakesMemory}
-use Rattle.scr_sheet.specs.Causes.{fault_of_build}
+use Rattle.scr_sheet.specs.Outcome.{EndsParts, EndsMaking, EndsTables, EndsTelling, Ends, IsUnwritten, IsRun, Tells, status_of, TakesMemory}
+use Rattle.scr_sheet.specs.Causes.{LacksTables, fault_of_build}
 use Rattle.scr_sheet.proofs.StatusLaws.{end-of}
 use Rattle.scr_sheet.proofs.CheckLaws.{check-input}
 
@@ -45,7 +45,7 @@ IsOutputFault out ended = out.faults_before < out.faults_after → status_of end
 
 parts-output : (settings : Settings) (k : ℕ) (parts : List Part) (out : Change) (ended : Result (Unit {0}) Fault)
     → EndsParts settings k parts out ended → IsOutputFault out ended
-parts-output settings k parts out (Ok u) ends rose = absurd (gained ends.gained rose)
+parts-output settings k parts out (Ok u) ends rose = absurd (gained ends.is rose)
 parts-output settings k parts out (Err (fault.Usage usage)) ends rose = absurd ends
 parts-output settings k parts out (Err (fault.List list)) ends rose = absurd ends
 parts-output settings k parts out (Err (fault.DrawLimit number slot words)) ends rose = absurd (gained ends.is rose)
@@ -58,19 +58,9 @@ making-output : (settings : Settings) (parts : List Part) (out : Change) (ended 
     → IsOutputFault out ended
 making-output settings parts out ended making rose =
     elim making [
-      | inl made ↦ parts-output settings 0 parts out ended made.ends rose
-      | inr lacks ↦ absurd (gained lacks.unwritten rose)
+      | inl made ↦ parts-output settings 0 parts out ended made.1 rose
+      | inr lacks ↦ absurd (gained lacks.1 rose)
     ]
-
-tables-output : (event : Event) (out : Change) (ended : Result (Unit {0}) Fault) → EndsTables event out ended → IsOutputFault out ended
-tables-output event out (Ok u) ends rose = absurd (gained ends.2 rose)
-tables-output event out (Err (fault.Usage usage)) ends rose = absurd ends
-tables-output event out (Err (fault.List list)) ends rose = absurd ends
-tables-output event out (Err (fault.DrawLimit number slot words)) ends rose = absurd ends
-tables-output event out (Err fault.Write) ends rose = refl
-tables-output event out (Err fault.NoMemory) ends rose = absurd ends
-tables-output event out (Err (fault.Gap table index)) ends rose = absurd ends
-tables-output event out (Err (fault.Differs line)) ends rose = absurd ends
 
 telling-output : (made : Result (Unit {0}) Fault) (lines : List ℕ) (out : Change) (ended : Result (Unit {0}) Fault) → EndsTelling made lines out ended
     → IsOutputFault out ended
@@ -78,16 +68,16 @@ telling-output (Ok u) lines out (Ok v) told rose = absurd (gained told rose)
 telling-output (Ok u) lines out (Err f) told rose = ap (λ g. status_of (Err g)) told.0
 telling-output (Err f) lines out ended told rose = absurd (gained told.1 rose)
 
-command-output : (command : Command) (source out : Change) (ended : Result (Unit {0}) Fault) → EndsCommand command source out ended
+command-output : (command : Command) (source out : Change) (ended : Result (Unit {0}) Fault) → Ends (Ok command) source out ended
     → IsOutputFault out ended
 command-output (One event seed) source out ended ends rose = making-output _ _ out ended ends.1 rose
 command-output (Sheet seed options) source out ended (inl ends) rose = making-output _ _ out ended ends.2 rose
-command-output (Sheet seed options) source out ended (inr refused) rose = absurd (gained refused.unwritten rose)
-command-output (Tables event) source out ended (same, inl ends) rose = tables-output event out ended ends rose
-command-output (Tables event) source out ended (same, inr lacks) rose = absurd (gained lacks.unwritten rose)
+command-output (Sheet seed options) source out ended (inr refused) rose = absurd (gained refused.2.1 rose)
+command-output (Tables event) source out ended (same, inl ends) rose = telling-output (Ok tt) ends.0 out ended ends.2 rose
+command-output (Tables event) source out ended (same, inr lacks) rose = absurd (gained lacks.1 rose)
 command-output (Load number) source out ended ends rose = telling-output ends.1.made _ out ended ends.1.told rose
 command-output (Net event seed) source out ended ends rose = making-output _ _ out ended ends.1 rose
-command-output (Check seed attempts) source out ended ends rose = telling-output ends.answer _ out ended ends.told rose
+command-output (Check seed attempts) source out ended ends rose = telling-output ends.0 _ out ended ends.2 rose
 
 -- ---- the input
 
@@ -97,11 +87,11 @@ refused-input source (list.TooLong limit) cause rose = absurd (stayed cause.give
 refused-input source (list.Line number why) cause rose = absurd (stayed cause.gives.no_fault rose)
 refused-input source list.Read cause rose = refl
 
-command-input : (command : Command) (source out : Change) (ended : Result (Unit {0}) Fault) → EndsCommand command source out ended
+command-input : (command : Command) (source out : Change) (ended : Result (Unit {0}) Fault) → Ends (Ok command) source out ended
     → source.faults_before < source.faults_after → status_of ended ≡ status.ReadFault
 command-input (One event seed) source out ended ends rose = absurd (unchanged ends.0 rose)
 command-input (Sheet seed options) source out ended (inl ends) rose = absurd (stayed ends.1.gives.no_fault rose)
-command-input (Sheet seed options) source out ended (inr refused) rose = ap status_of refused.is ∙ refused-input source refused.list refused.cause rose
+command-input (Sheet seed options) source out ended (inr refused) rose = ap status_of refused.2.0 ∙ refused-input source refused.0 refused.1 rose
 command-input (Tables event) source out ended ends rose = absurd (unchanged ends.0 rose)
 command-input (Load number) source out ended ends rose = absurd (unchanged ends.0 rose)
 command-input (Net event seed) source out ended ends rose = absurd (unchanged ends.0 rose)
@@ -111,13 +101,13 @@ command-input (Check seed attempts) source out ended ends rose = check-input _ s
 
 -- a count that rises only where a command ends for it
 module _ (Rises : Change → Change → Type 0) (status_then : Status)
-    (command_then : (command : Command) (source out : Change) (ended : Result (Unit {0}) Fault) → EndsCommand command source out ended
+    (command_then : (command : Command) (source out : Change) (ended : Result (Unit {0}) Fault) → Ends (Ok command) source out ended
     → Rises source out → status_of ended ≡ status_then)
     (unmoved : (source out : Change) → IsUnchanged source → IsUnwritten out → Rises source out → ⊥) where
   words-then : (asked : Result Command UsageFault) (source out : Change) (ended : Result (Unit {0}) Fault) → Ends asked source out ended
       → Rises source out → status_of ended ≡ status_then
   words-then (Ok command) source out ended ends rose = command_then command source out ended ends rose
-  words-then (Err usage) source out ended ends rose = absurd (unmoved source out ends.1 ends.2 rose)
+  words-then (Err usage) source out ended ends rose = absurd (unmoved source out ends.0 ends.1.1 rose)
 
   run-then : (words : List (List ℕ)) (outcome : Status) (source out err : Change) → IsRun words outcome source out err
       → Rises source out → outcome ≡ status_then
@@ -125,7 +115,7 @@ module _ (Rises : Change → Change → Type 0) (status_then : Status)
       run.answer
       ∙ elim run.performed.ends as (λ e. status_of run.ended ≡ status_then) [
         | inl ends ↦ words-then (command_of words) source out run.ended ends rose
-        | inr wanting ↦ absurd (unmoved source out wanting.unread wanting.unwritten rose)
+        | inr wanting ↦ absurd (unmoved source out wanting.0 wanting.1.1 rose)
       ]
 
 pub run-output : (words : List (List ℕ)) (outcome : Status) (source out err : Change) → IsRun words outcome source out err
@@ -154,10 +144,10 @@ run-memory words source out err run = run.performed.memory (end-of status.NoMemo
 abbrev pub FaltersInTables : Event → Change → Type 0
 FaltersInTables event out = (text : List ℕ) × IsTablesText (tables_for (event ∷ [])) text × Falters out text
 
-tables-broken : (event : Event) (out : Change) → EndsTables event out (Err fault.Write) ⊎ LacksTables (event ∷ []) out (Err fault.Write)
+tables-broken : (event : Event) (out : Change) → EndsTables event out (Err fault.Write) ⊎ (LacksTables (event ∷ []) (Err fault.Write) × IsUnwritten out)
     → FaltersInTables event out
-tables-broken event out (inl ends) = ends
-tables-broken event out (inr lacks) = absurd (no_write lacks.why lacks.is)
+tables-broken event out (inl ends) = (ends.0, ends.1, ends.2.1)
+tables-broken event out (inr lacks) = absurd (no_write lacks.0.0 lacks.0.2)
   where
     no_write : (why : BuildFault) → (let ended : Result (Unit {0}) Fault = Err fault.Write in ended) ≡ Err (fault_of_build why) → ⊥
     no_write build.NoMemory same = cc
@@ -170,7 +160,7 @@ run-tables words event source out err asks run =
     elim run.performed.ends [
       | inl ends ↦
           let broken : run.ended ≡ Err fault.Write = end-of status.WriteFault run.ended (sym run.answer) in
-          let Q : Result (Unit {0}) Fault → Type 0 = λ e. EndsTables event out e ⊎ LacksTables (event ∷ []) out e in
+          let Q : Result (Unit {0}) Fault → Type 0 = λ e. EndsTables event out e ⊎ (LacksTables (event ∷ []) e × IsUnwritten out) in
           tables-broken event out (subst Q broken (subst P asks ends).1)
-      | inr wanting ↦ let none : status.NoMemory ≡ status.WriteFault = ap status_of (sym wanting.is) ∙ sym run.answer in cc
+      | inr wanting ↦ let none : status.NoMemory ≡ status.WriteFault = ap status_of (sym wanting.1.0) ∙ sym run.answer in cc
     ]

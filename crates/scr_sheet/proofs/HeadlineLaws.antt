@@ -2,7 +2,8 @@
 use Rattle.std.proofs.Common.{◌≡◌, ◌∙◌, ℕ, ◌+◌, ◌⊎◌, Bool, true, false, cond, List, [], ◌∷◌, ◌++◌, length, Ok, Err, inl, inr, refl, sym, ap, subst, append-nil, append_assoc, arith, All}
 use Rattle.std.proofs.lemmas.List.{length-map}
 use Rattle.std.proofs.lemmas.List.Elements.{All-head, All-tail}
-use Rattle.std.specs.Prelude.{Result, Option, Some, None, is_some, codes}
+use Rattle.std.specs.Prelude.{Result, Some, is_some, ok_or, codes}
+use Rattle.std.specs.Result.{result_map_both}
 use Rattle.scr_outside.specs.Change.{Change, Gains, Falters}
 use Rattle.scr_notation.specs.Written.{Written}
 use Rattle.scr_notation.specs.declared.event.Event.{Event}
@@ -15,12 +16,14 @@ use Rattle.scr_words.specs.Seed.{seed_of}
 use Rattle.scr_command.specs.declared.command.Command.{Command}
 use Rattle.scr_command.specs.declared.command.Command.TheVariants.{One, Sheet, Net}
 use Rattle.scr_command.specs.declared.command.UsageFault.{UsageFault}
-use Rattle.scr_command.specs.declared.command.UsageFault.TheVariants.{Grammar}
+use Rattle.scr_command.specs.declared.command.UsageFault.TheVariants.{Grammar, NoSeed}
+use Rattle.scr_command.specs.declared.options.OptionName.TheVariants.{Workers, Tries, Attempts, Short}
 use Rattle.scr_command.specs.declared.options.OptionName.TheVariants as option
 use Rattle.scr_command.specs.declared.options.Options.{Options}
-use Rattle.scr_command.specs.OptionTable.{sheet_options}
+use Rattle.scr_command.specs.OptionTable.{all_options}
 use Rattle.scr_command.specs.OptionWords.{Values, options_of}
-use Rattle.scr_command.specs.Command.{command_of, event_for, net_for, of_two, one_for, seeded, settings_in, command_with, sheet_of}
+use Rattle.scr_text.specs.Steps.{and_then}
+use Rattle.scr_command.specs.Command.{command_of, event_for, number_in, seeded, sheet_of}
 use Rattle.scr_list.specs.declared.round.Round.{Round}
 use Rattle.scr_list.specs.Rounds.{IsRound}
 use Rattle.scr_list.proofs.NameLemmas.{name-bytes}
@@ -35,7 +38,7 @@ use Rattle.scr_slots.proofs.Listings.{Draws-alike}
 use Rattle.scr_sheet.specs.declared.fault.Fault.{Fault}
 use Rattle.scr_sheet.specs.declared.fault.Fault.TheVariants as fault
 use Rattle.scr_sheet.specs.Sheet.{Part, round_part, round_parts, single_part, line_of, shown_net, EachSlot, IsPartText, IsText}
-use Rattle.scr_sheet.specs.Outcome.{IsLed, EndsParts, EndsMaking, EndsCommand, Ends, IsPerformed, IsUnwritten}
+use Rattle.scr_sheet.specs.Outcome.{IsLed, EndsParts, EndsMaking, Ends, IsPerformed, IsUnwritten}
 use Rattle.scr_sheet.specs.Headline.{AreFairScrambles, IsFairRound, AreFairRounds, no_round, another, IsFairLine, WritesOnly, IsFairRun}
 use Rattle.scr_sheet.proofs.SlotOrder.{round-in_order}
 use Rattle.scr_sheet.proofs.PartLaws.{EachSlot-map}
@@ -48,9 +51,9 @@ fair_scrambles : (scrambling : Scrambling) (settings : Settings) (least stream :
 fair_scrambles (ByState S event drawn numbers IsScramble) settings least stream scrambles fair each = (
   numbers.count,
   fair.state_at,
-  record {
-    fair = fair.is;
-    each = EachSlot-map _ _ (λ (w : Written). w.turns)
+  (
+    fair.is,
+    EachSlot-map _ _ (λ (w : Written). w.turns)
         (λ s w is.
         let given = is.turns.is.of_state in record {
           state = given.state;
@@ -59,8 +62,8 @@ fair_scrambles (ByState S event drawn numbers IsScramble) settings least stream 
           permitted = given.permitted;
           gives = given.gives;
           within = given.within;
-        }) stream scrambles each;
-  },
+        }) stream scrambles each,
+  ),
 )
 fair_scrambles (ByMoves event random) settings least stream scrambles fair each =
     (fair, EachSlot-map _ _ (λ (w : Written). w.turns) (λ s w is. is.turns) stream scrambles each)
@@ -122,15 +125,7 @@ fair-led settings parts out Is Leaves fair writes ends = record {
 fair-parts : (settings : Settings) (k : ℕ) (parts : List Part) (out : Change) (ended : Result (Unit {0}) Fault) → All IsFairPart parts
     → EndsParts settings k parts out ended → IsFairlyLed settings parts out
 fair-parts settings k parts out (Ok u) fair ends =
-    let are : parts ≡ parts ++ [] = sym (append-nil parts) in
-    record {
-      led = parts;
-      rest = [];
-      are = are;
-      text = ends.text;
-      fair = fair_texts settings parts [] ends.text (subst (All IsFairPart) are fair) ends.all;
-      written = inl ends.gained;
-    }
+    fair-led settings parts out (Gains out) _ fair (λ text. inl) ends
 fair-parts settings k parts out (Err (fault.Usage usage)) fair ends = absurd ends
 fair-parts settings k parts out (Err (fault.List list)) fair ends = absurd ends
 fair-parts settings k parts out (Err (fault.Gap table index)) fair ends = absurd ends
@@ -146,8 +141,8 @@ fair-making : (settings : Settings) (parts : List Part) (out : Change) (ended : 
     → EndsMaking settings parts out ended → IsFairlyLed settings parts out
 fair-making settings parts out ended making =
     elim making [
-      | inl making ↦ fair-parts settings 0 parts out ended making.fair making.ends
-      | inr lacks ↦ record { led = []; rest = parts; are = refl; text = []; fair = refl; written = inl lacks.unwritten }
+      | inl making ↦ fair-parts settings 0 parts out ended making.0 making.1
+      | inr lacks ↦ record { led = []; rest = parts; are = refl; text = []; fair = refl; written = inl lacks.1 }
     ]
 
 -- ---- one line
@@ -250,47 +245,49 @@ IsNet command = (event : Event) × (seed : Seed) × (command ≡ Net event seed)
 abbrev IsSheet : Command → Type 0
 IsSheet command = (seed : Seed) × (options : Options) × (command ≡ Sheet seed options)
 
-seeded-asked : (Is : Command → Type 0) (make : Seed → Command) → ((seed : Seed) → Is (make seed)) → (read : Result Seed SeedFault)
-    → IsAsked Is (seeded make read)
-seeded-asked Is make makes (Ok seed) = makes seed
-seeded-asked Is make makes (Err fault) = tt
+and_then-asked : {X : Type 0} (Is : Command → Type 0) (read : Result X UsageFault) (next : X → Result Command UsageFault)
+    → ((part : X) → IsAsked Is (next part)) → IsAsked Is (and_then read next)
+and_then-asked Is (Ok part) next each = each part
+and_then-asked Is (Err fault) next each = tt
 
-one_for-asked : (event : Result Event UsageFault) (seed : List ℕ) → IsAsked IsOne (one_for event seed)
-one_for-asked (Err fault) seed = tt
-one_for-asked (Ok event) seed = seeded-asked IsOne (One event) (λ s. (event, s, refl)) (seed_of seed)
-
-net_for-asked : (event : Result Event UsageFault) (seed : List ℕ) → IsAsked IsNet (net_for event seed)
-net_for-asked (Err fault) seed = tt
-net_for-asked (Ok event) seed = by_side (is_some (net_side_of event))
+seeded-asked : (Is : Command → Type 0) (make : Seed → Command) → ((seed : Seed) → Is (make seed)) → (word : List ℕ) → IsAsked Is (seeded make word)
+seeded-asked Is make makes word = by_seed (seed_of word)
   where
-    by_side : (has : Bool) → IsAsked IsNet (cond has (seeded (Net event) (seed_of seed)) (Err Grammar))
-    by_side true = seeded-asked IsNet (Net event) (λ s. (event, s, refl)) (seed_of seed)
-    by_side false = tt
-
-of_two-asked : (Is : Command → Type 0) (command : List ℕ → List ℕ → Result Command UsageFault)
-    → ((first second : List ℕ) → IsAsked Is (command first second)) → (words : List (List ℕ)) → IsAsked Is (of_two command words)
-of_two-asked Is command each [] = tt
-of_two-asked Is command each (first ∷ []) = tt
-of_two-asked Is command each (first ∷ second ∷ []) = each first second
-of_two-asked Is command each (first ∷ second ∷ more ∷ others) = tt
-
-sheet-asked : (options : Option Options) (seed : Option (List ℕ)) → IsAsked IsSheet (command_with Sheet options seed)
-sheet-asked None seed = tt
-sheet-asked (Some options) None = tt
-sheet-asked (Some options) (Some seed) = seeded-asked IsSheet (λ s. Sheet s options) (λ s. (s, options, refl)) (seed_of seed)
-
-sheet_of-asked : (values : Option Values) → IsAsked IsSheet (sheet_of values)
-sheet_of-asked None = tt
-sheet_of-asked (Some values) = sheet-asked (settings_in values) (values option.Seed)
+    by_seed : (read : Result Seed SeedFault) → IsAsked Is (result_map_both make NoSeed read)
+    by_seed (Ok seed) = makes seed
+    by_seed (Err fault) = tt
 
 one-asked : (words : List (List ℕ)) → IsAsked IsOne (command_of (codes "one" ∷ words))
-one-asked words = of_two-asked IsOne _ (λ event seed. one_for-asked (event_for event) seed) words
+one-asked [] = tt
+one-asked (event ∷ []) = tt
+one-asked (event ∷ seed ∷ []) =
+    and_then-asked IsOne (event_for event) (λ e. seeded (One e) seed) (λ e. seeded-asked IsOne (One e) (λ s. (e, s, refl)) seed)
+one-asked (event ∷ seed ∷ more ∷ others) = tt
 
 net-asked : (words : List (List ℕ)) → IsAsked IsNet (command_of (codes "net" ∷ words))
-net-asked words = of_two-asked IsNet _ (λ event seed. net_for-asked (event_for event) seed) words
+net-asked [] = tt
+net-asked (event ∷ []) = tt
+net-asked (event ∷ seed ∷ []) =
+    and_then-asked IsNet (event_for event) (λ e. cond (is_some (net_side_of e)) (seeded (Net e) seed) (Err Grammar))
+    (λ e. by_side e (is_some (net_side_of e)))
+  where
+    by_side : (e : Event) (has : Bool) → IsAsked IsNet (cond has (seeded (Net e) seed) (Err Grammar))
+    by_side e true = seeded-asked IsNet (Net e) (λ s. (e, s, refl)) seed
+    by_side e false = tt
+net-asked (event ∷ seed ∷ more ∷ others) = tt
+
+sheet_of-asked : (values : Values) → IsAsked IsSheet (sheet_of values)
+sheet_of-asked values =
+    and_then-asked IsSheet (number_in values Workers) _ (λ workers.
+    and_then-asked IsSheet (number_in values Tries) _ (λ tries.
+    and_then-asked IsSheet (number_in values Attempts) _ (λ attempts.
+    and_then-asked IsSheet (number_in values Short) _ (λ short.
+    let options : Options = record { workers = workers; tries = tries; attempts = attempts; short = short } in
+    and_then-asked IsSheet (ok_or (values option.Seed) Grammar) (seeded (λ s. Sheet s options)) (λ word.
+    seeded-asked IsSheet (λ s. Sheet s options) (λ s. (s, options, refl)) word)))))
 
 sheet-words-asked : (words : List (List ℕ)) → IsAsked IsSheet (command_of (codes "sheet" ∷ words))
-sheet-words-asked words = sheet_of-asked (options_of sheet_options words)
+sheet-words-asked words = and_then-asked IsSheet (ok_or (options_of all_options words) Grammar) sheet_of sheet_of-asked
 
 -- ---- what they write
 
@@ -299,16 +296,16 @@ IsBelow settings text = (below : List ℕ) × IsFairLine below settings text
 
 one-writes : (source out : Change) (ended : Result (Unit {0}) Fault) (asked : Result Command UsageFault) → IsAsked IsOne asked
     → Ends asked source out ended → WritesOnly (IsFairLine []) out
-one-writes source out ended (Err usage) asks ends = nothing-written (IsFairLine []) out ends.2
+one-writes source out ended (Err usage) asks ends = nothing-written (IsFairLine []) out ends.1.1
 one-writes source out ended (Ok command) (event, seed, is) ends =
-    let making = (subst (λ c. EndsCommand c source out ended) is ends).1 in
+    let making = (subst (λ c. Ends (Ok c) source out ended) is ends).1 in
     single-writes (IsFairLine []) _ event line_of out ended (λ text it. record { event = event; turns = it.turns; fair = it.fair; is = it.is }) making
 
 net-writes : (source out : Change) (ended : Result (Unit {0}) Fault) (asked : Result Command UsageFault) → IsAsked IsNet asked
     → Ends asked source out ended → WritesOnly IsBelow out
-net-writes source out ended (Err usage) asks ends = nothing-written IsBelow out ends.2
+net-writes source out ended (Err usage) asks ends = nothing-written IsBelow out ends.1.1
 net-writes source out ended (Ok command) (event, seed, is) ends =
-    let making = (subst (λ c. EndsCommand c source out ended) is ends).1 in
+    let making = (subst (λ c. Ends (Ok c) source out ended) is ends).1 in
     let net : List Turn → List ℕ = shown_net (net_side_of event) in
     single-writes IsBelow _ event (λ turns. line_of turns ++ net turns) out ended
     (λ text it. (
@@ -334,11 +331,11 @@ rounds-write settings rounds each out ended making =
 
 sheet-writes : (source out : Change) (ended : Result (Unit {0}) Fault) (asked : Result Command UsageFault) → IsAsked IsSheet asked
     → Ends asked source out ended → WritesOnly (AreFairRounds 0) out
-sheet-writes source out ended (Err usage) asks ends = nothing-written (AreFairRounds 0) out ends.2
+sheet-writes source out ended (Err usage) asks ends = nothing-written (AreFairRounds 0) out ends.1.1
 sheet-writes source out ended (Ok command) (seed, options, is) ends =
-    elim (subst (λ c. EndsCommand c source out ended) is ends) [
+    elim (subst (λ c. Ends (Ok c) source out ended) is ends) [
       | inl made ↦ rounds-write _ made.0 (rounds_of-IsRounds made.1.bytes made.0 made.1.says).each out ended made.2
-      | inr refused ↦ nothing-written (AreFairRounds 0) out refused.unwritten
+      | inr refused ↦ nothing-written (AreFairRounds 0) out refused.2.1
     ]
 
 -- a run whose first word is this one, where each end of its command has written only such a text
@@ -348,7 +345,7 @@ word-writes : (Is : Settings → List ℕ → Type 0) (name word : List ℕ) (wo
 word-writes Is name word words source out ended performed so is =
     elim performed.ends [
       | inl ends ↦ so (subst (λ w. Ends (command_of (w ∷ words)) source out ended) is ends)
-      | inr wanting ↦ nothing-written Is out wanting.unwritten
+      | inr wanting ↦ nothing-written Is out wanting.1.1
     ]
 
 -- whatever a run writes of scrambles is fair

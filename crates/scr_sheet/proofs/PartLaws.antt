@@ -15,9 +15,9 @@ use Rattle.scr_sheet.specs.declared.fault.Fault.TheVariants as fault
 use Rattle.scr_round.specs.Round.{round_text}
 use Rattle.scr_round.specs.Made.{Made, turns_of_each}
 use Rattle.scr_workers.specs.Answered.{AreAnswered}
-use Rattle.scr_sheet.specs.Making.{answer_at, AreAnswers, IsFirstNone, IsRoundMade}
-use Rattle.scr_sheet.specs.Sheet.{IsLimit, IsFirstWithout, Part, round_part, round_parts, EachSlot, ArePartScrambles, IsPartText, IsText}
-use Rattle.scr_sheet.specs.Outcome.{IsUnwritten, IsLed, IsDone, IsStopped, EndsParts}
+use Rattle.scr_sheet.specs.Making.{answer_at, AreAnswers, IsFirstNone, IsLimit, IsRoundMade}
+use Rattle.scr_sheet.specs.Sheet.{IsFirstWithout, Part, round_part, round_parts, EachSlot, AreScrambles, IsPartText, IsText}
+use Rattle.scr_sheet.specs.Outcome.{IsUnwritten, IsLed, IsStopped, EndsParts}
 
 -- ---- slots one after another
 
@@ -78,9 +78,9 @@ scrambles_of_answers scrambling settings least stream (scramble ∷ scrambles) e
     (each.0, scrambles_of_answers scrambling settings least (stream + 1) scrambles each.1)
 
 -- so a part has its scrambles
-pub ArePartScrambles-all : (settings : Settings) (part : Part) (answers : List (Option Written)) (scrambles : List Written)
-    → AreAnswers settings part answers → map Some scrambles ≡ answers → ArePartScrambles settings part scrambles
-ArePartScrambles-all settings part answers scrambles are same =
+pub AreScrambles-all : (settings : Settings) (part : Part) (answers : List (Option Written)) (scrambles : List Written)
+    → AreAnswers settings part answers → map Some scrambles ≡ answers → AreScrambles settings part part.slots scrambles
+AreScrambles-all settings part answers scrambles are same =
     let P : List (Option Written) → Type 0 = λ all. EachSlot (IsSlotAnswer (scrambling_of part.event) settings part.least) part.first_stream all in
     record {
       each_slot = sym (length-map scrambles Some) ∙ ap length same ∙ are.each_slot;
@@ -105,9 +105,11 @@ IsFirstWithout-none settings part answers place are first =
       below = omega (arith, are.each_slot, some, size, whole, first.as_many);
       nothing = subst Q there (EachSlot-behind Is part.first_stream (map Some first.before) None first.behind each);
       before = first.before;
-      as_many = first.as_many;
-      each = scrambles_of_answers scrambling settings part.least part.first_stream first.before
-          (EachSlot-before Is part.first_stream (map Some first.before) (None ∷ first.behind) each);
+      all_before = record {
+        each_slot = first.as_many;
+        each = scrambles_of_answers scrambling settings part.least part.first_stream first.before
+            (EachSlot-before Is part.first_stream (map Some first.before) (None ∷ first.behind) each);
+      };
     }
 
 -- ---- texts
@@ -129,6 +131,35 @@ IsText-append IsOne (part ∷ parts) more text next before after = (
 )
 
 -- ---- how far the parts of a command are written
+
+-- all parts are written
+pub record IsDone (settings : Settings) (parts : List Part) (out : Change) : Type 0 where
+  pub text : List ℕ
+  pub all : IsText (IsPartText settings) parts text
+  pub gained : Gains out text
+
+-- said of leading parts, behind which none is left
+abbrev pub IsWhole : Settings → List Part → Change → Type 0
+IsWhole settings parts out = IsLed settings parts (Gains out) (λ led rest. rest ≡ [])
+
+pub done-whole : {settings : Settings} {parts : List Part} {out : Change} → IsDone settings parts out → IsWhole settings parts out
+done-whole {parts = parts} done = record {
+  led = parts;
+  rest = [];
+  are = sym (append-nil parts);
+  text = done.text;
+  has = done.all;
+  is = done.gained;
+  leaves = refl;
+}
+
+pub whole-done : {settings : Settings} {parts : List Part} {out : Change} → IsWhole settings parts out → IsDone settings parts out
+whole-done {settings = settings} whole = record {
+  text = whole.text;
+  all = subst (λ p. IsText (IsPartText settings) p whole.text)
+      (sym (whole.are ∙ ap (λ rest. whole.led ++ rest) whole.leaves ∙ append-nil whole.led)) whole.has;
+  gained = whole.is;
+}
 
 -- all parts are written but the rest, of which the first is part k
 pub record IsMadeUpTo (settings : Settings) (parts rest : List Part) (k : ℕ) (out : Change) : Type 0 where
@@ -160,12 +191,12 @@ made-more {settings = settings} {rest = rest} {part = part} made done = record {
 
 -- nothing is left
 pub made-all : {settings : Settings} {parts : List Part} {k : ℕ} {out : Change} → IsMadeUpTo settings parts [] k out
-    → IsDone settings parts out
-made-all {settings = settings} made = record {
+    → IsWhole settings parts out
+made-all {settings = settings} made = done-whole (record {
   text = made.text;
   all = subst (λ p. IsText (IsPartText settings) p made.text) (sym (made.are ∙ append-nil made.led)) made.has;
   gained = made.gained;
-}
+})
 
 -- leading parts behind others
 IsLed-behind : {settings : Settings} {parts more : List Part} {k : ℕ} {out : Change} {Is Is' : List ℕ → Type 0} {Leaves Leaves' : ℕ → List Part → Type 0}
@@ -191,7 +222,7 @@ IsLed-behind {settings} {k = k} {Leaves' = Leaves'} rest made so leaving ends =
 IsStopped-before : (settings : Settings) (number slot words k k' : ℕ) (left rest : List Part) → k ≡ k' → IsStopped settings number slot words k left
     → IsStopped settings number slot words k' (left ++ rest)
 IsStopped-before settings number slot words k k' [] rest same stopped = absurd stopped
-IsStopped-before settings number slot words k k' (failing ∷ left) rest same stopped = (stopped.0 ∙ ap (λ n. n + 1) same, stopped.1)
+IsStopped-before settings number slot words k k' (failing ∷ left) rest same stopped = (stopped.0 ∙ ap (λ n. n + 1) same, stopped.1, stopped.2)
 
 -- a part that ends the command
 pub made-fault : {settings : Settings} {parts rest : List Part} {part : Part} {k : ℕ} {held held' : Option (List ℕ)}
@@ -222,12 +253,12 @@ round_parts-next rounds i d there = rw (drop-cons rounds i d there, add-one i) r
 pub round-more : {settings : Settings} {held held' : Option (List ℕ)} {faults faults' : ℕ} (rounds : List Round) (i : ℕ) (round : Round)
     → round ≡ get_or rounds i round → (held'' : Option (List ℕ)) (faults'' : ℕ) → i < length rounds
     → IsMadeUpTo settings (round_parts 0 rounds) (round_parts i (drop i rounds)) i (from_to held faults held' faults')
-    → IsDone settings (round_part i round ∷ []) (from_to held' faults' held'' faults'')
+    → IsWhole settings (round_part i round ∷ []) (from_to held' faults' held'' faults'')
     → IsMadeUpTo settings (round_parts 0 rounds) (round_parts (i + 1) (drop (i + 1) rounds)) (i + 1) (from_to held faults held'' faults'')
 round-more {settings} {held} {held'} {faults} {faults'} rounds i round is held'' faults'' there made done =
     let P : List Part → Type 0 = λ rest. IsMadeUpTo settings (round_parts 0 rounds) rest i (from_to held faults held' faults') in
     let Done : Round → Type 0 = λ r. IsDone settings (round_part i r ∷ []) (from_to held' faults' held'' faults'') in
-    made-more (subst P (round_parts-next rounds i round there) made) (subst Done is done)
+    made-more (subst P (round_parts-next rounds i round there) made) (subst Done is (whole-done done))
 
 -- a round that ends the sheet
 pub round-fault : {settings : Settings} {held held' : Option (List ℕ)} {faults faults' : ℕ} (rounds : List Round) (i : ℕ) (round : Round)
@@ -266,7 +297,7 @@ IsLed-none {parts = parts} leaves unwritten = record {
 -- a part that stands alone has a slot without a scramble
 pub first-stopped : {settings : Settings} {part : Part} {words : ℕ} {out : Change} (k j : ℕ)
     → IsLimit settings part j words → IsUnwritten out → EndsParts settings k (part ∷ []) out (Err (fault.DrawLimit (k + 1) (j + 1) words))
-first-stopped k j limit = IsLed-none (omega arith, (j, refl, limit))
+first-stopped k j limit = IsLed-none (omega arith, limit.taken, (j, refl, limit.first))
 
 -- a part that stands alone is not made for want of memory
 pub first-unmade : {settings : Settings} {part : Part} {out : Change} → IsUnwritten out
@@ -287,10 +318,10 @@ first-broken {settings = settings} {part = part} {text = text} is faltered = rec
 }
 
 -- and whole
-pub IsDone-first : {settings : Settings} {part : Part} {text : List ℕ} {out : Change} → IsPartText settings part text → Gains out text
-    → IsDone settings (part ∷ []) out
-IsDone-first {settings = settings} {part = part} {text = text} is gained = record {
+pub IsWhole-first : {settings : Settings} {part : Part} {text : List ℕ} {out : Change} → IsPartText settings part text → Gains out text
+    → IsWhole settings (part ∷ []) out
+IsWhole-first {settings = settings} {part = part} {text = text} is gained = done-whole (record {
   text = text;
   all = IsText-one (IsPartText settings) part text is;
   gained = gained;
-}
+})

@@ -32,8 +32,9 @@ use Rattle.scr_sheet.specs.declared.fault.Fault.TheVariants as fault
 use Rattle.scr_sheet.specs.declared.status.Status.{Status}
 use Rattle.scr_sheet.specs.declared.status.Status.TheVariants as status
 use Rattle.scr_sheet.specs.Sheet.{Part, round_part, round_parts, EachSlot, IsPartText, IsText, IsFirstWithout}
-use Rattle.scr_sheet.specs.Outcome.{IsStopped, EndsParts, EndsMaking, EndsCommand, EndsTables, EndsTelling, Ends, LacksTables, gaining, status_of}
-use Rattle.scr_sheet.specs.Causes.{fault_of_build}
+use Rattle.scr_sheet.specs.Outcome.{IsStopped, EndsParts, EndsMaking, EndsTables, EndsTelling, Ends, IsUnwritten, gaining, status_of}
+use Rattle.scr_sheet.proofs.PartLaws.{done-whole, whole-done}
+use Rattle.scr_sheet.specs.Causes.{LacksTables, fault_of_build}
 use Rattle.scr_sheet.specs.Task.{IsTask, IsUnhindered, LacksScramble, EndsWith}
 
 -- the events of a list's parts are those of its rounds
@@ -119,8 +120,8 @@ IsText-apart settings (other ∷ led) part rest text j decided is lacks = IsText
 LacksScramble-stopped : (settings : Settings) (parts : List Part) (number slot words k : ℕ) (led rest : List Part) → parts ≡ led ++ rest
     → IsStopped settings number slot words k rest → LacksScramble settings parts
 LacksScramble-stopped settings parts number slot words k led [] are stopped = absurd stopped
-LacksScramble-stopped settings parts number slot words k led (failing ∷ rest) are (first, (j, place, limit)) =
-    record { led = led; part = failing; rest = rest; are = are; slot = j; first = limit.first }
+LacksScramble-stopped settings parts number slot words k led (failing ∷ rest) are (numbered, taken, (j, place, first)) =
+    record { led = led; part = failing; rest = rest; are = are; slot = j; first = first }
 
 -- parts whose slots all have scrambles, where the output doesn't fail
 EndsParts-done : (settings : Settings) (parts : List Part) (out : Change) (ended : Result (Unit {0}) Fault)
@@ -141,8 +142,9 @@ EndsParts-limit : (settings : Settings) (parts : List Part) (out : Change) (ende
     → EndsParts settings 0 parts out ended → ¬ (Rose out.faults_before out.faults_after) → All IsDecided parts → LacksScramble settings parts
     → EndsWith (status_of ended) status.DrawLimit
 EndsParts-limit settings parts out (Ok u) ends written decided lacks =
-    absurd (IsText-apart settings lacks.led lacks.part lacks.rest ends.text lacks.slot (subst (All IsDecided) lacks.are decided)
-    (subst (λ p. IsText (IsPartText settings) p ends.text) lacks.are ends.all) lacks.first)
+    let done = whole-done ends in
+    absurd (IsText-apart settings lacks.led lacks.part lacks.rest done.text lacks.slot (subst (All IsDecided) lacks.are decided)
+    (subst (λ p. IsText (IsPartText settings) p done.text) lacks.are done.all) lacks.first)
 EndsParts-limit settings parts out (Err (fault.Usage usage)) ends written decided lacks = absurd ends
 EndsParts-limit settings parts out (Err (fault.List list)) ends written decided lacks = absurd ends
 EndsParts-limit settings parts out (Err (fault.DrawLimit number slot words)) ends written decided lacks = inl refl
@@ -171,9 +173,9 @@ IsList-read source bytes rounds (list.Line number cause) whole is input read ref
 IsList-read source bytes rounds list.Read whole is input read refused = absurd (read refused.rose)
 
 -- tables that could not be built
-LacksTables-ends : (events : List Event) (out : Change) (ended : Result (Unit {0}) Fault) (wanted : Status) → LacksTables events out ended
+LacksTables-ends : (events : List Event) (ended : Result (Unit {0}) Fault) (wanted : Status) → LacksTables events ended
     → EndsWith (status_of ended) wanted
-LacksTables-ends events out ended wanted lacks = at lacks.why lacks.is
+LacksTables-ends events ended wanted lacks = at lacks.0 lacks.2
   where
     at : (why : BuildFault) → ended ≡ Err (fault_of_build why) → EndsWith (status_of ended) wanted
     at build.NoMemory is = inr (inl (ap status_of is))
@@ -183,15 +185,15 @@ LacksTables-ends events out ended wanted lacks = at lacks.why lacks.is
 record IsWell (settings : Settings) (parts : List Part) (ended : Result (Unit {0}) Fault) : Type 0 where
   sink : Change
   made : Result (Unit {0}) Fault
-  making : EndsParts settings 0 parts sink made ⊎ ((events : List Event) × LacksTables events sink made)
+  making : EndsParts settings 0 parts sink made ⊎ ((events : List Event) × LacksTables events made)
   whole : ¬ (Rose sink.faults_before sink.faults_after)
   same : ended ≡ made
 
 -- parts that are made
 made_parts : (settings : Settings) (parts : List Part) (out : Change) (ended : Result (Unit {0}) Fault) → EndsMaking settings parts out ended
-    → EndsParts settings 0 parts out ended ⊎ ((events : List Event) × LacksTables events out ended)
+    → EndsParts settings 0 parts out ended ⊎ ((events : List Event) × LacksTables events ended)
 made_parts settings parts out ended making =
-    elim making [ inl making ↦ inl making.ends | inr lacks ↦ inr (map (λ (part : Part). part.event) parts, lacks) ]
+    elim making [ inl making ↦ inl making.1 | inr lacks ↦ inr (map (λ (part : Part). part.event) parts, lacks.0) ]
 
 -- parts that are written
 IsWell-written : (settings : Settings) (parts : List Part) (out : Change) (ended : Result (Unit {0}) Fault) → ¬ (Rose out.faults_before out.faults_after)
@@ -217,55 +219,49 @@ not_risen (inr last) = absurd (omega (arith, last))
 
 -- tables are told with no parts at all
 tables_as_parts : (settings : Settings) (event : Event) (out : Change) (ended : Result (Unit {0}) Fault) → ¬ (Rose out.faults_before out.faults_after)
-    → EndsTables event out ended ⊎ LacksTables (event ∷ []) out ended → IsWell settings [] ended
+    → EndsTables event out ended ⊎ (LacksTables (event ∷ []) ended × IsUnwritten out) → IsWell settings [] ended
 tables_as_parts settings event out (Ok u) written (inl ends) = record {
   sink = gaining [];
   made = Ok u;
-  making = inl (record { text = []; all = refl; gained = record { gained = refl; no_fault = refl } });
+  making = inl (done-whole (record { text = []; all = refl; gained = record { gained = refl; no_fault = refl } }));
   whole = not_risen;
   same = refl;
 }
-tables_as_parts settings event out (Err (fault.Usage usage)) written (inl ends) = absurd ends
-tables_as_parts settings event out (Err (fault.List list)) written (inl ends) = absurd ends
-tables_as_parts settings event out (Err (fault.DrawLimit number slot words)) written (inl ends) = absurd ends
-tables_as_parts settings event out (Err fault.Write) written (inl ends) = absurd (written ends.2.rose)
-tables_as_parts settings event out (Err fault.NoMemory) written (inl ends) = absurd ends
-tables_as_parts settings event out (Err (fault.Gap table index)) written (inl ends) = absurd ends
-tables_as_parts settings event out (Err (fault.Differs line)) written (inl ends) = absurd ends
+tables_as_parts settings event out (Err why) written (inl ends) = absurd (written ends.2.1.rose)
 tables_as_parts settings event out ended written (inr lacks) = record {
   sink = out;
   made = ended;
-  making = inr (event ∷ [], lacks);
+  making = inr (event ∷ [], lacks.0);
   whole = written;
   same = refl;
 }
 
-EndsCommand-parts : (command : Command) (settings : Settings) (parts : List Part) (source out : Change)
+Ends-parts : (command : Command) (settings : Settings) (parts : List Part) (source out : Change)
     (ended : Result (Unit {0}) Fault) → ReadWhole → IsTask command source settings parts
     → ¬ (Rose source.faults_before source.faults_after) → ¬ (Rose out.faults_before out.faults_after)
-    → EndsCommand command source out ended → IsWell settings parts ended
-EndsCommand-parts (One event seed) settings parts source out ended whole task read written ends =
+    → Ends (Ok command) source out ended → IsWell settings parts ended
+Ends-parts (One event seed) settings parts source out ended whole task read written ends =
     IsWell-written settings parts out ended written (rw (task.0, task.1) ends.1)
-EndsCommand-parts (Sheet seed options) settings parts source out ended whole task read written (inl ends) =
+Ends-parts (Sheet seed options) settings parts source out ended whole task read written (inl ends) =
     let is = task.3 in
     let again = (whole source task.0 (Ok ends.0) ends.1 task.2).0 in
     let same : ends.0 ≡ task.1 = cc in
     let same_parts : parts ≡ round_parts 0 ends.0 = task.5 ∙ ap (round_parts 0) (sym same) in
     IsWell-written settings parts out ended written (rw (task.4, same_parts) ends.2)
-EndsCommand-parts (Sheet seed options) settings parts source out ended whole task read written (inr refused) =
-    absurd (IsList-read source task.0 task.1 refused.list whole task.3 task.2 read refused.cause)
-EndsCommand-parts (Tables event) settings parts source out ended whole task read written ends =
+Ends-parts (Sheet seed options) settings parts source out ended whole task read written (inr refused) =
+    absurd (IsList-read source task.0 task.1 refused.0 whole task.3 task.2 read refused.1)
+Ends-parts (Tables event) settings parts source out ended whole task read written ends =
     rw task (tables_as_parts settings event out ended written ends.1)
-EndsCommand-parts (Load number) settings parts source out ended whole task read written ends = record {
+Ends-parts (Load number) settings parts source out ended whole task read written ends = record {
   sink = gaining ends.1.sheet;
   made = ends.1.made;
   making = rw (task.0, task.1) (made_parts _ _ (gaining ends.1.sheet) ends.1.made ends.1.making);
   whole = not_risen;
   same = EndsTelling-same ends.1.made _ out ended written ends.1.told;
 }
-EndsCommand-parts (Net event seed) settings parts source out ended whole task read written ends =
+Ends-parts (Net event seed) settings parts source out ended whole task read written ends =
     IsWell-written settings parts out ended written (rw (task.0, task.1) ends.1)
-EndsCommand-parts (Check seed attempts) settings parts source out ended whole task read written ends = absurd task
+Ends-parts (Check seed attempts) settings parts source out ended whole task read written ends = absurd task
 
 IsUnhindered-ends : {words : List (List ℕ)} {outcome : Status} {source out err : Change} {settings : Settings} {parts : List Part}
     → ReadWhole → (run : IsUnhindered words outcome source out err settings parts)
@@ -274,9 +270,9 @@ IsUnhindered-ends {source = source} {out = out} {settings = settings} {parts = p
     elim run.run.performed.ends [
       | inl ends ↦
           let P : Result Command UsageFault → Type 0 = λ asked. Ends asked source out run.run.ended in
-          inl (EndsCommand-parts run.command settings parts source out run.run.ended whole run.task run.read run.written
+          inl (Ends-parts run.command settings parts source out run.run.ended whole run.task run.read run.written
           (subst P run.asks ends))
-      | inr wanting ↦ inr wanting.is
+      | inr wanting ↦ inr wanting.1.0
     ]
 
 -- the end of a run that nothing hindered, where this follows from its making
@@ -291,7 +287,7 @@ unhindered-with {parts = parts} wanted whole run each =
           rw well.same
           (elim well.making [
             | inl ends ↦ each well.sink well.made ends well.whole
-            | inr lacks ↦ LacksTables-ends lacks.0 well.sink well.made wanted lacks.1
+            | inr lacks ↦ LacksTables-ends lacks.0 well.made wanted lacks.1
           ])
       | inr wanting ↦ inr (inl (ap status_of wanting))
     ])

@@ -1,5 +1,5 @@
 -- The lines that a list's sheet has: each text has one answer at each, and which round a line is of.
-use Rattle.std.proofs.Common.{◌≡◌, ℕ, zero, suc, ◌+◌, ◌-◌, ◌*◌, ◌<◌, ◌≤◌, Bool, true, false, List, [], ◌∷◌, ◌++◌, length, take, drop, get_or, Some, Ok, Err, refl, sym, ap, ◌∙◌, subst, arith, length-append, drop-cons, add-one}
+use Rattle.std.proofs.Common.{◌≡◌, ℕ, suc, ◌+◌, ◌-◌, ◌*◌, ◌<◌, ◌≤◌, Bool, true, false, List, [], ◌∷◌, ◌++◌, length, take, drop, get_or, Some, Ok, Err, refl, sym, ap, ◌∙◌, subst, arith, length-append, drop-cons, add-one}
 use Rattle.std.specs.Prelude.{Result, map, slice_get}
 use Rattle.std.specs.Str.{bytes_eq}
 use Rattle.std.specs.List.{IsSplitAt}
@@ -18,13 +18,13 @@ use Rattle.scr_slots.specs.declared.settings.Settings.{Settings}
 use Rattle.scr_slots.specs.Agreement.{TextAgrees, IsJudged}
 use Rattle.scr_slots.specs.Events.{scrambling_of}
 use Rattle.scr_slots.specs.Slots.{first_stream}
-use Rattle.scr_sheet.specs.Check.{ListLine, list_lines, IsSlotLineAnswer, IsLineAnswer, IsAnswerAt, expected_lines, IsPlacedAt}
+use Rattle.scr_sheet.specs.Check.{ListLine, list_lines, IsLineAnswer, IsAnswerAt, expected_lines, IsPlacedAt}
 use Rattle.scr_sheet.proofs.ShortLines.{IsShort, all-at, list_lines-short, agreed-short}
 
 -- ---- one answer
 
 slot_answer-one : (settings : Settings) (k : ℕ) (round : Round) (label : List ℕ) (slot : ℕ) (text : List ℕ) (one other : Result Bool Missing)
-    → IsSlotLineAnswer settings k round label slot text one → IsSlotLineAnswer settings k round label slot text other → one ≡ other
+    → IsLineAnswer settings k round (Slot label slot) text one → IsLineAnswer settings k round (Slot label slot) text other → one ≡ other
 slot_answer-one settings k round label slot text (Ok a) (Ok b) first second = ap Ok (tests_agree a b first.1 second.1)
 slot_answer-one settings k round label slot text (Ok a) (Err m) first second = absurd (first.0 second.0)
 slot_answer-one settings k round label slot text (Err m) (Ok b) first second = absurd (second.0 first.0)
@@ -179,7 +179,7 @@ cancelled (byte ∷ label) behind other same = cancelled label behind other (let
 -- what is told of the text behind a label is answered for the slot's line
 pub slot-judged : (settings : Settings) (k : ℕ) (round : Round) (label : List ℕ) (slot : ℕ) (text behind : List ℕ) (told : Bool) → text ≡ label ++ behind
     → IsJudged (scrambling_of round.event) settings round.least (first_stream k + slot) behind (Some told)
-    → IsSlotLineAnswer settings k round label slot text (Ok told)
+    → IsLineAnswer settings k round (Slot label slot) text (Ok told)
 slot-judged settings k round label slot text behind told is judged = (
   judged.0,
   (
@@ -194,5 +194,5 @@ slot-judged settings k round label slot text behind told is judged = (
 pub slot-unlabelled : (settings : Settings) (k : ℕ) (round : Round) (label : List ℕ) (slot : ℕ) (text other : List ℕ) (told : Bool)
     → ((behind : List ℕ) → text ≡ label ++ behind → ⊥)
     → IsJudged (scrambling_of round.event) settings round.least (first_stream k + slot) other (Some told)
-    → IsSlotLineAnswer settings k round label slot text (Ok false)
+    → IsLineAnswer settings k round (Slot label slot) text (Ok false)
 slot-unlabelled settings k round label slot text other told none judged = (judged.0, (λ agrees. cc, λ it. absurd (none it.behind it.is)))

@@ -10,11 +10,10 @@ use Rattle.scr_notation.specs.Written.{Written}
 use Rattle.scr_slots.specs.declared.settings.Settings.{Settings}
 use Rattle.scr_slots.specs.Slots.{IsDrawnFairly, IsSlotScramble, HasNoScramble}
 use Rattle.scr_slots.specs.Events.{scrambling_of}
-use Rattle.scr_sheet.specs.declared.fault.Fault.{Fault}
 use Rattle.scr_sheet.specs.declared.fault.Fault.TheVariants as fault
 use Rattle.scr_sheet.specs.Sheet.{Part, IsPartText, single_part}
-use Rattle.scr_sheet.specs.Outcome.{EndsMaking, EndsParts, IsUnwritten}
-use Rattle.scr_sheet.proofs.PartLaws.{first-stopped, first-broken, IsDone-first}
+use Rattle.scr_sheet.specs.Outcome.{EndsMaking, IsUnwritten}
+use Rattle.scr_sheet.proofs.PartLaws.{first-stopped, first-broken, IsWhole-first}
 
 -- a part is drawn fairly
 abbrev Fair : Part → Type 0
@@ -30,29 +29,29 @@ module _ {settings : Settings} {event : Event} (text : List Turn → List ℕ) (
     is = refl;
   }
 
-  fair_part : (out : Change) (ended : Result (Unit {0}) Fault) → EndsParts settings 0 (single_part event text ∷ []) out ended
-      → EndsMaking settings (single_part event text ∷ []) out ended
-  fair_part out ended ends = inl (record { fair = All-cons Fair (single_part event text) [] fair (All-nil Fair); ends = ends })
-
   -- it was written whole
   pub single-done : {out : Change} (scramble : Written) → IsSlotScramble (scrambling_of event) settings 0 0 scramble
       → Gains out (text scramble.turns) → EndsMaking settings (single_part event text ∷ []) out (Ok tt)
-  single-done {out = out} scramble slot gains = fair_part out (Ok tt) (IsDone-first (written scramble slot) gains)
+  single-done scramble slot gains =
+      inl (All-cons Fair (single_part event text) [] fair (All-nil Fair), IsWhole-first (written scramble slot) gains)
 
   -- it was written in part
   pub single-broken : {out : Change} (scramble : Written) → IsSlotScramble (scrambling_of event) settings 0 0 scramble
       → Falters out (text scramble.turns) → EndsMaking settings (single_part event text ∷ []) out (Err fault.Write)
-  single-broken {out = out} scramble slot falters = fair_part out (Err fault.Write) (first-broken (written scramble slot) falters)
+  single-broken scramble slot falters =
+      inl (All-cons Fair (single_part event text) [] fair (All-nil Fair), first-broken (written scramble slot) falters)
 
   -- there is none
   pub single-limit : {out : Change} (words : ℕ) → HasNoScramble (scrambling_of event) settings 0 0 → words ≡ 3 * settings.attempts
       → IsUnwritten out → EndsMaking settings (single_part event text ∷ []) out (Err (fault.DrawLimit 1 1 words))
-  single-limit {out = out} words none taken unwritten =
-      fair_part out (Err (fault.DrawLimit 1 1 words))
-      (first-stopped 0 0 (record {
-        first = record { below = omega arith; nothing = none; before = []; as_many = refl; each = tt };
-        taken = taken;
-      }) unwritten)
+  single-limit words none taken unwritten =
+      inl (
+        All-cons Fair (single_part event text) [] fair (All-nil Fair),
+        first-stopped 0 0 (record {
+          first = record { below = omega arith; nothing = none; before = []; all_before = record { each_slot = refl; each = tt } };
+          taken = taken;
+        }) unwritten,
+      )
 
 -- a text behind one that was written
 pub Writes-behind : {E : Type 0} (held held' held'' : Option (List ℕ)) (faults faults' faults'' : ℕ) (text more : List ℕ) (ended : Result (Unit {0}) E)

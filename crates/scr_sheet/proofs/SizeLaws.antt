@@ -8,9 +8,9 @@ use Rattle.scr_slots.specs.declared.settings.Settings.{Settings}
 use Rattle.scr_sheet.specs.declared.fault.Fault.{Fault}
 use Rattle.scr_sheet.specs.declared.load.Size.{Size}
 use Rattle.scr_sheet.specs.Sheet.{Part, IsPartText, round_part, round_parts}
-use Rattle.scr_sheet.specs.Outcome.{IsDone, EndsUnmade, gaining}
+use Rattle.scr_sheet.specs.Outcome.{EndsUnmade, gaining}
 use Rattle.scr_sheet.specs.Sizes.{IsSizeOf, IsPartSize, SizesParts}
-use Rattle.scr_sheet.proofs.PartLaws.{IsMadeUpTo, IsText-one, made-none, made-all, round-more, round-fault}
+use Rattle.scr_sheet.proofs.PartLaws.{IsDone, done-whole, IsMadeUpTo, IsText-one, made-none, made-all, round-more, round-fault}
 
 -- two sizes together
 abbrev pub with_more : Size → Size → Size
@@ -51,7 +51,7 @@ sized-more {settings} {size} {more} rounds i round is there sized part =
     } in
     record {
       sheet = sized.sheet ++ text;
-      made = round-more rounds i round is (Some (sized.sheet ++ text)) 0 there sized.made done;
+      made = round-more rounds i round is (Some (sized.sheet ++ text)) 0 there sized.made (done-whole done);
       amounts = IsSizeOf-append sized.sheet text size more sized.amounts part.amounts;
     }
 

@@ -1,4 +1,7 @@
 -- Why a run ends, where a part of it says why: the fault of the run.
+use Rattle.std.specs.Prelude.{◌≡◌, List, Result, Err}
+use Rattle.scr_notation.specs.declared.event.Event.{Event}
+use Rattle.scr_slots.specs.Tables.{IsBuildCause}
 use Rattle.scr_command.specs.declared.command.CommandFault.{CommandFault}
 use Rattle.scr_command.specs.declared.command.CommandFault.TheVariants as refusal
 use Rattle.scr_table.specs.declared.fault.BuildFault.{BuildFault}
@@ -15,3 +18,7 @@ fault_of_command refusal.NoMemory = fault.NoMemory
 abbrev pub fault_of_build : BuildFault → Fault
 fault_of_build build.NoMemory = fault.NoMemory
 fault_of_build (build.Gap table index) = fault.Gap table index
+
+-- it ends since the tables of these events could not be built: one of them has a gap, or memory was wanting
+abbrev pub LacksTables : List Event → Result (Unit {0}) Fault → Type 0
+LacksTables events ended = (why : BuildFault) × IsBuildCause events why × (ended ≡ Err (fault_of_build why))

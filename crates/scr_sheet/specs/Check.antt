@@ -2,6 +2,7 @@
 -- that the sheet of these rounds has.
 use Rattle.std.specs.Prelude.{◌≡◌, ◌↔◌, ◌⊎◌, ◌+◌, ◌*◌, ◌-◌, ℕ, Bool, true, false, IsTrue, List, [], ◌∷◌, ◌++◌, length, map, take, filter, slice_get}
 use Rattle.std.specs.Prelude.{Option, Some, None, Result, Ok, Err}
+use Rattle.std.specs.Result.{result_map_both}
 use Rattle.std.specs.Str.{bytes_eq}
 use Rattle.scr_outside.specs.Change.{Change, Gives, TellsEnd}
 use Rattle.scr_check.specs.declared.fault.Missing.{Missing}
@@ -24,11 +25,9 @@ use Rattle.scr_slots.specs.declared.settings.Settings.{Settings}
 use Rattle.scr_slots.specs.Agreement.{TextAgrees, is_tested_by_table}
 use Rattle.scr_slots.specs.Events.{scrambling_of}
 use Rattle.scr_slots.specs.Slots.{HasNoScramble, first_stream}
-use Rattle.scr_slots.specs.Tables.{IsBuildCause}
-use Rattle.scr_table.specs.declared.fault.BuildFault.{BuildFault}
 use Rattle.scr_sheet.specs.declared.fault.Fault.{Fault}
 use Rattle.scr_sheet.specs.declared.fault.Fault.TheVariants as fault
-use Rattle.scr_sheet.specs.Causes.{fault_of_build}
+use Rattle.scr_sheet.specs.Causes.{LacksTables}
 
 -- ---- the lines that are expected
 
@@ -54,21 +53,15 @@ pub record SlotLineAgrees (settings : Settings) (k : ℕ) (round : Round) (label
   pub is : text ≡ label ++ behind
   pub agrees : TextAgrees (scrambling_of round.event) settings round.least (first_stream k + slot) behind
 
--- how a slot that lacks its scramble is told: its round and it are counted from 1
-abbrev pub missing_slot : Settings → ℕ → ℕ → Missing
-missing_slot settings k slot = record { round = k + 1; slot = slot + 1; words = 3 * settings.attempts }
-
--- What is answered for a slot's line and a text: whether they agree, or that the slot has no scramble.
-abbrev pub IsSlotLineAnswer : Settings → ℕ → Round → List ℕ → ℕ → List ℕ → Result Bool Missing → Type 0
-IsSlotLineAnswer settings k round label slot text (Ok told) =
-    (LacksSlot settings k round slot → ⊥) × (IsTrue told ↔ SlotLineAgrees settings k round label slot text)
-IsSlotLineAnswer settings k round label slot text (Err missing) =
-    LacksSlot settings k round slot × (missing ≡ missing_slot settings k slot)
-
--- What is answered for a line and a text; a fixed line agrees with its own text alone.
+-- What is answered for a line and a text. A fixed line agrees with its own text alone. Of a slot's line it is whether
+-- they agree, or that the slot has no scramble: its round and it are then counted from 1.
 abbrev pub IsLineAnswer : Settings → ℕ → Round → Line → List ℕ → Result Bool Missing → Type 0
 IsLineAnswer settings k round (Fixed own) text answer = answer ≡ Ok (bytes_eq text own)
-IsLineAnswer settings k round (Slot label slot) text answer = IsSlotLineAnswer settings k round label slot text answer
+IsLineAnswer settings k round (Slot label slot) text (Ok told) =
+    (LacksSlot settings k round slot → ⊥) × (IsTrue told ↔ SlotLineAgrees settings k round label slot text)
+IsLineAnswer settings k round (Slot label slot) text (Err missing) =
+    LacksSlot settings k round slot
+    × (missing ≡ record { round = k + 1; slot = slot + 1; words = 3 * settings.attempts })
 
 -- what a checker's lines are those of
 pub record SheetRounds : Type 0 where
@@ -98,16 +91,13 @@ fault_of_check (check.Differs line) = fault.Differs line
 fault_of_check (check.Limit missing) = fault.DrawLimit missing.round missing.slot missing.words
 fault_of_check check.Read = fault.List list.Read
 
-abbrev pub end_of_check : Result (Unit {0}) CheckFault → Result (Unit {0}) Fault
-end_of_check (Ok done) = Ok done
-end_of_check (Err found) = Err (fault_of_check found)
-
 -- The list part is no list; or its rounds are these, and the sheet part was held against their lines.
 abbrev pub InputComesTo : Settings → Result (List Round) ListFault → List ℕ → Result (Unit {0}) Fault → Type 0
 InputComesTo settings (Err list) input answer = answer ≡ Err (fault.List list)
 InputComesTo settings (Ok rounds) input answer =
     (found : Result (Unit {0}) CheckFault)
-    × ComesTo (expected_lines settings rounds) (cut_lines (sheet_part input)) found × (answer ≡ end_of_check found)
+    × ComesTo (expected_lines settings rounds) (cut_lines (sheet_part input)) found
+    × (answer ≡ result_map_both (λ done. done) fault_of_check found)
 
 -- the events of a list's rounds that are tested by tables as they are drawn
 abbrev pub tested_events : List Round → List Event
@@ -122,20 +112,13 @@ pub record ReadsInput (source : Change) (Tells : List ℕ → Type 0) : Type 0 w
   pub no_end : ended ≡ false → source.ends_after ≡ source.ends_before
   pub tells : (rest : List ℕ) → CanFollow ended rest → Tells (bytes ++ rest)
 
--- The tables by which the states of a list are tested could not be built: one has a gap, or memory was wanting.
-pub record LacksTests (Reads : (List ℕ → Type 0) → Type 0) (answer : Result (Unit {0}) Fault) : Type 0 where
-  pub rounds : List Round
-  pub read : Reads (λ input. rounds_in input ≡ Ok rounds)
-  pub why : BuildFault
-  pub is : answer ≡ Err (fault_of_build why)
-  pub cause : IsBuildCause (tested_events rounds) why
-
--- What the check of an input ends with, by what was read of it: what the input comes to, that tables could not be built, or
--- that the input could not be read.
+-- What the check of an input ends with, by what was read of it: what the input comes to, that the tables could not be
+-- built by which the states of its rounds are tested, or that the input could not be read.
 abbrev pub EndsBy : ((List ℕ → Type 0) → Type 0) → Type 0 → Settings → Result (Unit {0}) Fault → Type 0
 EndsBy Reads Stops settings answer =
     Reads (λ input. InputComesTo settings (rounds_in input) input answer)
-    ⊎ (LacksTests Reads answer ⊎ ((answer ≡ Err (fault.List list.Read)) × Stops))
+    ⊎ (((named : List Round) × Reads (λ input. rounds_in input ≡ Ok named) × LacksTables (tested_events named) answer)
+    ⊎ ((answer ≡ Err (fault.List list.Read)) × Stops))
 
 abbrev pub EndsChecking : Settings → Change → Result (Unit {0}) Fault → Type 0
 EndsChecking settings source = EndsBy (ReadsInput source) (ReadsInPart source (λ bytes. length bytes)) settings

@@ -11,26 +11,21 @@ use Rattle.scr_list.specs.declared.round.Round.{Round}
 use Rattle.scr_list.specs.Names.{is_name_byte}
 use Rattle.scr_round.specs.Round.{slots_of, heading}
 use Rattle.scr_slots.specs.declared.settings.Settings.{Settings}
-use Rattle.scr_slots.specs.Shown.{DrawnPuzzle, Shown, States, Moves, GivesDrawn, HasMoves, slot_numbers}
+use Rattle.scr_slots.specs.Shown.{Shown, States, Moves, GivesDrawn, HasMoves, slot_numbers}
 use Rattle.scr_slots.specs.Slots.{first_stream}
 use Rattle.scr_slots.specs.Events.{shown_of}
 use Rattle.scr_sheet.specs.Sheet.{EachSlot}
 
--- The slots of a puzzle's states on streams one after another: every state that turns reach and that needs so many is
--- drawn by equally many lists of numbers, and no other state by any; and these turns give the states that the slots'
--- numbers draw.
-pub record AreFairlyDrawn {S : Type 0} (drawn : DrawnPuzzle S) (space : StateSpace S) (settings : Settings)
-    (least stream : ℕ) (scrambles : List (List Turn)) : Type 0 where
-  pub fair : IsFairFor space least
-  pub each : EachSlot (λ s turns. GivesDrawn drawn space least (slot_numbers settings s) turns) stream scrambles
-
--- The slots are drawn fairly, by some numbers of the states. Of random moves: each step takes each of its choices by
--- equally many numbers, and the slots have those of their streams.
+-- The slots on streams one after another are drawn fairly. Of a puzzle's states: by some numbers of them, every state
+-- that turns reach and that needs so many is drawn by equally many lists of numbers, and no other state by any; and these
+-- turns give the states that the slots' numbers draw. Of random moves: each step takes each of its choices by equally many
+-- numbers, and the slots have those of their streams.
 abbrev pub AreFairScrambles : Shown → Settings → ℕ → ℕ → List (List Turn) → Type 0
 AreFairScrambles (States S drawn) settings least stream scrambles =
-    (count : ℕ) × (state_at : ℕ → S)
-    × AreFairlyDrawn drawn (record { count = count; state_at = state_at; puzzle = drawn.puzzle }) settings least stream
-    scrambles
+    (count : ℕ) × (state_at : ℕ → S) × (
+    let space : StateSpace S = record { count = count; state_at = state_at; puzzle = drawn.puzzle } in
+    IsFairFor space least
+    × EachSlot (λ s turns. GivesDrawn drawn space least (slot_numbers settings s) turns) stream scrambles)
 AreFairScrambles (Moves random) settings least stream scrambles =
     random.AreFair × EachSlot (λ s turns. HasMoves random settings s (Some turns)) stream scrambles
 

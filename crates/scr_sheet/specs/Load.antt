@@ -1,6 +1,6 @@
 -- The command `load`: a list of rounds that follows from a number, and what is told of its sheet. Both are our own
 -- choice.
-use Rattle.std.specs.Prelude.{ℕ, ◌+◌, ◌*◌, ◌%◌, List, [], ◌∷◌, ◌++◌, codes, length, map, take, sum, sum_by, replicate}
+use Rattle.std.specs.Prelude.{ℕ, ◌+◌, ◌*◌, ◌%◌, List, [], ◌∷◌, ◌++◌, codes, length, map, take, replicate}
 use Rattle.std.specs.List.{range_with_len, slice_index_or}
 use Rattle.std.specs.Int.{w64, to_le_bytes}
 use Rattle.std.specs.Fmt.{decimal}
@@ -10,7 +10,6 @@ use Rattle.scr_notation.specs.declared.event.Event.{Event}
 use Rattle.scr_notation.specs.declared.event.Event.TheVariants.{C222}
 use Rattle.scr_notation.specs.Event.{events, usual_of}
 use Rattle.scr_list.specs.declared.round.Round.{Round}
-use Rattle.scr_round.specs.Round.{slots_of}
 
 -- ---- the list of a number
 
@@ -38,20 +37,10 @@ load_round number k = usual_round (event_in_turn (number + k)) (1 + (number + 5 
 abbrev pub load_rounds : ℕ → List Round
 load_rounds number = map (load_round number) (range_with_len 0 (1 + number % 16))
 
--- ---- what is told of a sheet
-
--- how many slots these rounds have
-abbrev pub slots_of_all : List Round → ℕ
-slots_of_all rounds = sum_by slots_of rounds
-
--- four lines with these numbers
-abbrev pub four_lines : ℕ → ℕ → ℕ → ℕ → List ℕ
-four_lines rounds scrambles bytes total = text_of_lines (
+-- the lines on a sheet: how many rounds and slots it has, how many bytes, and what these add up to
+abbrev pub load_text : ℕ → ℕ → ℕ → ℕ → List ℕ
+load_text rounds scrambles bytes total = text_of_lines (
     (codes "rounds " ++ decimal rounds) ∷
     (codes "scrambles " ++ decimal scrambles) ∷
     (codes "bytes " ++ decimal bytes) ∷
     (codes "sum " ++ decimal total) ∷ [])
-
--- the lines on the sheet of these rounds: how many rounds and slots it has, how many bytes, and what these add up to
-abbrev pub load_text : List Round → List ℕ → List ℕ
-load_text rounds sheet = four_lines (length rounds) (slots_of_all rounds) (length sheet) (sum sheet)

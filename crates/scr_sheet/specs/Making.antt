@@ -1,5 +1,5 @@
 -- What the making of a round gives.
-use Rattle.std.specs.Prelude.{◌≡◌, ℕ, ◌<◌, Bool, List, ◌∷◌, ◌++◌, Option, Some, None, length, map}
+use Rattle.std.specs.Prelude.{◌≡◌, ℕ, ◌*◌, ◌<◌, Bool, List, ◌∷◌, ◌++◌, Option, Some, None, length, map}
 use Rattle.scr_notation.specs.EventSets.{Has}
 use Rattle.scr_notation.specs.Written.{Written}
 use Rattle.scr_list.specs.declared.round.Round.{Round}
@@ -11,7 +11,7 @@ use Rattle.scr_slots.specs.Events.{scrambling_of}
 use Rattle.scr_round.specs.Made.{Made}
 use Rattle.scr_sheet.specs.declared.making.RoundFault.{RoundFault}
 use Rattle.scr_sheet.specs.declared.making.RoundFault.TheVariants.{NoMemory, Limit}
-use Rattle.scr_sheet.specs.Sheet.{Part, EachSlot, round_part, ArePartScrambles, IsLimit}
+use Rattle.scr_sheet.specs.Sheet.{Part, EachSlot, round_part, AreScrambles, IsFirstWithout}
 
 -- the slots of round k of a list, counted from 0, and what they are made with
 pub record RoundSlots : Type 0 where
@@ -41,7 +41,12 @@ pub record AreAnswers (settings : Settings) (part : Part) (answers : List (Optio
 pub record IsRoundMade (settings : Settings) (k : ℕ) (round : Round) (made : Made) : Type 0 where
   pub same_round : made.round ≡ round
   pub same_index : made.index ≡ k
-  pub scrambles : ArePartScrambles settings (round_part k round) made.scrambles
+  pub scrambles : AreScrambles settings (round_part k round) (round_part k round).slots made.scrambles
+
+-- a slot of a part, the first without a scramble, whose attempts took so many words
+pub record IsLimit (settings : Settings) (part : Part) (slot words : ℕ) : Type 0 where
+  pub first : IsFirstWithout settings part slot
+  pub taken : words ≡ 3 * settings.attempts
 
 -- why the scrambles of a part were not made
 abbrev pub IsPartFault : Settings → Part → RoundFault → Type 0

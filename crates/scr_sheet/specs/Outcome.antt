@@ -1,5 +1,5 @@
 -- How a run may end.
-use Rattle.std.specs.Prelude.{◌≡◌, ◌<◌, ◌+◌, ◌⊎◌, ℕ, List, [], ◌∷◌, ◌++◌, length, map, codes, All, Some, Result, Ok, Err}
+use Rattle.std.specs.Prelude.{◌≡◌, ◌<◌, ◌+◌, ◌*◌, ◌⊎◌, ℕ, List, [], ◌∷◌, ◌++◌, length, map, sum, sum_by, codes, All, Some, Result, Ok, Err}
 use Rattle.scr_outside.specs.Change.{Change, change_of, IsUnchanged, Gains, Falters}
 use Rattle.scr_list.specs.Reading.{ReadsList, ReadsNoList}
 use Rattle.scr_notation.specs.declared.event.Event.{Event}
@@ -10,20 +10,20 @@ use Rattle.scr_command.specs.declared.command.Command.{Command}
 use Rattle.scr_command.specs.declared.command.Command.TheVariants.{One, Sheet, Tables, Load, Net, Check}
 use Rattle.scr_command.specs.declared.command.UsageFault.{UsageFault}
 use Rattle.scr_command.specs.Command.{usual_options, command_of, HasOptions}
-use Rattle.scr_table.specs.declared.fault.BuildFault.{BuildFault}
+use Rattle.scr_round.specs.Round.{slots_of}
 use Rattle.scr_slots.specs.declared.settings.Settings.{Settings}
 use Rattle.scr_slots.specs.Slots.{IsDrawnFairly}
 use Rattle.scr_slots.specs.Events.{scrambling_of}
-use Rattle.scr_slots.specs.Tables.{HasTables, IsBuildCause, tables_for}
+use Rattle.scr_slots.specs.Tables.{HasTables, tables_for}
 use Rattle.scr_sheet.specs.declared.fault.Fault.{Fault}
 use Rattle.scr_sheet.specs.declared.fault.Fault.TheVariants as fault
 use Rattle.scr_sheet.specs.declared.status.Status.{Status}
 use Rattle.scr_sheet.specs.declared.status.Status.TheVariants as status
-use Rattle.scr_sheet.specs.Sheet.{settings_of, IsLimit, Part, round_parts, one_part, net_part, IsPartText, IsText}
+use Rattle.scr_sheet.specs.Sheet.{settings_of, IsFirstWithout, Part, round_parts, one_part, net_part, IsPartText, IsText}
 use Rattle.scr_sheet.specs.Load.{load_seed, load_rounds, load_text}
 use Rattle.scr_table_text.specs.TableText.{IsTablesText}
 use Rattle.scr_sheet.specs.Message.{message_of}
-use Rattle.scr_sheet.specs.Causes.{fault_of_build}
+use Rattle.scr_sheet.specs.Causes.{LacksTables}
 use Rattle.scr_sheet.specs.Check.{EndsChecking, check_settings}
 
 -- nothing was written
@@ -31,12 +31,6 @@ abbrev pub IsUnwritten : Change → Type 0
 IsUnwritten out = Gains out []
 
 -- ---- the one table of outcomes, over the parts that a command writes; the first of them is part k
-
--- All parts were written.
-pub record IsDone (settings : Settings) (parts : List Part) (out : Change) : Type 0 where
-  pub text : List ℕ
-  pub all : IsText (IsPartText settings) parts text
-  pub gained : Gains out text
 
 -- Some leading parts have their scrambles, and it is so of their text; and so of how many they are and of the parts behind.
 pub record IsLed (settings : Settings) (parts : List Part) (Is : List ℕ → Type 0) (Leaves : ℕ → List Part → Type 0) : Type 0 where
@@ -48,16 +42,18 @@ pub record IsLed (settings : Settings) (parts : List Part) (Is : List ℕ → Ty
   pub is : Is text
   pub leaves : Leaves (length led) rest
 
--- The first of these parts, which is part k, has a slot without a scramble. It and the slot are told by their numbers, from 1.
+-- The first of these parts, which is part k, has a slot without a scramble, whose attempts took so many words. It and
+-- the slot are told by their numbers, from 1.
 abbrev pub IsStopped : Settings → ℕ → ℕ → ℕ → ℕ → List Part → Type 0
 IsStopped settings number slot words k [] = ⊥
 IsStopped settings number slot words k (failing ∷ rest) =
-    (number ≡ k + 1) × ((j : ℕ) × (slot ≡ j + 1) × IsLimit settings failing j words)
+    (number ≡ k + 1) × (words ≡ 3 * settings.attempts) × ((j : ℕ) × (slot ≡ j + 1) × IsFirstWithout settings failing j)
 
--- How the parts end that are made and written one after another. A slot has no scramble, or memory was wanting for a part:
--- those before it were written. Or the output failed: a first part was written of the text of some leading parts.
+-- How the parts end that are made and written one after another. All were written. Or a slot has no scramble, or memory
+-- was wanting for a part: those before it were written. Or the output failed: a first part was written of the text of
+-- some leading parts.
 abbrev pub EndsParts : Settings → ℕ → List Part → Change → Result (Unit {0}) Fault → Type 0
-EndsParts settings k parts out (Ok _) = IsDone settings parts out
+EndsParts settings k parts out (Ok _) = IsLed settings parts (Gains out) (λ led rest. rest ≡ [])
 EndsParts settings k parts out (Err (fault.DrawLimit number slot words)) =
     IsLed settings parts (Gains out) (λ led. IsStopped settings number slot words (k + led))
 EndsParts settings k parts out (Err fault.NoMemory) = IsLed settings parts (Gains out) (λ led rest. 0 < length rest)
@@ -68,88 +64,61 @@ EndsParts settings k parts out (Err _) = ⊥
 abbrev pub EndsUnmade : Settings → ℕ → Part → Fault → Type 0
 EndsUnmade settings k part why = (out : Change) → IsUnwritten out → EndsParts settings k (part ∷ []) out (Err why)
 
--- ---- tables
-
--- The tables of these events could not be built: one of them has a gap, or memory was wanting. Nothing was written.
-pub record LacksTables (events : List Event) (out : Change) (ended : Result (Unit {0}) Fault) : Type 0 where
-  pub why : BuildFault
-  pub is : ended ≡ Err (fault_of_build why)
-  pub cause : IsBuildCause events why
-  pub unwritten : IsUnwritten out
-
--- how the text of an event's tables ends that is written
-abbrev pub EndsTables : Event → Change → Result (Unit {0}) Fault → Type 0
-EndsTables event out (Ok _) = (text : List ℕ) × IsTablesText (tables_for (event ∷ [])) text × Gains out text
-EndsTables event out (Err fault.Write) = (text : List ℕ) × IsTablesText (tables_for (event ∷ [])) text × Falters out text
-EndsTables event out (Err _) = ⊥
-
 -- ---- the commands
 
--- The tables of the parts' events were built, so that each part is drawn fairly (of random moves: each of their steps
--- is); and so end the parts.
-pub record IsMaking (settings : Settings) (parts : List Part) (out : Change) (ended : Result (Unit {0}) Fault) : Type 0 where
-  pub fair : All (λ part. IsDrawnFairly (scrambling_of part.event) part.least) parts
-  pub ends : EndsParts settings 0 parts out ended
+-- it ends for this, and nothing was written
+abbrev pub Stops : Fault → Change → Result (Unit {0}) Fault → Type 0
+Stops why out ended = (ended ≡ Err why) × IsUnwritten out
 
--- how the making and writing of parts ends, whose tables are built first
+-- How the making and writing of parts ends, whose tables are built first. They were built, so that each part is drawn
+-- fairly (of random moves: each of their steps is), and so end the parts; or they could not be built.
 abbrev pub EndsMaking : Settings → List Part → Change → Result (Unit {0}) Fault → Type 0
 EndsMaking settings parts out ended =
-    IsMaking settings parts out ended ⊎ LacksTables (map (λ part. part.event) parts) out ended
+    (All (λ part. IsDrawnFairly (scrambling_of part.event) part.least) parts × EndsParts settings 0 parts out ended)
+    ⊎ (LacksTables (map (λ part. part.event) parts) ended × IsUnwritten out)
 
 -- a sink that gained this text, and did not fail
 abbrev pub gaining : List ℕ → Change
 gaining text = change_of Some (λ held. 0) [] text
 
--- How the telling of a sheet ends whose making ended so: where the sheet is whole, these lines on it are written.
+-- How it ends that a text is written, where what comes before ended so: it is written where that went well.
 abbrev pub EndsTelling : Result (Unit {0}) Fault → List ℕ → Change → Result (Unit {0}) Fault → Type 0
 EndsTelling (Ok _) lines out (Ok _) = Gains out lines
 EndsTelling (Ok _) lines out (Err why) = (why ≡ fault.Write) × Falters out lines
-EndsTelling (Err why) lines out ended = (ended ≡ Err why) × IsUnwritten out
+EndsTelling (Err why) lines out ended = Stops why out ended
+
+-- the text of an event's tables is written
+abbrev pub EndsTables : Event → Change → Result (Unit {0}) Fault → Type 0
+EndsTables event out ended =
+    (text : List ℕ) × IsTablesText (tables_for (event ∷ [])) text × EndsTelling (Ok tt) text out ended
 
 -- A sheet is made as for a sink that takes all of it, and is not written; it is told what it amounts to.
 pub record EndsLoad (number : ℕ) (out : Change) (ended : Result (Unit {0}) Fault) : Type 0 where
   pub sheet : List ℕ
   pub made : Result (Unit {0}) Fault
   pub making : EndsMaking (settings_of (load_seed number) usual_options) (round_parts 0 (load_rounds number)) (gaining sheet) made
-  pub told : EndsTelling made (load_text (load_rounds number) sheet) out ended
+  pub told : EndsTelling made
+      (load_text (length (load_rounds number)) (sum_by slots_of (load_rounds number)) (length sheet) (sum sheet))
+      out ended
 
--- the input is no round list, or could not be read
-pub record IsRefused (source out : Change) (ended : Result (Unit {0}) Fault) : Type 0 where
-  pub list : ListFault
-  pub is : ended ≡ Err (fault.List list)
-  pub cause : ReadsNoList source list
-  pub unwritten : IsUnwritten out
-
--- how a check ends: where all agrees, it is said so
-pub record EndsCheck (settings : Settings) (source out : Change) (ended : Result (Unit {0}) Fault) : Type 0 where
-  pub answer : Result (Unit {0}) Fault
-  pub checked : EndsChecking settings source answer
-  pub told : EndsTelling answer (codes "agrees\n") out ended
-
--- how a command ends; `sheet` reads its list to the end of input before it writes
-abbrev pub EndsCommand : Command → Change → Change → Result (Unit {0}) Fault → Type 0
-EndsCommand (One event seed) source out ended =
-    IsUnchanged source × EndsMaking (settings_of seed usual_options) (one_part event ∷ []) out ended
-EndsCommand (Sheet seed options) source out ended =
-    ((rounds : List Round) × ReadsList source (Ok rounds) × EndsMaking (settings_of seed options) (round_parts 0 rounds) out ended)
-    ⊎ IsRefused source out ended
-EndsCommand (Tables event) source out ended =
-    IsUnchanged source × (EndsTables event out ended ⊎ LacksTables (event ∷ []) out ended)
-EndsCommand (Load number) source out ended = IsUnchanged source × EndsLoad number out ended
-EndsCommand (Net event seed) source out ended =
-    IsUnchanged source × EndsMaking (settings_of seed usual_options) (net_part event ∷ []) out ended
-EndsCommand (Check seed attempts) source out ended = EndsCheck (check_settings seed attempts) source out ended
-
--- how a run ends on words that are this command, or that are none
+-- How a run ends on words that are this command, or that are none. `sheet` reads its list to the end of input before it
+-- writes; or the input is no round list, or could not be read. Where all agrees that `check` reads, it is said so.
 abbrev pub Ends : Result Command UsageFault → Change → Change → Result (Unit {0}) Fault → Type 0
-Ends (Ok command) source out ended = EndsCommand command source out ended
-Ends (Err usage) source out ended = (ended ≡ Err (fault.Usage usage)) × IsUnchanged source × IsUnwritten out
-
--- memory was wanting before anything was read or written
-pub record IsOutOfMemory (source out : Change) (ended : Result (Unit {0}) Fault) : Type 0 where
-  pub is : ended ≡ Err fault.NoMemory
-  pub unread : IsUnchanged source
-  pub unwritten : IsUnwritten out
+Ends (Ok (One event seed)) source out ended =
+    IsUnchanged source × EndsMaking (settings_of seed usual_options) (one_part event ∷ []) out ended
+Ends (Ok (Sheet seed options)) source out ended =
+    ((rounds : List Round) × ReadsList source (Ok rounds)
+    × EndsMaking (settings_of seed options) (round_parts 0 rounds) out ended)
+    ⊎ ((list : ListFault) × ReadsNoList source list × Stops (fault.List list) out ended)
+Ends (Ok (Tables event)) source out ended =
+    IsUnchanged source × (EndsTables event out ended ⊎ (LacksTables (event ∷ []) ended × IsUnwritten out))
+Ends (Ok (Load number)) source out ended = IsUnchanged source × EndsLoad number out ended
+Ends (Ok (Net event seed)) source out ended =
+    IsUnchanged source × EndsMaking (settings_of seed usual_options) (net_part event ∷ []) out ended
+Ends (Ok (Check seed attempts)) source out ended =
+    (answer : Result (Unit {0}) Fault) × EndsChecking (check_settings seed attempts) source answer
+    × EndsTelling answer (codes "agrees\n") out ended
+Ends (Err usage) source out ended = IsUnchanged source × Stops (fault.Usage usage) out ended
 
 -- ---- a whole run
 
@@ -163,10 +132,10 @@ TakesMemory (Ok (Net event seed)) = HasTables event
 TakesMemory (Ok (Check seed attempts)) = Unit {0}
 TakesMemory (Err usage) = ⊥
 
--- What a run on these words does before it tells how it ended. Only words that begin with `sheet` or `check`, and what
--- needs tables or makes rounds, take memory.
+-- What a run on these words does before it tells how it ended; or memory was wanting before anything was read or
+-- written. Only words that begin with `sheet` or `check`, and what needs tables or makes rounds, take memory.
 pub record IsPerformed (words : List (List ℕ)) (source out : Change) (ended : Result (Unit {0}) Fault) : Type 0 where
-  pub ends : Ends (command_of words) source out ended ⊎ IsOutOfMemory source out ended
+  pub ends : Ends (command_of words) source out ended ⊎ (IsUnchanged source × Stops fault.NoMemory out ended)
   pub memory : ended ≡ Err fault.NoMemory → HasOptions words ⊎ TakesMemory (command_of words)
 
 -- what went wrong is told by its message, or by a first part of it where that could not be written
@@ -179,8 +148,7 @@ abbrev pub status_of : Result (Unit {0}) Fault → Status
 status_of (Ok _) = status.Done
 status_of (Err (fault.Usage usage)) = status.Usage
 status_of (Err (fault.List list.Read)) = status.ReadFault
-status_of (Err (fault.List (list.TooLong limit))) = status.List
-status_of (Err (fault.List (list.Line number cause))) = status.List
+status_of (Err (fault.List list)) = status.List
 status_of (Err (fault.DrawLimit number slot words)) = status.DrawLimit
 status_of (Err fault.Write) = status.WriteFault
 status_of (Err fault.NoMemory) = status.NoMemory

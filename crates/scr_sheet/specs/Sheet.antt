@@ -1,5 +1,5 @@
 -- What a command writes: parts one after another, each the lines of some slots' scrambles.
-use Rattle.std.specs.Prelude.{◌≡◌, ℕ, ◌+◌, ◌*◌, ◌<◌, List, [], ◌∷◌, ◌++◌, length, codes, slice_index_or, Option, Some, None}
+use Rattle.std.specs.Prelude.{◌≡◌, ℕ, ◌+◌, ◌<◌, List, [], ◌∷◌, ◌++◌, length, codes, slice_index_or, Option, Some, None}
 use Rattle.std.specs.Option.{option_map_or}
 use Rattle.scr_combinatorics.specs.Play.{play}
 use Rattle.scr_notation.specs.declared.event.Event.{Event}
@@ -81,20 +81,15 @@ abbrev pub EachSlot : {X : Type 0} → (ℕ → X → Type 0) → ℕ → List X
 EachSlot Is stream [] = Unit {0}
 EachSlot Is stream (x ∷ xs) = Is stream x × EachSlot Is (stream + 1) xs
 
--- scrambles of a part's slots, from the first on
-abbrev pub AreScrambles : Settings → Part → List Written → Type 0
-AreScrambles settings part scrambles =
-    EachSlot (IsSlotScramble (scrambling_of part.event) settings part.least) part.first_stream scrambles
-
--- the scrambles of a part, one for each slot in order
-pub record ArePartScrambles (settings : Settings) (part : Part) (scrambles : List Written) : Type 0 where
-  pub each_slot : length scrambles ≡ part.slots
-  pub each : AreScrambles settings part scrambles
+-- the scrambles of so many of a part's slots, from the first on
+pub record AreScrambles (settings : Settings) (part : Part) (slots : ℕ) (scrambles : List Written) : Type 0 where
+  pub each_slot : length scrambles ≡ slots
+  pub each : EachSlot (IsSlotScramble (scrambling_of part.event) settings part.least) part.first_stream scrambles
 
 -- the text of a part, each of whose slots has a scramble
 pub record IsPartText (settings : Settings) (part : Part) (text : List ℕ) : Type 0 where
   pub scrambles : List Written
-  pub all : ArePartScrambles settings part scrambles
+  pub all : AreScrambles settings part part.slots scrambles
   pub is : text ≡ part.text (turns_of_each scrambles)
 
 -- It is a text of parts one after another, each of which has such a text.
@@ -108,10 +103,4 @@ pub record IsFirstWithout (settings : Settings) (part : Part) (j : ℕ) : Type 0
   pub below : j < part.slots
   pub nothing : HasNoScramble (scrambling_of part.event) settings part.least (part.first_stream + j)
   pub before : List Written
-  pub as_many : length before ≡ j
-  pub each : AreScrambles settings part before
-
--- a slot of a part, the first without a scramble, whose attempts took so many words
-pub record IsLimit (settings : Settings) (part : Part) (slot words : ℕ) : Type 0 where
-  pub first : IsFirstWithout settings part slot
-  pub taken : words ≡ 3 * settings.attempts
+  pub all_before : AreScrambles settings part j before

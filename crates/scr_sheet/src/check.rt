@@ -8,7 +8,7 @@ ghost use Rattle.scr_list.specs.RoundLists.{IsRounds};
 ghost use Rattle.scr_list.specs.Reading.{listed};
 ghost use Rattle.scr_slots.specs.Agreement.{is_tested_by_table};
 ghost use Rattle.scr_sheet.specs.Check.{EndsChecking, EndsReading, ReadsListPart, check_settings};
-ghost use Rattle.scr_sheet.specs.Outcome.{EndsCommand};
+ghost use Rattle.scr_sheet.specs.Outcome.{Ends};
 
 use crate::fault::Fault;
 use crate::sheet_lines::SheetLines;
@@ -32,7 +32,7 @@ pub(crate) fn write_check<R: Threads + Sync, S: Source, O: Sink>(
     out: &mut O,
 ) -> Result<(), Fault>
     requires { attempts ≤ 1000000 }
-    ensures { EndsCommand (Check seed.now attempts) (intake_of S.left S.faults S.ends source.old source.new)
+    ensures { Ends (Ok (Check seed.now attempts)) (intake_of S.left S.faults S.ends source.old source.new)
         (change_of O.held O.faults out.old out.new) result }
 {
     let settings = Settings {

@@ -1,6 +1,6 @@
 //! What holds of sheets and of runs whatever the code: calls that do nothing, whose contracts are the laws.
 
-ghost use Rattle.std.specs.Prelude.{◌≡◌, ◌≢◌, ◌<◌, ◌⊎◌, ℕ, List, [], ◌∷◌, map, length, All, IsTrue, IsSome, Some, Result, Ok, Err};
+ghost use Rattle.std.specs.Prelude.{◌≡◌, ◌≢◌, ◌<◌, ◌⊎◌, ℕ, List, [], ◌∷◌, map, length, sum_by, All, IsTrue, IsSome, Some, Result, Ok, Err};
 ghost use Rattle.scr_outside.specs.Change.{Change, Falters};
 ghost use Rattle.scr_outside.specs.Faults.{Rose};
 ghost use Rattle.scr_combinatorics.specs.Play.{play};
@@ -29,7 +29,8 @@ ghost use Rattle.scr_sheet.specs.Check.{InputComesTo, ReadsInput, rounds_in};
 ghost use Rattle.scr_sheet.specs.Outcome.{IsRun, IsUnwritten, TakesMemory, status_of};
 ghost use Rattle.scr_sheet.specs.Sheet.{Part, round_parts, one_part, IsPartText, IsText};
 ghost use Rattle.scr_sheet.specs.Headline.{StandInOrder};
-ghost use Rattle.scr_sheet.specs.Load.{load_rounds, slots_of_all};
+ghost use Rattle.scr_sheet.specs.Load.{load_rounds};
+ghost use Rattle.scr_round.specs.Round.{slots_of};
 ghost use Rattle.scr_sheet.specs.Task.{IsUnhindered, IsUnhinderedCheck, LacksScramble, EndsWith};
 
 use scr_list::laws as list_laws;
@@ -109,8 +110,8 @@ pub fn nets()
 /// are 16 with 456.
 pub fn load_lists()
     ensures each { (number : ℕ) → IsRounds (load_rounds number) }
-    ensures first { (length (load_rounds 0) ≡ 1) × (slots_of_all (load_rounds 0) ≡ 7) }
-    ensures fifteenth { (length (load_rounds 15) ≡ 16) × (slots_of_all (load_rounds 15) ≡ 456) }
+    ensures first { (length (load_rounds 0) ≡ 1) × (sum_by slots_of (load_rounds 0) ≡ 7) }
+    ensures fifteenth { (length (load_rounds 15) ≡ 16) × (sum_by slots_of (load_rounds 15) ≡ 456) }
 {}
 
 /// A text in which scrambles stand in order tells how each is spelled: no other spellings can be read in it so.

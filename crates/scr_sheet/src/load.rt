@@ -3,7 +3,7 @@
 //! The sheet is not written, and never held whole: each round is made, written to a sink of its own, counted and
 //! dropped.
 
-ghost use Rattle.std.specs.Prelude.{◌≡◌, ◌*◌, ◌<◌, ◌≤◌, ℕ, List, ◌++◌, codes, length, All, MatchResult, IfOk};
+ghost use Rattle.std.specs.Prelude.{◌≡◌, ◌*◌, ◌<◌, ◌≤◌, ℕ, List, ◌++◌, codes, length, sum, sum_by, All, MatchResult, IfOk};
 ghost use Rattle.scr_notation.specs.EventSets.{Has};
 ghost use Rattle.std.specs.Fmt.{decimal};
 ghost use Rattle.scr_outside.specs.Change.{change_of, Writes};
@@ -11,7 +11,8 @@ ghost use Rattle.scr_list.specs.RoundLists.{IsRounds};
 ghost use Rattle.scr_command.specs.Command.{usual_options};
 ghost use Rattle.scr_slots.specs.Ranges.{AreInRange};
 ghost use Rattle.scr_sheet.specs.Sheet.{settings_of, round_part, round_parts};
-ghost use Rattle.scr_sheet.specs.Load.{load_seed, load_round, load_rounds, slots_of_all, four_lines, load_text};
+ghost use Rattle.scr_sheet.specs.Load.{load_seed, load_round, load_rounds, load_text};
+ghost use Rattle.scr_round.specs.Round.{slots_of};
 ghost use Rattle.scr_sheet.specs.Making.{CanBeMade};
 ghost use Rattle.scr_sheet.specs.Outcome.{EndsLoad, EndsUnmade};
 ghost use Rattle.scr_sheet.specs.Sizes.{IsSizeOf, IsPartSize, SizesMaking, SizesParts};
@@ -177,14 +178,16 @@ fn size_of(text: &[u8]) -> Size
 fn write_size<O: Sink>(out: &mut O, rounds: &[Round], size: Size) -> Result<(), Failed>
     requires rounds { IsRounds rounds.now }
     ensures { (sheet : List ℕ) → IsSizeOf sheet size
-        → Writes (change_of O.held O.faults out.old out.new) (load_text rounds.now sheet) result }
+        → Writes (change_of O.held O.faults out.old out.new)
+        (load_text (length rounds.now) (sum_by slots_of rounds.now) (length sheet) (sum sheet)) result }
 {
     write_lines(out, rounds.len() as u32, slots_of_all(rounds), size)
 }
 
 /// Writes four lines with these numbers.
 fn write_lines<O: Sink>(out: &mut O, rounds: u32, scrambles: u32, size: Size) -> Result<(), Failed>
-    ensures { Writes (change_of O.held O.faults out.old out.new) (four_lines rounds scrambles size.bytes size.sum) result }
+    ensures { Writes (change_of O.held O.faults out.old out.new)
+        (load_text rounds scrambles size.bytes size.sum) result }
 {
     write_number(out, "rounds ", rounds)?;
     write_number(out, "scrambles ", scrambles)?;
@@ -203,7 +206,7 @@ fn write_number<O: Sink>(out: &mut O, label: &str, number: u32) -> Result<(), Fa
 /// How many slots these rounds have.
 fn slots_of_all(rounds: &[Round]) -> u32
     requires { IsRounds rounds.now }
-    ensures { result ≡ slots_of_all rounds.now }
+    ensures { result ≡ sum_by slots_of rounds.now }
 {
     let mut count = 0;
     for round in rounds {

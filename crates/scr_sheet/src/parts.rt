@@ -9,7 +9,8 @@ ghost use Rattle.scr_slots.specs.Tables.{HasTables};
 ghost use Rattle.scr_slots.specs.Ranges.{AreInRange, IsShort};
 ghost use Rattle.scr_sheet.specs.declared.fault.Fault.TheVariants.{NoMemory};
 ghost use Rattle.scr_sheet.specs.Sheet.{settings_of, round_part, round_parts};
-ghost use Rattle.scr_sheet.specs.Outcome.{EndsCommand, EndsMaking, EndsParts, EndsTables, EndsUnmade, LacksTables};
+ghost use Rattle.scr_sheet.specs.Outcome.{Ends, EndsMaking, EndsParts, EndsTables, EndsUnmade, IsUnwritten};
+ghost use Rattle.scr_sheet.specs.Causes.{LacksTables};
 ghost use Rattle.scr_sheet.specs.Making.{CanBeMade, IsRoundMade};
 
 use crate::fault::Fault;
@@ -37,7 +38,7 @@ pub(crate) fn write_sheet<R: Threads + Sync, S: Source, O: Sink, G: Gate + Sync>
 ) -> Result<(), Fault>
     requires attempts { options.now.attempts ≤ 1000000 }
     requires short { IsShort options.now.short }
-    ensures { EndsCommand (Sheet seed.now options.now) (intake_of S.left S.faults S.ends source.old source.new)
+    ensures { Ends (Ok (Sheet seed.now options.now)) (intake_of S.left S.faults S.ends source.old source.new)
         (change_of O.held O.faults out.old out.new) result }
 {
     let rounds = read_rounds(source)?;
@@ -128,7 +129,7 @@ pub(crate) fn write_event_tables<R: Threads + Sync, O: Sink>(
     out: &mut O,
 ) -> Result<(), Fault>
     ensures ends { EndsTables event (change_of O.held O.faults out.old out.new) result
-        ⊎ LacksTables (event ∷ []) (change_of O.held O.faults out.old out.new) result }
+        ⊎ (LacksTables (event ∷ []) result × IsUnwritten (change_of O.held O.faults out.old out.new)) }
     ensures memory { result ≡ Err NoMemory → HasTables event }
 {
     let tables = Tables::of_event(rt, alloc, event)?;

@@ -1,11 +1,12 @@
 //! The lines that a list's sheet has, for a checker.
 
-ghost use Rattle.std.specs.Prelude.{◌≡◌, ◌<◌, ◌≤◌, All, IsTrue, length, option_copied};
+ghost use Rattle.std.specs.Prelude.{◌≡◌, ◌+◌, ◌*◌, ◌<◌, ◌≤◌, All, IsTrue, length, option_copied};
 ghost use Rattle.scr_notation.specs.EventSets.{Has};
 ghost use Rattle.scr_list.specs.Rounds.{IsRound};
 ghost use Rattle.scr_list.specs.RoundLists.{IsRounds};
 ghost use Rattle.scr_slots.specs.Agreement.{is_tested_by_table};
-ghost use Rattle.scr_sheet.specs.Check.{IsBehind, IsPlacedAt, IsSlotLineAnswer, list_lines, missing_slot};
+ghost use Rattle.scr_sheet.specs.Check.{IsBehind, IsPlacedAt, IsLineAnswer, list_lines};
+ghost use Rattle.scr_round.specs.Round.{Slot};
 
 use scr_check::{Expected, Missing};
 use scr_list::Round;
@@ -129,7 +130,7 @@ fn slot_line_agrees(
     requires slot { slot < 182 }
     requires round { IsRound round.now }
     requires attempts { settings.now.attempts ≤ 1000000 }
-    ensures { IsSlotLineAnswer settings.now index round.now label.now slot text.now result }
+    ensures { IsLineAnswer settings.now index round.now (Slot label.now slot) text.now result }
 {
     let stream = 1024 * u64::from(index) + u64::from(slot);
     let least = u32::from(round.least);
@@ -151,7 +152,7 @@ fn missing_slot(settings: &Settings, index: u32, slot: u32) -> Missing
     requires index { index < 256 }
     requires slot { slot < 182 }
     requires attempts { settings.now.attempts ≤ 1000000 }
-    ensures { result ≡ missing_slot settings.now index slot }
+    ensures { result ≡ record { round = index + 1; slot = slot + 1; words = 3 * settings.now.attempts } }
 {
     Missing {
         round: index + 1,

@@ -13,10 +13,10 @@ pub returns : goal.returns
 returns g c = record {
   sheet = c.rounds_size.ensures.sheet;
   making =
-      inl (record {
-        fair = parts_of_rounds-fair c.in_ok-tables.tables c.args.rounds.now c.in_ok-tables.ensures.fair c.requires.rounds.each c.in_ok-tables.ensures.events;
-        ends = rw (c.new-making.ensures.settings, c.default.ensures) at c.rounds_size.ensures.ends;
-      });
+      inl (
+        parts_of_rounds-fair c.in_ok-tables.tables c.args.rounds.now c.in_ok-tables.ensures.fair c.requires.rounds.each c.in_ok-tables.ensures.events,
+        rw (c.new-making.ensures.settings, c.default.ensures) at c.rounds_size.ensures.ends,
+      );
   amounts = c.rounds_size.ensures.amounts;
 }
 
@@ -28,11 +28,13 @@ returns-in_err-tables g c =
     (record {
       sheet = [];
       making =
-          inr (record {
-            why = why;
-            is = refl;
-            cause = subst (λ events. IsBuildCause events why) (sym (events_of_parts 0 c.args.rounds.now)) c.in_err-tables.ensures.cause;
-            unwritten = Gains-nothing;
-          });
+          inr (
+            (
+              why,
+              subst (λ events. IsBuildCause events why) (sym (events_of_parts 0 c.args.rounds.now)) c.in_err-tables.ensures.cause,
+              refl,
+            ),
+            Gains-nothing,
+          );
       amounts = tt;
     })

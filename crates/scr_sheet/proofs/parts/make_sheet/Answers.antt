@@ -11,18 +11,20 @@ write_rounds-requires-clause-tables g c κs within =
 
 pub returns : goal.returns
 returns g c =
-    inl (record {
-      fair = parts_of_rounds-fair c.in_ok-tables.tables c.args.rounds.now c.in_ok-tables.ensures.fair c.requires.rounds.each c.in_ok-tables.ensures.events;
-      ends = rw c.new-making.ensures.settings at c.write_rounds.ensures;
-    })
+    inl (
+      parts_of_rounds-fair c.in_ok-tables.tables c.args.rounds.now c.in_ok-tables.ensures.fair c.requires.rounds.each c.in_ok-tables.ensures.events,
+      rw c.new-making.ensures.settings at c.write_rounds.ensures,
+    )
 
 pub returns-in_err-tables : goal.returns-in_err-tables
 returns-in_err-tables g c =
     let p = err_from_is_err_and c.from_residual.result c.from_residual.ensures.1 in
     let why = c.in_err-tables.field-0.0 in
-    inr (record {
-      why = why;
-      is = p.1 ∙ ap Err p.2;
-      cause = subst (λ events. IsBuildCause events why) (sym (events_of_parts 0 c.args.rounds.now)) c.in_err-tables.ensures.cause;
-      unwritten = Gains-nothing;
-    })
+    inr (
+      (
+        why,
+        subst (λ events. IsBuildCause events why) (sym (events_of_parts 0 c.args.rounds.now)) c.in_err-tables.ensures.cause,
+        p.1 ∙ ap Err p.2,
+      ),
+      Gains-nothing,
+    )

@@ -1,6 +1,6 @@
 use Rattle.std.proofs.lemmas.Result.{err_from_is_err_and}
 use Rattle.scr_outside.proofs.ChangeLemmas.{Gains-nothing}
-use Rattle.scr_sheet.proofs.PartLaws.{first-broken, IsDone-first, IsPartText-made}
+use Rattle.scr_sheet.proofs.PartLaws.{first-broken, IsWhole-first, IsPartText-made}
 use Rattle.scr_sheet.proofs.parts.write_one_round.Goals as goal
 
 pub returns-in_err-made : goal.returns-in_err-made
@@ -14,4 +14,4 @@ returns-in_err-write_round g c =
     rw (p.1, p.2) (first-broken (IsPartText-made c.in_ok-made.ensures) c.in_err-write_round.ensures)
 
 pub returns : goal.returns
-returns g c = IsDone-first (IsPartText-made c.in_ok-made.ensures) c.in_ok-write_round.ensures
+returns g c = IsWhole-first (IsPartText-made c.in_ok-made.ensures) c.in_ok-write_round.ensures

@@ -5,12 +5,12 @@ use Rattle.scr_command.specs.declared.command.Command.{Command}
 use Rattle.scr_command.specs.Command.{command_of}
 use Rattle.scr_sheet.specs.declared.fault.Fault.{Fault}
 use Rattle.scr_sheet.specs.declared.fault.Fault.TheVariants as fault
-use Rattle.scr_sheet.specs.Outcome.{EndsCommand, IsPerformed, TakesMemory}
+use Rattle.scr_sheet.specs.Outcome.{Ends, IsPerformed, TakesMemory}
 use Rattle.scr_sheet.proofs.program.perform.Goals as goal
 
 -- words that are a command
 by_command : {words : List (List ℕ)} {read command : Command} {source out : Change} {ended : Result (Unit {0}) Fault}
-    → command_of words ≡ Ok read → read ≡ command → EndsCommand command source out ended
+    → command_of words ≡ Ok read → read ≡ command → Ends (Ok command) source out ended
     → (ended ≡ Err fault.NoMemory → TakesMemory (Ok command)) → IsPerformed words source out ended
 by_command asks is ends memory = record { ends = inl (rw (asks, is) ends); memory = λ wanting. inr (rw (asks, is) (memory wanting)) }
 
