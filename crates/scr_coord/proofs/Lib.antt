@@ -1,9 +1,6 @@
-pub mod StaysBelowLaws
-pub mod MoveLaws
-pub mod ProductLaws
-pub mod ProductGoals
-pub mod SearchLaws
-pub mod IndexLaws
-pub mod Written
-pub mod RowsSeen
-pub mod PartWritten
+pub mod MarkedLaws
+pub mod ListViews
+pub mod MarkedSteps
+pub mod GoalNumbers
+pub mod ProjectionLaws
+pub mod MarkedPieces

@@ -1,5 +1,1 @@
-pub mod Coordinates
-pub mod SearchSpaces
-pub mod Products
-pub mod Moves
-pub mod Indexes
+pub mod Projections

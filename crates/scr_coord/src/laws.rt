@@ -1,47 +1,39 @@
-//! Laws of coordinates. The functions do nothing: what each ensures is the law.
-ghost use Rattle.std.specs.Prelude.{◌≡◌, ℕ, ◌+◌, ◌*◌, ◌&&◌, Bool, true, false, [], ◌∷◌, Option, Some, None};
-ghost use Rattle.scr_coord.specs.Coordinates.{Coordinate, StaysBelow};
-ghost use Rattle.scr_coord.specs.SearchSpaces.{positions, tested_space, Follows, FindsTheSame, ShowsSame};
-ghost use Rattle.scr_coord.specs.Products.{side_by_side, product_coordinate};
-ghost use Rattle.scr_coord.specs.Moves.{moves_coordinate};
+//! Laws of projections. The functions do nothing: what each ensures is the law.
+ghost use Rattle.std.specs.Prelude.{◌≡◌, ℕ, ◌<◌, Bool, List, [], ◌∷◌, All, length};
+ghost use Rattle.scr_combinatorics.specs.Lists.{numbers_from};
+ghost use Rattle.scr_combinatorics.specs.Permutations.{permutation_number};
+ghost use Rattle.scr_combinatorics.specs.PlaceSets.{IsPlaceSet, place_set_number};
+ghost use Rattle.scr_combinatorics.specs.Twists.{twists_number};
+ghost use Rattle.scr_orbit.specs.Orbits.{Rearrangement, IsOrbit, IsRearrangement, IsZeroSumOrbit, IsZeroSumRearrangement, zeros};
+ghost use Rattle.scr_positions.specs.SearchSpaces.{positions, Follows};
+ghost use Rattle.scr_coord.specs.Projections.{AreTurns, projection, twists_view, pieces_view, place_set_view, marked_places, turned_set, orbit_space};
 
-/// A search finds the same on coordinates that show the same, as on a move table and what it was made of: the same words
-/// to goals, distances and first words. Products of such coordinates show the same too.
-pub fn shown_alike()
-    ensures searched { (c shown : Coordinate) → StaysBelow c → ShowsSame c shown
-        → FindsTheSame (positions c) (positions shown) (λ p. p) }
-    ensures products { (low high shown_low shown_high : Coordinate) → high.turns ≡ low.turns
-        → ShowsSame low shown_low → ShowsSame high shown_high
-        → ShowsSame (product_coordinate low high) (product_coordinate shown_low shown_high) }
+/// The numbers of an orbit's digits, of its pieces, and of the places at which marked pieces stand go along with turns, so
+/// that a search finds the same on them. `marked` marks `k` of the `n` pieces.
+pub fn projections()
+    ensures twists { (n base : ℕ) (turns : List Rearrangement) → 0 < n → 0 < base → All (IsZeroSumRearrangement n base) turns
+        → Follows (orbit_space base turns (IsZeroSumOrbit n base) (λ o. o.digits ≡ zeros n))
+        (positions (projection (twists_view n base) turns)) (λ o. twists_number base o.digits) }
+    ensures pieces { (n m : ℕ) (turns : List Rearrangement) → 0 < m → All (IsRearrangement n m) turns
+        → Follows (orbit_space m turns (IsOrbit n m) (λ o. o.pieces ≡ numbers_from 0 n))
+        (positions (projection (pieces_view n) turns)) (λ o. permutation_number o.pieces) }
+    ensures place_sets { (n m k : ℕ) (marked : ℕ → Bool) (home : List ℕ) (turns : List Rearrangement)
+        → 0 < m → All (IsRearrangement n m) turns
+        → IsPlaceSet n k home → length (marked_places marked (numbers_from 0 n)) ≡ k
+        → Follows (orbit_space m turns (IsOrbit n m) (λ o. marked_places marked o.pieces ≡ home))
+        (positions (projection (place_set_view n k home) turns)) (λ o. place_set_number n (marked_places marked o.pieces)) }
 {}
 
-/// A search finds the same on any states and on a view of them that goes along with turns, and such views can be taken one
-/// after another.
-pub fn views<S, R>()
-    ensures searched { (valid goal : S → Bool) (after : S → ℕ → Option S) (other : Coordinate) (view : S → ℕ)
-        → Follows (tested_space valid after goal) (positions other) view
-        → FindsTheSame (tested_space valid after goal) (positions other) view }
-    ensures through { (valid goal : S → Bool) (after : S → ℕ → Option S) (valid_part goal_part : R → Bool)
-        (after_part : R → ℕ → Option R) (other : Coordinate) (part : S → R) (view : R → ℕ)
-        → Follows (tested_space valid after goal) (tested_space valid_part after_part goal_part) part
-        → Follows (tested_space valid_part after_part goal_part) (positions other) view
-        → Follows (tested_space valid after goal) (positions other) (λ s. view (part s)) }
-    ensures products { (valid low_goal high_goal : S → Bool) (after : S → ℕ → Option S) (low high : Coordinate) (v u : S → ℕ)
-        → high.turns ≡ low.turns
-        → Follows (tested_space valid after low_goal) (positions low) v
-        → Follows (tested_space valid after high_goal) (positions high) u
-        → Follows (tested_space valid after (λ s. low_goal s && high_goal s)) (positions (product_coordinate low high))
-        (λ s. v s + low.count * u s) }
-{}
-
-/// The definitions at positions worked by hand.
+/// The definitions at lists worked by hand, and what they refuse. The turn is a cycle of three places: place 0 gets what
+/// stands at place 2, place 1 what stands at 0, and place 2 what stands at 1.
 pub fn rows()
-    // position 3 of five and position 2 are 3 + 5 * 2; with a barred turn there is none
-    ensures pair { (side_by_side 5 (Some 3) (Some 2) ≡ Some 13) × (side_by_side 5 None (Some 2) ≡ None)
-        × (side_by_side 5 (Some 3) None ≡ None) }
+    // the digits 1 2 0 are carried to 0 1 2, and 0 1 2 is added to them, modulo 3
+    ensures digits { (twists_view 3 3).turned (1 ∷ 2 ∷ 0 ∷ []) (record { places = 2 ∷ 0 ∷ 1 ∷ []; added = 0 ∷ 1 ∷ 2 ∷ [] })
+        ≡ 0 ∷ 2 ∷ 1 ∷ [] }
+    ensures pieces { (pieces_view 3).turned (1 ∷ 0 ∷ 2 ∷ []) (record { places = 2 ∷ 0 ∷ 1 ∷ []; added = [] })
+        ≡ 2 ∷ 1 ∷ 0 ∷ [] }
 
-    // two positions with two turns each: the second turn of position 0 is barred, and the first of position 1 leads to 0
-    ensures table { let entries = 1 ∷ 0 ∷ 4294967295 ∷ 1 ∷ [] in
-        let table = moves_coordinate (record { count = 2; turns = 2; targets = entries; goals = true ∷ false ∷ [] }) in
-        (table.after 0 1 ≡ None) × (table.after 1 0 ≡ Some 0) × (table.is_goal 0 ≡ true) × (table.is_goal 1 ≡ false) }
+    // what stands at the places 0 and 1 goes to the places 1 and 2
+    ensures set { turned_set (0 ∷ 1 ∷ []) (record { places = 2 ∷ 0 ∷ 1 ∷ []; added = [] }) ≡ 1 ∷ 2 ∷ [] }
+    ensures no_turns { AreTurns (λ (turn : ℕ). turn ≡ turn) [] → ⊥ }
 {}

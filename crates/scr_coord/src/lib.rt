@@ -1,22 +1,20 @@
-//! Coordinates: what a search sees of a puzzle's states, as numbers.
+//! Coordinates that see one list of an orbit's pieces, numbered as in `scr_rank`: its projections. [`Twists`] sees its
+//! digits, [`PlaceSet`] the places of marked pieces, and [`Lists`] the pieces themselves. They step by the lists
+//! (`specs/Projections.antt`), and take no memory; a search goes over tables of moves that are made of them.
 //!
-//! No puzzle stands here. A [`Coord`] says how many positions there are, where each turn leads from each, and which are
-//! goals; its contract is one record of `specs/Coordinates.antt`, over which words, distances and first words are defined.
-//!
-//! A [`MoveTable`] is made of any coordinate, shows the same, and steps by one look into a list. [`Product`] puts two
-//! coordinates side by side; large tables are made over products of move tables.
-//!
-//! `laws` says that a search finds the same where a coordinate is put in place of another that shows the same
-//! (`specs/SearchSpaces.antt`). Over any states these are lemmas, for a puzzle's crate to state: `proofs/SearchLaws.antt`
-//! (views, one after another) and `proofs/ProductLaws.antt` (two views side by side). Coordinates that see an orbit's lists
-//! stand in `scr_projections`.
+//! `laws` says that the numbers of an orbit's lists go along with its turns, so that a search finds the same on them. Over
+//! any states these are lemmas, for a puzzle's crate to state: `proofs/ProjectionLaws.antt` and `proofs/MarkedPieces.antt`.
+//! The crate stands on positions, on orbits and on the numbers of lists. What a coordinate is, and a table of its moves,
+//! stands in `scr_positions`, so that tables of distances need no orbits; both are passed on.
 #![tactic(auto)]
 
-mod coordinate;
 pub mod laws;
-mod move_table;
-mod product;
+mod lists;
+mod place_set;
+mod twists;
 
-pub use coordinate::{BARRED, Coord, NOWHERE};
-pub use move_table::MoveTable;
-pub use product::Product;
+pub use lists::Lists;
+pub use place_set::{PlaceSet, places_of};
+pub use scr_orbit::PlaceTurn;
+pub use scr_positions::{Coord, MoveTable};
+pub use twists::Twists;

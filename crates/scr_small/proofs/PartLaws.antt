@@ -7,8 +7,8 @@ use Rattle.std.proofs.Math.Nat.{mul-lt-mul_of_pos_left}
 use Rattle.scr_combinatorics.specs.Numbered.{Numbered}
 use Rattle.scr_combinatorics.proofs.PlayLaws.{map-some}
 use Rattle.scr_orbit.specs.PowerPuzzles.{PowerPuzzle, after_letter, letter_table}
-use Rattle.scr_coord.specs.Coordinates.{StaysBelow}
-use Rattle.scr_coord.proofs.StaysBelowLaws.{part_below}
+use Rattle.scr_positions.specs.Coordinates.{StaysBelow}
+use Rattle.scr_positions.proofs.StaysBelowLaws.{part_below}
 use Rattle.scr_notation.specs.declared.turn.Turn.{Turn}
 use Rattle.scr_small.specs.NumberedPuzzles.{NumberedPuzzle, numbered_powers, after_number}
 use Rattle.scr_small.specs.LawfulPuzzles.{IsNumberedPuzzle}

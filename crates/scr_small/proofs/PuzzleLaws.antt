@@ -10,10 +10,10 @@ use Rattle.scr_combinatorics.specs.Reach.{IsReached, Needs}
 use Rattle.scr_combinatorics.specs.FirstWord.{LeadsTo, IsDistance}
 use Rattle.scr_combinatorics.proofs.PlayLaws.{play-empty, play-first, play-parts, IsReached-keeps}
 use Rattle.scr_combinatorics.proofs.FirstWordLaws.{IsDistance-unique, IsDistance-first, IsFirstWord-unique}
-use Rattle.scr_coord.specs.Coordinates.{StaysBelow}
-use Rattle.scr_coord.specs.SearchSpaces.{SearchSpace, positions, Follows, FindsTheSame}
-use Rattle.scr_coord.proofs.IndexLaws.{Follows-numbered, StaysBelow-numbered}
-use Rattle.scr_coord.proofs.SearchLaws.{FindsTheSame-follows}
+use Rattle.scr_positions.specs.Coordinates.{StaysBelow}
+use Rattle.scr_positions.specs.SearchSpaces.{SearchSpace, positions, Follows, FindsTheSame}
+use Rattle.scr_positions.proofs.IndexLaws.{Follows-numbered, StaysBelow-numbered}
+use Rattle.scr_positions.proofs.SearchLaws.{FindsTheSame-follows}
 use Rattle.scr_table.specs.Distances.{Distances, Measures}
 use Rattle.scr_orbit.proofs.Minima.{count_once}
 use Rattle.scr_table.proofs.FoundWords.{first_word}

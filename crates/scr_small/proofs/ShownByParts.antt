@@ -5,8 +5,8 @@ use Rattle.std.specs.Option.{option_map}
 use Rattle.std.proofs.Math.Nat.{mod-mod, mul-div_cancel_left}
 use Rattle.std.proofs.lemmas.Bool.{eq-eqb, eqb-true, and_parts, and_from}
 use Rattle.std.proofs.lemmas.Bool.Decides.{same_from_decides}
-use Rattle.scr_coord.specs.Products.{product_coordinate, side_by_side}
-use Rattle.scr_coord.specs.SearchSpaces.{ShowsSame}
+use Rattle.scr_positions.specs.Products.{product_coordinate, side_by_side}
+use Rattle.scr_positions.specs.SearchSpaces.{ShowsSame}
 use Rattle.scr_small.specs.NumberedPuzzles.{NumberedPuzzle, after_number, state_coordinate}
 use Rattle.scr_small.specs.LawfulPuzzles.{IsNumberedPuzzle}
 use Rattle.scr_small.specs.StateParts.{MovesByParts, low_part, high_part}

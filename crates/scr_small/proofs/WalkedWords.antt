@@ -5,7 +5,7 @@ use Rattle.std.proofs.lemmas.List.Elements.{All-nil, All-cons}
 use Rattle.scr_combinatorics.specs.Back.{back}
 use Rattle.scr_combinatorics.specs.FirstWord.{LeadsTo, IsFirstWord}
 use Rattle.scr_combinatorics.proofs.FirstWordLaws.{LeadsTo-parts}
-use Rattle.scr_coord.specs.Coordinates.{Coordinate, moved, IsGoal}
+use Rattle.scr_positions.specs.Coordinates.{Coordinate, moved, IsGoal}
 use Rattle.scr_table.proofs.StepLaws.{moved-turn}
 use Rattle.scr_small.specs.NumberedPuzzles.{NumberedPuzzle, state_coordinate, IsScrambleOf}
 use Rattle.scr_small.specs.LawfulPuzzles.{IsNumberedPuzzle}

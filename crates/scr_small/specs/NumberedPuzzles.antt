@@ -4,8 +4,8 @@ use Rattle.std.specs.Prelude.{◌≡◌, ℕ, List, Option}
 use Rattle.scr_combinatorics.specs.Numbered.{Numbered}
 use Rattle.scr_combinatorics.specs.FirstWord.{IsFirstWord}
 use Rattle.scr_combinatorics.specs.Reach.{Puzzle}
-use Rattle.scr_coord.specs.Coordinates.{Coordinate}
-use Rattle.scr_coord.specs.Indexes.{numbered_coordinate}
+use Rattle.scr_positions.specs.Coordinates.{Coordinate}
+use Rattle.scr_positions.specs.Indexes.{numbered_coordinate}
 use Rattle.scr_orbit.specs.PowerPuzzles.{PowerPuzzle, after_letter, power_turn_count}
 use Rattle.scr_notation.specs.declared.turn.Turn.{Turn}
 use Rattle.scr_notation.specs.Turning.{opposite as opposite_turn}

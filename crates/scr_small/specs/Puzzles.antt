@@ -1,6 +1,6 @@
 -- The puzzles that one table solves, each by the numbers of its states and of its turns, and their scrambles.
 use Rattle.std.specs.Prelude.{◌≡◌, List, ◌++◌}
-use Rattle.scr_coord.specs.Coordinates.{Coordinate}
+use Rattle.scr_positions.specs.Coordinates.{Coordinate}
 use Rattle.scr_orbit.specs.Orbits.{Orbit}
 use Rattle.scr_notation.specs.declared.turn.Turn.{Turn}
 use Rattle.scr_table.specs.Lines.{TableLine}

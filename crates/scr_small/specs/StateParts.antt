@@ -2,7 +2,7 @@
 -- here.
 use Rattle.std.specs.Prelude.{◌≡◌, ℕ, ◌*◌, ◌/◌, ◌%◌, ◌==◌, Option, Some}
 use Rattle.std.specs.Option.{option_map}
-use Rattle.scr_coord.specs.Coordinates.{Coordinate}
+use Rattle.scr_positions.specs.Coordinates.{Coordinate}
 use Rattle.scr_small.specs.NumberedPuzzles.{NumberedPuzzle, after_number}
 
 -- Turns move two parts of a state each by itself. The number of a state is low + low_count * high, where low is the

@@ -1,9 +1,9 @@
 //! The two parts of a puzzle's states, each as a coordinate.
-ghost use Rattle.scr_coord.specs.Coordinates.{StaysBelow};
+ghost use Rattle.scr_positions.specs.Coordinates.{StaysBelow};
 ghost use Rattle.scr_small.specs.StateParts.{low_part, high_part};
 
 use crate::one_table::OneTable;
-use scr_coord::Coord;
+use scr_positions::Coord;
 use std::marker::PhantomData;
 
 /// The part whose numbers follow each other. A step finds the state, turns it, and numbers it, so that tables of moves

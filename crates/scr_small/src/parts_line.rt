@@ -3,8 +3,8 @@ ghost use Rattle.scr_small.specs.Tables.{table_line};
 
 use crate::one_table::OneTable;
 use crate::parts::{HighPart, LowPart};
-use scr_coord::{MoveTable, Product};
 use scr_outside::NoMemory;
+use scr_positions::{MoveTable, Product};
 use scr_table::{Line, TableName};
 use std::alloc::Global;
 use std::marker::PhantomData;

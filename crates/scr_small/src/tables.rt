@@ -1,6 +1,6 @@
 //! The built table of an event.
 ghost use Rattle.std.specs.Prelude.{◌≡◌, ◌↔◌, ◌<◌, ◌≤◌, All, IfOk, IfErr, IfSome, IsSome};
-ghost use Rattle.scr_coord.specs.Coordinates.{moved, IsGoal};
+ghost use Rattle.scr_positions.specs.Coordinates.{moved, IsGoal};
 ghost use Rattle.scr_combinatorics.specs.FirstWord.{IsFirstWord};
 ghost use Rattle.scr_table.specs.Causes.{IsCauseOf};
 ghost use Rattle.scr_table.specs.Lines.{HasNoGap};

@@ -6,8 +6,8 @@ use Rattle.std.specs.Option.{option_map}
 use Rattle.std.proofs.lemmas.Option.{same_Some}
 use Rattle.scr_combinatorics.specs.Digits.{mixed_digits}
 use Rattle.scr_combinatorics.specs.Lists.{total}
-use Rattle.scr_coord.specs.Coordinates.{Coordinate, StaysBelow}
-use Rattle.scr_coord.specs.SearchSpaces.{ShowsSame}
+use Rattle.scr_positions.specs.Coordinates.{Coordinate, StaysBelow}
+use Rattle.scr_positions.specs.SearchSpaces.{ShowsSame}
 use Rattle.scr_notation.specs.declared.turn.Turn.{Turn}
 use Rattle.scr_sq1.specs.Numbers.{corners_of, edges_of}
 use Rattle.scr_sq1solve.specs.Tables.{has_number, square_index, square_state}

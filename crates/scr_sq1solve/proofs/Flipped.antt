@@ -5,8 +5,8 @@ use Rattle.std.specs.Option.{option_map}
 use Rattle.scr_combinatorics.specs.Play.{play}
 use Rattle.scr_combinatorics.specs.Stages.{Stage, by_letters, IsStageWord, HasStageWord, spelled, IsSolution}
 use Rattle.scr_combinatorics.proofs.StageLaws.{by_letters-parts, play-stage_word, solution_step}
-use Rattle.scr_coord.specs.SearchSpaces.{Follows, FindsTheSame}
-use Rattle.scr_coord.proofs.SearchLaws.{FindsTheSame-follows}
+use Rattle.scr_positions.specs.SearchSpaces.{Follows, FindsTheSame}
+use Rattle.scr_positions.proofs.SearchLaws.{FindsTheSame-follows}
 use Rattle.scr_table.specs.StageSpaces.{stage_space}
 use Rattle.scr_notation.specs.declared.turn.Turn.{Turn}
 use Rattle.scr_sq1.specs.Units.{Sq1State, IsSq1, sq1_after}

@@ -6,8 +6,8 @@ use Rattle.std.proofs.lemmas.Bool.{and_parts}
 use Rattle.scr_combinatorics.specs.Lists.{pick}
 use Rattle.scr_combinatorics.specs.Permutations.{IsPermutation, parity}
 use Rattle.scr_combinatorics.specs.Play.{play}
-use Rattle.scr_coord.specs.Coordinates.{StaysBelow}
-use Rattle.scr_coord.specs.SearchSpaces.{positions, Follows}
+use Rattle.scr_positions.specs.Coordinates.{StaysBelow}
+use Rattle.scr_positions.specs.SearchSpaces.{positions, Follows}
 use Rattle.scr_notation.specs.declared.turn.Turn.{Turn}
 use Rattle.scr_notation.specs.Ranges.{all_below, same}
 use Rattle.scr_notation.proofs.Below.{at_below}

@@ -4,12 +4,12 @@ use Rattle.std.proofs.Common.{◌≡◌, ℕ, ◌<◌, Bool, true, false, IsTrue
 use Rattle.std.specs.Prelude.{◌↔◌, ◌==◌, nat_lt}
 use Rattle.std.specs.Option.{option_map}
 use Rattle.scr_combinatorics.specs.Play.{play}
-use Rattle.scr_coord.specs.Coordinates.{StaysBelow}
-use Rattle.scr_coord.specs.SearchSpaces.{positions, Follows}
+use Rattle.scr_positions.specs.Coordinates.{StaysBelow}
+use Rattle.scr_positions.specs.SearchSpaces.{positions, Follows}
 use Rattle.scr_notation.specs.declared.turn.Turn.{Turn}
 use Rattle.scr_sq1.specs.Units.{Sq1State, solved_sq1, sq1_after}
 use Rattle.scr_combinatorics.specs.Numbered.{Numbered}
-use Rattle.scr_coord.proofs.IndexLaws.{StaysBelow-indexed}
+use Rattle.scr_positions.proofs.IndexLaws.{StaysBelow-indexed}
 use Rattle.scr_sq1solve.specs.Tables.{has_index, lettered_coordinate}
 use Rattle.scr_combinatorics.specs.Stages.{Stage, by_letters, HasStageWord}
 use Rattle.scr_combinatorics.proofs.StageLaws.{by_letters-parts}

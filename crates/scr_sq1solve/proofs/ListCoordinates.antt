@@ -10,9 +10,9 @@ use Rattle.scr_combinatorics.specs.Permutations.{IsPermutation}
 use Rattle.scr_combinatorics.proofs.Pairings.{pairings_one_to_one}
 use Rattle.scr_combinatorics.proofs.PermutationLaws.{IsPermutation-pick, IsPermutation-numbers_from}
 use Rattle.scr_orbit.specs.Orbits.{Rearrangement}
-use Rattle.scr_coord.specs.Coordinates.{StaysBelow}
-use Rattle.scr_projections.specs.Projections.{projection}
-use Rattle.scr_projections.proofs.ListViews.{IsListView, StaysBelow-projection}
+use Rattle.scr_positions.specs.Coordinates.{StaysBelow}
+use Rattle.scr_coord.specs.Projections.{projection}
+use Rattle.scr_coord.proofs.ListViews.{IsListView, StaysBelow-projection}
 use Rattle.scr_notation.specs.declared.turn.Turn.{Turn}
 use Rattle.scr_sq1solve.specs.Stages.{mates, pairing_of}
 use Rattle.scr_sq1solve.specs.Tables.{carried_pairing, bits_number, pairs_number, paired_at, pairings_view, units_after}

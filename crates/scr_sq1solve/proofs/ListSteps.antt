@@ -4,7 +4,7 @@ use Rattle.std.specs.Prelude.{slice_index_or}
 use Rattle.std.specs.Option.{option_map}
 use Rattle.std.proofs.lemmas.List.{length-map}
 use Rattle.std.proofs.lemmas.Option.{slice_get-map, slice_get-get_or}
-use Rattle.scr_projections.specs.Projections.{ListView, projection}
+use Rattle.scr_coord.specs.Projections.{ListView, projection}
 use Rattle.scr_sq1solve.specs.Placed.{move_by, moves_of}
 
 pub moves-count : (letters : List (List ℕ)) → length (moves_of letters) ≡ length letters

@@ -12,12 +12,12 @@ use Rattle.scr_combinatorics.proofs.Picks.{numbers_from-at}
 use Rattle.std.proofs.lemmas.List.{get_or-map}
 use Rattle.scr_orbit.specs.Orbits.{Rearrangement}
 use Rattle.scr_combinatorics.specs.Play.{play}
-use Rattle.scr_coord.specs.Coordinates.{StaysBelow}
-use Rattle.scr_coord.proofs.StaysBelowLaws.{StaysBelow-product}
-use Rattle.scr_coord.specs.SearchSpaces.{positions, Follows}
-use Rattle.scr_coord.proofs.ProductLaws.{Follows-product}
-use Rattle.scr_projections.specs.Projections.{projection}
-use Rattle.scr_projections.proofs.ListViews.{StaysBelow-projection}
+use Rattle.scr_positions.specs.Coordinates.{StaysBelow}
+use Rattle.scr_positions.proofs.StaysBelowLaws.{StaysBelow-product}
+use Rattle.scr_positions.specs.SearchSpaces.{positions, Follows}
+use Rattle.scr_positions.proofs.ProductLaws.{Follows-product}
+use Rattle.scr_coord.specs.Projections.{projection}
+use Rattle.scr_coord.proofs.ListViews.{StaysBelow-projection}
 use Rattle.scr_notation.specs.Ranges.{all_below}
 use Rattle.scr_sq1.specs.Units.{Sq1State, sq1_after, turn_places, twist_places, turned, after_layers, twisted}
 use Rattle.scr_sq1.specs.Shapes.{half_words, half_word, half_bits, half_of, halves_in, shape_of, halves_number, ways_to_have, corner_count, corner_counts, shape_number}

@@ -10,9 +10,9 @@ use Rattle.scr_combinatorics.specs.Play.{play}
 use Rattle.scr_combinatorics.specs.Stages.{by_letters}
 use Rattle.scr_combinatorics.proofs.PlayLaws.{play-empty, play-one}
 use Rattle.scr_combinatorics.proofs.StageLaws.{by_letters-played, by_letters-parts}
-use Rattle.scr_coord.specs.Coordinates.{Coordinate, StaysBelow}
-use Rattle.scr_coord.specs.SearchSpaces.{ShowsSame}
-use Rattle.scr_coord.proofs.IndexLaws.{StaysBelow-indexed}
+use Rattle.scr_positions.specs.Coordinates.{Coordinate, StaysBelow}
+use Rattle.scr_positions.specs.SearchSpaces.{ShowsSame}
+use Rattle.scr_positions.proofs.IndexLaws.{StaysBelow-indexed}
 use Rattle.scr_notation.specs.declared.turn.Turn.{Turn}
 use Rattle.scr_notation.specs.declared.turn.Turn.TheVariants.{Layers, Twist}
 use Rattle.scr_notation.specs.Layers.{twelfths, are_still, is_layer_turn}

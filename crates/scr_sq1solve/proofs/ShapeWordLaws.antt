@@ -8,8 +8,8 @@ use Rattle.scr_combinatorics.specs.FirstWord.{LeadsTo, IsEarlier}
 use Rattle.scr_combinatorics.specs.Lists.{numbers_from}
 use Rattle.scr_combinatorics.specs.Stages.{by_letters, IsStageWord}
 use Rattle.scr_combinatorics.proofs.StageLaws.{All-letters}
-use Rattle.scr_coord.specs.SearchSpaces.{positions}
-use Rattle.scr_coord.proofs.SearchLaws.{FindsTheSame-follows}
+use Rattle.scr_positions.specs.SearchSpaces.{positions}
+use Rattle.scr_positions.proofs.SearchLaws.{FindsTheSame-follows}
 use Rattle.scr_sq1.specs.Units.{Sq1State, IsSq1, sq1_after}
 use Rattle.scr_sq1solve.specs.Spaces.{shapes_space}
 use Rattle.scr_sq1solve.specs.Stages.{shape_letter, shape_stage}

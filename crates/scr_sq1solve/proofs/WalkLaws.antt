@@ -14,8 +14,8 @@ use Rattle.scr_combinatorics.proofs.PlayLaws.{play-append}
 use Rattle.scr_combinatorics.proofs.StageLaws.{play-stage_word, All-stage_word, count-spelled}
 use Rattle.scr_combinatorics.proofs.OneLetter.{IsEnding}
 use Rattle.scr_orbit.proofs.Minima.{count_once}
-use Rattle.scr_coord.specs.Coordinates.{moved, IsGoal}
-use Rattle.scr_coord.specs.SearchSpaces.{positions, Follows}
+use Rattle.scr_positions.specs.Coordinates.{moved, IsGoal}
+use Rattle.scr_positions.specs.SearchSpaces.{positions, Follows}
 use Rattle.scr_notation.specs.declared.turn.Turn.{Turn}
 use Rattle.scr_notation.specs.Turning.{turn_merging}
 use Rattle.scr_table.specs.Distances.{Distances}

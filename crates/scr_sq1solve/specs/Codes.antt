@@ -3,8 +3,8 @@ use Rattle.std.specs.Prelude.{ℕ, ◌+◌, ◌*◌, ◌/◌, ◌%◌, false, Li
 use Rattle.std.specs.Option.{option_map}
 use Rattle.scr_combinatorics.specs.Digits.{mixed_digits}
 use Rattle.scr_combinatorics.specs.Lists.{numbers_from, pick, total}
-use Rattle.scr_coord.specs.Coordinates.{Coordinate}
-use Rattle.scr_projections.specs.Projections.{ListView, projection}
+use Rattle.scr_positions.specs.Coordinates.{Coordinate}
+use Rattle.scr_coord.specs.Projections.{ListView, projection}
 use Rattle.scr_notation.specs.declared.turn.Turn.{Turn}
 use Rattle.scr_sq1.specs.Numbers.{edges_of}
 use Rattle.scr_sq1solve.specs.Tables.{bits_number, pairs_number, paired_at, letters_by}

@@ -1,8 +1,8 @@
 -- The letters of the first stage by parts: the top turned alone, the bottom turned alone, and a twist.
 use Rattle.std.specs.Prelude.{ℕ, ◌-◌, nat_lt, false, if◌then◌else◌, pos, ◌-ℤ◌, List, [], ◌∷◌}
 use Rattle.scr_combinatorics.specs.Stages.{by_letters}
-use Rattle.scr_coord.specs.Coordinates.{Coordinate}
-use Rattle.scr_coord.specs.Indexes.{indexed_coordinate}
+use Rattle.scr_positions.specs.Coordinates.{Coordinate}
+use Rattle.scr_positions.specs.Indexes.{indexed_coordinate}
 use Rattle.scr_notation.specs.declared.turn.Turn.{Turn}
 use Rattle.scr_notation.specs.declared.turn.Turn.TheVariants.{Twist}
 use Rattle.scr_sq1.specs.Units.{IsSq1, sq1_after}

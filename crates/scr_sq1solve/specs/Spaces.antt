@@ -1,5 +1,5 @@
 -- What a search by a table works on: the states of which the table speaks, and the letters of its stage.
-use Rattle.scr_coord.specs.SearchSpaces.{SearchSpace}
+use Rattle.scr_positions.specs.SearchSpaces.{SearchSpace}
 use Rattle.scr_table.specs.StageSpaces.{stage_space}
 use Rattle.scr_sq1.specs.Units.{Sq1State, IsSq1, sq1_after}
 use Rattle.scr_sq1solve.specs.Stages.{IsNormal, IsPaired, shape_stage, pairing_stage, home_stage}

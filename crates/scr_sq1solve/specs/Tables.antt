@@ -8,10 +8,10 @@ use Rattle.scr_combinatorics.specs.Digits.{mixed_number, mixed_digits}
 use Rattle.scr_combinatorics.specs.Pairings.{pairing_number, pairing_at}
 use Rattle.scr_orbit.specs.Orbits.{Rearrangement}
 use Rattle.scr_combinatorics.specs.Play.{play}
-use Rattle.scr_coord.specs.Coordinates.{Coordinate}
-use Rattle.scr_coord.specs.Indexes.{indexed_coordinate}
-use Rattle.scr_coord.specs.Products.{product_coordinate}
-use Rattle.scr_projections.specs.Projections.{ListView, projection}
+use Rattle.scr_positions.specs.Coordinates.{Coordinate}
+use Rattle.scr_positions.specs.Indexes.{indexed_coordinate}
+use Rattle.scr_positions.specs.Products.{product_coordinate}
+use Rattle.scr_coord.specs.Projections.{ListView, projection}
 use Rattle.scr_notation.specs.declared.turn.Turn.{Turn}
 use Rattle.scr_table.specs.declared.name.TableName.TheVariants.{Shapes, Pairings, Square}
 use Rattle.scr_table.specs.Lines.{TableLine}

@@ -1,14 +1,14 @@
 //! Lists of pieces in which mates stand opposite to each other, as a coordinate.
 ghost use Rattle.std.specs.Prelude.{◌≡◌, All, length};
 ghost use Rattle.std.proofs.Props.{props};
-ghost use Rattle.scr_coord.specs.Coordinates.{StaysBelow};
-ghost use Rattle.scr_projections.specs.Projections.{projection};
+ghost use Rattle.scr_positions.specs.Coordinates.{StaysBelow};
+ghost use Rattle.scr_coord.specs.Projections.{projection};
 ghost use Rattle.scr_sq1solve.specs.Codes.{codes_view};
 ghost use Rattle.scr_sq1solve.specs.Placed.{KeepsMates, moves_of};
 
 use crate::pieces::{code_of, pieces_at};
-use scr_coord::Coord;
 use scr_orbit::pick_into;
+use scr_positions::Coord;
 
 /// These lists, by their codes. The goal is the list in order.
 #[derive(Drop)]

@@ -4,9 +4,9 @@ ghost use Rattle.std.specs.Option.{option_map};
 ghost use Rattle.std.specs.List.{list_any};
 ghost use Rattle.std.proofs.Props.{props};
 ghost use Rattle.scr_combinatorics.specs.Play.{play};
-ghost use Rattle.scr_coord.specs.Coordinates.{StaysBelow};
-ghost use Rattle.scr_coord.specs.Moves.{moves_coordinate};
-ghost use Rattle.scr_coord.specs.SearchSpaces.{ShowsSame};
+ghost use Rattle.scr_positions.specs.Coordinates.{StaysBelow};
+ghost use Rattle.scr_positions.specs.Moves.{moves_coordinate};
+ghost use Rattle.scr_positions.specs.SearchSpaces.{ShowsSame};
 ghost use Rattle.scr_sq1.specs.Numbers.{corners_of};
 ghost use Rattle.scr_sq1.specs.Units.{sq1_after, solved_sq1};
 ghost use Rattle.scr_sq1solve.specs.declared.stage_letters.Letters.TheVariants.{OfHome, Quarters};
@@ -20,8 +20,8 @@ use crate::code_lists::CodeLists;
 use crate::edge_rows::EdgeRows;
 use crate::letter_places::letter_places;
 use crate::stage_letters::Letters;
-use scr_coord::{Coord, MoveTable};
 use scr_outside::NoMemory;
+use scr_positions::{Coord, MoveTable};
 use std::alloc::Global;
 
 /// Where 32 letters lead from the lists of corners, and from those of edges in a row, which has one list of corners.

@@ -1,15 +1,15 @@
 //! The lists of edges in the rows of the table `square`, as a coordinate.
 ghost use Rattle.std.specs.Prelude.{◌≡◌, ◌<◌};
 ghost use Rattle.std.proofs.Props.{props};
-ghost use Rattle.scr_coord.specs.Coordinates.{StaysBelow};
-ghost use Rattle.scr_coord.specs.Moves.{moves_coordinate};
-ghost use Rattle.scr_coord.specs.SearchSpaces.{ShowsSame};
+ghost use Rattle.scr_positions.specs.Coordinates.{StaysBelow};
+ghost use Rattle.scr_positions.specs.Moves.{moves_coordinate};
+ghost use Rattle.scr_positions.specs.SearchSpaces.{ShowsSame};
 ghost use Rattle.scr_sq1.specs.Numbers.{edges_of};
 ghost use Rattle.scr_sq1solve.specs.Codes.{code_in_row, codes_coordinate, rows_coordinate};
 ghost use Rattle.scr_sq1solve.specs.Letters.{letter_of};
 
 use crate::stage_letters::Letters;
-use scr_coord::{Coord, MoveTable};
+use scr_positions::{Coord, MoveTable};
 
 /// These lists by their places in a row: a row's list of corners tells whether they are even or odd, and so the last bit of
 /// their code. The 192 places of an even row come first, and then those of an odd one; each leads to a place below 192.

@@ -5,8 +5,8 @@ use crate::letter_places::letter_places;
 use crate::pairing_lists::PairingLists;
 use crate::shape_moves::ShapeMoves;
 use crate::stage_letters::Letters;
-use scr_coord::{MoveTable, Product};
 use scr_outside::NoMemory;
+use scr_positions::{MoveTable, Product};
 use scr_table::{Line, TableName};
 use std::alloc::Global;
 

@@ -2,13 +2,13 @@
 ghost use Rattle.std.specs.Prelude.{◌≡◌, All, length};
 ghost use Rattle.std.proofs.Props.{props};
 ghost use Rattle.scr_combinatorics.specs.Permutations.{IsPermutation};
-ghost use Rattle.scr_coord.specs.Coordinates.{StaysBelow};
-ghost use Rattle.scr_projections.specs.Projections.{projection};
+ghost use Rattle.scr_positions.specs.Coordinates.{StaysBelow};
+ghost use Rattle.scr_coord.specs.Projections.{projection};
 ghost use Rattle.scr_sq1solve.specs.Tables.{pairings_view};
 ghost use Rattle.scr_sq1solve.specs.Placed.{moves_of};
 
 use crate::pieces::carried_pairing;
-use scr_coord::Coord;
+use scr_positions::Coord;
 use scr_rank::Pairing8;
 
 /// The number of the pairing in which each place is paired with the opposite one in its layer.

@@ -3,17 +3,17 @@ ghost use Rattle.std.specs.Prelude.{◌≡◌, ◌<◌, IfSome, pos, ◌-ℤ◌}
 ghost use Rattle.std.specs.Option.{option_map};
 ghost use Rattle.std.proofs.Props.{props};
 ghost use Rattle.scr_combinatorics.specs.Play.{play};
-ghost use Rattle.scr_coord.specs.Coordinates.{StaysBelow};
-ghost use Rattle.scr_coord.specs.Moves.{moves_coordinate};
-ghost use Rattle.scr_coord.specs.SearchSpaces.{ShowsSame};
+ghost use Rattle.scr_positions.specs.Coordinates.{StaysBelow};
+ghost use Rattle.scr_positions.specs.Moves.{moves_coordinate};
+ghost use Rattle.scr_positions.specs.SearchSpaces.{ShowsSame};
 ghost use Rattle.scr_sq1.specs.Units.{sq1_after};
 ghost use Rattle.scr_sq1solve.specs.Parts.{shape_part, shape_parts_coordinate};
 ghost use Rattle.scr_sq1solve.specs.Stages.{turn_word};
 ghost use Rattle.scr_sq1solve.specs.Tables.{shapes_coordinate, shapes_index, shapes_state};
 
 use crate::shape_states::{INDEXES, ShapeStates};
-use scr_coord::{Coord, MoveTable};
 use scr_outside::NoMemory;
+use scr_positions::{Coord, MoveTable};
 use std::alloc::Global;
 
 /// The index of the solved state, which is that of all normal ones.

@@ -2,15 +2,15 @@
 ghost use Rattle.std.specs.Prelude.{◌≡◌, ◌<◌};
 ghost use Rattle.std.proofs.Props.{props};
 ghost use Rattle.scr_combinatorics.specs.Play.{play};
-ghost use Rattle.scr_coord.specs.Coordinates.{StaysBelow};
-ghost use Rattle.scr_coord.specs.Moves.{each_below};
+ghost use Rattle.scr_positions.specs.Coordinates.{StaysBelow};
+ghost use Rattle.scr_positions.specs.Moves.{each_below};
 ghost use Rattle.scr_sq1.specs.Units.{sq1_after};
 ghost use Rattle.scr_sq1solve.specs.Parts.{shape_part, shape_parts_coordinate};
 ghost use Rattle.scr_sq1solve.specs.Tables.{shapes_state};
 
 use crate::indexes::shapes_index;
-use scr_coord::Coord;
 use scr_draw::Numbering;
+use scr_positions::Coord;
 use scr_sq1::{Sq1, Sq1Numbers};
 use std::alloc::{AllocError, Global};
 

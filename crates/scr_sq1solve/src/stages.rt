@@ -10,7 +10,7 @@ use scr_table::Line;
 
 /// A stage by the line of its table: a state's index tells the first word of its letters to its goal.
 pub(crate) trait StageLine: Line {
-    ghost use Rattle.scr_coord.specs.SearchSpaces.{positions, Follows};
+    ghost use Rattle.scr_positions.specs.SearchSpaces.{positions, Follows};
     ghost use Rattle.scr_table.specs.StageSpaces.{stage_space};
     ghost use Rattle.scr_sq1.specs.Units.{sq1_after};
     ghost use Rattle.scr_sq1solve.specs.declared.stage_letters.Letters.{Letters as LettersOf};

@@ -10,9 +10,9 @@ use Rattle.scr_combinatorics.specs.PlaceSets.{IsPlaceSetFrom, IsPlaceSet}
 use Rattle.scr_combinatorics.proofs.Counts.{occurrences-at, one_if-other, occurrences-here}
 use Rattle.scr_combinatorics.proofs.PermutationLaws.{All-permutation, IsPermutation-from_each, IsPermutation-inverse, pick-inverse, place_of-lt, at-place_of}
 use Rattle.scr_combinatorics.proofs.Picks.{length-pick, pick-at, pick-in_order, pick-pick}
-use Rattle.scr_projections.specs.Projections.{marked_from, marked_places, stands_in}
-use Rattle.scr_projections.proofs.MarkedLaws.{marked-own, IsPlaceSetFrom-marked}
-use Rattle.scr_projections.proofs.MarkedPieces.{stands_in-marked, IsPlaceSet-marked}
+use Rattle.scr_coord.specs.Projections.{marked_from, marked_places, stands_in}
+use Rattle.scr_coord.proofs.MarkedLaws.{marked-own, IsPlaceSetFrom-marked}
+use Rattle.scr_coord.proofs.MarkedPieces.{stands_in-marked, IsPlaceSet-marked}
 
 -- ---- what stands in a list
 

@@ -12,9 +12,9 @@ use Rattle.scr_combinatorics.proofs.Picks.{pick-in_order, All-pick}
 use Rattle.scr_orbit.specs.Orbits.{Orbit, Rearrangement, turned_orbit, added_digits, zeros}
 use Rattle.scr_orbit.proofs.DigitLaws.{added_digits-to_zeros, All-zeros, length-zeros}
 use Rattle.scr_orbit.proofs.OrbitLaws.{places_in as places_below}
-use Rattle.scr_projections.specs.Projections.{marked_from, marked_places, stands_in, turned_set}
-use Rattle.scr_projections.proofs.MarkedPieces.{marked-turned, IsPlaceSet-marked}
-use Rattle.scr_projections.proofs.MarkedSteps.{marked-append}
+use Rattle.scr_coord.specs.Projections.{marked_from, marked_places, stands_in, turned_set}
+use Rattle.scr_coord.proofs.MarkedPieces.{marked-turned, IsPlaceSet-marked}
+use Rattle.scr_coord.proofs.MarkedSteps.{marked-append}
 use Rattle.scr_cube.specs.Cube333.{CubeState, IsCube, CubeTurn, cube_action}
 use Rattle.scr_cube.proofs.Laws333.{cube_laws}
 use Rattle.scr_stages.specs.Stages.{HasNoFlips, middle_edges, IsDomino}

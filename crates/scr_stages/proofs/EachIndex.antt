@@ -16,9 +16,9 @@ use Rattle.scr_combinatorics.proofs.PermutationLaws.{All-permutation, IsPermutat
 use Rattle.scr_combinatorics.proofs.Picks.{length-pick, pick-from_order, pick-in_order, All-pick}
 use Rattle.scr_combinatorics.proofs.Twists.{IsTwists-twists_at, twists_number-twists_at}
 use Rattle.scr_orbit.specs.Orbits.{zeros}
-use Rattle.scr_coord.proofs.StaysBelowLaws.{part_below}
-use Rattle.scr_projections.specs.Projections.{marked_places, stands_in}
-use Rattle.scr_projections.proofs.MarkedSteps.{marked-append}
+use Rattle.scr_positions.proofs.StaysBelowLaws.{part_below}
+use Rattle.scr_coord.specs.Projections.{marked_places, stands_in}
+use Rattle.scr_coord.proofs.MarkedSteps.{marked-append}
 use Rattle.scr_cube.specs.Cube333.{CubeState, IsCube}
 use Rattle.scr_stages.specs.Stages.{middle_edges}
 use Rattle.scr_stages.specs.Numbers.{IsDominoCube, first_edges, flips_number, slice_number, tetrads_number, half_cubes}

@@ -16,7 +16,7 @@ use Rattle.scr_combinatorics.proofs.Picks.{pick-in_order}
 use Rattle.scr_combinatorics.proofs.PlaceSets.{place_set_number-injective}
 use Rattle.scr_orbit.specs.Orbits.{zeros, solved_orbit, IsZeroSumOrbit}
 use Rattle.scr_orbit.proofs.OrbitLaws.{same_orbit, IsZeroSumOrbit-solved}
-use Rattle.scr_projections.specs.Projections.{stands_in}
+use Rattle.scr_coord.specs.Projections.{stands_in}
 use Rattle.scr_cube.specs.Cube333.{CubeState, IsCube}
 use Rattle.scr_cube.proofs.Laws333.{same_cube}
 use Rattle.scr_stages.specs.Stages.{middle_edges, IsDomino}

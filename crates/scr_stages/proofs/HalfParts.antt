@@ -10,9 +10,9 @@ use Rattle.scr_combinatorics.proofs.PermutationNumbers.{permutation_at-number}
 use Rattle.scr_combinatorics.proofs.PlayLaws.{map-some}
 use Rattle.scr_orbit.specs.Orbits.{Rearrangement, turned_orbit}
 use Rattle.scr_orbit.proofs.PowerLaws.{All-got}
-use Rattle.scr_coord.specs.Coordinates.{StaysBelow}
-use Rattle.scr_coord.specs.SearchSpaces.{positions, Follows}
-use Rattle.scr_projections.specs.Projections.{pieces_view, stands_in}
+use Rattle.scr_positions.specs.Coordinates.{StaysBelow}
+use Rattle.scr_positions.specs.SearchSpaces.{positions, Follows}
+use Rattle.scr_coord.specs.Projections.{pieces_view, stands_in}
 use Rattle.scr_cube.specs.Cube333.{CubeState, CubeTurn, cube_action}
 use Rattle.scr_stages.specs.Stages.{half_turns, after_of, middle_edges}
 use Rattle.scr_stages.specs.Numbers.{first_edges, second_edges, IsHalfCube}

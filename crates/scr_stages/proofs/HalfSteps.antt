@@ -7,10 +7,10 @@ use Rattle.scr_combinatorics.specs.Digits.{mixed_digits}
 use Rattle.scr_combinatorics.specs.Permutations.{parity, permutation_number, permutation_at}
 use Rattle.scr_combinatorics.proofs.Digits.{mixed_digits-mixed_number}
 use Rattle.scr_combinatorics.proofs.PermutationNumbers.{permutation_at-number}
-use Rattle.scr_coord.specs.Coordinates.{Coordinate}
-use Rattle.scr_coord.specs.Moves.{Moves, moves_coordinate}
-use Rattle.scr_coord.specs.SearchSpaces.{positions, Follows, ShowsSame}
-use Rattle.scr_coord.proofs.StaysBelowLaws.{StaysBelow-moves}
+use Rattle.scr_positions.specs.Coordinates.{Coordinate}
+use Rattle.scr_positions.specs.Moves.{Moves, moves_coordinate}
+use Rattle.scr_positions.specs.SearchSpaces.{positions, Follows, ShowsSame}
+use Rattle.scr_positions.proofs.StaysBelowLaws.{StaysBelow-moves}
 use Rattle.scr_cube.specs.Cube333.{CubeState, cube_action}
 use Rattle.scr_stages.specs.Stages.{half_turns, after_of, middle_edges}
 use Rattle.scr_stages.specs.Numbers.{first_edges, second_edges, IsHalfCube, AreParts, ArePartNumbers, half_bases, half_digits, half_cubes}

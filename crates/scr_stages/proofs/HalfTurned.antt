@@ -15,9 +15,9 @@ use Rattle.scr_orbit.specs.PowerPuzzles.{after_letter}
 use Rattle.scr_orbit.proofs.PowerLaws.{All-got}
 use Rattle.scr_notation.specs.TurnNumbers.{face_turn_at}
 use Rattle.scr_notation.specs.Turning.{opposite}
-use Rattle.scr_coord.specs.Coordinates.{StaysBelow}
-use Rattle.scr_coord.specs.SearchSpaces.{positions, Follows}
-use Rattle.scr_coord.proofs.SearchLaws.{FindsTheSame-follows}
+use Rattle.scr_positions.specs.Coordinates.{StaysBelow}
+use Rattle.scr_positions.specs.SearchSpaces.{positions, Follows}
+use Rattle.scr_positions.proofs.SearchLaws.{FindsTheSame-follows}
 use Rattle.scr_table.specs.Distances.{Distances, Measures}
 use Rattle.scr_table.proofs.FoundWords.{first_word}
 use Rattle.scr_cube.specs.Cube333.{CubeState, IsCube, CubeTurn, cube_action, cube_powers, solved_cube}
@@ -27,8 +27,8 @@ use Rattle.scr_stages.specs.Numbers.{IsDominoCube, first_edges, tetrads_number, 
 use Rattle.scr_stages.specs.Spaces.{halves_space}
 use Rattle.scr_stages.specs.Tables.{turns_of, halves_coordinate}
 use Rattle.scr_stages.specs.Tetrads.{corner_index, corners_at}
-use Rattle.scr_coord.proofs.IndexLaws.{Follows-numbered, StaysBelow-numbered}
-use Rattle.scr_projections.specs.Projections.{turned_set}
+use Rattle.scr_positions.proofs.IndexLaws.{Follows-numbered, StaysBelow-numbered}
+use Rattle.scr_coord.specs.Projections.{turned_set}
 use Rattle.scr_stages.proofs.ViewLaws.{TurnsStates, kept_by}
 use Rattle.scr_stages.proofs.TurnFacts.{after_of-is, after_of-turns, IsHalfTurn, All-numbers, halves_turns}
 use Rattle.scr_stages.proofs.TetradTests.{corners_at-solved, corner_index-solved}

@@ -8,9 +8,9 @@ use Rattle.scr_combinatorics.specs.Permutations.{IsPermutation, place_of}
 use Rattle.scr_combinatorics.specs.PlaceSets.{IsPlaceSet}
 use Rattle.scr_combinatorics.proofs.PermutationLaws.{at-permutation, All-permutation, injective-permutation, IsPermutation-numbers_from, place_of-lt, at-place_of}
 use Rattle.scr_combinatorics.proofs.Picks.{length-pick, pick-at, pick-in_order, pick-pick}
-use Rattle.scr_projections.specs.Projections.{marked_places, stands_in}
-use Rattle.scr_projections.proofs.MarkedLaws.{marked-own, marked-same}
-use Rattle.scr_projections.proofs.MarkedPieces.{stands_in-marked, marked-map}
+use Rattle.scr_coord.specs.Projections.{marked_places, stands_in}
+use Rattle.scr_coord.proofs.MarkedLaws.{marked-own, marked-same}
+use Rattle.scr_coord.proofs.MarkedPieces.{stands_in-marked, marked-map}
 use Rattle.scr_stages.specs.Tetrads.{in_block}
 use Rattle.scr_stages.proofs.Blocks.{stands_in-at, occurs-stands_in, place_of-own, pick-places, places_in, All-marked, All-place_set}
 

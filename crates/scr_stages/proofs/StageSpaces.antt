@@ -11,11 +11,11 @@ use Rattle.scr_combinatorics.proofs.PlaceSets.{place_set_number-lt, place_set_nu
 use Rattle.scr_combinatorics.proofs.Twists.{twists_number-lt, twists_number-injective, twists_at-number}
 use Rattle.scr_orbit.specs.Orbits.{zeros, turned_orbit, added_digits, solved_orbit}
 use Rattle.scr_orbit.proofs.OrbitLaws.{IsZeroSumOrbit-solved}
-use Rattle.scr_coord.specs.Products.{product_coordinate}
-use Rattle.scr_coord.specs.SearchSpaces.{positions, Follows}
-use Rattle.scr_coord.proofs.ProductLaws.{Follows-product}
-use Rattle.scr_projections.specs.Projections.{projection, twists_view, place_set_view, stands_in, turned_set}
-use Rattle.scr_projections.proofs.MarkedPieces.{IsPlaceSet-marked}
+use Rattle.scr_positions.specs.Products.{product_coordinate}
+use Rattle.scr_positions.specs.SearchSpaces.{positions, Follows}
+use Rattle.scr_positions.proofs.ProductLaws.{Follows-product}
+use Rattle.scr_coord.specs.Projections.{projection, twists_view, place_set_view, stands_in, turned_set}
+use Rattle.scr_coord.proofs.MarkedPieces.{IsPlaceSet-marked}
 use Rattle.scr_cube.specs.Cube333.{CubeState, IsCube, IsCubeTurn, cube_action, solved_cube}
 use Rattle.scr_cube.proofs.Laws333.{cube_laws}
 use Rattle.scr_stages.specs.Stages.{HasNoFlips, IsDomino, middle_edges, after_of, flips_turns, slice_turns, tetrads_turns}

@@ -12,11 +12,11 @@ use Rattle.scr_combinatorics.proofs.PlaceSets.{IsPlaceSet-at}
 use Rattle.scr_combinatorics.proofs.PlayLaws.{map-some}
 use Rattle.scr_orbit.specs.Orbits.{Rearrangement, IsZeroSumRearrangement}
 use Rattle.scr_orbit.proofs.PowerLaws.{All-got}
-use Rattle.scr_coord.specs.Coordinates.{StaysBelow}
-use Rattle.scr_coord.specs.SearchSpaces.{positions, Follows}
-use Rattle.scr_coord.proofs.StaysBelowLaws.{StaysBelow-product}
-use Rattle.scr_projections.specs.Projections.{projection, twists_view, place_set_view}
-use Rattle.scr_projections.proofs.ListViews.{StaysBelow-projection, IsListView-twists, IsListView-place_sets}
+use Rattle.scr_positions.specs.Coordinates.{StaysBelow}
+use Rattle.scr_positions.specs.SearchSpaces.{positions, Follows}
+use Rattle.scr_positions.proofs.StaysBelowLaws.{StaysBelow-product}
+use Rattle.scr_coord.specs.Projections.{projection, twists_view, place_set_view}
+use Rattle.scr_coord.proofs.ListViews.{StaysBelow-projection, IsListView-twists, IsListView-place_sets}
 use Rattle.scr_table.specs.Distances.{Distances}
 use Rattle.scr_table.specs.Lines.{IsTableOf}
 use Rattle.scr_stages.specs.Stages.{after_of, middle_edges, IsHalfTurned, flips_turns, slice_turns, tetrads_turns}

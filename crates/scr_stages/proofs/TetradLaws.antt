@@ -11,9 +11,9 @@ use Rattle.scr_combinatorics.proofs.PermutationLaws.{All-permutation, at-permuta
 use Rattle.scr_combinatorics.proofs.PermutationNumbers.{permutation_number-lt}
 use Rattle.scr_combinatorics.proofs.PlaceSets.{place_set_number-lt, place_set_at-number}
 use Rattle.scr_combinatorics.proofs.Picks.{pick-in_order, pick-pick}
-use Rattle.scr_projections.specs.Projections.{marked_places, stands_in}
-use Rattle.scr_projections.proofs.MarkedLaws.{marked-own, marked-same}
-use Rattle.scr_projections.proofs.MarkedPieces.{marked-map, stands_in-marked, IsPlaceSet-marked}
+use Rattle.scr_coord.specs.Projections.{marked_places, stands_in}
+use Rattle.scr_coord.proofs.MarkedLaws.{marked-own, marked-same}
+use Rattle.scr_coord.proofs.MarkedPieces.{marked-map, stands_in-marked, IsPlaceSet-marked}
 use Rattle.scr_stages.specs.Tetrads.{first_tetrad, second_tetrad, axes_of, relation_number, relation_of, corner_index, arranged, other_places, corners_related, corners_at, half_corners_at}
 use Rattle.scr_stages.proofs.FiniteTests.{IsPlaceSet-from_test}
 use Rattle.scr_stages.proofs.Blocks.{places_in, order_in, pick-order_in, IsPermutation-order_in, IsPermutation-both, All-marked-below, pick-arranged, pick-append}

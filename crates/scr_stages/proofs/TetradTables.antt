@@ -1,7 +1,7 @@
 -- The tables of tetrads in the code, and short lists element by element.
 use Rattle.std.proofs.Common.{◌≡◌, ℕ, ◌<◌, Bool, true, List, [], ◌∷◌, ◌++◌, map, length, get_or, refl, sym, ap, ◌∙◌, lit<, arith, eqb-true}
 use Rattle.std.specs.Prelude.{All, ◌==◌, find, unwrap_or, slice_index_or}
-use Rattle.scr_projections.specs.Projections.{stands_in}
+use Rattle.scr_coord.specs.Projections.{stands_in}
 use Rattle.scr_cube.specs.Stickers.{corner_faces}
 use Rattle.std.specs.Str.{bytes_eq}
 use Rattle.std.proofs.lemmas.Nat.{mod_below}

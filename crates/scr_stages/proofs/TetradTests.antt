@@ -7,7 +7,7 @@ use Rattle.scr_combinatorics.specs.Lists.{numbers_from, pick}
 use Rattle.scr_combinatorics.specs.Permutations.{IsPermutation, is_permutation, permutation_number, permutation_at, inverse}
 use Rattle.scr_combinatorics.specs.PlaceSets.{place_set_at}
 use Rattle.scr_combinatorics.proofs.PermutationLaws.{IsPermutation-from_test}
-use Rattle.scr_projections.specs.Projections.{stands_in}
+use Rattle.scr_coord.specs.Projections.{stands_in}
 use Rattle.scr_stages.specs.Tetrads.{first_tetrad, second_tetrad, shared_axis, axes_of, relation_number, relation_of, corner_index, corner_across, second_with, other_places, corners_related, corners_at, half_corners_at, half_corners_number}
 use Rattle.scr_stages.proofs.FiniteTests.{passes_below, test-below, all_pass, test-permutation, agree, agree-same, same_list}
 

@@ -12,8 +12,8 @@ use Rattle.scr_orbit.specs.Orbits.{IsZeroSumRearrangement, Rearrangement, added_
 use Rattle.scr_orbit.specs.declared.placed.PlaceTurn.{PlaceTurn}
 use Rattle.scr_orbit.specs.PlaceTurns.{rearrangement_of}
 use Rattle.scr_orbit.specs.PowerPuzzles.{all_turns}
-use Rattle.scr_projections.specs.Projections.{AreTurns}
-use Rattle.scr_projections.proofs.ProjectionLaws.{AreTurns-places}
+use Rattle.scr_coord.specs.Projections.{AreTurns}
+use Rattle.scr_coord.proofs.ProjectionLaws.{AreTurns-places}
 use Rattle.scr_cube.specs.Cube333.{CubeTurn, IsCubeTurn, cube_action, cube_powers}
 use Rattle.scr_stages.specs.Stages.{half_turns, middle_edges}
 use Rattle.scr_stages.specs.Numbers.{first_edges, second_edges}

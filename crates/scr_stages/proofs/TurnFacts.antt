@@ -20,7 +20,7 @@ use Rattle.scr_orbit.specs.PowerPuzzles.{after_letter, all_turns}
 use Rattle.scr_orbit.proofs.PowerLaws.{All-got}
 use Rattle.scr_orbit.proofs.TableTests.{is_zero_sum_turn, IsZeroSumRearrangement-from_test}
 use Rattle.scr_notation.specs.TurnNumbers.{face_turn_at}
-use Rattle.scr_projections.specs.Projections.{marked_places, stands_in}
+use Rattle.scr_coord.specs.Projections.{marked_places, stands_in}
 use Rattle.scr_cube.specs.Cube333.{CubeState, CubeTurn, IsCubeTurn, cube_action, cube_powers}
 use Rattle.scr_cube.proofs.Laws333.{lawful_cube}
 use Rattle.scr_stages.proofs.FiniteTests.{same_list, All-from_test}

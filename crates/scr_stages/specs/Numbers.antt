@@ -9,7 +9,7 @@ use Rattle.scr_combinatorics.specs.Permutations.{parity, permutation_number, per
 use Rattle.scr_combinatorics.specs.PlaceSets.{place_set_number}
 use Rattle.scr_combinatorics.specs.Twists.{twists_number}
 use Rattle.scr_orbit.specs.Orbits.{zeros}
-use Rattle.scr_projections.specs.Projections.{marked_places, stands_in}
+use Rattle.scr_coord.specs.Projections.{marked_places, stands_in}
 use Rattle.scr_cube.specs.Cube333.{CubeState, IsCube, solved_cube}
 use Rattle.scr_stages.specs.Stages.{middle_edges, HasNoFlips, IsDomino}
 use Rattle.scr_stages.specs.Tetrads.{arranged, corner_index, in_block, half_corners_number, half_corners_at}

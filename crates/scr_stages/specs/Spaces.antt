@@ -1,8 +1,8 @@
 -- What a search by a table works on: the cubes of which the table speaks, the turns of its stage, and its goal.
 use Rattle.std.specs.Prelude.{◌≡◌, ℕ, List}
 use Rattle.scr_orbit.specs.Orbits.{zeros}
-use Rattle.scr_coord.specs.SearchSpaces.{SearchSpace}
-use Rattle.scr_projections.specs.Projections.{marked_places, stands_in}
+use Rattle.scr_positions.specs.SearchSpaces.{SearchSpace}
+use Rattle.scr_coord.specs.Projections.{marked_places, stands_in}
 use Rattle.scr_cube.specs.Cube333.{CubeState, IsCube, solved_cube}
 use Rattle.scr_stages.specs.Stages.{after_of, HasNoFlips, middle_edges, flips_turns, slice_turns, tetrads_turns, half_turns}
 use Rattle.scr_stages.specs.Stages.{halves_stage}

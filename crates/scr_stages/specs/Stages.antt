@@ -8,7 +8,7 @@ use Rattle.scr_orbit.specs.PowerPuzzles.{after_letter}
 use Rattle.scr_notation.specs.declared.turn.Turn.{Turn}
 use Rattle.scr_notation.specs.TurnNumbers.{face_turn_at}
 use Rattle.scr_notation.specs.Turning.{opposite, turn_merging}
-use Rattle.scr_projections.specs.Projections.{marked_places, stands_in}
+use Rattle.scr_coord.specs.Projections.{marked_places, stands_in}
 use Rattle.scr_cube.specs.Cube333.{CubeState, cube_powers, solved_cube}
 
 -- ---- words of turns, told by numbers

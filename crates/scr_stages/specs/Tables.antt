@@ -3,10 +3,10 @@ use Rattle.std.specs.Prelude.{ℕ, List, [], ◌∷◌, map, slice_index_or}
 use Rattle.scr_combinatorics.specs.Lists.{numbers_from, pick}
 use Rattle.scr_orbit.specs.Orbits.{Rearrangement}
 use Rattle.scr_orbit.specs.PowerPuzzles.{all_turns}
-use Rattle.scr_coord.specs.Coordinates.{Coordinate}
-use Rattle.scr_coord.specs.Indexes.{numbered_coordinate}
-use Rattle.scr_coord.specs.Products.{product_coordinate}
-use Rattle.scr_projections.specs.Projections.{projection, twists_view, place_set_view, pieces_view}
+use Rattle.scr_positions.specs.Coordinates.{Coordinate}
+use Rattle.scr_positions.specs.Indexes.{numbered_coordinate}
+use Rattle.scr_positions.specs.Products.{product_coordinate}
+use Rattle.scr_coord.specs.Projections.{projection, twists_view, place_set_view, pieces_view}
 use Rattle.scr_table.specs.declared.name.TableName.TheVariants.{Flips, Slice, Tetrads, Halves}
 use Rattle.scr_table.specs.Lines.{TableLine}
 use Rattle.scr_cube.specs.Cube333.{CubeTurn, cube_action, cube_powers, solved_cube}

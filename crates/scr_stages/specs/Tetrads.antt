@@ -8,8 +8,8 @@ use Rattle.scr_combinatorics.specs.Lists.{numbers_from, pick}
 use Rattle.scr_combinatorics.specs.Permutations.{place_of, inverse, permutation_number, permutation_at}
 use Rattle.scr_combinatorics.specs.PlaceSets.{place_set_number, place_set_at}
 use Rattle.scr_orbit.specs.Orbits.{Rearrangement}
-use Rattle.scr_coord.specs.Coordinates.{Coordinate}
-use Rattle.scr_projections.specs.Projections.{ListView, projection, marked_places, stands_in}
+use Rattle.scr_positions.specs.Coordinates.{Coordinate}
+use Rattle.scr_coord.specs.Projections.{ListView, projection, marked_places, stands_in}
 use Rattle.scr_cube.specs.Stickers.{corner_faces}
 
 abbrev pub first_tetrad : List ℕ

@@ -3,12 +3,12 @@ ghost use Rattle.std.specs.Prelude.{◌≡◌, ◌<◌, map};
 ghost use Rattle.std.proofs.Props.{props};
 ghost use Rattle.scr_combinatorics.specs.Permutations.{IsPermutation};
 ghost use Rattle.scr_orbit.specs.PlaceTurns.{rearrangement_of};
-ghost use Rattle.scr_coord.specs.Coordinates.{StaysBelow};
-ghost use Rattle.scr_projections.specs.Projections.{AreTurns};
+ghost use Rattle.scr_positions.specs.Coordinates.{StaysBelow};
+ghost use Rattle.scr_coord.specs.Projections.{AreTurns};
 ghost use Rattle.scr_stages.specs.Tetrads.{corners_coordinate};
 
-use scr_coord::Coord;
 use scr_orbit::{PlaceTurn, pick_into};
+use scr_positions::Coord;
 use std::marker::PhantomData;
 
 /// Each corner at its place.
@@ -18,7 +18,7 @@ const SOLVED: [u8; 8] = [0, 1, 2, 3, 4, 5, 6, 7];
 pub(crate) trait CornerNumbers {
     ghost use Rattle.std.specs.Prelude.{◌≡◌, ◌<◌};
     ghost use Rattle.scr_combinatorics.specs.Permutations.{IsPermutation};
-    ghost use Rattle.scr_projections.specs.Projections.{ListView};
+    ghost use Rattle.scr_coord.specs.Projections.{ListView};
 
     /// How many numbers there are, the list with each, and the number of each list.
     ghost view: { ListView };

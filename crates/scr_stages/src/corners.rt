@@ -10,8 +10,8 @@ use crate::places::arrange;
 use crate::tetrads::{
     FIRST_TETRAD, SECOND_TETRAD, axes_of, corners_related, joined, relation_number,
 };
+use scr_coord::places_of;
 use scr_orbit::pick_into;
-use scr_projections::places_of;
 use scr_rank::Choose;
 
 /// The index of a list of corners, below 420.

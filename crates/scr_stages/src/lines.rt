@@ -7,9 +7,9 @@ use crate::half_parts::{FIRST_EDGES, MIDDLE_EDGES, OUTER_EDGES};
 use crate::stage_turns::{
     ALL_TURNS, SLICE_TURNS, TETRADS_TURNS, block_edges_turned, corners_turned, edges_turned,
 };
-use scr_coord::{MoveTable, Product};
+use scr_coord::{PlaceSet, Twists};
 use scr_outside::NoMemory;
-use scr_projections::{PlaceSet, Twists};
+use scr_positions::{MoveTable, Product};
 use scr_table::{Line, TableName};
 use std::alloc::Global;
 

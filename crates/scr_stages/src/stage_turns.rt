@@ -2,7 +2,7 @@
 ghost use Rattle.std.specs.Prelude.{◌≡◌, ◌<◌, ◌≤◌, All, map};
 ghost use Rattle.scr_combinatorics.specs.Permutations.{IsPermutation};
 ghost use Rattle.scr_orbit.specs.PlaceTurns.{rearrangement_of};
-ghost use Rattle.scr_projections.specs.Projections.{AreTurns};
+ghost use Rattle.scr_coord.specs.Projections.{AreTurns};
 ghost use Rattle.scr_stages.specs.Tables.{block_turn, corners_by, edges_by};
 ghost use Rattle.scr_stages.specs.Turned.{AreTurned};
 

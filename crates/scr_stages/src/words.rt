@@ -9,8 +9,8 @@ use crate::corners::corner_index;
 use crate::half_parts::{FIRST_EDGES, HalfParts, MIDDLE_EDGES};
 use crate::tables::StageTables;
 use arrayvec::ArrayVec;
+use scr_coord::places_of;
 use scr_cube::Cube;
-use scr_projections::places_of;
 use scr_rank::{Choose, TwistRank};
 
 /// The word of the first stage.

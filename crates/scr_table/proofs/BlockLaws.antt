@@ -4,7 +4,7 @@ use Rattle.std.specs.Prelude.{slice_index_or, nat_eq, ◌&&◌, if◌then◌else
 use Rattle.std.specs.Bool.{OnTrue, OnFalse}
 use Rattle.std.proofs.lemmas.Bool.{ne_eqb}
 use Rattle.std.proofs.Math.Nat.{div-add-mod}
-use Rattle.scr_coord.specs.Coordinates.{Coordinate, StaysBelow}
+use Rattle.scr_positions.specs.Coordinates.{Coordinate, StaysBelow}
 use Rattle.scr_workers.specs.Answered.{AreAnswered}
 use Rattle.scr_table.specs.Filled.{AreKnown, AreMarked, IsLeastNeighbour, Agrees, IsAgreed, IsNextEntry, next_entry, OfBlock, IsNextBlock, IsCheckedBlock, IsBlockBehind, IsThere, block_count, entered_at, entered}
 use Rattle.scr_table.proofs.FilledLaws.{AreKnown-agreed, IsKnown-next}

@@ -5,8 +5,8 @@ use Rattle.std.proofs.Math.ListN.{set}
 use Rattle.std.proofs.Math.Bool.{Bool-set}
 use Rattle.std.proofs.Math.Logic.{∥∥₁_elim, ∥∥₁_map}
 use Rattle.std.proofs.lemmas.Bool.{cases_order, cases_lt, cases_eq, eqb-true, eqb-false, lt-ltb}
-use Rattle.scr_coord.specs.Coordinates.{Coordinate, StaysBelow, moved, IsGoal, value_at}
-use Rattle.scr_coord.proofs.Written.{written_at}
+use Rattle.scr_positions.specs.Coordinates.{Coordinate, StaysBelow, moved, IsGoal, value_at}
+use Rattle.scr_positions.proofs.Written.{written_at}
 use Rattle.scr_combinatorics.specs.FirstWord.{LeadsTo, IsDistance}
 use Rattle.scr_combinatorics.proofs.FirstWordLaws.{LeadsTo-empty, IsGoal-empty, LeadsTo-cons, LeadsTo-parts, IsDistance-goal, IsGoal-distance}
 use Rattle.scr_table.specs.Distances.{Measures, IsFirstGap}

@@ -2,7 +2,7 @@
 use Rattle.std.proofs.Common.{◌≡◌, ℕ, zero, suc, ◌+◌, ◌<◌, ◌⊎◌, inl, inr, Bool, true, false, eqb, List, [], ◌∷◌, get_or, Option, Some, None, refl, sym, ap, ◌∙◌, add-one, arith}
 use Rattle.std.proofs.Math.Bool.{Bool-set}
 use Rattle.std.proofs.lemmas.Bool.{cases_lt, eqb-true, eq-eqb}
-use Rattle.scr_coord.specs.Coordinates.{Coordinate, StaysBelow, moved, IsGoal}
+use Rattle.scr_positions.specs.Coordinates.{Coordinate, StaysBelow, moved, IsGoal}
 use Rattle.scr_combinatorics.specs.FirstWord.{IsFirstWord, LowersFirst}
 use Rattle.scr_combinatorics.proofs.FirstWordLaws.{IsGoal-distance, IsFirstWord-goal, IsFirstWord-cons}
 use Rattle.scr_table.specs.Distances.{Distances, Measures}

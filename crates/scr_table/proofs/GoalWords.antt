@@ -11,7 +11,7 @@ use Rattle.scr_combinatorics.specs.Lists.{numbers_from}
 use Rattle.scr_combinatorics.specs.FirstWord.{LeadsTo, IsDistance}
 use Rattle.scr_combinatorics.specs.Play.{play}
 use Rattle.scr_combinatorics.proofs.FirstWordLaws.{IsGoal-distance, LeadsTo-parts}
-use Rattle.scr_coord.specs.Coordinates.{Coordinate, StaysBelow, moved, IsGoal}
+use Rattle.scr_positions.specs.Coordinates.{Coordinate, StaysBelow, moved, IsGoal}
 use Rattle.scr_table.specs.Distances.{Distances, Measures}
 use Rattle.scr_table.specs.Words.{words_of, words_within, leads_to_goal, words_to_goal, goal_words_behind}
 use Rattle.scr_table.proofs.ListedWords.{IsListed-listed}

@@ -2,8 +2,8 @@
 use Rattle.std.proofs.Common.{◌≡◌, ℕ, ◌+◌, ◌<◌, ◌≤◌, true, false, List, length, length-set, get_or, get_or-set_other, inl, inr, sym, ◌∙◌, subst, arith}
 use Rattle.std.proofs.Math.ListN.{set}
 use Rattle.std.proofs.lemmas.Bool.{cases_lt}
-use Rattle.scr_coord.specs.Coordinates.{Coordinate, HasNoGoal, IsNextGoal}
-use Rattle.scr_coord.proofs.Written.{each_written}
+use Rattle.scr_positions.specs.Coordinates.{Coordinate, HasNoGoal, IsNextGoal}
+use Rattle.scr_positions.proofs.Written.{each_written}
 use Rattle.scr_table.specs.Filled.{AreKnown, IsKnown}
 use Rattle.scr_table.proofs.FilledLaws.{IsKnown-marked}
 

@@ -4,7 +4,7 @@ use Rattle.std.proofs.Props.{props}
 use Rattle.std.proofs.Math.Logic.{∥∥₁_elim}
 use Rattle.std.proofs.lemmas.List.Elements.{All-append, All-nil, All-cons}
 use Rattle.std.specs.Prelude.{All, Contains, Result, Ok, Err, IfErr, IsErrAnd}
-use Rattle.scr_coord.specs.Coordinates.{Coordinate}
+use Rattle.scr_positions.specs.Coordinates.{Coordinate}
 use Rattle.scr_table.specs.declared.fault.BuildFault.{BuildFault}
 use Rattle.scr_table.specs.declared.fault.BuildFault.TheVariants.{NoMemory, Gap}
 use Rattle.scr_table.specs.Causes.{IsCause, IsCauseOf}

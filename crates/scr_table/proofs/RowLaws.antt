@@ -2,7 +2,7 @@
 use Rattle.std.proofs.Common.{◌≡◌, ℕ, zero, suc, ◌+◌, ◌-◌, ◌<◌, ◌≤◌, Bool, true, false, List, [], ◌∷◌, length, get_or, Some, None, refl, arith}
 use Rattle.std.specs.Prelude.{if◌then◌else◌, ◌==◌}
 use borrow.Author.Tests.{eqb-true}
-use Rattle.scr_coord.specs.Coordinates.{StaysBelow, moved, IsGoal}
+use Rattle.scr_positions.specs.Coordinates.{StaysBelow, moved, IsGoal}
 use Rattle.scr_combinatorics.specs.Play.{play}
 use Rattle.scr_combinatorics.specs.FirstWord.{LeadsTo, IsFirstWord, IsDistance}
 use Rattle.scr_combinatorics.proofs.FirstWordLaws.{IsGoal-empty, LeadsTo-parts, IsFirstWord-goal, IsFirstWord-cons}

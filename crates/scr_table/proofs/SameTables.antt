@@ -2,9 +2,9 @@
 -- refused builds, and first words.
 use Rattle.std.proofs.Common.{ℕ, ◌<◌, List, get_or, sym, ◌∙◌, arith}
 use Rattle.scr_combinatorics.specs.FirstWord.{IsFirstWord}
-use Rattle.scr_coord.specs.Coordinates.{Coordinate, StaysBelow, moved, IsGoal}
-use Rattle.scr_coord.specs.SearchSpaces.{positions, FindsTheSame, ShowsSame}
-use Rattle.scr_coord.proofs.SearchLaws.{FindsTheSame-follows, Follows-same}
+use Rattle.scr_positions.specs.Coordinates.{Coordinate, StaysBelow, moved, IsGoal}
+use Rattle.scr_positions.specs.SearchSpaces.{positions, FindsTheSame, ShowsSame}
+use Rattle.scr_positions.proofs.SearchLaws.{FindsTheSame-follows, Follows-same}
 use Rattle.scr_table.specs.declared.name.TableName.{TableName}
 use Rattle.scr_table.specs.declared.fault.BuildFault.{BuildFault}
 use Rattle.scr_table.specs.declared.fault.BuildFault.TheVariants.{NoMemory, Gap}

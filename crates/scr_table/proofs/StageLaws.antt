@@ -4,9 +4,9 @@ use Rattle.scr_combinatorics.specs.FirstWord.{IsFirstWord}
 use Rattle.scr_combinatorics.specs.Stages.{Stage, by_letters, IsStageWord}
 use Rattle.scr_combinatorics.proofs.PlayLaws.{play-keeps}
 use Rattle.scr_combinatorics.proofs.FirstWordLaws.{IsDistance-first, IsDistance-unique}
-use Rattle.scr_coord.specs.Coordinates.{StaysBelow, moved, IsGoal}
-use Rattle.scr_coord.specs.SearchSpaces.{positions, Follows}
-use Rattle.scr_coord.proofs.SearchLaws.{FindsTheSame-follows}
+use Rattle.scr_positions.specs.Coordinates.{StaysBelow, moved, IsGoal}
+use Rattle.scr_positions.specs.SearchSpaces.{positions, Follows}
+use Rattle.scr_positions.proofs.SearchLaws.{FindsTheSame-follows}
 use Rattle.scr_table.specs.Distances.{Distances}
 use Rattle.scr_table.specs.Lines.{TableLine, IsTableOf}
 use Rattle.scr_table.specs.StageSpaces.{stage_space}

@@ -2,7 +2,7 @@
 use Rattle.std.proofs.Common.{◌≡◌, ℕ, ◌<◌, Bool, true, false, Option, Some, None, refl}
 use Rattle.std.specs.Prelude.{nat_lt, if◌then◌else◌}
 use borrow.Author.Tests.{ltb-true}
-use Rattle.scr_coord.specs.Coordinates.{Coordinate, StaysBelow, moved}
+use Rattle.scr_positions.specs.Coordinates.{Coordinate, StaysBelow, moved}
 
 -- what is taken where a test holds
 pub taken_where : {A : Type 0} (b : Bool) (o : Option A) (q : A) → (if b then o else None) ≡ Some q → (b ≡ true) × (o ≡ Some q)

@@ -2,7 +2,7 @@
 use Rattle.std.proofs.Common.{◌≡◌, ◌≢◌, ℕ, zero, suc, ◌+◌, ◌<◌, ◌≤◌, min, cond, leb, List, [], ◌∷◌, ◌++◌, length, get_or, refl, sym, ap, ◌∙◌, subst, arith, inl, inr, add-one}
 use Rattle.std.proofs.lemmas.Bool.{cases_eq, cases_lt, le-leb, lt-leb, lt-ltb, eq-eqb, ne_eqb}
 use Rattle.std.proofs.lemmas.List.{append-nil, ext_get_or, get_or_append_left, get_or_push, length-append}
-use Rattle.scr_coord.proofs.MoveLaws.{each_below-at, length-each_below}
+use Rattle.scr_positions.proofs.MoveLaws.{each_below-at, length-each_below}
 use Rattle.scr_table.specs.Halves.{AreBlocksOf, AreRising, AreStored, Deep, StandsAt, deep_at, deep_below, deep_distance, deep_of, distance_at, half_byte_at, stored}
 
 -- what holds at each place of a list, and of one more at its end, holds at each place then

@@ -3,9 +3,9 @@ use Rattle.std.proofs.Common.{◌≡◌, ℕ, ◌<◌, List, [], ◌∷◌, ◌+
 use Rattle.std.specs.Prelude.{All, length, ◌↔◌}
 use Rattle.std.proofs.lemmas.List.Elements.{All-head, All-tail}
 use Rattle.scr_combinatorics.specs.FirstWord.{LeadsTo, IsDistance}
-use Rattle.scr_coord.specs.Coordinates.{moved, IsGoal}
-use Rattle.scr_coord.specs.SearchSpaces.{positions, Follows, FindsTheSame}
-use Rattle.scr_coord.proofs.SearchLaws.{FindsTheSame-follows}
+use Rattle.scr_positions.specs.Coordinates.{moved, IsGoal}
+use Rattle.scr_positions.specs.SearchSpaces.{positions, Follows, FindsTheSame}
+use Rattle.scr_positions.proofs.SearchLaws.{FindsTheSame-follows}
 use Rattle.scr_table.specs.declared.name.TableName.{TableName}
 use Rattle.scr_table.specs.declared.fault.BuildFault.{BuildFault}
 use Rattle.scr_table.specs.declared.fault.BuildFault.TheVariants.{NoMemory, Gap}

@@ -1,6 +1,6 @@
 -- What is so where tables aren't built.
 use Rattle.std.specs.Prelude.{◌≡◌, ◌≢◌, ℕ, List, [], ◌∷◌, ◌++◌, All}
-use Rattle.scr_coord.specs.Coordinates.{Coordinate}
+use Rattle.scr_positions.specs.Coordinates.{Coordinate}
 use Rattle.scr_table.specs.declared.name.TableName.{TableName}
 use Rattle.scr_table.specs.declared.fault.BuildFault.{BuildFault}
 use Rattle.scr_table.specs.declared.fault.BuildFault.TheVariants.{NoMemory, Gap}

@@ -1,6 +1,6 @@
 -- Distance tables as callers see them, and what is so of a built one.
 use Rattle.std.specs.Prelude.{◌≡◌, ℕ, ◌<◌, ◌≤◌, List, length, slice_index}
-use Rattle.scr_coord.specs.Coordinates.{Coordinate, moved, IsGoal}
+use Rattle.scr_positions.specs.Coordinates.{Coordinate, moved, IsGoal}
 use Rattle.scr_combinatorics.specs.FirstWord.{LeadsTo, IsDistance}
 use Rattle.scr_table.specs.declared.name.TableName.{TableName}
 

@@ -1,6 +1,6 @@
 -- What is so of the entries of a table while it is built. One number stands for 'not known yet'.
 use Rattle.std.specs.Prelude.{◌≡◌, ◌≢◌, ℕ, ◌+◌, ◌*◌, ◌/◌, ◌%◌, ◌<◌, ◌≤◌, ◌↔◌, ◌==◌, ◌&&◌, if◌then◌else◌, Bool, true, false, List, length, slice_index, slice_index_or, Option, Some, None}
-use Rattle.scr_coord.specs.Coordinates.{Coordinate, moved, IsGoal}
+use Rattle.scr_positions.specs.Coordinates.{Coordinate, moved, IsGoal}
 use Rattle.scr_combinatorics.specs.FirstWord.{IsDistance}
 use Rattle.scr_table.specs.Distances.{NoneWithin}
 use Rattle.scr_table.specs.declared.fill.TheConstants.{UNKNOWN}

@@ -1,7 +1,7 @@
 -- How a table's distances are stored: at four bits each, in blocks of 1,024 positions, beside a list of those that
 -- don't fit.
 use Rattle.std.specs.Prelude.{◌≡◌, ℕ, zero, suc, ◌+◌, ◌*◌, ◌/◌, ◌%◌, ◌<◌, ◌==◌, nat_lt, nat_le, min, if◌then◌else◌, List, [], ◌∷◌, ◌++◌, length, slice_index, slice_index_or}
-use Rattle.scr_coord.specs.Moves.{each_below}
+use Rattle.scr_positions.specs.Moves.{each_below}
 
 -- The half byte of a position stands in block p / 1024, in byte (p % 1024) / 2: the low half where p is even.
 abbrev pub half_byte_at : List (List ℕ) → ℕ → ℕ

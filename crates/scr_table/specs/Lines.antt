@@ -1,7 +1,7 @@
 -- Tables that are asked for, and built ones.
 use Rattle.std.specs.Prelude.{◌≡◌, ◌≢◌, ℕ, ◌≤◌, List, [], ◌∷◌, ◌++◌, All, Any}
-use Rattle.scr_coord.specs.Coordinates.{Coordinate}
-use Rattle.scr_coord.specs.SearchSpaces.{ShowsSame}
+use Rattle.scr_positions.specs.Coordinates.{Coordinate}
+use Rattle.scr_positions.specs.SearchSpaces.{ShowsSame}
 use Rattle.scr_table.specs.declared.name.TableName.{TableName}
 use Rattle.scr_table.specs.Distances.{Distances, Measures, IsGap}
 

@@ -1,6 +1,6 @@
 -- A row of positions: from each but the first, one turn leads to the position before, and the first is the goal.
 use Rattle.std.specs.Prelude.{ℕ, ◌-◌, ◌==◌, Some, None, if◌then◌else◌}
-use Rattle.scr_coord.specs.Coordinates.{Coordinate}
+use Rattle.scr_positions.specs.Coordinates.{Coordinate}
 use Rattle.scr_table.specs.declared.name.TableName.{TableName}
 use Rattle.scr_table.specs.Lines.{TableLine}
 

@@ -1,7 +1,7 @@
 -- Tables as told by the states of which they speak, and their gaps.
 use Rattle.std.specs.Prelude.{◌≡◌, ℕ, ◌<◌, List, [], ◌∷◌, length, ◌⊎◌}
 use Rattle.scr_combinatorics.specs.FirstWord.{LeadsTo, IsDistance}
-use Rattle.scr_coord.specs.SearchSpaces.{SearchSpace}
+use Rattle.scr_positions.specs.SearchSpaces.{SearchSpace}
 use Rattle.scr_table.specs.declared.name.TableName.{TableName}
 use Rattle.scr_table.specs.declared.fault.BuildFault.{BuildFault}
 use Rattle.scr_table.specs.declared.fault.BuildFault.TheVariants.{NoMemory, Gap}

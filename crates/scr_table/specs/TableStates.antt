@@ -1,7 +1,7 @@
 -- What tables as told by states have to do with the coordinates by which they are built.
 use Rattle.std.specs.Prelude.{◌≡◌, ℕ, ◌<◌, ◌↔◌, List, [], ◌∷◌}
 use Rattle.scr_combinatorics.specs.FirstWord.{LeadsTo, IsDistance}
-use Rattle.scr_coord.specs.SearchSpaces.{SearchSpace, positions, Follows}
+use Rattle.scr_positions.specs.SearchSpaces.{SearchSpace, positions, Follows}
 use Rattle.scr_table.specs.Lines.{TableLine}
 use Rattle.scr_table.specs.SearchTables.{SearchTable, table_over, IsWhole}
 

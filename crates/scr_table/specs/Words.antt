@@ -5,7 +5,7 @@ use Rattle.std.specs.List.{flat_map}
 use Rattle.std.specs.Option.{option_map_or}
 use Rattle.scr_combinatorics.specs.Lists.{numbers_from}
 use Rattle.scr_combinatorics.specs.Play.{play}
-use Rattle.scr_coord.specs.Coordinates.{Coordinate, moved}
+use Rattle.scr_positions.specs.Coordinates.{Coordinate, moved}
 
 -- all words of n letters: for each turn, those of n - 1 letters behind it
 unfoldable pub words_of : List ℕ → ℕ → List (List ℕ)

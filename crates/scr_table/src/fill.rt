@@ -10,7 +10,7 @@ ghost use Rattle.scr_table.specs.Filled.{AreKnown, AreMarked, block_count};
 use crate::blocks::{BLOCK, Made, contains};
 use crate::levels::next_level;
 use crate::neighbours::step;
-use scr_coord::{BARRED, Coord, NOWHERE};
+use scr_positions::{BARRED, Coord, NOWHERE};
 use std::alloc::{AllocError, Global};
 use std::thread::Threads;
 

@@ -5,7 +5,7 @@ ghost use Rattle.std.specs.Prelude.{◌≡◌, ℕ, suc, ◌+◌, ◌-◌, ◌�
 ghost use Rattle.std.specs.List.{AllPairs, join_with_byte};
 ghost use Rattle.scr_combinatorics.specs.Reach.{Needs};
 ghost use Rattle.scr_combinatorics.specs.FirstWord.{IsEarlier, LeadsTo, IsFirstWord, IsDistance, LowersFirst};
-ghost use Rattle.scr_coord.specs.Coordinates.{Coordinate, moved, IsGoal};
+ghost use Rattle.scr_positions.specs.Coordinates.{Coordinate, moved, IsGoal};
 ghost use Rattle.scr_table.specs.declared.name.TableName.TheVariants.{Corners, Flips, Slice, Tetrads, Halves};
 ghost use Rattle.scr_table.specs.declared.name.TableName.TheVariants.{FlipSlice, TwistSlice, CornerSlice, EdgeSlice};
 ghost use Rattle.scr_table.specs.declared.name.TableName.TheVariants.{Pyramid, Skewb, Shapes, Pairings, Square};

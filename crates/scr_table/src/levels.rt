@@ -7,7 +7,7 @@ ghost use Rattle.scr_table.specs.Filled.{AreKnown, AreMarked, Agrees, IsNextEntr
 use crate::blocks::{BLOCK, Made, contains, enter_blocks, unknown_block};
 use crate::fill::UNKNOWN;
 use crate::neighbours::{least_neighbour, least_neighbours};
-use scr_coord::Coord;
+use scr_positions::Coord;
 use scr_workers::{Jobs, OpenGate, run_chunks};
 use std::thread::Threads;
 

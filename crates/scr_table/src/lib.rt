@@ -1,6 +1,6 @@
 //! Distance tables: at each position of a coordinate the least number of turns to a goal.
 //!
-//! A [`DistanceTable`] is built over any [`Coord`](scr_coord::Coord), with no puzzle's name in it. What is so of a built
+//! A [`DistanceTable`] is built over any [`Coord`](scr_positions::Coord), with no puzzle's name in it. What is so of a built
 //! table is one record, `Measures` of `specs/Distances.antt`, over distances and first words as `scr_combinatorics` defines them;
 //! how a table is filled and how its entries are stored stands in no definition. Walking down a table gives first words. A
 //! [`Line`] says what a table is called, what it is of and by which moves; its [`LineTable`] keeps them together, and finds

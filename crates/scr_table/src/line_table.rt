@@ -1,8 +1,8 @@
 //! The tables that searches go by, each a type of its own.
 ghost use Rattle.std.specs.Prelude.{◌≡◌, ◌<◌, ◌≤◌, IfOk, IfErr};
 ghost use Rattle.scr_combinatorics.specs.FirstWord.{IsFirstWord};
-ghost use Rattle.scr_coord.specs.Coordinates.{moved, IsGoal};
-ghost use Rattle.scr_coord.specs.SearchSpaces.{ShowsSame};
+ghost use Rattle.scr_positions.specs.Coordinates.{moved, IsGoal};
+ghost use Rattle.scr_positions.specs.SearchSpaces.{ShowsSame};
 ghost use Rattle.scr_table.specs.Causes.{IsCause};
 ghost use Rattle.scr_table.specs.Lines.{HasNoGap, IsTableOf};
 
@@ -10,8 +10,8 @@ use crate::fault::BuildFault;
 use crate::name::TableName;
 use crate::table::DistanceTable;
 use arrayvec::ArrayVec;
-use scr_coord::Coord;
 use scr_outside::NoMemory;
+use scr_positions::Coord;
 use std::alloc::Global;
 use std::marker::Model;
 use std::thread::Threads;
@@ -20,7 +20,7 @@ use std::thread::Threads;
 /// apart.
 pub trait Line {
     ghost use Rattle.std.specs.Prelude.{◌≡◌, ◌≤◌, IfOk};
-    ghost use Rattle.scr_coord.specs.SearchSpaces.{ShowsSame};
+    ghost use Rattle.scr_positions.specs.SearchSpaces.{ShowsSame};
     ghost use Rattle.scr_table.specs.Lines.{TableLine};
 
     /// All of this.

@@ -1,12 +1,12 @@
 //! Where turns lead, and the least entries there.
 
 ghost use Rattle.std.specs.Prelude.{◌≡◌, ℕ, ◌+◌, ◌<◌, ◌≤◌, IfSome, length, min, slice_index};
-ghost use Rattle.scr_coord.specs.Coordinates.{moved};
+ghost use Rattle.scr_positions.specs.Coordinates.{moved};
 ghost use Rattle.scr_table.specs.Filled.{IsLeastNeighbour};
 
 use crate::blocks::{BLOCK, unknown_block};
 use crate::fill::UNKNOWN;
-use scr_coord::{Coord, NOWHERE};
+use scr_positions::{Coord, NOWHERE};
 
 /// The position after a turn, which is one of the coordinate's; `None` where the turn is barred.
 #[inline]

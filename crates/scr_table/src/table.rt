@@ -2,7 +2,7 @@
 
 ghost use Rattle.std.specs.Prelude.{◌≡◌, ℕ, ◌+◌, ◌^◌, ◌<◌, ◌≤◌, ◌==◌, All, IfOk, IfErr, IfNone, IfSome, count_by, length, slice_index};
 ghost use Rattle.scr_combinatorics.specs.FirstWord.{IsFirstWord, LowersFirst};
-ghost use Rattle.scr_coord.specs.Coordinates.{moved, IsGoal};
+ghost use Rattle.scr_positions.specs.Coordinates.{moved, IsGoal};
 ghost use Rattle.scr_table.specs.Distances.{Measures};
 ghost use Rattle.scr_table.specs.Causes.{IsCause};
 ghost use Rattle.scr_table.specs.Halves.{AreBlocksOf, deep_of};
@@ -13,7 +13,7 @@ use crate::fill::filled;
 use crate::name::TableName;
 use crate::neighbours::step;
 use arrayvec::ArrayVec;
-use scr_coord::Coord;
+use scr_positions::Coord;
 use std::alloc::Global;
 use std::marker::Model;
 use std::thread::Threads;

@@ -1,13 +1,13 @@
 //! The first words to goals.
 
 ghost use Rattle.std.specs.Prelude.{◌≡◌, ◌+◌, ◌++◌, [], ◌∷◌, ◌<◌, ◌≤◌, ◌↔◌, IfNone, IfSome, IsTrue, ℕ, length, slice_index, slice_index_or, take};
-ghost use Rattle.scr_coord.specs.Coordinates.{moved};
+ghost use Rattle.scr_positions.specs.Coordinates.{moved};
 ghost use Rattle.scr_table.specs.Words.{goal_words_behind, words_to_goal};
 
 use crate::line_table::{Line, LineTable};
 use crate::neighbours::step;
 use arrayvec::ArrayVec;
-use scr_coord::Coord;
+use scr_positions::Coord;
 use std::marker::Model;
 
 /// Words of turn numbers, one after another: at most 1,000, each of at most 24 turns.

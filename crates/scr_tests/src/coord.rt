@@ -2,8 +2,8 @@
 //! 4, and R U has order 105, which is 15 on the corners, 5 on their places, and 7 on the edges.
 ghost use Rattle.std.specs.Prelude.{◌<◌};
 
-use scr_coord::{Coord, MoveTable, Product};
-use scr_projections::{Lists, PlaceSet, Twists};
+use scr_coord::{Lists, PlaceSet, Twists};
+use scr_positions::{Coord, MoveTable, Product};
 use scr_stages::{corners_turned, edges_turned};
 use std::process::Abort;
 use std::test::Fail;

@@ -2,8 +2,8 @@
 
 ghost use Rattle.std.specs.Prelude.{◌/◌, ◌-◌, ◌==◌, Some, None, if◌then◌else◌};
 
-use scr_coord::Coord;
 use scr_outside::MemSink;
+use scr_positions::Coord;
 use scr_table::{DistanceTable, TableName};
 use scr_table_text::write_tables;
 use std::test::Fail;

@@ -6,9 +6,9 @@ use Rattle.std.proofs.lemmas.Bool.{and_from, le-leb}
 use Rattle.std.proofs.lemmas.List.Elements.{All-contains}
 use Rattle.scr_combinatorics.specs.Play.{play}
 use Rattle.scr_combinatorics.proofs.PlayLaws.{play-keeps, play-parts}
-use Rattle.scr_coord.specs.Coordinates.{Coordinate, moved, IsGoal}
-use Rattle.scr_coord.specs.SearchSpaces.{SearchSpace, positions, Follows}
-use Rattle.scr_coord.proofs.SearchLaws.{FindsTheSame-follows}
+use Rattle.scr_positions.specs.Coordinates.{Coordinate, moved, IsGoal}
+use Rattle.scr_positions.specs.SearchSpaces.{SearchSpace, positions, Follows}
+use Rattle.scr_positions.proofs.SearchLaws.{FindsTheSame-follows}
 use Rattle.scr_table.specs.Distances.{Distances, Measures}
 use Rattle.scr_table.specs.declared.name.TableName.{TableName}
 use Rattle.scr_cube.specs.Cube333.{CubeState, IsCube}

@@ -2,10 +2,10 @@
 use Rattle.std.proofs.Common.{◌≡◌, ℕ, ◌*◌, ◌^◌, ◌<◌, Bool, true, false, List, [], ◌∷◌, Some, refl, sym, ap, ◌∙◌, subst, arith}
 use Rattle.std.specs.Prelude.{slice_get}
 use Rattle.std.specs.Option.{option_map}
-use Rattle.scr_coord.specs.Coordinates.{Coordinate, StaysBelow}
-use Rattle.scr_coord.specs.SearchSpaces.{ShowsSame}
-use Rattle.scr_coord.proofs.ProductLaws.{ShowsSame-product}
-use Rattle.scr_coord.proofs.SearchLaws.{Follows-same}
+use Rattle.scr_positions.specs.Coordinates.{Coordinate, StaysBelow}
+use Rattle.scr_positions.specs.SearchSpaces.{ShowsSame}
+use Rattle.scr_positions.proofs.ProductLaws.{ShowsSame-product}
+use Rattle.scr_positions.proofs.SearchLaws.{Follows-same}
 use Rattle.scr_table.proofs.SameTables.{StaysBelow-same}
 use Rattle.scr_twophase.specs.declared.outlook.Outlook.{Outlook}
 use Rattle.scr_twophase.specs.Outlooks.{AreOutlooks}

@@ -13,7 +13,7 @@ use Rattle.scr_combinatorics.specs.Play.{play}
 use Rattle.scr_combinatorics.proofs.PlayLaws.{play-append, play-one}
 use Rattle.scr_orbit.specs.Orbits.{zeros, solved_orbit}
 use Rattle.scr_orbit.specs.PowerPuzzles.{all_turns as cube_turns}
-use Rattle.scr_projections.specs.Projections.{marked_places, stands_in}
+use Rattle.scr_coord.specs.Projections.{marked_places, stands_in}
 use Rattle.scr_cube.specs.Cube333.{CubeState, cube_action, cube_powers, solved_cube}
 use Rattle.scr_cube.proofs.Laws333.{lawful_cube}
 use Rattle.scr_stages.proofs.TurnFacts.{after_of-is, length-turns}

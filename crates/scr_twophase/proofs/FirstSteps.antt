@@ -9,7 +9,7 @@ use Rattle.scr_combinatorics.proofs.Picks.{numbers_from-at}
 use Rattle.scr_combinatorics.specs.PlaceSets.{place_set_number}
 use Rattle.scr_combinatorics.specs.Twists.{twists_number}
 use Rattle.scr_orbit.specs.Orbits.{zeros}
-use Rattle.scr_projections.proofs.GoalNumbers.{twists_number-zeros}
+use Rattle.scr_coord.proofs.GoalNumbers.{twists_number-zeros}
 use Rattle.scr_cube.specs.Cube333.{CubeState, IsCube}
 use Rattle.scr_stages.specs.Spaces.{IsUntwisted, IsInMiddle}
 use Rattle.scr_stages.specs.Stages.{HasNoFlips, middle_edges}

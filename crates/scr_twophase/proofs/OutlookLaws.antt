@@ -4,7 +4,7 @@ use Rattle.std.proofs.Common.{◌≡◌, ◌≢◌, get_or-set_other, get_or-set
 use Rattle.std.specs.Prelude.{◌==◌, nat_le}
 use Rattle.std.proofs.lemmas.Bool.{leb-true, eqb-true, cases_eq}
 use Rattle.scr_table.proofs.StepLaws.{moved-turn}
-use Rattle.scr_coord.specs.Coordinates.{Coordinate}
+use Rattle.scr_positions.specs.Coordinates.{Coordinate}
 use Rattle.scr_twophase.specs.TurnSets.{contains_turn}
 use Rattle.scr_twophase.specs.Outlooks.{turns_within, AreFound, IsOutlook}
 use Rattle.scr_twophase.specs.declared.outlook.Found.{Found}

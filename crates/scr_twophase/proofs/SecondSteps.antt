@@ -9,7 +9,7 @@ use Rattle.scr_combinatorics.specs.Permutations.{permutation_number}
 use Rattle.scr_combinatorics.specs.Play.{play}
 use Rattle.scr_combinatorics.proofs.Picks.{pick-in_order}
 use Rattle.scr_combinatorics.proofs.PlayLaws.{play-parts}
-use Rattle.scr_projections.proofs.GoalNumbers.{permutation_number-in_order}
+use Rattle.scr_coord.proofs.GoalNumbers.{permutation_number-in_order}
 use Rattle.scr_orbit.specs.declared.placed.PlaceTurn.{PlaceTurn}
 use Rattle.scr_orbit.specs.Orbits.{Rearrangement, solved_orbit, turned_orbit}
 use Rattle.scr_orbit.specs.PlaceTurns.{rearrangement_of}

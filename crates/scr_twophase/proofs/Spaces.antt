@@ -7,11 +7,11 @@ use Rattle.scr_combinatorics.specs.PlaceSets.{IsPlaceSet}
 use Rattle.scr_combinatorics.proofs.PermutationLaws.{at-permutation, IsPermutation-numbers_from}
 use Rattle.scr_combinatorics.proofs.PermutationNumbers.{permutation_number-lt, permutation_number-injective, permutation_at-number}
 use Rattle.scr_orbit.specs.Orbits.{turned_orbit}
-use Rattle.scr_coord.specs.Coordinates.{Coordinate}
-use Rattle.scr_coord.specs.Products.{product_coordinate}
-use Rattle.scr_coord.specs.SearchSpaces.{positions, Follows}
-use Rattle.scr_coord.proofs.ProductLaws.{Follows-product}
-use Rattle.scr_projections.specs.Projections.{projection, pieces_view, stands_in}
+use Rattle.scr_positions.specs.Coordinates.{Coordinate}
+use Rattle.scr_positions.specs.Products.{product_coordinate}
+use Rattle.scr_positions.specs.SearchSpaces.{positions, Follows}
+use Rattle.scr_positions.proofs.ProductLaws.{Follows-product}
+use Rattle.scr_coord.specs.Projections.{projection, pieces_view, stands_in}
 use Rattle.scr_cube.specs.Cube333.{CubeState, IsCube, CubeTurn, cube_action}
 use Rattle.scr_stages.specs.Stages.{HasNoFlips, middle_edges, after_of, flips_turns, tetrads_turns}
 use Rattle.scr_stages.specs.Numbers.{flips_number, IsDominoCube}

@@ -4,10 +4,10 @@ use Rattle.std.specs.Option.{option_map}
 use Rattle.std.specs.Prelude.{◌&&◌, ◌==◌}
 use Rattle.std.proofs.lemmas.Bool.{and_from, and_parts, lt-ltb}
 use Rattle.std.proofs.lemmas.Nat.{mul-add-lt}
-use Rattle.scr_coord.specs.Coordinates.{Coordinate, IsGoal, moved}
-use Rattle.scr_coord.specs.Products.{product_coordinate}
-use Rattle.scr_coord.specs.SearchSpaces.{Follows, ShowsSame, positions}
-use Rattle.scr_coord.proofs.ProductLaws.{Follows-product, part-high, part-low}
+use Rattle.scr_positions.specs.Coordinates.{Coordinate, IsGoal, moved}
+use Rattle.scr_positions.specs.Products.{product_coordinate}
+use Rattle.scr_positions.specs.SearchSpaces.{Follows, ShowsSame, positions}
+use Rattle.scr_positions.proofs.ProductLaws.{Follows-product, part-high, part-low}
 use Rattle.scr_cube.specs.Cube333.{CubeState}
 use Rattle.scr_stages.specs.Spaces.{cube_space}
 use Rattle.scr_stages.specs.Stages.{after_of}

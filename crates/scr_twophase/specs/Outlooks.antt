@@ -1,7 +1,7 @@
 -- Which turns may go on a word of so many turns to the goal of a pruning table.
 use Rattle.std.specs.Prelude.{◌≡◌, ℕ, ◌+◌, ◌-◌, ◌/◌, ◌%◌, ◌^◌, ◌<◌, ◌≤◌, ◌==◌, nat_le, true, IsTrue, if◌then◌else◌, List, slice_get, slice_index, Some}
 use Rattle.std.specs.Option.{option_map_or}
-use Rattle.scr_coord.specs.Coordinates.{Coordinate, moved}
+use Rattle.scr_positions.specs.Coordinates.{Coordinate, moved}
 use Rattle.scr_table.specs.Lines.{TableLine, IsTableOf}
 use Rattle.scr_twophase.specs.declared.outlook.Outlook.{Outlook}
 use Rattle.scr_twophase.specs.declared.outlook.Found.{Found}

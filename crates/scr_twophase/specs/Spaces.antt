@@ -2,7 +2,7 @@
 -- the index of a cube in it.
 use Rattle.std.specs.Prelude.{◌≡◌, ℕ, ◌+◌, ◌*◌}
 use Rattle.scr_combinatorics.specs.Lists.{numbers_from}
-use Rattle.scr_coord.specs.SearchSpaces.{SearchSpace}
+use Rattle.scr_positions.specs.SearchSpaces.{SearchSpace}
 use Rattle.scr_cube.specs.Cube333.{CubeState, IsCube}
 use Rattle.scr_stages.specs.Stages.{HasNoFlips, middle_edges, flips_turns, tetrads_turns}
 use Rattle.scr_stages.specs.Numbers.{flips_number, IsDominoCube}

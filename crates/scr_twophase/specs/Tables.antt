@@ -3,9 +3,9 @@ use Rattle.std.specs.Prelude.{ℕ, List, [], ◌∷◌, ◌++◌, map}
 use Rattle.scr_combinatorics.specs.Permutations.{permutation_number}
 use Rattle.scr_combinatorics.specs.PlaceSets.{place_set_number}
 use Rattle.scr_combinatorics.specs.Twists.{twists_number}
-use Rattle.scr_coord.specs.Coordinates.{Coordinate}
-use Rattle.scr_coord.specs.Products.{product_coordinate}
-use Rattle.scr_projections.specs.Projections.{projection, twists_view, place_set_view, pieces_view, marked_places, stands_in}
+use Rattle.scr_positions.specs.Coordinates.{Coordinate}
+use Rattle.scr_positions.specs.Products.{product_coordinate}
+use Rattle.scr_coord.specs.Projections.{projection, twists_view, place_set_view, pieces_view, marked_places, stands_in}
 use Rattle.scr_table.specs.declared.name.TableName.TheVariants.{FlipSlice, TwistSlice, CornerSlice, EdgeSlice}
 use Rattle.scr_table.specs.Lines.{TableLine}
 use Rattle.scr_cube.specs.Cube333.{CubeState}

@@ -13,7 +13,7 @@ use Rattle.scr_orbit.specs.PowerPuzzles.{after_letter}
 use Rattle.scr_notation.specs.declared.turn.Turn.{Turn}
 use Rattle.scr_notation.specs.TurnNumbers.{face_turn_at}
 use Rattle.scr_notation.specs.Turning.{opposite}
-use Rattle.scr_projections.specs.Projections.{marked_places, stands_in}
+use Rattle.scr_coord.specs.Projections.{marked_places, stands_in}
 use Rattle.scr_cube.specs.Cube333.{CubeState, cube_powers}
 use Rattle.scr_stages.specs.Stages.{middle_edges, IsStageScramble, tetrads_turns}
 use Rattle.scr_table.specs.Words.{words_within}

@@ -1,8 +1,8 @@
 -- A part of the solution as its tables see it: three coordinates, each of which has a number of a cube.
 use Rattle.std.specs.Prelude.{◌≡◌, ℕ, ◌+◌, ◌*◌, ◌^◌, ◌<◌, ◌≤◌, Bool, true, false, IsTrue, List, [], ◌∷◌, length}
-use Rattle.scr_coord.specs.Coordinates.{Coordinate, IsGoal}
-use Rattle.scr_coord.specs.Products.{product_coordinate}
-use Rattle.scr_coord.specs.SearchSpaces.{Follows, positions}
+use Rattle.scr_positions.specs.Coordinates.{Coordinate, IsGoal}
+use Rattle.scr_positions.specs.Products.{product_coordinate}
+use Rattle.scr_positions.specs.SearchSpaces.{Follows, positions}
 use Rattle.scr_cube.specs.Cube333.{CubeState, IsCube}
 use Rattle.scr_stages.specs.Numbers.{flips_number, IsDominoCube}
 use Rattle.scr_stages.specs.Spaces.{cube_space}

@@ -1,12 +1,12 @@
 //! Which turns lead nearer to the goal of a pruning table, and which lead no farther.
 ghost use Rattle.std.specs.Prelude.{◌≡◌, ℕ, ◌+◌, ◌^◌, ◌<◌, ◌≤◌, IfOk, length, slice_index, slice_index_or};
-ghost use Rattle.scr_coord.specs.Coordinates.{AreSeen, value_at};
+ghost use Rattle.scr_positions.specs.Coordinates.{AreSeen, value_at};
 ghost use Rattle.scr_twophase.specs.declared.outlook.Found.{Found as Finding};
 ghost use Rattle.scr_twophase.specs.declared.outlook.Outlook.{Outlook as Looking};
 ghost use Rattle.scr_twophase.specs.Outlooks.{turns_within, AreFound, IsOutlook, AreOutlooks};
 
 use crate::turn_set::TurnSet;
-use scr_coord::{Coord, NOWHERE};
+use scr_positions::{Coord, NOWHERE};
 use scr_table::DistanceTable;
 use std::alloc::{AllocError, Global};
 use std::thread::{Threads, for_each_chunk_mut};

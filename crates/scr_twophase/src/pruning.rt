@@ -1,15 +1,15 @@
 //! Pruning tables.
 ghost use Rattle.std.specs.Prelude.{◌≡◌, ◌*◌, ◌<◌, ◌≤◌, ◌^◌, IfErr, IfOk, length, slice_index};
-ghost use Rattle.scr_coord.specs.Coordinates.{Coordinate};
-ghost use Rattle.scr_coord.specs.Moves.{moves_coordinate};
-ghost use Rattle.scr_coord.specs.SearchSpaces.{ShowsSame};
+ghost use Rattle.scr_positions.specs.Coordinates.{Coordinate};
+ghost use Rattle.scr_positions.specs.Moves.{moves_coordinate};
+ghost use Rattle.scr_positions.specs.SearchSpaces.{ShowsSame};
 ghost use Rattle.scr_table.specs.Causes.{IsCause};
 ghost use Rattle.scr_twophase.specs.Outlooks.{IsPruningTable, turns_left};
 ghost use Rattle.scr_twophase.specs.Views.{beside, index_beside};
 
 use crate::outlook::Outlook;
 use crate::turn_set::TurnSet;
-use scr_coord::{Coord, MoveTable, Product};
+use scr_positions::{Coord, MoveTable, Product};
 use scr_table::{BuildFault, DistanceTable, TableName};
 use std::alloc::Global;
 use std::thread::Threads;

@@ -1,7 +1,7 @@
 //! What the search for a part goes by: where turns lead, the pruning tables, and the near set.
 ghost use Rattle.std.specs.Prelude.{◌≡◌, ℕ, ◌+◌, ◌-◌, ◌^◌, ◌<◌, ◌≤◌, All, Bool, IfErr, IfOk, IsTrue, List, false};
-ghost use Rattle.scr_coord.specs.Moves.{moves_coordinate};
-ghost use Rattle.scr_coord.specs.SearchSpaces.{ShowsSame};
+ghost use Rattle.scr_positions.specs.Moves.{moves_coordinate};
+ghost use Rattle.scr_positions.specs.SearchSpaces.{ShowsSame};
 ghost use Rattle.scr_cube.specs.Cube333.{CubeState};
 ghost use Rattle.scr_table.specs.Causes.{IsCauseOf};
 ghost use Rattle.scr_table.specs.Lines.{HasNoGap};
@@ -18,7 +18,7 @@ use crate::space::{BLOCK, Positions, Space};
 use crate::turn_set::TurnSet;
 use crate::views::PartViews;
 use crate::word::Word;
-use scr_coord::{Coord, MoveTable};
+use scr_positions::{Coord, MoveTable};
 use scr_table::BuildFault;
 use std::alloc::{AllocError, Global};
 use std::marker::PhantomData;

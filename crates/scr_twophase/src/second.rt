@@ -3,9 +3,9 @@ ghost use Rattle.std.specs.Prelude.{◌≡◌, ◌^◌, ◌<◌, ◌≤◌, ℕ,
 ghost use Rattle.std.proofs.Common.{lit≤};
 ghost use Rattle.scr_combinatorics.specs.Permutations.{IsPermutation, factorial};
 ghost use Rattle.scr_combinatorics.specs.Play.{play};
-ghost use Rattle.scr_coord.specs.Moves.{moves_coordinate};
-ghost use Rattle.scr_coord.specs.SearchSpaces.{ShowsSame};
-ghost use Rattle.scr_projections.specs.Projections.{pieces_view, projection};
+ghost use Rattle.scr_positions.specs.Moves.{moves_coordinate};
+ghost use Rattle.scr_positions.specs.SearchSpaces.{ShowsSame};
+ghost use Rattle.scr_coord.specs.Projections.{pieces_view, projection};
 ghost use Rattle.scr_cube.specs.Cube333.{CubeState};
 ghost use Rattle.scr_stages.specs.Numbers.{IsDominoCube};
 ghost use Rattle.scr_stages.specs.Stages.{tetrads_turns};
@@ -25,11 +25,11 @@ use crate::space::Positions;
 use crate::turn_set::{TurnSet, behind};
 use crate::views::PartViews;
 use crate::word::Word;
-use scr_coord::MoveTable;
+use scr_coord::{Lists, PlaceTurn};
 use scr_cube::{Cube, corner_turns, edge_turns};
 use scr_orbit::pick_into;
 use scr_outside::NoMemory;
-use scr_projections::{Lists, PlaceTurn};
+use scr_positions::MoveTable;
 use scr_rank::PermRank;
 use scr_stages::{
     MIDDLE_EDGES, OUTER_EDGES, TETRADS_TURNS, block_edges_turned, block_number, corners_turned,

@@ -3,15 +3,15 @@
 use crate::position::Extent;
 use crate::turn_set::TurnSet;
 use crate::word::Word;
-use scr_coord::MoveTable;
 use scr_outside::NoMemory;
+use scr_positions::MoveTable;
 use std::alloc::Global;
 
 /// A part of the solution as its tables see it. It is a type without values.
 pub(crate) trait PartViews: Copy {
     ghost use Rattle.std.specs.Prelude.{◌≡◌, ℕ, ◌^◌, ◌<◌, IfOk, IsTrue, List, length, slice_index};
-    ghost use Rattle.scr_coord.specs.Moves.{moves_coordinate};
-    ghost use Rattle.scr_coord.specs.SearchSpaces.{ShowsSame};
+    ghost use Rattle.scr_positions.specs.Moves.{moves_coordinate};
+    ghost use Rattle.scr_positions.specs.SearchSpaces.{ShowsSame};
     ghost use Rattle.scr_cube.specs.Cube333.{CubeState};
     ghost use Rattle.scr_twophase.specs.declared.position.Extent.{Extent as ExtentOf};
     ghost use Rattle.scr_twophase.specs.Near.{AreTakenBack};

@@ -2,8 +2,8 @@ use Rattle.std.proofs.Common.{◌≡◌, ℕ, ◌<◌, Bool, not, List, get_or, 
 use Rattle.std.proofs.lemmas.List.{length-set}
 use Rattle.scr_combinatorics.specs.Lists.{numbers_from}
 use Rattle.scr_combinatorics.proofs.Picks.{numbers_from-at}
-use Rattle.scr_projections.specs.Projections.{stands_in}
-use Rattle.scr_projections.proofs.MarkedSteps.{found_room, found_more, found_none, found_all}
+use Rattle.scr_coord.specs.Projections.{stands_in}
+use Rattle.scr_coord.proofs.MarkedSteps.{found_room, found_more, found_none, found_all}
 use Rattle.scr_stages.specs.Tetrads.{other_places}
 use Rattle.scr_stages.proofs.TetradLaws.{length-other_places}
 use Rattle.scr_stages.proofs.corners.other_places.Goals as goal

@@ -1,7 +1,7 @@
 use Rattle.std.proofs.Common.{◌≡◌, not, length}
 use Rattle.scr_combinatorics.specs.Lists.{numbers_from}
-use Rattle.scr_projections.specs.Projections.{stands_in}
-use Rattle.scr_projections.proofs.MarkedSteps.{FoundSoFar}
+use Rattle.scr_coord.specs.Projections.{stands_in}
+use Rattle.scr_coord.proofs.MarkedSteps.{FoundSoFar}
 use Rattle.scr_stages.proofs.corners.other_places.Given as goal
 
 abbrev pub invariant-loop-place : goal.invariant-loop-place

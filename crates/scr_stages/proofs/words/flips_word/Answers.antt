@@ -1,7 +1,7 @@
 use Rattle.std.proofs.Common.{ap, ◌∙◌, subst, lit≤}
 use Rattle.scr_combinatorics.specs.Twists.{twists_number}
 use Rattle.scr_combinatorics.specs.FirstWord.{IsFirstWord}
-use Rattle.scr_coord.specs.Coordinates.{moved, IsGoal}
+use Rattle.scr_positions.specs.Coordinates.{moved, IsGoal}
 use Rattle.scr_table.proofs.StageLaws.{IsStageWord-first}
 use Rattle.scr_orbit.specs.PowerPuzzles.{after_letter}
 use Rattle.scr_cube.specs.Cube333.{IsCube, cube_powers}

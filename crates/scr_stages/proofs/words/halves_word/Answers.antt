@@ -1,6 +1,6 @@
 use Rattle.std.proofs.Common.{subst, lit≤}
 use Rattle.scr_combinatorics.specs.FirstWord.{IsFirstWord}
-use Rattle.scr_coord.specs.Coordinates.{moved, IsGoal}
+use Rattle.scr_positions.specs.Coordinates.{moved, IsGoal}
 use Rattle.scr_table.proofs.StageLaws.{IsStageWord-first}
 use Rattle.scr_orbit.specs.PowerPuzzles.{after_letter}
 use Rattle.scr_cube.specs.Cube333.{cube_powers}

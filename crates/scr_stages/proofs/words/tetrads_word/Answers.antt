@@ -1,8 +1,8 @@
 use Rattle.std.proofs.Common.{◌+◌, ◌*◌, length, sym, ap, ◌∙◌, subst, lit<, lit≤}
 use Rattle.scr_combinatorics.specs.PlaceSets.{IsPlaceSet, place_set_number}
 use Rattle.scr_combinatorics.specs.FirstWord.{IsFirstWord}
-use Rattle.scr_coord.specs.Coordinates.{moved, IsGoal}
-use Rattle.scr_projections.specs.Projections.{marked_places, stands_in}
+use Rattle.scr_positions.specs.Coordinates.{moved, IsGoal}
+use Rattle.scr_coord.specs.Projections.{marked_places, stands_in}
 use Rattle.scr_table.proofs.StageLaws.{IsStageWord-first}
 use Rattle.scr_orbit.specs.PowerPuzzles.{after_letter}
 use Rattle.scr_cube.specs.Cube333.{cube_powers}

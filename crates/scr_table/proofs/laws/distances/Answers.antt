@@ -1,6 +1,6 @@
 use Rattle.std.proofs.Common.{true}
 use Rattle.std.proofs.Math.Bool.{Bool-set}
-use Rattle.scr_coord.specs.Coordinates.{moved, IsGoal}
+use Rattle.scr_positions.specs.Coordinates.{moved, IsGoal}
 use Rattle.scr_combinatorics.proofs.FirstWordLaws.{IsDistance-unique, IsDistance-goal, IsGoal-distance, IsDistance-lowers, IsDistance-step}
 use Rattle.scr_table.proofs.laws.distances.Goals as goal
 

@@ -1,4 +1,4 @@
-use Rattle.scr_coord.specs.Coordinates.{moved, IsGoal}
+use Rattle.scr_positions.specs.Coordinates.{moved, IsGoal}
 use Rattle.scr_combinatorics.proofs.FirstWordLaws.{IsDistance-unique, IsDistance-first, IsFirstWord-unique, IsFirstWord-goal, IsFirstWord-cons, IsFirstWord-parts, IsGoal-empty}
 use Rattle.scr_table.proofs.laws.first_words.Goals as goal
 

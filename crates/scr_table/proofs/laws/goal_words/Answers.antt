@@ -2,7 +2,7 @@ use Rattle.std.proofs.Common.{ℕ, List, IsTrue, refl}
 use Rattle.std.specs.Prelude.{◌↔◌}
 use Rattle.scr_combinatorics.specs.FirstWord.{LeadsTo}
 use Rattle.scr_combinatorics.specs.Play.{play}
-use Rattle.scr_coord.specs.Coordinates.{Coordinate, moved, IsGoal}
+use Rattle.scr_positions.specs.Coordinates.{Coordinate, moved, IsGoal}
 use Rattle.scr_table.specs.Words.{words_of, words_within, words_to_goal, leads_to_goal}
 use Rattle.scr_table.proofs.GoalWords.{LeadsTo-below, LeadsTo-test, leads-LeadsTo}
 use Rattle.scr_table.proofs.WordOrder.{IsEarlier-listed, Contains-listed, first-listed}

@@ -2,7 +2,7 @@ use Rattle.std.proofs.Common.{◌≡◌, ℕ, List, [], ◌∷◌, ◌++◌, ref
 use Rattle.std.proofs.Math.Logic.{∥∥₁_elim}
 use Rattle.std.proofs.lemmas.List.Elements.{All-head}
 use Rattle.std.specs.Prelude.{All, slice_index_or}
-use Rattle.scr_coord.specs.Coordinates.{moved, IsGoal}
+use Rattle.scr_positions.specs.Coordinates.{moved, IsGoal}
 use Rattle.scr_combinatorics.specs.FirstWord.{IsDistance}
 use Rattle.scr_combinatorics.proofs.FirstWordLaws.{IsDistance-unique}
 use Rattle.scr_table.specs.declared.name.TableName.TheVariants.{Corners, Flips}

@@ -1,7 +1,7 @@
 use Rattle.std.proofs.Common.{◌≡◌, ℕ, ◌+◌, ◌-◌, get_or, ap, ◌∙◌, subst, sym, inl, inr, arith}
 use Rattle.std.proofs.lemmas.Bool.{cases_eq}
 use Rattle.std.proofs.lemmas.List.{length-set}
-use Rattle.scr_coord.proofs.Written.{each_written_from}
+use Rattle.scr_positions.proofs.Written.{each_written_from}
 use Rattle.scr_table.specs.Filled.{Agrees, next_entry}
 use Rattle.scr_table.proofs.levels.checked_block.Goals as goal
 

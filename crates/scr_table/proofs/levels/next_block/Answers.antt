@@ -1,6 +1,6 @@
 use Rattle.std.proofs.Common.{◌≡◌, ℕ, ◌+◌, ◌-◌, ◌∙◌, subst, arith}
 use Rattle.std.proofs.lemmas.List.{length-set}
-use Rattle.scr_coord.proofs.Written.{each_written_from}
+use Rattle.scr_positions.proofs.Written.{each_written_from}
 use Rattle.scr_table.specs.Filled.{IsNextEntry}
 use Rattle.scr_table.proofs.BlockLaws.{IsNextEntry-least}
 use Rattle.scr_table.proofs.levels.next_block.Goals as goal

@@ -1,6 +1,6 @@
 use Rattle.std.proofs.Common.{sym, subst, ap, ◌∙◌}
-use Rattle.scr_coord.specs.Moves.{moves_coordinate}
-use Rattle.scr_coord.specs.SearchSpaces.{ShowsSame}
+use Rattle.scr_positions.specs.Moves.{moves_coordinate}
+use Rattle.scr_positions.specs.SearchSpaces.{ShowsSame}
 use Rattle.scr_twophase.specs.Views.{beside}
 use Rattle.scr_twophase.proofs.BuiltLaws.{ShowsSame-beside}
 use Rattle.scr_twophase.proofs.pruning.beside.Goals as goal

@@ -1,6 +1,6 @@
 use Rattle.std.proofs.Common.{ap, ◌∙◌}
-use Rattle.scr_coord.proofs.SearchLaws.{IfOk-shows}
-use Rattle.scr_projections.specs.Projections.{projection, pieces_view}
+use Rattle.scr_positions.proofs.SearchLaws.{IfOk-shows}
+use Rattle.scr_coord.specs.Projections.{projection, pieces_view}
 use Rattle.scr_twophase.proofs.second.edge_moves.Goals as goal
 
 pub returns : goal.returns

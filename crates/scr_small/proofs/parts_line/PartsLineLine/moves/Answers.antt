@@ -1,6 +1,6 @@
 use Rattle.std.proofs.lemmas.Result.{IfOk-weaker}
-use Rattle.scr_coord.proofs.SearchLaws.{ShowsSame-through}
-use Rattle.scr_coord.specs.Products.{product_coordinate}
+use Rattle.scr_positions.proofs.SearchLaws.{ShowsSame-through}
+use Rattle.scr_positions.specs.Products.{product_coordinate}
 use Rattle.scr_small.specs.NumberedPuzzles.{state_coordinate}
 use Rattle.scr_small.specs.StateParts.{low_part, high_part}
 use Rattle.scr_small.proofs.ShownByParts.{ShowsSame-parts}

@@ -1,5 +1,5 @@
 use Rattle.std.proofs.Common.{◌≡◌}
-use Rattle.scr_coord.specs.Moves.{each_below}
+use Rattle.scr_positions.specs.Moves.{each_below}
 use Rattle.scr_sq1solve.specs.Tables.{shapes_state}
 use Rattle.scr_sq1solve.proofs.shape_states.ShapeStates.build.Given as goal
 

@@ -1,7 +1,7 @@
 use Rattle.std.proofs.Common.{◌<◌, length, ap, ◌∙◌, arith}
 use Rattle.std.specs.Prelude.{slice_index_or}
 use Rattle.std.proofs.lemmas.List.{get_or_read}
-use Rattle.scr_coord.proofs.MoveLaws.{length-each_below, each_below-at}
+use Rattle.scr_positions.proofs.MoveLaws.{length-each_below, each_below-at}
 use Rattle.scr_sq1.specs.Units.{solved_sq1}
 use Rattle.scr_sq1solve.specs.Tables.{shapes_state}
 use Rattle.scr_sq1solve.proofs.shape_states.ShapeStates.state_at.Goals as goal

@@ -4,8 +4,8 @@ use Rattle.scr_combinatorics.proofs.PermutationLaws.{IsPermutation-pick}
 use Rattle.scr_orbit.specs.declared.placed.PlaceTurn.{PlaceTurn}
 use Rattle.scr_orbit.specs.PlaceTurns.{rearrangement_of}
 use Rattle.scr_orbit.proofs.OrbitLaws.{places_in}
-use Rattle.scr_projections.specs.Projections.{AreTurns}
-use Rattle.scr_projections.proofs.ProjectionLaws.{turn_read, after_read}
+use Rattle.scr_coord.specs.Projections.{AreTurns}
+use Rattle.scr_coord.proofs.ProjectionLaws.{turn_read, after_read}
 use Rattle.scr_stages.specs.Tetrads.{corners_view}
 use Rattle.scr_stages.proofs.corner_lists.CornerListsCoord.after.Goals as goal
 

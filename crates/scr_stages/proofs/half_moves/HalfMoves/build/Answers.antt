@@ -1,9 +1,9 @@
 use Rattle.std.proofs.Common.{map, sym, ap, ◌∙◌, subst}
 use Rattle.scr_orbit.specs.PlaceTurns.{rearrangement_of}
-use Rattle.scr_coord.specs.Coordinates.{StaysBelow}
-use Rattle.scr_coord.specs.Moves.{moves_coordinate}
-use Rattle.scr_coord.specs.SearchSpaces.{ShowsSame}
-use Rattle.scr_projections.specs.Projections.{projection}
+use Rattle.scr_positions.specs.Coordinates.{StaysBelow}
+use Rattle.scr_positions.specs.Moves.{moves_coordinate}
+use Rattle.scr_positions.specs.SearchSpaces.{ShowsSame}
+use Rattle.scr_coord.specs.Projections.{projection}
 use Rattle.scr_stages.specs.Tetrads.{half_corners_view}
 use Rattle.scr_stages.proofs.TurnArrays.{first_moves, second_moves, middle_moves}
 use Rattle.scr_stages.proofs.HalfParts.{StaysBelow-half_corners}

@@ -1,6 +1,6 @@
 use Rattle.std.proofs.Common.{ap, ◌∙◌}
-use Rattle.scr_coord.proofs.SearchLaws.{IfOk-shows}
-use Rattle.scr_projections.specs.Projections.{projection, twists_view}
+use Rattle.scr_positions.proofs.SearchLaws.{IfOk-shows}
+use Rattle.scr_coord.specs.Projections.{projection, twists_view}
 use Rattle.scr_stages.proofs.lines.FlipsLineLine.moves.Goals as goal
 
 pub returns : goal.returns

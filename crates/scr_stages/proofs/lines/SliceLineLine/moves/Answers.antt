@@ -1,7 +1,7 @@
 use Rattle.std.proofs.Common.{ap, ◌∙◌}
-use Rattle.scr_coord.specs.Products.{product_coordinate}
-use Rattle.scr_coord.proofs.SearchLaws.{IfOk-shows}
-use Rattle.scr_projections.specs.Projections.{projection, twists_view, place_set_view}
+use Rattle.scr_positions.specs.Products.{product_coordinate}
+use Rattle.scr_positions.proofs.SearchLaws.{IfOk-shows}
+use Rattle.scr_coord.specs.Projections.{projection, twists_view, place_set_view}
 use Rattle.scr_stages.specs.Stages.{middle_edges}
 use Rattle.scr_stages.proofs.lines.SliceLineLine.moves.Goals as goal
 

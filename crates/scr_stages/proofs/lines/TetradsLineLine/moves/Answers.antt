@@ -1,9 +1,9 @@
 use Rattle.std.proofs.Common.{map, rules, lit<, lit≤, sym, ap, ◌∙◌, subst}
 use Rattle.scr_orbit.specs.PlaceTurns.{rearrangement_of}
-use Rattle.scr_coord.specs.Coordinates.{StaysBelow}
-use Rattle.scr_coord.specs.Products.{product_coordinate}
-use Rattle.scr_coord.proofs.SearchLaws.{IfOk-shows}
-use Rattle.scr_projections.specs.Projections.{projection, place_set_view}
+use Rattle.scr_positions.specs.Coordinates.{StaysBelow}
+use Rattle.scr_positions.specs.Products.{product_coordinate}
+use Rattle.scr_positions.proofs.SearchLaws.{IfOk-shows}
+use Rattle.scr_coord.specs.Projections.{projection, place_set_view}
 use Rattle.scr_stages.specs.Numbers.{first_edges}
 use Rattle.scr_stages.specs.Tables.{corners_by}
 use Rattle.scr_stages.specs.Tetrads.{tetrads_view}

@@ -1,5 +1,5 @@
 use Rattle.std.proofs.Common.{◌≡◌, ℕ, ◌<◌, Some, get_or}
-use Rattle.scr_coord.specs.Coordinates.{moved}
+use Rattle.scr_positions.specs.Coordinates.{moved}
 use Rattle.scr_table.proofs.table.DistanceTable.first_lowering.Given as goal
 
 abbrev pub invariant-loop-turn : goal.invariant-loop-turn

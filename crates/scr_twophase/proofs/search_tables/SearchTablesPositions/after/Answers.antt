@@ -1,4 +1,4 @@
-use Rattle.scr_coord.specs.Moves.{moves_coordinate}
+use Rattle.scr_positions.specs.Moves.{moves_coordinate}
 use Rattle.scr_twophase.proofs.ViewLaws.{seen-turned, shown-turned}
 use Rattle.scr_twophase.proofs.search_tables.SearchTablesPositions.after.Goals as goal
 

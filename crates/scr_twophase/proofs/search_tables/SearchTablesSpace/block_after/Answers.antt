@@ -1,5 +1,5 @@
 use Rattle.std.proofs.Common.{sym, ◌∙◌}
-use Rattle.scr_coord.specs.Moves.{moves_coordinate}
+use Rattle.scr_positions.specs.Moves.{moves_coordinate}
 use Rattle.scr_twophase.proofs.ViewLaws.{number-block, seen-turned, shown-turned}
 use Rattle.scr_twophase.proofs.search_tables.SearchTablesSpace.block_after.Goals as goal
 

@@ -1,5 +1,5 @@
 use Rattle.std.proofs.Common.{◌≡◌, ◌%◌, ◌/◌, sym, ◌∙◌, subst}
-use Rattle.scr_coord.specs.Moves.{moves_coordinate}
+use Rattle.scr_positions.specs.Moves.{moves_coordinate}
 use Rattle.scr_twophase.specs.Views.{AreViews}
 use Rattle.scr_twophase.proofs.ViewLaws.{low_part, low-made, low-one, low-other, number-low, seen-turned, shown-turned}
 use Rattle.scr_twophase.proofs.search_tables.SearchTablesSpace.number_after.Goals as goal

@@ -1,0 +1,9 @@
+pub mod StaysBelowLaws
+pub mod MoveLaws
+pub mod ProductLaws
+pub mod ProductGoals
+pub mod SearchLaws
+pub mod IndexLaws
+pub mod Written
+pub mod RowsSeen
+pub mod PartWritten

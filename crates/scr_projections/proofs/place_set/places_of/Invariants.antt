@@ -1,6 +1,0 @@
-use Rattle.scr_projections.specs.Projections.{stands_in}
-use Rattle.scr_projections.proofs.MarkedSteps.{FoundSoFar}
-use Rattle.scr_projections.proofs.place_set.places_of.Given as goal
-
-abbrev pub invariant-loop-place : goal.invariant-loop-place
-invariant-loop-place l = FoundSoFar (stands_in l.set) l.list l.out l.found l.place

@@ -1,7 +1,0 @@
-use Rattle.std.proofs.Common.{sym, ap}
-use Rattle.std.specs.Prelude.{◌==◌}
-use Rattle.scr_projections.proofs.GoalNumbers.{twists_number-zeros}
-use Rattle.scr_projections.proofs.twists.TwistsCoord.is_goal.Goals as goal
-
-pub returns : goal.returns
-returns g c = ap (λ n. c.args.position == n) (sym (twists_number-zeros g.row.N g.row.BASE))
