@@ -1,5 +1,5 @@
 -- The scramble for fewest moves: a state has one, and it leads to the state.
-use Rattle.std.proofs.Common.{◌≡◌, ℕ, zero, suc, ◌+◌, ◌-◌, ◌≤◌, Bool, true, IsTrue, List, [], ◌∷◌, ◌++◌, Option, Some, length, refl, sym, ap, ◌∙◌, arith, length-append, append_assoc, le-leb}
+use Rattle.std.proofs.Common.{◌≡◌, ℕ, zero, suc, ◌+◌, ◌-◌, ◌≤◌, true, IsTrue, List, [], ◌∷◌, ◌++◌, Option, Some, length, refl, sym, ap, ◌∙◌, arith, length-append, append_assoc, le-leb}
 use Rattle.std.specs.Prelude.{◌==◌, ◌&&◌, nat_le, slice_index_or, unwrap_or}
 use Rattle.std.proofs.lemmas.Bool.{false≢true, eqb-true, leb-true}
 use Rattle.scr_combinatorics.specs.Back.{back}
