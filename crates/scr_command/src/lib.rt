@@ -6,7 +6,7 @@
 //! split by `clap` (`specs/OptionWords.antt` has the grammar). Numbers are read by `scr_text`, seeds by
 //! `scr_words`, events by `scr_list`. Its theorem is that of `read_command`: the command is the one of
 //! the definition, words that are none are refused for the cause that it gives, and want of memory
-//! comes only where the first word is `sheet`. `laws` says which words the grammar of options has
+//! comes only where the first word is `sheet` or `check`. `laws` says which words the grammar of options has
 //! without reading them in order, and has rows of it.
 #![tactic(auto)]
 

@@ -2,10 +2,10 @@
 //!
 //! A run reads the words of the command line, and the round list where they ask for a sheet; it builds the tables of
 //! the events, makes and writes parts one after another, each the slots of an event and the text of their scrambles,
-//! or checks a sheet that somebody printed; and tells what goes wrong. The contract of `run` is the headline of the repository: whatever goes wrong outside,
-//! what was read and written, what was told and the status are those of an end that the definitions allow
-//! (`specs/Outcome.antt`), and wherever the tables are built, each round is drawn fairly. `laws` says that a list has
-//! one sheet, and which runs must end with it.
+//! or checks a sheet that somebody printed; and tells what goes wrong. The contract of `run` is the headline of the
+//! repository: whatever goes wrong outside, what was read and written, what was told and the status are those of an end
+//! that the definitions allow (`specs/Outcome.antt`), and wherever the tables are built, each round is drawn fairly.
+//! `laws` says that a list has one sheet, and which runs must end with it.
 #![tactic(auto)]
 
 mod check;

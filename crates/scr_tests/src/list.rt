@@ -185,6 +185,7 @@ fn lists_with_names_are_refused(rt: HostRuntime) -> Result<(), Fail> {
         ("version 2\nclock 1 : a\tb", 2, ListCause::Name),
         ("version 2\nclock 1 : a\r\r\n", 2, ListCause::Name),
         ("version 2\nclock 1 : \u{e9}", 2, ListCause::Name),
+        ("version 2\nclock 1 : \u{1f}", 2, ListCause::Name),
         ("version 2\nclock 1 : \u{7f}", 2, ListCause::Name),
         (
             "version 2\nclock 1 : 12345678901234567890123456789012345678901",
