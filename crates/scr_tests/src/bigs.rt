@@ -30,6 +30,14 @@ const CUBE_777: &str =
     3Lw U2 Uw2 Bw2 D' R' 3Rw 3Uw L2 D 3Rw L 3Bw' Uw' Lw F2 Dw2 3Lw' Bw 3Lw F R Uw B2 Uw Bw' L' F \
     3Uw 3Bw 3Dw R' Fw' Dw Lw F Lw2 3Lw' Fw' 3Uw D' Dw2 Rw' 3Uw2 3Fw' 3Lw' 3Bw2 Dw 3Fw Lw";
 
+/// For each side, and 0 for the Megaminx: so many attempts a turn, and the scramble.
+const SCRAMBLES: [(u8, u32, &str); 4] = [
+    (0, 1, MEGAMINX),
+    (5, 1000, CUBE_555),
+    (6, 1000, CUBE_666),
+    (7, 1, CUBE_777),
+];
+
 /// Three words of the last number that is accepted where there are 36 choices, and of the first that is refused.
 const ACCEPTED: [u32; 3] = [0xffffffe3, 0xffffffff, 0xffffffff];
 
@@ -56,26 +64,33 @@ fn gives<W: Words, const SIDE: usize>(words: &mut W, attempts: u32, wanted: &str
     }
 }
 
+/// Whether the words of the seed of zeros, of stream 0, give the scramble of a side that is wanted.
+fn gives_of_stream(side: u8, attempts: u32, wanted: &str) -> bool
+    requires { attempts ≤ 1000000 }
+{
+    let mut words = ChaChaWords::new(&Seed([0; 32]), 0);
+    match side {
+        5 => gives::<_, 5>(&mut words, attempts, wanted),
+        6 => gives::<_, 6>(&mut words, attempts, wanted),
+        7 => gives::<_, 7>(&mut words, attempts, wanted),
+        _ => print(&megaminx(&mut words)).as_str() == wanted,
+    }
+}
+
 #[test]
 fn scrambles_of_a_stream(rt: HostRuntime) {
-    let seed = Seed([0; 32]);
-    let mut words = ChaChaWords::new(&seed, 0);
-    assert_eq!(rt; print(&megaminx(&mut words)).as_str(), MEGAMINX);
-    let mut words = ChaChaWords::new(&seed, 0);
-    assert!(rt; gives::<_, 5>(&mut words, 1000, CUBE_555));
-    let mut words = ChaChaWords::new(&seed, 0);
-    assert!(rt; gives::<_, 6>(&mut words, 1000, CUBE_666));
-    let mut words = ChaChaWords::new(&seed, 0);
-    assert!(rt; gives::<_, 7>(&mut words, 1, CUBE_777));
+    for (side, attempts, wanted) in SCRAMBLES {
+        assert!(rt; attempts <= 1000000);
+        assert!(rt; gives_of_stream(side, attempts, wanted));
+    }
 }
 
 #[test]
 fn attempts_of_a_list(rt: HostRuntime) {
-    let mut words = ListWords::new(&ACCEPTED);
-    assert!(rt; gives::<_, 5>(&mut words, 1, FROM_LAST));
-    let mut words = ListWords::new(&REFUSED);
-    assert!(rt; gives::<_, 5>(&mut words, 2, FROM_FIRST));
-    let mut words = ListWords::new(&REFUSED);
-    let refused = big_cube::<_, 5>(&mut words, 1).err();
+    for (list, attempts, wanted) in [(ACCEPTED, 1, FROM_LAST), (REFUSED, 2, FROM_FIRST)] {
+        assert!(rt; attempts <= 1000000);
+        assert!(rt; gives::<_, 5>(&mut ListWords::new(&list), attempts, wanted));
+    }
+    let refused = big_cube::<_, 5>(&mut ListWords::new(&REFUSED), 1).err();
     assert_eq!(rt; refused, Some(DrawLimit { words: 3 }));
 }
