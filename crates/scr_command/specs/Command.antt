@@ -1,5 +1,5 @@
 -- What the words of the command line ask for.
-use Rattle.std.specs.Prelude.{◌≡◌, ℕ, if◌then◌else◌, ◌||◌, true, List, [], ◌∷◌, codes, Option, Some, None, Result, Ok, Err}
+use Rattle.std.specs.Prelude.{◌≡◌, ℕ, Bool, if◌then◌else◌, ◌||◌, ◌&&◌, not, true, false, List, [], ◌∷◌, codes, Option, Some, None, Result, Ok, Err}
 use Rattle.std.specs.Prelude.{ok_or, is_some, option_map}
 use Rattle.std.specs.Result.{result_map_both}
 use Rattle.std.specs.Str.{bytes_eq}
@@ -53,16 +53,12 @@ seeded command word = result_map_both command NoSeed (seed_of word)
 abbrev pub event_for : List ℕ → Result Event UsageFault
 event_for word = if bytes_eq word (codes "444") then Err No444 else ok_or (event_named word) Grammar
 
--- `one EVENT SEED`
-abbrev pub one_of : List (List ℕ) → Result Command UsageFault
-one_of (event ∷ seed ∷ []) = and_then (event_for event) (λ e. seeded (One e) seed)
-one_of words = Err Grammar
-
--- `net EVENT SEED`, of an event that has nets
-abbrev pub net_of : List (List ℕ) → Result Command UsageFault
-net_of (event ∷ seed ∷ []) =
-    and_then (event_for event) (λ e. if is_some (net_side_of e) then seeded (Net e) seed else Err Grammar)
-net_of words = Err Grammar
+-- `one EVENT SEED`, or `net EVENT SEED`, of an event that has nets
+abbrev pub single_of : Bool → List (List ℕ) → Result Command UsageFault
+single_of nets (event ∷ seed ∷ []) =
+    and_then (event_for event) (λ e.
+    if nets && not (is_some (net_side_of e)) then Err Grammar else seeded (if nets then Net e else One e) seed)
+single_of nets words = Err Grammar
 
 -- `tables EVENT`
 abbrev pub tables_of : List (List ℕ) → Result Command UsageFault
@@ -100,10 +96,10 @@ abbrev pub command_of : List (List ℕ) → Result Command UsageFault
 command_of [] = Err Grammar
 command_of (command ∷ words) =
     if bytes_eq command (codes "sheet") then and_then (ok_or (options_of all_options words) Grammar) sheet_of
-    else if bytes_eq command (codes "one") then one_of words
+    else if bytes_eq command (codes "one") then single_of false words
     else if bytes_eq command (codes "tables") then tables_of words
     else if bytes_eq command (codes "load") then load_of words
-    else if bytes_eq command (codes "net") then net_of words
+    else if bytes_eq command (codes "net") then single_of true words
     else if bytes_eq command (codes "check") then and_then (ok_or (options_of check_options words) Grammar) check_of
     else Err Grammar
 

@@ -7,7 +7,7 @@ ghost use Rattle.scr_command.specs.OptionTable.{option_row, all_options, check_o
 ghost use Rattle.scr_command.specs.OptionWords.{options_of};
 ghost use Rattle.scr_command.specs.Split.{found_values, fault_of_options};
 ghost use Rattle.scr_command.specs.Words.{texts};
-ghost use Rattle.scr_command.specs.Command.{command_of, sheet_of, check_of, one_of, net_of, tables_of, load_of, event_for, number_in};
+ghost use Rattle.scr_command.specs.Command.{command_of, sheet_of, check_of, single_of, tables_of, load_of, event_for, number_in};
 ghost use Rattle.scr_text.specs.Steps.{and_then};
 ghost use Rattle.scr_command.specs.Reading.{IsRefusal, IsOptionsRefusal, IsCommand};
 
@@ -94,56 +94,40 @@ pub fn read_command(alloc: Global, words: &[&str]) -> Result<Command, CommandFau
     match words {
         [] => Err(CommandFault::Usage(UsageFault::Grammar)),
         [command, words @ ..] if *command == "sheet" => read_sheet(alloc, words),
-        [command, words @ ..] if *command == "one" => Ok(read_one(words)?),
+        [command, words @ ..] if *command == "one" => Ok(read_single(words, false)?),
         [command, words @ ..] if *command == "tables" => Ok(read_tables(words)?),
         [command, words @ ..] if *command == "load" => Ok(read_load(words)?),
-        [command, words @ ..] if *command == "net" => Ok(read_net(words)?),
+        [command, words @ ..] if *command == "net" => Ok(read_single(words, true)?),
         [command, words @ ..] if *command == "check" => read_check(alloc, words),
         [..] => Err(CommandFault::Usage(UsageFault::Grammar)),
     }
 }
 
-/// Reads the words after `one`.
-fn read_one(words: &[&str]) -> Result<Command, UsageFault>
-    ensures answer { result ≡ one_of (texts words.now) }
+/// Reads the words after `one`, or after `net`, which takes an event that has nets.
+fn read_single(words: &[&str], nets: bool) -> Result<Command, UsageFault>
+    ensures answer { result ≡ single_of nets (texts words.now) }
     ensures command { IfOk result IsCommand }
 {
     match words {
-        [event, seed] => read_event_and_seed(event, seed),
+        [event, seed] => read_event_and_seed(event, seed, nets),
         _ => Err(UsageFault::Grammar),
     }
 }
 
-fn read_event_and_seed(event: &str, seed: &str) -> Result<Command, UsageFault>
-    ensures answer { result ≡ one_of (event.now ∷ seed.now ∷ []) }
+fn read_event_and_seed(event: &str, seed: &str, nets: bool) -> Result<Command, UsageFault>
+    ensures answer { result ≡ single_of nets (event.now ∷ seed.now ∷ []) }
     ensures command { IfOk result IsCommand }
 {
     let event = read_event(event)?;
-    let seed = read_seed(seed)?;
-    Ok(Command::One(event, seed))
-}
-
-/// Reads the words after `net`.
-fn read_net(words: &[&str]) -> Result<Command, UsageFault>
-    ensures answer { result ≡ net_of (texts words.now) }
-    ensures command { IfOk result IsCommand }
-{
-    match words {
-        [event, seed] => read_cube_and_seed(event, seed),
-        _ => Err(UsageFault::Grammar),
-    }
-}
-
-fn read_cube_and_seed(event: &str, seed: &str) -> Result<Command, UsageFault>
-    ensures answer { result ≡ net_of (event.now ∷ seed.now ∷ []) }
-    ensures command { IfOk result IsCommand }
-{
-    let event = read_event(event)?;
-    if event.net_side().is_none() {
+    if nets && event.net_side().is_none() {
         return Err(UsageFault::Grammar);
     }
     let seed = read_seed(seed)?;
-    Ok(Command::Net(event, seed))
+    Ok(if nets {
+        Command::Net(event, seed)
+    } else {
+        Command::One(event, seed)
+    })
 }
 
 /// Reads the words after `tables`.

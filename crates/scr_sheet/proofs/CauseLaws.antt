@@ -1,8 +1,9 @@
 -- What the statuses of refused words, of refused lists and of faults tell.
 use Rattle.std.proofs.Common.{◌≡◌, ◌⊎◌, ℕ, List, [], ◌∷◌, Ok, Err, inl, inr, refl, sym, subst}
-use Rattle.std.specs.Prelude.{◌≢◌, Result}
+use Rattle.std.specs.Prelude.{◌≢◌, None, Result}
 use Rattle.scr_outside.specs.Change.{Change}
 use Rattle.scr_outside.specs.Faults.{Rose}
+use Rattle.scr_notation.specs.Event.{net_side_of}
 use Rattle.scr_list.specs.declared.fault.ListFault.{ListFault}
 use Rattle.scr_list.specs.declared.fault.ListFault.TheVariants as list
 use Rattle.scr_list.specs.Reading.{ReadsNoList}
@@ -17,7 +18,7 @@ use Rattle.scr_sheet.specs.declared.fault.Fault.{Fault}
 use Rattle.scr_sheet.specs.declared.fault.Fault.TheVariants as fault
 use Rattle.scr_sheet.specs.declared.status.Status.{Status}
 use Rattle.scr_sheet.specs.declared.status.Status.TheVariants as status
-use Rattle.scr_sheet.specs.Sheet.{Part, settings_of, one_part, net_part, round_parts}
+use Rattle.scr_sheet.specs.Sheet.{Part, settings_of, round_parts, single_part}
 use Rattle.scr_sheet.specs.Causes.{fault_of_build}
 use Rattle.scr_sheet.specs.Check.{ReadsInput, rounds_in}
 use Rattle.scr_sheet.specs.Outcome.{EndsMaking, EndsTelling, Ends, IsRun, gaining}
@@ -82,13 +83,13 @@ telling-write settings parts sheet lines (Err why) out making told =
 words-usage : (asked : Result Command UsageFault) (source out : Change) (usage : UsageFault) → Ends asked source out (Err (fault.Usage usage))
     → asked ≡ Err usage
 words-usage (Err other) source out usage ends = let same = ends.1.0 in cc
-words-usage (Ok (One event seed)) source out usage ends = absurd (making-usage (settings_of seed usual_options) (one_part event ∷ []) out usage ends.1)
+words-usage (Ok (One event seed)) source out usage ends = absurd (making-usage (settings_of seed usual_options) (single_part event None ∷ []) out usage ends.1)
 words-usage (Ok (Sheet seed options)) source out usage (inl ends) = absurd (making-usage (settings_of seed options) (round_parts 0 ends.0) out usage ends.2)
 words-usage (Ok (Sheet seed options)) source out usage (inr refused) = let same = refused.2.0 in cc
 words-usage (Ok (Tables event)) source out usage (same, inl ends) = let other = ends.2.0 in cc
 words-usage (Ok (Tables event)) source out usage (same, inr lacks) = absurd (build-usage usage lacks.0.0 lacks.0.2)
 words-usage (Ok (Load number)) source out usage ends = absurd (telling-usage _ _ ends.1.sheet _ ends.1.made out usage ends.1.making ends.1.told)
-words-usage (Ok (Net event seed)) source out usage ends = absurd (making-usage (settings_of seed usual_options) (net_part event ∷ []) out usage ends.1)
+words-usage (Ok (Net event seed)) source out usage ends = absurd (making-usage (settings_of seed usual_options) (single_part event (net_side_of event) ∷ []) out usage ends.1)
 words-usage (Ok (Check seed attempts)) source out usage ends = absurd (check-usage _ source out usage ends)
 
 -- a list that is refused, or the list part of a sheet that is checked
@@ -98,7 +99,7 @@ IsListRefused source refusal = ReadsNoList source refusal ⊎ ReadsNoListPart so
 words-list : (asked : Result Command UsageFault) (source out : Change) (refusal : ListFault) → Ends asked source out (Err (fault.List refusal))
     → IsListRefused source refusal
 words-list (Err usage) source out refusal ends = let same = ends.1.0 in cc
-words-list (Ok (One event seed)) source out refusal ends = absurd (making-list (settings_of seed usual_options) (one_part event ∷ []) out refusal ends.1)
+words-list (Ok (One event seed)) source out refusal ends = absurd (making-list (settings_of seed usual_options) (single_part event None ∷ []) out refusal ends.1)
 words-list (Ok (Sheet seed options)) source out refusal (inl ends) = absurd (making-list (settings_of seed options) (round_parts 0 ends.0) out refusal ends.2)
 words-list (Ok (Sheet seed options)) source out refusal (inr refused) =
     let is = refused.2.0 in
@@ -106,19 +107,19 @@ words-list (Ok (Sheet seed options)) source out refusal (inr refused) =
 words-list (Ok (Tables event)) source out refusal (same, inl ends) = let other = ends.2.0 in cc
 words-list (Ok (Tables event)) source out refusal (same, inr lacks) = absurd (build-list refusal lacks.0.0 lacks.0.2)
 words-list (Ok (Load number)) source out refusal ends = absurd (telling-list _ _ ends.1.sheet _ ends.1.made out refusal ends.1.making ends.1.told)
-words-list (Ok (Net event seed)) source out refusal ends = absurd (making-list (settings_of seed usual_options) (net_part event ∷ []) out refusal ends.1)
+words-list (Ok (Net event seed)) source out refusal ends = absurd (making-list (settings_of seed usual_options) (single_part event (net_side_of event) ∷ []) out refusal ends.1)
 words-list (Ok (Check seed attempts)) source out refusal ends = inr (check-list _ source out refusal ends)
 
 words-write : (asked : Result Command UsageFault) (source out : Change) → Ends asked source out (Err fault.Write)
     → Rose out.faults_before out.faults_after
 words-write (Err usage) source out ends = let same = ends.1.0 in cc
-words-write (Ok (One event seed)) source out ends = making-write (settings_of seed usual_options) (one_part event ∷ []) out ends.1
+words-write (Ok (One event seed)) source out ends = making-write (settings_of seed usual_options) (single_part event None ∷ []) out ends.1
 words-write (Ok (Sheet seed options)) source out (inl ends) = making-write (settings_of seed options) (round_parts 0 ends.0) out ends.2
 words-write (Ok (Sheet seed options)) source out (inr refused) = let same = refused.2.0 in cc
 words-write (Ok (Tables event)) source out (same, inl ends) = ends.2.1.rose
 words-write (Ok (Tables event)) source out (same, inr lacks) = absurd (build-write lacks.0.0 lacks.0.2)
 words-write (Ok (Load number)) source out ends = telling-write _ _ ends.1.sheet _ ends.1.made out ends.1.making ends.1.told
-words-write (Ok (Net event seed)) source out ends = making-write (settings_of seed usual_options) (net_part event ∷ []) out ends.1
+words-write (Ok (Net event seed)) source out ends = making-write (settings_of seed usual_options) (single_part event (net_side_of event) ∷ []) out ends.1
 words-write (Ok (Check seed attempts)) source out ends = check-write _ source out ends
 
 -- ---- runs

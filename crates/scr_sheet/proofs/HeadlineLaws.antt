@@ -2,7 +2,7 @@
 use Rattle.std.proofs.Common.{◌≡◌, ◌∙◌, ℕ, ◌+◌, ◌⊎◌, Bool, true, false, cond, List, [], ◌∷◌, ◌++◌, length, Ok, Err, inl, inr, refl, sym, ap, subst, append-nil, append_assoc, arith, All}
 use Rattle.std.proofs.lemmas.List.{length-map}
 use Rattle.std.proofs.lemmas.List.Elements.{All-head, All-tail}
-use Rattle.std.specs.Prelude.{Result, Some, is_some, ok_or, codes}
+use Rattle.std.specs.Prelude.{Result, Option, Some, None, is_some, not, ok_or, codes}
 use Rattle.std.specs.Result.{result_map_both}
 use Rattle.scr_outside.specs.Change.{Change, Gains, Falters}
 use Rattle.scr_notation.specs.Written.{Written}
@@ -160,32 +160,32 @@ led-one settings part (first ∷ second ∷ led) rest text are fair =
     absurd none
 
 -- the one scramble of a part, and what is written of it
-record IsFairSingle (settings : Settings) (event : Event) (print : List Turn → List ℕ) (text : List ℕ) : Type 0 where
+record IsFairSingle (settings : Settings) (event : Event) (side : Option ℕ) (text : List ℕ) : Type 0 where
   turns : List Turn
   fair : AreFairScrambles (shown_of event) settings 0 0 (turns ∷ [])
-  is : text ≡ print turns
+  is : text ≡ line_of turns ++ shown_net side turns
 
-fair-single : (settings : Settings) (event : Event) (print : List Turn → List ℕ) (text : List ℕ)
-    → IsFairText settings (single_part event print) text → IsFairSingle settings event print text
-fair-single settings event print text it = of_scrambles it.scrambles it.each_slot it.fair it.is
+fair-single : (settings : Settings) (event : Event) (side : Option ℕ) (text : List ℕ)
+    → IsFairText settings (single_part event side) text → IsFairSingle settings event side text
+fair-single settings event side text it = of_scrambles it.scrambles it.each_slot it.fair it.is
   where
     of_scrambles : (scrambles : List (List Turn)) → length scrambles ≡ 1 → AreFairScrambles (shown_of event) settings 0 0 scrambles
-        → text ≡ (single_part event print).text scrambles → IsFairSingle settings event print text
+        → text ≡ (single_part event side).text scrambles → IsFairSingle settings event side text
     of_scrambles [] size fair is = absurd (omega (arith, size))
     of_scrambles (turns ∷ []) size fair is = record { turns = turns; fair = fair; is = is }
     of_scrambles (turns ∷ other ∷ others) size fair is = absurd (omega (arith, size))
 
 -- what a command of one scramble writes
-single-writes : (Is : Settings → List ℕ → Type 0) (settings : Settings) (event : Event) (print : List Turn → List ℕ) (out : Change)
-    (ended : Result (Unit {0}) Fault) → ((text : List ℕ) → IsFairSingle settings event print text → Is settings text)
-    → EndsMaking settings (single_part event print ∷ []) out ended → WritesOnly Is out
-single-writes Is settings event print out ended so making =
-    let led = fair-making settings (single_part event print ∷ []) out ended making in
-    let text = led-one settings (single_part event print) led.led led.rest led.text led.are led.fair in
+single-writes : (Is : Settings → List ℕ → Type 0) (settings : Settings) (event : Event) (side : Option ℕ) (out : Change)
+    (ended : Result (Unit {0}) Fault) → ((text : List ℕ) → IsFairSingle settings event side text → Is settings text)
+    → EndsMaking settings (single_part event side ∷ []) out ended → WritesOnly Is out
+single-writes Is settings event side out ended so making =
+    let led = fair-making settings (single_part event side ∷ []) out ended making in
+    let text = led-one settings (single_part event side) led.led led.rest led.text led.are led.fair in
     record {
       settings = settings;
       text = led.text;
-      such = elim text [ inl none ↦ inl none | inr it ↦ inr (so led.text (fair-single settings event print led.text it)) ];
+      such = elim text [ inl none ↦ inl none | inr it ↦ inr (so led.text (fair-single settings event side led.text it)) ];
       written = led.written;
     }
 
@@ -260,20 +260,17 @@ seeded-asked Is make makes word = by_seed (seed_of word)
 one-asked : (words : List (List ℕ)) → IsAsked IsOne (command_of (codes "one" ∷ words))
 one-asked [] = tt
 one-asked (event ∷ []) = tt
-one-asked (event ∷ seed ∷ []) =
-    and_then-asked IsOne (event_for event) (λ e. seeded (One e) seed) (λ e. seeded-asked IsOne (One e) (λ s. (e, s, refl)) seed)
+one-asked (event ∷ seed ∷ []) = and_then-asked IsOne (event_for event) _ (λ e. seeded-asked IsOne (One e) (λ s. (e, s, refl)) seed)
 one-asked (event ∷ seed ∷ more ∷ others) = tt
 
 net-asked : (words : List (List ℕ)) → IsAsked IsNet (command_of (codes "net" ∷ words))
 net-asked [] = tt
 net-asked (event ∷ []) = tt
-net-asked (event ∷ seed ∷ []) =
-    and_then-asked IsNet (event_for event) (λ e. cond (is_some (net_side_of e)) (seeded (Net e) seed) (Err Grammar))
-    (λ e. by_side e (is_some (net_side_of e)))
+net-asked (event ∷ seed ∷ []) = and_then-asked IsNet (event_for event) _ (λ e. by_side e (not (is_some (net_side_of e))))
   where
-    by_side : (e : Event) (has : Bool) → IsAsked IsNet (cond has (seeded (Net e) seed) (Err Grammar))
-    by_side e true = seeded-asked IsNet (Net e) (λ s. (e, s, refl)) seed
-    by_side e false = tt
+    by_side : (e : Event) (bare : Bool) → IsAsked IsNet (cond bare (Err Grammar) (seeded (Net e) seed))
+    by_side e true = tt
+    by_side e false = seeded-asked IsNet (Net e) (λ s. (e, s, refl)) seed
 net-asked (event ∷ seed ∷ more ∷ others) = tt
 
 sheet_of-asked : (values : Values) → IsAsked IsSheet (sheet_of values)
@@ -294,29 +291,29 @@ sheet-words-asked words = and_then-asked IsSheet (ok_or (options_of all_options 
 abbrev IsBelow : Settings → List ℕ → Type 0
 IsBelow settings text = (below : List ℕ) × IsFairLine below settings text
 
+-- the line of a scramble, and what is shown below it
+fair-line : (settings : Settings) (event : Event) (side : Option ℕ) (text : List ℕ) (it : IsFairSingle settings event side text)
+    → IsFairLine (shown_net side it.turns) settings text
+fair-line settings event side text it = record {
+  event = event;
+  turns = it.turns;
+  fair = it.fair;
+  is = it.is ∙ append_assoc (text_of it.turns) (codes "\n") (shown_net side it.turns);
+}
+
 one-writes : (source out : Change) (ended : Result (Unit {0}) Fault) (asked : Result Command UsageFault) → IsAsked IsOne asked
     → Ends asked source out ended → WritesOnly (IsFairLine []) out
 one-writes source out ended (Err usage) asks ends = nothing-written (IsFairLine []) out ends.1.1
 one-writes source out ended (Ok command) (event, seed, is) ends =
     let making = (subst (λ c. Ends (Ok c) source out ended) is ends).1 in
-    single-writes (IsFairLine []) _ event line_of out ended (λ text it. record { event = event; turns = it.turns; fair = it.fair; is = it.is }) making
+    single-writes (IsFairLine []) _ event None out ended (fair-line _ event None) making
 
 net-writes : (source out : Change) (ended : Result (Unit {0}) Fault) (asked : Result Command UsageFault) → IsAsked IsNet asked
     → Ends asked source out ended → WritesOnly IsBelow out
 net-writes source out ended (Err usage) asks ends = nothing-written IsBelow out ends.1.1
 net-writes source out ended (Ok command) (event, seed, is) ends =
     let making = (subst (λ c. Ends (Ok c) source out ended) is ends).1 in
-    let net : List Turn → List ℕ = shown_net (net_side_of event) in
-    single-writes IsBelow _ event (λ turns. line_of turns ++ net turns) out ended
-    (λ text it. (
-      net it.turns,
-      record {
-        event = event;
-        turns = it.turns;
-        fair = it.fair;
-        is = it.is ∙ append_assoc (text_of it.turns) (codes "\n") (net it.turns);
-      },
-    )) making
+    single-writes IsBelow _ event (net_side_of event) out ended (λ text it. (_, fair-line _ event (net_side_of event) text it)) making
 
 rounds-write : (settings : Settings) (rounds : List Round) → All IsRound rounds → (out : Change) (ended : Result (Unit {0}) Fault)
     → EndsMaking settings (round_parts 0 rounds) out ended → WritesOnly (AreFairRounds 0) out

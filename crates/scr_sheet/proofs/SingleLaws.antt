@@ -11,7 +11,7 @@ use Rattle.scr_slots.specs.declared.settings.Settings.{Settings}
 use Rattle.scr_slots.specs.Slots.{IsDrawnFairly, IsSlotScramble, HasNoScramble}
 use Rattle.scr_slots.specs.Events.{scrambling_of}
 use Rattle.scr_sheet.specs.declared.fault.Fault.TheVariants as fault
-use Rattle.scr_sheet.specs.Sheet.{Part, IsPartText, single_part}
+use Rattle.scr_sheet.specs.Sheet.{Part, IsPartText, single_part, line_of, shown_net}
 use Rattle.scr_sheet.specs.Outcome.{EndsMaking, IsUnwritten}
 use Rattle.scr_sheet.proofs.PartLaws.{first-stopped, first-broken, IsWhole-first}
 
@@ -19,10 +19,14 @@ use Rattle.scr_sheet.proofs.PartLaws.{first-stopped, first-broken, IsWhole-first
 abbrev Fair : Part → Type 0
 Fair part = IsDrawnFairly (scrambling_of part.event) part.least
 
-module _ {settings : Settings} {event : Event} (text : List Turn → List ℕ) (fair : IsDrawnFairly (scrambling_of event) 0) where
+-- what is written of turns
+abbrev single_text : Option ℕ → List Turn → List ℕ
+single_text side turns = line_of turns ++ shown_net side turns
+
+module _ {settings : Settings} {event : Event} (side : Option ℕ) (fair : IsDrawnFairly (scrambling_of event) 0) where
   -- what is written of one scramble
   written : (scramble : Written) → IsSlotScramble (scrambling_of event) settings 0 0 scramble
-      → IsPartText settings (single_part event text) (text scramble.turns)
+      → IsPartText settings (single_part event side) (single_text side scramble.turns)
   written scramble slot = record {
     scrambles = scramble ∷ [];
     all = record { each_slot = refl; each = (slot, tt) };
@@ -31,22 +35,22 @@ module _ {settings : Settings} {event : Event} (text : List Turn → List ℕ) (
 
   -- it was written whole
   pub single-done : {out : Change} (scramble : Written) → IsSlotScramble (scrambling_of event) settings 0 0 scramble
-      → Gains out (text scramble.turns) → EndsMaking settings (single_part event text ∷ []) out (Ok tt)
+      → Gains out (single_text side scramble.turns) → EndsMaking settings (single_part event side ∷ []) out (Ok tt)
   single-done scramble slot gains =
-      inl (All-cons Fair (single_part event text) [] fair (All-nil Fair), IsWhole-first (written scramble slot) gains)
+      inl (All-cons Fair (single_part event side) [] fair (All-nil Fair), IsWhole-first (written scramble slot) gains)
 
   -- it was written in part
   pub single-broken : {out : Change} (scramble : Written) → IsSlotScramble (scrambling_of event) settings 0 0 scramble
-      → Falters out (text scramble.turns) → EndsMaking settings (single_part event text ∷ []) out (Err fault.Write)
+      → Falters out (single_text side scramble.turns) → EndsMaking settings (single_part event side ∷ []) out (Err fault.Write)
   single-broken scramble slot falters =
-      inl (All-cons Fair (single_part event text) [] fair (All-nil Fair), first-broken (written scramble slot) falters)
+      inl (All-cons Fair (single_part event side) [] fair (All-nil Fair), first-broken (written scramble slot) falters)
 
   -- there is none
   pub single-limit : {out : Change} (words : ℕ) → HasNoScramble (scrambling_of event) settings 0 0 → words ≡ 3 * settings.attempts
-      → IsUnwritten out → EndsMaking settings (single_part event text ∷ []) out (Err (fault.DrawLimit 1 1 words))
+      → IsUnwritten out → EndsMaking settings (single_part event side ∷ []) out (Err (fault.DrawLimit 1 1 words))
   single-limit words none taken unwritten =
       inl (
-        All-cons Fair (single_part event text) [] fair (All-nil Fair),
+        All-cons Fair (single_part event side) [] fair (All-nil Fair),
         first-stopped 0 0 (record {
           first = record { below = omega arith; nothing = none; before = []; all_before = record { each_slot = refl; each = tt } };
           taken = taken;

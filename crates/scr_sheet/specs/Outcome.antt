@@ -1,8 +1,9 @@
 -- How a run may end.
-use Rattle.std.specs.Prelude.{◌≡◌, ◌<◌, ◌+◌, ◌*◌, ◌⊎◌, ℕ, List, [], ◌∷◌, ◌++◌, length, map, sum, sum_by, codes, All, Some, Result, Ok, Err}
+use Rattle.std.specs.Prelude.{◌≡◌, ◌<◌, ◌+◌, ◌*◌, ◌⊎◌, ℕ, List, [], ◌∷◌, ◌++◌, length, map, sum, sum_by, codes, All, Some, None, Result, Ok, Err}
 use Rattle.scr_outside.specs.Change.{Change, change_of, IsUnchanged, Gains, Falters}
 use Rattle.scr_list.specs.Reading.{ReadsList, ReadsNoList}
 use Rattle.scr_notation.specs.declared.event.Event.{Event}
+use Rattle.scr_notation.specs.Event.{net_side_of}
 use Rattle.scr_list.specs.declared.round.Round.{Round}
 use Rattle.scr_list.specs.declared.fault.ListFault.{ListFault}
 use Rattle.scr_list.specs.declared.fault.ListFault.TheVariants as list
@@ -19,7 +20,7 @@ use Rattle.scr_sheet.specs.declared.fault.Fault.{Fault}
 use Rattle.scr_sheet.specs.declared.fault.Fault.TheVariants as fault
 use Rattle.scr_sheet.specs.declared.status.Status.{Status}
 use Rattle.scr_sheet.specs.declared.status.Status.TheVariants as status
-use Rattle.scr_sheet.specs.Sheet.{settings_of, IsFirstWithout, Part, round_parts, one_part, net_part, IsPartText, IsText}
+use Rattle.scr_sheet.specs.Sheet.{settings_of, IsFirstWithout, Part, round_parts, single_part, IsPartText, IsText}
 use Rattle.scr_sheet.specs.Load.{load_seed, load_rounds, load_text}
 use Rattle.scr_table_text.specs.TableText.{IsTablesText}
 use Rattle.scr_sheet.specs.Message.{message_of}
@@ -105,7 +106,7 @@ pub record EndsLoad (number : ℕ) (out : Change) (ended : Result (Unit {0}) Fau
 -- writes; or the input is no round list, or could not be read. Where all agrees that `check` reads, it is said so.
 abbrev pub Ends : Result Command UsageFault → Change → Change → Result (Unit {0}) Fault → Type 0
 Ends (Ok (One event seed)) source out ended =
-    IsUnchanged source × EndsMaking (settings_of seed usual_options) (one_part event ∷ []) out ended
+    IsUnchanged source × EndsMaking (settings_of seed usual_options) (single_part event None ∷ []) out ended
 Ends (Ok (Sheet seed options)) source out ended =
     ((rounds : List Round) × ReadsList source (Ok rounds)
     × EndsMaking (settings_of seed options) (round_parts 0 rounds) out ended)
@@ -114,7 +115,7 @@ Ends (Ok (Tables event)) source out ended =
     IsUnchanged source × (EndsTables event out ended ⊎ (LacksTables (event ∷ []) ended × IsUnwritten out))
 Ends (Ok (Load number)) source out ended = IsUnchanged source × EndsLoad number out ended
 Ends (Ok (Net event seed)) source out ended =
-    IsUnchanged source × EndsMaking (settings_of seed usual_options) (net_part event ∷ []) out ended
+    IsUnchanged source × EndsMaking (settings_of seed usual_options) (single_part event (net_side_of event) ∷ []) out ended
 Ends (Ok (Check seed attempts)) source out ended =
     (answer : Result (Unit {0}) Fault) × EndsChecking (check_settings seed attempts) source answer
     × EndsTelling answer (codes "agrees\n") out ended
@@ -125,11 +126,9 @@ Ends (Err usage) source out ended = IsUnchanged source × Stops (fault.Usage usa
 -- what the words ask for, once they are read, takes memory: it needs the tables of its event, or makes rounds
 abbrev pub TakesMemory : Result Command UsageFault → Type 0
 TakesMemory (Ok (One event seed)) = HasTables event
-TakesMemory (Ok (Sheet seed options)) = Unit {0}
 TakesMemory (Ok (Tables event)) = HasTables event
-TakesMemory (Ok (Load number)) = Unit {0}
 TakesMemory (Ok (Net event seed)) = HasTables event
-TakesMemory (Ok (Check seed attempts)) = Unit {0}
+TakesMemory (Ok command) = Unit {0}
 TakesMemory (Err usage) = ⊥
 
 -- What a run on these words does before it tells how it ended; or memory was wanting before anything was read or

@@ -3,7 +3,6 @@ use Rattle.std.specs.Prelude.{◌≡◌, ℕ, ◌+◌, ◌<◌, List, [], ◌∷
 use Rattle.std.specs.Option.{option_map_or}
 use Rattle.scr_combinatorics.specs.Play.{play}
 use Rattle.scr_notation.specs.declared.event.Event.{Event}
-use Rattle.scr_notation.specs.Event.{net_side_of}
 use Rattle.scr_notation.specs.declared.turn.Turn.{Turn}
 use Rattle.scr_notation.specs.Spelling.{text_of}
 use Rattle.scr_notation.specs.Written.{Written}
@@ -49,32 +48,24 @@ abbrev pub round_parts : ℕ → List Round → List Part
 round_parts k [] = []
 round_parts k (round ∷ rounds) = round_part k round ∷ round_parts (k + 1) rounds
 
--- one scramble of an event, with no minimum, on stream 0, and what is written of its turns
-abbrev pub single_part : Event → (List Turn → List ℕ) → Part
-single_part event text = record {
-  event = event;
-  least = 0;
-  first_stream = 0;
-  slots = 1;
-  text = λ scrambles. text (slice_index_or scrambles 0 []);
-}
-
 -- the line of a scramble
 abbrev pub line_of : List Turn → List ℕ
 line_of turns = text_of turns ++ codes "\n"
 
--- the scramble alone
-abbrev pub one_part : Event → Part
-one_part event = single_part event line_of
-
--- the net of a solved cube with so many layers after turns
+-- what is shown below it: the net of a solved cube with so many layers after its turns, where one is
 abbrev pub shown_net : Option ℕ → List Turn → List ℕ
 shown_net None turns = []
 shown_net (Some side) turns = option_map_or (net_text side) (play (net_after side) (solved_net side) turns) []
 
--- the scramble and the net of the cube that it scrambles
-abbrev pub net_part : Event → Part
-net_part event = single_part event (λ turns. line_of turns ++ shown_net (net_side_of event) turns)
+-- one scramble of an event, with no minimum, on stream 0, and the net that is shown of a cube with so many layers
+abbrev pub single_part : Event → Option ℕ → Part
+single_part event side = record {
+  event = event;
+  least = 0;
+  first_stream = 0;
+  slots = 1;
+  text = λ scrambles. let turns = slice_index_or scrambles 0 [] in line_of turns ++ shown_net side turns;
+}
 
 -- it is so of what slots have, one after another, the first of them on this stream
 abbrev pub EachSlot : {X : Type 0} → (ℕ → X → Type 0) → ℕ → List X → Type 0

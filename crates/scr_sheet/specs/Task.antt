@@ -1,7 +1,8 @@
 -- What a command is to make and write, and which runs nothing hinders.
-use Rattle.std.specs.Prelude.{◌≡◌, ◌⊎◌, ℕ, Some, List, [], ◌∷◌, ◌++◌, Ok}
+use Rattle.std.specs.Prelude.{◌≡◌, ◌⊎◌, ℕ, Some, None, List, [], ◌∷◌, ◌++◌, Ok}
 use Rattle.scr_outside.specs.Change.{Change}
 use Rattle.scr_outside.specs.Faults.{Rose}
+use Rattle.scr_notation.specs.Event.{net_side_of}
 use Rattle.scr_list.specs.declared.round.Round.{Round}
 use Rattle.scr_list.specs.Rounds.{rounds_of}
 use Rattle.scr_command.specs.declared.command.Command.{Command}
@@ -10,7 +11,7 @@ use Rattle.scr_command.specs.Command.{usual_options, command_of}
 use Rattle.scr_slots.specs.declared.settings.Settings.{Settings}
 use Rattle.scr_sheet.specs.declared.status.Status.{Status}
 use Rattle.scr_sheet.specs.declared.status.Status.TheVariants as status
-use Rattle.scr_sheet.specs.Sheet.{settings_of, Part, round_parts, one_part, net_part, IsFirstWithout}
+use Rattle.scr_sheet.specs.Sheet.{settings_of, Part, round_parts, single_part, IsFirstWithout}
 use Rattle.scr_sheet.specs.Load.{load_seed, load_rounds}
 use Rattle.scr_sheet.specs.Check.{check_settings}
 use Rattle.scr_sheet.specs.Outcome.{IsRun}
@@ -19,14 +20,14 @@ use Rattle.scr_words.specs.declared.seed.Seed.{Seed}
 -- what a command makes, and writes or sums; only `sheet` asks what its source holds, `tables` makes no parts, and a check is
 -- no such task
 abbrev pub IsTask : Command → Change → Settings → List Part → Type 0
-IsTask (One event seed) source settings parts = (settings ≡ settings_of seed usual_options) × (parts ≡ one_part event ∷ [])
+IsTask (One event seed) source settings parts = (settings ≡ settings_of seed usual_options) × (parts ≡ single_part event None ∷ [])
 IsTask (Sheet seed options) source settings parts =
     (list : List ℕ) × (rounds : List Round) × (source.bytes_before ≡ Some list) × (rounds_of list ≡ Ok rounds)
     × (settings ≡ settings_of seed options) × (parts ≡ round_parts 0 rounds)
 IsTask (Tables event) source settings parts = parts ≡ []
 IsTask (Load number) source settings parts =
     (settings ≡ settings_of (load_seed number) usual_options) × (parts ≡ round_parts 0 (load_rounds number))
-IsTask (Net event seed) source settings parts = (settings ≡ settings_of seed usual_options) × (parts ≡ net_part event ∷ [])
+IsTask (Net event seed) source settings parts = (settings ≡ settings_of seed usual_options) × (parts ≡ single_part event (net_side_of event) ∷ [])
 IsTask (Check seed attempts) source settings parts = ⊥
 
 -- A run whose words are a command with this task; neither input nor output failed.

@@ -1,6 +1,6 @@
 //! What holds of sheets and of runs whatever the code: calls that do nothing, whose contracts are the laws.
 
-ghost use Rattle.std.specs.Prelude.{◌≡◌, ◌≢◌, ◌<◌, ◌⊎◌, ℕ, List, [], ◌∷◌, map, length, sum_by, All, IsTrue, IsSome, Some, Result, Ok, Err};
+ghost use Rattle.std.specs.Prelude.{◌≡◌, ◌≢◌, ◌<◌, ◌⊎◌, ℕ, List, [], ◌∷◌, map, length, sum_by, All, IsTrue, IsSome, Option, Some, Result, Ok, Err};
 ghost use Rattle.scr_outside.specs.Change.{Change, Falters};
 ghost use Rattle.scr_outside.specs.Faults.{Rose};
 ghost use Rattle.scr_combinatorics.specs.Play.{play};
@@ -27,7 +27,7 @@ ghost use Rattle.scr_sheet.specs.declared.status.Status.TheVariants.{Done, Usage
 ghost use Rattle.scr_sheet.specs.declared.status.Status.TheVariants as status;
 ghost use Rattle.scr_sheet.specs.Check.{InputComesTo, ReadsInput, rounds_in};
 ghost use Rattle.scr_sheet.specs.Outcome.{IsRun, IsUnwritten, TakesMemory, status_of};
-ghost use Rattle.scr_sheet.specs.Sheet.{Part, round_parts, one_part, IsPartText, IsText};
+ghost use Rattle.scr_sheet.specs.Sheet.{Part, round_parts, single_part, IsPartText, IsText};
 ghost use Rattle.scr_sheet.specs.Headline.{StandInOrder};
 ghost use Rattle.scr_sheet.specs.Load.{load_rounds};
 ghost use Rattle.scr_round.specs.Round.{slots_of};
@@ -36,12 +36,13 @@ ghost use Rattle.scr_sheet.specs.Task.{IsUnhindered, IsUnhinderedCheck, LacksScr
 use scr_list::laws as list_laws;
 use scr_slots::laws as slot_laws;
 
-/// A list has one sheet, and an event one line of `one`: made with the same settings, two are the same.
+/// A list has one sheet, and an event one line of `one`, and one of `net` with its net: made with the same settings, two are the same.
 pub fn one_sheet()
     ensures sheet { (settings : Settings) (rounds : List Round) (text other : List ℕ)
         → IsText (IsPartText settings) (round_parts 0 rounds) text → IsText (IsPartText settings) (round_parts 0 rounds) other → text ≡ other }
-    ensures line { (settings : Settings) (event : Event) (text other : List ℕ)
-        → IsText (IsPartText settings) (one_part event ∷ []) text → IsText (IsPartText settings) (one_part event ∷ []) other → text ≡ other }
+    ensures line { (settings : Settings) (event : Event) (side : Option ℕ) (text other : List ℕ)
+        → IsText (IsPartText settings) (single_part event side ∷ []) text
+        → IsText (IsPartText settings) (single_part event side ∷ []) other → text ≡ other }
 {
     slot_laws::one_answer();
 }

@@ -9,7 +9,7 @@ use crate::check::write_check;
 use crate::fault::Fault;
 use crate::load::write_load;
 use crate::parts::{write_event_tables, write_sheet};
-use crate::single::{write_one, write_scrambled_net};
+use crate::single::write_single;
 use crate::status::Status;
 use scr_command::{Command, read_command};
 use scr_outside::{Sink, Source, write_all};
@@ -80,13 +80,15 @@ fn perform<R: Threads + Sync, S: Source, O: Sink, G: Gate + Sync>(
         (change_of O.held O.faults out.old out.new) result }
 {
     match read_command(alloc, words)? {
-        Command::One(event, seed) => write_one(rt, alloc, event, &seed, out),
+        Command::One(event, seed) => write_single(rt, alloc, event, &seed, None, out),
         Command::Sheet(seed, options) => {
             write_sheet(rt, alloc, &seed, &options, source, out, gate)
         }
         Command::Tables(event) => write_event_tables(rt, alloc, event, out),
         Command::Load(number) => write_load(rt, alloc, number, out, gate),
-        Command::Net(event, seed) => write_scrambled_net(rt, alloc, event, &seed, out),
+        Command::Net(event, seed) => {
+            write_single(rt, alloc, event, &seed, event.net_side(), out)
+        }
         Command::Check(seed, attempts) => write_check(rt, alloc, &seed, attempts, source, out),
     }
 }

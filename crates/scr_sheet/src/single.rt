@@ -1,16 +1,14 @@
 //! The commands that write one scramble.
 
-ghost use Rattle.std.specs.Prelude.{◌≡◌, ◌++◌, ◌∷◌, [], ℕ, List, IfOk, IfErr, Err, Some};
+ghost use Rattle.std.specs.Prelude.{◌≡◌, ◌≤◌, ◌++◌, ◌∷◌, [], ℕ, Option, IfSome, IfOk, IfErr, Err, Some};
 ghost use Rattle.scr_outside.specs.Change.{Change, change_of, Writes};
-ghost use Rattle.scr_notation.specs.declared.turn.Turn.{Turn};
-ghost use Rattle.scr_notation.specs.Event.{net_side_of};
 ghost use Rattle.scr_command.specs.Command.{usual_options};
 ghost use Rattle.scr_net.specs.Nets.{IsSide};
 ghost use Rattle.scr_slots.specs.Events.{scrambling_of};
 ghost use Rattle.scr_slots.specs.Slots.{IsDrawnFairly, IsSlotScramble};
 ghost use Rattle.scr_slots.specs.Tables.{HasTables};
 ghost use Rattle.scr_sheet.specs.declared.fault.Fault.TheVariants.{NoMemory};
-ghost use Rattle.scr_sheet.specs.Sheet.{settings_of, single_part, one_part, net_part, line_of, shown_net};
+ghost use Rattle.scr_sheet.specs.Sheet.{settings_of, single_part, line_of, shown_net};
 ghost use Rattle.scr_sheet.specs.Outcome.{EndsMaking, IsUnwritten};
 
 use crate::fault::Fault;
@@ -24,37 +22,23 @@ use scr_words::Seed;
 use std::alloc::Global;
 use std::thread::Threads;
 
-/// Draws the state of stream 0 of a seed, of which no minimum is asked, and writes the line of its scramble.
-pub(crate) fn write_one<R: Threads + Sync, O: Sink>(
+/// Draws the state of stream 0 of a seed, of which no minimum is asked, and writes the line of its scramble, and below it the net
+/// that this makes of a cube with so many layers, where one is asked.
+pub(crate) fn write_single<R: Threads + Sync, O: Sink>(
     rt: &R,
     alloc: Global,
     event: Event,
     seed: &Seed,
+    side: Option<u8>,
     out: &mut O,
 ) -> Result<(), Fault>
-    ensures ends { EndsMaking (settings_of seed.now usual_options) (one_part event ∷ [])
+    requires side { IfSome side (λ side. (2 ≤ side) × (side ≤ 7)) }
+    ensures ends { EndsMaking (settings_of seed.now usual_options) (single_part event side ∷ [])
         (change_of O.held O.faults out.old out.new) result }
     ensures memory { result ≡ Err NoMemory → HasTables event }
 {
     let scramble = one_scramble(rt, alloc, event, seed)?;
-    write_line(out, "", print(&scramble).as_str())?;
-    Ok(())
-}
-
-/// Does so too, and writes the net of the cube that it scrambles.
-pub(crate) fn write_scrambled_net<R: Threads + Sync, O: Sink>(
-    rt: &R,
-    alloc: Global,
-    event: Event,
-    seed: &Seed,
-    out: &mut O,
-) -> Result<(), Fault>
-    ensures ends { EndsMaking (settings_of seed.now usual_options) (net_part event ∷ [])
-        (change_of O.held O.faults out.old out.new) result }
-    ensures memory { result ≡ Err NoMemory → HasTables event }
-{
-    let scramble = one_scramble(rt, alloc, event, seed)?;
-    write_with_net(event, &scramble, out)?;
+    write_with_net(side, &scramble, out)?;
     Ok(())
 }
 
@@ -67,8 +51,8 @@ fn one_scramble<R: Threads + Sync>(
 ) -> Result<Scramble, Fault>
     ensures fair { IfOk result (λ _. IsDrawnFairly (scrambling_of event) 0) }
     ensures scramble { IfOk result (IsSlotScramble (scrambling_of event) (settings_of seed.now usual_options) 0 0) }
-    ensures fault { IfErr result (λ fault. (text : List Turn → List ℕ) (out : Change) → IsUnwritten out
-        → EndsMaking (settings_of seed.now usual_options) (single_part event text ∷ []) out (Err fault)) }
+    ensures fault { IfErr result (λ fault. (side : Option ℕ) (out : Change) → IsUnwritten out
+        → EndsMaking (settings_of seed.now usual_options) (single_part event side ∷ []) out (Err fault)) }
     ensures memory { result ≡ Err NoMemory → HasTables event }
 {
     let tables = Tables::of_event(rt, alloc, event)?;
@@ -83,20 +67,22 @@ fn one_scramble<R: Threads + Sync>(
     }
 }
 
-/// Writes the line of a scramble of an event, and the net of its cube.
-fn write_with_net<O: Sink>(event: Event, scramble: &Scramble, out: &mut O) -> Result<(), Failed>
+/// Writes the line of a scramble, and the net of its cube.
+fn write_with_net<O: Sink>(side: Option<u8>, scramble: &Scramble, out: &mut O) -> Result<(), Failed>
+    requires { IfSome side (λ side. (2 ≤ side) × (side ≤ 7)) }
     ensures { Writes (change_of O.held O.faults out.old out.new)
-        (line_of scramble.now.turns ++ shown_net (net_side_of event) scramble.now.turns) result }
+        (line_of scramble.now.turns ++ shown_net side scramble.now.turns) result }
 {
     write_line(out, "", print(scramble).as_str())?;
-    write_net_of(event, scramble, out)
+    write_net_of(side, scramble, out)
 }
 
-/// Writes the net of the cube of an event after a scramble; nothing where the event has none.
-fn write_net_of<O: Sink>(event: Event, scramble: &Scramble, out: &mut O) -> Result<(), Failed>
-    ensures { Writes (change_of O.held O.faults out.old out.new) (shown_net (net_side_of event) scramble.now.turns) result }
+/// Writes the net of a cube with so many layers after a scramble; nothing where none is asked.
+fn write_net_of<O: Sink>(side: Option<u8>, scramble: &Scramble, out: &mut O) -> Result<(), Failed>
+    requires { IfSome side (λ side. (2 ≤ side) × (side ≤ 7)) }
+    ensures { Writes (change_of O.held O.faults out.old out.new) (shown_net side scramble.now.turns) result }
 {
-    match event.net_side() {
+    match side {
         None => Ok(()),
         Some(2) => write_net_after::<O, 2>(scramble, out),
         Some(3) => write_net_after::<O, 3>(scramble, out),

@@ -1,4 +1,4 @@
-use Rattle.std.proofs.Common.{◌≡◌, ℕ, List, inl, inr, refl}
+use Rattle.std.proofs.Common.{◌≡◌, ℕ, List, inl, inr, refl, sym}
 use Rattle.std.specs.Prelude.{Result, Ok, Err}
 use Rattle.scr_outside.specs.Change.{Change}
 use Rattle.scr_command.specs.declared.command.Command.{Command}
@@ -16,8 +16,8 @@ by_command asks is ends memory = record { ends = inl (rw (asks, is) ends); memor
 
 pub returns-in-One : goal.returns-in-One
 returns-in-One g c =
-    by_command c.in_ok-event.ensures.answer c.in-One.is (record { bytes = refl; faults = refl; ends = refl }, c.write_one.ensures.ends)
-    c.write_one.ensures.memory
+    by_command c.in_ok-event.ensures.answer c.in-One.is (record { bytes = refl; faults = refl; ends = refl }, c.write_single.ensures.ends)
+    c.write_single.ensures.memory
 
 pub returns-in-Sheet : goal.returns-in-Sheet
 returns-in-Sheet g c = by_command c.in_ok-event.ensures.answer c.in-Sheet.is c.write_sheet.ensures (λ wanting. tt)
@@ -29,8 +29,9 @@ returns-in-Tables g c =
 
 pub returns-in-Net : goal.returns-in-Net
 returns-in-Net g c =
-    by_command c.in_ok-event.ensures.answer c.in-Net.is (record { bytes = refl; faults = refl; ends = refl }, c.write_scrambled_net.ensures.ends)
-    c.write_scrambled_net.ensures.memory
+    by_command c.in_ok-event.ensures.answer c.in-Net.is
+    (record { bytes = refl; faults = refl; ends = refl }, rw (sym c.net_side.ensures.value) c.write_single-in-Net.ensures.ends)
+    c.write_single-in-Net.ensures.memory
 
 pub returns-in-Load : goal.returns-in-Load
 returns-in-Load g c =
