@@ -24,7 +24,7 @@ use Rattle.scr_cube.specs.Cube333.{CubeState, IsCube, CubeTurn, cube_action, cub
 use Rattle.scr_cube.proofs.Laws333.{lawful_cube}
 use Rattle.scr_stages.specs.Stages.{IsHalfTurned, half_turns, after_of}
 use Rattle.scr_stages.specs.Numbers.{IsDominoCube, first_edges, tetrads_number, IsHalfCube, half_cubes}
-use Rattle.scr_stages.specs.Spaces.{halves_space}
+use Rattle.scr_stages.specs.SearchTables.{halves_table}
 use Rattle.scr_stages.specs.Tables.{turns_of, halves_coordinate}
 use Rattle.scr_stages.specs.Tetrads.{corner_index, corners_at}
 use Rattle.scr_positions.proofs.IndexLaws.{Follows-numbered, StaysBelow-numbered}
@@ -93,7 +93,7 @@ no_seventh c place le =
     after_of-is half_turns c place
     ∙ ap (option_and_then (λ t. (after_letter cube_powers) c (face_turn_at t))) (slice_get_past half_turns place le)
 
-pub Follows-halves : Follows halves_space (positions halves_coordinate) half_cubes.number_of
+pub Follows-halves : Follows halves_table.space (positions halves_coordinate) half_cubes.number_of
 Follows-halves =
     Follows-numbered half_cubes half_cubes-numbered.one_to_one 6 (after_of half_turns) solved_cube IsHalfCube-solved IsHalfCube-after no_seventh
 
@@ -139,7 +139,7 @@ IsHalfTurned-half_cube table m c h =
     let number = half_cubes.number_of c in
     let found = first_word halves_coordinate StaysBelow-halves table m number (half_cubes-numbered.one_to_one.below c h) in
     let leads =
-    ((FindsTheSame-follows halves_space (positions halves_coordinate) half_cubes.number_of Follows-halves).words c
+    ((FindsTheSame-follows halves_table.space (positions halves_coordinate) half_cubes.number_of Follows-halves).words c
     found.0 h).1 found.1.leads in (
       reverse found.0,
       play-reversed (after_of half_turns) IsHalfCube IsHalfCube-after (λ s r t k e. undone s r t k.cube e) c solved_cube found.0 h (leads.played ∙ ap Some leads.goal),
