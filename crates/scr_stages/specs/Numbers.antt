@@ -54,8 +54,7 @@ tetrads_number c =
 -- ---- dominoes with the number of solved
 
 pub record IsHalfCube (c : CubeState) : Type 0 where
-  pub cube : IsCube c
-  pub domino : IsDomino c
+  pub domino : IsDominoCube c
   pub index : tetrads_number c ≡ tetrads_number solved_cube
 
 -- How many lists of middle edges of one parity, of second edges, of first edges, and of corners there are.
