@@ -12,9 +12,12 @@ use Rattle.scr_notation.specs.declared.turn.Turn.{Turn}
 use Rattle.scr_notation.specs.declared.turn.Turn.TheVariants.{Pins, Over}
 use Rattle.scr_notation.specs.Pins.{pin_sets, is_clock_turn}
 use Rattle.scr_clock.specs.Dials.{IsClock, DialTurn, is_turn, dials_turned, solved, dials_after, dial_turn}
-use Rattle.scr_clock.specs.Held.{HeldClock, held_after, clock_after, held_clock}
+use Rattle.scr_clock.specs.Held.{HeldClock, held_after, clock_after}
 use Rattle.scr_clock.specs.Written.{pins_at, written}
 use Rattle.scr_clock.proofs.TurnLaws.{dials_after-turn}
+
+abbrev pub held_clock : List ℕ → Bool → HeldClock
+held_clock dials back = record { dials = dials; back = back }
 
 -- ---- written turns are turns of the dials
 

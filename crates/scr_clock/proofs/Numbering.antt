@@ -6,7 +6,7 @@ use Rattle.scr_combinatorics.specs.Digits.{AreDigits}
 use Rattle.scr_combinatorics.proofs.Digits.{AreDigits-replicate}
 use Rattle.scr_combinatorics.proofs.Numberings.{GivesState, HasDigits, numbering_by_digits}
 use Rattle.scr_clock.specs.Dials.{IsClock}
-use Rattle.scr_clock.specs.Numbers.{dials_of, number_of, clock_numbered}
+use Rattle.scr_clock.specs.Numbers.{clock_numbered}
 
 -- a Clock's digits are its dials
 dials_given : (dials : List ℕ) → AreDigits (replicate 14 12) dials → GivesState (replicate 14 12) (λ ds. ds) (λ ds. ds) IsClock dials
@@ -18,5 +18,4 @@ dials_had : (dials : List ℕ) → IsClock dials → HasDigits (replicate 14 12)
 dials_had dials c = record { below = (AreDigits-replicate 14 12 dials).1 (c.fourteen, c.below); again = refl }
 
 pub clock_numbering : IsNumbering clock_numbered
-unfolding dials_of number_of
 clock_numbering = numbering_by_digits (replicate 14 12) (λ ds. ds) (λ ds. ds) IsClock (lit≤ tt) (lit≤ tt) dials_given dials_had

@@ -5,11 +5,11 @@ use Rattle.scr_combinatorics.specs.Reach.{IsReached}
 use Rattle.scr_combinatorics.proofs.PlayLaws.{IsReached-keeps}
 use Rattle.scr_clock.specs.Dials.{IsClock, solved, clock_puzzle}
 use Rattle.scr_notation.specs.declared.turn.Turn.{Turn}
-use Rattle.scr_clock.specs.Held.{HeldClock, held_clock, clock_after}
+use Rattle.scr_clock.specs.Held.{HeldClock, clock_after}
 use Rattle.scr_clock.specs.Written.{written}
 use Rattle.scr_clock.proofs.TurnLaws.{IsClock-turned, dials_after-parts}
 use Rattle.scr_clock.proofs.DialTurns.{IsClock-solved}
-use Rattle.scr_clock.proofs.HeldLaws.{dial_word}
+use Rattle.scr_clock.proofs.HeldLaws.{held_clock, dial_word}
 use Rattle.scr_clock.proofs.AmountLaws.{amounts_of, amounts_of-give}
 
 option_map-some : {A B : Type 0} (f : A → B) (o : Option A) (b : B) → option_map f o ≡ Some b → (a : A) × (o ≡ Some a) × (f a ≡ b)

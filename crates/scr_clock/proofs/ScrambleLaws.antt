@@ -20,10 +20,10 @@ use Rattle.scr_notation.specs.declared.turn.Turn.TheVariants.{Pins, Over}
 use Rattle.scr_notation.specs.Turns.{has_turn, permits}
 use Rattle.scr_notation.specs.Pins.{pin_sets, is_clock_turn}
 use Rattle.scr_notation.specs.Written.{Written}
-use Rattle.scr_clock.specs.Held.{HeldClock, held_after, clock_after, held_clock}
+use Rattle.scr_clock.specs.Held.{HeldClock, held_after, clock_after}
 use Rattle.scr_clock.specs.Dials.{IsClock}
 use Rattle.scr_clock.specs.Written.{pins_at, written}
-use Rattle.scr_clock.proofs.HeldLaws.{after_pins, after_over}
+use Rattle.scr_clock.proofs.HeldLaws.{held_clock, after_pins, after_over}
 
 -- turns of pins are a Clock's
 pub pins_of_clock : (kind : Kind) (t : Turn) (p a : ℕ) → t ≡ Pins p a → IsTrue (has_turn kind t) → IsTrue (is_clock_turn (Pins p a))

@@ -12,9 +12,6 @@ pub record HeldClock : Type 0 where
   pub dials : List ℕ
   pub back : Bool
 
-abbrev pub held_clock : List ℕ → Bool → HeldClock
-held_clock dials back = record { dials = dials; back = back }
-
 -- What a written turn makes of a held Clock: pins turn the side that faces the scrambler, and `y2` turns the Clock over.
 -- It is none where the turn is none of a Clock's.
 unfoldable pub held_after : HeldClock → Turn → Option HeldClock
@@ -27,4 +24,4 @@ held_after held _ = None
 
 -- What written turns make of a Clock whose front faces the scrambler at first.
 abbrev pub clock_after : List ℕ → List Turn → Option (List ℕ)
-clock_after dials turns = option_map (λ held. held.dials) (play held_after (held_clock dials false) turns)
+clock_after dials turns = option_map (λ held. held.dials) (play held_after (record { dials = dials; back = false }) turns)

@@ -3,14 +3,14 @@ use Rattle.std.specs.Prelude.{◌≡◌, ℕ, ◌-◌, ◌%◌, ◌==◌, if◌t
 use Rattle.scr_combinatorics.specs.Lists.{pick}
 use Rattle.scr_notation.specs.Spelling.{text_of}
 use Rattle.scr_clock.specs.Dials.{solved}
-use Rattle.scr_clock.specs.Numbers.{dials_of, number_of}
+use Rattle.scr_clock.specs.Numbers.{clock_numbered}
 use Rattle.scr_clock.specs.Held.{clock_after}
 use Rattle.scr_clock.specs.Written.{written}
 
 -- A number, the dials that it stands for, the amounts of the scramble that leads to them, and its text.
 pub record IsKnownClock (number : ℕ) (dials amounts text : List ℕ) : Type 0 where
-  pub dials_are : dials_of number ≡ dials
-  pub number_is : number_of dials ≡ number
+  pub dials_are : clock_numbered.state_at number ≡ dials
+  pub number_is : clock_numbered.number_of dials ≡ number
   pub gives : clock_after solved (written amounts) ≡ Some dials
   pub printed : text_of (written amounts) ≡ text
 

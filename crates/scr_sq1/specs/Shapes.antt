@@ -8,15 +8,12 @@ use Rattle.scr_combinatorics.specs.Permutations.{place_of}
 use Rattle.scr_sq1.specs.Units.{is_corner}
 
 -- What fills a half, clockwise: c is a corner, which fills two of its six units, and e an edge, which fills one. There is no
--- other way to fill a half, and these are the numbers of the halves.
-abbrev pub half_texts : List (List ℕ)
-half_texts =
-    codes "eeeeee" ∷ codes "ceeee" ∷ codes "eceee" ∷ codes "eecee" ∷ codes "eeece" ∷ codes "eeeec" ∷ codes "ccee"
-    ∷ codes "cece" ∷ codes "ceec" ∷ codes "ecce" ∷ codes "ecec" ∷ codes "eecc" ∷ codes "ccc" ∷ []
-
--- the same, as which of its pieces are corners
+-- other way to fill a half, and these are the numbers of the halves. Each is told by which of its pieces are corners.
 unfoldable pub half_words : List (List Bool)
-half_words = map (map (λ letter. letter == 99)) half_texts
+half_words =
+    map (map (λ letter. letter == 99))
+    (codes "eeeeee" ∷ codes "ceeee" ∷ codes "eceee" ∷ codes "eecee" ∷ codes "eeece" ∷ codes "eeeec" ∷ codes "ccee"
+    ∷ codes "cece" ∷ codes "ceec" ∷ codes "ecce" ∷ codes "ecec" ∷ codes "eecc" ∷ codes "ccc" ∷ [])
 
 -- the pieces of a half
 unfoldable pub half_word : ℕ → List Bool

@@ -19,7 +19,8 @@ use Rattle.scr_sq1.proofs.Lawful.{IsSq1-solved}
 use Rattle.scr_combinatorics.proofs.OneLetter.{IsEnding}
 use Rattle.scr_sq1solve.specs.Stages.{oddness, turn_word, quarter_word, mates, pairing_of, home_letter, home_stage, last_stage}
 use Rattle.scr_sq1solve.specs.Tables.{shapes_index, units_after, carried_pairing, pairs_number, bits_number, paired_at, last_bit, square_index, square_state, square_coordinate}
-use Rattle.scr_sq1solve.specs.Spaces.{IsPairedSq1, square_space}
+use Rattle.scr_sq1solve.specs.Spaces.{IsPairedSq1}
+use Rattle.scr_sq1solve.specs.SearchTables.{square_table}
 use Rattle.scr_sq1solve.proofs.Renamed.{named, renamed}
 use Rattle.scr_sq1solve.proofs.Bases.{names_of}
 use Rattle.scr_sq1solve.proofs.Indexed.{IsIndex, Follows-index, StaysBelow-index}
@@ -224,7 +225,7 @@ IsIndex-square = record {
   );
 }
 
-pub Follows-square : Follows square_space (positions square_coordinate) square_index
+pub Follows-square : Follows square_table.space (positions square_coordinate) square_index
 Follows-square = Follows-index IsIndex-square
 
 pub StaysBelow-square : StaysBelow square_coordinate

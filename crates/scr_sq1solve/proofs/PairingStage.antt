@@ -26,7 +26,8 @@ use Rattle.scr_sq1.proofs.StatePieces.{StatePieces-valid}
 use Rattle.scr_sq1solve.specs.Stages.{mates, pairing_of, pairing_letter, oddness, turn_word}
 use Rattle.scr_sq1solve.specs.Tables.{shapes_index, units_after, letters_by, carried_pairing, pairings_index}
 use Rattle.scr_sq1solve.specs.Tables.{pairings_view, pairings_coordinate}
-use Rattle.scr_sq1solve.specs.Spaces.{IsNormalSq1, pairings_space}
+use Rattle.scr_sq1solve.specs.Spaces.{IsNormalSq1}
+use Rattle.scr_sq1solve.specs.SearchTables.{pairings_table}
 use Rattle.scr_sq1solve.specs.Placed.{are_normal}
 use Rattle.scr_sq1solve.proofs.NormalLetters.{IsMovedBy, IsMovedBy-normal, IsMovedBy-is}
 use Rattle.scr_sq1solve.proofs.NormalLetters.{corners-permutation, edges-permutation, slice_get-each}
@@ -108,7 +109,7 @@ module _ (pieces_of : List ℕ → List ℕ) (permutation : (s : Sq1State) → I
 
 -- ---- corners and edges side by side
 
-pub Follows-pairings : Follows pairings_space (positions pairings_coordinate) pairings_index
+pub Follows-pairings : Follows pairings_table.space (positions pairings_coordinate) pairings_index
 Follows-pairings =
     let letter = pairing_letter in
     let tested = pairing_letters_normal in

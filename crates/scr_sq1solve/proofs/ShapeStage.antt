@@ -20,7 +20,8 @@ use Rattle.scr_sq1solve.specs.Tables.{shapes_index, shapes_state, pieces_of_pari
 use Rattle.scr_sq1solve.proofs.Renamed.{Names, AreNames, renamed}
 use Rattle.scr_sq1solve.proofs.Bases.{in_order, base_of, names_of, AreNames-valid, LaidState-base, shape_of-named}
 use Rattle.scr_sq1solve.proofs.Bases.{play-base, keeps_sq1, oddness-lt, oddness-renamed}
-use Rattle.scr_sq1solve.specs.Spaces.{IsNormalSq1, shapes_space}
+use Rattle.scr_sq1solve.specs.Spaces.{IsNormalSq1}
+use Rattle.scr_sq1solve.specs.SearchTables.{shapes_table}
 use Rattle.scr_sq1solve.proofs.Indexed.{IsIndex, Follows-index, StaysBelow-index}
 
 -- ---- the index of states of one shape
@@ -162,7 +163,7 @@ IsIndex-shapes = record {
   ended = λ s r n v lt e. IsNormal-iff r (keeps_sq1 s r (squaring_letter n) v e);
 }
 
-pub Follows-shapes : Follows shapes_space (positions shapes_coordinate) shapes_index
+pub Follows-shapes : Follows shapes_table.space (positions shapes_coordinate) shapes_index
 Follows-shapes = Follows-index IsIndex-shapes
 
 pub StaysBelow-shapes : StaysBelow shapes_coordinate

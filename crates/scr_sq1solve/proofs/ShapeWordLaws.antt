@@ -11,7 +11,7 @@ use Rattle.scr_combinatorics.proofs.StageLaws.{All-letters}
 use Rattle.scr_positions.specs.SearchSpaces.{positions}
 use Rattle.scr_positions.proofs.SearchLaws.{FindsTheSame-follows}
 use Rattle.scr_sq1.specs.Units.{Sq1State, IsSq1, sq1_after}
-use Rattle.scr_sq1solve.specs.Spaces.{shapes_space}
+use Rattle.scr_sq1solve.specs.SearchTables.{shapes_table}
 use Rattle.scr_sq1solve.specs.Stages.{shape_letter, shape_stage}
 use Rattle.scr_sq1solve.specs.Tables.{shapes_coordinate, shapes_index, shapes_line}
 use Rattle.scr_sq1solve.specs.Totals.{is_shape_word, shape_words}
@@ -41,7 +41,7 @@ module _ (s : Sq1State) (valid : IsSq1 s) where
   leads-shape_word : (word : List ℕ) → leads_to_goal shapes_coordinate (shapes_index s) word ≡ is_shape_word s word
   leads-shape_word word =
       let i = shapes_index s in
-      let finds = (FindsTheSame-follows shapes_space (positions shapes_coordinate) shapes_index Follows-shapes).words s word valid in
+      let finds = (FindsTheSame-follows shapes_table.space (positions shapes_coordinate) shapes_index Follows-shapes).words s word valid in
       let tells = IsShapeWord-iff s word in
       same_test (leads_to_goal shapes_coordinate i word) (is_shape_word s word)
       (λ leads. tells.1 (finds.1 (LeadsTo-test shapes_coordinate i word leads)))

@@ -20,7 +20,7 @@ use Rattle.scr_table.proofs.LineLaws.{table_of_line}
 use Rattle.scr_table.proofs.StageLaws.{end_valid, stage_word}
 use Rattle.scr_sq1.specs.Units.{Sq1State, IsSq1, solved_sq1, sq1_after, sq1_puzzle}
 use Rattle.scr_sq1.proofs.Lawful.{IsSq1-reached, sq1_taken_back, sq1_kept_by_tidy}
-use Rattle.scr_sq1solve.specs.Stages.{HasSolvedLayers, shape_stage, squaring_stage, pairing_stage, home_stage, last_stage, layer_stages}
+use Rattle.scr_sq1solve.specs.Stages.{shape_stage, squaring_stage, pairing_stage, home_stage, last_stage, layer_stages}
 use Rattle.scr_sq1solve.specs.Stages.{equator_word, equator_stage, sq1_stages, IsScrambleSq1}
 use Rattle.scr_sq1solve.specs.Tables.{shapes_line, pairings_line, square_line, sq1_lines, shapes_index, pairings_index, square_index}
 use Rattle.scr_sq1solve.specs.Spaces.{IsNormalSq1, IsPairedSq1}
@@ -35,7 +35,7 @@ use Rattle.scr_sq1solve.proofs.Flipped.{play-flipped, layers-flipped}
 
 -- that of the layers to where they are solved
 pub layers-end : (s : Sq1State) (w : List Turn) → IsSolution sq1_after layer_stages s w
-    → (home : Sq1State) × (play sq1_after s w ≡ Some home) × HasSolvedLayers home
+    → (home : Sq1State) × (play sq1_after s w ≡ Some home) × last_stage.IsGoal home
 unfolding last_goal
 layers-end s w a =
     let leads = Leads-solution sq1_after layer_stages (λ r. Unit {0}) s w tt a in
@@ -52,7 +52,7 @@ play-solution s w a =
 
 -- ---- the solution of the layers, and before it the word that turns the equator, where that would stand turned
 
-module _ (s : Sq1State) (valid : IsSq1 s) (w : List Turn) (home : Sq1State) (played : play sq1_after s w ≡ Some home) (solved : HasSolvedLayers home) where
+module _ (s : Sq1State) (valid : IsSq1 s) (w : List Turn) (home : Sq1State) (played : play sq1_after s w ≡ Some home) (solved : last_stage.IsGoal home) where
   -- where the layers are solved, the equator tells the state
   is_home : (b : Bool) → home.equator ≡ b → home ≡ record { units = solved_sq1.units; equator = b }
   is_home b is =

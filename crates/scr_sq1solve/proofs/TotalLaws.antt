@@ -21,7 +21,7 @@ use Rattle.scr_sq1.specs.Units.{Sq1State, IsSq1, solved_sq1, sq1_after}
 use Rattle.scr_sq1.specs.Shapes.{shape_of}
 use Rattle.scr_sq1.proofs.Lawful.{sq1_taken_back, sq1_kept_by_tidy}
 use Rattle.scr_sq1solve.specs.Stages.{IsNormal, oddness, squaring_letter, squaring_stage, shape_letter, shape_stage, later_stages, layer_stages}
-use Rattle.scr_sq1solve.specs.Stages.{HasSolvedLayers, equator_word, equator_stage, sq1_stages, IsScrambleSq1}
+use Rattle.scr_sq1solve.specs.Stages.{last_stage, equator_word, equator_stage, sq1_stages, IsScrambleSq1}
 use Rattle.scr_sq1solve.specs.Totals.{is_normal, is_squared, is_shape_word, equator_part, IsTotal}
 use Rattle.scr_sq1solve.proofs.Equator.{flipped, play-equator}
 use Rattle.scr_sq1solve.proofs.EndingTests.{TellsLetters, word-tested, tested-word}
@@ -115,7 +115,7 @@ equator_part-led s home layers led = ap (λ o. let e : List Turn = cond (option_
 
 module _ (s : Sq1State) (word : List ℕ) (total : List Turn) (valid : IsSq1 s) (h : IsTotal s word total) where
   -- where they lead
-  layers-led : (home : Sq1State) × (play sq1_after s (spelled shape_letter word ++ h.later) ≡ Some home) × HasSolvedLayers home
+  layers-led : (home : Sq1State) × (play sq1_after s (spelled shape_letter word ++ h.later) ≡ Some home) × last_stage.IsGoal home
   unfolding last_goal
   layers-led =
       let leads = Leads-solution sq1_after later_stages (λ r. Unit {0}) h.end h.later tt h.solved in

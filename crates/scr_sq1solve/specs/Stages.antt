@@ -100,13 +100,9 @@ corner_word =
 unfoldable pub home_letter : ℕ → List Turn
 home_letter n = quarter_word (n % 16) ++ (if nat_lt n 16 then edge_word else corner_word)
 
--- The layers are those of the solved state, and the equator may stand turned.
-abbrev pub HasSolvedLayers : Sq1State → Type 0
-HasSolvedLayers s = s.units ≡ solved_sq1.units
-
--- One of the sixteen turns by quarters brings the layers home; the first of them is none.
+-- One of the sixteen turns by quarters brings the layers home, and the equator may stand turned; the first of them is none.
 abbrev pub last_stage : Stage Sq1State Turn
-last_stage = record { letters = 16; letter = quarter_word; IsGoal = HasSolvedLayers; bound = 1 }
+last_stage = record { letters = 16; letter = quarter_word; IsGoal = λ s. s.units ≡ solved_sq1.units; bound = 1 }
 
 -- Exchanges lead to a state in which one of the sixteen does that.
 abbrev pub home_stage : Stage Sq1State Turn

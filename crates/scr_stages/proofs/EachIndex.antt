@@ -22,7 +22,7 @@ use Rattle.scr_coord.proofs.MarkedSteps.{marked-append}
 use Rattle.scr_cube.specs.Cube333.{CubeState, IsCube}
 use Rattle.scr_stages.specs.Stages.{middle_edges}
 use Rattle.scr_stages.specs.Numbers.{IsDominoCube, first_edges, flips_number, slice_number, tetrads_number, half_cubes}
-use Rattle.scr_stages.specs.Spaces.{flips_space, slice_space, tetrads_space, halves_space}
+use Rattle.scr_stages.specs.SearchTables.{flips_table, slice_table, tetrads_table, halves_table}
 use Rattle.scr_stages.specs.Tables.{outer_places, flips_line, slice_line, tetrads_line, halves_line}
 use Rattle.scr_stages.specs.Tetrads.{arranged, in_block, shared_axis, axes_of, relation_number, relation_of, corner_index, corner_across, second_with, other_places, corners_related, corners_at}
 use Rattle.scr_stages.proofs.Blocks.{occurrences-append, pick-append, places_in}
@@ -121,17 +121,17 @@ each_parts f t m lf lt lm =
     )
 
 pub each-flips : (i : ℕ) → i < flips_line.coordinate.count
-    → (c : CubeState) × flips_space.IsValid c × (flips_number c ≡ i)
+    → (c : CubeState) × flips_table.space.IsValid c × (flips_number c ≡ i)
 each-flips i lt = let c = each_parts i 0 0 lt (lit< tt) (lit< tt) in (c.0, c.1, c.2)
 
 pub each-slice : (i : ℕ) → i < slice_line.coordinate.count
-    → (c : CubeState) × slice_space.IsValid c × (slice_number c ≡ i)
+    → (c : CubeState) × slice_table.space.IsValid c × (slice_number c ≡ i)
 each-slice =
     each_pair IsCube (λ c. twists_number 3 c.corners.digits) (λ c. set_of 12 middle_edges c.edges.pieces) 2187 495
     (λ t m lt lm. let c = each_parts 0 t m (lit< tt) lt lm in (c.0, c.1, c.3, c.4))
 
 pub each-halves : (i : ℕ) → i < halves_line.coordinate.count
-    → (c : CubeState) × halves_space.IsValid c × (half_cubes.number_of c ≡ i)
+    → (c : CubeState) × halves_table.space.IsValid c × (half_cubes.number_of c ≡ i)
 each-halves i lt =
     let one = half_cubes-numbered.one_to_one in
     (half_cubes.state_at i, one.valid i lt, one.number_again i lt)
@@ -252,7 +252,7 @@ pub mended : (xs : List ℕ) (a b : ℕ) → a ≡ (parity xs + b) % 2 → parit
 mended xs a b e = omega (arith, e, mod_below (inversions xs) 2 (lit< tt))
 
 pub each-tetrads : (i : ℕ) → i < tetrads_line.coordinate.count
-    → (c : CubeState) × tetrads_space.IsValid c × (tetrads_number c ≡ i)
+    → (c : CubeState) × tetrads_table.space.IsValid c × (tetrads_number c ≡ i)
 each-tetrads =
     each_pair IsDominoCube (λ c. set_of 8 first_edges c.edges.pieces) (λ c. corner_index c.corners.pieces) 70 420
     (λ number index ln li.

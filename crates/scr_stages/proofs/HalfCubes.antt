@@ -140,11 +140,8 @@ module _ (c : CubeState) (d : IsDominoCube c) (home : IsTetradsHome c) where
 
 -- ---- a half cube, and its digits
 
-pub IsDominoCube-half : (c : CubeState) → IsHalfCube c → IsDominoCube c
-IsDominoCube-half c h = record { cube = h.cube; domino = h.domino }
-
 pub IsTetradsHome-half : (c : CubeState) → IsHalfCube c → IsTetradsHome c
-IsTetradsHome-half c h = (IsTetradsHome-iff c (IsDominoCube-half c h)).0 h.index
+IsTetradsHome-half c h = (IsTetradsHome-iff c h.domino).0 h.index
 
 pub number-lt : (xs : List ℕ) → IsPermutation 4 xs → permutation_number xs < 24
 number-lt xs h = subst (λ n. permutation_number xs < factorial n) h.size (permutation_number-lt xs)
@@ -152,27 +149,27 @@ number-lt xs h = subst (λ n. permutation_number xs < factorial n) h.size (permu
 pub AreDigits-half : (c : CubeState) → IsHalfCube c → AreDigits half_bases (half_digits c)
 unfolding half_digits
 AreDigits-half c h =
-    let d = IsDominoCube-half c h in
+    let d = h.domino in
     let home = IsTetradsHome-half c h in
     let orders = AreOrders-blocks c d home in (
       half_lt 4 (third_block c d home) (lit≤ tt) orders.third,
       (
         number-lt (second_block c d home) orders.second,
-        (number-lt (first_block c d home) orders.first, (half_corners_number-lt c.corners.pieces h.cube.corners.pieces home.corners, tt)),
+        (number-lt (first_block c d home) orders.first, (half_corners_number-lt c.corners.pieces d.cube.corners.pieces home.corners, tt)),
       ),
     )
 
 half_cube-again : (c : CubeState) → IsHalfCube c → half_cube_of_digits (half_digits c) ≡ c
 unfolding half_digits half_cube_of_digits
 half_cube-again c h =
-    let d = IsDominoCube-half c h in
+    let d = h.domino in
     let home = IsTetradsHome-half c h in
     let orders = AreOrders-blocks c d home in
     let first = first_block c d home in
     let second = second_block c d home in
     let third = third_block c d home in
     let q = half_corners_number c.corners.pieces in
-    let corners : half_corners_at q ≡ c.corners.pieces = half_corners_at-number c.corners.pieces h.cube.corners.pieces home.corners in
+    let corners : half_corners_at q ≡ c.corners.pieces = half_corners_at-number c.corners.pieces d.cube.corners.pieces home.corners in
     let first_is : permutation_at 4 (permutation_number first) ≡ first = permutation_at-number 4 first orders.first in
     let second_is : permutation_at 4 (permutation_number second) ≡ second = permutation_at-number 4 second orders.second in
     let half = permutation_number third / 2 in
@@ -185,7 +182,7 @@ half_cube-again c h =
     ∙ ap (λ odd. edges_of_blocks first second (half_at 4 odd half)) (parity-middle c d home)
     ∙ ap (edges_of_blocks first second) (half_at-number 4 third (lit< tt) orders.third)
     ∙ edges-again c d home in
-    same_cube _ c (same_orbit _ c.corners corners (sym h.domino.no_twists)) (same_orbit _ c.edges edges (sym h.domino.no_flips))
+    same_cube _ c (same_orbit _ c.corners corners (sym d.domino.no_twists)) (same_orbit _ c.edges edges (sym d.domino.no_flips))
 
 -- ---- four digits give a half cube
 
@@ -231,7 +228,7 @@ half_cube_of_four h s f q lh ls lf lq =
     let second_is : in_block second_edges edges ≡ second = in_block-picked 12 4 second_edges IsPlaceSet-second_edges edges second orders.second picks.second in
     let first_is : in_block first_edges edges ≡ first = in_block-picked 12 4 first_edges IsPlaceSet-first_edges edges first orders.first picks.first in
     record {
-      valid = record { cube = cube; domino = domino; index = (IsTetradsHome-iff c d).1 home };
+      valid = record { domino = d; index = (IsTetradsHome-iff c d).1 home };
       again = ap (λ x. x ∷ permutation_number (in_block second_edges edges) ∷ permutation_number (in_block first_edges edges) ∷ half_corners_number corners ∷ [])
           (ap (λ xs. permutation_number xs / 2) third_is ∙ half.number)
           ∙ ap (λ x. h ∷ x ∷ permutation_number (in_block first_edges edges) ∷ half_corners_number corners ∷ [])

@@ -24,7 +24,7 @@ use Rattle.scr_stages.proofs.ViewLaws.{Follows-viewed}
 use Rattle.scr_stages.proofs.TurnFacts.{IsHalfTurn, halves_turns}
 use Rattle.scr_stages.proofs.TetradTests.{IsHalfList-at, corner_index-solved}
 use Rattle.scr_stages.proofs.DominoLaws.{IsPlaceSet-middle, IsPlaceSet-first_edges, IsPlaceSet-second_edges}
-use Rattle.scr_stages.proofs.HalfCubes.{number-lt, half_corners_number-lt, half_corners_at-number, AreOrders-blocks, IsDominoCube-half, IsTetradsHome-half}
+use Rattle.scr_stages.proofs.HalfCubes.{number-lt, half_corners_number-lt, half_corners_at-number, AreOrders-blocks, IsTetradsHome-half}
 use Rattle.scr_stages.proofs.HalfTurned.{corner_index-kept, halves_moves}
 
 -- ---- the corners
@@ -60,9 +60,9 @@ unfolding turned_orbit
 Follows-half_corners =
     Follows-viewed cube_action.turned (turns_of half_turns) (after_of half_turns) IsHalfCube IsHalfTurn halves_moves half_corners_view
     (λ r. r.corners) (λ c. half_corners_number c.corners.pieces) (λ c. half_corners_number c.corners.pieces ≡ half_corners_number (numbers_from 0 8))
-    (λ c h. half_corners_number-lt c.corners.pieces h.cube.corners.pieces (IsTetradsHome-half c h).corners)
+    (λ c h. half_corners_number-lt c.corners.pieces h.domino.cube.corners.pieces (IsTetradsHome-half c h).corners)
     (λ c r h t.
-    ap (λ xs. half_corners_number (pick xs r.corners.places)) (half_corners_at-number c.corners.pieces h.cube.corners.pieces (IsTetradsHome-half c h).corners))
+    ap (λ xs. half_corners_number (pick xs r.corners.places)) (half_corners_at-number c.corners.pieces h.domino.cube.corners.pieces (IsTetradsHome-half c h).corners))
     (λ c h. (λ e. e, λ e. e))
 
 -- ---- a block of edges
@@ -76,21 +76,21 @@ pub record IsHalfBlock (block : List ℕ) : Type 0 where
 pub IsHalfBlock-first : IsHalfBlock first_edges
 IsHalfBlock-first = record {
   set = IsPlaceSet-first_edges;
-  order = λ c h. (AreOrders-blocks c (IsDominoCube-half c h) (IsTetradsHome-half c h)).first;
+  order = λ c h. (AreOrders-blocks c h.domino (IsTetradsHome-half c h)).first;
   turn = λ r t. t.first.kept;
 }
 
 pub IsHalfBlock-second : IsHalfBlock second_edges
 IsHalfBlock-second = record {
   set = IsPlaceSet-second_edges;
-  order = λ c h. (AreOrders-blocks c (IsDominoCube-half c h) (IsTetradsHome-half c h)).second;
+  order = λ c h. (AreOrders-blocks c h.domino (IsTetradsHome-half c h)).second;
   turn = λ r t. t.second.kept;
 }
 
 pub IsHalfBlock-middle : IsHalfBlock middle_edges
 IsHalfBlock-middle = record {
   set = IsPlaceSet-middle;
-  order = λ c h. (AreOrders-blocks c (IsDominoCube-half c h) (IsTetradsHome-half c h)).third;
+  order = λ c h. (AreOrders-blocks c h.domino (IsTetradsHome-half c h)).third;
   turn = λ r t. t.middle.kept;
 }
 
@@ -111,5 +111,5 @@ Follows-half_block block b =
     let below : All (λ k. k < length ks) block =
     subst (λ n. All (λ k. k < n) block) (sym t.domino.slice.valid.edges.places.size) (All-place_set 0 12 block b.set.increasing) in
     ap (λ xs. permutation_number (pick xs (in_block block ks))) (permutation_at-number 4 (in_block block p) (b.order c h))
-    ∙ ap permutation_number (sym (in_block-turned 12 4 block b.set p ks h.cube.edges.pieces.size (b.turn r t) below)))
+    ∙ ap permutation_number (sym (in_block-turned 12 4 block b.set p ks h.domino.cube.edges.pieces.size (b.turn r t) below)))
     (λ c h. (λ e. e, λ e. e))

@@ -19,7 +19,7 @@ use Rattle.scr_stages.specs.Tetrads.{in_block, half_corners_number, half_corners
 use Rattle.scr_stages.specs.declared.half_moves.HalfMoves.{HalfMoves}
 use Rattle.scr_stages.specs.declared.half_parts.HalfParts.{HalfParts}
 use Rattle.scr_stages.proofs.FiniteTests.{passes_below, test-below}
-use Rattle.scr_stages.proofs.HalfCubes.{number-lt, AreDigits-half, AreOrders-blocks, IsDominoCube-half, IsTetradsHome-half, half_corners_at-number, half_cubes-numbered, parity-middle}
+use Rattle.scr_stages.proofs.HalfCubes.{number-lt, AreDigits-half, AreOrders-blocks, IsTetradsHome-half, half_corners_at-number, half_cubes-numbered, parity-middle}
 use Rattle.scr_stages.proofs.HalfTurned.{halves_moves}
 use Rattle.scr_stages.proofs.HalfParts.{IsHalfBlock, IsHalfBlock-first, IsHalfBlock-second, IsHalfBlock-middle, Follows-half_corners, Follows-half_block}
 
@@ -73,11 +73,11 @@ module _ (p : ℕ) (at : p < 663552) where
       ≡ 2 * (p % 12) + (parity (half_corners_at (p / 12 / 24 / 24)) + parity (permutation_at 4 (p / 12 / 24 % 24)) + parity (permutation_at 4 (p / 12 % 24))
       + parity (permutation_at 4 (2 * (p % 12)))) % 2
   middle-at =
-      let d = IsDominoCube-half cube half in
+      let d = half.domino in
       let home = IsTetradsHome-half cube half in
       let orders = AreOrders-blocks cube d home in
       let third = in_block middle_edges cube.edges.pieces in
-      let corners = ap half_corners_at (sym corners-at) ∙ half_corners_at-number cube.corners.pieces half.cube.corners.pieces home.corners in
+      let corners = ap half_corners_at (sym corners-at) ∙ half_corners_at-number cube.corners.pieces d.cube.corners.pieces home.corners in
       let first = ap (permutation_at 4) (sym first-at) ∙ permutation_at-number 4 (in_block first_edges cube.edges.pieces) orders.first in
       let second = ap (permutation_at 4) (sym second-at) ∙ permutation_at-number 4 (in_block second_edges cube.edges.pieces) orders.second in
       let told = number-by_half (permutation_number third) (number-lt third orders.third) in

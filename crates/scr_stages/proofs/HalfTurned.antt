@@ -24,7 +24,7 @@ use Rattle.scr_cube.specs.Cube333.{CubeState, IsCube, CubeTurn, cube_action, cub
 use Rattle.scr_cube.proofs.Laws333.{lawful_cube}
 use Rattle.scr_stages.specs.Stages.{IsHalfTurned, half_turns, after_of}
 use Rattle.scr_stages.specs.Numbers.{IsDominoCube, first_edges, tetrads_number, IsHalfCube, half_cubes}
-use Rattle.scr_stages.specs.Spaces.{halves_space}
+use Rattle.scr_stages.specs.SearchTables.{halves_table}
 use Rattle.scr_stages.specs.Tables.{turns_of, halves_coordinate}
 use Rattle.scr_stages.specs.Tetrads.{corner_index, corners_at}
 use Rattle.scr_positions.proofs.IndexLaws.{Follows-numbered, StaysBelow-numbered}
@@ -35,7 +35,7 @@ use Rattle.scr_stages.proofs.TetradTests.{corners_at-solved, corner_index-solved
 use Rattle.scr_stages.proofs.TetradLaws.{corner_index-turned}
 use Rattle.scr_stages.proofs.DominoLaws.{IsDominoCube-turned, places-turned}
 use Rattle.scr_stages.proofs.StageSpaces.{IsTetradsHome-iff}
-use Rattle.scr_stages.proofs.HalfCubes.{IsDominoCube-half, IsTetradsHome-half, half_cubes-numbered}
+use Rattle.scr_stages.proofs.HalfCubes.{IsTetradsHome-half, half_cubes-numbered}
 
 -- ---- half turns keep them
 
@@ -53,17 +53,16 @@ corner_index-kept p ks h k e f =
 pub IsHalfCube-turned : (c : CubeState) (r : CubeTurn) → IsHalfCube c → IsHalfTurn r → IsHalfCube (cube_action.turned c r)
 unfolding turned_orbit
 IsHalfCube-turned c r h t =
-    let d = IsDominoCube-half c h in
+    let d = h.domino in
     let home = IsTetradsHome-half c h in
     let turned = IsDominoCube-turned c r d t.domino in
     let valid = t.domino.slice.valid in
     record {
-      cube = turned.cube;
-      domino = turned.domino;
+      domino = turned;
       index = (IsTetradsHome-iff (cube_action.turned c r) turned).1 (record {
-        first = places-turned 12 2 first_edges c.edges r.edges h.cube.edges.pieces valid.edges.places
+        first = places-turned 12 2 first_edges c.edges r.edges d.cube.edges.pieces valid.edges.places
             ∙ ap (λ places. turned_set places r.edges) home.first ∙ t.first_places;
-        corners = corner_index-kept c.corners.pieces r.corners.places h.cube.corners.pieces valid.corners.places home.corners t.index;
+        corners = corner_index-kept c.corners.pieces r.corners.places d.cube.corners.pieces valid.corners.places home.corners t.index;
       });
     }
 
@@ -80,7 +79,7 @@ IsCube-solved = lawful_cube.lawful.reached (λ t. 1) solved_cube ([], solved_cub
 pub IsHalfCube-solved : IsHalfCube solved_cube
 unfolding solved_cube solved_orbit
 IsHalfCube-solved =
-    record { cube = IsCube-solved; domino = record { no_flips = refl; no_twists = refl; middle = refl }; index = refl }
+    record { domino = record { cube = IsCube-solved; domino = record { no_flips = refl; no_twists = refl; middle = refl } }; index = refl }
 
 -- so what half turns reach is such a cube
 pub IsHalfCube-half_turned : (c : CubeState) → IsHalfTurned c → IsHalfCube c
@@ -93,7 +92,7 @@ no_seventh c place le =
     after_of-is half_turns c place
     ∙ ap (option_and_then (λ t. (after_letter cube_powers) c (face_turn_at t))) (slice_get_past half_turns place le)
 
-pub Follows-halves : Follows halves_space (positions halves_coordinate) half_cubes.number_of
+pub Follows-halves : Follows halves_table.space (positions halves_coordinate) half_cubes.number_of
 Follows-halves =
     Follows-numbered half_cubes half_cubes-numbered.one_to_one 6 (after_of half_turns) solved_cube IsHalfCube-solved IsHalfCube-after no_seventh
 
@@ -139,16 +138,16 @@ IsHalfTurned-half_cube table m c h =
     let number = half_cubes.number_of c in
     let found = first_word halves_coordinate StaysBelow-halves table m number (half_cubes-numbered.one_to_one.below c h) in
     let leads =
-    ((FindsTheSame-follows halves_space (positions halves_coordinate) half_cubes.number_of Follows-halves).words c
+    ((FindsTheSame-follows halves_table.space (positions halves_coordinate) half_cubes.number_of Follows-halves).words c
     found.0 h).1 found.1.leads in (
       reverse found.0,
-      play-reversed (after_of half_turns) IsHalfCube IsHalfCube-after (λ s r t k e. undone s r t k.cube e) c solved_cube found.0 h (leads.played ∙ ap Some leads.goal),
+      play-reversed (after_of half_turns) IsHalfCube IsHalfCube-after (λ s r t k e. undone s r t k.domino.cube e) c solved_cube found.0 h (leads.played ∙ ap Some leads.goal),
     )
 
 -- A domino has the tetrads number of solved exactly where half turns reach it.
 pub tetrads_number-half_turned : (table : Distances) → Measures halves_coordinate table → (c : CubeState) → IsDominoCube c
     → (tetrads_number c ≡ tetrads_number solved_cube) ↔ IsHalfTurned c
 tetrads_number-half_turned table m c d = (
-  λ e. IsHalfTurned-half_cube table m c (record { cube = d.cube; domino = d.domino; index = e }),
+  λ e. IsHalfTurned-half_cube table m c (record { domino = d; index = e }),
   λ h. (IsHalfCube-half_turned c h).index,
 )

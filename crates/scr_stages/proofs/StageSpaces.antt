@@ -18,9 +18,10 @@ use Rattle.scr_coord.specs.Projections.{projection, twists_view, place_set_view,
 use Rattle.scr_coord.proofs.MarkedPieces.{IsPlaceSet-marked}
 use Rattle.scr_cube.specs.Cube333.{CubeState, IsCube, IsCubeTurn, cube_action, solved_cube}
 use Rattle.scr_cube.proofs.Laws333.{cube_laws}
-use Rattle.scr_stages.specs.Stages.{HasNoFlips, IsDomino, middle_edges, after_of, flips_turns, slice_turns, tetrads_turns}
+use Rattle.scr_stages.specs.Stages.{HasNoFlips, IsUntwisted, IsInMiddle, IsDomino, middle_edges, after_of, flips_turns, slice_turns, tetrads_turns}
 use Rattle.scr_stages.specs.Numbers.{flips_number, slice_number, first_edges, tetrads_number, IsUnflippedCube, IsDominoCube}
-use Rattle.scr_stages.specs.Spaces.{cube_space, IsUntwisted, IsInMiddle, flips_space, slice_space, tetrads_space}
+use Rattle.scr_stages.specs.Spaces.{cube_space}
+use Rattle.scr_stages.specs.SearchTables.{flips_table, slice_table, tetrads_table}
 use Rattle.scr_stages.specs.Tables.{turns_of, corners_by, edges_by, block_turn, outer_places, flips_coordinate, slice_coordinate, tetrads_coordinate}
 use Rattle.scr_stages.specs.Tetrads.{corner_index, tetrads_view}
 use Rattle.scr_stages.proofs.Blocks.{places_in}
@@ -114,10 +115,10 @@ module _ (numbers : List ℕ) (below : All (λ t. t < 18) numbers) where
 
 -- ---- the first two stages
 
-pub Follows-flips : Follows flips_space (positions flips_coordinate) flips_number
+pub Follows-flips : Follows flips_table.space (positions flips_coordinate) flips_number
 Follows-flips = Follows-flips_by flips_turns flips_numbers
 
-pub Follows-slice : Follows slice_space (positions slice_coordinate) slice_number
+pub Follows-slice : Follows slice_table.space (positions slice_coordinate) slice_number
 Follows-slice = Follows-twists_beside slice_turns slice_numbers
 
 unflipped_moves : TurnsStates cube_action.turned (turns_of slice_turns) (after_of slice_turns)
@@ -178,7 +179,7 @@ IsTetradsHome-iff c h =
           ∙ ap (λ i. place_set_number 8 first_edges + 70 * i) home.corners ∙ sym tetrads_number-solved,
     )
 
-pub Follows-tetrads : Follows tetrads_space (positions tetrads_coordinate) tetrads_number
+pub Follows-tetrads : Follows tetrads_table.space (positions tetrads_coordinate) tetrads_number
 unfolding turned_orbit
 Follows-tetrads =
     let after = after_of tetrads_turns in

@@ -4,7 +4,7 @@
 -- Half turns carry the edges of each of three blocks among their places.
 use Rattle.std.specs.Prelude.{◌≡◌, ℕ, ◌+◌, ◌*◌, ◌/◌, ◌%◌, ◌<◌, List, [], ◌∷◌, ◌++◌, slice_index}
 use Rattle.scr_combinatorics.specs.Lists.{pick}
-use Rattle.scr_combinatorics.specs.Numbered.{Numbers, numbers_by_digits, Numbered, numbered_by_digits}
+use Rattle.scr_combinatorics.specs.Numbered.{Numbered, numbered_by_digits}
 use Rattle.scr_combinatorics.specs.Permutations.{parity, permutation_number, permutation_at, half_at}
 use Rattle.scr_combinatorics.specs.PlaceSets.{place_set_number}
 use Rattle.scr_combinatorics.specs.Twists.{twists_number}
@@ -30,10 +30,13 @@ pub record IsDominoCube (c : CubeState) : Type 0 where
 abbrev pub flips_number : CubeState → ℕ
 flips_number c = twists_number 2 c.edges.digits
 
--- the twists, and the set of the places of the edges of the middle layer
+-- the set of the places of the edges of the middle layer
+abbrev pub middle_set_of : CubeState → ℕ
+middle_set_of c = place_set_number 12 (marked_places (stands_in middle_edges) c.edges.pieces)
+
+-- the twists, and that set
 abbrev pub slice_number : CubeState → ℕ
-slice_number c =
-    twists_number 3 c.corners.digits + 2187 * place_set_number 12 (marked_places (stands_in middle_edges) c.edges.pieces)
+slice_number c = twists_number 3 c.corners.digits + 2187 * middle_set_of c
 
 -- UR UL DR DL, and UF UB DF DB
 abbrev pub first_edges : List ℕ
@@ -51,8 +54,7 @@ tetrads_number c =
 -- ---- dominoes with the number of solved
 
 pub record IsHalfCube (c : CubeState) : Type 0 where
-  pub cube : IsCube c
-  pub domino : IsDomino c
+  pub domino : IsDominoCube c
   pub index : tetrads_number c ≡ tetrads_number solved_cube
 
 -- How many lists of middle edges of one parity, of second edges, of first edges, and of corners there are.
@@ -66,10 +68,6 @@ unfoldable pub half_digits : CubeState → List ℕ
 half_digits c =
     permutation_number (in_block middle_edges c.edges.pieces) / 2 ∷ permutation_number (in_block second_edges c.edges.pieces)
     ∷ permutation_number (in_block first_edges c.edges.pieces) ∷ half_corners_number c.corners.pieces ∷ []
-
--- These cubes by their numbers, 663,552 of them,
-abbrev pub half_numbers : Numbers CubeState
-half_numbers = numbers_by_digits half_bases half_digits IsHalfCube
 
 -- edges with these lists of the three blocks
 unfoldable pub edges_of_blocks : List ℕ → List ℕ → List ℕ → List ℕ
@@ -102,6 +100,6 @@ half_cube_of_digits ds =
       edges = record { pieces = edges_of_blocks first second middle; digits = zeros 12 };
     }
 
--- and with the cube of each number
+-- These cubes by their numbers, with the cube of each.
 abbrev pub half_cubes : Numbered CubeState
 half_cubes = numbered_by_digits half_bases half_cube_of_digits half_digits IsHalfCube

@@ -36,12 +36,20 @@ HasNoFlips c = c.edges.digits ≡ zeros 12
 abbrev pub middle_edges : List ℕ
 middle_edges = 8 ∷ 9 ∷ 10 ∷ 11 ∷ []
 
+-- no corner is twisted
+abbrev pub IsUntwisted : CubeState → Type 0
+IsUntwisted c = c.corners.digits ≡ zeros 8
+
+-- the edges of the middle layer are in it
+abbrev pub IsInMiddle : CubeState → Type 0
+IsInMiddle c = marked_places (stands_in middle_edges) c.edges.pieces ≡ middle_edges
+
 -- Second, by all turns but quarter turns of F and B: besides, no corner is twisted, and the edges of the middle layer
 -- are in it. A cube that turns of U and D and half turns of the other faces solve is called a domino.
 pub record IsDomino (c : CubeState) : Type 0 where
   pub no_flips : HasNoFlips c
-  pub no_twists : c.corners.digits ≡ zeros 8
-  pub middle : marked_places (stands_in middle_edges) c.edges.pieces ≡ middle_edges
+  pub no_twists : IsUntwisted c
+  pub middle : IsInMiddle c
 
 abbrev pub half_turns : List ℕ
 half_turns = 1 ∷ 4 ∷ 7 ∷ 10 ∷ 13 ∷ 16 ∷ []

@@ -1,6 +1,6 @@
 //! States and scrambles that are known from elsewhere.
 ghost use Rattle.std.specs.Prelude.{◌<◌};
-ghost use Rattle.scr_clock.specs.Numbers.{clock_count};
+ghost use Rattle.scr_clock.specs.Numbers.{clock_numbers};
 
 use crate::read;
 use scr_clock::{Clock, ClockNumbers, laws, needs_at_least, scramble_clock};
@@ -11,7 +11,7 @@ use std::process::Abort;
 
 /// The number of a Clock, its dials, and the text of its scramble, each made of the one before, and the text played.
 fn shows(rt: &impl Abort, number: u128, dials: [u8; 14], text: &str)
-    requires { number < clock_count }
+    requires { number < clock_numbers.count }
 {
     let clock = ClockNumbers.state_at(number);
     assert_eq!(rt; clock.dials(), dials);

@@ -3,29 +3,28 @@ use Rattle.std.proofs.Common.{◌≡◌, ℕ, ◌+◌, ◌%◌, ◌<◌, ap, ◌
 use Rattle.scr_combinatorics.specs.Permutations.{parity, permutation_number, permutation_at, half_at}
 use Rattle.scr_combinatorics.proofs.PermutationNumbers.{IsPermutation-at, permutation_number-at}
 use Rattle.scr_cube.specs.Cube333.{CubeState, IsCube}
-use Rattle.scr_stages.specs.Numbers.{IsDominoCube, flips_number}
+use Rattle.scr_stages.specs.Numbers.{IsDominoCube, flips_number, middle_set_of}
 use Rattle.scr_stages.proofs.EachIndex.{each_pair, each_parts, each-slice, IsHalf-first, mended, domino_of, outer-layers, middle-layers, IsDominoCube-of}
-use Rattle.scr_twophase.specs.Spaces.{flipslice_space, twistslice_space, cornerslice_space, edgeslice_space}
-use Rattle.scr_twophase.specs.Spaces.{flipslice_number, twistslice_number, cornerslice_number, edgeslice_number}
-use Rattle.scr_twophase.specs.Tables.{middle_set_of, corners_of, outer_edges_of, middle_edges_of}
+use Rattle.scr_twophase.specs.SearchTables.{flipslice_table, twistslice_table, cornerslice_table, edgeslice_table}
+use Rattle.scr_twophase.specs.Tables.{corners_of, outer_edges_of, middle_edges_of}
 use Rattle.scr_twophase.specs.Tables.{flipslice_line, twistslice_line, cornerslice_line, edgeslice_line}
 
 -- ---- the first part
 
 pub each-flipslice : (i : ℕ) → i < flipslice_line.coordinate.count
-    → (c : CubeState) × flipslice_space.IsValid c × (flipslice_number c ≡ i)
+    → (c : CubeState) × flipslice_table.space.IsValid c × (flipslice_table.number_of c ≡ i)
 each-flipslice =
     each_pair IsCube flips_number middle_set_of 2048 495
     (λ f m lf lm. let c = each_parts f 0 m lf (lit< tt) lm in (c.0, c.1, c.2, c.4))
 
 pub each-twistslice : (i : ℕ) → i < twistslice_line.coordinate.count
-    → (c : CubeState) × twistslice_space.IsValid c × (twistslice_number c ≡ i)
+    → (c : CubeState) × twistslice_table.space.IsValid c × (twistslice_table.number_of c ≡ i)
 each-twistslice = each-slice
 
 -- ---- the second part
 
 pub each-cornerslice : (i : ℕ) → i < cornerslice_line.coordinate.count
-    → (c : CubeState) × cornerslice_space.IsValid c × (cornerslice_number c ≡ i)
+    → (c : CubeState) × cornerslice_table.space.IsValid c × (cornerslice_table.number_of c ≡ i)
 each-cornerslice =
     each_pair IsDominoCube middle_edges_of corners_of 24 40320
     (λ i j li lj.
@@ -43,7 +42,7 @@ each-cornerslice =
     ))
 
 pub each-edgeslice : (i : ℕ) → i < edgeslice_line.coordinate.count
-    → (c : CubeState) × edgeslice_space.IsValid c × (edgeslice_number c ≡ i)
+    → (c : CubeState) × edgeslice_table.space.IsValid c × (edgeslice_table.number_of c ≡ i)
 each-edgeslice =
     each_pair IsDominoCube middle_edges_of outer_edges_of 24 40320
     (λ i j li lj.

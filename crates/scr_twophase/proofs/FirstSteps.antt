@@ -11,9 +11,8 @@ use Rattle.scr_combinatorics.specs.Twists.{twists_number}
 use Rattle.scr_orbit.specs.Orbits.{zeros}
 use Rattle.scr_coord.proofs.GoalNumbers.{twists_number-zeros}
 use Rattle.scr_cube.specs.Cube333.{CubeState, IsCube}
-use Rattle.scr_stages.specs.Spaces.{IsUntwisted, IsInMiddle}
-use Rattle.scr_stages.specs.Stages.{HasNoFlips, middle_edges}
-use Rattle.scr_stages.specs.Numbers.{flips_number, IsDominoCube}
+use Rattle.scr_stages.specs.Stages.{HasNoFlips, IsUntwisted, IsInMiddle, middle_edges}
+use Rattle.scr_stages.specs.Numbers.{flips_number, middle_set_of, IsDominoCube}
 use Rattle.scr_stages.proofs.FiniteTests.{agree, agree-same, passes_below, test-below}
 use Rattle.scr_stages.proofs.StageSpaces.{Follows-flips}
 use Rattle.scr_table.specs.Words.{words_of, words_behind, words_within}
@@ -21,9 +20,9 @@ use Rattle.scr_table.proofs.WordLists.{words_behind-end, words_of-none}
 use Rattle.scr_twophase.specs.declared.first.TheConstants.{FIRST_EXTENT}
 use Rattle.scr_twophase.specs.declared.position.PartPosition.{PartPosition}
 use Rattle.scr_twophase.specs.TurnSets.{contains_turn}
-use Rattle.scr_twophase.specs.TwoParts.{turn_numbers, ends_in_quarter, is_domino, is_first_part, is_orderly, is_side_quarter, joined, leads, first_joined, first_parts, two_parts}
+use Rattle.scr_twophase.specs.TwoParts.{turn_numbers, ends_in_quarter, is_domino, is_first_part, is_orderly, is_side_quarter, joined, leads, first_parts, two_parts}
 use Rattle.scr_twophase.specs.Search.{IsAt, IsSearched, IsTestOf, KeepsWays, first_given, is_domino_position}
-use Rattle.scr_twophase.specs.Tables.{twists_of, middle_set_of}
+use Rattle.scr_twophase.specs.Tables.{twists_of}
 use Rattle.scr_twophase.specs.Views.{AreViews, Shows, first_views, part_number}
 use Rattle.scr_twophase.proofs.CubeTests.{IsDomino-test, leads-played, goal_number}
 use Rattle.scr_twophase.proofs.Orderly.{last-push}
@@ -133,7 +132,7 @@ domino_there c at h e = record { cube = h.seen; domino = (IsDomino-test c).0 (is
 pub two_parts-searched : (c : CubeState) (word after : List ℕ) (tries left : ℕ) (found : Bool) → word ≡ []
     → IsSearched (joined c) (filter (is_first_part c) (map (λ v. word ++ v) (words_within turn_numbers 12))) tries word found after left
     → two_parts c tries ≡ cond found (Some after) None
-unfolding two_parts first_parts first_joined first_given
+unfolding two_parts first_parts first_given
 two_parts-searched c word after tries left found e s =
     let words = words_within turn_numbers 12 in
     ap (λ ws. first_given (joined c) tries (filter (is_first_part c) ws)) (sym (ap (λ w. map (λ v. w ++ v) words) e ∙ map-id words)) ∙ s.given

@@ -15,7 +15,7 @@ use Rattle.scr_notation.specs.Turning.{opposite}
 use Rattle.scr_cube.specs.Cube333.{CubeState, solved_cube}
 use Rattle.scr_stages.proofs.SolutionLaws.{IsStageScramble-unique}
 use Rattle.scr_table.specs.Words.{words_within}
-use Rattle.scr_twophase.specs.TwoParts.{after_turn, domino_turns, first_joined, first_parts, is_orderly, is_solution, is_solved, joined, leads, second_part, two_parts, IsScrambleBy}
+use Rattle.scr_twophase.specs.TwoParts.{after_turn, domino_turns, first_parts, is_orderly, is_solution, is_solved, joined, leads, second_part, two_parts, IsScrambleBy}
 use Rattle.scr_twophase.proofs.CubeTests.{IsSolved-test, leads-parts}
 
 given_by : {X Y : Type 0} (f : X → Option Y) (x : X) (o : Option Y) (ys : List Y) (y : Y) → f x ≡ o → slice_get (cons_option o ys) 0 ≡ Some y
@@ -43,7 +43,7 @@ joined_solves c part w e =
 
 -- two parts lead to solved
 pub two_parts-played : (c : CubeState) (tries : ℕ) (w : List ℕ) → two_parts c tries ≡ Some w → play after_turn c w ≡ Some solved_cube
-unfolding two_parts first_joined is_solution
+unfolding two_parts is_solution
 two_parts-played c tries w e =
     let given = first_given (joined c) (take tries (first_parts c)) w e in
     let solves = and_parts (is_orderly w) (leads is_solved c w) (joined_solves c given.0 w given.1) in

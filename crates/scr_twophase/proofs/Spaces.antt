@@ -13,8 +13,8 @@ use Rattle.scr_positions.specs.SearchSpaces.{positions, Follows}
 use Rattle.scr_positions.proofs.ProductLaws.{Follows-product}
 use Rattle.scr_coord.specs.Projections.{projection, pieces_view, stands_in}
 use Rattle.scr_cube.specs.Cube333.{CubeState, IsCube, CubeTurn, cube_action}
-use Rattle.scr_stages.specs.Stages.{HasNoFlips, middle_edges, after_of, flips_turns, tetrads_turns}
-use Rattle.scr_stages.specs.Numbers.{flips_number, IsDominoCube}
+use Rattle.scr_stages.specs.Stages.{HasNoFlips, IsUntwisted, IsInMiddle, middle_edges, after_of, flips_turns, tetrads_turns}
+use Rattle.scr_stages.specs.Numbers.{flips_number, middle_set_of, IsDominoCube}
 use Rattle.scr_stages.specs.Tables.{turns_of, block_turn, outer_places, flips_coordinate}
 use Rattle.scr_stages.specs.Tetrads.{in_block}
 use Rattle.scr_stages.proofs.Blocks.{places_in, All-place_set}
@@ -25,11 +25,9 @@ use Rattle.scr_stages.proofs.StageSpaces.{tetrads_moves, Follows-flips, Follows-
 use Rattle.scr_stages.proofs.StageSpaces.{Follows-twists_beside}
 use Rattle.scr_stages.proofs.TurnFacts.{IsDominoTurn, flips_numbers}
 use Rattle.scr_stages.proofs.ViewLaws.{Follows-viewed}
-use Rattle.scr_stages.specs.Spaces.{IsUntwisted, IsInMiddle}
-use Rattle.scr_twophase.specs.Spaces.{cubes_to, dominoes_to, flipslice_space, twistslice_space, flipslice_number}
-use Rattle.scr_twophase.specs.Spaces.{twistslice_number, AreCornersHome, AreOuterHome, AreMiddleHome, cornerslice_space}
-use Rattle.scr_twophase.specs.Spaces.{edgeslice_space, cornerslice_number, edgeslice_number}
-use Rattle.scr_twophase.specs.Tables.{twists_of, middle_set_of, twists_coordinate, middle_set_coordinate, flipslice_coordinate, twistslice_coordinate, corners_of, outer_edges_of, middle_edges_of, corners_coordinate, outer_edges_coordinate, middle_edges_coordinate, cornerslice_coordinate, edgeslice_coordinate}
+use Rattle.scr_twophase.specs.Spaces.{cubes_to, dominoes_to, AreCornersHome, AreOuterHome, AreMiddleHome}
+use Rattle.scr_twophase.specs.SearchTables.{flipslice_table, twistslice_table, cornerslice_table, edgeslice_table}
+use Rattle.scr_twophase.specs.Tables.{twists_of, twists_coordinate, middle_set_coordinate, flipslice_coordinate, twistslice_coordinate, corners_of, outer_edges_of, middle_edges_of, corners_coordinate, outer_edges_coordinate, middle_edges_coordinate, cornerslice_coordinate, edgeslice_coordinate}
 
 -- ---- the first part
 
@@ -39,11 +37,11 @@ Follows-twists = Follows-twists_by flips_turns flips_numbers
 pub Follows-middle_set : Follows (cubes_to IsInMiddle) (positions middle_set_coordinate) middle_set_of
 Follows-middle_set = Follows-middle_by flips_turns flips_numbers
 
-pub Follows-flipslice : Follows flipslice_space (positions flipslice_coordinate) flipslice_number
+pub Follows-flipslice : Follows flipslice_table.space (positions flipslice_coordinate) flipslice_table.number_of
 Follows-flipslice =
     Follows-product IsCube HasNoFlips IsInMiddle (after_of flips_turns) flips_coordinate middle_set_coordinate flips_number middle_set_of refl Follows-flips Follows-middle_set
 
-pub Follows-twistslice : Follows twistslice_space (positions twistslice_coordinate) twistslice_number
+pub Follows-twistslice : Follows twistslice_table.space (positions twistslice_coordinate) twistslice_table.number_of
 Follows-twistslice = Follows-twists_beside flips_turns flips_numbers
 
 -- ---- the second part
@@ -119,8 +117,8 @@ Follows-beside_middle : (high : Coordinate) (u : CubeState → ℕ) (IsHigh : Cu
 Follows-beside_middle high u IsHigh turns follows =
     Follows-product IsDominoCube AreMiddleHome IsHigh (after_of tetrads_turns) middle_edges_coordinate high middle_edges_of u turns Follows-middle_edges follows
 
-pub Follows-cornerslice : Follows cornerslice_space (positions cornerslice_coordinate) cornerslice_number
+pub Follows-cornerslice : Follows cornerslice_table.space (positions cornerslice_coordinate) cornerslice_table.number_of
 Follows-cornerslice = Follows-beside_middle corners_coordinate corners_of AreCornersHome refl Follows-corners
 
-pub Follows-edgeslice : Follows edgeslice_space (positions edgeslice_coordinate) edgeslice_number
+pub Follows-edgeslice : Follows edgeslice_table.space (positions edgeslice_coordinate) edgeslice_table.number_of
 Follows-edgeslice = Follows-beside_middle outer_edges_coordinate outer_edges_of AreOuterHome refl Follows-outer_edges

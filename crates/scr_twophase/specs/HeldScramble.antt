@@ -10,18 +10,17 @@ use Rattle.scr_cube.specs.Cube333.{CubeState, cube_powers}
 use Rattle.scr_cube.specs.Held.{HeldState, solved_held, faces_turned, hold_word, hold_of}
 use Rattle.scr_twophase.specs.TwoParts.{two_parts, IsScramble333}
 
--- The word of a state's hold, and the faces that it turns from solved, with their amounts.
+-- The word of a state's hold.
 abbrev pub own_word : HeldState → List Turn
 own_word s = hold_word (hold_of s.centres)
 
-abbrev pub own_faces : HeldState → List Turn
-own_faces s = faces_turned solved_held.centres (own_word s)
-
--- The turns are the scramble of the cube from which those faces lead to the state's, where so many first parts are tried,
--- and then the hold's word. Where the search finds two parts, the cube's scramble has at most 22 turns.
+-- The turns are the scramble of the cube from which the faces that the hold's word turns from solved lead to the state's,
+-- where so many first parts are tried, and then that word. Where the search finds two parts, the cube's scramble has at most
+-- 22 turns.
 pub record IsScramble333bf (tries : ℕ) (s : HeldState) (turns : List Turn) : Type 0 where
   pub before : CubeState
-  pub turned_back : play (after_letter cube_powers) s.cube (back opposite (own_faces s)) ≡ Some before
+  pub turned_back : play (after_letter cube_powers) s.cube (back opposite (faces_turned solved_held.centres (own_word s)))
+      ≡ Some before
   pub first : List Turn
   pub scramble : IsScramble333 tries before first
   pub few : IsTrue (is_some (two_parts before tries)) → length first ≤ 22

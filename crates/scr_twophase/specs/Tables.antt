@@ -1,11 +1,10 @@
 -- The pruning tables: what each is a table of, and how far it may reach.
 use Rattle.std.specs.Prelude.{ℕ, List, [], ◌∷◌, ◌++◌, map}
 use Rattle.scr_combinatorics.specs.Permutations.{permutation_number}
-use Rattle.scr_combinatorics.specs.PlaceSets.{place_set_number}
 use Rattle.scr_combinatorics.specs.Twists.{twists_number}
 use Rattle.scr_positions.specs.Coordinates.{Coordinate}
 use Rattle.scr_positions.specs.Products.{product_coordinate}
-use Rattle.scr_coord.specs.Projections.{projection, twists_view, place_set_view, pieces_view, marked_places, stands_in}
+use Rattle.scr_coord.specs.Projections.{projection, twists_view, place_set_view, pieces_view}
 use Rattle.scr_table.specs.declared.name.TableName.TheVariants.{FlipSlice, TwistSlice, CornerSlice, EdgeSlice}
 use Rattle.scr_table.specs.Lines.{TableLine}
 use Rattle.scr_cube.specs.Cube333.{CubeState}
@@ -15,16 +14,14 @@ use Rattle.scr_stages.specs.Tetrads.{in_block}
 
 -- ---- the first part, by all turns
 
--- the twists, and the set of the places of the edges of the middle layer
+-- the twists
 abbrev pub twists_of : CubeState → ℕ
 twists_of c = twists_number 3 c.corners.digits
-
-abbrev pub middle_set_of : CubeState → ℕ
-middle_set_of c = place_set_number 12 (marked_places (stands_in middle_edges) c.edges.pieces)
 
 abbrev pub twists_coordinate : Coordinate
 twists_coordinate = projection (twists_view 8 3) (corners_by flips_turns)
 
+-- the set of the places of the edges of the middle layer
 abbrev pub middle_set_coordinate : Coordinate
 middle_set_coordinate = projection (place_set_view 12 4 middle_edges) (edges_by flips_turns)
 

@@ -105,13 +105,10 @@ joined c first = option_map (λ word. first ++ word) (second_part c first)
 
 -- ---- both
 
--- The first of some first parts that has a second part, joined with it. So many of them are tried.
-unfoldable pub first_joined : CubeState → ℕ → List (List ℕ) → Option (List ℕ)
-first_joined c tries parts = slice_get (filter_map (joined c) (take tries parts)) 0
-
--- The two parts of a cube, or none where none of its first so many first parts has a second part.
+-- The two parts of a cube: the first of its first so many first parts that has a second part, joined with it, or none where
+-- none of these has one.
 unfoldable pub two_parts : CubeState → ℕ → Option (List ℕ)
-two_parts c tries = first_joined c tries (first_parts c)
+two_parts c tries = slice_get (filter_map (joined c) (take tries (first_parts c))) 0
 
 -- ---- the scramble
 

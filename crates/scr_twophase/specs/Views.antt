@@ -4,13 +4,13 @@ use Rattle.scr_positions.specs.Coordinates.{Coordinate, IsGoal}
 use Rattle.scr_positions.specs.Products.{product_coordinate}
 use Rattle.scr_positions.specs.SearchSpaces.{Follows, positions}
 use Rattle.scr_cube.specs.Cube333.{CubeState, IsCube}
-use Rattle.scr_stages.specs.Numbers.{flips_number, IsDominoCube}
+use Rattle.scr_stages.specs.Numbers.{flips_number, middle_set_of, IsDominoCube}
 use Rattle.scr_stages.specs.Spaces.{cube_space}
 use Rattle.scr_stages.specs.Tables.{flips_coordinate}
 use Rattle.scr_table.specs.Lines.{TableLine}
 use Rattle.scr_twophase.specs.declared.position.Extent.{Extent}
 use Rattle.scr_twophase.specs.declared.position.PartPosition.{PartPosition}
-use Rattle.scr_twophase.specs.Tables.{twists_of, middle_set_of, twists_coordinate, middle_set_coordinate, corners_of, outer_edges_of, middle_edges_of, corners_coordinate, outer_edges_coordinate, middle_edges_coordinate}
+use Rattle.scr_twophase.specs.Tables.{twists_of, twists_coordinate, middle_set_coordinate, corners_of, outer_edges_of, middle_edges_of, corners_coordinate, outer_edges_coordinate, middle_edges_coordinate}
 use Rattle.scr_twophase.specs.TwoParts.{domino_turns, is_domino, is_solved, turn_numbers}
 
 -- a coordinate, and its number of each cube

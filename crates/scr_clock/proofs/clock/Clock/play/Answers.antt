@@ -6,8 +6,8 @@ use Rattle.scr_combinatorics.proofs.StepLaws.{play-more, play-barred, play-whole
 use Rattle.scr_notation.specs.declared.turn.Turn.TheVariants.{Face}
 use Rattle.scr_notation.specs.Event.{kind_of}
 use Rattle.scr_notation.specs.Turns.{permits}
-use Rattle.scr_clock.specs.Held.{HeldClock, held_after, clock_after, held_clock}
-use Rattle.scr_clock.proofs.HeldLaws.{after_pins, after_over}
+use Rattle.scr_clock.specs.Held.{HeldClock, held_after, clock_after}
+use Rattle.scr_clock.proofs.HeldLaws.{held_clock, after_pins, after_over}
 use Rattle.scr_clock.proofs.ScrambleLaws.{pins_of_clock, after_none, same_held}
 use Rattle.scr_clock.proofs.clock.Clock.play.Goals as goal
 use Rattle.scr_clock.proofs.clock.Clock.play.Goals.{in-Pins, in-Over}

@@ -1,7 +1,6 @@
 use Rattle.std.proofs.Common.{ℕ, List, replicate, sym, ap, ◌∙◌, subst, lit<}
 use Rattle.scr_combinatorics.specs.Digits.{AreDigits, mixed_number}
 use Rattle.scr_combinatorics.proofs.Digits.{AreDigits-replicate}
-use Rattle.scr_clock.specs.Numbers.{number_of}
 use Rattle.scr_clock.proofs.numbers.ClockNumbersNumbering.number_of.Goals as goal
 
 pub rank-requires : goal.rank-requires
@@ -13,7 +12,6 @@ rank-requires c =
     (lit< tt, (lit< tt, bases))
 
 pub returns : goal.returns
-unfolding number_of
 returns c =
     c.rank.ensures.number ∙ ap (λ bases. mixed_number bases c.digits.result) c.dial_radix.ensures
     ∙ ap (mixed_number (replicate 14 12)) (c.digits.ensures ∙ c.dials.ensures.same)

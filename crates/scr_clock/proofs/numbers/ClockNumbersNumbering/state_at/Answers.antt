@@ -1,9 +1,7 @@
 use Rattle.std.proofs.Common.{ap, ◌∙◌}
 use Rattle.scr_combinatorics.specs.Digits.{mixed_digits}
-use Rattle.scr_clock.specs.Numbers.{dials_of}
 use Rattle.scr_clock.proofs.numbers.ClockNumbersNumbering.state_at.Goals as goal
 
 pub returns : goal.returns
-unfolding dials_of
 returns c =
     c.of_valid.ensures ∙ c.in_bytes.ensures ∙ c.unrank.ensures.list ∙ ap (λ bases. mixed_digits bases c.args.number) c.dial_radix.ensures

@@ -24,5 +24,5 @@ returns-clause-below c =
       middle_below = c.block_number.ensures.below;
       second_below = c.block_number-2.ensures.below;
       first_below = c.block_number-3.ensures.below;
-      corners_below = omega (arith, is, half_corners_number-lt cube.corners.pieces c.requires.cube.corners.pieces (IsTetradsHome-half cube c.requires).corners);
+      corners_below = omega (arith, is, half_corners_number-lt cube.corners.pieces c.requires.domino.cube.corners.pieces (IsTetradsHome-half cube c.requires).corners);
     }
