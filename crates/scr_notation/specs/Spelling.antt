@@ -5,19 +5,6 @@ use Rattle.scr_notation.specs.declared.turn.Turn.{Turn}
 use Rattle.scr_notation.specs.declared.turn.Turn.TheVariants.{Face, Axis, Tip, Layers, Twist, Pins, Over, Wide}
 use Rattle.scr_notation.specs.Pins.{pin_sets}
 
--- the letters of a cube's faces, of axes, of tips and of a Megaminx's wide turns, in the order of their numbers
-abbrev pub face_letters : List ℕ
-face_letters = codes "URFDLB"
-
-abbrev pub axis_letters : List ℕ
-axis_letters = codes "ULRB"
-
-abbrev pub tip_letters : List ℕ
-tip_letters = codes "ulrb"
-
-abbrev pub wide_letters : List ℕ
-wide_letters = codes "RDU"
-
 -- the letter with this number
 abbrev pub letter_text : List ℕ → ℕ → List ℕ
 letter_text letters n = slice_index letters n ∷ []
@@ -58,17 +45,18 @@ name_of_set pins (set ∷ sets) (name ∷ names) = if set == pins then name else
 unfoldable pub hours_text : ℕ → List ℕ
 hours_text amount = if nat_le amount 6 then (48 + amount) ∷ codes "+" else (48 + (12 - amount)) ∷ codes "-"
 
--- how a turn is written
+-- how a turn is written: the letters of a cube's faces, of axes, of tips and of a Megaminx's wide turns stand in the order of their
+-- numbers
 unfoldable pub spelling : Turn → List ℕ
 spelling (Face face depth amount) =
-    layers_before depth ++ letter_text face_letters face ++ layers_behind depth ++ amount_text 4 amount
-spelling (Axis axis amount) = letter_text axis_letters axis ++ amount_text 3 amount
-spelling (Tip tip amount) = letter_text tip_letters tip ++ amount_text 3 amount
+    layers_before depth ++ letter_text (codes "URFDLB") face ++ layers_behind depth ++ amount_text 4 amount
+spelling (Axis axis amount) = letter_text (codes "ULRB") axis ++ amount_text 3 amount
+spelling (Tip tip amount) = letter_text (codes "ulrb") tip ++ amount_text 3 amount
 spelling (Layers top bottom) = codes "(" ++ signed_text top ++ codes "," ++ signed_text bottom ++ codes ")"
 spelling Twist = codes "/"
 spelling (Pins pins amount) = name_of_set pins pin_sets pin_names ++ hours_text amount
 spelling Over = codes "y2"
-spelling (Wide letter plus) = letter_text wide_letters letter ++ way_text letter plus
+spelling (Wide letter plus) = letter_text (codes "RDU") letter ++ way_text letter plus
 
 -- the text of turns: their spellings with one space (byte 32) between
 abbrev pub text_of : List Turn → List ℕ

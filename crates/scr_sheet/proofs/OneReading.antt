@@ -7,7 +7,7 @@ use Rattle.std.specs.List.{list_any}
 use Rattle.scr_notation.specs.declared.turn.Turn.{Turn}
 use Rattle.scr_notation.specs.declared.turn.Turn.TheVariants.{Face, Axis, Tip, Layers, Twist, Pins, Over, Wide}
 use Rattle.scr_notation.specs.Pins.{pin_sets}
-use Rattle.scr_notation.specs.Spelling.{text_of, spelling, letter_text, amount_text, layers_before, layers_behind, way_text, signed_text, name_of_set, pin_names, hours_text, face_letters, axis_letters, tip_letters, wide_letters}
+use Rattle.scr_notation.specs.Spelling.{text_of, spelling, letter_text, amount_text, layers_before, layers_behind, way_text, signed_text, name_of_set, pin_names, hours_text}
 use Rattle.scr_sheet.specs.Headline.{HasNoDot, StandInOrder, no_more, next}
 
 -- this byte isn't in a text
@@ -89,11 +89,11 @@ unfolding spelling
 spelled (Face face depth n) =
     let before = chosen (depth == 3) (codes "3") [] refl refl in
     let behind = chosen (depth == 1) [] (codes "w") refl refl in
-    let front = joined (layers_before depth) (letter_text face_letters face) before (letter face_letters face refl) in
-    let layers = joined (layers_before depth ++ letter_text face_letters face) (layers_behind depth) front behind in
-    joined (layers_before depth ++ letter_text face_letters face ++ layers_behind depth) (amount_text 4 n) layers (amount 4 n)
-spelled (Axis axis n) = joined (letter_text axis_letters axis) (amount_text 3 n) (letter axis_letters axis refl) (amount 3 n)
-spelled (Tip tip n) = joined (letter_text tip_letters tip) (amount_text 3 n) (letter tip_letters tip refl) (amount 3 n)
+    let front = joined (layers_before depth) (letter_text (codes "URFDLB") face) before (letter (codes "URFDLB") face refl) in
+    let layers = joined (layers_before depth ++ letter_text (codes "URFDLB") face) (layers_behind depth) front behind in
+    joined (layers_before depth ++ letter_text (codes "URFDLB") face ++ layers_behind depth) (amount_text 4 n) layers (amount 4 n)
+spelled (Axis axis n) = joined (letter_text (codes "ULRB") axis) (amount_text 3 n) (letter (codes "ULRB") axis refl) (amount 3 n)
+spelled (Tip tip n) = joined (letter_text (codes "ulrb") tip) (amount_text 3 n) (letter (codes "ulrb") tip refl) (amount 3 n)
 spelled (Layers top bottom) =
     let first = joined (codes "(") (signed_text top) refl (signed top) in
     let comma = joined (codes "(" ++ signed_text top) (codes ",") first refl in
@@ -108,7 +108,7 @@ spelled (Wide n plus) =
     let plain = chosen plus [] (codes "'") refl refl in
     let doubled = chosen plus (codes "++") (codes "--") refl refl in
     let way = chosen (n == 2) (if plus then [] else codes "'") (if plus then codes "++" else codes "--") plain doubled in
-    joined (letter_text wide_letters n) (way_text n plus) (letter wide_letters n refl) way
+    joined (letter_text (codes "RDU") n) (way_text n plus) (letter (codes "RDU") n refl) way
 
 text-clean : (turns : List Turn) → IsClean (text_of turns)
 text-clean [] = refl
