@@ -1,5 +1,5 @@
 //! The state of a Clock and its turns.
-ghost use Rattle.std.specs.Prelude.{◌≡◌, ℕ, ◌<◌, ◌≤◌, ◌↔◌, List, length, All, IsSome, IfSome};
+ghost use Rattle.std.specs.Prelude.{◌≡◌, ℕ, ◌<◌, ◌≤◌, ◌↔◌, List, All, IsSome, IfSome};
 ghost use Rattle.scr_clock.specs.Dials.{IsClock, gain_at, dials_turned, solved, dial_turn};
 ghost use Rattle.scr_clock.specs.Held.{clock_after};
 

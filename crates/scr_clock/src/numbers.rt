@@ -1,5 +1,5 @@
 //! Clock as an event: its numbered states and its minimum.
-ghost use Rattle.std.specs.Prelude.{◌≡◌, ℕ, ◌≤◌, replicate};
+ghost use Rattle.std.specs.Prelude.{◌≡◌, replicate};
 
 use crate::clock::Clock;
 use crate::least::needs_at_least;
@@ -51,7 +51,6 @@ impl Numbering for ClockNumbers {
 }
 
 impl Permit<Clock> for ClockNumbers {
-    ghost use Rattle.std.specs.Prelude.{ℕ};
     ghost use Rattle.scr_clock.specs.Dials.{clock_puzzle};
     ghost use Rattle.scr_clock.specs.Least.{needs_test_clock};
 

@@ -28,11 +28,33 @@ use Rattle.scr_net.proofs.StickerLaws.{IsSticker-at, IsSticker-brought}
 use Rattle.scr_net.proofs.NetLaws.{letter_at-net_of, net_of-same}
 use Rattle.scr_net.proofs.PieceLaws.{comes_from, each_sticker, each_sticker-at, letter_of_pieces-turned}
 
+-- a net by a rule turns as the rule does, where it does so at each sticker that passes a test, as all do
+net-quarter : (side face : ℕ) (letter other : Sticker → ℕ) (test : Sticker → Bool) → 0 < side → each_sticker side test ≡ true
+    → ((s : Sticker) → test s ≡ true → letter (brought_from (side - 1) face 1 s) ≡ other s)
+    → quarter_net side face 1 (net_of side letter) ≡ net_of side other
+unfolding quarter_net
+net-quarter side face letter other test some passed same =
+    net_of-same side (λ s. letter_at side (net_of side letter) (brought_from (side - 1) face 1 s)) other (λ f row column lf lr lc.
+    let s : Sticker = sticker_at (side - 1) f row column in
+    let is : IsSticker (side - 1) s = IsSticker-at (side - 1) f row column lf (omega arith) (omega arith) in
+    letter_at-net_of side letter (brought_from (side - 1) face 1 s) some (IsSticker-brought (side - 1) face 1 s is)
+    ∙ same s (each_sticker-at side test passed f row column lf lr lc))
+
 -- ---- any puzzle of pieces that faces turn
 
 module _ {S R : Type 0} (a : Action S R) (IsValid : S → Type 0) (IsTurn : R → Type 0) (acts : IsAction a IsValid IsTurn) (generators : List R)
-    (turns : (face : ℕ) (q : R) → slice_get generators face ≡ Some q → IsTurn q) (side : ℕ) (large : 1 < side) (net : S → Letters)
-    (quarter : (face : ℕ) (q : R) → slice_get generators face ≡ Some q → (s : S) → IsValid s → quarter_net side face 1 (net s) ≡ net (a.turned s q)) where
+    (turns : (face : ℕ) (q : R) → slice_get generators face ≡ Some q → IsTurn q) (side : ℕ) (large : 1 < side) (letter : S → Sticker → ℕ)
+    (comes_by : ℕ → R → Sticker → Bool) (tests : (face : ℕ) (q : R) → slice_get generators face ≡ Some q → each_sticker side (comes_by face q) ≡ true)
+    (letter-turned : (face : ℕ) (q : R) (s : S) (x : Sticker) → IsValid s → IsTurn q → comes_by face q x ≡ true
+    → letter s (brought_from (side - 1) face 1 x) ≡ letter (a.turned s q) x) where
+  abbrev net : S → Letters
+  net s = net_of side (letter s)
+
+  quarter : (face : ℕ) (q : R) → slice_get generators face ≡ Some q → (s : S) → IsValid s → quarter_net side face 1 (net s) ≡ net (a.turned s q)
+  quarter face q there s own =
+      net-quarter side face (letter s) (letter (a.turned s q)) (comes_by face q) (omega (arith, large)) (tests face q there)
+      (λ x. letter-turned face q s x own (turns face q there))
+
   net-power : (face : ℕ) (q : R) → slice_get generators face ≡ Some q → (amount : ℕ) (s : S) → IsValid s
       → turned_net side face 1 amount (net s) ≡ net (a.turned s (power a q amount))
   unfolding turned_net power
@@ -84,18 +106,6 @@ module _ {S R : Type 0} (a : Action S R) (IsValid : S → Type 0) (IsTurn : R �
       by None e h = absurd (cc)
       by (Some r) e h = net-played w s r own e ∙ sym (ap (option_map net) e)
 
--- a net by a rule turns as the rule does, where it does so at each sticker that passes a test, as all do
-net-quarter : (side face : ℕ) (letter other : Sticker → ℕ) (test : Sticker → Bool) → 0 < side → each_sticker side test ≡ true
-    → ((s : Sticker) → test s ≡ true → letter (brought_from (side - 1) face 1 s) ≡ other s)
-    → quarter_net side face 1 (net_of side letter) ≡ net_of side other
-unfolding quarter_net
-net-quarter side face letter other test some passed same =
-    net_of-same side (λ s. letter_at side (net_of side letter) (brought_from (side - 1) face 1 s)) other (λ f row column lf lr lc.
-    let s : Sticker = sticker_at (side - 1) f row column in
-    let is : IsSticker (side - 1) s = IsSticker-at (side - 1) f row column lf (omega arith) (omega arith) in
-    letter_at-net_of side letter (brought_from (side - 1) face 1 s) some (IsSticker-brought (side - 1) face 1 s is)
-    ∙ same s (each_sticker-at side test passed f row column lf lr lc))
-
 -- ---- the 3x3x3
 
 cube_turns : (face : ℕ) (q : CubeTurn) → slice_get cube_quarters face ≡ Some q → IsCubeTurn q
@@ -141,18 +151,12 @@ cube_letter-turned face q c s own turn h =
     (λ e. letter_of_pieces-turned 12 2 edge_faces c.edges q.edges (lit< tt) own.edges turn.edges 2 s.face t.face s t (t.face == s.face)
     (λ same. sym (eqb-true t.face s.face same)) e) h)
 
-cube_quarter : (face : ℕ) (q : CubeTurn) → slice_get cube_quarters face ≡ Some q → (c : CubeState) → IsCube c
-    → quarter_net 3 face 1 (net_of_cube c) ≡ net_of_cube (cube_action.turned c q)
-cube_quarter face q there c own =
-    net-quarter 3 face (cube_letter c) (cube_letter (cube_action.turned c q)) (cube_comes_from face q) (lit< tt) (cube_tests face q there)
-    (λ s. cube_letter-turned face q c s own (cube_turns face q there))
-
 pub cube_nets : (w : List Turn) → IsSome (play (after_letter cube_powers) solved_cube w)
     → play (net_after 3) (solved_net 3) w ≡ option_map net_of_cube (play (after_letter cube_powers) solved_cube w)
 unfolding net_of cube_letter letter_of_pieces solved_cube solved_orbit
 cube_nets =
-    played_net cube_action IsCube IsCubeTurn lawful_cube.lawful.acts cube_quarters cube_turns 3 (lit< tt) net_of_cube cube_quarter solved_cube
-    (record { corners = IsZeroSumOrbit-solved 8 3 (lit< tt); edges = IsZeroSumOrbit-solved 12 2 (lit< tt); same_parity = refl }) refl
+    played_net cube_action IsCube IsCubeTurn lawful_cube.lawful.acts cube_quarters cube_turns 3 (lit< tt) cube_letter cube_comes_from cube_tests cube_letter-turned
+    solved_cube (record { corners = IsZeroSumOrbit-solved 8 3 (lit< tt); edges = IsZeroSumOrbit-solved 12 2 (lit< tt); same_parity = refl }) refl
 
 -- ---- the 2x2x2
 
@@ -178,15 +182,9 @@ corners_letter-turned face q o s own turn h =
     sym (letter_of_pieces-turned 7 3 corner_faces_222 o q (lit< tt) own turn 1 s.face t.face s t (t.face == s.face)
     (λ same. sym (eqb-true t.face s.face same)) h)
 
-corners_quarter : (face : ℕ) (q : Rearrangement) → slice_get quarters_222 face ≡ Some q → (o : Orbit) → IsCorners222 o
-    → quarter_net 2 face 1 (net_of_corners o) ≡ net_of_corners (action_222.turned o q)
-corners_quarter face q there o own =
-    net-quarter 2 face (corners_letter o) (corners_letter (action_222.turned o q)) (corners_come_from face q) (lit< tt) (corners_tests face q there)
-    (λ s. corners_letter-turned face q o s own (corners_turns face q there))
-
 pub corners_nets : (w : List Turn) → IsSome (play (after_letter powers_222) solved_222 w)
     → play (net_after 2) (solved_net 2) w ≡ option_map net_of_corners (play (after_letter powers_222) solved_222 w)
 unfolding net_of corners_letter letter_of_pieces solved_222 solved_orbit
 corners_nets =
-    played_net action_222 IsCorners222 (IsZeroSumRearrangement 7 3) lawful_222.lawful.acts quarters_222 corners_turns 2 (lit< tt) net_of_corners corners_quarter
-    solved_222 (IsZeroSumOrbit-solved 7 3 (lit< tt)) refl
+    played_net action_222 IsCorners222 (IsZeroSumRearrangement 7 3) lawful_222.lawful.acts quarters_222 corners_turns 2 (lit< tt) corners_letter corners_come_from corners_tests
+    corners_letter-turned solved_222 (IsZeroSumOrbit-solved 7 3 (lit< tt)) refl

@@ -1,5 +1,5 @@
 //! The nets of a 3x3x3 and of a 2x2x2 by their pieces.
-ghost use Rattle.std.specs.Prelude.{◌≡◌, ◌<◌, ◌≤◌, ◌==◌, All, IfSome, length, position};
+ghost use Rattle.std.specs.Prelude.{◌≡◌, ◌<◌, ◌==◌, All, IfSome, length, position};
 ghost use Rattle.std.specs.List.{list_all};
 ghost use Rattle.scr_orbit.specs.Stickers.{standing};
 ghost use Rattle.scr_net.specs.Geometry.{IsSticker, IsWithin, distance};

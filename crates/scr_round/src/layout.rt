@@ -3,7 +3,7 @@
 ghost use Rattle.std.specs.Prelude.{◌≡◌, ℕ, ◌+◌, ◌*◌, ◌≤◌, ◌<◌, Some, [], ◌∷◌, ◌++◌, length, codes, slice_get};
 ghost use Rattle.std.specs.Fmt.{decimal};
 ghost use Rattle.arrayvec.specs.ArrayString.{array_string_len};
-ghost use Rattle.scr_notation.specs.Event.{name_of, minima_of};
+ghost use Rattle.scr_notation.specs.Event.{name_of};
 ghost use Rattle.scr_list.specs.Rounds.{IsRound};
 ghost use Rattle.scr_round.specs.Round.{slots_of, labels_from, group_lines, minimum_text, own_name_text, heading, round_lines};
 ghost use Rattle.scr_round.specs.Round.{IsBelow};

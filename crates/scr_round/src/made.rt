@@ -1,6 +1,6 @@
 //! A round that was made.
 
-ghost use Rattle.std.specs.Prelude.{◌≡◌, ◌<◌, List, length};
+ghost use Rattle.std.specs.Prelude.{◌≡◌, ◌<◌, length};
 
 use scr_list::Round;
 use scr_notation::Scramble;

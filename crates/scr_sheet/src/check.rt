@@ -7,7 +7,7 @@ ghost use Rattle.scr_check.specs.Reading.{reading, source_name};
 ghost use Rattle.scr_list.specs.RoundLists.{IsRounds};
 ghost use Rattle.scr_list.specs.Reading.{listed};
 ghost use Rattle.scr_slots.specs.Agreement.{is_tested_by_table};
-ghost use Rattle.scr_sheet.specs.Check.{EndsChecking, EndsReading, ReadsListPart, check_settings};
+ghost use Rattle.scr_sheet.specs.Check.{EndsChecking, EndsReading, ReadsListPart};
 ghost use Rattle.scr_sheet.specs.Outcome.{Ends};
 
 use crate::fault::Fault;

@@ -1,9 +1,7 @@
 //! A sink for the text of one round.
 
-ghost use Rattle.std.specs.Prelude.{◌≡◌, ◌^◌, ◌<◌, ◌≤◌, Some, [], ◌++◌, length, take, OnErr, IfOk};
+ghost use Rattle.std.specs.Prelude.{◌≡◌, ◌<◌, ◌≤◌, Some, [], length, IfOk};
 ghost use Rattle.std.specs.Vec.{vec_len, vec_capacity};
-ghost use Rattle.scr_outside.specs.Change.{change_of, Gains, Fails};
-ghost use Rattle.scr_outside.specs.Faults.{raised};
 ghost use Rattle.scr_sheet.specs.TextSink.{TextHeld};
 
 use scr_outside::{Failed, LINE_ROOM, Sink};

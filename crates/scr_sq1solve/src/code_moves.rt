@@ -1,18 +1,16 @@
 //! Where letters lead from states in which mates stand opposite to each other.
 ghost use Rattle.std.specs.Prelude.{◌≡◌, ◌<◌, ◌+◌, ◌*◌, ◌/◌, ◌%◌, IfOk, IsSome, Some};
 ghost use Rattle.std.specs.Option.{option_map};
-ghost use Rattle.std.specs.List.{list_any};
 ghost use Rattle.std.proofs.Props.{props};
-ghost use Rattle.scr_combinatorics.specs.Play.{play};
 ghost use Rattle.scr_positions.specs.Coordinates.{StaysBelow};
 ghost use Rattle.scr_positions.specs.Moves.{moves_coordinate};
 ghost use Rattle.scr_positions.specs.SearchSpaces.{ShowsSame};
 ghost use Rattle.scr_sq1.specs.Numbers.{corners_of};
-ghost use Rattle.scr_sq1.specs.Units.{sq1_after, solved_sq1};
+ghost use Rattle.scr_sq1.specs.Units.{sq1_after};
 ghost use Rattle.scr_sq1solve.specs.declared.stage_letters.Letters.TheVariants.{OfHome, Quarters};
 ghost use Rattle.scr_sq1solve.specs.Codes.{codes_coordinate, row_parity, rows_coordinate};
 ghost use Rattle.scr_sq1solve.specs.Letters.{letter_of};
-ghost use Rattle.scr_sq1solve.specs.Tables.{square_coordinate, square_index, square_state, has_index, has_number};
+ghost use Rattle.scr_sq1solve.specs.Tables.{square_coordinate, square_index, square_state, has_number};
 ghost use Rattle.scr_sq1solve.specs.Placed.{IsKept};
 ghost use Rattle.scr_combinatorics.specs.Stages.{by_letters};
 

@@ -1,14 +1,18 @@
 -- What is so of a table that is built over moves, is so of the coordinate that these show.
-use Rattle.std.proofs.Common.{◌≡◌, ℕ, ◌*◌, ◌^◌, ◌<◌, Bool, true, false, List, [], ◌∷◌, Some, refl, sym, ap, ◌∙◌, subst, arith}
-use Rattle.std.specs.Prelude.{slice_get}
+use Rattle.std.proofs.Common.{◌≡◌, ℕ, ◌*◌, ◌^◌, ◌<◌, Bool, true, false, List, [], ◌∷◌, Result, Some, refl, sym, ap, ◌∙◌, subst, arith}
+use Rattle.std.specs.Prelude.{IfOk, slice_get}
 use Rattle.std.specs.Option.{option_map}
+use Rattle.std.proofs.lemmas.Result.{IfOk-weaker}
 use Rattle.scr_positions.specs.Coordinates.{Coordinate, StaysBelow}
 use Rattle.scr_positions.specs.SearchSpaces.{ShowsSame}
 use Rattle.scr_positions.proofs.ProductLaws.{ShowsSame-product}
 use Rattle.scr_positions.proofs.SearchLaws.{Follows-same}
+use Rattle.scr_table.specs.Lines.{TableLine}
 use Rattle.scr_table.proofs.SameTables.{StaysBelow-same}
 use Rattle.scr_twophase.specs.declared.outlook.Outlook.{Outlook}
-use Rattle.scr_twophase.specs.Outlooks.{AreOutlooks}
+use Rattle.scr_twophase.specs.declared.position.Extent.{Extent}
+use Rattle.scr_twophase.specs.declared.pruning.PruningTable.{PruningTable}
+use Rattle.scr_twophase.specs.Outlooks.{AreOutlooks, AreOutlooksOf}
 use Rattle.scr_twophase.specs.Views.{beside}
 
 -- ---- two coordinates side by side, in either order
@@ -43,7 +47,7 @@ AreOutlooks-none c distances all none = record { each = λ p o at there. absurd 
     no_outlook (u ∷ us) p o none there = cc
 
 -- those over what shows a coordinate are those over the coordinate
-pub AreOutlooks-same : (c shown : Coordinate) → StaysBelow shown → ShowsSame c shown → (distances : List ℕ) (all : List Outlook)
+AreOutlooks-same : (c shown : Coordinate) → StaysBelow shown → ShowsSame c shown → (distances : List ℕ) (all : List Outlook)
     → AreOutlooks shown distances all → AreOutlooks c distances all
 AreOutlooks-same c shown below same distances all o = record {
   each = λ p outlook at there. record {
@@ -52,3 +56,12 @@ AreOutlooks-same c shown below same distances all o = record {
         ((Follows-same c shown (StaysBelow-same c shown below same) same).turned p t at ∙ ap (option_map (λ n. n)) to) lt;
   };
 }
+
+-- Those that are found over what shows a line's coordinate are those of its table, by either name of what the line is made of.
+pub IfOk-outlooks : {X E : Type 0} (items : X → List Outlook) (line : Extent → TableLine) (e f : Extent) → e ≡ f → (table : PruningTable) (shown : Coordinate)
+    → StaysBelow shown → ShowsSame (line e).coordinate shown → (r : Result X E) → IfOk r (λ all. AreOutlooks shown table.distances.distances (items all))
+    → IfOk r (λ all. AreOutlooksOf (line f) table (items all))
+IfOk-outlooks items line e f same table shown below shows r found =
+    subst (λ x. IfOk r (λ all. AreOutlooksOf (line x) table (items all))) same
+    (IfOk-weaker r (λ all. AreOutlooks shown table.distances.distances (items all)) (λ all. AreOutlooksOf (line e) table (items all))
+    (λ all. AreOutlooks-same (line e).coordinate shown below shows table.distances.distances (items all)) found)

@@ -27,22 +27,11 @@ use Rattle.scr_twophase.specs.Views.{AreViews, Shows, first_views, part_number}
 use Rattle.scr_twophase.proofs.CubeTests.{IsDomino-test, leads-played, goal_number}
 use Rattle.scr_twophase.proofs.Orderly.{last-push}
 use Rattle.scr_twophase.proofs.Spaces.{Follows-twists, Follows-middle_set}
+use Rattle.scr_twophase.proofs.TakenBack.{AreTakenBack-turns}
 use Rattle.scr_twophase.proofs.ViewLaws.{Sees-follows, part_number-end, tests_agree}
+use Rattle.scr_twophase.proofs.WordSteps.{AreBehind-turns, sets_below}
 
 -- ---- positions
-
--- what a search for first parts sees
-pub AreViews-first : AreViews first_views FIRST_EXTENT
-unfolding turn_numbers
-AreViews-first = record {
-  one = Sees-follows first_views HasNoFlips first_views.one refl Follows-flips (λ c h e. let d = (IsDomino-test c).0 e in d.no_flips);
-  other = Sees-follows first_views IsUntwisted first_views.other refl Follows-twists (λ c h e. let d = (IsDomino-test c).0 e in d.no_twists);
-  middle = Sees-follows first_views IsInMiddle first_views.middle refl Follows-middle_set (λ c h e. let d = (IsDomino-test c).0 e in d.middle);
-  counts = (refl, refl, refl);
-  block = (lit< tt, lit< tt, lit≤ tt);
-  slices = (lit< tt, lit< tt);
-  few = (lit≤ tt, lit≤ tt, refl);
-}
 
 -- a position shows whether a cube is a domino
 pub is_domino-shown : (c : CubeState) (at : PartPosition) → Shows first_views c at → is_domino c ≡ is_domino_position at
@@ -58,8 +47,24 @@ is_domino-shown c at h =
     (λ all. tests.1 (record { no_flips = flips.1 all.0; no_twists = twists.1 all.1; middle = middle.1 all.2 }))
 
 -- the number of the dominoes
-pub first_number-domino : (c : CubeState) → IsCube c → is_domino c ≡ true → 2121713844224 ≡ part_number first_views c
+first_number-domino : (c : CubeState) → IsCube c → is_domino c ≡ true → 2121713844224 ≡ part_number first_views c
 first_number-domino c h e = part_number-end first_views c 494 h (is_domino-shown c) e
+
+-- what a search for first parts sees
+pub AreViews-first : AreViews first_views FIRST_EXTENT
+unfolding turn_numbers
+AreViews-first = record {
+  one = Sees-follows first_views HasNoFlips first_views.one refl Follows-flips (λ c h e. let d = (IsDomino-test c).0 e in d.no_flips);
+  other = Sees-follows first_views IsUntwisted first_views.other refl Follows-twists (λ c h e. let d = (IsDomino-test c).0 e in d.no_twists);
+  middle = Sees-follows first_views IsInMiddle first_views.middle refl Follows-middle_set (λ c h e. let d = (IsDomino-test c).0 e in d.middle);
+  counts = (refl, refl, refl);
+  block = (lit< tt, lit< tt, lit≤ tt);
+  slices = (lit< tt, lit< tt);
+  few = (lit≤ tt, lit≤ tt, refl);
+  taken_back = AreTakenBack-turns;
+  behind = (sets_below 18 FIRST_EXTENT.behind refl, AreBehind-turns);
+  end = first_number-domino;
+}
 
 -- ---- the turns that lead on
 

@@ -33,7 +33,9 @@ use Rattle.scr_twophase.specs.Search.{IsAt, IsSearched, IsTestOf, carried, first
 use Rattle.scr_twophase.specs.Views.{AreViews, Shows, part_number, second_views}
 use Rattle.scr_twophase.proofs.CubeTests.{after_turn-is, turn-below, same_cube, IsSolved-test, leads-played, goal_number}
 use Rattle.scr_twophase.proofs.Outcomes.{IsSearched-none, IsSearched-one}
+use Rattle.scr_twophase.proofs.TakenBack.{AreTakenBack-ten}
 use Rattle.scr_twophase.proofs.ViewLaws.{Sees-follows, part_number-end, tests_agree}
+use Rattle.scr_twophase.proofs.WordSteps.{AreBehind-ten, sets_below}
 use Rattle.scr_twophase.specs.Spaces.{AreCornersHome, AreOuterHome, AreMiddleHome}
 use Rattle.scr_twophase.proofs.Spaces.{IsPlaceSet-outer_places, outer-kept, Follows-corners, Follows-outer_edges}
 use Rattle.scr_twophase.proofs.Spaces.{Follows-middle_edges}
@@ -43,19 +45,6 @@ use Rattle.scr_twophase.proofs.Spaces.{Follows-middle_edges}
 -- what is so of the solved cube
 so_there : (P : CubeState → Type 0) → P solved_cube → (e : CubeState) → is_solved e ≡ true → P e
 so_there P home e test = subst P (sym ((IsSolved-test e).0 test)) home
-
--- what a search for second parts sees
-pub AreViews-second : AreViews second_views SECOND_EXTENT
-unfolding domino_turns solved_cube solved_orbit
-AreViews-second = record {
-  one = Sees-follows second_views AreCornersHome second_views.one refl Follows-corners (λ c h e. so_there AreCornersHome refl c e);
-  other = Sees-follows second_views AreOuterHome second_views.other refl Follows-outer_edges (λ c h e. so_there AreOuterHome refl c e);
-  middle = Sees-follows second_views AreMiddleHome second_views.middle refl Follows-middle_edges (λ c h e. so_there AreMiddleHome refl c e);
-  counts = (refl, refl, refl);
-  block = (lit< tt, lit< tt, lit≤ tt);
-  slices = (lit< tt, lit< tt);
-  few = (lit≤ tt, lit≤ tt, refl);
-}
 
 -- the turn at a place of the ten
 pub domino_turn-lt : (place d : ℕ) → place < 10 → get_or domino_turns place d < 18
@@ -93,8 +82,24 @@ is_solved-shown c at h =
     tests.1 (same_cube c solved_cube (corners.1 all.0) h.seen.domino.no_twists (all_home c h.seen (outer.1 all.1) (middle.1 all.2)) h.seen.domino.no_flips))
 
 -- the number of the solved cube
-pub second_number-solved : (c : CubeState) → IsDominoCube c → is_solved c ≡ true → 0 ≡ part_number second_views c
+second_number-solved : (c : CubeState) → IsDominoCube c → is_solved c ≡ true → 0 ≡ part_number second_views c
 second_number-solved c h e = part_number-end second_views c 0 h (is_solved-shown c) e
+
+-- what a search for second parts sees
+pub AreViews-second : AreViews second_views SECOND_EXTENT
+unfolding domino_turns solved_cube solved_orbit
+AreViews-second = record {
+  one = Sees-follows second_views AreCornersHome second_views.one refl Follows-corners (λ c h e. so_there AreCornersHome refl c e);
+  other = Sees-follows second_views AreOuterHome second_views.other refl Follows-outer_edges (λ c h e. so_there AreOuterHome refl c e);
+  middle = Sees-follows second_views AreMiddleHome second_views.middle refl Follows-middle_edges (λ c h e. so_there AreMiddleHome refl c e);
+  counts = (refl, refl, refl);
+  block = (lit< tt, lit< tt, lit≤ tt);
+  slices = (lit< tt, lit< tt);
+  few = (lit≤ tt, lit≤ tt, refl);
+  taken_back = AreTakenBack-ten;
+  behind = (sets_below 10 SECOND_EXTENT.behind refl, AreBehind-ten);
+  end = second_number-solved;
+}
 
 -- ---- words
 

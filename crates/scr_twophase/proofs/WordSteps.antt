@@ -1,7 +1,10 @@
 -- Which turns may stand behind a word.
-use Rattle.std.proofs.Common.{◌≡◌, ℕ, ◌/◌, ◌^◌, ◌<◌, Bool, true, List, [], ◌∷◌, length, get_or, refl, ltb-true}
+use Rattle.std.proofs.Common.{◌≡◌, ℕ, ◌/◌, ◌^◌, ◌<◌, Bool, true, List, length, get_or, refl, ltb-true}
 use Rattle.std.specs.Prelude.{All, nat_lt}
+use Rattle.std.specs.List.{list_all}
 use Rattle.scr_stages.proofs.FiniteTests.{All-from_test, agree, agree-same, passes_below, test-below}
+use Rattle.scr_twophase.specs.declared.first.TheConstants as all
+use Rattle.scr_twophase.specs.declared.second.TheConstants as ten
 use Rattle.scr_twophase.specs.Search.{AreBehind}
 use Rattle.scr_twophase.specs.TwoParts.{domino_turns, may_precede, turn_numbers}
 use Rattle.scr_twophase.specs.TurnSets.{contains_turn}
@@ -20,24 +23,14 @@ AreBehind-tested turns sets each all = record {
 }
 
 -- all turns, and the ten
-unfoldable pub behind_turns : List ℕ
-behind_turns = 262136 ∷ 262087 ∷ 261695 ∷ 258552 ∷ 233415 ∷ 32319 ∷ 262143 ∷ []
+pub AreBehind-turns : AreBehind turn_numbers all.FIRST_EXTENT.behind
+unfolding is_behind passes_below agree may_precede turn_numbers
+AreBehind-turns = AreBehind-tested turn_numbers all.FIRST_EXTENT.behind refl refl
 
-unfoldable pub behind_ten : List ℕ
-behind_ten = 1016 ∷ 1015 ∷ 1007 ∷ 792 ∷ 759 ∷ 495 ∷ 1023 ∷ []
+pub AreBehind-ten : AreBehind domino_turns ten.SECOND_EXTENT.behind
+unfolding is_behind passes_below agree may_precede domino_turns
+AreBehind-ten = AreBehind-tested domino_turns ten.SECOND_EXTENT.behind refl refl
 
-pub AreBehind-turns : AreBehind turn_numbers behind_turns
-unfolding is_behind passes_below agree behind_turns may_precede turn_numbers
-AreBehind-turns = AreBehind-tested turn_numbers behind_turns refl refl
-
-pub AreBehind-ten : AreBehind domino_turns behind_ten
-unfolding is_behind passes_below agree behind_ten may_precede domino_turns
-AreBehind-ten = AreBehind-tested domino_turns behind_ten refl refl
-
-pub behind_turns-small : All (λ set. set < 2 ^ 18) behind_turns
-unfolding behind_turns
-behind_turns-small = All-from_test (λ set. nat_lt set (2 ^ 18)) (λ set. set < 2 ^ 18) (λ set. ltb-true set (2 ^ 18)) behind_turns refl
-
-pub behind_ten-small : All (λ set. set < 2 ^ 10) behind_ten
-unfolding behind_ten
-behind_ten-small = All-from_test (λ set. nat_lt set (2 ^ 10)) (λ set. set < 2 ^ 10) (λ set. ltb-true set (2 ^ 10)) behind_ten refl
+-- sets of numbers below a limit
+pub sets_below : (n : ℕ) (sets : List ℕ) → list_all (λ set. nat_lt set (2 ^ n)) sets ≡ true → All (λ set. set < 2 ^ n) sets
+sets_below n sets = All-from_test (λ set. nat_lt set (2 ^ n)) (λ set. set < 2 ^ n) (λ set. ltb-true set (2 ^ n)) sets

@@ -1,5 +1,5 @@
 -- A part of the solution as its tables see it: three coordinates, each of which has a number of a cube.
-use Rattle.std.specs.Prelude.{◌≡◌, ℕ, ◌+◌, ◌*◌, ◌^◌, ◌<◌, ◌≤◌, Bool, true, false, IsTrue, List, [], ◌∷◌, length}
+use Rattle.std.specs.Prelude.{◌≡◌, ℕ, ◌+◌, ◌*◌, ◌^◌, ◌<◌, ◌≤◌, All, Bool, true, false, IsTrue, List, [], ◌∷◌, length}
 use Rattle.scr_positions.specs.Coordinates.{Coordinate, IsGoal}
 use Rattle.scr_positions.specs.Products.{product_coordinate}
 use Rattle.scr_positions.specs.SearchSpaces.{Follows, positions}
@@ -10,6 +10,8 @@ use Rattle.scr_stages.specs.Tables.{flips_coordinate}
 use Rattle.scr_table.specs.Lines.{TableLine}
 use Rattle.scr_twophase.specs.declared.position.Extent.{Extent}
 use Rattle.scr_twophase.specs.declared.position.PartPosition.{PartPosition}
+use Rattle.scr_twophase.specs.Near.{AreTakenBack}
+use Rattle.scr_twophase.specs.Search.{AreBehind}
 use Rattle.scr_twophase.specs.Tables.{twists_of, twists_coordinate, middle_set_coordinate, corners_of, outer_edges_of, middle_edges_of, corners_coordinate, outer_edges_coordinate, middle_edges_coordinate}
 use Rattle.scr_twophase.specs.TwoParts.{domino_turns, is_domino, is_solved, turn_numbers}
 
@@ -84,7 +86,8 @@ pub record Sees (v : Views) (view : View) : Type 0 where
   pub along : Follows (cube_space v.IsSeen v.turns (λ c. IsGoal view.coordinate (view.number c))) (positions view.coordinate) view.number
   pub ends : (c : CubeState) → v.IsSeen c → IsTrue (v.ends c) → IsGoal view.coordinate (view.number c)
 
--- All views do; they have so many positions, which find room in numbers of 32 bits, and there are few turns.
+-- All views do; they have so many positions, which find room in numbers of 32 bits; there are few turns, and each is taken back
+-- by one of them; the sets of those that may stand behind others are sets of them; and the end has this number.
 pub record AreViews (v : Views) (e : Extent) : Type 0 where
   pub one : Sees v v.one
   pub other : Sees v v.other
@@ -93,6 +96,9 @@ pub record AreViews (v : Views) (e : Extent) : Type 0 where
   pub block : (0 < e.ones) × (e.ones * e.others < 2 ^ 32) × (e.middles ≤ 2 ^ 16)
   pub slices : (e.ones * e.middles < 2 ^ 32) × (e.others * e.middles < 2 ^ 32)
   pub few : (length v.turns ≤ 18) × (e.bound ≤ 24) × (e.turns ≡ length v.turns)
+  pub taken_back : AreTakenBack v.turns e.backs v.IsSeen
+  pub behind : All (λ set. set < 2 ^ length v.turns) e.behind × AreBehind v.turns e.behind
+  pub end : (c : CubeState) → v.IsSeen c → IsTrue (v.ends c) → e.end ≡ part_number v c
 
 -- ---- both parts
 

@@ -9,9 +9,7 @@ ghost use Rattle.scr_twophase.specs.Views.{Shows, first_views};
 
 use crate::position::{Extent, PartPosition};
 use crate::space::BLOCK;
-use crate::turn_set::{TurnSet, behind};
 use crate::views::PartViews;
-use crate::word::Word;
 use scr_coord::{PlaceSet, Twists, places_of};
 use scr_cube::Cube;
 use scr_outside::NoMemory;
@@ -21,21 +19,18 @@ use scr_stages::{ALL_TURNS, MIDDLE_EDGES, corners_turned, edges_turned};
 use scr_table::TableName;
 use std::alloc::Global;
 
-/// For each turn the number of the one that takes it back.
-const BACK: [u32; 18] = [2, 1, 0, 5, 4, 3, 8, 7, 6, 11, 10, 9, 14, 13, 12, 17, 16, 15];
-
-/// For each face of U R F D L B, the turns that may stand right behind one of it: those of its own are left out, and
-/// behind D, L and B those of the opposite face too. Then all turns.
-const BEHIND: [u32; 7] = [
-    0x3_fff8, 0x3_ffc7, 0x3_fe3f, 0x3_f1f8, 0x3_8fc7, 0x0_7e3f, 0x3_ffff,
-];
-
+/// All turns: behind a turn those of its face are left out, and behind one of D, L or B those of the opposite face too.
 /// Flips, twists, and sets of the places of the edges of the middle layer.
-const FIRST_EXTENT: Extent = Extent {
+static FIRST_EXTENT: Extent = Extent {
     turns: 18,
+    backs: [2, 1, 0, 5, 4, 3, 8, 7, 6, 11, 10, 9, 14, 13, 12, 17, 16, 15],
+    behind: [
+        0x3_fff8, 0x3_ffc7, 0x3_fe3f, 0x3_f1f8, 0x3_8fc7, 0x0_7e3f, 0x3_ffff,
+    ],
     ones: 2048,
     others: 2187,
     middles: 495,
+    end: 494 * BLOCK,
     middle_first: false,
     one_table: TableName::FlipSlice,
     other_table: TableName::TwistSlice,
@@ -47,29 +42,16 @@ const FIRST_EXTENT: Extent = Extent {
 pub(crate) struct FirstPart;
 
 impl PartViews for FirstPart {
-    ghost use Rattle.scr_twophase.specs.declared.first.TheConstants.{BACK, FIRST_EXTENT};
+    ghost use Rattle.scr_twophase.specs.declared.first.TheConstants.{FIRST_EXTENT};
     ghost use Rattle.scr_twophase.specs.Views.{first_views};
 
     ghost views = { first_views };
 
-    ghost backs = { BACK };
-
-    ghost EXTENT = { FIRST_EXTENT };
-
-    const EXTENT: Extent = FIRST_EXTENT;
+    ghost extent = { FIRST_EXTENT };
 
     #[inline]
-    fn back(place: u32) -> u32 {
-        BACK[place as usize]
-    }
-
-    #[inline]
-    fn behind(word: &Word) -> TurnSet {
-        behind(word, &BEHIND)
-    }
-
-    fn end() -> u64 {
-        494 * BLOCK
+    fn extent() -> &'static Extent {
+        &FIRST_EXTENT
     }
 
     fn one_moves(alloc: Global) -> Result<MoveTable, NoMemory> {
@@ -84,12 +66,6 @@ impl PartViews for FirstPart {
         let edges = edges_turned(&ALL_TURNS);
         MoveTable::build(alloc, &PlaceSet::<12, 4>::new(&edges[..], MIDDLE_EDGES))
     }
-
-    #[inline]
-    fn turns_are_taken_back() {}
-
-    #[inline]
-    fn are_views() {}
 }
 
 /// The position of a cube.

@@ -11,13 +11,20 @@ pub(crate) struct PartPosition {
     pub middle: u32,
 }
 
-/// How many turns a part has, how many positions its coordinates have, and what its pruning tables are.
-#[derive(Clone, Copy)]
+/// The turns of a part, each told by its place, how many positions its coordinates have, where it ends, and what its pruning
+/// tables are.
 pub(crate) struct Extent {
+    /// How many turns there are.
     pub turns: u32,
+    /// For each of them the place of the one that takes it back, and zeros behind these.
+    pub backs: [u32; 18],
+    /// For each face of U R F D L B the set of the turns that may stand right behind one of it. Then that of all turns.
+    pub behind: [u32; 7],
     pub ones: u32,
     pub others: u32,
     pub middles: u32,
+    /// The number of the cubes to which the words of the part lead.
+    pub end: u64,
     /// Whether the middle layer comes first where it stands beside another coordinate.
     pub middle_first: bool,
     pub one_table: TableName,

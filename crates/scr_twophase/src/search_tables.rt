@@ -15,7 +15,7 @@ use crate::outlook::{Outlook, outlooks};
 use crate::position::PartPosition;
 use crate::pruning::{PruningTable, beside, index_beside};
 use crate::space::{BLOCK, Positions, Space};
-use crate::turn_set::TurnSet;
+use crate::turn_set::{TurnSet, behind};
 use crate::views::PartViews;
 use crate::word::Word;
 use scr_positions::{Coord, MoveTable};
@@ -38,8 +38,8 @@ pub(crate) struct SearchTables<V: PartViews> {
     ghost one_shown: { ShowsSame V.views.one.coordinate (moves_coordinate one) },
     ghost other_shown: { ShowsSame V.views.other.coordinate (moves_coordinate other) },
     ghost middle_shown: { ShowsSame V.views.middle.coordinate (moves_coordinate middle) },
-    ghost one_is: { IsPruningTable (one_line V.views V.EXTENT) one_slice },
-    ghost other_is: { IsPruningTable (other_line V.views V.EXTENT) other_slice },
+    ghost one_is: { IsPruningTable (one_line V.views V.extent) one_slice },
+    ghost other_is: { IsPruningTable (other_line V.views V.extent) other_slice },
     ghost near_is: { IsNear V.views.turns V.views.IsSeen (part_number V.views) V.views.ends 7 (IsInSet near) },
 }
 
@@ -51,11 +51,10 @@ impl<V: PartViews> SearchTables<V> {
         workers: u32,
     ) -> Result<SearchTables<V>, BuildFault>
         requires workers { (1 ≤ workers) × (workers ≤ 64) }
-        ensures whole { IfOk result (λ _. All HasNoGap (lines_of V.views V.EXTENT)) }
-        ensures cause { IfErr result (IsCauseOf (lines_of V.views V.EXTENT)) }
+        ensures whole { IfOk result (λ _. All HasNoGap (lines_of V.views V.extent)) }
+        ensures cause { IfErr result (IsCauseOf (lines_of V.views V.extent)) }
     {
-        V::are_views();
-        let extent = V::EXTENT;
+        let extent = V::extent();
         let one = V::one_moves(alloc)?;
         let other = V::other_moves(alloc)?;
         let middle = V::middle_moves(alloc)?;
@@ -93,11 +92,10 @@ impl<V: PartViews> SearchTables<V> {
         workers: u32,
     ) -> Result<Vec<Outlook>, AllocError>
         requires workers { (1 ≤ workers) × (workers ≤ 64) }
-        ensures one { IsTrue of_one → IfOk result (λ all. AreOutlooksOf (one_line V.views V.EXTENT) self.now.one_slice all.items) }
-        ensures other { of_one ≡ false → IfOk result (λ all. AreOutlooksOf (other_line V.views V.EXTENT) self.now.other_slice all.items) }
+        ensures one { IsTrue of_one → IfOk result (λ all. AreOutlooksOf (one_line V.views V.extent) self.now.one_slice all.items) }
+        ensures other { of_one ≡ false → IfOk result (λ all. AreOutlooksOf (other_line V.views V.extent) self.now.other_slice all.items) }
     {
-        V::are_views();
-        let extent = V::EXTENT;
+        let extent = V::extent();
         if of_one {
             let moves = beside(extent.middle_first, &self.one, &self.middle);
             moves.stays_below();
@@ -111,8 +109,8 @@ impl<V: PartViews> SearchTables<V> {
 
     /// Takes in outlooks and a near set.
     pub fn take_in(&mut self, of_one: Vec<Outlook>, of_other: Vec<Outlook>, near: NearSet)
-        requires of_one { AreOutlooksOf (one_line V.views V.EXTENT) self.old.one_slice of_one.items }
-        requires of_other { AreOutlooksOf (other_line V.views V.EXTENT) self.old.other_slice of_other.items }
+        requires of_one { AreOutlooksOf (one_line V.views V.extent) self.old.one_slice of_one.items }
+        requires of_other { AreOutlooksOf (other_line V.views V.extent) self.old.other_slice of_other.items }
         requires near { IsNear V.views.turns V.views.IsSeen (part_number V.views) V.views.ends 7 (IsInSet near) }
         ensures one { self.new.one_slice.distances ≡ self.old.one_slice.distances }
         ensures other { self.new.other_slice.distances ≡ self.old.other_slice.distances }
@@ -130,8 +128,7 @@ impl<V: PartViews> SearchTables<V> {
             → LeavesWays V.views.turns V.views.ends c more result.bits }
         ensures few { result.bits < 2 ^ 18 }
     {
-        V::are_views();
-        let extent = V::EXTENT;
+        let extent = V::extent();
         let first = extent.middle_first;
         let one = index_beside(first, extent.ones, extent.middles, at.one, at.middle);
         let other = index_beside(first, extent.others, extent.middles, at.other, at.middle);
@@ -150,8 +147,7 @@ impl<V: PartViews> SearchTables<V> {
             → KeepsWays V.views.turns test (letters word.now) (left - 1) result.bits }
         ensures few { result.bits < 2 ^ 18 }
     {
-        V::are_views();
-        let turns = V::behind(word).and(self.turns_within(at, left));
+        let turns = behind(word, &V::extent().behind).and(self.turns_within(at, left));
         if left == NEAR_AT {
             self.near.turns_into(self, at, turns)
         } else {
@@ -165,7 +161,7 @@ impl<V: PartViews> Space for SearchTables<V> {
 
     ghost turns = { V.views.turns };
 
-    ghost backs = { V.backs };
+    ghost backs = { V.extent.backs };
 
     ghost IsSeen = { V.views.IsSeen };
 
@@ -175,41 +171,38 @@ impl<V: PartViews> Space for SearchTables<V> {
 
     #[inline]
     fn places() -> u32 {
-        V::are_views();
-        V::EXTENT.turns
+        V::extent().turns
     }
 
     #[inline]
     fn back(place: u32) -> u32 {
-        V::back(place)
+        V::extent().backs[place as usize]
     }
 
     #[inline]
     fn number_after(&self, _block: u32, number: u32, place: u32) -> u32 {
-        V::are_views();
-        let extent = V::EXTENT;
+        let extent = V::extent();
         let one = self.one.target(number % extent.ones, place);
         let other = self.other.target(number / extent.ones, place);
         other.wrapping_mul(extent.ones).wrapping_add(one)
     }
 
     fn end() -> u64 {
-        V::end()
+        V::extent().end
     }
 
     fn blocks() -> u32 {
-        V::are_views();
-        V::EXTENT.middles
+        V::extent().middles
     }
 
     #[inline]
     fn block_after(&self, block: u32, place: u32) -> u32 {
-        V::are_views();
+        let _extent = V::extent();
         self.middle.target(block, place)
     }
 
     fn turns_are_taken_back() {
-        V::turns_are_taken_back();
+        let _extent = V::extent();
     }
 }
 
@@ -222,7 +215,7 @@ impl<V: PartViews> Positions for SearchTables<V> {
 
     #[inline]
     fn after(&self, at: PartPosition, place: u32) -> PartPosition {
-        V::are_views();
+        let _extent = V::extent();
         PartPosition {
             one: self.one.target(at.one, place),
             other: self.other.target(at.other, place),
@@ -232,8 +225,7 @@ impl<V: PartViews> Positions for SearchTables<V> {
 
     #[inline]
     fn number_of(at: PartPosition) -> u64 {
-        V::are_views();
-        let low = at.other.wrapping_mul(V::EXTENT.ones).wrapping_add(at.one);
+        let low = at.other.wrapping_mul(V::extent().ones).wrapping_add(at.one);
         u64::from(at.middle) * BLOCK + u64::from(low)
     }
 }

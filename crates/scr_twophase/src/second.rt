@@ -22,7 +22,7 @@ use crate::pruning::index_beside;
 use crate::search::{Part, search_within};
 use crate::search_tables::SearchTables;
 use crate::space::Positions;
-use crate::turn_set::{TurnSet, behind};
+use crate::turn_set::TurnSet;
 use crate::views::PartViews;
 use crate::word::Word;
 use scr_coord::{Lists, PlaceTurn};
@@ -37,18 +37,15 @@ use scr_stages::{
 use scr_table::TableName;
 use std::alloc::Global;
 
-/// For each of the ten turns the place of the one that takes it back.
-const BACK: [u32; 10] = [2, 1, 0, 3, 4, 7, 6, 5, 8, 9];
-
-/// For each face of U R F D L B, the places of the turns that may stand right behind one of it. Then all places.
-const BEHIND: [u32; 7] = [0x3f8, 0x3f7, 0x3ef, 0x318, 0x2f7, 0x1ef, 0x3ff];
-
-/// Lists of corners, of the edges above and below, and of those of the middle layer.
-const SECOND_EXTENT: Extent = Extent {
+/// The ten turns that keep a domino. Lists of corners, of the edges above and below, and of those of the middle layer.
+static SECOND_EXTENT: Extent = Extent {
     turns: 10,
+    backs: [2, 1, 0, 3, 4, 7, 6, 5, 8, 9, 0, 0, 0, 0, 0, 0, 0, 0],
+    behind: [0x3f8, 0x3f7, 0x3ef, 0x318, 0x2f7, 0x1ef, 0x3ff],
     ones: 40_320,
     others: 40_320,
     middles: 24,
+    end: 0,
     middle_first: true,
     one_table: TableName::CornerSlice,
     other_table: TableName::EdgeSlice,
@@ -60,29 +57,16 @@ const SECOND_EXTENT: Extent = Extent {
 pub(crate) struct SecondPart;
 
 impl PartViews for SecondPart {
-    ghost use Rattle.scr_twophase.specs.declared.second.TheConstants.{BACK, SECOND_EXTENT};
+    ghost use Rattle.scr_twophase.specs.declared.second.TheConstants.{SECOND_EXTENT};
     ghost use Rattle.scr_twophase.specs.Views.{second_views};
 
     ghost views = { second_views };
 
-    ghost backs = { BACK };
-
-    ghost EXTENT = { SECOND_EXTENT };
-
-    const EXTENT: Extent = SECOND_EXTENT;
+    ghost extent = { SECOND_EXTENT };
 
     #[inline]
-    fn back(place: u32) -> u32 {
-        BACK[place as usize]
-    }
-
-    #[inline]
-    fn behind(word: &Word) -> TurnSet {
-        behind(word, &BEHIND)
-    }
-
-    fn end() -> u64 {
-        0
+    fn extent() -> &'static Extent {
+        &SECOND_EXTENT
     }
 
     fn one_moves(alloc: Global) -> Result<MoveTable, NoMemory> {
@@ -96,12 +80,6 @@ impl PartViews for SecondPart {
     fn middle_moves(alloc: Global) -> Result<MoveTable, NoMemory> {
         edge_moves(alloc, &MIDDLE_EDGES)
     }
-
-    #[inline]
-    fn turns_are_taken_back() {}
-
-    #[inline]
-    fn are_views() {}
 }
 
 /// Where the ten turns lead from the lists of the edges of a block of 1 to 12 places, among which they carry these.

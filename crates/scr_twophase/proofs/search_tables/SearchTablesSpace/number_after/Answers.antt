@@ -1,14 +1,13 @@
-use Rattle.std.proofs.Common.{◌≡◌, ◌%◌, ◌/◌, sym, ◌∙◌, subst}
+use Rattle.std.proofs.Common.{◌≡◌, ◌%◌, ◌/◌, sym, ◌∙◌}
 use Rattle.scr_positions.specs.Moves.{moves_coordinate}
-use Rattle.scr_twophase.specs.Views.{AreViews}
 use Rattle.scr_twophase.proofs.ViewLaws.{low_part, low-made, low-one, low-other, number-low, seen-turned, shown-turned}
 use Rattle.scr_twophase.proofs.search_tables.SearchTablesSpace.number_after.Goals as goal
 
 pub returns : goal.returns
 returns g c = λ cube turned seen block number by.
     let v = g.V.PartViews.views in
-    let e = c.EXTENT-extent.result in
-    let are = subst (AreViews v) (sym c.EXTENT-extent.ensures) c.are_views.ensures in
+    let e = c.extent-extent.result.now in
+    let are = c.extent-extent.ensures.views in
     let self = c.args.self.now in
     let place = c.args.place in
     let low : c.args.number ≡ low_part v e are cube seen = number ∙ number-low v e are cube seen in
