@@ -1,8 +1,8 @@
 //! Letters as powers of generators.
 ghost use Rattle.std.specs.Prelude.{◌≡◌, ◌+◌, ◌-◌, ◌≤◌, ◌<◌, IfSome, refl};
 ghost use Rattle.std.specs.Option.{option_map};
-ghost use Rattle.scr_notation.specs.AxisLetters.{thirds_of, letters_about_axes};
-ghost use Rattle.scr_notation.specs.FaceLetters.{quarters_of, letters_of_faces};
+ghost use Rattle.scr_notation.specs.AxisLetters.{letters_about_axes};
+ghost use Rattle.scr_notation.specs.FaceLetters.{letters_of_faces};
 
 use crate::turn::Turn;
 

@@ -1,5 +1,5 @@
 //! Reading the text of a scramble.
-ghost use Rattle.std.specs.Prelude.{◌≡◌, ◌<◌, ◌≤◌, [], ◌∷◌, ◌++◌, map, Ok, IsTrue, IsNone, IfSome, IfOk, IfErr};
+ghost use Rattle.std.specs.Prelude.{◌≡◌, ◌<◌, map, Ok, IsTrue, IsNone, IfSome, IfOk, IfErr};
 ghost use Rattle.scr_notation.specs.Turns.{permits};
 ghost use Rattle.scr_notation.specs.Spelling.{spelling, text_of};
 ghost use Rattle.scr_notation.specs.Written.{Written, IsWritten};

@@ -1,7 +1,7 @@
 //! The real thing: adapters over the system's readers and writers. They are the trusted edge, and tell
 //! nothing of their bytes as sources and sinks; their contracts tie them to the reader or writer inside.
 
-ghost use Rattle.std.specs.Prelude.{◌≡◌, ℕ, ◌^◌, ◌<◌, ◌≤◌, None, length, take, OnOk, OnErr, IfOk};
+ghost use Rattle.std.specs.Prelude.{◌≡◌, ◌^◌, ◌<◌, ◌≤◌, None, length, take, OnOk, OnErr, IfOk};
 ghost use Rattle.std.specs.Io.KnownBytes.{ReadConsumes, WriteAppends};
 ghost use Rattle.scr_outside.specs.Bytes.{IsSpent};
 ghost use Rattle.scr_outside.specs.Change.{Gains, Gives, Fails};

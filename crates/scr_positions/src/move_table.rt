@@ -1,6 +1,5 @@
 //! Move tables: where each turn leads from each position of a coordinate, in one flat list, turn after turn.
-ghost use Rattle.std.specs.Prelude.{◌≡◌, ℕ, ◌+◌, ◌*◌, ◌^◌, ◌<◌, ◌++◌, ◌∷◌, [], IfOk, OnOk, Some, length};
-ghost use Rattle.scr_positions.specs.Coordinates.{Coordinate, StaysBelow};
+ghost use Rattle.std.specs.Prelude.{◌≡◌, ℕ, ◌+◌, ◌*◌, ◌<◌, ◌++◌, IfOk, OnOk, Some, length};
 ghost use Rattle.scr_positions.specs.SearchSpaces.{ShowsSame};
 ghost use Rattle.scr_positions.specs.Moves.{moves_coordinate, moves_row, each_below};
 

@@ -1,7 +1,7 @@
 //! What holds of the Square-1 whatever the code: calls that do nothing, whose contracts are the laws.
 //!
 //! That Square-1s are drawn fairly is the law of `scr_draw` for any event that it draws.
-ghost use Rattle.std.specs.Prelude.{◌≡◌, ◌↔◌, ℕ, ◌+◌, ◌*◌, ◌%◌, ◌<◌, ◌≤◌, ℤ, pos, Bool, true, false, not, List, [], ◌∷◌, ◌++◌, length, map, slice_index, All, IsTrue, Some, None, option_map, codes};
+ghost use Rattle.std.specs.Prelude.{◌≡◌, ◌↔◌, ℕ, ◌+◌, ◌*◌, ◌%◌, ◌<◌, ◌≤◌, ℤ, pos, Bool, true, false, not, List, [], ◌∷◌, ◌++◌, length, slice_index, All, Some, None, option_map, codes};
 ghost use Rattle.scr_combinatorics.specs.Lists.{ComesBefore};
 ghost use Rattle.scr_combinatorics.specs.Permutations.{factorial};
 ghost use Rattle.scr_combinatorics.specs.Numbering.{IsOneToOne, IsNumbering};

@@ -1,7 +1,6 @@
 //! The state of a Square-1 and its turns.
-ghost use Rattle.std.specs.Prelude.{◌≡◌, ◌↔◌, pos, negsuc, Some, IsTrue, IsSome, IfSome};
+ghost use Rattle.std.specs.Prelude.{◌≡◌, ◌↔◌, Some, IsTrue, IsSome, IfSome};
 ghost use Rattle.scr_combinatorics.specs.Play.{play};
-ghost use Rattle.scr_notation.specs.declared.turn.Turn.{Turn as Letter};
 ghost use Rattle.scr_notation.specs.declared.turn.Turn.TheVariants.{Layers};
 ghost use Rattle.scr_notation.specs.Layers.{is_twelfths, is_layer_turn};
 ghost use Rattle.scr_combinatorics.specs.Permutations.{IsPermutation};

@@ -1,5 +1,5 @@
 //! Units that are moved.
-ghost use Rattle.std.specs.Prelude.{◌≡◌, ℕ, ◌+◌, ◌-◌, ◌%◌, ◌<◌, All, IsTrue};
+ghost use Rattle.std.specs.Prelude.{◌≡◌, ◌+◌, ◌-◌, ◌%◌, ◌<◌, All, IsTrue};
 ghost use Rattle.scr_combinatorics.specs.Lists.{pick};
 ghost use Rattle.scr_notation.specs.Layers.{is_twelfths};
 ghost use Rattle.scr_sq1.specs.Units.{clockwise, place_before, turn_places, twist_places};

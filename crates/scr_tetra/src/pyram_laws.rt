@@ -1,5 +1,5 @@
 //! Laws of the Pyraminx. The functions do nothing: what each ensures is the law.
-ghost use Rattle.std.specs.Prelude.{◌≡◌, ◌↔◌, ℕ, ◌+◌, ◌*◌, ◌/◌, ◌^◌, ◌<◌, ◌≤◌, false, List, [], ◌∷◌, All, length, slice_get, IsSome, Some, None, codes};
+ghost use Rattle.std.specs.Prelude.{◌≡◌, ◌↔◌, ℕ, ◌+◌, ◌*◌, ◌/◌, ◌^◌, ◌≤◌, false, List, [], ◌∷◌, length, slice_get, IsSome, Some, codes};
 ghost use Rattle.std.specs.List.{AllPass};
 ghost use Rattle.scr_combinatorics.specs.Numbering.{IsNumbering};
 ghost use Rattle.scr_combinatorics.specs.Permutations.{factorial};

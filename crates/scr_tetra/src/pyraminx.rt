@@ -1,7 +1,6 @@
 //! The state of a Pyraminx.
 ghost use Rattle.std.specs.Prelude.{◌≡◌, ◌↔◌, ◌<◌, ◌+◌, ◌*◌, Some, IsTrue, IsSome, IfSome};
 ghost use Rattle.scr_orbit.specs.PowerPuzzles.{after_letter};
-ghost use Rattle.scr_notation.specs.declared.turn.Turn.{Turn as Letter};
 ghost use Rattle.scr_notation.specs.declared.turn.Turn.TheVariants.{Tip};
 ghost use Rattle.scr_tetra.specs.Pyraminx.{IsPyram, solved_pyram, pyram_powers};
 

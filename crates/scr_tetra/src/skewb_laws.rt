@@ -1,5 +1,5 @@
 //! Laws of the Skewb. The functions do nothing: what each ensures is the law.
-ghost use Rattle.std.specs.Prelude.{◌≡◌, ℕ, ◌*◌, ◌/◌, ◌^◌, ◌<◌, ◌≤◌, List, [], ◌∷◌, All, length, slice_get, Some, None, codes};
+ghost use Rattle.std.specs.Prelude.{◌≡◌, ℕ, ◌*◌, ◌/◌, ◌^◌, List, [], ◌∷◌, length, slice_get, Some, codes};
 ghost use Rattle.scr_combinatorics.specs.Permutations.{factorial};
 ghost use Rattle.scr_combinatorics.specs.Numbering.{IsNumbering};
 ghost use Rattle.scr_combinatorics.specs.Play.{play, count_in};

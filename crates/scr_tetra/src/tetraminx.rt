@@ -1,5 +1,5 @@
 //! The state of a Pyraminx without its tips.
-ghost use Rattle.std.specs.Prelude.{◌≡◌, ◌↔◌, ◌<◌, All, IsTrue, IsSome, IfSome};
+ghost use Rattle.std.specs.Prelude.{◌≡◌, ◌↔◌, ◌<◌, IsTrue, IsSome, IfSome};
 ghost use Rattle.scr_orbit.specs.InPlace.{AreDigitsInPlace};
 ghost use Rattle.scr_orbit.specs.Orbits.{added_digits};
 ghost use Rattle.scr_tetra.specs.Pyraminx.{IsTetraminx, solved_tetraminx};

@@ -1,6 +1,6 @@
 //! Slots answered in chunks, one for each worker.
 
-ghost use Rattle.std.specs.Prelude.{◌≡◌, ℕ, ◌+◌, ◌^◌, ◌<◌, ◌≤◌, length};
+ghost use Rattle.std.specs.Prelude.{◌≡◌, ◌+◌, ◌^◌, ◌<◌, ◌≤◌, length};
 ghost use Rattle.scr_workers.specs.Answered.{AreAnswered};
 
 use crate::gate::Gate;
