@@ -1,6 +1,6 @@
 //! Two calls side by side.
 
-ghost use Rattle.std.specs.Prelude.{◌≤◌};
+ghost use Rattle.std.specs.Prelude.{◌≡◌, ◌+◌, ◌≤◌, max};
 
 use std::thread::{Threads, join};
 
@@ -24,11 +24,12 @@ pub fn both<R: Threads, F: FnOnce() -> A + Send, G: FnOnce() -> B, A: Send, B>(
     (front, back)
 }
 
-/// How many of 1 to 64 workers each of two calls side by side has; one worker makes both.
+/// How many of 1 to 64 workers each of two calls side by side has: together all of them; one worker makes both.
 pub fn shared(workers: u32) -> (u32, u32)
     requires { (1 ≤ workers) × (workers ≤ 64) }
     ensures first { (1 ≤ result.0) × (result.0 ≤ 64) }
     ensures second { (1 ≤ result.1) × (result.1 ≤ 64) }
+    ensures together { result.0 + result.1 ≡ max 2 workers }
 {
     ((workers / 2).max(1), workers.div_ceil(2))
 }
