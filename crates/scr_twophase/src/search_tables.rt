@@ -197,12 +197,12 @@ impl<V: PartViews> Space for SearchTables<V> {
 
     #[inline]
     fn block_after(&self, block: u32, place: u32) -> u32 {
-        let _extent = V::extent();
+        V::are_views();
         self.middle.target(block, place)
     }
 
     fn turns_are_taken_back() {
-        let _extent = V::extent();
+        V::are_views();
     }
 }
 
@@ -215,7 +215,7 @@ impl<V: PartViews> Positions for SearchTables<V> {
 
     #[inline]
     fn after(&self, at: PartPosition, place: u32) -> PartPosition {
-        let _extent = V::extent();
+        V::are_views();
         PartPosition {
             one: self.one.target(at.one, place),
             other: self.other.target(at.other, place),

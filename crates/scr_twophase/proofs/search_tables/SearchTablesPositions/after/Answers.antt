@@ -5,7 +5,7 @@ use Rattle.scr_twophase.proofs.search_tables.SearchTablesPositions.after.Goals a
 pub returns : goal.returns
 returns g c = λ cube turned shows by.
     let v = g.V.PartViews.views in
-    let are = c.extent-extent.ensures.views in
+    let are = c.are_views.ensures in
     let self = c.args.self.now in
     let at = c.args.at in
     let place = c.args.place in

@@ -6,8 +6,8 @@ use Rattle.scr_twophase.proofs.search_tables.SearchTablesSpace.block_after.Goals
 pub returns : goal.returns
 returns g c = λ cube turned seen at by.
     let v = g.V.PartViews.views in
-    let e = c.extent-extent.result.now in
-    let are = c.extent-extent.ensures.views in
+    let e = g.V.PartViews.extent in
+    let are = c.are_views.ensures in
     let self = c.args.self.now in
     let place = c.args.place in
     c.target.ensures (v.middle.number turned)
