@@ -25,9 +25,10 @@ use Rattle.scr_notation.proofs.Below.{and_first, and_second}
 use Rattle.scr_notation.proofs.NumberLaws.{IsFaceTurn, face_turn_parts, face_turn_of_parts}
 use Rattle.scr_notation.proofs.OppositeLaws.{permits-opposite}
 use Rattle.scr_cube.specs.Cube333.{CubeState, IsCube, cube_powers}
-use Rattle.scr_cube.specs.Held.{HeldState, IsHeld, opposite_place, whole_turned, turned_face, centres_turned, face_letter, centres_after, held_cube_after, faces_turned, holds}
+use Rattle.scr_cube.specs.Held.{HeldState, IsHeld, whole_turned, face_letter, centres_after, held_cube_after, faces_turned, holds}
 use Rattle.scr_cube.proofs.Laws333.{lawful_cube, turned-some}
-use Rattle.scr_cube.proofs.Holds.{centre-lt, own-place, centre_place-lt, centre_place-is, Contains-whole, axis-kept, whole_turned-none, whole_turned-add, whole_turned-four, centres_played}
+use Rattle.scr_cube.specs.Stickers.{opposite_place}
+use Rattle.scr_cube.proofs.Holds.{turned_face, centres_turned, centre-lt, own-place, centre_place-lt, centre_place-is, Contains-whole, axis-kept, whole_turned-none, whole_turned-add, whole_turned-four, centres_played}
 
 -- ---- one letter
 

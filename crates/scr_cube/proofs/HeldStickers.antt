@@ -10,9 +10,9 @@ use Rattle.scr_notation.specs.Amounts.{is_amount}
 use Rattle.scr_notation.specs.Turns.{permits}
 use Rattle.scr_cube.specs.declared.held.TheConstants.{HOLDS}
 use Rattle.scr_cube.specs.Cube333.{CubeState, cube_powers}
-use Rattle.scr_cube.specs.Held.{HeldState, opposite_place, whole_turned, turned_face, centres_turned, held_cube_after}
-use Rattle.scr_cube.specs.Stickers.{piece_faces, carried_piece, carried_whole, carried_wide, carried_at, shown_places, MovesStickers}
-use Rattle.scr_cube.proofs.Holds.{at_each, at_both, hold_centres-are}
+use Rattle.scr_cube.specs.Held.{HeldState, whole_turned, hold_centres, held_cube_after}
+use Rattle.scr_cube.specs.Stickers.{opposite_place, piece_faces, carried_piece, carried_whole, carried_wide, carried_at, shown_places, MovesStickers}
+use Rattle.scr_cube.proofs.Holds.{turned_face, centres_turned, at_each, at_both, hold_centres-are}
 use Rattle.scr_cube.proofs.HeldLaws.{face_parts, near_place}
 
 -- where stickers are after a turn, and where it carries them
@@ -25,7 +25,7 @@ carried place depth centres = map (λ s. carried_at place depth (shown_places ce
 moves_in : (place depth hold : ℕ) → hold < 24 → moved place depth (slice_index_or HOLDS hold []) ≡ carried place depth (slice_index_or HOLDS hold []) → MovesStickers hold place depth
 moves_in place depth hold lt e =
     let P : List ℕ → Type 0 = λ c. moved place depth c ≡ carried place depth c in
-    subst P (sym (hold_centres-are hold lt)) e
+    (turned_face (hold_centres hold) place depth, refl, subst P (sym (hold_centres-are hold lt)) e)
 
 one_layer : (place hold : ℕ) → place < 6 → hold < 24 → moved place 1 (slice_index_or HOLDS hold []) ≡ carried place 1 (slice_index_or HOLDS hold [])
 unfolding whole_turned

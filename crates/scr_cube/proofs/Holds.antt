@@ -1,6 +1,6 @@
 -- What is so of each of the 24 holds, computed over all of them.
 use Rattle.std.proofs.Common.{◌≡◌, ℕ, zero, suc, ◌+◌, ◌<◌, ◌≤◌, true, List, [], ◌∷◌, get_or, length, refl, sym, ap, ◌∙◌, subst, add-one, arith, leb-true, zero-add, ltb-true}
-use Rattle.std.specs.Prelude.{Contains, map, nat_le, nat_lt, position, slice_index, slice_index_or, unwrap_or}
+use Rattle.std.specs.Prelude.{◌==◌, if◌then◌else◌, Contains, map, nat_le, nat_lt, position, slice_index, slice_index_or, unwrap_or}
 use Rattle.std.specs.List.{list_all, list_any, range_with_len}
 use Rattle.std.specs.Str.{bytes_eq}
 use Rattle.std.proofs.lemmas.List.{get_or-map}
@@ -16,8 +16,18 @@ use Rattle.scr_notation.specs.declared.turn.Turn.{Turn}
 use Rattle.scr_notation.specs.Turning.{opposite}
 use Rattle.scr_notation.specs.Turns.{permits}
 use Rattle.scr_cube.specs.declared.held.TheConstants.{HOLDS}
-use Rattle.scr_cube.specs.Held.{whole_quarters, whole_turned, opposite_place, centres_after, faces_turned, hold_word, hold_centres, holds, hold_of}
+use Rattle.scr_cube.specs.Held.{whole_quarters, whole_turned, centres_after, faces_turned, hold_word, hold_centres, holds, hold_of}
+use Rattle.scr_cube.specs.Stickers.{opposite_place}
 use Rattle.scr_cube.proofs.OnLiterals.{held_on_literals}
+
+-- ---- what a turn of so many layers at a place turns
+
+-- the face, and the centres after it
+abbrev pub turned_face : List ℕ → ℕ → ℕ → ℕ
+turned_face centres place depth = slice_index centres (if depth == 1 then place else opposite_place place)
+
+abbrev pub centres_turned : List ℕ → ℕ → ℕ → ℕ → List ℕ
+centres_turned centres place depth amount = if depth == 1 then centres else whole_turned place centres amount
 
 -- ---- functions that agree on listed numbers
 

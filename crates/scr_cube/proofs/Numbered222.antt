@@ -8,7 +8,10 @@ use Rattle.scr_combinatorics.proofs.Digits.{by_two_digits}
 use Rattle.scr_combinatorics.proofs.Numberings.{GivesState, HasDigits, numbering_by_digits}
 use Rattle.scr_orbit.specs.Orbits.{Orbit}
 use Rattle.scr_orbit.proofs.OrbitLaws.{same_orbit}
-use Rattle.scr_cube.specs.Cube222.{IsCorners222, bases_222, digits_222, corners_of_digits, numbered_222}
+use Rattle.scr_cube.specs.Cube222.{IsCorners222, digits_222, corners_of_digits, numbered_222}
+
+abbrev pub bases_222 : List ℕ
+bases_222 = 729 ∷ 5040 ∷ []
 
 -- two numbers below their counts give a state
 abbrev Gives : List ℕ → Type 0

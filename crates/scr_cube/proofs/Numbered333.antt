@@ -11,7 +11,10 @@ use Rattle.scr_combinatorics.proofs.Twists.{twists_number-lt, IsTwists-twists_at
 use Rattle.scr_combinatorics.proofs.Digits.{by_four_digits}
 use Rattle.scr_combinatorics.proofs.Numberings.{GivesState, numbering_by_digits}
 use Rattle.scr_orbit.proofs.OrbitLaws.{same_orbit}
-use Rattle.scr_cube.specs.Cube333.{CubeState, IsCube, cube_bases, cube_digits, cube_of_digits, cube_numbered}
+use Rattle.scr_cube.specs.Cube333.{CubeState, IsCube, cube_digits, cube_of_digits, cube_numbered}
+
+abbrev pub cube_bases : List ℕ
+cube_bases = 2048 ∷ 2187 ∷ 40320 ∷ 239500800 ∷ []
 
 -- four numbers below their counts give a cube
 abbrev Gives : List ℕ → Type 0

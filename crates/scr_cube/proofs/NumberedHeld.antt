@@ -4,10 +4,13 @@ use Rattle.scr_combinatorics.specs.Numbering.{IsNumbering}
 use Rattle.scr_combinatorics.proofs.Digits.{by_two_digits}
 use Rattle.scr_combinatorics.proofs.Numberings.{GivesState, HasDigits, numbering_by_digits}
 use Rattle.scr_cube.specs.Cube333.{cube_numbered}
-use Rattle.scr_cube.specs.Held.{HeldState, IsHeld, held_bases, held_digits, held_of_digits, held_numbered}
+use Rattle.scr_cube.specs.Held.{HeldState, IsHeld, held_digits, held_of_digits, held_numbered}
 use Rattle.scr_cube.proofs.Numbered333.{cube_numbering}
 use Rattle.scr_cube.proofs.Holds.{Contains-hold, hold_of-hold, hold_of-lt, hold_centres-of}
 use Rattle.scr_cube.proofs.HeldLaws.{same_held}
+
+abbrev pub held_bases : List ℕ
+held_bases = 24 ∷ cube_numbered.count ∷ []
 
 -- two numbers below their counts give a held cube
 abbrev Gives : List ℕ → Type 0

@@ -36,17 +36,14 @@ powers_222 = record { letters = letters_of_faces; action = action_222; generator
 
 -- ---- numbers
 
--- How many twists and lists of corners there are.
-abbrev pub bases_222 : List ℕ
-bases_222 = 729 ∷ 5040 ∷ []
-
 -- The numbers of the twists and of the list of corners.
 unfoldable pub digits_222 : Orbit → List ℕ
 digits_222 c = twists_number 3 c.digits ∷ permutation_number c.pieces ∷ []
 
--- The numbered states, 3,674,160 of them: the number of the twists is the least digit.
+-- The numbered states, 3,674,160 of them, for there are 729 lists of twists and 5,040 of corners: the number of the twists
+-- is the least digit.
 abbrev pub numbers_222 : Numbers Orbit
-numbers_222 = numbers_by_digits bases_222 digits_222 IsCorners222
+numbers_222 = numbers_by_digits (729 ∷ 5040 ∷ []) digits_222 IsCorners222
 
 -- The state with these two numbers.
 unfoldable pub corners_of_digits : List ℕ → Orbit
@@ -54,4 +51,4 @@ corners_of_digits ds = record { pieces = permutation_at 7 (slice_index ds 1); di
 
 -- and with the state of each number
 abbrev pub numbered_222 : Numbered Orbit
-numbered_222 = numbered_by_digits bases_222 corners_of_digits digits_222 IsCorners222
+numbered_222 = numbered_by_digits (729 ∷ 5040 ∷ []) corners_of_digits digits_222 IsCorners222

@@ -83,10 +83,6 @@ cube_powers = record { letters = letters_of_faces; action = cube_action; generat
 
 -- ---- numbers
 
--- How many flips, twists, lists of corners and lists of edges of one parity there are.
-abbrev pub cube_bases : List ℕ
-cube_bases = 2048 ∷ 2187 ∷ 40320 ∷ 239500800 ∷ []
-
 -- The numbers of a cube's flips, of its twists, of its list of corners, and the half of the number of its list of
 -- edges. Of two lists of edges with one half the cube has the one with the corners' parity.
 unfoldable pub cube_digits : CubeState → List ℕ
@@ -94,9 +90,10 @@ cube_digits c =
     twists_number 2 c.edges.digits ∷ twists_number 3 c.corners.digits ∷ permutation_number c.corners.pieces
     ∷ permutation_number c.edges.pieces / 2 ∷ []
 
--- The numbered cubes, 43,252,003,274,489,856,000 of them: the number of the flips is the least digit.
+-- The numbered cubes, 43,252,003,274,489,856,000 of them, for there are 2,048 lists of flips, 2,187 of twists, 40,320 of
+-- corners, and 239,500,800 of edges of one parity: the number of the flips is the least digit.
 abbrev pub cube_numbers : Numbers CubeState
-cube_numbers = numbers_by_digits cube_bases cube_digits IsCube
+cube_numbers = numbers_by_digits (2048 ∷ 2187 ∷ 40320 ∷ 239500800 ∷ []) cube_digits IsCube
 
 -- The cube with these four numbers.
 unfoldable pub cube_of_digits : List ℕ → CubeState
@@ -109,4 +106,4 @@ cube_of_digits ds =
 
 -- and with the state of each number
 abbrev pub cube_numbered : Numbered CubeState
-cube_numbered = numbered_by_digits cube_bases cube_of_digits cube_digits IsCube
+cube_numbered = numbered_by_digits (2048 ∷ 2187 ∷ 40320 ∷ 239500800 ∷ []) cube_of_digits cube_digits IsCube

@@ -39,25 +39,16 @@ unfoldable pub whole_turned : ℕ → List ℕ → ℕ → List ℕ
 whole_turned place centres zero = centres
 whole_turned place centres (suc n) = pick (whole_turned place centres n) (slice_index_or whole_quarters place [])
 
-abbrev pub opposite_place : ℕ → ℕ
-opposite_place place = (place + 3) % 6
-
--- The face that a turn of so many layers at a place turns: that whose centre stands there; and of a wide turn, which
--- carries along all but the opposite layer, that whose centre stands opposite.
-abbrev pub turned_face : List ℕ → ℕ → ℕ → ℕ
-turned_face centres place depth = slice_index centres (if depth == 1 then place else opposite_place place)
-
--- The centres after such a turn by so many quarters: a face leaves them, and a wide turn turns the whole cube besides.
-abbrev pub centres_turned : List ℕ → ℕ → ℕ → ℕ → List ℕ
-centres_turned centres place depth amount = if depth == 1 then centres else whole_turned place centres amount
-
--- What a letter turns of the cube itself, by the same amount, and the centres after it.
+-- What a letter turns of the cube itself, by the same amount: a turn of one layer turns the face whose centre stands at
+-- its place, and a wide turn, which carries along all but the opposite layer, that whose centre stands opposite.
 abbrev pub face_letter : List ℕ → Turn → Turn
-face_letter centres (Face place depth amount) = Face (turned_face centres place depth) 1 amount
+face_letter centres (Face place depth amount) =
+    Face (slice_index centres (if depth == 1 then place else (place + 3) % 6)) 1 amount
 face_letter centres t = t
 
+-- The centres after it: a turn of one layer leaves them, and a wide turn turns the whole cube besides.
 abbrev pub centres_after : List ℕ → Turn → List ℕ
-centres_after centres (Face place depth amount) = centres_turned centres place depth amount
+centres_after centres (Face place depth amount) = if depth == 1 then centres else whole_turned place centres amount
 centres_after centres t = centres
 
 -- What a letter makes of a held cube: nothing where it is no turn of the event.
@@ -117,17 +108,14 @@ held_puzzle = record { Turn = Turn; after = held_cube_after; IsSolved = IsSolved
 
 -- ---- numbers
 
--- How many holds and cubes there are.
-abbrev pub held_bases : List ℕ
-held_bases = 24 ∷ cube_numbers.count ∷ []
-
 -- The numbers of the hold and of the cube.
 unfoldable pub held_digits : HeldState → List ℕ
 held_digits s = hold_of s.centres ∷ cube_numbers.number_of s.cube ∷ []
 
--- The numbered states, 1,038,048,078,587,756,544,000 of them: the number of the hold is the least digit.
+-- The numbered states, 1,038,048,078,587,756,544,000 of them, each cube in 24 holds: the number of the hold is the least
+-- digit.
 abbrev pub held_numbers : Numbers HeldState
-held_numbers = numbers_by_digits held_bases held_digits IsHeld
+held_numbers = numbers_by_digits (24 ∷ cube_numbers.count ∷ []) held_digits IsHeld
 
 -- The held cube with these two numbers.
 unfoldable pub held_of_digits : List ℕ → HeldState
@@ -136,4 +124,4 @@ held_of_digits ds =
 
 -- and with the state of each number
 abbrev pub held_numbered : Numbered HeldState
-held_numbered = numbered_by_digits held_bases held_of_digits held_digits IsHeld
+held_numbered = numbered_by_digits (24 ∷ cube_numbers.count ∷ []) held_of_digits held_digits IsHeld

@@ -1,9 +1,10 @@
 -- What quarter turns do to stickers. The faces U R F D L B are 0 to 5.
-use Rattle.std.specs.Prelude.{◌≡◌, ℕ, ◌==◌, if◌then◌else◌, List, [], ◌∷◌, ◌++◌, map, slice_index, slice_index_or}
+use Rattle.std.specs.Prelude.{◌≡◌, ℕ, ◌+◌, ◌%◌, ◌==◌, if◌then◌else◌, List, [], ◌∷◌, ◌++◌, map, slice_index, slice_index_or}
 use Rattle.std.specs.List.{list_any}
 use Rattle.scr_combinatorics.specs.Lists.{numbers_from}
 use Rattle.scr_combinatorics.specs.Permutations.{place_of}
-use Rattle.scr_cube.specs.Held.{centres_turned, hold_centres, opposite_place, turned_face}
+use Rattle.scr_notation.specs.declared.turn.Turn.TheVariants.{Face}
+use Rattle.scr_cube.specs.Held.{centres_after, face_letter, hold_centres}
 
 -- The faces at which the stickers of each corner place are, clockwise, that of U or D first: URF, UFL, ULB, UBR, DFR, DLF,
 -- DBL, DRB.
@@ -36,6 +37,9 @@ carried_piece face stickers =
 abbrev pub piece_faces : List (List ℕ)
 piece_faces = corner_faces ++ edge_faces ++ map (λ face. face ∷ []) (numbers_from 0 6)
 
+abbrev pub opposite_place : ℕ → ℕ
+opposite_place place = (place + 3) % 6
+
 -- The same after the whole cube was turned clockwise about a place, and after a wide turn there, which leaves the pieces of
 -- the opposite layer alone.
 abbrev pub carried_whole : ℕ → List ℕ → List ℕ
@@ -53,9 +57,12 @@ carried_at place depth stickers = if depth == 1 then carried_piece place sticker
 abbrev pub shown_places : List ℕ → List ℕ → List ℕ
 shown_places centres stickers = map (λ face. place_of face centres) stickers
 
--- In this hold, a quarter turn of so many layers at a place brings all stickers to the places to which it carries them.
+-- In this hold, a quarter turn of so many layers at a place turns a face, and so brings all stickers to the places to which
+-- it carries them.
 abbrev pub MovesStickers : ℕ → ℕ → ℕ → Type 0
 MovesStickers hold place depth =
     let centres = hold_centres hold in
-    map (λ s. shown_places (centres_turned centres place depth 1) (carried_piece (turned_face centres place depth) s)) piece_faces
-    ≡ map (λ s. carried_at place depth (shown_places centres s)) piece_faces
+    let turn = Face place depth 1 in
+    (face : ℕ) × (face_letter centres turn ≡ Face face 1 1)
+    × (map (λ s. shown_places (centres_after centres turn) (carried_piece face s)) piece_faces
+    ≡ map (λ s. carried_at place depth (shown_places centres s)) piece_faces)

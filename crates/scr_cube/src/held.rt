@@ -1,9 +1,9 @@
 //! A 3x3x3 as it is held.
-ghost use Rattle.std.specs.Prelude.{◌≡◌, ◌<◌, ◌≤◌, ◌↔◌, Contains, IfSome, IsNone, IsSome, Some, [], slice_index_or};
+ghost use Rattle.std.specs.Prelude.{◌≡◌, ℕ, ◌<◌, ◌≤◌, ◌↔◌, Contains, IfSome, IsNone, IsSome, Some, [], slice_index_or};
 ghost use Rattle.scr_combinatorics.specs.Lists.{pick};
 ghost use Rattle.scr_combinatorics.specs.Play.{play};
 ghost use Rattle.scr_notation.specs.declared.turn.Turn.TheVariants.{Face};
-ghost use Rattle.scr_cube.specs.Held.{IsHeld, centres_turned, held_cube_after, hold_centres, hold_of, holds, solved_held, turned_face, whole_quarters};
+ghost use Rattle.scr_cube.specs.Held.{IsHeld, centres_after, face_letter, held_cube_after, hold_centres, hold_of, holds, solved_held, whole_quarters};
 
 use crate::cube::Cube;
 use scr_notation::{Event, PowerTurned, Scramble, Turn};
@@ -192,7 +192,7 @@ fn number_of_hold(centres: &[u8; 6]) -> Option<u8>
 /// The face that a turn of so many layers at a place, below 6, turns.
 fn turned_face(centres: &[u8; 6], place: u8, depth: u8) -> u8
     requires { place < 6 }
-    ensures { result ≡ turned_face centres.now place depth }
+    ensures { (amount : ℕ) → face_letter centres.now (Face place depth amount) ≡ Face result 1 amount }
 {
     if depth == 1 {
         centres[place as usize]
@@ -204,7 +204,7 @@ fn turned_face(centres: &[u8; 6], place: u8, depth: u8) -> u8
 /// The centres after a turn of so many layers at a place; of more than one it is below 3.
 fn centres_turned(centres: &[u8; 6], place: u8, depth: u8, amount: u8) -> [u8; 6]
     requires { (depth ≡ 1 → ⊥) → place < 3 }
-    ensures { result ≡ centres_turned centres.now place depth amount }
+    ensures { result ≡ centres_after centres.now (Face place depth amount) }
 {
     let mut turned = *centres;
     if depth == 1 {

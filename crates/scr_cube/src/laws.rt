@@ -23,8 +23,8 @@ ghost use Rattle.scr_notation.specs.Played.{PlaysTurnsOf};
 ghost use Rattle.scr_cube.specs.Composition.{IsJoined, cube_then};
 ghost use Rattle.scr_cube.specs.Cube333.{CubeTurn, IsCube, IsCubeTurn, cube_quarters, cube_action, cube_powers, solved_cube, cube_numbered};
 ghost use Rattle.scr_cube.specs.Cube222.{IsCorners222, quarters_222, powers_222, solved_222, numbered_222};
-ghost use Rattle.scr_cube.specs.Held.{HeldState, IsHeld, opposite_place, whole_turned, held_cube_after, solved_held, faces_turned, hold_word, holds, held_puzzle, held_numbered};
-ghost use Rattle.scr_cube.specs.Stickers.{MovesStickers, piece_faces, carried_piece, carried_whole, carried_wide};
+ghost use Rattle.scr_cube.specs.Held.{HeldState, IsHeld, whole_turned, held_cube_after, solved_held, faces_turned, hold_word, holds, held_puzzle, held_numbered};
+ghost use Rattle.scr_cube.specs.Stickers.{MovesStickers, opposite_place, piece_faces, carried_piece, carried_whole, carried_wide};
 ghost use Rattle.scr_cube.specs.Symmetry.{ShowsTurns, left_right, up_down, front_back, without_dbl};
 ghost use Rattle.scr_cube.specs.Known.{known_orders, superflip, superflip_word, colours_after};
 

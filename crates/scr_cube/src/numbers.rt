@@ -1,8 +1,8 @@
 //! The numbers of cubes, by which they are drawn.
-ghost use Rattle.std.specs.Prelude.{◌≡◌};
-ghost use Rattle.scr_cube.specs.Cube333.{IsCube, cube_digits, cube_numbered};
+ghost use Rattle.std.specs.Prelude.{◌≡◌, [], ◌∷◌};
+ghost use Rattle.scr_cube.specs.Cube333.{IsCube, cube_digits, cube_numbered, cube_numbers};
 ghost use Rattle.scr_cube.specs.Cube222.{numbered_222};
-ghost use Rattle.scr_cube.specs.Held.{held_bases, held_numbered};
+ghost use Rattle.scr_cube.specs.Held.{held_numbered};
 
 use crate::corners::Corners222;
 use crate::cube::Cube;
@@ -33,7 +33,7 @@ const BASES_222: [u128; 2] = [729, 5040];
 
 /// The numbers of a hold and of a cube.
 fn held_radix() -> MixedRadix<2>
-    ensures { result ≡ held_bases }
+    ensures { result ≡ 24 ∷ cube_numbers.count ∷ [] }
 {
     MixedRadix::new([24, CubeNumbers.count()])
 }

@@ -1,7 +1,6 @@
 use Rattle.std.proofs.Common.{subst, sym, lit<}
 use Rattle.scr_combinatorics.specs.Digits.{AreDigits}
-use Rattle.scr_cube.specs.Cube333.{cube_bases}
-use Rattle.scr_cube.proofs.Numbered333.{AreDigits-cube}
+use Rattle.scr_cube.proofs.Numbered333.{cube_bases, AreDigits-cube}
 use Rattle.scr_cube.proofs.numbers.CubeNumbersNumbering.number_of.Goals as goal
 
 pub rank-requires : goal.rank-requires

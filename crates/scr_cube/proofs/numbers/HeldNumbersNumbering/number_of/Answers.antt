@@ -1,8 +1,8 @@
 use Rattle.std.proofs.Common.{◌≡◌, [], ◌∷◌, sym, ap, ◌∙◌, subst, lit<}
 use Rattle.scr_combinatorics.specs.Digits.{AreDigits, mixed_number}
 use Rattle.scr_cube.specs.Cube333.{cube_numbered}
-use Rattle.scr_cube.specs.Held.{hold_of, held_bases, held_digits}
-use Rattle.scr_cube.proofs.NumberedHeld.{has_two}
+use Rattle.scr_cube.specs.Held.{hold_of, held_digits}
+use Rattle.scr_cube.proofs.NumberedHeld.{held_bases, has_two}
 use Rattle.scr_cube.proofs.numbers.HeldNumbersNumbering.number_of.Goals as goal
 
 pub rank-requires : goal.rank-requires

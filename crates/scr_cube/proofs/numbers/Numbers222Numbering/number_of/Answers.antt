@@ -2,7 +2,8 @@ use Rattle.std.proofs.Common.{◌≡◌, [], ◌∷◌, ap, ◌∙◌}
 use Rattle.scr_combinatorics.specs.Permutations.{permutation_number}
 use Rattle.scr_combinatorics.specs.Twists.{twists_number}
 use Rattle.scr_combinatorics.specs.Digits.{mixed_number}
-use Rattle.scr_cube.specs.Cube222.{bases_222, digits_222}
+use Rattle.scr_cube.specs.Cube222.{digits_222}
+use Rattle.scr_cube.proofs.Numbered222.{bases_222}
 use Rattle.scr_cube.proofs.numbers.Numbers222Numbering.number_of.Goals as goal
 
 pub returns : goal.returns
