@@ -7,8 +7,8 @@ use Rattle.scr_orbit.specs.PowerPuzzles.{after_letter}
 use Rattle.scr_notation.specs.declared.turn.Turn.{Turn}
 use Rattle.scr_cube.specs.Cube333.{CubeState, cube_powers, solved_cube}
 
--- Each corner place has the first cube's corner from the place that the second has there, with both twists added; so have
--- the edge places, with both flips.
+-- Each corner place has the first cube's corner from the place that the second has there, with both twists added; so
+-- have the edge places, with both flips.
 unfoldable pub cube_then : CubeState → CubeState → CubeState
 cube_then c d = record { corners = orbit_then 3 c.corners d.corners; edges = orbit_then 2 c.edges d.edges }
 

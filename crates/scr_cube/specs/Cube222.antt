@@ -40,14 +40,15 @@ powers_222 = record { letters = letters_of_faces; action = action_222; generator
 unfoldable pub digits_222 : Orbit → List ℕ
 digits_222 c = twists_number 3 c.digits ∷ permutation_number c.pieces ∷ []
 
--- The numbered states, 3,674,160 of them, for there are 729 lists of twists and 5,040 of corners: the number of the twists
--- is the least digit.
+-- The numbered states, 3,674,160 of them, for there are 729 lists of twists and 5,040 of corners: the number of the
+-- twists is the least digit.
 abbrev pub numbers_222 : Numbers Orbit
 numbers_222 = numbers_by_digits (729 ∷ 5040 ∷ []) digits_222 IsCorners222
 
 -- The state with these two numbers.
 unfoldable pub corners_of_digits : List ℕ → Orbit
-corners_of_digits ds = record { pieces = permutation_at 7 (slice_index ds 1); digits = twists_at 7 3 (slice_index ds 0) }
+corners_of_digits ds =
+    record { pieces = permutation_at 7 (slice_index ds 1); digits = twists_at 7 3 (slice_index ds 0) }
 
 -- and with the state of each number
 abbrev pub numbered_222 : Numbered Orbit

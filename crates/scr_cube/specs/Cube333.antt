@@ -56,10 +56,16 @@ abbrev pub edge_quarters : List Rearrangement
 edge_quarters =
     record { places = 3 ∷ 0 ∷ 1 ∷ 2 ∷ 4 ∷ 5 ∷ 6 ∷ 7 ∷ 8 ∷ 9 ∷ 10 ∷ 11 ∷ []; added = zeros 12 }
     ∷ record { places = 8 ∷ 1 ∷ 2 ∷ 3 ∷ 11 ∷ 5 ∷ 6 ∷ 7 ∷ 4 ∷ 9 ∷ 10 ∷ 0 ∷ []; added = zeros 12 }
-    ∷ record { places = 0 ∷ 9 ∷ 2 ∷ 3 ∷ 4 ∷ 8 ∷ 6 ∷ 7 ∷ 1 ∷ 5 ∷ 10 ∷ 11 ∷ []; added = 0 ∷ 1 ∷ 0 ∷ 0 ∷ 0 ∷ 1 ∷ 0 ∷ 0 ∷ 1 ∷ 1 ∷ 0 ∷ 0 ∷ [] }
+    ∷ record {
+      places = 0 ∷ 9 ∷ 2 ∷ 3 ∷ 4 ∷ 8 ∷ 6 ∷ 7 ∷ 1 ∷ 5 ∷ 10 ∷ 11 ∷ [];
+      added = 0 ∷ 1 ∷ 0 ∷ 0 ∷ 0 ∷ 1 ∷ 0 ∷ 0 ∷ 1 ∷ 1 ∷ 0 ∷ 0 ∷ [];
+    }
     ∷ record { places = 0 ∷ 1 ∷ 2 ∷ 3 ∷ 5 ∷ 6 ∷ 7 ∷ 4 ∷ 8 ∷ 9 ∷ 10 ∷ 11 ∷ []; added = zeros 12 }
     ∷ record { places = 0 ∷ 1 ∷ 10 ∷ 3 ∷ 4 ∷ 5 ∷ 9 ∷ 7 ∷ 8 ∷ 2 ∷ 6 ∷ 11 ∷ []; added = zeros 12 }
-    ∷ record { places = 0 ∷ 1 ∷ 2 ∷ 11 ∷ 4 ∷ 5 ∷ 6 ∷ 10 ∷ 8 ∷ 9 ∷ 3 ∷ 7 ∷ []; added = 0 ∷ 0 ∷ 0 ∷ 1 ∷ 0 ∷ 0 ∷ 0 ∷ 1 ∷ 0 ∷ 0 ∷ 1 ∷ 1 ∷ [] }
+    ∷ record {
+      places = 0 ∷ 1 ∷ 2 ∷ 11 ∷ 4 ∷ 5 ∷ 6 ∷ 10 ∷ 8 ∷ 9 ∷ 3 ∷ 7 ∷ [];
+      added = 0 ∷ 0 ∷ 0 ∷ 1 ∷ 0 ∷ 0 ∷ 0 ∷ 1 ∷ 0 ∷ 0 ∷ 1 ∷ 1 ∷ [];
+    }
     ∷ []
 
 -- Both at once.
@@ -79,7 +85,8 @@ solved_cube = record { corners = solved_orbit 8; edges = solved_orbit 12 }
 
 -- The 3x3x3 as data. Its 18 turns are U U2 U' R R2 R' F F2 F' D D2 D' L L2 L' B B2 B', in the order of their numbers.
 abbrev pub cube_powers : PowerPuzzle CubeState CubeTurn Turn
-cube_powers = record { letters = letters_of_faces; action = cube_action; generators = cube_quarters; solved = solved_cube }
+cube_powers =
+    record { letters = letters_of_faces; action = cube_action; generators = cube_quarters; solved = solved_cube }
 
 -- ---- numbers
 
@@ -90,8 +97,8 @@ cube_digits c =
     twists_number 2 c.edges.digits ∷ twists_number 3 c.corners.digits ∷ permutation_number c.corners.pieces
     ∷ permutation_number c.edges.pieces / 2 ∷ []
 
--- The numbered cubes, 43,252,003,274,489,856,000 of them, for there are 2,048 lists of flips, 2,187 of twists, 40,320 of
--- corners, and 239,500,800 of edges of one parity: the number of the flips is the least digit.
+-- The numbered cubes, 43,252,003,274,489,856,000 of them, for there are 2,048 lists of flips, 2,187 of twists, 40,320
+-- of corners, and 239,500,800 of edges of one parity: the number of the flips is the least digit.
 abbrev pub cube_numbers : Numbers CubeState
 cube_numbers = numbers_by_digits (2048 ∷ 2187 ∷ 40320 ∷ 239500800 ∷ []) cube_digits IsCube
 
@@ -101,7 +108,10 @@ cube_of_digits ds =
     let corners = permutation_at 8 (slice_index ds 2) in
     record {
       corners = record { pieces = corners; digits = twists_at 8 3 (slice_index ds 1) };
-      edges = record { pieces = half_at 12 (parity corners) (slice_index ds 3); digits = twists_at 12 2 (slice_index ds 0) };
+      edges = record {
+        pieces = half_at 12 (parity corners) (slice_index ds 3);
+        digits = twists_at 12 2 (slice_index ds 0);
+      };
     }
 
 -- and with the state of each number

@@ -1,10 +1,10 @@
 -- A 3x3x3 as it is held, so that a scramble can end with the cube in any of 24 ways: where the centres stand, turns at
--- places, wide turns, holds and their words, and numbers. (WCA Regulations, article 12 for turns; which word a hold has,
--- and how held cubes are numbered, is our own choice.)
+-- places, wide turns, holds and their words, and numbers. (WCA Regulations, article 12 for turns; which word a hold
+-- has, and how held cubes are numbered, is our own choice.)
 --
--- A turn is done at a place: up, right, front, down, left or back, U R F D L B, which are 0 to 5. A face is named by its
--- centre, that of a cube that is held as it was solved: the centres have the numbers of the places where they stand then.
--- Corners and edges are told as on a cube that is not held otherwise, by their places among the centres.
+-- A turn is done at a place: up, right, front, down, left or back, U R F D L B, which are 0 to 5. A face is named by
+-- its centre, that of a cube that is held as it was solved: the centres have the numbers of the places where they stand
+-- then. Corners and edges are told as on a cube that is not held otherwise, by their places among the centres.
 use Rattle.std.specs.Prelude.{◌≡◌, ℕ, zero, suc, ◌+◌, ◌/◌, ◌%◌, ◌==◌, if◌then◌else◌, List, [], ◌∷◌, ◌++◌, map, Contains, slice_index, slice_index_or, position, Option, None, unwrap_or}
 use Rattle.std.specs.Option.{option_map, option_map_or}
 use Rattle.std.specs.Str.{bytes_eq}
@@ -112,8 +112,8 @@ held_puzzle = record { Turn = Turn; after = held_cube_after; IsSolved = IsSolved
 unfoldable pub held_digits : HeldState → List ℕ
 held_digits s = hold_of s.centres ∷ cube_numbers.number_of s.cube ∷ []
 
--- The numbered states, 1,038,048,078,587,756,544,000 of them, each cube in 24 holds: the number of the hold is the least
--- digit.
+-- The numbered states, 1,038,048,078,587,756,544,000 of them, each cube in 24 holds: the number of the hold is the
+-- least digit.
 abbrev pub held_numbers : Numbers HeldState
 held_numbers = numbers_by_digits (24 ∷ cube_numbers.count ∷ []) held_digits IsHeld
 

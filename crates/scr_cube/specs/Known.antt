@@ -22,8 +22,8 @@ abbrev pub superflip_word : List Turn
 superflip_word =
     word_at cube_powers (0 ∷ 4 ∷ 6 ∷ 15 ∷ 3 ∷ 16 ∷ 3 ∷ 1 ∷ 12 ∷ 16 ∷ 3 ∷ 2 ∷ 11 ∷ 4 ∷ 6 ∷ 5 ∷ 12 ∷ 16 ∷ 1 ∷ 7 ∷ [])
 
--- The colours of the centres of a cube that is held with white up and green in front, by the places U R F D L B: white, red,
--- green, yellow, orange, blue (WCA Regulations, article 4: so a cube is held to be scrambled).
+-- The colours of the centres of a cube that is held with white up and green in front, by the places U R F D L B: white,
+-- red, green, yellow, orange, blue (WCA Regulations, article 4: so a cube is held to be scrambled).
 abbrev pub colours : List ℕ
 colours = codes "WRGYOB"
 

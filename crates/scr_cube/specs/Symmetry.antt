@@ -25,7 +25,8 @@ mirrored_turn m r = record { corners = mirrored 3 m.corners r.corners; edges = m
 -- The mirror shows each face's quarter turn as a quarter turn the other way, of the face that it shows there.
 abbrev pub ShowsTurns : Mirror → Type 0
 ShowsTurns m =
-    map (mirrored_turn m) cube_quarters ≡ map (λ r. power cube_action r 3) (filter_map (slice_get cube_quarters) m.faces)
+    map (mirrored_turn m) cube_quarters
+    ≡ map (λ r. power cube_action r 3) (filter_map (slice_get cube_quarters) m.faces)
 
 -- Left and right are exchanged; up and down; front and back.
 abbrev pub left_right : Mirror

@@ -20,7 +20,7 @@ use Rattle.scr_coord.specs.Projections.{stands_in}
 use Rattle.scr_cube.specs.Cube333.{CubeState, IsCube}
 use Rattle.scr_cube.proofs.Laws333.{same_cube}
 use Rattle.scr_stages.specs.Stages.{middle_edges, IsDomino}
-use Rattle.scr_stages.specs.Numbers.{IsDominoCube, first_edges, second_edges, IsHalfCube, half_bases, half_digits, half_cube_of_digits, half_cubes, edges_of_blocks}
+use Rattle.scr_stages.specs.Numbers.{IsDominoCube, first_edges, second_edges, IsHalfCube, half_digits, half_cube_of_digits, half_cubes, edges_of_blocks}
 use Rattle.scr_stages.specs.Tetrads.{first_tetrad, second_tetrad, corner_index, corners_at, relation_of, in_block, other_places, half_corners_number, half_corners_at}
 use Rattle.scr_stages.proofs.Blocks.{places_in, pick-places, IsPermutation-order_in, pick-append, pick-arranged}
 use Rattle.scr_stages.proofs.KeptBlocks.{kept_from-places, places_from-kept, kept_from-picked, in_block-picked, All-kept}
@@ -139,6 +139,9 @@ module _ (c : CubeState) (d : IsDominoCube c) (home : IsTetradsHome c) where
       )
 
 -- ---- a half cube, and its digits
+
+abbrev pub half_bases : List ℕ
+half_bases = 12 ∷ 24 ∷ 24 ∷ 96 ∷ []
 
 pub IsTetradsHome-half : (c : CubeState) → IsHalfCube c → IsTetradsHome c
 IsTetradsHome-half c h = (IsTetradsHome-iff c h.domino).0 h.index

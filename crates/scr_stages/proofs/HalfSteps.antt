@@ -13,13 +13,13 @@ use Rattle.scr_positions.specs.SearchSpaces.{positions, Follows, ShowsSame}
 use Rattle.scr_positions.proofs.StaysBelowLaws.{StaysBelow-moves}
 use Rattle.scr_cube.specs.Cube333.{CubeState, cube_action}
 use Rattle.scr_stages.specs.Stages.{half_turns, after_of, middle_edges}
-use Rattle.scr_stages.specs.Numbers.{first_edges, second_edges, IsHalfCube, AreParts, ArePartNumbers, half_bases, half_digits, half_cubes}
+use Rattle.scr_stages.specs.Numbers.{first_edges, second_edges, IsHalfCube, AreParts, ArePartNumbers, half_digits, half_cubes}
 use Rattle.scr_stages.specs.Tables.{turns_of, half_corners_coordinate, half_block_coordinate, halves_coordinate}
 use Rattle.scr_stages.specs.Tetrads.{in_block, half_corners_number, half_corners_at}
 use Rattle.scr_stages.specs.declared.half_moves.HalfMoves.{HalfMoves}
 use Rattle.scr_stages.specs.declared.half_parts.HalfParts.{HalfParts}
 use Rattle.scr_stages.proofs.FiniteTests.{passes_below, test-below}
-use Rattle.scr_stages.proofs.HalfCubes.{number-lt, AreDigits-half, AreOrders-blocks, IsTetradsHome-half, half_corners_at-number, half_cubes-numbered, parity-middle}
+use Rattle.scr_stages.proofs.HalfCubes.{half_bases, number-lt, AreDigits-half, AreOrders-blocks, IsTetradsHome-half, half_corners_at-number, half_cubes-numbered, parity-middle}
 use Rattle.scr_stages.proofs.HalfTurned.{halves_moves}
 use Rattle.scr_stages.proofs.HalfParts.{IsHalfBlock, IsHalfBlock-first, IsHalfBlock-second, IsHalfBlock-middle, Follows-half_corners, Follows-half_block}
 

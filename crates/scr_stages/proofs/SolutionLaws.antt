@@ -20,7 +20,7 @@ use Rattle.scr_table.proofs.LineLaws.{table_of_line}
 use Rattle.scr_table.proofs.StageLaws.{stage_word}
 use Rattle.scr_cube.specs.Cube333.{CubeState, IsCube, cube_powers, solved_cube}
 use Rattle.scr_cube.proofs.Laws333.{lawful_cube}
-use Rattle.scr_stages.specs.Stages.{letter_in, after_of, stages, IsHalfTurned, IsStageScramble, flips_turns, slice_turns}
+use Rattle.scr_stages.specs.Stages.{letter_in, after_of, stages, IsHalfTurned, IsStageScramble, turn_numbers, slice_turns}
 use Rattle.scr_stages.specs.Stages.{flips_stage, slice_stage, tetrads_stage, halves_stage}
 use Rattle.scr_stages.specs.Numbers.{flips_number, slice_number, tetrads_number, half_cubes, IsUnflippedCube, IsDominoCube, IsHalfCube}
 use Rattle.scr_stages.specs.Tables.{flips_line, slice_line, tetrads_line, halves_line, stage_lines}
@@ -62,7 +62,7 @@ module _ (of_flips of_slice of_tetrads of_halves : Distances) (is_flips : IsTabl
       let flips = by_table flips_stage IsCube flips_line flips_number Follows-flips (lit≤ tt) of_flips is_flips StaysBelow-flips c h in
       let first = flips.1.first.leads in
       let second_valid : IsUnflippedCube first.end =
-      record { cube = IsCube-played c first.end flips_turns flips.0 h first.played; no_flips = first.goal } in
+      record { cube = IsCube-played c first.end turn_numbers flips.0 h first.played; no_flips = first.goal } in
       let slice =
       by_table slice_stage IsUnflippedCube slice_line slice_number Follows-unflipped (lit≤ tt) of_slice is_slice StaysBelow-slice
       first.end second_valid in

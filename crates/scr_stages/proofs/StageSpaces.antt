@@ -18,7 +18,7 @@ use Rattle.scr_coord.specs.Projections.{projection, twists_view, place_set_view,
 use Rattle.scr_coord.proofs.MarkedPieces.{IsPlaceSet-marked}
 use Rattle.scr_cube.specs.Cube333.{CubeState, IsCube, IsCubeTurn, cube_action, solved_cube}
 use Rattle.scr_cube.proofs.Laws333.{cube_laws}
-use Rattle.scr_stages.specs.Stages.{HasNoFlips, IsUntwisted, IsInMiddle, IsDomino, middle_edges, after_of, flips_turns, slice_turns, tetrads_turns}
+use Rattle.scr_stages.specs.Stages.{HasNoFlips, IsUntwisted, IsInMiddle, IsDomino, middle_edges, after_of, turn_numbers, slice_turns, domino_turns}
 use Rattle.scr_stages.specs.Numbers.{flips_number, slice_number, first_edges, tetrads_number, IsUnflippedCube, IsDominoCube}
 use Rattle.scr_stages.specs.Spaces.{cube_space}
 use Rattle.scr_stages.specs.SearchTables.{flips_table, slice_table, tetrads_table}
@@ -116,7 +116,7 @@ module _ (numbers : List ℕ) (below : All (λ t. t < 18) numbers) where
 -- ---- the first two stages
 
 pub Follows-flips : Follows flips_table.space (positions flips_coordinate) flips_number
-Follows-flips = Follows-flips_by flips_turns flips_numbers
+Follows-flips = Follows-flips_by turn_numbers flips_numbers
 
 pub Follows-slice : Follows slice_table.space (positions slice_coordinate) slice_number
 Follows-slice = Follows-twists_beside slice_turns slice_numbers
@@ -143,10 +143,10 @@ Follows-unflipped =
 
 -- ---- dominoes
 
-pub tetrads_moves : TurnsStates cube_action.turned (turns_of tetrads_turns) (after_of tetrads_turns) IsDominoCube IsDominoTurn
+pub tetrads_moves : TurnsStates cube_action.turned (turns_of domino_turns) (after_of domino_turns) IsDominoCube IsDominoTurn
 tetrads_moves = record {
   each = tetrads_each;
-  after_is = after_of-turns tetrads_turns tetrads_numbers;
+  after_is = after_of-turns domino_turns tetrads_numbers;
   keeps = IsDominoCube-turned;
 }
 
@@ -182,15 +182,15 @@ IsTetradsHome-iff c h =
 pub Follows-tetrads : Follows tetrads_table.space (positions tetrads_coordinate) tetrads_number
 unfolding turned_orbit
 Follows-tetrads =
-    let after = after_of tetrads_turns in
+    let after = after_of domino_turns in
     let IsFirst : CubeState → Type 0 = λ c. places_in first_edges c.edges.pieces ≡ first_edges in
     let IsHome : CubeState → Type 0 = λ c. corner_index c.corners.pieces ≡ corner_index (numbers_from 0 8) in
-    let low = projection (place_set_view 8 4 first_edges) (map (block_turn outer_places) (edges_by tetrads_turns)) in
-    let high = projection tetrads_view (corners_by tetrads_turns) in
+    let low = projection (place_set_view 8 4 first_edges) (map (block_turn outer_places) (edges_by domino_turns)) in
+    let high = projection tetrads_view (corners_by domino_turns) in
     let low_number = λ (c : CubeState). place_set_number 8 (places_in first_edges c.edges.pieces) in
     let high_number = λ (c : CubeState). corner_index c.corners.pieces in
-    let first : Follows (cube_space IsDominoCube tetrads_turns IsFirst) (positions low) low_number =
-    Follows-viewed cube_action.turned (turns_of tetrads_turns) after IsDominoCube IsDominoTurn tetrads_moves (place_set_view 8 4 first_edges)
+    let first : Follows (cube_space IsDominoCube domino_turns IsFirst) (positions low) low_number =
+    Follows-viewed cube_action.turned (turns_of domino_turns) after IsDominoCube IsDominoTurn tetrads_moves (place_set_view 8 4 first_edges)
     (λ r. block_turn outer_places r.edges) low_number IsFirst
     (λ c h. place_set_number-lt 8 4 (places_in first_edges c.edges.pieces) (IsPlaceSet-first_places c h))
     (λ c r h t.
@@ -203,8 +203,8 @@ Follows-tetrads =
       λ e. ap (place_set_number 8) e,
       λ e. place_set_number-injective 8 4 (places_in first_edges c.edges.pieces) first_edges (IsPlaceSet-first_places c h) IsPlaceSet-outer e,
     )) in
-    let corners : Follows (cube_space IsDominoCube tetrads_turns IsHome) (positions high) high_number =
-    Follows-viewed cube_action.turned (turns_of tetrads_turns) after IsDominoCube IsDominoTurn tetrads_moves tetrads_view
+    let corners : Follows (cube_space IsDominoCube domino_turns IsHome) (positions high) high_number =
+    Follows-viewed cube_action.turned (turns_of domino_turns) after IsDominoCube IsDominoTurn tetrads_moves tetrads_view
     (λ r. r.corners) high_number IsHome (λ c h. corner_index-lt c.corners.pieces h.cube.corners.pieces)
     (λ c r h t. corner_index-turned c.corners.pieces r.corners.places h.cube.corners.pieces t.slice.valid.corners.places)
     (λ c h. (λ e. e, λ e. e)) in

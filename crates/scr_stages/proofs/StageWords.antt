@@ -19,7 +19,7 @@ use Rattle.scr_coord.specs.Projections.{projection, twists_view, place_set_view}
 use Rattle.scr_coord.proofs.ListViews.{StaysBelow-projection, IsListView-twists, IsListView-place_sets}
 use Rattle.scr_table.specs.Distances.{Distances}
 use Rattle.scr_table.specs.Lines.{IsTableOf}
-use Rattle.scr_stages.specs.Stages.{after_of, middle_edges, IsHalfTurned, flips_turns, slice_turns, tetrads_turns}
+use Rattle.scr_stages.specs.Stages.{after_of, middle_edges, IsHalfTurned, turn_numbers, slice_turns, domino_turns}
 use Rattle.scr_stages.specs.Numbers.{tetrads_number, first_edges, IsDominoCube}
 use Rattle.scr_stages.specs.Spaces.{cube_space}
 use Rattle.scr_stages.specs.Tables.{turns_of, corners_by, edges_by, outer_places, block_turn, flips_coordinate, slice_coordinate, tetrads_coordinate, halves_line}
@@ -36,8 +36,8 @@ use Rattle.scr_stages.proofs.HalfTurned.{tetrads_number-half_turned}
 
 pub StaysBelow-flips : StaysBelow flips_coordinate
 StaysBelow-flips =
-    StaysBelow-projection (twists_view 12 2) (IsTwists 12 2) (IsZeroSumRearrangement 12 2) (edges_by flips_turns) (IsListView-twists 12 2 (lit< tt) (lit< tt))
-    (All-map (IsZeroSumRearrangement 12 2) (λ r. r.edges) (turns_of flips_turns) (λ k d lt. (flips_each k d lt).edges))
+    StaysBelow-projection (twists_view 12 2) (IsTwists 12 2) (IsZeroSumRearrangement 12 2) (edges_by turn_numbers) (IsListView-twists 12 2 (lit< tt) (lit< tt))
+    (All-map (IsZeroSumRearrangement 12 2) (λ r. r.edges) (turns_of turn_numbers) (λ k d lt. (flips_each k d lt).edges))
 
 pub slice_corner_moves : All (IsZeroSumRearrangement 8 3) (corners_by slice_turns)
 slice_corner_moves =
@@ -72,34 +72,34 @@ StaysBelow-corners turns each p t q at turn e =
     let made = IsPermutation-pick 8 (corners_at p) found.0.places (IsPermutation-corners p at) (All-got IsMove turns t found.0 each found.1) in
     subst (λ k. k < 420) found.2 (corner_index-lt (pick (corners_at p) found.0.places) made)
 
-pub outer_moves : All (λ r. IsPermutation 8 r.places) (map (block_turn outer_places) (edges_by tetrads_turns))
+pub outer_moves : All (λ r. IsPermutation 8 r.places) (map (block_turn outer_places) (edges_by domino_turns))
 outer_moves =
     let IsMove : Rearrangement → Type 0 = λ r. IsPermutation 8 r.places in
     let IsOuter : Rearrangement → Type 0 = λ r. IsMove (block_turn outer_places r) in
-    All-map IsMove (block_turn outer_places) (edges_by tetrads_turns)
-    (All-map IsOuter (λ r. r.edges) (turns_of tetrads_turns) (λ k d lt. (tetrads_each k d lt).outer_places))
+    All-map IsMove (block_turn outer_places) (edges_by domino_turns)
+    (All-map IsOuter (λ r. r.edges) (turns_of domino_turns) (λ k d lt. (tetrads_each k d lt).outer_places))
 
-pub corner_moves : All (λ r. IsPermutation 8 r.places) (corners_by tetrads_turns)
+pub corner_moves : All (λ r. IsPermutation 8 r.places) (corners_by domino_turns)
 corner_moves =
     let IsMove : Rearrangement → Type 0 = λ r. IsPermutation 8 r.places in
-    All-map IsMove (λ r. r.corners) (turns_of tetrads_turns) (λ k d lt. (tetrads_each k d lt).slice.valid.corners.places)
+    All-map IsMove (λ r. r.corners) (turns_of domino_turns) (λ k d lt. (tetrads_each k d lt).slice.valid.corners.places)
 
-pub StaysBelow-outer : StaysBelow (projection (place_set_view 8 4 first_edges) (map (block_turn outer_places) (edges_by tetrads_turns)))
+pub StaysBelow-outer : StaysBelow (projection (place_set_view 8 4 first_edges) (map (block_turn outer_places) (edges_by domino_turns)))
 StaysBelow-outer =
     let IsMove : Rearrangement → Type 0 = λ r. IsPermutation 8 r.places in
-    StaysBelow-projection (place_set_view 8 4 first_edges) (IsPlaceSet 8 4) IsMove (map (block_turn outer_places) (edges_by tetrads_turns))
+    StaysBelow-projection (place_set_view 8 4 first_edges) (IsPlaceSet 8 4) IsMove (map (block_turn outer_places) (edges_by domino_turns))
     (IsListView-place_sets 8 4 first_edges IsPlaceSet-outer) outer_moves
 
 pub StaysBelow-tetrads : StaysBelow tetrads_coordinate
 StaysBelow-tetrads =
-    StaysBelow-product (projection (place_set_view 8 4 first_edges) (map (block_turn outer_places) (edges_by tetrads_turns)))
-    (projection tetrads_view (corners_by tetrads_turns)) refl StaysBelow-outer (StaysBelow-corners (corners_by tetrads_turns) corner_moves)
+    StaysBelow-product (projection (place_set_view 8 4 first_edges) (map (block_turn outer_places) (edges_by domino_turns)))
+    (projection tetrads_view (corners_by domino_turns)) refl StaysBelow-outer (StaysBelow-corners (corners_by domino_turns) corner_moves)
 
 -- ---- dominoes, where the halves are measured
 
 pub Follows-half_turned : (halves : Distances) → IsTableOf halves_line halves
-    → Follows (cube_space IsDominoCube tetrads_turns IsHalfTurned) (positions tetrads_coordinate) tetrads_number
+    → Follows (cube_space IsDominoCube domino_turns IsHalfTurned) (positions tetrads_coordinate) tetrads_number
 Follows-half_turned halves built =
-    Follows-goals IsDominoCube (λ c. tetrads_number c ≡ tetrads_number Rattle.scr_cube.specs.Cube333.solved_cube) IsHalfTurned (after_of tetrads_turns)
+    Follows-goals IsDominoCube (λ c. tetrads_number c ≡ tetrads_number Rattle.scr_cube.specs.Cube333.solved_cube) IsHalfTurned (after_of domino_turns)
     tetrads_coordinate tetrads_number
     (λ c d. let iff = tetrads_number-half_turned halves built.measures c d in (iff.1, iff.0)) Follows-tetrads

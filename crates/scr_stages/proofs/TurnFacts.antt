@@ -24,7 +24,7 @@ use Rattle.scr_coord.specs.Projections.{marked_places, stands_in}
 use Rattle.scr_cube.specs.Cube333.{CubeState, CubeTurn, IsCubeTurn, cube_action, cube_powers}
 use Rattle.scr_cube.proofs.Laws333.{lawful_cube}
 use Rattle.scr_stages.proofs.FiniteTests.{same_list, All-from_test}
-use Rattle.scr_stages.specs.Stages.{middle_edges, letter_in, after_of, half_turns, flips_turns, slice_turns, tetrads_turns}
+use Rattle.scr_stages.specs.Stages.{middle_edges, letter_in, after_of, half_turns, turn_numbers, slice_turns, domino_turns}
 use Rattle.scr_stages.specs.Numbers.{first_edges, second_edges}
 use Rattle.scr_stages.specs.Tables.{turns_of, outer_places}
 use Rattle.scr_stages.specs.Tetrads.{in_block, shared_axis, axes_of, relation_number, relation_of, corner_index}
@@ -204,25 +204,25 @@ are_numbers numbers = list_all (λ t. nat_lt t 18) numbers
 pub All-numbers : (numbers : List ℕ) → are_numbers numbers ≡ true → All (λ t. t < 18) numbers
 All-numbers numbers e = All-from_test (λ t. nat_lt t 18) (λ t. t < 18) (λ t. ltb-true t 18) numbers e
 
-pub flips_numbers : All (λ t. t < 18) flips_turns
-flips_numbers = All-numbers flips_turns refl
+pub flips_numbers : All (λ t. t < 18) turn_numbers
+flips_numbers = All-numbers turn_numbers refl
 
 pub slice_numbers : All (λ t. t < 18) slice_turns
 slice_numbers = All-numbers slice_turns refl
 
-pub tetrads_numbers : All (λ t. t < 18) tetrads_turns
-tetrads_numbers = All-numbers tetrads_turns refl
+pub tetrads_numbers : All (λ t. t < 18) domino_turns
+tetrads_numbers = All-numbers domino_turns refl
 
-pub flips_each : All IsCubeTurn (turns_of flips_turns)
-flips_each = All-turns flips_turns flips_numbers
+pub flips_each : All IsCubeTurn (turns_of turn_numbers)
+flips_each = All-turns turn_numbers flips_numbers
 
 pub slice_each : All IsSliceTurn (turns_of slice_turns)
 unfolding all_turns all_powers power composed identity added_digits is_cube_turn is_slice_turn
 slice_each = All-from_test is_slice_turn IsSliceTurn IsSliceTurn-from_test (turns_of slice_turns) refl
 
-pub tetrads_each : All IsDominoTurn (turns_of tetrads_turns)
+pub tetrads_each : All IsDominoTurn (turns_of domino_turns)
 unfolding all_turns all_powers power composed identity added_digits is_cube_turn is_slice_turn is_domino_turn keeps_block
-tetrads_each = All-from_test is_domino_turn IsDominoTurn IsDominoTurn-from_test (turns_of tetrads_turns) refl
+tetrads_each = All-from_test is_domino_turn IsDominoTurn IsDominoTurn-from_test (turns_of domino_turns) refl
 
 pub halves_turns : All IsHalfTurn (turns_of half_turns)
 unfolding all_turns all_powers power composed identity added_digits is_cube_turn is_slice_turn is_domino_turn is_half_turn keeps_block corner_index relation_of relation_number axes_of shared_axis

@@ -57,22 +57,20 @@ pub record IsHalfCube (c : CubeState) : Type 0 where
   pub domino : IsDominoCube c
   pub index : tetrads_number c ≡ tetrads_number solved_cube
 
--- How many lists of middle edges of one parity, of second edges, of first edges, and of corners there are.
-abbrev pub half_bases : List ℕ
-half_bases = 12 ∷ 24 ∷ 24 ∷ 96 ∷ []
-
 -- The half of the number of the middle edges, the numbers of the second and of the first edges, and that of the
 -- corners. Of two lists of middle edges with one half the cube has the one that makes edges and corners both even or
 -- both odd.
 unfoldable pub half_digits : CubeState → List ℕ
 half_digits c =
-    permutation_number (in_block middle_edges c.edges.pieces) / 2 ∷ permutation_number (in_block second_edges c.edges.pieces)
+    permutation_number (in_block middle_edges c.edges.pieces) / 2
+    ∷ permutation_number (in_block second_edges c.edges.pieces)
     ∷ permutation_number (in_block first_edges c.edges.pieces) ∷ half_corners_number c.corners.pieces ∷ []
 
 -- edges with these lists of the three blocks
 unfoldable pub edges_of_blocks : List ℕ → List ℕ → List ℕ → List ℕ
 edges_of_blocks first second middle =
-    arranged (first_edges ++ second_edges ++ middle_edges) (pick first_edges first ++ pick second_edges second ++ pick middle_edges middle)
+    arranged (first_edges ++ second_edges ++ middle_edges)
+    (pick first_edges first ++ pick second_edges second ++ pick middle_edges middle)
 
 -- the numbers of the three blocks of edges, and of the corners
 pub record AreParts (c : CubeState) (middle second first corners : ℕ) : Type 0 where
@@ -102,4 +100,4 @@ half_cube_of_digits ds =
 
 -- These cubes by their numbers, with the cube of each.
 abbrev pub half_cubes : Numbered CubeState
-half_cubes = numbered_by_digits half_bases half_cube_of_digits half_digits IsHalfCube
+half_cubes = numbered_by_digits (12 ∷ 24 ∷ 24 ∷ 96 ∷ []) half_cube_of_digits half_digits IsHalfCube

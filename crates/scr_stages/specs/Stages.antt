@@ -13,8 +13,8 @@ use Rattle.scr_cube.specs.Cube333.{CubeState, cube_powers, solved_cube}
 
 -- ---- words of turns, told by numbers
 
--- The letter at a place of a list of turns, which are told by their numbers: U U2 U' R R2 R' F F2 F' D D2 D' L L2 L' B B2 B' are
--- 0 to 17.
+-- The letter at a place of a list of turns, which are told by their numbers: U U2 U' R R2 R' F F2 F' D D2 D' L L2 L' B
+-- B2 B' are 0 to 17.
 abbrev pub letter_in : List ℕ → ℕ → List Turn
 letter_in turns place = face_turn_at (slice_index turns place) ∷ []
 
@@ -24,7 +24,8 @@ after_of turns = by_letters (after_letter cube_powers) (length turns) (letter_in
 
 -- The stage of some turns, of a goal and of a bound.
 abbrev pub cube_stage : List ℕ → (CubeState → Type 0) → ℕ → Stage CubeState Turn
-cube_stage turns IsGoal bound = record { letters = length turns; letter = letter_in turns; IsGoal = IsGoal; bound = bound }
+cube_stage turns IsGoal bound =
+    record { letters = length turns; letter = letter_in turns; IsGoal = IsGoal; bound = bound }
 
 -- ---- the four stages
 
@@ -58,24 +59,24 @@ half_turns = 1 ∷ 4 ∷ 7 ∷ 10 ∷ 13 ∷ 16 ∷ []
 abbrev pub IsHalfTurned : CubeState → Type 0
 IsHalfTurned c = (word : List ℕ) × (play (after_of half_turns) solved_cube word ≡ Some c)
 
--- the turns of the first three
-abbrev pub flips_turns : List ℕ
-flips_turns = numbers_from 0 18
+-- the turns of the first three, of which the last keep a domino
+abbrev pub turn_numbers : List ℕ
+turn_numbers = numbers_from 0 18
 
 abbrev pub slice_turns : List ℕ
 slice_turns = 0 ∷ 1 ∷ 2 ∷ 3 ∷ 4 ∷ 5 ∷ 7 ∷ 9 ∷ 10 ∷ 11 ∷ 12 ∷ 13 ∷ 14 ∷ 16 ∷ []
 
-abbrev pub tetrads_turns : List ℕ
-tetrads_turns = 0 ∷ 1 ∷ 2 ∷ 4 ∷ 7 ∷ 9 ∷ 10 ∷ 11 ∷ 13 ∷ 16 ∷ []
+abbrev pub domino_turns : List ℕ
+domino_turns = 0 ∷ 1 ∷ 2 ∷ 4 ∷ 7 ∷ 9 ∷ 10 ∷ 11 ∷ 13 ∷ 16 ∷ []
 
 abbrev pub flips_stage : Stage CubeState Turn
-flips_stage = cube_stage flips_turns HasNoFlips 7
+flips_stage = cube_stage turn_numbers HasNoFlips 7
 
 abbrev pub slice_stage : Stage CubeState Turn
 slice_stage = cube_stage slice_turns IsDomino 13
 
 abbrev pub tetrads_stage : Stage CubeState Turn
-tetrads_stage = cube_stage tetrads_turns IsHalfTurned 15
+tetrads_stage = cube_stage domino_turns IsHalfTurned 15
 
 -- Last, by half turns: solved.
 abbrev pub halves_stage : Stage CubeState Turn

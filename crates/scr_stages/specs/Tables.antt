@@ -10,7 +10,7 @@ use Rattle.scr_coord.specs.Projections.{projection, twists_view, place_set_view,
 use Rattle.scr_table.specs.declared.name.TableName.TheVariants.{Flips, Slice, Tetrads, Halves}
 use Rattle.scr_table.specs.Lines.{TableLine}
 use Rattle.scr_cube.specs.Cube333.{CubeTurn, cube_action, cube_powers, solved_cube}
-use Rattle.scr_stages.specs.Stages.{middle_edges, after_of, half_turns, flips_stage, slice_stage, tetrads_stage, halves_stage, flips_turns, slice_turns, tetrads_turns}
+use Rattle.scr_stages.specs.Stages.{middle_edges, after_of, half_turns, flips_stage, slice_stage, tetrads_stage, halves_stage, turn_numbers, slice_turns, domino_turns}
 use Rattle.scr_stages.specs.Tetrads.{in_block, tetrads_view, half_corners_view}
 use Rattle.scr_stages.specs.Numbers.{first_edges, half_cubes}
 
@@ -30,11 +30,12 @@ block_turn block r = record { places = in_block block r.places; added = pick r.a
 
 -- what turns with these numbers do so, of a list of turns
 abbrev pub block_turns : List ℕ → List Rearrangement → List ℕ → List Rearrangement
-block_turns block turns numbers = map (λ t. block_turn block (slice_index_or turns t (record { places = []; added = [] }))) numbers
+block_turns block turns numbers =
+    map (λ t. block_turn block (slice_index_or turns t (record { places = []; added = [] }))) numbers
 
 -- The flips.
 abbrev pub flips_coordinate : Coordinate
-flips_coordinate = projection (twists_view 12 2) (edges_by flips_turns)
+flips_coordinate = projection (twists_view 12 2) (edges_by turn_numbers)
 
 -- The twists, beside the places of the edges of the middle layer.
 abbrev pub slice_coordinate : Coordinate
@@ -48,8 +49,9 @@ outer_places = numbers_from 0 8
 
 abbrev pub tetrads_coordinate : Coordinate
 tetrads_coordinate =
-    product_coordinate (projection (place_set_view 8 4 first_edges) (map (block_turn outer_places) (edges_by tetrads_turns)))
-    (projection tetrads_view (corners_by tetrads_turns))
+    product_coordinate
+    (projection (place_set_view 8 4 first_edges) (map (block_turn outer_places) (edges_by domino_turns)))
+    (projection tetrads_view (corners_by domino_turns))
 
 -- The cubes that half turns solve.
 abbrev pub halves_coordinate : Coordinate

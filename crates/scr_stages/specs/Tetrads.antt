@@ -21,7 +21,8 @@ second_tetrad = 1 ∷ 3 ∷ 4 ∷ 6 ∷ []
 -- The axis of two corners of a tetrad: that of the face at which both are. Up and down is 0, right and left 1, front
 -- and back 2.
 unfoldable pub shared_axis : ℕ → ℕ → ℕ
-shared_axis a b = unwrap_or (find (stands_in (slice_index_or corner_faces b [])) (slice_index_or corner_faces a [])) 0 % 3
+shared_axis a b =
+    unwrap_or (find (stands_in (slice_index_or corner_faces b [])) (slice_index_or corner_faces a [])) 0 % 3
 
 -- the axes of the first of some corners and each of the others
 unfoldable pub axes_of : List ℕ → List ℕ
@@ -44,7 +45,8 @@ relation_number axes others = permutation_number (map (λ axis. place_of axis ot
 -- they exchange the axes of both tetrads alike.
 unfoldable pub relation_of : List ℕ → ℕ
 relation_of corners =
-    relation_number (axes_of (corners_of_tetrad first_tetrad corners)) (axes_of (corners_of_tetrad second_tetrad corners))
+    relation_number (axes_of (corners_of_tetrad first_tetrad corners))
+    (axes_of (corners_of_tetrad second_tetrad corners))
 
 -- The relation, and the set of the places of the first tetrad.
 unfoldable pub corner_index : List ℕ → ℕ
@@ -58,7 +60,8 @@ arranged places corners = pick corners (inverse places)
 
 -- the corner of the second tetrad that has this axis with one of them
 unfoldable pub corner_across : ℕ → ℕ → ℕ
-corner_across corner axis = unwrap_or (find (λ c. not (c == corner) && (shared_axis corner c == axis)) second_tetrad) corner
+corner_across corner axis =
+    unwrap_or (find (λ c. not (c == corner) && (shared_axis corner c == axis)) second_tetrad) corner
 
 -- the corners of the second tetrad of which this is the first, and whose axes are these
 unfoldable pub second_with : ℕ → List ℕ → List ℕ
@@ -112,7 +115,8 @@ half_corners_number corners =
 unfoldable pub half_corners_at : ℕ → List ℕ
 half_corners_at number =
     let first = pick first_tetrad (permutation_at 4 (number / 4)) in
-    arranged (first_tetrad ++ second_tetrad) (first ++ second_with (slice_index second_tetrad (number % 4)) (axes_of first))
+    arranged (first_tetrad ++ second_tetrad)
+    (first ++ second_with (slice_index second_tetrad (number % 4)) (axes_of first))
 
 abbrev pub half_corners_view : ListView
 half_corners_view = corners_view 96 half_corners_at half_corners_number

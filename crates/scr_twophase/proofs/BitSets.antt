@@ -8,7 +8,7 @@ use Rattle.std.proofs.Math.Pow.{pow-lt}
 use Rattle.std.proofs.lemmas.Bool.{cases_eq, cases_lt}
 use Rattle.std.proofs.lemmas.Nat.Bits.{bit_at-lt, bit_at_and, bit_at_set_same, bit_at_set_other, bit_at_clear_same, bit_at_clear_other, bit_at-trailing_zeros, bit_at_above, bit_at-zero, bit_at_ones}
 use Rattle.scr_combinatorics.specs.Lists.{numbers_from}
-use Rattle.scr_twophase.specs.TwoParts.{turn_numbers}
+use Rattle.scr_stages.specs.Stages.{turn_numbers}
 use Rattle.scr_twophase.specs.TurnSets.{contains_turn, turns_in}
 
 -- ---- one bit
@@ -123,7 +123,7 @@ has_turn-without bits t pos lt =
 -- which is the first; the others are left where the bit is cleared
 pub turns_in-lowest : (bits : ℕ) → 0 < bits → bits < 2 ^ 18
     → turns_in bits ≡ trailing_zeros w32 bits ∷ turns_in (bit_and bits (2 ^ 32 - 1 - 1 * 2 ^ trailing_zeros w32 bits % 2 ^ 32))
-unfolding turns_in turn_numbers
+unfolding turns_in
 turns_in-lowest bits pos lt =
     let t : ℕ = trailing_zeros w32 bits in
     let low = bit_at-trailing_zeros w32 bits pos (omega arith) in
@@ -141,7 +141,7 @@ none_from low (suc n) =
     ∙ none_from (suc low) n
 
 pub turns_in-none : turns_in 0 ≡ []
-unfolding turns_in turn_numbers
+unfolding turns_in
 turns_in-none = none_from 0 18
 
 pub has_turn-all : (t : ℕ) → t < 18 → contains_turn (2 ^ 18 - 1) t ≡ true

@@ -11,7 +11,7 @@ use Rattle.scr_combinatorics.specs.Twists.{twists_number}
 use Rattle.scr_orbit.specs.Orbits.{zeros}
 use Rattle.scr_coord.proofs.GoalNumbers.{twists_number-zeros}
 use Rattle.scr_cube.specs.Cube333.{CubeState, IsCube}
-use Rattle.scr_stages.specs.Stages.{HasNoFlips, IsUntwisted, IsInMiddle, middle_edges}
+use Rattle.scr_stages.specs.Stages.{HasNoFlips, IsUntwisted, IsInMiddle, middle_edges, turn_numbers}
 use Rattle.scr_stages.specs.Numbers.{flips_number, middle_set_of, IsDominoCube}
 use Rattle.scr_stages.proofs.FiniteTests.{agree, agree-same, passes_below, test-below}
 use Rattle.scr_stages.proofs.StageSpaces.{Follows-flips}
@@ -20,7 +20,7 @@ use Rattle.scr_table.proofs.WordLists.{words_behind-end, words_of-none}
 use Rattle.scr_twophase.specs.declared.first.TheConstants.{FIRST_EXTENT}
 use Rattle.scr_twophase.specs.declared.position.PartPosition.{PartPosition}
 use Rattle.scr_twophase.specs.TurnSets.{contains_turn}
-use Rattle.scr_twophase.specs.TwoParts.{turn_numbers, ends_in_quarter, is_domino, is_first_part, is_orderly, is_side_quarter, joined, leads, first_parts, two_parts}
+use Rattle.scr_twophase.specs.TwoParts.{ends_in_quarter, is_domino, is_first_part, is_orderly, is_side_quarter, joined, leads, first_parts, two_parts}
 use Rattle.scr_twophase.specs.Search.{IsAt, IsSearched, IsTestOf, KeepsWays, first_given, is_domino_position}
 use Rattle.scr_twophase.specs.Tables.{twists_of}
 use Rattle.scr_twophase.specs.Views.{AreViews, Shows, first_views, part_number}
@@ -52,7 +52,6 @@ first_number-domino c h e = part_number-end first_views c 494 h (is_domino-shown
 
 -- what a search for first parts sees
 pub AreViews-first : AreViews first_views FIRST_EXTENT
-unfolding turn_numbers
 AreViews-first = record {
   one = Sees-follows first_views HasNoFlips first_views.one refl Follows-flips (λ c h e. let d = (IsDomino-test c).0 e in d.no_flips);
   other = Sees-follows first_views IsUntwisted first_views.other refl Follows-twists (λ c h e. let d = (IsDomino-test c).0 e in d.no_twists);
@@ -98,7 +97,7 @@ ends_so c word t e =
 -- Where one turn is left, none but these need be tried.
 pub KeepsWays-quarters : (c : CubeState) (word : List ℕ) (bits both : ℕ) → KeepsWays turn_numbers (is_first_part c) word 0 bits
     → ((t : ℕ) → contains_turn both t ≡ (contains_turn bits t && contains_turn side_quarters t)) → KeepsWays turn_numbers (is_first_part c) word 0 both
-unfolding turn_numbers words_of
+unfolding words_of
 KeepsWays-quarters c word bits both keeps and = record {
   kept = λ place v lt there passes.
       let t : ℕ = get_or (numbers_from 0 18) place 0 in

@@ -1,6 +1,6 @@
 -- Two parts solve a cube, and their scramble leads to it.
 use Rattle.std.proofs.Common.{◌≡◌, ℕ, Bool, true, false, cond, List, [], ◌∷◌, ◌++◌, map, length, take, Option, Some, None, refl, sym, ap, ◌∙◌}
-use Rattle.std.specs.Prelude.{find, slice_get}
+use Rattle.std.specs.Prelude.{find, slice_get, MatchOption}
 use Rattle.std.specs.List.{filter_map, cons_option}
 use Rattle.std.specs.Option.{option_map}
 use Rattle.std.proofs.lemmas.Bool.{and_parts}
@@ -8,14 +8,14 @@ use Rattle.std.proofs.lemmas.List.{length-map, length-reverse}
 use Rattle.std.proofs.lemmas.Option.{same_Some}
 use Rattle.scr_combinatorics.specs.Play.{play}
 use Rattle.scr_combinatorics.specs.Back.{back}
-use Rattle.scr_combinatorics.proofs.PlayLaws.{map-some}
 use Rattle.scr_notation.specs.declared.turn.Turn.{Turn}
 use Rattle.scr_notation.specs.TurnNumbers.{face_turn_at}
 use Rattle.scr_notation.specs.Turning.{opposite}
 use Rattle.scr_cube.specs.Cube333.{CubeState, solved_cube}
 use Rattle.scr_stages.proofs.SolutionLaws.{IsStageScramble-unique}
 use Rattle.scr_table.specs.Words.{words_within}
-use Rattle.scr_twophase.specs.TwoParts.{after_turn, domino_turns, first_parts, is_orderly, is_solution, is_solved, joined, leads, second_part, two_parts, IsScrambleBy}
+use Rattle.scr_stages.specs.Stages.{IsStageScramble, domino_turns}
+use Rattle.scr_twophase.specs.TwoParts.{after_turn, first_parts, is_orderly, is_solution, is_solved, joined, leads, two_parts}
 use Rattle.scr_twophase.proofs.CubeTests.{IsSolved-test, leads-parts}
 
 given_by : {X Y : Type 0} (f : X → Option Y) (x : X) (o : Option Y) (ys : List Y) (y : Y) → f x ≡ o → slice_get (cons_option o ys) 0 ≡ Some y
@@ -36,10 +36,8 @@ found_passes test [] x e = absurd (cc)
 found_passes test (y ∷ xs) x e = passes_by test y x (test y) (find test xs) refl e (λ h. found_passes test xs x h)
 
 joined_solves : (c : CubeState) (part w : List ℕ) → joined c part ≡ Some w → is_solution c w ≡ true
-unfolding joined second_part
-joined_solves c part w e =
-    let made = map-some (λ v. part ++ v) (find (λ v. is_solution c (part ++ v)) (words_within domino_turns 10)) w e in
-    ap (is_solution c) (sym made.2) ∙ found_passes (λ v. is_solution c (part ++ v)) (words_within domino_turns 10) made.0 made.1
+unfolding joined
+joined_solves c part w e = found_passes (is_solution c) (map (λ v. part ++ v) (words_within domino_turns 10)) w e
 
 -- two parts lead to solved
 pub two_parts-played : (c : CubeState) (tries : ℕ) (w : List ℕ) → two_parts c tries ≡ Some w → play after_turn c w ≡ Some solved_cube
@@ -54,6 +52,10 @@ two_parts-played c tries w e =
 
 pub length-back : (turns : List Turn) → length (back opposite turns) ≡ length turns
 length-back turns = length-reverse (map opposite turns) ∙ length-map turns opposite
+
+-- what is a scramble where the two parts are these, or there are none
+abbrev pub IsScrambleBy : Option (List ℕ) → CubeState → List Turn → Type 0
+IsScrambleBy o c turns = MatchOption o (IsStageScramble c turns) (λ word. turns ≡ back opposite (map face_turn_at word))
 
 -- one cube has one scramble
 pub IsScrambleBy-unique : (o : Option (List ℕ)) (c : CubeState) (some other : List Turn) → IsScrambleBy o c some → IsScrambleBy o c other → some ≡ other

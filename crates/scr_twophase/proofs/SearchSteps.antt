@@ -13,7 +13,8 @@ use Rattle.scr_cube.specs.Cube333.{CubeState}
 use Rattle.scr_table.specs.Words.{words_behind}
 use Rattle.scr_table.proofs.WordLists.{flat_map-kept, words_behind-none, words_behind-turns}
 use Rattle.scr_twophase.specs.TurnSets.{contains_turn, turns_in}
-use Rattle.scr_twophase.specs.TwoParts.{after_turn, turn_numbers, is_orderly, leads}
+use Rattle.scr_stages.specs.Stages.{turn_numbers}
+use Rattle.scr_twophase.specs.TwoParts.{after_turn, is_orderly, leads}
 use Rattle.scr_twophase.specs.Search.{may_end, IsAt, IsSearched, KeepsWays, LeavesWays, MayFollow}
 use Rattle.scr_twophase.proofs.CubeTests.{leads-behind, not_so, turn_leads, played_more}
 use Rattle.scr_twophase.proofs.Orderly.{is_orderly-push, may_end-orderly}
@@ -56,7 +57,7 @@ filter-more test n m none =
 
 -- the turns of a set, all of which are below a number
 turns_in-below : (bits n : ℕ) → bits < 2 ^ 18 → ((k : ℕ) → n ≤ k → contains_turn bits k ≡ false) → turns_in bits ≡ filter (contains_turn bits) (numbers_from 0 n)
-unfolding turns_in turn_numbers
+unfolding turns_in
 turns_in-below bits n small none =
     let both : 18 + n ≡ n + 18 = omega arith in
     sym (filter-more (contains_turn bits) 18 n (λ k le. ap (λ b. b == 1) (bit_at_above bits 18 k small le)))

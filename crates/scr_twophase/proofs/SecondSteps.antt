@@ -15,7 +15,7 @@ use Rattle.scr_orbit.specs.Orbits.{Rearrangement, solved_orbit, turned_orbit}
 use Rattle.scr_orbit.specs.PlaceTurns.{rearrangement_of}
 use Rattle.scr_orbit.specs.PowerPuzzles.{all_turns, part_turns}
 use Rattle.scr_cube.specs.Cube333.{CubeState, CubeTurn, cube_action, cube_powers, solved_cube}
-use Rattle.scr_stages.specs.Stages.{middle_edges}
+use Rattle.scr_stages.specs.Stages.{middle_edges, domino_turns}
 use Rattle.scr_stages.specs.Numbers.{IsDominoCube}
 use Rattle.scr_stages.specs.Tables.{outer_places}
 use Rattle.scr_stages.specs.Tetrads.{in_block}
@@ -27,7 +27,7 @@ use Rattle.scr_table.specs.Words.{words_behind, words_within}
 use Rattle.scr_table.proofs.WordLists.{find-filter, find-made, words_behind-end}
 use Rattle.scr_twophase.specs.declared.second.TheConstants.{SECOND_EXTENT}
 use Rattle.scr_twophase.specs.declared.position.PartPosition.{PartPosition}
-use Rattle.scr_twophase.specs.TwoParts.{after_turn, domino_turns, is_solved, is_solution, is_orderly, joined, leads, second_part}
+use Rattle.scr_twophase.specs.TwoParts.{after_turn, is_solved, is_solution, is_orderly, joined, leads}
 use Rattle.scr_twophase.specs.Tables.{corners_of, outer_edges_of, middle_edges_of}
 use Rattle.scr_twophase.specs.Search.{IsAt, IsSearched, IsTestOf, carried, first_given, is_solved_position}
 use Rattle.scr_twophase.specs.Views.{AreViews, Shows, part_number, second_views}
@@ -48,7 +48,6 @@ so_there P home e test = subst P (sym ((IsSolved-test e).0 test)) home
 
 -- the turn at a place of the ten
 pub domino_turn-lt : (place d : ℕ) → place < 10 → get_or domino_turns place d < 18
-unfolding domino_turns
 domino_turn-lt place d lt = tetrads_numbers place d lt
 
 -- ---- tests
@@ -87,7 +86,7 @@ second_number-solved c h e = part_number-end second_views c 0 h (is_solved-shown
 
 -- what a search for second parts sees
 pub AreViews-second : AreViews second_views SECOND_EXTENT
-unfolding domino_turns solved_cube solved_orbit
+unfolding solved_cube solved_orbit
 AreViews-second = record {
   one = Sees-follows second_views AreCornersHome second_views.one refl Follows-corners (λ c h e. so_there AreCornersHome refl c e);
   other = Sees-follows second_views AreOuterHome second_views.other refl Follows-outer_edges (λ c h e. so_there AreOuterHome refl c e);
@@ -138,10 +137,9 @@ first_given-first (w ∷ words) = refl
 pub joined-searched : (c : CubeState) (word after : List ℕ) (found : Bool) (left : ℕ)
     → IsSearched (λ w. Some w) (filter (is_solution c) (map (λ v. word ++ v) (words_within domino_turns 10))) 1 word found after left
     → joined c word ≡ cond found (Some after) None
-unfolding joined second_part
+unfolding joined
 joined-searched c word after found left s =
-    find-made (λ v. word ++ v) (is_solution c) (words_within domino_turns 10)
-    ∙ find-filter (is_solution c) (map (λ v. word ++ v) (words_within domino_turns 10))
+    find-filter (is_solution c) (map (λ v. word ++ v) (words_within domino_turns 10))
     ∙ sym (first_given-first (filter (is_solution c) (map (λ v. word ++ v) (words_within domino_turns 10)))) ∙ s.given
 
 -- ---- where words lead

@@ -13,7 +13,7 @@ use Rattle.scr_positions.specs.SearchSpaces.{positions, Follows}
 use Rattle.scr_positions.proofs.ProductLaws.{Follows-product}
 use Rattle.scr_coord.specs.Projections.{projection, pieces_view, stands_in}
 use Rattle.scr_cube.specs.Cube333.{CubeState, IsCube, CubeTurn, cube_action}
-use Rattle.scr_stages.specs.Stages.{HasNoFlips, IsUntwisted, IsInMiddle, middle_edges, after_of, flips_turns, tetrads_turns}
+use Rattle.scr_stages.specs.Stages.{HasNoFlips, IsUntwisted, IsInMiddle, middle_edges, after_of, turn_numbers, domino_turns}
 use Rattle.scr_stages.specs.Numbers.{flips_number, middle_set_of, IsDominoCube}
 use Rattle.scr_stages.specs.Tables.{turns_of, block_turn, outer_places, flips_coordinate}
 use Rattle.scr_stages.specs.Tetrads.{in_block}
@@ -32,17 +32,17 @@ use Rattle.scr_twophase.specs.Tables.{twists_of, twists_coordinate, middle_set_c
 -- ---- the first part
 
 pub Follows-twists : Follows (cubes_to IsUntwisted) (positions twists_coordinate) twists_of
-Follows-twists = Follows-twists_by flips_turns flips_numbers
+Follows-twists = Follows-twists_by turn_numbers flips_numbers
 
 pub Follows-middle_set : Follows (cubes_to IsInMiddle) (positions middle_set_coordinate) middle_set_of
-Follows-middle_set = Follows-middle_by flips_turns flips_numbers
+Follows-middle_set = Follows-middle_by turn_numbers flips_numbers
 
 pub Follows-flipslice : Follows flipslice_table.space (positions flipslice_coordinate) flipslice_table.number_of
 Follows-flipslice =
-    Follows-product IsCube HasNoFlips IsInMiddle (after_of flips_turns) flips_coordinate middle_set_coordinate flips_number middle_set_of refl Follows-flips Follows-middle_set
+    Follows-product IsCube HasNoFlips IsInMiddle (after_of turn_numbers) flips_coordinate middle_set_coordinate flips_number middle_set_of refl Follows-flips Follows-middle_set
 
 pub Follows-twistslice : Follows twistslice_table.space (positions twistslice_coordinate) twistslice_table.number_of
-Follows-twistslice = Follows-twists_beside flips_turns flips_numbers
+Follows-twistslice = Follows-twists_beside turn_numbers flips_numbers
 
 -- ---- the second part
 
@@ -79,7 +79,7 @@ in_order n xs h = (λ e. ap permutation_number e, λ e. permutation_number-injec
 pub Follows-corners : Follows (dominoes_to AreCornersHome) (positions corners_coordinate) corners_of
 unfolding turned_orbit
 Follows-corners =
-    Follows-viewed cube_action.turned (turns_of tetrads_turns) (after_of tetrads_turns) IsDominoCube IsDominoTurn tetrads_moves (pieces_view 8)
+    Follows-viewed cube_action.turned (turns_of domino_turns) (after_of domino_turns) IsDominoCube IsDominoTurn tetrads_moves (pieces_view 8)
     (λ r. r.corners) corners_of AreCornersHome
     (λ c h. number-lt 8 c.corners.pieces h.cube.corners.pieces)
     (λ c r h t. ap (λ xs. permutation_number (pick xs r.corners.places)) (permutation_at-number 8 c.corners.pieces h.cube.corners.pieces))
@@ -89,11 +89,11 @@ Follows-corners =
 Follows-block : (k : ℕ) (block : List ℕ) → IsPlaceSet 12 k block → ((c : CubeState) → IsDominoCube c → IsPermutation k (in_block block c.edges.pieces))
     → ((r : CubeTurn) → IsDominoTurn r → All (λ x. stands_in block x ≡ true) (pick r.edges.places block))
     → Follows (dominoes_to (λ c. in_block block c.edges.pieces ≡ numbers_from 0 k))
-    (positions (projection (pieces_view k) (map (λ r. block_turn block r.edges) (turns_of tetrads_turns)))) (λ c. permutation_number (in_block block c.edges.pieces))
+    (positions (projection (pieces_view k) (map (λ r. block_turn block r.edges) (turns_of domino_turns)))) (λ c. permutation_number (in_block block c.edges.pieces))
 unfolding turned_orbit
 Follows-block k block set order kept =
     let listed : CubeState → List ℕ = λ c. in_block block c.edges.pieces in
-    Follows-viewed cube_action.turned (turns_of tetrads_turns) (after_of tetrads_turns) IsDominoCube IsDominoTurn tetrads_moves (pieces_view k)
+    Follows-viewed cube_action.turned (turns_of domino_turns) (after_of domino_turns) IsDominoCube IsDominoTurn tetrads_moves (pieces_view k)
     (λ r. block_turn block r.edges) (λ c. permutation_number (listed c)) (λ c. listed c ≡ numbers_from 0 k)
     (λ c h. number-lt k (listed c) (order c h))
     (λ c r h t.
@@ -115,7 +115,7 @@ Follows-middle_edges =
 Follows-beside_middle : (high : Coordinate) (u : CubeState → ℕ) (IsHigh : CubeState → Type 0) → high.turns ≡ 10 → Follows (dominoes_to IsHigh) (positions high) u
     → Follows (dominoes_to (λ c. AreMiddleHome c × IsHigh c)) (positions (product_coordinate middle_edges_coordinate high)) (λ c. middle_edges_of c + 24 * u c)
 Follows-beside_middle high u IsHigh turns follows =
-    Follows-product IsDominoCube AreMiddleHome IsHigh (after_of tetrads_turns) middle_edges_coordinate high middle_edges_of u turns Follows-middle_edges follows
+    Follows-product IsDominoCube AreMiddleHome IsHigh (after_of domino_turns) middle_edges_coordinate high middle_edges_of u turns Follows-middle_edges follows
 
 pub Follows-cornerslice : Follows cornerslice_table.space (positions cornerslice_coordinate) cornerslice_table.number_of
 Follows-cornerslice = Follows-beside_middle corners_coordinate corners_of AreCornersHome refl Follows-corners

@@ -14,7 +14,8 @@ use Rattle.scr_stages.proofs.FiniteTests.{All-from_test}
 use Rattle.scr_twophase.specs.declared.first.TheConstants as all
 use Rattle.scr_twophase.specs.declared.second.TheConstants as ten
 use Rattle.scr_twophase.specs.Near.{AreTakenBack}
-use Rattle.scr_twophase.specs.TwoParts.{after_turn, domino_turns, turn_numbers}
+use Rattle.scr_stages.specs.Stages.{domino_turns, turn_numbers}
+use Rattle.scr_twophase.specs.TwoParts.{after_turn}
 use Rattle.scr_twophase.proofs.Admissible.{IsCube-turned}
 use Rattle.scr_twophase.proofs.SecondLaws.{IsDominoCube-turned}
 
@@ -50,13 +51,13 @@ AreTakenBack-by turns backs IsSeen cube kept same below = record {
 
 -- of all turns, and of the ten that keep a domino
 pub AreTakenBack-turns : AreTakenBack turn_numbers all.FIRST_EXTENT.backs IsCube
-unfolding turn_numbers face_turn_at
+unfolding face_turn_at
 AreTakenBack-turns =
     AreTakenBack-by turn_numbers all.FIRST_EXTENT.backs IsCube (λ c h. h) (λ c d place h lt to. IsCube-turned c d (get_or turn_numbers place 0) h to) refl
     (All-from_test (λ k. nat_lt k 18) (λ k. k < 18) (λ k. ltb-true k 18) (take 18 all.FIRST_EXTENT.backs) refl)
 
 pub AreTakenBack-ten : AreTakenBack domino_turns ten.SECOND_EXTENT.backs IsDominoCube
-unfolding domino_turns face_turn_at
+unfolding face_turn_at
 AreTakenBack-ten =
     AreTakenBack-by domino_turns ten.SECOND_EXTENT.backs IsDominoCube (λ c h. h.cube) (λ c d place h lt to. IsDominoCube-turned c d place h lt to) refl
     (All-from_test (λ k. nat_lt k 10) (λ k. k < 10) (λ k. ltb-true k 10) (take 10 ten.SECOND_EXTENT.backs) refl)

@@ -6,7 +6,8 @@ use Rattle.scr_stages.proofs.FiniteTests.{All-from_test, agree, agree-same, pass
 use Rattle.scr_twophase.specs.declared.first.TheConstants as all
 use Rattle.scr_twophase.specs.declared.second.TheConstants as ten
 use Rattle.scr_twophase.specs.Search.{AreBehind}
-use Rattle.scr_twophase.specs.TwoParts.{domino_turns, may_precede, turn_numbers}
+use Rattle.scr_stages.specs.Stages.{domino_turns, turn_numbers}
+use Rattle.scr_twophase.specs.TwoParts.{may_precede}
 use Rattle.scr_twophase.specs.TurnSets.{contains_turn}
 
 -- a test of a turn's set, place by place
@@ -24,11 +25,11 @@ AreBehind-tested turns sets each all = record {
 
 -- all turns, and the ten
 pub AreBehind-turns : AreBehind turn_numbers all.FIRST_EXTENT.behind
-unfolding is_behind passes_below agree may_precede turn_numbers
+unfolding is_behind passes_below agree may_precede
 AreBehind-turns = AreBehind-tested turn_numbers all.FIRST_EXTENT.behind refl refl
 
 pub AreBehind-ten : AreBehind domino_turns ten.SECOND_EXTENT.behind
-unfolding is_behind passes_below agree may_precede domino_turns
+unfolding is_behind passes_below agree may_precede
 AreBehind-ten = AreBehind-tested domino_turns ten.SECOND_EXTENT.behind refl refl
 
 -- sets of numbers below a limit

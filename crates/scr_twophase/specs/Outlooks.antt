@@ -8,8 +8,8 @@ use Rattle.scr_twophase.specs.declared.outlook.Found.{Found}
 use Rattle.scr_twophase.specs.declared.pruning.PruningTable.{PruningTable}
 use Rattle.scr_twophase.specs.TurnSets.{contains_turn}
 
--- The turns that an outlook leaves where so many turns may still be made: those that lead nearer to the goal, if it is as far as
--- that; those that lead no farther, if it is nearer by one; else all.
+-- The turns that an outlook leaves where so many turns may still be made: those that lead nearer to the goal, if it is
+-- as far as that; those that lead no farther, if it is nearer by one; else all.
 unfoldable pub turns_within : Outlook → ℕ → ℕ
 turns_within o left =
     if nat_le left (o.nearer / 2 ^ 18) then o.nearer % 2 ^ 18
@@ -17,7 +17,8 @@ turns_within o left =
 
 -- An outlook leaves each turn of its position that leads to where the table has fewer turns than may still be made.
 pub record IsOutlook (c : Coordinate) (distances : List ℕ) (p : ℕ) (o : Outlook) : Type 0 where
-  pub kept : (t q left : ℕ) → moved c p t ≡ Some q → slice_index distances q < left → IsTrue (contains_turn (turns_within o left) t)
+  pub kept : (t q left : ℕ) → moved c p t ≡ Some q → slice_index distances q < left
+      → IsTrue (contains_turn (turns_within o left) t)
 
 -- Of the turns below a number those that lead nearer than the position is are found, and those that lead no farther.
 pub record AreFound (c : Coordinate) (distances : List ℕ) (p turn : ℕ) (found : Found) : Type 0 where
@@ -36,8 +37,8 @@ pub record AreOutlooks (c : Coordinate) (distances : List ℕ) (all : List Outlo
 abbrev pub AreOutlooksOf : TableLine → PruningTable → List Outlook → Type 0
 AreOutlooksOf line table all = AreOutlooks line.coordinate table.distances.distances all
 
--- The turns that a pruning table leaves where so many turns may still be made: those of the position's outlook, where it has
--- one; else all, if the goal is no farther.
+-- The turns that a pruning table leaves where so many turns may still be made: those of the position's outlook, where
+-- it has one; else all, if the goal is no farther.
 unfoldable pub turns_left : PruningTable → ℕ → ℕ → ℕ
 turns_left table p left =
     option_map_or (λ o. turns_within o left) (slice_get table.outlooks.items p)

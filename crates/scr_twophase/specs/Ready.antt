@@ -16,9 +16,11 @@ IsNearOf v set = IsNear v.turns v.IsSeen (part_number v) v.ends 7 (IsInSet set)
 -- outlooks of a table of each part: of flips and of corners, or of twists and of edges
 abbrev pub AreOutlookPair : Bool → PartTables → OutlookPair → Type 0
 AreOutlookPair true parts pair =
-    AreOutlooksOf flipslice_line parts.first.one_slice pair.first.items × AreOutlooksOf cornerslice_line parts.second.one_slice pair.second.items
+    AreOutlooksOf flipslice_line parts.first.one_slice pair.first.items
+    × AreOutlooksOf cornerslice_line parts.second.one_slice pair.second.items
 AreOutlookPair false parts pair =
-    AreOutlooksOf twistslice_line parts.first.other_slice pair.first.items × AreOutlooksOf edgeslice_line parts.second.other_slice pair.second.items
+    AreOutlooksOf twistslice_line parts.first.other_slice pair.first.items
+    × AreOutlooksOf edgeslice_line parts.second.other_slice pair.second.items
 
 -- of all four tables, with the near set of the second part
 pub record AreOthers (parts : PartTables) (all : Others) : Type 0 where

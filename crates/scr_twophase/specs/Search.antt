@@ -40,8 +40,8 @@ pub record MayFollow (turns word : List ℕ) (place : ℕ) : Type 0 where
   pub below : place < length turns
   pub orderly : IsTrue (may_end word (slice_index turns place))
 
--- A set has each turn with which some word of so many turns behind it goes on from a word to one that passes a test. All its
--- turns may stand right behind the word.
+-- A set has each turn with which some word of so many turns behind it goes on from a word to one that passes a test.
+-- All its turns may stand right behind the word.
 pub record KeepsWays (turns : List ℕ) (test : List ℕ → Bool) (word : List ℕ) (more bits : ℕ) : Type 0 where
   pub kept : (place : ℕ) (v : List ℕ) → place < length turns → Contains (words_of turns more) v
       → IsTrue (test (word ++ slice_index turns place ∷ v)) → IsTrue (contains_turn bits place)
@@ -52,7 +52,8 @@ pub record IsTestOf (goal : CubeState → Bool) (c : CubeState) (test : List ℕ
   pub orderly : (word : List ℕ) → IsTrue (test word) → IsTrue (is_orderly word)
   pub leads_there : (word : List ℕ) → IsTrue (test word) → IsTrue (leads goal c word)
 
--- For each of six faces a set of the turns that may stand right behind one of it, and behind these the set of all turns.
+-- For each of six faces a set of the turns that may stand right behind one of it, and behind these the set of all
+-- turns.
 pub record AreBehind (turns sets : List ℕ) : Type 0 where
   pub each : (last place : ℕ) → last < 18 → place < length turns
       → contains_turn (slice_index sets (last / 3)) place ≡ may_precede last (slice_index turns place)
@@ -64,9 +65,10 @@ pub record AreBehind (turns sets : List ℕ) : Type 0 where
 unfoldable pub first_given : (List ℕ → Option (List ℕ)) → ℕ → List (List ℕ) → Option (List ℕ)
 first_given gives tries words = slice_get (filter_map gives (take tries words)) 0
 
--- A search through words, each of which counts one try, makes of a word what the first gives that gives anything. Where none
--- does, the word stays, and a try is counted for each.
-pub record IsSearched (gives : List ℕ → Option (List ℕ)) (words : List (List ℕ)) (tries : ℕ) (before : List ℕ) (found : Bool) (after : List ℕ) (left : ℕ) : Type 0 where
+-- A search through words, each of which counts one try, makes of a word what the first gives that gives anything. Where
+-- none does, the word stays, and a try is counted for each.
+pub record IsSearched (gives : List ℕ → Option (List ℕ)) (words : List (List ℕ)) (tries : ℕ) (before : List ℕ)
+    (found : Bool) (after : List ℕ) (left : ℕ) : Type 0 where
   pub given : first_given gives tries words ≡ (if found then Some after else None)
   pub same : found ≡ false → after ≡ before
   pub tried : found ≡ false → left ≡ tries - length words
@@ -81,8 +83,8 @@ is_domino_position at = (at.one == 0 && at.other == 0) && at.middle == 494
 abbrev pub is_solved_position : PartPosition → Bool
 is_solved_position at = (at.one == 0 && at.other == 0) && at.middle == 0
 
--- Which piece stands at each place after turns, where each turn's number has a list that says for each place which place's
--- piece comes there.
+-- Which piece stands at each place after turns, where each turn's number has a list that says for each place which
+-- place's piece comes there.
 abbrev pub carried : List (List ℕ) → List ℕ → List ℕ → List ℕ
 carried places pieces [] = pieces
 carried places pieces (t ∷ word) = carried places (pick pieces (slice_index_or places t [])) word

@@ -10,7 +10,8 @@ use Rattle.scr_twophase.specs.Tables.{corners_of, outer_edges_of, middle_edges_o
 -- Of all cubes, beside 495 sets of places of the edges of the middle layer: by 2,048 flips or 2,187 twists.
 abbrev pub flipslice_table : SearchTable
 flipslice_table =
-    table_over FlipSlice (cubes_to (λ c. HasNoFlips c × IsInMiddle c)) (λ c. flips_number c + 2048 * middle_set_of c) 1013760 12
+    table_over FlipSlice (cubes_to (λ c. HasNoFlips c × IsInMiddle c))
+    (λ c. flips_number c + 2048 * middle_set_of c) 1013760 12
 
 abbrev pub twistslice_table : SearchTable
 twistslice_table = table_over TwistSlice (cubes_to (λ c. IsUntwisted c × IsInMiddle c)) slice_number 1082565 12

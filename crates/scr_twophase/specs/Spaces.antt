@@ -3,7 +3,7 @@ use Rattle.std.specs.Prelude.{◌≡◌}
 use Rattle.scr_combinatorics.specs.Lists.{numbers_from}
 use Rattle.scr_positions.specs.SearchSpaces.{SearchSpace}
 use Rattle.scr_cube.specs.Cube333.{CubeState, IsCube}
-use Rattle.scr_stages.specs.Stages.{middle_edges, flips_turns, tetrads_turns}
+use Rattle.scr_stages.specs.Stages.{middle_edges, turn_numbers, domino_turns}
 use Rattle.scr_stages.specs.Numbers.{IsDominoCube}
 use Rattle.scr_stages.specs.Spaces.{cube_space}
 use Rattle.scr_stages.specs.Tables.{outer_places}
@@ -11,11 +11,11 @@ use Rattle.scr_stages.specs.Tetrads.{in_block}
 
 -- the first part: all cubes, by all turns, to a goal
 abbrev pub cubes_to : (CubeState → Type 0) → SearchSpace CubeState
-cubes_to IsGoal = cube_space IsCube flips_turns IsGoal
+cubes_to IsGoal = cube_space IsCube turn_numbers IsGoal
 
 -- the second part: dominoes, by the turns that keep them
 abbrev pub dominoes_to : (CubeState → Type 0) → SearchSpace CubeState
-dominoes_to IsGoal = cube_space IsDominoCube tetrads_turns IsGoal
+dominoes_to IsGoal = cube_space IsDominoCube domino_turns IsGoal
 
 -- the pieces of a kind stand in order
 abbrev pub AreCornersHome : CubeState → Type 0

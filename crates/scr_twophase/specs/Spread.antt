@@ -22,9 +22,12 @@ abbrev pub IsThere : Listed → Type 0
 IsThere (Some (Ok list)) = Unit {0}
 IsThere _ = ⊥
 
--- Of a block of numbers, each told by its place in it, a set has those that are listed, and those of its cubes from which one turn
--- leads to a cube with a listed number.
-pub record IsSpread (turns : List ℕ) (IsSeen : CubeState → Type 0) (number : CubeState → ℕ) (lists : List Listed) (block : ℕ) (Has : ℕ → Type 0) : Type 0 where
-  pub here : (c : CubeState) → IsSeen c → number c / 2 ^ 32 ≡ block → IsListed lists (number c) → Has (number c % 2 ^ 32)
-  pub there : (c d : CubeState) (place : ℕ) → IsSeen c → number c / 2 ^ 32 ≡ block → place < length turns → after_turn c (slice_index turns place) ≡ Some d
+-- Of a block of numbers, each told by its place in it, a set has those that are listed, and those of its cubes from
+-- which one turn leads to a cube with a listed number.
+pub record IsSpread (turns : List ℕ) (IsSeen : CubeState → Type 0) (number : CubeState → ℕ) (lists : List Listed)
+    (block : ℕ) (Has : ℕ → Type 0) : Type 0 where
+  pub here : (c : CubeState) → IsSeen c → number c / 2 ^ 32 ≡ block → IsListed lists (number c)
+      → Has (number c % 2 ^ 32)
+  pub there : (c d : CubeState) (place : ℕ) → IsSeen c → number c / 2 ^ 32 ≡ block → place < length turns
+      → after_turn c (slice_index turns place) ≡ Some d
       → IsListed lists (number d) → Has (number c % 2 ^ 32)

@@ -8,7 +8,7 @@ use Rattle.scr_coord.specs.Projections.{projection, twists_view, place_set_view,
 use Rattle.scr_table.specs.declared.name.TableName.TheVariants.{FlipSlice, TwistSlice, CornerSlice, EdgeSlice}
 use Rattle.scr_table.specs.Lines.{TableLine}
 use Rattle.scr_cube.specs.Cube333.{CubeState}
-use Rattle.scr_stages.specs.Stages.{middle_edges, flips_turns, tetrads_turns}
+use Rattle.scr_stages.specs.Stages.{middle_edges, turn_numbers, domino_turns}
 use Rattle.scr_stages.specs.Tables.{corners_by, edges_by, block_turn, outer_places, flips_coordinate}
 use Rattle.scr_stages.specs.Tetrads.{in_block}
 
@@ -19,11 +19,11 @@ abbrev pub twists_of : CubeState → ℕ
 twists_of c = twists_number 3 c.corners.digits
 
 abbrev pub twists_coordinate : Coordinate
-twists_coordinate = projection (twists_view 8 3) (corners_by flips_turns)
+twists_coordinate = projection (twists_view 8 3) (corners_by turn_numbers)
 
 -- the set of the places of the edges of the middle layer
 abbrev pub middle_set_coordinate : Coordinate
-middle_set_coordinate = projection (place_set_view 12 4 middle_edges) (edges_by flips_turns)
+middle_set_coordinate = projection (place_set_view 12 4 middle_edges) (edges_by turn_numbers)
 
 -- the flips, or the twists, beside that set
 abbrev pub flipslice_coordinate : Coordinate
@@ -45,13 +45,13 @@ abbrev pub middle_edges_of : CubeState → ℕ
 middle_edges_of c = permutation_number (in_block middle_edges c.edges.pieces)
 
 abbrev pub corners_coordinate : Coordinate
-corners_coordinate = projection (pieces_view 8) (corners_by tetrads_turns)
+corners_coordinate = projection (pieces_view 8) (corners_by domino_turns)
 
 abbrev pub outer_edges_coordinate : Coordinate
-outer_edges_coordinate = projection (pieces_view 8) (map (block_turn outer_places) (edges_by tetrads_turns))
+outer_edges_coordinate = projection (pieces_view 8) (map (block_turn outer_places) (edges_by domino_turns))
 
 abbrev pub middle_edges_coordinate : Coordinate
-middle_edges_coordinate = projection (pieces_view 4) (map (block_turn middle_edges) (edges_by tetrads_turns))
+middle_edges_coordinate = projection (pieces_view 4) (map (block_turn middle_edges) (edges_by domino_turns))
 
 -- the edges of the middle layer beside the corners, or beside the other edges
 abbrev pub cornerslice_coordinate : Coordinate

@@ -1,7 +1,7 @@
 -- Sets of turns, as the bits of a number: bit t stands for turn t.
 use Rattle.std.specs.Prelude.{ℕ, ◌==◌, Bool, List, filter}
 use Rattle.std.specs.Int.{bit_at}
-use Rattle.scr_twophase.specs.TwoParts.{turn_numbers}
+use Rattle.scr_stages.specs.Stages.{turn_numbers}
 
 abbrev pub contains_turn : ℕ → ℕ → Bool
 contains_turn bits t = bit_at bits t == 1

@@ -1,9 +1,9 @@
 -- The two parts by which a 3x3x3 is solved (after Kociemba's two-phase algorithm), and the scramble that they give.
 --
 -- A turn is told by its number: U U2 U' R R2 R' F F2 F' D D2 D' L L2 L' B B2 B' are 0 to 17.
-use Rattle.std.specs.Prelude.{◌≡◌, ℕ, ◌-◌, ◌/◌, ◌%◌, ◌==◌, ◌&&◌, nat_lt, not, Bool, true, false, if◌then◌else◌, List, [], ◌∷◌, ◌++◌, map, length, take, filter, find, slice_get, Option, Some, None}
+use Rattle.std.specs.Prelude.{◌≡◌, ℕ, ◌-◌, ◌/◌, ◌%◌, ◌==◌, ◌&&◌, nat_lt, not, Bool, true, false, if◌then◌else◌, List, [], ◌∷◌, ◌++◌, map, length, take, filter, find, slice_get, Option, MatchOption}
 use Rattle.std.specs.List.{filter_map}
-use Rattle.std.specs.Option.{option_map, option_map_or}
+use Rattle.std.specs.Option.{option_map_or}
 use Rattle.std.specs.Str.{bytes_eq}
 use Rattle.scr_combinatorics.specs.Lists.{numbers_from}
 use Rattle.scr_combinatorics.specs.Play.{play}
@@ -15,7 +15,7 @@ use Rattle.scr_notation.specs.TurnNumbers.{face_turn_at}
 use Rattle.scr_notation.specs.Turning.{opposite}
 use Rattle.scr_coord.specs.Projections.{marked_places, stands_in}
 use Rattle.scr_cube.specs.Cube333.{CubeState, cube_powers}
-use Rattle.scr_stages.specs.Stages.{middle_edges, IsStageScramble, tetrads_turns}
+use Rattle.scr_stages.specs.Stages.{middle_edges, IsStageScramble, turn_numbers, domino_turns}
 use Rattle.scr_table.specs.Words.{words_within}
 
 -- ---- orderly words
@@ -27,7 +27,8 @@ face_of t = t / 3
 abbrev pub axis_of : ℕ → ℕ
 axis_of t = face_of t % 3
 
--- One turn may stand right before another unless both are of one face, or of opposite faces with the higher number first.
+-- One turn may stand right before another unless both are of one face, or of opposite faces with the higher number
+-- first.
 unfoldable pub may_precede : ℕ → ℕ → Bool
 may_precede first second = if axis_of first == axis_of second then nat_lt (face_of first) (face_of second) else true
 
@@ -65,9 +66,6 @@ is_solved c =
 
 -- ---- first parts
 
-unfoldable pub turn_numbers : List ℕ
-turn_numbers = numbers_from 0 18
-
 -- a quarter turn of R, L, F or B
 abbrev pub is_side_quarter : ℕ → Bool
 is_side_quarter t = not (axis_of t == 0) && not (t % 3 == 1)
@@ -86,37 +84,26 @@ first_parts c = filter (is_first_part c) (words_within turn_numbers 12)
 
 -- ---- second parts
 
--- the ten turns that keep a domino: U U2 U' R2 F2 D D2 D' L2 B2
-unfoldable pub domino_turns : List ℕ
-domino_turns = tetrads_turns
-
--- an orderly word that leads to solved
+-- a solution: an orderly word that leads to solved
 unfoldable pub is_solution : CubeState → List ℕ → Bool
 is_solution c word = is_orderly word && leads is_solved c word
 
--- The second part for a first part: the first of the words of at most 10 of these turns that leads on to solved, where the joined
--- word is orderly.
-unfoldable pub second_part : CubeState → List ℕ → Option (List ℕ)
-second_part c first = find (λ word. is_solution c (first ++ word)) (words_within domino_turns 10)
-
--- a first part joined with its second part, if it has one
+-- A first part joined with its second part, if it has one: the first solution that goes on from it by at most 10 of the
+-- turns that keep a domino.
 unfoldable pub joined : CubeState → List ℕ → Option (List ℕ)
-joined c first = option_map (λ word. first ++ word) (second_part c first)
+joined c first = find (is_solution c) (map (λ word. first ++ word) (words_within domino_turns 10))
 
 -- ---- both
 
--- The two parts of a cube: the first of its first so many first parts that has a second part, joined with it, or none where
--- none of these has one.
+-- The two parts of a cube: the first of its first so many first parts that has a second part, joined with it, or none
+-- where none of these has one.
 unfoldable pub two_parts : CubeState → ℕ → Option (List ℕ)
 two_parts c tries = slice_get (filter_map (joined c) (take tries (first_parts c))) 0
 
 -- ---- the scramble
 
--- The word taken back; and where there is none, the scramble by stages.
-abbrev pub IsScrambleBy : Option (List ℕ) → CubeState → List Turn → Type 0
-IsScrambleBy (Some word) c turns = turns ≡ back opposite (map face_turn_at word)
-IsScrambleBy None c turns = IsStageScramble c turns
-
--- The scramble of a cube, where so many first parts are tried.
+-- The scramble of a cube, where so many first parts are tried: its two parts taken back; and where there are none, the
+-- scramble by stages.
 abbrev pub IsScramble333 : ℕ → CubeState → List Turn → Type 0
-IsScramble333 tries c turns = IsScrambleBy (two_parts c tries) c turns
+IsScramble333 tries c turns =
+    MatchOption (two_parts c tries) (IsStageScramble c turns) (λ word. turns ≡ back opposite (map face_turn_at word))

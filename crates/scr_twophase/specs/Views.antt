@@ -13,7 +13,8 @@ use Rattle.scr_twophase.specs.declared.position.PartPosition.{PartPosition}
 use Rattle.scr_twophase.specs.Near.{AreTakenBack}
 use Rattle.scr_twophase.specs.Search.{AreBehind}
 use Rattle.scr_twophase.specs.Tables.{twists_of, twists_coordinate, middle_set_coordinate, corners_of, outer_edges_of, middle_edges_of, corners_coordinate, outer_edges_coordinate, middle_edges_coordinate}
-use Rattle.scr_twophase.specs.TwoParts.{domino_turns, is_domino, is_solved, turn_numbers}
+use Rattle.scr_stages.specs.Stages.{domino_turns, turn_numbers}
+use Rattle.scr_twophase.specs.TwoParts.{is_domino, is_solved}
 
 -- a coordinate, and its number of each cube
 pub record View : Type 0 where
@@ -45,7 +46,8 @@ pub record IsPosition (v : Views) (at : PartPosition) : Type 0 where
   pub other : at.other < v.other.coordinate.count
   pub middle : at.middle < v.middle.coordinate.count
 
--- the number of a cube among all that a part goes through: those of its own coordinates, in a block for each of the middle layer's
+-- the number of a cube among all that a part goes through: those of its own coordinates, in a block for each of the
+-- middle layer's
 abbrev pub part_number : Views → CubeState → ℕ
 part_number v c = (v.one.number c + v.one.coordinate.count * v.other.number c) + 2 ^ 32 * v.middle.number c
 
@@ -69,10 +71,18 @@ view_beside first own middle = record {
 
 -- The pruning tables of a part: each of its own coordinates beside that of the middle layer.
 abbrev pub one_line : Views → Extent → TableLine
-one_line v e = record { name = e.one_table; coordinate = beside e.middle_first v.one.coordinate v.middle.coordinate; bound = e.bound }
+one_line v e = record {
+  name = e.one_table;
+  coordinate = beside e.middle_first v.one.coordinate v.middle.coordinate;
+  bound = e.bound;
+}
 
 abbrev pub other_line : Views → Extent → TableLine
-other_line v e = record { name = e.other_table; coordinate = beside e.middle_first v.other.coordinate v.middle.coordinate; bound = e.bound }
+other_line v e = record {
+  name = e.other_table;
+  coordinate = beside e.middle_first v.other.coordinate v.middle.coordinate;
+  bound = e.bound;
+}
 
 -- in the order in which they are built
 abbrev pub lines_of : Views → Extent → List TableLine
@@ -83,16 +93,21 @@ lines_of v e = one_line v e ∷ other_line v e ∷ []
 -- A view goes along with the turns of a part, and sees its end.
 pub record Sees (v : Views) (view : View) : Type 0 where
   pub turns : view.coordinate.turns ≡ length v.turns
-  pub along : Follows (cube_space v.IsSeen v.turns (λ c. IsGoal view.coordinate (view.number c))) (positions view.coordinate) view.number
+  pub along :
+      Follows (cube_space v.IsSeen v.turns (λ c. IsGoal view.coordinate (view.number c)))
+      (positions view.coordinate) view.number
   pub ends : (c : CubeState) → v.IsSeen c → IsTrue (v.ends c) → IsGoal view.coordinate (view.number c)
 
--- All views do; they have so many positions, which find room in numbers of 32 bits; there are few turns, and each is taken back
--- by one of them; the sets of those that may stand behind others are sets of them; and the end has this number.
+-- All views do; they have so many positions, which find room in numbers of 32 bits; there are few turns, and each is
+-- taken back by one of them; the sets of those that may stand behind others are sets of them; and the end has this
+-- number.
 pub record AreViews (v : Views) (e : Extent) : Type 0 where
   pub one : Sees v v.one
   pub other : Sees v v.other
   pub middle : Sees v v.middle
-  pub counts : (v.one.coordinate.count ≡ e.ones) × (v.other.coordinate.count ≡ e.others) × (v.middle.coordinate.count ≡ e.middles)
+  pub counts :
+      (v.one.coordinate.count ≡ e.ones) × (v.other.coordinate.count ≡ e.others)
+      × (v.middle.coordinate.count ≡ e.middles)
   pub block : (0 < e.ones) × (e.ones * e.others < 2 ^ 32) × (e.middles ≤ 2 ^ 16)
   pub slices : (e.ones * e.middles < 2 ^ 32) × (e.others * e.middles < 2 ^ 32)
   pub few : (length v.turns ≤ 18) × (e.bound ≤ 24) × (e.turns ≡ length v.turns)
@@ -102,8 +117,8 @@ pub record AreViews (v : Views) (e : Extent) : Type 0 where
 
 -- ---- both parts
 
--- The first goes through all cubes, by all turns, to the dominoes. It sees the flips, the twists, and the set of the places of
--- the edges of the middle layer.
+-- The first goes through all cubes, by all turns, to the dominoes. It sees the flips, the twists, and the set of the
+-- places of the edges of the middle layer.
 abbrev pub first_views : Views
 first_views = record {
   turns = turn_numbers;
@@ -114,8 +129,8 @@ first_views = record {
   middle = record { coordinate = middle_set_coordinate; number = middle_set_of };
 }
 
--- The second goes through dominoes, by the ten turns that keep them, to solved. It sees the lists of the corners, of the edges
--- above and below, and of those of the middle layer.
+-- The second goes through dominoes, by the ten turns that keep them, to solved. It sees the lists of the corners, of
+-- the edges above and below, and of those of the middle layer.
 abbrev pub second_views : Views
 second_views = record {
   turns = domino_turns;

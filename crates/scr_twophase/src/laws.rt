@@ -5,8 +5,9 @@ ghost use Rattle.scr_combinatorics.specs.Play.{play};
 ghost use Rattle.scr_cube.specs.Cube333.{CubeState, solved_cube};
 ghost use Rattle.scr_table.specs.Words.{words_of};
 ghost use Rattle.scr_twophase.specs.Tables.{prune_lines};
-ghost use Rattle.scr_twophase.specs.TwoParts.{after_turn, turn_numbers, domino_turns};
-ghost use Rattle.scr_twophase.specs.TwoParts.{is_first_part, first_parts, is_solution, second_part};
+ghost use Rattle.scr_stages.specs.Stages.{domino_turns, turn_numbers};
+ghost use Rattle.scr_twophase.specs.TwoParts.{after_turn};
+ghost use Rattle.scr_twophase.specs.TwoParts.{is_first_part, first_parts, is_solution, joined};
 ghost use Rattle.scr_twophase.specs.SearchTables.{prune_tables};
 ghost use Rattle.scr_table.specs.TableStates.{AreLinesOf};
 
@@ -31,10 +32,10 @@ pub fn first_parts()
 /// A second part has at most ten of the turns that keep a domino, and there is one wherever a word of so many leads on
 /// to solved and is orderly behind the first part.
 pub fn second_parts()
-    ensures such { (c : CubeState) (first w : List ℕ) → second_part c first ≡ Some w
-        → (length w ≤ 10) × All (Contains domino_turns) w × IsTrue (is_solution c (first ++ w)) }
+    ensures such { (c : CubeState) (first both : List ℕ) → joined c first ≡ Some both
+        → (w : List ℕ) × (both ≡ first ++ w) × (length w ≤ 10) × All (Contains domino_turns) w × IsTrue (is_solution c both) }
     ensures some { (c : CubeState) (first w : List ℕ) → length w ≤ 10 → All (Contains domino_turns) w
-        → IsTrue (is_solution c (first ++ w)) → IsSome (second_part c first) }
+        → IsTrue (is_solution c (first ++ w)) → IsSome (joined c first) }
 {}
 
 /// The lines by which the tables are built are those of the tables as cubes tell them. From every cube with a number,

@@ -4,7 +4,8 @@ ghost use Rattle.std.specs.Option.{option_map};
 ghost use Rattle.std.proofs.Common.{lit≤};
 ghost use Rattle.scr_cube.specs.Cube333.{IsCube};
 ghost use Rattle.scr_twophase.specs.Search.{letters, is_domino_position};
-ghost use Rattle.scr_twophase.specs.TwoParts.{ends_in_quarter, is_first_part, joined, turn_numbers, two_parts};
+ghost use Rattle.scr_stages.specs.Stages.{turn_numbers};
+ghost use Rattle.scr_twophase.specs.TwoParts.{ends_in_quarter, is_first_part, joined, two_parts};
 ghost use Rattle.scr_twophase.specs.Views.{Shows, first_views};
 
 use crate::first::{FirstPart, first_position, is_domino};

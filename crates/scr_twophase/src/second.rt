@@ -8,11 +8,11 @@ ghost use Rattle.scr_positions.specs.SearchSpaces.{ShowsSame};
 ghost use Rattle.scr_coord.specs.Projections.{pieces_view, projection};
 ghost use Rattle.scr_cube.specs.Cube333.{CubeState};
 ghost use Rattle.scr_stages.specs.Numbers.{IsDominoCube};
-ghost use Rattle.scr_stages.specs.Stages.{tetrads_turns};
+ghost use Rattle.scr_stages.specs.Stages.{domino_turns};
 ghost use Rattle.scr_stages.specs.Tables.{block_turn, edges_by};
 ghost use Rattle.scr_table.specs.Words.{words_of};
 ghost use Rattle.scr_twophase.specs.Search.{carried, is_solved_position};
-ghost use Rattle.scr_twophase.specs.TwoParts.{after_turn, domino_turns, is_orderly, is_solution, is_solved, joined};
+ghost use Rattle.scr_twophase.specs.TwoParts.{after_turn, is_orderly, is_solution, is_solved, joined};
 ghost use Rattle.scr_twophase.specs.TwoParts.{leads};
 ghost use Rattle.scr_twophase.specs.Views.{IsPosition, Shows, second_views};
 
@@ -87,9 +87,9 @@ fn edge_moves<const N: usize>(alloc: Global, block: &[u8; N]) -> Result<MoveTabl
     requires size { (1 ≤ N) × (N ≤ 12) }
     requires fits { factorial N < 2 ^ 32 }
     requires places { All (λ place. place < 12) block.now }
-    requires kept { All (λ r. IsPermutation N r.places) (map (block_turn block.now) (edges_by tetrads_turns)) }
+    requires kept { All (λ r. IsPermutation N r.places) (map (block_turn block.now) (edges_by domino_turns)) }
     ensures { IfOk result (λ table.
-        ShowsSame (projection (pieces_view N) (map (block_turn block.now) (edges_by tetrads_turns))) (moves_coordinate table)) }
+        ShowsSame (projection (pieces_view N) (map (block_turn block.now) (edges_by domino_turns))) (moves_coordinate table)) }
 {
     MoveTable::build(
         alloc,

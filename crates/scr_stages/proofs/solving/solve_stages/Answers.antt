@@ -4,7 +4,7 @@ use Rattle.scr_combinatorics.specs.Stages.{IsStageWord, spelled, IsSolution}
 use Rattle.scr_combinatorics.proofs.StageLaws.{All-stage_word, stage_goal, IsSolution-unique, solution_step}
 use Rattle.scr_orbit.specs.PowerPuzzles.{after_letter}
 use Rattle.scr_cube.specs.Cube333.{cube_powers}
-use Rattle.scr_stages.specs.Stages.{letter_in, stages, flips_turns, slice_turns, tetrads_turns, half_turns}
+use Rattle.scr_stages.specs.Stages.{letter_in, stages, turn_numbers, slice_turns, domino_turns, half_turns}
 use Rattle.scr_stages.specs.Stages.{flips_stage, slice_stage, tetrads_stage, halves_stage}
 use Rattle.scr_stages.proofs.HalfTurned.{IsHalfCube-half_turned}
 use Rattle.scr_stages.proofs.SolutionLaws.{solution-at_most, solution-played}
@@ -48,9 +48,9 @@ returns-clause-solution c =
     let slice = subst (IsStageWord (after_letter cube_powers) slice_stage c.follow-unflipped.result) (sym c.deref-2.ensures.0) c.slice_word-word.ensures in
     let tetrads = subst (IsStageWord (after_letter cube_powers) tetrads_stage c.follow-domino.result) (sym c.deref-3.ensures.0) c.tetrads_word-word.ensures in
     let halves = subst (IsStageWord (after_letter cube_powers) halves_stage c.follow-half_turned.result) (sym c.deref-4.ensures.0) c.halves_word-word.ensures in
-    let a = spelled (letter_in flips_turns) first in
+    let a = spelled (letter_in turn_numbers) first in
     let b = spelled (letter_in slice_turns) second in
-    let d = spelled (letter_in tetrads_turns) third in
+    let d = spelled (letter_in domino_turns) third in
     let e = spelled (letter_in half_turns) last in
     let written : c.follow.new.solution.turns ≡ ((([] ++ a) ++ b) ++ d) ++ e =
     ap (λ s. s.turns) c.follow.ensures.written

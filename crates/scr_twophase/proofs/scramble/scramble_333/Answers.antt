@@ -8,8 +8,8 @@ use Rattle.scr_notation.specs.declared.event.Event.TheVariants.{C333, Clock}
 use Rattle.scr_notation.specs.Turning.{opposite}
 use Rattle.scr_cube.specs.Cube333.{cube_powers, solved_cube}
 use Rattle.scr_cube.proofs.Laws333.{lawful_cube}
-use Rattle.scr_twophase.specs.TwoParts.{two_parts, IsScrambleBy}
-use Rattle.scr_twophase.proofs.PartLaws.{IsScrambleBy-unique, length-back, no_parts, spelled_parts}
+use Rattle.scr_twophase.specs.TwoParts.{two_parts}
+use Rattle.scr_twophase.proofs.PartLaws.{IsScrambleBy, IsScrambleBy-unique, length-back, no_parts, spelled_parts}
 use Rattle.scr_twophase.proofs.scramble.scramble_333.Goals as goal
 
 pub inverse-requires : goal.inverse-requires

@@ -9,7 +9,8 @@ use Rattle.scr_twophase.specs.declared.pruning.PruningTable.{PruningTable}
 use Rattle.scr_twophase.specs.Near.{IsInSet}
 use Rattle.scr_twophase.specs.Outlooks.{IsPruningTable}
 use Rattle.scr_twophase.specs.Tables.{cornerslice_line}
-use Rattle.scr_twophase.specs.TwoParts.{domino_turns, is_solved, leads}
+use Rattle.scr_stages.specs.Stages.{domino_turns}
+use Rattle.scr_twophase.specs.TwoParts.{is_solved, leads}
 use Rattle.scr_twophase.specs.Views.{Shows, index_beside, second_views, view_beside}
 use Rattle.scr_twophase.proofs.Admissible.{near-way}
 use Rattle.scr_twophase.proofs.CubeTests.{not_so}

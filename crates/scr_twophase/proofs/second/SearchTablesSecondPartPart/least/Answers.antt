@@ -2,7 +2,8 @@ use Rattle.std.proofs.Common.{◌++◌, sym, ◌∙◌}
 use Rattle.std.proofs.lemmas.Bool.{false≢true}
 use Rattle.scr_table.proofs.WordLists.{words_behind-none}
 use Rattle.scr_twophase.specs.Search.{letters}
-use Rattle.scr_twophase.specs.TwoParts.{domino_turns, is_solution, is_solved}
+use Rattle.scr_stages.specs.Stages.{domino_turns}
+use Rattle.scr_twophase.specs.TwoParts.{is_solution, is_solved}
 use Rattle.scr_twophase.proofs.CubeTests.{leads-behind, not_so}
 use Rattle.scr_twophase.specs.declared.second.TheConstants.{SECOND_EXTENT}
 use Rattle.scr_twophase.specs.Views.{second_views}
