@@ -11,7 +11,7 @@ use Rattle.scr_orbit.specs.Orbits.{Orbit, turned_orbit, composed, identity, solv
 use Rattle.scr_orbit.specs.PowerPuzzles.{letter_table, after_letter, power_puzzle}
 use Rattle.scr_notation.specs.TurnNumbers.{face_turn_at}
 use Rattle.scr_cube.specs.Cube333.{cube_action, cube_powers, solved_cube}
-use Rattle.scr_cube.specs.Cube222.{action_222, powers_222, solved_222}
+use Rattle.scr_cube.specs.Cube222.{powers_222, solved_222}
 use Rattle.scr_cube.specs.Known.{superflip, superflip_word}
 
 first_of_up : (after_letter powers_222) solved_222 (face_turn_at 0) ≡ Some (record { pieces = 3 ∷ 0 ∷ 1 ∷ 2 ∷ 4 ∷ 5 ∷ 6 ∷ []; digits = 0 ∷ 0 ∷ 0 ∷ 0 ∷ 0 ∷ 0 ∷ 0 ∷ [] })
@@ -27,7 +27,7 @@ unsolved s e same =
     omega (arith, three)
 
 pub one_needed : (s : Orbit) → (after_letter powers_222) solved_222 (face_turn_at 0) ≡ Some s → Needs (power_puzzle powers_222) s 1
-one_needed s e = needs_one action_222 (letter_table powers_222) solved_222 s (unsolved s e)
+one_needed s e = needs_one powers_222.action (letter_table powers_222) solved_222 s (unsolved s e)
 
 up_back : (after_letter powers_222) (record { pieces = 3 ∷ 0 ∷ 1 ∷ 2 ∷ 4 ∷ 5 ∷ 6 ∷ []; digits = 0 ∷ 0 ∷ 0 ∷ 0 ∷ 0 ∷ 0 ∷ 0 ∷ [] }) (face_turn_at 2) ≡ Some solved_222
 unfolding face_turn_at power_of power composed identity solved_222 solved_orbit turned_orbit added_digits
@@ -36,7 +36,7 @@ up_back = refl
 pub one_enough : (s : Orbit) → (after_letter powers_222) solved_222 (face_turn_at 0) ≡ Some s → Needs (power_puzzle powers_222) s 2 → ⊥
 one_enough s e =
     let there = same_Some _ s (sym first_of_up ∙ e) in
-    enough action_222 (letter_table powers_222) solved_222 s (face_turn_at 2 ∷ []) 2 (lit< tt)
+    enough powers_222.action (letter_table powers_222) solved_222 s (face_turn_at 2 ∷ []) 2 (lit< tt)
     (play-one (after_letter powers_222) s (face_turn_at 2) ∙ ap (λ o. (after_letter powers_222) o (face_turn_at 2)) (sym there) ∙ up_back)
 
 superflip_back : play (after_letter cube_powers) superflip superflip_word ≡ Some solved_cube

@@ -6,7 +6,6 @@ use Rattle.std.specs.Prelude.{ℕ, List, [], ◌∷◌, slice_index}
 use Rattle.scr_combinatorics.specs.Permutations.{permutation_number, permutation_at}
 use Rattle.scr_combinatorics.specs.Twists.{twists_number, twists_at}
 use Rattle.scr_combinatorics.specs.Numbered.{Numbers, numbers_by_digits, Numbered, numbered_by_digits}
-use Rattle.scr_orbit.specs.Actions.{Action}
 use Rattle.scr_orbit.specs.Orbits.{Orbit, Rearrangement, IsZeroSumOrbit, zeros, solved_orbit, orbit_action}
 use Rattle.scr_orbit.specs.PowerPuzzles.{PowerPuzzle}
 use Rattle.scr_notation.specs.declared.turn.Turn.{Turn}
@@ -24,15 +23,13 @@ quarters_222 =
     ∷ record { places = 1 ∷ 5 ∷ 2 ∷ 3 ∷ 0 ∷ 4 ∷ 6 ∷ []; added = 1 ∷ 2 ∷ 0 ∷ 0 ∷ 2 ∷ 1 ∷ 0 ∷ [] }
     ∷ []
 
-abbrev pub action_222 : Action Orbit Rearrangement
-action_222 = orbit_action 7 3
-
 unfoldable pub solved_222 : Orbit
 solved_222 = solved_orbit 7
 
 -- The 2x2x2 as data. Its 9 turns are U U2 U' R R2 R' F F2 F', in the order of their numbers.
 abbrev pub powers_222 : PowerPuzzle Orbit Rearrangement Turn
-powers_222 = record { letters = letters_of_faces; action = action_222; generators = quarters_222; solved = solved_222 }
+powers_222 =
+    record { letters = letters_of_faces; action = orbit_action 7 3; generators = quarters_222; solved = solved_222 }
 
 -- ---- numbers
 

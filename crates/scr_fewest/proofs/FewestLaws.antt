@@ -17,7 +17,7 @@ use Rattle.scr_cube.proofs.CompositionLaws.{IsJoining-cubes, IsCube-then, IsCube
 use Rattle.scr_cube.proofs.OnLiterals.{cubes_on_literals}
 use Rattle.scr_twophase.specs.TwoParts.{two_parts}
 use Rattle.scr_twophase.proofs.PartLaws.{IsScrambleBy-unique}
-use Rattle.scr_fewest.specs.Fewest.{frame, framed, frame_back, between, is_turn, is_frame_at, is_framed, IsFramed, IsScrambleFewest}
+use Rattle.scr_fewest.specs.Fewest.{frame, frame_back, between, is_turn, is_frame_at, is_framed, IsFramed, IsScrambleFewest}
 
 -- ---- the frame
 
@@ -88,10 +88,13 @@ between-played s v own e =
 
 -- ---- the scramble
 
+-- turns between two frames
+abbrev pub framed : List Turn → List Turn
+framed middle = frame ++ middle ++ frame
+
 -- Two frames about a word to the cube between lead to the state.
 pub framed-played : (s : CubeState) (middle : List Turn) → IsCube s → play (after_letter cube_powers) solved_cube middle ≡ Some (between s)
     → play (after_letter cube_powers) solved_cube (framed middle) ≡ Some s
-unfolding framed
 framed-played s middle own played =
     let after = after_letter cube_powers in
     let both = cube_then frame_cube (between s) in
@@ -106,7 +109,6 @@ length-frame = refl
 
 -- they have six turns more
 pub length-framed : (middle : List Turn) → length (framed middle) ≡ length middle + 6
-unfolding framed
 length-framed middle =
     let joined : framed middle ≡ (frame ++ middle) ++ frame = refl in
     omega (arith, ap length joined, length-append (frame ++ middle) frame, length-append frame middle, length-frame)
@@ -127,7 +129,7 @@ at_end (x ∷ xs) ys zero i is = absurd (omega arith)
 at_end (x ∷ xs) ys (suc n) i is = at_end xs ys n i (omega arith)
 
 pub is_framed-framed : (middle : List Turn) → is_framed (framed middle) ≡ true
-unfolding is_framed framed frame is_frame_at
+unfolding is_framed frame is_frame_at
 is_framed-framed middle =
     let turns = framed middle in
     let n = length turns in
@@ -185,7 +187,7 @@ ends (a ∷ b ∷ c ∷ d ∷ rest) (suc n) size is =
 
 -- the test tells what is between two frames
 pub is_framed-is : (turns : List Turn) → IsTrue (is_framed turns) → IsFramed turns
-unfolding is_framed is_frame_at framed
+unfolding is_framed is_frame_at
 is_framed-is [] is = absurd (false≢true is)
 is_framed-is (a ∷ []) is = absurd (false≢true is)
 is_framed-is (a ∷ b ∷ []) is = absurd (false≢true is)

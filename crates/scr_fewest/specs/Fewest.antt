@@ -16,14 +16,10 @@ use Rattle.scr_twophase.specs.TwoParts.{IsScramble333}
 unfoldable pub frame : List Turn
 frame = Face 1 1 3 ∷ Face 0 1 3 ∷ Face 2 1 1 ∷ []
 
--- turns between two frames
-unfoldable pub framed : List Turn → List Turn
-framed middle = frame ++ middle ++ frame
-
 -- They begin with one frame and end with another.
 pub record IsFramed (turns : List Turn) : Type 0 where
   pub middle : List Turn
-  pub whole : turns ≡ framed middle
+  pub whole : turns ≡ frame ++ middle ++ frame
 
 -- a test of it: at least six turns, of which the first three and the last three are a frame
 abbrev pub is_turn : ℕ → ℕ → Turn → Bool
@@ -42,8 +38,8 @@ is_framed turns = nat_le 6 (length turns) && (is_frame_at turns 0 && is_frame_at
 unfoldable pub frame_back : CubeState
 frame_back = unwrap_or (play (after_letter cube_powers) solved_cube (back opposite frame)) solved_cube
 
--- The cube that the frames of a state's scramble leave between them: the frame taken back, the state, and the frame taken
--- back.
+-- The cube that the frames of a state's scramble leave between them: the frame taken back, the state, and the frame
+-- taken back.
 unfoldable pub between : CubeState → CubeState
 between s = cube_then frame_back (cube_then s frame_back)
 
@@ -51,4 +47,4 @@ between s = cube_then frame_back (cube_then s frame_back)
 pub record IsScrambleFewest (tries : ℕ) (s : CubeState) (turns : List Turn) : Type 0 where
   pub middle : List Turn
   pub scramble : IsScramble333 tries (between s) middle
-  pub whole : turns ≡ framed middle
+  pub whole : turns ≡ frame ++ middle ++ frame

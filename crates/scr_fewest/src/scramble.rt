@@ -1,12 +1,12 @@
 //! The scramble for fewest moves.
-ghost use Rattle.std.specs.Prelude.{◌≡◌, ◌+◌, ◌≤◌, IsTrue, List, Some, is_some, length};
+ghost use Rattle.std.specs.Prelude.{◌≡◌, ◌+◌, ◌++◌, ◌≤◌, IsTrue, List, Some, is_some, length};
 ghost use Rattle.scr_combinatorics.specs.Play.{play};
 ghost use Rattle.scr_orbit.specs.PowerPuzzles.{after_letter};
 ghost use Rattle.scr_notation.specs.declared.event.Event.TheVariants.{Fm333};
 ghost use Rattle.scr_notation.specs.declared.turn.Turn.{Turn as Letter};
 ghost use Rattle.scr_cube.specs.Cube333.{cube_powers, solved_cube};
 ghost use Rattle.scr_twophase.specs.TwoParts.{two_parts};
-ghost use Rattle.scr_fewest.specs.Fewest.{frame, framed, between, is_frame_at, is_framed, is_turn, IsFramed, IsScrambleFewest};
+ghost use Rattle.scr_fewest.specs.Fewest.{frame, between, is_frame_at, is_framed, is_turn, IsFramed, IsScrambleFewest};
 
 use scr_cube::{Cube, PowerTurned};
 use scr_notation::{Event, Scramble, Turn, inverse, numbered_scramble, push_all};
@@ -50,7 +50,7 @@ fn frame() -> Scramble
 fn framed(middle: &Scramble) -> Scramble
     requires event { middle.now.event ≡ Fm333 }
     requires room { length middle.now.turns ≤ 154 }
-    ensures { result ≡ record { event = Fm333; turns = framed middle.now.turns } }
+    ensures { result ≡ record { event = Fm333; turns = frame ++ middle.now.turns ++ frame } }
 {
     let mut scramble = frame();
     push_all(&mut scramble, middle);

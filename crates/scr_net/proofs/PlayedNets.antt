@@ -16,7 +16,7 @@ use Rattle.scr_notation.specs.declared.turn.Turn.{Turn}
 use Rattle.scr_notation.specs.FaceLetters.{quarters_of}
 use Rattle.scr_notation.proofs.FaceLaws.{IsQuartersOf-read}
 use Rattle.scr_cube.specs.Cube333.{CubeState, CubeTurn, IsCube, IsCubeTurn, cube_quarters, cube_action, cube_powers, solved_cube}
-use Rattle.scr_cube.specs.Cube222.{IsCorners222, quarters_222, action_222, powers_222, solved_222}
+use Rattle.scr_cube.specs.Cube222.{IsCorners222, quarters_222, powers_222, solved_222}
 use Rattle.scr_cube.specs.Stickers.{corner_faces, edge_faces}
 use Rattle.scr_cube.proofs.Laws333.{lawful_cube}
 use Rattle.scr_cube.proofs.Laws222.{lawful_222}
@@ -175,7 +175,7 @@ corners_tests : (face : ℕ) (q : Rearrangement) → slice_get quarters_222 face
 corners_tests = each_at (λ face q. each_sticker 2 (corners_come_from face q) ≡ true) quarters_222 (refl, (refl, (refl, tt)))
 
 corners_letter-turned : (face : ℕ) (q : Rearrangement) (o : Orbit) (s : Sticker) → IsCorners222 o → IsZeroSumRearrangement 7 3 q → corners_come_from face q s ≡ true
-    → corners_letter o (brought_from 1 face 1 s) ≡ corners_letter (action_222.turned o q) s
+    → corners_letter o (brought_from 1 face 1 s) ≡ corners_letter (powers_222.action.turned o q) s
 unfolding corners_letter
 corners_letter-turned face q o s own turn h =
     let t : Sticker = brought_from 1 face 1 s in
@@ -186,5 +186,5 @@ pub corners_nets : (w : List Turn) → IsSome (play (after_letter powers_222) so
     → play (net_after 2) (solved_net 2) w ≡ option_map net_of_corners (play (after_letter powers_222) solved_222 w)
 unfolding net_of corners_letter letter_of_pieces solved_222 solved_orbit
 corners_nets =
-    played_net action_222 IsCorners222 (IsZeroSumRearrangement 7 3) lawful_222.lawful.acts quarters_222 corners_turns 2 (lit< tt) corners_letter corners_come_from corners_tests
+    played_net powers_222.action IsCorners222 (IsZeroSumRearrangement 7 3) lawful_222.lawful.acts quarters_222 corners_turns 2 (lit< tt) corners_letter corners_come_from corners_tests
     corners_letter-turned solved_222 (IsZeroSumOrbit-solved 7 3 (lit< tt)) refl

@@ -8,7 +8,6 @@ use Rattle.std.proofs.Math.Pow.{pow-lt}
 use Rattle.std.proofs.lemmas.Bool.{cases_eq, cases_lt}
 use Rattle.std.proofs.lemmas.Nat.Bits.{bit_at-lt, bit_at_and, bit_at_set_same, bit_at_set_other, bit_at_clear_same, bit_at_clear_other, bit_at-trailing_zeros, bit_at_above, bit_at-zero, bit_at_ones}
 use Rattle.scr_combinatorics.specs.Lists.{numbers_from}
-use Rattle.scr_stages.specs.Stages.{turn_numbers}
 use Rattle.scr_twophase.specs.TurnSets.{contains_turn, turns_in}
 
 -- ---- one bit

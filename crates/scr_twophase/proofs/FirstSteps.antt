@@ -1,6 +1,6 @@
 -- What a search for first parts sees: its positions, the turns that lead on, and where its words end.
-use Rattle.std.proofs.Common.{◌≡◌, ℕ, ◌<◌, Bool, true, false, cond, List, [], ◌∷◌, ◌++◌, map, get_or, Some, None, refl, sym, ap, ◌∙◌, arith, lit<, lit≤}
-use Rattle.std.specs.Prelude.{filter, ◌&&◌}
+use Rattle.std.proofs.Common.{◌≡◌, ℕ, ◌%◌, ◌<◌, Bool, not, true, false, cond, List, [], ◌∷◌, ◌++◌, map, get_or, Some, None, refl, sym, ap, ◌∙◌, arith, lit<, lit≤}
+use Rattle.std.specs.Prelude.{filter, ◌==◌, ◌&&◌}
 use Rattle.std.specs.Option.{option_map_or}
 use Rattle.std.proofs.lemmas.Bool.{and_parts, and_from}
 use Rattle.std.proofs.lemmas.List.{map-id}
@@ -20,7 +20,7 @@ use Rattle.scr_table.proofs.WordLists.{words_behind-end, words_of-none}
 use Rattle.scr_twophase.specs.declared.first.TheConstants.{FIRST_EXTENT}
 use Rattle.scr_twophase.specs.declared.position.PartPosition.{PartPosition}
 use Rattle.scr_twophase.specs.TurnSets.{contains_turn}
-use Rattle.scr_twophase.specs.TwoParts.{ends_in_quarter, is_domino, is_first_part, is_orderly, is_side_quarter, joined, leads, first_parts, two_parts}
+use Rattle.scr_twophase.specs.TwoParts.{axis_of, ends_in_quarter, is_domino, is_first_part, is_orderly, joined, leads, first_parts, two_parts}
 use Rattle.scr_twophase.specs.Search.{IsAt, IsSearched, IsTestOf, KeepsWays, first_given, is_domino_position}
 use Rattle.scr_twophase.specs.Tables.{twists_of}
 use Rattle.scr_twophase.specs.Views.{AreViews, Shows, first_views, part_number}
@@ -73,6 +73,10 @@ IsTestOf-first c = record {
   orderly = λ w e. (and_parts (is_orderly w) (ends_in_quarter w) (and_parts (is_orderly w && ends_in_quarter w) (leads is_domino c w) e).0).0;
   leads_there = λ w e. (and_parts (is_orderly w && ends_in_quarter w) (leads is_domino c w) e).1;
 }
+
+-- a quarter turn of R, L, F or B
+abbrev pub is_side_quarter : ℕ → Bool
+is_side_quarter t = not (axis_of t == 0) && not (t % 3 == 1)
 
 -- the last turn of a first part is one of these
 unfoldable pub side_quarters : ℕ

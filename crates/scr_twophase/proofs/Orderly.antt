@@ -3,7 +3,7 @@ use Rattle.std.proofs.Common.{◌≡◌, ℕ, suc, ◌-◌, Bool, true, false, L
 use Rattle.std.specs.Prelude.{◌&&◌, slice_get}
 use Rattle.std.specs.Option.{option_map_or}
 use Rattle.std.proofs.lemmas.Bool.{and_parts, and_from}
-use Rattle.scr_twophase.specs.TwoParts.{may_precede, may_begin, is_orderly}
+use Rattle.scr_twophase.specs.TwoParts.{may_precede, is_orderly}
 use Rattle.scr_twophase.specs.Search.{may_end}
 
 -- ---- the last letter
@@ -27,7 +27,7 @@ and-assoc false b c = refl
 
 -- a word and then others behind one more turn
 pub is_orderly-behind : (w : List ℕ) (t : ℕ) (v : List ℕ) → is_orderly (w ++ t ∷ v) ≡ ((is_orderly w && may_end w t) && is_orderly (t ∷ v))
-unfolding is_orderly may_begin may_end
+unfolding is_orderly may_end
 is_orderly-behind [] t v = refl
 is_orderly-behind (u ∷ []) t v = refl
 is_orderly-behind (u ∷ x ∷ w) t v =
@@ -39,7 +39,7 @@ is_orderly-behind (u ∷ x ∷ w) t v =
 
 -- so a turn that may stand behind a word makes an orderly word of it
 pub is_orderly-push : (w : List ℕ) (t : ℕ) → is_orderly w ≡ true → may_end w t ≡ true → is_orderly (w ++ t ∷ []) ≡ true
-unfolding is_orderly may_begin
+unfolding is_orderly
 is_orderly-push w t h e = is_orderly-behind w t [] ∙ ap (λ b. b && (true && true)) (and_from (is_orderly w) (may_end w t) h e)
 
 -- and a turn of an orderly word may stand behind the turns before it

@@ -24,7 +24,7 @@ use Rattle.scr_stages.proofs.DominoLaws.{IsPlaceSet-middle}
 use Rattle.scr_stages.proofs.HalfCubes.{pick-in_block}
 use Rattle.scr_stages.proofs.TurnFacts.{length-turns, tetrads_numbers}
 use Rattle.scr_table.specs.Words.{words_behind, words_within}
-use Rattle.scr_table.proofs.WordLists.{find-filter, find-made, words_behind-end}
+use Rattle.scr_table.proofs.WordLists.{find-filter, words_behind-end}
 use Rattle.scr_twophase.specs.declared.second.TheConstants.{SECOND_EXTENT}
 use Rattle.scr_twophase.specs.declared.position.PartPosition.{PartPosition}
 use Rattle.scr_twophase.specs.TwoParts.{after_turn, is_solved, is_solution, is_orderly, joined, leads}

@@ -20,27 +20,19 @@ use Rattle.scr_table.specs.Words.{words_within}
 
 -- ---- orderly words
 
--- The face of a turn, of U R F D L B, and its axis: up and down, right and left, or front and back.
-abbrev pub face_of : ℕ → ℕ
-face_of t = t / 3
-
+-- The axis of a turn: up and down, right and left, or front and back. Its face, of U R F D L B, is t / 3.
 abbrev pub axis_of : ℕ → ℕ
-axis_of t = face_of t % 3
+axis_of t = t / 3 % 3
 
 -- One turn may stand right before another unless both are of one face, or of opposite faces with the higher number
 -- first.
 unfoldable pub may_precede : ℕ → ℕ → Bool
-may_precede first second = if axis_of first == axis_of second then nat_lt (face_of first) (face_of second) else true
-
--- a turn may stand right before the first letter of a word, if it has one
-unfoldable pub may_begin : ℕ → List ℕ → Bool
-may_begin t [] = true
-may_begin t (u ∷ w) = may_precede t u
+may_precede first second = if axis_of first == axis_of second then nat_lt (first / 3) (second / 3) else true
 
 -- Of each two neighbours the first may precede the second.
 unfoldable pub is_orderly : List ℕ → Bool
-is_orderly [] = true
-is_orderly (t ∷ w) = may_begin t w && is_orderly w
+is_orderly (t ∷ u ∷ w) = may_precede t u && is_orderly (u ∷ w)
+is_orderly _ = true
 
 -- ---- what turns lead to
 
@@ -66,13 +58,10 @@ is_solved c =
 
 -- ---- first parts
 
--- a quarter turn of R, L, F or B
-abbrev pub is_side_quarter : ℕ → Bool
-is_side_quarter t = not (axis_of t == 0) && not (t % 3 == 1)
-
--- the word is empty, or its last letter is such a turn
+-- the word is empty, or its last letter is a quarter turn of R, L, F or B
 unfoldable pub ends_in_quarter : List ℕ → Bool
-ends_in_quarter word = option_map_or is_side_quarter (slice_get word (length word - 1)) true
+ends_in_quarter word =
+    option_map_or (λ t. not (axis_of t == 0) && not (t % 3 == 1)) (slice_get word (length word - 1)) true
 
 -- A first part: an orderly word that is empty or ends in a quarter turn of R, L, F or B, and leads to a domino.
 unfoldable pub is_first_part : CubeState → List ℕ → Bool

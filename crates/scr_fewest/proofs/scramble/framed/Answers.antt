@@ -1,7 +1,7 @@
 use Rattle.std.proofs.Common.{◌++◌, length, ap, ◌∙◌, arith, length-append}
 use Rattle.scr_notation.specs.declared.event.Event.TheVariants.{Fm333}
 use Rattle.scr_notation.specs.Written.{Written}
-use Rattle.scr_fewest.specs.Fewest.{frame, framed}
+use Rattle.scr_fewest.specs.Fewest.{frame}
 use Rattle.scr_fewest.proofs.FewestLaws.{length-frame}
 use Rattle.scr_fewest.proofs.scramble.framed.Goals as goal
 
@@ -23,7 +23,6 @@ push_all-requires-2-clause-room c =
     )
 
 pub returns : goal.returns
-unfolding framed
 returns c =
     let middle = c.args.middle.now.turns in
     let first = c.push_all.ensures ∙ ap (λ (s : Written). record { event = s.event; turns = s.turns ++ middle }) c.frame-scramble.ensures in

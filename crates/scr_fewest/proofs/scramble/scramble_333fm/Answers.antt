@@ -6,8 +6,8 @@ use Rattle.scr_orbit.specs.PowerPuzzles.{after_letter}
 use Rattle.scr_notation.specs.Written.{Written}
 use Rattle.scr_cube.specs.Cube333.{CubeState, cube_powers, solved_cube}
 use Rattle.scr_twophase.specs.TwoParts.{two_parts, IsScramble333}
-use Rattle.scr_fewest.specs.Fewest.{framed, frame_back, between, is_framed}
-use Rattle.scr_fewest.proofs.FewestLaws.{frame_back-made, between-made, framed-played, length-framed, is_framed-framed, IsScrambleFewest-unique}
+use Rattle.scr_fewest.specs.Fewest.{frame_back, between, is_framed}
+use Rattle.scr_fewest.proofs.FewestLaws.{framed, frame_back-made, between-made, framed-played, length-framed, is_framed-framed, IsScrambleFewest-unique}
 use Rattle.scr_fewest.proofs.scramble.scramble_333fm.Goals as goal
 
 -- the frame taken back leads somewhere

@@ -9,7 +9,7 @@ use Rattle.scr_table.specs.Words.{words_within}
 use Rattle.scr_table.proofs.ListedWords.{Contains-words_within, IsWithin-listed, Contains-filter, Contains-passed}
 use Rattle.scr_stages.proofs.FiniteTests.{All-from_test}
 use Rattle.scr_stages.specs.Stages.{turn_numbers}
-use Rattle.scr_twophase.specs.TwoParts.{after_turn, may_precede, may_begin, is_orderly, ends_in_quarter}
+use Rattle.scr_twophase.specs.TwoParts.{after_turn, may_precede, is_orderly, ends_in_quarter}
 use Rattle.scr_twophase.specs.TwoParts.{leads, is_domino, is_first_part, first_parts}
 use Rattle.scr_twophase.proofs.CubeTests.{leads-played}
 use Rattle.scr_twophase.proofs.ListedTurns.{All-turns, All-below_18}
@@ -40,7 +40,7 @@ abbrev twelve_turns : List ℕ
 twelve_turns = 3 ∷ 6 ∷ 12 ∷ 15 ∷ 3 ∷ 6 ∷ 12 ∷ 15 ∷ 3 ∷ 6 ∷ 12 ∷ 15 ∷ []
 
 twelve-orderly : (is_orderly twelve_turns && ends_in_quarter twelve_turns) ≡ true
-unfolding is_orderly may_begin may_precede ends_in_quarter
+unfolding is_orderly may_precede ends_in_quarter
 twelve-orderly = refl
 
 solved-domino : is_domino solved_cube ≡ true

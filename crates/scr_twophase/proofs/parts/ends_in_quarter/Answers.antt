@@ -1,7 +1,8 @@
 use Rattle.std.proofs.Common.{◌/◌, ◌%◌, not, true, sym, ap, ◌∙◌, ne_eqb, eq-eqb}
 use Rattle.std.specs.Prelude.{◌==◌, ◌&&◌}
 use Rattle.std.specs.Option.{option_map_or}
-use Rattle.scr_twophase.specs.TwoParts.{ends_in_quarter, is_side_quarter}
+use Rattle.scr_twophase.specs.TwoParts.{ends_in_quarter}
+use Rattle.scr_twophase.proofs.FirstSteps.{is_side_quarter}
 use Rattle.scr_twophase.proofs.parts.ends_in_quarter.Goals as goal
 
 pub returns-in-None : goal.returns-in-None

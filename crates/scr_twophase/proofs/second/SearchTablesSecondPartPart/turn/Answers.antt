@@ -1,5 +1,4 @@
 use Rattle.std.proofs.Common.{refl}
-use Rattle.scr_stages.specs.Stages.{domino_turns}
 use Rattle.scr_twophase.proofs.SecondSteps.{domino_turn-lt}
 use Rattle.scr_twophase.proofs.second.SearchTablesSecondPartPart.turn.Goals as goal
 
