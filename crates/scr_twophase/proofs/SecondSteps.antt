@@ -36,8 +36,8 @@ use Rattle.scr_twophase.proofs.Outcomes.{IsSearched-none, IsSearched-one}
 use Rattle.scr_twophase.proofs.TakenBack.{AreTakenBack-ten}
 use Rattle.scr_twophase.proofs.ViewLaws.{Sees-follows, part_number-end, tests_agree}
 use Rattle.scr_twophase.proofs.WordSteps.{AreBehind-ten, sets_below}
-use Rattle.scr_twophase.specs.Spaces.{AreCornersHome, AreOuterHome, AreMiddleHome}
-use Rattle.scr_twophase.proofs.Spaces.{IsPlaceSet-outer_places, outer-kept, Follows-corners, Follows-outer_edges}
+use Rattle.scr_twophase.specs.Spaces.{AreMiddleHome}
+use Rattle.scr_twophase.proofs.Spaces.{AreCornersHome, AreOuterHome, IsPlaceSet-outer_places, outer-kept, Follows-corners, Follows-outer_edges}
 use Rattle.scr_twophase.proofs.Spaces.{Follows-middle_edges}
 
 -- ---- positions

@@ -25,7 +25,7 @@ use Rattle.scr_stages.proofs.StageSpaces.{tetrads_moves, Follows-flips, Follows-
 use Rattle.scr_stages.proofs.StageSpaces.{Follows-twists_beside}
 use Rattle.scr_stages.proofs.TurnFacts.{IsDominoTurn, flips_numbers}
 use Rattle.scr_stages.proofs.ViewLaws.{Follows-viewed}
-use Rattle.scr_twophase.specs.Spaces.{cubes_to, dominoes_to, AreCornersHome, AreOuterHome, AreMiddleHome}
+use Rattle.scr_twophase.specs.Spaces.{cubes_to, dominoes_to, AreMiddleHome}
 use Rattle.scr_twophase.specs.SearchTables.{flipslice_table, twistslice_table, cornerslice_table, edgeslice_table}
 use Rattle.scr_twophase.specs.Tables.{twists_of, twists_coordinate, middle_set_coordinate, flipslice_coordinate, twistslice_coordinate, corners_of, outer_edges_of, middle_edges_of, corners_coordinate, outer_edges_coordinate, middle_edges_coordinate, cornerslice_coordinate, edgeslice_coordinate}
 
@@ -75,6 +75,13 @@ number-lt n xs h = subst (λ m. permutation_number xs < factorial m) h.size (per
 -- a list is in order where its number says so
 in_order : (n : ℕ) (xs : List ℕ) → IsPermutation n xs → (xs ≡ numbers_from 0 n) ↔ (permutation_number xs ≡ permutation_number (numbers_from 0 n))
 in_order n xs h = (λ e. ap permutation_number e, λ e. permutation_number-injective n xs (numbers_from 0 n) h (IsPermutation-numbers_from n) e)
+
+-- the corners, and the edges above and below, stand in order
+abbrev pub AreCornersHome : CubeState → Type 0
+AreCornersHome c = c.corners.pieces ≡ numbers_from 0 8
+
+abbrev pub AreOuterHome : CubeState → Type 0
+AreOuterHome c = in_block outer_places c.edges.pieces ≡ numbers_from 0 8
 
 pub Follows-corners : Follows (dominoes_to AreCornersHome) (positions corners_coordinate) corners_of
 unfolding turned_orbit

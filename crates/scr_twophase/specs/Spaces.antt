@@ -6,7 +6,6 @@ use Rattle.scr_cube.specs.Cube333.{CubeState, IsCube}
 use Rattle.scr_stages.specs.Stages.{middle_edges, turn_numbers, domino_turns}
 use Rattle.scr_stages.specs.Numbers.{IsDominoCube}
 use Rattle.scr_stages.specs.Spaces.{cube_space}
-use Rattle.scr_stages.specs.Tables.{outer_places}
 use Rattle.scr_stages.specs.Tetrads.{in_block}
 
 -- the first part: all cubes, by all turns, to a goal
@@ -17,12 +16,6 @@ cubes_to IsGoal = cube_space IsCube turn_numbers IsGoal
 abbrev pub dominoes_to : (CubeState → Type 0) → SearchSpace CubeState
 dominoes_to IsGoal = cube_space IsDominoCube domino_turns IsGoal
 
--- the pieces of a kind stand in order
-abbrev pub AreCornersHome : CubeState → Type 0
-AreCornersHome c = c.corners.pieces ≡ numbers_from 0 8
-
-abbrev pub AreOuterHome : CubeState → Type 0
-AreOuterHome c = in_block outer_places c.edges.pieces ≡ numbers_from 0 8
-
+-- the edges of the middle layer stand in order
 abbrev pub AreMiddleHome : CubeState → Type 0
 AreMiddleHome c = in_block middle_edges c.edges.pieces ≡ numbers_from 0 4
