@@ -1,5 +1,6 @@
--- What each event is: the one place that says by event what a slot draws, what its scramble is and what is promised of it.
-use Rattle.std.specs.Prelude.{ℕ, ◌≤◌, List, length, Option, None, IsTrue, is_some, if◌then◌else◌}
+-- What each event is: the one place that says by event what a slot draws, what its scramble is and what is promised of
+-- it.
+use Rattle.std.specs.Prelude.{ℕ, ◌≤◌, List, length, None, IsTrue, is_some, if◌then◌else◌}
 use Rattle.scr_notation.specs.declared.event.Event.{Event}
 use Rattle.scr_notation.specs.declared.event.Event.TheVariants.{C222, C333, Oh333, C555, C666, C777, Clock, Minx, Pyram, Skewb, Sq1, Bf333, Fm333}
 use Rattle.scr_notation.specs.declared.turn.Turn.{Turn}
@@ -47,13 +48,12 @@ drawn_222 = drawn_by_powers powers_222 11
 abbrev pub drawn_333 : DrawnPuzzle CubeState
 drawn_333 = drawn_by_powers cube_powers 52
 
--- What the turns of a scramble for fewest moves make of the solved cube: those that don't begin and end with R' U' F are none.
-abbrev pub framed_play : List Turn → Option CubeState
-framed_play turns = if is_framed turns then play (after_letter cube_powers) solved_cube turns else None
-
--- the 3x3x3 for fewest moves: two frames of three turns more
+-- The 3x3x3 for fewest moves: two frames of three turns more. Turns that don't begin and end with R' U' F are no
+-- scramble.
 abbrev pub drawn_fewest : DrawnPuzzle CubeState
-drawn_fewest = drawn_puzzle (power_puzzle cube_powers) framed_play (at_most 58)
+drawn_fewest =
+    drawn_puzzle (power_puzzle cube_powers)
+    (λ turns. if is_framed turns then play (after_letter cube_powers) solved_cube turns else None) (at_most 58)
 
 -- the 3x3x3 as it is held: two wide turns more
 abbrev pub drawn_held : DrawnPuzzle HeldState
@@ -98,8 +98,8 @@ shown_of Fm333 = States CubeState drawn_fewest
 
 -- ---- which scramble a state has
 
--- the 3x3x3: its two parts, where one of so many first parts has a second, in at most 22 turns; and else the words of the
--- four stages, tidied; taken back
+-- the 3x3x3: its two parts, where one of so many first parts has a second, in at most 22 turns; and else the words of
+-- the four stages, tidied; taken back
 abbrev pub IsScramble333Within : Effort → CubeState → List Turn → Type 0
 IsScramble333Within effort cube turns =
     IsScramble333 effort.tries cube turns × (IsTrue (is_some (two_parts cube effort.tries)) → length turns ≤ 22)
@@ -111,7 +111,8 @@ scrambling_333 = ByState CubeState C333 drawn_333 cube_numbers IsScramble333With
 -- for fewest moves: that of the cube between the frames, and 28 turns where it is of two parts
 abbrev pub IsScrambleFewestWithin : Effort → CubeState → List Turn → Type 0
 IsScrambleFewestWithin effort cube turns =
-    IsScrambleFewest effort.tries cube turns × (IsTrue (is_some (two_parts (between cube) effort.tries)) → length turns ≤ 28)
+    IsScrambleFewest effort.tries cube turns
+    × (IsTrue (is_some (two_parts (between cube) effort.tries)) → length turns ≤ 28)
 
 -- Puzzles other than the 3x3x3 and the Square-1 have one scramble, whatever the effort.
 unfoldable pub scrambling_of : Event → Scrambling
