@@ -20,8 +20,8 @@ abbrev pub turned_count : List ℕ → ℕ
 turned_count [] = 0
 turned_count (d ∷ ds) = (if d == 0 then 0 else 1) + turned_count ds
 
--- The turns that bring solved tips to these digits: in the order u l r b, by one third where the digit is 1, by two where it
--- is 2, and none where it is 0.
+-- The turns that bring solved tips to these digits: in the order u l r b, by one third where the digit is 1, by two
+-- where it is 2, and none where it is 0.
 abbrev pub tips_word_from : ℕ → List ℕ → List Turn
 tips_word_from tip [] = []
 tips_word_from tip (d ∷ ds) =
