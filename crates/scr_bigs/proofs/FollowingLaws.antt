@@ -1,6 +1,6 @@
 -- Turns that follow one another.
 use Rattle.std.proofs.Common.{◌≡◌, ◌==◌, ℕ, zero, suc, ◌+◌, ◌*◌, Bool, true, false, not, Option, Some, None, List, [], ◌∷◌, ◌++◌, length, drop, refl, sym, ap, ◌∙◌, subst, inl, inr, arith}
-use Rattle.std.specs.Prelude.{IsTrue, ◌↔◌, All, Contains, slice_get, option_map, option_and_then}
+use Rattle.std.specs.Prelude.{IsTrue, ◌||◌, ◌↔◌, All, Contains, slice_get, option_map, option_and_then}
 use Rattle.std.specs.List.{list_any, after_first, position_or_len}
 use Rattle.std.specs.Option.{option_or}
 use Rattle.std.proofs.lemmas.Bool.{and_parts, or_cases, or_left, or_right, both_ways, not-true, eqb-true, eq-eqb, ne_eqb}
@@ -12,9 +12,9 @@ use Rattle.scr_draw.specs.Drawn.{drawn}
 use Rattle.scr_draw.specs.FirstHit.{numbers_read}
 use Rattle.scr_notation.specs.declared.turn.Turn.{Turn}
 use Rattle.scr_bigs.specs.Choices.{choice_of}
-use Rattle.scr_bigs.specs.BigCubes.{BigCube, Slab, slab, slabs_of, axis_of_slab, same_slab, slab_may_follow, cube_turns, may_follow, turns_after}
+use Rattle.scr_bigs.specs.BigCubes.{BigCube, Slab, slab, slabs_of, same_slab, cube_turns, may_follow, turns_after}
 use Rattle.scr_bigs.specs.CubeMoves.{moves_from, cube_moves}
-use Rattle.scr_bigs.specs.Following.{StandsBehind, SlabMayFollow, AreCubeTurns}
+use Rattle.scr_bigs.specs.Following.{axis_of_slab, StandsBehind, SlabMayFollow, AreCubeTurns}
 use Rattle.scr_bigs.proofs.MoveLaws.{moves-next, moves-refused, moves-end}
 
 -- ---- what stands behind an element
@@ -128,6 +128,12 @@ behind-tells slabs before next = (
       ap (λ xs. list_any (same_slab next) (after_first (same_slab before) xs)) stands.order
       ∙ joined (same_slab before) (same_slab next) stands.before before stands.between next stands.after (same_slab-self before) (same_slab-self next),
 )
+
+-- a slab may follow another, as a test
+abbrev slab_may_follow : BigCube → Slab → Slab → Bool
+slab_may_follow cube before next =
+    not (axis_of_slab before == axis_of_slab next)
+    || list_any (same_slab next) (after_first (same_slab before) (slabs_of cube (axis_of_slab before)))
 
 pub follow-tells : (cube : BigCube) (before next : Slab) → IsTrue (slab_may_follow cube before next) ↔ SlabMayFollow cube before next
 follow-tells cube before next =

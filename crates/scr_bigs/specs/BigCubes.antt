@@ -1,5 +1,6 @@
--- The big cubes: their slabs and turns, in order, and which turns may follow a turn. That they are scrambled by random moves is
--- by WCA Regulations, article 4; which slabs are turned, their order and the number of turns are our own choice.
+-- The big cubes: their slabs and turns, in order, and which turns may follow a turn. That they are scrambled by
+-- random moves is by WCA Regulations, article 4; which slabs are turned, their order and the number of turns are our
+-- own choice.
 use Rattle.std.specs.Prelude.{ℕ, ◌+◌, ◌%◌, ◌≤◌, ◌==◌, ◌&&◌, ◌||◌, not, Bool, false, if◌then◌else◌, List, [], ◌∷◌, ◌++◌, map, filter}
 use Rattle.std.specs.List.{flat_map, list_any, after_first}
 use Rattle.scr_notation.specs.declared.event.Event.{Event}
@@ -7,8 +8,8 @@ use Rattle.scr_notation.specs.declared.event.Event.TheVariants.{C555, C666, C777
 use Rattle.scr_notation.specs.declared.turn.Turn.{Turn}
 use Rattle.scr_notation.specs.declared.turn.Turn.TheVariants.{Face}
 
--- What a big cube is: its event, how many outer layers its slabs have, in order, at the near face of an axis and at the far
--- face, and how many turns its scrambles have.
+-- What a big cube is: its event, how many outer layers its slabs have, in order, at the near face of an axis and at
+-- the far face, and how many turns its scrambles have.
 pub record BigCube : Type 0 where
   pub event : Event
   pub near : List ℕ
@@ -44,35 +45,25 @@ pub record Slab : Type 0 where
 abbrev pub slab : ℕ → ℕ → Slab
 slab face depth = record { face = face; depth = depth }
 
--- The slabs of an axis, in order: those of its near face, then those of its far face. The axes are U-D, R-L and F-B, with the
--- near faces 0 to 2 and the far faces 3 to 5.
+-- The slabs of an axis, in order: those of its near face, then those of its far face. The axes are U-D, R-L and F-B,
+-- with the near faces 0 to 2 and the far faces 3 to 5.
 abbrev pub slabs_of : BigCube → ℕ → List Slab
 slabs_of cube axis = map (slab axis) cube.near ++ map (slab (axis + 3)) cube.far
 
--- the turns of a slab, by one, two and three quarters
-abbrev pub slab_turns : Slab → List Turn
-slab_turns s = Face s.face s.depth 1 ∷ Face s.face s.depth 2 ∷ Face s.face s.depth 3 ∷ []
-
--- all turns, in the order of axis, slab and amount
+-- all turns, in the order of axis and slab, and there by one, two and three quarters
 unfoldable pub cube_turns : BigCube → List Turn
-cube_turns cube = flat_map (λ axis. flat_map slab_turns (slabs_of cube axis)) (0 ∷ 1 ∷ 2 ∷ [])
-
--- the axis of a slab
-abbrev pub axis_of_slab : Slab → ℕ
-axis_of_slab s = s.face % 3
+cube_turns cube =
+    flat_map (λ axis. flat_map (λ s. map (Face s.face s.depth) (1 ∷ 2 ∷ 3 ∷ [])) (slabs_of cube axis)) (0 ∷ 1 ∷ 2 ∷ [])
 
 abbrev pub same_slab : Slab → Slab → Bool
 same_slab s t = (s.face == t.face) && (s.depth == t.depth)
 
--- a slab is on another axis than the one turned before, or on the same and behind it in the order of its slabs
-abbrev pub slab_may_follow : BigCube → Slab → Slab → Bool
-slab_may_follow cube before next =
-    not (axis_of_slab before == axis_of_slab next) || list_any (same_slab next) (after_first (same_slab before) (slabs_of cube (axis_of_slab before)))
-
--- a turn may follow another
+-- A turn may follow another: its slab is on another axis than the one turned before, or on the same and behind it in
+-- the order of its slabs.
 abbrev pub may_follow : BigCube → Turn → Turn → Bool
-may_follow cube (Face face depth amount) (Face next_face next_depth next_amount) =
-    slab_may_follow cube (slab face depth) (slab next_face next_depth)
+may_follow cube (Face face depth amount) (Face other deep more) =
+    not (face % 3 == other % 3)
+    || list_any (same_slab (slab other deep)) (after_first (same_slab (slab face depth)) (slabs_of cube (face % 3)))
 may_follow cube _ _ = false
 
 -- the turns that may follow a turn, in their order

@@ -14,4 +14,5 @@ pub record IsFairChoice {X : Type 0} (choices : List X) : Type 0 where
   -- no choice stands at two places
   pub differ : (i j : ℕ) (x : X) → slice_get choices i ≡ Some x → slice_get choices j ≡ Some x → i ≡ j
   -- each of them is given by equally many numbers
-  pub equally : (x : X) → Contains choices x → IsCount (λ v. choice_of choices v ≡ Some x) (2 ^ 96) (quotient (length choices))
+  pub equally : (x : X) → Contains choices x
+      → IsCount (λ v. choice_of choices v ≡ Some x) (2 ^ 96) (quotient (length choices))

@@ -8,16 +8,16 @@ use Rattle.scr_notation.specs.declared.turn.Turn.{Turn}
 use Rattle.scr_bigs.specs.Choices.{choice_of}
 use Rattle.scr_bigs.specs.BigCubes.{BigCube, cube_turns, turns_after}
 
--- So many turns, of which the first is one of some choices. It is the one that the first accepted of the next attempts gives;
--- the turns that may follow it are the choices of the next turn, whose attempts follow in the words. There are none where all
--- attempts of a turn are refused.
+-- So many turns, of which the first is one of some choices. It is the one that the first accepted of the next
+-- attempts gives; the turns that may follow it are the choices of the next turn, whose attempts follow in the words.
+-- There are none where all attempts of a turn are refused.
 unfoldable pub moves_from : BigCube → ℕ → (ℕ → ℕ) → List Turn → ℕ → ℕ → Option (List Turn)
 moves_from cube attempts word choices place zero = Some []
 moves_from cube attempts word choices place (suc more) =
     let values = attempt_values word place attempts in
     let next_place = place + 3 * numbers_read (choice_of choices) values in
-    option_and_then (λ turn. option_map (λ turns. turn ∷ turns) (moves_from cube attempts word (turns_after cube turn) next_place more))
-    (drawn (choice_of choices) values)
+    let rest = λ (turn : Turn). moves_from cube attempts word (turns_after cube turn) next_place more in
+    option_and_then (λ turn. option_map (λ turns. turn ∷ turns) (rest turn)) (drawn (choice_of choices) values)
 
 -- how many attempts they read
 unfoldable pub attempts_read : BigCube → ℕ → (ℕ → ℕ) → List Turn → ℕ → ℕ → ℕ
@@ -25,7 +25,8 @@ attempts_read cube attempts word choices place zero = 0
 attempts_read cube attempts word choices place (suc more) =
     let values = attempt_values word place attempts in
     let read = numbers_read (choice_of choices) values in
-    read + option_map_or (λ turn. attempts_read cube attempts word (turns_after cube turn) (place + 3 * read) more) (drawn (choice_of choices) values) 0
+    let more_read = λ (turn : Turn). attempts_read cube attempts word (turns_after cube turn) (place + 3 * read) more in
+    read + option_map_or more_read (drawn (choice_of choices) values) 0
 
 -- The turns of a scramble, where each turn has so many attempts: at the start each turn is a choice.
 abbrev pub cube_moves : BigCube → ℕ → (ℕ → ℕ) → ℕ → Option (List Turn)

@@ -1,5 +1,5 @@
--- What is promised of random moves: each step takes each of its choices by equally many numbers below 2 ^ 96. Nothing is
--- promised of the states that they lead to.
+-- What is promised of random moves: each step takes each of its choices by equally many numbers below 2 ^ 96. Nothing
+-- is promised of the states that they lead to.
 use Rattle.std.specs.Prelude.{ℕ, ◌≡◌, ◌<◌, ◌^◌, Some, option_map, List, length, All, Contains}
 use Rattle.scr_draw.specs.Attempt.{answer}
 use Rattle.scr_draw.specs.Count.{IsCount}

@@ -1,5 +1,5 @@
--- The random moves of a Megaminx. That it is scrambled by random moves is by WCA Regulations, article 4; that there are seven rows
--- of ten turns is our own choice.
+-- The random moves of a Megaminx. That it is scrambled by random moves is by WCA Regulations, article 4; that there
+-- are seven rows of ten turns is our own choice.
 use Rattle.std.specs.Prelude.{ℕ, zero, suc, ◌-◌, ◌^◌, ◌==◌, Option, option_map, List, [], ◌∷◌, ◌++◌, take, drop, replicate, slice_index}
 use Rattle.scr_combinatorics.specs.Digits.{mixed_digits}
 use Rattle.scr_draw.specs.Attempt.{answer, attempt_value}
@@ -26,4 +26,5 @@ rows_turns (suc more) bits = row_turns (take 10 bits) ++ rows_turns more (drop 1
 
 -- The turns of a scramble: seven rows of the bits of an attempt's answer.
 unfoldable pub megaminx_moves : (ℕ → ℕ) → ℕ → Option (List Turn)
-megaminx_moves word place = option_map (λ number. rows_turns 7 (bits_of number)) (answer (2 ^ 70) (attempt_value word place))
+megaminx_moves word place =
+    option_map (λ number. rows_turns 7 (bits_of number)) (answer (2 ^ 70) (attempt_value word place))

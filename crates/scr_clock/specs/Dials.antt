@@ -12,8 +12,8 @@ pub record IsClock (dials : List ℕ) : Type 0 where
   pub fourteen : length dials ≡ 14
   pub below : All (λ d. d < 12) dials
 
--- A turn of the dials: whether it is the back's or the front's, the pins that are up on that side, and the hours by which
--- it turns. The pins are a sum of 1 for UR, 2 for DR, 4 for DL and 8 for UL, as seen on that side.
+-- A turn of the dials: whether it is the back's or the front's, the pins that are up on that side, and the hours by
+-- which it turns. The pins are a sum of 1 for UR, 2 for DR, 4 for DL and 8 for UL, as seen on that side.
 pub record DialTurn : Type 0 where
   pub back : Bool
   pub pins : ℕ
@@ -36,8 +36,8 @@ front_pins = 8 ∷ 9 ∷ 1 ∷ 12 ∷ 15 ∷ 3 ∷ 4 ∷ 6 ∷ 2 ∷ 0 ∷ 0 ∷
 abbrev pub back_pins : List ℕ
 back_pins = 1 ∷ 0 ∷ 8 ∷ 0 ∷ 0 ∷ 0 ∷ 2 ∷ 0 ∷ 4 ∷ 9 ∷ 12 ∷ 15 ∷ 3 ∷ 6 ∷ []
 
--- What dial k gains by a turn: nothing where no pin next to it is up, and otherwise the amount, but minus the amount where
--- it is a front corner and the back turns, since that corner then turns the other way.
+-- What dial k gains by a turn: nothing where no pin next to it is up, and otherwise the amount, but minus the amount
+-- where it is a front corner and the back turns, since that corner then turns the other way.
 unfoldable pub gain_at : DialTurn → ℕ → ℕ
 gain_at t k =
     let next_to = slice_index (if t.back then back_pins else front_pins) k in
@@ -61,9 +61,4 @@ dials_after dials t = if is_turn t then Some (dials_turned dials t) else None
 
 -- Clock as a puzzle.
 abbrev pub clock_puzzle : Puzzle (List ℕ)
-clock_puzzle = record {
-  Turn = DialTurn;
-  after = dials_after;
-  IsSolved = λ dials. dials ≡ solved;
-  counted = counted;
-}
+clock_puzzle = record { Turn = DialTurn; after = dials_after; IsSolved = λ dials. dials ≡ solved; counted = counted }

@@ -12,8 +12,8 @@ pub record HeldClock : Type 0 where
   pub dials : List ℕ
   pub back : Bool
 
--- What a written turn makes of a held Clock: pins turn the side that faces the scrambler, and `y2` turns the Clock over.
--- It is none where the turn is none of a Clock's.
+-- What a written turn makes of a held Clock: pins turn the side that faces the scrambler, and `y2` turns the Clock
+-- over. It is none where the turn is none of a Clock's.
 unfoldable pub held_after : HeldClock → Turn → Option HeldClock
 held_after held (Pins pins amount) =
     if is_clock_turn (Pins pins amount)
@@ -24,4 +24,5 @@ held_after held _ = None
 
 -- What written turns make of a Clock whose front faces the scrambler at first.
 abbrev pub clock_after : List ℕ → List Turn → Option (List ℕ)
-clock_after dials turns = option_map (λ held. held.dials) (play held_after (record { dials = dials; back = false }) turns)
+clock_after dials turns =
+    option_map (λ held. held.dials) (play held_after (record { dials = dials; back = false }) turns)

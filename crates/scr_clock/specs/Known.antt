@@ -26,10 +26,11 @@ back_cross = 9 ∷ 10 ∷ 11 ∷ 12 ∷ 13 ∷ []
 
 -- a pin as seen from the other side, where left and right are exchanged: UR and UL, DR and DL
 abbrev pub mirrored_dial : ℕ → ℕ
-mirrored_dial pin = if pin == 1 then 8 else (if pin == 8 then 1 else (if pin == 2 then 4 else (if pin == 4 then 2 else 0)))
+mirrored_dial pin =
+    if pin == 1 then 8 else (if pin == 8 then 1 else (if pin == 2 then 4 else (if pin == 4 then 2 else 0)))
 
--- The dials of a Clock that is turned over, as seen from its new front: each corner shows the opposite of what the other
--- side's corner at the same pin shows, and the sides' edges and centres are exchanged.
+-- The dials of a Clock that is turned over, as seen from its new front: each corner shows the opposite of what the
+-- other side's corner at the same pin shows, and the sides' edges and centres are exchanged.
 unfoldable pub turned_over_clock : List ℕ → List ℕ
 turned_over_clock dials =
     let d : ℕ → ℕ = slice_index dials in

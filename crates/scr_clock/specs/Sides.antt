@@ -24,8 +24,8 @@ abbrev pub SidesLead : List Bool → List ℕ → Type 0
 SidesLead [] dials = dials ≡ solved
 SidesLead (back ∷ sides) dials = SomeTurn back dials (SidesLead sides)
 
--- Something is so of each dial that no turn of this side moves: the back's edges and centre for the front, and the front's
--- for the back.
+-- Something is so of each dial that no turn of this side moves: the back's edges and centre for the front, and the
+-- front's for the back.
 abbrev pub OfOthers : Bool → (ℕ → Type 0) → Type 0
 OfOthers false IsSo = IsSo 9 × IsSo 10 × IsSo 11 × IsSo 12 × IsSo 13
 OfOthers true IsSo = IsSo 1 × IsSo 3 × IsSo 4 × IsSo 5 × IsSo 7

@@ -6,9 +6,9 @@ use Rattle.scr_notation.specs.TurnNumbers.{axis_turn_at}
 use Rattle.scr_notation.specs.declared.turn.Turn.{Turn}
 use Rattle.scr_notation.specs.declared.turn.Turn.TheVariants.{Axis, Tip}
 
--- The large turn about one of the four axes, by one or two thirds: so many times the axis' third. The tips come behind the
--- axes, so a puzzle without tips has the first four thirds alone. No other letter is a power. (WCA Regulations,
--- article 12.)
+-- The large turn about one of the four axes, by one or two thirds: so many times the axis' third. The tips come
+-- behind the axes, so a puzzle without tips has the first four thirds alone. No other letter is a power. (WCA
+-- Regulations, article 12.)
 abbrev pub thirds_of : Turn → Option Power
 thirds_of (Axis axis amount) =
     if nat_lt axis 4 && is_amount 3 amount then Some (record { generator = axis; exponent = amount }) else None
@@ -22,7 +22,6 @@ letters_about_axes = record {
   order = 3;
   most = 8;
   power_at = thirds_of;
-  letter_of = λ p.
-      if nat_lt p.generator 4 then Axis p.generator p.exponent else Tip (p.generator - 4) p.exponent;
+  letter_of = λ p. if nat_lt p.generator 4 then Axis p.generator p.exponent else Tip (p.generator - 4) p.exponent;
   letter_at = axis_turn_at;
 }

@@ -1,7 +1,9 @@
--- The events and the one table of them: how each is named, what its turns are, how many scrambles a group has, how far from
--- solved its states may be asked to be, and which tables its scrambles are found by. (WCA Regulations, articles 9 and 12 for
--- ids, names and turns, 4b3 and 9b for scrambles; the range of minima, what is usual, and which nets are shown are our own choice.)
+-- The events and the one table of them: how each is named, what its turns are, how many scrambles a group has, how
+-- far from solved its states may be asked to be, and which tables its scrambles are found by. (WCA Regulations,
+-- articles 9 and 12 for ids, names and turns, 4b3 and 9b for scrambles; the range of minima, what is usual, and which
+-- nets are shown are our own choice.)
 use Rattle.std.specs.Prelude.{ℕ, List, [], ◌∷◌, codes, Option, Some, None, find, true, false}
+use Rattle.std.specs.Option.{option_map_or}
 use Rattle.std.specs.Str.{bytes_eq}
 use Rattle.scr_notation.specs.declared.event.Event.{Event}
 use Rattle.scr_notation.specs.declared.event.Event.TheVariants.{C222, C333, Oh333, C555, C666, C777, Clock, Minx, Pyram, Skewb, Sq1, Bf333, Fm333}
@@ -15,9 +17,9 @@ use Rattle.scr_notation.specs.declared.event.Family.TheVariants as family
 abbrev pub events : List Event
 events = C222 ∷ C333 ∷ Oh333 ∷ C555 ∷ C666 ∷ C777 ∷ Clock ∷ Minx ∷ Pyram ∷ Skewb ∷ Sq1 ∷ Bf333 ∷ Fm333 ∷ []
 
--- How lists and commands name an event, how a sheet names it, and what its turns are; the scrambles of a group without the
--- two extra ones; the minima of its rounds, where its states are drawn and not its moves; the family of its tables, if it
--- has any; and how many layers the cube has whose net is shown, if one is.
+-- How lists and commands name an event, how a sheet names it, and what its turns are; the scrambles of a group
+-- without the two extra ones; the minima of its rounds, where its states are drawn and not its moves; the family of
+-- its tables, if it has any; and how many layers the cube has whose net is shown, if one is.
 pub record EventRow : Type 0 where
   pub id : List ℕ
   pub name : List ℕ
@@ -28,15 +30,8 @@ pub record EventRow : Type 0 where
   pub net_side : Option ℕ
 
 abbrev pub row : List ℕ → List ℕ → Kind → ℕ → Option Minima → Option Family → Option ℕ → EventRow
-row id name kind per_group minima family net_side = record {
-  id = id;
-  name = name;
-  kind = kind;
-  per_group = per_group;
-  minima = minima;
-  family = family;
-  net_side = net_side;
-}
+row id name kind group minima family side =
+    record { id = id; name = name; kind = kind; per_group = group; minima = minima; family = family; net_side = side }
 
 -- minima up to the greatest, with the usual one
 abbrev pub up_to : ℕ → ℕ → Option Minima
@@ -80,13 +75,11 @@ net_side_of event = (row_of event).net_side
 
 -- the greatest minimum of a round; 0 where it has none
 abbrev pub greatest_in : Option Minima → ℕ
-greatest_in None = 0
-greatest_in (Some minima) = minima.greatest
+greatest_in minima = option_map_or (λ m. m.greatest) minima 0
 
 -- the minimum of a round that sets none
 abbrev pub usual_in : Option Minima → ℕ
-usual_in None = 0
-usual_in (Some minima) = minima.usual
+usual_in minima = option_map_or (λ m. m.usual) minima 0
 
 abbrev pub greatest_of : Event → ℕ
 greatest_of event = greatest_in (minima_of event)

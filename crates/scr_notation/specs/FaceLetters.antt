@@ -10,9 +10,7 @@ use Rattle.scr_notation.specs.declared.turn.Turn.TheVariants.{Face}
 -- a power. (WCA Regulations, article 12.)
 abbrev pub quarters_of : Turn → Option Power
 quarters_of (Face face depth amount) =
-    if (depth == 1) && is_amount 4 amount
-    then Some (record { generator = face; exponent = amount })
-    else None
+    if (depth == 1) && is_amount 4 amount then Some (record { generator = face; exponent = amount }) else None
 quarters_of _ = None
 
 -- Six faces, U R F D L B, each with turns by one, two and three quarters.

@@ -6,8 +6,8 @@ use Rattle.scr_notation.specs.declared.turn.Turn.{Turn}
 use Rattle.scr_notation.specs.declared.turn.Turn.TheVariants.{Face, Axis, Tip, Layers, Twist, Pins, Over, Wide}
 use Rattle.scr_notation.specs.Pins.{pin_sets}
 
--- Depth by depth, and there face by face, three turns by one, two and three quarters. (So U U2 U' R R2 R' .. are 0 to 17,
--- and each event's turns are the first ones.)
+-- Depth by depth, and there face by face, three turns by one, two and three quarters. (So U U2 U' R R2 R' .. are 0 to
+-- 17, and each event's turns are the first ones.)
 unfoldable pub face_turn_at : ℕ → Turn
 face_turn_at n = Face (n / 3 % 6) (n / 18 + 1) (n % 3 + 1)
 
@@ -15,8 +15,8 @@ face_turn_at n = Face (n / 3 % 6) (n / 18 + 1) (n % 3 + 1)
 unfoldable pub axis_turn_at : ℕ → Turn
 axis_turn_at n = if nat_lt n 8 then Axis (n / 2) (n % 2 + 1) else Tip ((n - 8) / 2) (n % 2 + 1)
 
--- twelve amounts of the top layer, from -5 to 6, and for each of them twelve of the bottom layer; the twist stands at 65, the
--- place of (0,0), which is no turn
+-- twelve amounts of the top layer, from -5 to 6, and for each of them twelve of the bottom layer; the twist stands at
+-- 65, the place of (0,0), which is no turn
 unfoldable pub layer_turn_at : ℕ → Turn
 layer_turn_at n = if n == 65 then Twist else Layers (pos (n / 12) -ℤ pos 5) (pos (n % 12) -ℤ pos 5)
 

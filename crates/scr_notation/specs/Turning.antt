@@ -7,8 +7,8 @@ use Rattle.scr_notation.specs.declared.turn.Turn.{Turn}
 use Rattle.scr_notation.specs.declared.turn.Turn.TheVariants.{Face, Axis, Tip, Layers, Twist, Pins, Over, Wide}
 use Rattle.scr_notation.specs.Layers.{twelfths, are_still}
 
--- The turn that undoes a turn: by what is left to four quarters of a face, to three thirds of an axis or a tip, or to twelve
--- hours of a Clock; layers and wide turns go the other way; a twist or a turning over is done again.
+-- The turn that undoes a turn: by what is left to four quarters of a face, to three thirds of an axis or a tip, or to
+-- twelve hours of a Clock; layers and wide turns go the other way; a twist or a turning over is done again.
 abbrev pub opposite : Turn → Turn
 opposite (Face face depth amount) = Face face depth (4 - amount)
 opposite (Axis axis amount) = Axis axis (3 - amount)
@@ -19,8 +19,8 @@ opposite (Pins pins amount) = Pins pins ((12 - amount) % 12)
 opposite Over = Over
 opposite (Wide letter plus) = Wide letter (not plus)
 
--- Two turns that are merged where they are neighbours: of one face and as many of its layers, of a Square-1's layers, or
--- two twists. The kinds of the other turns have no merging.
+-- Two turns that are merged where they are neighbours: of one face and as many of its layers, of a Square-1's layers,
+-- or two twists. The kinds of the other turns have no merging.
 abbrev pub are_alike : Turn → Turn → Bool
 are_alike (Face face depth amount) (Face other deep more) = (face == other) && (depth == deep)
 are_alike (Layers top bottom) (Layers more_top more_bottom) = true
@@ -35,8 +35,8 @@ face_turned face depth amount = if amount == 0 then None else Some (Face face de
 abbrev pub layers_turned : ℤ → ℤ → Option Turn
 layers_turned top bottom = if are_still top bottom then None else Some (Layers top bottom)
 
--- What two such turns come to: the sum of the quarters modulo 4, the sums of the twelfths modulo 12, and nothing where no
--- turn is left; two twists are nothing.
+-- What two such turns come to: the sum of the quarters modulo 4, the sums of the twelfths modulo 12, and nothing
+-- where no turn is left; two twists are nothing.
 abbrev pub turns_merged : Turn → Turn → Option Turn
 turns_merged (Face face depth amount) (Face other deep more) = face_turned other deep ((amount + more) % 4)
 turns_merged (Layers top bottom) (Layers more_top more_bottom) =

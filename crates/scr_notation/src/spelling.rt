@@ -5,7 +5,7 @@ ghost use Rattle.arrayvec.specs.ArrayString.{array_string_len};
 ghost use Rattle.scr_notation.specs.Layers.{is_twelfths};
 ghost use Rattle.scr_notation.specs.Pins.{pin_sets};
 ghost use Rattle.scr_notation.specs.Turns.{permits};
-ghost use Rattle.scr_notation.specs.Spelling.{letter_text, amount_text, layers_before, layers_behind, way_text, signed_text, pin_names, name_of_set, hours_text, spelling};
+ghost use Rattle.scr_notation.specs.Spelling.{letter_text, amount_text, layers_before, layers_behind, way_text, signed_text, name_of_set, hours_text, spelling};
 
 use crate::event::Event;
 use crate::turn::Turn;
@@ -145,7 +145,7 @@ fn twelfths(amount: i8) -> &'static str
 /// The name of a pin set.
 fn pins_name(pins: u8) -> &'static str
     requires { IsTrue (list_any (λ set. set == pins) pin_sets) }
-    ensures value { result.now ≡ name_of_set pins pin_sets pin_names }
+    ensures value { result.now ≡ name_of_set pins }
     ensures short { length result.now ≤ 3 }
 {
     match pins {

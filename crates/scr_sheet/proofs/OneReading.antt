@@ -1,9 +1,9 @@
 -- A text tells how the scrambles are spelled that stand in it in order.
-use Rattle.std.proofs.Common.{◌≡◌, ℕ, zero, suc, ◌+◌, ◌-◌, ◌==◌, ◌||◌, Bool, true, false, if◌then◌else◌, ℤ, pos, negsuc, List, [], ◌∷◌, ◌++◌, map, refl, sym, ap, subst, ◌∙◌, arith, append_assoc}
+use Rattle.std.proofs.Common.{◌≡◌, ℕ, zero, suc, ◌+◌, ◌-◌, ◌==◌, ◌||◌, Bool, true, false, if◌then◌else◌, ℤ, pos, negsuc, List, [], ◌∷◌, ◌++◌, map, refl, sym, ap, subst, ◌∙◌, arith, append_assoc, get_or}
 use Rattle.std.proofs.lemmas.Bool.{ne_eqb}
 use Rattle.std.proofs.lemmas.List.Folds.{list_any-append}
 use Rattle.std.specs.Prelude.{codes, nat_le}
-use Rattle.std.specs.List.{list_any}
+use Rattle.std.specs.List.{list_any, position_or_len}
 use Rattle.scr_notation.specs.declared.turn.Turn.{Turn}
 use Rattle.scr_notation.specs.declared.turn.Turn.TheVariants.{Face, Axis, Tip, Layers, Twist, Pins, Over, Wide}
 use Rattle.scr_notation.specs.Pins.{pin_sets}
@@ -73,10 +73,10 @@ abbrev AreClean : List (List ℕ) → Type 0
 AreClean [] = Unit {0}
 AreClean (text ∷ texts) = IsClean text × AreClean texts
 
-name : (pins : ℕ) (sets : List ℕ) (names : List (List ℕ)) → AreClean names → IsClean (name_of_set pins sets names)
-name pins [] names clean = refl
-name pins (set ∷ sets) [] clean = refl
-name pins (set ∷ sets) (n ∷ names) clean = chosen (set == pins) n (name_of_set pins sets names) clean.0 (name pins sets names clean.1)
+name : (names : List (List ℕ)) (place : ℕ) → AreClean names → IsClean (get_or names place [])
+name [] place clean = refl
+name (n ∷ names) zero clean = clean.0
+name (n ∷ names) (suc place) clean = name names place clean.1
 
 hours : (n : ℕ) → IsClean (hours_text n)
 unfolding hours_text
@@ -102,7 +102,7 @@ spelled (Layers top bottom) =
 spelled Twist = refl
 spelled (Pins pins n) =
     let names : AreClean pin_names = (refl, (refl, (refl, (refl, (refl, (refl, (refl, (refl, (refl, tt))))))))) in
-    joined (name_of_set pins pin_sets pin_names) (hours_text n) (name pins pin_sets pin_names names) (hours n)
+    joined (name_of_set pins) (hours_text n) (name pin_names (position_or_len (λ set. set == pins) pin_sets) names) (hours n)
 spelled Over = refl
 spelled (Wide n plus) =
     let plain = chosen plus [] (codes "'") refl refl in

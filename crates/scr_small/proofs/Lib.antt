@@ -5,6 +5,7 @@ pub mod DigitParts
 pub mod Lawful222
 pub mod LawfulSkewb
 pub mod LawfulTetraminx
+pub mod TipsWord
 pub mod PyramLaws
 pub mod WalkedWords
 pub mod ShownByParts

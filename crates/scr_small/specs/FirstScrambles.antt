@@ -6,16 +6,12 @@ use Rattle.scr_orbit.specs.PowerPuzzles.{PowerPuzzle, after_letter}
 use Rattle.scr_notation.specs.declared.turn.Turn.{Turn}
 use Rattle.scr_notation.specs.Turning.{opposite as opposite_turn}
 
--- what the letter of a number makes of a state: over this, words of turn numbers are played
-abbrev pub by_number : {S T : Type 0} → (S → T → Option S) → (ℕ → T) → S → ℕ → Option S
-by_number after letter_at s n = after s (letter_at n)
-
--- The scramble of a state: the first word of turn numbers that leads from it to solved, by length and then by numbers, as
--- letters, taken back.
-pub record IsFirstScramble {S T : Type 0} (after : S → T → Option S) (letter_at : ℕ → T) (opposite : T → T) (solved s : S)
-    (turns : List T) : Type 0 where
+-- The scramble of a state: the first word of turn numbers that leads from it to solved, by length and then by numbers,
+-- as letters, taken back.
+pub record IsFirstScramble {S T : Type 0} (after : S → T → Option S) (letter_at : ℕ → T) (opposite : T → T)
+    (solved s : S) (turns : List T) : Type 0 where
   pub solution : List ℕ
-  pub first : IsFirstWord (by_number after letter_at) (λ r. r ≡ solved) s solution
+  pub first : IsFirstWord (λ s n. after s (letter_at n)) (λ r. r ≡ solved) s solution
   pub taken_back : turns ≡ back opposite (map letter_at solution)
 
 -- The same of states that are turned by powers of generators: the letters have the numbers of the powers.

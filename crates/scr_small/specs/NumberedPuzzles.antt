@@ -11,7 +11,7 @@ use Rattle.scr_notation.specs.declared.turn.Turn.{Turn}
 use Rattle.scr_notation.specs.Turning.{opposite as opposite_turn}
 use Rattle.scr_table.specs.declared.name.TableName.{TableName}
 use Rattle.scr_table.specs.Lines.{TableLine}
-use Rattle.scr_small.specs.FirstScrambles.{by_number, IsFirstScramble}
+use Rattle.scr_small.specs.FirstScrambles.{IsFirstScramble}
 
 -- Numbered states; what a letter makes of one, or nothing where it is no turn of the puzzle; which state is solved; how
 -- many turns there are, and the letter of each number below that; and the letter that takes a letter's turn back.
@@ -40,7 +40,7 @@ puzzle_of {T = T} p = record { Turn = T; after = p.after; IsSolved = λ s. s ≡
 
 -- what the turn of a number makes of a state: over this, words of turn numbers are played
 abbrev pub after_number : {S T : Type 0} → NumberedPuzzle S T → S → ℕ → Option S
-after_number p = by_number p.after p.letter_at
+after_number p s n = p.after s (p.letter_at n)
 
 -- The puzzle as a coordinate, over the numbers of its states.
 abbrev pub state_coordinate : {S T : Type 0} → NumberedPuzzle S T → Coordinate

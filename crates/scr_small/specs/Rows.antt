@@ -2,7 +2,8 @@
 use Rattle.std.specs.Prelude.{◌≡◌, ℕ, Some, None, true, false}
 use Rattle.scr_positions.specs.Coordinates.{Coordinate}
 
--- How many positions and turns there are, and a turn that leads from position 0 to another, with the turn that leads back.
+-- How many positions and turns there are, and a turn that leads from position 0 to another, with the turn that leads
+-- back.
 pub record Row : Type 0 where
   pub count : ℕ
   pub turns : ℕ

@@ -9,17 +9,16 @@ use Rattle.scr_table.specs.SearchTables.{SearchTable, table_over}
 use Rattle.scr_cube.specs.Cube222.{numbers_222, powers_222}
 use Rattle.scr_tetra.specs.Pyraminx.{tetraminx_numbers, tetraminx_powers}
 use Rattle.scr_tetra.specs.Skewb.{skewb_numbers, skewb_powers}
-use Rattle.scr_small.specs.FirstScrambles.{by_number}
 
--- The table of this name over the numbered states that powers of generators turn, where none is farther from solved than so
--- many turns.
+-- The table of this name over the numbered states that powers of generators turn, where none is farther from solved
+-- than so many turns.
 abbrev pub powers_table : {S R : Type 0} → TableName → Numbers S → PowerPuzzle S R Turn → ℕ → SearchTable
-powers_table name n p bound =
-    table_over name (record { IsValid = n.IsValid; after = by_number (after_letter p) p.letters.letter_at; IsGoal = λ s. s ≡ p.solved })
-    n.number_of n.count bound
+powers_table {S} name n p most =
+    let after = λ (s : S) (k : ℕ). after_letter p s (p.letters.letter_at k) in
+    table_over name (record { IsValid = n.IsValid; after = after; IsGoal = λ s. s ≡ p.solved }) n.number_of n.count most
 
--- That each state is at most 11 turns from solved, of the Pyraminx without its tips, is known from elsewhere, and found when
--- the table is built.
+-- That each state is at most 11 turns from solved, of the Pyraminx without its tips, is known from elsewhere, and
+-- found when the table is built.
 abbrev pub corners_table : SearchTable
 corners_table = powers_table Corners numbers_222 powers_222 11
 

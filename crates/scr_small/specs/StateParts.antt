@@ -10,10 +10,12 @@ use Rattle.scr_small.specs.NumberedPuzzles.{NumberedPuzzle, after_number}
 -- in it after a turn, and a turn that does something to one state does something to each.
 pub record MovesByParts {S T : Type 0} (p : NumberedPuzzle S T) (low_count high_count : ℕ) : Type 0 where
   pub pairs : p.numbered.count ≡ low_count * high_count
-  pub low : (s r s' r' : S) (t : T) → p.numbered.IsValid s → p.numbered.IsValid r → p.after s t ≡ Some s' → p.after r t ≡ Some r'
+  pub low : (s r s' r' : S) (t : T) → p.numbered.IsValid s → p.numbered.IsValid r
+      → p.after s t ≡ Some s' → p.after r t ≡ Some r'
       → p.numbered.number_of s % low_count ≡ p.numbered.number_of r % low_count
       → p.numbered.number_of s' % low_count ≡ p.numbered.number_of r' % low_count
-  pub high : (s r s' r' : S) (t : T) → p.numbered.IsValid s → p.numbered.IsValid r → p.after s t ≡ Some s' → p.after r t ≡ Some r'
+  pub high : (s r s' r' : S) (t : T) → p.numbered.IsValid s → p.numbered.IsValid r
+      → p.after s t ≡ Some s' → p.after r t ≡ Some r'
       → p.numbered.number_of s / low_count ≡ p.numbered.number_of r / low_count
       → p.numbered.number_of s' / low_count ≡ p.numbered.number_of r' / low_count
   pub alike : (s r s' : S) (t : T) → p.numbered.IsValid s → p.numbered.IsValid r → p.after s t ≡ Some s'

@@ -12,14 +12,15 @@ use Rattle.scr_small.specs.declared.state_table.StateTable.{StateTable}
 use Rattle.scr_small.specs.NumberedPuzzles.{NumberedPuzzle, state_line}
 use Rattle.scr_small.specs.Puzzles.{corners_line, pyramid_line, skewb_line}
 
--- The tables of the puzzles over two parts of their states: of the 2x2x2 the 3^6 twists, and the 7! lists of corners; of the
--- Pyraminx 81 digits of axial pieces beside 32 flips, and the 6!/2 even lists of edges; of the Skewb 81 twists of the four, 9
--- of the three and 12 even lists of the four, and the 6!/2 even lists of the centres.
+-- The tables of the puzzles over two parts of their states: of the 2x2x2 the 3^6 twists, and the 7! lists of corners;
+-- of the Pyraminx 81 digits of axial pieces beside 32 flips, and the 6!/2 even lists of edges; of the Skewb 81 twists
+-- of the four, 9 of the three and 12 even lists of the four, and the 6!/2 even lists of the centres.
 abbrev pub state_table_222 : StateTable
 state_table_222 = record { event = C222; name = corners_line.name; bound = corners_line.bound; low = 729; high = 5040 }
 
 abbrev pub state_table_tetraminx : StateTable
-state_table_tetraminx = record { event = Pyram; name = pyramid_line.name; bound = pyramid_line.bound; low = 2592; high = 360 }
+state_table_tetraminx =
+    record { event = Pyram; name = pyramid_line.name; bound = pyramid_line.bound; low = 2592; high = 360 }
 
 abbrev pub state_table_skewb : StateTable
 state_table_skewb = record { event = Skewb; name = skewb_line.name; bound = skewb_line.bound; low = 8748; high = 360 }

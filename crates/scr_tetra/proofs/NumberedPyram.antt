@@ -11,7 +11,7 @@ use Rattle.scr_combinatorics.proofs.Digits.{lists_one_to_one, by_two_digits, by_
 use Rattle.scr_combinatorics.proofs.Numberings.{GivesState, HasDigits, numbering_by_digits}
 use Rattle.scr_orbit.specs.InPlace.{AreDigitsInPlace}
 use Rattle.scr_orbit.proofs.OrbitLaws.{same_orbit}
-use Rattle.scr_tetra.specs.Pyraminx.{TetraminxState, IsTetraminx, PyramState, IsPyram, tetraminx_bases, tetraminx_digits, tetraminx_of_digits, numbered_tetraminx, pyram_bases, pyram_digits, pyram_of_digits, numbered_pyram, thirds_number}
+use Rattle.scr_tetra.specs.Pyraminx.{TetraminxState, IsTetraminx, PyramState, IsPyram, tetraminx_digits, tetraminx_of_digits, numbered_tetraminx, pyram_digits, pyram_of_digits, numbered_pyram, thirds_number}
 
 -- four digits from 0 to 2 are numbered by the numbers below 81
 pub thirds_one_to_one : IsOneToOne 81 (mixed_digits (replicate 4 3)) thirds_number (AreDigitsInPlace 4 3)
@@ -25,6 +25,9 @@ thirds_one_to_one =
     }
 
 -- ---- without tips
+
+abbrev pub tetraminx_bases : List ℕ
+tetraminx_bases = 81 ∷ 32 ∷ 360 ∷ []
 
 abbrev Gives : List ℕ → Type 0
 Gives = GivesState tetraminx_bases tetraminx_of_digits tetraminx_digits IsTetraminx
@@ -71,6 +74,9 @@ tetraminx_numbering =
     (by_three_digits Gives 81 32 360 tetraminx_of_three) tetraminx_has_three
 
 -- ---- with tips
+
+abbrev pub pyram_bases : List ℕ
+pyram_bases = 81 ∷ 933120 ∷ []
 
 abbrev GivesPyram : List ℕ → Type 0
 GivesPyram = GivesState pyram_bases pyram_of_digits pyram_digits IsPyram

@@ -17,7 +17,7 @@ use Rattle.scr_combinatorics.proofs.EvenLists.{IsEvenPermutation, passes_all, te
 use Rattle.scr_orbit.specs.Orbits.{Orbit, zeros}
 use Rattle.scr_orbit.proofs.DigitLaws.{All-zeros}
 use Rattle.scr_orbit.proofs.OrbitLaws.{same_orbit}
-use Rattle.scr_tetra.specs.Skewb.{SkewbState, class_of, completing, IsSkewb, skewb_bases, skewb_digits, skewb_of_digits, skewb_numbered}
+use Rattle.scr_tetra.specs.Skewb.{SkewbState, class_of, completing, IsSkewb, skewb_digits, skewb_of_digits, skewb_numbered}
 
 abbrev four_bases : List ℕ
 four_bases = 3 ∷ 3 ∷ 3 ∷ 3 ∷ []
@@ -73,6 +73,9 @@ completing-only : (sum d : ℕ) → d < 3 → (sum + d) % 3 ≡ 0 → completing
 completing-only sum d lt e = omega (arith, e)
 
 -- ---- a state of four numbers
+
+abbrev pub skewb_bases : List ℕ
+skewb_bases = 81 ∷ 9 ∷ 12 ∷ 360 ∷ []
 
 abbrev Gives : List ℕ → Type 0
 Gives = GivesState skewb_bases skewb_of_digits skewb_digits IsSkewb

@@ -36,6 +36,16 @@ pyram_as_pair : IsSeenAs pyram_action (pair_action tetraminx_action (in_place_ac
 pyram_as_pair =
     IsSeenAs-whole (λ p. record { body = p.0; tips = p.1 }) (λ p. record { body = p.0; tips = p.1 }) (λ s. refl) (λ r. refl) (λ s r. refl) (λ r q. refl) refl
 
+-- ---- the two kinds of turns
+
+abbrev pub large_turn : TetraminxTurn → PyramTurn
+large_turn r = record { body = r; tips = zeros 4 }
+
+abbrev pub tip_turn : List ℕ → PyramTurn
+tip_turn added = record { body = tetraminx_action.identity; tips = added }
+
+-- ---- turns act on states
+
 -- two even parities are even together
 even_sum : (s a b : ℕ) → s ≡ (a + b) % 2 → a ≡ 0 → b ≡ 0 → s ≡ 0
 even_sum s a b e f g = e ∙ ap (λ z. (z + b) % 2) f ∙ ap (λ z. (0 + z) % 2) g

@@ -18,10 +18,10 @@ use Rattle.scr_orbit.specs.PowerPuzzles.{letter_table, after_letter}
 use Rattle.scr_orbit.proofs.InPlaceLaws.{in_place_laws}
 use Rattle.scr_orbit.proofs.Parts.{ap_both}
 use Rattle.scr_orbit.proofs.PowerLaws.{All-got}
-use Rattle.scr_tetra.specs.Pyraminx.{TetraminxState, IsTetraminx, PyramTurn, tip_turn, pyram_action, pyram_powers, thirds_number}
+use Rattle.scr_tetra.specs.Pyraminx.{TetraminxState, IsTetraminx, PyramTurn, pyram_action, pyram_powers, thirds_number}
 use Rattle.scr_tetra.proofs.NumberedPyram.{thirds_one_to_one}
 use Rattle.scr_tetra.specs.PyramParts.{tips_word, turned_count}
-use Rattle.scr_tetra.proofs.PyramLaws.{same_pyram, moves_no_body, tells_tetraminx, tetraminx_laws, lawful_pyram}
+use Rattle.scr_tetra.proofs.PyramLaws.{tip_turn, same_pyram, moves_no_body, tells_tetraminx, tetraminx_laws, lawful_pyram}
 
 -- a turn of these tips alone, as a test
 is_tip_turn : List ℕ → PyramTurn → Bool

@@ -13,8 +13,8 @@ use Rattle.scr_orbit.proofs.Parts.{IsMadeAt}
 use Rattle.scr_orbit.proofs.PowerLaws.{get-append, get-append_past}
 use Rattle.scr_orbit.proofs.TurnedAt.{IsTurned, IsTurned-at}
 use Rattle.scr_notation.specs.TurnNumbers.{axis_turn_at}
-use Rattle.scr_tetra.specs.Pyraminx.{TetraminxState, tetraminx_action, tetraminx_powers, PyramState, IsPyram, large_turn, tip_turn, pyram_powers}
-use Rattle.scr_tetra.proofs.PyramLaws.{same_pyram, tetraminx_laws, lawful_tetraminx, lawful_pyram}
+use Rattle.scr_tetra.specs.Pyraminx.{TetraminxState, tetraminx_action, tetraminx_powers, PyramState, IsPyram, pyram_powers}
+use Rattle.scr_tetra.proofs.PyramLaws.{large_turn, tip_turn, same_pyram, tetraminx_laws, lawful_tetraminx, lawful_pyram}
 
 -- the turns are those without tips, and then those of the tips
 turns_in_order : (all_turns pyram_powers) ≡ map large_turn (all_turns tetraminx_powers) ++ map tip_turn (part_turns (λ r. r.axials) tetraminx_powers)

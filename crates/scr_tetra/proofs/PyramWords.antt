@@ -16,9 +16,9 @@ use Rattle.scr_notation.specs.declared.turn.Turn.{Turn}
 use Rattle.scr_notation.specs.declared.turn.Turn.TheVariants.{Axis, Tip}
 use Rattle.scr_notation.specs.AxisLetters.{thirds_of}
 use Rattle.scr_notation.proofs.AxisLaws.{IsThirdsOf-read, axis_turn_at-axis, axis_turn_at-tip}
-use Rattle.scr_tetra.specs.Pyraminx.{TetraminxState, tetraminx_action, tetraminx_powers, PyramState, IsPyram, large_turn, tip_turn, pyram_thirds, pyram_action, pyram_powers}
+use Rattle.scr_tetra.specs.Pyraminx.{TetraminxState, tetraminx_action, tetraminx_powers, PyramState, IsPyram, pyram_thirds, pyram_action, pyram_powers}
 use Rattle.scr_tetra.specs.PyramParts.{large_turns, tip_turn_count, turned_count}
-use Rattle.scr_tetra.proofs.PyramLaws.{tetraminx_laws, lawful_tetraminx, lawful_pyram}
+use Rattle.scr_tetra.proofs.PyramLaws.{large_turn, tip_turn, tetraminx_laws, lawful_tetraminx, lawful_pyram}
 use Rattle.scr_tetra.proofs.PyramTurns.{large_at, tip_at, pyram_large}
 
 -- ---- letters

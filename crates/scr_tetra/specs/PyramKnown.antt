@@ -5,15 +5,17 @@ use Rattle.scr_orbit.specs.PowerPuzzles.{word_at}
 use Rattle.scr_notation.specs.declared.turn.Turn.{Turn}
 use Rattle.scr_tetra.specs.Pyraminx.{PyramState, pyram_powers}
 
--- The usual words of the last layer: R U' R' U' R U' R' exchanges three edges in a cycle, and R' L R L' U L' U' L flips two.
+-- The usual words of the last layer: R U' R' U' R U' R' exchanges three edges in a cycle, and R' L R L' U L' U' L
+-- flips two.
 abbrev pub edge_cycle : List Turn
 edge_cycle = word_at pyram_powers (4 ∷ 1 ∷ 5 ∷ 1 ∷ 4 ∷ 1 ∷ 5 ∷ [])
 
 abbrev pub edge_flip : List Turn
 edge_flip = word_at pyram_powers (5 ∷ 2 ∷ 4 ∷ 3 ∷ 0 ∷ 3 ∷ 1 ∷ 2 ∷ [])
 
--- Words of turns by their numbers, and how often each is done to move nothing: U L, of which five take back the edges and
--- three the axial pieces; U L U' L', which exchanges three edges in a cycle; and so L B L' B', the cycle and the flip.
+-- Words of turns by their numbers, and how often each is done to move nothing: U L, of which five take back the edges
+-- and three the axial pieces; U L U' L', which exchanges three edges in a cycle; and so L B L' B', the cycle and the
+-- flip.
 abbrev pub pyram_orders : List (List ℕ × ℕ)
 pyram_orders =
     (0 ∷ 2 ∷ [], 15) ∷ (0 ∷ 2 ∷ 1 ∷ 3 ∷ [], 3) ∷ (2 ∷ 6 ∷ 3 ∷ 7 ∷ [], 3) ∷ (4 ∷ 1 ∷ 5 ∷ 1 ∷ 4 ∷ 1 ∷ 5 ∷ [], 3)
@@ -28,7 +30,10 @@ cycled = record {
 
 abbrev pub flipped : PyramState
 flipped = record {
-  body = record { edges = record { pieces = 0 ∷ 1 ∷ 2 ∷ 3 ∷ 4 ∷ 5 ∷ []; digits = 1 ∷ 1 ∷ 0 ∷ 0 ∷ 0 ∷ 0 ∷ [] }; axials = zeros 4 };
+  body = record {
+    edges = record { pieces = 0 ∷ 1 ∷ 2 ∷ 3 ∷ 4 ∷ 5 ∷ []; digits = 1 ∷ 1 ∷ 0 ∷ 0 ∷ 0 ∷ 0 ∷ [] };
+    axials = zeros 4;
+  };
   tips = zeros 4;
 }
 

@@ -1,5 +1,6 @@
 -- The words of a Pyraminx by parts: its large turns, which alone move the body, and the turns of its tips.
-use Rattle.std.specs.Prelude.{ℕ, ◌+◌, ◌==◌, if◌then◌else◌, List, [], ◌∷◌}
+use Rattle.std.specs.Prelude.{ℕ, ◌+◌, ◌==◌, if◌then◌else◌, List, [], ◌∷◌, length, slice_index}
+use Rattle.std.specs.List.{flat_map, range_with_len}
 use Rattle.scr_notation.specs.declared.turn.Turn.{Turn}
 use Rattle.scr_notation.specs.declared.turn.Turn.TheVariants.{Tip}
 
@@ -20,12 +21,8 @@ abbrev pub turned_count : List ℕ → ℕ
 turned_count [] = 0
 turned_count (d ∷ ds) = (if d == 0 then 0 else 1) + turned_count ds
 
--- The turns that bring solved tips to these digits: in the order u l r b, by one third where the digit is 1, by two where it
--- is 2, and none where it is 0.
-abbrev pub tips_word_from : ℕ → List ℕ → List Turn
-tips_word_from tip [] = []
-tips_word_from tip (d ∷ ds) =
-    if d == 0 then tips_word_from (tip + 1) ds else Tip tip d ∷ tips_word_from (tip + 1) ds
-
+-- The turns that bring solved tips to these digits: in the order u l r b, by one third where the digit is 1, by two
+-- where it is 2, and none where it is 0.
 unfoldable pub tips_word : List ℕ → List Turn
-tips_word tips = tips_word_from 0 tips
+tips_word tips =
+    flat_map (λ k. let d = slice_index tips k in if d == 0 then [] else Tip k d ∷ []) (range_with_len 0 (length tips))

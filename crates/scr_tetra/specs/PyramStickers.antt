@@ -1,5 +1,6 @@
--- What turns do to the stickers of a Pyraminx, which is where the tables come from, and how it looks from elsewhere. A face
--- has the number of the axis that it lies opposite to: 0 is the bottom, 1 the right, 2 the left and 3 the front face.
+-- What turns do to the stickers of a Pyraminx, which is where the tables come from, and how it looks from elsewhere.
+-- A face has the number of the axis that it lies opposite to: 0 is the bottom, 1 the right, 2 the left and 3 the
+-- front face.
 use Rattle.std.specs.Prelude.{◌≡◌, ℕ, ◌==◌, if◌then◌else◌, List, [], ◌∷◌, map, slice_get, slice_index, slice_index_or}
 use Rattle.std.specs.List.{list_any, filter_map}
 use Rattle.scr_orbit.specs.Orbits.{Rearrangement, composed}
@@ -15,8 +16,8 @@ pyram_edge_faces = (2 ∷ 3 ∷ []) ∷ (3 ∷ 1 ∷ []) ∷ (1 ∷ 2 ∷ []) �
 abbrev pub axial_faces : List (List ℕ)
 axial_faces = (1 ∷ 3 ∷ 2 ∷ []) ∷ (0 ∷ 2 ∷ 3 ∷ []) ∷ (0 ∷ 3 ∷ 1 ∷ []) ∷ (0 ∷ 1 ∷ 2 ∷ []) ∷ []
 
--- Where a turn about each axis by a third takes what is at the axes, or the faces, U, L, R and B: about U, what is at the
--- right comes to the left, from there to the back, and from there to the right.
+-- Where a turn about each axis by a third takes what is at the axes, or the faces, U, L, R and B: about U, what is at
+-- the right comes to the left, from there to the back, and from there to the right.
 abbrev pub pyram_carried_to : List (List ℕ)
 pyram_carried_to = (0 ∷ 3 ∷ 1 ∷ 2 ∷ []) ∷ (2 ∷ 1 ∷ 3 ∷ 0 ∷ []) ∷ (3 ∷ 0 ∷ 2 ∷ 1 ∷ []) ∷ (1 ∷ 2 ∷ 0 ∷ 3 ∷ []) ∷ []
 
@@ -24,7 +25,8 @@ pyram_carried_to = (0 ∷ 3 ∷ 1 ∷ 2 ∷ []) ∷ (2 ∷ 1 ∷ 3 ∷ 0 ∷ [])
 -- opposite to it.
 abbrev pub pyram_carried_piece : ℕ → List ℕ → List ℕ
 pyram_carried_piece axis stickers =
-    if list_any (λ s. s == axis) stickers then stickers else map (slice_index (slice_index_or pyram_carried_to axis [])) stickers
+    if list_any (λ s. s == axis) stickers then stickers
+    else map (slice_index (slice_index_or pyram_carried_to axis [])) stickers
 
 -- A turn is what a third about this axis does to stickers, to those of the edges and of the axial pieces.
 pub record CarriesPyramStickers (axis : ℕ) (r : TetraminxTurn) : Type 0 where
@@ -39,7 +41,8 @@ pub record Hold : Type 0 where
   pub axials : Rearrangement
   pub axes : List ℕ
 
--- A third about an axis and then the other hold is the other hold and then a third about the axis where that axis comes.
+-- A third about an axis and then the other hold is the other hold and then a third about the axis where that axis
+-- comes.
 pub record ShowsThirds (h : Hold) : Type 0 where
   pub edges : map (λ r. composed 2 r.edges h.edges) tetraminx_thirds
       ≡ map (λ r. composed 2 h.edges r.edges) (filter_map (slice_get tetraminx_thirds) h.axes)

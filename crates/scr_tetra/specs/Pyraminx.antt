@@ -1,10 +1,10 @@
 -- A Pyraminx as its edges, its axial pieces and its tips, its turns (WCA Regulations, article 12), and its number.
 --
--- The axes are 0 U, 1 L, 2 R, 3 B: the corners above, at the left, at the right and at the back. An edge stands between
--- two of them; edge places and pieces are numbered 0 UL, 1 UR, 2 UB, 3 LR, 4 LB, 5 RB. Axial pieces and tips stay at their
--- axes. An axial piece's digit is how many thirds clockwise it stands turned, and a tip's how many it stands turned against
--- the axial piece below it. Without its tips the puzzle is known as the Tetraminx, which stands here by itself, since it is
--- what a search has to solve.
+-- The axes are 0 U, 1 L, 2 R, 3 B: the corners above, at the left, at the right and at the back. An edge stands
+-- between two of them; edge places and pieces are numbered 0 UL, 1 UR, 2 UB, 3 LR, 4 LB, 5 RB. Axial pieces and tips
+-- stay at their axes. An axial piece's digit is how many thirds clockwise it stands turned, and a tip's how many it
+-- stands turned against the axial piece below it. Without its tips the puzzle is known as the Tetraminx, which stands
+-- here by itself, since it is what a search has to solve.
 use Rattle.std.specs.Prelude.{ℕ, ◌/◌, List, [], ◌∷◌, ◌++◌, map, replicate, slice_index}
 use Rattle.std.specs.List.{zip}
 use Rattle.scr_combinatorics.specs.Permutations.{IsEven, permutation_number, half_at}
@@ -24,7 +24,8 @@ pub record TetraminxState : Type 0 where
   pub edges : Orbit
   pub axials : List ℕ
 
--- What can be put together without taking the puzzle apart: the edges are an even list, and the flips sum to 0 modulo 2.
+-- What can be put together without taking the puzzle apart: the edges are an even list, and the flips sum to 0
+-- modulo 2.
 pub record IsTetraminx (s : TetraminxState) : Type 0 where
   pub edges : IsZeroSumOrbit 6 2 s.edges
   pub even : IsEven s.edges.pieces
@@ -47,8 +48,7 @@ edge_thirds =
     record { places = 1 ∷ 2 ∷ 0 ∷ 3 ∷ 4 ∷ 5 ∷ []; added = zeros 6 }
     ∷ record { places = 4 ∷ 1 ∷ 2 ∷ 0 ∷ 3 ∷ 5 ∷ []; added = zeros 6 }
     ∷ record { places = 0 ∷ 3 ∷ 2 ∷ 5 ∷ 4 ∷ 1 ∷ []; added = 0 ∷ 1 ∷ 0 ∷ 1 ∷ 0 ∷ 0 ∷ [] }
-    ∷ record { places = 0 ∷ 1 ∷ 5 ∷ 3 ∷ 2 ∷ 4 ∷ []; added = 0 ∷ 0 ∷ 1 ∷ 0 ∷ 1 ∷ 0 ∷ [] }
-    ∷ []
+    ∷ record { places = 0 ∷ 1 ∷ 5 ∷ 3 ∷ 2 ∷ 4 ∷ []; added = 0 ∷ 0 ∷ 1 ∷ 0 ∷ 1 ∷ 0 ∷ [] } ∷ []
 
 -- What a third about each axis adds to pieces that stay at the four axes.
 abbrev pub thirds_in_place : List (List ℕ)
@@ -103,30 +103,23 @@ pyram_action = record {
   identity = record { body = tetraminx_action.identity; tips = zeros 4 };
 }
 
--- A large turn, which leaves the tips as they stand to the axial pieces.
-abbrev pub large_turn : TetraminxTurn → PyramTurn
-large_turn r = record { body = r; tips = zeros 4 }
-
--- A turn of tips alone.
-abbrev pub tip_turn : List ℕ → PyramTurn
-tip_turn added = record { body = tetraminx_action.identity; tips = added }
-
--- A third about each axis, and then a third of each tip: u, l, r and b.
+-- A third about each axis, which leaves the tips as they stand to the axial pieces, and then a third of each tip
+-- alone: u, l, r and b.
 abbrev pub pyram_thirds : List PyramTurn
-pyram_thirds = map large_turn tetraminx_thirds ++ map tip_turn thirds_in_place
+pyram_thirds =
+    map (λ r. record { body = r; tips = zeros 4 }) tetraminx_thirds
+    ++ map (λ added. record { body = tetraminx_action.identity; tips = added }) thirds_in_place
 
 unfoldable pub solved_pyram : PyramState
 solved_pyram = record { body = solved_tetraminx; tips = zeros 4 }
 
--- The Pyraminx as data. Its 16 turns are U U' L L' R R' B B', and then u u' l l' r r' b b', in the order of their numbers.
+-- The Pyraminx as data. Its 16 turns are U U' L L' R R' B B', and then u u' l l' r r' b b', in the order of their
+-- numbers.
 abbrev pub pyram_powers : PowerPuzzle PyramState PyramTurn Turn
-pyram_powers = record { letters = letters_about_axes; action = pyram_action; generators = pyram_thirds; solved = solved_pyram }
+pyram_powers =
+    record { letters = letters_about_axes; action = pyram_action; generators = pyram_thirds; solved = solved_pyram }
 
 -- ---- numbers
-
--- How many digits of axial pieces, flips and even lists of edges there are.
-abbrev pub tetraminx_bases : List ℕ
-tetraminx_bases = 81 ∷ 32 ∷ 360 ∷ []
 
 -- The number of four digits from 0 to 2, the first one the least.
 abbrev pub thirds_number : List ℕ → ℕ
@@ -137,9 +130,10 @@ unfoldable pub tetraminx_digits : TetraminxState → List ℕ
 tetraminx_digits s =
     thirds_number s.axials ∷ twists_number 2 s.edges.digits ∷ permutation_number s.edges.pieces / 2 ∷ []
 
--- The numbered states of a Tetraminx, 933,120 of them.
+-- The numbered states of a Tetraminx, 933,120 of them: 81 of the axial pieces, 32 of the flips, 360 even lists of
+-- edges.
 abbrev pub tetraminx_numbers : Numbers TetraminxState
-tetraminx_numbers = numbers_by_digits tetraminx_bases tetraminx_digits IsTetraminx
+tetraminx_numbers = numbers_by_digits (81 ∷ 32 ∷ 360 ∷ []) tetraminx_digits IsTetraminx
 
 unfoldable pub tetraminx_of_digits : List ℕ → TetraminxState
 tetraminx_of_digits ds = record {
@@ -149,18 +143,15 @@ tetraminx_of_digits ds = record {
 
 -- and with the state of each number
 abbrev pub numbered_tetraminx : Numbered TetraminxState
-numbered_tetraminx = numbered_by_digits tetraminx_bases tetraminx_of_digits tetraminx_digits IsTetraminx
-
--- How many digits of tips and states without tips there are.
-abbrev pub pyram_bases : List ℕ
-pyram_bases = 81 ∷ 933120 ∷ []
+numbered_tetraminx = numbered_by_digits (81 ∷ 32 ∷ 360 ∷ []) tetraminx_of_digits tetraminx_digits IsTetraminx
 
 unfoldable pub pyram_digits : PyramState → List ℕ
 pyram_digits s = thirds_number s.tips ∷ tetraminx_numbers.number_of s.body ∷ []
 
--- The numbered states of a Pyraminx, 75,582,720 of them: the number of the tips is the least digit.
+-- The numbered states of a Pyraminx, 75,582,720 of them: 81 of the tips, whose number is the least digit, times those
+-- without tips.
 abbrev pub pyram_numbers : Numbers PyramState
-pyram_numbers = numbers_by_digits pyram_bases pyram_digits IsPyram
+pyram_numbers = numbers_by_digits (81 ∷ 933120 ∷ []) pyram_digits IsPyram
 
 unfoldable pub pyram_of_digits : List ℕ → PyramState
 pyram_of_digits ds = record {
@@ -170,4 +161,4 @@ pyram_of_digits ds = record {
 
 -- and with the state of each number
 abbrev pub numbered_pyram : Numbered PyramState
-numbered_pyram = numbered_by_digits pyram_bases pyram_of_digits pyram_digits IsPyram
+numbered_pyram = numbered_by_digits (81 ∷ 933120 ∷ []) pyram_of_digits pyram_digits IsPyram

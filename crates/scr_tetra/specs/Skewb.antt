@@ -1,8 +1,9 @@
 -- A Skewb as its corners and centres, its turns (WCA Regulations, article 12), and its number.
 --
--- The corner UFR stands still. The other corners are of two orbits: the four 0 UFL, 1 UBR, 2 DFR, 3 DBL, and the three 0 ULB,
--- 1 DLF, 2 DRB. The centres are 0 U, 1 R, 2 F, 3 D, 4 L, 5 B. Places and pieces are numbered alike. A corner's twist is how many
--- thirds clockwise its U or D sticker stands from the U or D side; centres have no twist, so their digits, modulo 1, are 0.
+-- The corner UFR stands still. The other corners are of two orbits: the four 0 UFL, 1 UBR, 2 DFR, 3 DBL, and the
+-- three 0 ULB, 1 DLF, 2 DRB. The centres are 0 U, 1 R, 2 F, 3 D, 4 L, 5 B. Places and pieces are numbered alike. A
+-- corner's twist is how many thirds clockwise its U or D sticker stands from the U or D side; centres have no twist,
+-- so their digits, modulo 1, are 0.
 use Rattle.std.specs.Prelude.{◌≡◌, ℕ, ◌+◌, ◌-◌, ◌/◌, ◌%◌, List, [], ◌∷◌, ◌++◌, map, slice_index, bit_xor}
 use Rattle.std.specs.List.{zip}
 use Rattle.scr_combinatorics.specs.Lists.{total}
@@ -21,13 +22,14 @@ pub record SkewbState : Type 0 where
   pub three : Orbit
   pub centres : Orbit
 
--- The class of an even list of the four: 0, 1 or 2 where the pieces at the places 0 and 3 are 0 and 3 or the other two, 1 and 3
--- or the other two, 2 and 3 or the other two. Every turn of U, L or R goes on to another class, round in a circle.
+-- The class of an even list of the four: 0, 1 or 2 where the pieces at the places 0 and 3 are 0 and 3 or the other
+-- two, 1 and 3 or the other two, 2 and 3 or the other two. Every turn of U, L or R goes on to another class, round in
+-- a circle.
 abbrev pub class_of : List ℕ → ℕ
 class_of four = bit_xor (slice_index four 0) (bit_xor (slice_index four 3) 3)
 
--- A Skewb that can be put together without taking one apart: all three lists are even, the twists of the three and the class
--- of the four sum to 0 modulo 3, and so do the twists of the four and the piece at place 0 of the three.
+-- A Skewb that can be put together without taking one apart: all three lists are even, the twists of the three and
+-- the class of the four sum to 0 modulo 3, and so do the twists of the four and the piece at place 0 of the three.
 pub record IsSkewb (s : SkewbState) : Type 0 where
   pub four : IsOrbit 4 3 s.four
   pub three : IsOrbit 3 3 s.three
@@ -58,15 +60,15 @@ made_of_solved r = record {
 abbrev pub IsSkewbTurn : SkewbTurn → Type 0
 IsSkewbTurn r = IsSkewb (made_of_solved r)
 
--- The clockwise turns by one third about U (the corner ULB), L (DLF), R (DRB) and B (DBL), of half of the Skewb each: which
--- place's piece comes to each place of the four, and the twist added. UFR stands still, so each turns the half without it.
+-- The clockwise turns by one third about U (the corner ULB), L (DLF), R (DRB) and B (DBL), of half of the Skewb each:
+-- which place's piece comes to each place of the four, and the twist added. UFR stands still, so each turns the half
+-- without it.
 abbrev pub four_thirds : List Rearrangement
 four_thirds =
     record { places = 1 ∷ 3 ∷ 2 ∷ 0 ∷ []; added = 2 ∷ 2 ∷ 0 ∷ 2 ∷ [] }
     ∷ record { places = 3 ∷ 1 ∷ 0 ∷ 2 ∷ []; added = 2 ∷ 0 ∷ 2 ∷ 2 ∷ [] }
     ∷ record { places = 0 ∷ 2 ∷ 3 ∷ 1 ∷ []; added = 0 ∷ 2 ∷ 2 ∷ 2 ∷ [] }
-    ∷ record { places = 0 ∷ 1 ∷ 2 ∷ 3 ∷ []; added = 0 ∷ 0 ∷ 0 ∷ 1 ∷ [] }
-    ∷ []
+    ∷ record { places = 0 ∷ 1 ∷ 2 ∷ 3 ∷ []; added = 0 ∷ 0 ∷ 0 ∷ 1 ∷ [] } ∷ []
 
 -- The same of the three.
 abbrev pub three_thirds : List Rearrangement
@@ -74,8 +76,7 @@ three_thirds =
     record { places = 0 ∷ 1 ∷ 2 ∷ []; added = 1 ∷ 0 ∷ 0 ∷ [] }
     ∷ record { places = 0 ∷ 1 ∷ 2 ∷ []; added = 0 ∷ 1 ∷ 0 ∷ [] }
     ∷ record { places = 0 ∷ 1 ∷ 2 ∷ []; added = 0 ∷ 0 ∷ 1 ∷ [] }
-    ∷ record { places = 2 ∷ 0 ∷ 1 ∷ []; added = 2 ∷ 2 ∷ 2 ∷ [] }
-    ∷ []
+    ∷ record { places = 2 ∷ 0 ∷ 1 ∷ []; added = 2 ∷ 2 ∷ 2 ∷ [] } ∷ []
 
 -- And of the centres.
 abbrev pub centre_thirds : List Rearrangement
@@ -83,18 +84,26 @@ centre_thirds =
     record { places = 5 ∷ 1 ∷ 2 ∷ 3 ∷ 0 ∷ 4 ∷ []; added = zeros 6 }
     ∷ record { places = 0 ∷ 1 ∷ 4 ∷ 2 ∷ 3 ∷ 5 ∷ []; added = zeros 6 }
     ∷ record { places = 0 ∷ 3 ∷ 2 ∷ 5 ∷ 4 ∷ 1 ∷ []; added = zeros 6 }
-    ∷ record { places = 0 ∷ 1 ∷ 2 ∷ 4 ∷ 5 ∷ 3 ∷ []; added = zeros 6 }
-    ∷ []
+    ∷ record { places = 0 ∷ 1 ∷ 2 ∷ 4 ∷ 5 ∷ 3 ∷ []; added = zeros 6 } ∷ []
 
 -- All three at once.
 abbrev pub skewb_thirds : List SkewbTurn
-skewb_thirds = map (λ r. record { four = r.0; three = r.1.0; centres = r.1.1 }) (zip four_thirds (zip three_thirds centre_thirds))
+skewb_thirds =
+    map (λ r. record { four = r.0; three = r.1.0; centres = r.1.1 }) (zip four_thirds (zip three_thirds centre_thirds))
 
 -- Turns rearrange the three orbits at once.
 abbrev pub skewb_action : Action SkewbState SkewbTurn
 skewb_action = record {
-  turned = λ s r. record { four = turned_orbit 3 s.four r.four; three = turned_orbit 3 s.three r.three; centres = turned_orbit 1 s.centres r.centres };
-  composed = λ r q. record { four = composed 3 r.four q.four; three = composed 3 r.three q.three; centres = composed 1 r.centres q.centres };
+  turned = λ s r. record {
+    four = turned_orbit 3 s.four r.four;
+    three = turned_orbit 3 s.three r.three;
+    centres = turned_orbit 1 s.centres r.centres;
+  };
+  composed = λ r q. record {
+    four = composed 3 r.four q.four;
+    three = composed 3 r.three q.three;
+    centres = composed 1 r.centres q.centres;
+  };
   identity = record { four = identity 4; three = identity 3; centres = identity 6 };
 }
 
@@ -103,16 +112,14 @@ solved_skewb = record { four = solved_orbit 4; three = solved_orbit 3; centres =
 
 -- The Skewb as data. Its 8 turns are U U' L L' R R' B B', in the order of their numbers.
 abbrev pub skewb_powers : PowerPuzzle SkewbState SkewbTurn Turn
-skewb_powers = record { letters = letters_about_axes; action = skewb_action; generators = skewb_thirds; solved = solved_skewb }
+skewb_powers =
+    record { letters = letters_about_axes; action = skewb_action; generators = skewb_thirds; solved = solved_skewb }
 
 -- ---- numbers
 
--- How many twists of the four, twists of the three at places 0 and 1, even lists of the four and even lists of centres there are.
-abbrev pub skewb_bases : List ℕ
-skewb_bases = 81 ∷ 9 ∷ 12 ∷ 360 ∷ []
-
--- The numbers of the twists of the four and of the first two of the three, place 0 the least digit, and the halves of the
--- numbers of the lists of the four and of the centres. The third twist and the list of the three are fixed by the two sums.
+-- The numbers of the twists of the four and of the first two of the three, place 0 the least digit, and the halves of
+-- the numbers of the lists of the four and of the centres. The third twist and the list of the three are fixed by the
+-- two sums.
 unfoldable pub skewb_digits : SkewbState → List ℕ
 skewb_digits s =
     mixed_number (3 ∷ 3 ∷ 3 ∷ 3 ∷ []) s.four.digits ∷ mixed_number (3 ∷ 3 ∷ []) s.three.digits
@@ -122,9 +129,10 @@ skewb_digits s =
 abbrev pub completing : ℕ → ℕ
 completing sum = (3 - sum % 3) % 3
 
--- The numbered states, 3,149,280 of them: the number of the four's twists is the least digit.
+-- The numbered states, 3,149,280 of them: 81 of the four's twists, whose number is the least digit, 9 of two twists
+-- of the three, 12 even lists of the four and 360 of the centres.
 abbrev pub skewb_numbers : Numbers SkewbState
-skewb_numbers = numbers_by_digits skewb_bases skewb_digits IsSkewb
+skewb_numbers = numbers_by_digits (81 ∷ 9 ∷ 12 ∷ 360 ∷ []) skewb_digits IsSkewb
 
 -- The Skewb with these four numbers. The even list of the three that begins with k has number 2 k or 2 k + 1.
 unfoldable pub skewb_of_digits : List ℕ → SkewbState
@@ -134,10 +142,13 @@ skewb_of_digits ds =
     let two = mixed_digits (3 ∷ 3 ∷ []) (slice_index ds 1) in
     record {
       four = record { pieces = four; digits = twists };
-      three = record { pieces = half_at 3 0 (completing (total twists)); digits = two ++ completing (total two + class_of four) ∷ [] };
+      three = record {
+        pieces = half_at 3 0 (completing (total twists));
+        digits = two ++ completing (total two + class_of four) ∷ [];
+      };
       centres = record { pieces = half_at 6 0 (slice_index ds 3); digits = zeros 6 };
     }
 
 -- and with the state of each number
 abbrev pub skewb_numbered : Numbered SkewbState
-skewb_numbered = numbered_by_digits skewb_bases skewb_of_digits skewb_digits IsSkewb
+skewb_numbered = numbered_by_digits (81 ∷ 9 ∷ 12 ∷ 360 ∷ []) skewb_of_digits skewb_digits IsSkewb

@@ -32,8 +32,8 @@ rotation = record {
   centres = record { places = 2 ∷ 0 ∷ 1 ∷ 5 ∷ 3 ∷ 4 ∷ []; added = zeros 6 };
 }
 
--- It takes the axis U to R, L to U, R to L, and leaves B: a turn and then the rotation are the rotation and then the turn
--- about the axis where the first one has come to.
+-- It takes the axis U to R, L to U, R to L, and leaves B: a turn and then the rotation are the rotation and then the
+-- turn about the axis where the first one has come to.
 abbrev pub RotatesTurns : SkewbTurn → Type 0
 RotatesTurns whole =
     map (λ r. skewb_action.composed r whole) skewb_thirds

@@ -19,22 +19,23 @@ centre_faces = (0 ∷ []) ∷ (1 ∷ []) ∷ (2 ∷ []) ∷ (3 ∷ []) ∷ (4 �
 abbrev pub axis_faces : List (List ℕ)
 axis_faces = (0 ∷ 4 ∷ 5 ∷ []) ∷ (3 ∷ 4 ∷ 2 ∷ []) ∷ (3 ∷ 1 ∷ 5 ∷ []) ∷ (3 ∷ 5 ∷ 4 ∷ []) ∷ []
 
--- Where a clockwise turn by one third about each of these corners takes what is at U, R, F, D, L and B: about ULB, U goes to
--- L, L to B and B to U, and the faces opposite to them likewise.
+-- Where a clockwise turn by one third about each of these corners takes what is at U, R, F, D, L and B: about ULB, U
+-- goes to L, L to B and B to U, and the faces opposite to them likewise.
 abbrev pub skewb_carried_to : List (List ℕ)
 skewb_carried_to =
-    (4 ∷ 2 ∷ 3 ∷ 1 ∷ 5 ∷ 0 ∷ []) ∷ (1 ∷ 5 ∷ 3 ∷ 4 ∷ 2 ∷ 0 ∷ []) ∷ (4 ∷ 5 ∷ 0 ∷ 1 ∷ 2 ∷ 3 ∷ []) ∷ (2 ∷ 0 ∷ 1 ∷ 5 ∷ 3 ∷ 4 ∷ [])
-    ∷ []
+    (4 ∷ 2 ∷ 3 ∷ 1 ∷ 5 ∷ 0 ∷ []) ∷ (1 ∷ 5 ∷ 3 ∷ 4 ∷ 2 ∷ 0 ∷ []) ∷ (4 ∷ 5 ∷ 0 ∷ 1 ∷ 2 ∷ 3 ∷ [])
+    ∷ (2 ∷ 0 ∷ 1 ∷ 5 ∷ 3 ∷ 4 ∷ []) ∷ []
 
--- The faces of a piece's stickers after a turn about an axis. It carries half of the Skewb: the pieces that have most of
--- their stickers at the faces of the axis's corner.
+-- The faces of a piece's stickers after a turn about an axis. It carries half of the Skewb: the pieces that have most
+-- of their stickers at the faces of the axis's corner.
 abbrev pub skewb_carried_piece : ℕ → List ℕ → List ℕ
-skewb_carried_piece axis stickers =
-    if nat_lt (length stickers) (2 * count_by (λ s. list_any (λ f. f == s) (slice_index_or axis_faces axis [])) stickers)
-    then map (slice_index (slice_index_or skewb_carried_to axis [])) stickers
-    else stickers
+skewb_carried_piece axis piece =
+    if nat_lt (length piece) (2 * count_by (λ s. list_any (λ f. f == s) (slice_index_or axis_faces axis [])) piece)
+    then map (slice_index (slice_index_or skewb_carried_to axis [])) piece
+    else piece
 
--- Where a clockwise turn by one third about UFR of the Skewb as a whole takes what is at each face: U to R, R to F, F to U.
+-- Where a clockwise turn by one third about UFR of the Skewb as a whole takes what is at each face: U to R, R to F,
+-- F to U.
 abbrev pub rotated_piece : List ℕ → List ℕ
 rotated_piece stickers = map (slice_index (1 ∷ 2 ∷ 0 ∷ 4 ∷ 5 ∷ 3 ∷ [])) stickers
 

@@ -1,13 +1,13 @@
 -- What `hex` decodes is what the digits spell.
 use Rattle.std.proofs.Common.{◌≡◌, ◌==◌, ℕ, zero, suc, ◌+◌, ◌*◌, ◌%◌, ◌<◌, true, false, List, [], ◌∷◌, length, take, slice_index, Option, Some, None, unwrap_or, is_some, Ok, Err, refl, sym, ap, ◌∙◌, inl, inr, arith}
-use Rattle.std.specs.List.{AllPass}
+use Rattle.std.specs.List.{AllPass, prefix_len}
 use Rattle.std.proofs.lemmas.List.Elements.{All-head, All-tail}
 use Rattle.hex.specs.Hex.{decode_of, decode_pairs, decode_sized, digit_or_error, hex_digit_value, is_hex_digit, pair_value}
 use Rattle.hex.specs.declared.error.FromHexError.{FromHexError}
 use Rattle.hex.specs.declared.error.FromHexError.TheVariants.{InvalidHexCharacter}
 use Rattle.hex.proofs.HexLemmas.{decode_of-err, decode_of-even, decode_of-ok, decode_of-same, decode_sized-twice}
 use Rattle.hex.proofs.Pairs.{cons_byte, decode_pairs-ok_pair}
-use Rattle.scr_words.specs.Seed.{digit, digits_before, seed_of, spelled}
+use Rattle.scr_words.specs.Seed.{digit, seed_of, spelled}
 use Rattle.scr_words.specs.declared.seed.SeedFault.TheVariants.{Digit}
 
 -- the fact of `AllPass is_hex_digit`
@@ -33,25 +33,27 @@ spelled_pairs i (a ∷ b ∷ rest) even h =
     decode_pairs-ok_pair i a b _ rest pair ∙ ap (cons_byte (digit a * 16 + digit b)) ih
     ∙ ap (λ (v : ℕ). Ok (v ∷ spelled rest)) byte
 
+-- how many digits a text begins with
+abbrev digits_before : List ℕ → ℕ
+digits_before = prefix_len is_hex_digit
+
 -- a text of digits has as many as its length
 all_digits : (s : List ℕ) → AllPass is_hex_digit s → digits_before s ≡ length s
-unfolding digits_before
 all_digits [] h = refl
 all_digits (c ∷ rest) h =
     let here = All-head IsDigit c rest h in
     let later = all_digits rest (All-tail IsDigit c rest h) in
-    rw (here, later) refl
+    rw (here, later) (omega arith)
 
 -- digits up to a byte that is none
 digits_up_to : (k : ℕ) (s : List ℕ) → k < length s → is_hex_digit (slice_index s k) ≡ false
     → AllPass is_hex_digit (take k s) → digits_before s ≡ k
-unfolding digits_before
 digits_up_to k [] below bad h = absurd (omega arith)
 digits_up_to zero (c ∷ rest) below bad h = rw bad refl
 digits_up_to (suc k) (c ∷ rest) below bad h =
     let here = All-head IsDigit c (take k rest) h in
     let later = digits_up_to k rest (omega arith) bad (All-tail IsDigit c (take k rest) h) in
-    rw (here, later) refl
+    rw (here, later) (omega arith)
 
 -- 64 digits that decode
 decoded_is_spelled : (s bytes : List ℕ) → length s ≡ 64 → decode_sized s 32 ≡ Ok bytes

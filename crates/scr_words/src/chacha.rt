@@ -1,7 +1,8 @@
 //! The words of a seeded stream.
 
 ghost use Rattle.std.specs.Prelude.{◌≡◌};
-ghost use Rattle.scr_words.specs.Stream.{key_words, stream_word};
+ghost use Rattle.rand_chacha.specs.ChaCha.{key_of};
+ghost use Rattle.scr_words.specs.Stream.{stream_word};
 
 use crate::{Seed, Words};
 use rand_chacha::ChaCha20Rng;
@@ -31,7 +32,7 @@ impl Model for ChaChaWords {
 impl ChaChaWords {
     /// The words of stream `stream` of a seed, from place 0 on.
     pub fn new(seed: &Seed, stream: u64) -> ChaChaWords
-        ensures value { result ≡ record { key = key_words seed.now.0; stream = stream; taken = 0 } }
+        ensures value { result ≡ record { key = key_of seed.now.0; stream = stream; taken = 0 } }
         ensures words { ⟦<ChaChaWords as Words>⟧.word_at result ≡ stream_word seed.now.0 stream }
         ensures none_taken { ⟦<ChaChaWords as Words>⟧.taken result ≡ 0 }
     {
@@ -42,9 +43,9 @@ impl ChaChaWords {
 }
 
 impl Words for ChaChaWords {
-    ghost use Rattle.scr_words.specs.Stream.{word_of_key};
+    ghost use Rattle.rand_chacha.specs.ChaCha.{word_at as chacha_word_at};
 
-    ghost word_at = { λ s. word_of_key s.key s.stream };
+    ghost word_at = { λ s. chacha_word_at 10 s.key s.stream };
 
     ghost taken = { λ s. s.taken };
 

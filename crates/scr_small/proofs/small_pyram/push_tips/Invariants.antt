@@ -1,6 +1,6 @@
 use Rattle.std.proofs.Common.{◌≡◌, ◌++◌, ◌≤◌, ◌+◌, drop, length}
 use Rattle.scr_notation.specs.declared.event.Event.TheVariants.{Pyram}
-use Rattle.scr_tetra.specs.PyramParts.{tips_word_from}
+use Rattle.scr_small.proofs.TipsWord.{tips_word_from}
 use Rattle.scr_small.proofs.small_pyram.push_tips.Given as goal
 
 abbrev pub invariant-loop-tip : goal.invariant-loop-tip

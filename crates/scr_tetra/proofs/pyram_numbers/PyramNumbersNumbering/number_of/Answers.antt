@@ -1,7 +1,7 @@
 use Rattle.std.proofs.Common.{◌≡◌, [], ◌∷◌, subst, sym, ap, ◌∙◌, lit<}
 use Rattle.scr_combinatorics.specs.Digits.{AreDigits, mixed_number}
-use Rattle.scr_tetra.specs.Pyraminx.{thirds_number, numbered_tetraminx, pyram_bases, pyram_digits}
-use Rattle.scr_tetra.proofs.NumberedPyram.{pyram_has_two}
+use Rattle.scr_tetra.specs.Pyraminx.{thirds_number, numbered_tetraminx, pyram_digits}
+use Rattle.scr_tetra.proofs.NumberedPyram.{pyram_bases, pyram_has_two}
 use Rattle.scr_tetra.proofs.pyram_numbers.PyramNumbersNumbering.number_of.Goals as goal
 
 pub rank-requires : goal.rank-requires

@@ -1,7 +1,6 @@
 use Rattle.std.proofs.Common.{subst, sym, lit<}
 use Rattle.scr_combinatorics.specs.Digits.{AreDigits}
-use Rattle.scr_tetra.specs.Pyraminx.{tetraminx_bases}
-use Rattle.scr_tetra.proofs.NumberedPyram.{tetraminx_has_three}
+use Rattle.scr_tetra.proofs.NumberedPyram.{tetraminx_bases, tetraminx_has_three}
 use Rattle.scr_tetra.proofs.pyram_numbers.TetraminxNumbersNumbering.number_of.Goals as goal
 
 pub rank-requires : goal.rank-requires

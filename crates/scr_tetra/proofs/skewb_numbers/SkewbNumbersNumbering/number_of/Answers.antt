@@ -1,7 +1,6 @@
 use Rattle.std.proofs.Common.{subst, sym, lit<}
 use Rattle.scr_combinatorics.specs.Digits.{AreDigits}
-use Rattle.scr_tetra.specs.Skewb.{skewb_bases}
-use Rattle.scr_tetra.proofs.NumberedSkewb.{AreDigits-skewb}
+use Rattle.scr_tetra.proofs.NumberedSkewb.{skewb_bases, AreDigits-skewb}
 use Rattle.scr_tetra.proofs.skewb_numbers.SkewbNumbersNumbering.number_of.Goals as goal
 
 pub rank-requires : goal.rank-requires
