@@ -4,7 +4,7 @@ use Rattle.std.specs.Prelude.{◌&&◌, ◌==◌}
 use Rattle.std.proofs.lemmas.Bool.{cases_eq, cases_lt, false≢true, and_parts, and_from, or_cases, or_left, or_right, lt-ltb, le-ltb, ne_eqb, cond-true, cond-false}
 use Rattle.scr_combinatorics.specs.Lists.{occurrences}
 use Rattle.scr_combinatorics.proofs.Counts.{one_if-same, occurrences-twice}
-use Rattle.scr_sq1.specs.Units.{Sq1State, IsSq1, is_corner, units_filled, next_unit, previous_unit, fills_neighbour, are_of_one_corner, is_open}
+use Rattle.scr_sq1.specs.Units.{Sq1State, IsSq1, is_corner, next_unit, previous_unit, fills_neighbour, are_of_one_corner, is_open}
 
 -- an element that stands at three places occurs three times
 pub occurrences-thrice : (xs : List ℕ) (i j k : ℕ) → i < j → j < k → k < length xs → slice_index xs i ≡ slice_index xs k
@@ -30,10 +30,10 @@ pub record InHalves (units : List ℕ) : Type 0 where
   pub edges : (p : ℕ) → 8 ≤ p → p < 16 → occurrences p units ≡ 1
   pub partners : (k : ℕ) → k < 24 → slice_index units k < 8 → HasPartner units k
 
-corner_fills : (p : ℕ) → p < 8 → units_filled p ≡ 2
+corner_fills : (p : ℕ) → p < 8 → (let filled : ℕ = cond (is_corner p) 2 1 in filled ≡ 2)
 corner_fills p lt = cond-true {A = ℕ} (is_corner p) 2 1 (lt-ltb p 8 lt)
 
-edge_fills : (p : ℕ) → 8 ≤ p → units_filled p ≡ 1
+edge_fills : (p : ℕ) → 8 ≤ p → (let filled : ℕ = cond (is_corner p) 2 1 in filled ≡ 1)
 edge_fills p le = cond-false {A = ℕ} (is_corner p) 2 1 (le-ltb p 8 le)
 
 -- ---- from valid states
@@ -62,13 +62,28 @@ pub record IsOpen (units : List ℕ) : Type 0 where
   pub bottom_front : IsTrue (are_of_one_corner units 23 12) → ⊥
   pub bottom_back : IsTrue (are_of_one_corner units 17 18) → ⊥
 
+-- the same four tests, those of one layer together
+pub is_open-layers : (units : List ℕ) → is_open units
+    ≡ ((not (are_of_one_corner units 11 0) && not (are_of_one_corner units 5 6))
+    && (not (are_of_one_corner units 23 12) && not (are_of_one_corner units 17 18)))
+is_open-layers units =
+    two_and_two (not (are_of_one_corner units 11 0)) (not (are_of_one_corner units 5 6)) (not (are_of_one_corner units 23 12))
+    (not (are_of_one_corner units 17 18))
+  where
+    two_and_two : (a b c d : Bool) → (a && (b && (c && (d && true)))) ≡ ((a && b) && (c && d))
+    two_and_two true true true true = refl
+    two_and_two true true true false = refl
+    two_and_two true true false d = refl
+    two_and_two true false c d = refl
+    two_and_two false b c d = refl
+
 pub IsOpen-test : (units : List ℕ) → IsTrue (is_open units) → IsOpen units
 IsOpen-test units h =
     let a = are_of_one_corner units 11 0 in
     let b = are_of_one_corner units 5 6 in
     let c = are_of_one_corner units 23 12 in
     let d = are_of_one_corner units 17 18 in
-    let both = and_parts (not a && not b) (not c && not d) h in
+    let both = and_parts (not a && not b) (not c && not d) (sym (is_open-layers units) ∙ h) in
     let top = and_parts (not a) (not b) both.0 in
     let bottom = and_parts (not c) (not d) both.1 in
     record { top_back = not_true a top.0; top_front = not_true b top.1; bottom_front = not_true c bottom.0; bottom_back = not_true d bottom.1 }
@@ -79,7 +94,8 @@ is_open-from units o =
     let b = are_of_one_corner units 5 6 in
     let c = are_of_one_corner units 23 12 in
     let d = are_of_one_corner units 17 18 in
-    and_from (not a && not b) (not c && not d)
+    is_open-layers units
+    ∙ and_from (not a && not b) (not c && not d)
     (and_from (not a) (not b) (not_false a o.top_back) (not_false b o.top_front))
     (and_from (not c) (not d) (not_false c o.bottom_front) (not_false d o.bottom_back))
 

@@ -32,19 +32,16 @@ laid (false ∷ w) cs (e ∷ es) = (8 + e) ∷ laid w cs es
 unfoldable pub shape_word : List ℕ → List Bool
 shape_word hs = flat_map half_word hs
 
--- How many digits of the equator, of lists of corners, of lists of edges and of shapes there are.
-abbrev pub sq1_bases : List ℕ
-sq1_bases = 2 ∷ 40320 ∷ 40320 ∷ 3678 ∷ []
-
 -- The equator, the numbers of the list of corners and of the list of edges, and the number of the shape.
 unfoldable pub sq1_digits : Sq1State → List ℕ
 sq1_digits s =
     (if s.equator then 1 else 0) ∷ permutation_number (corners_of s.units) ∷ permutation_number (edges_of s.units)
     ∷ shape_number (shape_of s.units) ∷ []
 
--- The numbered states of a Square-1, 11,958,666,854,400 of them: the equator is the least digit.
+-- The numbered states of a Square-1, 11,958,666,854,400 of them, by how many digits there are of each kind: the equator is the
+-- least digit.
 abbrev pub sq1_numbers : Numbers Sq1State
-sq1_numbers = numbers_by_digits sq1_bases sq1_digits IsSq1
+sq1_numbers = numbers_by_digits (2 ∷ 40320 ∷ 40320 ∷ 3678 ∷ []) sq1_digits IsSq1
 
 unfoldable pub sq1_of_digits : List ℕ → Sq1State
 sq1_of_digits ds = record {
@@ -54,4 +51,4 @@ sq1_of_digits ds = record {
 
 -- and with the state of each number
 abbrev pub sq1_numbered : Numbered Sq1State
-sq1_numbered = numbered_by_digits sq1_bases sq1_of_digits sq1_digits IsSq1
+sq1_numbered = numbered_by_digits (2 ∷ 40320 ∷ 40320 ∷ 3678 ∷ []) sq1_of_digits sq1_digits IsSq1

@@ -5,7 +5,8 @@
 -- on. So the cut parts units 11 and 0, 5 and 6, 23 and 12, 17 and 18, and at its right are units 0 to 5 and 12 to 17. The
 -- pieces 0 to 7 are corners, and fill two neighbouring units of one layer; 8 to 15 are edges, and fill one. Between the
 -- layers is the equator, whose right half is turned over at each twist.
-use Rattle.std.specs.Prelude.{◌≡◌, ℕ, ◌+◌, ◌-◌, ◌%◌, ◌<◌, ℤ, pos, negsuc, Bool, false, not, ◌==◌, ◌&&◌, ◌||◌, nat_lt, if◌then◌else◌, IsTrue, List, [], ◌∷◌, length, map, slice_index, Option, Some, None}
+use Rattle.std.specs.Prelude.{◌≡◌, ℕ, ◌+◌, ◌-◌, ◌%◌, ◌<◌, ℤ, pos, negsuc, Bool, false, not, ◌==◌, ◌&&◌, ◌||◌, nat_lt, if◌then◌else◌, IsTrue, List, [], ◌∷◌, ◌++◌, length, map, slice_index, Option, Some, None}
+use Rattle.std.specs.List.{list_all}
 use Rattle.scr_combinatorics.specs.Lists.{occurrences, numbers_from, pick}
 use Rattle.scr_combinatorics.specs.Reach.{Puzzle}
 use Rattle.scr_notation.specs.declared.turn.Turn.{Turn}
@@ -39,21 +40,15 @@ fills_neighbour units k =
 abbrev pub are_of_one_corner : List ℕ → ℕ → ℕ → Bool
 are_of_one_corner units j k = is_corner (slice_index units j) && (slice_index units k == slice_index units j)
 
--- No corner lies across the cut.
+-- No corner lies across the cut, in one of these units and the one behind it.
 abbrev pub is_open : List ℕ → Bool
-is_open units =
-    (not (are_of_one_corner units 11 0) && not (are_of_one_corner units 5 6))
-    && (not (are_of_one_corner units 23 12) && not (are_of_one_corner units 17 18))
-
--- how many units a piece fills
-abbrev pub units_filled : ℕ → ℕ
-units_filled piece = if is_corner piece then 2 else 1
+is_open units = list_all (λ k. not (are_of_one_corner units k (next_unit k))) (11 ∷ 5 ∷ 23 ∷ 17 ∷ [])
 
 -- What can be put together, and can twist: each of the sixteen pieces is there, a corner's two units are neighbours, and no
 -- corner lies across the cut.
 pub record IsSq1 (s : Sq1State) : Type 0 where
   pub size : length s.units ≡ 24
-  pub pieces : (p : ℕ) → p < 16 → occurrences p s.units ≡ units_filled p
+  pub pieces : (p : ℕ) → p < 16 → occurrences p s.units ≡ (if is_corner p then 2 else 1)
   pub neighbours : (k : ℕ) → k < 24 → IsTrue (is_corner (slice_index s.units k)) → IsTrue (fills_neighbour s.units k)
   pub opened : IsTrue (is_open s.units)
 
@@ -76,16 +71,13 @@ clockwise (negsuc n) = 11 - n % 12
 abbrev pub place_before : ℕ → ℕ → ℕ → ℕ
 place_before top bottom k = if nat_lt k 12 then (k + (12 - top)) % 12 else 12 + (k + (12 - bottom)) % 12
 
--- the same when the half at the right of the cut is turned over: its top and its bottom units are exchanged
-abbrev pub place_before_twist : ℕ → ℕ
-place_before_twist k = if nat_lt k 6 then k + 12 else (if nat_lt k 12 then k else (if nat_lt k 18 then k - 12 else k))
-
 -- the places of all units
 unfoldable pub turn_places : ℕ → ℕ → List ℕ
 turn_places top bottom = map (place_before top bottom) (numbers_from 0 24)
 
+-- the same when the half at the right of the cut is turned over: its top and its bottom units are exchanged
 unfoldable pub twist_places : List ℕ
-twist_places = map place_before_twist (numbers_from 0 24)
+twist_places = numbers_from 12 6 ++ numbers_from 6 6 ++ numbers_from 0 6 ++ numbers_from 18 6
 
 -- the layers turned by so many twelfths, whether or not that is barred
 unfoldable pub turned : Sq1State → ℤ → ℤ → Sq1State
