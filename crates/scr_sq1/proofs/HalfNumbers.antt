@@ -1,11 +1,12 @@
 -- The numbers of halves with so many corners, and so of shapes.
-use Rattle.std.proofs.Common.{◌≡◌, ℕ, zero, suc, ◌+◌, ◌-◌, ◌<◌, ◌≤◌, inl, inr, List, [], ◌∷◌, map, length, take, slice_index, refl, sym, ap, ◌∙◌, subst, arith}
+use Rattle.std.proofs.Common.{◌≡◌, ℕ, zero, suc, ◌+◌, ◌-◌, ◌<◌, ◌≤◌, inl, inr, cond, List, [], ◌∷◌, map, length, take, slice_index, refl, sym, ap, ◌∙◌, subst, arith}
 use Rattle.std.specs.Prelude.{◌==◌, nat_le, nat_lt}
 use Rattle.std.proofs.lemmas.Bool.{cases_eq, cases_lt, lt-ltb, le-ltb, le-leb, lt-leb, eq-eqb, ne_eqb, cond-true, cond-false}
 use Rattle.std.proofs.lemmas.List.Elements.{All-nil, All-cons, All-head, All-tail}
 use Rattle.scr_combinatorics.specs.Lists.{total, ComesBefore}
 use Rattle.scr_combinatorics.specs.Numbering.{IsOneToOne}
-use Rattle.scr_sq1.specs.Shapes.{half_words, corner_counts, corner_count, AreHalves, IsShape, ways_to_have, ways_after, halves_number, shape_number, run_of, halves_at, shape_at, shape_count}
+use Rattle.scr_sq1.specs.Shapes.{half_words, corner_counts, AreHalves, IsShape, ways_after, halves_number, shape_number, run_of, halves_at, shape_at, shape_count}
+use Rattle.scr_sq1.proofs.HalfWords.{corner_count}
 
 -- ---- runs of so many numbers
 
@@ -68,7 +69,6 @@ unfolding half_words corner_counts
 length-corner_counts = refl
 
 pub corner_count-at : (h : ℕ) → slice_index corner_counts h ≡ corner_count h
-unfolding corner_count
 corner_count-at h = refl
 
 -- a first half and those behind it
@@ -91,15 +91,37 @@ AreHalves-starts n c h hs s = record {
   corners = omega (arith, s.few, s.others.corners);
 }
 
+-- in how many ways n halves can have c corners in all
+abbrev pub ways_to_have : ℕ → ℕ → ℕ
+ways_to_have n c = ways_after n c 0
+
+ways-none : (c : ℕ) → ways_to_have zero c ≡ cond (c == 0) 1 0
+unfolding ways_after
+ways-none c = refl
+
 ways-suc : (n c : ℕ) → ways_to_have (suc n) c ≡ total (map (ways_after n c) corner_counts)
-unfolding ways_to_have
-ways-suc n c = refl
+unfolding ways_after
+ways-suc n c =
+    cond-true (nat_le 0 c) (total (map (ways_after n (c - 0)) corner_counts)) 0 (le-leb 0 c (omega arith))
+    ∙ ap (λ m. total (map (ways_after n m) corner_counts)) {x = c - 0} {y = c} (omega arith)
 
 pub ways_after-few : (n c k : ℕ) → k ≤ c → ways_after n c k ≡ ways_to_have n (c - k)
-ways_after-few n c k le = cond-true (nat_le k c) (ways_to_have n (c - k)) 0 (le-leb k c le)
+unfolding ways_after
+ways_after-few zero c k le =
+    elim (cases_eq c k) [
+      | inl same ↦
+          cond-true {A = ℕ} (c == k) 1 0 (eq-eqb c k same) ∙ sym (cond-true {A = ℕ} (c - k == 0) 1 0 (eq-eqb (c - k) 0 (omega arith)))
+      | inr more ↦
+          cond-false {A = ℕ} (c == k) 1 0 (ne_eqb c k more)
+          ∙ sym (cond-false {A = ℕ} (c - k == 0) 1 0 (ne_eqb (c - k) 0 (λ none. more (omega arith))))
+    ]
+ways_after-few (suc n) c k le =
+    cond-true (nat_le k c) (total (map (ways_after n (c - k)) corner_counts)) 0 (le-leb k c le) ∙ sym (ways-suc n (c - k))
 
 pub ways_after-many : (n c k : ℕ) → c < k → ways_after n c k ≡ 0
-ways_after-many n c k lt = cond-false (nat_le k c) (ways_to_have n (c - k)) 0 (lt-leb k c lt)
+unfolding ways_after
+ways_after-many zero c k lt = cond-false {A = ℕ} (c == k) 1 0 (ne_eqb c k (λ same. omega arith))
+ways_after-many (suc n) c k lt = cond-false (nat_le k c) (total (map (ways_after n (c - k)) corner_counts)) 0 (lt-leb k c lt)
 
 -- the numbers before those of lists that begin with a half
 abbrev pub numbers_before : ℕ → ℕ → ℕ → ℕ
@@ -121,8 +143,8 @@ run_within n c h lt few =
     )
 
 pub halves_number-lt : (n c : ℕ) (hs : List ℕ) → AreHalves n c hs → halves_number c hs < ways_to_have n c
-unfolding ways_to_have halves_number
-halves_number-lt zero c [] a = omega (arith, cond-true {A = ℕ} (c == 0) 1 0 (eq-eqb c 0 (sym a.corners)))
+unfolding halves_number
+halves_number-lt zero c [] a = omega (arith, ways-none c, cond-true {A = ℕ} (c == 0) 1 0 (eq-eqb c 0 (sym a.corners)))
 halves_number-lt zero c (h ∷ hs) a = absurd (omega (arith, a.size))
 halves_number-lt (suc n) c [] a = absurd (omega (arith, a.size))
 halves_number-lt (suc n) c (h ∷ hs) a =
@@ -174,12 +196,12 @@ pub record HasNumber (n c r : ℕ) (hs : List ℕ) : Type 0 where
   pub number : halves_number c hs ≡ r
 
 pub HasNumber-at : (n c r : ℕ) → r < ways_to_have n c → HasNumber n c r (halves_at n c r)
-unfolding ways_to_have halves_number halves_at
+unfolding halves_number halves_at
 HasNumber-at zero c r lt =
-    let none : c ≡ 0 = elim (cases_eq c 0) [ inl e ↦ e | inr some ↦ absurd (omega (arith, cond-false {A = ℕ} (c == 0) 1 0 (ne_eqb c 0 some))) ] in
+    let none : c ≡ 0 = elim (cases_eq c 0) [ inl e ↦ e | inr some ↦ absurd (omega (arith, ways-none c, cond-false {A = ℕ} (c == 0) 1 0 (ne_eqb c 0 some))) ] in
     record {
       halves = record { size = refl; below = All-nil (λ h. h < 13); corners = sym none };
-      number = omega (arith, cond-true {A = ℕ} (c == 0) 1 0 (eq-eqb c 0 none));
+      number = omega (arith, ways-none c, cond-true {A = ℕ} (c == 0) 1 0 (eq-eqb c 0 none));
     }
 HasNumber-at (suc n) c r lt =
     let f = first_half n c r lt in
@@ -213,7 +235,7 @@ halves_at-number (suc n) c (h ∷ hs) a =
 -- ---- shapes
 
 pub ways_of_shapes : ways_to_have 4 8 ≡ 3678
-unfolding half_words corner_counts ways_to_have
+unfolding half_words corner_counts ways_after
 ways_of_shapes = refl
 
 -- shapes are numbered by the numbers below their count

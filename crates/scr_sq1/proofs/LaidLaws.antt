@@ -8,8 +8,9 @@ use Rattle.std.proofs.Math.Nat.{add-sub_cancel_left}
 use Rattle.scr_combinatorics.specs.Lists.{occurrences}
 use Rattle.scr_combinatorics.proofs.Counts.{one_if}
 use Rattle.scr_sq1.specs.Units.{is_corner}
-use Rattle.scr_sq1.specs.Shapes.{corners_among, edges_among, units_among, Fits, corner_bits, word_bits}
+use Rattle.scr_sq1.specs.Shapes.{corners_among, edges_among, units_among, Fits, corner_bits}
 use Rattle.scr_sq1.specs.Numbers.{every_second, corners_of, edges_of, laid}
+use Rattle.scr_sq1.proofs.HalfWords.{word_bits}
 
 pub corners_among-append : (v w : List Bool) → corners_among (v ++ w) ≡ corners_among v + corners_among w
 corners_among-append [] w = omega arith

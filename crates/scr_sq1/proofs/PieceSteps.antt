@@ -7,9 +7,9 @@ use Rattle.scr_notation.specs.Ranges.{all_below}
 use Rattle.scr_notation.proofs.Below.{at_below}
 use Rattle.scr_sq1.specs.declared.pieces.TheConstants.{HALVES}
 use Rattle.scr_sq1.specs.Units.{is_corner}
-use Rattle.scr_sq1.specs.Shapes.{half_words, half_word, corners_among, corner_counts, corner_count, IsShape, edges_among}
+use Rattle.scr_sq1.specs.Shapes.{half_words, half_word, corners_among, corner_counts, IsShape, edges_among}
 use Rattle.scr_sq1.specs.Numbers.{every_second, corners_of, edges_of, shape_word}
-use Rattle.scr_sq1.proofs.HalfWords.{same_word, same_word-true}
+use Rattle.scr_sq1.proofs.HalfWords.{corner_count, same_word, same_word-true}
 use Rattle.scr_sq1.proofs.HalfByHalf.{shape_word-cons}
 use Rattle.scr_sq1.proofs.StatePieces.{AreCounted-halves}
 
@@ -19,7 +19,7 @@ known_word : ℕ → Bool
 known_word h = (length (half_word h) == 6 - corner_count h) && same_word (take (length (half_word h)) (get_or HALVES h [])) (half_word h)
 
 known_words : IsTrue (all_below known_word 13)
-unfolding all_below known_word same_word half_words half_word corner_counts corner_count
+unfolding all_below known_word same_word half_words half_word corner_counts
 known_words = refl
 
 pub record IsKnownWord (h : ℕ) : Type 0 where

@@ -11,8 +11,9 @@ use Rattle.scr_combinatorics.proofs.Counts.{one_if-le_one}
 use Rattle.scr_combinatorics.specs.Permutations.{place_of}
 use Rattle.scr_sq1.specs.declared.shapes.TheConstants.{CORNERS, WAYS, HALF_OF_BITS}
 use Rattle.scr_sq1.specs.Units.{is_corner}
-use Rattle.scr_sq1.specs.Shapes.{half_words, corner_counts, corner_count, corner_bits, half_bits, half_of, halves_in, shape_of, ways_to_have, ways_after, run_of, AreHalves, IsShape, halves_number, halves_at, shape_number, shape_at}
-use Rattle.scr_sq1.proofs.HalfNumbers.{run_of-here, run_of-later, StartsWith-halves, halves_number-cons, numbers_before, shapes_one_to_one, ways_of_shapes, first_half, halves_at-suc}
+use Rattle.scr_sq1.specs.Shapes.{half_words, corner_counts, corner_bits, half_of, shape_of, ways_after, run_of, AreHalves, IsShape, halves_number, halves_at, shape_number, shape_at}
+use Rattle.scr_sq1.proofs.HalfNumbers.{ways_to_have, run_of-here, run_of-later, StartsWith-halves, halves_number-cons, numbers_before, shapes_one_to_one, ways_of_shapes, first_half, halves_at-suc}
+use Rattle.scr_sq1.proofs.HalfWords.{corner_count, half_bits, half_of-bits, halves_in, shape_of-halves}
 
 -- ---- the tables
 
@@ -21,7 +22,7 @@ unfolding half_words corner_counts
 corners_table = refl
 
 ways_tables : IsTrue (all_below (λ n. all_below (λ c. get_or (get_or WAYS n []) c 0 == ways_to_have n c) 9) 4)
-unfolding all_below half_words corner_counts ways_to_have
+unfolding all_below half_words corner_counts ways_after
 ways_tables = refl
 
 pub ways_table : (n c : ℕ) → n ≤ 3 → c ≤ 8 → get_or (get_or WAYS n []) c 0 ≡ ways_to_have n c
@@ -31,7 +32,6 @@ ways_table n c ln lc =
     (at_below (λ n. all_below (λ c. get_or (get_or WAYS n []) c 0 == ways_to_have n c) 9) 4 n ways_tables (omega arith)) (omega arith))
 
 pub corners_table-at : (h : ℕ) → get_or CORNERS h 0 ≡ corner_count h
-unfolding corner_count
 corners_table-at h = ap (λ xs. get_or xs h 0) corners_table
 
 pub corners_table-listed : (h : ℕ) → get_or CORNERS h 0 ≡ slice_index corner_counts h
@@ -41,11 +41,10 @@ half_tables : IsTrue (all_below (λ b. get_or HALF_OF_BITS b 0 == place_of b hal
 unfolding all_below half_words half_bits
 half_tables = refl
 
-pub half_table : (units : List ℕ) (b : ℕ) → b ≡ corner_bits units → b < 64 → get_or HALF_OF_BITS b 0 ≡ half_of units
-unfolding half_of
-half_table units b e lt =
+pub half_table : (units : List ℕ) (b : ℕ) → length units ≡ 6 → b ≡ corner_bits units → b < 64 → get_or HALF_OF_BITS b 0 ≡ half_of units
+half_table units b six e lt =
     eqb-true (get_or HALF_OF_BITS b 0) (place_of b half_bits) (at_below (λ b. get_or HALF_OF_BITS b 0 == place_of b half_bits) 64 b half_tables lt)
-    ∙ ap (λ i. place_of i half_bits) e
+    ∙ ap (λ i. place_of i half_bits) e ∙ sym (half_of-bits units six)
 
 -- ---- the bits of six units
 
@@ -172,8 +171,7 @@ pub record ReadHalves (place n : ℕ) (units halves : List ℕ) : Type 0 where
   pub read : take place halves ++ halves_in n (drop (6 * place) units) ≡ shape_of units
 
 pub read_start : (units : List ℕ) → ReadHalves 0 4 units (0 ∷ 0 ∷ 0 ∷ 0 ∷ [])
-unfolding shape_of
-read_start units = record { size = refl; read = refl }
+read_start units = record { size = refl; read = sym (shape_of-halves units) }
 
 pub read_step : (place n h : ℕ) (units halves : List ℕ) → place < 4 → ReadHalves place (suc n) units halves
     → h ≡ half_of (take 6 (drop (6 * place) units)) → ReadHalves (place + 1) n units (set halves place h)

@@ -120,16 +120,13 @@ paired_at bits pairs =
     slice_index smaller (slice_index standing pair) + 2 * ((slice_index turned pair + slice_index is_larger place) % 2))
     (numbers_from 0 8)
 
--- The edges' bits of the first three pairs, their list of pairs, the corners' bits and their list of pairs. The edges' last bit is
--- told by the others, since both lists have one parity.
-abbrev pub square_bases : List ℕ
-square_bases = 8 ∷ 24 ∷ 16 ∷ 24 ∷ []
-
+-- The edges' bits of the first three pairs, their list of pairs, the corners' bits and their list of pairs, and how many there
+-- are of each. The edges' last bit is told by the others, since both lists have one parity.
 unfoldable pub square_index : Sq1State → ℕ
 square_index s =
     let cs : List ℕ = corners_of s.units in
     let es : List ℕ = edges_of s.units in
-    mixed_number square_bases (bits_number es % 8 ∷ pairs_number es ∷ bits_number cs ∷ pairs_number cs ∷ [])
+    mixed_number (8 ∷ 24 ∷ 16 ∷ 24 ∷ []) (bits_number es % 8 ∷ pairs_number es ∷ bits_number cs ∷ pairs_number cs ∷ [])
 
 -- the bit that makes a list of bits even
 abbrev pub last_bit : ℕ → ℕ → ℕ
@@ -138,7 +135,7 @@ last_bit edge_bits corner_bits =
 
 unfoldable pub square_state : ℕ → Sq1State
 square_state i =
-    let ds : List ℕ = mixed_digits square_bases i in
+    let ds : List ℕ = mixed_digits (8 ∷ 24 ∷ 16 ∷ 24 ∷ []) i in
     let bits : ℕ = slice_index ds 0 + 8 * last_bit (slice_index ds 0) (slice_index ds 2) in
     record {
       units = laid (shape_word (shape_of solved_sq1.units)) (paired_at (slice_index ds 2) (slice_index ds 3)) (paired_at bits (slice_index ds 1));
