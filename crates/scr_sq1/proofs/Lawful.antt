@@ -28,6 +28,7 @@ use Rattle.scr_sq1.specs.Units.{Sq1State, IsSq1, is_open, solved_sq1, clockwise,
 use Rattle.scr_sq1.specs.Shapes.{half_words, half_word, corner_counts, IsShape}
 use Rattle.scr_sq1.specs.Numbers.{shape_word}
 use Rattle.scr_sq1.proofs.StatePieces.{LaidState-pieces}
+use Rattle.scr_sq1.proofs.InHalves.{is_open-valid}
 use Rattle.scr_sq1.proofs.Places.{IsTurnTable-turn, turn_places-both, turn_places-none, twist_places-twice, IsPermutation-twist_places}
 use Rattle.scr_sq1.proofs.TurnLaws.{IsSq1-moved, IsSq1-twisted}
 use Rattle.scr_sq1.proofs.Clockwise.{clockwise-lt, clockwise-twelfths, clockwise-sum, clockwise-back}
@@ -167,7 +168,7 @@ undoes s r (Layers x y) h e =
     let a = sq1_after-layers s r x y e in
     let back : turned r (twelfths (neg_ℤ x)) (twelfths (neg_ℤ y)) ≡ s =
     ap (λ q. turned q (twelfths (neg_ℤ x)) (twelfths (neg_ℤ y))) a.is ∙ turned-back s x y h.size in
-    sq1_after-by_layers r (twelfths (neg_ℤ x)) (twelfths (neg_ℤ y)) (permits-opposite Sq1 (Layers x y) a.letter) (ap (λ q. is_open q.units) back ∙ h.opened)
+    sq1_after-by_layers r (twelfths (neg_ℤ x)) (twelfths (neg_ℤ y)) (permits-opposite Sq1 (Layers x y) a.letter) (ap (λ q. is_open q.units) back ∙ is_open-valid s h)
     ∙ ap Some back
 undoes s r Twist h e = ap (λ q. Some (twisted q)) (sq1_after-twist s r e) ∙ ap Some (twisted-twice s h.size)
 undoes s r _ h e = absurd (cc)

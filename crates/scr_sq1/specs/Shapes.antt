@@ -1,27 +1,27 @@
 -- The shapes of a Square-1, which say where corners and edges lie, and their numbers.
 --
--- No corner lies across the cut, so that each half of a layer is filled by whole pieces. A shape is the list of the halves top
--- right, top left, bottom right and bottom left.
+-- No corner lies across the cut, so that each half of a layer is filled by whole pieces. A shape is the list of the
+-- halves top right, top left, bottom right and bottom left.
 use Rattle.std.specs.Prelude.{◌≡◌, ℕ, zero, suc, ◌+◌, ◌-◌, ◌*◌, ◌/◌, ◌<◌, Bool, true, false, ◌==◌, nat_le, nat_lt, if◌then◌else◌, List, [], ◌∷◌, length, map, take, drop, slice_index, slice_index_or, codes, All}
 use Rattle.std.specs.List.{position_or_len}
 use Rattle.std.specs.Str.{bytes_eq}
 use Rattle.scr_combinatorics.specs.Lists.{total, occurrences, numbers_from, pick}
 use Rattle.scr_sq1.specs.Units.{is_corner}
 
--- What fills the six units of a half, clockwise: c is a unit of a corner, which fills two of them, and e an edge. There is no
--- other way to fill a half, and these are the numbers of the halves, from 0 to 12.
+-- What fills the six units of a half, clockwise: c is a unit of a corner, which fills two of them, and e an edge. There
+-- is no other way to fill a half, and these are the numbers of the halves, from 0 to 12.
 unfoldable pub half_words : List (List ℕ)
 half_words =
     codes "eeeeee" ∷ codes "cceeee" ∷ codes "ecceee" ∷ codes "eeccee" ∷ codes "eeecce" ∷ codes "eeeecc" ∷ codes "ccccee"
     ∷ codes "ccecce" ∷ codes "cceecc" ∷ codes "ecccce" ∷ codes "eccecc" ∷ codes "eecccc" ∷ codes "cccccc" ∷ []
 
--- how many corners each half has
+-- how many corners each half has: 99 is the letter c
 unfoldable pub corner_counts : List ℕ
 corner_counts = map (λ word. occurrences 99 word / 2) half_words
 
 -- ---- the shape of a state
 
--- the half that six units are
+-- the half that six units are, each written as c or e: 99 and 101 are these letters
 unfoldable pub half_of : List ℕ → ℕ
 half_of units = position_or_len (bytes_eq (map (λ piece. if is_corner piece then 99 else 101) units)) half_words
 
@@ -36,8 +36,8 @@ unfoldable pub ways_after : ℕ → ℕ → ℕ → ℕ
 ways_after zero c k = if c == k then 1 else 0
 ways_after (suc n) c k = if nat_le k c then total (map (ways_after n (c - k)) corner_counts) else 0
 
--- The number of some halves among all lists of as many with c corners, from 0: for each lower first half, all lists that
--- begin with it come before.
+-- The number of some halves among all lists of as many with c corners, from 0: for each lower first half, all lists
+-- that begin with it come before.
 unfoldable pub halves_number : ℕ → List ℕ → ℕ
 halves_number c [] = 0
 halves_number c (h ∷ hs) =

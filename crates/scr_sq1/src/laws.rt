@@ -1,7 +1,7 @@
 //! What holds of the Square-1 whatever the code: calls that do nothing, whose contracts are the laws.
 //!
 //! That Square-1s are drawn fairly is the law of `scr_draw` for any event that it draws.
-ghost use Rattle.std.specs.Prelude.{◌≡◌, ◌↔◌, ℕ, ◌+◌, ◌*◌, ◌%◌, ◌<◌, ◌≤◌, ℤ, pos, Bool, true, false, not, List, [], ◌∷◌, ◌++◌, length, slice_index, All, Some, None, option_map, codes};
+ghost use Rattle.std.specs.Prelude.{◌≡◌, ◌↔◌, IsTrue, ℕ, ◌+◌, ◌*◌, ◌%◌, ◌<◌, ◌≤◌, ℤ, pos, Bool, true, false, not, List, [], ◌∷◌, ◌++◌, length, slice_index, All, Some, None, option_map, codes};
 ghost use Rattle.scr_combinatorics.specs.Lists.{ComesBefore};
 ghost use Rattle.scr_combinatorics.specs.Permutations.{factorial};
 ghost use Rattle.scr_combinatorics.specs.Numbering.{IsOneToOne, IsNumbering};
@@ -20,12 +20,14 @@ ghost use Rattle.scr_sq1.specs.Numbers.{sq1_numbered};
 ghost use Rattle.scr_sq1.specs.Known.{anticlockwise, slices, IsKnownWord, ReturnsAfter, solved_top, solved_bottom, layers, parity_word, long_word, barred_units, impossible_units, AreOfNoState, HasShape, turned_over_sq1};
 
 /// The turns are lawful: they keep states valid, each is undone by its opposite, and two turns of the layers one after the other
-/// come to one or to none, as two twists come to none. So words are taken back and tidied, and what turns reach is valid.
+/// come to one or to none, as two twists come to none. So words are taken back and tidied, and what turns reach is valid. No corner
+/// of a valid state lies across the cut.
 pub fn turns()
     ensures lawful { IsLawful sq1_after opposite turn_merging IsSq1 }
     ensures taken_back { IsTakenBack sq1_after opposite IsSq1 }
     ensures tidied { IsKeptByTidy sq1_after turn_merging IsSq1 }
     ensures reached { (s : Sq1State) → IsReached sq1_puzzle s → IsSq1 s }
+    ensures opened { (s : Sq1State) → IsSq1 s → IsTrue (is_open s.units) }
 {}
 
 /// Turns lead from a state nowhere exactly where one of them, in its place, is no turn of the event or would turn a corner

@@ -9,7 +9,7 @@ use Rattle.scr_notation.specs.declared.turn.Turn.{Turn}
 use Rattle.scr_notation.specs.declared.turn.Turn.TheVariants.{Layers, Twist}
 use Rattle.scr_sq1.specs.Units.{Sq1State, IsSq1, is_open, are_of_one_corner, turn_places, twist_places, turned, twisted}
 use Rattle.scr_sq1.specs.Units.{sq1_after}
-use Rattle.scr_sq1.proofs.InHalves.{is_open-layers}
+use Rattle.scr_sq1.proofs.InHalves.{is_open-layers, is_open-valid}
 use Rattle.scr_sq1.proofs.Lawful.{IsLawful-sq1, sq1_after-by_layers}
 use Rattle.scr_sq1solve.specs.Stages.{equator_word}
 
@@ -36,7 +36,7 @@ half_open us h =
 
 after_half : (s : Sq1State) → IsSq1 s → sq1_after s (Layers (pos 6) (pos 0)) ≡ Some (half_turned s)
 unfolding half_turned turned
-after_half s valid = sq1_after-by_layers s (pos 6) (pos 0) refl (half_open s.units valid.opened)
+after_half s valid = sq1_after-by_layers s (pos 6) (pos 0) refl (half_open s.units (is_open-valid s valid))
 
 after_twist : (s : Sq1State) → sq1_after s Twist ≡ Some (twisted s)
 unfolding sq1_after

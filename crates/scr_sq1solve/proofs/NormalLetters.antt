@@ -84,7 +84,7 @@ module _ (letter : ℕ → List Turn) (tested : IsTrue (are_normal letter)) wher
             even = omega (arith, oddness-renamed names m.state are m.are.valid, m.are.normal.even, h.normal.even);
           };
         };
-        corners = corners_of-named names are m.state.units ∙ ap (λ us. pick names.corners (corners_of us)) (sym (units-made n lt));
+        corners = corners_of-named names are m.state.units (StatePieces-valid m.state m.are.valid).corner_units ∙ ap (λ us. pick names.corners (corners_of us)) (sym (units-made n lt));
         edges = edges_of-named names are m.state.units ∙ ap (λ us. pick names.edges (edges_of us)) (sym (units-made n lt));
       }
 
