@@ -1,18 +1,17 @@
 -- The tables of the halves, and the steps of the loops over shapes.
-use Rattle.std.proofs.Common.{◌≡◌, ℕ, zero, suc, ◌+◌, ◌-◌, ◌*◌, ◌^◌, ◌<◌, ◌≤◌, IsTrue, List, [], ◌∷◌, ◌++◌, map, length, take, drop, get_or, set, slice_index, refl, sym, ap, ◌∙◌, subst, arith, eqb-true, lit≤}
+use Rattle.std.proofs.Common.{◌≡◌, ℕ, zero, suc, ◌+◌, ◌-◌, ◌*◌, ◌^◌, ◌<◌, ◌≤◌, IsTrue, List, [], ◌∷◌, ◌++◌, length, take, drop, get_or, set, slice_index, refl, sym, ap, ◌∙◌, subst, arith, eqb-true, lit≤}
 use Rattle.std.specs.Prelude.{◌==◌}
 use Rattle.std.proofs.lemmas.List.{length-drop, drop-drop, length-set, take_all, append-nil, drop_more, take_more_set, append_assoc, at_drop_more, at_drop_all}
 use Rattle.std.proofs.lemmas.Nat.{pow_pos}
 use Rattle.std.proofs.Math.Nat.{pow-suc}
 use Rattle.scr_notation.specs.Ranges.{all_below}
 use Rattle.scr_notation.proofs.Below.{at_below}
-use Rattle.scr_combinatorics.specs.Lists.{total}
 use Rattle.scr_combinatorics.proofs.Counts.{one_if-le_one}
 use Rattle.scr_combinatorics.specs.Permutations.{place_of}
 use Rattle.scr_sq1.specs.declared.shapes.TheConstants.{CORNERS, WAYS, HALF_OF_BITS}
 use Rattle.scr_sq1.specs.Units.{is_corner}
-use Rattle.scr_sq1.specs.Shapes.{half_words, corner_counts, corner_bits, half_of, shape_of, ways_after, run_of, AreHalves, IsShape, halves_number, halves_at, shape_number, shape_at}
-use Rattle.scr_sq1.proofs.HalfNumbers.{ways_to_have, run_of-here, run_of-later, StartsWith-halves, halves_number-cons, numbers_before, shapes_one_to_one, ways_of_shapes, first_half, halves_at-suc}
+use Rattle.scr_sq1.specs.Shapes.{half_words, corner_counts, corner_bits, half_of, shape_of, ways_after, run_of, AreHalves, IsShape, halves_at, shape_number, shape_at}
+use Rattle.scr_sq1.proofs.HalfNumbers.{ways_to_have, halves_number, shape_number-halves, run_of-here, run_of-later, StartsWith-halves, halves_number-cons, numbers_before, shapes_one_to_one, ways_of_shapes, first_half, halves_at-suc}
 use Rattle.scr_sq1.proofs.HalfWords.{corner_count, half_bits, half_of-bits, halves_in, shape_of-halves}
 
 -- ---- the tables
@@ -71,12 +70,6 @@ run_of-found f ks i r lt less =
 pub run_of-end : (f : ℕ → ℕ) (ks : List ℕ) (i r : ℕ) → length ks ≤ i → (let p : ℕ × ℕ = (0, r) in run_of f (drop i ks) r ≡ p)
 run_of-end f ks i r le = at_drop_all (λ xs. run_of f xs r) ks i le
 
--- a sum with one run more
-pub total-more : (f : ℕ → ℕ) (ks : List ℕ) (i : ℕ) → i < length ks → total (map f (take (i + 1) ks)) ≡ total (map f (take i ks)) + f (slice_index ks i)
-total-more f [] i lt = absurd (omega arith)
-total-more f (k ∷ ks) zero lt = omega arith
-total-more f (k ∷ ks) (suc i) lt = omega (arith, total-more f ks i (omega arith), ap (λ n. total (map f (take n (k ∷ ks)))) {x = suc i + 1} {y = suc (i + 1)} (omega arith))
-
 -- ---- the number of a shape, half by half
 
 -- so many halves are left, and the number of those before them
@@ -86,8 +79,7 @@ pub record CountedHalves (n corners number : ℕ) (left hs : List ℕ) : Type 0 
   pub few : corners ≤ 8
 
 pub counted_start : (hs : List ℕ) → IsShape hs → CountedHalves 4 8 0 hs hs
-unfolding shape_number
-counted_start hs shape = record { halves = shape; counted = omega arith; few = lit≤ tt }
+counted_start hs shape = record { halves = shape; counted = omega (arith, shape_number-halves hs shape); few = lit≤ tt }
 
 -- one half less
 pub record CountedStep (n corners number h : ℕ) (others hs : List ℕ) : Type 0 where

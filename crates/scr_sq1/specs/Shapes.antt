@@ -2,7 +2,7 @@
 --
 -- No corner lies across the cut, so that each half of a layer is filled by whole pieces. A shape is the list of the
 -- halves top right, top left, bottom right and bottom left.
-use Rattle.std.specs.Prelude.{◌≡◌, ℕ, zero, suc, ◌+◌, ◌-◌, ◌*◌, ◌/◌, ◌<◌, Bool, true, false, ◌==◌, nat_le, nat_lt, if◌then◌else◌, List, [], ◌∷◌, length, map, take, drop, slice_index, slice_index_or, codes, All}
+use Rattle.std.specs.Prelude.{◌≡◌, ℕ, zero, suc, ◌+◌, ◌-◌, ◌*◌, ◌/◌, ◌<◌, Bool, true, false, ◌==◌, nat_le, nat_lt, if◌then◌else◌, List, [], ◌∷◌, length, map, filter, flat_map, take, drop, slice_index, slice_index_or, codes, All}
 use Rattle.std.specs.List.{position_or_len}
 use Rattle.std.specs.Str.{bytes_eq}
 use Rattle.scr_combinatorics.specs.Lists.{total, occurrences, numbers_from, pick}
@@ -29,22 +29,16 @@ half_of units = position_or_len (bytes_eq (map (λ piece. if is_corner piece the
 unfoldable pub shape_of : List ℕ → List ℕ
 shape_of units = map (λ k. half_of (take 6 (drop (6 * k) units))) (numbers_from 0 4)
 
--- ---- the numbers of shapes, in dictionary order
+-- ---- the numbers of shapes
 
--- in how many ways n halves can follow one that has k of c corners in all
-unfoldable pub ways_after : ℕ → ℕ → ℕ → ℕ
-ways_after zero c k = if c == k then 1 else 0
-ways_after (suc n) c k = if nat_le k c then total (map (ways_after n (c - k)) corner_counts) else 0
+-- all lists of so many halves, in dictionary order
+unfoldable pub halves_lists : ℕ → List (List ℕ)
+halves_lists zero = [] ∷ []
+halves_lists (suc n) = flat_map (λ h. map (λ hs. h ∷ hs) (halves_lists n)) (numbers_from 0 13)
 
--- The number of some halves among all lists of as many with c corners, from 0: for each lower first half, all lists
--- that begin with it come before.
-unfoldable pub halves_number : ℕ → List ℕ → ℕ
-halves_number c [] = 0
-halves_number c (h ∷ hs) =
-    total (map (ways_after (length hs) c) (take h corner_counts)) + halves_number (c - slice_index corner_counts h) hs
-
+-- the number of a shape: its place among the lists of four halves with eight corners in all
 unfoldable pub shape_number : List ℕ → ℕ
-shape_number hs = halves_number 8 hs
+shape_number hs = position_or_len (bytes_eq hs) (filter (λ gs. total (pick corner_counts gs) == 8) (halves_lists 4))
 
 -- ---- the shape of a number
 
@@ -61,6 +55,11 @@ IsShape hs = AreHalves 4 8 hs
 -- how many shapes there are
 abbrev pub shape_count : ℕ
 shape_count = 3678
+
+-- in how many ways n halves can follow one that has k of c corners in all
+unfoldable pub ways_after : ℕ → ℕ → ℕ → ℕ
+ways_after zero c k = if c == k then 1 else 0
+ways_after (suc n) c k = if nat_le k c then total (map (ways_after n (c - k)) corner_counts) else 0
 
 -- where a number falls among runs of so many numbers: in which run, and what is left of it there
 abbrev pub run_of : (ℕ → ℕ) → List ℕ → ℕ → ℕ × ℕ
