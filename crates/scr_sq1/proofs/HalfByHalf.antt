@@ -5,11 +5,11 @@ use Rattle.std.proofs.lemmas.Bool.{cases_lt}
 use Rattle.std.proofs.lemmas.List.{take-append-drop, length-take-le, length-drop, get_or-take, get_or-drop, get_or_append_left, get_or-append-add, take_at, drop_at, length-append, nil_from_length}
 use Rattle.std.proofs.lemmas.List.Elements.{All-nil, All-cons, All-head, All-tail, All-take, All-drop}
 use Rattle.scr_combinatorics.specs.Permutations.{place_of}
-use Rattle.scr_sq1.specs.Shapes.{half_word, corners_among, corner_count, corner_bits, half_bits, half_of, halves_in, AreHalves, edges_among, units_among, Fits}
+use Rattle.scr_sq1.specs.Shapes.{half_word, corners_among, corner_bits, half_of, AreHalves, edges_among, units_among, Fits}
 use Rattle.scr_sq1.specs.Numbers.{laid, shape_word}
 use Rattle.scr_sq1.proofs.InHalves.{HasPartner, InHalves, no_third}
 use Rattle.scr_sq1.proofs.LaidLaws.{corners_among-append, edges_among-append, length-laid, laid-append, corner_bits-laid, FillsNext, FillsNext-laid, IsLaid, IsLaid-none, IsLaid-append, IsWhole, LaidPieces-whole}
-use Rattle.scr_sq1.proofs.HalfWords.{half_of_word, IsHalf-word, IsKnownHalf-below}
+use Rattle.scr_sq1.proofs.HalfWords.{corner_count, half_bits, half_of_word, IsHalf-word, IsKnownHalf-below, half_of-bits, halves_in}
 
 pub shape_word-cons : (h : ℕ) (hs : List ℕ) → shape_word (h ∷ hs) ≡ half_word h ++ shape_word hs
 unfolding shape_word
@@ -87,14 +87,14 @@ record FirstPieces (us : List ℕ) : Type 0 where
   counted : corner_count (half_of (take 6 us)) ≡ length corners
 
 first_pieces : (n : ℕ) (us : List ℕ) → ArePaired (suc n) us → FirstPieces us
-unfolding half_of
 first_pieces n us h =
     let first : List ℕ = take 6 us in
     let p = LaidPieces-whole first (first_half n us h) in
     let six : units_among p.word ≡ 6 =
     sym (length-laid p.word p.corners p.edges p.are.fits) ∙ ap length (sym p.are.is) ∙ first_size n us h in
     let number : half_of first ≡ half_of_word p.word =
-    ap (λ bits. place_of bits half_bits) (ap corner_bits p.are.is ∙ corner_bits-laid p.word p.corners p.edges p.are.fits p.are.below) in
+    half_of-bits first (first_size n us h)
+    ∙ ap (λ bits. place_of bits half_bits) (ap corner_bits p.are.is ∙ corner_bits-laid p.word p.corners p.edges p.are.fits p.are.below) in
     let half = IsHalf-word p.word six in
     let word : p.word ≡ half_word (half_of first) = sym half.again ∙ ap half_word (sym number) in
     let low : half_of first < 13 = omega (arith, number, half.below) in
@@ -187,7 +187,7 @@ pub record ShapeUnits (hs cs es : List ℕ) : Type 0 where
   pub halves : halves_in (length hs) (laid (shape_word hs) cs es) ≡ hs
 
 pub ShapeUnits-laid : (hs cs es : List ℕ) → All (λ h. h < 13) hs → All (λ c. c < 8) cs → Fits (shape_word hs) cs es → ShapeUnits hs cs es
-unfolding halves_in half_of
+unfolding halves_in
 ShapeUnits-laid [] cs es low below f = record { partners = λ k lt. absurd (omega arith); halves = refl }
 ShapeUnits-laid (h ∷ hs) cs es low below f =
     let w = half_word h in
@@ -216,6 +216,6 @@ ShapeUnits-laid (h ∷ hs) cs es low below f =
           ∙ ap (λ xs. half_of xs ∷ halves_in (length hs) (drop 6 (us ++ vs))) (take_at us vs 6 six)
           ∙ ap (λ xs. half_of us ∷ halves_in (length hs) xs) (drop_at us vs 6 six)
           ∙ ap (λ x. x ∷ halves_in (length hs) vs)
-          (ap (λ bits. place_of bits half_bits) (corner_bits-laid w (take c cs) (take e es) parts.first first_below) ∙ known.number)
+          (half_of-bits us six ∙ ap (λ bits. place_of bits half_bits) (corner_bits-laid w (take c cs) (take e es) parts.first first_below) ∙ known.number)
           ∙ ap (λ xs. h ∷ xs) rest.halves;
     }

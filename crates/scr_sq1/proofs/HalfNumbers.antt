@@ -1,11 +1,16 @@
 -- The numbers of halves with so many corners, and so of shapes.
-use Rattle.std.proofs.Common.{◌≡◌, ℕ, zero, suc, ◌+◌, ◌-◌, ◌<◌, ◌≤◌, inl, inr, List, [], ◌∷◌, map, length, take, slice_index, refl, sym, ap, ◌∙◌, subst, arith}
-use Rattle.std.specs.Prelude.{◌==◌, nat_le, nat_lt}
-use Rattle.std.proofs.lemmas.Bool.{cases_eq, cases_lt, lt-ltb, le-ltb, le-leb, lt-leb, eq-eqb, ne_eqb, cond-true, cond-false}
-use Rattle.std.proofs.lemmas.List.Elements.{All-nil, All-cons, All-head, All-tail}
-use Rattle.scr_combinatorics.specs.Lists.{total, ComesBefore}
+use Rattle.std.proofs.Common.{◌≡◌, ℕ, zero, suc, ◌+◌, ◌-◌, ◌<◌, ◌≤◌, inl, inr, Bool, true, false, IsTrue, cond, not, List, [], ◌∷◌, ◌++◌, map, length, take, slice_index, refl, sym, ap, ◌∙◌, subst, arith}
+use Rattle.std.specs.Prelude.{◌==◌, ◌&&◌, nat_le, nat_lt, filter, flat_map}
+use Rattle.std.specs.List.{list_all, position_or_len}
+use Rattle.std.specs.Str.{bytes_eq}
+use Rattle.std.proofs.lemmas.Bool.{cases_eq, cases_lt, lt-ltb, le-ltb, le-leb, lt-leb, eq-eqb, ne_eqb, ltb-true, cond-true, cond-false}
+use Rattle.std.proofs.lemmas.List.{length-append, length-map, take_all}
+use Rattle.std.proofs.lemmas.List.Elements.{All-nil, All-cons, All-head, All-tail, filter-append}
+use Rattle.scr_combinatorics.specs.Lists.{total, numbers_from, pick, ComesBefore}
 use Rattle.scr_combinatorics.specs.Numbering.{IsOneToOne}
-use Rattle.scr_sq1.specs.Shapes.{half_words, corner_counts, corner_count, AreHalves, IsShape, ways_to_have, ways_after, halves_number, shape_number, run_of, halves_at, shape_at, shape_count}
+use Rattle.scr_notation.proofs.Below.{All-from_test}
+use Rattle.scr_sq1.specs.Shapes.{half_words, corner_counts, AreHalves, IsShape, ways_after, halves_lists, shape_number, run_of, halves_at, shape_at, shape_count}
+use Rattle.scr_sq1.proofs.HalfWords.{corner_count}
 
 -- ---- runs of so many numbers
 
@@ -61,14 +66,27 @@ module _ (f : ℕ → ℕ) where
       run_of-later k ks s (omega arith)
       ∙ ap (λ p. let q : ℕ × ℕ = (suc p.0, p.1) in q) (ap (run_of f ks) less ∙ run_of-put ks i r (omega arith) inside)
 
+  -- a sum with one run more
+  pub total-more : (ks : List ℕ) (i : ℕ) → i < length ks → total (map f (take (i + 1) ks)) ≡ total (map f (take i ks)) + f (slice_index ks i)
+  total-more [] i lt = absurd (omega arith)
+  total-more (k ∷ ks) zero lt = omega arith
+  total-more (k ∷ ks) (suc i) lt =
+      omega (arith, total-more ks i (omega arith), ap (λ n. total (map f (take n (k ∷ ks)))) {x = suc i + 1} {y = suc (i + 1)} (omega arith))
+
 -- ---- halves with so many corners
+
+-- The number of some halves among all lists of as many with c corners, from 0: for each lower first half, all lists that
+-- begin with it come before.
+unfoldable pub halves_number : ℕ → List ℕ → ℕ
+halves_number c [] = 0
+halves_number c (h ∷ hs) =
+    total (map (ways_after (length hs) c) (take h corner_counts)) + halves_number (c - slice_index corner_counts h) hs
 
 pub length-corner_counts : length corner_counts ≡ 13
 unfolding half_words corner_counts
 length-corner_counts = refl
 
 pub corner_count-at : (h : ℕ) → slice_index corner_counts h ≡ corner_count h
-unfolding corner_count
 corner_count-at h = refl
 
 -- a first half and those behind it
@@ -91,15 +109,37 @@ AreHalves-starts n c h hs s = record {
   corners = omega (arith, s.few, s.others.corners);
 }
 
+-- in how many ways n halves can have c corners in all
+abbrev pub ways_to_have : ℕ → ℕ → ℕ
+ways_to_have n c = ways_after n c 0
+
+ways-none : (c : ℕ) → ways_to_have zero c ≡ cond (c == 0) 1 0
+unfolding ways_after
+ways-none c = refl
+
 ways-suc : (n c : ℕ) → ways_to_have (suc n) c ≡ total (map (ways_after n c) corner_counts)
-unfolding ways_to_have
-ways-suc n c = refl
+unfolding ways_after
+ways-suc n c =
+    cond-true (nat_le 0 c) (total (map (ways_after n (c - 0)) corner_counts)) 0 (le-leb 0 c (omega arith))
+    ∙ ap (λ m. total (map (ways_after n m) corner_counts)) {x = c - 0} {y = c} (omega arith)
 
 pub ways_after-few : (n c k : ℕ) → k ≤ c → ways_after n c k ≡ ways_to_have n (c - k)
-ways_after-few n c k le = cond-true (nat_le k c) (ways_to_have n (c - k)) 0 (le-leb k c le)
+unfolding ways_after
+ways_after-few zero c k le =
+    elim (cases_eq c k) [
+      | inl same ↦
+          cond-true {A = ℕ} (c == k) 1 0 (eq-eqb c k same) ∙ sym (cond-true {A = ℕ} (c - k == 0) 1 0 (eq-eqb (c - k) 0 (omega arith)))
+      | inr more ↦
+          cond-false {A = ℕ} (c == k) 1 0 (ne_eqb c k more)
+          ∙ sym (cond-false {A = ℕ} (c - k == 0) 1 0 (ne_eqb (c - k) 0 (λ none. more (omega arith))))
+    ]
+ways_after-few (suc n) c k le =
+    cond-true (nat_le k c) (total (map (ways_after n (c - k)) corner_counts)) 0 (le-leb k c le) ∙ sym (ways-suc n (c - k))
 
 pub ways_after-many : (n c k : ℕ) → c < k → ways_after n c k ≡ 0
-ways_after-many n c k lt = cond-false (nat_le k c) (ways_to_have n (c - k)) 0 (lt-leb k c lt)
+unfolding ways_after
+ways_after-many zero c k lt = cond-false {A = ℕ} (c == k) 1 0 (ne_eqb c k (λ same. omega arith))
+ways_after-many (suc n) c k lt = cond-false (nat_le k c) (total (map (ways_after n (c - k)) corner_counts)) 0 (lt-leb k c lt)
 
 -- the numbers before those of lists that begin with a half
 abbrev pub numbers_before : ℕ → ℕ → ℕ → ℕ
@@ -121,8 +161,8 @@ run_within n c h lt few =
     )
 
 pub halves_number-lt : (n c : ℕ) (hs : List ℕ) → AreHalves n c hs → halves_number c hs < ways_to_have n c
-unfolding ways_to_have halves_number
-halves_number-lt zero c [] a = omega (arith, cond-true {A = ℕ} (c == 0) 1 0 (eq-eqb c 0 (sym a.corners)))
+unfolding halves_number
+halves_number-lt zero c [] a = omega (arith, ways-none c, cond-true {A = ℕ} (c == 0) 1 0 (eq-eqb c 0 (sym a.corners)))
 halves_number-lt zero c (h ∷ hs) a = absurd (omega (arith, a.size))
 halves_number-lt (suc n) c [] a = absurd (omega (arith, a.size))
 halves_number-lt (suc n) c (h ∷ hs) a =
@@ -174,12 +214,12 @@ pub record HasNumber (n c r : ℕ) (hs : List ℕ) : Type 0 where
   pub number : halves_number c hs ≡ r
 
 pub HasNumber-at : (n c r : ℕ) → r < ways_to_have n c → HasNumber n c r (halves_at n c r)
-unfolding ways_to_have halves_number halves_at
+unfolding halves_number halves_at
 HasNumber-at zero c r lt =
-    let none : c ≡ 0 = elim (cases_eq c 0) [ inl e ↦ e | inr some ↦ absurd (omega (arith, cond-false {A = ℕ} (c == 0) 1 0 (ne_eqb c 0 some))) ] in
+    let none : c ≡ 0 = elim (cases_eq c 0) [ inl e ↦ e | inr some ↦ absurd (omega (arith, ways-none c, cond-false {A = ℕ} (c == 0) 1 0 (ne_eqb c 0 some))) ] in
     record {
       halves = record { size = refl; below = All-nil (λ h. h < 13); corners = sym none };
-      number = omega (arith, cond-true {A = ℕ} (c == 0) 1 0 (eq-eqb c 0 none));
+      number = omega (arith, ways-none c, cond-true {A = ℕ} (c == 0) 1 0 (eq-eqb c 0 none));
     }
 HasNumber-at (suc n) c r lt =
     let f = first_half n c r lt in
@@ -210,20 +250,211 @@ halves_at-number (suc n) c (h ∷ hs) a =
     ∙ ap (λ p. p.0 ∷ halves_at n (c - corner_count p.0) p.1) (run_of-put f corner_counts h rest (omega (arith, length-corner_counts, s.below)) inside)
     ∙ ap (λ xs. h ∷ xs) (halves_at-number n (c - corner_count h) hs s.others)
 
+-- ---- all lists of halves, in dictionary order
+
+abbrev with_corners : ℕ → List (List ℕ) → List (List ℕ)
+with_corners c xss = filter (λ gs. total (pick corner_counts gs) == c) xss
+
+abbrev place_in : List ℕ → List (List ℕ) → ℕ
+place_in hs xss = position_or_len (bytes_eq hs) xss
+
+-- those of the lists behind a first half that have c corners with it
+abbrev with_first : ℕ → ℕ → List (List ℕ) → List (List ℕ)
+with_first c h xss = with_corners c (map (λ hs. h ∷ hs) xss)
+
+with_first-few : (c h : ℕ) (xss : List (List ℕ)) → corner_count h ≤ c
+    → with_first c h xss ≡ map (λ hs. h ∷ hs) (with_corners (c - corner_count h) xss)
+with_first-few c h [] few = refl
+with_first-few c h (gs ∷ xss) few =
+    let k : ℕ = corner_count h in
+    let n : ℕ = total (pick corner_counts gs) in
+    let rest : List (List ℕ) = with_corners (c - k) xss in
+    let again = with_first-few c h xss few in
+    elim (cases_eq n (c - k)) [
+      | inl same ↦
+          cond-true (k + n == c) ((h ∷ gs) ∷ with_first c h xss) (with_first c h xss) (eq-eqb (k + n) c (omega (arith, same, few)))
+          ∙ ap (λ xs. (h ∷ gs) ∷ xs) again
+          ∙ sym (ap (map (λ hs. h ∷ hs)) (cond-true (n == c - k) (gs ∷ rest) rest (eq-eqb n (c - k) same)))
+      | inr other ↦
+          cond-false (k + n == c) ((h ∷ gs) ∷ with_first c h xss) (with_first c h xss)
+          (ne_eqb (k + n) c (λ same. other (omega (arith, same, few))))
+          ∙ again
+          ∙ sym (ap (map (λ hs. h ∷ hs)) (cond-false (n == c - k) (gs ∷ rest) rest (ne_eqb n (c - k) other)))
+    ]
+
+with_first-many : (c h : ℕ) (xss : List (List ℕ)) → c < corner_count h → with_first c h xss ≡ []
+with_first-many c h [] many = refl
+with_first-many c h (gs ∷ xss) many =
+    let k : ℕ = corner_count h in
+    let n : ℕ = total (pick corner_counts gs) in
+    cond-false (k + n == c) ((h ∷ gs) ∷ with_first c h xss) (with_first c h xss) (ne_eqb (k + n) c (λ same. omega (arith, same, many)))
+    ∙ with_first-many c h xss many
+
+with_corners-flat : (c : ℕ) (xss : List (List ℕ)) (ks : List ℕ)
+    → with_corners c (flat_map (λ h. map (λ hs. h ∷ hs) xss) ks) ≡ flat_map (λ h. with_first c h xss) ks
+with_corners-flat c xss [] = refl
+with_corners-flat c xss (k ∷ ks) =
+    filter-append (λ gs. total (pick corner_counts gs) == c) (map (λ hs. k ∷ hs) xss) (flat_map (λ h. map (λ hs. h ∷ hs) xss) ks)
+    ∙ ap (λ xs. with_first c k xss ++ xs) (with_corners-flat c xss ks)
+
+-- the place of a list behind others that are not the same, and where it stands before them
+place_of_same : (h : ℕ) (hs : List ℕ) (xss : List (List ℕ)) → place_in (h ∷ hs) (map (λ hs. h ∷ hs) xss) ≡ place_in hs xss
+place_of_same h hs [] = refl
+place_of_same h hs (gs ∷ xss) =
+    let same : bytes_eq (h ∷ hs) (h ∷ gs) ≡ bytes_eq hs gs = ap (λ b. b && bytes_eq hs gs) (eq-eqb h h refl) in
+    ap (λ b. let n : ℕ = cond (not b) (1 + place_in (h ∷ hs) (map (λ hs. h ∷ hs) xss)) 0 in n) same
+    ∙ ap (λ p. let n : ℕ = cond (not (bytes_eq hs gs)) (1 + p) 0 in n) (place_of_same h hs xss)
+
+place_stays : (x : List ℕ) (xs ys : List (List ℕ)) → place_in x xs < length xs → place_in x (xs ++ ys) ≡ place_in x xs
+place_stays x [] ys lt = absurd (omega arith)
+place_stays x (y ∷ xs) ys lt =
+    stays (not (bytes_eq x y)) (place_in x xs) (place_in x (xs ++ ys)) (length xs) lt (place_stays x xs ys)
+  where
+    stays : (b : Bool) (p q n : ℕ) → cond b (1 + p) 0 < suc n → (p < n → q ≡ p) → (let r : ℕ = cond b (1 + q) 0 in r ≡ cond b (1 + p) 0)
+    stays true p q n lt f = ap (λ z. 1 + z) (f (omega arith))
+    stays false p q n lt f = refl
+
+place_behind : (c g h : ℕ) (hs : List ℕ) (xss ys : List (List ℕ)) → g < h
+    → place_in (h ∷ hs) (with_first c g xss ++ ys) ≡ length (with_first c g xss) + place_in (h ∷ hs) ys
+place_behind c g h hs [] ys lt = omega arith
+place_behind c g h hs (gs ∷ xss) ys lt =
+    behind (total (pick corner_counts (g ∷ gs)) == c) (with_first c g xss) (place_behind c g h hs xss ys lt)
+  where
+    other : bytes_eq (h ∷ hs) (g ∷ gs) ≡ false
+    other = ap (λ b. b && bytes_eq hs gs) (ne_eqb h g (λ same. omega arith))
+
+    behind : (b : Bool) (r : List (List ℕ)) → place_in (h ∷ hs) (r ++ ys) ≡ length r + place_in (h ∷ hs) ys
+        → (let zs : List (List ℕ) = cond b ((g ∷ gs) ∷ r) r in place_in (h ∷ hs) (zs ++ ys) ≡ length zs + place_in (h ∷ hs) ys)
+    behind true r e =
+        let same : 1 + place_in (h ∷ hs) (r ++ ys) ≡ suc (length r) + place_in (h ∷ hs) ys = omega (arith, e) in
+        ap (λ b. let n : ℕ = cond (not b) (1 + place_in (h ∷ hs) (r ++ ys)) 0 in n) other ∙ same
+    behind false r e = e
+
+-- from a first half on
+module _ (c : ℕ) (xss : List (List ℕ)) (f : ℕ → ℕ) (sizes : (h : ℕ) → length (with_first c h xss) ≡ f (corner_count h)) where
+  before : ℕ → ℕ
+  before s = total (map f (take s corner_counts))
+
+  before-more : (s : ℕ) → s < 13 → before (suc s) ≡ before s + f (corner_count s)
+  unfolding before
+  before-more s lt =
+      ap (λ i. total (map f (take i corner_counts))) {x = suc s} {y = s + 1} (omega arith)
+      ∙ total-more f corner_counts s (omega (arith, length-corner_counts))
+
+  length_from : (m s : ℕ) → s + m ≡ 13 → before s + length (flat_map (λ h. with_first c h xss) (numbers_from s m)) ≡ before 13
+  length_from zero s e = omega (arith, ap before {x = s} {y = 13} (omega arith))
+  length_from (suc m) s e =
+      omega (
+        arith,
+        length-append (with_first c s xss) (flat_map (λ h. with_first c h xss) (numbers_from (suc s) m)),
+        sizes s,
+        before-more s (omega arith),
+        length_from m (suc s) (omega arith),
+      )
+
+  place_from : (h : ℕ) (hs : List ℕ) → h < 13 → place_in (h ∷ hs) (with_first c h xss) < length (with_first c h xss)
+      → (m s : ℕ) → s + m ≡ 13 → s ≤ h
+      → before s + place_in (h ∷ hs) (flat_map (λ g. with_first c g xss) (numbers_from s m))
+      ≡ before h + place_in (h ∷ hs) (with_first c h xss)
+  place_from h hs lt found zero s e le = absurd (omega arith)
+  place_from h hs lt found (suc m) s e le =
+      let rest : List (List ℕ) = flat_map (λ g. with_first c g xss) (numbers_from (suc s) m) in
+      elim (cases_lt s h) [
+        | inl lower ↦ omega (
+          arith,
+          place_behind c s h hs xss rest lower,
+          sizes s,
+          before-more s (omega arith),
+          place_from h hs lt found m (suc s) (omega arith) (omega arith),
+        )
+        | inr same ↦
+            ap (λ i. before i + place_in (h ∷ hs) (with_first c i xss ++ rest)) {x = s} {y = h} (omega arith)
+            ∙ ap (λ p. before h + p) (place_stays (h ∷ hs) (with_first c h xss) rest found)
+      ]
+
+listed_sizes : (n : ℕ) → ((c : ℕ) → length (with_corners c (halves_lists n)) ≡ ways_to_have n c) → (c h : ℕ)
+    → length (with_first c h (halves_lists n)) ≡ ways_after n c (corner_count h)
+listed_sizes n sizes c h =
+    let k : ℕ = corner_count h in
+    elim (cases_lt c k) [
+      | inl many ↦ ap length (with_first-many c h (halves_lists n) many) ∙ sym (ways_after-many n c k many)
+      | inr few ↦
+          ap length (with_first-few c h (halves_lists n) few) ∙ length-map (with_corners (c - k) (halves_lists n)) (λ hs. h ∷ hs)
+          ∙ sizes (c - k) ∙ sym (ways_after-few n c k few)
+    ]
+
+-- how many lists have c corners
+pub listed-length : (n c : ℕ) → length (with_corners c (halves_lists n)) ≡ ways_to_have n c
+unfolding halves_lists before
+listed-length zero c =
+    elim (cases_eq c 0) [
+      | inl e ↦
+          ap length (cond-true (0 == c) ([] ∷ []) [] (eq-eqb 0 c (sym e)))
+          ∙ sym (ways-none c ∙ cond-true {A = ℕ} (c == 0) 1 0 (eq-eqb c 0 e))
+      | inr some ↦
+          ap length (cond-false (0 == c) ([] ∷ []) [] (ne_eqb 0 c (λ e. some (sym e))))
+          ∙ sym (ways-none c ∙ cond-false {A = ℕ} (c == 0) 1 0 (ne_eqb c 0 some))
+    ]
+listed-length (suc n) c =
+    let xss : List (List ℕ) = halves_lists n in
+    let whole : length (flat_map (λ h. with_first c h xss) (numbers_from 0 13)) ≡ total (map (ways_after n c) (take 13 corner_counts)) =
+    omega (arith, length_from c xss (ways_after n c) (listed_sizes n (listed-length n) c) 13 0 refl) in
+    ap length (with_corners-flat c xss (numbers_from 0 13)) ∙ whole
+    ∙ ap (λ ks. total (map (ways_after n c) ks)) (take_all 13 corner_counts (omega (arith, length-corner_counts)))
+    ∙ sym (ways-suc n c)
+
+listed-place : (n c : ℕ) (hs : List ℕ) → AreHalves n c hs → place_in hs (with_corners c (halves_lists n)) ≡ halves_number c hs
+unfolding halves_lists halves_number before
+listed-place zero c [] a = ap (place_in []) (cond-true (0 == c) ([] ∷ []) [] (eq-eqb 0 c a.corners))
+listed-place zero c (h ∷ hs) a = absurd (omega (arith, a.size))
+listed-place (suc n) c [] a = absurd (omega (arith, a.size))
+listed-place (suc n) c (h ∷ hs) a =
+    let s = StartsWith-halves n c h hs a in
+    let k : ℕ = corner_count h in
+    let xss : List (List ℕ) = halves_lists n in
+    let sizes = listed_sizes n (listed-length n) c in
+    let here : place_in (h ∷ hs) (with_first c h xss) ≡ halves_number (c - k) hs =
+    ap (place_in (h ∷ hs)) (with_first-few c h xss s.few) ∙ place_of_same h hs (with_corners (c - k) xss)
+    ∙ listed-place n (c - k) hs s.others in
+    let found : place_in (h ∷ hs) (with_first c h xss) < length (with_first c h xss) =
+    omega (arith, here, halves_number-lt n (c - k) hs s.others, sizes h, ways_after-few n c k s.few) in
+    let whole : place_in (h ∷ hs) (flat_map (λ g. with_first c g xss) (numbers_from 0 13))
+    ≡ numbers_before n c h + place_in (h ∷ hs) (with_first c h xss) =
+    omega (arith, place_from c xss (ways_after n c) sizes h hs s.below found 13 0 refl (omega arith)) in
+    ap (place_in (h ∷ hs)) (with_corners-flat c xss (numbers_from 0 13)) ∙ whole
+    ∙ ap (λ p. numbers_before n c h + p) here
+    ∙ sym (halves_number-cons n c h hs s.others.size)
+
 -- ---- shapes
 
+pub shape_number-halves : (hs : List ℕ) → IsShape hs → shape_number hs ≡ halves_number 8 hs
+unfolding shape_number
+shape_number-halves hs shape = listed-place 4 8 hs shape
+
+-- the number of a shape whose halves are known
+pub shape_number-known : (hs : List ℕ) (number : ℕ) → length hs ≡ 4 → IsTrue (list_all (λ h. nat_lt h 13) hs)
+    → total (pick corner_counts hs) ≡ 8 → halves_number 8 hs ≡ number → shape_number hs ≡ number
+shape_number-known hs number size below corners is =
+    shape_number-halves hs (record {
+      size = size;
+      below = All-from_test (λ h. nat_lt h 13) (λ h. h < 13) (λ h. ltb-true h 13) hs below;
+      corners = corners;
+    })
+    ∙ is
+
 pub ways_of_shapes : ways_to_have 4 8 ≡ 3678
-unfolding half_words corner_counts ways_to_have
+unfolding half_words corner_counts ways_after
 ways_of_shapes = refl
 
 -- shapes are numbered by the numbers below their count
 pub shapes_one_to_one : IsOneToOne shape_count shape_at shape_number IsShape
-unfolding shape_number shape_at
+unfolding shape_at
 shapes_one_to_one = record {
   valid = λ r lt. (HasNumber-at 4 8 r (omega (arith, ways_of_shapes))).halves;
-  below = λ hs a. omega (arith, halves_number-lt 4 8 hs a, ways_of_shapes);
-  number_again = λ r lt. (HasNumber-at 4 8 r (omega (arith, ways_of_shapes))).number;
-  state_again = halves_at-number 4 8;
+  below = λ hs a. omega (arith, shape_number-halves hs a, halves_number-lt 4 8 hs a, ways_of_shapes);
+  number_again = λ r lt.
+      let at = HasNumber-at 4 8 r (omega (arith, ways_of_shapes)) in shape_number-halves (halves_at 4 8 r) at.halves ∙ at.number;
+  state_again = λ hs a. ap (halves_at 4 8) (shape_number-halves hs a) ∙ halves_at-number 4 8 hs a;
 }
 
 pub halves_number-order : (n c : ℕ) (hs gs : List ℕ) → AreHalves n c hs → AreHalves n c gs → ComesBefore hs gs → halves_number c hs < halves_number c gs
@@ -257,5 +488,5 @@ halves_number-order (suc n) c (h ∷ hs) (g ∷ gs) a b (inr both) =
     )
 
 pub shape_number-order : (hs gs : List ℕ) → IsShape hs → IsShape gs → ComesBefore hs gs → shape_number hs < shape_number gs
-unfolding shape_number
-shape_number-order hs gs a b before = halves_number-order 4 8 hs gs a b before
+shape_number-order hs gs a b before =
+    omega (arith, shape_number-halves hs a, shape_number-halves gs b, halves_number-order 4 8 hs gs a b before)

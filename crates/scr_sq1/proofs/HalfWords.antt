@@ -1,11 +1,28 @@
--- The thirteen halves are all the ways to fill six units.
-use Rattle.std.proofs.Common.{◌≡◌, ℕ, zero, suc, ◌<◌, ◌≤◌, Bool, true, false, IsTrue, cond, List, [], ◌∷◌, length, refl, sym, ap, ◌∙◌, arith, eqb-true, eq-eqb}
-use Rattle.std.specs.Prelude.{◌&&◌, ◌==◌, nat_lt}
+-- The thirteen halves are all the ways to fill six units; which half six units are is told by the bits of their corners.
+use Rattle.std.proofs.Common.{◌≡◌, ℕ, zero, suc, ◌<◌, ◌≤◌, Bool, true, false, IsTrue, cond, List, [], ◌∷◌, map, length, take, drop, slice_index, refl, sym, ap, ◌∙◌, arith, eqb-true, eq-eqb}
+use Rattle.std.specs.Prelude.{◌+◌, ◌*◌, ◌&&◌, ◌==◌, nat_lt}
+use Rattle.std.specs.List.{position_or_len}
+use Rattle.std.specs.Str.{bytes_eq}
+use Rattle.std.proofs.lemmas.List.{drop-drop}
 use Rattle.std.proofs.lemmas.Bool.{and_parts, cond-true, ltb-true, false≢true}
 use Rattle.scr_notation.specs.Ranges.{all_below}
 use Rattle.scr_notation.proofs.Below.{at_below}
 use Rattle.scr_combinatorics.specs.Permutations.{place_of}
-use Rattle.scr_sq1.specs.Shapes.{half_words, half_word, corners_among, corner_counts, corner_count, word_bits, half_bits, units_among}
+use Rattle.scr_sq1.specs.Units.{is_corner}
+use Rattle.scr_sq1.specs.Shapes.{half_words, half_word, pieces_in, corners_among, corner_counts, half_of, shape_of, corner_bits, units_among}
+
+-- how many corners a half has
+abbrev pub corner_count : ℕ → ℕ
+corner_count h = slice_index corner_counts h
+
+-- which units are of corners, of those that some pieces fill, as a number in base 2
+abbrev pub word_bits : List Bool → ℕ
+word_bits [] = 0
+word_bits (true ∷ w) = 3 + 4 * word_bits w
+word_bits (false ∷ w) = 2 * word_bits w
+
+unfoldable pub half_bits : List ℕ
+half_bits = map (λ word. word_bits (pieces_in word)) half_words
 
 -- a test of every word of at most so many pieces
 every_word : ℕ → (List Bool → Bool) → Bool
@@ -82,7 +99,7 @@ known_half h =
     (half_of_word (half_word h) == h) && ((units_among (half_word h) == 6) && (corner_count h == corners_among (half_word h)))
 
 known_halves : IsTrue (all_below known_half 13)
-unfolding all_below known_half half_words half_word half_bits corner_counts corner_count
+unfolding all_below known_half half_words half_word half_bits corner_counts
 known_halves = refl
 
 pub record IsKnownHalf (h : ℕ) : Type 0 where
@@ -101,3 +118,66 @@ IsKnownHalf-below h lt =
       six = eqb-true (units_among (half_word h)) 6 rest.0;
       corners = eqb-true (corner_count h) (corners_among (half_word h)) rest.1;
     }
+
+-- ---- the half that six units are
+
+-- which half these are, where each unit is of a corner or not: by letters, and by bits
+abbrev letters_half : List Bool → ℕ
+letters_half w = position_or_len (bytes_eq (map (λ b. cond b 99 101) w)) half_words
+
+abbrev bits_of : List Bool → ℕ
+bits_of [] = 0
+bits_of (b ∷ w) = cond b 1 0 + 2 * bits_of w
+
+is_same_half : List Bool → Bool
+is_same_half w = letters_half w == place_of (bits_of w) half_bits
+
+all_same_halves : IsTrue (every_word 6 (λ w. cond (length w == 6) (is_same_half w) true))
+unfolding every_word is_same_half half_words half_bits
+all_same_halves = refl
+
+same_half : (w : List Bool) → length w ≡ 6 → letters_half w ≡ place_of (bits_of w) half_bits
+unfolding is_same_half
+same_half w six =
+    let p : List Bool → Bool = λ w. cond (length w == 6) (is_same_half w) true in
+    eqb-true (letters_half w) (place_of (bits_of w) half_bits)
+    (sym (cond-true (length w == 6) (is_same_half w) true (eq-eqb (length w) 6 six)) ∙ every_word-at 6 p all_same_halves w (omega arith))
+
+-- the letters of units
+abbrev pub letters_of : List ℕ → List ℕ
+letters_of units = map (λ piece. cond (is_corner piece) 99 101) units
+
+letters-corners : (units : List ℕ) → letters_of units ≡ map (λ b. cond b 99 101) (map is_corner units)
+letters-corners [] = refl
+letters-corners (u ∷ us) = ap (λ xs. cond (is_corner u) 99 101 ∷ xs) (letters-corners us)
+
+bits-corners : (units : List ℕ) → corner_bits units ≡ bits_of (map is_corner units)
+bits-corners [] = refl
+bits-corners (u ∷ us) = ap (λ n. cond (is_corner u) 1 0 + 2 * n) (bits-corners us)
+
+length-corners : (units : List ℕ) → length (map is_corner units) ≡ length units
+length-corners [] = refl
+length-corners (u ∷ us) = ap suc (length-corners us)
+
+pub half_of-bits : (units : List ℕ) → length units ≡ 6 → half_of units ≡ place_of (corner_bits units) half_bits
+unfolding half_of
+half_of-bits units six =
+    ap (λ letters. position_or_len (bytes_eq letters) half_words) (letters-corners units)
+    ∙ same_half (map is_corner units) (length-corners units ∙ six)
+    ∙ ap (λ bits. place_of bits half_bits) (sym (bits-corners units))
+
+-- ---- the halves of units
+
+-- the halves that so many units are, six units each
+unfoldable pub halves_in : ℕ → List ℕ → List ℕ
+halves_in zero units = []
+halves_in (suc n) units = half_of (take 6 units) ∷ halves_in n (drop 6 units)
+
+pub shape_of-halves : (units : List ℕ) → shape_of units ≡ halves_in 4 units
+unfolding shape_of halves_in
+shape_of-halves units =
+    let half : List ℕ → ℕ = λ us. half_of (take 6 us) in
+    let second : List ℕ = drop 6 units in
+    ap (λ us. half units ∷ half second ∷ half us ∷ half (drop 18 units) ∷ []) (sym (drop-drop 6 6 units))
+    ∙ ap (λ us. half units ∷ half second ∷ half (drop 6 second) ∷ half us ∷ [])
+    (sym (drop-drop 6 12 units) ∙ ap (drop 6) (sym (drop-drop 6 6 units)))

@@ -1,10 +1,13 @@
--- Where no corner lies across the cut, the two units of each corner lie in one half, and the other way round.
+-- The two units of each corner lie in one half, side by side, where they are neighbours and no corner lies across the cut, and the
+-- other way round.
 use Rattle.std.proofs.Common.{◌≡◌, ℕ, zero, suc, ◌+◌, ◌-◌, ◌%◌, ◌<◌, ◌≤◌, ◌⊎◌, inl, inr, Bool, true, false, IsTrue, not, List, [], ◌∷◌, length, slice_index, cond, lit<, lit≤, refl, sym, ap, ◌∙◌, subst, arith, eqb-true, eq-eqb, ltb-true}
 use Rattle.std.specs.Prelude.{◌&&◌, ◌==◌}
 use Rattle.std.proofs.lemmas.Bool.{cases_eq, cases_lt, false≢true, and_parts, and_from, or_cases, or_left, or_right, lt-ltb, le-ltb, ne_eqb, cond-true, cond-false}
 use Rattle.scr_combinatorics.specs.Lists.{occurrences}
+use Rattle.scr_combinatorics.specs.Permutations.{place_of}
 use Rattle.scr_combinatorics.proofs.Counts.{one_if-same, occurrences-twice}
-use Rattle.scr_sq1.specs.Units.{Sq1State, IsSq1, is_corner, units_filled, next_unit, previous_unit, fills_neighbour, are_of_one_corner, is_open}
+use Rattle.scr_combinatorics.proofs.PermutationLaws.{place_of-lt, at-place_of}
+use Rattle.scr_sq1.specs.Units.{Sq1State, IsSq1, is_corner, next_unit, previous_unit, fills_neighbour, are_of_one_corner, is_open}
 
 -- an element that stands at three places occurs three times
 pub occurrences-thrice : (xs : List ℕ) (i j k : ℕ) → i < j → j < k → k < length xs → slice_index xs i ≡ slice_index xs k
@@ -30,13 +33,20 @@ pub record InHalves (units : List ℕ) : Type 0 where
   pub edges : (p : ℕ) → 8 ≤ p → p < 16 → occurrences p units ≡ 1
   pub partners : (k : ℕ) → k < 24 → slice_index units k < 8 → HasPartner units k
 
-corner_fills : (p : ℕ) → p < 8 → units_filled p ≡ 2
+corner_fills : (p : ℕ) → p < 8 → (let filled : ℕ = cond (is_corner p) 2 1 in filled ≡ 2)
 corner_fills p lt = cond-true {A = ℕ} (is_corner p) 2 1 (lt-ltb p 8 lt)
 
-edge_fills : (p : ℕ) → 8 ≤ p → units_filled p ≡ 1
+edge_fills : (p : ℕ) → 8 ≤ p → (let filled : ℕ = cond (is_corner p) 2 1 in filled ≡ 1)
 edge_fills p le = cond-false {A = ℕ} (is_corner p) 2 1 (le-ltb p 8 le)
 
--- ---- from valid states
+-- what the code tests of units
+pub record IsPutTogether (units : List ℕ) : Type 0 where
+  pub size : length units ≡ 24
+  pub pieces : (p : ℕ) → p < 16 → occurrences p units ≡ cond (is_corner p) 2 1
+  pub neighbours : (k : ℕ) → k < 24 → IsTrue (is_corner (slice_index units k)) → IsTrue (fills_neighbour units k)
+  pub opened : IsTrue (is_open units)
+
+-- ---- from what is tested
 
 -- a test that does not hold
 pub not_false : (b : Bool) → (IsTrue b → ⊥) → IsTrue (not b)
@@ -62,13 +72,28 @@ pub record IsOpen (units : List ℕ) : Type 0 where
   pub bottom_front : IsTrue (are_of_one_corner units 23 12) → ⊥
   pub bottom_back : IsTrue (are_of_one_corner units 17 18) → ⊥
 
+-- the same four tests, those of one layer together
+pub is_open-layers : (units : List ℕ) → is_open units
+    ≡ ((not (are_of_one_corner units 11 0) && not (are_of_one_corner units 5 6))
+    && (not (are_of_one_corner units 23 12) && not (are_of_one_corner units 17 18)))
+is_open-layers units =
+    two_and_two (not (are_of_one_corner units 11 0)) (not (are_of_one_corner units 5 6)) (not (are_of_one_corner units 23 12))
+    (not (are_of_one_corner units 17 18))
+  where
+    two_and_two : (a b c d : Bool) → (a && (b && (c && (d && true)))) ≡ ((a && b) && (c && d))
+    two_and_two true true true true = refl
+    two_and_two true true true false = refl
+    two_and_two true true false d = refl
+    two_and_two true false c d = refl
+    two_and_two false b c d = refl
+
 pub IsOpen-test : (units : List ℕ) → IsTrue (is_open units) → IsOpen units
 IsOpen-test units h =
     let a = are_of_one_corner units 11 0 in
     let b = are_of_one_corner units 5 6 in
     let c = are_of_one_corner units 23 12 in
     let d = are_of_one_corner units 17 18 in
-    let both = and_parts (not a && not b) (not c && not d) h in
+    let both = and_parts (not a && not b) (not c && not d) (sym (is_open-layers units) ∙ h) in
     let top = and_parts (not a) (not b) both.0 in
     let bottom = and_parts (not c) (not d) both.1 in
     record { top_back = not_true a top.0; top_front = not_true b top.1; bottom_front = not_true c bottom.0; bottom_back = not_true d bottom.1 }
@@ -79,7 +104,8 @@ is_open-from units o =
     let b = are_of_one_corner units 5 6 in
     let c = are_of_one_corner units 23 12 in
     let d = are_of_one_corner units 17 18 in
-    and_from (not a && not b) (not c && not d)
+    is_open-layers units
+    ∙ and_from (not a && not b) (not c && not d)
     (and_from (not a) (not b) (not_false a o.top_back) (not_false b o.top_front))
     (and_from (not c) (not d) (not_false c o.bottom_front) (not_false d o.bottom_back))
 
@@ -110,34 +136,34 @@ module _ (P : ℕ → Type 0) (d : ℕ) (top_right : P d) (top_left : P (6 + d))
         ]
       ]
 
-module _ (s : Sq1State) (h : IsSq1 s) where
+module _ (units : List ℕ) (h : IsPutTogether units) where
   -- no corner goes on across the cut
-  not_behind : (k : ℕ) → k < 24 → k % 6 ≡ 5 → slice_index s.units k < 8 → slice_index s.units (next_unit k) ≡ slice_index s.units k → ⊥
+  not_behind : (k : ℕ) → k < 24 → k % 6 ≡ 5 → slice_index units k < 8 → slice_index units (next_unit k) ≡ slice_index units k → ⊥
   not_behind =
-      let o = IsOpen-test s.units h.opened in
-      by_half (λ k. slice_index s.units k < 8 → slice_index s.units (next_unit k) ≡ slice_index s.units k → ⊥) 5
-      (λ c e. o.top_front (one_corner s.units 5 6 c e))
-      (λ c e. o.top_back (one_corner s.units 11 0 c e))
-      (λ c e. o.bottom_back (one_corner s.units 17 18 c e))
-      (λ c e. o.bottom_front (one_corner s.units 23 12 c e))
+      let o = IsOpen-test units h.opened in
+      by_half (λ k. slice_index units k < 8 → slice_index units (next_unit k) ≡ slice_index units k → ⊥) 5
+      (λ c e. o.top_front (one_corner units 5 6 c e))
+      (λ c e. o.top_back (one_corner units 11 0 c e))
+      (λ c e. o.bottom_back (one_corner units 17 18 c e))
+      (λ c e. o.bottom_front (one_corner units 23 12 c e))
 
-  not_before : (k : ℕ) → k < 24 → k % 6 ≡ 0 → slice_index s.units k < 8 → slice_index s.units (previous_unit k) ≡ slice_index s.units k → ⊥
+  not_before : (k : ℕ) → k < 24 → k % 6 ≡ 0 → slice_index units k < 8 → slice_index units (previous_unit k) ≡ slice_index units k → ⊥
   not_before =
-      let o = IsOpen-test s.units h.opened in
-      by_half (λ k. slice_index s.units k < 8 → slice_index s.units (previous_unit k) ≡ slice_index s.units k → ⊥) 0
-      (λ c e. o.top_back (one_corner s.units 11 0 (omega arith) (sym e)))
-      (λ c e. o.top_front (one_corner s.units 5 6 (omega arith) (sym e)))
-      (λ c e. o.bottom_front (one_corner s.units 23 12 (omega arith) (sym e)))
-      (λ c e. o.bottom_back (one_corner s.units 17 18 (omega arith) (sym e)))
+      let o = IsOpen-test units h.opened in
+      by_half (λ k. slice_index units k < 8 → slice_index units (previous_unit k) ≡ slice_index units k → ⊥) 0
+      (λ c e. o.top_back (one_corner units 11 0 (omega arith) (sym e)))
+      (λ c e. o.top_front (one_corner units 5 6 (omega arith) (sym e)))
+      (λ c e. o.bottom_front (one_corner units 23 12 (omega arith) (sym e)))
+      (λ c e. o.bottom_back (one_corner units 17 18 (omega arith) (sym e)))
 
-  behind : (k : ℕ) → k < 24 → slice_index s.units k < 8 → slice_index s.units (next_unit k) ≡ slice_index s.units k → HasPartner s.units k
+  behind : (k : ℕ) → k < 24 → slice_index units k < 8 → slice_index units (next_unit k) ≡ slice_index units k → HasPartner units k
   behind k lt corner e =
       elim (cases_lt (k % 6) 5) [
-        | inl inside ↦ inl (inside, ap (λ i. slice_index s.units i) (sym (next_unit-inside k lt inside)) ∙ e)
+        | inl inside ↦ inl (inside, ap (λ i. slice_index units i) (sym (next_unit-inside k lt inside)) ∙ e)
         | inr last ↦ absurd (not_behind k lt (omega arith) corner e)
       ]
 
-  before : (k : ℕ) → k < 24 → slice_index s.units k < 8 → slice_index s.units (previous_unit k) ≡ slice_index s.units k → HasPartner s.units k
+  before : (k : ℕ) → k < 24 → slice_index units k < 8 → slice_index units (previous_unit k) ≡ slice_index units k → HasPartner units k
   before k lt corner e =
       elim (cases_eq (k % 6) 0) [
         | inl first ↦ absurd (not_before k lt first corner e)
@@ -146,16 +172,15 @@ module _ (s : Sq1State) (h : IsSq1 s) where
             let is : suc j ≡ k = omega arith in
             let low : j % 6 < 5 = omega arith in
             let same : previous_unit k ≡ j = ap previous_unit (sym is) ∙ previous_unit-inside j (omega arith) low in
-            inr (j, is, low, ap (λ i. slice_index s.units i) (sym same) ∙ e)
+            inr (j, is, low, ap (λ i. slice_index units i) (sym same) ∙ e)
       ]
 
-  pub InHalves-valid : InHalves s.units
-  InHalves-valid = record {
+  pub InHalves-together : InHalves units
+  InHalves-together = record {
     size = h.size;
     corners = λ p lt. h.pieces p (omega arith) ∙ corner_fills p lt;
     edges = λ p le lt. h.pieces p lt ∙ edge_fills p le;
     partners = λ k lt corner.
-        let units = s.units in
         let a = slice_index units (next_unit k) == slice_index units k in
         let b = slice_index units (previous_unit k) == slice_index units k in
         elim (or_cases a b (h.neighbours k lt (lt-ltb (slice_index units k) 8 corner))) [
@@ -164,7 +189,7 @@ module _ (s : Sq1State) (h : IsSq1 s) where
         ];
   }
 
--- ---- to valid states
+-- ---- and back
 
 module _ (units : List ℕ) (h : InHalves units) where
   -- no corner fills three units
@@ -209,8 +234,8 @@ module _ (units : List ℕ) (h : InHalves units) where
       or_right (slice_index units (next_unit k) == slice_index units k) (slice_index units (previous_unit k) == slice_index units k)
       (eq-eqb (slice_index units (previous_unit k)) (slice_index units k) (ap (λ i. slice_index units i) same ∙ p.3))
 
-  pub IsSq1-halves : (equator : Bool) → IsSq1 (record { units = units; equator = equator })
-  IsSq1-halves equator = record {
+  pub IsPutTogether-halves : IsPutTogether units
+  IsPutTogether-halves = record {
     size = h.size;
     pieces = λ p lt. elim (cases_lt p 8) [
       | inl low ↦ h.corners p low ∙ sym (corner_fills p low)
@@ -219,3 +244,78 @@ module _ (units : List ℕ) (h : InHalves units) where
     neighbours = λ k lt corner. partner_fills k lt (h.partners k lt (ltb-true (slice_index units k) 8 corner));
     opened = is_open-from units IsOpen-halves;
   }
+
+-- ---- valid states
+
+-- no x stands before the place of the first one
+before_first : (x : ℕ) (xs : List ℕ) (j : ℕ) → j < place_of x xs → slice_index xs j ≡ x → ⊥
+before_first x [] j lt e = absurd (omega arith)
+before_first x (y ∷ ys) zero lt e = omega (arith, cond-true (y == x) 0 (suc (place_of x ys)) (eq-eqb y x e))
+before_first x (y ∷ ys) (suc j) lt e =
+    elim (cases_eq y x) [
+      | inl here ↦ absurd (omega (arith, cond-true (y == x) 0 (suc (place_of x ys)) (eq-eqb y x here)))
+      | inr other ↦ before_first x ys j (omega (arith, cond-false (y == x) 0 (suc (place_of x ys)) (ne_eqb y x other))) e
+    ]
+
+module _ (s : Sq1State) (h : IsSq1 s) where
+  valid_partner : (k : ℕ) → k < 24 → slice_index s.units k < 8 → HasPartner s.units k
+  valid_partner k lt corner =
+      let us = s.units in
+      let p : ℕ = slice_index us k in
+      let first : ℕ = place_of p us in
+      let two : occurrences p us ≡ 2 = h.pieces p (omega arith) ∙ corner_fills p corner in
+      let at : slice_index us first ≡ p = at-place_of p us (omega (arith, two)) in
+      let low : first < 24 = omega (arith, place_of-lt p us (omega (arith, two)), h.size) in
+      let lies = h.corners p corner in
+      let next : suc first < 24 = omega (arith, low, lies.0) in
+      elim (cases_eq k first) [
+        | inl e ↦ subst (HasPartner us) (sym e) (inl (lies.0, lies.1 ∙ sym at))
+        | inr a ↦ elim (cases_eq k (suc first)) [
+          | inl e ↦ subst (HasPartner us) (sym e) (inr (first, refl, lies.0, at ∙ sym lies.1))
+          | inr b ↦ elim (cases_lt k first) [
+            | inl before ↦ absurd (omega (
+              arith,
+              two,
+              ap (λ z. occurrences z us) lies.1,
+              occurrences-thrice us k first (suc first) before (omega arith) (omega (arith, h.size, next)) (sym lies.1) (at ∙ sym lies.1),
+            ))
+            | inr behind ↦ absurd (omega (
+              arith,
+              two,
+              occurrences-thrice us first (suc first) k (omega arith) (omega arith) (omega (arith, h.size)) at lies.1,
+            ))
+          ]
+        ]
+      ]
+
+  pub InHalves-valid : InHalves s.units
+  InHalves-valid = record {
+    size = h.size;
+    corners = λ p lt. h.pieces p (omega arith) ∙ corner_fills p lt;
+    edges = λ p le lt. h.pieces p lt ∙ edge_fills p le;
+    partners = valid_partner;
+  }
+
+pub IsSq1-halves : (units : List ℕ) → InHalves units → (equator : Bool) → IsSq1 (record { units = units; equator = equator })
+IsSq1-halves units h equator = record {
+  size = h.size;
+  pieces = (IsPutTogether-halves units h).pieces;
+  corners = λ p lt.
+      let first : ℕ = place_of p units in
+      let at : slice_index units first ≡ p = at-place_of p units (omega (arith, h.corners p lt)) in
+      let low : first < 24 = omega (arith, place_of-lt p units (omega (arith, h.corners p lt)), h.size) in
+      elim (h.partners first low (omega (arith, at))) [
+        | inl q ↦ (q.0, q.1 ∙ at)
+        | inr q ↦ absurd (before_first p units q.0 (omega (arith, q.1)) (q.3 ∙ at))
+      ];
+}
+
+pub IsPutTogether-valid : (s : Sq1State) → IsSq1 s → IsPutTogether s.units
+IsPutTogether-valid s h = IsPutTogether-halves s.units (InHalves-valid s h)
+
+pub IsSq1-together : (units : List ℕ) (equator : Bool) → IsPutTogether units → IsSq1 (record { units = units; equator = equator })
+IsSq1-together units equator h = IsSq1-halves units (InHalves-together units h) equator
+
+-- no corner of a valid state lies across the cut
+pub is_open-valid : (s : Sq1State) → IsSq1 s → IsTrue (is_open s.units)
+is_open-valid s h = (IsPutTogether-valid s h).opened

@@ -1,15 +1,19 @@
 -- Pieces that lie one behind the other, and what is read of them.
-use Rattle.std.proofs.Common.{◌≡◌, ℕ, zero, suc, ◌+◌, ◌-◌, ◌*◌, ◌<◌, ◌≤◌, ◌⊎◌, inl, inr, Bool, true, false, not, List, [], ◌∷◌, ◌++◌, map, length, slice_index, refl, sym, ap, ◌∙◌, arith}
-use Rattle.std.specs.Prelude.{All, filter}
+use Rattle.std.proofs.Common.{◌≡◌, ℕ, zero, suc, ◌+◌, ◌-◌, ◌*◌, ◌<◌, ◌≤◌, ◌⊎◌, inl, inr, Bool, true, false, not, List, [], ◌∷◌, ◌++◌, map, length, slice_index, IsTrue, eqb-true, refl, sym, ap, ◌∙◌, arith}
+use Rattle.std.specs.Prelude.{◌==◌, All, filter}
 use Rattle.std.proofs.lemmas.Bool.{cases_lt, lt-ltb, le-ltb, cond-true, cond-false}
 use Rattle.std.proofs.lemmas.List.Elements.{All-append, All-nil, All-cons, All-head, All-tail}
-use Rattle.std.proofs.lemmas.List.{length-append}
+use Rattle.std.proofs.lemmas.List.{length-append, ext_get_or}
 use Rattle.std.proofs.Math.Nat.{add-sub_cancel_left}
-use Rattle.scr_combinatorics.specs.Lists.{occurrences}
+use Rattle.scr_combinatorics.specs.Lists.{occurrences, pick}
 use Rattle.scr_combinatorics.proofs.Counts.{one_if}
+use Rattle.scr_combinatorics.proofs.Picks.{pick-at}
+use Rattle.scr_notation.specs.Ranges.{all_below}
+use Rattle.scr_notation.proofs.Below.{at_below}
 use Rattle.scr_sq1.specs.Units.{is_corner}
-use Rattle.scr_sq1.specs.Shapes.{corners_among, edges_among, units_among, Fits, corner_bits, word_bits}
-use Rattle.scr_sq1.specs.Numbers.{every_second, corners_of, edges_of, laid}
+use Rattle.scr_sq1.specs.Shapes.{corners_among, edges_among, units_among, Fits, corner_bits}
+use Rattle.scr_sq1.specs.Numbers.{corners_of, edges_of, laid}
+use Rattle.scr_sq1.proofs.HalfWords.{word_bits}
 
 pub corners_among-append : (v w : List Bool) → corners_among (v ++ w) ≡ corners_among v + corners_among w
 corners_among-append [] w = omega arith
@@ -64,6 +68,61 @@ corner_is c lt = lt-ltb c 8 lt
 edge_is : (e : ℕ) → is_corner (8 + e) ≡ false
 edge_is e = le-ltb (8 + e) 8 (omega arith)
 
+-- every second element, from the first one on
+abbrev pub every_second : List ℕ → List ℕ
+every_second [] = []
+every_second (x ∷ []) = x ∷ []
+every_second (x ∷ (y ∷ xs)) = x ∷ every_second xs
+
+every_second-at : (xs : List ℕ) (i : ℕ) → slice_index (every_second xs) i ≡ slice_index xs (2 * i)
+every_second-at [] i = refl
+every_second-at (x ∷ []) zero = refl
+every_second-at (x ∷ []) (suc i) = ap (λ k. slice_index (x ∷ []) k) {x = suc (suc (2 * i))} {y = 2 * suc i} (omega arith)
+every_second-at (x ∷ (y ∷ xs)) zero = refl
+every_second-at (x ∷ (y ∷ xs)) (suc i) =
+    every_second-at xs i ∙ ap (λ k. slice_index (x ∷ (y ∷ xs)) k) {x = suc (suc (2 * i))} {y = 2 * suc i} (omega arith)
+
+pub length-every_second : (n : ℕ) (xs : List ℕ) → length xs ≡ 2 * n → length (every_second xs) ≡ n
+length-every_second zero [] e = refl
+length-every_second zero (x ∷ xs) e = absurd (omega (arith, e))
+length-every_second (suc n) [] e = absurd (omega (arith, e))
+length-every_second (suc n) (x ∷ []) e = absurd (omega (arith, e))
+length-every_second (suc n) (x ∷ (y ∷ xs)) e = ap suc (length-every_second n xs (omega (arith, e)))
+
+abbrev pub even_places : List ℕ
+even_places = 0 ∷ 2 ∷ 4 ∷ 6 ∷ 8 ∷ 10 ∷ 12 ∷ 14 ∷ []
+
+even_tested : IsTrue (all_below (λ k. slice_index even_places k == 2 * k) 8)
+unfolding all_below
+even_tested = refl
+
+pick-even : (xs : List ℕ) → length xs ≡ 16 → pick xs even_places ≡ every_second xs
+pick-even xs size =
+    ext_get_or 0 (pick xs even_places) (every_second xs) (sym (length-every_second 8 xs size)) (λ k lt.
+    pick-at xs even_places k lt
+    ∙ ap (λ i. slice_index xs i)
+    (eqb-true (slice_index even_places k) (2 * k) (at_below (λ k. slice_index even_places k == 2 * k) 8 k even_tested lt))
+    ∙ sym (every_second-at xs k))
+
+pub corners_of-sixteen : (units : List ℕ) → length (filter is_corner units) ≡ 16 → corners_of units ≡ every_second (filter is_corner units)
+unfolding corners_of
+corners_of-sixteen units size = pick-even (filter is_corner units) size
+
+pub length-corner_units : (w : List Bool) (cs es : List ℕ) → Fits w cs es → All (λ c. c < 8) cs
+    → length (filter is_corner (laid w cs es)) ≡ 2 * length cs
+length-corner_units =
+    by_pieces (λ w cs es. All (λ c. c < 8) cs → length (filter is_corner (laid w cs es)) ≡ 2 * length cs) (λ low. refl)
+    (λ w c cs es f h low.
+    let is = corner_is c (All-head (λ x. x < 8) c cs low) in
+    let rest : List ℕ = filter is_corner (laid w cs es) in
+    let two : filter is_corner (laid (true ∷ w) (c ∷ cs) es) ≡ c ∷ c ∷ rest =
+    cond-true (is_corner c) (c ∷ filter is_corner (c ∷ laid w cs es)) (filter is_corner (c ∷ laid w cs es)) is
+    ∙ ap (λ us. c ∷ us) (cond-true (is_corner c) (c ∷ rest) rest is) in
+    omega (arith, ap length two, h (All-tail (λ x. x < 8) c cs low)))
+    (λ w e cs es f h low.
+    let rest : List ℕ = filter is_corner (laid w cs es) in
+    ap length (cond-false (is_corner (8 + e)) ((8 + e) ∷ rest) rest (edge_is e)) ∙ h low)
+
 pub filter-corners : (w : List Bool) (cs es : List ℕ) → Fits w cs es → All (λ c. c < 8) cs → every_second (filter is_corner (laid w cs es)) ≡ cs
 filter-corners =
     by_pieces (λ w cs es. All (λ c. c < 8) cs → every_second (filter is_corner (laid w cs es)) ≡ cs) (λ low. refl)
@@ -91,9 +150,9 @@ filter-edges =
     ap (map (λ piece. piece - 8)) (cond-true (not (is_corner (8 + e))) ((8 + e) ∷ rest) rest (ap not (edge_is e)))
     ∙ ap (λ x. x ∷ map (λ piece. piece - 8) rest) (add-sub_cancel_left 8 e) ∙ ap (λ us. e ∷ us) (h low))
 
-pub corners_of-laid : (w : List Bool) (cs es : List ℕ) → Fits w cs es → All (λ c. c < 8) cs → corners_of (laid w cs es) ≡ cs
-unfolding corners_of
-corners_of-laid = filter-corners
+pub corners_of-laid : (w : List Bool) (cs es : List ℕ) → Fits w cs es → All (λ c. c < 8) cs → length cs ≡ 8 → corners_of (laid w cs es) ≡ cs
+corners_of-laid w cs es f low eight =
+    corners_of-sixteen (laid w cs es) (omega (arith, length-corner_units w cs es f low, eight)) ∙ filter-corners w cs es f low
 
 pub edges_of-laid : (w : List Bool) (cs es : List ℕ) → Fits w cs es → All (λ c. c < 8) cs → edges_of (laid w cs es) ≡ es
 unfolding edges_of

@@ -25,9 +25,10 @@ use Rattle.scr_notation.proofs.Below.{All-from_test}
 use Rattle.scr_notation.proofs.OppositeLaws.{permits-opposite}
 use Rattle.scr_notation.proofs.LayersLaws.{AreTwelfths-twelfths, layers_of_parts, IsTwelfths, are_still-first, are_still-second}
 use Rattle.scr_sq1.specs.Units.{Sq1State, IsSq1, is_open, solved_sq1, clockwise, turn_places, twist_places, turned, after_layers, twisted, sq1_after, sq1_puzzle}
-use Rattle.scr_sq1.specs.Shapes.{half_words, half_word, corner_counts, corner_count, IsShape}
+use Rattle.scr_sq1.specs.Shapes.{half_words, half_word, corner_counts, IsShape}
 use Rattle.scr_sq1.specs.Numbers.{shape_word}
 use Rattle.scr_sq1.proofs.StatePieces.{LaidState-pieces}
+use Rattle.scr_sq1.proofs.InHalves.{is_open-valid}
 use Rattle.scr_sq1.proofs.Places.{IsTurnTable-turn, turn_places-both, turn_places-none, twist_places-twice, IsPermutation-twist_places}
 use Rattle.scr_sq1.proofs.TurnLaws.{IsSq1-moved, IsSq1-twisted}
 use Rattle.scr_sq1.proofs.Clockwise.{clockwise-lt, clockwise-twelfths, clockwise-sum, clockwise-back}
@@ -167,7 +168,7 @@ undoes s r (Layers x y) h e =
     let a = sq1_after-layers s r x y e in
     let back : turned r (twelfths (neg_ℤ x)) (twelfths (neg_ℤ y)) ≡ s =
     ap (λ q. turned q (twelfths (neg_ℤ x)) (twelfths (neg_ℤ y))) a.is ∙ turned-back s x y h.size in
-    sq1_after-by_layers r (twelfths (neg_ℤ x)) (twelfths (neg_ℤ y)) (permits-opposite Sq1 (Layers x y) a.letter) (ap (λ q. is_open q.units) back ∙ h.opened)
+    sq1_after-by_layers r (twelfths (neg_ℤ x)) (twelfths (neg_ℤ y)) (permits-opposite Sq1 (Layers x y) a.letter) (ap (λ q. is_open q.units) back ∙ is_open-valid s h)
     ∙ ap Some back
 undoes s r Twist h e = ap (λ q. Some (twisted q)) (sq1_after-twist s r e) ∙ ap Some (twisted-twice s h.size)
 undoes s r _ h e = absurd (cc)
@@ -210,7 +211,7 @@ pub sq1_kept_by_tidy : IsKeptByTidy sq1_after turn_merging IsSq1
 sq1_kept_by_tidy = IsKeptByTidy-lawful sq1_after opposite turn_merging IsSq1 IsLawful-sq1
 
 pub IsSq1-solved : IsSq1 solved_sq1
-unfolding half_words half_word shape_word corner_counts corner_count
+unfolding half_words half_word shape_word corner_counts
 IsSq1-solved =
     let shape : IsShape (7 ∷ 7 ∷ 10 ∷ 10 ∷ []) = record { size = refl; below = All-from_test (λ h. nat_lt h 13) (λ h. h < 13) (λ h. ltb-true h 13) (7 ∷ 7 ∷ 10 ∷ 10 ∷ []) refl; corners = refl } in
     let order = IsPermutation-numbers_from 8 in

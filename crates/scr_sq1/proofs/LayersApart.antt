@@ -7,6 +7,7 @@ use Rattle.scr_combinatorics.proofs.Picks.{pick-at}
 use Rattle.scr_sq1.specs.Units.{Sq1State, IsSq1, is_corner, are_of_one_corner, is_open, clockwise, place_before, turn_places, turned, after_layers}
 use Rattle.scr_sq1.proofs.Places.{length-places_by, places_by-at}
 use Rattle.scr_sq1.proofs.Lawful.{turned-apart}
+use Rattle.scr_sq1.proofs.InHalves.{is_open-layers, is_open-valid}
 
 -- ---- what comes across the cut
 
@@ -37,7 +38,8 @@ is_open-turned : (units : List ℕ) (n m : ℕ) → is_open (pick units (turn_pl
 is_open-turned units n m =
     let us : List ℕ = pick units (turn_places n m) in
     let one = of_one_corner-turned units n m in
-    ap (λ b. (not b && not (are_of_one_corner us 5 6)) && (not (are_of_one_corner us 23 12) && not (are_of_one_corner us 17 18)))
+    is_open-layers us
+    ∙ ap (λ b. (not b && not (are_of_one_corner us 5 6)) && (not (are_of_one_corner us 23 12) && not (are_of_one_corner us 17 18)))
     (one 11 0 (lit< tt) (lit< tt))
     ∙ ap (λ b. (not (are_of_one_corner units (place_before n m 11) (place_before n m 0)) && not b)
     && (not (are_of_one_corner us 23 12) && not (are_of_one_corner us 17 18))) (one 5 6 (lit< tt) (lit< tt))
@@ -52,7 +54,7 @@ both_true true b e = e
 both_true false b e = absurd (cc)
 
 bottom_open-here : (s : Sq1State) → IsSq1 s → bottom_open s.units 0 ≡ true
-bottom_open-here s h = both_true (top_open s.units 0) (bottom_open s.units 0) h.opened
+bottom_open-here s h = both_true (top_open s.units 0) (bottom_open s.units 0) (sym (is_open-layers s.units) ∙ is_open-valid s h)
 
 -- a test of both layers, and one of the top before one of both
 two_tests : {S : Type 0} (t b : Bool) (after : S → Option S) (r q : S) (first whole : Bool) → first ≡ (t && true) → whole ≡ (t && b)

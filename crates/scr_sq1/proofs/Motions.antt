@@ -3,8 +3,8 @@ use Rattle.std.proofs.Common.{◌≡◌, ℕ, ◌+◌, ◌%◌, ◌<◌, ◌≤�
 use Rattle.std.specs.Prelude.{ℤ}
 use Rattle.scr_combinatorics.proofs.Picks.{pick-at}
 use Rattle.scr_notation.specs.declared.turn.Turn.TheVariants.{Layers}
-use Rattle.scr_sq1.specs.Units.{Sq1State, clockwise, place_before, place_before_twist, turn_places, twist_places, turned, twisted, sq1_after}
-use Rattle.scr_sq1.proofs.Places.{length-places_by, places_by-at, place_before-top, place_before-bottom}
+use Rattle.scr_sq1.specs.Units.{Sq1State, clockwise, place_before, turn_places, twist_places, turned, twisted, sq1_after}
+use Rattle.scr_sq1.proofs.Places.{length-places_by, places_by-at, place_before-top, place_before-bottom, place_before_twist, twist_places-at, IsPermutation-twist_places}
 use Rattle.scr_sq1.proofs.Clockwise.{clockwise-lt}
 use Rattle.scr_sq1.proofs.Lawful.{sq1_after-layers}
 
@@ -18,10 +18,10 @@ turned-at s x y k lt =
     ∙ ap (λ i. slice_index s.units i) (places_by-at place k lt)
 
 twisted-at : (s : Sq1State) (k : ℕ) → k < 24 → slice_index (twisted s).units k ≡ slice_index s.units (place_before_twist k)
-unfolding twisted twist_places
+unfolding twisted
 twisted-at s k lt =
-    pick-at s.units twist_places k (omega (arith, length-places_by place_before_twist))
-    ∙ ap (λ i. slice_index s.units i) (places_by-at place_before_twist k lt)
+    pick-at s.units twist_places k (omega (arith, IsPermutation-twist_places.size))
+    ∙ ap (λ i. slice_index s.units i) (twist_places-at k lt)
 
 pub top_moved : (s r : Sq1State) (x y : ℤ) (k : ℕ) → sq1_after s (Layers x y) ≡ Some r → k < 12
     → slice_index r.units ((k + clockwise x) % 12) ≡ slice_index s.units k

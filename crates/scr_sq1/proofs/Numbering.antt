@@ -8,9 +8,13 @@ use Rattle.scr_combinatorics.proofs.Digits.{by_four_digits}
 use Rattle.scr_combinatorics.proofs.Numberings.{GivesState, HasDigits, numbering_by_digits}
 use Rattle.scr_sq1.specs.Units.{Sq1State, IsSq1}
 use Rattle.scr_sq1.specs.Shapes.{shape_of, shape_number, shape_at}
-use Rattle.scr_sq1.specs.Numbers.{corners_of, edges_of, laid, shape_word, sq1_bases, sq1_digits, sq1_of_digits, sq1_numbered}
+use Rattle.scr_sq1.specs.Numbers.{corners_of, edges_of, laid, shape_word, sq1_digits, sq1_of_digits, sq1_numbered}
 use Rattle.scr_sq1.proofs.HalfNumbers.{shapes_one_to_one}
 use Rattle.scr_sq1.proofs.StatePieces.{StatePieces-valid, LaidState-pieces}
+
+-- how many digits of the equator, of lists of corners, of lists of edges and of shapes there are
+abbrev pub sq1_bases : List ℕ
+sq1_bases = 2 ∷ 40320 ∷ 40320 ∷ 3678 ∷ []
 
 abbrev Gives : List ℕ → Type 0
 Gives = GivesState sq1_bases sq1_of_digits sq1_digits IsSq1

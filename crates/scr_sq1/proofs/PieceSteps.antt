@@ -7,9 +7,10 @@ use Rattle.scr_notation.specs.Ranges.{all_below}
 use Rattle.scr_notation.proofs.Below.{at_below}
 use Rattle.scr_sq1.specs.declared.pieces.TheConstants.{HALVES}
 use Rattle.scr_sq1.specs.Units.{is_corner}
-use Rattle.scr_sq1.specs.Shapes.{half_words, half_word, corners_among, corner_counts, corner_count, IsShape, edges_among}
-use Rattle.scr_sq1.specs.Numbers.{every_second, corners_of, edges_of, shape_word}
-use Rattle.scr_sq1.proofs.HalfWords.{same_word, same_word-true}
+use Rattle.scr_sq1.specs.Shapes.{half_words, half_word, corners_among, corner_counts, IsShape, edges_among}
+use Rattle.scr_sq1.specs.Numbers.{corners_of, edges_of, shape_word}
+use Rattle.scr_sq1.proofs.LaidLaws.{every_second, length-every_second, corners_of-sixteen}
+use Rattle.scr_sq1.proofs.HalfWords.{corner_count, same_word, same_word-true}
 use Rattle.scr_sq1.proofs.HalfByHalf.{shape_word-cons}
 use Rattle.scr_sq1.proofs.StatePieces.{AreCounted-halves}
 
@@ -19,7 +20,7 @@ known_word : ℕ → Bool
 known_word h = (length (half_word h) == 6 - corner_count h) && same_word (take (length (half_word h)) (get_or HALVES h [])) (half_word h)
 
 known_words : IsTrue (all_below known_word 13)
-unfolding all_below known_word same_word half_words half_word corner_counts corner_count
+unfolding all_below known_word same_word half_words half_word corner_counts
 known_words = refl
 
 pub record IsKnownWord (h : ℕ) : Type 0 where
@@ -187,10 +188,9 @@ edges_end i found edges units eight le r =
 pub record ReadCorners (i found : ℕ) (second : Bool) (corners units : List ℕ) : Type 0 where
   pub size : length corners ≡ 8
   pub few : found ≤ 8
-  pub read : take found corners ++ every_second (drop (cond second 1 0) (filter is_corner (drop i units))) ≡ corners_of units
+  pub read : take found corners ++ every_second (drop (cond second 1 0) (filter is_corner (drop i units))) ≡ every_second (filter is_corner units)
 
 pub corners_start : (units corners : List ℕ) → length corners ≡ 8 → ReadCorners 0 0 false corners units
-unfolding corners_of
 corners_start units corners size = record { size = size; few = omega arith; read = refl }
 
 every_second-cons : (x : ℕ) (xs : List ℕ) → every_second (x ∷ xs) ≡ x ∷ every_second (drop 1 xs)
@@ -206,24 +206,24 @@ first_unit i units lt corner =
     ∙ ap every_second (filter_corner u (drop (i + 1) units) corner)
     ∙ every_second-cons u (filter is_corner (drop (i + 1) units))
 
-pub corners_room : (i found : ℕ) (corners units : List ℕ) → length (corners_of units) ≡ 8 → i < length units → slice_index units i < 8
+pub corners_room : (i found : ℕ) (corners units : List ℕ) → length (filter is_corner units) ≡ 16 → i < length units → slice_index units i < 8
     → ReadCorners i found false corners units → found < 8
-corners_room i found corners units eight lt corner r =
+corners_room i found corners units sixteen lt corner r =
     omega (
       arith,
-      eight,
+      length-every_second 8 (filter is_corner units) sixteen,
       ap length r.read,
       length-append (take found corners) (every_second (filter is_corner (drop i units))),
       length-take-le found corners (omega (arith, r.few, r.size)),
       ap length (first_unit i units lt corner),
     )
 
-pub corners_first : (i found : ℕ) (corners units : List ℕ) → length (corners_of units) ≡ 8 → i < length units → slice_index units i < 8
+pub corners_first : (i found : ℕ) (corners units : List ℕ) → length (filter is_corner units) ≡ 16 → i < length units → slice_index units i < 8
     → ReadCorners i found false corners units → ReadCorners (i + 1) (found + 1) true (set corners found (slice_index units i)) units
-corners_first i found corners units eight lt corner r =
+corners_first i found corners units sixteen lt corner r =
     let u : ℕ = slice_index units i in
     let rest : List ℕ = every_second (drop 1 (filter is_corner (drop (i + 1) units))) in
-    let room = corners_room i found corners units eight lt corner r in
+    let room = corners_room i found corners units sixteen lt corner r in
     record {
       size = length-set corners found u ∙ r.size;
       few = omega arith;
@@ -261,14 +261,14 @@ nothing_left : (second : Bool) → every_second (drop (cond second 1 0) (filter 
 nothing_left true = refl
 nothing_left false = refl
 
-pub corners_end : (i found : ℕ) (second : Bool) (corners units : List ℕ) → length (corners_of units) ≡ 8 → length units ≤ i
+pub corners_end : (i found : ℕ) (second : Bool) (corners units : List ℕ) → length (filter is_corner units) ≡ 16 → length units ≤ i
     → ReadCorners i found second corners units → corners ≡ corners_of units
-corners_end i found second corners units eight le r =
+corners_end i found second corners units sixteen le r =
     let none : every_second (drop (cond second 1 0) (filter is_corner (drop i units))) ≡ [] =
     ap (λ us. every_second (drop (cond second 1 0) (filter is_corner us))) (drop_all i units le) ∙ nothing_left second in
-    let whole : take found corners ≡ corners_of units = sym (append-nil (take found corners)) ∙ ap (λ xs. take found corners ++ xs) (sym none) ∙ r.read in
-    let all : length corners ≤ found = omega (arith, r.size, eight, ap length whole, length-take-le found corners (omega (arith, r.few, r.size))) in
-    sym (take_all found corners all) ∙ whole
+    let whole : take found corners ≡ every_second (filter is_corner units) = sym (append-nil (take found corners)) ∙ ap (λ xs. take found corners ++ xs) (sym none) ∙ r.read in
+    let all : length corners ≤ found = omega (arith, r.size, length-every_second 8 (filter is_corner units) sixteen, ap length whole, length-take-le found corners (omega (arith, r.few, r.size))) in
+    sym (take_all found corners all) ∙ whole ∙ sym (corners_of-sixteen units sixteen)
 
 -- ---- what the code's branches come to
 
@@ -278,12 +278,12 @@ corners_as i found found' second second' corners corners' units ef es ec r =
     subst (λ n. ReadCorners i n second' corners' units) (sym ef)
     (subst (λ b. ReadCorners i found b corners' units) (sym es) (subst (λ cs. ReadCorners i found second cs units) (sym ec) r))
 
-pub corners_room_at : (i found : ℕ) (second : Bool) (corners units : List ℕ) → length (corners_of units) ≡ 8 → i < length units → slice_index units i < 8
+pub corners_room_at : (i found : ℕ) (second : Bool) (corners units : List ℕ) → length (filter is_corner units) ≡ 16 → i < length units → slice_index units i < 8
     → second ≡ false → ReadCorners i found second corners units → found < 8
 corners_room_at i found second corners units eight lt corner e r =
     corners_room i found corners units eight lt corner (subst (λ b. ReadCorners i found b corners units) e r)
 
-pub corners_first_at : (i found : ℕ) (second : Bool) (corners units : List ℕ) → length (corners_of units) ≡ 8 → i < length units → slice_index units i < 8
+pub corners_first_at : (i found : ℕ) (second : Bool) (corners units : List ℕ) → length (filter is_corner units) ≡ 16 → i < length units → slice_index units i < 8
     → second ≡ false → ReadCorners i found second corners units → ReadCorners (i + 1) (found + 1) (not second) (set corners found (slice_index units i)) units
 corners_first_at i found second corners units eight lt corner e r =
     subst (λ b. ReadCorners (i + 1) (found + 1) b (set corners found (slice_index units i)) units) (sym (ap not e))

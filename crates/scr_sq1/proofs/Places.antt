@@ -9,7 +9,7 @@ use Rattle.scr_combinatorics.proofs.Picks.{numbers_from-at, pick-at}
 use Rattle.scr_combinatorics.proofs.PermutationLaws.{IsPermutation-from_test}
 use Rattle.scr_notation.specs.Ranges.{all_below}
 use Rattle.scr_notation.proofs.Below.{at_below}
-use Rattle.scr_sq1.specs.Units.{next_unit, previous_unit, place_before, place_before_twist, turn_places, twist_places}
+use Rattle.scr_sq1.specs.Units.{next_unit, previous_unit, place_before, turn_places, twist_places}
 
 -- ---- places given by a function
 
@@ -137,9 +137,20 @@ IsTurnTable-turn n m ln lm =
 
 -- ---- the twist
 
+-- where the piece that comes to a unit stood before a twist
+abbrev pub place_before_twist : ℕ → ℕ
+place_before_twist k = if nat_lt k 6 then k + 12 else (if nat_lt k 12 then k else (if nat_lt k 18 then k - 12 else k))
+
+pub twist_places-by : twist_places ≡ places_by place_before_twist
+unfolding twist_places
+twist_places-by = refl
+
+pub twist_places-at : (k : ℕ) → k < 24 → slice_index twist_places k ≡ place_before_twist k
+twist_places-at k lt = ap (λ xs. slice_index xs k) twist_places-by ∙ places_by-at place_before_twist k lt
+
 pub IsPermutation-twist_places : IsPermutation 24 twist_places
 unfolding twist_places
-IsPermutation-twist_places = IsPermutation-from_test 24 (places_by place_before_twist) refl
+IsPermutation-twist_places = IsPermutation-from_test 24 twist_places refl
 
 -- a twist leaves each half together
 pub record StaysInHalf (k : ℕ) : Type 0 where
@@ -154,15 +165,15 @@ unfolding all_below stays_in_half
 all_stay = refl
 
 pub StaysInHalf-twist : (k : ℕ) → k < 24 → StaysInHalf k
-unfolding twist_places stays_in_half
+unfolding stays_in_half
 StaysInHalf-twist k lt =
     let both = and_parts (place_before_twist k % 6 == k % 6) (cond (nat_lt (k % 6) 5) (place_before_twist (suc k) == suc (place_before_twist k)) true)
     (at_below stays_in_half 24 k all_stay lt) in
-    let here = places_by-at place_before_twist k lt in
+    let here = twist_places-at k lt in
     record {
       at = ap (λ i. i % 6) here ∙ eqb-true (place_before_twist k % 6) (k % 6) both.0;
       behind = λ inside.
-          places_by-at place_before_twist (suc k) (omega arith)
+          twist_places-at (suc k) (omega arith)
           ∙ eqb-true (place_before_twist (suc k)) (suc (place_before_twist k))
           (sym (cond-true (nat_lt (k % 6) 5) (place_before_twist (suc k) == suc (place_before_twist k)) true (lt-ltb (k % 6) 5 inside)) ∙ both.1)
           ∙ ap suc (sym here);

@@ -1,18 +1,18 @@
 -- The tables of the halves, and the steps of the loops over shapes.
-use Rattle.std.proofs.Common.{◌≡◌, ℕ, zero, suc, ◌+◌, ◌-◌, ◌*◌, ◌^◌, ◌<◌, ◌≤◌, IsTrue, List, [], ◌∷◌, ◌++◌, map, length, take, drop, get_or, set, slice_index, refl, sym, ap, ◌∙◌, subst, arith, eqb-true, lit≤}
+use Rattle.std.proofs.Common.{◌≡◌, ℕ, zero, suc, ◌+◌, ◌-◌, ◌*◌, ◌^◌, ◌<◌, ◌≤◌, IsTrue, List, [], ◌∷◌, ◌++◌, length, take, drop, get_or, set, slice_index, refl, sym, ap, ◌∙◌, subst, arith, eqb-true, lit≤}
 use Rattle.std.specs.Prelude.{◌==◌}
 use Rattle.std.proofs.lemmas.List.{length-drop, drop-drop, length-set, take_all, append-nil, drop_more, take_more_set, append_assoc, at_drop_more, at_drop_all}
 use Rattle.std.proofs.lemmas.Nat.{pow_pos}
 use Rattle.std.proofs.Math.Nat.{pow-suc}
 use Rattle.scr_notation.specs.Ranges.{all_below}
 use Rattle.scr_notation.proofs.Below.{at_below}
-use Rattle.scr_combinatorics.specs.Lists.{total}
 use Rattle.scr_combinatorics.proofs.Counts.{one_if-le_one}
 use Rattle.scr_combinatorics.specs.Permutations.{place_of}
 use Rattle.scr_sq1.specs.declared.shapes.TheConstants.{CORNERS, WAYS, HALF_OF_BITS}
 use Rattle.scr_sq1.specs.Units.{is_corner}
-use Rattle.scr_sq1.specs.Shapes.{half_words, corner_counts, corner_count, corner_bits, half_bits, half_of, halves_in, shape_of, ways_to_have, ways_after, run_of, AreHalves, IsShape, halves_number, halves_at, shape_number, shape_at}
-use Rattle.scr_sq1.proofs.HalfNumbers.{run_of-here, run_of-later, StartsWith-halves, halves_number-cons, numbers_before, shapes_one_to_one, ways_of_shapes, first_half, halves_at-suc}
+use Rattle.scr_sq1.specs.Shapes.{half_words, corner_counts, corner_bits, half_of, shape_of, ways_after, run_of, AreHalves, IsShape, halves_at, shape_number, shape_at}
+use Rattle.scr_sq1.proofs.HalfNumbers.{ways_to_have, halves_number, shape_number-halves, run_of-here, run_of-later, StartsWith-halves, halves_number-cons, numbers_before, shapes_one_to_one, ways_of_shapes, first_half, halves_at-suc}
+use Rattle.scr_sq1.proofs.HalfWords.{corner_count, half_bits, half_of-bits, halves_in, shape_of-halves}
 
 -- ---- the tables
 
@@ -21,7 +21,7 @@ unfolding half_words corner_counts
 corners_table = refl
 
 ways_tables : IsTrue (all_below (λ n. all_below (λ c. get_or (get_or WAYS n []) c 0 == ways_to_have n c) 9) 4)
-unfolding all_below half_words corner_counts ways_to_have
+unfolding all_below half_words corner_counts ways_after
 ways_tables = refl
 
 pub ways_table : (n c : ℕ) → n ≤ 3 → c ≤ 8 → get_or (get_or WAYS n []) c 0 ≡ ways_to_have n c
@@ -31,7 +31,6 @@ ways_table n c ln lc =
     (at_below (λ n. all_below (λ c. get_or (get_or WAYS n []) c 0 == ways_to_have n c) 9) 4 n ways_tables (omega arith)) (omega arith))
 
 pub corners_table-at : (h : ℕ) → get_or CORNERS h 0 ≡ corner_count h
-unfolding corner_count
 corners_table-at h = ap (λ xs. get_or xs h 0) corners_table
 
 pub corners_table-listed : (h : ℕ) → get_or CORNERS h 0 ≡ slice_index corner_counts h
@@ -41,11 +40,10 @@ half_tables : IsTrue (all_below (λ b. get_or HALF_OF_BITS b 0 == place_of b hal
 unfolding all_below half_words half_bits
 half_tables = refl
 
-pub half_table : (units : List ℕ) (b : ℕ) → b ≡ corner_bits units → b < 64 → get_or HALF_OF_BITS b 0 ≡ half_of units
-unfolding half_of
-half_table units b e lt =
+pub half_table : (units : List ℕ) (b : ℕ) → length units ≡ 6 → b ≡ corner_bits units → b < 64 → get_or HALF_OF_BITS b 0 ≡ half_of units
+half_table units b six e lt =
     eqb-true (get_or HALF_OF_BITS b 0) (place_of b half_bits) (at_below (λ b. get_or HALF_OF_BITS b 0 == place_of b half_bits) 64 b half_tables lt)
-    ∙ ap (λ i. place_of i half_bits) e
+    ∙ ap (λ i. place_of i half_bits) e ∙ sym (half_of-bits units six)
 
 -- ---- the bits of six units
 
@@ -72,12 +70,6 @@ run_of-found f ks i r lt less =
 pub run_of-end : (f : ℕ → ℕ) (ks : List ℕ) (i r : ℕ) → length ks ≤ i → (let p : ℕ × ℕ = (0, r) in run_of f (drop i ks) r ≡ p)
 run_of-end f ks i r le = at_drop_all (λ xs. run_of f xs r) ks i le
 
--- a sum with one run more
-pub total-more : (f : ℕ → ℕ) (ks : List ℕ) (i : ℕ) → i < length ks → total (map f (take (i + 1) ks)) ≡ total (map f (take i ks)) + f (slice_index ks i)
-total-more f [] i lt = absurd (omega arith)
-total-more f (k ∷ ks) zero lt = omega arith
-total-more f (k ∷ ks) (suc i) lt = omega (arith, total-more f ks i (omega arith), ap (λ n. total (map f (take n (k ∷ ks)))) {x = suc i + 1} {y = suc (i + 1)} (omega arith))
-
 -- ---- the number of a shape, half by half
 
 -- so many halves are left, and the number of those before them
@@ -87,8 +79,7 @@ pub record CountedHalves (n corners number : ℕ) (left hs : List ℕ) : Type 0 
   pub few : corners ≤ 8
 
 pub counted_start : (hs : List ℕ) → IsShape hs → CountedHalves 4 8 0 hs hs
-unfolding shape_number
-counted_start hs shape = record { halves = shape; counted = omega arith; few = lit≤ tt }
+counted_start hs shape = record { halves = shape; counted = omega (arith, shape_number-halves hs shape); few = lit≤ tt }
 
 -- one half less
 pub record CountedStep (n corners number h : ℕ) (others hs : List ℕ) : Type 0 where
@@ -172,8 +163,7 @@ pub record ReadHalves (place n : ℕ) (units halves : List ℕ) : Type 0 where
   pub read : take place halves ++ halves_in n (drop (6 * place) units) ≡ shape_of units
 
 pub read_start : (units : List ℕ) → ReadHalves 0 4 units (0 ∷ 0 ∷ 0 ∷ 0 ∷ [])
-unfolding shape_of
-read_start units = record { size = refl; read = refl }
+read_start units = record { size = refl; read = sym (shape_of-halves units) }
 
 pub read_step : (place n h : ℕ) (units halves : List ℕ) → place < 4 → ReadHalves place (suc n) units halves
     → h ≡ half_of (take 6 (drop (6 * place) units)) → ReadHalves (place + 1) n units (set halves place h)

@@ -1,19 +1,19 @@
 -- The corners and the edges of valid states, in unit order, are permutations; and permutations laid by a shape are a valid
 -- state.
 use Rattle.std.proofs.Common.{◌≡◌, ℕ, zero, suc, ◌+◌, ◌-◌, ◌*◌, ◌<◌, eqb, Bool, List, [], ◌∷◌, map, length, refl, sym, ap, ◌∙◌, subst, arith}
-use Rattle.std.specs.Prelude.{All}
+use Rattle.std.specs.Prelude.{All, filter}
 use Rattle.std.proofs.lemmas.Bool.Decides.{nat_tests}
 use Rattle.std.proofs.lemmas.List.Elements.{All-head, All-tail}
 use Rattle.scr_combinatorics.specs.Lists.{total, occurrences, lesser_count}
 use Rattle.scr_combinatorics.specs.Permutations.{IsPermutation}
 use Rattle.scr_combinatorics.proofs.Counts.{one_if, one_if-other, lesser_count-zero, lesser_count-suc, lesser_count-all, occurrences-above}
 use Rattle.scr_combinatorics.proofs.PermutationLaws.{All-permutation}
-use Rattle.scr_sq1.specs.Units.{Sq1State, IsSq1}
-use Rattle.scr_sq1.specs.Shapes.{half_word, corners_among, corner_count, halves_in, shape_of, AreHalves, IsShape, units_among, Fits}
+use Rattle.scr_sq1.specs.Units.{Sq1State, IsSq1, is_corner}
+use Rattle.scr_sq1.specs.Shapes.{half_word, corners_among, shape_of, AreHalves, IsShape, units_among, Fits}
 use Rattle.scr_sq1.specs.Numbers.{corners_of, edges_of, laid, shape_word}
 use Rattle.scr_sq1.proofs.InHalves.{InHalves, InHalves-valid, IsSq1-halves}
-use Rattle.scr_sq1.proofs.LaidLaws.{corners_among-append, edges_among-append, length-laid, occurrences-laid, corners_of-laid, edges_of-laid}
-use Rattle.scr_sq1.proofs.HalfWords.{IsKnownHalf-below}
+use Rattle.scr_sq1.proofs.LaidLaws.{corners_among-append, edges_among-append, length-laid, occurrences-laid, length-corner_units, corners_of-laid, edges_of-laid}
+use Rattle.scr_sq1.proofs.HalfWords.{corner_count, IsKnownHalf-below, halves_in, shape_of-halves}
 use Rattle.scr_sq1.proofs.HalfByHalf.{ArePaired-in_halves, HalfPieces-paired, ShapeUnits-laid}
 
 -- ---- edges as pieces
@@ -45,13 +45,13 @@ IsPermutation-once n xs below once = record { size = sym (lesser_count-all n xs 
 -- ---- the pieces of a valid state
 
 pub record StatePieces (units : List ℕ) : Type 0 where
+  pub corner_units : length (filter is_corner units) ≡ 16
   pub corners : IsPermutation 8 (corners_of units)
   pub edges : IsPermutation 8 (edges_of units)
   pub shape : IsShape (shape_of units)
   pub laid_again : laid (shape_word (shape_of units)) (corners_of units) (edges_of units) ≡ units
 
 pub StatePieces-halves : (units : List ℕ) → InHalves units → StatePieces units
-unfolding shape_of
 StatePieces-halves units h =
     let p = HalfPieces-paired 4 units (ArePaired-in_halves units h) in
     let w = shape_word (halves_in 4 units) in
@@ -73,13 +73,16 @@ StatePieces-halves units h =
         occurrences-raised k es,
       );
     } in
-    let own_corners : corners_of units ≡ cs = ap corners_of p.are.is ∙ corners_of-laid w cs es fits p.are.below in
+    let own_corners : corners_of units ≡ cs = ap corners_of p.are.is ∙ corners_of-laid w cs es fits p.are.below corners.size in
     let own_edges : edges_of units ≡ es = ap edges_of p.are.is ∙ edges_of-laid w cs es fits p.are.below in
     record {
+      corner_units = ap (λ us. length (filter is_corner us)) p.are.is
+          ∙ omega (arith, length-corner_units w cs es fits p.are.below, corners.size);
       corners = subst (IsPermutation 8) (sym own_corners) corners;
       edges = subst (IsPermutation 8) (sym own_edges) edges;
-      shape = subst (λ c. AreHalves 4 c (halves_in 4 units)) corners.size p.halves;
-      laid_again = ap (λ xs. laid w xs (edges_of units)) own_corners ∙ ap (laid w cs) own_edges ∙ sym p.are.is;
+      shape = subst IsShape (sym (shape_of-halves units)) (subst (λ c. AreHalves 4 c (halves_in 4 units)) corners.size p.halves);
+      laid_again = ap (λ hs. laid (shape_word hs) (corners_of units) (edges_of units)) (shape_of-halves units)
+          ∙ ap (λ xs. laid w xs (edges_of units)) own_corners ∙ ap (laid w cs) own_edges ∙ sym p.are.is;
     }
 
 pub StatePieces-valid : (s : Sq1State) → IsSq1 s → StatePieces s.units
@@ -114,7 +117,6 @@ pub record LaidState (hs cs es : List ℕ) : Type 0 where
   pub edges_again : edges_of (laid (shape_word hs) cs es) ≡ es
 
 pub LaidState-pieces : (hs cs es : List ℕ) → IsShape hs → IsPermutation 8 cs → IsPermutation 8 es → LaidState hs cs es
-unfolding shape_of
 LaidState-pieces hs cs es shape corners edges =
     let w = shape_word hs in
     let counted = AreCounted-halves hs shape.below in
@@ -141,7 +143,7 @@ LaidState-pieces hs cs es shape corners edges =
             );
         partners = λ k lt corner. units.partners k (omega (arith, shape.size)) corner;
       });
-      shape_again = ap (λ n. halves_in n (laid w cs es)) (sym shape.size) ∙ units.halves;
-      corners_again = corners_of-laid w cs es fits below;
+      shape_again = shape_of-halves (laid w cs es) ∙ ap (λ n. halves_in n (laid w cs es)) (sym shape.size) ∙ units.halves;
+      corners_again = corners_of-laid w cs es fits below corners.size;
       edges_again = edges_of-laid w cs es fits below;
     }

@@ -6,7 +6,7 @@ use Rattle.scr_combinatorics.specs.Permutations.{IsPermutation}
 use Rattle.scr_combinatorics.proofs.Picks.{length-pick, pick-at}
 use Rattle.scr_combinatorics.proofs.PermutationLaws.{IsRearranged-pick, at-permutation}
 use Rattle.scr_sq1.specs.Units.{Sq1State, IsSq1, is_corner, next_unit, previous_unit, is_open, turn_places, twist_places}
-use Rattle.scr_sq1.proofs.InHalves.{InHalves-valid, IsSq1-halves}
+use Rattle.scr_sq1.proofs.InHalves.{InHalves-valid, IsSq1-halves, IsPutTogether-valid, IsSq1-together}
 use Rattle.scr_sq1.proofs.Places.{next_unit-lt, previous_unit-lt, IsTurnTable, IsPermutation-twist_places, StaysInHalf-twist}
 
 -- pieces that are moved by a permutation of the units
@@ -27,7 +27,7 @@ IsSq1-moved s n m h t opened =
     let places : List ℕ = turn_places n m in
     let units : List ℕ = pick s.units places in
     let at = moved-at s.units places h.size t.permutation in
-    record {
+    IsSq1-together units s.equator (record {
       size = moved_size s.units places h.size t.permutation;
       pieces = λ p lt. moved_occurrences s.units places h.size t.permutation p ∙ h.pieces p lt;
       neighbours = λ k lt corner.
@@ -41,9 +41,9 @@ IsSq1-moved s n m h t opened =
           ap (λ x. (x == slice_index units k) || (slice_index units (previous_unit k) == slice_index units k)) behind
           ∙ ap (λ x. (slice_index s.units (next_unit from) == slice_index units k) || (x == slice_index units k)) before
           ∙ ap (λ x. (slice_index s.units (next_unit from) == x) || (slice_index s.units (previous_unit from) == x)) here
-          ∙ h.neighbours from low (ap is_corner (sym here) ∙ corner);
+          ∙ (IsPutTogether-valid s h).neighbours from low (ap is_corner (sym here) ∙ corner);
       opened = opened;
-    }
+    })
 
 -- a twist
 pub IsSq1-twisted : (s : Sq1State) (equator : Bool) → IsSq1 s → IsSq1 (record { units = pick s.units twist_places; equator = equator })

@@ -13,6 +13,7 @@ use Rattle.scr_sq1.specs.Units.{Sq1State, are_of_one_corner, is_open, clockwise,
 use Rattle.scr_sq1.specs.Known.{turned_over_sq1}
 use Rattle.scr_sq1.proofs.Places.{places_by, same_places, pick-places_by, place_before-lt, place_before-top, place_before-bottom, IsTurnTable-turn, IsPermutation-twist_places}
 use Rattle.scr_sq1.proofs.Clockwise.{clockwise-lt}
+use Rattle.scr_sq1.proofs.InHalves.{is_open-layers}
 
 and_swap : (a b : Bool) → (a && b) ≡ (b && a)
 and_swap true true = refl
@@ -105,7 +106,9 @@ turned-over s x y =
 is_open-over : (units : List ℕ) → is_open (pick units over_places) ≡ is_open units
 unfolding over_places
 is_open-over units =
-    and_swap (not (are_of_one_corner units 23 12) && not (are_of_one_corner units 17 18)) (not (are_of_one_corner units 11 0) && not (are_of_one_corner units 5 6))
+    is_open-layers (pick units over_places)
+    ∙ and_swap (not (are_of_one_corner units 23 12) && not (are_of_one_corner units 17 18)) (not (are_of_one_corner units 11 0) && not (are_of_one_corner units 5 6))
+    ∙ sym (is_open-layers units)
 
 -- amounts of a turn are so in either order
 is_layer_turn-over : (x y : ℤ) → is_layer_turn (Layers y x) ≡ is_layer_turn (Layers x y)

@@ -12,8 +12,8 @@ abbrev pub TurnsAcross : Sq1State → Turn → Type 0
 TurnsAcross s (Layers top bottom) = is_open (turned s top bottom).units ≡ false
 TurnsAcross s _ = ⊥
 
--- One of the letters is barred in its place: those before it lead to a state from which it is no turn of the event, or would
--- turn a corner across the cut.
+-- One of the letters is barred in its place: those before it lead to a state from which it is no turn of the event, or
+-- would turn a corner across the cut.
 pub record IsBarredAlong (s : Sq1State) (w : List Turn) : Type 0 where
   pub before : List Turn
   pub letter : Turn

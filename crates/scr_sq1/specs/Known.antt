@@ -47,15 +47,17 @@ layers top bottom equator = record { units = units_written (top ++ bottom); equa
 abbrev pub parity_word : List Turn
 parity_word =
     Twist
-    ∷ slices ((pos 3, pos 3) ∷ (pos 1, pos 0) ∷ (anticlockwise 2, anticlockwise 2) ∷ (pos 2, pos 0) ∷ (pos 2, pos 2) ∷ (anticlockwise 1, pos 0) ∷ (anticlockwise 3, anticlockwise 3)
-    ∷ (anticlockwise 2, pos 0) ∷ (pos 3, pos 3) ∷ (pos 3, pos 0) ∷ (anticlockwise 1, anticlockwise 1) ∷ (anticlockwise 3, pos 0) ∷ (pos 1, pos 1) ∷ [])
+    ∷ slices ((pos 3, pos 3) ∷ (pos 1, pos 0) ∷ (anticlockwise 2, anticlockwise 2) ∷ (pos 2, pos 0) ∷ (pos 2, pos 2)
+    ∷ (anticlockwise 1, pos 0) ∷ (anticlockwise 3, anticlockwise 3) ∷ (anticlockwise 2, pos 0) ∷ (pos 3, pos 3)
+    ∷ (pos 3, pos 0) ∷ (anticlockwise 1, anticlockwise 1) ∷ (anticlockwise 3, pos 0) ∷ (pos 1, pos 1) ∷ [])
     ++ Layers (anticlockwise 4) (anticlockwise 3) ∷ []
 
 -- A word that turns the layers by nearly every amount, through shapes that are no squares.
 abbrev pub long_word : List Turn
 long_word =
-    slices ((pos 1, pos 3) ∷ (anticlockwise 4, anticlockwise 1) ∷ (pos 0, pos 1) ∷ (pos 3, pos 0) ∷ (pos 1, pos 2) ∷ (anticlockwise 4, anticlockwise 3) ∷ (pos 0, pos 6)
-    ∷ (pos 4, anticlockwise 3) ∷ (pos 6, pos 2) ∷ (pos 6, pos 4) ∷ (pos 2, anticlockwise 4) ∷ (pos 5, anticlockwise 5) ∷ (anticlockwise 5, pos 6) ∷ (anticlockwise 4, pos 5)
+    slices ((pos 1, pos 3) ∷ (anticlockwise 4, anticlockwise 1) ∷ (pos 0, pos 1) ∷ (pos 3, pos 0) ∷ (pos 1, pos 2)
+    ∷ (anticlockwise 4, anticlockwise 3) ∷ (pos 0, pos 6) ∷ (pos 4, anticlockwise 3) ∷ (pos 6, pos 2) ∷ (pos 6, pos 4)
+    ∷ (pos 2, anticlockwise 4) ∷ (pos 5, anticlockwise 5) ∷ (anticlockwise 5, pos 6) ∷ (anticlockwise 4, pos 5)
     ∷ (anticlockwise 2, pos 6) ∷ (anticlockwise 1, anticlockwise 2) ∷ [])
 
 -- ---- states
@@ -64,16 +66,16 @@ long_word =
 abbrev pub barred_units : List (List ℕ)
 barred_units =
     map units_written
-    ((codes "08119a2233b0" ++ solved_bottom) ∷ (codes "0089a112233b" ++ solved_bottom) ∷ (solved_top ++ codes "4c55de6677f4")
-    ∷ (solved_top ++ codes "44cde556677f") ∷ [])
+    ((codes "08119a2233b0" ++ solved_bottom) ∷ (codes "0089a112233b" ++ solved_bottom)
+    ∷ (solved_top ++ codes "4c55de6677f4") ∷ (solved_top ++ codes "44cde556677f") ∷ [])
 
--- Units that can't be put together: edge 8 stands twice; corner 0 is split in one layer; it is split between the layers; a unit
--- is missing.
+-- Units that can't be put together: edge 8 stands twice; corner 0 is split in one layer; it is split between the
+-- layers; a unit is missing.
 abbrev pub impossible_units : List (List ℕ)
 impossible_units =
     map units_written
-    ((codes "00811822a33b" ++ solved_bottom) ∷ (codes "08011922a33b" ++ solved_bottom) ∷ codes "0c811922a33b044d55e66f77"
-    ∷ (codes "00811922a33" ++ solved_bottom) ∷ [])
+    ((codes "00811822a33b" ++ solved_bottom) ∷ (codes "08011922a33b" ++ solved_bottom)
+    ∷ codes "0c811922a33b044d55e66f77" ∷ (codes "00811922a33" ++ solved_bottom) ∷ [])
 
 -- These units are of no state.
 abbrev pub AreOfNoState : List ℕ → Type 0
@@ -86,6 +88,7 @@ pub record HasShape (digits halves : List ℕ) (number : ℕ) : Type 0 where
 
 -- ---- turned over
 
--- The puzzle turned over about the axis from left to right: the layers are exchanged, and the right half stays at the right.
+-- The puzzle turned over about the axis from left to right: the layers are exchanged, and the right half stays at the
+-- right.
 abbrev pub turned_over_sq1 : Sq1State → Sq1State
 turned_over_sq1 s = record { units = pick s.units (numbers_from 12 12 ++ numbers_from 0 12); equator = s.equator }

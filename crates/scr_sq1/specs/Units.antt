@@ -1,12 +1,14 @@
 -- A Square-1 as its units and its equator, and its turns (WCA Regulations, article 12).
 --
--- Each layer has twelve units, of a twelfth of a turn each. Units 0 to 11 are the top layer, clockwise as seen from above,
--- from the cut at the back on. Units 12 to 23 are the bottom layer, clockwise as seen from below, from the cut at the front
--- on. So the cut parts units 11 and 0, 5 and 6, 23 and 12, 17 and 18, and at its right are units 0 to 5 and 12 to 17. The
--- pieces 0 to 7 are corners, and fill two neighbouring units of one layer; 8 to 15 are edges, and fill one. Between the
--- layers is the equator, whose right half is turned over at each twist.
-use Rattle.std.specs.Prelude.{◌≡◌, ℕ, ◌+◌, ◌-◌, ◌%◌, ◌<◌, ℤ, pos, negsuc, Bool, false, not, ◌==◌, ◌&&◌, ◌||◌, nat_lt, if◌then◌else◌, IsTrue, List, [], ◌∷◌, length, map, slice_index, Option, Some, None}
+-- Each layer has twelve units, of a twelfth of a turn each. Units 0 to 11 are the top layer, clockwise as seen from
+-- above, from the cut at the back on. Units 12 to 23 are the bottom layer, clockwise as seen from below, from the cut
+-- at the front on. So the cut parts units 11 and 0, 5 and 6, 23 and 12, 17 and 18, and at its right are units 0 to 5
+-- and 12 to 17. The pieces 0 to 7 are corners, and fill two neighbouring units of one layer; 8 to 15 are edges, and
+-- fill one. Between the layers is the equator, whose right half is turned over at each twist.
+use Rattle.std.specs.Prelude.{◌≡◌, ℕ, suc, ◌+◌, ◌-◌, ◌%◌, ◌<◌, ℤ, pos, negsuc, Bool, false, not, ◌==◌, ◌&&◌, ◌||◌, nat_lt, if◌then◌else◌, List, [], ◌∷◌, ◌++◌, length, map, slice_index, Option, Some, None}
+use Rattle.std.specs.List.{list_all}
 use Rattle.scr_combinatorics.specs.Lists.{occurrences, numbers_from, pick}
+use Rattle.scr_combinatorics.specs.Permutations.{place_of}
 use Rattle.scr_combinatorics.specs.Reach.{Puzzle}
 use Rattle.scr_notation.specs.declared.turn.Turn.{Turn}
 use Rattle.scr_notation.specs.declared.turn.Turn.TheVariants.{Layers, Twist}
@@ -23,39 +25,12 @@ pub record Sq1State : Type 0 where
 abbrev pub is_corner : ℕ → Bool
 is_corner piece = nat_lt piece 8
 
--- the unit behind and the unit before a unit, round its layer
-abbrev pub next_unit : ℕ → ℕ
-next_unit k = if k == 11 then 0 else (if k == 23 then 12 else k + 1)
-
-abbrev pub previous_unit : ℕ → ℕ
-previous_unit k = if k == 0 then 11 else (if k == 12 then 23 else k - 1)
-
--- a unit's piece fills a neighbouring unit too
-abbrev pub fills_neighbour : List ℕ → ℕ → Bool
-fills_neighbour units k =
-    (slice_index units (next_unit k) == slice_index units k) || (slice_index units (previous_unit k) == slice_index units k)
-
--- two units are of one corner
-abbrev pub are_of_one_corner : List ℕ → ℕ → ℕ → Bool
-are_of_one_corner units j k = is_corner (slice_index units j) && (slice_index units k == slice_index units j)
-
--- No corner lies across the cut.
-abbrev pub is_open : List ℕ → Bool
-is_open units =
-    (not (are_of_one_corner units 11 0) && not (are_of_one_corner units 5 6))
-    && (not (are_of_one_corner units 23 12) && not (are_of_one_corner units 17 18))
-
--- how many units a piece fills
-abbrev pub units_filled : ℕ → ℕ
-units_filled piece = if is_corner piece then 2 else 1
-
--- What can be put together, and can twist: each of the sixteen pieces is there, a corner's two units are neighbours, and no
--- corner lies across the cut.
+-- What can be put together, and can twist: each of the sixteen pieces is there, and behind the first unit of each
+-- corner, in the same half, comes its second one. So no corner lies across the cut.
 pub record IsSq1 (s : Sq1State) : Type 0 where
   pub size : length s.units ≡ 24
-  pub pieces : (p : ℕ) → p < 16 → occurrences p s.units ≡ units_filled p
-  pub neighbours : (k : ℕ) → k < 24 → IsTrue (is_corner (slice_index s.units k)) → IsTrue (fills_neighbour s.units k)
-  pub opened : IsTrue (is_open s.units)
+  pub pieces : (p : ℕ) → p < 16 → occurrences p s.units ≡ (if is_corner p then 2 else 1)
+  pub corners : (p : ℕ) → p < 8 → (place_of p s.units % 6 < 5) × (slice_index s.units (suc (place_of p s.units)) ≡ p)
 
 -- Edge piece 8 + n is called edge n.
 abbrev pub solved_sq1 : Sq1State
@@ -71,25 +46,32 @@ abbrev pub clockwise : ℤ → ℕ
 clockwise (pos n) = n % 12
 clockwise (negsuc n) = 11 - n % 12
 
--- Where the piece that comes to unit k stood, when the layers are turned by so many twelfths clockwise, each as seen from its
--- own side.
+-- Where the piece that comes to unit k stood, when the layers are turned by so many twelfths clockwise, each as seen
+-- from its own side.
 abbrev pub place_before : ℕ → ℕ → ℕ → ℕ
 place_before top bottom k = if nat_lt k 12 then (k + (12 - top)) % 12 else 12 + (k + (12 - bottom)) % 12
-
--- the same when the half at the right of the cut is turned over: its top and its bottom units are exchanged
-abbrev pub place_before_twist : ℕ → ℕ
-place_before_twist k = if nat_lt k 6 then k + 12 else (if nat_lt k 12 then k else (if nat_lt k 18 then k - 12 else k))
 
 -- the places of all units
 unfoldable pub turn_places : ℕ → ℕ → List ℕ
 turn_places top bottom = map (place_before top bottom) (numbers_from 0 24)
 
+-- the same when the half at the right of the cut is turned over: its top and its bottom units are exchanged
 unfoldable pub twist_places : List ℕ
-twist_places = map place_before_twist (numbers_from 0 24)
+twist_places = numbers_from 12 6 ++ numbers_from 6 6 ++ numbers_from 0 6 ++ numbers_from 18 6
 
 -- the layers turned by so many twelfths, whether or not that is barred
 unfoldable pub turned : Sq1State → ℤ → ℤ → Sq1State
-turned s top bottom = record { units = pick s.units (turn_places (clockwise top) (clockwise bottom)); equator = s.equator }
+turned s top bottom = record s { units = pick s.units (turn_places (clockwise top) (clockwise bottom)) }
+
+-- two units are of one corner
+abbrev pub are_of_one_corner : List ℕ → ℕ → ℕ → Bool
+are_of_one_corner units j k = is_corner (slice_index units j) && (slice_index units k == slice_index units j)
+
+-- no corner lies across the cut
+abbrev pub is_open : List ℕ → Bool
+is_open units =
+    list_all {X = ℕ × ℕ} (λ cut. not (are_of_one_corner units cut.0 cut.1))
+    ((11, 0) ∷ (5, 6) ∷ (23, 12) ∷ (17, 18) ∷ [])
 
 -- A turn of the layers by so many twelfths clockwise: it is barred where a corner would lie across the cut.
 unfoldable pub after_layers : Sq1State → ℤ → ℤ → Option Sq1State
@@ -108,3 +90,18 @@ sq1_after s _ = None
 -- The Square-1 as a puzzle. Each turn of the layers counts once, and so does each twist (WCA Regulations, article 4).
 abbrev pub sq1_puzzle : Puzzle Sq1State
 sq1_puzzle = record { Turn = Turn; after = sq1_after; IsSolved = λ s. s ≡ solved_sq1; counted = λ t. 1 }
+
+-- ---- neighbours
+
+-- the unit behind and the unit before a unit, round its layer
+abbrev pub next_unit : ℕ → ℕ
+next_unit k = if k == 11 then 0 else (if k == 23 then 12 else k + 1)
+
+abbrev pub previous_unit : ℕ → ℕ
+previous_unit k = if k == 0 then 11 else (if k == 12 then 23 else k - 1)
+
+-- a unit's piece fills a neighbouring unit too
+abbrev pub fills_neighbour : List ℕ → ℕ → Bool
+fills_neighbour units k =
+    (slice_index units (next_unit k) == slice_index units k)
+    || (slice_index units (previous_unit k) == slice_index units k)

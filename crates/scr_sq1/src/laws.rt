@@ -1,8 +1,8 @@
 //! What holds of the Square-1 whatever the code: calls that do nothing, whose contracts are the laws.
 //!
 //! That Square-1s are drawn fairly is the law of `scr_draw` for any event that it draws.
-ghost use Rattle.std.specs.Prelude.{◌≡◌, ◌↔◌, ℕ, ◌+◌, ◌*◌, ◌%◌, ◌<◌, ◌≤◌, ℤ, pos, Bool, true, false, not, List, [], ◌∷◌, ◌++◌, length, slice_index, All, Some, None, option_map, codes};
-ghost use Rattle.scr_combinatorics.specs.Lists.{ComesBefore};
+ghost use Rattle.std.specs.Prelude.{◌≡◌, ◌↔◌, IsTrue, ℕ, ◌+◌, ◌*◌, ◌%◌, ◌<◌, ◌≤◌, ℤ, pos, Bool, true, false, not, List, [], ◌∷◌, ◌++◌, length, slice_index, filter, ◌==◌, All, Some, None, option_map, codes};
+ghost use Rattle.scr_combinatorics.specs.Lists.{total, pick, ComesBefore};
 ghost use Rattle.scr_combinatorics.specs.Permutations.{factorial};
 ghost use Rattle.scr_combinatorics.specs.Numbering.{IsOneToOne, IsNumbering};
 ghost use Rattle.scr_combinatorics.specs.Play.{play, count_in};
@@ -15,17 +15,19 @@ ghost use Rattle.scr_notation.specs.declared.turn.Turn.TheVariants.{Layers, Twis
 ghost use Rattle.scr_notation.specs.Turning.{opposite, turn_merging};
 ghost use Rattle.scr_sq1.specs.Barred.{IsBarredAlong};
 ghost use Rattle.scr_sq1.specs.Units.{Sq1State, IsSq1, is_open, solved_sq1, clockwise, twisted, sq1_after, sq1_puzzle};
-ghost use Rattle.scr_sq1.specs.Shapes.{half_word, IsShape, shape_of, ways_to_have, shape_number, shape_at, shape_count, units_among};
+ghost use Rattle.scr_sq1.specs.Shapes.{half_word, corner_counts, IsShape, shape_of, ways_after, halves_lists, shape_number, shape_at, shape_count, units_among};
 ghost use Rattle.scr_sq1.specs.Numbers.{sq1_numbered};
 ghost use Rattle.scr_sq1.specs.Known.{anticlockwise, slices, IsKnownWord, ReturnsAfter, solved_top, solved_bottom, layers, parity_word, long_word, barred_units, impossible_units, AreOfNoState, HasShape, turned_over_sq1};
 
 /// The turns are lawful: they keep states valid, each is undone by its opposite, and two turns of the layers one after the other
-/// come to one or to none, as two twists come to none. So words are taken back and tidied, and what turns reach is valid.
+/// come to one or to none, as two twists come to none. So words are taken back and tidied, and what turns reach is valid. No corner
+/// of a valid state lies across the cut.
 pub fn turns()
     ensures lawful { IsLawful sq1_after opposite turn_merging IsSq1 }
     ensures taken_back { IsTakenBack sq1_after opposite IsSq1 }
     ensures tidied { IsKeptByTidy sq1_after turn_merging IsSq1 }
     ensures reached { (s : Sq1State) → IsReached sq1_puzzle s → IsSq1 s }
+    ensures opened { (s : Sq1State) → IsSq1 s → IsTrue (is_open s.units) }
 {}
 
 /// Turns lead from a state nowhere exactly where one of them, in its place, is no turn of the event or would turn a corner
@@ -61,7 +63,8 @@ pub fn symmetry()
 pub fn shapes()
     ensures halves { (word : List Bool) → units_among word ≡ 6 → (h : ℕ) × (h < 13) × (half_word h ≡ word) }
     ensures once { (h g : ℕ) → h < 13 → g < 13 → half_word h ≡ half_word g → h ≡ g }
-    ensures counted { ways_to_have 4 8 ≡ shape_count }
+    ensures counted { ways_after 4 8 0 ≡ shape_count }
+    ensures listed { length (filter (λ hs. total (pick corner_counts hs) == 8) (halves_lists 4)) ≡ shape_count }
     ensures one_to_one { IsOneToOne shape_count shape_at shape_number IsShape }
     ensures in_order { (hs gs : List ℕ) → IsShape hs → IsShape gs → ComesBefore hs gs
         → shape_number hs < shape_number gs }

@@ -1,6 +1,7 @@
 //! The pieces of a Square-1 in unit order.
-ghost use Rattle.std.specs.Prelude.{◌≡◌, ◌+◌, ◌<◌, ◌≤◌, ◌++◌, All, length, take};
+ghost use Rattle.std.specs.Prelude.{◌≡◌, ◌+◌, ◌<◌, ◌≤◌, ◌++◌, All, filter, length, take};
 ghost use Rattle.scr_combinatorics.specs.Permutations.{IsPermutation};
+ghost use Rattle.scr_sq1.specs.Units.{is_corner};
 ghost use Rattle.scr_sq1.specs.Shapes.{half_word, IsShape, units_among, Fits};
 ghost use Rattle.scr_sq1.specs.Numbers.{corners_of, edges_of, laid, shape_word};
 
@@ -35,7 +36,7 @@ const HALVES: [[bool; 6]; 13] = [
 
 /// The corners of these units in unit order.
 pub(crate) fn corners_in(units: &[u8; UNITS]) -> [u8; 8]
-    requires { length (corners_of units.now) ≡ 8 }
+    requires { length (filter is_corner units.now) ≡ 16 }
     ensures { result ≡ corners_of units.now }
 {
     let mut corners = [0; 8];

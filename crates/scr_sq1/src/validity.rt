@@ -1,7 +1,7 @@
 //! Tests of what makes a state valid.
-ghost use Rattle.std.specs.Prelude.{◌≡◌, ℕ, ◌<◌, ◌↔◌, IsTrue, slice_index};
+ghost use Rattle.std.specs.Prelude.{◌≡◌, ℕ, ◌<◌, ◌↔◌, if◌then◌else◌, IsTrue, slice_index};
 ghost use Rattle.scr_combinatorics.specs.Lists.{occurrences, pick};
-ghost use Rattle.scr_sq1.specs.Units.{is_corner, fills_neighbour, are_of_one_corner, is_open, turn_places, units_filled};
+ghost use Rattle.scr_sq1.specs.Units.{is_corner, fills_neighbour, are_of_one_corner, is_open, turn_places};
 
 use crate::turning::{UNITS, place_before};
 
@@ -56,7 +56,7 @@ fn come_of_one_corner(units: &[u8; UNITS], top: u8, bottom: u8, unit: u8, other:
 
 /// Whether each corner fills two units and each edge one.
 pub(crate) fn has_each_piece(units: &[u8; UNITS]) -> bool
-    ensures { IsTrue result ↔ ((p : ℕ) → p < 16 → occurrences p units.now ≡ units_filled p) }
+    ensures { IsTrue result ↔ ((p : ℕ) → p < 16 → occurrences p units.now ≡ (if is_corner p then 2 else 1)) }
 {
     for piece in 0..16 {
         let filled = if piece < 8 { 2 } else { 1 };

@@ -1,5 +1,6 @@
--- The short scramble of a Square-1, which is our own choice: of the solutions that its first shape words begin, that of the
--- fewest twists, taken back. How many of these words are looked at is a setting; with one it is the scramble by stages.
+-- The short scramble of a Square-1, which is our own choice: of the solutions that its first shape words begin, that of
+-- the fewest twists, taken back. How many of these words are looked at is a setting; with one it is the scramble by
+-- stages.
 use Rattle.std.specs.Prelude.{◌≡◌, ℕ, ◌<◌, ◌≤◌, All, List, ◌∷◌, ◌++◌, take}
 use Rattle.scr_combinatorics.specs.Back.{back}
 use Rattle.scr_notation.specs.declared.turn.Turn.{Turn}

@@ -1,14 +1,16 @@
 -- A valid state is the state of its shape whose pieces are in order, with its pieces called otherwise. So what a word does to a
 -- state is told by its shape: it moves the lists of corners and of edges of all states of a shape by the same places.
-use Rattle.std.proofs.Common.{◌≡◌, ℕ, zero, suc, ◌+◌, ◌-◌, ◌%◌, ◌<◌, inl, inr, Bool, true, false, cond, List, [], ◌∷◌, map, slice_index, take, drop, Some, refl, sym, ap, ◌∙◌, arith}
+use Rattle.std.proofs.Common.{◌≡◌, ℕ, zero, suc, ◌+◌, ◌-◌, ◌%◌, ◌<◌, inl, inr, Bool, true, false, cond, List, [], ◌∷◌, map, length, slice_index, take, drop, Some, refl, sym, ap, ◌∙◌, arith}
 use Rattle.std.specs.Prelude.{not, All, filter}
+use Rattle.std.specs.List.{position_or_len}
 use Rattle.std.specs.Option.{option_map}
+use Rattle.std.specs.Str.{bytes_eq}
 use Rattle.std.proofs.Math.Nat.{add-sub_cancel_left}
 use Rattle.std.proofs.lemmas.Bool.{lt-ltb, le-ltb, cond-true, cond-false, cases_lt}
-use Rattle.std.proofs.lemmas.List.{take-map, drop-map}
+use Rattle.std.proofs.lemmas.List.{length-map, take-map, drop-map}
 use Rattle.std.proofs.lemmas.List.Elements.{All-head, All-tail}
 use Rattle.scr_combinatorics.specs.Lists.{numbers_from, pick}
-use Rattle.scr_combinatorics.specs.Permutations.{parity, place_of}
+use Rattle.scr_combinatorics.specs.Permutations.{parity}
 use Rattle.scr_combinatorics.proofs.Parities.{parity-pick}
 use Rattle.scr_combinatorics.proofs.Picks.{pick-in_order}
 use Rattle.scr_combinatorics.proofs.PermutationLaws.{All-permutation, IsPermutation-numbers_from}
@@ -16,9 +18,10 @@ use Rattle.scr_combinatorics.specs.Play.{play}
 use Rattle.scr_combinatorics.proofs.PlayLaws.{play-keeps}
 use Rattle.scr_notation.specs.declared.turn.Turn.{Turn}
 use Rattle.scr_sq1.specs.Units.{Sq1State, IsSq1, is_corner, sq1_after}
-use Rattle.scr_sq1.specs.Shapes.{IsShape, corner_bits, half_bits, half_of, halves_in, shape_of, Fits}
-use Rattle.scr_sq1.specs.Numbers.{every_second, corners_of, edges_of, laid, shape_word}
-use Rattle.scr_sq1.proofs.LaidLaws.{by_pieces}
+use Rattle.scr_sq1.specs.Shapes.{half_words, IsShape, half_of, shape_of, Fits}
+use Rattle.scr_sq1.specs.Numbers.{corners_of, edges_of, laid, shape_word}
+use Rattle.scr_sq1.proofs.HalfWords.{letters_of, halves_in, shape_of-halves}
+use Rattle.scr_sq1.proofs.LaidLaws.{by_pieces, every_second, corners_of-sixteen}
 use Rattle.scr_sq1.proofs.StatePieces.{StatePieces-valid, LaidState, LaidState-pieces}
 use Rattle.scr_sq1.proofs.Lawful.{IsLawful-sq1}
 use Rattle.scr_sq1solve.specs.Stages.{oddness}
@@ -66,9 +69,12 @@ module _ (n : Names) (h : AreNames n) where
             ∙ sym (ap (λ xs. map g (less xs)) (cond-true (not (is_corner u)) (u ∷ kept us) (kept us) (ap not (le-ltb u 8 le))))
       ]
 
-  pub corners_of-named : (us : List ℕ) → corners_of (map (named n) us) ≡ pick n.corners (corners_of us)
-  unfolding corners_of
-  corners_of-named us = ap every_second (filter_corners us) ∙ every_second-map (λ p. slice_index n.corners p) (filter is_corner us)
+  pub corners_of-named : (us : List ℕ) → length (filter is_corner us) ≡ 16 → corners_of (map (named n) us) ≡ pick n.corners (corners_of us)
+  corners_of-named us sixteen =
+      let f : ℕ → ℕ = λ p. slice_index n.corners p in
+      corners_of-sixteen (map (named n) us) (ap length (filter_corners us) ∙ length-map (filter is_corner us) f ∙ sixteen)
+      ∙ ap every_second (filter_corners us) ∙ every_second-map f (filter is_corner us)
+      ∙ ap (map f) (sym (corners_of-sixteen us sixteen))
     where
       every_second-map : (g : ℕ → ℕ) (xs : List ℕ) → every_second (map g xs) ≡ map g (every_second xs)
       every_second-map g [] = refl
@@ -79,14 +85,15 @@ module _ (n : Names) (h : AreNames n) where
   unfolding edges_of
   edges_of-named us = filter_edges us
 
-  corner_bits-named : (us : List ℕ) → corner_bits (map (named n) us) ≡ corner_bits us
-  corner_bits-named [] = refl
-  corner_bits-named (u ∷ us) =
-      omega (arith, ap (λ b. let one : ℕ = cond b 1 0 in one) (is_corner-named n h u), corner_bits-named us)
+  letters-named : (us : List ℕ) → letters_of (map (named n) us) ≡ letters_of us
+  letters-named [] = refl
+  letters-named (u ∷ us) =
+      ap (λ b. let letter : ℕ = cond b 99 101 in letter ∷ letters_of (map (named n) us)) (is_corner-named n h u)
+      ∙ ap (λ letters. cond (is_corner u) 99 101 ∷ letters) (letters-named us)
 
   half_of-named : (us : List ℕ) → half_of (map (named n) us) ≡ half_of us
   unfolding half_of
-  half_of-named us = ap (λ b. place_of b half_bits) (corner_bits-named us)
+  half_of-named us = ap (λ letters. position_or_len (bytes_eq letters) half_words) (letters-named us)
 
   halves_in-named : (k : ℕ) (us : List ℕ) → halves_in k (map (named n) us) ≡ halves_in k us
   unfolding halves_in
@@ -98,8 +105,7 @@ module _ (n : Names) (h : AreNames n) where
       ∙ ap (λ hs. half_of (take 6 us) ∷ hs) (halves_in-named k (drop 6 us))
 
   pub shape_of-named : (us : List ℕ) → shape_of (map (named n) us) ≡ shape_of us
-  unfolding shape_of
-  shape_of-named us = halves_in-named 4 us
+  shape_of-named us = shape_of-halves (map (named n) us) ∙ halves_in-named 4 us ∙ sym (shape_of-halves us)
 
 -- ---- the state of a shape
 
@@ -180,6 +186,6 @@ oddness-renamed n s h valid =
     let p = StatePieces-valid s valid in
     omega (
       arith,
-      ap parity (corners_of-named n h s.units) ∙ parity-pick 8 n.corners (corners_of s.units) h.corners p.corners,
+      ap parity (corners_of-named n h s.units p.corner_units) ∙ parity-pick 8 n.corners (corners_of s.units) h.corners p.corners,
       ap parity (edges_of-named n h s.units) ∙ parity-pick 8 n.edges (edges_of s.units) h.edges p.edges,
     )

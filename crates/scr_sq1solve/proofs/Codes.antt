@@ -8,7 +8,7 @@ use Rattle.scr_combinatorics.proofs.PermutationLaws.{at-permutation}
 use Rattle.scr_combinatorics.proofs.PermutationNumbers.{permutation_number-lt}
 use Rattle.scr_notation.specs.Ranges.{all_below}
 use Rattle.scr_notation.proofs.Below.{at_below}
-use Rattle.scr_sq1solve.specs.Tables.{pair_of, is_larger, smaller, bits_number, pairs_number, paired_at, square_bases}
+use Rattle.scr_sq1solve.specs.Tables.{pair_of, is_larger, smaller, bits_number, pairs_number, paired_at}
 use Rattle.scr_sq1solve.specs.Codes.{code_number, code_at}
 use Rattle.scr_sq1solve.proofs.Filled.{numbers_all}
 use Rattle.scr_sq1solve.proofs.CodeSteps.{position_of}
@@ -48,7 +48,7 @@ bits-lt xs p =
 
 pub square-by_codes : (cs es : List ℕ) → IsPermutation 8 cs → IsPermutation 8 es
     → position_of (code_number es) (code_number cs)
-    ≡ mixed_number square_bases (bits_number es % 8 ∷ pairs_number es ∷ bits_number cs ∷ pairs_number cs ∷ [])
+    ≡ mixed_number (8 ∷ 24 ∷ 16 ∷ 24 ∷ []) (bits_number es % 8 ∷ pairs_number es ∷ bits_number cs ∷ pairs_number cs ∷ [])
 unfolding code_number
 square-by_codes cs es p q = omega (arith, bits-lt cs p, bits-lt es q, pairs-lt cs, pairs-lt es)
 

@@ -9,6 +9,7 @@ use Rattle.scr_notation.specs.declared.turn.Turn.{Turn}
 use Rattle.scr_notation.specs.declared.turn.Turn.TheVariants.{Layers, Twist}
 use Rattle.scr_sq1.specs.Units.{Sq1State, IsSq1, is_open, are_of_one_corner, turn_places, twist_places, turned, twisted}
 use Rattle.scr_sq1.specs.Units.{sq1_after}
+use Rattle.scr_sq1.proofs.InHalves.{is_open-layers, is_open-valid}
 use Rattle.scr_sq1.proofs.Lawful.{IsLawful-sq1, sq1_after-by_layers}
 use Rattle.scr_sq1solve.specs.Stages.{equator_word}
 
@@ -29,12 +30,13 @@ swapped false false c h = h
 half_open : (us : List ℕ) → IsTrue (is_open us) → IsTrue (is_open (pick us (turn_places 6 0)))
 unfolding turn_places
 half_open us h =
-    swapped (not (are_of_one_corner us 11 0)) (not (are_of_one_corner us 5 6))
-    (not (are_of_one_corner us 23 12) && not (are_of_one_corner us 17 18)) h
+    is_open-layers (pick us (turn_places 6 0))
+    ∙ swapped (not (are_of_one_corner us 11 0)) (not (are_of_one_corner us 5 6))
+    (not (are_of_one_corner us 23 12) && not (are_of_one_corner us 17 18)) (sym (is_open-layers us) ∙ h)
 
 after_half : (s : Sq1State) → IsSq1 s → sq1_after s (Layers (pos 6) (pos 0)) ≡ Some (half_turned s)
 unfolding half_turned turned
-after_half s valid = sq1_after-by_layers s (pos 6) (pos 0) refl (half_open s.units valid.opened)
+after_half s valid = sq1_after-by_layers s (pos 6) (pos 0) refl (half_open s.units (is_open-valid s valid))
 
 after_twist : (s : Sq1State) → sq1_after s Twist ≡ Some (twisted s)
 unfolding sq1_after

@@ -19,7 +19,7 @@ use Rattle.scr_sq1solve.proofs.Equator.{flipped}
 -- ---- words
 
 valid_flipped : (s : Sq1State) → IsSq1 s → IsSq1 (flipped s)
-valid_flipped s valid = record { size = valid.size; pieces = valid.pieces; neighbours = valid.neighbours; opened = valid.opened }
+valid_flipped s valid = record { size = valid.size; pieces = valid.pieces; corners = valid.corners }
 
 other_if-flipped : (e b : Bool) → other_if (not e) b ≡ not (other_if e b)
 other_if-flipped true true = refl

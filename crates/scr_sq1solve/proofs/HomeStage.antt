@@ -12,13 +12,13 @@ use Rattle.scr_notation.specs.declared.turn.Turn.{Turn}
 use Rattle.scr_notation.specs.Ranges.{all_below, same}
 use Rattle.scr_notation.proofs.Below.{at_below}
 use Rattle.scr_sq1.specs.Units.{Sq1State, solved_sq1, sq1_after, turn_places, twist_places, turned, after_layers, twisted}
-use Rattle.scr_sq1.specs.Shapes.{half_words, half_word, half_bits, half_of, halves_in, shape_of, halves_number, ways_to_have, corner_count, corner_counts, shape_number}
+use Rattle.scr_sq1.specs.Shapes.{half_words, half_of, shape_of}
 use Rattle.scr_sq1.specs.Numbers.{corners_of, edges_of, laid, shape_word}
 use Rattle.scr_sq1.proofs.StatePieces.{StatePieces-valid}
 use Rattle.scr_sq1.proofs.Lawful.{IsSq1-solved}
 use Rattle.scr_combinatorics.proofs.OneLetter.{IsEnding}
 use Rattle.scr_sq1solve.specs.Stages.{oddness, turn_word, quarter_word, mates, pairing_of, home_letter, home_stage, last_stage}
-use Rattle.scr_sq1solve.specs.Tables.{shapes_index, units_after, carried_pairing, pairs_number, bits_number, paired_at, last_bit, square_index, square_state, square_coordinate}
+use Rattle.scr_sq1solve.specs.Tables.{units_after, carried_pairing, pairs_number, bits_number, paired_at, last_bit, square_index, square_state, square_coordinate}
 use Rattle.scr_sq1solve.specs.Spaces.{IsPairedSq1}
 use Rattle.scr_sq1solve.specs.SearchTables.{square_table}
 use Rattle.scr_sq1solve.proofs.Renamed.{named, renamed}
@@ -71,7 +71,7 @@ module _ (letter : ℕ → List Turn) (tested : IsTrue (are_normal letter)) (mat
       subst IsPairedSq1 (IsMovedBy-is letter tested s r n m.0 e) m.1
 
 pub home_letters_normal : IsTrue (are_normal home_letter)
-unfolding are_normal all_below play turn_word quarter_word home_letter sq1_after after_layers turned turn_places twisted twist_places shapes_index oddness corners_of edges_of shape_number halves_number ways_to_have corner_count corner_counts shape_of halves_in half_of half_bits half_words half_word
+unfolding are_normal all_below play turn_word quarter_word home_letter sq1_after after_layers turned turn_places twisted twist_places oddness corners_of edges_of shape_of half_of half_words
 home_letters_normal = refl
 
 pub home_letters_paired : IsTrue (keep_mates home_letter)
@@ -79,7 +79,7 @@ unfolding keep_mates same carried_pairing units_after all_below play turn_word q
 home_letters_paired = refl
 
 pub quarters_normal : IsTrue (are_normal quarter_word)
-unfolding are_normal all_below play turn_word quarter_word sq1_after after_layers turned turn_places twisted twist_places shapes_index oddness corners_of edges_of shape_number halves_number ways_to_have corner_count corner_counts shape_of halves_in half_of half_bits half_words half_word
+unfolding are_normal all_below play turn_word quarter_word sq1_after after_layers turned turn_places twisted twist_places oddness corners_of edges_of shape_of half_of half_words
 quarters_normal = refl
 
 pub quarters_paired : IsTrue (keep_mates quarter_word)

@@ -1,9 +1,11 @@
 -- The letters of the later stages: what each makes of the solved state tells what it makes of every normal state.
 use Rattle.std.proofs.Common.{◌≡◌, ℕ, zero, suc, ◌+◌, ◌<◌, IsTrue, List, map, Option, Some, None, refl, sym, ap, ◌∙◌}
 use Rattle.std.proofs.Common.{subst, arith, eqb-true}
-use Rattle.std.specs.Prelude.{slice_get, unwrap_or}
-use Rattle.std.specs.Option.{option_map}
-use Rattle.std.proofs.lemmas.Bool.{false≢true}
+use Rattle.std.specs.Prelude.{slice_get, unwrap_or, ◌==◌, ◌↔◌, false}
+use Rattle.std.specs.Option.{option_map, option_map_or}
+use Rattle.std.specs.Str.{bytes_eq}
+use Rattle.std.proofs.lemmas.Slice.Eq.{bytes_eq-Decides}
+use Rattle.std.proofs.lemmas.Bool.{false≢true, and_parts, and_from, eq-eqb}
 use Rattle.std.proofs.lemmas.Option.{slice_get-map}
 use Rattle.scr_combinatorics.specs.Lists.{numbers_from, pick}
 use Rattle.scr_combinatorics.specs.Permutations.{IsPermutation}
@@ -11,17 +13,28 @@ use Rattle.scr_combinatorics.specs.Play.{play}
 use Rattle.scr_notation.specs.declared.turn.Turn.{Turn}
 use Rattle.scr_notation.proofs.Below.{at_below}
 use Rattle.scr_sq1.specs.Units.{Sq1State, solved_sq1, sq1_after}
+use Rattle.scr_sq1.specs.Shapes.{shape_of}
 use Rattle.scr_sq1.specs.Numbers.{corners_of, edges_of}
 use Rattle.scr_sq1.proofs.StatePieces.{StatePieces-valid}
 use Rattle.scr_sq1.proofs.Lawful.{IsSq1-solved}
-use Rattle.scr_sq1solve.specs.Stages.{oddness}
-use Rattle.scr_sq1solve.specs.Tables.{has_index, shapes_index, units_after}
+use Rattle.scr_sq1solve.specs.Stages.{oddness, IsNormal}
+use Rattle.scr_sq1solve.specs.Tables.{units_after}
+use Rattle.scr_sq1solve.specs.Totals.{is_normal}
 use Rattle.scr_sq1solve.specs.Spaces.{IsNormalSq1}
 use Rattle.scr_sq1solve.specs.Placed.{are_normal}
 use Rattle.scr_sq1solve.proofs.Renamed.{Names, renamed}
 use Rattle.scr_sq1solve.proofs.Bases.{names_of, AreNames-valid, corners_of-named, edges_of-named, shape_of-named}
 use Rattle.scr_sq1solve.proofs.Bases.{keeps_sq1, oddness-renamed}
-use Rattle.scr_sq1solve.proofs.ShapeStage.{IsNormal-iff, play-normal}
+use Rattle.scr_sq1solve.proofs.ShapeStage.{play-normal}
+
+pub IsNormal-test : (s : Sq1State) → IsTrue (is_normal s) ↔ IsNormal s
+IsNormal-test s =
+    let shapes = bytes_eq-Decides (shape_of s.units) (shape_of solved_sq1.units) in
+    let shape = bytes_eq (shape_of s.units) (shape_of solved_sq1.units) in
+    let even = oddness s == 0 in (
+      λ t. let both = and_parts shape even t in record { shape = shapes.0 both.0; even = eqb-true (oddness s) 0 both.1 },
+      λ n. and_from shape even (shapes.1 n.shape) (eq-eqb (oddness s) 0 n.even),
+    )
 
 module _ (letter : ℕ → List Turn) (tested : IsTrue (are_normal letter)) where
   record IsMade (n : ℕ) : Type 0 where
@@ -29,21 +42,21 @@ module _ (letter : ℕ → List Turn) (tested : IsTrue (are_normal letter)) wher
     pub played : play sq1_after solved_sq1 (letter n) ≡ Some state
     pub are : IsNormalSq1 state
 
-  made_of : (n : ℕ) (o : Option Sq1State) → play sq1_after solved_sq1 (letter n) ≡ o → IsTrue (has_index shapes_index (shapes_index solved_sq1) o) → IsMade n
+  made_of : (n : ℕ) (o : Option Sq1State) → play sq1_after solved_sq1 (letter n) ≡ o → IsTrue (option_map_or is_normal o false) → IsMade n
   made_of n None e t = absurd (false≢true t)
   made_of n (Some r) e t =
       let valid = keeps_sq1 solved_sq1 r (letter n) IsSq1-solved e in
       record {
         state = r;
         played = e;
-        are = record { valid = valid; normal = (IsNormal-iff r valid).1 (eqb-true (shapes_index r) (shapes_index solved_sq1) t) };
+        are = record { valid = valid; normal = (IsNormal-test r).0 t };
       }
 
   made : (n : ℕ) → n < 32 → IsMade n
   unfolding are_normal
   made n lt =
       made_of n (play sq1_after solved_sq1 (letter n)) refl
-      (at_below (λ k. has_index shapes_index (shapes_index solved_sq1) (play sq1_after solved_sq1 (letter k))) 32 n tested lt)
+      (at_below (λ k. option_map_or is_normal (play sq1_after solved_sq1 (letter k)) false) 32 n tested lt)
 
   units-made : (n : ℕ) (lt : n < 32) → units_after letter n ≡ (made n lt).state.units
   unfolding units_after
@@ -84,7 +97,7 @@ module _ (letter : ℕ → List Turn) (tested : IsTrue (are_normal letter)) wher
             even = omega (arith, oddness-renamed names m.state are m.are.valid, m.are.normal.even, h.normal.even);
           };
         };
-        corners = corners_of-named names are m.state.units ∙ ap (λ us. pick names.corners (corners_of us)) (sym (units-made n lt));
+        corners = corners_of-named names are m.state.units (StatePieces-valid m.state m.are.valid).corner_units ∙ ap (λ us. pick names.corners (corners_of us)) (sym (units-made n lt));
         edges = edges_of-named names are m.state.units ∙ ap (λ us. pick names.edges (edges_of us)) (sym (units-made n lt));
       }
 

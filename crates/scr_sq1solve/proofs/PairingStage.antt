@@ -20,11 +20,11 @@ use Rattle.scr_coord.specs.Projections.{projection}
 use Rattle.scr_coord.proofs.ListViews.{StaysBelow-projection}
 use Rattle.scr_notation.specs.Ranges.{all_below}
 use Rattle.scr_sq1.specs.Units.{Sq1State, sq1_after, turn_places, twist_places, turned, after_layers, twisted}
-use Rattle.scr_sq1.specs.Shapes.{half_words, half_word, half_bits, half_of, halves_in, shape_of, halves_number, ways_to_have, corner_count, corner_counts, shape_number}
+use Rattle.scr_sq1.specs.Shapes.{half_words, half_of, shape_of}
 use Rattle.scr_sq1.specs.Numbers.{corners_of, edges_of}
 use Rattle.scr_sq1.proofs.StatePieces.{StatePieces-valid}
 use Rattle.scr_sq1solve.specs.Stages.{mates, pairing_of, pairing_letter, oddness, turn_word}
-use Rattle.scr_sq1solve.specs.Tables.{shapes_index, units_after, letters_by, carried_pairing, pairings_index}
+use Rattle.scr_sq1solve.specs.Tables.{units_after, letters_by, carried_pairing, pairings_index}
 use Rattle.scr_sq1solve.specs.Tables.{pairings_view, pairings_coordinate}
 use Rattle.scr_sq1solve.specs.Spaces.{IsNormalSq1}
 use Rattle.scr_sq1solve.specs.SearchTables.{pairings_table}
@@ -36,7 +36,7 @@ use Rattle.scr_combinatorics.specs.Stages.{by_letters}
 use Rattle.scr_combinatorics.proofs.StageLaws.{by_letters-parts}
 
 pub pairing_letters_normal : IsTrue (are_normal pairing_letter)
-unfolding are_normal all_below play turn_word pairing_letter sq1_after after_layers turned turn_places twisted twist_places shapes_index oddness corners_of edges_of shape_number halves_number ways_to_have corner_count corner_counts shape_of halves_in half_of half_bits half_words half_word
+unfolding are_normal all_below play turn_word pairing_letter sq1_after after_layers turned turn_places twisted twist_places oddness corners_of edges_of shape_of half_of half_words
 pairing_letters_normal = refl
 
 -- the pairing that stands for mates that stand with mates

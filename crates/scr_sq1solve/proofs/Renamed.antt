@@ -14,6 +14,7 @@ use Rattle.scr_notation.specs.declared.turn.Turn.{Turn}
 use Rattle.scr_notation.specs.declared.turn.Turn.TheVariants.{Face, Axis, Tip, Layers, Twist, Pins, Over, Wide}
 use Rattle.scr_notation.specs.Layers.{is_layer_turn}
 use Rattle.scr_sq1.specs.Units.{Sq1State, IsSq1, is_corner, are_of_one_corner, is_open, clockwise, turn_places, twist_places, turned, after_layers, twisted, sq1_after}
+use Rattle.scr_sq1.proofs.InHalves.{is_open-layers}
 use Rattle.scr_sq1.proofs.Places.{IsTurnTable-turn, IsPermutation-twist_places}
 use Rattle.scr_sq1.proofs.Clockwise.{clockwise-lt}
 use Rattle.scr_sq1.proofs.Lawful.{IsLawful-sq1}
@@ -99,10 +100,12 @@ module _ (n : Names) (h : AreNames n) where
     is_open-named =
         let of = are_of_one_corner (map (named n) units) in
         let at = are_of_one_corner units in
-        ap (λ b. (not b && not (of 5 6)) && (not (of 23 12) && not (of 17 18))) (one_corner 11 0 (lit< tt) (lit< tt))
+        is_open-layers (map (named n) units)
+        ∙ ap (λ b. (not b && not (of 5 6)) && (not (of 23 12) && not (of 17 18))) (one_corner 11 0 (lit< tt) (lit< tt))
         ∙ ap (λ b. (not (at 11 0) && not b) && (not (of 23 12) && not (of 17 18))) (one_corner 5 6 (lit< tt) (lit< tt))
         ∙ ap (λ b. (not (at 11 0) && not (at 5 6)) && (not b && not (of 17 18))) (one_corner 23 12 (lit< tt) (lit< tt))
         ∙ ap (λ b. (not (at 11 0) && not (at 5 6)) && (not (at 23 12) && not b)) (one_corner 17 18 (lit< tt) (lit< tt))
+        ∙ sym (is_open-layers units)
 
 -- ---- turns
 

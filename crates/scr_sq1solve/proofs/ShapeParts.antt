@@ -18,6 +18,7 @@ use Rattle.scr_notation.specs.declared.turn.Turn.TheVariants.{Layers, Twist}
 use Rattle.scr_notation.specs.Layers.{twelfths, are_still, is_layer_turn}
 use Rattle.scr_notation.proofs.LayersLaws.{IsTwelfths, twelfths-own, layers_of_parts, are_still-first, are_still-second}
 use Rattle.scr_sq1.specs.Units.{Sq1State, IsSq1, is_open, turned, after_layers, twisted, sq1_after}
+use Rattle.scr_sq1.proofs.InHalves.{is_open-valid}
 use Rattle.scr_sq1.proofs.Lawful.{after_layers-open, turned-still}
 use Rattle.scr_sq1.proofs.LayersApart.{after_layers-apart}
 use Rattle.scr_sq1solve.specs.Parts.{shape_part, shape_parts_coordinate}
@@ -44,7 +45,7 @@ module _ (s : Sq1State) (x y : ℤ) (h : IsSq1 s) (top : IsTwelfths x) (bottom :
   still-layers : are_still x y ≡ true → Some s ≡ after_layers s x y
   still-layers still =
       let same : turned s x y ≡ s = turned-still s x y h.size (are_still-first x y still) (are_still-second x y still) in
-      ap Some (sym same) ∙ sym (after_layers-open s x y (ap (λ r. is_open r.units) same ∙ h.opened))
+      ap Some (sym same) ∙ sym (after_layers-open s x y (ap (λ r. is_open r.units) same ∙ is_open-valid s h))
 
   moved-layers : are_still x y ≡ false → sq1_after s (Layers x y) ≡ after_layers s x y
   unfolding sq1_after

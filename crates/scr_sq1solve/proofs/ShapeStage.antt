@@ -9,7 +9,7 @@ use Rattle.scr_positions.specs.Coordinates.{StaysBelow}
 use Rattle.scr_positions.specs.SearchSpaces.{positions, Follows}
 use Rattle.scr_notation.specs.declared.turn.Turn.{Turn}
 use Rattle.scr_sq1.specs.Units.{Sq1State, IsSq1, solved_sq1, sq1_after}
-use Rattle.scr_sq1.specs.Shapes.{shape_of, shape_number, shape_at, half_words, half_word, half_bits, half_of, halves_in}
+use Rattle.scr_sq1.specs.Shapes.{shape_of, shape_number, shape_at, half_words, half_word, half_of}
 use Rattle.scr_sq1.specs.Numbers.{corners_of, edges_of, laid, shape_word}
 use Rattle.scr_sq1.proofs.HalfNumbers.{shapes_one_to_one}
 use Rattle.scr_sq1.proofs.StatePieces.{StatePieces-valid, LaidState-pieces}
@@ -172,7 +172,7 @@ StaysBelow-shapes = StaysBelow-index IsIndex-shapes
 -- ---- words from normal states
 
 base-solved : base_of (shape_of solved_sq1.units) ≡ solved_sq1
-unfolding shape_of halves_in half_of half_bits half_words half_word shape_word
+unfolding shape_of half_of half_words half_word shape_word
 base-solved = refl
 
 -- a word does to a normal state what it does to the solved one, but for the names of the pieces

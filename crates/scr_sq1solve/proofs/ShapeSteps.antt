@@ -5,8 +5,10 @@ use Rattle.scr_combinatorics.specs.Digits.{mixed_number, mixed_digits}
 use Rattle.scr_combinatorics.specs.Permutations.{permutation_at}
 use Rattle.scr_combinatorics.proofs.Digits.{mixed_digits-mixed_number}
 use Rattle.scr_sq1.specs.Units.{Sq1State, solved_sq1}
-use Rattle.scr_sq1.specs.Shapes.{half_words, half_word, half_bits, half_of, halves_in, shape_of, halves_number, ways_to_have, corner_count, corner_counts, shape_number, shape_at}
-use Rattle.scr_sq1.specs.Numbers.{corners_of, edges_of, laid, shape_word, sq1_bases, sq1_of_digits}
+use Rattle.scr_sq1.specs.Shapes.{half_words, half_of, shape_of, ways_after, corner_counts, shape_at}
+use Rattle.scr_sq1.specs.Numbers.{corners_of, edges_of, laid, shape_word, sq1_of_digits}
+use Rattle.scr_sq1.proofs.HalfNumbers.{halves_number, shape_number-known}
+use Rattle.scr_sq1.proofs.Numbering.{sq1_bases}
 use Rattle.scr_sq1solve.specs.Stages.{oddness}
 use Rattle.scr_sq1solve.specs.Tables.{shapes_index, shapes_state, pieces_of_parity}
 
@@ -43,5 +45,5 @@ state-of_index i lt =
 -- ---- the normal index
 
 pub normal_index : shapes_index solved_sq1 ≡ 2344
-unfolding shapes_index oddness corners_of edges_of shape_number halves_number ways_to_have corner_count corner_counts shape_of halves_in half_of half_bits half_words half_word
-normal_index = refl
+unfolding shapes_index oddness corners_of edges_of halves_number ways_after corner_counts shape_of half_of half_words
+normal_index = ap (λ shape. 0 + 2 * shape) (shape_number-known (7 ∷ 7 ∷ 10 ∷ 10 ∷ []) 1172 refl refl refl refl)

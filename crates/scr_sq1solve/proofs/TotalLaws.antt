@@ -1,13 +1,10 @@
 -- The words to the square shape, and the totals that they begin: a word has but one, which solves the state, and that of
 -- the first word taken back is the scramble.
-use Rattle.std.proofs.Common.{◌≡◌, ℕ, ◌<◌, Bool, false, cond, IsTrue, List, [], ◌∷◌, ◌++◌, Option, Some, None, refl, sym, ap, ◌∙◌, subst, arith, eqb-true, eq-eqb}
-use Rattle.std.specs.Prelude.{◌↔◌, ◌==◌, All}
+use Rattle.std.proofs.Common.{◌≡◌, ℕ, ◌<◌, Bool, false, cond, IsTrue, List, [], ◌∷◌, ◌++◌, Option, Some, None, refl, sym, ap, ◌∙◌, subst, arith}
+use Rattle.std.specs.Prelude.{◌↔◌, All}
 use Rattle.std.specs.Option.{option_map_or}
-use Rattle.std.specs.Str.{bytes_eq}
 use Rattle.std.proofs.Math.Bool.{not-not}
-use Rattle.std.proofs.lemmas.Bool.{and_parts, and_from}
 use Rattle.std.proofs.lemmas.Option.{same_Some}
-use Rattle.std.proofs.lemmas.Slice.Eq.{bytes_eq-Decides}
 use Rattle.scr_combinatorics.specs.Back.{back}
 use Rattle.scr_combinatorics.specs.FirstWord.{LeadsTo}
 use Rattle.scr_combinatorics.specs.Play.{play}
@@ -18,9 +15,8 @@ use Rattle.scr_combinatorics.proofs.StageLaws.{play-spelled, All-letters, play-s
 use Rattle.scr_notation.specs.declared.turn.Turn.{Turn}
 use Rattle.scr_notation.specs.Turning.{opposite, turn_merging}
 use Rattle.scr_sq1.specs.Units.{Sq1State, IsSq1, solved_sq1, sq1_after}
-use Rattle.scr_sq1.specs.Shapes.{shape_of}
 use Rattle.scr_sq1.proofs.Lawful.{sq1_taken_back, sq1_kept_by_tidy}
-use Rattle.scr_sq1solve.specs.Stages.{IsNormal, oddness, squaring_letter, squaring_stage, shape_letter, shape_stage, later_stages, layer_stages}
+use Rattle.scr_sq1solve.specs.Stages.{squaring_letter, squaring_stage, shape_letter, shape_stage, later_stages, layer_stages}
 use Rattle.scr_sq1solve.specs.Stages.{last_stage, equator_word, equator_stage, sq1_stages, IsScrambleSq1}
 use Rattle.scr_sq1solve.specs.Totals.{is_normal, is_squared, is_shape_word, equator_part, IsTotal}
 use Rattle.scr_sq1solve.proofs.Equator.{flipped, play-equator}
@@ -28,18 +24,10 @@ use Rattle.scr_sq1solve.proofs.EndingTests.{TellsLetters, word-tested, tested-wo
 use Rattle.scr_sq1solve.proofs.Flipped.{layers-flipped}
 use Rattle.scr_sq1solve.proofs.ShapeStage.{IsEnding-squaring}
 use Rattle.scr_sq1solve.proofs.Bases.{keeps_sq1}
+use Rattle.scr_sq1solve.proofs.NormalLetters.{IsNormal-test}
 use Rattle.scr_sq1solve.proofs.Solutions.{with_equator, play-with_equator, one_scramble}
 
 -- ---- tests
-
-IsNormal-test : (s : Sq1State) → IsTrue (is_normal s) ↔ IsNormal s
-IsNormal-test s =
-    let shapes = bytes_eq-Decides (shape_of s.units) (shape_of solved_sq1.units) in
-    let shape = bytes_eq (shape_of s.units) (shape_of solved_sq1.units) in
-    let even = oddness s == 0 in (
-      λ t. let both = and_parts shape even t in record { shape = shapes.0 both.0; even = eqb-true (oddness s) 0 both.1 },
-      λ n. and_from shape even (shapes.1 n.shape) (eq-eqb (oddness s) 0 n.even),
-    )
 
 -- what passes a test is there
 some_tested : {A : Type 0} (test : A → Bool) (o : Option A) → IsTrue (option_map_or test o false) → (a : A) × (o ≡ Some a) × IsTrue (test a)

@@ -1,4 +1,5 @@
--- Lists of pieces in which mates stand opposite to each other, as a search sees them: by their bits and their list of pairs.
+-- Lists of pieces in which mates stand opposite to each other, as a search sees them: by their bits and their list of
+-- pairs.
 use Rattle.std.specs.Prelude.{ℕ, ◌+◌, ◌*◌, ◌/◌, ◌%◌, false, List, [], ◌∷◌}
 use Rattle.std.specs.Option.{option_map}
 use Rattle.scr_combinatorics.specs.Digits.{mixed_digits}

@@ -29,7 +29,8 @@ letter_of letters = (stage_of letters).letter
 abbrev pub first_word : Letters → ℕ → List Turn
 first_word OfShapes n = turn_word (pos (n / 12) -ℤ pos 5) (pos (n % 12) -ℤ pos 5)
 first_word OfPairings n =
-    if nat_lt n 16 then turn_word (quarters (n / 4 % 4)) (quarters (n % 4) -ℤ pos 1) else turn_word (quarters (n / 4 % 4) +ℤ pos 1) (quarters (n % 4))
+    if nat_lt n 16 then turn_word (quarters (n / 4 % 4)) (quarters (n % 4) -ℤ pos 1)
+    else turn_word (quarters (n / 4 % 4) +ℤ pos 1) (quarters (n % 4))
 first_word OfHome n = quarter_word (n % 16)
 first_word Squarings n = squaring_letter n
 first_word Quarters n = quarter_word n

@@ -1,6 +1,7 @@
 -- Moves of pieces, each told by the places from which the places get their pieces; letters that keep states normal and
 -- mates together.
-use Rattle.std.specs.Prelude.{◌≡◌, ℕ, ◌&&◌, Bool, IsTrue, List, [], map}
+use Rattle.std.specs.Prelude.{◌≡◌, ℕ, ◌&&◌, Bool, false, IsTrue, List, [], map}
+use Rattle.std.specs.Option.{option_map_or}
 use Rattle.scr_combinatorics.specs.Permutations.{IsPermutation}
 use Rattle.scr_orbit.specs.Orbits.{Rearrangement}
 use Rattle.scr_combinatorics.specs.Play.{play}
@@ -9,7 +10,8 @@ use Rattle.scr_notation.specs.Ranges.{all_below, same}
 use Rattle.scr_sq1.specs.Units.{solved_sq1, sq1_after}
 use Rattle.scr_sq1.specs.Numbers.{corners_of, edges_of}
 use Rattle.scr_sq1solve.specs.Stages.{mates}
-use Rattle.scr_sq1solve.specs.Tables.{has_index, shapes_index, units_after, carried_pairing}
+use Rattle.scr_sq1solve.specs.Tables.{units_after, carried_pairing}
+use Rattle.scr_sq1solve.specs.Totals.{is_normal}
 
 abbrev pub move_by : List ℕ → Rearrangement
 move_by places = record { places = places; added = [] }
@@ -27,7 +29,7 @@ pub record KeepsMates (places : List ℕ) : Type 0 where
 -- All letters of a later stage leave the solved state normal,
 unfoldable pub are_normal : (ℕ → List Turn) → Bool
 are_normal letter =
-    all_below (λ n. has_index shapes_index (shapes_index solved_sq1) (play sq1_after solved_sq1 (letter n))) 32
+    all_below (λ n. option_map_or is_normal (play sq1_after solved_sq1 (letter n)) false) 32
 
 -- and mates opposite to each other.
 abbrev pub keeps_mates : (ℕ → List Turn) → ℕ → Bool

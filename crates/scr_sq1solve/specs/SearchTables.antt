@@ -14,10 +14,11 @@ shapes_table = table_over Shapes (stage_space sq1_after shape_stage IsSq1) shape
 
 -- Of the normal ones: by 105 pairings of corners beside as many of edges.
 abbrev pub pairings_table : SearchTable
-pairings_table = table_over Pairings (stage_space sq1_after pairing_stage IsNormalSq1) pairings_index 11025 pairing_stage.bound
+pairings_table =
+    table_over Pairings (stage_space sq1_after pairing_stage IsNormalSq1) pairings_index 11025 pairing_stage.bound
 
--- Of those among them in which mates stand opposite to each other: by which pair of mates is where, 24 lists of corners and
--- of edges, and which of each is first, 16 and 8 ways.
+-- Of those among them in which mates stand opposite to each other: by which pair of mates is where, 24 lists of corners
+-- and of edges, and which of each is first, 16 and 8 ways.
 abbrev pub square_table : SearchTable
 square_table = table_over Square (stage_space sq1_after home_stage IsPairedSq1) square_index 73728 home_stage.bound
 

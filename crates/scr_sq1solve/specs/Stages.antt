@@ -1,9 +1,9 @@
 -- The stages by which a Square-1 is solved, and the scramble that they give.
 --
--- First the square shape: top and bottom then have a corner, an edge and so on in turn, as when solved. Then each corner
--- is brought next to the one that is opposite to it, across its layer, when solved, and so is each edge. Then all pieces
--- are brought home. A turn of the layers ends the first and the last of these three, as a stage of its own. Before all of
--- them the equator is turned, where they would leave it turned.
+-- First the square shape: top and bottom then have a corner, an edge and so on in turn, as when solved. Then each
+-- corner is brought next to the one that is opposite to it, across its layer, when solved, and so is each edge. Then
+-- all pieces are brought home. A turn of the layers ends the first and the last of these three, as a stage of its own.
+-- Before all of them the equator is turned, where they would leave it turned.
 use Rattle.std.specs.Prelude.{◌≡◌, ℕ, ◌+◌, ◌*◌, ◌/◌, ◌%◌, nat_lt, ℤ, pos, ◌-ℤ◌, ◌+ℤ◌, neg_ℤ, if◌then◌else◌, List, [], ◌∷◌, ◌++◌, map, slice_index, Some}
 use Rattle.scr_combinatorics.specs.Permutations.{parity, place_of}
 use Rattle.scr_combinatorics.specs.Play.{play}
@@ -56,11 +56,13 @@ squaring_stage = record { letters = 4; letter = squaring_letter; IsGoal = IsNorm
 
 -- Turns and twists lead to a state in which one of the four does that.
 abbrev pub shape_stage : Stage Sq1State Turn
-shape_stage = record { letters = 144; letter = shape_letter; IsGoal = HasStageWord sq1_after squaring_stage; bound = 13 }
+shape_stage =
+    record { letters = 144; letter = shape_letter; IsGoal = HasStageWord sq1_after squaring_stage; bound = 13 }
 
 -- ---- the pairs
 
--- The corners 0 2, 1 3, 4 6, 5 7 are mates, and so are the edges: when solved, they stand opposite to each other in their layer.
+-- The corners 0 2, 1 3, 4 6, 5 7 are mates, and so are the edges: when solved, they stand opposite to each other in
+-- their layer.
 abbrev pub mates : List ℕ
 mates = 2 ∷ 3 ∷ 0 ∷ 1 ∷ 6 ∷ 7 ∷ 4 ∷ 5 ∷ []
 
@@ -72,8 +74,9 @@ pairing_of pieces = map (λ piece. place_of (slice_index mates piece) pieces) pi
 abbrev pub IsPaired : Sq1State → Type 0
 IsPaired s = (pairing_of (corners_of s.units) ≡ mates) × (pairing_of (edges_of s.units) ≡ mates)
 
--- For a and b from 0 to 3, letter 4 a + b turns the layers by 3 a and 3 b - 1, twists, and turns them by 0 and 1; letter
--- 16 + 4 a + b turns them by 3 a + 1 and 3 b, twists, and turns them by -1 and 0. Each leaves a normal state normal.
+-- For a and b from 0 to 3, letter 4 a + b turns the layers by 3 a and 3 b - 1, twists, and turns them by 0 and 1;
+-- letter 16 + 4 a + b turns them by 3 a + 1 and 3 b, twists, and turns them by -1 and 0. Each leaves a normal state
+-- normal.
 unfoldable pub pairing_letter : ℕ → List Turn
 pairing_letter n =
     let top : ℤ = quarters (n / 4 % 4) in
@@ -88,19 +91,22 @@ pairing_stage = record { letters = 32; letter = pairing_letter; IsGoal = IsPaire
 
 -- exchanges the edges at the places 1 and 6, and those at 3 and 4
 abbrev pub edge_word : List Turn
-edge_word = turn_word (pos 0) (neg_ℤ (pos 1)) ++ Twist ∷ turn_word (pos 1) (pos 1) ++ Twist ∷ turn_word (neg_ℤ (pos 1)) (pos 0)
+edge_word =
+    turn_word (pos 0) (neg_ℤ (pos 1)) ++ Twist ∷ turn_word (pos 1) (pos 1) ++ Twist ∷ turn_word (neg_ℤ (pos 1)) (pos 0)
 
 -- exchanges the corners at the places 0 and 4, and those at 2 and 6
 abbrev pub corner_word : List Turn
 corner_word =
-    turn_word (pos 0) (neg_ℤ (pos 1)) ++ Twist ∷ turn_word (neg_ℤ (pos 2)) (neg_ℤ (pos 2)) ++ Twist ∷ turn_word (pos 2) (pos 3)
+    turn_word (pos 0) (neg_ℤ (pos 1)) ++ Twist ∷ turn_word (neg_ℤ (pos 2)) (neg_ℤ (pos 2))
+    ++ Twist ∷ turn_word (pos 2) (pos 3)
 
--- for a and b from 0 to 3, letter 4 a + b turns the layers by quarters a and b, and exchanges edges; letter 16 + 4 a + b
--- turns them so, and exchanges corners
+-- for a and b from 0 to 3, letter 4 a + b turns the layers by quarters a and b, and exchanges edges;
+-- letter 16 + 4 a + b turns them so, and exchanges corners
 unfoldable pub home_letter : ℕ → List Turn
 home_letter n = quarter_word (n % 16) ++ (if nat_lt n 16 then edge_word else corner_word)
 
--- One of the sixteen turns by quarters brings the layers home, and the equator may stand turned; the first of them is none.
+-- One of the sixteen turns by quarters brings the layers home, and the equator may stand turned; the first of them is
+-- none.
 abbrev pub last_stage : Stage Sq1State Turn
 last_stage = record { letters = 16; letter = quarter_word; IsGoal = λ s. s.units ≡ solved_sq1.units; bound = 1 }
 

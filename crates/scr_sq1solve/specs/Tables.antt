@@ -33,8 +33,8 @@ abbrev pub has_number : ℕ → Option ℕ → Bool
 has_number i None = false
 has_number i (Some n) = n == i
 
--- What a search for a stage's words sees that knows of a state its index alone: letters lead from index to index, and the
--- goals are the indexes from which a letter of the next stage leads to that of the solved state.
+-- What a search for a stage's words sees that knows of a state its index alone: letters lead from index to index, and
+-- the goals are the indexes from which a letter of the next stage leads to that of the solved state.
 abbrev pub lettered_coordinate : Numbered Sq1State → Stage Sq1State Turn → Stage Sq1State Turn → Coordinate
 lettered_coordinate n stage next =
     indexed_coordinate n stage.letters (by_letters sq1_after stage.letters stage.letter)
@@ -52,7 +52,10 @@ abbrev pub pieces_of_parity : ℕ → List ℕ
 pieces_of_parity odd = if odd == 0 then numbers_from 0 8 else 1 ∷ 0 ∷ numbers_from 2 6
 
 unfoldable pub shapes_state : ℕ → Sq1State
-shapes_state i = record { units = laid (shape_word (shape_at (i / 2))) (numbers_from 0 8) (pieces_of_parity (i % 2)); equator = false }
+shapes_state i = record {
+  units = laid (shape_word (shape_at (i / 2))) (numbers_from 0 8) (pieces_of_parity (i % 2));
+  equator = false;
+}
 
 abbrev pub shapes_coordinate : Coordinate
 shapes_coordinate =
@@ -61,13 +64,15 @@ shapes_coordinate =
 
 -- ---- the pairings
 
--- The lists of corners and of edges that a letter makes of the solved state: a letter of the later stages moves the pieces of
--- each normal state by these places.
+-- The lists of corners and of edges that a letter makes of the solved state: a letter of the later stages moves the
+-- pieces of each normal state by these places.
 unfoldable pub units_after : (ℕ → List Turn) → ℕ → List ℕ
 units_after letter n = (unwrap_or (play sq1_after solved_sq1 (letter n)) solved_sq1).units
 
 abbrev pub letters_by : (List ℕ → List ℕ) → (ℕ → List Turn) → List Rearrangement
-letters_by pieces_of letter = map (λ n. let r : Rearrangement = record { places = pieces_of (units_after letter n); added = [] } in r) (numbers_from 0 32)
+letters_by pieces_of letter =
+    map (λ n. let r : Rearrangement = record { places = pieces_of (units_after letter n); added = [] } in r)
+    (numbers_from 0 32)
 
 -- partners when pieces are moved, where each place gets the piece of a named place
 unfoldable pub carried_pairing : List ℕ → List ℕ → List ℕ
@@ -88,7 +93,9 @@ pairings_view = record {
 }
 
 abbrev pub pairings_coordinate : Coordinate
-pairings_coordinate = product_coordinate (projection pairings_view (letters_by corners_of pairing_letter)) (projection pairings_view (letters_by edges_of pairing_letter))
+pairings_coordinate =
+    product_coordinate (projection pairings_view (letters_by corners_of pairing_letter))
+    (projection pairings_view (letters_by edges_of pairing_letter))
 
 -- ---- the square
 
@@ -120,16 +127,13 @@ paired_at bits pairs =
     slice_index smaller (slice_index standing pair) + 2 * ((slice_index turned pair + slice_index is_larger place) % 2))
     (numbers_from 0 8)
 
--- The edges' bits of the first three pairs, their list of pairs, the corners' bits and their list of pairs. The edges' last bit is
--- told by the others, since both lists have one parity.
-abbrev pub square_bases : List ℕ
-square_bases = 8 ∷ 24 ∷ 16 ∷ 24 ∷ []
-
+-- The edges' bits of the first three pairs, their list of pairs, the corners' bits and their list of pairs, and how
+-- many there are of each. The edges' last bit is told by the others, since both lists have one parity.
 unfoldable pub square_index : Sq1State → ℕ
 square_index s =
     let cs : List ℕ = corners_of s.units in
     let es : List ℕ = edges_of s.units in
-    mixed_number square_bases (bits_number es % 8 ∷ pairs_number es ∷ bits_number cs ∷ pairs_number cs ∷ [])
+    mixed_number (8 ∷ 24 ∷ 16 ∷ 24 ∷ []) (bits_number es % 8 ∷ pairs_number es ∷ bits_number cs ∷ pairs_number cs ∷ [])
 
 -- the bit that makes a list of bits even
 abbrev pub last_bit : ℕ → ℕ → ℕ
@@ -138,10 +142,11 @@ last_bit edge_bits corner_bits =
 
 unfoldable pub square_state : ℕ → Sq1State
 square_state i =
-    let ds : List ℕ = mixed_digits square_bases i in
+    let ds : List ℕ = mixed_digits (8 ∷ 24 ∷ 16 ∷ 24 ∷ []) i in
     let bits : ℕ = slice_index ds 0 + 8 * last_bit (slice_index ds 0) (slice_index ds 2) in
     record {
-      units = laid (shape_word (shape_of solved_sq1.units)) (paired_at (slice_index ds 2) (slice_index ds 3)) (paired_at bits (slice_index ds 1));
+      units = laid (shape_word (shape_of solved_sq1.units)) (paired_at (slice_index ds 2) (slice_index ds 3))
+          (paired_at bits (slice_index ds 1));
       equator = false;
     }
 

@@ -1,9 +1,9 @@
 -- The solutions of a Square-1 that begin with other words to the square shape than the first one.
 --
--- The first word to the square shape needn't be the one by which the whole solution is shortest. So here each word of at
--- most so many letters that leads there begins a solution, its total: the later stages go on from where it ends, each
--- with its first word. That these words are told by a test, and that they stand in the order of words, is our own way
--- of saying it.
+-- The first word to the square shape needn't be the one by which the whole solution is shortest. So here each word of
+-- at most so many letters that leads there begins a solution, its total: the later stages go on from where it ends,
+-- each with its first word. That these words are told by a test, and that they stand in the order of words, is our own
+-- way of saying it.
 use Rattle.std.specs.Prelude.{◌≡◌, ℕ, ◌==◌, ◌&&◌, Bool, false, if◌then◌else◌, List, [], ◌++◌, filter, Some}
 use Rattle.std.specs.List.{list_any}
 use Rattle.std.specs.Option.{option_map_or}

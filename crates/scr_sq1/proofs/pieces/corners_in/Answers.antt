@@ -1,10 +1,16 @@
 use Rattle.std.proofs.Common.{◌+◌, ◌<◌, length, refl, ◌∙◌, arith}
-use Rattle.scr_sq1.proofs.PieceSteps.{corners_start, corners_first_at, corners_second_at, corners_as, corners_same, corners_end}
+use Rattle.scr_sq1.proofs.PieceSteps.{corners_start, corners_room_at, corners_first_at, corners_second_at, corners_as, corners_same, corners_end}
 use Rattle.scr_sq1.proofs.pieces.corners_in.Goals as goal
 use Rattle.scr_sq1.proofs.pieces.corners_in.Goals.{then-unit-lt8, else-unit-lt8, then-not-is_second, else-not-is_second}
 
 pub loop-unit-init : goal.loop-unit-init
 loop-unit-init c = corners_start c.args.units.now _ refl
+
+pub bounds-corners-found : goal.bounds-corners-found
+bounds-corners-found c =
+    let l = c.loop-unit in
+    corners_room_at l.unit-index l.found l.is_second l.corners c.args.units.now c.requires (omega (arith, c.told-units)) c.if-unit-lt8.true
+    c.if-not-is_second.true l.invariant
 
 pub loop-unit-preserved : goal.loop-unit-preserved
 loop-unit-preserved c =

@@ -1,8 +1,8 @@
 use Rattle.std.proofs.Common.{◌≡◌, get_or, slice_index, ap, ◌∙◌, arith}
 use Rattle.scr_sq1.specs.declared.shapes.TheConstants.{CORNERS}
 use Rattle.scr_sq1.specs.Shapes.{corner_counts, ways_after}
-use Rattle.scr_sq1.proofs.HalfNumbers.{length-corner_counts}
-use Rattle.scr_sq1.proofs.ShapeSteps.{corners_table-listed, total-more}
+use Rattle.scr_sq1.proofs.HalfNumbers.{length-corner_counts, total-more}
+use Rattle.scr_sq1.proofs.ShapeSteps.{corners_table-listed}
 use Rattle.scr_sq1.proofs.shapes.numbers_before.Goals as goal
 
 pub loop-lower-preserved : goal.loop-lower-preserved

@@ -1,7 +1,6 @@
 use Rattle.std.proofs.Common.{sym, subst, lit<}
 use Rattle.scr_combinatorics.specs.Digits.{AreDigits}
-use Rattle.scr_sq1.specs.Numbers.{sq1_bases}
-use Rattle.scr_sq1.proofs.Numbering.{state_has_four}
+use Rattle.scr_sq1.proofs.Numbering.{sq1_bases, state_has_four}
 use Rattle.scr_sq1.proofs.numbers.Sq1NumbersNumbering.number_of.Goals as goal
 
 pub rank-requires : goal.rank-requires

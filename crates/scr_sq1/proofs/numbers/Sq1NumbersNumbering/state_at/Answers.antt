@@ -3,7 +3,8 @@ use Rattle.scr_combinatorics.specs.Permutations.{permutation_at}
 use Rattle.scr_combinatorics.specs.Digits.{mixed_digits}
 use Rattle.scr_sq1.specs.Units.{Sq1State, IsSq1}
 use Rattle.scr_sq1.specs.Shapes.{IsShape, shape_at}
-use Rattle.scr_sq1.specs.Numbers.{laid, shape_word, sq1_bases, sq1_of_digits}
+use Rattle.scr_sq1.specs.Numbers.{laid, shape_word, sq1_of_digits}
+use Rattle.scr_sq1.proofs.Numbering.{sq1_bases}
 use Rattle.scr_sq1.proofs.StatePieces.{LaidState-pieces}
 use Rattle.scr_sq1.proofs.numbers.Sq1NumbersNumbering.state_at.Goals as goal
 
