@@ -1,5 +1,5 @@
 -- The rounds of a number are rounds that lists take.
-use Rattle.std.proofs.Common.{◌≡◌, ℕ, zero, suc, ◌+◌, ◌*◌, ◌%◌, ◌<◌, List, [], sym, ap, arith, map, All}
+use Rattle.std.proofs.Common.{◌≡◌, ℕ, zero, suc, ◌+◌, ◌*◌, ◌%◌, ◌<◌, List, [], length, sym, ap, arith, map, All}
 use Rattle.std.proofs.lemmas.List.Elements.{All-nil, All-cons}
 use Rattle.std.proofs.lemmas.List.FromFn.{length-map-range_with_len}
 use Rattle.std.proofs.lemmas.List.{get_or-take}
@@ -42,6 +42,10 @@ load_rounds-IsRounds number =
 in_turn : (number : ℕ) → slice_index_or events (number % 11) C222 ≡ slice_index_or load_events (number % length load_events) C222
 in_turn number = sym (get_or-take 11 events (number % 11) C222 (mod_below number 11 (omega arith)))
 
+-- so many groups of an event, with its usual minimum and no name
+abbrev usual_round : Event → ℕ → ListedRound
+usual_round event groups = record { event = event; groups = groups; least = usual_of event; name = [] }
+
 -- a round of them with the usual minimum and no name
 pub unnamed : (number k least : ℕ) (name : List ℕ) → least ≡ usual_of (slice_index_or events ((number + k) % 11) C222) → name ≡ []
     → (let made : ListedRound = record {
@@ -50,6 +54,5 @@ pub unnamed : (number k least : ℕ) (name : List ℕ) → least ≡ usual_of (s
       least = least;
       name = name;
     } in made) ≡ load_round number k
-unnamed number k least name usual none = rw (usual, none) (
-    ap (λ event. let r : ListedRound = record { event = event; groups = 1 + (number + 5 * k) % 8; least = usual_of event; name = [] } in r)
-    (in_turn (number + k)))
+unnamed number k least name usual none =
+    rw (usual, none) (ap (λ event. usual_round event (1 + (number + 5 * k) % 8)) (in_turn (number + k)))
