@@ -11,7 +11,7 @@ use Rattle.std.proofs.lemmas.Str.{IsUtf8-from_ascii}
 use Rattle.std.proofs.lemmas.Str.Ascii.{IsAscii-from_all}
 use borrow.Author.Tests.{leb-true, lt-ltb, le-ltb, ltb-false}
 use Rattle.scr_text.specs.Lines.{has_bytes, is_blank}
-use Rattle.scr_list.specs.Names.{is_colon, told_part, name_part, without_blanks_before, without_blanks_behind, trimmed, is_name_byte, is_name, name_in, IsName}
+use Rattle.scr_list.specs.Names.{is_colon, told_part, name_part, trimmed, is_name_byte, is_name, name_in, IsName}
 
 -- ---- what a name holds
 
@@ -52,6 +52,14 @@ is_name-IsUtf8 text is =
     IsUtf8-from_ascii text (IsAscii-from_all text (λ k d h. let high = it.high k d h in omega arith))
 
 -- ---- blanks at the ends
+
+-- a text without the blanks that it begins with
+abbrev pub without_blanks_before : List ℕ → List ℕ
+without_blanks_before text = drop (prefix_len is_blank text) text
+
+-- a text without the blanks that it ends with
+abbrev pub without_blanks_behind : List ℕ → List ℕ
+without_blanks_behind text = take (length text - suffix_len is_blank text) text
 
 first_plain : (text : List ℕ) → 1 ≤ length (without_blanks_before text) → is_blank (get_or (without_blanks_before text) 0 0) ≡ false
 first_plain text some =

@@ -18,17 +18,9 @@ name_part takes_names line = if takes_names then option_map (λ k. drop (k + 1) 
 
 -- ---- names
 
--- a text without the blanks that it begins with
-abbrev pub without_blanks_before : List ℕ → List ℕ
-without_blanks_before text = drop (prefix_len is_blank text) text
-
--- a text without the blanks that it ends with
-abbrev pub without_blanks_behind : List ℕ → List ℕ
-without_blanks_behind text = take (length text - suffix_len is_blank text) text
-
--- a text without the blanks at both its ends
+-- a text without the blanks that it ends with, and then without those that it begins with
 unfoldable pub trimmed : List ℕ → List ℕ
-trimmed text = without_blanks_before (without_blanks_behind text)
+trimmed text = let ended = take (length text - suffix_len is_blank text) text in drop (prefix_len is_blank ended) ended
 
 -- a byte of a name: from the space to the tilde
 abbrev pub is_name_byte : ℕ → Bool

@@ -1,5 +1,5 @@
 -- The rounds of a number are rounds that lists take.
-use Rattle.std.proofs.Common.{◌≡◌, ℕ, zero, suc, ◌+◌, ◌*◌, ◌%◌, ◌<◌, List, [], sym, ap, arith, map, All}
+use Rattle.std.proofs.Common.{◌≡◌, ℕ, zero, suc, ◌+◌, ◌*◌, ◌%◌, ◌<◌, List, [], length, sym, ap, arith, map, All}
 use Rattle.std.proofs.lemmas.List.Elements.{All-nil, All-cons}
 use Rattle.std.proofs.lemmas.List.FromFn.{length-map-range_with_len}
 use Rattle.std.proofs.lemmas.List.{get_or-take}
@@ -12,24 +12,25 @@ use Rattle.scr_list.specs.ListedRound.{ListedRound}
 use Rattle.scr_list.specs.Rounds.{IsRound}
 use Rattle.scr_list.specs.RoundLists.{IsRounds}
 use Rattle.scr_list.proofs.EventLemmas.{id-IsId}
-use Rattle.scr_sheet.specs.Load.{event_in_turn, usual_round, load_round, load_rounds}
+use Rattle.scr_sheet.specs.Load.{load_events, load_round, load_rounds}
 
--- some of up to eight groups of an event
-usual_round-IsRound : (event : Event) (groups : ℕ) → groups < 8 → IsRound (usual_round event (1 + groups))
-usual_round-IsRound event groups few = record {
-  some_groups = omega arith;
-  few_groups = omega (arith, few);
-  least = (id-IsId event).usual;
-  name = λ some. cc;
-}
+-- round k has some of up to eight groups of an event
+load_round-IsRound : (number k : ℕ) → IsRound (load_round number k)
+load_round-IsRound number k =
+    let few = mod_below (number + 5 * k) 8 (omega arith) in
+    record {
+      some_groups = omega arith;
+      few_groups = omega (arith, few);
+      least = (id-IsId (load_round number k).event).usual;
+      name = λ some. cc;
+    }
 
 -- so many rounds of a number, from one on
 rounds_from-IsRound : (number first count : ℕ) → All IsRound (map (load_round number) (range_with_len first count))
 rounds_from-IsRound number first zero = All-nil IsRound
 rounds_from-IsRound number first (suc count) =
     All-cons IsRound (load_round number first) (map (load_round number) (range_with_len (first + 1) count))
-    (usual_round-IsRound (event_in_turn (number + first)) ((number + 5 * first) % 8) (mod_below (number + 5 * first) 8 (omega arith)))
-    (rounds_from-IsRound number (first + 1) count)
+    (load_round-IsRound number first) (rounds_from-IsRound number (first + 1) count)
 
 pub load_rounds-IsRounds : (number : ℕ) → IsRounds (load_rounds number)
 load_rounds-IsRounds number =
@@ -38,8 +39,12 @@ load_rounds-IsRounds number =
     record { each = rounds_from-IsRound number 0 (1 + number % 16); few = omega (arith, size, few) }
 
 -- the events of the lists are the first ones of all
-in_turn : (number : ℕ) → slice_index_or events (number % 11) C222 ≡ event_in_turn number
+in_turn : (number : ℕ) → slice_index_or events (number % 11) C222 ≡ slice_index_or load_events (number % length load_events) C222
 in_turn number = sym (get_or-take 11 events (number % 11) C222 (mod_below number 11 (omega arith)))
+
+-- so many groups of an event, with its usual minimum and no name
+abbrev usual_round : Event → ℕ → ListedRound
+usual_round event groups = record { event = event; groups = groups; least = usual_of event; name = [] }
 
 -- a round of them with the usual minimum and no name
 pub unnamed : (number k least : ℕ) (name : List ℕ) → least ≡ usual_of (slice_index_or events ((number + k) % 11) C222) → name ≡ []
@@ -49,4 +54,5 @@ pub unnamed : (number k least : ℕ) (name : List ℕ) → least ≡ usual_of (s
       least = least;
       name = name;
     } in made) ≡ load_round number k
-unnamed number k least name usual none = rw (usual, none) (ap (λ event. usual_round event (1 + (number + 5 * k) % 8)) (in_turn (number + k)))
+unnamed number k least name usual none =
+    rw (usual, none) (ap (λ event. usual_round event (1 + (number + 5 * k) % 8)) (in_turn (number + k)))

@@ -43,10 +43,6 @@ list_lines k [] = []
 list_lines k (round ∷ rounds) =
     map (λ line. record { k = k; round = round; line = line }) (round_lines k round) ++ list_lines (k + 1) rounds
 
--- a slot of round k has no scramble
-abbrev pub LacksSlot : Settings → ℕ → Round → ℕ → Type 0
-LacksSlot settings k round slot = HasNoScramble (scrambling_of round.event) settings round.least (first_stream k + slot)
-
 -- a text is the label of a slot and behind it one that agrees with the slot
 pub record SlotLineAgrees (settings : Settings) (k : ℕ) (round : Round) (label : List ℕ) (slot : ℕ) (text : List ℕ) : Type 0 where
   pub behind : List ℕ
@@ -58,9 +54,10 @@ pub record SlotLineAgrees (settings : Settings) (k : ℕ) (round : Round) (label
 abbrev pub IsLineAnswer : Settings → ℕ → Round → Line → List ℕ → Result Bool Missing → Type 0
 IsLineAnswer settings k round (Fixed own) text answer = answer ≡ Ok (bytes_eq text own)
 IsLineAnswer settings k round (Slot label slot) text (Ok told) =
-    (LacksSlot settings k round slot → ⊥) × (IsTrue told ↔ SlotLineAgrees settings k round label slot text)
+    (HasNoScramble (scrambling_of round.event) settings round.least (first_stream k + slot) → ⊥)
+    × (IsTrue told ↔ SlotLineAgrees settings k round label slot text)
 IsLineAnswer settings k round (Slot label slot) text (Err missing) =
-    LacksSlot settings k round slot
+    HasNoScramble (scrambling_of round.event) settings round.least (first_stream k + slot)
     × (missing ≡ record { round = k + 1; slot = slot + 1; words = 3 * settings.attempts })
 
 -- what a checker's lines are those of

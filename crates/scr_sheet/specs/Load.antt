@@ -21,17 +21,12 @@ load_seed number = record { 0 = to_le_bytes w64 number ++ replicate 24 0 }
 abbrev pub load_events : List Event
 load_events = take 11 events
 
--- the event with this number, where they come in turn, again and again
-abbrev pub event_in_turn : ℕ → Event
-event_in_turn number = slice_index_or load_events (number % length load_events) C222
-
--- so many groups of an event, with its usual minimum and no name
-abbrev pub usual_round : Event → ℕ → Round
-usual_round event groups = record { event = event; groups = groups; least = usual_of event; name = [] }
-
--- its round k, counted from 0: of the events in turn, with numbers of groups from 1 to 8 in steps of five
+-- its round k, counted from 0: the events come in turn, again and again, with numbers of groups from 1 to 8 in steps of five,
+-- the event's usual minimum and no name
 abbrev pub load_round : ℕ → ℕ → Round
-load_round number k = usual_round (event_in_turn (number + k)) (1 + (number + 5 * k) % 8)
+load_round number k =
+    let event : Event = slice_index_or load_events ((number + k) % length load_events) C222 in
+    record { event = event; groups = 1 + (number + 5 * k) % 8; least = usual_of event; name = [] }
 
 -- its rounds, of which there are 1 to 16
 abbrev pub load_rounds : ℕ → List Round

@@ -1,6 +1,7 @@
 use Rattle.std.proofs.Common.{take, drop, ap, ◌∙◌, arith, length-drop}
 use Rattle.std.proofs.lemmas.List.{take_all}
-use Rattle.scr_list.specs.Names.{without_blanks_before, trimmed}
+use Rattle.scr_list.specs.Names.{trimmed}
+use Rattle.scr_list.proofs.NameLemmas.{without_blanks_before}
 use Rattle.scr_list.proofs.name.trimmed.Goals as goal
 
 pub returns : goal.returns
