@@ -67,11 +67,10 @@ turned s top bottom = record s { units = pick s.units (turn_places (clockwise to
 abbrev pub are_of_one_corner : List ℕ → ℕ → ℕ → Bool
 are_of_one_corner units j k = is_corner (slice_index units j) && (slice_index units k == slice_index units j)
 
--- no corner lies across the cut
+-- No corner lies across the cut, at its four places.
 abbrev pub is_open : List ℕ → Bool
 is_open units =
-    list_all {X = ℕ × ℕ} (λ cut. not (are_of_one_corner units cut.0 cut.1))
-    ((11, 0) ∷ (5, 6) ∷ (23, 12) ∷ (17, 18) ∷ [])
+    list_all {X = ℕ × ℕ} (λ c. not (are_of_one_corner units c.0 c.1)) ((11, 0) ∷ (5, 6) ∷ (23, 12) ∷ (17, 18) ∷ [])
 
 -- A turn of the layers by so many twelfths clockwise: it is barred where a corner would lie across the cut.
 unfoldable pub after_layers : Sq1State → ℤ → ℤ → Option Sq1State
