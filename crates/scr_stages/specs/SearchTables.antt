@@ -7,7 +7,7 @@ use Rattle.scr_table.specs.SearchTables.{SearchTable, table_over}
 use Rattle.scr_stages.specs.Stages.{flips_turns, slice_turns, tetrads_turns, half_turns, HasNoFlips, IsUntwisted, IsInMiddle}
 use Rattle.scr_stages.specs.Stages.{flips_stage, slice_stage, tetrads_stage, halves_stage}
 use Rattle.scr_stages.specs.Numbers.{IsDominoCube, IsHalfCube, flips_number, slice_number, tetrads_number, half_bases, half_digits}
-use Rattle.scr_stages.specs.Spaces.{cube_space}
+use Rattle.scr_cube.specs.ListedTurns.{cube_space}
 
 -- Of all valid cubes: by flips, of twelve edges, each told by the others;
 abbrev pub flips_table : SearchTable

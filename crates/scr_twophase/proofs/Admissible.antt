@@ -14,8 +14,8 @@ use Rattle.scr_table.specs.declared.name.TableName.{TableName}
 use Rattle.scr_cube.specs.Cube333.{CubeState, IsCube}
 use Rattle.scr_cube.proofs.Laws333.{lawful_cube}
 use Rattle.scr_notation.specs.TurnNumbers.{face_turn_at}
-use Rattle.scr_stages.specs.Spaces.{cube_space}
-use Rattle.scr_stages.specs.Stages.{after_of}
+use Rattle.scr_cube.specs.ListedTurns.{cube_space}
+use Rattle.scr_cube.specs.ListedTurns.{after_of}
 use Rattle.scr_table.specs.Words.{words_of}
 use Rattle.scr_table.proofs.WordLists.{IsWordOf, words_of-each}
 use Rattle.scr_twophase.specs.declared.outlook.Outlook.{Outlook}

@@ -16,8 +16,9 @@ use Rattle.scr_orbit.specs.PowerPuzzles.{all_turns as cube_turns}
 use Rattle.scr_coord.specs.Projections.{marked_places, stands_in}
 use Rattle.scr_cube.specs.Cube333.{CubeState, cube_action, cube_powers, solved_cube}
 use Rattle.scr_cube.proofs.Laws333.{lawful_cube}
-use Rattle.scr_stages.proofs.TurnFacts.{after_of-is, length-turns}
-use Rattle.scr_stages.specs.Stages.{middle_edges, after_of, IsDomino}
+use Rattle.scr_cube.proofs.ListedTurns.{after_of-is, length-turns}
+use Rattle.scr_stages.specs.Stages.{middle_edges, IsDomino}
+use Rattle.scr_cube.specs.ListedTurns.{after_of}
 use Rattle.scr_twophase.specs.TwoParts.{after_turn, leads, is_domino, is_solved}
 
 -- ---- tests

@@ -8,7 +8,8 @@ use Rattle.scr_orbit.specs.Orbits.{added_digits, composed, identity}
 use Rattle.scr_orbit.specs.PowerPuzzles.{all_turns}
 use Rattle.scr_cube.specs.Cube333.{CubeState}
 use Rattle.scr_stages.specs.Numbers.{IsDominoCube}
-use Rattle.scr_stages.specs.Stages.{after_of, middle_edges, tetrads_turns}
+use Rattle.scr_cube.specs.ListedTurns.{after_of}
+use Rattle.scr_stages.specs.Stages.{middle_edges, tetrads_turns}
 use Rattle.scr_stages.specs.Tables.{block_turn, edges_by}
 use Rattle.scr_stages.proofs.FiniteTests.{All-from_test}
 use Rattle.scr_twophase.specs.TwoParts.{after_turn, domino_turns}

@@ -9,8 +9,8 @@ use Rattle.scr_positions.specs.Products.{product_coordinate}
 use Rattle.scr_positions.specs.SearchSpaces.{Follows, ShowsSame, positions}
 use Rattle.scr_positions.proofs.ProductLaws.{Follows-product, part-high, part-low}
 use Rattle.scr_cube.specs.Cube333.{CubeState}
-use Rattle.scr_stages.specs.Spaces.{cube_space}
-use Rattle.scr_stages.specs.Stages.{after_of}
+use Rattle.scr_cube.specs.ListedTurns.{cube_space}
+use Rattle.scr_cube.specs.ListedTurns.{after_of}
 use Rattle.scr_twophase.specs.declared.position.Extent.{Extent}
 use Rattle.scr_twophase.specs.declared.position.PartPosition.{PartPosition}
 use Rattle.scr_twophase.specs.TwoParts.{after_turn}

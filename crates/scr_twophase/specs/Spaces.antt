@@ -5,7 +5,7 @@ use Rattle.scr_positions.specs.SearchSpaces.{SearchSpace}
 use Rattle.scr_cube.specs.Cube333.{CubeState, IsCube}
 use Rattle.scr_stages.specs.Stages.{middle_edges, flips_turns, tetrads_turns}
 use Rattle.scr_stages.specs.Numbers.{IsDominoCube}
-use Rattle.scr_stages.specs.Spaces.{cube_space}
+use Rattle.scr_cube.specs.ListedTurns.{cube_space}
 use Rattle.scr_stages.specs.Tables.{outer_places}
 use Rattle.scr_stages.specs.Tetrads.{in_block}
 

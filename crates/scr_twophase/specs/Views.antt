@@ -5,7 +5,7 @@ use Rattle.scr_positions.specs.Products.{product_coordinate}
 use Rattle.scr_positions.specs.SearchSpaces.{Follows, positions}
 use Rattle.scr_cube.specs.Cube333.{CubeState, IsCube}
 use Rattle.scr_stages.specs.Numbers.{flips_number, middle_set_of, IsDominoCube}
-use Rattle.scr_stages.specs.Spaces.{cube_space}
+use Rattle.scr_cube.specs.ListedTurns.{cube_space}
 use Rattle.scr_stages.specs.Tables.{flips_coordinate}
 use Rattle.scr_table.specs.Lines.{TableLine}
 use Rattle.scr_twophase.specs.declared.position.Extent.{Extent}
