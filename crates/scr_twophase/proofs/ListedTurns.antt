@@ -2,7 +2,7 @@
 use Rattle.std.proofs.Common.{ℕ, ◌<◌, List}
 use Rattle.std.specs.Prelude.{All, Contains}
 use Rattle.scr_table.proofs.ListedWords.{All-numbers, All-below}
-use Rattle.scr_twophase.specs.TwoParts.{turn_numbers}
+use Rattle.scr_search.specs.Orderly.{turn_numbers}
 
 pub All-turns : (w : List ℕ) → All (λ t. t < 18) w → All (Contains turn_numbers) w
 unfolding turn_numbers

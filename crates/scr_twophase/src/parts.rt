@@ -3,19 +3,17 @@ ghost use Rattle.std.specs.Prelude.{◌≡◌, ◌&&◌};
 ghost use Rattle.std.specs.Option.{option_map};
 ghost use Rattle.std.proofs.Common.{lit≤};
 ghost use Rattle.scr_cube.specs.Cube333.{IsCube};
-ghost use Rattle.scr_twophase.specs.Search.{letters, is_domino_position};
-ghost use Rattle.scr_twophase.specs.TwoParts.{ends_in_quarter, is_first_part, joined, turn_numbers, two_parts};
-ghost use Rattle.scr_twophase.specs.Views.{Shows, first_views};
+ghost use Rattle.scr_search.specs.Search.{letters};
+ghost use Rattle.scr_twophase.specs.PartPositions.{is_domino_position};
+ghost use Rattle.scr_twophase.specs.TwoParts.{ends_in_quarter, is_first_part, joined, two_parts};
+ghost use Rattle.scr_search.specs.Orderly.{turn_numbers};
+ghost use Rattle.scr_search.specs.Views.{Shows};
+ghost use Rattle.scr_twophase.specs.BothParts.{first_views};
 
 use crate::first::{FirstPart, first_position, is_domino};
-use crate::position::PartPosition;
-use crate::search::{Part, search_within};
-use crate::search_tables::SearchTables;
-use crate::second::SecondPart;
-use crate::space::Positions;
-use crate::turn_set::TurnSet;
-use crate::word::Word;
+use crate::second::SecondTables;
 use scr_cube::Cube;
+use scr_search::{Part, PartPosition, Positions, SearchTables, TurnSet, Word, search_within};
 
 /// The quarter turns of R, F, L and B.
 const SIDE_QUARTERS: TurnSet = TurnSet { bits: 0x2_d168 };
@@ -25,7 +23,7 @@ const SIDE_QUARTERS: TurnSet = TurnSet { bits: 0x2_d168 };
 #[derive(Drop)]
 pub(crate) struct PartTables {
     pub first: SearchTables<FirstPart>,
-    pub second: SearchTables<SecondPart>,
+    pub second: SecondTables,
 }
 
 impl Part for PartTables {

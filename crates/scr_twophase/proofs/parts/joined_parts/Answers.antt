@@ -1,10 +1,11 @@
 use Rattle.std.proofs.Common.{false, true, [], length, refl, ap, subst, sym, arith}
 use Rattle.scr_combinatorics.proofs.PlayLaws.{play-empty}
 use Rattle.scr_cube.specs.Cube333.{CubeState}
-use Rattle.scr_twophase.specs.declared.position.PartPosition.{PartPosition}
-use Rattle.scr_twophase.specs.Search.{letters, IsAt}
-use Rattle.scr_twophase.specs.TwoParts.{after_turn, is_orderly}
-use Rattle.scr_twophase.specs.Views.{Shows, first_views}
+use Rattle.scr_search.specs.declared.position.PartPosition.{PartPosition}
+use Rattle.scr_search.specs.Search.{letters, IsAt}
+use Rattle.scr_search.specs.Orderly.{after_turn, is_orderly}
+use Rattle.scr_search.specs.Views.{Shows}
+use Rattle.scr_twophase.specs.BothParts.{first_views}
 use Rattle.scr_twophase.proofs.FirstSteps.{two_parts-searched}
 use Rattle.scr_twophase.proofs.parts.joined_parts.Goals as goal
 

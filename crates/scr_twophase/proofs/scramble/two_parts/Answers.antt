@@ -9,7 +9,7 @@ use Rattle.scr_notation.specs.Event.{kind_of}
 use Rattle.scr_notation.specs.TurnNumbers.{face_turn_at, turn_at}
 use Rattle.scr_notation.proofs.NumberLaws.{turns_333}
 use Rattle.scr_cube.specs.Cube333.{cube_powers}
-use Rattle.scr_twophase.specs.Search.{letters}
+use Rattle.scr_search.specs.Search.{letters}
 use Rattle.scr_twophase.proofs.MinimaLaws.{play-spelled}
 use Rattle.scr_twophase.proofs.PartLaws.{two_parts-played}
 use Rattle.scr_twophase.proofs.scramble.two_parts.Goals as goal

@@ -1,10 +1,12 @@
 use Rattle.std.proofs.Common.{◌-◌, sym, ◌∙◌, arith, refl}
 use Rattle.std.proofs.lemmas.Bool.{and_parts}
 use Rattle.scr_table.specs.Words.{words_behind}
-use Rattle.scr_twophase.specs.Search.{letters, is_domino_position}
-use Rattle.scr_twophase.specs.TwoParts.{turn_numbers, ends_in_quarter, is_first_part, joined}
+use Rattle.scr_search.specs.Search.{letters}
+use Rattle.scr_twophase.specs.PartPositions.{is_domino_position}
+use Rattle.scr_search.specs.Orderly.{turn_numbers}
+use Rattle.scr_twophase.specs.TwoParts.{ends_in_quarter, is_first_part, joined}
 use Rattle.scr_twophase.proofs.FirstSteps.{domino_there, no_part, one_part}
-use Rattle.scr_twophase.proofs.Outcomes.{IsSearched-none, IsSearched-one}
+use Rattle.scr_search.proofs.Outcomes.{IsSearched-none, IsSearched-one}
 use Rattle.scr_twophase.proofs.parts.PartTablesPart.at_end.Goals as goal
 
 pub returns-then-not-is_first_part : goal.returns-then-not-is_first_part

@@ -1,6 +1,6 @@
 use Rattle.std.proofs.Common.{arith}
 use Rattle.scr_combinatorics.proofs.Picks.{numbers_from-at}
-use Rattle.scr_twophase.specs.TwoParts.{turn_numbers}
+use Rattle.scr_search.specs.Orderly.{turn_numbers}
 use Rattle.scr_twophase.proofs.parts.PartTablesPart.turn.Goals as goal
 
 pub overflow_cast-result : goal.overflow_cast-result

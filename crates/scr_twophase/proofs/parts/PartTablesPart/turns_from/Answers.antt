@@ -1,6 +1,7 @@
 use Rattle.std.proofs.Common.{◌≡◌, ◌-◌, subst, sym, arith}
-use Rattle.scr_twophase.specs.Search.{letters, KeepsWays}
-use Rattle.scr_twophase.specs.TwoParts.{is_first_part, turn_numbers}
+use Rattle.scr_search.specs.Search.{letters, KeepsWays}
+use Rattle.scr_twophase.specs.TwoParts.{is_first_part}
+use Rattle.scr_search.specs.Orderly.{turn_numbers}
 use Rattle.scr_twophase.proofs.FirstSteps.{IsTestOf-first, KeepsWays-quarters, side_quarters}
 use Rattle.scr_twophase.proofs.parts.PartTablesPart.turns_from.Goals as goal
 
