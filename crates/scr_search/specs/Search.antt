@@ -5,7 +5,6 @@ use Rattle.std.specs.Option.{option_map_or}
 use Rattle.scr_combinatorics.specs.Play.{play}
 use Rattle.scr_cube.specs.Cube333.{CubeState}
 use Rattle.scr_table.specs.Words.{words_of}
-use Rattle.scr_search.specs.declared.word.Word.{Word}
 use Rattle.scr_search.specs.Orderly.{may_precede, is_orderly, after_turn, leads}
 use Rattle.scr_search.specs.TurnSets.{contains_turn}
 
@@ -14,10 +13,6 @@ unfoldable pub may_end : List ℕ → ℕ → Bool
 may_end word t = option_map_or (λ last. may_precede last t) (slice_get word (length word - 1)) true
 
 -- ---- words
-
--- the turns of a word that a search has written
-abbrev pub letters : Word → List ℕ
-letters w = take w.count w.turns
 
 -- An orderly word leads from a cube to one that a position shows.
 pub record IsAt {At : Type 0} (Shows : CubeState → At → Type 0) (c : CubeState) (word : List ℕ) (at : At) : Type 0 where

@@ -2,7 +2,7 @@
 ghost use Rattle.std.specs.Prelude.{◌≡◌, ◌+◌, ◌++◌, ◌≤◌, filter, length, map};
 ghost use Rattle.scr_cube.specs.Cube333.{CubeState};
 ghost use Rattle.scr_table.specs.Words.{words_behind, words_within};
-ghost use Rattle.scr_search.specs.Search.{letters, IsAt, IsSearched};
+ghost use Rattle.scr_search.specs.Search.{IsAt, IsSearched};
 
 use crate::turn_set::TurnSet;
 use crate::word::Word;
@@ -13,7 +13,7 @@ use scr_cube::Cube;
 pub trait Part {
     ghost use Rattle.std.specs.Prelude.{◌≡◌, ℕ, ◌-◌, ◌^◌, ◌<◌, ◌≤◌, Bool, List, [], Option, Some, length, slice_index};
     ghost use Rattle.scr_cube.specs.Cube333.{CubeState};
-    ghost use Rattle.scr_search.specs.Search.{letters, IsAt, IsSearched, KeepsWays};
+    ghost use Rattle.scr_search.specs.Search.{IsAt, IsSearched, KeepsWays};
     ghost use Rattle.scr_search.specs.Orderly.{after_turn};
     ghost use Rattle.scr_table.specs.Words.{words_behind};
 
@@ -37,17 +37,17 @@ pub trait Part {
 
     /// A number of turns of which no fewer make a word that is looked for, behind one that leads to a position.
     fn least(&self, word: &Word, at: Self::Position) -> u32
-        requires { (c : CubeState) × IsAt Shows c (letters word.now) at }
-        ensures { (c : CubeState) (n : ℕ) → IsAt Shows c (letters word.now) at → n < result
-            → words_behind turns (passes c) (letters word.now) n ≡ [] };
+        requires { (c : CubeState) × IsAt Shows c word.now at }
+        ensures { (c : CubeState) (n : ℕ) → IsAt Shows c word.now at → n < result
+            → words_behind turns (passes c) word.now n ≡ [] };
 
     /// The turns of which one may be the next behind a word that leads to a position, where `left` turns, one or more, are
     /// still to be made.
     fn turns_from(&self, word: &Word, at: Self::Position, left: u32) -> TurnSet
-        requires at { (c : CubeState) × IsAt Shows c (letters word.now) at }
+        requires at { (c : CubeState) × IsAt Shows c word.now at }
         requires some { 0 < left }
-        ensures kept { (c : CubeState) → IsAt Shows c (letters word.now) at
-            → KeepsWays turns (passes c) (letters word.now) (left - 1) result.bits }
+        ensures kept { (c : CubeState) → IsAt Shows c word.now at
+            → KeepsWays turns (passes c) word.now (left - 1) result.bits }
         ensures few { result.bits < 2 ^ 18 };
 
     /// The turn at a place.
@@ -64,11 +64,11 @@ pub trait Part {
 
     /// What a whole word gives, if it is looked for: then this is a try.
     fn at_end(&self, cube: &Cube, word: &mut Word, at: Self::Position, tries: &mut u32) -> bool
-        requires at { IsAt Shows cube.now (letters word.old) at }
-        requires few { length (letters word.old) ≤ most }
+        requires at { IsAt Shows cube.now word.old at }
+        requires few { length word.old ≤ most }
         requires tries { 0 < tries.old }
-        ensures { IsSearched (gives cube.now) (words_behind turns (passes cube.now) (letters word.old) 0) tries.old
-            (letters word.old) result (letters word.new) tries.new };
+        ensures { IsSearched (gives cube.now) (words_behind turns (passes cube.now) word.old 0) tries.old
+            word.old result word.new tries.new };
 
     /// Words are no longer than those of two parts.
     ghost short: { most ≤ 22 };
@@ -84,11 +84,11 @@ pub fn search_within<P: Part>(
     most: u32,
     tries: &mut u32,
 ) -> bool
-    requires at { IsAt P.Shows cube.now (letters word.old) at }
-    requires few { length (letters word.old) + most ≤ P.most }
+    requires at { IsAt P.Shows cube.now word.old at }
+    requires few { length word.old + most ≤ P.most }
     ensures { IsSearched (P.gives cube.now)
-        (filter (P.passes cube.now) (map (λ v. letters word.old ++ v) (words_within P.turns most))) tries.old
-        (letters word.old) result (letters word.new) tries.new }
+        (filter (P.passes cube.now) (map (λ v. word.old ++ v) (words_within P.turns most))) tries.old
+        word.old result word.new tries.new }
 {
     for left in part.least(word, at)..most + 1 {
         if search_behind(part, cube, word, at, left, tries) {
@@ -107,10 +107,10 @@ fn search_behind<P: Part>(
     left: u32,
     tries: &mut u32,
 ) -> bool
-    requires at { IsAt P.Shows cube.now (letters word.old) at }
-    requires few { length (letters word.old) + left ≤ P.most }
-    ensures { IsSearched (P.gives cube.now) (words_behind P.turns (P.passes cube.now) (letters word.old) left) tries.old
-        (letters word.old) result (letters word.new) tries.new }
+    requires at { IsAt P.Shows cube.now word.old at }
+    requires few { length word.old + left ≤ P.most }
+    ensures { IsSearched (P.gives cube.now) (words_behind P.turns (P.passes cube.now) word.old left) tries.old
+        word.old result word.new tries.new }
 {
     if *tries == 0 {
         return false;

@@ -7,7 +7,7 @@ ghost use Rattle.scr_table.specs.Causes.{IsCauseOf};
 ghost use Rattle.scr_table.specs.Lines.{HasNoGap};
 ghost use Rattle.scr_search.specs.Near.{IsInSet, IsNear};
 ghost use Rattle.scr_search.specs.Outlooks.{AreOutlooksOf, IsPruningTable};
-ghost use Rattle.scr_search.specs.Search.{IsAt, IsTestOf, KeepsWays, LeavesWays, letters};
+ghost use Rattle.scr_search.specs.Search.{IsAt, IsTestOf, KeepsWays, LeavesWays};
 ghost use Rattle.scr_search.specs.Views.{IsPosition, Shows, lines_of, one_line, other_line, part_number};
 
 use crate::near_set::{NEAR_AT, NearSet};
@@ -144,10 +144,10 @@ impl<V: PartViews> SearchTables<V> {
     /// still to be made.
     #[inline]
     pub fn turns_behind(&self, word: &Word, at: PartPosition, left: u32) -> TurnSet
-        requires at { (c : CubeState) × IsAt (Shows V.views) c (letters word.now) at }
+        requires at { (c : CubeState) × IsAt (Shows V.views) c word.now at }
         requires some { 0 < left }
-        ensures kept { (c : CubeState) (test : List ℕ → Bool) → IsAt (Shows V.views) c (letters word.now) at → IsTestOf V.views.ends c test
-            → KeepsWays V.views.turns test (letters word.now) (left - 1) result.bits }
+        ensures kept { (c : CubeState) (test : List ℕ → Bool) → IsAt (Shows V.views) c word.now at → IsTestOf V.views.ends c test
+            → KeepsWays V.views.turns test word.now (left - 1) result.bits }
         ensures few { result.bits < 2 ^ 18 }
     {
         let turns = behind(word, &V::extent().behind).and(self.turns_within(at, left));

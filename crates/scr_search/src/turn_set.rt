@@ -1,6 +1,6 @@
 //! Sets of turns.
 ghost use Rattle.std.specs.Prelude.{◌≡◌, ℕ, ◌^◌, ◌<◌, ◌&&◌, ◌||◌, ◌==◌, ◌∷◌, [], All, List, MatchOption, IfNone, IfSome, IsTrue, length, not, slice_index};
-ghost use Rattle.scr_search.specs.Search.{letters, may_end, AreBehind};
+ghost use Rattle.scr_search.specs.Search.{may_end, AreBehind};
 ghost use Rattle.scr_search.specs.TurnSets.{contains_turn, turns_in};
 
 use crate::word::Word;
@@ -74,7 +74,7 @@ impl TurnSet {
 #[inline]
 pub(crate) fn behind(word: &Word, sets: &[u32; 7]) -> TurnSet
     ensures turns { (turns : List ℕ) → AreBehind turns sets.now → (place : ℕ) → place < length turns
-        → contains_turn result.bits place ≡ may_end (letters word.now) (slice_index turns place) }
+        → contains_turn result.bits place ≡ may_end word.now (slice_index turns place) }
     ensures small { (limit : ℕ) → All (λ set. set < limit) sets.now → result.bits < limit }
 {
     let face = match word.last() {

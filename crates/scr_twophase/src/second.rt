@@ -123,15 +123,13 @@ pub(crate) struct SecondTables {
 }
 
 impl SecondTables {
-    ghost use Rattle.scr_search.specs.Search.{letters};
-
     /// Makes of a first part what it is joined with its second part, if it has one.
     pub fn joined(&self, cube: &Cube, word: &mut Word) -> bool
-        requires domino { (c : CubeState) × (play after_turn cube.now (letters word.old) ≡ Some c) × IsDominoCube c }
-        requires orderly { IsTrue (is_orderly (letters word.old)) }
-        requires few { length (letters word.old) ≤ 12 }
-        ensures joined { joined cube.now (letters word.old) ≡ (if result then Some (letters word.new) else None) }
-        ensures same { result ≡ false → letters word.new ≡ letters word.old }
+        requires domino { (c : CubeState) × (play after_turn cube.now word.old ≡ Some c) × IsDominoCube c }
+        requires orderly { IsTrue (is_orderly word.old) }
+        requires few { length word.old ≤ 12 }
+        ensures joined { joined cube.now word.old ≡ (if result then Some word.new else None) }
+        ensures same { result ≡ false → word.new ≡ word.old }
     {
         let at = position_behind(cube, word.turns());
         search_within(self, cube, word, at, 10, &mut 1)

@@ -1,5 +1,4 @@
 use Rattle.std.proofs.Common.{◌≡◌, length}
-use Rattle.scr_search.specs.Search.{letters}
 use Rattle.scr_search.specs.TurnSets.{turns_in}
 use Rattle.scr_search.proofs.SearchSteps.{IsUnderWay}
 use Rattle.scr_search.proofs.search.+search_behind.Given as goal
@@ -11,5 +10,5 @@ abbrev pub decreases-loop-place : goal.decreases-loop-place
 decreases-loop-place g l = length (turns_in l.turns.bits)
 
 abbrev pub invariant-loop-place : goal.invariant-loop-place
-invariant-loop-place g l = (letters l.word ≡ letters l.initial.word)
-    × IsUnderWay g.P.Part.turns (g.P.Part.passes l.cube) (g.P.Part.gives l.cube) (letters l.initial.word) l.left l.initial.tries l.turns.bits l.tries
+invariant-loop-place g l = (l.word ≡ l.initial.word)
+    × IsUnderWay g.P.Part.turns (g.P.Part.passes l.cube) (g.P.Part.gives l.cube) l.initial.word l.left l.initial.tries l.turns.bits l.tries

@@ -1,5 +1,5 @@
 use Rattle.std.proofs.Common.{refl, sym, ap, ◌∙◌, length, subst, arith}
-use Rattle.scr_search.specs.Search.{letters, IsAt}
+use Rattle.scr_search.specs.Search.{IsAt}
 use Rattle.scr_search.proofs.Outcomes.{AreLongerLeft-begin, AreLongerLeft-end, AreLongerLeft-found, AreLongerLeft-next}
 use Rattle.scr_search.proofs.search.search_within.Goals as goal
 
@@ -11,7 +11,7 @@ loop-left-init g c =
     let p = g.P.Part in
     let cube = c.args.cube.now in (
       refl,
-      AreLongerLeft-begin p.turns (p.passes cube) (p.gives cube) (letters c.args.word.now) c.args.most c.args.tries.now c.least-left.result
+      AreLongerLeft-begin p.turns (p.passes cube) (p.gives cube) c.args.word.now c.args.most c.args.tries.now c.least-left.result
           (λ n lt. c.least-left.ensures cube n c.requires.at lt),
     )
 
@@ -25,8 +25,8 @@ pub returns-then-search_behind : goal.returns-then-search_behind
 returns-then-search_behind g c =
     let p = g.P.Part in
     let cube = c.args.cube.now in
-    AreLongerLeft-found p.turns (p.passes cube) (p.gives cube) (letters c.args.word.now) c.args.most c.args.tries.now c.loop-left.left c.loop-left.tries
-    c.loop-left.invariant.1 c.loop-left-test.true c.search_behind.new.tries (letters c.loop-left.word) (letters c.search_behind.new.word) c.loop-left.invariant.0
+    AreLongerLeft-found p.turns (p.passes cube) (p.gives cube) c.args.word.now c.args.most c.args.tries.now c.loop-left.left c.loop-left.tries
+    c.loop-left.invariant.1 c.loop-left-test.true c.search_behind.new.tries c.loop-left.word c.search_behind.new.word c.loop-left.invariant.0
     c.if-search_behind.ensures
 
 pub loop-left-preserved : goal.loop-left-preserved
@@ -34,8 +34,8 @@ loop-left-preserved g c =
     let p = g.P.Part in
     let cube = c.args.cube.now in (
       c.if-search_behind.ensures.same refl ∙ c.loop-left.invariant.0,
-      AreLongerLeft-next p.turns (p.passes cube) (p.gives cube) (letters c.args.word.now) c.args.most c.args.tries.now c.loop-left.left c.loop-left.tries
-          c.loop-left.invariant.1 c.loop-left-test.true c.search_behind.new.tries (letters c.loop-left.word) (letters c.search_behind.new.word)
+      AreLongerLeft-next p.turns (p.passes cube) (p.gives cube) c.args.word.now c.args.most c.args.tries.now c.loop-left.left c.loop-left.tries
+          c.loop-left.invariant.1 c.loop-left-test.true c.search_behind.new.tries c.loop-left.word c.search_behind.new.word
           c.loop-left.invariant.0 c.if-search_behind.ensures,
     )
 
@@ -43,5 +43,5 @@ pub returns : goal.returns
 returns g c =
     let p = g.P.Part in
     let cube = c.args.cube.now in
-    AreLongerLeft-end p.turns (p.passes cube) (p.gives cube) (letters c.args.word.now) c.args.most c.args.tries.now c.loop-left.left c.loop-left.tries
-    c.loop-left.invariant.1 c.loop-left-test.false (letters c.loop-left.word) c.loop-left.invariant.0
+    AreLongerLeft-end p.turns (p.passes cube) (p.gives cube) c.args.word.now c.args.most c.args.tries.now c.loop-left.left c.loop-left.tries
+    c.loop-left.invariant.1 c.loop-left-test.false c.loop-left.word c.loop-left.invariant.0

@@ -1,7 +1,6 @@
 use Rattle.std.proofs.Common.{◌≡◌, ◌-◌, ◌+◌, ◌^◌, length, subst, sym, ◌∙◌, arith, pow_mono}
 use Rattle.std.proofs.lemmas.Bool.{and_parts}
 use Rattle.scr_search.specs.Near.{LeavesNear}
-use Rattle.scr_search.specs.Search.{letters}
 use Rattle.scr_search.specs.TurnSets.{contains_turn}
 use Rattle.scr_search.proofs.NearLaws.{KeepsWays-near}
 use Rattle.scr_search.proofs.SearchSteps.{KeepsWays-left, below_count}
@@ -30,7 +29,7 @@ pub returns-else-left-eq-NEAR_AT-clause-kept : goal.returns-else-left-eq-NEAR_AT
 returns-else-left-eq-NEAR_AT-clause-kept g c = λ cube test h is.
     let v = g.V.PartViews.views in
     let one : c.args.left ≡ (c.args.left - 1) + 1 = omega (arith, c.requires.some) in
-    KeepsWays-left v.turns v.ends test cube h.there (letters c.args.word.now) (c.args.left - 1) c.turns_within.result.bits c.behind.result.bits
+    KeepsWays-left v.turns v.ends test cube h.there c.args.word.now (c.args.left - 1) c.turns_within.result.bits c.behind.result.bits
     c.and-turns.result.bits (λ w e. (is.orderly w e, is.leads_there w e)) h.played (c.turns_within.ensures.kept h.there (c.args.left - 1) one h.shows)
     (c.behind.ensures.turns v.turns c.extent.ensures.views.behind.1) (c.behind.ensures.small (2 ^ length v.turns) c.extent.ensures.views.behind.0) c.and-turns.ensures.turns
 
@@ -39,7 +38,7 @@ returns-then-left-eq-NEAR_AT-clause-kept g c = λ cube test h is.
     let v = g.V.PartViews.views in
     let one : c.args.left ≡ (c.args.left - 1) + 1 = omega (arith, c.requires.some) in
     let seven : c.args.left - 1 ≡ 7 = omega (arith, c.if-left-eq-NEAR_AT.true) in
-    let word = letters c.args.word.now in
+    let word = c.args.word.now in
     let all = KeepsWays-left v.turns v.ends test cube h.there word (c.args.left - 1) c.turns_within.result.bits c.behind.result.bits
     c.and-turns.result.bits (λ w e. (is.orderly w e, is.leads_there w e)) h.played (c.turns_within.ensures.kept h.there (c.args.left - 1) one h.shows)
     (c.behind.ensures.turns v.turns c.extent.ensures.views.behind.1) (c.behind.ensures.small (2 ^ length v.turns) c.extent.ensures.views.behind.0) c.and-turns.ensures.turns in

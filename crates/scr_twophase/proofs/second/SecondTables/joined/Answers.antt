@@ -1,7 +1,6 @@
 use Rattle.std.proofs.Common.{◌≡◌, ◌<◌, Some, subst, sym, arith}
 use Rattle.std.specs.Prelude.{All}
 use Rattle.scr_combinatorics.specs.Play.{play}
-use Rattle.scr_search.specs.Search.{letters}
 use Rattle.scr_search.specs.Orderly.{after_turn}
 use Rattle.scr_twophase.proofs.SecondSteps.{joined-searched}
 use Rattle.scr_twophase.proofs.second.SecondTables.joined.Goals as goal
@@ -29,6 +28,6 @@ search_within-requires c =
 
 pub returns : goal.returns
 returns c = record {
-  joined = joined-searched c.args.cube.now (letters c.args.word.now) (letters c.search_within.new.word) c.search_within.result c.search_within.new.tries c.search_within.ensures;
+  joined = joined-searched c.args.cube.now c.args.word.now c.search_within.new.word c.search_within.result c.search_within.new.tries c.search_within.ensures;
   same = c.search_within.ensures.same;
 }

@@ -1,7 +1,6 @@
 use Rattle.std.proofs.Common.{◌++◌, sym, ◌∙◌}
 use Rattle.std.proofs.lemmas.Bool.{false≢true}
 use Rattle.scr_table.proofs.WordLists.{words_behind-none}
-use Rattle.scr_search.specs.Search.{letters}
 use Rattle.scr_twophase.specs.TwoParts.{domino_turns, is_solution, is_solved}
 use Rattle.scr_search.proofs.Leads.{leads-behind, not_so}
 use Rattle.scr_twophase.specs.declared.second.TheConstants.{SECOND_EXTENT}
@@ -15,7 +14,7 @@ least_from-requires c = IsPosition-shown second_views SECOND_EXTENT AreViews-sec
 
 pub returns : goal.returns
 returns c = λ cube n h lt.
-    let word = letters c.args._word.now in
+    let word = c.args._word.now in
     words_behind-none domino_turns (is_solution cube) word n (λ v listed.
     not_so (is_solution cube (word ++ v)) (λ passes.
     let way = sym (leads-behind is_solved cube h.there word v h.played) ∙ (IsTestOf-solution cube).leads_there (word ++ v) passes in
