@@ -12,3 +12,4 @@ pub mod HeldLaws
 pub mod HeldReach
 pub mod NumberedHeld
 pub mod HeldStickers
+pub mod ListedTurns

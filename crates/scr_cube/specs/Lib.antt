@@ -5,3 +5,4 @@ pub mod Held
 pub mod Stickers
 pub mod Symmetry
 pub mod Known
+pub mod ListedTurns

@@ -10,8 +10,8 @@ use Rattle.scr_orbit.specs.PowerPuzzles.{after_letter}
 use Rattle.scr_notation.specs.declared.turn.Turn.{Turn}
 use Rattle.scr_notation.specs.TurnNumbers.{face_turn_at}
 use Rattle.scr_cube.specs.Cube333.{CubeState, cube_powers}
-use Rattle.scr_stages.specs.Stages.{letter_in, after_of}
-use Rattle.scr_stages.proofs.TurnFacts.{after_of-is}
+use Rattle.scr_cube.specs.ListedTurns.{letter_in, after_of}
+use Rattle.scr_cube.proofs.ListedTurns.{after_of-is}
 
 module _ (turns : List ℕ) where
   -- one more turn

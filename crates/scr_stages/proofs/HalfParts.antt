@@ -14,7 +14,8 @@ use Rattle.scr_positions.specs.Coordinates.{StaysBelow}
 use Rattle.scr_positions.specs.SearchSpaces.{positions, Follows}
 use Rattle.scr_coord.specs.Projections.{pieces_view, stands_in}
 use Rattle.scr_cube.specs.Cube333.{CubeState, CubeTurn, cube_action}
-use Rattle.scr_stages.specs.Stages.{half_turns, after_of, middle_edges}
+use Rattle.scr_stages.specs.Stages.{half_turns, middle_edges}
+use Rattle.scr_cube.specs.ListedTurns.{after_of}
 use Rattle.scr_stages.specs.Numbers.{first_edges, second_edges, IsHalfCube}
 use Rattle.scr_stages.specs.Tables.{turns_of, corners_by, block_turn, half_corners_coordinate, half_block_coordinate}
 use Rattle.scr_stages.specs.Tetrads.{corner_index, in_block, half_corners_number, half_corners_at, half_corners_view}

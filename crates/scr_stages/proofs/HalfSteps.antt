@@ -12,7 +12,8 @@ use Rattle.scr_positions.specs.Moves.{Moves, moves_coordinate}
 use Rattle.scr_positions.specs.SearchSpaces.{positions, Follows, ShowsSame}
 use Rattle.scr_positions.proofs.StaysBelowLaws.{StaysBelow-moves}
 use Rattle.scr_cube.specs.Cube333.{CubeState, cube_action}
-use Rattle.scr_stages.specs.Stages.{half_turns, after_of, middle_edges}
+use Rattle.scr_stages.specs.Stages.{half_turns, middle_edges}
+use Rattle.scr_cube.specs.ListedTurns.{after_of}
 use Rattle.scr_stages.specs.Numbers.{first_edges, second_edges, IsHalfCube, AreParts, ArePartNumbers, half_digits, half_cubes}
 use Rattle.scr_stages.specs.Tables.{turns_of, half_corners_coordinate, half_block_coordinate, halves_coordinate}
 use Rattle.scr_stages.specs.Tetrads.{in_block, half_corners_number, half_corners_at}

@@ -22,7 +22,8 @@ use Rattle.scr_table.specs.Distances.{Distances, Measures}
 use Rattle.scr_table.proofs.FoundWords.{first_word}
 use Rattle.scr_cube.specs.Cube333.{CubeState, IsCube, CubeTurn, cube_action, cube_powers, solved_cube}
 use Rattle.scr_cube.proofs.Laws333.{lawful_cube}
-use Rattle.scr_stages.specs.Stages.{IsHalfTurned, half_turns, after_of}
+use Rattle.scr_stages.specs.Stages.{IsHalfTurned, half_turns}
+use Rattle.scr_cube.specs.ListedTurns.{after_of}
 use Rattle.scr_stages.specs.Numbers.{IsDominoCube, first_edges, tetrads_number, IsHalfCube, half_cubes}
 use Rattle.scr_stages.specs.SearchTables.{halves_table}
 use Rattle.scr_stages.specs.Tables.{turns_of, halves_coordinate}
@@ -30,7 +31,8 @@ use Rattle.scr_stages.specs.Tetrads.{corner_index, corners_at}
 use Rattle.scr_positions.proofs.IndexLaws.{Follows-numbered, StaysBelow-numbered}
 use Rattle.scr_coord.specs.Projections.{turned_set}
 use Rattle.scr_stages.proofs.ViewLaws.{TurnsStates, kept_by}
-use Rattle.scr_stages.proofs.TurnFacts.{after_of-is, after_of-turns, IsHalfTurn, All-numbers, halves_turns}
+use Rattle.scr_cube.proofs.ListedTurns.{after_of-is}
+use Rattle.scr_stages.proofs.TurnFacts.{after_of-turns, IsHalfTurn, All-numbers, halves_turns}
 use Rattle.scr_stages.proofs.TetradTests.{corners_at-solved, corner_index-solved}
 use Rattle.scr_stages.proofs.TetradLaws.{corner_index-turned}
 use Rattle.scr_stages.proofs.DominoLaws.{IsDominoCube-turned, places-turned}

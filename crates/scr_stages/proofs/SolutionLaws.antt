@@ -20,7 +20,8 @@ use Rattle.scr_table.proofs.LineLaws.{table_of_line}
 use Rattle.scr_table.proofs.StageLaws.{stage_word}
 use Rattle.scr_cube.specs.Cube333.{CubeState, IsCube, cube_powers, solved_cube}
 use Rattle.scr_cube.proofs.Laws333.{lawful_cube}
-use Rattle.scr_stages.specs.Stages.{letter_in, after_of, stages, IsHalfTurned, IsStageScramble, turn_numbers, slice_turns}
+use Rattle.scr_cube.specs.ListedTurns.{letter_in, after_of, turn_numbers}
+use Rattle.scr_stages.specs.Stages.{stages, IsHalfTurned, IsStageScramble, slice_turns}
 use Rattle.scr_stages.specs.Stages.{flips_stage, slice_stage, tetrads_stage, halves_stage}
 use Rattle.scr_stages.specs.Numbers.{flips_number, slice_number, tetrads_number, half_cubes, IsUnflippedCube, IsDominoCube, IsHalfCube}
 use Rattle.scr_stages.specs.Tables.{flips_line, slice_line, tetrads_line, halves_line, stage_lines}

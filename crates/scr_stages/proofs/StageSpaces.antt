@@ -18,9 +18,10 @@ use Rattle.scr_coord.specs.Projections.{projection, twists_view, place_set_view,
 use Rattle.scr_coord.proofs.MarkedPieces.{IsPlaceSet-marked}
 use Rattle.scr_cube.specs.Cube333.{CubeState, IsCube, IsCubeTurn, cube_action, solved_cube}
 use Rattle.scr_cube.proofs.Laws333.{cube_laws}
-use Rattle.scr_stages.specs.Stages.{HasNoFlips, IsUntwisted, IsInMiddle, IsDomino, middle_edges, after_of, turn_numbers, slice_turns, domino_turns}
+use Rattle.scr_stages.specs.Stages.{HasNoFlips, IsUntwisted, IsInMiddle, IsDomino, middle_edges, slice_turns, domino_turns}
+use Rattle.scr_cube.specs.ListedTurns.{after_of, turn_numbers}
 use Rattle.scr_stages.specs.Numbers.{flips_number, slice_number, first_edges, tetrads_number, IsUnflippedCube, IsDominoCube}
-use Rattle.scr_stages.specs.Spaces.{cube_space}
+use Rattle.scr_cube.specs.ListedTurns.{cube_space}
 use Rattle.scr_stages.specs.SearchTables.{flips_table, slice_table, tetrads_table}
 use Rattle.scr_stages.specs.Tables.{turns_of, corners_by, edges_by, block_turn, outer_places, flips_coordinate, slice_coordinate, tetrads_coordinate}
 use Rattle.scr_stages.specs.Tetrads.{corner_index, tetrads_view}

@@ -19,9 +19,10 @@ use Rattle.scr_coord.specs.Projections.{projection, twists_view, place_set_view}
 use Rattle.scr_coord.proofs.ListViews.{StaysBelow-projection, IsListView-twists, IsListView-place_sets}
 use Rattle.scr_table.specs.Distances.{Distances}
 use Rattle.scr_table.specs.Lines.{IsTableOf}
-use Rattle.scr_stages.specs.Stages.{after_of, middle_edges, IsHalfTurned, turn_numbers, slice_turns, domino_turns}
+use Rattle.scr_cube.specs.ListedTurns.{after_of, turn_numbers}
+use Rattle.scr_stages.specs.Stages.{middle_edges, IsHalfTurned, slice_turns, domino_turns}
 use Rattle.scr_stages.specs.Numbers.{tetrads_number, first_edges, IsDominoCube}
-use Rattle.scr_stages.specs.Spaces.{cube_space}
+use Rattle.scr_cube.specs.ListedTurns.{cube_space}
 use Rattle.scr_stages.specs.Tables.{turns_of, corners_by, edges_by, outer_places, block_turn, flips_coordinate, slice_coordinate, tetrads_coordinate, halves_line}
 use Rattle.scr_stages.specs.Tetrads.{corner_index, corners_at, corners_related, other_places, tetrads_view}
 use Rattle.scr_stages.proofs.TurnFacts.{flips_each, slice_each, tetrads_each}

@@ -20,7 +20,8 @@ use Rattle.scr_stages.specs.Numbers.{first_edges, second_edges}
 use Rattle.scr_stages.proofs.FiniteTests.{All-from_test}
 use Rattle.scr_stages.specs.Tables.{block_turn, block_turns, turns_of, edges_by}
 use Rattle.scr_stages.specs.Turned.{AreTurned}
-use Rattle.scr_stages.proofs.TurnFacts.{All-turns, length-turns}
+use Rattle.scr_stages.proofs.TurnFacts.{All-turns}
+use Rattle.scr_cube.proofs.ListedTurns.{length-turns}
 
 pub AreTurns-moves : {n : ℕ} (IsMove : Rearrangement → Type 0) (turns : List (PlaceTurn n)) (moves : List Rearrangement)
     → map rearrangement_of turns ≡ moves → All IsMove moves → (number : ℕ) → length moves ≡ number → 1 ≤ number → number ≤ 256

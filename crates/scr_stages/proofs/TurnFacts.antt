@@ -1,19 +1,16 @@
 -- The turns of the stages: what each does, and what it keeps.
-use Rattle.std.proofs.Common.{◌≡◌, ℕ, ◌<◌, Bool, true, false, cond, List, length, Option, Some, None, refl, sym, ap, ◌∙◌, arith, eqb-true, ltb-true}
-use Rattle.std.specs.Prelude.{All, ◌==◌, ◌&&◌, nat_lt, slice_get, slice_index, slice_index_or, option_and_then}
+use Rattle.std.proofs.Common.{◌≡◌, ℕ, ◌<◌, Bool, true, List, Option, Some, None, refl, sym, ap, ◌∙◌, arith, eqb-true, ltb-true}
+use Rattle.std.specs.Prelude.{All, ◌==◌, ◌&&◌, nat_lt, slice_get, slice_index_or, option_and_then}
 use Rattle.std.specs.Option.{option_map}
 use Rattle.std.specs.List.{list_all}
 use Rattle.std.specs.Str.{bytes_eq}
-use Rattle.std.proofs.lemmas.Bool.{and_parts, ltb-false}
+use Rattle.std.proofs.lemmas.Bool.{and_parts}
 use Rattle.std.proofs.lemmas.List.Elements.{All-map}
 use Rattle.std.proofs.lemmas.List.Sums.{AllPass-from_list_all}
-use Rattle.std.proofs.lemmas.Option.{slice_get-map, slice_get-get_or, slice_get_past}
+use Rattle.std.proofs.lemmas.Option.{slice_get-map, slice_get-get_or}
 use Rattle.scr_combinatorics.specs.Lists.{numbers_from, pick}
 use Rattle.scr_combinatorics.specs.Permutations.{IsPermutation, is_permutation, parity}
 use Rattle.scr_combinatorics.proofs.PermutationLaws.{IsPermutation-from_test}
-use Rattle.scr_combinatorics.specs.Play.{play}
-use Rattle.scr_combinatorics.specs.Stages.{by_letters}
-use Rattle.scr_combinatorics.proofs.PlayLaws.{play-one}
 use Rattle.scr_orbit.specs.Actions.{power, all_powers}
 use Rattle.scr_orbit.specs.Orbits.{composed, identity, added_digits, zeros}
 use Rattle.scr_orbit.specs.PowerPuzzles.{after_letter, all_turns}
@@ -23,17 +20,15 @@ use Rattle.scr_notation.specs.TurnNumbers.{face_turn_at}
 use Rattle.scr_coord.specs.Projections.{marked_places, stands_in}
 use Rattle.scr_cube.specs.Cube333.{CubeState, CubeTurn, IsCubeTurn, cube_action, cube_powers}
 use Rattle.scr_cube.proofs.Laws333.{lawful_cube}
+use Rattle.scr_cube.proofs.ListedTurns.{length-turns, after_of-is}
 use Rattle.scr_stages.proofs.FiniteTests.{same_list, All-from_test}
-use Rattle.scr_stages.specs.Stages.{middle_edges, letter_in, after_of, half_turns, turn_numbers, slice_turns, domino_turns}
+use Rattle.scr_stages.specs.Stages.{middle_edges, half_turns, slice_turns, domino_turns}
+use Rattle.scr_cube.specs.ListedTurns.{after_of, turn_numbers}
 use Rattle.scr_stages.specs.Numbers.{first_edges, second_edges}
 use Rattle.scr_stages.specs.Tables.{turns_of, outer_places}
 use Rattle.scr_stages.specs.Tetrads.{in_block, shared_axis, axes_of, relation_number, relation_of, corner_index}
 
 -- ---- the turn at a place of a list
-
-pub length-turns : length (all_turns cube_powers) ≡ 18
-unfolding all_turns all_powers
-length-turns = refl
 
 after_number : (c : CubeState) (t : ℕ) → t < 18
     → (after_letter cube_powers) c (face_turn_at t) ≡ Some (cube_action.turned c (slice_index_or (all_turns cube_powers) t cube_action.identity))
@@ -41,24 +36,6 @@ unfolding all_turns
 after_number c t lt =
     ap (option_map (cube_action.turned c)) (sym (lawful_cube.numbered t)
     ∙ slice_get-get_or (all_turns cube_powers) t cube_action.identity (omega (arith, length-turns)))
-
--- what it is: that with the number which stands there
-pub after_of-is : (turns : List ℕ) (c : CubeState) (place : ℕ)
-    → after_of turns c place ≡ option_and_then (λ t. (after_letter cube_powers) c (face_turn_at t)) (slice_get turns place)
-unfolding by_letters
-after_of-is turns c place = by_cases (nat_lt place (length turns)) refl
-  where
-    turned : ℕ → Option CubeState
-    turned t = (after_letter cube_powers) c (face_turn_at t)
-
-    by_cases : (b : Bool) → nat_lt place (length turns) ≡ b
-        → (let o : Option CubeState = cond b (play (after_letter cube_powers) c (letter_in turns place)) None in o)
-        ≡ option_and_then turned (slice_get turns place)
-    by_cases true e =
-        play-one (after_letter cube_powers) c (face_turn_at (slice_index turns place))
-        ∙ ap (option_and_then turned) (sym (slice_get-get_or turns place 0 (ltb-true place (length turns) e)))
-    by_cases false e =
-        ap (option_and_then turned) (sym (slice_get_past turns place (ltb-false place (length turns) e)))
 
 pub after_of-turns : (numbers : List ℕ) → All (λ t. t < 18) numbers → (c : CubeState) (place : ℕ)
     → after_of numbers c place ≡ option_map (cube_action.turned c) (slice_get (turns_of numbers) place)

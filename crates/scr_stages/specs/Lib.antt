@@ -1,7 +1,6 @@
 pub mod Stages
 pub mod Tetrads
 pub mod Numbers
-pub mod Spaces
 pub mod Tables
 pub mod Turned
 pub mod SearchTables

@@ -4,10 +4,10 @@ use Rattle.scr_combinatorics.specs.Digits.{mixed_number}
 use Rattle.scr_cube.specs.Cube333.{IsCube, solved_cube}
 use Rattle.scr_table.specs.declared.name.TableName.TheVariants.{Flips, Slice, Tetrads, Halves}
 use Rattle.scr_table.specs.SearchTables.{SearchTable, table_over}
-use Rattle.scr_stages.specs.Stages.{turn_numbers, slice_turns, domino_turns, half_turns, HasNoFlips, IsUntwisted, IsInMiddle}
+use Rattle.scr_stages.specs.Stages.{slice_turns, domino_turns, half_turns, HasNoFlips, IsUntwisted, IsInMiddle}
 use Rattle.scr_stages.specs.Stages.{flips_stage, slice_stage, tetrads_stage, halves_stage}
 use Rattle.scr_stages.specs.Numbers.{IsDominoCube, IsHalfCube, flips_number, slice_number, tetrads_number, half_digits}
-use Rattle.scr_stages.specs.Spaces.{cube_space}
+use Rattle.scr_cube.specs.ListedTurns.{cube_space, turn_numbers}
 
 -- Of all valid cubes: by flips, of twelve edges, each told by the others;
 abbrev pub flips_table : SearchTable

@@ -1,26 +1,14 @@
 -- The four stages by which a 3x3x3 is solved (after Thistlethwaite), and the scramble that they give.
-use Rattle.std.specs.Prelude.{◌≡◌, ℕ, List, [], ◌∷◌, length, slice_index, Option, Some}
-use Rattle.scr_combinatorics.specs.Lists.{numbers_from}
+use Rattle.std.specs.Prelude.{◌≡◌, ℕ, List, [], ◌∷◌, length, Some}
 use Rattle.scr_combinatorics.specs.Play.{play}
-use Rattle.scr_combinatorics.specs.Stages.{Stage, by_letters, IsScrambleByStages}
+use Rattle.scr_combinatorics.specs.Stages.{Stage, IsScrambleByStages}
 use Rattle.scr_orbit.specs.Orbits.{zeros}
 use Rattle.scr_orbit.specs.PowerPuzzles.{after_letter}
 use Rattle.scr_notation.specs.declared.turn.Turn.{Turn}
-use Rattle.scr_notation.specs.TurnNumbers.{face_turn_at}
 use Rattle.scr_notation.specs.Turning.{opposite, turn_merging}
 use Rattle.scr_coord.specs.Projections.{marked_places, stands_in}
 use Rattle.scr_cube.specs.Cube333.{CubeState, cube_powers, solved_cube}
-
--- ---- words of turns, told by numbers
-
--- The letter at a place of a list of turns, which are told by their numbers: U U2 U' R R2 R' F F2 F' D D2 D' L L2 L' B
--- B2 B' are 0 to 17.
-abbrev pub letter_in : List ℕ → ℕ → List Turn
-letter_in turns place = face_turn_at (slice_index turns place) ∷ []
-
--- what the turn at a place makes of a cube: over this, words of places are played
-abbrev pub after_of : List ℕ → CubeState → ℕ → Option CubeState
-after_of turns = by_letters (after_letter cube_powers) (length turns) (letter_in turns)
+use Rattle.scr_cube.specs.ListedTurns.{turn_numbers, letter_in, after_of}
 
 -- The stage of some turns, of a goal and of a bound.
 abbrev pub cube_stage : List ℕ → (CubeState → Type 0) → ℕ → Stage CubeState Turn
@@ -59,10 +47,7 @@ half_turns = 1 ∷ 4 ∷ 7 ∷ 10 ∷ 13 ∷ 16 ∷ []
 abbrev pub IsHalfTurned : CubeState → Type 0
 IsHalfTurned c = (word : List ℕ) × (play (after_of half_turns) solved_cube word ≡ Some c)
 
--- the turns of the first three, of which the last keep a domino
-abbrev pub turn_numbers : List ℕ
-turn_numbers = numbers_from 0 18
-
+-- the turns of the second and the third, of which the last keep a domino
 abbrev pub slice_turns : List ℕ
 slice_turns = 0 ∷ 1 ∷ 2 ∷ 3 ∷ 4 ∷ 5 ∷ 7 ∷ 9 ∷ 10 ∷ 11 ∷ 12 ∷ 13 ∷ 14 ∷ 16 ∷ []
 

@@ -10,7 +10,8 @@ use Rattle.scr_coord.specs.Projections.{projection, twists_view, place_set_view,
 use Rattle.scr_table.specs.declared.name.TableName.TheVariants.{Flips, Slice, Tetrads, Halves}
 use Rattle.scr_table.specs.Lines.{TableLine}
 use Rattle.scr_cube.specs.Cube333.{CubeTurn, cube_action, cube_powers, solved_cube}
-use Rattle.scr_stages.specs.Stages.{middle_edges, after_of, half_turns, flips_stage, slice_stage, tetrads_stage, halves_stage, turn_numbers, slice_turns, domino_turns}
+use Rattle.scr_stages.specs.Stages.{middle_edges, half_turns, flips_stage, slice_stage, tetrads_stage, halves_stage, slice_turns, domino_turns}
+use Rattle.scr_cube.specs.ListedTurns.{after_of, turn_numbers}
 use Rattle.scr_stages.specs.Tetrads.{in_block, tetrads_view, half_corners_view}
 use Rattle.scr_stages.specs.Numbers.{first_edges, half_cubes}
 

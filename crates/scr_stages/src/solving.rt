@@ -6,7 +6,8 @@ ghost use Rattle.scr_orbit.specs.PowerPuzzles.{after_letter};
 ghost use Rattle.scr_notation.specs.declared.event.Event.TheVariants.{C333};
 ghost use Rattle.scr_notation.specs.declared.turn.Turn.{Turn as Letter};
 ghost use Rattle.scr_cube.specs.Cube333.{IsCube, cube_powers, solved_cube};
-ghost use Rattle.scr_stages.specs.Stages.{after_of, letter_in, stages, IsStageScramble};
+ghost use Rattle.scr_cube.specs.ListedTurns.{after_of, letter_in};
+ghost use Rattle.scr_stages.specs.Stages.{stages, IsStageScramble};
 
 use crate::stage_turns::{ALL_TURNS, HALF_TURNS, SLICE_TURNS, TETRADS_TURNS};
 use crate::tables::StageTables;

@@ -11,24 +11,29 @@ use Rattle.scr_combinatorics.specs.Twists.{twists_number}
 use Rattle.scr_orbit.specs.Orbits.{zeros}
 use Rattle.scr_coord.proofs.GoalNumbers.{twists_number-zeros}
 use Rattle.scr_cube.specs.Cube333.{CubeState, IsCube}
-use Rattle.scr_stages.specs.Stages.{HasNoFlips, IsUntwisted, IsInMiddle, middle_edges, turn_numbers}
+use Rattle.scr_stages.specs.Stages.{HasNoFlips, IsUntwisted, IsInMiddle, middle_edges}
 use Rattle.scr_stages.specs.Numbers.{flips_number, middle_set_of, IsDominoCube}
 use Rattle.scr_stages.proofs.FiniteTests.{agree, agree-same, passes_below, test-below}
 use Rattle.scr_stages.proofs.StageSpaces.{Follows-flips}
 use Rattle.scr_table.specs.Words.{words_of, words_behind, words_within}
 use Rattle.scr_table.proofs.WordLists.{words_behind-end, words_of-none}
 use Rattle.scr_twophase.specs.declared.first.TheConstants.{FIRST_EXTENT}
-use Rattle.scr_twophase.specs.declared.position.PartPosition.{PartPosition}
-use Rattle.scr_twophase.specs.TurnSets.{contains_turn}
-use Rattle.scr_twophase.specs.TwoParts.{axis_of, ends_in_quarter, is_domino, is_first_part, is_orderly, joined, leads, first_parts, two_parts}
-use Rattle.scr_twophase.specs.Search.{IsAt, IsSearched, IsTestOf, KeepsWays, first_given, is_domino_position}
+use Rattle.scr_search.specs.declared.position.PartPosition.{PartPosition}
+use Rattle.scr_search.specs.TurnSets.{contains_turn}
+use Rattle.scr_twophase.specs.TwoParts.{ends_in_quarter, is_domino, is_first_part, joined, first_parts, two_parts}
+use Rattle.scr_search.specs.Orderly.{is_orderly, leads, axis_of}
+use Rattle.scr_search.specs.Search.{IsAt, IsSearched, IsTestOf, KeepsWays, first_given}
+use Rattle.scr_twophase.specs.PartPositions.{is_domino_position}
+use Rattle.scr_cube.specs.ListedTurns.{turn_numbers}
 use Rattle.scr_twophase.specs.Tables.{twists_of}
-use Rattle.scr_twophase.specs.Views.{AreViews, Shows, first_views, part_number}
-use Rattle.scr_twophase.proofs.CubeTests.{IsDomino-test, leads-played, goal_number}
-use Rattle.scr_twophase.proofs.Orderly.{last-push}
+use Rattle.scr_search.specs.Views.{AreViews, Shows, part_number}
+use Rattle.scr_twophase.specs.BothParts.{first_views}
+use Rattle.scr_twophase.proofs.CubeTests.{IsDomino-test, goal_number}
+use Rattle.scr_search.proofs.Leads.{leads-played}
+use Rattle.scr_search.proofs.Orderly.{last-push}
 use Rattle.scr_twophase.proofs.Spaces.{Follows-twists, Follows-middle_set}
 use Rattle.scr_twophase.proofs.TakenBack.{AreTakenBack-turns}
-use Rattle.scr_twophase.proofs.ViewLaws.{Sees-follows, part_number-end, tests_agree}
+use Rattle.scr_search.proofs.ViewLaws.{Sees-follows, part_number-end, tests_agree}
 use Rattle.scr_twophase.proofs.WordSteps.{AreBehind-turns, sets_below}
 
 -- ---- positions

@@ -14,7 +14,8 @@ use Rattle.scr_notation.specs.declared.turn.Turn.{Turn}
 use Rattle.scr_notation.specs.TurnNumbers.{face_turn_at}
 use Rattle.scr_cube.specs.Cube333.{CubeState, cube_powers}
 use Rattle.scr_cube.proofs.Laws333.{lawful_cube}
-use Rattle.scr_twophase.specs.TwoParts.{after_turn, is_solved}
+use Rattle.scr_search.specs.Orderly.{after_turn}
+use Rattle.scr_twophase.specs.TwoParts.{is_solved}
 use Rattle.scr_table.proofs.TriedWords.{needs_test-iff}
 use Rattle.scr_table.specs.Moves.{after_move, NeedsTurns}
 use Rattle.scr_table.proofs.MovesLaws.{turned-turn}

@@ -15,8 +15,10 @@ use Rattle.scr_cube.specs.Cube333.{CubeState, solved_cube}
 use Rattle.scr_stages.proofs.SolutionLaws.{IsStageScramble-unique}
 use Rattle.scr_table.specs.Words.{words_within}
 use Rattle.scr_stages.specs.Stages.{IsStageScramble, domino_turns}
-use Rattle.scr_twophase.specs.TwoParts.{after_turn, first_parts, is_orderly, is_solution, is_solved, joined, leads, two_parts}
-use Rattle.scr_twophase.proofs.CubeTests.{IsSolved-test, leads-parts}
+use Rattle.scr_search.specs.Orderly.{after_turn, is_orderly, leads}
+use Rattle.scr_twophase.specs.TwoParts.{first_parts, is_solution, is_solved, joined, two_parts}
+use Rattle.scr_twophase.proofs.CubeTests.{IsSolved-test}
+use Rattle.scr_search.proofs.Leads.{leads-parts}
 
 given_by : {X Y : Type 0} (f : X → Option Y) (x : X) (o : Option Y) (ys : List Y) (y : Y) → f x ≡ o → slice_get (cons_option o ys) 0 ≡ Some y
     → (slice_get ys 0 ≡ Some y → (z : X) × (f z ≡ Some y)) → (z : X) × (f z ≡ Some y)

@@ -8,12 +8,13 @@ use Rattle.scr_orbit.specs.Orbits.{added_digits, composed, identity}
 use Rattle.scr_orbit.specs.PowerPuzzles.{all_turns}
 use Rattle.scr_cube.specs.Cube333.{CubeState}
 use Rattle.scr_stages.specs.Numbers.{IsDominoCube}
-use Rattle.scr_stages.specs.Stages.{after_of, middle_edges, domino_turns}
+use Rattle.scr_cube.specs.ListedTurns.{after_of}
+use Rattle.scr_stages.specs.Stages.{middle_edges, domino_turns}
 use Rattle.scr_stages.specs.Tables.{block_turn, edges_by}
 use Rattle.scr_stages.proofs.FiniteTests.{All-from_test}
-use Rattle.scr_twophase.specs.TwoParts.{after_turn}
+use Rattle.scr_search.specs.Orderly.{after_turn}
 use Rattle.scr_twophase.proofs.Spaces.{Follows-corners}
-use Rattle.scr_twophase.proofs.CubeTests.{after_of-place}
+use Rattle.scr_search.proofs.Leads.{after_of-place}
 
 place-turn : (c : CubeState) (place : ℕ) → place < 10 → after_of domino_turns c place ≡ after_turn c (get_or domino_turns place 0)
 place-turn c place lt = after_of-place domino_turns c place lt

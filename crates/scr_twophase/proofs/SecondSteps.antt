@@ -22,19 +22,24 @@ use Rattle.scr_stages.specs.Tetrads.{in_block}
 use Rattle.scr_stages.proofs.Blocks.{pick-append}
 use Rattle.scr_stages.proofs.DominoLaws.{IsPlaceSet-middle}
 use Rattle.scr_stages.proofs.HalfCubes.{pick-in_block}
-use Rattle.scr_stages.proofs.TurnFacts.{length-turns, tetrads_numbers}
+use Rattle.scr_cube.proofs.ListedTurns.{length-turns}
+use Rattle.scr_stages.proofs.TurnFacts.{tetrads_numbers}
 use Rattle.scr_table.specs.Words.{words_behind, words_within}
 use Rattle.scr_table.proofs.WordLists.{find-filter, words_behind-end}
 use Rattle.scr_twophase.specs.declared.second.TheConstants.{SECOND_EXTENT}
-use Rattle.scr_twophase.specs.declared.position.PartPosition.{PartPosition}
-use Rattle.scr_twophase.specs.TwoParts.{after_turn, is_solved, is_solution, is_orderly, joined, leads}
+use Rattle.scr_search.specs.declared.position.PartPosition.{PartPosition}
+use Rattle.scr_search.specs.Orderly.{after_turn, is_orderly, leads}
+use Rattle.scr_twophase.specs.TwoParts.{is_solved, is_solution, joined}
 use Rattle.scr_twophase.specs.Tables.{corners_of, outer_edges_of, middle_edges_of}
-use Rattle.scr_twophase.specs.Search.{IsAt, IsSearched, IsTestOf, carried, first_given, is_solved_position}
-use Rattle.scr_twophase.specs.Views.{AreViews, Shows, part_number, second_views}
-use Rattle.scr_twophase.proofs.CubeTests.{after_turn-is, turn-below, same_cube, IsSolved-test, leads-played, goal_number}
-use Rattle.scr_twophase.proofs.Outcomes.{IsSearched-none, IsSearched-one}
+use Rattle.scr_search.specs.Search.{IsAt, IsSearched, IsTestOf, first_given}
+use Rattle.scr_twophase.specs.PartPositions.{carried, is_solved_position}
+use Rattle.scr_search.specs.Views.{AreViews, Shows, part_number}
+use Rattle.scr_twophase.specs.BothParts.{second_views}
+use Rattle.scr_search.proofs.Leads.{after_turn-is, turn-below, leads-played}
+use Rattle.scr_twophase.proofs.CubeTests.{same_cube, IsSolved-test, goal_number}
+use Rattle.scr_search.proofs.Outcomes.{IsSearched-none, IsSearched-one}
 use Rattle.scr_twophase.proofs.TakenBack.{AreTakenBack-ten}
-use Rattle.scr_twophase.proofs.ViewLaws.{Sees-follows, part_number-end, tests_agree}
+use Rattle.scr_search.proofs.ViewLaws.{Sees-follows, part_number-end, tests_agree}
 use Rattle.scr_twophase.proofs.WordSteps.{AreBehind-ten, sets_below}
 use Rattle.scr_twophase.specs.Spaces.{AreMiddleHome}
 use Rattle.scr_twophase.proofs.Spaces.{AreCornersHome, AreOuterHome, IsPlaceSet-outer_places, outer-kept, Follows-corners, Follows-outer_edges}

@@ -13,10 +13,11 @@ use Rattle.scr_stages.specs.Numbers.{IsDominoCube}
 use Rattle.scr_stages.proofs.FiniteTests.{All-from_test}
 use Rattle.scr_twophase.specs.declared.first.TheConstants as all
 use Rattle.scr_twophase.specs.declared.second.TheConstants as ten
-use Rattle.scr_twophase.specs.Near.{AreTakenBack}
-use Rattle.scr_stages.specs.Stages.{domino_turns, turn_numbers}
-use Rattle.scr_twophase.specs.TwoParts.{after_turn}
-use Rattle.scr_twophase.proofs.Admissible.{IsCube-turned}
+use Rattle.scr_search.specs.Near.{AreTakenBack}
+use Rattle.scr_stages.specs.Stages.{domino_turns}
+use Rattle.scr_cube.specs.ListedTurns.{turn_numbers}
+use Rattle.scr_search.specs.Orderly.{after_turn}
+use Rattle.scr_search.proofs.Admissible.{IsCube-turned}
 use Rattle.scr_twophase.proofs.SecondLaws.{IsDominoCube-turned}
 
 -- each turn by the place of the one that takes it back, at its own place in a list that may be longer

@@ -5,10 +5,11 @@ use Rattle.std.specs.List.{list_all}
 use Rattle.scr_stages.proofs.FiniteTests.{All-from_test, agree, agree-same, passes_below, test-below}
 use Rattle.scr_twophase.specs.declared.first.TheConstants as all
 use Rattle.scr_twophase.specs.declared.second.TheConstants as ten
-use Rattle.scr_twophase.specs.Search.{AreBehind}
-use Rattle.scr_stages.specs.Stages.{domino_turns, turn_numbers}
-use Rattle.scr_twophase.specs.TwoParts.{may_precede}
-use Rattle.scr_twophase.specs.TurnSets.{contains_turn}
+use Rattle.scr_search.specs.Search.{AreBehind}
+use Rattle.scr_stages.specs.Stages.{domino_turns}
+use Rattle.scr_cube.specs.ListedTurns.{turn_numbers}
+use Rattle.scr_search.specs.Orderly.{may_precede}
+use Rattle.scr_search.specs.TurnSets.{contains_turn}
 
 -- a test of a turn's set, place by place
 is_behind : List ℕ → List ℕ → ℕ → Bool

@@ -7,4 +7,4 @@ use Rattle.scr_twophase.specs.declared.parts.PartTables.{PartTables}
 abbrev pub distances_of : PartTables → List Distances
 distances_of parts =
     parts.first.one_slice.distances ∷ parts.first.other_slice.distances
-    ∷ parts.second.one_slice.distances ∷ parts.second.other_slice.distances ∷ []
+    ∷ parts.second.tables.one_slice.distances ∷ parts.second.tables.other_slice.distances ∷ []

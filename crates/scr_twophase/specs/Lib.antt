@@ -1,12 +1,8 @@
 pub mod TwoParts
 pub mod Tables
 pub mod Spaces
-pub mod Views
-pub mod Search
-pub mod TurnSets
-pub mod Outlooks
-pub mod Near
-pub mod Spread
+pub mod BothParts
+pub mod PartPositions
 pub mod Built
 pub mod Ready
 pub mod Minima

@@ -3,7 +3,8 @@ use Rattle.std.specs.Prelude.{ℕ, Bool}
 use Rattle.scr_table.specs.TriedWords.{needs_test}
 use Rattle.scr_table.specs.Moves.{MoveSet, after_move}
 use Rattle.scr_cube.specs.Cube333.{CubeState}
-use Rattle.scr_twophase.specs.TwoParts.{after_turn, is_solved}
+use Rattle.scr_search.specs.Orderly.{after_turn}
+use Rattle.scr_twophase.specs.TwoParts.{is_solved}
 
 -- the turns of a cube by their numbers, and which cube is solved
 abbrev pub face_moves : MoveSet CubeState

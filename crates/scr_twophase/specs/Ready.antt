@@ -2,12 +2,13 @@
 use Rattle.std.specs.Prelude.{Bool, true, false}
 use Rattle.scr_twophase.specs.declared.parts.PartTables.{PartTables}
 use Rattle.scr_twophase.specs.declared.ready.Others.{Others}
-use Rattle.scr_twophase.specs.declared.near_set.NearSet.{NearSet}
+use Rattle.scr_search.specs.declared.near_set.NearSet.{NearSet}
 use Rattle.scr_twophase.specs.declared.ready.OutlookPair.{OutlookPair}
-use Rattle.scr_twophase.specs.Near.{IsInSet, IsNear}
-use Rattle.scr_twophase.specs.Outlooks.{AreOutlooksOf}
+use Rattle.scr_search.specs.Near.{IsInSet, IsNear}
+use Rattle.scr_search.specs.Outlooks.{AreOutlooksOf}
 use Rattle.scr_twophase.specs.Tables.{cornerslice_line, edgeslice_line, flipslice_line, twistslice_line}
-use Rattle.scr_twophase.specs.Views.{Views, part_number, second_views}
+use Rattle.scr_search.specs.Views.{Views, part_number}
+use Rattle.scr_twophase.specs.BothParts.{second_views}
 
 -- a near set of a part
 abbrev pub IsNearOf : Views → NearSet → Type 0
@@ -17,10 +18,10 @@ IsNearOf v set = IsNear v.turns v.IsSeen (part_number v) v.ends 7 (IsInSet set)
 abbrev pub AreOutlookPair : Bool → PartTables → OutlookPair → Type 0
 AreOutlookPair true parts pair =
     AreOutlooksOf flipslice_line parts.first.one_slice pair.first.items
-    × AreOutlooksOf cornerslice_line parts.second.one_slice pair.second.items
+    × AreOutlooksOf cornerslice_line parts.second.tables.one_slice pair.second.items
 AreOutlookPair false parts pair =
     AreOutlooksOf twistslice_line parts.first.other_slice pair.first.items
-    × AreOutlooksOf edgeslice_line parts.second.other_slice pair.second.items
+    × AreOutlooksOf edgeslice_line parts.second.tables.other_slice pair.second.items
 
 -- of all four tables, with the near set of the second part
 pub record AreOthers (parts : PartTables) (all : Others) : Type 0 where

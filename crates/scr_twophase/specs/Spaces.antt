@@ -3,9 +3,9 @@ use Rattle.std.specs.Prelude.{◌≡◌}
 use Rattle.scr_combinatorics.specs.Lists.{numbers_from}
 use Rattle.scr_positions.specs.SearchSpaces.{SearchSpace}
 use Rattle.scr_cube.specs.Cube333.{CubeState, IsCube}
-use Rattle.scr_stages.specs.Stages.{middle_edges, turn_numbers, domino_turns}
+use Rattle.scr_stages.specs.Stages.{middle_edges, domino_turns}
 use Rattle.scr_stages.specs.Numbers.{IsDominoCube}
-use Rattle.scr_stages.specs.Spaces.{cube_space}
+use Rattle.scr_cube.specs.ListedTurns.{cube_space, turn_numbers}
 use Rattle.scr_stages.specs.Tetrads.{in_block}
 
 -- the first part: all cubes, by all turns, to a goal

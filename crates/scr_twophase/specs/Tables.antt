@@ -8,9 +8,10 @@ use Rattle.scr_coord.specs.Projections.{projection, twists_view, place_set_view,
 use Rattle.scr_table.specs.declared.name.TableName.TheVariants.{FlipSlice, TwistSlice, CornerSlice, EdgeSlice}
 use Rattle.scr_table.specs.Lines.{TableLine}
 use Rattle.scr_cube.specs.Cube333.{CubeState}
-use Rattle.scr_stages.specs.Stages.{middle_edges, turn_numbers, domino_turns}
+use Rattle.scr_stages.specs.Stages.{middle_edges, domino_turns}
 use Rattle.scr_stages.specs.Tables.{corners_by, edges_by, block_turn, outer_places, flips_coordinate}
 use Rattle.scr_stages.specs.Tetrads.{in_block}
+use Rattle.scr_cube.specs.ListedTurns.{turn_numbers}
 
 -- ---- the first part, by all turns
 

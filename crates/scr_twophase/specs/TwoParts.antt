@@ -1,48 +1,24 @@
 -- The two parts by which a 3x3x3 is solved (after Kociemba's two-phase algorithm), and the scramble that they give.
 --
 -- A turn is told by its number: U U2 U' R R2 R' F F2 F' D D2 D' L L2 L' B B2 B' are 0 to 17.
-use Rattle.std.specs.Prelude.{◌≡◌, ℕ, ◌-◌, ◌/◌, ◌%◌, ◌==◌, ◌&&◌, nat_lt, not, Bool, true, false, if◌then◌else◌, List, [], ◌∷◌, ◌++◌, map, length, take, filter, find, slice_get, Option, MatchOption}
+use Rattle.std.specs.Prelude.{◌≡◌, ℕ, ◌-◌, ◌%◌, ◌==◌, ◌&&◌, not, Bool, true, List, ◌++◌, map, length, take, filter, find, slice_get, Option, MatchOption}
 use Rattle.std.specs.List.{filter_map}
 use Rattle.std.specs.Option.{option_map_or}
 use Rattle.std.specs.Str.{bytes_eq}
 use Rattle.scr_combinatorics.specs.Lists.{numbers_from}
-use Rattle.scr_combinatorics.specs.Play.{play}
 use Rattle.scr_combinatorics.specs.Back.{back}
 use Rattle.scr_orbit.specs.Orbits.{zeros}
-use Rattle.scr_orbit.specs.PowerPuzzles.{after_letter}
 use Rattle.scr_notation.specs.declared.turn.Turn.{Turn}
 use Rattle.scr_notation.specs.TurnNumbers.{face_turn_at}
 use Rattle.scr_notation.specs.Turning.{opposite}
 use Rattle.scr_coord.specs.Projections.{marked_places, stands_in}
-use Rattle.scr_cube.specs.Cube333.{CubeState, cube_powers}
-use Rattle.scr_stages.specs.Stages.{middle_edges, IsStageScramble, turn_numbers, domino_turns}
+use Rattle.scr_cube.specs.Cube333.{CubeState}
+use Rattle.scr_stages.specs.Stages.{middle_edges, IsStageScramble, domino_turns}
+use Rattle.scr_cube.specs.ListedTurns.{turn_numbers}
 use Rattle.scr_table.specs.Words.{words_within}
+use Rattle.scr_search.specs.Orderly.{axis_of, is_orderly, leads}
 
--- ---- orderly words
-
--- The axis of a turn: up and down, right and left, or front and back. Its face, of U R F D L B, is t / 3.
-abbrev pub axis_of : ℕ → ℕ
-axis_of t = t / 3 % 3
-
--- One turn may stand right before another unless both are of one face, or of opposite faces with the higher number
--- first.
-unfoldable pub may_precede : ℕ → ℕ → Bool
-may_precede first second = if axis_of first == axis_of second then nat_lt (first / 3) (second / 3) else true
-
--- Of each two neighbours the first may precede the second.
-unfoldable pub is_orderly : List ℕ → Bool
-is_orderly (t ∷ u ∷ w) = may_precede t u && is_orderly (u ∷ w)
-is_orderly _ = true
-
--- ---- what turns lead to
-
--- what the turn with a number makes of a cube, or nothing where there is no such turn
-abbrev pub after_turn : CubeState → ℕ → Option CubeState
-after_turn c t = after_letter cube_powers c (face_turn_at t)
-
--- the word leads to a cube that passes a test
-abbrev pub leads : (CubeState → Bool) → CubeState → List ℕ → Bool
-leads test c word = option_map_or test (play after_turn c word) false
+-- ---- what the parts lead to
 
 -- the test of a domino: no flips, no twists, and the edges of the middle layer in it
 unfoldable pub is_domino : CubeState → Bool

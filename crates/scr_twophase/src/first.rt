@@ -4,17 +4,16 @@ ghost use Rattle.scr_combinatorics.specs.Permutations.{IsPermutation};
 ghost use Rattle.scr_combinatorics.specs.PlaceSets.{IsPlaceSet};
 ghost use Rattle.scr_coord.specs.Projections.{marked_places, stands_in};
 ghost use Rattle.scr_stages.specs.Stages.{middle_edges};
-ghost use Rattle.scr_twophase.specs.Search.{is_domino_position};
-ghost use Rattle.scr_twophase.specs.Views.{Shows, first_views};
+ghost use Rattle.scr_twophase.specs.PartPositions.{is_domino_position};
+ghost use Rattle.scr_search.specs.Views.{Shows};
+ghost use Rattle.scr_twophase.specs.BothParts.{first_views};
 
-use crate::position::{Extent, PartPosition};
-use crate::space::BLOCK;
-use crate::views::PartViews;
 use scr_coord::{PlaceSet, Twists, places_of};
 use scr_cube::Cube;
 use scr_outside::NoMemory;
 use scr_positions::MoveTable;
 use scr_rank::{Choose, TwistRank};
+use scr_search::{BLOCK, Extent, PartPosition, PartViews};
 use scr_stages::{ALL_TURNS, MIDDLE_EDGES, corners_turned, edges_turned};
 use scr_table::TableName;
 use std::alloc::Global;
@@ -43,7 +42,7 @@ pub(crate) struct FirstPart;
 
 impl PartViews for FirstPart {
     ghost use Rattle.scr_twophase.specs.declared.first.TheConstants.{FIRST_EXTENT};
-    ghost use Rattle.scr_twophase.specs.Views.{first_views};
+    ghost use Rattle.scr_twophase.specs.BothParts.{first_views};
 
     ghost views = { first_views };
 

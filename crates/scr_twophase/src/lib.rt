@@ -7,35 +7,22 @@
 //! first parts that are tried has a second part, it is the scramble by stages. [`needs_333`] tests the minima 0 to 5
 //! over all words, and [`Draw333`] draws by it.
 //!
-//! The search goes depth first by rising length, over move tables, and leaves out the turns that [`PruneTables`] say
-//! lead too far from the goal: the theorem is that it finds what the lists have, and that each first part counts one
-//! try. A pruning table is a distance table of two coordinates side by side, which says no more than the least number
-//! of turns; that is all that leaving out needs. Where many cubes are searched for, near sets leave out more: bit
-//! tables that have all cubes from which few turns lead to the end of a part, and some others. The crate stands on the
-//! stages of `scr_stages`, on coordinates and on distance tables.
+//! Both parts are found by the search of `scr_search`, which comes to what the lists have and counts each first part
+//! once. [`PruneTables`] hold what it goes by: for each part two tables, each of one of its coordinates beside that of
+//! the edges of the middle layer. The crate stands on that search, on the stages of `scr_stages`, on coordinates and on
+//! distance tables.
 #![tactic(auto)]
 
 mod draw;
 mod first;
 mod held;
 pub mod laws;
-mod near_set;
 mod needs;
-mod numbers;
-mod outlook;
 mod parts;
-mod position;
-mod pruning;
 mod ready;
 mod scramble;
-mod search;
-mod search_tables;
 mod second;
-mod space;
 mod tables;
-mod turn_set;
-mod views;
-mod word;
 
 pub use draw::Draw333;
 pub use held::{DrawHeld, scramble_333bf};

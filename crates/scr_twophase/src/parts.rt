@@ -1,22 +1,17 @@
 //! The two parts: first parts, and the second part of each.
 ghost use Rattle.std.specs.Prelude.{◌≡◌, ◌&&◌};
-ghost use Rattle.std.specs.Option.{option_map};
 ghost use Rattle.std.proofs.Common.{lit≤};
 ghost use Rattle.scr_cube.specs.Cube333.{IsCube};
-ghost use Rattle.scr_twophase.specs.Search.{letters, is_domino_position};
-ghost use Rattle.scr_stages.specs.Stages.{turn_numbers};
+ghost use Rattle.scr_twophase.specs.PartPositions.{is_domino_position};
+ghost use Rattle.scr_cube.specs.ListedTurns.{turn_numbers};
 ghost use Rattle.scr_twophase.specs.TwoParts.{ends_in_quarter, is_first_part, joined, two_parts};
-ghost use Rattle.scr_twophase.specs.Views.{Shows, first_views};
+ghost use Rattle.scr_search.specs.Views.{Shows};
+ghost use Rattle.scr_twophase.specs.BothParts.{first_views};
 
 use crate::first::{FirstPart, first_position, is_domino};
-use crate::position::PartPosition;
-use crate::search::{Part, search_within};
-use crate::search_tables::SearchTables;
-use crate::second::SecondPart;
-use crate::space::Positions;
-use crate::turn_set::TurnSet;
-use crate::word::Word;
+use crate::second::SecondTables;
 use scr_cube::Cube;
+use scr_search::{Part, PartPosition, Positions, SearchTables, TurnSet, Word, search_within};
 
 /// The quarter turns of R, F, L and B.
 const SIDE_QUARTERS: TurnSet = TurnSet { bits: 0x2_d168 };
@@ -26,7 +21,7 @@ const SIDE_QUARTERS: TurnSet = TurnSet { bits: 0x2_d168 };
 #[derive(Drop)]
 pub(crate) struct PartTables {
     pub first: SearchTables<FirstPart>,
-    pub second: SearchTables<SecondPart>,
+    pub second: SecondTables,
 }
 
 impl Part for PartTables {
@@ -81,7 +76,7 @@ impl Part for PartTables {
 
 /// The two parts of a cube, joined: the first of its first parts that has a second part, where so many are tried.
 pub(crate) fn joined_parts(tables: &PartTables, cube: &Cube, tries: u32) -> Option<Word>
-    ensures parts { option_map letters result ≡ two_parts cube.now tries }
+    ensures parts { result ≡ two_parts cube.now tries }
     ensures valid { IsCube cube.now }
 {
     let at = first_position(cube);
@@ -97,7 +92,7 @@ pub(crate) fn joined_parts(tables: &PartTables, cube: &Cube, tries: u32) -> Opti
 /// Whether an orderly word is a first part, by the position that it leads to.
 #[inline]
 fn is_first_part(word: &Word, at: PartPosition) -> bool
-    ensures { result ≡ (ends_in_quarter (letters word.now) && is_domino_position at) }
+    ensures { result ≡ (ends_in_quarter word.now && is_domino_position at) }
 {
     ends_in_quarter(word) && is_domino(at)
 }
@@ -105,7 +100,7 @@ fn is_first_part(word: &Word, at: PartPosition) -> bool
 /// Whether a word is empty or ends in a quarter turn of R, L, F or B.
 #[inline]
 fn ends_in_quarter(word: &Word) -> bool
-    ensures { result ≡ ends_in_quarter (letters word.now) }
+    ensures { result ≡ ends_in_quarter word.now }
 {
     match word.last() {
         None => true,

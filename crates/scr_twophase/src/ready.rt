@@ -2,11 +2,10 @@
 ghost use Rattle.std.specs.Prelude.{◌≡◌, ◌≤◌, IfOk, true, false};
 ghost use Rattle.scr_twophase.specs.Built.{distances_of};
 ghost use Rattle.scr_twophase.specs.Ready.{AreOthers, AreOutlookPair, IsNearOf};
-ghost use Rattle.scr_twophase.specs.Views.{first_views};
+ghost use Rattle.scr_twophase.specs.BothParts.{first_views};
 
-use crate::near_set::{NEAR, NearSet};
-use crate::outlook::Outlook;
 use crate::parts::PartTables;
+use scr_search::{NEAR, NearSet, Outlook};
 use scr_workers::{both, shared};
 use std::alloc::{AllocError, Global};
 use std::thread::Threads;
@@ -42,7 +41,10 @@ pub(crate) fn prepare<R: Threads + Sync>(
     let first = first?;
     let Others { ones, others, near } = others?;
     parts.first.take_in(ones.first, others.first, first);
-    parts.second.take_in(ones.second, others.second, near);
+    parts
+        .second
+        .tables
+        .take_in(ones.second, others.second, near);
     Ok(())
 }
 
@@ -97,7 +99,7 @@ fn find_others<R: Threads + Sync>(
     );
     let ones = ones?;
     let others = others?;
-    let near = NearSet::build(rt, alloc, &parts.second, NEAR, workers)?;
+    let near = NearSet::build(rt, alloc, &parts.second.tables, NEAR, workers)?;
     Ok(Others { ones, others, near })
 }
 
@@ -113,6 +115,6 @@ fn outlook_pair<R: Threads + Sync>(
     ensures { IfOk result (AreOutlookPair of_one parts.now) }
 {
     let first = parts.first.outlooks(rt, alloc, of_one, workers)?;
-    let second = parts.second.outlooks(rt, alloc, of_one, workers)?;
+    let second = parts.second.tables.outlooks(rt, alloc, of_one, workers)?;
     Ok(OutlookPair { first, second })
 }

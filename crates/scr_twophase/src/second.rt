@@ -11,26 +11,23 @@ ghost use Rattle.scr_stages.specs.Numbers.{IsDominoCube};
 ghost use Rattle.scr_stages.specs.Stages.{domino_turns};
 ghost use Rattle.scr_stages.specs.Tables.{block_turn, edges_by};
 ghost use Rattle.scr_table.specs.Words.{words_of};
-ghost use Rattle.scr_twophase.specs.Search.{carried, is_solved_position};
-ghost use Rattle.scr_twophase.specs.TwoParts.{after_turn, is_orderly, is_solution, is_solved, joined};
-ghost use Rattle.scr_twophase.specs.TwoParts.{leads};
-ghost use Rattle.scr_twophase.specs.Views.{IsPosition, Shows, second_views};
+ghost use Rattle.scr_twophase.specs.PartPositions.{carried, is_solved_position};
+ghost use Rattle.scr_search.specs.Orderly.{after_turn, is_orderly, leads};
+ghost use Rattle.scr_twophase.specs.TwoParts.{is_solution, is_solved, joined};
+ghost use Rattle.scr_search.specs.Views.{IsPosition, Shows};
+ghost use Rattle.scr_twophase.specs.BothParts.{second_views};
+ghost use Rattle.scr_stages.specs.Stages.{domino_turns};
 
-use crate::near_set::NEAR;
-use crate::position::{Extent, PartPosition};
-use crate::pruning::index_beside;
-use crate::search::{Part, search_within};
-use crate::search_tables::SearchTables;
-use crate::space::Positions;
-use crate::turn_set::TurnSet;
-use crate::views::PartViews;
-use crate::word::Word;
 use scr_coord::{Lists, PlaceTurn};
 use scr_cube::{Cube, corner_turns, edge_turns};
 use scr_orbit::pick_into;
 use scr_outside::NoMemory;
 use scr_positions::MoveTable;
 use scr_rank::PermRank;
+use scr_search::{
+    Extent, NEAR, Part, PartPosition, PartViews, Positions, SearchTables, TurnSet, Word,
+    index_beside, search_within,
+};
 use scr_stages::{
     MIDDLE_EDGES, OUTER_EDGES, TETRADS_TURNS, block_edges_turned, block_number, corners_turned,
 };
@@ -58,7 +55,7 @@ pub(crate) struct SecondPart;
 
 impl PartViews for SecondPart {
     ghost use Rattle.scr_twophase.specs.declared.second.TheConstants.{SECOND_EXTENT};
-    ghost use Rattle.scr_twophase.specs.Views.{second_views};
+    ghost use Rattle.scr_twophase.specs.BothParts.{second_views};
 
     ghost views = { second_views };
 
@@ -120,16 +117,20 @@ fn is_solved(at: PartPosition) -> bool
     at.one == 0 && at.other == 0 && at.middle == 0
 }
 
-impl SearchTables<SecondPart> {
-    ghost use Rattle.scr_twophase.specs.Search.{letters};
+/// The tables of the second part. A search by them is for a second part, of the ten turns that keep a domino.
+#[derive(Drop)]
+pub(crate) struct SecondTables {
+    pub tables: SearchTables<SecondPart>,
+}
 
+impl SecondTables {
     /// Makes of a first part what it is joined with its second part, if it has one.
     pub fn joined(&self, cube: &Cube, word: &mut Word) -> bool
-        requires domino { (c : CubeState) × (play after_turn cube.now (letters word.old) ≡ Some c) × IsDominoCube c }
-        requires orderly { IsTrue (is_orderly (letters word.old)) }
-        requires few { length (letters word.old) ≤ 12 }
-        ensures joined { joined cube.now (letters word.old) ≡ (if result then Some (letters word.new) else None) }
-        ensures same { result ≡ false → letters word.new ≡ letters word.old }
+        requires domino { (c : CubeState) × (play after_turn cube.now word.old ≡ Some c) × IsDominoCube c }
+        requires orderly { IsTrue (is_orderly word.old) }
+        requires few { length word.old ≤ 12 }
+        ensures joined { joined cube.now word.old ≡ (if result then Some word.new else None) }
+        ensures same { result ≡ false → word.new ≡ word.old }
     {
         let at = position_behind(cube, word.turns());
         search_within(self, cube, word, at, 10, &mut 1)
@@ -149,8 +150,12 @@ impl SearchTables<SecondPart> {
             at.one,
             at.middle,
         );
-        let by_corners = self.one_slice.distance(index);
-        if self.near.has(SearchTables::<SecondPart>::number_of(at)) {
+        let by_corners = self.tables.one_slice.distance(index);
+        if self
+            .tables
+            .near
+            .has(SearchTables::<SecondPart>::number_of(at))
+        {
             by_corners
         } else {
             by_corners.max(NEAR + 1)
@@ -158,8 +163,7 @@ impl SearchTables<SecondPart> {
     }
 }
 
-/// A search by them is for a second part, of the ten turns that keep a domino.
-impl Part for SearchTables<SecondPart> {
+impl Part for SecondTables {
     type Position = PartPosition;
 
     ghost turns = { domino_turns };
@@ -179,7 +183,7 @@ impl Part for SearchTables<SecondPart> {
 
     #[inline]
     fn turns_from(&self, word: &Word, at: PartPosition, left: u32) -> TurnSet {
-        self.turns_behind(word, at, left)
+        self.tables.turns_behind(word, at, left)
     }
 
     #[inline]
@@ -189,7 +193,7 @@ impl Part for SearchTables<SecondPart> {
 
     #[inline]
     fn after(&self, at: PartPosition, place: u32) -> PartPosition {
-        Positions::after(self, at, place)
+        self.tables.after(at, place)
     }
 
     #[inline]

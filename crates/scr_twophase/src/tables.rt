@@ -7,8 +7,8 @@ ghost use Rattle.scr_twophase.specs.Tables.{first_lines, prune_lines, second_lin
 use crate::first::FirstPart;
 use crate::parts::PartTables;
 use crate::ready::prepare;
-use crate::search_tables::SearchTables;
-use crate::second::SecondPart;
+use crate::second::{SecondPart, SecondTables};
+use scr_search::SearchTables;
 use scr_table::{BuildFault, DistanceTable, TableName, TableSet, table_named};
 use scr_workers::{both, shared};
 use std::alloc::{AllocError, Global};
@@ -81,7 +81,7 @@ impl PruneTables {
         Ok(PruneTables {
             parts: PartTables {
                 first: first?,
-                second: second?,
+                second: SecondTables { tables: second? },
             },
         })
     }
@@ -113,8 +113,8 @@ impl PruneTables {
         [
             &self.parts.first.one_slice.distances,
             &self.parts.first.other_slice.distances,
-            &self.parts.second.one_slice.distances,
-            &self.parts.second.other_slice.distances,
+            &self.parts.second.tables.one_slice.distances,
+            &self.parts.second.tables.other_slice.distances,
         ]
     }
 }

@@ -10,7 +10,7 @@ use Rattle.scr_notation.specs.TurnNumbers.{face_turn_at, turn_at}
 use Rattle.scr_notation.proofs.NumberLaws.{turns_333}
 use Rattle.scr_notation.specs.Written.{Written}
 use Rattle.scr_cube.specs.Cube333.{cube_powers}
-use Rattle.scr_stages.specs.Stages.{letter_in, after_of}
+use Rattle.scr_cube.specs.ListedTurns.{letter_in, after_of}
 use Rattle.scr_stages.proofs.FollowSteps.{follow_more, length-spelled, letters_more}
 use Rattle.scr_stages.proofs.solving.follow.Goals as goal
 

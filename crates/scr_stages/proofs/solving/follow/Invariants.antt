@@ -2,7 +2,7 @@ use Rattle.std.proofs.Common.{◌≡◌, ◌++◌, Some, take}
 use Rattle.scr_combinatorics.specs.Play.{play}
 use Rattle.scr_combinatorics.specs.Stages.{spelled}
 use Rattle.scr_notation.specs.declared.event.Event.TheVariants.{C333}
-use Rattle.scr_stages.specs.Stages.{letter_in, after_of}
+use Rattle.scr_cube.specs.ListedTurns.{letter_in, after_of}
 use Rattle.scr_stages.proofs.solving.follow.Given as goal
 
 abbrev pub invariant-loop-at : goal.invariant-loop-at

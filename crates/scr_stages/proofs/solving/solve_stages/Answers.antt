@@ -4,7 +4,8 @@ use Rattle.scr_combinatorics.specs.Stages.{IsStageWord, spelled, IsSolution}
 use Rattle.scr_combinatorics.proofs.StageLaws.{All-stage_word, stage_goal, IsSolution-unique, solution_step}
 use Rattle.scr_orbit.specs.PowerPuzzles.{after_letter}
 use Rattle.scr_cube.specs.Cube333.{cube_powers}
-use Rattle.scr_stages.specs.Stages.{letter_in, stages, turn_numbers, slice_turns, domino_turns, half_turns}
+use Rattle.scr_cube.specs.ListedTurns.{letter_in, turn_numbers}
+use Rattle.scr_stages.specs.Stages.{stages, slice_turns, domino_turns, half_turns}
 use Rattle.scr_stages.specs.Stages.{flips_stage, slice_stage, tetrads_stage, halves_stage}
 use Rattle.scr_stages.proofs.HalfTurned.{IsHalfCube-half_turned}
 use Rattle.scr_stages.proofs.SolutionLaws.{solution-at_most, solution-played}

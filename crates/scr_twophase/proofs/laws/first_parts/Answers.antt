@@ -8,10 +8,10 @@ use Rattle.scr_cube.specs.Cube333.{CubeState, solved_cube}
 use Rattle.scr_table.specs.Words.{words_within}
 use Rattle.scr_table.proofs.ListedWords.{Contains-words_within, IsWithin-listed, Contains-filter, Contains-passed}
 use Rattle.scr_stages.proofs.FiniteTests.{All-from_test}
-use Rattle.scr_stages.specs.Stages.{turn_numbers}
-use Rattle.scr_twophase.specs.TwoParts.{after_turn, may_precede, is_orderly, ends_in_quarter}
-use Rattle.scr_twophase.specs.TwoParts.{leads, is_domino, is_first_part, first_parts}
-use Rattle.scr_twophase.proofs.CubeTests.{leads-played}
+use Rattle.scr_cube.specs.ListedTurns.{turn_numbers}
+use Rattle.scr_search.specs.Orderly.{after_turn, may_precede, is_orderly, leads}
+use Rattle.scr_twophase.specs.TwoParts.{ends_in_quarter, is_domino, is_first_part, first_parts}
+use Rattle.scr_search.proofs.Leads.{leads-played}
 use Rattle.scr_twophase.proofs.ListedTurns.{All-turns, All-below_18}
 use Rattle.scr_twophase.proofs.laws.first_parts.Goals as goal
 

@@ -1,5 +1,5 @@
 use Rattle.scr_table.proofs.ListedWords.{Contains-words_of, IsListed-listed}
-use Rattle.scr_stages.specs.Stages.{turn_numbers}
+use Rattle.scr_cube.specs.ListedTurns.{turn_numbers}
 use Rattle.scr_twophase.proofs.ListedTurns.{All-turns, All-below_18}
 use Rattle.scr_twophase.proofs.laws.words.Goals as goal
 

@@ -1,6 +1,6 @@
 use Rattle.scr_twophase.specs.Minima.{needs_turns}
 use Rattle.scr_twophase.proofs.MinimaLaws.{Needs-tested, NeedsTurns-iff}
-use Rattle.scr_twophase.proofs.CubeTests.{same_test}
+use Rattle.scr_search.proofs.Leads.{same_test}
 use Rattle.scr_twophase.proofs.needs.needs_333.Goals as goal
 
 pub no_shorter-requires : goal.no_shorter-requires

@@ -1,10 +1,11 @@
 use Rattle.std.proofs.Common.{false, true, [], length, refl, ap, subst, sym, arith}
 use Rattle.scr_combinatorics.proofs.PlayLaws.{play-empty}
 use Rattle.scr_cube.specs.Cube333.{CubeState}
-use Rattle.scr_twophase.specs.declared.position.PartPosition.{PartPosition}
-use Rattle.scr_twophase.specs.Search.{letters, IsAt}
-use Rattle.scr_twophase.specs.TwoParts.{after_turn, is_orderly}
-use Rattle.scr_twophase.specs.Views.{Shows, first_views}
+use Rattle.scr_search.specs.declared.position.PartPosition.{PartPosition}
+use Rattle.scr_search.specs.Search.{IsAt}
+use Rattle.scr_search.specs.Orderly.{after_turn, is_orderly}
+use Rattle.scr_search.specs.Views.{Shows}
+use Rattle.scr_twophase.specs.BothParts.{first_views}
 use Rattle.scr_twophase.proofs.FirstSteps.{two_parts-searched}
 use Rattle.scr_twophase.proofs.parts.joined_parts.Goals as goal
 
@@ -20,14 +21,14 @@ search_within-requires c = record {
 
 pub returns-then-search_within : goal.returns-then-search_within
 returns-then-search_within c = record {
-  parts = sym (two_parts-searched c.args.cube.now (letters c.empty-word.result) (letters c.search_within.new.word) c.args.tries c.search_within.new.tries true
+  parts = sym (two_parts-searched c.args.cube.now c.empty-word.result c.search_within.new.word c.args.tries c.search_within.new.tries true
       c.empty-word.ensures c.if-search_within.ensures);
   valid = c.first_position-at.ensures.seen;
 }
 
 pub returns-else-search_within : goal.returns-else-search_within
 returns-else-search_within c = record {
-  parts = sym (two_parts-searched c.args.cube.now (letters c.empty-word.result) (letters c.search_within.new.word) c.args.tries c.search_within.new.tries false
+  parts = sym (two_parts-searched c.args.cube.now c.empty-word.result c.search_within.new.word c.args.tries c.search_within.new.tries false
       c.empty-word.ensures c.if-search_within.ensures);
   valid = c.first_position-at.ensures.seen;
 }

@@ -9,7 +9,6 @@ use Rattle.scr_notation.specs.Event.{kind_of}
 use Rattle.scr_notation.specs.TurnNumbers.{face_turn_at, turn_at}
 use Rattle.scr_notation.proofs.NumberLaws.{turns_333}
 use Rattle.scr_cube.specs.Cube333.{cube_powers}
-use Rattle.scr_twophase.specs.Search.{letters}
 use Rattle.scr_twophase.proofs.MinimaLaws.{play-spelled}
 use Rattle.scr_twophase.proofs.PartLaws.{two_parts-played}
 use Rattle.scr_twophase.proofs.scramble.two_parts.Goals as goal
@@ -45,8 +44,8 @@ returns-in-Some-clause-played c =
     ap (λ s. play (after_letter cube_powers) cube s.turns) c.numbered_scramble.ensures
     ∙ ap (λ f. play (after_letter cube_powers) cube (map f c.turns.result.now)) turns_333
     ∙ ap (λ w. play (after_letter cube_powers) cube (map face_turn_at w)) c.turns.ensures.turns
-    ∙ play-spelled cube (letters c.in-Some.word)
-    ∙ two_parts-played cube c.args.tries (letters c.in-Some.word) (sym c.in-Some.ensures.parts)
+    ∙ play-spelled cube c.in-Some.word
+    ∙ two_parts-played cube c.args.tries c.in-Some.word (sym c.in-Some.ensures.parts)
 
 pub returns-in-Some-clause-valid : goal.returns-in-Some-clause-valid
 returns-in-Some-clause-valid c = c.joined_parts.ensures.valid

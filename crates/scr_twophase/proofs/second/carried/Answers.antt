@@ -6,7 +6,7 @@ use Rattle.std.proofs.lemmas.List.{get_or-map}
 use Rattle.scr_combinatorics.proofs.PermutationLaws.{All-permutation}
 use Rattle.scr_combinatorics.proofs.Picks.{length-pick}
 use Rattle.scr_combinatorics.specs.Lists.{pick}
-use Rattle.scr_twophase.specs.Search.{carried}
+use Rattle.scr_twophase.specs.PartPositions.{carried}
 use Rattle.scr_twophase.proofs.second.carried.Goals as goal
 
 pub pick_into-requires-clause-places : goal.pick_into-requires-clause-places

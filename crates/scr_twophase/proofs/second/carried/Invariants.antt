@@ -1,5 +1,5 @@
 use Rattle.std.proofs.Common.{◌≡◌, drop, length, map}
-use Rattle.scr_twophase.specs.Search.{carried}
+use Rattle.scr_twophase.specs.PartPositions.{carried}
 use Rattle.scr_twophase.proofs.second.carried.Given as goal
 
 abbrev pub invariant-loop-turn : goal.invariant-loop-turn

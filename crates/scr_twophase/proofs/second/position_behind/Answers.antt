@@ -3,7 +3,7 @@ use Rattle.std.specs.Prelude.{All}
 use Rattle.std.proofs.lemmas.Option.{same_Some}
 use Rattle.scr_combinatorics.specs.Permutations.{IsPermutation}
 use Rattle.scr_stages.specs.Numbers.{IsDominoCube}
-use Rattle.scr_twophase.specs.Search.{carried}
+use Rattle.scr_twophase.specs.PartPositions.{carried}
 use Rattle.scr_twophase.proofs.SecondSteps.{Shows-numbers, carried-played, corners-turned, edges-turned}
 use Rattle.scr_twophase.proofs.second.position_behind.Goals as goal
 

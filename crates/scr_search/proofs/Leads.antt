@@ -1,0 +1,93 @@
+-- Where words lead.
+use Rattle.std.proofs.Common.{◌≡◌, ℕ, ◌<◌, Bool, true, false, List, [], ◌∷◌, ◌++◌, length, get_or, slice_index, Option, Some}
+use Rattle.std.proofs.Common.{None, inl, inr, refl, sym, ap, ◌∙◌, arith}
+use Rattle.std.specs.Prelude.{All, option_and_then}
+use Rattle.std.specs.Option.{option_map, option_map_or}
+use Rattle.std.proofs.lemmas.Bool.{cases_lt, false≢true}
+use Rattle.std.proofs.lemmas.List.Elements.{All-head, All-tail}
+use Rattle.std.proofs.lemmas.Option.{same_Some, slice_get-get_or}
+use Rattle.scr_combinatorics.specs.Lists.{pick}
+use Rattle.scr_combinatorics.specs.Play.{play}
+use Rattle.scr_combinatorics.proofs.PlayLaws.{play-append, play-one}
+use Rattle.scr_orbit.specs.PowerPuzzles.{all_turns as cube_turns}
+use Rattle.scr_cube.specs.Cube333.{CubeState, cube_action, cube_powers}
+use Rattle.scr_cube.proofs.Laws333.{lawful_cube}
+use Rattle.scr_cube.proofs.ListedTurns.{after_of-is, length-turns}
+use Rattle.scr_cube.specs.ListedTurns.{after_of}
+use Rattle.scr_search.specs.Orderly.{after_turn, leads}
+
+-- ---- where words lead
+
+pub leads-parts : (test : CubeState → Bool) (c : CubeState) (w : List ℕ) → leads test c w ≡ true → (d : CubeState) × (play after_turn c w ≡ Some d) × (test d ≡ true)
+leads-parts test c w e = by (play after_turn c w) refl e
+  where
+    by : (o : Option CubeState) → play after_turn c w ≡ o → option_map_or test o false ≡ true → (d : CubeState) × (play after_turn c w ≡ Some d) × (test d ≡ true)
+    by None is h = absurd (false≢true h)
+    by (Some d) is h = (d, is, h)
+
+pub leads-played : (test : CubeState → Bool) (c d : CubeState) (w : List ℕ) → play after_turn c w ≡ Some d → leads test c w ≡ test d
+leads-played test c d w e = ap (λ o. option_map_or test o false) e
+
+-- ---- words of places
+
+-- what the turn at a place does is what the turn with its number does
+pub after_of-place : (turns : List ℕ) (c : CubeState) (k : ℕ) → k < length turns → after_of turns c k ≡ after_turn c (slice_index turns k)
+after_of-place turns c k lt = after_of-is turns c k ∙ ap (option_and_then (after_turn c)) (slice_get-get_or turns k 0 lt)
+
+pub play-places : (turns : List ℕ) (c : CubeState) (places : List ℕ) → All (λ k. k < length turns) places
+    → play (after_of turns) c places ≡ play after_turn c (pick turns places)
+unfolding play
+play-places turns c [] below = refl
+play-places turns c (k ∷ places) below =
+    ap (option_and_then (λ d. play (after_of turns) d places)) (after_of-place turns c k (All-head (λ j. j < length turns) k places below))
+    ∙ rest (after_turn c (slice_index turns k)) (λ d. play-places turns d places (All-tail (λ j. j < length turns) k places below))
+  where
+    rest : (o : Option CubeState) → ((d : CubeState) → play (after_of turns) d places ≡ play after_turn d (pick turns places))
+        → option_and_then (λ d. play (after_of turns) d places) o ≡ option_and_then (λ d. play after_turn d (pick turns places)) o
+    rest None h = refl
+    rest (Some d) h = h d
+
+-- each of the turns leads somewhere
+turn_leads-to : (c : CubeState) (t : ℕ) → t < 18 → after_turn c t ≡ Some (cube_action.turned c (get_or (cube_turns cube_powers) t cube_action.identity))
+unfolding cube_turns
+turn_leads-to c t lt =
+    ap (option_map (cube_action.turned c)) (sym (lawful_cube.numbered t)
+    ∙ slice_get-get_or (cube_turns cube_powers) t cube_action.identity (omega (arith, length-turns)))
+
+pub turn_leads : (c : CubeState) (t : ℕ) → t < 18 → (d : CubeState) × (after_turn c t ≡ Some d)
+turn_leads c t lt = (cube_action.turned c (get_or (cube_turns cube_powers) t cube_action.identity), turn_leads-to c t lt)
+
+-- there are no others
+no_state : (o : Option CubeState) (d : CubeState) → o ≡ None → o ≡ Some d → ⊥
+no_state o d a b = cc
+
+pub turn-below : (c d : CubeState) (t : ℕ) → after_turn c t ≡ Some d → t < 18
+turn-below c d t e =
+    elim (cases_lt t 18) [
+      | inl lt ↦ lt
+      | inr le ↦ absurd (no_state (after_turn c t) d (lawful_cube.no_more c t le) e)
+    ]
+
+-- and where: the turn with the number rearranges the pieces
+pub after_turn-is : (c d : CubeState) (t : ℕ) → after_turn c t ≡ Some d → d ≡ cube_action.turned c (get_or (cube_turns cube_powers) t cube_action.identity)
+after_turn-is c d t to = same_Some d (cube_action.turned c (get_or (cube_turns cube_powers) t cube_action.identity)) (sym to ∙ (turn_leads-to c t (turn-below c d t to)))
+
+-- where words of turns lead behind a word
+pub leads-behind : (test : CubeState → Bool) (c there : CubeState) (word v : List ℕ) → play after_turn c word ≡ Some there
+    → leads test c (word ++ v) ≡ leads test there v
+leads-behind test c there word v played = ap (λ o. option_map_or test o false) (play-append after_turn c there word v played)
+
+pub played_more : (c there d : CubeState) (word : List ℕ) (t : ℕ) → play after_turn c word ≡ Some there → after_turn there t ≡ Some d
+    → play after_turn c (word ++ t ∷ []) ≡ Some d
+played_more c there d word t played to = play-append after_turn c there word (t ∷ []) played ∙ play-one after_turn there t ∙ to
+
+-- ---- tests of words and numbers
+
+pub not_so : (b : Bool) → (b ≡ true → ⊥) → b ≡ false
+not_so true h = absurd (h refl)
+not_so false h = refl
+
+pub same_test : (a b : Bool) → (a ≡ true → b ≡ true) → (b ≡ true → a ≡ true) → a ≡ b
+same_test true b f g = sym (f refl)
+same_test false true f g = g refl
+same_test false false f g = refl

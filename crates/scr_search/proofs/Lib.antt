@@ -1,0 +1,12 @@
+pub mod Leads
+pub mod Tries
+pub mod Orderly
+pub mod BitSets
+pub mod OutlookLaws
+pub mod BuiltLaws
+pub mod ViewLaws
+pub mod Admissible
+pub mod Outcomes
+pub mod SearchSteps
+pub mod NearLaws
+pub mod NearBits

@@ -1,0 +1,231 @@
+-- Near sets have the numbers that they should, and what they leave of a set of turns keeps the ways.
+use Rattle.std.proofs.Common.{◌≡◌, ◌⊎◌, ℕ, suc, ◌+◌, ◌/◌, ◌%◌, ◌^◌, ◌<◌, ◌≤◌, Bool, true, List, [], ◌∷◌, ◌++◌, map, length, get_or, Some, inl, inr, refl, sym, ap, ◌∙◌, subst, ne_eqb, eq-eqb, eqb-true, arith, below_more}
+use Rattle.std.specs.Prelude.{All, Contains, Err, IfOk, IsSomeAnd, None, Ok, slice_get, slice_index_or, ◌&&◌, ◌||◌, ◌==◌, not}
+use Rattle.std.proofs.lemmas.Bool.{and_parts, and_from, cases_eq, cases_lt, false≢true, or_cases, or_left, or_right}
+use Rattle.std.proofs.lemmas.List.{get_or_append_left, get_or-append-add, get_or_default}
+use Rattle.std.proofs.lemmas.List.Elements.{All-contains, All-contains_itself, All-map, All-weaker}
+use Rattle.std.proofs.lemmas.Nat.Bits.{bit_at-zero}
+use Rattle.std.proofs.lemmas.Option.{get_or_from_slice_get, slice_get_within}
+use Rattle.scr_combinatorics.specs.Play.{play}
+use Rattle.scr_combinatorics.proofs.PlayLaws.{play-empty, play-parts}
+use Rattle.scr_cube.specs.Cube333.{CubeState}
+use Rattle.scr_workers.specs.Answered.{AreAnswered}
+use Rattle.scr_table.specs.Words.{words_of}
+use Rattle.scr_table.proofs.WordLists.{All-flat_map, words_of-none}
+use Rattle.scr_search.specs.declared.near_set.NearBlock.{NearBlock}
+use Rattle.scr_search.specs.declared.near_set.NearSet.{NearSet}
+use Rattle.scr_search.specs.Near.{AreTakenBack, HasBits, IsInSet, IsNear, LeavesNear}
+use Rattle.scr_search.specs.Search.{KeepsWays}
+use Rattle.scr_search.specs.Spread.{IsListed, IsSpread, IsThere, Listed, numbers_in}
+use Rattle.scr_search.specs.TurnSets.{contains_turn}
+use Rattle.scr_search.specs.Orderly.{after_turn, leads}
+use Rattle.scr_search.proofs.Leads.{leads-behind, leads-parts, leads-played}
+
+-- ---- words by their first turns
+
+-- a word begins with one of these turns, and the others are so many
+pub record BeginsWith (turns : List ℕ) (more : ℕ) (word : List ℕ) : Type 0 where
+  pub place : ℕ
+  pub below : place < length turns
+  pub others : List ℕ
+  pub listed : Contains (words_of turns more) others
+  pub is : word ≡ get_or turns place 0 ∷ others
+
+words_of-first : (turns : List ℕ) (more : ℕ) → All (BeginsWith turns more) (words_of turns (suc more))
+unfolding words_of
+words_of-first turns more =
+    All-flat_map (BeginsWith turns more) (λ t. map (λ w. t ∷ w) (words_of turns more)) turns (λ k d lt.
+    let t : ℕ = get_or turns k d in
+    All-map (BeginsWith turns more) (λ w. t ∷ w) (words_of turns more)
+    (All-weaker (Contains (words_of turns more)) (λ w. BeginsWith turns more (t ∷ w))
+    (λ w h. record { place = k; below = lt; others = w; listed = h; is = ap (λ u. u ∷ w) (get_or_default turns k d 0 lt) })
+    (words_of turns more) (All-contains_itself (words_of turns more))))
+
+-- where a word with one turn more leads to a cube that passes, the others lead there from that to which the turn leads
+pub record IsStep (test : CubeState → Bool) (c : CubeState) (t : ℕ) (others : List ℕ) : Type 0 where
+  pub there : CubeState
+  pub to : after_turn c t ≡ Some there
+  pub way : leads test there others ≡ true
+
+pub step_of : (test : CubeState → Bool) (c : CubeState) (t : ℕ) (others : List ℕ) → leads test c (t ∷ others) ≡ true → IsStep test c t others
+step_of test c t others way =
+    let whole = leads-parts test c (t ∷ others) way in
+    let parts = play-parts after_turn c whole.0 t others whole.1 in
+    record { there = parts.0; to = parts.1; way = leads-played test parts.0 whole.0 others parts.2 ∙ whole.2 }
+
+-- ---- level by level
+
+-- one more at the end of a list
+pub each-pushed : {X : Type 0} (P : ℕ → X → Type 0) (xs : List X) (x d : X) → ((k : ℕ) → k < length xs → P k (get_or xs k d)) → P (length xs) x
+    → (k : ℕ) → k < length xs + 1 → P k (get_or (xs ++ x ∷ []) k d)
+each-pushed P xs x d before here =
+    let end : length xs ≡ length xs + 0 = omega arith in
+    let last : get_or (xs ++ x ∷ []) (length xs) d ≡ x = ap (λ k. get_or (xs ++ x ∷ []) k d) end ∙ get_or-append-add xs (x ∷ []) 0 d in
+    below_more (λ k. P k (get_or (xs ++ x ∷ []) k d)) (length xs)
+    (λ k lt. subst (P k) (sym (get_or_append_left xs (x ∷ []) d k lt)) (before k lt))
+    (subst (P (length xs)) (sym last) here)
+
+-- what a worker found, where it did
+found_there : (P : List ℕ → Type 0) (found : Listed) → IsSomeAnd found (λ out. IfOk out (λ list. P list.items)) → IsThere found → P (numbers_in found)
+found_there P (Some (Ok list)) h there = h
+found_there P (Some (Err fault)) h there = absurd there
+found_there P None h there = absurd there
+
+module _ (turns : List ℕ) (IsSeen : CubeState → Type 0) (number : CubeState → ℕ) (test : CubeState → Bool) where
+  -- the set of all numbers
+  pub IsNear-all : (most : ℕ) (Has : ℕ → Type 0) → ((n : ℕ) → Has n) → IsNear turns IsSeen number test most Has
+  IsNear-all most Has all = record { near = λ c n v seen le there way. all (number c) }
+
+  -- no turn
+  pub IsNear-end : (end : ℕ) (Has : ℕ → Type 0) → ((c : CubeState) → IsSeen c → test c ≡ true → end ≡ number c)
+      → ((c : CubeState) → IsSeen c → end ≡ number c → Has end) → IsNear turns IsSeen number test 0 Has
+  IsNear-end end Has ends has = record {
+    near = λ c n v seen le there way.
+        let none : n ≡ 0 = omega (arith, le) in
+        let empty : v ≡ [] = words_of-none turns v (subst (λ m. Contains (words_of turns m) v) none there) in
+        let passes : test c ≡ true = sym (leads-played test c c [] (play-empty after_turn c)) ∙ ap (leads test c) (sym empty) ∙ way in
+        subst Has (ends c seen passes) (has c seen (ends c seen passes));
+  }
+
+  -- a set that has more
+  pub IsSpread-wider : (lists : List Listed) (block : ℕ) (Has More : ℕ → Type 0) → ((n : ℕ) → Has n → More n)
+      → IsSpread turns IsSeen number lists block Has → IsSpread turns IsSeen number lists block More
+  IsSpread-wider lists block Has More wider h = record {
+    here = λ c seen at listed. wider (number c % 2 ^ 32) (h.here c seen at listed);
+    there = λ c d place seen at lt to listed. wider (number c % 2 ^ 32) (h.there c d place seen at lt to listed);
+  }
+
+  -- one turn more, of a block
+  pub near_in_block : (backs : List ℕ) (most : ℕ) (lists : List Listed) (block : ℕ) (Has : ℕ → Type 0) → AreTakenBack turns backs IsSeen
+      → IsNear turns IsSeen number test most (IsListed lists) → IsSpread turns IsSeen number lists block Has
+      → (c : CubeState) (n : ℕ) (v : List ℕ) → IsSeen c → number c / 2 ^ 32 ≡ block → n ≤ most + 1 → Contains (words_of turns n) v → leads test c v ≡ true
+      → Has (number c % 2 ^ 32)
+  near_in_block backs most lists block Has back h spread c n v seen at le there way =
+      elim (cases_lt most n) [
+        | inl more ↦
+            let one : n ≡ suc most = omega (arith, le, more) in
+            let w = All-contains (BeginsWith turns most) (words_of turns (suc most)) v (words_of-first turns most)
+            (subst (λ m. Contains (words_of turns m) v) one there) in
+            let step = step_of test c (get_or turns w.place 0) w.others (ap (leads test c) (sym w.is) ∙ way) in
+            let seen_there = back.seen c step.there w.place seen w.below step.to in
+            spread.there c step.there w.place seen at w.below step.to (h.near step.there most w.others seen_there (omega arith) w.listed step.way)
+        | inr few ↦ spread.here c seen at (h.near c n v seen few there way)
+      ]
+
+  -- of all blocks, as workers list them
+  pub IsNear-listed : (backs : List ℕ) (most : ℕ) (lists next : List Listed) → AreTakenBack turns backs IsSeen
+      → ((c : CubeState) → IsSeen c → number c / 2 ^ 32 < length next)
+      → AreAnswered (λ block out. IfOk out (λ list. IsSpread turns IsSeen number lists block (Contains list.items))) next
+      → ((k : ℕ) → k < length next → IsThere (slice_index_or next k None)) → IsNear turns IsSeen number test most (IsListed lists)
+      → IsNear turns IsSeen number test (most + 1) (IsListed next)
+  IsNear-listed backs most lists next back below answered all h = record {
+    near = λ c n v seen le there way.
+        let block : ℕ = number c / 2 ^ 32 in
+        let lt = below c seen in
+        let spread = found_there (λ xs. IsSpread turns IsSeen number lists block (Contains xs)) (slice_index_or next block None) (answered block lt) (all block lt) in
+        near_in_block backs most lists block (Contains (numbers_in (slice_index_or next block None))) back h spread c n v seen refl le there way;
+  }
+
+  -- and as they enter them into a near set
+  pub IsNear-entered : (backs : List ℕ) (most : ℕ) (lists : List Listed) (blocks : List NearBlock) (set : NearSet) → AreTakenBack turns backs IsSeen
+      → set.blocks.items ≡ blocks
+      → ((k : ℕ) (d : NearBlock) → k < length blocks → IsSpread turns IsSeen number lists k (HasBits (slice_index_or blocks k d).words))
+      → IsNear turns IsSeen number test most (IsListed lists) → IsNear turns IsSeen number test (most + 1) (IsInSet set)
+  IsNear-entered backs most lists blocks set back is spread h = record {
+    near = λ c n v seen le there way. record {
+      bits = λ block at.
+          let k : ℕ = number c / 2 ^ 32 in
+          let stands : slice_get blocks k ≡ Some block = ap (λ bs. slice_get bs k) (sym is) ∙ at in
+          let Spread : NearBlock → Type 0 = λ b. IsSpread turns IsSeen number lists k (HasBits b.words) in
+          let here = subst Spread (get_or_from_slice_get blocks k block block stands) (spread k block (slice_get_within blocks k block stands)) in
+          near_in_block backs most lists k (HasBits block.words) back h here c n v seen refl le there way;
+    };
+  }
+
+-- ---- turns into a near set
+
+none_in : (t : ℕ) → contains_turn 0 t ≡ true → ⊥
+none_in t h = false≢true (sym (ap (λ b. b == 1) (bit_at-zero t)) ∙ h)
+
+module _ (turns : List ℕ) (IsSeen : CubeState → Type 0) (number : CubeState → ℕ) (Shown : CubeState → Type 0) (Has : ℕ → Type 0) (all : ℕ) where
+  -- a turn that leads to what the set has is in
+  abbrev IsIn : ℕ → ℕ → Type 0
+  IsIn into t =
+      (c d : CubeState) → IsSeen c → Shown c → after_turn c (get_or turns t 0) ≡ Some d → Has (number d) → contains_turn into t ≡ true
+
+  -- Of all turns some are still to look at; of the others those are in that lead to what the set has.
+  pub record AreLookedAt (others into : ℕ) : Type 0 where
+    pub few_others : others < 2 ^ 18
+    pub few_into : into < 2 ^ 18
+    pub others_among : (t : ℕ) → contains_turn others t ≡ true → contains_turn all t ≡ true
+    pub into_among : (t : ℕ) → contains_turn into t ≡ true → contains_turn all t ≡ true
+    pub each : (t : ℕ) → contains_turn all t ≡ true → (contains_turn others t ≡ true) ⊎ IsIn into t
+
+  pub AreLookedAt-begin : all < 2 ^ 18 → AreLookedAt all 0
+  AreLookedAt-begin few = record {
+    few_others = few;
+    few_into = omega arith;
+    others_among = λ t h. h;
+    into_among = λ t h. absurd (none_in t h);
+    each = λ t h. inl h;
+  }
+
+  module _ (others into : ℕ) (h : AreLookedAt others into) where
+    pub AreLookedAt-next : (place left more : ℕ) (add : Bool) → contains_turn others place ≡ true
+        → ((t : ℕ) → contains_turn left t ≡ (contains_turn others t && not (t == place))) → left < 2 ^ 18
+        → ((t : ℕ) → contains_turn more t ≡ (contains_turn into t || (add && (t == place)))) → more < 2 ^ 18
+        → ((c d : CubeState) → IsSeen c → Shown c → after_turn c (get_or turns place 0) ≡ Some d → Has (number d) → add ≡ true)
+        → AreLookedAt left more
+    AreLookedAt-next place left more add taken rest few_left with few_more has = record {
+      few_others = few_left;
+      few_into = few_more;
+      others_among = λ t is. h.others_among t (and_parts (contains_turn others t) (not (t == place)) (sym (rest t) ∙ is)).0;
+      into_among = λ t is.
+          elim (or_cases (contains_turn into t) (add && (t == place)) (sym (with t) ∙ is)) [
+            | inl before ↦ h.into_among t before
+            | inr now ↦
+                let same : t ≡ place = eqb-true t place (and_parts add (t == place) now).1 in
+                h.others_among t (ap (contains_turn others) same ∙ taken)
+          ];
+      each = λ t is.
+          elim (h.each t is) [
+            | inl still ↦
+                elim (cases_eq t place) [
+                  | inl same ↦
+                      inr (λ c d seen shown to there.
+                      let here = has c d seen shown (ap (λ u. after_turn c (get_or turns u 0)) (sym same) ∙ to) there in
+                      with t ∙ or_right (contains_turn into t) (add && (t == place)) (and_from add (t == place) here (eq-eqb t place same)))
+                  | inr other ↦ inl (rest t ∙ and_from (contains_turn others t) (not (t == place)) still (ap not (ne_eqb t place other)))
+                ]
+            | inr in_it ↦
+                inr (λ c d seen shown to there. with t ∙ or_left (contains_turn into t) (add && (t == place)) (in_it c d seen shown to there))
+          ];
+    }
+
+    pub LeavesNear-looked : (backs : List ℕ) (test : CubeState → Bool) (c : CubeState) (more : ℕ) → others ≡ 0 → AreTakenBack turns backs IsSeen
+        → IsNear turns IsSeen number test more Has → IsSeen c → Shown c → LeavesNear turns test c more all into
+    LeavesNear-looked backs test c more none back near seen shown = record {
+      among = h.into_among;
+      left = λ place v lt listed way is.
+          let step = step_of test c (get_or turns place 0) v way in
+          let there = near.near step.there more v (back.seen c step.there place seen lt step.to) (omega arith) listed step.way in
+          elim (h.each place is) [
+            | inl still ↦ absurd (none_in place (ap (λ b. contains_turn b place) (sym none) ∙ still))
+            | inr in_it ↦ in_it c step.there seen shown step.to there
+          ];
+    }
+
+-- nothing is left out
+pub LeavesNear-all : (turns : List ℕ) (test : CubeState → Bool) (c : CubeState) (more bits : ℕ) → LeavesNear turns test c more bits bits
+LeavesNear-all turns test c more bits = record { among = λ place h. h; left = λ place v lt listed way h. h }
+
+-- What a near set leaves keeps the ways.
+pub KeepsWays-near : (turns : List ℕ) (goal : CubeState → Bool) (test : List ℕ → Bool) (c there : CubeState) (word : List ℕ) (more bits near : ℕ)
+    → ((w : List ℕ) → test w ≡ true → leads goal c w ≡ true) → play after_turn c word ≡ Some there
+    → KeepsWays turns test word more bits → LeavesNear turns goal there more bits near → KeepsWays turns test word more near
+KeepsWays-near turns goal test c there word more bits near ways played keeps leaves = record {
+  kept = λ place v lt listed passes.
+      let t : ℕ = get_or turns place 0 in
+      leaves.left place v lt listed (sym (leads-behind goal c there word (t ∷ v) played) ∙ ways (word ++ t ∷ v) passes) (keeps.kept place v lt listed passes);
+  follow = λ place is. keeps.follow place (leaves.among place is);
+}

@@ -1,0 +1,13 @@
+use Rattle.std.proofs.Common.{length}
+use Rattle.scr_search.specs.Near.{IsInSet}
+use Rattle.scr_search.specs.TurnSets.{turns_in}
+use Rattle.scr_search.proofs.NearLaws.{AreLookedAt}
+use Rattle.scr_search.proofs.near_set.NearSet.turns_into.Given as goal
+
+abbrev pub decreases-loop-place : goal.decreases-loop-place
+decreases-loop-place g l = length (turns_in l.others.bits)
+
+abbrev pub invariant-loop-place : goal.invariant-loop-place
+invariant-loop-place g l =
+    let s = g.S.Space in
+    AreLookedAt s.turns s.IsSeen s.numbering (λ c. g.S.Positions.Shows c l.at) (IsInSet l.self) l.fn.turns.bits l.others.bits l.into.bits

@@ -1,0 +1,29 @@
+use Rattle.std.proofs.Common.{◌≡◌, ℕ, ◌+◌, ◌/◌, ◌%◌, ◌^◌, ◌<◌, List, None, Some, length, get_or, refl, sym, ap, ◌∙◌, subst, arith}
+use Rattle.std.specs.Prelude.{Contains, Ok}
+use Rattle.scr_search.specs.Spread.{IsListed, Listed, numbers_in}
+use Rattle.scr_search.proofs.NearLaws.{IsNear-end, each-pushed}
+use Rattle.scr_search.proofs.numbers.end_alone.Goals as goal
+
+pub loop-block-preserved : goal.loop-block-preserved
+loop-block-preserved g c =
+    let all = c.loop-block.all.items in
+    let end = c.end-end.result in
+    let one : Listed = Some (Ok c.in_ok-alone.field-0) in
+    let Has : ℕ → Listed → Type 0 = λ k list. end / 2 ^ 32 ≡ k → Contains (numbers_in list) (end % 2 ^ 32) in
+    let before = λ (k : ℕ) (lt : k < length all). c.loop-block.invariant.1 k (omega (arith, lt, c.loop-block.invariant.0)) in
+    let here = λ (at : end / 2 ^ 32 ≡ length all). c.in_ok-alone.ensures (at ∙ c.loop-block.invariant.0) in
+    let Each : List Listed → Type 0 = λ lists. (k : ℕ) → k < c.loop-block.block + 1 → Has k (get_or lists k None) in (
+      omega (arith, c.in_ok-push.ensures.len, c.loop-block.invariant.0),
+      subst Each (sym c.in_ok-push.ensures.items) (λ k lt. each-pushed Has all one None before here k (omega (arith, lt, c.loop-block.invariant.0))),
+    )
+
+pub returns-clause-near : goal.returns-clause-near
+returns-clause-near g c =
+    let s = g.S.Space in
+    let end = c.end-end.result in
+    let all = c.loop-block.all.items in
+    IsNear-end s.turns s.IsSeen s.numbering s.ends end (IsListed all) c.end-end.ensures
+    (λ cube seen is.
+    let block : end / 2 ^ 32 ≡ s.numbering cube / 2 ^ 32 = ap (λ n. n / 2 ^ 32) is in
+    let few : end / 2 ^ 32 < c.blocks-block-end.result = omega (arith, block, c.blocks-block-end.ensures.all cube seen) in
+    c.loop-block.invariant.1 (end / 2 ^ 32) (omega (arith, few, c.loop-block-test.false)) refl)

@@ -1,0 +1,15 @@
+use Rattle.std.proofs.Common.{sym, ◌∙◌}
+use Rattle.scr_positions.specs.Moves.{moves_coordinate}
+use Rattle.scr_search.proofs.ViewLaws.{number-block, seen-turned, shown-turned}
+use Rattle.scr_search.proofs.search_tables.SearchTablesSpace.block_after.Goals as goal
+
+pub returns : goal.returns
+returns g c = λ cube turned seen at by.
+    let v = g.V.PartViews.views in
+    let e = g.V.PartViews.extent in
+    let are = c.are_views.ensures in
+    let self = c.args.self.now in
+    let place = c.args.place in
+    c.target.ensures (v.middle.number turned)
+    (shown-turned v v.middle are.middle (moves_coordinate self.middle) self.middle_shown cube turned c.args.block place seen (at ∙ number-block v e are cube seen) c.requires by)
+    ∙ sym (number-block v e are turned (seen-turned v v.middle are.middle cube turned place seen c.requires by))

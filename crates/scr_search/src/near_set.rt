@@ -1,0 +1,179 @@
+//! Near sets: bit tables that have the numbers of all cubes from which few turns lead to the end of a part, and some others.
+ghost use Rattle.std.specs.Prelude.{◌≡◌, ℕ, ◌+◌, ◌^◌, ◌<◌, ◌≤◌, IfOk, IsTrue, length, slice_index_or};
+ghost use Rattle.scr_cube.specs.Cube333.{CubeState};
+ghost use Rattle.scr_search.specs.Near.{HasBits, IsInSet, IsNear, LeavesNear, first_bit, second_bit, word_of};
+ghost use Rattle.scr_search.specs.Spread.{IsSpread};
+ghost use Rattle.scr_search.specs.declared.near_set.NearBlock.{NearBlock as Block};
+ghost use Rattle.scr_search.specs.TurnSets.{contains_turn};
+
+use crate::numbers::{Listed, Numbers, numbers_within, spread};
+use crate::space::{BLOCK, Positions, Space};
+use crate::turn_set::TurnSet;
+use std::alloc::{AllocError, Global};
+use std::thread::{Threads, for_each_mut};
+
+/// The near sets are of the cubes from which a word of at most so many turns leads to an end.
+pub const NEAR: u32 = 7;
+
+/// How many turns are still to be made where they are looked into: one more.
+pub(crate) const NEAR_AT: u32 = 8;
+
+/// How many words a block of numbers has.
+const WORDS: usize = 4096;
+
+/// A set of the numbers of a block, each of which has two bits of one word. It has each number that was entered, and each other
+/// one of which both bits are set by those.
+#[derive(Clone, Copy)]
+pub struct NearBlock {
+    /// The words, in which a number's mixed bits tell where its two bits stand.
+    pub words: [u64; WORDS],
+}
+
+/// A near set: its blocks, each with its numbers. It has the numbers of any other block too.
+#[derive(Drop)]
+pub struct NearSet {
+    /// The blocks, each of 2^32 numbers, in order.
+    pub blocks: Vec<NearBlock>,
+}
+
+/// Where the bits of a number of a block stand.
+#[derive(Clone, Copy)]
+struct Seat {
+    word: usize,
+    first: u32,
+    second: u32,
+}
+
+impl Seat {
+    /// The seat of a number.
+    #[inline]
+    fn of(number: u32) -> Seat
+        ensures word { result.word ≡ word_of number }
+        ensures first { result.first ≡ first_bit number }
+        ensures second { result.second ≡ second_bit number }
+        ensures below { (result.word < 4096) × (result.first < 64) × (result.second < 64) }
+    {
+        let mixed = number.wrapping_mul(0x9E37_79B1);
+        Seat {
+            word: (mixed >> 20) as usize,
+            first: (mixed >> 14) % 64,
+            second: (mixed >> 8) % 64,
+        }
+    }
+}
+
+impl NearBlock {
+    /// No number.
+    const EMPTY: NearBlock = NearBlock { words: [0; WORDS] };
+
+    /// Whether it has a number.
+    #[inline]
+    fn has(&self, number: u32) -> bool
+        ensures { HasBits self.now.words number → IsTrue result }
+    {
+        let seat = Seat::of(number);
+        let word = self.words[seat.word];
+        let first = word >> seat.first & 1;
+        let second = word >> seat.second & 1;
+        first & second == 1
+    }
+}
+
+impl NearSet {
+    /// The set of all numbers, which leaves out nothing.
+    pub fn of_all(alloc: Global) -> NearSet
+        ensures { (number : ℕ) → IsInSet result number }
+    {
+        NearSet {
+            blocks: Vec::new(alloc),
+        }
+    }
+
+    /// The set of the cubes from which a word of at most `most` turns leads to an end, made by 1 to 64 workers.
+    pub fn build<R: Threads + Sync, S: Space + Sync>(
+        rt: &R,
+        alloc: Global,
+        space: &S,
+        most: u32,
+        workers: u32,
+    ) -> Result<NearSet, AllocError>
+        requires most { 0 < most }
+        requires workers { (1 ≤ workers) × (workers ≤ 64) }
+        ensures { IfOk result (λ set. IsNear S.turns S.IsSeen S.numbering S.ends most (IsInSet set)) }
+    {
+        S::turns_are_taken_back();
+        let lists = numbers_within(rt, alloc, space, most - 1, workers)?;
+        let mut blocks = vec![in alloc; NearBlock::EMPTY; S::blocks() as usize]?;
+        fill(rt, space, &lists[..], &mut blocks[..], workers);
+        Ok(NearSet { blocks })
+    }
+
+    /// Whether it has a number.
+    #[inline]
+    pub fn has(&self, number: u64) -> bool
+        ensures { IsInSet self.now number → IsTrue result }
+    {
+        match self.blocks.get((number / BLOCK) as usize) {
+            Some(block) => block.has((number % BLOCK) as u32),
+            None => true,
+        }
+    }
+
+    /// Of some turns those that lead from a position to a number that it has.
+    #[inline]
+    pub fn turns_into<S: Positions>(&self, space: &S, at: S::Position, turns: TurnSet) -> TurnSet
+        requires few { turns.bits < 2 ^ 18 }
+        requires below { (place : ℕ) → IsTrue (contains_turn turns.bits place) → place < length S.turns }
+        ensures left { (c : CubeState) (more : ℕ) → IsNear S.turns S.IsSeen S.numbering S.ends more (IsInSet self.now)
+            → S.IsSeen c → S.Shows c at → LeavesNear S.turns S.ends c more turns.bits result.bits }
+        ensures few { result.bits < 2 ^ 18 }
+    {
+        S::turns_are_taken_back();
+        if self.blocks.is_empty() {
+            return turns;
+        }
+        let mut others = turns;
+        let mut into = TurnSet::NONE;
+        while let Some(place) = others.pop() {
+            let next = S::number_of(space.after(at, place));
+            into = into.with_if(place, self.has(next));
+        }
+        into
+    }
+}
+
+/// Enters into each block the numbers in it of the listed cubes, and of those to which one turn more leads.
+fn fill<R: Threads + Sync, S: Space + Sync>(
+    rt: &R,
+    space: &S,
+    lists: &[Listed],
+    blocks: &mut [NearBlock],
+    workers: u32,
+)
+    requires few { length blocks.old ≤ 2 ^ 16 }
+    requires workers { (1 ≤ workers) × (workers ≤ 64) }
+    ensures { (k : ℕ) (d : Block) → k < length blocks.old
+        → IsSpread S.turns S.IsSeen S.numbering lists.now k (HasBits (slice_index_or blocks.new k d).words) }
+{
+    for_each_mut(
+        rt,
+        blocks,
+        workers as usize,
+        &|block: usize, into: &mut NearBlock|
+            requires { block < 2 ^ 16 }
+        { spread(space, lists, block as u32, into) },
+    );
+}
+
+impl Numbers for NearBlock {
+    ghost use Rattle.scr_search.specs.Near.{HasBits};
+
+    ghost Has = { λ block. HasBits block.words };
+
+    #[inline]
+    fn enter(&mut self, number: u32) {
+        let seat = Seat::of(number);
+        let word = self.words[seat.word];
+        self.words[seat.word] = word | 1 << seat.first | 1 << seat.second;
+    }
+}

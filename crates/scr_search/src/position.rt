@@ -1,0 +1,40 @@
+//! Positions of a part, and how many there are.
+use scr_table::TableName;
+
+/// What is seen of a cube in a part: its position in each of three coordinates.
+#[derive(Clone, Copy)]
+pub struct PartPosition {
+    /// In the first of the part's own: of flips, or of corners.
+    pub one: u32,
+    /// In the other of them: of twists, or of the edges above and below.
+    pub other: u32,
+    /// In that of the edges of the middle layer.
+    pub middle: u32,
+}
+
+/// The turns of a part, each told by its place, how many positions its coordinates have, where it ends, and what its pruning
+/// tables are.
+pub struct Extent {
+    /// How many turns there are.
+    pub turns: u32,
+    /// For each of them the place of the one that takes it back, and zeros behind these.
+    pub backs: [u32; 18],
+    /// For each face of U R F D L B the set of the turns that may stand right behind one of it. Then that of all turns.
+    pub behind: [u32; 7],
+    /// How many positions the first of its own coordinates has.
+    pub ones: u32,
+    /// How many the other has.
+    pub others: u32,
+    /// How many that of the middle layer has.
+    pub middles: u32,
+    /// The number of the cubes to which the words of the part lead.
+    pub end: u64,
+    /// Whether the middle layer comes first where it stands beside another coordinate.
+    pub middle_first: bool,
+    /// The table of the first of its own coordinates.
+    pub one_table: TableName,
+    /// That of the other.
+    pub other_table: TableName,
+    /// How far they may reach, in turns.
+    pub bound: u32,
+}

@@ -1,0 +1,110 @@
+//! Pruning tables.
+ghost use Rattle.std.specs.Prelude.{◌≡◌, ◌*◌, ◌<◌, ◌≤◌, ◌^◌, IfErr, IfOk, length, slice_index};
+ghost use Rattle.scr_positions.specs.Coordinates.{Coordinate};
+ghost use Rattle.scr_positions.specs.Moves.{moves_coordinate};
+ghost use Rattle.scr_positions.specs.SearchSpaces.{ShowsSame};
+ghost use Rattle.scr_table.specs.Causes.{IsCause};
+ghost use Rattle.scr_search.specs.Outlooks.{IsPruningTable, turns_left};
+ghost use Rattle.scr_search.specs.Views.{beside, index_beside};
+
+use crate::outlook::Outlook;
+use crate::turn_set::TurnSet;
+use scr_positions::{Coord, MoveTable, Product};
+use scr_table::{BuildFault, DistanceTable, TableName};
+use std::alloc::Global;
+use std::thread::Threads;
+
+/// A distance table, with the outlook of each position once these are found.
+#[derive(Drop)]
+pub struct PruningTable {
+    /// How many turns a word from each position to the goal has at least.
+    pub distances: DistanceTable,
+    /// What is known of the turns from each position; empty until they are found.
+    pub outlooks: Vec<Outlook>,
+}
+
+impl PruningTable {
+    /// The table of a name and of what a coordinate of at most 18 turns shows, built by 1 to 64 workers, or why it isn't built. It may
+    /// reach at most 24 turns.
+    pub fn build<R: Threads + Sync, C: Coord + Sync>(
+        rt: &R,
+        alloc: Global,
+        reach: (TableName, u32),
+        coord: &C,
+        workers: u32,
+    ) -> Result<PruningTable, BuildFault>
+        requires bound { reach.1 ≤ 24 }
+        requires turns { (C.coordinate coord.now).turns ≤ 18 }
+        requires workers { (1 ≤ workers) × (workers ≤ 64) }
+        ensures table { (c : Coordinate) → ShowsSame c (C.coordinate coord.now)
+            → IfOk result (IsPruningTable (record { name = reach.0; coordinate = c; bound = reach.1 })) }
+        ensures cause { (c : Coordinate) → ShowsSame c (C.coordinate coord.now) → IfErr result (IsCause reach.0 c reach.1) }
+    {
+        coord.stays_below();
+        let (name, bound) = reach;
+        let distances = DistanceTable::build(rt, alloc, name, coord, bound, workers)?;
+        Ok(PruningTable {
+            distances,
+            outlooks: Vec::new(alloc),
+        })
+    }
+
+    /// How many turns a word from a position to the goal has at least.
+    #[inline]
+    pub fn distance(&self, position: u32) -> u32
+        requires { position < length self.now.distances.distances }
+        ensures { result ≡ slice_index self.now.distances.distances position }
+    {
+        self.distances.distance(position)
+    }
+
+    /// The turns of which one may be the next from a position where `left` turns may still be made.
+    #[inline]
+    #[tactic(auto, unfolding(crate::specs::Outlooks::turns_left))]
+    pub fn turns_within(&self, position: u32, left: u32) -> TurnSet
+        requires { position < length self.now.distances.distances }
+        ensures turns { result.bits ≡ turns_left self.now position left }
+        ensures few { result.bits < 2 ^ 18 }
+    {
+        match self.outlooks.get(position as usize) {
+            Some(outlook) => outlook.turns_within(left),
+            None if self.distances.distance(position) <= left => TurnSet::ALL,
+            None => TurnSet::NONE,
+        }
+    }
+}
+
+/// Where turns lead in two coordinates side by side, of which the second comes first where `middle_first` says so.
+pub(crate) fn beside<'a>(
+    middle_first: bool,
+    own: &'a MoveTable,
+    middle: &'a MoveTable,
+) -> Product<&'a MoveTable, &'a MoveTable>
+    requires turns { middle.now.turns ≡ own.now.turns }
+    requires fits { own.now.count * middle.now.count < 2 ^ 32 }
+    ensures turns { (⟦<Product<&'a MoveTable, &'a MoveTable> as Coord>⟧.coordinate result).turns ≡ own.now.turns }
+    ensures shows { (c d : Coordinate) → d.turns ≡ c.turns → ShowsSame c (moves_coordinate own.now) → ShowsSame d (moves_coordinate middle.now)
+        → ShowsSame (beside middle_first c d) (⟦<Product<&'a MoveTable, &'a MoveTable> as Coord>⟧.coordinate result) }
+{
+    if middle_first {
+        Product::new(middle, own)
+    } else {
+        Product::new(own, middle)
+    }
+}
+
+/// The position that stands there for one of each, where they have so many.
+#[inline]
+pub fn index_beside(middle_first: bool, owns: u32, middles: u32, own: u32, middle: u32) -> u32
+    requires own { own < owns }
+    requires middle { middle < middles }
+    requires fits { owns * middles < 2 ^ 32 }
+    ensures index { result ≡ index_beside middle_first owns middles own middle }
+    ensures below { result < owns * middles }
+{
+    if middle_first {
+        middle + middles * own
+    } else {
+        own + owns * middle
+    }
+}

@@ -1,9 +1,0 @@
-use Rattle.std.proofs.Common.{◌≡◌, ℕ, ◌/◌, ◌%◌, ◌^◌, ◌<◌, None, length}
-use Rattle.std.specs.Prelude.{Contains, slice_index_or}
-use Rattle.scr_twophase.specs.Spread.{numbers_in}
-use Rattle.scr_twophase.proofs.numbers.end_alone.Given as goal
-
-abbrev pub invariant-loop-block : goal.invariant-loop-block
-invariant-loop-block g l =
-    (length l.all.items ≡ l.block)
-    × ((k : ℕ) → k < l.block → l.end / 2 ^ 32 ≡ k → Contains (numbers_in (slice_index_or l.all.items k None)) (l.end % 2 ^ 32))
