@@ -58,18 +58,21 @@ row-end old turns place bits rest whole so_far =
 
 -- ---- rows
 
-mixed_digits-append : (bases more : List ℕ) (v : ℕ) → mixed_digits (bases ++ more) v ≡ mixed_digits bases v ++ mixed_digits more (v / product bases)
+mixed_digits-append : (bases more : List ℕ) (v : ℕ)
+    → mixed_digits (bases ++ more) v ≡ mixed_digits bases v ++ mixed_digits more (v / product bases)
 mixed_digits-append [] more v = ap (mixed_digits more) (sym (div-one v))
 mixed_digits-append (b ∷ bases) more v =
     ap (λ ds. v % b ∷ ds)
     (mixed_digits-append bases more (v / b) ∙ ap (λ w. mixed_digits bases (v / b) ++ mixed_digits more w) (div-div-eq-div-mul v b (product bases)))
 
 -- the first ten of more bits, and the others
-bits-split : (n v : ℕ) → mixed_digits (replicate (10 + n) 2) v ≡ mixed_digits (replicate 10 2) v ++ mixed_digits (replicate n 2) (v / 1024)
+bits-split : (n v : ℕ)
+    → mixed_digits (replicate (10 + n) 2) v ≡ mixed_digits (replicate 10 2) v ++ mixed_digits (replicate n 2) (v / 1024)
 bits-split n v =
     ap (λ bases. mixed_digits bases v) (sym (replicate-append-replicate 10 n 2)) ∙ mixed_digits-append (replicate 10 2) (replicate n 2) v
 
-rows_turns-next : (rows : ℕ) (bits : List ℕ) → rows_turns (suc rows) bits ≡ row_turns (take 10 bits) ++ rows_turns rows (drop 10 bits)
+rows_turns-next : (rows : ℕ) (bits : List ℕ)
+    → rows_turns (suc rows) bits ≡ row_turns (take 10 bits) ++ rows_turns rows (drop 10 bits)
 unfolding rows_turns
 rows_turns-next rows bits = refl
 
@@ -127,8 +130,8 @@ moves-accepted word place number is below =
 
 -- ---- fairness
 
-answered-bits : (accepted : Bool) (r : ℕ) (bits : List ℕ) → option_map bits_of (if accepted then Some r else None) ≡ Some bits
-    → (accepted ≡ true) × (bits_of r ≡ bits)
+answered-bits : (accepted : Bool) (r : ℕ) (bits : List ℕ)
+    → option_map bits_of (if accepted then Some r else None) ≡ Some bits → (accepted ≡ true) × (bits_of r ≡ bits)
 answered-bits true r bits is = (refl, cc)
 answered-bits false r bits is = cc
 

@@ -67,7 +67,8 @@ abbrev pub Differ : {X : Type 0} → List X → Type 0
 Differ {X} xs = (i j : ℕ) (x : X) → slice_get xs i ≡ Some x → slice_get xs j ≡ Some x → i ≡ j
 
 module _ {X : Type 0} (choices : List X) (differ : Differ choices) where
-  accepted-at : (accepted : Bool) (r : ℕ) (x : X) → option_and_then (slice_get choices) (if accepted then Some r else None) ≡ Some x
+  accepted-at : (accepted : Bool) (r : ℕ) (x : X)
+      → option_and_then (slice_get choices) (if accepted then Some r else None) ≡ Some x
       → (accepted ≡ true) × (slice_get choices r ≡ Some x)
   accepted-at true r x is = (refl, is)
   accepted-at false r x is = cc

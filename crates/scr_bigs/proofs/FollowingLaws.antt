@@ -40,7 +40,8 @@ module _ {X : Type 0} (first next : X → Bool) where
       let place : 1 + n + 1 ≡ suc (n + 1) = omega arith in
       rw is (ap (λ m. drop m (x ∷ xs)) place)
 
-  found : (xs : List X) → list_any next xs ≡ true → (between : List X) × (other : X) × (after : List X) × (xs ≡ between ++ other ∷ after) × (next other ≡ true)
+  found : (xs : List X) → list_any next xs ≡ true
+      → (between : List X) × (other : X) × (after : List X) × (xs ≡ between ++ other ∷ after) × (next other ≡ true)
   found [] any = cc
   found (x ∷ xs) any =
       elim (or_cases (next x) (list_any next xs) any) [
@@ -81,19 +82,21 @@ module _ {X : Type 0} (first next : X → Bool) where
   split [] any = cc
   split (x ∷ xs) any = split-step x xs (first x) refl any (split xs)
 
-  any-behind : (before : List X) (other : X) (after : List X) → next other ≡ true → list_any next (before ++ other ∷ after) ≡ true
+  any-behind : (before : List X) (other : X) (after : List X) → next other ≡ true
+      → list_any next (before ++ other ∷ after) ≡ true
   any-behind before other after is =
       list_any-append next before (other ∷ after)
       ∙ or_right (list_any next before) (list_any next (other ∷ after)) (or_left (next other) (list_any next after) is)
 
-  joined : (before : List X) (one : X) (between : List X) (other : X) (after : List X) → first one ≡ true → next other ≡ true
-      → list_any next (after_first first (before ++ one ∷ between ++ other ∷ after)) ≡ true
+  joined : (before : List X) (one : X) (between : List X) (other : X) (after : List X) → first one ≡ true
+      → next other ≡ true → list_any next (after_first first (before ++ one ∷ between ++ other ∷ after)) ≡ true
   joined [] one between other after one_is other_is =
       ap (list_any next) (after_first-here one (between ++ other ∷ after) one_is) ∙ any-behind between other after other_is
   joined (x ∷ before) one between other after one_is other_is =
       at (first x) refl (joined before one between other after one_is other_is)
     where
-      at : (b : Bool) → first x ≡ b → list_any next (after_first first (before ++ one ∷ between ++ other ∷ after)) ≡ true
+      at : (b : Bool) → first x ≡ b
+          → list_any next (after_first first (before ++ one ∷ between ++ other ∷ after)) ≡ true
           → list_any next (after_first first (x ∷ before ++ one ∷ between ++ other ∷ after)) ≡ true
       at true is later =
           ap (list_any next) (after_first-here x (before ++ one ∷ between ++ other ∷ after) is)
@@ -110,7 +113,8 @@ same_slab-true s t is =
 same_slab-self : (s : Slab) → same_slab s s ≡ true
 same_slab-self s = let face = eq-eqb s.face s.face refl in let depth = eq-eqb s.depth s.depth refl in rw (face, depth) refl
 
-behind-tells : (slabs : List Slab) (before next : Slab) → IsTrue (list_any (same_slab next) (after_first (same_slab before) slabs)) ↔ StandsBehind slabs before next
+behind-tells : (slabs : List Slab) (before next : Slab)
+    → IsTrue (list_any (same_slab next) (after_first (same_slab before) slabs)) ↔ StandsBehind slabs before next
 behind-tells slabs before next = (
   λ any.
       let s = split (same_slab before) (same_slab next) slabs any in
@@ -135,7 +139,8 @@ slab_may_follow cube before next =
     not (axis_of_slab before == axis_of_slab next)
     || list_any (same_slab next) (after_first (same_slab before) (slabs_of cube (axis_of_slab before)))
 
-pub follow-tells : (cube : BigCube) (before next : Slab) → IsTrue (slab_may_follow cube before next) ↔ SlabMayFollow cube before next
+pub follow-tells : (cube : BigCube) (before next : Slab)
+    → IsTrue (slab_may_follow cube before next) ↔ SlabMayFollow cube before next
 follow-tells cube before next =
     let same : Bool = axis_of_slab before == axis_of_slab next in
     let later : Bool = list_any (same_slab next) (after_first (same_slab before) (slabs_of cube (axis_of_slab before))) in
@@ -155,13 +160,14 @@ follow-tells cube before next =
 -- ---- turns one after another
 
 -- what is drawn is hit by some number
-drawn-hit : {S : Type 0} (hits : ℕ → Option S) (values : List ℕ) (s : S) → drawn hits values ≡ Some s → (v : ℕ) × (hits v ≡ Some s)
+drawn-hit : {S : Type 0} (hits : ℕ → Option S) (values : List ℕ) (s : S) → drawn hits values ≡ Some s
+    → (v : ℕ) × (hits v ≡ Some s)
 unfolding drawn
 drawn-hit hits [] s is = cc
 drawn-hit {S} hits (v ∷ values) s is = at (hits v) refl is (drawn-hit hits values s)
   where
-    at : (o : Option S) → hits v ≡ o → option_or o (drawn hits values) ≡ Some s → (drawn hits values ≡ Some s → (w : ℕ) × (hits w ≡ Some s))
-        → (w : ℕ) × (hits w ≡ Some s)
+    at : (o : Option S) → hits v ≡ o → option_or o (drawn hits values) ≡ Some s
+        → (drawn hits values ≡ Some s → (w : ℕ) × (hits w ≡ Some s)) → (w : ℕ) × (hits w ≡ Some s)
     at (Some t) here is later = (v, here ∙ is)
     at None here is later = later is
 
@@ -179,7 +185,8 @@ record IsChain (cube : BigCube) (choices : List Turn) (n : ℕ) (turns : List Tu
   count : length turns ≡ n
   each : All (Contains (cube_turns cube)) turns
   first : (turn : Turn) → slice_get turns 0 ≡ Some turn → Contains choices turn
-  follow : (i : ℕ) (before next : Turn) → slice_get turns i ≡ Some before → slice_get turns (i + 1) ≡ Some next → IsTrue (may_follow cube before next)
+  follow : (i : ℕ) (before next : Turn) → slice_get turns i ≡ Some before → slice_get turns (i + 1) ≡ Some next
+      → IsTrue (may_follow cube before next)
 
 chain-none : (cube : BigCube) (choices turns : List Turn) → Some [] ≡ Some turns → IsChain cube choices 0 turns
 chain-none cube choices turns is =
@@ -188,8 +195,8 @@ chain-none cube choices turns is =
     (record { count = refl; each = All-nil (Contains (cube_turns cube)); first = λ turn at. cc; follow = λ i before next at at_next. cc })
 
 follow-more : (cube : BigCube) (turn : Turn) (more : List Turn) (n : ℕ) → IsChain cube (turns_after cube turn) n more
-    → (i : ℕ) (before next : Turn) → slice_get (turn ∷ more) i ≡ Some before → slice_get (turn ∷ more) (i + 1) ≡ Some next
-    → IsTrue (may_follow cube before next)
+    → (i : ℕ) (before next : Turn) → slice_get (turn ∷ more) i ≡ Some before
+    → slice_get (turn ∷ more) (i + 1) ≡ Some next → IsTrue (may_follow cube before next)
 unfolding turns_after
 follow-more cube turn more n chain zero before next at at_next =
     let same = same_Some turn before at in
@@ -200,8 +207,9 @@ follow-more cube turn more n chain (suc i) before next at at_next =
     let place : suc i + 1 ≡ suc (i + 1) = omega arith in
     chain.follow i before next at (ap (slice_get (turn ∷ more)) (sym place) ∙ at_next)
 
-chain-more : (cube : BigCube) (choices : List Turn) (turn : Turn) (more : List Turn) (n : ℕ) → All (Contains (cube_turns cube)) choices
-    → Contains choices turn → IsChain cube (turns_after cube turn) n more → IsChain cube choices (suc n) (turn ∷ more)
+chain-more : (cube : BigCube) (choices : List Turn) (turn : Turn) (more : List Turn) (n : ℕ)
+    → All (Contains (cube_turns cube)) choices → Contains choices turn → IsChain cube (turns_after cube turn) n more
+    → IsChain cube choices (suc n) (turn ∷ more)
 chain-more cube choices turn more n each among chain = record {
   count = ap suc chain.count;
   each = All-cons (Contains (cube_turns cube)) turn more (All-contains (Contains (cube_turns cube)) choices turn each among) chain.each;
@@ -221,15 +229,17 @@ module _ (cube : BigCube) (attempts : ℕ) (word : ℕ → ℕ) where
       by_drawn (drawn (choice_of choices) (attempt_values word place attempts)) refl
       (λ turn next more h. chain-of n (turns_after cube turn) next more (all_after cube turn) h)
     where
-      by_rest : (turn : Turn) (o : Option (List Turn)) → Contains choices turn → option_map (λ more. turn ∷ more) o ≡ Some turns
-          → ((more : List Turn) → o ≡ Some more → IsChain cube (turns_after cube turn) n more) → IsChain cube choices (suc n) turns
+      by_rest : (turn : Turn) (o : Option (List Turn)) → Contains choices turn
+          → option_map (λ more. turn ∷ more) o ≡ Some turns
+          → ((more : List Turn) → o ≡ Some more → IsChain cube (turns_after cube turn) n more)
+          → IsChain cube choices (suc n) turns
       by_rest turn None among made later = cc
       by_rest turn (Some more) among made later =
           subst (IsChain cube choices (suc n)) (same_Some (turn ∷ more) turns made) (chain-more cube choices turn more n each among (later more refl))
 
       by_drawn : (o : Option Turn) → drawn (choice_of choices) (attempt_values word place attempts) ≡ o
-          → ((turn : Turn) (next : ℕ) (more : List Turn) → moves_from cube attempts word (turns_after cube turn) next n ≡ Some more
-          → IsChain cube (turns_after cube turn) n more) → IsChain cube choices (suc n) turns
+          → ((turn : Turn) (next : ℕ) (more : List Turn) → moves_from cube attempts word (turns_after cube turn) next n ≡ Some more → IsChain cube (turns_after cube turn) n more)
+          → IsChain cube choices (suc n) turns
       by_drawn None drawn_is later =
           let none = moves-refused cube attempts word choices place n drawn_is in
           let no : None ≡ Some turns = sym none ∙ is in
@@ -240,8 +250,8 @@ module _ (cube : BigCube) (attempts : ℕ) (word : ℕ → ℕ) where
           by_rest turn (moves_from cube attempts word (turns_after cube turn) next n) (choice-among choices hit.0 turn hit.1)
           (sym (moves-next cube attempts word choices place n turn drawn_is) ∙ is) (later turn next)
 
-pub moves-turns : (cube : BigCube) (attempts place : ℕ) (word : ℕ → ℕ) (turns : List Turn) → cube_moves cube attempts word place ≡ Some turns
-    → AreCubeTurns cube turns
+pub moves-turns : (cube : BigCube) (attempts place : ℕ) (word : ℕ → ℕ) (turns : List Turn)
+    → cube_moves cube attempts word place ≡ Some turns → AreCubeTurns cube turns
 moves-turns cube attempts place word turns is =
     let chain = chain-of cube attempts word cube.turns (cube_turns cube) place turns (All-contains_itself (cube_turns cube)) is in
     record { count = chain.count; each = chain.each; follow = chain.follow }

@@ -41,7 +41,8 @@ module _ {X : Type 0} where
       slice_get-append_right (take first xs) (drop (first + count) xs) (i - first) i (omega (arith, size))
       ∙ slice_get-drop (first + count) xs (i - first) (i + count) (omega arith)
 
-  pub length-without : (first count : ℕ) (xs : List X) → first + count ≤ length xs → length (without first count xs) + count ≡ length xs
+  pub length-without : (first count : ℕ) (xs : List X) → first + count ≤ length xs
+      → length (without first count xs) + count ≡ length xs
   length-without first count xs fits =
       omega (arith, length-append (take first xs) (drop (first + count) xs), length-take-le first xs (omega arith), length-drop (first + count) xs)
 

@@ -134,7 +134,8 @@ module _ {cube : BigCube} {attempts : ℕ} {word : ℕ → ℕ} {place : ℕ} wh
           (ap (moves_from cube attempts word choices place_now) left
           ∙ moves-refused cube attempts word choices place_now (cube.turns - (made + 1)) (drawn-now None refused))
 
-      pub none-more-read : (place_next : ℕ) → drawn (choice_of choices) (attempt_values word_now place_now attempts) ≡ None
+      pub none-more-read : (place_next : ℕ)
+          → drawn (choice_of choices) (attempt_values word_now place_now attempts) ≡ None
           → place_next ≡ place_now + 3 * numbers_read (choice_of choices) (attempt_values word_now place_now attempts)
           → place_next ≡ place + 3 * attempts_read cube attempts word (cube_turns cube) place cube.turns
       none-more-read place_next refused there =

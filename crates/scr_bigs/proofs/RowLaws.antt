@@ -133,7 +133,8 @@ given-count None turns gives = absurd (cc)
 given-count (Some v) turns gives =
     let same : rows_turns 7 (bits_of v) ≡ turns = cc in ap length (sym same) ∙ (megaminx-turns v).count
 
-pub megaminx-count : (word : ℕ → ℕ) (place : ℕ) (turns : List Turn) → megaminx_moves word place ≡ Some turns → length turns ≡ 77
+pub megaminx-count : (word : ℕ → ℕ) (place : ℕ) (turns : List Turn) → megaminx_moves word place ≡ Some turns
+    → length turns ≡ 77
 unfolding megaminx_moves
 megaminx-count word place turns gives = given-count (answer (2 ^ 70) (attempt_value word place)) turns gives
 

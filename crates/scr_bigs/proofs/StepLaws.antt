@@ -53,23 +53,25 @@ module _ (side first count : ℕ) (is : IsSide side) (within : first + count ≤
         drawn-left values ∙ ap (option_and_then (slice_get (without first count (cube_turns (cube_of side))))) none
 
     -- a choice below the left out turns has its own number, and one behind them its number and as many
-    pub left-before : (values : List ℕ) (choice : ℕ) (turn : Turn) → drawn (number_hit (turn_count side - count)) values ≡ Some choice
-        → choice < first → slice_get (cube_turns (cube_of side)) choice ≡ Some turn
+    pub left-before : (values : List ℕ) (choice : ℕ) (turn : Turn)
+        → drawn (number_hit (turn_count side - count)) values ≡ Some choice → choice < first
+        → slice_get (cube_turns (cube_of side)) choice ≡ Some turn
         → drawn (choice_of (without first count (cube_turns (cube_of side)))) values ≡ Some turn
     left-before values choice turn drawn_is below there =
         drawn-left values ∙ ap (option_and_then (slice_get (without first count (cube_turns (cube_of side))))) drawn_is
         ∙ slice_get-without_before first count (cube_turns (cube_of side)) choice fits below ∙ there
 
-    pub left-behind : (values : List ℕ) (choice : ℕ) (turn : Turn) → drawn (number_hit (turn_count side - count)) values ≡ Some choice
-        → first ≤ choice → slice_get (cube_turns (cube_of side)) (choice + count) ≡ Some turn
+    pub left-behind : (values : List ℕ) (choice : ℕ) (turn : Turn)
+        → drawn (number_hit (turn_count side - count)) values ≡ Some choice → first ≤ choice
+        → slice_get (cube_turns (cube_of side)) (choice + count) ≡ Some turn
         → drawn (choice_of (without first count (cube_turns (cube_of side)))) values ≡ Some turn
     left-behind values choice turn drawn_is past there =
         drawn-left values ∙ ap (option_and_then (slice_get (without first count (cube_turns (cube_of side))))) drawn_is
         ∙ slice_get-without_behind first count (cube_turns (cube_of side)) choice fits past ∙ there
 
 -- a turn with a number is one of the event
-pub turn-permitted : (side n : ℕ) (turn : Turn) → IsSide side → n < turn_count side → slice_get (cube_turns (cube_of side)) n ≡ Some turn
-    → IsTrue (permits (cube_of side).event turn)
+pub turn-permitted : (side n : ℕ) (turn : Turn) → IsSide side → n < turn_count side
+    → slice_get (cube_turns (cube_of side)) n ≡ Some turn → IsTrue (permits (cube_of side).event turn)
 turn-permitted side n turn is below there =
     let same = same_Some _ _ (sym (turn-at side n is below) ∙ there) in
     subst (λ t. IsTrue (permits (cube_of side).event t)) same (placed side n is below).permitted
@@ -86,7 +88,8 @@ turns-differ side is i j x at_i at_j =
     same-number side i j is below_i below_j
     (same_Some _ _ (sym (turn-at side i is below_i) ∙ at_i ∙ sym at_j ∙ turn-at side j is below_j))
 
-left-differ : {X : Type 0} (xs : List X) (first count : ℕ) → first + count ≤ length xs → Differ xs → Differ (without first count xs)
+left-differ : {X : Type 0} (xs : List X) (first count : ℕ) → first + count ≤ length xs → Differ xs
+    → Differ (without first count xs)
 left-differ xs first count fits differ i j x at_i at_j =
     elim (cases_lt i first) [
       | inl before_i ↦

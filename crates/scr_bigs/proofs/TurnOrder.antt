@@ -119,7 +119,8 @@ pub length-turns : (side : ℕ) → IsSide side → length (cube_turns (cube_of 
 length-turns side is =
     ap length (turns_numbered side is) ∙ length-map (numbers side) (turn_numbered side) ∙ length-numbers_from 0 (turn_count side)
 
-pub turn-at : (side n : ℕ) → IsSide side → n < turn_count side → slice_get (cube_turns (cube_of side)) n ≡ Some (turn_numbered side n)
+pub turn-at : (side n : ℕ) → IsSide side → n < turn_count side
+    → slice_get (cube_turns (cube_of side)) n ≡ Some (turn_numbered side n)
 turn-at side n is below =
     let size = length-numbers_from 0 (turn_count side) in
     let here = slice_get-get_or (numbers side) n 0 (omega (arith, size)) ∙ ap Some (number-at side n below) in

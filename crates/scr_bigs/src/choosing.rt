@@ -8,8 +8,8 @@ ghost use Rattle.scr_draw.specs.FirstHit.{numbers_read};
 use scr_draw::{DrawLimit, attempt};
 use scr_words::Words;
 
-/// The number of one of `count` choices: that of the first of at most so many attempts which is accepted, or how many words
-/// they took, where all are refused.
+/// The number of one of `count` choices: that of the first of at most so many attempts which is accepted, or how many
+/// words they took, where all are refused.
 pub(crate) fn choose<W: Words>(words: &mut W, count: u8, attempts: u32) -> Result<u8, DrawLimit>
     requires some { 1 ≤ count }
     requires few { attempts ≤ 1000000 }

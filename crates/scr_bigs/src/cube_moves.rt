@@ -74,8 +74,8 @@ fn turn_count(side: u8) -> u8
     }
 }
 
-/// The turns that may not come next, by their numbers among all turns: so many from the first on. They are those of the axis
-/// of the turn before, up to its slab.
+/// The turns that may not come next, by their numbers among all turns: so many from the first on. They are those of the
+/// axis of the turn before, up to its slab.
 #[derive(Clone, Copy)]
 struct LeftOut {
     first: u8,

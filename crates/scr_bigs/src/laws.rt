@@ -13,8 +13,8 @@ ghost use Rattle.scr_bigs.specs.Megaminx.{bits_of, rows_turns, megaminx_moves};
 ghost use Rattle.scr_bigs.specs.Fairness.{AreFairTurns, AreFairBits};
 ghost use Rattle.scr_bigs.specs.Following.{SlabMayFollow, AreCubeTurns, AreMegaminxTurns};
 
-/// Each step of a big cube takes each of its choices by equally many numbers, and its choices differ; and the numbers of a
-/// Megaminx give each list of seventy bits equally often.
+/// Each step of a big cube takes each of its choices by equally many numbers, and its choices differ; and the numbers
+/// of a Megaminx give each list of seventy bits equally often.
 pub fn fair_steps()
     ensures cubes { (side : ℕ) → IsSide side → AreFairTurns (cube_of side) }
     ensures bits { AreFairBits }
@@ -80,7 +80,8 @@ pub fn every_number()
     ensures accepted { (v : ℕ) → v < 2 ^ 96 → IsTrue (is_accepted (2 ^ 70) v) }
 {}
 
-/// The turns of big cubes in their order, and the numbers at which attempts of the first turn of a 5x5x5 begin to be refused.
+/// The turns of big cubes in their order, and the numbers at which attempts of the first turn of a 5x5x5 begin to be
+/// refused.
 #[tactic(auto, unfolding(crate::specs::BigCubes::cube_turns, scr_notation::specs::Spelling::spelling))]
 pub fn known_turns()
     ensures of_555 { text_of (cube_turns (cube_of 5))

@@ -12,9 +12,9 @@ use scr_words::Words;
 /// The letters of wide turns: R is 0, D is 1, U is 2.
 const LETTER_U: u8 = 2;
 
-/// The scramble of a Megaminx that three words give: seven rows of ten wide turns, R and D by turns, and after each row a turn
-/// of U the way of its last D. Bit k of the number, the least first, says the way of turn k of the seventy. Every number is
-/// accepted, so there is no refusal.
+/// The scramble of a Megaminx that three words give: seven rows of ten wide turns, R and D by turns, and after each row
+/// a turn of U the way of its last D. Bit k of the number, the least first, says the way of turn k of the seventy.
+/// Every number is accepted, so there is no refusal.
 ///
 /// At most 2^62 words were taken before.
 pub fn megaminx<W: Words>(words: &mut W) -> Scramble

@@ -31,7 +31,8 @@ first-begun byte text rest plain =
 
 module _ (expected : ExpectedLines) (lawful : AreLawful expected) (i byte : ℕ) (text : List ℕ) (stopped : Bool)
     (full : stopped ≡ false → length (byte ∷ text) ≡ most_bytes + 1) where
-  begun-differs : (rest : List ℕ) → CanFollow stopped rest → (stopped ≡ true) ⊎ (stopped ≡ false) → LineAgrees expected i (begun-line byte text rest) → ⊥
+  begun-differs : (rest : List ℕ) → CanFollow stopped rest → (stopped ≡ true) ⊎ (stopped ≡ false)
+      → LineAgrees expected i (begun-line byte text rest) → ⊥
   begun-differs rest may (inl end) agrees =
       false≢true (sym (ap (λ x. is_first_ended (cut_lines x)) (may end) ∙ ap is_first_ended cut-none) ∙ agrees.0)
   begun-differs rest may (inr more) agrees =

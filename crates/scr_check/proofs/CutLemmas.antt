@@ -40,7 +40,8 @@ pub cut-none : cut_lines [] ≡ []
 unfolding cut_lines
 cut-none = refl
 
-pub cut-other : (byte : ℕ) (rest : List ℕ) → nat_eq byte 10 ≡ false → cut_lines (byte ∷ rest) ≡ with_byte byte (cut_lines rest)
+pub cut-other : (byte : ℕ) (rest : List ℕ) → nat_eq byte 10 ≡ false
+    → cut_lines (byte ∷ rest) ≡ with_byte byte (cut_lines rest)
 unfolding cut_lines
 cut-other byte rest other = rw other refl
 
@@ -92,7 +93,8 @@ pub record HaveFirst (lines : List CutLine) : Type 0 where
   pub behind : List CutLine
   pub is : lines ≡ line ∷ behind
 
-cut-some-by : (byte : ℕ) (rest : List ℕ) → (nat_eq byte 10 ≡ true) ⊎ (nat_eq byte 10 ≡ false) → HaveFirst (cut_lines (byte ∷ rest))
+cut-some-by : (byte : ℕ) (rest : List ℕ) → (nat_eq byte 10 ≡ true) ⊎ (nat_eq byte 10 ≡ false)
+    → HaveFirst (cut_lines (byte ∷ rest))
 cut-some-by byte rest (inl feed) = record { line = record { bytes = []; ended = true }; behind = cut_lines rest; is = cut-feed byte rest feed }
 cut-some-by byte rest (inr other) = record {
   line = record { bytes = byte ∷ first_bytes (cut_lines rest); ended = is_first_ended (cut_lines rest) };
@@ -131,7 +133,8 @@ cut-append-by byte text rest behind (inr other) ended =
     ∙ ap (λ x. x ++ cut_lines rest) (sym lines)
 
 -- whole lines are cut from a text before what follows them
-pub cut-append : (whole rest : List ℕ) → AreEnded (cut_lines whole) → cut_lines (whole ++ rest) ≡ cut_lines whole ++ cut_lines rest
+pub cut-append : (whole rest : List ℕ) → AreEnded (cut_lines whole)
+    → cut_lines (whole ++ rest) ≡ cut_lines whole ++ cut_lines rest
 cut-append [] rest ended = ap (λ x. x ++ cut_lines rest) (sym cut-none)
 cut-append (byte ∷ text) rest ended = cut-append-by byte text rest (cut-append text rest) (cases_Bool (nat_eq byte 10)) ended
 
@@ -149,7 +152,8 @@ unfolding joined_lines
 joined-with_byte byte [] = refl
 joined-with_byte byte (line ∷ lines) = refl
 
-joined-feed : (lines : List CutLine) → joined_lines (record { bytes = []; ended = true } ∷ lines) ≡ 10 ∷ joined_lines lines
+joined-feed : (lines : List CutLine)
+    → joined_lines (record { bytes = []; ended = true } ∷ lines) ≡ 10 ∷ joined_lines lines
 unfolding joined_lines
 joined-feed lines = refl
 

@@ -61,7 +61,8 @@ pub OfEach-push : (P : ℕ → CutLine → Type 0) (lines : List CutLine) (last 
 OfEach-push P lines last each so k line there = push-by P lines last each so k line there (cases_lt k (length lines))
 
 -- each of some lines agrees, said of their numbers
-pub all-agree : (expected : ExpectedLines) (lines : List CutLine) → OfEach (LineAgrees expected) lines → AllAgree expected lines
+pub all-agree : (expected : ExpectedLines) (lines : List CutLine) → OfEach (LineAgrees expected) lines
+    → AllAgree expected lines
 all-agree expected lines each zero line there = let none : None ≡ Some line = there in cc
 all-agree expected lines each (suc k) line there = each k line there
 
@@ -71,7 +72,8 @@ pub record IsFaultless (expected : ExpectedLines) (i : ℕ) (line : CutLine) : T
   pub there : (missing : Missing) → IsMissing expected i line missing → ⊥
 
 -- where it agrees
-pub faultless : (expected : ExpectedLines) → AreLawful expected → (i : ℕ) (line : CutLine) → LineAgrees expected i line → IsFaultless expected i line
+pub faultless : (expected : ExpectedLines) → AreLawful expected → (i : ℕ) (line : CutLine) → LineAgrees expected i line
+    → IsFaultless expected i line
 faultless expected lawful i line agrees = record {
   agrees = agrees;
   there = λ missing lacks. let same = lawful.one i line.bytes (Ok true) (Err missing) agrees.1 lacks in cc;
@@ -114,7 +116,8 @@ past-behind lines k past = ap (λ x. slice_get x k) (append-nil lines) ∙ past-
 
 -- where the line behind them is at fault
 module _ (expected : ExpectedLines) (lines more : List CutLine) (so : OfEach (IsFaultless expected) lines) (few : suc (length lines) ≤ expected.count) where
-  first-here : (IsInOrder expected (lines ++ more) (suc (length lines)) → ⊥) → IsFirstAtFault expected (lines ++ more) (suc (length lines))
+  first-here : (IsInOrder expected (lines ++ more) (suc (length lines)) → ⊥)
+      → IsFirstAtFault expected (lines ++ more) (suc (length lines))
   first-here fault = record {
     at_fault = fault;
     none_before = λ j below. none-before expected lines more so (omega arith) j (omega arith);
@@ -123,7 +126,8 @@ module _ (expected : ExpectedLines) (lines more : List CutLine) (so : OfEach (Is
   is-expected : IsExpected expected (suc (length lines))
   is-expected = (omega arith, omega arith)
 
-  comes-to-none : slice_get (lines ++ more) (length lines) ≡ None → ComesTo expected (lines ++ more) (Err (Differs (suc (length lines))))
+  comes-to-none : slice_get (lines ++ more) (length lines) ≡ None
+      → ComesTo expected (lines ++ more) (Err (Differs (suc (length lines))))
   comes-to-none here = (
     first-here (λ order. subst (OrderOf expected (suc (length lines))) here order is-expected),
     λ missing lacks. subst (LackOf expected (suc (length lines)) missing) here lacks.1,

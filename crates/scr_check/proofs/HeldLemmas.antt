@@ -4,7 +4,8 @@ use Rattle.std.proofs.lemmas.List.{drop_all}
 use Rattle.scr_check.specs.Held.{Held}
 
 -- nothing is held only between equal places
-pub held-none : (from to : ℕ) (buffer : List ℕ) → from ≤ to → to ≤ length buffer → drop from (take to buffer) ≡ [] → from ≡ to
+pub held-none : (from to : ℕ) (buffer : List ℕ) → from ≤ to → to ≤ length buffer → drop from (take to buffer) ≡ []
+    → from ≡ to
 held-none from to buffer order within none =
     let count = ap length none in
     omega (arith, length-drop from (take to buffer), length-take to buffer)

@@ -25,12 +25,14 @@ shape-feed : (lines : List CutLine) → AreCut lines → AreCut (record { bytes 
 unfolding AreCut IsPlain
 shape-feed lines cut = (tt, inl refl, cut)
 
-shape-with_byte : (byte : ℕ) (lines : List CutLine) → nat_eq byte 10 ≡ false → AreCut lines → AreCut (with_byte byte lines)
+shape-with_byte : (byte : ℕ) (lines : List CutLine) → nat_eq byte 10 ≡ false → AreCut lines
+    → AreCut (with_byte byte lines)
 unfolding AreCut IsPlain
 shape-with_byte byte [] other cut = ((other, tt), inr (refl, λ none. let some : byte ∷ [] ≡ [] = none in cc, refl), tt)
 shape-with_byte byte (line ∷ lines) other cut = ((other, cut.0), longer byte line lines cut.1, cut.2)
 
-shape-by : (byte : ℕ) (text : List ℕ) → AreCut (cut_lines text) → (nat_eq byte 10 ≡ true) ⊎ (nat_eq byte 10 ≡ false) → AreCut (cut_lines (byte ∷ text))
+shape-by : (byte : ℕ) (text : List ℕ) → AreCut (cut_lines text) → (nat_eq byte 10 ≡ true) ⊎ (nat_eq byte 10 ≡ false)
+    → AreCut (cut_lines (byte ∷ text))
 shape-by byte text cut (inl feed) = rw (cut-feed byte text feed) (shape-feed (cut_lines text) cut)
 shape-by byte text cut (inr other) = rw (cut-other byte text other) (shape-with_byte byte (cut_lines text) other cut)
 
@@ -53,7 +55,8 @@ unfolding joined_lines
 joined-line line lines end is =
     append_assoc line.bytes (line_end line.ended) (joined_lines lines) ∙ ap (λ x. line.bytes ++ (x ++ joined_lines lines)) is
 
-only-last : (bytes : List ℕ) → IsPlain bytes → bytes ≢ [] → cut_lines bytes ≡ record { bytes = bytes; ended = false } ∷ []
+only-last : (bytes : List ℕ) → IsPlain bytes → bytes ≢ []
+    → cut_lines bytes ≡ record { bytes = bytes; ended = false } ∷ []
 only-last [] plain some = absurd (some refl)
 only-last (byte ∷ text) plain some = cut-last byte text plain
 
@@ -86,7 +89,8 @@ separator-same = refl
 
 -- ---- one answer
 
-same-first : (expected : ExpectedLines) (lines : List CutLine) (i j : ℕ) → IsFirstAtFault expected lines i → IsFirstAtFault expected lines j → i ≡ j
+same-first : (expected : ExpectedLines) (lines : List CutLine) (i j : ℕ) → IsFirstAtFault expected lines i
+    → IsFirstAtFault expected lines j → i ≡ j
 same-first expected lines i j one other = elim (cases_order i j) [
   | inl same ↦ same
   | inr (inl less) ↦ absurd (one.at_fault (other.none_before i less))
@@ -173,7 +177,8 @@ module _ (expected : ExpectedLines) (lawful : AreLawful expected) (answers : Hav
       (omega (arith, length-append lines (line ∷ []))) in
       (longer.0, subst (λ x. ComesTo expected x longer.0) (append_assoc lines (line ∷ []) more) longer.1))
 
-  answered-from : (more lines : List CutLine) → OfEach (IsFaultless expected) lines → length lines ≤ expected.count → Answered expected (lines ++ more)
+  answered-from : (more lines : List CutLine) → OfEach (IsFaultless expected) lines → length lines ≤ expected.count
+      → Answered expected (lines ++ more)
   answered-from [] lines so few = answered-end lines so few (cases_lt (length lines) expected.count)
   answered-from (line ∷ more) lines so few = answered-next lines line more so (answered-from more) (cases_lt (length lines) expected.count) few
 
@@ -183,7 +188,8 @@ module _ (expected : ExpectedLines) (lawful : AreLawful expected) (answers : Hav
 -- ---- what agreement says of all lines
 
 module _ (expected : ExpectedLines) (lines : List CutLine) (agrees : ComesTo expected lines (Ok tt)) where
-  as-many-by : (length lines ≡ expected.count) ⊎ ((length lines < expected.count) ⊎ (expected.count < length lines)) → length lines ≡ expected.count
+  as-many-by : (length lines ≡ expected.count) ⊎ ((length lines < expected.count) ⊎ (expected.count < length lines))
+      → length lines ≡ expected.count
   as-many-by (inl same) = same
   as-many-by (inr (inl less)) =
       let order = subst (OrderOf expected (suc (length lines))) (past-end lines (length lines) (omega arith)) (agrees (suc (length lines))) in
@@ -268,7 +274,8 @@ plain-cons : (byte : ℕ) (text : List ℕ) → nat_eq byte 10 ≡ false → IsP
 unfolding IsPlain
 plain-cons byte text other plain = (other, plain)
 
-ended-cons : (byte : ℕ) (lines : List CutLine) (line : CutLine) (behind : List CutLine) → lines ≡ line ∷ behind → AreEnded lines → AreEnded (with_byte byte lines)
+ended-cons : (byte : ℕ) (lines : List CutLine) (line : CutLine) (behind : List CutLine) → lines ≡ line ∷ behind
+    → AreEnded lines → AreEnded (with_byte byte lines)
 unfolding AreEnded
 ended-cons byte [] line behind is ended = let none : [] ≡ line ∷ behind = is in absurd (cc)
 ended-cons byte (first ∷ lines) line behind is ended = ended
@@ -299,7 +306,8 @@ ended-feed : (lines : List CutLine) → AreEnded lines → AreEnded (record { by
 unfolding AreEnded
 ended-feed lines ended = (refl, ended)
 
-tail-by : (byte : ℕ) (text : List ℕ) → HasTail text → (nat_eq byte 10 ≡ true) ⊎ (nat_eq byte 10 ≡ false) → HasTail (byte ∷ text)
+tail-by : (byte : ℕ) (text : List ℕ) → HasTail text → (nat_eq byte 10 ≡ true) ⊎ (nat_eq byte 10 ≡ false)
+    → HasTail (byte ∷ text)
 tail-by byte text has (inl feed) = record {
   whole = byte ∷ has.whole;
   tail = has.tail;
@@ -348,7 +356,8 @@ pub nothing-agrees : (expected : ExpectedLines) → expected.count ≡ 0 → Com
 nothing-agrees expected none =
     subst (λ x. ComesTo expected x (Ok tt)) (sym cut-none) (comes-to-agreement expected [] tt (OfEach-none (IsFaultless expected)) (sym none))
 
-pub nothing-differs : (expected : ExpectedLines) → 1 ≤ expected.count → ComesTo expected (cut_lines []) (Err (Differs 1))
+pub nothing-differs : (expected : ExpectedLines) → 1 ≤ expected.count
+    → ComesTo expected (cut_lines []) (Err (Differs 1))
 nothing-differs expected some =
     subst (λ x. ComesTo expected x (Err (Differs 1))) (sym cut-none)
     (comes-to-line expected [] [] (Differs 1) (OfEach-none (IsFaultless expected)) some refl)

@@ -30,7 +30,8 @@ so-far-none text none = rw none (record {
   plain = IsPlain-none;
 })
 
-pub so-far-other : (start : ℕ) (text : List ℕ) (byte : ℕ) → IsListSoFar start text → nat_eq byte 10 ≡ false → IsListSoFar start (text ++ byte ∷ [])
+pub so-far-other : (start : ℕ) (text : List ℕ) (byte : ℕ) → IsListSoFar start text → nat_eq byte 10 ≡ false
+    → IsListSoFar start (text ++ byte ∷ [])
 so-far-other start text byte so other = record {
   within = omega (arith, so.within, length-append text (byte ∷ []));
   whole = rw (take-append-le start text (byte ∷ []) so.within) so.whole;
@@ -38,7 +39,8 @@ so-far-other start text byte so other = record {
       (IsPlain-append (drop start text) (byte ∷ []) so.plain (IsPlain-one byte other));
 }
 
-whole-line : (whole tail : List ℕ) → IsListText whole → IsPlain tail → bytes_eq tail separator ≡ false → IsListText (whole ++ (tail ++ 10 ∷ []))
+whole-line : (whole tail : List ℕ) → IsListText whole → IsPlain tail → bytes_eq tail separator ≡ false
+    → IsListText (whole ++ (tail ++ 10 ∷ []))
 whole-line whole tail so plain other =
     let last : CutLine = record { bytes = tail; ended = true } in
     let lines = cut-push whole tail so.ended plain in
@@ -61,7 +63,8 @@ so-far-feed start text byte place so feed other is =
     }
 
 -- the part of a line, as it is cut off
-pub tail-is : (held text : List ℕ) (start : ℕ) → held ≡ text → take (length held - start) (drop start held) ≡ drop start text
+pub tail-is : (held text : List ℕ) (start : ℕ) → held ≡ text
+    → take (length held - start) (drop start held) ≡ drop start text
 tail-is held text start same = take_rest held start ∙ ap (drop start) same
 
 -- ---- what was taken

@@ -34,16 +34,19 @@ lines_after lines = after_first is_separator lines
 before-separator : (line : CutLine) (lines : List CutLine) → is_separator line ≡ true → lines_before (line ∷ lines) ≡ []
 before-separator line lines is = rw is refl
 
-after-separator : (line : CutLine) (lines : List CutLine) → is_separator line ≡ true → lines_after (line ∷ lines) ≡ lines
+after-separator : (line : CutLine) (lines : List CutLine) → is_separator line ≡ true
+    → lines_after (line ∷ lines) ≡ lines
 after-separator line lines is = rw is refl
 
-before-other : (line : CutLine) (lines : List CutLine) → is_separator line ≡ false → lines_before (line ∷ lines) ≡ line ∷ lines_before lines
+before-other : (line : CutLine) (lines : List CutLine) → is_separator line ≡ false
+    → lines_before (line ∷ lines) ≡ line ∷ lines_before lines
 before-other line lines other =
     let n = position_or_len is_separator lines in
     let next : 1 + n ≡ suc n = omega arith in
     rw (other, next) refl
 
-after-other : (line : CutLine) (lines : List CutLine) → is_separator line ≡ false → lines_after (line ∷ lines) ≡ lines_after lines
+after-other : (line : CutLine) (lines : List CutLine) → is_separator line ≡ false
+    → lines_after (line ∷ lines) ≡ lines_after lines
 after-other line lines other =
     let n = position_or_len is_separator lines in
     let next : 1 + n + 1 ≡ suc (n + 1) = omega arith in
@@ -139,7 +142,8 @@ none-after : (lines : List CutLine) → NoneSeparates lines → lines_after line
 none-after lines none = ap lines_after (sym (append-nil lines)) ∙ after-append lines [] none ∙ after-none
 
 -- an input of which no line separates
-pub split-alone : (input : List ℕ) → NoneSeparates (cut_lines input) → (list_part input ≡ input) × (sheet_part input ≡ [])
+pub split-alone : (input : List ℕ) → NoneSeparates (cut_lines input)
+    → (list_part input ≡ input) × (sheet_part input ≡ [])
 split-alone input none = (
   ap joined_lines (all-before (cut_lines input) none) ∙ joined-cut input,
   ap joined_lines (none-after (cut_lines input) none) ∙ joined-none,

@@ -29,7 +29,8 @@ byte_given None = []
 byte_given (Some byte) = byte ∷ []
 
 module _ {S : Type 0} (left : S → Option (List ℕ)) (faults ends : S → ℕ) where
-  -- the bytes still to come, where the source tells its bytes: those read ahead, and then those that the source has left
+  -- the bytes still to come, where the source tells its bytes: those read ahead, and then those that the source has
+  -- left
   abbrev pub to_come : Reading S → Option (List ℕ)
   to_come reader = put_back reader.ahead (left reader.source)
 
@@ -37,8 +38,8 @@ module _ {S : Type 0} (left : S → Option (List ℕ)) (faults ends : S → ℕ)
   abbrev pub reading_change : Reading S → Reading S → Change
   reading_change = intake_of to_come (λ reader. faults reader.source) (λ reader. ends reader.source)
 
-  -- The reader gave just these bytes, without a fault. It met the end of input where it says so: the source told it then,
-  -- once, or had told it before, and then nothing changed.
+  -- The reader gave just these bytes, without a fault. It met the end of input where it says so: the source told it
+  -- then, once, or had told it before, and then nothing changed.
   pub record Takes (before after : Reading S) (bytes : List ℕ) : Type 0 where
     pub gives : Gives (reading_change before after) bytes
     pub no_end : after.ended ≡ false → ends after.source ≡ ends before.source

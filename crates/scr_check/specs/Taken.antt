@@ -14,8 +14,8 @@ use Rattle.scr_check.specs.Agreement.{ExpectedLines, most_bytes, LineAgrees, All
 abbrev pub CanFollow : Bool → List ℕ → Type 0
 CanFollow ended rest = ended ≡ true → rest ≡ []
 
--- This is the list part of an input, or its first bytes where it has more than are given; and where it has fewer, this is
--- the sheet part.
+-- This is the list part of an input, or its first bytes where it has more than are given; and where it has fewer, this
+-- is the sheet part.
 pub record IsSplit (input list sheet : List ℕ) : Type 0 where
   pub list_is : take list_room (list_part input) ≡ list
   pub sheet_is : length list < list_room → sheet_part input ≡ sheet

@@ -78,7 +78,8 @@ amounts_of-only amounts dials c e =
     sym (clock_by_dials (λ a. amounts_of (given a) ≡ a) amounts_again amounts c) ∙ ap amounts_of same
 
 -- a Clock has one scramble
-pub IsScrambleOf-one : (dials : List ℕ) (some other : List Turn) → IsClockScramble dials some → IsClockScramble dials other → some ≡ other
+pub IsScrambleOf-one : (dials : List ℕ) (some other : List Turn) → IsClockScramble dials some
+    → IsClockScramble dials other → some ≡ other
 IsScrambleOf-one dials some other s o =
     s.turns_are
     ∙ ap written (amounts_of-only s.amounts dials s.hours (sym (ap (clock_after solved) s.turns_are) ∙ s.gives)

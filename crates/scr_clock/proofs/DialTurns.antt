@@ -17,7 +17,8 @@ turned-at dials t k l =
     get_or-map-range_with_len (λ j. (get_or dials j 0 + gain_at t j) % 12) 0 14 k k 0 l (omega arith)
 
 -- it doesn't matter which of two turns comes first
-pub turned_swap : (dials : List ℕ) (t u : DialTurn) → dials_turned (dials_turned dials t) u ≡ dials_turned (dials_turned dials u) t
+pub turned_swap : (dials : List ℕ) (t u : DialTurn)
+    → dials_turned (dials_turned dials t) u ≡ dials_turned (dials_turned dials u) t
 turned_swap dials t u =
     turned_by_dials (dials_turned dials u) (dials_turned (dials_turned dials t) u) t (IsClock-turned (dials_turned dials t) u).fourteen
     (λ k l. omega (arith, turned-at dials t k l, turned-at (dials_turned dials t) u k l, turned-at dials u k l))

@@ -22,8 +22,8 @@ held_clock dials back = record { dials = dials; back = back }
 -- ---- written turns are turns of the dials
 
 -- what passes for each of these numbers passes for one of them
-passes_of : (test : ℕ → Bool) (sets : List ℕ) (p : ℕ) → IsTrue (list_all test sets) → IsTrue (list_any (λ set. set == p) sets)
-    → IsTrue (test p)
+passes_of : (test : ℕ → Bool) (sets : List ℕ) (p : ℕ) → IsTrue (list_all test sets)
+    → IsTrue (list_any (λ set. set == p) sets) → IsTrue (test p)
 passes_of test [] p h k = absurd (false≢true k)
 passes_of test (s ∷ sets) p h k =
     let parts = and_parts (test s) (list_all test sets) h in
@@ -33,14 +33,16 @@ passes_of test (s ∷ sets) p h k =
     ]
 
 -- a turn that a Clock has is one of the dials
-pub is_turn-written : (back : Bool) (p a : ℕ) → IsTrue (is_clock_turn (Pins p a)) → IsTrue (is_turn (dial_turn back p a))
+pub is_turn-written : (back : Bool) (p a : ℕ) → IsTrue (is_clock_turn (Pins p a))
+    → IsTrue (is_turn (dial_turn back p a))
 is_turn-written back p a h =
     let parts = and_parts (list_any (λ set. set == p) pin_sets) (nat_le a 11) h in
     let set = and_parts (nat_lt 0 p) (nat_lt p 16) (passes_of (λ n. nat_lt 0 n && nat_lt n 16) pin_sets p refl parts.0) in
     let hours : a < 12 = omega (arith, leb-true a 11 parts.1) in
     and_from (nat_lt 0 p) (nat_lt p 16 && nat_lt a 12) set.0 (and_from (nat_lt p 16) (nat_lt a 12) set.1 (lt-ltb a 12 hours))
 
-step : (held r : HeldClock) (t : Turn) → held_after held t ≡ Some r → (w : List DialTurn) × (play dials_after held.dials w ≡ Some r.dials)
+step : (held r : HeldClock) (t : Turn) → held_after held t ≡ Some r
+    → (w : List DialTurn) × (play dials_after held.dials w ≡ Some r.dials)
 unfolding held_after
 step held r (Pins p a) e =
     let turn : DialTurn = dial_turn held.back p a in
@@ -84,8 +86,8 @@ pub after_pins : (back : Bool) (dials : List ℕ) (p a : ℕ) → IsTrue (is_clo
 unfolding held_after
 after_pins back dials p a h = cond-true (is_clock_turn (Pins p a)) _ None h
 
-play-pins_at : (back : Bool) (dials sets amounts : List ℕ) → IsTrue (list_all (λ p. list_any (λ set. set == p) pin_sets) sets)
-    → All (λ a. a < 12) amounts
+play-pins_at : (back : Bool) (dials sets amounts : List ℕ)
+    → IsTrue (list_all (λ p. list_any (λ set. set == p) pin_sets) sets) → All (λ a. a < 12) amounts
     → play held_after (held_clock dials back) (pins_at sets amounts) ≡ Some (held_clock (side_turned back dials sets amounts) back)
 unfolding pins_at side_turned
 play-pins_at back dials [] amounts s h = play-empty held_after (held_clock dials back)
@@ -98,11 +100,13 @@ play-pins_at back dials (p ∷ sets) (a ∷ amounts) s h =
     (after_pins back dials p a (and_from (list_any (λ set. set == p) pin_sets) (nat_le a 11) parts.0 (le-leb a 11 low)))
     ∙ play-pins_at back next sets amounts parts.1 (All-tail (λ n. n < 12) a amounts h)
 
-pub after_over : (back : Bool) (dials : List ℕ) → held_after (held_clock dials back) Over ≡ Some (held_clock dials (not back))
+pub after_over : (back : Bool) (dials : List ℕ)
+    → held_after (held_clock dials back) Over ≡ Some (held_clock dials (not back))
 unfolding held_after
 after_over back dials = refl
 
-pub clock_after-written : (amounts : List ℕ) → IsClock amounts → clock_after solved (written amounts) ≡ Some (given amounts)
+pub clock_after-written : (amounts : List ℕ) → IsClock amounts
+    → clock_after solved (written amounts) ≡ Some (given amounts)
 unfolding written given
 clock_after-written amounts h =
     let front = side_turned false solved pin_sets (take 9 amounts) in

@@ -78,7 +78,8 @@ solved_from_all_twelve dials c h =
     (λ k l. eqb-true (get_or dials k 0) 0 (AllPass-from_list_all (λ d. d == 0) dials h k 0 l)
     ∙ sym (get_or-replicate 14 k 0 0 (omega (arith, c.fourteen))))
 
-pub turns_lead-from : (sides : List Bool) (dials : List ℕ) → SidesLead sides dials → turns_lead (length sides) dials ≡ true
+pub turns_lead-from : (sides : List Bool) (dials : List ℕ) → SidesLead sides dials
+    → turns_lead (length sides) dials ≡ true
 unfolding turns_lead all_twelve
 turns_lead-from [] dials e = ap all_twelve e
 turns_lead-from (back ∷ sides) dials s =

@@ -9,7 +9,8 @@ use Rattle.scr_clock.specs.Dials.{IsClock}
 use Rattle.scr_clock.specs.Numbers.{clock_numbered}
 
 -- a Clock's digits are its dials
-dials_given : (dials : List ℕ) → AreDigits (replicate 14 12) dials → GivesState (replicate 14 12) (λ ds. ds) (λ ds. ds) IsClock dials
+dials_given : (dials : List ℕ) → AreDigits (replicate 14 12) dials
+    → GivesState (replicate 14 12) (λ ds. ds) (λ ds. ds) IsClock dials
 dials_given dials h =
     let own = (AreDigits-replicate 14 12 dials).0 h in
     record { valid = record { fourteen = own.0; below = own.1 }; again = refl }

@@ -5,7 +5,8 @@ use Rattle.scr_clock.specs.Known.{turned_over_clock}
 use Rattle.scr_clock.proofs.Hours.{clock_by_dials, cons_same}
 
 -- minus what a corner comes to by minus an amount is what minus the corner comes to by that amount
-corner : (b : Bool) (d a : ℕ) → d < 12 → a < 12 → (12 - (d + cond b 0 (12 - a)) % 12) % 12 ≡ ((12 - d) % 12 + cond b 0 a) % 12
+corner : (b : Bool) (d a : ℕ) → d < 12 → a < 12
+    → (12 - (d + cond b 0 (12 - a)) % 12) % 12 ≡ ((12 - d) % 12 + cond b 0 a) % 12
 corner true d a l m = omega arith
 corner false d a l m = omega arith
 

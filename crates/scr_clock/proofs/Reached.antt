@@ -12,7 +12,8 @@ use Rattle.scr_clock.proofs.DialTurns.{IsClock-solved}
 use Rattle.scr_clock.proofs.HeldLaws.{held_clock, dial_word}
 use Rattle.scr_clock.proofs.AmountLaws.{amounts_of, amounts_of-give}
 
-option_map-some : {A B : Type 0} (f : A → B) (o : Option A) (b : B) → option_map f o ≡ Some b → (a : A) × (o ≡ Some a) × (f a ≡ b)
+option_map-some : {A B : Type 0} (f : A → B) (o : Option A) (b : B) → option_map f o ≡ Some b
+    → (a : A) × (o ≡ Some a) × (f a ≡ b)
 option_map-some f None b e = absurd (cc)
 option_map-some f (Some a) b e = (a, refl, (cc))
 
@@ -24,7 +25,8 @@ IsClock-reached dials r =
     (λ s q t c e. subst P (dials_after-parts s q t e).1 (IsClock-turned s t)) dials r
 
 -- what a scramble makes of the solved Clock is reached
-pub IsReached-played : (turns : List Turn) (dials : List ℕ) → clock_after solved turns ≡ Some dials → IsReached clock_puzzle dials
+pub IsReached-played : (turns : List Turn) (dials : List ℕ) → clock_after solved turns ≡ Some dials
+    → IsReached clock_puzzle dials
 IsReached-played turns dials gives =
     let held = option_map-some (λ (h : HeldClock). h.dials) _ dials gives in
     let word = dial_word turns (held_clock solved false) held.0 held.1 in

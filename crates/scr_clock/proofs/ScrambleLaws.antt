@@ -26,7 +26,8 @@ use Rattle.scr_clock.specs.Written.{pins_at, written}
 use Rattle.scr_clock.proofs.HeldLaws.{held_clock, after_pins, after_over}
 
 -- turns of pins are a Clock's
-pub pins_of_clock : (kind : Kind) (t : Turn) (p a : ℕ) → t ≡ Pins p a → IsTrue (has_turn kind t) → IsTrue (is_clock_turn (Pins p a))
+pub pins_of_clock : (kind : Kind) (t : Turn) (p a : ℕ) → t ≡ Pins p a → IsTrue (has_turn kind t)
+    → IsTrue (is_clock_turn (Pins p a))
 pins_of_clock kind t p a e h = of_kind kind (subst (λ (u : Turn). IsTrue (has_turn kind u)) e h)
   where
     of_kind : (kind : Kind) → IsTrue (has_turn kind (Pins p a)) → IsTrue (is_clock_turn (Pins p a))
@@ -37,7 +38,8 @@ pins_of_clock kind t p a e h = of_kind kind (subst (λ (u : Turn). IsTrue (has_t
     of_kind WideTurns h = absurd (false≢true h)
 
 -- no other turn does anything to a Clock
-pub after_none : (held : HeldClock) (t : Turn) → ((p a : ℕ) → t ≡ Pins p a → ⊥) → (t ≡ Over → ⊥) → held_after held t ≡ None
+pub after_none : (held : HeldClock) (t : Turn) → ((p a : ℕ) → t ≡ Pins p a → ⊥) → (t ≡ Over → ⊥)
+    → held_after held t ≡ None
 unfolding held_after
 after_none held (Pins p a) n m = absurd (n p a refl)
 after_none held Over n m = absurd (m refl)
@@ -55,12 +57,14 @@ abbrev pub With : Written → List Turn → Written
 With s turns = record { event = s.event; turns = s.turns ++ turns }
 
 pub pushed : (s new : Written) (t : Turn) (b : Bool) → length s.turns < 160 → IsTrue (permits s.event t)
-    → (IsTrue b ↔ ((length s.turns < 160) × IsTrue (permits s.event t))) → OnTrue b (new ≡ With s (t ∷ [])) → new ≡ With s (t ∷ [])
+    → (IsTrue b ↔ ((length s.turns < 160) × IsTrue (permits s.event t))) → OnTrue b (new ≡ With s (t ∷ []))
+    → new ≡ With s (t ∷ [])
 pushed s new t b room p exact h = OnTrue_at (exact.1 (room, p)) h
 
 -- pin sets, each of which a Clock's turns have, and hours are turns of a Clock
-permits-pins_at : (sets amounts : List ℕ) (k : ℕ) → All (λ p. IsTrue (list_any (λ set. set == p) pin_sets)) sets → All (λ a. a < 12) amounts
-    → k < length sets → k < length amounts → IsTrue (permits Clock (Pins (get_or sets k 0) (get_or amounts k 0)))
+permits-pins_at : (sets amounts : List ℕ) (k : ℕ) → All (λ p. IsTrue (list_any (λ set. set == p) pin_sets)) sets
+    → All (λ a. a < 12) amounts → k < length sets → k < length amounts
+    → IsTrue (permits Clock (Pins (get_or sets k 0) (get_or amounts k 0)))
 permits-pins_at sets amounts k s h ls la =
     let low = All-get_or (λ a. a < 12) amounts k 0 la h in
     and_from (list_any (λ set. set == get_or sets k 0) pin_sets) (nat_le (get_or amounts k 0) 11)
@@ -102,8 +106,8 @@ of_clock turns = record { event = Clock; turns = turns }
 -- nine turns of the front, and the Clock turned over, pushed onto the empty scramble
 pub front_pushed : (empty front over : Written) (amounts : List ℕ) (b : Bool) → IsClock amounts → empty ≡ of_clock []
     → front ≡ With empty (pins_at pin_sets (take 9 amounts))
-    → (IsTrue b ↔ ((length front.turns < 160) × IsTrue (permits front.event Over))) → OnTrue b (over ≡ With front (Over ∷ []))
-    → over ≡ of_clock (pins_at pin_sets (take 9 amounts) ++ Over ∷ [])
+    → (IsTrue b ↔ ((length front.turns < 160) × IsTrue (permits front.event Over)))
+    → OnTrue b (over ≡ With front (Over ∷ [])) → over ≡ of_clock (pins_at pin_sets (take 9 amounts) ++ Over ∷ [])
 front_pushed empty front over amounts b h e f exact g =
     let turns = pins_at pin_sets (take 9 amounts) in
     let own : front ≡ of_clock turns = f ∙ ap (λ x. With x turns) e in
@@ -164,7 +168,8 @@ tells_turns = record {
 }
 
 -- exactly where each of them is a Clock's
-pub defined-iff : (dials : List ℕ) (turns : List Turn) → IsSome (clock_after dials turns) ↔ All (λ t. IsTrue (is_clock_turn t)) turns
+pub defined-iff : (dials : List ℕ) (turns : List Turn)
+    → IsSome (clock_after dials turns) ↔ All (λ t. IsTrue (is_clock_turn t)) turns
 defined-iff dials turns =
     let held = held_clock dials false in
     let played = played-iff tells_turns held turns tt in

@@ -17,7 +17,8 @@ unfolding gain_at
 none_gained true p a = ((refl, refl), (refl, refl), (refl, refl), (refl, refl), (refl, refl))
 none_gained false p a = ((refl, refl), (refl, refl), (refl, refl), (refl, refl), (refl, refl))
 
-OfOthers-both : (back : Bool) (P Q R : ℕ → Type 0) → ((k : ℕ) → P k → Q k → R k) → OfOthers back P → OfOthers back Q → OfOthers back R
+OfOthers-both : (back : Bool) (P Q R : ℕ → Type 0) → ((k : ℕ) → P k → Q k → R k) → OfOthers back P → OfOthers back Q
+    → OfOthers back R
 OfOthers-both true P Q R f p q = (f 1 p.0 q.0, f 3 p.1 q.1, f 4 p.2 q.2, f 5 p.3 q.3, f 7 p.4 q.4)
 OfOthers-both false P Q R f p q = (f 9 p.0 q.0, f 10 p.1 q.1, f 11 p.2 q.2, f 12 p.3 q.3, f 13 p.4 q.4)
 
@@ -86,7 +87,8 @@ amount_of_last back dials c s = amount_by_centre back dials s.setting c (ap (λ 
 
 -- ---- a turn of the back, and then one of the front
 
-back_solved : (dials : List ℕ) → (s : SidesLead (true ∷ false ∷ []) dials) → IsOtherSolved false (dials_turned dials (turn_by true s.setting))
+back_solved : (dials : List ℕ) → (s : SidesLead (true ∷ false ∷ []) dials)
+    → IsOtherSolved false (dials_turned dials (turn_by true s.setting))
 back_solved dials s =
     IsOtherSolved-led 1 false (dials_turned dials (turn_by true s.setting)) (IsClock-turned dials (turn_by true s.setting)) s.gives
 
@@ -96,7 +98,8 @@ pub amount_of_back : (dials : List ℕ) → IsClock dials → (s : SidesLead (tr
 amount_of_back dials c s = amount_by_centre true dials s.setting c (back_solved dials s).2
 
 -- and it brings the back's edges to 12
-pub back_edges_carried : (dials : List ℕ) → IsClock dials → SidesLead (true ∷ false ∷ []) dials → AreBackEdgesCarried dials
+pub back_edges_carried : (dials : List ℕ) → IsClock dials → SidesLead (true ∷ false ∷ []) dials
+    → AreBackEdgesCarried dials
 unfolding gain_at centre_amount
 back_edges_carried dials c s =
     let r = back_solved dials s in (
@@ -106,8 +109,10 @@ back_edges_carried dials c s =
       carried 13 (omega arith) (cases_cond _ 0 s.setting.amount _ refl) r.4,
     )
   where
-    carried : (k : ℕ) → k < 14 → (gain_at (turn_by true s.setting) k ≡ 0) ⊎ (gain_at (turn_by true s.setting) k ≡ s.setting.amount)
-        → get_or (dials_turned dials (turn_by true s.setting)) k 0 ≡ 0 → (get_or dials k 0 ≡ 0) ⊎ (get_or dials k 0 ≡ get_or dials 11 0)
+    carried : (k : ℕ) → k < 14
+        → (gain_at (turn_by true s.setting) k ≡ 0) ⊎ (gain_at (turn_by true s.setting) k ≡ s.setting.amount)
+        → get_or (dials_turned dials (turn_by true s.setting)) k 0 ≡ 0
+        → (get_or dials k 0 ≡ 0) ⊎ (get_or dials k 0 ≡ get_or dials 11 0)
     carried k l g e =
         let sum = turned-at dials (turn_by true s.setting) k l in
         let low = hour_at dials k c l in
@@ -132,7 +137,8 @@ one_by_sides dials c = (
   λ h. elim h [ inl s ↦ turns_lead-from (false ∷ []) dials s | inr s ↦ turns_lead-from (true ∷ []) dials s ],
 )
   where
-    by_side : (sides : List Bool) → length sides ≡ 1 → SidesLead sides dials → SidesLead (false ∷ []) dials ⊎ SidesLead (true ∷ []) dials
+    by_side : (sides : List Bool) → length sides ≡ 1 → SidesLead sides dials
+        → SidesLead (false ∷ []) dials ⊎ SidesLead (true ∷ []) dials
     by_side [] e s = absurd (omega (arith, e))
     by_side (false ∷ []) e s = inl s
     by_side (true ∷ []) e s = inr s

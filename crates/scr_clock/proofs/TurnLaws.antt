@@ -31,12 +31,14 @@ setting_of t h =
     }
 
 -- a turn is defined
-pub dials_after-turn : (dials : List ℕ) (t : DialTurn) → is_turn t ≡ true → dials_after dials t ≡ Some (dials_turned dials t)
+pub dials_after-turn : (dials : List ℕ) (t : DialTurn) → is_turn t ≡ true
+    → dials_after dials t ≡ Some (dials_turned dials t)
 unfolding dials_after
 dials_after-turn dials t h = cond-true (is_turn t) (Some (dials_turned dials t)) None h
 
 -- and nothing else is
-pub dials_after-parts : (dials r : List ℕ) (t : DialTurn) → dials_after dials t ≡ Some r → (is_turn t ≡ true) × (dials_turned dials t ≡ r)
+pub dials_after-parts : (dials r : List ℕ) (t : DialTurn) → dials_after dials t ≡ Some r
+    → (is_turn t ≡ true) × (dials_turned dials t ≡ r)
 unfolding dials_after
 dials_after-parts dials r t e = cond_some (is_turn t) (dials_turned dials t) r e
 

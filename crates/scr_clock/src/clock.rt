@@ -83,8 +83,8 @@ impl Clock {
         Clock { dials }
     }
 
-    /// The Clock after the turns of a scramble, with the front facing the scrambler at first; `y2` changes the side that
-    /// does. `None` comes exactly where a turn is none of Clock's.
+    /// The Clock after the turns of a scramble, with the front facing the scrambler at first; `y2` changes the side
+    /// that does. `None` comes exactly where a turn is none of Clock's.
     pub fn play(&self, scramble: &Scramble) -> Option<Clock>
         ensures { result ≡ clock_after self.now scramble.now.turns }
     {

@@ -46,9 +46,9 @@ pub fn turns_commute()
         → dials_turned (dials_turned dials some) other ≡ dials_turned (dials_turned dials other) some }
 {}
 
-/// The pins next to the dials are those of a Clock. A corner's pin is one pin, seen from both sides; the sides look alike
-/// from in front of them; no turn of a side moves the other side's edges and centre. And a turn of the back is that turn
-/// of the front of the Clock turned over.
+/// The pins next to the dials are those of a Clock. A corner's pin is one pin, seen from both sides; the sides look
+/// alike from in front of them; no turn of a side moves the other side's edges and centre. And a turn of the back is
+/// that turn of the front of the Clock turned over.
 pub fn pins_by_symmetry()
     ensures corners { map mirrored_dial (pick front_pins corners) ≡ pick back_pins corners }
     ensures alike { pick front_pins front_cross ≡ pick back_pins back_cross }
@@ -70,8 +70,8 @@ pub fn known_turns()
         ≡ 0 ∷ 1 ∷ 1 ∷ 1 ∷ 1 ∷ 1 ∷ 1 ∷ 1 ∷ 0 ∷ 0 ∷ 0 ∷ 0 ∷ 0 ∷ 0 ∷ [] }
 {}
 
-/// Clocks that are known from elsewhere: one at random; solved; solved with the pins UR and DL up on the front, turned by
-/// one hour; and one that turns of the back alone give, by unlike amounts.
+/// Clocks that are known from elsewhere: one at random; solved; solved with the pins UR and DL up on the front, turned
+/// by one hour; and one that turns of the back alone give, by unlike amounts.
 pub fn known_scrambles()
     ensures random { IsKnownClock 985395116423286
         (6 ∷ 4 ∷ 8 ∷ 9 ∷ 7 ∷ 8 ∷ 2 ∷ 1 ∷ 2 ∷ 8 ∷ 2 ∷ 6 ∷ 2 ∷ 9 ∷ [])

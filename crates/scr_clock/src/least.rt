@@ -13,9 +13,9 @@ use crate::clock::Clock;
 /// Whether no word of fewer than `least` counted turns, of any pin sets on either side, brings `clock` to solved.
 /// `least` is at most 3.
 ///
-/// It takes no memory. A random state is decided after a handful of comparisons of dials. One whose back edges each show
-/// 12 or what the back's centre shows, one in 1,296, takes up to 15 turns more, and one whose back is solved, or the
-/// edges and centre of its front, up to 180 turns with 15 turns after each.
+/// It takes no memory. A random state is decided after a handful of comparisons of dials. One whose back edges each
+/// show 12 or what the back's centre shows, one in 1,296, takes up to 15 turns more, and one whose back is solved, or
+/// the edges and centre of its front, up to 180 turns with 15 turns after each.
 pub fn needs_at_least(clock: &Clock, least: u32) -> bool
     requires { least ≤ 3 }
     ensures test { result ≡ needs_test_clock clock.now least }

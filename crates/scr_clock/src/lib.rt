@@ -7,8 +7,8 @@
 //! scramble with these amounts, and that `needs_at_least` is true exactly where no word of fewer counted turns, of any pin
 //! sets, leads to solved. The module `laws` has what holds of Clock whatever the code, and Clocks known from elsewhere.
 //!
-//! The crate stands on the words of `scr_combinatorics`, its digits and those of `scr_rank`, the turns of `scr_notation`,
-//! and the drawing of `scr_draw`.
+//! The crate stands on the words of `scr_combinatorics`, its digits and those of `scr_rank`, the turns of
+//! `scr_notation`, and the drawing of `scr_draw`.
 #![tactic(auto)]
 
 mod amounts;

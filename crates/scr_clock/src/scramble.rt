@@ -10,8 +10,8 @@ use crate::amounts::solve;
 use crate::clock::Clock;
 use scr_notation::{Event, PIN_SETS, Scramble, Turn};
 
-/// The scramble that leads from solved to this Clock: nine pin sets on the front and, behind `y2`, five on the back, by the
-/// amounts of `solve`. No other scramble leads there.
+/// The scramble that leads from solved to this Clock: nine pin sets on the front and, behind `y2`, five on the back, by
+/// the amounts of `solve`. No other scramble leads there.
 pub fn scramble_clock(clock: &Clock) -> Scramble
     ensures event { result.event ≡ ClockEvent }
     ensures fifteen { length result.turns ≡ 15 }

@@ -9,7 +9,8 @@ use Rattle.scr_combinatorics.specs.Lawful.{IsLawful}
 use Rattle.scr_combinatorics.proofs.PlayLaws.{play-empty, play-parts, play-append, play-one}
 
 -- the first turn is taken back last
-pub back-first : {T : Type 0} (opposite : T → T) (t : T) (w : List T) → back opposite (t ∷ w) ≡ back opposite w ++ opposite t ∷ []
+pub back-first : {T : Type 0} (opposite : T → T) (t : T) (w : List T)
+    → back opposite (t ∷ w) ≡ back opposite w ++ opposite t ∷ []
 back-first opposite t w = reverse-cons (opposite t) (map opposite w)
 
 pub IsTakenBack-lawful : {S T : Type 0} (after : S → T → Option S) (opposite : T → T) (m : Merging T) (IsValid : S → Type 0)

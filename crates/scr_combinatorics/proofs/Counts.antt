@@ -87,7 +87,8 @@ without-other x y ys e = cond-false (eqb y x) ys (y ∷ without x ys) (ne_eqb y 
 pub occurs_later : (x y : ℕ) (ys : List ℕ) → 0 < occurrences x (y ∷ ys) → (y ≡ x → ⊥) → 0 < occurrences x ys
 occurs_later x y ys h e = omega (arith, one_if-other y x e)
 
-pub occurrences-without : (x : ℕ) (ys : List ℕ) → 0 < occurrences x ys → (k : ℕ) → occurrences k (x ∷ without x ys) ≡ occurrences k ys
+pub occurrences-without : (x : ℕ) (ys : List ℕ) → 0 < occurrences x ys → (k : ℕ)
+    → occurrences k (x ∷ without x ys) ≡ occurrences k ys
 occurrences-without x [] h k = absurd (omega arith)
 occurrences-without x (y ∷ ys) h k =
     elim (cases_eq y x) [
@@ -95,7 +96,8 @@ occurrences-without x (y ∷ ys) h k =
       | inr e ↦ rw (without-other x y ys e) (omega (arith, occurrences-without x ys (occurs_later x y ys h e) k))
     ]
 
-pub total_by-without : (f : ℕ → ℕ) (x : ℕ) (ys : List ℕ) → 0 < occurrences x ys → f x + total_by f (without x ys) ≡ total_by f ys
+pub total_by-without : (f : ℕ → ℕ) (x : ℕ) (ys : List ℕ) → 0 < occurrences x ys
+    → f x + total_by f (without x ys) ≡ total_by f ys
 total_by-without f x [] h = absurd (omega arith)
 total_by-without f x (y ∷ ys) h =
     elim (cases_eq y x) [
@@ -104,7 +106,8 @@ total_by-without f x (y ∷ ys) h =
     ]
 
 -- what is left of rearranged lists without an element that the first one begins with
-pub IsRearranged-without : (x : ℕ) (xs ys : List ℕ) → IsRearranged (x ∷ xs) ys → (0 < occurrences x ys) × IsRearranged xs (without x ys)
+pub IsRearranged-without : (x : ℕ) (xs ys : List ℕ) → IsRearranged (x ∷ xs) ys
+    → (0 < occurrences x ys) × IsRearranged xs (without x ys)
 IsRearranged-without x xs ys same =
     let there : 0 < occurrences x ys = omega (arith, same x, occurrences-here x xs) in
     (there, λ k. omega (arith, same k, occurrences-without x ys there k))
@@ -170,7 +173,8 @@ occurrences-at (x ∷ xs) zero lt = omega (arith, one_if-same x)
 occurrences-at (x ∷ xs) (suc i) lt = omega (arith, occurrences-at xs i (omega arith))
 
 -- an element that stands at two places occurs twice
-pub occurrences-twice : (xs : List ℕ) (i j : ℕ) → i < j → j < length xs → slice_index xs i ≡ slice_index xs j → 2 ≤ occurrences (slice_index xs j) xs
+pub occurrences-twice : (xs : List ℕ) (i j : ℕ) → i < j → j < length xs → slice_index xs i ≡ slice_index xs j
+    → 2 ≤ occurrences (slice_index xs j) xs
 occurrences-twice [] i j lt there e = absurd (omega arith)
 occurrences-twice (x ∷ xs) i zero lt there e = absurd (omega arith)
 occurrences-twice (x ∷ xs) zero (suc j) lt there e =

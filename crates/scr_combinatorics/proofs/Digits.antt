@@ -44,7 +44,8 @@ first_number-lt (b ∷ bs) [] h = absurd h
 first_number-lt (b ∷ bs) (d ∷ ds) h = digit_below d b (mixed_number bs ds) (product bs) h.0 (first_number-lt bs ds h.1)
 
 -- place k has digit k: what is left of the number after the bases before it, modulo its own base
-pub first_number-at : (bases ds : List ℕ) → BeginsWithDigits bases ds → (k : ℕ) → k < length bases → slice_index ds k ≡ mixed_number bases ds / product (take k bases) % slice_index bases k
+pub first_number-at : (bases ds : List ℕ) → BeginsWithDigits bases ds → (k : ℕ) → k < length bases
+    → slice_index ds k ≡ mixed_number bases ds / product (take k bases) % slice_index bases k
 first_number-at [] ds h k lt = absurd (omega arith)
 first_number-at (b ∷ bs) [] h k lt = absurd h
 first_number-at (b ∷ bs) (d ∷ ds) h zero lt =
@@ -61,10 +62,12 @@ first_number-at (b ∷ bs) (d ∷ ds) h (suc k) lt =
 pub mixed_number-lt : (bases ds : List ℕ) → AreDigits bases ds → mixed_number bases ds < product bases
 mixed_number-lt bases ds h = first_number-lt bases ds (begins_with_digits bases ds h)
 
-pub mixed_number-at : (bases ds : List ℕ) → AreDigits bases ds → (k : ℕ) → k < length bases → slice_index ds k ≡ mixed_number bases ds / product (take k bases) % slice_index bases k
+pub mixed_number-at : (bases ds : List ℕ) → AreDigits bases ds → (k : ℕ) → k < length bases
+    → slice_index ds k ≡ mixed_number bases ds / product (take k bases) % slice_index bases k
 mixed_number-at bases ds h = first_number-at bases ds (begins_with_digits bases ds h)
 
-pub mixed_number-injective : (bases ds es : List ℕ) → AreDigits bases ds → AreDigits bases es → mixed_number bases ds ≡ mixed_number bases es → ds ≡ es
+pub mixed_number-injective : (bases ds es : List ℕ) → AreDigits bases ds → AreDigits bases es
+    → mixed_number bases ds ≡ mixed_number bases es → ds ≡ es
 mixed_number-injective [] [] [] p q e = refl
 mixed_number-injective [] (d ∷ ds) es p q e = absurd p
 mixed_number-injective [] [] (y ∷ es) p q e = absurd q
@@ -86,7 +89,8 @@ AreDigits-mixed_digits (b ∷ bs) r pos =
     let both = factor_pos b (product bs) pos in
     (mod_below r b both.0, AreDigits-mixed_digits bs (r / b) both.1)
 
-pub mixed_number-mixed_digits : (bases : List ℕ) (r : ℕ) → 0 < product bases → r < product bases → mixed_number bases (mixed_digits bases r) ≡ r
+pub mixed_number-mixed_digits : (bases : List ℕ) (r : ℕ) → 0 < product bases → r < product bases
+    → mixed_number bases (mixed_digits bases r) ≡ r
 mixed_number-mixed_digits [] r pos lt = omega arith
 mixed_number-mixed_digits (b ∷ bs) r pos lt =
     let both = factor_pos b (product bs) pos in
@@ -97,14 +101,16 @@ mixed_number-mixed_digits (b ∷ bs) r pos lt =
       mul_comm b (r / b),
     )
 
-pub mixed_digits-mixed_number : (bases ds : List ℕ) → 0 < product bases → AreDigits bases ds → mixed_digits bases (mixed_number bases ds) ≡ ds
+pub mixed_digits-mixed_number : (bases ds : List ℕ) → 0 < product bases → AreDigits bases ds
+    → mixed_digits bases (mixed_number bases ds) ≡ ds
 mixed_digits-mixed_number bases ds pos h =
     let r : ℕ = mixed_number bases ds in
     mixed_number-injective bases (mixed_digits bases r) ds (AreDigits-mixed_digits bases r pos) h
     (mixed_number-mixed_digits bases r pos (mixed_number-lt bases ds h))
 
 -- lists of digits are numbered by the numbers below the product of the bases
-pub digits_one_to_one : (bases : List ℕ) → 0 < product bases → IsOneToOne (product bases) (mixed_digits bases) (mixed_number bases) (AreDigits bases)
+pub digits_one_to_one : (bases : List ℕ) → 0 < product bases
+    → IsOneToOne (product bases) (mixed_digits bases) (mixed_number bases) (AreDigits bases)
 digits_one_to_one bases pos = record {
   valid = λ i lt. AreDigits-mixed_digits bases i pos;
   below = mixed_number-lt bases;
@@ -131,7 +137,8 @@ AreDigits-from_all base [] h = tt
 AreDigits-from_all base (d ∷ ds) h =
     (All-head (λ z. z < base) d ds h, AreDigits-from_all base ds (All-tail (λ z. z < base) d ds h))
 
-all_from_AreDigits : (n base : ℕ) (ds : List ℕ) → AreDigits (replicate n base) ds → (length ds ≡ n) × All (λ d. d < base) ds
+all_from_AreDigits : (n base : ℕ) (ds : List ℕ) → AreDigits (replicate n base) ds
+    → (length ds ≡ n) × All (λ d. d < base) ds
 all_from_AreDigits zero base [] h = (refl, All-nil (λ z. z < base))
 all_from_AreDigits zero base (d ∷ ds) h = absurd h
 all_from_AreDigits (suc n) base [] h = absurd h
@@ -139,21 +146,24 @@ all_from_AreDigits (suc n) base (d ∷ ds) h =
     let rest = all_from_AreDigits n base ds h.1 in
     (ap suc rest.0, All-cons (λ z. z < base) d ds h.0 rest.1)
 
-pub AreDigits-replicate : (n base : ℕ) (ds : List ℕ) → AreDigits (replicate n base) ds ↔ ((length ds ≡ n) × All (λ d. d < base) ds)
+pub AreDigits-replicate : (n base : ℕ) (ds : List ℕ)
+    → AreDigits (replicate n base) ds ↔ ((length ds ≡ n) × All (λ d. d < base) ds)
 AreDigits-replicate n base ds = (
   all_from_AreDigits n base ds,
   λ h. subst (λ m. AreDigits (replicate m base) ds) h.0 (AreDigits-from_all base ds h.1),
 )
 
 -- so are the first n of more
-pub begins_with_all : (n base : ℕ) (ds : List ℕ) → n ≤ length ds → All (λ d. d < base) ds → BeginsWithDigits (replicate n base) ds
+pub begins_with_all : (n base : ℕ) (ds : List ℕ) → n ≤ length ds → All (λ d. d < base) ds
+    → BeginsWithDigits (replicate n base) ds
 begins_with_all zero base ds le h = tt
 begins_with_all (suc n) base [] le h = absurd (omega arith)
 begins_with_all (suc n) base (d ∷ ds) le h =
     (All-head (λ z. z < base) d ds h, begins_with_all n base ds (omega arith) (All-tail (λ z. z < base) d ds h))
 
 -- the lists of n numbers below a base are numbered by the numbers below base ^ n
-pub lists_one_to_one : (n base : ℕ) → 0 < base → IsOneToOne (base ^ n) (mixed_digits (replicate n base)) (mixed_number (replicate n base)) (λ ds. (length ds ≡ n) × All (λ d. d < base) ds)
+pub lists_one_to_one : (n base : ℕ) → 0 < base
+    → IsOneToOne (base ^ n) (mixed_digits (replicate n base)) (mixed_number (replicate n base)) (λ ds. (length ds ≡ n) × All (λ d. d < base) ds)
 lists_one_to_one n base pos =
     let same = product-replicate n base in
     let own = digits_one_to_one (replicate n base) (product_pos n base pos) in
@@ -166,18 +176,22 @@ lists_one_to_one n base pos =
 
 -- ---- what holds of the digits written out holds of each list of digits
 
-pub by_two_digits : (P : List ℕ → Type 0) (a b : ℕ) → ((d e : ℕ) → d < a → e < b → P (d ∷ e ∷ [])) → (ds : List ℕ) → AreDigits (a ∷ b ∷ []) ds → P ds
+pub by_two_digits : (P : List ℕ → Type 0) (a b : ℕ) → ((d e : ℕ) → d < a → e < b → P (d ∷ e ∷ [])) → (ds : List ℕ)
+    → AreDigits (a ∷ b ∷ []) ds → P ds
 by_two_digits P a b holds [] h = absurd h
 by_two_digits P a b holds (d ∷ []) h = absurd h.1
 by_two_digits P a b holds (d ∷ (e ∷ [])) h = holds d e h.0 h.1.0
 by_two_digits P a b holds (d ∷ (e ∷ (x ∷ xs))) h = absurd h.1.1
 
-pub by_three_digits : (P : List ℕ → Type 0) (a b c : ℕ) → ((d e f : ℕ) → d < a → e < b → f < c → P (d ∷ e ∷ f ∷ [])) → (ds : List ℕ) → AreDigits (a ∷ b ∷ c ∷ []) ds → P ds
+pub by_three_digits : (P : List ℕ → Type 0) (a b c : ℕ) → ((d e f : ℕ) → d < a → e < b → f < c → P (d ∷ e ∷ f ∷ []))
+    → (ds : List ℕ) → AreDigits (a ∷ b ∷ c ∷ []) ds → P ds
 by_three_digits P a b c holds [] h = absurd h
 by_three_digits P a b c holds (d ∷ ds) h =
     by_two_digits (λ rest. P (d ∷ rest)) b c (λ e f le lf. holds d e f h.0 le lf) ds h.1
 
-pub by_four_digits : (P : List ℕ → Type 0) (a b c m : ℕ) → ((d e f g : ℕ) → d < a → e < b → f < c → g < m → P (d ∷ e ∷ f ∷ g ∷ [])) → (ds : List ℕ) → AreDigits (a ∷ b ∷ c ∷ m ∷ []) ds → P ds
+pub by_four_digits : (P : List ℕ → Type 0) (a b c m : ℕ)
+    → ((d e f g : ℕ) → d < a → e < b → f < c → g < m → P (d ∷ e ∷ f ∷ g ∷ [])) → (ds : List ℕ)
+    → AreDigits (a ∷ b ∷ c ∷ m ∷ []) ds → P ds
 by_four_digits P a b c m holds [] h = absurd h
 by_four_digits P a b c m holds (d ∷ ds) h =
     by_three_digits (λ rest. P (d ∷ rest)) b c m (λ e f g le lf lg. holds d e f g h.0 le lf lg) ds h.1

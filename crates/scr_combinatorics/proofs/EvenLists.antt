@@ -16,7 +16,8 @@ pub record IsEvenPermutation (n : ℕ) (xs : List ℕ) : Type 0 where
 unfoldable pub passes_all : (List ℕ → Bool) → ℕ → Bool
 passes_all test n = list_all (λ k. test (half_at n 0 k)) (numbers_from 0 (factorial n / 2))
 
-pub test-even : (test : List ℕ → Bool) (n : ℕ) (xs : List ℕ) → 1 < n → passes_all test n ≡ true → IsEvenPermutation n xs → test xs ≡ true
+pub test-even : (test : List ℕ → Bool) (n : ℕ) (xs : List ℕ) → 1 < n → passes_all test n ≡ true → IsEvenPermutation n xs
+    → test xs ≡ true
 unfolding passes_all
 test-even test n xs le all h =
     let k : ℕ = permutation_number xs / 2 in

@@ -27,7 +27,8 @@ module _ {S : Type 0} (after : S → ℕ → Option S) (IsGoal : S → Type 0) w
       subst IsGoal same l.goal
 
   -- a word leads where its rest leads from where its first turn does
-  pub LeadsTo-cons : (s r : S) (t : ℕ) (w : List ℕ) → after s t ≡ Some r → LeadsTo after IsGoal r w → LeadsTo after IsGoal s (t ∷ w)
+  pub LeadsTo-cons : (s r : S) (t : ℕ) (w : List ℕ) → after s t ≡ Some r → LeadsTo after IsGoal r w
+      → LeadsTo after IsGoal s (t ∷ w)
   LeadsTo-cons s r t w e l = record { end = l.end; played = play-first after s r t w e ∙ l.played; goal = l.goal }
 
   pub LeadsTo-parts : (s : S) (t : ℕ) (w : List ℕ) → LeadsTo after IsGoal s (t ∷ w)
@@ -62,7 +63,8 @@ module _ {S : Type 0} (after : S → ℕ → Option S) (IsGoal : S → Type 0) w
       goal_of (t ∷ w) l e = absurd (omega arith)
 
   -- no turn leads further down than by one
-  pub IsDistance-step : (s r : S) (t d e : ℕ) → after s t ≡ Some r → IsDistance after IsGoal s d → IsDistance after IsGoal r e → d ≤ e + 1
+  pub IsDistance-step : (s r : S) (t d e : ℕ) → after s t ≡ Some r → IsDistance after IsGoal s d
+      → IsDistance after IsGoal r e → d ≤ e + 1
   IsDistance-step s r t d e moves a b =
       elim (cases_lt (e + 1) d) [
         | inl lt ↦ absurd (∥∥₁_elim b.reached (hlevel) (λ w. omega (arith, a.least (t ∷ w.0) (LeadsTo-cons s r t w.0 moves w.1), w.2)))

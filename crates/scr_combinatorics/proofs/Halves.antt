@@ -20,7 +20,8 @@ factorial-even (suc (suc (suc n))) le =
     (suc (suc (suc n)) * half.0, ap (λ f. suc (suc (suc n)) * f) half.1 ∙ omega arith)
 
 -- two neighbours over an even width share the higher digit
-split_pair : (d e f p q h : ℕ) → p < 2 * f → q < 2 * f → d * (2 * f) + p ≡ 2 * h → e * (2 * f) + q ≡ 2 * h + 1 → (d ≡ e) × (j : ℕ) × (p ≡ 2 * j) × (q ≡ 2 * j + 1)
+split_pair : (d e f p q h : ℕ) → p < 2 * f → q < 2 * f → d * (2 * f) + p ≡ 2 * h → e * (2 * f) + q ≡ 2 * h + 1
+    → (d ≡ e) × (j : ℕ) × (p ≡ 2 * j) × (q ≡ 2 * j + 1)
 split_pair d e f p q h lp lq ep eq =
     let j : ℕ = h - d * f in
     let half : p ≡ 2 * j = omega arith in
@@ -29,7 +30,9 @@ split_pair d e f p q h lp lq ep eq =
     (both.0, j, half, omega (arith, both.1))
 
 -- the base: of two elements there are two numbers
-inversions-next_pair : (x y : ℕ) (xs ys : List ℕ) → length xs ≡ 1 → length ys ≡ 1 → (h : ℕ) → permutation_number (x ∷ xs) ≡ 2 * h → permutation_number (y ∷ ys) ≡ 2 * h + 1 → inversions (y ∷ ys) ≡ suc (inversions (x ∷ xs))
+inversions-next_pair : (x y : ℕ) (xs ys : List ℕ) → length xs ≡ 1 → length ys ≡ 1 → (h : ℕ)
+    → permutation_number (x ∷ xs) ≡ 2 * h → permutation_number (y ∷ ys) ≡ 2 * h + 1
+    → inversions (y ∷ ys) ≡ suc (inversions (x ∷ xs))
 inversions-next_pair x y [] ys sx sy h ex ey = absurd (omega arith)
 inversions-next_pair x y (x' ∷ xs) [] sx sy h ex ey = absurd (omega arith)
 inversions-next_pair x y (x' ∷ []) (y' ∷ []) sx sy h ex ey =
@@ -38,7 +41,10 @@ inversions-next_pair x y (x' ∷ (x'' ∷ xs)) ys sx sy h ex ey = absurd (omega 
 inversions-next_pair x y (x' ∷ []) (y' ∷ (y'' ∷ ys)) sx sy h ex ey = absurd (omega arith)
 
 -- one step of the next lemma: the first elements fall below as many, and the rests differ
-inversions-next_step : (x y : ℕ) (xs ys : List ℕ) (f : ℕ) → factorial (length xs) ≡ 2 * f → length xs ≡ length ys → ((j : ℕ) → permutation_number xs ≡ 2 * j → permutation_number ys ≡ 2 * j + 1 → inversions ys ≡ suc (inversions xs)) → (h : ℕ) → permutation_number (x ∷ xs) ≡ 2 * h → permutation_number (y ∷ ys) ≡ 2 * h + 1 → inversions (y ∷ ys) ≡ suc (inversions (x ∷ xs))
+inversions-next_step : (x y : ℕ) (xs ys : List ℕ) (f : ℕ) → factorial (length xs) ≡ 2 * f → length xs ≡ length ys
+    → ((j : ℕ) → permutation_number xs ≡ 2 * j → permutation_number ys ≡ 2 * j + 1 → inversions ys ≡ suc (inversions xs))
+    → (h : ℕ) → permutation_number (x ∷ xs) ≡ 2 * h → permutation_number (y ∷ ys) ≡ 2 * h + 1
+    → inversions (y ∷ ys) ≡ suc (inversions (x ∷ xs))
 inversions-next_step x y xs ys f even size rest h ex ey =
     let even' : factorial (length ys) ≡ 2 * f = ap factorial (sym size) ∙ even in
     let s = split_pair (lesser_count x xs) (lesser_count y ys) f (permutation_number xs) (permutation_number ys) h
@@ -47,7 +53,8 @@ inversions-next_step x y xs ys f even size rest h ex ey =
     omega (arith, s.0, rest s.1 s.2 s.3)
 
 -- any two lists of one length whose numbers are 2h and 2h + 1: the second has one inversion more
-inversions-next_at : (n : ℕ) (xs ys : List ℕ) → length xs ≡ n → length ys ≡ n → (h : ℕ) → permutation_number xs ≡ 2 * h → permutation_number ys ≡ 2 * h + 1 → inversions ys ≡ suc (inversions xs)
+inversions-next_at : (n : ℕ) (xs ys : List ℕ) → length xs ≡ n → length ys ≡ n → (h : ℕ) → permutation_number xs ≡ 2 * h
+    → permutation_number ys ≡ 2 * h + 1 → inversions ys ≡ suc (inversions xs)
 inversions-next_at zero xs [] sx sy h ex ey = absurd (omega arith)
 inversions-next_at zero xs (y ∷ ys) sx sy h ex ey = absurd (omega arith)
 inversions-next_at (suc zero) xs [] sx sy h ex ey = absurd (omega arith)
@@ -63,15 +70,18 @@ inversions-next_at (suc (suc (suc n))) (x ∷ xs) (y ∷ ys) sx sy h ex ey =
     inversions-next_step x y xs ys half.0 (ap factorial size ∙ half.1) (omega arith)
     (inversions-next_at (suc (suc n)) xs ys size (omega arith)) h ex ey
 
-pub inversions-next : (xs ys : List ℕ) → length xs ≡ length ys → (h : ℕ) → permutation_number xs ≡ 2 * h → permutation_number ys ≡ 2 * h + 1 → inversions ys ≡ suc (inversions xs)
+pub inversions-next : (xs ys : List ℕ) → length xs ≡ length ys → (h : ℕ) → permutation_number xs ≡ 2 * h
+    → permutation_number ys ≡ 2 * h + 1 → inversions ys ≡ suc (inversions xs)
 inversions-next xs ys size h ex ey = inversions-next_at (length ys) xs ys size refl h ex ey
 
 -- exactly one of the permutations numbered 2h and 2h + 1 has a given parity
-pub parity-next : (xs ys : List ℕ) → length xs ≡ length ys → (h : ℕ) → permutation_number xs ≡ 2 * h → permutation_number ys ≡ 2 * h + 1 → parity xs + parity ys ≡ 1
+pub parity-next : (xs ys : List ℕ) → length xs ≡ length ys → (h : ℕ) → permutation_number xs ≡ 2 * h
+    → permutation_number ys ≡ 2 * h + 1 → parity xs + parity ys ≡ 1
 parity-next xs ys size h ex ey = omega (arith, inversions-next xs ys size h ex ey)
 
 -- two permutations of one parity whose numbers have one half are one
-pub half_injective : (n : ℕ) (xs ys : List ℕ) → IsPermutation n xs → IsPermutation n ys → parity xs ≡ parity ys → permutation_number xs / 2 ≡ permutation_number ys / 2 → xs ≡ ys
+pub half_injective : (n : ℕ) (xs ys : List ℕ) → IsPermutation n xs → IsPermutation n ys → parity xs ≡ parity ys
+    → permutation_number xs / 2 ≡ permutation_number ys / 2 → xs ≡ ys
 half_injective n xs ys p q same half =
     let h : ℕ = permutation_number xs / 2 in
     let size : length xs ≡ length ys = p.size ∙ sym q.size in
@@ -82,7 +92,8 @@ half_injective n xs ys p q same half =
     ]
 
 -- of two permutations of one parity, the one that comes first has the lower half
-pub half_order : (n : ℕ) (xs ys : List ℕ) → IsPermutation n xs → IsPermutation n ys → parity xs ≡ parity ys → ComesBefore xs ys → permutation_number xs / 2 < permutation_number ys / 2
+pub half_order : (n : ℕ) (xs ys : List ℕ) → IsPermutation n xs → IsPermutation n ys → parity xs ≡ parity ys
+    → ComesBefore xs ys → permutation_number xs / 2 < permutation_number ys / 2
 half_order n xs ys p q same before =
     let lt : permutation_number xs < permutation_number ys = permutation_number-order xs ys (IsRearranged-permutations n xs ys p q) before in
     elim (cases_eq (permutation_number xs / 2) (permutation_number ys / 2)) [
@@ -124,7 +135,8 @@ IsHalf-half_at n odd half lt low =
           (record { permutation = q; same_parity = omega arith; number = omega (arith, next) })
     ]
 
-pub half_at-number : (n : ℕ) (xs : List ℕ) → 1 < n → IsPermutation n xs → half_at n (parity xs) (permutation_number xs / 2) ≡ xs
+pub half_at-number : (n : ℕ) (xs : List ℕ) → 1 < n → IsPermutation n xs
+    → half_at n (parity xs) (permutation_number xs / 2) ≡ xs
 half_at-number n xs le h =
     let made = IsHalf-half_at n (parity xs) (permutation_number xs / 2) (half_lt n xs (omega arith) h) (mod_below _ 2 (omega arith)) in
     half_injective n _ xs made.permutation h made.same_parity made.number
@@ -169,7 +181,8 @@ half_more : (c f g m : ℕ) → f ≡ 2 * g → (c * f + m) / 2 ≡ c * g + m / 
 half_more c f g m e = omega (arith, ap (λ z. c * z) e)
 
 -- where that of the rest has half the old one
-half_before : (x : ℕ) (xs ys : List ℕ) → 2 ≤ length xs → IsRearranged ys xs → permutation_number ys / 2 ≡ permutation_number xs / 2
+half_before : (x : ℕ) (xs ys : List ℕ) → 2 ≤ length xs → IsRearranged ys xs
+    → permutation_number ys / 2 ≡ permutation_number xs / 2
     → permutation_number (x ∷ ys) / 2 ≡ permutation_number (x ∷ xs) / 2
 half_before x xs ys le same half =
     let even = factorial-even (length xs) le in
@@ -199,7 +212,8 @@ last_swapped-other (x ∷ y ∷ z ∷ xs) le once e =
     last_swapped-other (y ∷ z ∷ xs) (omega arith) (λ k. omega (arith, once k)) rest
 
 -- so it is the permutation of the other parity with the same half
-pub IsHalf-last_swapped : (n odd half : ℕ) (xs : List ℕ) → 1 < n → IsHalf n odd half xs → IsHalf n (1 - odd) half (last_swapped xs)
+pub IsHalf-last_swapped : (n odd half : ℕ) (xs : List ℕ) → 1 < n → IsHalf n odd half xs
+    → IsHalf n (1 - odd) half (last_swapped xs)
 IsHalf-last_swapped n odd half xs le h =
     let ys : List ℕ = last_swapped xs in
     let p : IsPermutation n xs = h.permutation in

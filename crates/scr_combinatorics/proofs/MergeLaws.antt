@@ -41,8 +41,8 @@ module _ {T : Type 0} (m : Merging T) where
 
 module _ {T : Type 0} (m : Merging T) (IsTurn : T → Type 0) (l : IsMerging m IsTurn) where
   -- what two turns come to, before a word past their face, is tidied one after the other
-  apart_by : (t u : T) (w : List T) (o : Option T) → m.merged t u ≡ o → IsTrue (m.alike t u) → begins_alike m u w ≡ false
-      → IsTidy m w → tidy m w ≡ w → tidy m (word_of o ++ w) ≡ word_of o ++ w
+  apart_by : (t u : T) (w : List T) (o : Option T) → m.merged t u ≡ o → IsTrue (m.alike t u)
+      → begins_alike m u w ≡ false → IsTidy m w → tidy m w ≡ w → tidy m (word_of o ++ w) ≡ word_of o ++ w
   unfolding word_of tidy
   apart_by t u w None e a b h own = own
   apart_by t u w (Some v) e a b h own =
@@ -74,8 +74,9 @@ module _ {T : Type 0} (m : Merging T) (IsTurn : T → Type 0) (l : IsMerging m I
       with_turn-alike m t y w alike ∙ ap (λ z. word_of z ++ w) (sym law) ∙ sym (with_turn-alike m v x w onto)
       ∙ ap (with_turn m v) (sym (tidy-own m (x ∷ w) h))
 
-  twice_by : (t u x : T) (w : List T) (b : Bool) → m.alike u x ≡ b → IsTurn t → IsTurn u → IsTurn x → IsTrue (m.alike t u)
-      → IsTidy m (x ∷ w) → with_turn m t (with_turn m u (x ∷ w)) ≡ tidy m (word_of (m.merged t u) ++ x ∷ w)
+  twice_by : (t u x : T) (w : List T) (b : Bool) → m.alike u x ≡ b → IsTurn t → IsTurn u → IsTurn x
+      → IsTrue (m.alike t u) → IsTidy m (x ∷ w)
+      → with_turn m t (with_turn m u (x ∷ w)) ≡ tidy m (word_of (m.merged t u) ++ x ∷ w)
   unfolding begins_alike
   twice_by t u x w true b ot ou ox a h =
       ap (with_turn m t) (with_turn-alike m u x w b)
@@ -109,8 +110,8 @@ module _ {T : Type 0} (m : Merging T) (IsTurn : T → Type 0) (l : IsMerging m I
       ∙ before_tidied (m.merged t u) w
   tidy-merge _ _ (later t v w x) a = ap (with_turn m t) (tidy-merge v w x (All-tail IsTurn t v a))
 
-  merged_turns : (t u : T) (w : List T) (o : Option T) → m.merged t u ≡ o → IsTrue (m.alike t u) → All IsTurn (t ∷ u ∷ w)
-      → All IsTurn (word_of o ++ w)
+  merged_turns : (t u : T) (w : List T) (o : Option T) → m.merged t u ≡ o → IsTrue (m.alike t u)
+      → All IsTurn (t ∷ u ∷ w) → All IsTurn (word_of o ++ w)
   unfolding word_of
   merged_turns t u w None e a h = All-tail IsTurn u w (All-tail IsTurn t (u ∷ w) h)
   merged_turns t u w (Some v) e a h =
@@ -127,7 +128,8 @@ module _ {T : Type 0} (m : Merging T) (IsTurn : T → Type 0) (l : IsMerging m I
   tidy-merges _ _ (there w) a = refl
   tidy-merges _ _ (then u v w x y) a = tidy-merge u v x a ∙ tidy-merges v w y (All-merge u v x a)
 
-  apart_of : (t u : T) (w : List T) (b : Bool) → m.alike t u ≡ b → ((x : List T) → Merges m (t ∷ u ∷ w) x → ⊥) → m.alike t u ≡ false
+  apart_of : (t u : T) (w : List T) (b : Bool) → m.alike t u ≡ b → ((x : List T) → Merges m (t ∷ u ∷ w) x → ⊥)
+      → m.alike t u ≡ false
   apart_of t u w true e n = absurd (n (word_of (m.merged t u) ++ w) (here t u w e))
   apart_of t u w false e n = e
 
@@ -142,6 +144,7 @@ module _ {T : Type 0} (m : Merging T) (IsTurn : T → Type 0) (l : IsMerging m I
   IsTidy-merged [] n = tt
   IsTidy-merged (t ∷ w) n = (apart t w n, IsTidy-merged w (λ x h. n (t ∷ x) (later t w x h)))
 
-  -- The order of the merges doesn't matter: a word that merges lead to, and that can't be merged further, is the tidied one.
+  -- The order of the merges doesn't matter: a word that merges lead to, and that can't be merged further, is the tidied
+  -- one.
   pub tidy-only : (v w : List T) → MergesTo m v w → ((x : List T) → Merges m w x → ⊥) → All IsTurn v → w ≡ tidy m v
   tidy-only v w x n a = sym (tidy-own m w (IsTidy-merged w n)) ∙ sym (tidy-merges v w x a)

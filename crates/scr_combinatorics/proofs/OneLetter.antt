@@ -42,7 +42,8 @@ module _ {S T : Type 0} (after : S → T → Option S) (stage : Stage S T) where
   no_letter s goal = record { first = IsFirstWord-goal lettered stage.IsGoal s goal; within = omega arith }
 
   -- and else the first letter that leads there
-  pub one_letter : (s r : S) (n : ℕ) → 1 ≤ stage.bound → (stage.IsGoal s → ⊥) → Ends s n r → NoneBefore s n → IsStageWord after stage s (n ∷ [])
+  pub one_letter : (s r : S) (n : ℕ) → 1 ≤ stage.bound → (stage.IsGoal s → ⊥) → Ends s n r → NoneBefore s n
+      → IsStageWord after stage s (n ∷ [])
   one_letter s r n bound apart ends none =
       record { first = record { leads = Ends-leads s r n ends; first = first_is }; within = omega arith }
     where

@@ -26,7 +26,9 @@ ComesBefore-irrefl (x ∷ xs) (inl lt) = omega arith
 ComesBefore-irrefl (x ∷ xs) (inr both) = ComesBefore-irrefl xs both.1
 
 -- a numbering that is higher for later lists gives different numbers to different lists
-pub same_from_order : (P : List ℕ → Type 0) (f : List ℕ → ℕ) → ((xs ys : List ℕ) → P xs → P ys → ComesBefore xs ys → f xs < f ys) → (xs ys : List ℕ) → length xs ≡ length ys → P xs → P ys → f xs ≡ f ys → xs ≡ ys
+pub same_from_order : (P : List ℕ → Type 0) (f : List ℕ → ℕ)
+    → ((xs ys : List ℕ) → P xs → P ys → ComesBefore xs ys → f xs < f ys) → (xs ys : List ℕ) → length xs ≡ length ys
+    → P xs → P ys → f xs ≡ f ys → xs ≡ ys
 same_from_order P f higher xs ys size p q e =
     elim (order_cases xs ys size) [
       | inl same ↦ same

@@ -73,7 +73,8 @@ module _ (P : ℕ → Type 0) (n x : ℕ) (le : x ≤ n) (first : P 0) (partner 
 
 -- ---- a pairing with a first pair more
 
-pub length-with_first_pair : (x : ℕ) (rest : List ℕ) → x ≤ length rest → length (with_first_pair x rest) ≡ suc (suc (length rest))
+pub length-with_first_pair : (x : ℕ) (rest : List ℕ) → x ≤ length rest
+    → length (with_first_pair x rest) ≡ suc (suc (length rest))
 length-with_first_pair x rest le =
     let raised : List ℕ = map (other_place x) rest in
     let size : length raised ≡ length rest = length-map rest (other_place x) in
@@ -86,7 +87,8 @@ module _ (x : ℕ) (rest : List ℕ) (le : x ≤ length rest) where
       let size : length raised ≡ length rest = length-map rest (other_place x) in
       get_or-insert_at raised x 0 0 (omega arith)
 
-  pub with_first_pair-other : (j : ℕ) → j < length rest → slice_index (with_first_pair x rest) (other_place x j) ≡ other_place x (slice_index rest j)
+  pub with_first_pair-other : (j : ℕ) → j < length rest
+      → slice_index (with_first_pair x rest) (other_place x j) ≡ other_place x (slice_index rest j)
   with_first_pair-other j lt =
       let raised : List ℕ = map (other_place x) rest in
       let size : length raised ≡ length rest = length-map rest (other_place x) in
@@ -120,7 +122,8 @@ module _ (x : ℕ) (rest : List ℕ) (le : x ≤ length rest) where
       ∙ other_place-among x (slice_index rest j))
 
 -- a first pair more
-pub IsPairing-with_first_pair : (n x : ℕ) (rest : List ℕ) → x ≤ n → IsPairing n rest → IsPairing (suc (suc n)) (with_first_pair x rest)
+pub IsPairing-with_first_pair : (n x : ℕ) (rest : List ℕ) → x ≤ n → IsPairing n rest
+    → IsPairing (suc (suc n)) (with_first_pair x rest)
 IsPairing-with_first_pair n x rest le h =
     let xs : List ℕ = with_first_pair x rest in
     let room : x ≤ length rest = omega (arith, h.size) in
@@ -163,7 +166,8 @@ module _ (n x : ℕ) (xs : List ℕ) (h : IsPairing (suc (suc n)) (suc x ∷ xs)
   pub length-without : length (without_first_pair x xs) ≡ n
   length-without = length-map (remove xs x) (place_among_others x) ∙ length-remove_partner
 
-  pub without-at : (j : ℕ) → j < n → slice_index (without_first_pair x xs) j ≡ place_among_others x (slice_index (suc x ∷ xs) (other_place x j))
+  pub without-at : (j : ℕ) → j < n
+      → slice_index (without_first_pair x xs) j ≡ place_among_others x (slice_index (suc x ∷ xs) (other_place x j))
   without-at j lt =
       let room : x < length xs = omega (arith, partner_le, h.size) in
       get_or-map (place_among_others x) (remove xs x) j 0 0 (omega (arith, length-remove_partner))
@@ -176,7 +180,8 @@ module _ (n x : ℕ) (xs : List ℕ) (h : IsPairing (suc (suc n)) (suc x ∷ xs)
       ])
 
   -- the partner of another place, counted among the others
-  without-other : (j : ℕ) → j < n → other_place x (slice_index (without_first_pair x xs) j) ≡ slice_index (suc x ∷ xs) (other_place x j)
+  without-other : (j : ℕ) → j < n
+      → other_place x (slice_index (without_first_pair x xs) j) ≡ slice_index (suc x ∷ xs) (other_place x j)
   without-other j lt =
       let o = other_partner j lt in
       ap (other_place x) (without-at j lt ∙ ap (place_among_others x) (sym o.is) ∙ other_place-among x o.place) ∙ o.is
@@ -252,7 +257,8 @@ pairing_number-first pairs xs f = ap (pairing_number (suc pairs)) f.is
 chosen_below : (x n number count : ℕ) → x ≤ n → number < count → x * count + number < (n + 1) * count
 chosen_below x n number count le lt = let more : suc x ≤ n + 1 = omega arith in omega (arith, mul-le-mul_right count more)
 
-pub pairing_number-lt : (pairs : ℕ) (xs : List ℕ) → IsPairing (2 * pairs) xs → pairing_number pairs xs < pairing_count pairs
+pub pairing_number-lt : (pairs : ℕ) (xs : List ℕ) → IsPairing (2 * pairs) xs
+    → pairing_number pairs xs < pairing_count pairs
 unfolding pairing_number
 pairing_number-lt zero xs h = omega arith
 pairing_number-lt (suc pairs) xs h =
@@ -297,7 +303,8 @@ pairing_number-at (suc pairs) r lt =
     ∙ ap (λ n. r / count * count + n) (pairing_number-at pairs (r % count) low)
     ∙ div-add-mod' r count
 
-pub pairing_at-number : (pairs : ℕ) (xs : List ℕ) → IsPairing (2 * pairs) xs → pairing_at pairs (pairing_number pairs xs) ≡ xs
+pub pairing_at-number : (pairs : ℕ) (xs : List ℕ) → IsPairing (2 * pairs) xs
+    → pairing_at pairs (pairing_number pairs xs) ≡ xs
 unfolding pairing_at
 pairing_at-number zero xs h = sym (nil_from_length xs h.size)
 pairing_at-number (suc pairs) xs h =
@@ -313,7 +320,8 @@ pairing_at-number (suc pairs) xs h =
     ∙ f.again
 
 -- pairings are numbered by the numbers below their count
-pub pairings_one_to_one : (pairs : ℕ) → IsOneToOne (pairing_count pairs) (pairing_at pairs) (pairing_number pairs) (IsPairing (2 * pairs))
+pub pairings_one_to_one : (pairs : ℕ)
+    → IsOneToOne (pairing_count pairs) (pairing_at pairs) (pairing_number pairs) (IsPairing (2 * pairs))
 pairings_one_to_one pairs = record {
   valid = IsPairing-at pairs;
   below = pairing_number-lt pairs;
@@ -323,7 +331,8 @@ pairings_one_to_one pairs = record {
 
 -- ---- the order
 
-ComesBefore-map : (f : ℕ → ℕ) → ((i j : ℕ) → i < j → f i < f j) → (xs ys : List ℕ) → ComesBefore xs ys → ComesBefore (map f xs) (map f ys)
+ComesBefore-map : (f : ℕ → ℕ) → ((i j : ℕ) → i < j → f i < f j) → (xs ys : List ℕ) → ComesBefore xs ys
+    → ComesBefore (map f xs) (map f ys)
 ComesBefore-map f rises [] ys h = absurd h
 ComesBefore-map f rises (x ∷ xs) [] h = absurd h
 ComesBefore-map f rises (x ∷ xs) (y ∷ ys) (inl lt) = inl (rises x y lt)
@@ -337,7 +346,8 @@ ComesBefore-insert (suc i) z (x ∷ xs) (y ∷ ys) (inl lt) = inl lt
 ComesBefore-insert (suc i) z (x ∷ xs) (y ∷ ys) (inr both) = inr (both.0, ComesBefore-insert i z xs ys both.1)
 
 -- of two pairings, the one with the lower number comes first
-ComesBefore-at : (pairs r s : ℕ) → s < pairing_count pairs → r < s → ComesBefore (pairing_at pairs r) (pairing_at pairs s)
+ComesBefore-at : (pairs r s : ℕ) → s < pairing_count pairs → r < s
+    → ComesBefore (pairing_at pairs r) (pairing_at pairs s)
 unfolding pairing_at
 ComesBefore-at zero r s low lt = absurd (omega arith)
 ComesBefore-at (suc pairs) r s low lt =
@@ -355,7 +365,8 @@ ComesBefore-at (suc pairs) r s low lt =
       | inr (inr more) ↦ absurd (omega (arith, div-add-mod' r count, div-add-mod' s count, mod_below s count pos, mul-le-mul_right count more))
     ]
 
-pub pairing_number-order : (pairs : ℕ) (xs ys : List ℕ) → IsPairing (2 * pairs) xs → IsPairing (2 * pairs) ys → ComesBefore xs ys → pairing_number pairs xs < pairing_number pairs ys
+pub pairing_number-order : (pairs : ℕ) (xs ys : List ℕ) → IsPairing (2 * pairs) xs → IsPairing (2 * pairs) ys
+    → ComesBefore xs ys → pairing_number pairs xs < pairing_number pairs ys
 pairing_number-order pairs xs ys p q before =
     let r : ℕ = pairing_number pairs xs in
     let s : ℕ = pairing_number pairs ys in

@@ -18,7 +18,8 @@ pair_sum g (x ∷ xs) = total_by (g x) xs + pair_sum g xs
 -- ---- a sum over pairs that does not look at their order is that of any rearrangement
 
 module _ (g : ℕ → ℕ → ℕ) (same : (x y : ℕ) → g x y ≡ g y x) where
-  pair_sum-without : (x : ℕ) (ys : List ℕ) → 0 < occurrences x ys → total_by (g x) (without x ys) + pair_sum g (without x ys) ≡ pair_sum g ys
+  pair_sum-without : (x : ℕ) (ys : List ℕ) → 0 < occurrences x ys
+      → total_by (g x) (without x ys) + pair_sum g (without x ys) ≡ pair_sum g ys
   pair_sum-without x [] h = absurd (omega arith)
   pair_sum-without x (y ∷ ys) h =
       elim (cases_eq y x) [
@@ -56,11 +57,13 @@ inversions-pair_sum (k ∷ ks) = omega (arith, lesser_count-total_by k ks, inver
 -- ---- a composition
 
 module _ (n : ℕ) (f g s e : ℕ → ℕ → ℕ) (each : (a b : ℕ) → a < n → b < n → f a b + g a b ≡ s a b + 2 * e a b) where
-  total_by-each : (a : ℕ) (ks : List ℕ) → a < n → All (λ k. k < n) ks → total_by (f a) ks + total_by (g a) ks ≡ total_by (s a) ks + 2 * total_by (e a) ks
+  total_by-each : (a : ℕ) (ks : List ℕ) → a < n → All (λ k. k < n) ks
+      → total_by (f a) ks + total_by (g a) ks ≡ total_by (s a) ks + 2 * total_by (e a) ks
   total_by-each a [] lt low = refl
   total_by-each a (k ∷ ks) lt low = omega (arith, each a k lt (All-head (λ z. z < n) k ks low), total_by-each a ks lt (All-tail (λ z. z < n) k ks low))
 
-  pair_sum-each : (ks : List ℕ) → All (λ k. k < n) ks → pair_sum f ks + pair_sum g ks ≡ pair_sum s ks + 2 * pair_sum e ks
+  pair_sum-each : (ks : List ℕ) → All (λ k. k < n) ks
+      → pair_sum f ks + pair_sum g ks ≡ pair_sum s ks + 2 * pair_sum e ks
   pair_sum-each [] low = refl
   pair_sum-each (k ∷ ks) low = let rest = All-tail (λ z. z < n) k ks low in
       omega (arith, total_by-each k ks (All-head (λ z. z < n) k ks low) rest, pair_sum-each ks rest)
@@ -76,7 +79,8 @@ falls-apart : (x y : ℕ) → (x ≡ y → ⊥) → falls x y + falls y x ≡ 1
 falls-apart x y h = grind (arith, nat_tests)
 
 -- what h turns and what the places turn come together, but for what both turn
-turned-each : (h : ℕ → ℕ) (a b : ℕ) → (h a ≡ h b → a ≡ b) → falls (h a) (h b) + falls a b ≡ turned h a b + 2 * (falls a b * falls (h a) (h b))
+turned-each : (h : ℕ → ℕ) (a b : ℕ) → (h a ≡ h b → a ≡ b)
+    → falls (h a) (h b) + falls a b ≡ turned h a b + 2 * (falls a b * falls (h a) (h b))
 turned-each h a b apart =
     elim (cases_order a b) [
       | inl same ↦ rw (one_if-ge b a (omega arith), one_if-ge a b (omega arith)) (omega (arith, ap (λ z. falls (h a) (h z)) (sym same), one_if-ge (h a) (h a) (omega arith)))
@@ -96,7 +100,9 @@ inversions-numbers_from start zero = refl
 inversions-numbers_from start (suc n) =
     omega (arith, lesser_count-numbers_from start (suc start) n (omega arith), inversions-numbers_from (suc start) n)
 
-inversions-pick : (h : ℕ → ℕ) (n : ℕ) → ((i j : ℕ) → i < n → j < n → h i ≡ h j → i ≡ j) → (ks : List ℕ) → All (λ k. k < n) ks → inversions (map h ks) + inversions ks ≡ pair_sum (turned h) ks + 2 * pair_sum (λ a b. falls a b * falls (h a) (h b)) ks
+inversions-pick : (h : ℕ → ℕ) (n : ℕ) → ((i j : ℕ) → i < n → j < n → h i ≡ h j → i ≡ j) → (ks : List ℕ)
+    → All (λ k. k < n) ks
+    → inversions (map h ks) + inversions ks ≡ pair_sum (turned h) ks + 2 * pair_sum (λ a b. falls a b * falls (h a) (h b)) ks
 inversions-pick h n apart ks low =
     omega (
       arith,
@@ -106,7 +112,8 @@ inversions-pick h n apart ks low =
     )
 
 -- the parity of a composition is the sum of the parities
-pub parity-pick : (n : ℕ) (xs ks : List ℕ) → IsPermutation n xs → IsPermutation n ks → parity (pick xs ks) ≡ (parity xs + parity ks) % 2
+pub parity-pick : (n : ℕ) (xs ks : List ℕ) → IsPermutation n xs → IsPermutation n ks
+    → parity (pick xs ks) ≡ (parity xs + parity ks) % 2
 parity-pick n xs ks p q =
     let h : ℕ → ℕ = λ k. slice_index xs k in
     let ordered : List ℕ = numbers_from 0 n in

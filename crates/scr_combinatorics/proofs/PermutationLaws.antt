@@ -51,7 +51,8 @@ IsPermutation-numbers_from n = record {
 }
 
 -- different places hold different numbers
-pub injective-permutation : (n : ℕ) (xs : List ℕ) → IsPermutation n xs → (i j : ℕ) → i < n → j < n → slice_index xs i ≡ slice_index xs j → i ≡ j
+pub injective-permutation : (n : ℕ) (xs : List ℕ) → IsPermutation n xs → (i j : ℕ) → i < n → j < n
+    → slice_index xs i ≡ slice_index xs j → i ≡ j
 injective-permutation n xs h i j li lj e =
     elim (cases_order i j) [
       | inl same ↦ same
@@ -89,13 +90,15 @@ is_permutation-true n xs h =
 
 -- ---- fewer facts that show a permutation
 
-lesser_count-each : (n : ℕ) (xs : List ℕ) → ((k : ℕ) → k < n → 0 < occurrences k xs) → (m j : ℕ) → m + j ≤ n → lesser_count m xs + j ≤ lesser_count (m + j) xs
+lesser_count-each : (n : ℕ) (xs : List ℕ) → ((k : ℕ) → k < n → 0 < occurrences k xs) → (m j : ℕ) → m + j ≤ n
+    → lesser_count m xs + j ≤ lesser_count (m + j) xs
 lesser_count-each n xs each m zero le = simp add-zero (omega arith)
 lesser_count-each n xs each m (suc j) le =
     simp add-suc (omega (arith, lesser_count-suc (m + j) xs, lesser_count-each n xs each m j (omega arith), each (m + j) (omega arith)))
 
 -- n numbers among which each number below n occurs
-pub IsPermutation-from_each : (n : ℕ) (xs : List ℕ) → length xs ≡ n → ((k : ℕ) → k < n → 0 < occurrences k xs) → IsPermutation n xs
+pub IsPermutation-from_each : (n : ℕ) (xs : List ℕ) → length xs ≡ n → ((k : ℕ) → k < n → 0 < occurrences k xs)
+    → IsPermutation n xs
 IsPermutation-from_each n xs size each = record {
   size = size;
   once = λ k lt.
@@ -121,7 +124,8 @@ total-pick xs ks p =
     ∙ total_by-pick (λ x. x) xs ks (IsRearranged-permutations n ks (numbers_from 0 n) p (IsPermutation-numbers_from n))
     ∙ sym (total-total_by xs)
 
-pub IsPermutation-pick : (n : ℕ) (xs ks : List ℕ) → IsPermutation n xs → IsPermutation n ks → IsPermutation n (pick xs ks)
+pub IsPermutation-pick : (n : ℕ) (xs ks : List ℕ) → IsPermutation n xs → IsPermutation n ks
+    → IsPermutation n (pick xs ks)
 IsPermutation-pick n xs ks p q =
     let q' : IsPermutation (length xs) ks = subst (λ m. IsPermutation m ks) (sym p.size) q in
     IsPermutation-rearranged n xs (pick xs ks) p (λ v. sym (IsRearranged-pick xs ks q' v))

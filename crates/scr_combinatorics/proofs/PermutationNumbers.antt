@@ -29,7 +29,8 @@ IsRearranged-tail : (x y : ℕ) (xs ys : List ℕ) → x ≡ y → IsRearranged 
 IsRearranged-tail x y xs ys e same k = omega (arith, same k, ap (λ z. one_if (eqb z k)) e)
 
 -- the first element's count rises with the element
-lesser_count-rises : (x y : ℕ) (xs ys : List ℕ) → x < y → IsRearranged (x ∷ xs) (y ∷ ys) → lesser_count x xs < lesser_count y ys
+lesser_count-rises : (x y : ℕ) (xs ys : List ℕ) → x < y → IsRearranged (x ∷ xs) (y ∷ ys)
+    → lesser_count x xs < lesser_count y ys
 lesser_count-rises x y xs ys lt same =
     let d : ℕ = y - suc x in
     let e : suc x + d ≡ y = omega arith in
@@ -45,7 +46,8 @@ lesser_count-rises x y xs ys lt same =
     )
 
 -- of two rearrangements, the one that comes first has the lower number
-pub permutation_number-order : (xs ys : List ℕ) → IsRearranged xs ys → ComesBefore xs ys → permutation_number xs < permutation_number ys
+pub permutation_number-order : (xs ys : List ℕ) → IsRearranged xs ys → ComesBefore xs ys
+    → permutation_number xs < permutation_number ys
 permutation_number-order [] ys same before = absurd before
 permutation_number-order (x ∷ xs) [] same before = absurd before
 permutation_number-order (x ∷ xs) (y ∷ ys) same (inl lt) =
@@ -68,7 +70,8 @@ permutation_number-order (x ∷ xs) (y ∷ ys) same (inr both) =
     )
 
 -- different permutations have different numbers
-pub permutation_number-injective : (n : ℕ) (xs ys : List ℕ) → IsPermutation n xs → IsPermutation n ys → permutation_number xs ≡ permutation_number ys → xs ≡ ys
+pub permutation_number-injective : (n : ℕ) (xs ys : List ℕ) → IsPermutation n xs → IsPermutation n ys
+    → permutation_number xs ≡ permutation_number ys → xs ≡ ys
 permutation_number-injective n xs ys p q e =
     same_from_order (IsPermutation n) permutation_number
     (λ us vs pu pv before. permutation_number-order us vs (IsRearranged-permutations n us vs pu pv) before)
@@ -97,7 +100,8 @@ one_if-nth_except_self d x = grind (arith, nat_tests)
 one_if-nth_except_high : (d x k : ℕ) → d ≤ k → one_if (eqb (nth_except d x) (suc k)) ≡ one_if (eqb x k)
 one_if-nth_except_high d x k h = grind (arith, nat_tests)
 
-lesser_count-nth_except : (d y : ℕ) (xs : List ℕ) → lesser_count (nth_except d y) (map (nth_except d) xs) ≡ lesser_count y xs
+lesser_count-nth_except : (d y : ℕ) (xs : List ℕ)
+    → lesser_count (nth_except d y) (map (nth_except d) xs) ≡ lesser_count y xs
 lesser_count-nth_except d y [] = refl
 lesser_count-nth_except d y (x ∷ xs) = omega (arith, one_if-nth_except_lt d x y, lesser_count-nth_except d y xs)
 
@@ -105,7 +109,8 @@ lesser_count-nth_except_self : (d : ℕ) (xs : List ℕ) → lesser_count d (map
 lesser_count-nth_except_self d [] = refl
 lesser_count-nth_except_self d (x ∷ xs) = omega (arith, one_if-nth_except_lt_self d x, lesser_count-nth_except_self d xs)
 
-permutation_number-nth_except : (d : ℕ) (xs : List ℕ) → permutation_number (map (nth_except d) xs) ≡ permutation_number xs
+permutation_number-nth_except : (d : ℕ) (xs : List ℕ)
+    → permutation_number (map (nth_except d) xs) ≡ permutation_number xs
 permutation_number-nth_except d [] = refl
 permutation_number-nth_except d (x ∷ xs) =
     omega (
@@ -123,11 +128,13 @@ occurrences-nth_except_self : (d : ℕ) (xs : List ℕ) → occurrences d (map (
 occurrences-nth_except_self d [] = refl
 occurrences-nth_except_self d (x ∷ xs) = omega (arith, one_if-nth_except_self d x, occurrences-nth_except_self d xs)
 
-occurrences-nth_except_high : (d k : ℕ) (xs : List ℕ) → d ≤ k → occurrences (suc k) (map (nth_except d) xs) ≡ occurrences k xs
+occurrences-nth_except_high : (d k : ℕ) (xs : List ℕ) → d ≤ k
+    → occurrences (suc k) (map (nth_except d) xs) ≡ occurrences k xs
 occurrences-nth_except_high d k [] h = refl
 occurrences-nth_except_high d k (x ∷ xs) h = omega (arith, one_if-nth_except_high d x k h, occurrences-nth_except_high d k xs h)
 
-once-nth_except : (n d : ℕ) (xs : List ℕ) → IsPermutation n xs → d ≤ n → (k : ℕ) → k < suc n → occurrences k (d ∷ map (nth_except d) xs) ≡ 1
+once-nth_except : (n d : ℕ) (xs : List ℕ) → IsPermutation n xs → d ≤ n → (k : ℕ) → k < suc n
+    → occurrences k (d ∷ map (nth_except d) xs) ≡ 1
 once-nth_except n d xs p le k lt =
     elim (cases_order k d) [
       | inl e ↦ omega (arith, ap (λ z. occurrences z (d ∷ map (nth_except d) xs)) e, one_if-same d, occurrences-nth_except_self d xs)
@@ -139,13 +146,15 @@ once-nth_except n d xs p le k lt =
     ]
 
 -- a permutation of one number more, from its first number and what follows it
-pub IsPermutation-nth_except : (n d : ℕ) (xs : List ℕ) → IsPermutation n xs → d ≤ n → IsPermutation (suc n) (d ∷ map (nth_except d) xs)
+pub IsPermutation-nth_except : (n d : ℕ) (xs : List ℕ) → IsPermutation n xs → d ≤ n
+    → IsPermutation (suc n) (d ∷ map (nth_except d) xs)
 IsPermutation-nth_except n d xs p le = record {
   size = ap suc (length-map xs (nth_except d) ∙ p.size);
   once = once-nth_except n d xs p le;
 }
 
-pub permutation_number-first : (n d : ℕ) (xs : List ℕ) → IsPermutation n xs → d ≤ n → permutation_number (d ∷ map (nth_except d) xs) ≡ d * factorial n + permutation_number xs
+pub permutation_number-first : (n d : ℕ) (xs : List ℕ) → IsPermutation n xs → d ≤ n
+    → permutation_number (d ∷ map (nth_except d) xs) ≡ d * factorial n + permutation_number xs
 permutation_number-first n d xs p le =
     omega (
       arith,

@@ -31,7 +31,8 @@ occurrences-numbers_from k start (suc n) le lt =
       | inr e ↦ omega (arith, one_if-other start k e, occurrences-numbers_from k (suc start) n (omega arith) (omega arith))
     ]
 
-map-numbers_suc : (h : ℕ → ℕ) (start n : ℕ) → map h (numbers_from (suc start) n) ≡ map (λ k. h (suc k)) (numbers_from start n)
+map-numbers_suc : (h : ℕ → ℕ) (start n : ℕ)
+    → map h (numbers_from (suc start) n) ≡ map (λ k. h (suc k)) (numbers_from start n)
 map-numbers_suc h start zero = refl
 map-numbers_suc h start (suc n) = ap (λ xs. h (suc start) ∷ xs) (map-numbers_suc h (suc start) n)
 
@@ -70,7 +71,8 @@ All-pick P xs (k ∷ ks) each below =
     (All-pick P xs ks each (All-tail (λ z. z < length xs) k ks below))
 
 -- any sum over a list is that over what each of its places picks
-pub total_by-pick : (f : ℕ → ℕ) (xs ks : List ℕ) → IsRearranged ks (numbers_from 0 (length xs)) → total_by f (pick xs ks) ≡ total_by f xs
+pub total_by-pick : (f : ℕ → ℕ) (xs ks : List ℕ) → IsRearranged ks (numbers_from 0 (length xs))
+    → total_by f (pick xs ks) ≡ total_by f xs
 total_by-pick f xs ks same =
     let h : ℕ → ℕ = λ k. slice_index xs k in
     total_by-map f h ks

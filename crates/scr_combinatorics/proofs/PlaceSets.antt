@@ -54,10 +54,12 @@ binomial-next (suc n) (suc k) (suc d) e =
 
 -- ---- the number
 
-pub number-here : (low count x : ℕ) (xs : List ℕ) → x ≡ low → place_set_number_from low (suc count) (x ∷ xs) ≡ place_set_number_from (suc low) count xs
+pub number-here : (low count x : ℕ) (xs : List ℕ) → x ≡ low
+    → place_set_number_from low (suc count) (x ∷ xs) ≡ place_set_number_from (suc low) count xs
 number-here low count x xs e = cond-true (eqb x low) _ _ (eq-eqb x low e)
 
-pub number-later : (low count x : ℕ) (xs : List ℕ) → (x ≡ low → ⊥) → place_set_number_from low (suc count) (x ∷ xs) ≡ binomial count (length xs) + place_set_number_from (suc low) count (x ∷ xs)
+pub number-later : (low count x : ℕ) (xs : List ℕ) → (x ≡ low → ⊥)
+    → place_set_number_from low (suc count) (x ∷ xs) ≡ binomial count (length xs) + place_set_number_from (suc low) count (x ∷ xs)
 number-later low count x xs e = cond-false (eqb x low) _ _ (ne_eqb x low e)
 
 pub number-empty : (low count : ℕ) → place_set_number_from low count [] ≡ 0
@@ -69,14 +71,16 @@ from_low : (low n x : ℕ) (xs : List ℕ) → x ≡ low → IsPlaceSetFrom low 
 from_low low n x xs e h = subst (λ z. IsPlaceSetFrom (suc z) n xs) e h.2
 
 -- a set that does not begin at `low` is one above it
-from_above : (low n x : ℕ) (xs : List ℕ) → (x ≡ low → ⊥) → IsPlaceSetFrom low n (x ∷ xs) → IsPlaceSetFrom (suc low) n (x ∷ xs)
+from_above : (low n x : ℕ) (xs : List ℕ) → (x ≡ low → ⊥) → IsPlaceSetFrom low n (x ∷ xs)
+    → IsPlaceSetFrom (suc low) n (x ∷ xs)
 from_above low n x xs e h = let le = h.0 in (omega arith, h.1, h.2)
 
 pub IsPlaceSetFrom-lower : (low n : ℕ) (xs : List ℕ) → IsPlaceSetFrom (suc low) n xs → IsPlaceSetFrom low n xs
 IsPlaceSetFrom-lower low n [] h = tt
 IsPlaceSetFrom-lower low n (x ∷ xs) h = let le = h.0 in (omega arith, h.1, h.2)
 
-pub number_from-lt : (low count n : ℕ) (xs : List ℕ) → n ≡ low + count → IsPlaceSetFrom low n xs → place_set_number_from low count xs < binomial count (length xs)
+pub number_from-lt : (low count n : ℕ) (xs : List ℕ) → n ≡ low + count → IsPlaceSetFrom low n xs
+    → place_set_number_from low count xs < binomial count (length xs)
 number_from-lt low zero n [] e h = omega arith
 number_from-lt low zero n (x ∷ xs) e h = let le = h.0 in let lt = h.1 in absurd (omega arith)
 number_from-lt low (suc count) n [] e h = omega arith
@@ -86,7 +90,9 @@ number_from-lt low (suc count) n (x ∷ xs) e h =
       | inr later ↦ omega (arith, number-later low count x xs later, number_from-lt (suc low) count n (x ∷ xs) (omega arith) (from_above low n x xs later h))
     ]
 
-number_from-order : (low count n : ℕ) (xs ys : List ℕ) → n ≡ low + count → length xs ≡ length ys → IsPlaceSetFrom low n xs → IsPlaceSetFrom low n ys → ComesBefore xs ys → place_set_number_from low count xs < place_set_number_from low count ys
+number_from-order : (low count n : ℕ) (xs ys : List ℕ) → n ≡ low + count → length xs ≡ length ys
+    → IsPlaceSetFrom low n xs → IsPlaceSetFrom low n ys → ComesBefore xs ys
+    → place_set_number_from low count xs < place_set_number_from low count ys
 number_from-order low count n [] ys e size p q before = absurd before
 number_from-order low count n (x ∷ xs) [] e size p q before = absurd before
 number_from-order low zero n (x ∷ xs) (y ∷ ys) e size p q before = let le = p.0 in let lt = p.1 in absurd (omega arith)
@@ -127,19 +133,23 @@ pub place_set_number-lt : (n k : ℕ) (xs : List ℕ) → IsPlaceSet n k xs → 
 place_set_number-lt n k xs h = omega (arith, number_from-lt 0 n n xs (omega arith) h.increasing, ap (binomial n) h.size)
 
 -- of two sets, the one that comes first has the lower number
-pub place_set_number-order : (n k : ℕ) (xs ys : List ℕ) → IsPlaceSet n k xs → IsPlaceSet n k ys → ComesBefore xs ys → place_set_number n xs < place_set_number n ys
+pub place_set_number-order : (n k : ℕ) (xs ys : List ℕ) → IsPlaceSet n k xs → IsPlaceSet n k ys → ComesBefore xs ys
+    → place_set_number n xs < place_set_number n ys
 place_set_number-order n k xs ys p q before = number_from-order 0 n n xs ys (omega arith) (p.size ∙ sym q.size) p.increasing q.increasing before
 
-pub place_set_number-injective : (n k : ℕ) (xs ys : List ℕ) → IsPlaceSet n k xs → IsPlaceSet n k ys → place_set_number n xs ≡ place_set_number n ys → xs ≡ ys
+pub place_set_number-injective : (n k : ℕ) (xs ys : List ℕ) → IsPlaceSet n k xs → IsPlaceSet n k ys
+    → place_set_number n xs ≡ place_set_number n ys → xs ≡ ys
 place_set_number-injective n k xs ys p q e =
     same_from_order (IsPlaceSet n k) (place_set_number n) (place_set_number-order n k) xs ys (p.size ∙ sym q.size) p q e
 
 -- ---- the set with a number
 
-pub set-takes : (low count k r : ℕ) → r < binomial count k → place_set_from low (suc count) (suc k) r ≡ low ∷ place_set_from (suc low) count k r
+pub set-takes : (low count k r : ℕ) → r < binomial count k
+    → place_set_from low (suc count) (suc k) r ≡ low ∷ place_set_from (suc low) count k r
 set-takes low count k r lt = cond-true (ltb r (binomial count k)) _ _ (lt-ltb r (binomial count k) lt)
 
-pub set-skips : (low count k r : ℕ) → binomial count k ≤ r → place_set_from low (suc count) (suc k) r ≡ place_set_from (suc low) count (suc k) (r - binomial count k)
+pub set-skips : (low count k r : ℕ) → binomial count k ≤ r
+    → place_set_from low (suc count) (suc k) r ≡ place_set_from (suc low) count (suc k) (r - binomial count k)
 set-skips low count k r ge = cond-false (ltb r (binomial count k)) _ _ (le-ltb r (binomial count k) ge)
 
 pub set-none : (low count r : ℕ) → place_set_from low count 0 r ≡ []
@@ -152,7 +162,8 @@ pub record HasNumber (low count n k r : ℕ) (xs : List ℕ) : Type 0 where
   pub increasing : IsPlaceSetFrom low n xs
   pub number : place_set_number_from low count xs ≡ r
 
-HasNumber-later : (low count n k r : ℕ) (xs : List ℕ) → HasNumber (suc low) count n (suc k) r xs → HasNumber low (suc count) n (suc k) (binomial count k + r) xs
+HasNumber-later : (low count n k r : ℕ) (xs : List ℕ) → HasNumber (suc low) count n (suc k) r xs
+    → HasNumber low (suc count) n (suc k) (binomial count k + r) xs
 HasNumber-later low count n k r [] h = absurd (omega (arith, h.size))
 HasNumber-later low count n k r (x ∷ xs) h =
     let le = h.increasing.0 in
@@ -162,7 +173,8 @@ HasNumber-later low count n k r (x ∷ xs) h =
       number = omega (arith, number-later low count x xs (λ e. omega arith), h.number, ap (λ m. binomial count (pred m)) h.size);
     }
 
-pub place_set_from-number : (low count n k r : ℕ) → n ≡ low + count → r < binomial count k → HasNumber low count n k r (place_set_from low count k r)
+pub place_set_from-number : (low count n k r : ℕ) → n ≡ low + count → r < binomial count k
+    → HasNumber low count n k r (place_set_from low count k r)
 place_set_from-number low zero n zero r e lt = record { size = refl; increasing = tt; number = omega arith }
 place_set_from-number low zero n (suc k) r e lt = absurd (omega arith)
 place_set_from-number low (suc count) n zero r e lt = record { size = refl; increasing = tt; number = omega arith }
@@ -201,7 +213,8 @@ place_set_at-number n k xs h =
     place_set_number-injective n k (place_set_at n k r) xs (IsPlaceSet-at n k r lt) h (place_set_number-at n k r lt)
 
 -- sets of k of n places are numbered by the numbers below n over k
-pub place_sets_one_to_one : (n k : ℕ) → IsOneToOne (binomial n k) (place_set_at n k) (place_set_number n) (IsPlaceSet n k)
+pub place_sets_one_to_one : (n k : ℕ)
+    → IsOneToOne (binomial n k) (place_set_at n k) (place_set_number n) (IsPlaceSet n k)
 place_sets_one_to_one n k = record {
   valid = IsPlaceSet-at n k;
   below = place_set_number-lt n k;

@@ -13,7 +13,8 @@ and_then-some f None b e = absurd (cc)
 and_then-some f (Some a) b e = (a, refl, e)
 
 -- what a step gives came from what it was done to
-pub map-some : {A B : Type 0} (f : A → B) (o : Option A) (b : B) → option_map f o ≡ Some b → (a : A) × (o ≡ Some a) × (f a ≡ b)
+pub map-some : {A B : Type 0} (f : A → B) (o : Option A) (b : B) → option_map f o ≡ Some b
+    → (a : A) × (o ≡ Some a) × (f a ≡ b)
 map-some f None b e = absurd (cc)
 map-some f (Some a) b e = (a, refl, same_Some (f a) b e)
 
@@ -29,8 +30,8 @@ unfolding play
 play-first after s r t w e = ap (option_and_then (λ x. play after x w)) e
 
 -- where a word is defined, its first turn is, and so is its rest
-pub play-parts : {S T : Type 0} (after : S → T → Option S) (s q : S) (t : T) (w : List T) → play after s (t ∷ w) ≡ Some q
-    → (r : S) × (after s t ≡ Some r) × (play after r w ≡ Some q)
+pub play-parts : {S T : Type 0} (after : S → T → Option S) (s q : S) (t : T) (w : List T)
+    → play after s (t ∷ w) ≡ Some q → (r : S) × (after s t ≡ Some r) × (play after r w ≡ Some q)
 unfolding play
 play-parts after s q t w e = and_then-some (λ x. play after x w) (after s t) q e
 
@@ -58,7 +59,8 @@ count_in-append counted (t ∷ v) w =
 
 -- a property that each turn keeps is kept by words
 pub play-keeps : {S T : Type 0} (after : S → T → Option S) (P : S → Type 0)
-    → ((s r : S) (t : T) → P s → after s t ≡ Some r → P r) → (s r : S) (w : List T) → P s → play after s w ≡ Some r → P r
+    → ((s r : S) (t : T) → P s → after s t ≡ Some r → P r) → (s r : S) (w : List T) → P s → play after s w ≡ Some r
+    → P r
 play-keeps after P keeps s r [] h e = let same : s ≡ r = (let d = play-empty after s in cc) in subst P same h
 play-keeps after P keeps s r (t ∷ w) h e =
     let parts = play-parts after s r t w e in

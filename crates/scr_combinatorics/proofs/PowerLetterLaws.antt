@@ -53,8 +53,8 @@ module _ {T : Type 0} (l : PowerLetters T) where
       ∙ ap (λ n. l.letter_of (record { generator = p.0.generator; exponent = n })) p.3 ∙ h.only t p.0 p.1
 
   -- it is none of a puzzle that hasn't the generator
-  pub barred_generator : (t : T) (generator exponent count : ℕ) → IsRead (Some (generator, exponent)) t → count ≤ generator
-      → (p : Power) → l.power_at t ≡ Some p → count ≤ p.generator
+  pub barred_generator : (t : T) (generator exponent count : ℕ) → IsRead (Some (generator, exponent)) t
+      → count ≤ generator → (p : Power) → l.power_at t ≡ Some p → count ≤ p.generator
   barred_generator t generator exponent count e le p at =
       let q = read_power (l.power_at t) generator exponent e in
       let same = same_Some q.0 p (sym q.1 ∙ at) in

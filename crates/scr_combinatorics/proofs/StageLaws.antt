@@ -31,7 +31,8 @@ module _ {S T : Type 0} (after : S → T → Option S) (letters : ℕ) (letter :
   by_letters-played s n lt = cond-true (nat_lt n letters) (play after s (letter n)) None (lt-ltb n letters lt)
 
   -- a word of letters is the word of their turns
-  pub play-spelled : (s r : S) (w : List ℕ) → play (by_letters after letters letter) s w ≡ Some r → play after s (spelled letter w) ≡ Some r
+  pub play-spelled : (s r : S) (w : List ℕ) → play (by_letters after letters letter) s w ≡ Some r
+      → play after s (spelled letter w) ≡ Some r
   play-spelled s r [] e = play-empty after s ∙ sym (play-empty (by_letters after letters letter) s) ∙ e
   play-spelled s r (n ∷ w) e =
       let parts = play-parts (by_letters after letters letter) s r n w e in
@@ -39,7 +40,8 @@ module _ {S T : Type 0} (after : S → T → Option S) (letters : ℕ) (letter :
       ∙ play-spelled parts.0 r w parts.2
 
   -- and its letters are there
-  pub All-letters : (s r : S) (w : List ℕ) → play (by_letters after letters letter) s w ≡ Some r → All (λ n. n < letters) w
+  pub All-letters : (s r : S) (w : List ℕ) → play (by_letters after letters letter) s w ≡ Some r
+      → All (λ n. n < letters) w
   All-letters s r [] e = All-nil (λ n. n < letters)
   All-letters s r (n ∷ w) e =
       let parts = play-parts (by_letters after letters letter) s r n w e in
@@ -54,7 +56,8 @@ module _ {S T : Type 0} (after : S → T → Option S) (stage : Stage S T) where
       IsFirstWord-unique (by_letters after stage.letters stage.letter) stage.IsGoal s v w a.first b.first
 
   -- and so are the words and the ends from two states that are the same
-  pub same_stage : (s r : S) (v w : List ℕ) → s ≡ r → (a : IsStageWord after stage s v) (b : IsStageWord after stage r w)
+  pub same_stage : (s r : S) (v w : List ℕ) → s ≡ r
+      → (a : IsStageWord after stage s v) (b : IsStageWord after stage r w)
       → (v ≡ w) × (a.first.leads.end ≡ b.first.leads.end)
   same_stage s r v w e a b =
       let lettered = by_letters after stage.letters stage.letter in
@@ -71,8 +74,8 @@ module _ {S T : Type 0} (after : S → T → Option S) (stage : Stage S T) where
       play-spelled after stage.letters stage.letter s is.first.leads.end w is.first.leads.played
 
   -- where it leads, the goal holds
-  pub stage_goal : (s r : S) (w : List ℕ) → IsStageWord after stage s w → play (by_letters after stage.letters stage.letter) s w ≡ Some r
-      → stage.IsGoal r
+  pub stage_goal : (s r : S) (w : List ℕ) → IsStageWord after stage s w
+      → play (by_letters after stage.letters stage.letter) s w ≡ Some r → stage.IsGoal r
   stage_goal s r w is played =
       subst stage.IsGoal (same_Some is.first.leads.end r (sym is.first.leads.played ∙ played)) is.first.leads.goal
 
@@ -127,7 +130,8 @@ module _ {S T : Type 0} (after : S → T → Option S) where
 
   -- there is a solution where the first stage has a word, and the others have a solution from where it leads
   pub next_solution : (stage : Stage S T) (rest : List (Stage S T)) (s : S) (found : HasStageWord after stage s)
-      → (w : List T) × IsSolution after rest found.1.first.leads.end w → (w : List T) × IsSolution after (stage ∷ rest) s w
+      → (w : List T) × IsSolution after rest found.1.first.leads.end w
+      → (w : List T) × IsSolution after (stage ∷ rest) s w
   next_solution stage rest s found more = (spelled stage.letter found.0 ++ more.0, (found.0, more.0, found.1, more.1, refl))
 
 -- ---- how much a solution counts for
@@ -145,8 +149,9 @@ bounds [] each = 0
 bounds (stage ∷ rest) [] = 0
 bounds (stage ∷ rest) (most ∷ each) = stage.bound * most + bounds rest each
 
-pub count-spelled : {T : Type 0} (counted : T → ℕ) (letter : ℕ → List T) (most : ℕ) → ((n : ℕ) → count_in counted (letter n) ≤ most)
-    → (w : List ℕ) → count_in counted (spelled letter w) ≤ length w * most
+pub count-spelled : {T : Type 0} (counted : T → ℕ) (letter : ℕ → List T) (most : ℕ)
+    → ((n : ℕ) → count_in counted (letter n) ≤ most) → (w : List ℕ)
+    → count_in counted (spelled letter w) ≤ length w * most
 unfolding count_in
 count-spelled counted letter most each [] = omega arith
 count-spelled counted letter most each (n ∷ w) =
@@ -176,13 +181,14 @@ count-solution after counted (stage ∷ rest) (most ∷ each) s w within a =
 -- ---- scrambles
 
 module _ {S T : Type 0} (after : S → T → Option S) (opposite : T → T) (m : Merging T) (some : List (Stage S T)) where
-  pub one_scramble : (s : S) (v w : List T) → IsScrambleByStages after opposite m some s v → IsScrambleByStages after opposite m some s w
-      → v ≡ w
+  pub one_scramble : (s : S) (v w : List T) → IsScrambleByStages after opposite m some s v
+      → IsScrambleByStages after opposite m some s w → v ≡ w
   one_scramble s v w a b =
       a.taken_back ∙ ap (λ x. back opposite (tidy m x)) (IsSolution-unique after some s a.solution b.solution a.is b.is) ∙ sym b.taken_back
 
   -- from where the solution leads a scramble leads to the state
-  pub play-scramble : (IsValid : S → Type 0) → IsTakenBack after opposite IsValid → IsKeptByTidy after m IsValid → (s end : S) (w : List T)
-      → IsValid s → (a : IsScrambleByStages after opposite m some s w) → play after s a.solution ≡ Some end → play after end w ≡ Some s
+  pub play-scramble : (IsValid : S → Type 0) → IsTakenBack after opposite IsValid → IsKeptByTidy after m IsValid
+      → (s end : S) (w : List T) → IsValid s → (a : IsScrambleByStages after opposite m some s w)
+      → play after s a.solution ≡ Some end → play after end w ≡ Some s
   play-scramble IsValid taken_back kept s end w valid a played =
       ap (play after end) a.taken_back ∙ taken_back s end (tidy m a.solution) valid (kept s end a.solution valid played)

@@ -12,7 +12,8 @@ unfolding with_turn
 with_turn-alike m t u w h = ap (λ b. cond b (word_of (m.merged t u) ++ w) (t ∷ u ∷ w)) h
 
 -- and any other is kept
-pub with_turn-apart : {T : Type 0} (m : Merging T) (t : T) (w : List T) → begins_alike m t w ≡ false → with_turn m t w ≡ t ∷ w
+pub with_turn-apart : {T : Type 0} (m : Merging T) (t : T) (w : List T) → begins_alike m t w ≡ false
+    → with_turn m t w ≡ t ∷ w
 unfolding with_turn begins_alike
 with_turn-apart m t [] h = refl
 with_turn-apart m t (u ∷ w) h = ap (λ b. cond b (word_of (m.merged t u) ++ w) (t ∷ u ∷ w)) h
@@ -28,7 +29,8 @@ unfolding IsTidy
 IsTidy-apart m t w h = h.0
 
 -- a turn before a tidy word past its face is a tidy word
-pub IsTidy-cons : {T : Type 0} (m : Merging T) (t : T) (w : List T) → begins_alike m t w ≡ false → IsTidy m w → IsTidy m (t ∷ w)
+pub IsTidy-cons : {T : Type 0} (m : Merging T) (t : T) (w : List T) → begins_alike m t w ≡ false → IsTidy m w
+    → IsTidy m (t ∷ w)
 unfolding IsTidy
 IsTidy-cons m t w a h = (a, h)
 
@@ -41,14 +43,15 @@ begins_alike-first m IsTurn l t u (v ∷ w) h = l.first t u v h
 
 module _ {T : Type 0} (m : Merging T) (IsTurn : T → Type 0) (l : IsMerging m IsTurn) where
   -- what two turns of one face come to, before a tidy word past their face
-  merged_tidy : (t u : T) (w : List T) (o : Option T) → m.merged t u ≡ o → IsTrue (m.alike t u) → begins_alike m u w ≡ false
-      → IsTidy m w → IsTidy m (word_of o ++ w)
+  merged_tidy : (t u : T) (w : List T) (o : Option T) → m.merged t u ≡ o → IsTrue (m.alike t u)
+      → begins_alike m u w ≡ false → IsTidy m w → IsTidy m (word_of o ++ w)
   unfolding word_of
   merged_tidy t u w None e a b h = h
   merged_tidy t u w (Some v) e a b h =
       IsTidy-cons m v w (begins_alike-first m IsTurn l v u w (l.alike_first t u v a e) ∙ b) h
 
-  with_turn_by : (t u : T) (w : List T) (b : Bool) → m.alike t u ≡ b → IsTidy m (u ∷ w) → IsTidy m (with_turn m t (u ∷ w))
+  with_turn_by : (t u : T) (w : List T) (b : Bool) → m.alike t u ≡ b → IsTidy m (u ∷ w)
+      → IsTidy m (with_turn m t (u ∷ w))
   unfolding begins_alike
   with_turn_by t u w true e h =
       let P : List T → Type 0 = λ x. IsTidy m x in
@@ -88,7 +91,8 @@ module _ {T : Type 0} (m : Merging T) (P : T → Type 0) (k : IsKept m P) where
   merged_all t u w None e a p q h = h
   merged_all t u w (Some v) e a p q h = All-cons P v w (k t u v p q a e) h
 
-  with_turn_all : (t u : T) (w : List T) (b : Bool) → m.alike t u ≡ b → P t → All P (u ∷ w) → All P (with_turn m t (u ∷ w))
+  with_turn_all : (t u : T) (w : List T) (b : Bool) → m.alike t u ≡ b → P t → All P (u ∷ w)
+      → All P (with_turn m t (u ∷ w))
   unfolding begins_alike
   with_turn_all t u w true e p h =
       let Q : List T → Type 0 = λ x. All P x in
@@ -113,7 +117,8 @@ unfolding word_of
 merged_length None w = omega arith
 merged_length (Some v) w = omega arith
 
-with_turn_length : {T : Type 0} (m : Merging T) (t u : T) (w : List T) (b : Bool) → m.alike t u ≡ b → length (with_turn m t (u ∷ w)) ≤ length w + 2
+with_turn_length : {T : Type 0} (m : Merging T) (t u : T) (w : List T) (b : Bool) → m.alike t u ≡ b
+    → length (with_turn m t (u ∷ w)) ≤ length w + 2
 unfolding begins_alike
 with_turn_length m t u w true e = omega (arith, ap length (with_turn-alike m t u w e), merged_length (m.merged t u) w)
 with_turn_length m t u w false e = omega (arith, ap length (with_turn-apart m t (u ∷ w) e))

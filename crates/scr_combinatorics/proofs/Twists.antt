@@ -15,12 +15,14 @@ use Rattle.scr_combinatorics.proofs.Digits.{first_number-lt, first_number-at, mi
 -- ---- all digits but the last
 
 -- the number of the first digits is that of all where no more are read
-mixed_number-take : (n base : ℕ) (ds : List ℕ) → mixed_number (replicate n base) (take n ds) ≡ mixed_number (replicate n base) ds
+mixed_number-take : (n base : ℕ) (ds : List ℕ)
+    → mixed_number (replicate n base) (take n ds) ≡ mixed_number (replicate n base) ds
 mixed_number-take zero base ds = refl
 mixed_number-take (suc n) base [] = refl
 mixed_number-take (suc n) base (d ∷ ds) = ap (λ r. d + base * r) (mixed_number-take n base ds)
 
-mixed_number-append : (n base : ℕ) (ds es : List ℕ) → length ds ≡ n → mixed_number (replicate n base) (ds ++ es) ≡ mixed_number (replicate n base) ds
+mixed_number-append : (n base : ℕ) (ds es : List ℕ) → length ds ≡ n
+    → mixed_number (replicate n base) (ds ++ es) ≡ mixed_number (replicate n base) ds
 mixed_number-append zero base [] es size = refl
 mixed_number-append zero base (d ∷ ds) es size = absurd (omega arith)
 mixed_number-append (suc n) base [] es size = absurd (omega arith)
@@ -33,7 +35,8 @@ twists_number-lt n base ds h =
     omega (arith, first_number-lt (replicate m base) ds (begins_with_all m base ds (omega arith) h.below), product-replicate m base, ap (λ z. base ^ z) size)
 
 -- place k but the last has digit k of the number
-pub twists_number-at : (n base : ℕ) (ds : List ℕ) → IsTwists n base ds → (k : ℕ) → k < n - 1 → slice_index ds k ≡ twists_number base ds / base ^ k % base
+pub twists_number-at : (n base : ℕ) (ds : List ℕ) → IsTwists n base ds → (k : ℕ) → k < n - 1
+    → slice_index ds k ≡ twists_number base ds / base ^ k % base
 twists_number-at n base ds h k lt =
     let m : ℕ = length ds - 1 in
     let low : k < m = omega (arith, h.size) in
@@ -68,7 +71,8 @@ same_last t x y b lx ly ex ey =
       | inr (inr gt) ↦ sym (last_is_fixed t y x b ly lx ey ex (omega arith))
     ]
 
-same_from_front : (n : ℕ) (ds es : List ℕ) → length ds ≡ suc n → length es ≡ suc n → take n ds ≡ take n es → slice_index ds n ≡ slice_index es n → ds ≡ es
+same_from_front : (n : ℕ) (ds es : List ℕ) → length ds ≡ suc n → length es ≡ suc n → take n ds ≡ take n es
+    → slice_index ds n ≡ slice_index es n → ds ≡ es
 same_from_front n [] es sd se front last = absurd (omega arith)
 same_from_front n (d ∷ ds) [] sd se front last = absurd (omega arith)
 same_from_front zero (d ∷ []) (e ∷ []) sd se front last = ap (λ z. z ∷ []) last
@@ -80,16 +84,19 @@ same_from_front (suc n) (d ∷ ds) (e ∷ es) sd se front last =
     ap (λ z. z ∷ ds) head ∙ ap (λ zs. e ∷ zs) (same_from_front n ds es (omega arith) (omega arith) tail last)
 
 -- the digits before the last one
-front_digits : (m base : ℕ) (ds : List ℕ) → length ds ≡ suc m → All (λ d. d < base) ds → AreDigits (replicate m base) (take m ds)
+front_digits : (m base : ℕ) (ds : List ℕ) → length ds ≡ suc m → All (λ d. d < base) ds
+    → AreDigits (replicate m base) (take m ds)
 front_digits m base ds size h =
     (AreDigits-replicate m base (take m ds)).1 (length-take-le m ds (omega arith), All-take (λ z. z < base) m ds h)
 
-front_number : (m base : ℕ) (ds : List ℕ) → length ds ≡ suc m → twists_number base ds ≡ mixed_number (replicate m base) (take m ds)
+front_number : (m base : ℕ) (ds : List ℕ) → length ds ≡ suc m
+    → twists_number base ds ≡ mixed_number (replicate m base) (take m ds)
 front_number m base ds size =
     let back : length ds - 1 ≡ m = omega arith in
     ap (λ z. mixed_number (replicate z base) ds) back ∙ sym (mixed_number-take m base ds)
 
-pub twists_number-injective : (n base : ℕ) (ds es : List ℕ) → 0 < n → IsTwists n base ds → IsTwists n base es → twists_number base ds ≡ twists_number base es → ds ≡ es
+pub twists_number-injective : (n base : ℕ) (ds es : List ℕ) → 0 < n → IsTwists n base ds → IsTwists n base es
+    → twists_number base ds ≡ twists_number base es → ds ≡ es
 twists_number-injective n base ds es pos p q e =
     let m : ℕ = n - 1 in
     let sd : length ds ≡ suc m = omega (arith, p.size) in
@@ -119,7 +126,8 @@ completed t base pos =
     let all : r + (base - r) ≡ base = omega arith in
     add-mod-mod t (base - r) base ∙ sym (mod-add-mod t base (base - r)) ∙ ap (λ z. z % base) all ∙ mod_self base
 
-IsTwists-with_sum_fixed : (n base : ℕ) (ds : List ℕ) → 0 < base → length ds ≡ n → All (λ d. d < base) ds → IsTwists (suc n) base (with_sum_fixed base ds)
+IsTwists-with_sum_fixed : (n base : ℕ) (ds : List ℕ) → 0 < base → length ds ≡ n → All (λ d. d < base) ds
+    → IsTwists (suc n) base (with_sum_fixed base ds)
 unfolding with_sum_fixed
 IsTwists-with_sum_fixed n base ds pos size h =
     let last : ℕ = (base - total ds % base) % base in
@@ -129,7 +137,8 @@ IsTwists-with_sum_fixed n base ds pos size h =
       sum_fixed = ap (λ z. z % base) (total-push ds last) ∙ completed (total ds) base pos;
     }
 
-twists_number-with_sum_fixed : (n base : ℕ) (ds : List ℕ) → length ds ≡ n → twists_number base (with_sum_fixed base ds) ≡ mixed_number (replicate n base) ds
+twists_number-with_sum_fixed : (n base : ℕ) (ds : List ℕ) → length ds ≡ n
+    → twists_number base (with_sum_fixed base ds) ≡ mixed_number (replicate n base) ds
 unfolding with_sum_fixed
 twists_number-with_sum_fixed n base ds size =
     let last : List ℕ = (base - total ds % base) % base ∷ [] in
@@ -145,7 +154,8 @@ IsTwists-twists_at n base number some pos =
     let own = (AreDigits-replicate m base ds).0 (AreDigits-mixed_digits (replicate m base) number (product_pos m base pos)) in
     subst (λ k. IsTwists k base (with_sum_fixed base ds)) all (IsTwists-with_sum_fixed m base ds pos own.0 own.1)
 
-pub twists_number-twists_at : (n base number : ℕ) → 0 < base → number < base ^ (n - 1) → twists_number base (twists_at n base number) ≡ number
+pub twists_number-twists_at : (n base number : ℕ) → 0 < base → number < base ^ (n - 1)
+    → twists_number base (twists_at n base number) ≡ number
 unfolding twists_at
 twists_number-twists_at n base number pos lt =
     let m : ℕ = n - 1 in
@@ -153,13 +163,15 @@ twists_number-twists_at n base number pos lt =
     twists_number-with_sum_fixed m base ds (length-mixed_digits (replicate m base) number ∙ length-replicate m base)
     ∙ mixed_number-mixed_digits (replicate m base) number (product_pos m base pos) (omega (arith, lt, product-replicate m base))
 
-pub twists_at-number : (n base : ℕ) (ds : List ℕ) → 0 < n → 0 < base → IsTwists n base ds → twists_at n base (twists_number base ds) ≡ ds
+pub twists_at-number : (n base : ℕ) (ds : List ℕ) → 0 < n → 0 < base → IsTwists n base ds
+    → twists_at n base (twists_number base ds) ≡ ds
 twists_at-number n base ds some pos h =
     twists_number-injective n base _ ds some (IsTwists-twists_at n base (twists_number base ds) some pos) h
     (twists_number-twists_at n base (twists_number base ds) pos (twists_number-lt n base ds h))
 
 -- they are numbered by the numbers below base ^ (n - 1)
-pub twists_one_to_one : (n base : ℕ) → 0 < n → 0 < base → IsOneToOne (base ^ (n - 1)) (twists_at n base) (twists_number base) (IsTwists n base)
+pub twists_one_to_one : (n base : ℕ) → 0 < n → 0 < base
+    → IsOneToOne (base ^ (n - 1)) (twists_at n base) (twists_number base) (IsTwists n base)
 twists_one_to_one n base some pos = record {
   valid = λ i lt. IsTwists-twists_at n base i some pos;
   below = twists_number-lt n base;

@@ -1,5 +1,5 @@
--- Digits, each below a base of its own, and the numbers that they write. The first digit is the least. Digits in one base
--- are those whose bases are n times that base.
+-- Digits, each below a base of its own, and the numbers that they write. The first digit is the least. Digits in one
+-- base are those whose bases are n times that base.
 use Rattle.std.specs.Prelude.{ℕ, ◌+◌, ◌*◌, ◌/◌, ◌%◌, ◌<◌, List, [], ◌∷◌}
 
 -- the product of the bases, how many lists of digits there are

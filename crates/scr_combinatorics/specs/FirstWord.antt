@@ -18,8 +18,8 @@ pub record IsFirstWord {S : Type 0} (after : S → ℕ → Option S) (IsGoal : S
   pub leads : LeadsTo after IsGoal s w
   pub first : (v : List ℕ) → LeadsTo after IsGoal s v → (v ≡ w) ⊎ IsEarlier w v
 
--- The least number of turns from this state to the goal: a word of so many leads there, and none that leads there has fewer.
--- That there is such a word is truncated, so that the fact is a proposition.
+-- The least number of turns from this state to the goal: a word of so many leads there, and none that leads there has
+-- fewer. That there is such a word is truncated, so that the fact is a proposition.
 pub record IsDistance {S : Type 0} (after : S → ℕ → Option S) (IsGoal : S → Type 0) (s : S) (d : ℕ) : Type 0 where
   pub reached : ∥ ((w : List ℕ) × LeadsTo after IsGoal s w × (length w ≡ d)) ∥₁
   pub least : (w : List ℕ) → LeadsTo after IsGoal s w → d ≤ length w

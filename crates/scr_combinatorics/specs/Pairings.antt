@@ -10,8 +10,8 @@ pub record IsPairing (n : ℕ) (xs : List ℕ) : Type 0 where
   pub apart : (k : ℕ) → k < n → slice_index xs k ≡ k → ⊥
   pub both : (k : ℕ) → k < n → slice_index xs (slice_index xs k) ≡ k
 
--- in how many ways so many pairs can be made of twice as many places: the first place is paired with any of the others, and
--- then the places that are left
+-- in how many ways so many pairs can be made of twice as many places: the first place is paired with any of the others,
+-- and then the places that are left
 abbrev pub pairing_count : ℕ → ℕ
 pairing_count zero = 1
 pairing_count (suc pairs) = (2 * pairs + 1) * pairing_count pairs
@@ -24,18 +24,18 @@ other_place x j = suc (nth_except x j)
 abbrev pub place_among_others : ℕ → ℕ → ℕ
 place_among_others x k = if nat_le k x then k - 1 else k - 2
 
--- the pairing in which the first place has the partner x + 1, and the others are paired as in `rest`, where they are counted
--- without these two
+-- the pairing in which the first place has the partner x + 1, and the others are paired as in `rest`, where they are
+-- counted without these two
 abbrev pub with_first_pair : ℕ → List ℕ → List ℕ
 with_first_pair x rest = suc x ∷ insert (map (other_place x) rest) x 0
 
--- how the others are paired, counted without the first place and its partner x + 1, where xs are the partners of all but the
--- first place
+-- how the others are paired, counted without the first place and its partner x + 1, where xs are the partners of all
+-- but the first place
 abbrev pub without_first_pair : ℕ → List ℕ → List ℕ
 without_first_pair x xs = map (place_among_others x) (remove xs x)
 
--- the number of a pairing among all with so many pairs, in dictionary order from 0: for each lower partner of the first place,
--- all pairings of the others come before it
+-- the number of a pairing among all with so many pairs, in dictionary order from 0: for each lower partner of the first
+-- place, all pairings of the others come before it
 unfoldable pub pairing_number : ℕ → List ℕ → ℕ
 pairing_number zero xs = 0
 pairing_number (suc pairs) [] = 0

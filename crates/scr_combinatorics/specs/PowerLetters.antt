@@ -1,5 +1,5 @@
--- Letters of turns as powers of a puzzle's generators, as a half turn of a face is its quarter turn twice, and the numbers
--- that they have as turns.
+-- Letters of turns as powers of a puzzle's generators, as a half turn of a face is its quarter turn twice, and the
+-- numbers that they have as turns.
 use Rattle.std.specs.Prelude.{◌≡◌, ℕ, ◌+◌, ◌-◌, ◌*◌, ◌<◌, ◌≤◌, Option, Some, None}
 
 -- Which generator of a puzzle, from 0, and how many times.
@@ -7,8 +7,8 @@ pub record Power : Type 0 where
   pub generator : ℕ
   pub exponent : ℕ
 
--- How often each generator is done to move nothing; how many generators there are letters for; which power a letter is, or
--- none; the letter of each power; and the letter of each number.
+-- How often each generator is done to move nothing; how many generators there are letters for; which power a letter is,
+-- or none; the letter of each power; and the letter of each number.
 pub record PowerLetters (T : Type 0) : Type 0 where
   pub order : ℕ
   pub most : ℕ
@@ -22,7 +22,8 @@ pub record IsPower {T : Type 0} (l : PowerLetters T) (p : Power) : Type 0 where
   pub some : 0 < p.exponent
   pub few : p.exponent < l.order
 
--- The letters are those of the powers, one for each; and they are numbered generator by generator, and there by exponents.
+-- The letters are those of the powers, one for each; and they are numbered generator by generator, and there by
+-- exponents.
 pub record AreNumbered {T : Type 0} (l : PowerLetters T) : Type 0 where
   pub read : (p : Power) → IsPower l p → l.power_at (l.letter_of p) ≡ Some p
   pub only : (t : T) (p : Power) → l.power_at t ≡ Some p → l.letter_of p ≡ t

@@ -2,8 +2,8 @@
 use Rattle.std.specs.Prelude.{◌≡◌, ℕ, ◌<◌, List, Option, Some}
 use Rattle.scr_combinatorics.specs.Play.{play, count_in}
 
--- What a puzzle shows: its turns, what each makes of a state (nothing where it is barred, and where the letter is no turn
--- of the puzzle), which states are solved, and what a turn counts for in a minimum.
+-- What a puzzle shows: its turns, what each makes of a state (nothing where it is barred, and where the letter is no
+-- turn of the puzzle), which states are solved, and what a turn counts for in a minimum.
 pub record Puzzle (S : Type 0) : Type 1 where
   pub Turn : Type 0
   pub after : S → Turn → Option S

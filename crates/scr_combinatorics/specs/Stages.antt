@@ -5,8 +5,8 @@ use Rattle.scr_combinatorics.specs.FirstWord.{IsFirstWord}
 use Rattle.scr_combinatorics.specs.Back.{back}
 use Rattle.scr_combinatorics.specs.Tidy.{Merging, tidy}
 
--- A stage: how many letters its words have, and the word of turns that each letter is; its goal; and how many letters lead there
--- from wherever the stage before may end.
+-- A stage: how many letters its words have, and the word of turns that each letter is; its goal; and how many letters
+-- lead there from wherever the stage before may end.
 pub record Stage (S T : Type 0) : Type 1 where
   pub letters : ℕ
   pub letter : ℕ → List T
@@ -17,8 +17,8 @@ pub record Stage (S T : Type 0) : Type 1 where
 unfoldable pub by_letters : {S T : Type 0} → (S → T → Option S) → ℕ → (ℕ → List T) → S → ℕ → Option S
 by_letters after letters letter s n = if nat_lt n letters then play after s (letter n) else None
 
--- The word of a stage: the first word of its letters to its goal, by length and then by the letters' numbers. It is no longer
--- than the bound.
+-- The word of a stage: the first word of its letters to its goal, by length and then by the letters' numbers. It is no
+-- longer than the bound.
 pub record IsStageWord {S T : Type 0} (after : S → T → Option S) (stage : Stage S T) (s : S) (word : List ℕ) : Type 0 where
   pub first : IsFirstWord (by_letters after stage.letters stage.letter) stage.IsGoal s word
   pub within : length word ≤ stage.bound

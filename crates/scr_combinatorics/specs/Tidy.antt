@@ -1,4 +1,5 @@
--- Tidying a word: neighbouring turns of one face are merged, until there are none. Two merged turns give one turn or none.
+-- Tidying a word: neighbouring turns of one face are merged, until there are none. Two merged turns give one turn or
+-- none.
 use Rattle.std.specs.Prelude.{◌≡◌, Bool, false, IsTrue, if◌then◌else◌, List, [], ◌∷◌, ◌++◌, Option, Some, None}
 use Rattle.scr_combinatorics.specs.Play.{play}
 

@@ -1,5 +1,5 @@
-//! Laws of lists, permutations and the numbers of lists, which later crates rest on. The functions do nothing: what each
-//! ensures is the law.
+//! Laws of lists, permutations and the numbers of lists, which later crates rest on. The functions do nothing: what
+//! each ensures is the law.
 ghost use Rattle.std.specs.Prelude.{◌≡◌, ℕ, ◌+◌, ◌-◌, ◌*◌, ◌/◌, ◌%◌, ◌^◌, ◌<◌, ◌↔◌, List, [], ◌∷◌, All, IsTrue, length, replicate, slice_index, take};
 ghost use Rattle.scr_combinatorics.specs.Lists.{IsRearranged, ComesBefore, numbers_from, pick, total};
 ghost use Rattle.scr_combinatorics.specs.Permutations.{IsPermutation, is_permutation, inverse, parity, factorial, permutation_number, permutation_at, half_at};
@@ -49,8 +49,8 @@ pub fn permutations_in_order()
         → ComesBefore xs ys → permutation_number xs < permutation_number ys }
 {}
 
-/// The permutations of one parity, even or odd, are numbered by half their number, from 0 up to `n! / 2`, in the order of
-/// a dictionary: of the two numbered `2 * r` and `2 * r + 1`, exactly one is even.
+/// The permutations of one parity, even or odd, are numbered by half their number, from 0 up to `n! / 2`, in the order
+/// of a dictionary: of the two numbered `2 * r` and `2 * r + 1`, exactly one is even.
 pub fn halves_in_order()
     ensures exactly_one { (n r : ℕ) (xs ys : List ℕ)
         → IsPermutation n xs → IsPermutation n ys
@@ -99,8 +99,8 @@ pub fn digits_in_one_base()
     ensures count { (n base : ℕ) → product (replicate n base) ≡ base ^ n }
 {}
 
-/// Digits in one base whose sum is 0 modulo the base are numbered by the numbers below its power: place `k` has digit `k`
-/// of the number, the least first, and the last place is fixed by the sum.
+/// Digits in one base whose sum is 0 modulo the base are numbered by the numbers below its power: place `k` has digit
+/// `k` of the number, the least first, and the last place is fixed by the sum.
 pub fn twists_by_digits()
     ensures numbered { (n base : ℕ) → 0 < n → 0 < base
         → IsOneToOne (base ^ (n - 1)) (twists_at n base) (twists_number base) (IsTwists n base) }

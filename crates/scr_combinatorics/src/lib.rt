@@ -1,6 +1,7 @@
-//! Lists of numbers, and words of turns over any puzzle: what a permutation is, what even means, how lists are composed,
-//! what the number of a list means; and, where a turn may be barred, what a word makes of a state, which states turns
-//! reach, how many counted turns a state needs, the first word to a goal, solving by stages, words taken back and tidied.
+//! Lists of numbers, and words of turns over any puzzle: what a permutation is, what even means, how lists are
+//! composed, what the number of a list means; and, where a turn may be barred, what a word makes of a state, which
+//! states turns reach, how many counted turns a state needs, the first word to a goal, solving by stages, words taken
+//! back and tidied.
 //!
 //! The definitions stand in `specs/`: `Lists` (counts, sums, picking, the order of a dictionary),
 //! `Permutations` (permutations, parity, inverses, numbers), `PlaceSets` (sets of places), `Pairings` (places in pairs),

@@ -11,7 +11,8 @@ use Rattle.scr_command.specs.OptionsCommand.{option_name}
 use Rattle.scr_command.specs.OptionWords.{spelled_option}
 
 -- two functions that agree on the list of the options agree on each option
-pub each_alike : {X : Type 0} (f g : OptionName → X) → map f all_options ≡ map g all_options → (option : OptionName) → f option ≡ g option
+pub each_alike : {X : Type 0} (f g : OptionName → X) → map f all_options ≡ map g all_options → (option : OptionName)
+    → f option ≡ g option
 each_alike f g all option = elim option as (λ o. f o ≡ g o) [ Seed ↦ cc | Workers ↦ cc | Tries ↦ cc | Attempts ↦ cc | Short ↦ cc ]
 
 -- ---- tests of all options

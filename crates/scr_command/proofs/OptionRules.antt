@@ -49,11 +49,13 @@ unfolding rule_for
 no_positional = refl
 
 -- a second use is a fault
-pub use_of_one : (k : OptionName) (v : Text) (rows : List Row) → use_fault false (rule_for k) (v ∷ []) rows ≡ cond (has_row (option_name k) rows) (kind.ArgumentConflict ∷ []) []
+pub use_of_one : (k : OptionName) (v : Text) (rows : List Row)
+    → use_fault false (rule_for k) (v ∷ []) rows ≡ cond (has_row (option_name k) rows) (kind.ArgumentConflict ∷ []) []
 unfolding rule_for
 use_of_one k v rows = go (has_row (option_name k) rows) refl
   where
-    go : (t : Bool) → has_row (option_name k) rows ≡ t → use_fault false (rule_for k) (v ∷ []) rows ≡ cond (has_row (option_name k) rows) (kind.ArgumentConflict ∷ []) []
+    go : (t : Bool) → has_row (option_name k) rows ≡ t
+        → use_fault false (rule_for k) (v ∷ []) rows ≡ cond (has_row (option_name k) rows) (kind.ArgumentConflict ∷ []) []
     go true e = rw e refl
     go false e = rw e refl
 
@@ -62,16 +64,19 @@ pub use_of_none : (k : OptionName) (rows : List Row) → use_fault false (rule_f
 unfolding rule_for
 use_of_none k rows = refl
 
-pub used_is : (k : OptionName) (v : Text) (rows : List Row) → used (rule_for k) (v ∷ []) rows ≡ with_values (option_name k) reading.AsWritten CommandLine (v ∷ []) (without (option_name k) rows)
+pub used_is : (k : OptionName) (v : Text) (rows : List Row)
+    → used (rule_for k) (v ∷ []) rows ≡ with_values (option_name k) reading.AsWritten CommandLine (v ∷ []) (without (option_name k) rows)
 unfolding rule_for
 used_is k v rows = refl
 
 -- no option has a default
-no_default : (k : OptionName) (rows : List Row) → (with_default rows (rule_for k) ≡ rows) × (default_fault rows (rule_for k) ≡ [])
+no_default : (k : OptionName) (rows : List Row)
+    → (with_default rows (rule_for k) ≡ rows) × (default_fault rows (rule_for k) ≡ [])
 unfolding rule_for
 no_default k rows = go (has_row (option_name k) rows) refl
   where
-    go : (t : Bool) → has_row (option_name k) rows ≡ t → (with_default rows (rule_for k) ≡ rows) × (default_fault rows (rule_for k) ≡ [])
+    go : (t : Bool) → has_row (option_name k) rows ≡ t
+        → (with_default rows (rule_for k) ≡ rows) × (default_fault rows (rule_for k) ≡ [])
     go true e = (rw e refl, rw e refl)
     go false e = (rw e refl, rw e refl)
 
@@ -96,10 +101,12 @@ defaults_pass rows =
     ) refl
 
 -- the seed alone is required
-pub seed_required : (rows : List Row) → check_fault shape rows false ≡ cond (is_given (codes "seed") rows) [] (kind.MissingRequiredArgument ∷ [])
+pub seed_required : (rows : List Row)
+    → check_fault shape rows false ≡ cond (is_given (codes "seed") rows) [] (kind.MissingRequiredArgument ∷ [])
 unfolding rule_for
 seed_required rows = go (is_given (codes "seed") rows) refl
   where
-    go : (t : Bool) → is_given (codes "seed") rows ≡ t → check_fault shape rows false ≡ cond (is_given (codes "seed") rows) [] (kind.MissingRequiredArgument ∷ [])
+    go : (t : Bool) → is_given (codes "seed") rows ≡ t
+        → check_fault shape rows false ≡ cond (is_given (codes "seed") rows) [] (kind.MissingRequiredArgument ∷ [])
     go true e = rw e refl
     go false e = rw e refl

@@ -10,7 +10,8 @@ use Rattle.scr_command.specs.OptionWords.{Given, Values, begins_with_hyphen, opt
 use Rattle.scr_command.specs.Split.{are_own}
 
 -- a word where an option must stand, with what the words after it are read as
-abbrev pub option_read : Option OptionName → Option Text → (Option OptionName → Option (List Given)) → Option (List Given)
+abbrev pub option_read : Option OptionName → Option Text → (Option OptionName → Option (List Given))
+    → Option (List Given)
 option_read option attached after =
     option_and_then (λ k. option_map_or (λ value. with_given k value (after None)) attached (after (Some k))) option
 

@@ -24,7 +24,8 @@ is_byte c e = grind (arith, nat_tests)
 first_char : (c : ℕ) (rest : Text) → IsUtf8 (c ∷ rest) → (x : ℕ) × (slice_get (chars (c ∷ rest)) 0 ≡ Some x)
 first_char c rest u = go (chars (c ∷ rest)) refl (encodes-chars (c ∷ rest) u)
   where
-    go : (cs : List ℕ) → chars (c ∷ rest) ≡ cs → encode_utf8_all (chars (c ∷ rest)) ≡ c ∷ rest → (x : ℕ) × (slice_get (chars (c ∷ rest)) 0 ≡ Some x)
+    go : (cs : List ℕ) → chars (c ∷ rest) ≡ cs → encode_utf8_all (chars (c ∷ rest)) ≡ c ∷ rest
+        → (x : ℕ) × (slice_get (chars (c ∷ rest)) 0 ≡ Some x)
     go [] e spells =
         let none : [] ≡ c ∷ rest = rw e at spells in
         cc
@@ -43,7 +44,8 @@ left_of (c ∷ rest) h = go (c == 45) refl
         cc
     second (d ∷ rest) e u bare = third (d == 45) refl rest u bare
       where
-        third : (t : Bool) → (d == 45) ≡ t → (rest : Text) → IsUtf8 (c ∷ d ∷ rest) → is_bare (c ∷ d ∷ rest) ≡ false → IsLeft (c ∷ d ∷ rest)
+        third : (t : Bool) → (d == 45) ≡ t → (rest : Text) → IsUtf8 (c ∷ d ∷ rest) → is_bare (c ∷ d ∷ rest) ≡ false
+            → IsLeft (c ∷ d ∷ rest)
         third false f rest u bare =
             let first = first_char d rest (past_hyphen (d ∷ rest) (subst (λ n. IsUtf8 (n ∷ d ∷ rest)) e u)) in
             inr (inr (d, rest, first.0, ap (λ n. n ∷ d ∷ rest) e, f, first.1))
@@ -56,13 +58,15 @@ left_of (c ∷ rest) h = go (c == 45) refl
     go false e = inl e
     go true e = second rest (is_byte c e) h.0 h.1
 
-pub all_left : (words : List (Bor Text)) → ((k : ℕ) (d : Bor Text) → k < length words → IsOrdinary (slice_index_or words k d).now) → AreLeft (texts words)
+pub all_left : (words : List (Bor Text))
+    → ((k : ℕ) (d : Bor Text) → k < length words → IsOrdinary (slice_index_or words k d).now) → AreLeft (texts words)
 all_left [] h = tt
 all_left (w ∷ words) h = (left_of w.now (h 0 w (omega arith)), all_left words (λ k d lt. h (suc k) d (omega arith)))
 
 -- ---- a lone hyphen or two are never in the grammar
 
-bare_word : (word : Text) → is_bare word ≡ true → (begins_with_hyphen word ≡ true) × (spelled_option (option_spelling word) ≡ None)
+bare_word : (word : Text) → is_bare word ≡ true
+    → (begins_with_hyphen word ≡ true) × (spelled_option (option_spelling word) ≡ None)
 bare_word word h = go (bytes_eq word (codes "-")) refl
   where
     one : word ≡ codes "-" → (begins_with_hyphen word ≡ true) × (spelled_option (option_spelling word) ≡ None)
@@ -71,16 +75,19 @@ bare_word word h = go (bytes_eq word (codes "-")) refl
     two : word ≡ codes "--" → (begins_with_hyphen word ≡ true) × (spelled_option (option_spelling word) ≡ None)
     two e = subst (λ w. (begins_with_hyphen w ≡ true) × (spelled_option (option_spelling w) ≡ None)) (sym e) (refl, refl)
 
-    go : (t : Bool) → bytes_eq word (codes "-") ≡ t → (begins_with_hyphen word ≡ true) × (spelled_option (option_spelling word) ≡ None)
+    go : (t : Bool) → bytes_eq word (codes "-") ≡ t
+        → (begins_with_hyphen word ≡ true) × (spelled_option (option_spelling word) ≡ None)
     go true e = one ((bytes_eq-Decides word (codes "-")).0 e)
     go false e = two ((bytes_eq-Decides word (codes "--")).0 (ap (λ t. t || bytes_eq word (codes "--")) (sym e) ∙ h))
 
-refused_here : (word : Text) (rest : List Text) (waiting : Option OptionName) → is_bare word ≡ true → options_read waiting (word ∷ rest) ≡ None
+refused_here : (word : Text) (rest : List Text) (waiting : Option OptionName) → is_bare word ≡ true
+    → options_read waiting (word ∷ rest) ≡ None
 unfolding options_read
 refused_here word rest None h = ap (λ o. option_read o (attached_value word) (λ w. options_read w rest)) (bare_word word h).1
 refused_here word rest (Some k) h = ap (λ t. cond t None (with_given k word (options_read None rest))) (bare_word word h).0
 
-refused_later : (word : Text) (rest : List Text) (waiting : Option OptionName) → ((w : Option OptionName) → options_read w rest ≡ None) → options_read waiting (word ∷ rest) ≡ None
+refused_later : (word : Text) (rest : List Text) (waiting : Option OptionName)
+    → ((w : Option OptionName) → options_read w rest ≡ None) → options_read waiting (word ∷ rest) ≡ None
 unfolding options_read
 refused_later word rest None h = go (spelled_option (option_spelling word)) (attached_value word)
   where
@@ -94,21 +101,26 @@ refused_later word rest (Some k) h = go (begins_with_hyphen word)
     go true = refl
     go false = ap (with_given k word) (h None)
 
-none_read : (words : List Text) → list_any is_bare words ≡ true → (waiting : Option OptionName) → options_read waiting words ≡ None
+none_read : (words : List Text) → list_any is_bare words ≡ true → (waiting : Option OptionName)
+    → options_read waiting words ≡ None
 none_read [] h waiting = cc
 none_read (word ∷ rest) h waiting = go (is_bare word) refl (none_read rest)
   where
-    go : (t : Bool) → is_bare word ≡ t → (list_any is_bare rest ≡ true → (w : Option OptionName) → options_read w rest ≡ None) → options_read waiting (word ∷ rest) ≡ None
+    go : (t : Bool) → is_bare word ≡ t
+        → (list_any is_bare rest ≡ true → (w : Option OptionName) → options_read w rest ≡ None)
+        → options_read waiting (word ∷ rest) ≡ None
     go true e later = refused_here word rest waiting e
     go false e later = refused_later word rest waiting (later (ap (λ t. t || list_any is_bare rest) (sym e) ∙ h))
 
-pub bare_refused : (own : List OptionName) (words : List Text) → list_any is_bare words ≡ true → options_of own words ≡ None
+pub bare_refused : (own : List OptionName) (words : List Text) → list_any is_bare words ≡ true
+    → options_of own words ≡ None
 bare_refused own words h =
     options_in_turn own words ∙ ap (λ o. option_and_then (with_own own) (option_and_then values_in o)) (none_read words h None)
 
 -- ---- the loop that looks for them
 
-pub bare_at : (words : List (Bor Text)) (i : ℕ) (d : Bor Text) → i < length words → is_bare (slice_index_or words i d).now ≡ true → list_any is_bare (texts words) ≡ true
+pub bare_at : (words : List (Bor Text)) (i : ℕ) (d : Bor Text) → i < length words
+    → is_bare (slice_index_or words i d).now ≡ true → list_any is_bare (texts words) ≡ true
 bare_at [] i d lt h = absurd (omega arith)
 bare_at (w ∷ words) zero d lt h = rw h refl
 bare_at (w ∷ words) (suc i) d lt h = go (is_bare w.now) (bare_at words i d (omega arith) h)
@@ -118,8 +130,9 @@ bare_at (w ∷ words) (suc i) d lt h = go (is_bare w.now) (bare_at words i d (om
     go false e = e
 
 pub one_more_ordinary : (words : List (Bor Text)) (i : ℕ) (d : Bor Text) → i < length words
-    → ((k : ℕ) (e : Bor Text) → k < i → IsOrdinary (slice_index_or words k e).now) → IsOrdinary (slice_index_or words i d).now
-    → (k : ℕ) (e : Bor Text) → k < i + 1 → IsOrdinary (slice_index_or words k e).now
+    → ((k : ℕ) (e : Bor Text) → k < i → IsOrdinary (slice_index_or words k e).now)
+    → IsOrdinary (slice_index_or words i d).now → (k : ℕ) (e : Bor Text) → k < i + 1
+    → IsOrdinary (slice_index_or words k e).now
 one_more_ordinary words i d lt before here k e below = elim (cases_lt k i) [
   | inl under ↦ before k e under
   | inr over ↦

@@ -43,13 +43,15 @@ next_option i d before after below is more =
     ∙ ap app_with (sym (map-append raw_rule (take i all_options) (get_or all_options i d ∷ []))) ∙ ap (λ options. app_with (map raw_rule options)) (sym one)
 
 -- the parser gives the options that the grammar does
-pub parser_agrees : (words : List Text) → AreLeft words → options_by (fault_of options_app words) (matches_of options_app words) ≡ given_by words
+pub parser_agrees : (words : List Text) → AreLeft words
+    → options_by (fault_of options_app words) (matches_of options_app words) ≡ given_by words
 parser_agrees words left =
     (λ i. options_by (fault_is words i) (matches_are words i))
     ∙ agrees words left None nothing_held no_values refl refl no_rows_hold ∙ all_words words
 
 -- a fault is a word or a use outside of the grammar
-pub fault_refused : (words : List Text) (kind : ErrorKind) → AreLeft words → IsAmong kind (fault_of options_app words) → given_by words ≡ None
+pub fault_refused : (words : List Text) (kind : ErrorKind) → AreLeft words → IsAmong kind (fault_of options_app words)
+    → given_by words ≡ None
 fault_refused words kind left among = sym (parser_agrees words left) ∙ go (fault_of options_app words) among
   where
     go : (ks : Kinds) → IsAmong kind ks → options_by ks (matches_of options_app words) ≡ None
@@ -57,12 +59,13 @@ fault_refused words kind left among = sym (parser_agrees words left) ∙ go (fau
     go (k ∷ ks) h = refl
 
 -- and without one the rows have the options
-pub no_fault_gives : (words : List Text) → AreLeft words → fault_of options_app words ≡ [] → given_by words ≡ options_by [] (matches_of options_app words)
+pub no_fault_gives : (words : List Text) → AreLeft words → fault_of options_app words ≡ []
+    → given_by words ≡ options_by [] (matches_of options_app words)
 no_fault_gives words left none = sym (parser_agrees words left) ∙ ap (λ ks. options_by ks (matches_of options_app words)) none
 
 -- the values that the matches have
-pub matches_give : (words : List Text) (f : Found) → AreLeft words → fault_of options_app words ≡ [] → rows_of f ≡ matches_of options_app words
-    → given_by words ≡ with_seed (λ k. first_value f (option_name k))
+pub matches_give : (words : List Text) (f : Found) → AreLeft words → fault_of options_app words ≡ []
+    → rows_of f ≡ matches_of options_app words → given_by words ≡ with_seed (λ k. first_value f (option_name k))
 matches_give words f left none rows =
     let value : (id : Text) → first_of id (matches_of options_app words) ≡ first_value f id = λ id. ap (first_of id) (sym rows) ∙ sym (first_value-rows f id) in
     no_fault_gives words left none ∙ (λ i. with_seed (λ k. value (option_name k) i))
@@ -74,21 +77,25 @@ pub none_given : (own : List OptionName) (words : List Text) → given_by words 
 none_given own words none = options_in_turn own words ∙ ap (option_and_then (with_own own)) none
 
 -- what the value of the seed tells, as it was found
-pub no_seed_given : (own : List OptionName) (words : List Text) (values : Values) (seed : Option (Bor Text)) → given_by words ≡ with_seed values
-    → option_map (λ text. text.now) seed ≡ values Seed → is_some seed ≡ false → options_of own words ≡ None
+pub no_seed_given : (own : List OptionName) (words : List Text) (values : Values) (seed : Option (Bor Text))
+    → given_by words ≡ with_seed values → option_map (λ text. text.now) seed ≡ values Seed → is_some seed ≡ false
+    → options_of own words ≡ None
 no_seed_given own words values None given is none = none_given own words (given ∙ ap (option_map (λ seed. values)) (sym is))
 no_seed_given own words values (Some seed) given is none = cc
 
-some_given : (own : List OptionName) (words : List Text) (values : Values) (seed : Option (Bor Text)) → given_by words ≡ with_seed values
-    → option_map (λ text. text.now) seed ≡ values Seed → is_some seed ≡ true → options_of own words ≡ with_own own values
+some_given : (own : List OptionName) (words : List Text) (values : Values) (seed : Option (Bor Text))
+    → given_by words ≡ with_seed values → option_map (λ text. text.now) seed ≡ values Seed → is_some seed ≡ true
+    → options_of own words ≡ with_own own values
 some_given own words values None given is some = cc
 some_given own words values (Some seed) given is some =
     options_in_turn own words ∙ ap (option_and_then (with_own own)) (given ∙ ap (option_map (λ seed. values)) (sym is))
 
-pub own_given : (own : List OptionName) (words : List Text) (values : Values) (seed : Option (Bor Text)) → given_by words ≡ with_seed values
-    → option_map (λ text. text.now) seed ≡ values Seed → is_some seed ≡ true → are_own own values ≡ true → options_of own words ≡ Some values
+pub own_given : (own : List OptionName) (words : List Text) (values : Values) (seed : Option (Bor Text))
+    → given_by words ≡ with_seed values → option_map (λ text. text.now) seed ≡ values Seed → is_some seed ≡ true
+    → are_own own values ≡ true → options_of own words ≡ Some values
 own_given own words values seed given is some all = some_given own words values seed given is some ∙ ap (λ t. cond t (Some values) None) all
 
-pub other_given : (own : List OptionName) (words : List Text) (values : Values) (seed : Option (Bor Text)) → given_by words ≡ with_seed values
-    → option_map (λ text. text.now) seed ≡ values Seed → is_some seed ≡ true → are_own own values ≡ false → options_of own words ≡ None
+pub other_given : (own : List OptionName) (words : List Text) (values : Values) (seed : Option (Bor Text))
+    → given_by words ≡ with_seed values → option_map (λ text. text.now) seed ≡ values Seed → is_some seed ≡ true
+    → are_own own values ≡ false → options_of own words ≡ None
 other_given own words values seed given is some all = some_given own words values seed given is some ∙ ap (λ t. cond t (Some values) None) all

@@ -36,18 +36,20 @@ held (Some v) = v ∷ []
 abbrev Holds : List Given → Values → Type 0
 Holds given s = (option : OptionName) → values_of option given ≡ held (s option)
 
-values-push : (option : OptionName) (given more : List Given) → values_of option (given ++ more) ≡ values_of option given ++ values_of option more
+values-push : (option : OptionName) (given more : List Given)
+    → values_of option (given ++ more) ≡ values_of option given ++ values_of option more
 values-push option [] more = refl
 values-push option (g ∷ given) more = go (is_option option g.option) refl (values-push option given more)
   where
-    go : (t : Bool) → is_option option g.option ≡ t → values_of option (given ++ more) ≡ values_of option given ++ values_of option more
+    go : (t : Bool) → is_option option g.option ≡ t
+        → values_of option (given ++ more) ≡ values_of option given ++ values_of option more
         → values_of option (g ∷ (given ++ more)) ≡ values_of option (g ∷ given) ++ values_of option more
     go true e rest = rw e (ap (λ vs. g.value ∷ vs) rest)
     go false e rest = rw e rest
 
 -- a second value of an option is refused, whatever follows
-second_refused : (given more : List Given) (s : Values) (option : OptionName) (u v : Text) → Holds given s → s option ≡ Some u
-    → values_in (given ++ record { option = option; value = v } ∷ more) ≡ None
+second_refused : (given more : List Given) (s : Values) (option : OptionName) (u v : Text) → Holds given s
+    → s option ≡ Some u → values_in (given ++ record { option = option; value = v } ∷ more) ≡ None
 second_refused given more s option u v holds full =
     let next : values_of option (record { option = option; value = v } ∷ more) ≡ v ∷ values_of option more = rw (is_itself option) refl in
     let two : values_of option (given ++ record { option = option; value = v } ∷ more) ≡ u ∷ v ∷ values_of option more =
@@ -57,7 +59,8 @@ second_refused given more s option u v holds full =
     (ap (λ vs. nat_le (length vs) 1) two ∙ (let many : nat_le (length (u ∷ v ∷ values_of option more)) 1 ≡ false = lt-leb (length (u ∷ v ∷ values_of option more)) 1 (omega arith) in many)) in
     rw not refl
 
-pub other_value : (option other : OptionName) (v : Text) (s : Values) → is_option other option ≡ false → set_value option v s other ≡ s other
+pub other_value : (option other : OptionName) (v : Text) (s : Values) → is_option other option ≡ false
+    → set_value option v s other ≡ s other
 other_value option other v s e = rw e refl
 
 pub own_value : (option other : OptionName) (v : Text) (s : Values) → is_option other option ≡ true
@@ -68,7 +71,8 @@ first_held : (given : List Given) (s : Values) (option : OptionName) (v : Text) 
     → Holds (given ++ record { option = option; value = v } ∷ []) (set_value option v s)
 first_held given s option v holds free other = go (is_option other option) refl
   where
-    go : (t : Bool) → is_option other option ≡ t → values_of other (given ++ record { option = option; value = v } ∷ []) ≡ held (set_value option v s other)
+    go : (t : Bool) → is_option other option ≡ t
+        → values_of other (given ++ record { option = option; value = v } ∷ []) ≡ held (set_value option v s other)
     go true e =
         let own = own_value option other v s e in
         let empty : values_of other given ≡ [] = holds other ∙ ap held (own.1 ∙ free) in

@@ -10,7 +10,8 @@ use Rattle.scr_command.specs.Spelling.{AllFit, ReadsBack, ReadsNothingElse, Writ
 use Rattle.scr_command.proofs.EachOption.{each_alike, spelled}
 use Rattle.scr_command.proofs.WordForms.{attached-cons, option_spelling-cons, option_spelling-equals}
 
-one_word : (k : OptionName) (v : Text) → (spelled_option (option_spelling (flag_of k ++ 61 ∷ v)) ≡ Some k) × (attached_value (flag_of k ++ 61 ∷ v) ≡ Some v)
+one_word : (k : OptionName) (v : Text)
+    → (spelled_option (option_spelling (flag_of k ++ 61 ∷ v)) ≡ Some k) × (attached_value (flag_of k ++ 61 ∷ v) ≡ Some v)
 one_word k v = (
   each_alike (λ k. spelled_option (option_spelling (flag_of k ++ 61 ∷ v))) (λ k. Some k) refl k,
   each_alike (λ k. attached_value (flag_of k ++ 61 ∷ v)) (λ k. Some v) refl k,
@@ -33,7 +34,8 @@ read_first false k v rest fits =
     (λ i. option_read (f.0 i) (f.1 i) (λ w. options_read w (v ∷ rest)))
     ∙ ap (λ b. cond b None (with_given k v (options_read None rest))) (fits refl)
 
-written_read : (ws : List WrittenOption) → AllFit ws → options_read None (written_options ws) ≡ Some (map (λ w. w.given) ws)
+written_read : (ws : List WrittenOption) → AllFit ws
+    → options_read None (written_options ws) ≡ Some (map (λ w. w.given) ws)
 unfolding options_read
 written_read [] fits = refl
 written_read (w ∷ rest) fits =
@@ -49,7 +51,8 @@ whole_word : (word : Text) → attached_value word ≡ None → word ≡ option_
 whole_word [] h = refl
 whole_word (c ∷ rest) h = go (is_equals c) refl (whole_word rest)
   where
-    go : (t : Bool) → is_equals c ≡ t → (attached_value rest ≡ None → rest ≡ option_spelling rest) → c ∷ rest ≡ option_spelling (c ∷ rest)
+    go : (t : Bool) → is_equals c ≡ t → (attached_value rest ≡ None → rest ≡ option_spelling rest)
+        → c ∷ rest ≡ option_spelling (c ∷ rest)
     go true e later =
         let some : attached_value (c ∷ rest) ≡ Some rest = rw e refl in
         cc
@@ -59,7 +62,8 @@ split_word : (word v : Text) → attached_value word ≡ Some v → word ≡ opt
 split_word [] v h = cc
 split_word (c ∷ rest) v h = go (is_equals c) refl (split_word rest v)
   where
-    go : (t : Bool) → is_equals c ≡ t → (attached_value rest ≡ Some v → rest ≡ option_spelling rest ++ 61 ∷ v) → c ∷ rest ≡ option_spelling (c ∷ rest) ++ 61 ∷ v
+    go : (t : Bool) → is_equals c ≡ t → (attached_value rest ≡ Some v → rest ≡ option_spelling rest ++ 61 ∷ v)
+        → c ∷ rest ≡ option_spelling (c ∷ rest) ++ 61 ∷ v
     go true e later =
         let some : attached_value (c ∷ rest) ≡ Some rest = rw e refl in
         let same : Some rest ≡ Some v = sym some ∙ h in
@@ -71,8 +75,9 @@ abbrev Spells : List Text → List Given → Type 0
 Spells words given = (ws : List WrittenOption) × AllFit ws × (written_options ws ≡ words) × (map (λ w. w.given) ws ≡ given)
 
 -- one option more, written before words that spell the rest
-with_first : (t : Bool) (k : OptionName) (v : Text) (words rest : List Text) (given : List Given) (o : Option (List Given)) → with_given k v o ≡ Some given
-    → words ≡ option_words t k v rest → (t ≡ false → begins_with_hyphen v ≡ false) → ((later : List Given) → o ≡ Some later → Spells rest later) → Spells words given
+with_first : (t : Bool) (k : OptionName) (v : Text) (words rest : List Text) (given : List Given) (o : Option (List Given))
+    → with_given k v o ≡ Some given → words ≡ option_words t k v rest → (t ≡ false → begins_with_hyphen v ≡ false)
+    → ((later : List Given) → o ≡ Some later → Spells rest later) → Spells words given
 with_first t k v words rest given None read are fits spells = cc
 with_first t k v words rest given (Some later) read are fits spells =
     let s = spells later refl in
@@ -88,13 +93,16 @@ abbrev Reads : Option OptionName → List Text → List Given → Type 0
 Reads None words given = Spells words given
 Reads (Some k) words given = Spells (flag_of k ∷ words) given
 
-reads : (words : List Text) (waiting : Option OptionName) (given : List Given) → options_read waiting words ≡ Some given → Reads waiting words given
+reads : (words : List Text) (waiting : Option OptionName) (given : List Given) → options_read waiting words ≡ Some given
+    → Reads waiting words given
 unfolding options_read
 reads [] None given h = ([], tt, refl, ap (λ o. unwrap_or o given) h)
 reads [] (Some k) given h = cc
 reads (word ∷ rest) (Some k) given h = go (begins_with_hyphen word) refl (reads rest None)
   where
-    go : (t : Bool) → begins_with_hyphen word ≡ t → ((later : List Given) → options_read None rest ≡ Some later → Spells rest later) → Spells (flag_of k ∷ word ∷ rest) given
+    go : (t : Bool) → begins_with_hyphen word ≡ t
+        → ((later : List Given) → options_read None rest ≡ Some later → Spells rest later)
+        → Spells (flag_of k ∷ word ∷ rest) given
     go true e later =
         let none : None ≡ Some given = rw e at h in
         cc
@@ -104,7 +112,8 @@ reads (word ∷ rest) (Some k) given h = go (begins_with_hyphen word) refl (read
 reads (word ∷ rest) None given h = go (spelled_option (option_spelling word)) (attached_value word) refl refl (reads rest)
   where
     go : (o : Option OptionName) (v : Option Text) → spelled_option (option_spelling word) ≡ o → attached_value word ≡ v
-        → ((w : Option OptionName) (later : List Given) → options_read w rest ≡ Some later → Reads w rest later) → Spells (word ∷ rest) given
+        → ((w : Option OptionName) (later : List Given) → options_read w rest ≡ Some later → Reads w rest later)
+        → Spells (word ∷ rest) given
     go None v e a later =
         let none : None ≡ Some given = ap (λ o. option_read o (attached_value word) (λ w. options_read w rest)) (sym e) ∙ h in
         cc

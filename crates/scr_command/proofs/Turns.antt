@@ -28,11 +28,13 @@ or_else-nil (k ∷ ks) = refl
 abbrev pub pending : OptionName → List Text → Held → Held
 pending k values h = record h { pending = Some (option_name k, values) }
 
-pub pending_fault : (k : OptionName) (values : List Text) (h : Held) → settle_fault rules false (pending k values h) ≡ use_fault false (rule_for k) values h.rows
+pub pending_fault : (k : OptionName) (values : List Text) (h : Held)
+    → settle_fault rules false (pending k values h) ≡ use_fault false (rule_for k) values h.rows
 unfolding rule_for
 pending_fault k values h = each_alike (λ k. settle_fault rules false (pending k values h)) (λ k. use_fault false (rule_for k) values h.rows) refl k
 
-pub pending_settled : (k : OptionName) (values : List Text) (h : Held) → (settled rules (pending k values h)).rows ≡ used (rule_for k) values h.rows
+pub pending_settled : (k : OptionName) (values : List Text) (h : Held)
+    → (settled rules (pending k values h)).rows ≡ used (rule_for k) values h.rows
 unfolding rule_for
 pending_settled k values h = each_alike (λ k. (settled rules (pending k values h)).rows) (λ k. used (rule_for k) values h.rows) refl k
 
@@ -59,7 +61,8 @@ other_walked dashes l s waiting word h =
 abbrev are_dashes : Text → Bool
 are_dashes word = bytes_eq word (45 ∷ 45 ∷ [])
 
-plain_facts : (word : Text) → begins_with_hyphen word ≡ false → (are_dashes word ≡ false) × (long_of word ≡ None) × (short_of word ≡ None)
+plain_facts : (word : Text) → begins_with_hyphen word ≡ false
+    → (are_dashes word ≡ false) × (long_of word ≡ None) × (short_of word ≡ None)
 plain_facts [] e = (refl, refl, refl)
 plain_facts (c ∷ rest) e =
     let none : strip_byte 45 (c ∷ rest) ≡ None = rw e refl in (
@@ -68,7 +71,8 @@ plain_facts (c ∷ rest) e =
       ap (option_and_then short_of_rest) none,
     )
 
-any_turn : (waiting : Waiting) (h : Held) (word : Text) → turn_fault shape [] (at_word h waiting) word ≡ other_turn (are_dashes word) (long_of word) (short_of word) waiting word h
+any_turn : (waiting : Waiting) (h : Held) (word : Text)
+    → turn_fault shape [] (at_word h waiting) word ≡ other_turn (are_dashes word) (long_of word) (short_of word) waiting word h
 any_turn waiting h word = go waiting
   where
     parts : (waiting : Waiting) (t : Bool) (l : Option (Text × Option Text))
@@ -79,7 +83,8 @@ any_turn waiting h word = go waiting
     parts waiting false None = refl
     parts waiting false (Some p) = refl
 
-    go : (waiting : Waiting) → turn_fault shape [] (at_word h waiting) word ≡ other_turn (are_dashes word) (long_of word) (short_of word) waiting word h
+    go : (waiting : Waiting)
+        → turn_fault shape [] (at_word h waiting) word ≡ other_turn (are_dashes word) (long_of word) (short_of word) waiting word h
     go idle = parts idle (are_dashes word) (long_of word)
     go (option id) = parts (option id) (are_dashes word) (long_of word)
     go positional = parts positional (are_dashes word) (long_of word)
@@ -102,7 +107,8 @@ unfolding rule_for
 stray_turn h word = refl
 
 -- where no option waits it is refused
-pub stray_word : (h : Held) (word : Text) → begins_with_hyphen word ≡ false → turn_fault shape [] (at_word h idle) word ≡ kind.UnknownArgument ∷ []
+pub stray_word : (h : Held) (word : Text) → begins_with_hyphen word ≡ false
+    → turn_fault shape [] (at_word h idle) word ≡ kind.UnknownArgument ∷ []
 stray_word h word e =
     let f = plain_facts word e in
     any_turn idle h word ∙ (λ i. other_turn (f.0 i) (f.1 i) (f.2 i) idle word h) ∙ stray_turn h word
@@ -112,7 +118,8 @@ module _ (h : Held) (word : Text) where
   unfolding rule_for
   value_turn k = each_alike (λ k. other_turn false None None (option (option_name k)) word (pending k [] h)) (λ k. []) refl k
 
-  value_walked : (k : OptionName) → other_walked false None None (option (option_name k)) word (pending k [] h) ≡ at_word (pending k (word ∷ []) h) idle
+  value_walked : (k : OptionName)
+      → other_walked false None None (option (option_name k)) word (pending k [] h) ≡ at_word (pending k (word ∷ []) h) idle
   unfolding rule_for
   value_walked k = each_alike (λ k. other_walked false None None (option (option_name k)) word (pending k [] h)) (λ k. at_word (pending k (word ∷ []) h) idle) refl k
 
@@ -138,12 +145,14 @@ short_facts c rest e =
     (rw e refl, ap (option_and_then long_of_rest) none, rw e refl)
 
 -- it has a letter, which is no option
-bundle_refused : (h : Held) (c x : ℕ) (rest : Text) → h.skip ≡ 0 → slice_get (chars (c ∷ rest)) 0 ≡ Some x → bundle_fault rules false (c ∷ rest) h ≡ kind.UnknownArgument ∷ []
+bundle_refused : (h : Held) (c x : ℕ) (rest : Text) → h.skip ≡ 0 → slice_get (chars (c ∷ rest)) 0 ≡ Some x
+    → bundle_fault rules false (c ∷ rest) h ≡ kind.UnknownArgument ∷ []
 unfolding rule_for flags_fault
 bundle_refused h c x rest zero first =
     (λ i. bundle_step_fault rules false (first i) (c ∷ rest) (zero i) (record h { skip = 0 }) (flags_fault rules false (length rest)))
 
-pub short_refused : (waiting : Waiting) (h : Held) (c x : ℕ) (rest : Text) → (c == 45) ≡ false → h.skip ≡ 0 → slice_get (chars (c ∷ rest)) 0 ≡ Some x
+pub short_refused : (waiting : Waiting) (h : Held) (c x : ℕ) (rest : Text) → (c == 45) ≡ false → h.skip ≡ 0
+    → slice_get (chars (c ∷ rest)) 0 ≡ Some x
     → turn_fault shape [] (at_word h waiting) (short_word c rest) ≡ kind.UnknownArgument ∷ []
 short_refused waiting h c x rest e zero first =
     let f = short_facts c rest e in
@@ -182,7 +191,8 @@ walked_is positional h c rest = refl
 
 module _ (waiting : Waiting) (h : Held) (c : ℕ) (rest : Text) where
   -- no option of that name
-  pub unknown_option : arg_by_long rules (option_spelling (c ∷ rest)) ≡ None → turn_fault shape [] (at_word h waiting) (long_word c rest) ≡ kind.UnknownArgument ∷ []
+  pub unknown_option : arg_by_long rules (option_spelling (c ∷ rest)) ≡ None
+      → turn_fault shape [] (at_word h waiting) (long_word c rest) ≡ kind.UnknownArgument ∷ []
   unknown_option none = turn_is waiting h c rest ∙ ap (λ o. long_turn o (attached_value (c ∷ rest)) waiting (long_word c rest) h) none
 
   given_turn : (k : OptionName) (v : Text) → long_turn (Some (rule_for k)) (Some v) waiting (long_word c rest) h
@@ -190,7 +200,8 @@ module _ (waiting : Waiting) (h : Held) (c : ℕ) (rest : Text) where
   unfolding rule_for
   given_turn k v = or_else-nil _
 
-  given_walked : (k : OptionName) (v : Text) → long_walked (Some (rule_for k)) (Some v) waiting (long_word c rest) h ≡ at_word (reacted rules (rule_for k) (v ∷ []) h) idle
+  given_walked : (k : OptionName) (v : Text)
+      → long_walked (Some (rule_for k)) (Some v) waiting (long_word c rest) h ≡ at_word (reacted rules (rule_for k) (v ∷ []) h) idle
   unfolding rule_for
   given_walked k v = refl
 
@@ -203,11 +214,13 @@ module _ (waiting : Waiting) (h : Held) (c : ℕ) (rest : Text) where
     walked_is waiting h c rest ∙ (λ i. long_walked (found i) (has i) waiting (long_word c rest) h) ∙ given_walked k v,
   )
 
-  waits_turn : (k : OptionName) → long_turn (Some (rule_for k)) None waiting (long_word c rest) h ≡ settle_fault rules false h
+  waits_turn : (k : OptionName)
+      → long_turn (Some (rule_for k)) None waiting (long_word c rest) h ≡ settle_fault rules false h
   unfolding rule_for
   waits_turn k = or_else-nil _
 
-  waits_walked : (k : OptionName) → long_walked (Some (rule_for k)) None waiting (long_word c rest) h ≡ at_word (pending k [] (settled rules h)) (option (option_name k))
+  waits_walked : (k : OptionName)
+      → long_walked (Some (rule_for k)) None waiting (long_word c rest) h ≡ at_word (pending k [] (settled rules h)) (option (option_name k))
   unfolding rule_for
   waits_walked k = refl
 

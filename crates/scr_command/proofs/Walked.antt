@@ -46,7 +46,8 @@ refused_by : (ks : Kinds) (rows : List Row) → IsFault ks → options_by ks row
 refused_by ks rows f = rw f.2 refl
 
 -- a word with a fault
-fails_at : (w : Walk) (word : Text) (rest : List Text) → IsFault (turn_fault shape [] w word) → parsed_from w (word ∷ rest) ≡ None
+fails_at : (w : Walk) (word : Text) (rest : List Text) → IsFault (turn_fault shape [] w word)
+    → parsed_from w (word ∷ rest) ≡ None
 unfolding walk_fault
 fails_at w word rest f = refused_by _ _ (fault_first _ _ (fault_first _ _ f))
 
@@ -79,25 +80,29 @@ abbrev pub AreLeft : List Text → Type 0
 AreLeft [] = Unit {0}
 AreLeft (word ∷ rest) = IsLeft word × AreLeft rest
 
-found_is : (c : ℕ) (t : Text) (o : Option OptionName) → spelled_option (option_spelling (45 ∷ 45 ∷ c ∷ t)) ≡ o → arg_by_long rules (option_spelling (c ∷ t)) ≡ option_map rule_for o
+found_is : (c : ℕ) (t : Text) (o : Option OptionName) → spelled_option (option_spelling (45 ∷ 45 ∷ c ∷ t)) ≡ o
+    → arg_by_long rules (option_spelling (c ∷ t)) ≡ option_map rule_for o
 found_is c t o e = by_long (option_spelling (c ∷ t)) ∙ ap (λ s. option_map rule_for (spelled_option s)) (sym (long_spelling (c ∷ t))) ∙ ap (option_map rule_for) e
 
 -- a fault of what is pending comes first, at any option
-long_fails : (waiting : Waiting) (h : Held) (c : ℕ) (t : Text) → IsFault (settle_fault rules false h) → IsFault (turn_fault shape [] (at_word h waiting) (45 ∷ 45 ∷ c ∷ t))
+long_fails : (waiting : Waiting) (h : Held) (c : ℕ) (t : Text) → IsFault (settle_fault rules false h)
+    → IsFault (turn_fault shape [] (at_word h waiting) (45 ∷ 45 ∷ c ∷ t))
 long_fails waiting h c t f = go (spelled_option (option_spelling (45 ∷ 45 ∷ c ∷ t))) (attached_value (c ∷ t)) refl refl
   where
-    go : (o : Option OptionName) (v : Option Text) → spelled_option (option_spelling (45 ∷ 45 ∷ c ∷ t)) ≡ o → attached_value (c ∷ t) ≡ v
-        → IsFault (turn_fault shape [] (at_word h waiting) (45 ∷ 45 ∷ c ∷ t))
+    go : (o : Option OptionName) (v : Option Text) → spelled_option (option_spelling (45 ∷ 45 ∷ c ∷ t)) ≡ o
+        → attached_value (c ∷ t) ≡ v → IsFault (turn_fault shape [] (at_word h waiting) (45 ∷ 45 ∷ c ∷ t))
     go None v e a = (kind.UnknownArgument, [], unknown_option waiting h c t (found_is c t None e))
     go (Some k) (Some v) e a = (f.0, f.1, (given_option waiting h c t k v (found_is c t (Some k) e) a).0 ∙ rw f.2 refl)
     go (Some k) None e a = (f.0, f.1, (waiting_option waiting h c t k (found_is c t (Some k) e) a).0 ∙ f.2)
 
-short_fails : (waiting : Waiting) (h : Held) (word : Text) → h.skip ≡ 0 → IsShort word → IsFault (turn_fault shape [] (at_word h waiting) word)
+short_fails : (waiting : Waiting) (h : Held) (word : Text) → h.skip ≡ 0 → IsShort word
+    → IsFault (turn_fault shape [] (at_word h waiting) word)
 short_fails waiting h word zero short =
     subst (λ w. IsFault (turn_fault shape [] (at_word h waiting) w)) (sym short.3)
     (kind.UnknownArgument, [], short_refused waiting h short.0 short.2 short.1 short.4 zero short.5)
 
-pending_fails : (words : List Text) (h : Held) → AreLeft words → h.skip ≡ 0 → IsFault (settle_fault rules false h) → parsed_from (at_word h idle) words ≡ None
+pending_fails : (words : List Text) (h : Held) → AreLeft words → h.skip ≡ 0 → IsFault (settle_fault rules false h)
+    → parsed_from (at_word h idle) words ≡ None
 pending_fails [] h left zero f = no_words (at_word h idle) ∙ refused_by _ _ (fault_first _ _ f)
 pending_fails (word ∷ rest) h left zero f = elim left.0 [
   | inl plain ↦ fails_at (at_word h idle) word rest (kind.UnknownArgument, [], stray_word h word plain)
@@ -125,7 +130,8 @@ module _ (h : Held) (s : Values) (zero : h.skip ≡ 0) (passes : settle_fault ru
       ∙ seed_required rows ∙ ap (λ t. cond t [] missing) (held_given rows s Seed holds) in
       no_words (walk_at None h) ∙ (λ i. options_by (faults i) (finished_is h i)) ∙ go (s Seed) refl ∙ sym (no_more_words s)
     where
-      go : (o : Option Text) → s Seed ≡ o → options_by (cond (is_some (s Seed)) [] (kind.MissingRequiredArgument ∷ [])) (settled rules h).rows ≡ with_seed s
+      go : (o : Option Text) → s Seed ≡ o
+          → options_by (cond (is_some (s Seed)) [] (kind.MissingRequiredArgument ∷ [])) (settled rules h).rows ≡ with_seed s
       go None e = rw e refl
       go (Some v) e =
           let rows = (settled rules h).rows in
@@ -139,21 +145,25 @@ module _ (h : Held) (s : Values) (zero : h.skip ≡ 0) (passes : settle_fault ru
   waiting_end k = no_words (walk_at (Some k) h) ∙ refused_by _ _ (fault_first _ _ (no_value_yet k)) ∙ sym (value_missing s k)
 
   -- a value of an option that has one already is a fault, and a first one isn't
-  second_use : (k : OptionName) (u v : Text) → s k ≡ Some u → use_fault false (rule_for k) (v ∷ []) (settled rules h).rows ≡ kind.ArgumentConflict ∷ []
+  second_use : (k : OptionName) (u v : Text) → s k ≡ Some u
+      → use_fault false (rule_for k) (v ∷ []) (settled rules h).rows ≡ kind.ArgumentConflict ∷ []
   second_use k u v e = use_of_one k v (settled rules h).rows ∙ ap (λ t. cond t (kind.ArgumentConflict ∷ []) []) (held_row (settled rules h).rows s k (Some u) holds e)
 
-  first_use : (k : OptionName) (v : Text) → s k ≡ None → use_fault false (rule_for k) (v ∷ []) (settled rules h).rows ≡ []
+  first_use : (k : OptionName) (v : Text) → s k ≡ None
+      → use_fault false (rule_for k) (v ∷ []) (settled rules h).rows ≡ []
   first_use k v e = use_of_one k v (settled rules h).rows ∙ ap (λ t. cond t (kind.ArgumentConflict ∷ []) []) (held_row (settled rules h).rows s k None holds e)
 
   module _ (rest : List Text) (agrees : Agrees rest) where
     -- an option where none waits
-    idle_long : (c : ℕ) (t : Text) → parsed_from (walk_at None h) ((45 ∷ 45 ∷ c ∷ t) ∷ rest) ≡ words_after s None ((45 ∷ 45 ∷ c ∷ t) ∷ rest)
+    idle_long : (c : ℕ) (t : Text)
+        → parsed_from (walk_at None h) ((45 ∷ 45 ∷ c ∷ t) ∷ rest) ≡ words_after s None ((45 ∷ 45 ∷ c ∷ t) ∷ rest)
     unfolding options_read
     idle_long c t =
         go (spelled_option (option_spelling (45 ∷ 45 ∷ c ∷ t))) (attached_value (c ∷ t)) refl refl
         ∙ ap (λ v. option_and_then (given_after s) (option_read (spelled_option (option_spelling (45 ∷ 45 ∷ c ∷ t))) v (λ w. options_read w rest))) (sym (long_attached (c ∷ t)))
       where
-        go : (o : Option OptionName) (v : Option Text) → spelled_option (option_spelling (45 ∷ 45 ∷ c ∷ t)) ≡ o → attached_value (c ∷ t) ≡ v
+        go : (o : Option OptionName) (v : Option Text) → spelled_option (option_spelling (45 ∷ 45 ∷ c ∷ t)) ≡ o
+            → attached_value (c ∷ t) ≡ v
             → parsed_from (walk_at None h) ((45 ∷ 45 ∷ c ∷ t) ∷ rest) ≡ option_and_then (given_after s) (option_read o v (λ w. options_read w rest))
         go None v e a = fails_at (at_word h idle) _ rest (kind.UnknownArgument, [], unknown_option idle h c t (found_is c t None e))
         go (Some k) None e a =
@@ -174,20 +184,23 @@ module _ (h : Held) (s : Values) (zero : h.skip ≡ 0) (passes : settle_fault ru
                 ∙ agrees None (reacted rules (rule_for k) (v ∷ []) h) (set_value k v s) zero refl (first_use_holds (settled rules h).rows s k v holds free) ∙ rw free refl
 
     -- another word there
-    idle_plain : (word : Text) → begins_with_hyphen word ≡ false → parsed_from (walk_at None h) (word ∷ rest) ≡ words_after s None (word ∷ rest)
+    idle_plain : (word : Text) → begins_with_hyphen word ≡ false
+        → parsed_from (walk_at None h) (word ∷ rest) ≡ words_after s None (word ∷ rest)
     unfolding options_read
     idle_plain word plain =
         fails_at (at_word h idle) word rest (kind.UnknownArgument, [], stray_word h word plain)
         ∙ ap (λ o. option_and_then (given_after s) (option_read o (attached_value word) (λ w. options_read w rest))) (sym (plain_spelling word plain))
 
-    idle_short : (word : Text) → IsShort word → parsed_from (walk_at None h) (word ∷ rest) ≡ words_after s None (word ∷ rest)
+    idle_short : (word : Text) → IsShort word
+        → parsed_from (walk_at None h) (word ∷ rest) ≡ words_after s None (word ∷ rest)
     unfolding options_read
     idle_short word short =
         let none : spelled_option (option_spelling word) ≡ None = subst (λ w. spelled_option (option_spelling w) ≡ None) (sym short.3) (short_spelling short.0 short.1 short.4) in
         fails_at (at_word h idle) word rest (short_fails idle h word zero short)
         ∙ ap (λ o. option_and_then (given_after s) (option_read o (attached_value word) (λ w. options_read w rest))) (sym none)
 
-    waiting_short : (k : OptionName) (word : Text) → IsShort word → parsed_from (walk_at (Some k) h) (word ∷ rest) ≡ words_after s (Some k) (word ∷ rest)
+    waiting_short : (k : OptionName) (word : Text) → IsShort word
+        → parsed_from (walk_at (Some k) h) (word ∷ rest) ≡ words_after s (Some k) (word ∷ rest)
     unfolding options_read
     waiting_short k word short =
         let hyphen : begins_with_hyphen word ≡ true = ap begins_with_hyphen short.3 in
@@ -195,12 +208,14 @@ module _ (h : Held) (s : Values) (zero : h.skip ≡ 0) (passes : settle_fault ru
         ∙ ap (λ b. option_and_then (given_after s) (cond b None (with_given k word (options_read None rest)))) (sym hyphen)
 
     -- an option where one waits
-    waiting_long : (k : OptionName) (c : ℕ) (t : Text) → parsed_from (walk_at (Some k) h) ((45 ∷ 45 ∷ c ∷ t) ∷ rest) ≡ words_after s (Some k) ((45 ∷ 45 ∷ c ∷ t) ∷ rest)
+    waiting_long : (k : OptionName) (c : ℕ) (t : Text)
+        → parsed_from (walk_at (Some k) h) ((45 ∷ 45 ∷ c ∷ t) ∷ rest) ≡ words_after s (Some k) ((45 ∷ 45 ∷ c ∷ t) ∷ rest)
     unfolding options_read
     waiting_long k c t = fails_at (walk_at (Some k) h) _ rest (long_fails (option (option_name k)) (pending k [] (settled rules h)) c t (no_value_yet k))
 
     -- a value where an option waits
-    waiting_plain : (k : OptionName) (word : Text) → AreLeft rest → begins_with_hyphen word ≡ false → parsed_from (walk_at (Some k) h) (word ∷ rest) ≡ words_after s (Some k) (word ∷ rest)
+    waiting_plain : (k : OptionName) (word : Text) → AreLeft rest → begins_with_hyphen word ≡ false
+        → parsed_from (walk_at (Some k) h) (word ∷ rest) ≡ words_after s (Some k) (word ∷ rest)
     unfolding options_read
     waiting_plain k word left plain =
         let turn = value_word k (settled rules h) word plain in

@@ -13,7 +13,8 @@ use Rattle.clap.specs.Walk.{arg_by_long}
 pub option_spelling-equals : (c : ℕ) (rest : Text) → is_equals c ≡ true → option_spelling (c ∷ rest) ≡ []
 option_spelling-equals c rest h = rw h refl
 
-pub option_spelling-cons : (c : ℕ) (rest : Text) → is_equals c ≡ false → option_spelling (c ∷ rest) ≡ c ∷ option_spelling rest
+pub option_spelling-cons : (c : ℕ) (rest : Text) → is_equals c ≡ false
+    → option_spelling (c ∷ rest) ≡ c ∷ option_spelling rest
 option_spelling-cons c rest h =
     let n = position_or_len is_equals rest in
     let next : 1 + n ≡ suc n = omega arith in
@@ -33,7 +34,8 @@ pub long_attached : (rest : Text) → attached_value (45 ∷ 45 ∷ rest) ≡ at
 long_attached rest = attached-cons 45 (45 ∷ rest) refl ∙ attached-cons 45 rest refl
 
 -- the parser's option of a long name is the grammar's
-long_in : (options : List OptionName) (name : Text) → arg_by_long (map rule_for options) name ≡ option_map rule_for (find (λ k. bytes_eq (flag_of k) (45 ∷ 45 ∷ name)) options)
+long_in : (options : List OptionName) (name : Text)
+    → arg_by_long (map rule_for options) name ≡ option_map rule_for (find (λ k. bytes_eq (flag_of k) (45 ∷ 45 ∷ name)) options)
 unfolding rule_for
 long_in [] name = refl
 long_in (k ∷ options) name = go (bytes_eq (option_name k) name) refl (long_in options name)

@@ -38,8 +38,8 @@ abbrev pub with_given : OptionName → Text → Option (List Given) → Option (
 with_given option value = option_map (λ rest. record { option = option; value = value } ∷ rest)
 
 -- The options with their values, in order, that the words are; none where they are no such list. A word where an option
--- must stand has its value after `=`, or waits for it. A word where an option waits for its value, as it does where it is
--- given here, is any that doesn't begin with a hyphen, and the empty one too.
+-- must stand has its value after `=`, or waits for it. A word where an option waits for its value, as it does where it
+-- is given here, is any that doesn't begin with a hyphen, and the empty one too.
 unfoldable pub options_read : Option OptionName → List Text → Option (List Given)
 options_read None [] = Some []
 options_read (Some option) [] = None

@@ -32,8 +32,8 @@ pub enum Command {
     Load(u32),
     /// One scramble of a cube's event, of stream 0 of a seed, and the net of the scrambled cube.
     Net(Event, Seed),
-    /// Whether the sheet in the input is one of the rounds that the input lists before it, made with a seed; the draw of a
-    /// slot has so many attempts.
+    /// Whether the sheet in the input is one of the rounds that the input lists before it, made with a seed; the draw
+    /// of a slot has so many attempts.
     Check(Seed, u32),
 }
 

@@ -32,7 +32,8 @@ pub fn numbers_of_a_sheet()
 pub fn numbers_of_a_check()
     ensures usual { SetsAttempts [] 1000 }
     ensures greatest { SetsAttempts (codes "--attempts=1000000" ∷ []) 1000000 }
-    ensures others { AreNoCheck (codes "--tries=1" ∷ []) × AreNoCheck (codes "--workers=1" ∷ []) × AreNoCheck (codes "--short=1" ∷ []) }
+    ensures others { AreNoCheck (codes "--tries=1" ∷ []) × AreNoCheck (codes "--workers=1" ∷ [])
+        × AreNoCheck (codes "--short=1" ∷ []) }
 {}
 
 /// Words that are no command: options twice, short, cut off, or of no name, values that are missing, and no words.
@@ -40,7 +41,8 @@ pub fn words_that_are_refused()
     ensures twice { AreRefused (codes "--tries=1" ∷ codes "--tries=1" ∷ []) × AreRefused (codes "--seed=0" ∷ []) }
     ensures short { AreRefused (codes "-w" ∷ codes "1" ∷ []) × AreRefused (codes "--work=1" ∷ []) }
     ensures unknown { AreRefused (codes "--help" ∷ []) × AreRefused (codes "1" ∷ []) × AreRefused (codes "--" ∷ []) }
-    ensures without_value { AreRefused (codes "--tries" ∷ []) × AreRefused (codes "--tries" ∷ codes "--workers=1" ∷ []) }
+    ensures without_value { AreRefused (codes "--tries" ∷ [])
+        × AreRefused (codes "--tries" ∷ codes "--workers=1" ∷ []) }
     ensures without_seed { command_of (codes "sheet" ∷ codes "--tries=1" ∷ []) ≡ Err Grammar }
     ensures none { command_of [] ≡ Err Grammar }
 {}

@@ -35,7 +35,8 @@ StaysBelow-projection v IsList IsTurn turns l each p t q at turn e =
     let made = l.turned (v.list_at p) found.0 (l.one_to_one.valid p at) (All-got IsTurn turns t found.0 each found.1) in
     subst (λ k. k < v.count) found.2 (l.one_to_one.below (v.turned (v.list_at p) found.0) made)
 
-pub IsListView-twists : (n base : ℕ) → 0 < n → 0 < base → IsListView (twists_view n base) (IsTwists n base) (IsZeroSumRearrangement n base)
+pub IsListView-twists : (n base : ℕ) → 0 < n → 0 < base
+    → IsListView (twists_view n base) (IsTwists n base) (IsZeroSumRearrangement n base)
 unfolding turned_orbit
 IsListView-twists n base some pos = record {
   one_to_one = twists_one_to_one n base some pos;
@@ -62,7 +63,8 @@ IsListView-place_sets n k home h = record {
 
 -- for turns in arrays
 of_arrays : {n : ℕ} (v : ListView) (IsList : List ℕ → Type 0) (IsTurn : Rearrangement → Type 0) (turns : List (PlaceTurn n))
-    → IsListView v IsList IsTurn → All (λ turn. IsTurn (rearrangement_of turn)) turns → StaysBelow (projection v (map rearrangement_of turns))
+    → IsListView v IsList IsTurn → All (λ turn. IsTurn (rearrangement_of turn)) turns
+    → StaysBelow (projection v (map rearrangement_of turns))
 of_arrays v IsList IsTurn turns l each =
     StaysBelow-projection v IsList IsTurn (map rearrangement_of turns) l (All-map IsTurn rearrangement_of turns each)
 
@@ -77,7 +79,8 @@ pub StaysBelow-pieces : (n : ℕ) (turns : List (PlaceTurn n)) → All (λ turn.
 StaysBelow-pieces n turns each =
     of_arrays (pieces_view n) (IsPermutation n) (λ r. IsPermutation n r.places) turns (IsListView-pieces n) each
 
-pub StaysBelow-place_sets : (n k : ℕ) (home : List ℕ) (turns : List (PlaceTurn n)) → IsPlaceSet n k home → All (λ turn. IsPermutation n turn.places) turns
+pub StaysBelow-place_sets : (n k : ℕ) (home : List ℕ) (turns : List (PlaceTurn n)) → IsPlaceSet n k home
+    → All (λ turn. IsPermutation n turn.places) turns
     → StaysBelow (projection (place_set_view n k home) (map rearrangement_of turns))
 StaysBelow-place_sets n k home turns h each =
     of_arrays (place_set_view n k home) (IsPlaceSet n k) (λ r. IsPermutation n r.places) turns (IsListView-place_sets n k home h) each

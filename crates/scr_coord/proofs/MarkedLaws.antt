@@ -15,13 +15,14 @@ use Rattle.scr_coord.specs.Projections.{marked_from, stands_in, turned_set}
 -- ---- the places of marked pieces
 
 -- a place, and the later ones
-IsPlaceSetFrom-marked_by : (marked : ℕ → Bool) (low n : ℕ) (b : Bool) (rest : List ℕ) → low < n → IsPlaceSetFrom (suc low) n rest
-    → IsPlaceSetFrom low n (cond b (low ∷ rest) rest)
+IsPlaceSetFrom-marked_by : (marked : ℕ → Bool) (low n : ℕ) (b : Bool) (rest : List ℕ) → low < n
+    → IsPlaceSetFrom (suc low) n rest → IsPlaceSetFrom low n (cond b (low ∷ rest) rest)
 IsPlaceSetFrom-marked_by marked low n true rest lt h = (omega arith, lt, h)
 IsPlaceSetFrom-marked_by marked low n false rest lt h = IsPlaceSetFrom-lower low n rest h
 
 -- the places of marked pieces are an increasing list
-pub IsPlaceSetFrom-marked : (marked : ℕ → Bool) (low n : ℕ) (xs : List ℕ) → n ≡ low + length xs → IsPlaceSetFrom low n (marked_from marked low xs)
+pub IsPlaceSetFrom-marked : (marked : ℕ → Bool) (low n : ℕ) (xs : List ℕ) → n ≡ low + length xs
+    → IsPlaceSetFrom low n (marked_from marked low xs)
 IsPlaceSetFrom-marked marked low n [] e = tt
 IsPlaceSetFrom-marked marked low n (x ∷ xs) e =
     IsPlaceSetFrom-marked_by marked low n (marked x) (marked_from marked (suc low) xs) (omega (arith, e))
@@ -32,13 +33,15 @@ length_by true low rest = omega arith
 length_by false low rest = omega arith
 
 -- there are as many as marked pieces
-pub length-marked : (marked : ℕ → Bool) (low : ℕ) (xs : List ℕ) → length (marked_from marked low xs) ≡ total_by (λ x. one_if (marked x)) xs
+pub length-marked : (marked : ℕ → Bool) (low : ℕ) (xs : List ℕ)
+    → length (marked_from marked low xs) ≡ total_by (λ x. one_if (marked x)) xs
 length-marked marked low [] = refl
 length-marked marked low (x ∷ xs) =
     length_by (marked x) low (marked_from marked (suc low) xs) ∙ ap (λ n. one_if (marked x) + n) (length-marked marked (suc low) xs)
 
 -- marks that agree on each piece give the same places
-pub marked-same : (marked other : ℕ → Bool) (low : ℕ) (xs : List ℕ) → All (λ x. marked x ≡ other x) xs → marked_from marked low xs ≡ marked_from other low xs
+pub marked-same : (marked other : ℕ → Bool) (low : ℕ) (xs : List ℕ) → All (λ x. marked x ≡ other x) xs
+    → marked_from marked low xs ≡ marked_from other low xs
 marked-same marked other low [] h = refl
 marked-same marked other low (x ∷ xs) h =
     let P : ℕ → Type 0 = λ x. marked x ≡ other x in
@@ -94,7 +97,8 @@ marked-own low (suc count) n (x ∷ xs) e h =
     ]
 
 -- a turned set is a set of as many places
-pub IsPlaceSet-turned : (n k : ℕ) (set : List ℕ) (r : Rearrangement) → IsPlaceSet n k set → IsPermutation n r.places → IsPlaceSet n k (turned_set set r)
+pub IsPlaceSet-turned : (n k : ℕ) (set : List ℕ) (r : Rearrangement) → IsPlaceSet n k set → IsPermutation n r.places
+    → IsPlaceSet n k (turned_set set r)
 IsPlaceSet-turned n k set r h turn = record {
   size = length-marked (stands_in set) 0 r.places
       ∙ total_by-rearranged (λ x. one_if (stands_in set x)) r.places (numbers_from 0 n) (IsRearranged-permutations n r.places (numbers_from 0 n) turn (IsPermutation-numbers_from n))

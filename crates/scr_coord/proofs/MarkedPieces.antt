@@ -23,11 +23,13 @@ stands_in-first marked low x xs true e = ap (λ b. b || stands_in (marked_from m
 stands_in-first marked low x xs false e =
     stands_in-later low (suc low + length xs) (marked_from marked (suc low) xs) (IsPlaceSetFrom-marked marked (suc low) (suc low + length xs) xs refl)
 
-stands_in-rest : (low y : ℕ) (rest : List ℕ) (b : Bool) → low < y → stands_in (cond b (low ∷ rest) rest) y ≡ stands_in rest y
+stands_in-rest : (low y : ℕ) (rest : List ℕ) (b : Bool) → low < y
+    → stands_in (cond b (low ∷ rest) rest) y ≡ stands_in rest y
 stands_in-rest low y rest true lt = ap (λ b. b || stands_in rest y) (ne_eqb low y (λ e. omega arith))
 stands_in-rest low y rest false lt = refl
 
-pub stands_in-marked : (marked : ℕ → Bool) (low k : ℕ) (xs : List ℕ) → k < length xs → stands_in (marked_from marked low xs) (low + k) ≡ marked (slice_index xs k)
+pub stands_in-marked : (marked : ℕ → Bool) (low k : ℕ) (xs : List ℕ) → k < length xs
+    → stands_in (marked_from marked low xs) (low + k) ≡ marked (slice_index xs k)
 stands_in-marked marked low k [] lt = absurd (omega arith)
 stands_in-marked marked low zero (x ∷ xs) lt =
     ap (stands_in (marked_from marked low (x ∷ xs))) (omega arith) ∙ stands_in-first marked low x xs (marked x) refl
@@ -38,7 +40,8 @@ stands_in-marked marked low (suc k) (x ∷ xs) lt =
     ∙ stands_in-marked marked (suc low) k xs (omega arith)
 
 -- marks of picked pieces are marks of the places that they are picked from
-pub marked-map : (marked : ℕ → Bool) (f : ℕ → ℕ) (low : ℕ) (ks : List ℕ) → marked_from marked low (map f ks) ≡ marked_from (λ k. marked (f k)) low ks
+pub marked-map : (marked : ℕ → Bool) (f : ℕ → ℕ) (low : ℕ) (ks : List ℕ)
+    → marked_from marked low (map f ks) ≡ marked_from (λ k. marked (f k)) low ks
 marked-map marked f low [] = refl
 marked-map marked f low (k ∷ ks) = ap (λ rest. cond (marked (f k)) (low ∷ rest) rest) (marked-map marked f (suc low) ks)
 
@@ -59,8 +62,8 @@ marked-turned marked xs r below =
     ∙ marked-same (λ k. marked (slice_index xs k)) (stands_in (marked_places marked xs)) 0 r.places (All-stand marked xs r.places below)
 
 -- and are as many as before
-pub IsPlaceSet-marked : (n k : ℕ) (marked : ℕ → Bool) (xs : List ℕ) → IsPermutation n xs → length (marked_places marked (numbers_from 0 n)) ≡ k
-    → IsPlaceSet n k (marked_places marked xs)
+pub IsPlaceSet-marked : (n k : ℕ) (marked : ℕ → Bool) (xs : List ℕ) → IsPermutation n xs
+    → length (marked_places marked (numbers_from 0 n)) ≡ k → IsPlaceSet n k (marked_places marked xs)
 IsPlaceSet-marked n k marked xs h e = record {
   size = length-marked marked 0 xs
       ∙ total_by-rearranged (λ x. one_if (marked x)) xs (numbers_from 0 n) (IsRearranged-permutations n xs (numbers_from 0 n) h (IsPermutation-numbers_from n))

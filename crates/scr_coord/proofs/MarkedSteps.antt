@@ -10,7 +10,8 @@ append_by : (b : Bool) (low : ℕ) (xs ys : List ℕ) → cond b (low ∷ (xs ++
 append_by true low xs ys = refl
 append_by false low xs ys = refl
 
-pub marked-append : (marked : ℕ → Bool) (low : ℕ) (xs ys : List ℕ) → marked_from marked low (xs ++ ys) ≡ marked_from marked low xs ++ marked_from marked (low + length xs) ys
+pub marked-append : (marked : ℕ → Bool) (low : ℕ) (xs ys : List ℕ)
+    → marked_from marked low (xs ++ ys) ≡ marked_from marked low xs ++ marked_from marked (low + length xs) ys
 marked-append marked low [] ys = ap (λ n. marked_from marked n ys) (sym (add-zero low))
 marked-append marked low (x ∷ xs) ys =
     let on : suc low + length xs ≡ low + suc (length xs) = omega arith in
@@ -26,7 +27,8 @@ marked-more marked xs k lt =
     ∙ marked-append marked 0 (take k xs) (get_or xs k 0 ∷ [])
     ∙ ap (λ n. marked_places marked (take k xs) ++ marked_from marked n (get_or xs k 0 ∷ [])) (omega (arith, length-take-le k xs (omega arith)))
 
-total_by-take : (f : ℕ → ℕ) (xs : List ℕ) (k : ℕ) → k < length xs → f (get_or xs k 0) + total_by f (take k xs) ≤ total_by f xs
+total_by-take : (f : ℕ → ℕ) (xs : List ℕ) (k : ℕ) → k < length xs
+    → f (get_or xs k 0) + total_by f (take k xs) ≤ total_by f xs
 total_by-take f [] k lt = absurd (omega arith)
 total_by-take f (x ∷ xs) zero lt = omega arith
 total_by-take f (x ∷ xs) (suc k) lt = omega (arith, total_by-take f xs k (omega arith))
@@ -49,13 +51,14 @@ pub record FoundSoFar (marked : ℕ → Bool) (xs out : List ℕ) (found place :
   pub counted : found ≡ length (marked_places marked (take place xs))
 
 -- there is room for one more
-pub found_room : (marked : ℕ → Bool) (xs out : List ℕ) (found place : ℕ) → FoundSoFar marked xs out found place → place < length xs
-    → length (marked_places marked xs) ≡ length out → marked (get_or xs place 0) ≡ true → found < length out
+pub found_room : (marked : ℕ → Bool) (xs out : List ℕ) (found place : ℕ) → FoundSoFar marked xs out found place
+    → place < length xs → length (marked_places marked xs) ≡ length out → marked (get_or xs place 0) ≡ true
+    → found < length out
 found_room marked xs out found place so_far lt fits e = omega (arith, so_far.counted, marked-room marked xs place lt e)
 
 -- at a marked piece its place is written behind them
-pub found_more : (marked : ℕ → Bool) (xs out : List ℕ) (found place : ℕ) → FoundSoFar marked xs out found place → place < length xs
-    → length (marked_places marked xs) ≡ length out → marked (get_or xs place 0) ≡ true
+pub found_more : (marked : ℕ → Bool) (xs out : List ℕ) (found place : ℕ) → FoundSoFar marked xs out found place
+    → place < length xs → length (marked_places marked xs) ≡ length out → marked (get_or xs place 0) ≡ true
     → FoundSoFar marked xs (set out found place) (found + 1) (place + 1)
 found_more marked xs out found place so_far lt fits e =
     let more = marked-more marked xs place lt ∙ ap (λ b. marked_places marked (take place xs) ++ cond b (place ∷ []) []) e in
@@ -66,8 +69,8 @@ found_more marked xs out found place so_far lt fits e =
     }
 
 -- at any other nothing is
-pub found_none : (marked : ℕ → Bool) (xs out : List ℕ) (found place : ℕ) → FoundSoFar marked xs out found place → place < length xs
-    → marked (get_or xs place 0) ≡ false → FoundSoFar marked xs out found (place + 1)
+pub found_none : (marked : ℕ → Bool) (xs out : List ℕ) (found place : ℕ) → FoundSoFar marked xs out found place
+    → place < length xs → marked (get_or xs place 0) ≡ false → FoundSoFar marked xs out found (place + 1)
 found_none marked xs out found place so_far lt e =
     let same =
     marked-more marked xs place lt ∙ ap (λ b. marked_places marked (take place xs) ++ cond b (place ∷ []) []) e
@@ -75,8 +78,8 @@ found_none marked xs out found place so_far lt e =
     record { front = so_far.front ∙ sym same; counted = so_far.counted ∙ sym (ap length same) }
 
 -- at the end they are all that is written
-pub found_all : (marked : ℕ → Bool) (xs out : List ℕ) (found place : ℕ) → FoundSoFar marked xs out found place → length xs ≤ place
-    → length (marked_places marked xs) ≡ length out → out ≡ marked_places marked xs
+pub found_all : (marked : ℕ → Bool) (xs out : List ℕ) (found place : ℕ) → FoundSoFar marked xs out found place
+    → length xs ≤ place → length (marked_places marked xs) ≡ length out → out ≡ marked_places marked xs
 found_all marked xs out found place so_far le e =
     let whole = take_all place xs le in
     let all : length out ≤ found = omega (arith, e, so_far.counted, ap (λ ys. length (marked_places marked ys)) whole) in

@@ -37,7 +37,8 @@ after_read v turns p t q turn seen lt e number =
     (turn-at turns (map rearrangement_of turns) t turn refl (omega (arith, length-map turns rearrangement_of))))
 
 -- Turns that keep the sum of the digits move the pieces.
-pub AreTurns-places : {n : ℕ} (base : ℕ) (turns : List (PlaceTurn n)) → AreTurns (λ turn. IsZeroSumRearrangement n base (rearrangement_of turn)) turns
+pub AreTurns-places : {n : ℕ} (base : ℕ) (turns : List (PlaceTurn n))
+    → AreTurns (λ turn. IsZeroSumRearrangement n base (rearrangement_of turn)) turns
     → AreTurns (λ turn. IsPermutation n turn.places) turns
 AreTurns-places base turns h = record { some = h.some; few = h.few; each = λ k d lt. (h.each k d lt).places }
 

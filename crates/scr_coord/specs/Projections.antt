@@ -18,7 +18,8 @@ pub record ListView : Type 0 where
   pub turned : List ℕ → Rearrangement → List ℕ
   pub goal : List ℕ
 
--- The coordinate that sees a list by its number: a turn leads to the number of the turned list of the list with this number.
+-- The coordinate that sees a list by its number: a turn leads to the number of the turned list of the list with this
+-- number.
 abbrev pub projection : ListView → List Rearrangement → Coordinate
 projection v turns = record {
   count = v.count;
@@ -29,8 +30,8 @@ projection v turns = record {
 
 -- ---- the three kinds, over n places
 
--- Digits below a base whose sum is 0, as twists and flips: each place gets the digit of the place that its piece comes from,
--- and what the turn adds. The goal is that all are 0.
+-- Digits below a base whose sum is 0, as twists and flips: each place gets the digit of the place that its piece comes
+-- from, and what the turn adds. The goal is that all are 0.
 abbrev pub twists_view : ℕ → ℕ → ListView
 twists_view n base = record {
   count = base ^ (n - 1);
@@ -53,7 +54,8 @@ marked_places marked pieces = marked_from marked 0 pieces
 abbrev pub stands_in : List ℕ → ℕ → Bool
 stands_in xs x = list_any (λ y. y == x) xs
 
--- The places at which the pieces of a set of places stand after a turn: those that get their piece from a place of the set.
+-- The places at which the pieces of a set of places stand after a turn: those that get their piece from a place of the
+-- set.
 abbrev pub turned_set : List ℕ → Rearrangement → List ℕ
 turned_set set turn = marked_places (stands_in set) turn.places
 

@@ -8,8 +8,8 @@ ghost use Rattle.scr_orbit.specs.Orbits.{Rearrangement, IsOrbit, IsRearrangement
 ghost use Rattle.scr_positions.specs.SearchSpaces.{positions, Follows};
 ghost use Rattle.scr_coord.specs.Projections.{AreTurns, projection, twists_view, pieces_view, place_set_view, marked_places, turned_set, orbit_space};
 
-/// The numbers of an orbit's digits, of its pieces, and of the places at which marked pieces stand go along with turns, so
-/// that a search finds the same on them. `marked` marks `k` of the `n` pieces.
+/// The numbers of an orbit's digits, of its pieces, and of the places at which marked pieces stand go along with turns,
+/// so that a search finds the same on them. `marked` marks `k` of the `n` pieces.
 pub fn projections()
     ensures twists { (n base : ℕ) (turns : List Rearrangement) → 0 < n → 0 < base → All (IsZeroSumRearrangement n base) turns
         → Follows (orbit_space base turns (IsZeroSumOrbit n base) (λ o. o.digits ≡ zeros n))
@@ -24,8 +24,8 @@ pub fn projections()
         (positions (projection (place_set_view n k home) turns)) (λ o. place_set_number n (marked_places marked o.pieces)) }
 {}
 
-/// The definitions at lists worked by hand, and what they refuse. The turn is a cycle of three places: place 0 gets what
-/// stands at place 2, place 1 what stands at 0, and place 2 what stands at 1.
+/// The definitions at lists worked by hand, and what they refuse. The turn is a cycle of three places: place 0 gets
+/// what stands at place 2, place 1 what stands at 0, and place 2 what stands at 1.
 pub fn rows()
     // the digits 1 2 0 are carried to 0 1 2, and 0 1 2 is added to them, modulo 3
     ensures digits { (twists_view 3 3).turned (1 ∷ 2 ∷ 0 ∷ []) (record { places = 2 ∷ 0 ∷ 1 ∷ []; added = 0 ∷ 1 ∷ 2 ∷ [] })

@@ -12,7 +12,8 @@ use scr_positions::Coord;
 use scr_rank::Choose;
 use scr_rank::place_sets::count_sets;
 
-/// The set of the places, among `N`, at which `K` marked pieces stand, numbered by [`Choose`]. The goal is the set `home`.
+/// The set of the places, among `N`, at which `K` marked pieces stand, numbered by [`Choose`]. The goal is the set
+/// `home`.
 #[derive(Drop)]
 pub struct PlaceSet<'a, const N: usize, const K: usize> {
     /// The turns, each at its number.
@@ -40,7 +41,8 @@ impl<'a, const N: usize, const K: usize> PlaceSet<'a, N, K> {
     }
 }
 
-/// Fills `out` with the places of the elements of `set` in `list`, in increasing order. There are as many as `out` takes.
+/// Fills `out` with the places of the elements of `set` in `list`, in increasing order. There are as many as `out`
+/// takes.
 pub fn places_of(set: &[u8], list: &[u8], out: &mut [u8])
     requires few { length list.now ≤ 256 }
     requires fits { length (marked_places (stands_in set.now) list.now) ≡ length out.old }

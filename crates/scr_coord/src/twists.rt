@@ -9,8 +9,8 @@ use scr_orbit::{PlaceTurn, add_digits, pick_into};
 use scr_positions::Coord;
 use scr_rank::TwistRank;
 
-/// The list of the digits of `N` places, below `BASE` and with sum 0 modulo `BASE`, numbered by [`TwistRank`]. The goal is
-/// that all are 0.
+/// The list of the digits of `N` places, below `BASE` and with sum 0 modulo `BASE`, numbered by [`TwistRank`]. The goal
+/// is that all are 0.
 #[derive(Drop)]
 pub struct Twists<'a, const N: usize, const BASE: usize> {
     /// The turns, each at its number.

@@ -41,7 +41,8 @@ IsJoining-cubes =
     }
 
 -- the inverse of both parts, whose digits still sum to 0 and whose parities are still alike
-pub IsInverse-parts : (s : CubeState) (corners edges : Orbit) → IsCube s → IsInverse (orbit_then 3) (solved_orbit 8) (IsOrbit 8 3) s.corners corners
+pub IsInverse-parts : (s : CubeState) (corners edges : Orbit) → IsCube s
+    → IsInverse (orbit_then 3) (solved_orbit 8) (IsOrbit 8 3) s.corners corners
     → IsInverse (orbit_then 2) (solved_orbit 12) (IsOrbit 12 2) s.edges edges
     → IsInverse cube_then solved_cube IsCube s (record { corners = corners; edges = edges })
 unfolding cube_then solved_cube
@@ -99,7 +100,8 @@ play-then c d w own played =
     ∙ ap Some (sym (then-turned c d))
 
 -- each turn of the event leads somewhere
-after-some : (c : CubeState) (t : Turn) → IsTrue (permits C333 t) → (d : CubeState) × (after_letter cube_powers c t ≡ Some d)
+after-some : (c : CubeState) (t : Turn) → IsTrue (permits C333 t)
+    → (d : CubeState) × (after_letter cube_powers c t ≡ Some d)
 after-some c (Face face depth amount) h =
     let p = face_turn_parts 1 1 face depth amount h in
     let outer : 1 ≡ depth =
@@ -109,7 +111,8 @@ after-some c (Face face depth amount) h =
 after-some c t h = absurd (false≢true h)
 
 -- and so does each word of them
-pub play-some : (c : CubeState) (w : List Turn) → All (λ t. IsTrue (permits C333 t)) w → (d : CubeState) × (play (after_letter cube_powers) c w ≡ Some d)
+pub play-some : (c : CubeState) (w : List Turn) → All (λ t. IsTrue (permits C333 t)) w
+    → (d : CubeState) × (play (after_letter cube_powers) c w ≡ Some d)
 play-some c [] h = (c, play-empty (after_letter cube_powers) c)
 play-some c (t ∷ w) h =
     let first = after-some c t (All-head (λ u. IsTrue (permits C333 u)) t w h) in
@@ -119,7 +122,8 @@ play-some c (t ∷ w) h =
 pub IsCube-played : (d : CubeState) (w : List Turn) → play (after_letter cube_powers) solved_cube w ≡ Some d → IsCube d
 IsCube-played d w e = play-keeps (after_letter cube_powers) IsCube lawful_cube.lawful.kept solved_cube d w IsCube-solved e
 
-pub words_joined : (v w : List Turn) → All (λ t. IsTrue (permits C333 t)) v → All (λ t. IsTrue (permits C333 t)) w → IsJoined v w
+pub words_joined : (v w : List Turn) → All (λ t. IsTrue (permits C333 t)) v → All (λ t. IsTrue (permits C333 t)) w
+    → IsJoined v w
 words_joined v w h k =
     let first = play-some solved_cube v h in
     let second = play-some solved_cube w k in

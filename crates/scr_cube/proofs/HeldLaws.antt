@@ -1,5 +1,5 @@
--- Turns of a held cube: what they do to the cube itself, that they can be taken back and merged, and the words at places that
--- the cube's own words are.
+-- Turns of a held cube: what they do to the cube itself, that they can be taken back and merged, and the words at
+-- places that the cube's own words are.
 use Rattle.std.proofs.Common.{◌≡◌, ℕ, suc, ◌+◌, ◌-◌, ◌/◌, ◌%◌, ◌<◌, ◌≤◌, Bool, true, false, IsTrue, cond, List, [], ◌∷◌, Option, Some, None, length, refl, sym, ap, ◌∙◌, subst, arith, lit≤, eqb, eqb-true, eq-eqb, inl, inr, append-nil}
 use Rattle.std.specs.Prelude.{Contains, slice_index}
 use Rattle.std.specs.Option.{option_map}
@@ -70,7 +70,8 @@ held_cube_after-none s t e =
     ap (λ b. cond b (option_map made (after_letter cube_powers s.cube (face_letter s.centres t))) None) e
 
 -- a turn at a place, and a wide turn
-pub place_parts : (place depth amount : ℕ) → place < 6 → 1 ≤ depth → depth ≤ 2 → (depth ≡ 2 → place < 3) → 0 < amount → amount ≤ 3 → IsFaceTurn 2 1 place depth amount
+pub place_parts : (place depth amount : ℕ) → place < 6 → 1 ≤ depth → depth ≤ 2 → (depth ≡ 2 → place < 3) → 0 < amount
+    → amount ≤ 3 → IsFaceTurn 2 1 place depth amount
 place_parts place depth amount low some few wide quarter whole = record {
   face_below = low;
   some_layer = some;
@@ -84,7 +85,8 @@ place_parts place depth amount low some few wide quarter whole = record {
   no_whole = omega arith;
 }
 
-pub face_parts : (place depth amount : ℕ) → IsTrue (permits Bf333 (Face place depth amount)) → IsFaceTurn 2 1 place depth amount
+pub face_parts : (place depth amount : ℕ) → IsTrue (permits Bf333 (Face place depth amount))
+    → IsFaceTurn 2 1 place depth amount
 face_parts place depth amount h = face_turn_parts 2 1 place depth amount h
 
 -- a turn of more layers than one is at U, R or F
@@ -92,15 +94,16 @@ pub near_place : (place depth amount : ℕ) → IsFaceTurn 2 1 place depth amoun
 near_place place depth amount p more =
     elim (cases_lt place 3) [ inl lt ↦ lt | inr far ↦ absurd (more (omega (arith, p.far_layers far, p.some_layer))) ]
 
-pub Contains-turned : (centres : List ℕ) (place depth amount : ℕ) → IsFaceTurn 2 1 place depth amount → Contains holds centres
-    → Contains holds (centres_turned centres place depth amount)
+pub Contains-turned : (centres : List ℕ) (place depth amount : ℕ) → IsFaceTurn 2 1 place depth amount
+    → Contains holds centres → Contains holds (centres_turned centres place depth amount)
 Contains-turned centres place depth amount p there = by_depth (eqb depth 1) refl
   where
     by_depth : (b : Bool) → eqb depth 1 ≡ b → Contains holds (cond b centres (whole_turned place centres amount))
     by_depth true e = there
     by_depth false e = Contains-whole place centres amount (near_place place depth amount p (eqb-false depth 1 e)) there
 
-pub Contains-after : (centres : List ℕ) (t : Turn) → IsTrue (permits Bf333 t) → Contains holds centres → Contains holds (centres_after centres t)
+pub Contains-after : (centres : List ℕ) (t : Turn) → IsTrue (permits Bf333 t) → Contains holds centres
+    → Contains holds (centres_after centres t)
 Contains-after centres (Face place depth amount) h there = Contains-turned centres place depth amount (face_parts place depth amount h) there
 Contains-after centres _ h there = there
 
@@ -116,7 +119,8 @@ IsHeld-after s r t valid e =
 opposite_place-lt : (place : ℕ) → opposite_place place < 6
 opposite_place-lt place = omega arith
 
-pub turned_face-lt : (centres : List ℕ) (place depth : ℕ) → place < 6 → Contains holds centres → turned_face centres place depth < 6
+pub turned_face-lt : (centres : List ℕ) (place depth : ℕ) → place < 6 → Contains holds centres
+    → turned_face centres place depth < 6
 turned_face-lt centres place depth lt there = by_depth (eqb depth 1)
   where
     by_depth : (b : Bool) → slice_index centres (cond b place (opposite_place place)) < 6
@@ -124,7 +128,8 @@ turned_face-lt centres place depth lt there = by_depth (eqb depth 1)
     by_depth false = centre-lt (opposite_place place) (opposite_place-lt place) centres there
 
 -- and so does each turn of the event of a held cube
-pub held_cube_after-some : (s : HeldState) (t : Turn) → IsTrue (permits Bf333 t) → Contains holds s.centres → (r : HeldState) × (held_cube_after s t ≡ Some r)
+pub held_cube_after-some : (s : HeldState) (t : Turn) → IsTrue (permits Bf333 t) → Contains holds s.centres
+    → (r : HeldState) × (held_cube_after s t ≡ Some r)
 held_cube_after-some s (Face place depth amount) h there =
     let p = face_parts place depth amount h in
     let lt = turned_face-lt s.centres place depth p.face_below there in
@@ -142,7 +147,8 @@ held_cube_after-some s (Wide letter plus) h there = absurd (false≢true h)
 -- ---- words
 
 -- a word does to the cube what the faces that it turns do
-pub played-faces : (s r : HeldState) (w : List Turn) → play held_cube_after s w ≡ Some r → play (after_letter cube_powers) s.cube (faces_turned s.centres w) ≡ Some r.cube
+pub played-faces : (s r : HeldState) (w : List Turn) → play held_cube_after s w ≡ Some r
+    → play (after_letter cube_powers) s.cube (faces_turned s.centres w) ≡ Some r.cube
 unfolding faces_turned
 played-faces s r [] e =
     let same : s ≡ r = same_Some s r (sym (play-empty held_cube_after s) ∙ e) in
@@ -160,7 +166,8 @@ length-faces_turned centres [] = refl
 length-faces_turned centres (t ∷ w) = ap suc (length-faces_turned (centres_after centres t) w)
 
 -- and to the centres what it does to them alone
-pub played-centres : (s r : HeldState) (w : List Turn) → play held_cube_after s w ≡ Some r → centres_played s.centres w ≡ r.centres
+pub played-centres : (s r : HeldState) (w : List Turn) → play held_cube_after s w ≡ Some r
+    → centres_played s.centres w ≡ r.centres
 unfolding centres_played
 played-centres s r [] e = ap (λ (x : HeldState). x.centres) (same_Some s r (sym (play-empty held_cube_after s) ∙ e))
 played-centres s r (t ∷ w) e =
@@ -192,15 +199,16 @@ outer-of c d t e =
       few = omega arith;
     }
 
--- The cube's own words are words at places: each face is turned where it is, and the centres stay. In the hold of the solved
--- cube they are the same.
+-- The cube's own words are words at places: each face is turned where it is, and the centres stay. In the hold of the
+-- solved cube they are the same.
 pub record IsAtPlaces (c d : CubeState) (centres : List ℕ) (w : List Turn) : Type 0 where
   pub word : List Turn
   pub size : length word ≡ length w
   pub own : centres ≡ numbers_from 0 6 → word ≡ w
   pub played : play held_cube_after (record { cube = c; centres = centres }) word ≡ Some (record { cube = d; centres = centres })
 
-pub at_places : (c d : CubeState) (centres : List ℕ) (w : List Turn) → Contains holds centres → play (after_letter cube_powers) c w ≡ Some d → IsAtPlaces c d centres w
+pub at_places : (c d : CubeState) (centres : List ℕ) (w : List Turn) → Contains holds centres
+    → play (after_letter cube_powers) c w ≡ Some d → IsAtPlaces c d centres w
 at_places c d centres [] there e =
     let same : c ≡ d = same_Some c d (sym (play-empty (after_letter cube_powers) c) ∙ e) in
     record {
@@ -249,7 +257,8 @@ face-kept centres place depth amount p there = by_depth (eqb depth 1) refl
     by_depth false e = axis-kept place centres amount (near_place place depth amount p (eqb-false depth 1 e)) there
 
 -- two turns move the centres as one does, which may be none
-centres-both : (centres : List ℕ) (place depth n m k : ℕ) → IsFaceTurn 2 1 place depth n → Contains holds centres → (n + m) % 4 ≡ k → n + m < 8
+centres-both : (centres : List ℕ) (place depth n m k : ℕ) → IsFaceTurn 2 1 place depth n → Contains holds centres
+    → (n + m) % 4 ≡ k → n + m < 8
     → centres_turned (centres_turned centres place depth n) place depth m ≡ cond (eqb k 0) centres (centres_turned centres place depth k)
 centres-both centres place depth n m k p there sum few = by_depth (eqb depth 1) refl (eqb k 0) refl
   where
@@ -278,7 +287,8 @@ cube_undone c d face amount valid e =
     sym (play-one (after_letter cube_powers) d (Face face 1 (4 - amount)))
     ∙ lawful_cube.lawful.taken_back c d (Face face 1 amount ∷ []) valid (play-one (after_letter cube_powers) c (Face face 1 amount) ∙ e)
 
-undone : (s r : HeldState) (t : Turn) → IsHeld s → held_cube_after s t ≡ Some r → held_cube_after r (opposite t) ≡ Some s
+undone : (s r : HeldState) (t : Turn) → IsHeld s → held_cube_after s t ≡ Some r
+    → held_cube_after r (opposite t) ≡ Some s
 undone s r (Face place depth amount) valid e =
     let step = step-of s r (Face place depth amount) e in
     let p = face_parts place depth amount step.permitted in
@@ -298,7 +308,8 @@ undone s r (Face place depth amount) valid e =
 undone s r t valid e = absurd (false≢true (step-of s r t e).permitted)
 
 -- two turns of one face of the cube
-cube_merged : (c r d : CubeState) (face n m : ℕ) → IsCube c → after_letter cube_powers c (Face face 1 n) ≡ Some r → after_letter cube_powers r (Face face 1 m) ≡ Some d
+cube_merged : (c r d : CubeState) (face n m : ℕ) → IsCube c → after_letter cube_powers c (Face face 1 n) ≡ Some r
+    → after_letter cube_powers r (Face face 1 m) ≡ Some d
     → play (after_letter cube_powers) c (word_of (turns_merged (Face face 1 n) (Face face 1 m))) ≡ Some d
 unfolding tidy with_turn
 cube_merged c r d face n m valid e f =
@@ -314,7 +325,8 @@ pub same_held : (s r : HeldState) → s.cube ≡ r.cube → s.centres ≡ r.cent
 same_held s r a b = ap_both (λ cube centres. record { cube = cube; centres = centres }) a b
 
 -- and of a held cube
-merged : (s r q : HeldState) (place depth n m : ℕ) → IsHeld s → held_cube_after s (Face place depth n) ≡ Some r → held_cube_after r (Face place depth m) ≡ Some q
+merged : (s r q : HeldState) (place depth n m : ℕ) → IsHeld s → held_cube_after s (Face place depth n) ≡ Some r
+    → held_cube_after r (Face place depth m) ≡ Some q
     → play held_cube_after s (word_of (turns_merged (Face place depth n) (Face place depth m))) ≡ Some q
 unfolding word_of
 merged s r q place depth n m valid e f = by_sum (eqb ((n + m) % 4) 0) refl
@@ -347,7 +359,8 @@ merged s r q place depth n m valid e f = by_sum (eqb ((n + m) % 4) 0) refl
         sym (centres-both s.centres place depth n m k p valid.centres refl (omega (arith, p.no_whole, o.no_whole)))
         ∙ ap (λ c. centres_turned c place depth m) first.centres ∙ second.centres
 
-    by_sum : (z : Bool) → eqb k 0 ≡ z → play held_cube_after s (word_of (cond z None (Some (Face place depth k)))) ≡ Some q
+    by_sum : (z : Bool) → eqb k 0 ≡ z
+        → play held_cube_after s (word_of (cond z None (Some (Face place depth k)))) ≡ Some q
     by_sum true z =
         let none = ap (λ b. play (after_letter cube_powers) s.cube (word_of (cond b None (Some (Face (turned_face s.centres place depth) 1 k))))) (sym z) ∙ cube in
         play-empty held_cube_after s
@@ -369,8 +382,8 @@ merged s r q place depth n m valid e f = by_sum (eqb ((n + m) % 4) 0) refl
           centres = ap (λ b. cond b s.centres (centres_turned s.centres place depth k)) (sym z) ∙ centres;
         })
 
-merges : (s r q : HeldState) (t u : Turn) → IsHeld s → IsTrue (turn_merging.alike t u) → held_cube_after s t ≡ Some r → held_cube_after r u ≡ Some q
-    → play held_cube_after s (word_of (turns_merged t u)) ≡ Some q
+merges : (s r q : HeldState) (t u : Turn) → IsHeld s → IsTrue (turn_merging.alike t u) → held_cube_after s t ≡ Some r
+    → held_cube_after r u ≡ Some q → play held_cube_after s (word_of (turns_merged t u)) ≡ Some q
 merges s r q (Face place depth n) (Face other deep m) valid alike e f =
     let places : place ≡ other = eqb-true place other (and_first (eqb place other) (eqb depth deep) alike) in
     let depths : depth ≡ deep = eqb-true depth deep (and_second (eqb place other) (eqb depth deep) alike) in

@@ -46,15 +46,16 @@ pub IsSolvedHeld-solved : IsSolvedHeld solved_held
 unfolding solved_held
 IsSolvedHeld-solved = record { cube = refl; centres = Contains-solved }
 
--- The state before a hold's word, which is held as the solved cube is: the word taken back leads there, it turns back the
--- faces of the cube that the word turns, and the word leads on to the state.
+-- The state before a hold's word, which is held as the solved cube is: the word taken back leads there, it turns back
+-- the faces of the cube that the word turns, and the word leads on to the state.
 pub record IsBefore (s b : HeldState) : Type 0 where
   pub returns : play held_cube_after s (back opposite (hold_word (hold_of s.centres))) ≡ Some b
   pub faces : play (after_letter cube_powers) s.cube (back opposite (faces_turned (numbers_from 0 6) (hold_word (hold_of s.centres)))) ≡ Some b.cube
   pub centres : b.centres ≡ numbers_from 0 6
   pub again : play held_cube_after b (hold_word (hold_of s.centres)) ≡ Some s
 
-pub IsBefore-played : (s b : HeldState) → IsHeld s → play held_cube_after s (back opposite (hold_word (hold_of s.centres))) ≡ Some b → IsBefore s b
+pub IsBefore-played : (s b : HeldState) → IsHeld s
+    → play held_cube_after s (back opposite (hold_word (hold_of s.centres))) ≡ Some b → IsBefore s b
 IsBefore-played s b valid e =
     let hold : ℕ = hold_of s.centres in
     let word = IsHoldWord-each hold (hold_of-lt s.centres valid.centres) in
@@ -67,7 +68,8 @@ IsBefore-played s b valid e =
       again = ap (play held_cube_after b) (sym word.again) ∙ held_taken_back s b (back opposite (hold_word hold)) valid e;
     }
 
-pub before-some : (s : HeldState) → IsHeld s → (b : HeldState) × (play held_cube_after s (back opposite (hold_word (hold_of s.centres))) ≡ Some b)
+pub before-some : (s : HeldState) → IsHeld s
+    → (b : HeldState) × (play held_cube_after s (back opposite (hold_word (hold_of s.centres))) ≡ Some b)
 before-some s valid =
     let word = back opposite (hold_word (hold_of s.centres)) in
     let turns = (IsHoldWord-each (hold_of s.centres) (hold_of-lt s.centres valid.centres)).back_turns in
@@ -81,7 +83,8 @@ IsReached-cube s h =
     let begins : IsHeld start = record { cube = subst IsCube (sym h.2.cube) IsCube-solved; centres = h.2.centres } in
     (play-keeps held_cube_after IsHeld IsLawful-held.keeps start s h.0 begins h.3, (faces_turned start.centres h.0, start.cube, h.2.cube, played-faces start s h.0 h.3))
 
-pub from_solved : (s : HeldState) → IsHeld s → IsReached (power_puzzle cube_powers) s.cube → (w : List Turn) × (play held_cube_after solved_held w ≡ Some s)
+pub from_solved : (s : HeldState) → IsHeld s → IsReached (power_puzzle cube_powers) s.cube
+    → (w : List Turn) × (play held_cube_after solved_held w ≡ Some s)
 unfolding solved_held
 from_solved s valid reached =
     let b = before-some s valid in
@@ -92,7 +95,8 @@ from_solved s valid reached =
     let first : play held_cube_after solved_held words.word ≡ Some b.0 = words.played ∙ ap Some (same_held (record { cube = b.0.cube; centres = numbers_from 0 6 }) b.0 refl (sym before.centres)) in
     (words.word ++ hold_word (hold_of s.centres), play-append held_cube_after solved_held b.0 words.word (hold_word (hold_of s.centres)) first ∙ before.again)
 
-pub IsReached-held : (s : HeldState) → IsReached held_puzzle s ↔ (IsHeld s × IsReached (power_puzzle cube_powers) s.cube)
+pub IsReached-held : (s : HeldState)
+    → IsReached held_puzzle s ↔ (IsHeld s × IsReached (power_puzzle cube_powers) s.cube)
 IsReached-held s = (
   IsReached-cube s,
   λ h. let w = from_solved s h.0 h.1 in (w.0, solved_held, IsSolvedHeld-solved, w.1),
@@ -100,7 +104,8 @@ IsReached-held s = (
 
 -- ---- needed
 
-pub Needs-held : (s : HeldState) (least : ℕ) → Contains holds s.centres → Needs held_puzzle s least ↔ Needs (power_puzzle cube_powers) s.cube least
+pub Needs-held : (s : HeldState) (least : ℕ) → Contains holds s.centres
+    → Needs held_puzzle s least ↔ Needs (power_puzzle cube_powers) s.cube least
 Needs-held s least there = (
   λ needs w end few played solved.
       let words = at_places s.cube end s.centres w there played in

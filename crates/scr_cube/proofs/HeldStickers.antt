@@ -22,20 +22,25 @@ moved place depth centres = map (λ s. shown_places (centres_turned centres plac
 abbrev carried : ℕ → ℕ → List ℕ → List (List ℕ)
 carried place depth centres = map (λ s. carried_at place depth (shown_places centres s)) piece_faces
 
-moves_in : (place depth hold : ℕ) → hold < 24 → moved place depth (slice_index_or HOLDS hold []) ≡ carried place depth (slice_index_or HOLDS hold []) → MovesStickers hold place depth
+moves_in : (place depth hold : ℕ) → hold < 24
+    → moved place depth (slice_index_or HOLDS hold []) ≡ carried place depth (slice_index_or HOLDS hold [])
+    → MovesStickers hold place depth
 moves_in place depth hold lt e =
     let P : List ℕ → Type 0 = λ c. moved place depth c ≡ carried place depth c in
     (turned_face (hold_centres hold) place depth, refl, subst P (sym (hold_centres-are hold lt)) e)
 
-one_layer : (place hold : ℕ) → place < 6 → hold < 24 → moved place 1 (slice_index_or HOLDS hold []) ≡ carried place 1 (slice_index_or HOLDS hold [])
+one_layer : (place hold : ℕ) → place < 6 → hold < 24
+    → moved place 1 (slice_index_or HOLDS hold []) ≡ carried place 1 (slice_index_or HOLDS hold [])
 unfolding whole_turned
 one_layer = at_both (λ place hold. moved place 1 (slice_index_or HOLDS hold [])) (λ place hold. carried place 1 (slice_index_or HOLDS hold [])) 6 24 refl
 
-two_layers : (place hold : ℕ) → place < 3 → hold < 24 → moved place 2 (slice_index_or HOLDS hold []) ≡ carried place 2 (slice_index_or HOLDS hold [])
+two_layers : (place hold : ℕ) → place < 3 → hold < 24
+    → moved place 2 (slice_index_or HOLDS hold []) ≡ carried place 2 (slice_index_or HOLDS hold [])
 unfolding whole_turned
 two_layers = at_both (λ place hold. moved place 2 (slice_index_or HOLDS hold [])) (λ place hold. carried place 2 (slice_index_or HOLDS hold [])) 3 24 refl
 
-pub moves_stickers : (hold place depth : ℕ) → hold < 24 → IsTrue (permits Bf333 (Face place depth 1)) → MovesStickers hold place depth
+pub moves_stickers : (hold place depth : ℕ) → hold < 24 → IsTrue (permits Bf333 (Face place depth 1))
+    → MovesStickers hold place depth
 moves_stickers hold place depth lt h =
     let p = face_parts place depth 1 h in
     let P : ℕ → Type 0 = MovesStickers hold place in
@@ -48,7 +53,8 @@ moves_stickers hold place depth lt h =
     (cases_lt depth 2)
 
 -- a wide turn carries as the turn of the opposite face does, and then the whole cube's
-pub wide_is_two : (place : ℕ) → place < 3 → map (carried_wide place) piece_faces ≡ map (λ s. carried_whole place (carried_piece (opposite_place place) s)) piece_faces
+pub wide_is_two : (place : ℕ) → place < 3
+    → map (carried_wide place) piece_faces ≡ map (λ s. carried_whole place (carried_piece (opposite_place place) s)) piece_faces
 wide_is_two =
     at_each (λ place. map (carried_wide place) piece_faces) (λ place. map (λ s. carried_whole place (carried_piece (opposite_place place) s)) piece_faces) 3 refl
 

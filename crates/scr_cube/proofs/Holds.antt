@@ -31,7 +31,8 @@ centres_turned centres place depth amount = if depth == 1 then centres else whol
 
 -- ---- functions that agree on listed numbers
 
-pub at_each : {X : Type 0} (f g : ℕ → X) (n : ℕ) → map f (range_with_len 0 n) ≡ map g (range_with_len 0 n) → (k : ℕ) → k < n → f k ≡ g k
+pub at_each : {X : Type 0} (f g : ℕ → X) (n : ℕ) → map f (range_with_len 0 n) ≡ map g (range_with_len 0 n) → (k : ℕ)
+    → k < n → f k ≡ g k
 at_each f g n e k lt =
     sym (get_or-map-range_with_len f 0 n k k (f k) lt (zero-add k)) ∙ ap (λ xs. get_or xs k (f k)) e
     ∙ get_or-map-range_with_len g 0 n k k (f k) lt (zero-add k)
@@ -77,7 +78,8 @@ unfolding holds
 Contains-hold hold lt = (hold, lt, at_hold hold (hold_centres hold) lt)
 
 -- what is so of the centres of each hold
-pub of_holds : (P : List ℕ → Type 0) → ((hold : ℕ) → hold < 24 → P (slice_index_or HOLDS hold [])) → (centres : List ℕ) → Contains holds centres → P centres
+pub of_holds : (P : List ℕ → Type 0) → ((hold : ℕ) → hold < 24 → P (slice_index_or HOLDS hold [])) → (centres : List ℕ)
+    → Contains holds centres → P centres
 of_holds P each centres there =
     let n = HasNumber-hold centres there in
     subst P (sym (hold_centres-are n.number n.below) ∙ n.is) (each n.number n.below)
@@ -115,7 +117,8 @@ centre_place-lt face low =
     of_holds (λ centres. place_of face centres < 6)
     (λ hold lt. ltb-true _ 6 (at_both (λ hold face. nat_lt (place_of face (listed hold)) 6) (λ hold face. true) 24 6 refl hold face lt low))
 
-pub centre_place-is : (face : ℕ) → face < 6 → (centres : List ℕ) → Contains holds centres → slice_index centres (place_of face centres) ≡ face
+pub centre_place-is : (face : ℕ) → face < 6 → (centres : List ℕ) → Contains holds centres
+    → slice_index centres (place_of face centres) ≡ face
 centre_place-is face low =
     of_holds (λ centres. slice_index centres (place_of face centres) ≡ face)
     (λ hold lt. at_both (λ hold face. slice_index (listed hold) (place_of face (listed hold))) (λ hold face. face) 24 6 refl hold face lt low)
@@ -133,14 +136,16 @@ Contains-listed : (centres : List ℕ) → list_any (bytes_eq centres) HOLDS ≡
 Contains-listed centres e =
     subst (λ all. Contains all centres) (sym holds-are) (Contains-from_any (λ x y. (bytes_eq-Decides x y).0) centres HOLDS e)
 
-Contains-quarter : (place : ℕ) → place < 3 → (centres : List ℕ) → Contains holds centres → Contains holds (quarter_turned place centres)
+Contains-quarter : (place : ℕ) → place < 3 → (centres : List ℕ) → Contains holds centres
+    → Contains holds (quarter_turned place centres)
 Contains-quarter place low =
     of_holds (λ centres. Contains holds (quarter_turned place centres))
     (λ hold lt. Contains-listed (quarter_turned place (listed hold))
     (at_both (λ place hold. list_any (bytes_eq (quarter_turned place (listed hold))) HOLDS) (λ place hold. true) 3 24 refl place hold low lt))
 
 -- a whole turn leads from hold to hold
-pub Contains-whole : (place : ℕ) (centres : List ℕ) (n : ℕ) → place < 3 → Contains holds centres → Contains holds (whole_turned place centres n)
+pub Contains-whole : (place : ℕ) (centres : List ℕ) (n : ℕ) → place < 3 → Contains holds centres
+    → Contains holds (whole_turned place centres n)
 unfolding whole_turned
 Contains-whole place centres zero low there = there
 Contains-whole place centres (suc n) low there =
@@ -164,19 +169,22 @@ unfolding whole_turned
 whole_turned-none place centres = refl
 
 -- and one turn more
-pub whole_turned-more : (place : ℕ) (centres : List ℕ) (n : ℕ) → quarter_turned place (whole_turned place centres n) ≡ whole_turned place centres (n + 1)
+pub whole_turned-more : (place : ℕ) (centres : List ℕ) (n : ℕ)
+    → quarter_turned place (whole_turned place centres n) ≡ whole_turned place centres (n + 1)
 unfolding whole_turned
 whole_turned-more place centres n = ap (whole_turned place centres) (sym (add-one n))
 
 -- turns add up
-pub whole_turned-add : (place : ℕ) (centres : List ℕ) (n m : ℕ) → whole_turned place (whole_turned place centres n) m ≡ whole_turned place centres (n + m)
+pub whole_turned-add : (place : ℕ) (centres : List ℕ) (n m : ℕ)
+    → whole_turned place (whole_turned place centres n) m ≡ whole_turned place centres (n + m)
 unfolding whole_turned
 whole_turned-add place centres n zero = ap (whole_turned place centres) (let e : n ≡ n + zero = omega arith in e)
 whole_turned-add place centres n (suc m) =
     ap (quarter_turned place) (whole_turned-add place centres n m) ∙ ap (whole_turned place centres) (let e : suc (n + m) ≡ n + suc m = omega arith in e)
 
 -- and four are none
-pub whole_turned-four : (place : ℕ) (centres : List ℕ) → place < 3 → Contains holds centres → whole_turned place centres 4 ≡ centres
+pub whole_turned-four : (place : ℕ) (centres : List ℕ) → place < 3 → Contains holds centres
+    → whole_turned place centres 4 ≡ centres
 unfolding whole_turned
 whole_turned-four place centres low there =
     of_holds (λ c. whole_turned place c 4 ≡ c)
@@ -189,8 +197,8 @@ unfoldable pub centres_played : List ℕ → List Turn → List ℕ
 centres_played centres [] = centres
 centres_played centres (t ∷ w) = centres_played (centres_after centres t) w
 
--- A hold's word has two turns at most. Taken back it is of turns, whose opposites are the word's own; it leads back to the
--- centres of the solved cube, and turns back the faces that the word turned.
+-- A hold's word has two turns at most. Taken back it is of turns, whose opposites are the word's own; it leads back to
+-- the centres of the solved cube, and turns back the faces that the word turned.
 pub record IsHoldWord (hold : ℕ) : Type 0 where
   pub short : length (hold_word hold) ≤ 2
   pub back_turns : list_all (permits Bf333) (back opposite (hold_word hold)) ≡ true

@@ -15,8 +15,8 @@ pub word_orders : HaveOrders cube_powers known_orders
 unfolding moves_nothing composed_word power power_of composed identity added_digits face_turn_at
 word_orders = All-word_orders cube_action moves_nothing tells_cube (letter_table cube_powers) face_turn_at known_orders refl
 
-exchanged : (x y r q : CubeTurn) → Some x ≡ Some r → Some y ≡ Some q → cube_action.composed x y ≡ cube_action.composed y x
-    → cube_action.composed r q ≡ cube_action.composed q r
+exchanged : (x y r q : CubeTurn) → Some x ≡ Some r → Some y ≡ Some q
+    → cube_action.composed x y ≡ cube_action.composed y x → cube_action.composed r q ≡ cube_action.composed q r
 exchanged x y r q a b e =
     let one : x ≡ r = same_Some x r a in
     let two : y ≡ q = same_Some y q b in
@@ -24,8 +24,8 @@ exchanged x y r q a b e =
     ∙ ap (cube_action.composed y) one ∙ ap (λ t. cube_action.composed t r) two
 
 -- turns of opposite faces
-pub opposite_faces : (face : ℕ) (r q : CubeTurn) → face < 3 → slice_get cube_quarters face ≡ Some r → slice_get cube_quarters (face + 3) ≡ Some q
-    → cube_action.composed r q ≡ cube_action.composed q r
+pub opposite_faces : (face : ℕ) (r q : CubeTurn) → face < 3 → slice_get cube_quarters face ≡ Some r
+    → slice_get cube_quarters (face + 3) ≡ Some q → cube_action.composed r q ≡ cube_action.composed q r
 unfolding composed added_digits
 opposite_faces zero r q lt a b = exchanged _ _ r q a b refl
 opposite_faces (suc zero) r q lt a b = exchanged _ _ r q a b refl

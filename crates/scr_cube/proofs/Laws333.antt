@@ -84,13 +84,16 @@ lawful_cube =
     cube_laws IsCube-solved moves_nothing tells_cube is_turn IsCubeTurn-from_test refl
 
 -- the cube after a turn, and it is valid
-pub cube_turned : (c : CubeState) (corners edges : Orbit) (n : ℕ) → IsCube c → IsMadeAt (part_turns (λ r. r.corners) cube_powers) n (turned_orbit 3 c.corners) corners
-    → IsMadeAt (part_turns (λ r. r.edges) cube_powers) n (turned_orbit 2 c.edges) edges → IsTurned cube_powers IsCube c n (record { corners = corners; edges = edges })
+pub cube_turned : (c : CubeState) (corners edges : Orbit) (n : ℕ) → IsCube c
+    → IsMadeAt (part_turns (λ r. r.corners) cube_powers) n (turned_orbit 3 c.corners) corners
+    → IsMadeAt (part_turns (λ r. r.edges) cube_powers) n (turned_orbit 2 c.edges) edges
+    → IsTurned cube_powers IsCube c n (record { corners = corners; edges = edges })
 cube_turned c corners edges n own =
     IsTurned-two cube_powers lawful_cube c (record { corners = corners; edges = edges }) n own (orbit_action 8 3) (orbit_action 12 2) _ _ seen_as_pair
 
 -- each turn of a face makes something of a cube
-pub turned-some : (c : CubeState) (face amount : ℕ) → face < 6 → 0 < amount → amount < 4 → (d : CubeState) × (after_letter cube_powers c (Face face 1 amount) ≡ Some d)
+pub turned-some : (c : CubeState) (face amount : ℕ) → face < 6 → 0 < amount → amount < 4
+    → (d : CubeState) × (after_letter cube_powers c (Face face 1 amount) ≡ Some d)
 unfolding power_of
 turned-some c face amount lt some few =
     let quarter = slice_get-get_or cube_quarters face cube_action.identity lt in (

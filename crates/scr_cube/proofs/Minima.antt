@@ -26,14 +26,16 @@ unsolved s e same =
     let three : 3 ≡ 0 = ap (λ o. slice_index o.pieces 0) (there ∙ same) in
     omega (arith, three)
 
-pub one_needed : (s : Orbit) → (after_letter powers_222) solved_222 (face_turn_at 0) ≡ Some s → Needs (power_puzzle powers_222) s 1
+pub one_needed : (s : Orbit) → (after_letter powers_222) solved_222 (face_turn_at 0) ≡ Some s
+    → Needs (power_puzzle powers_222) s 1
 one_needed s e = needs_one powers_222.action (letter_table powers_222) solved_222 s (unsolved s e)
 
 up_back : (after_letter powers_222) (record { pieces = 3 ∷ 0 ∷ 1 ∷ 2 ∷ 4 ∷ 5 ∷ 6 ∷ []; digits = 0 ∷ 0 ∷ 0 ∷ 0 ∷ 0 ∷ 0 ∷ 0 ∷ [] }) (face_turn_at 2) ≡ Some solved_222
 unfolding face_turn_at power_of power composed identity solved_222 solved_orbit turned_orbit added_digits
 up_back = refl
 
-pub one_enough : (s : Orbit) → (after_letter powers_222) solved_222 (face_turn_at 0) ≡ Some s → Needs (power_puzzle powers_222) s 2 → ⊥
+pub one_enough : (s : Orbit) → (after_letter powers_222) solved_222 (face_turn_at 0) ≡ Some s
+    → Needs (power_puzzle powers_222) s 2 → ⊥
 one_enough s e =
     let there = same_Some _ s (sym first_of_up ∙ e) in
     enough powers_222.action (letter_table powers_222) solved_222 s (face_turn_at 2 ∷ []) 2 (lit< tt)

@@ -56,16 +56,10 @@ abbrev pub edge_quarters : List Rearrangement
 edge_quarters =
     record { places = 3 ∷ 0 ∷ 1 ∷ 2 ∷ 4 ∷ 5 ∷ 6 ∷ 7 ∷ 8 ∷ 9 ∷ 10 ∷ 11 ∷ []; added = zeros 12 }
     ∷ record { places = 8 ∷ 1 ∷ 2 ∷ 3 ∷ 11 ∷ 5 ∷ 6 ∷ 7 ∷ 4 ∷ 9 ∷ 10 ∷ 0 ∷ []; added = zeros 12 }
-    ∷ record {
-      places = 0 ∷ 9 ∷ 2 ∷ 3 ∷ 4 ∷ 8 ∷ 6 ∷ 7 ∷ 1 ∷ 5 ∷ 10 ∷ 11 ∷ [];
-      added = 0 ∷ 1 ∷ 0 ∷ 0 ∷ 0 ∷ 1 ∷ 0 ∷ 0 ∷ 1 ∷ 1 ∷ 0 ∷ 0 ∷ [];
-    }
+    ∷ record { places = 0 ∷ 9 ∷ 2 ∷ 3 ∷ 4 ∷ 8 ∷ 6 ∷ 7 ∷ 1 ∷ 5 ∷ 10 ∷ 11 ∷ []; added = 0 ∷ 1 ∷ 0 ∷ 0 ∷ 0 ∷ 1 ∷ 0 ∷ 0 ∷ 1 ∷ 1 ∷ 0 ∷ 0 ∷ [] }
     ∷ record { places = 0 ∷ 1 ∷ 2 ∷ 3 ∷ 5 ∷ 6 ∷ 7 ∷ 4 ∷ 8 ∷ 9 ∷ 10 ∷ 11 ∷ []; added = zeros 12 }
     ∷ record { places = 0 ∷ 1 ∷ 10 ∷ 3 ∷ 4 ∷ 5 ∷ 9 ∷ 7 ∷ 8 ∷ 2 ∷ 6 ∷ 11 ∷ []; added = zeros 12 }
-    ∷ record {
-      places = 0 ∷ 1 ∷ 2 ∷ 11 ∷ 4 ∷ 5 ∷ 6 ∷ 10 ∷ 8 ∷ 9 ∷ 3 ∷ 7 ∷ [];
-      added = 0 ∷ 0 ∷ 0 ∷ 1 ∷ 0 ∷ 0 ∷ 0 ∷ 1 ∷ 0 ∷ 0 ∷ 1 ∷ 1 ∷ [];
-    }
+    ∷ record { places = 0 ∷ 1 ∷ 2 ∷ 11 ∷ 4 ∷ 5 ∷ 6 ∷ 10 ∷ 8 ∷ 9 ∷ 3 ∷ 7 ∷ []; added = 0 ∷ 0 ∷ 0 ∷ 1 ∷ 0 ∷ 0 ∷ 0 ∷ 1 ∷ 0 ∷ 0 ∷ 1 ∷ 1 ∷ [] }
     ∷ []
 
 -- Both at once.

@@ -44,8 +44,8 @@ impl Cube {
         }
     }
 
-    /// The cube with these pieces at the places, with these twists, from 0 to 2, and flips, 0 or 1. `None` comes exactly
-    /// where they aren't those of a valid cube.
+    /// The cube with these pieces at the places, with these twists, from 0 to 2, and flips, 0 or 1. `None` comes
+    /// exactly where they aren't those of a valid cube.
     pub fn from_lists(
         corners: [u8; 8],
         twists: [u8; 8],
@@ -96,8 +96,8 @@ impl Cube {
     }
 
     /// This cube and then another: each corner place gets this cube's corner from the place that `next` has there, with
-    /// both twists added modulo 3, and each edge place its edge so, with both flips added modulo 2. Where words lead from
-    /// the solved cube to both, the one word and then the other lead here.
+    /// both twists added modulo 3, and each edge place its edge so, with both flips added modulo 2. Where words lead
+    /// from the solved cube to both, the one word and then the other lead here.
     pub fn then(&self, next: &Cube) -> Cube
         ensures joined { result ≡ cube_then self.now next.now }
         ensures valid { IsCube self.now }

@@ -9,9 +9,9 @@ use crate::cube::Cube;
 use scr_notation::{Event, PowerTurned, Scramble, Turn};
 use std::marker::Model;
 
-/// A 3x3x3 and how it is held: which face's centre stands at each of the places U R F D L B, where turns are done. Places are
-/// 0 to 5, and so are the faces, each the number of the place where its centre stands on a cube that is held as it was solved.
-/// The cube's corners and edges are told by their places among the centres, whatever the hold.
+/// A 3x3x3 and how it is held: which face's centre stands at each of the places U R F D L B, where turns are done.
+/// Places are 0 to 5, and so are the faces, each the number of the place where its centre stands on a cube that is held
+/// as it was solved. The cube's corners and edges are told by their places among the centres, whatever the hold.
 ///
 /// There are 24 holds. Hold `a + 6 * b` is the one that two turns give from solved: number `a` of none, `Rw`, `Rw2`, `Rw'`,
 /// `Fw` and `Fw'`, and then number `b` of none, `Uw`, `Uw2` and `Uw'`.
@@ -74,8 +74,8 @@ impl Held {
         }
     }
 
-    /// A cube with these centres at the places U R F D L B. `None` comes exactly where they aren't those of one of the 24
-    /// holds.
+    /// A cube with these centres at the places U R F D L B. `None` comes exactly where they aren't those of one of the
+    /// 24 holds.
     pub fn from_parts(cube: Cube, centres: [u8; 6]) -> Option<Held>
         ensures valid { IsSome result ↔ Contains holds centres }
         ensures value { IfSome result (λ state. state ≡ record { cube = cube; centres = centres }) }
@@ -129,9 +129,9 @@ impl Held {
         }
     }
 
-    /// The state after a turn at a place, below 6, by `amount` quarters, from 1 to 3, of one layer; or of two layers at U, R or
-    /// F, the places 0 to 2. A turn of one layer turns the face whose centre stands at the place. A wide turn turns the
-    /// face whose centre stands opposite, by the same amount, and the whole cube along.
+    /// The state after a turn at a place, below 6, by `amount` quarters, from 1 to 3, of one layer; or of two layers at
+    /// U, R or F, the places 0 to 2. A turn of one layer turns the face whose centre stands at the place. A wide turn
+    /// turns the face whose centre stands opposite, by the same amount, and the whole cube along.
     pub fn turn(&self, place: u8, depth: u8, amount: u8) -> Held
         requires place { place < 6 }
         requires layers { (1 ≤ depth) × (depth ≤ 2) }

@@ -31,9 +31,9 @@ ghost use Rattle.scr_cube.specs.Known.{known_orders, superflip, superflip_word, 
 use crate::cube::Cube;
 use scr_notation::Turn;
 
-/// The turns of both puzzles are lawful: they keep states valid, and composed turns act as one after the other; words are
-/// taken back and tidied, and each comes to one rearrangement, the same for every state. What turns reach is valid. A quarter
-/// turn has order 4, and each turn has the number that the notation gives it.
+/// The turns of both puzzles are lawful: they keep states valid, and composed turns act as one after the other; words
+/// are taken back and tidied, and each comes to one rearrangement, the same for every state. What turns reach is valid.
+/// A quarter turn has order 4, and each turn has the number that the notation gives it.
 pub fn turns()
     ensures cube { IsPowerPuzzle cube_powers IsCube IsCubeTurn opposite turn_merging }
     ensures corners { IsPowerPuzzle powers_222 IsCorners222 (IsZeroSumRearrangement 7 3) opposite turn_merging }
@@ -56,8 +56,8 @@ pub fn numberings()
     ensures held_states { held_numbered.count ≡ 24 * cube_numbered.count }
 {}
 
-/// The turns of a held cube are lawful: they keep states valid, words are taken back and tidied. A word does to the cube what
-/// the faces that it turns do.
+/// The turns of a held cube are lawful: they keep states valid, words are taken back and tidied. A word does to the
+/// cube what the faces that it turns do.
 pub fn held_turns()
     ensures lawful { IsLawful held_cube_after opposite turn_merging IsHeld }
     ensures taken_back { IsTakenBack held_cube_after opposite IsHeld }
@@ -66,11 +66,13 @@ pub fn held_turns()
         → play (after_letter cube_powers) s.cube (faces_turned s.centres w) ≡ Some r.cube }
 {}
 
-/// Turns reach a held cube, from the solved one that is held as it was solved, where they reach the cube, whatever the hold;
-/// and it needs as many as the cube.
+/// Turns reach a held cube, from the solved one that is held as it was solved, where they reach the cube, whatever the
+/// hold; and it needs as many as the cube.
 pub fn held_cubes()
-    ensures reached { (s : HeldState) → IsReached held_puzzle s ↔ (IsHeld s × IsReached (power_puzzle cube_powers) s.cube) }
-    ensures from_solved { (s : HeldState) → IsReached held_puzzle s → (w : List Letter) × (play held_cube_after solved_held w ≡ Some s) }
+    ensures reached { (s : HeldState)
+        → IsReached held_puzzle s ↔ (IsHeld s × IsReached (power_puzzle cube_powers) s.cube) }
+    ensures from_solved { (s : HeldState) → IsReached held_puzzle s
+        → (w : List Letter) × (play held_cube_after solved_held w ≡ Some s) }
     ensures needs { (s : HeldState) (least : ℕ) → Contains holds s.centres
         → Needs held_puzzle s least ↔ Needs (power_puzzle cube_powers) s.cube least }
 {}
@@ -114,11 +116,12 @@ pub fn orders()
     ensures { HaveOrders cube_powers known_orders }
 {}
 
-/// A quarter turn of a held cube brings all stickers, the centres' too, to the places where it carries them, in each of the 24
-/// holds: a turn of one layer carries the pieces that have a sticker there, and a wide turn all but those of the opposite
-/// layer. So a wide turn is one of the opposite face by the same amount, and one of the whole cube.
+/// A quarter turn of a held cube brings all stickers, the centres' too, to the places where it carries them, in each of
+/// the 24 holds: a turn of one layer carries the pieces that have a sticker there, and a wide turn all but those of the
+/// opposite layer. So a wide turn is one of the opposite face by the same amount, and one of the whole cube.
 pub fn held_stickers()
-    ensures moved { (hold place depth : ℕ) → hold < 24 → IsTrue (permits Bf333 (Face place depth 1)) → MovesStickers hold place depth }
+    ensures moved { (hold place depth : ℕ) → hold < 24 → IsTrue (permits Bf333 (Face place depth 1))
+        → MovesStickers hold place depth }
     ensures wide { (place : ℕ) → place < 3
         → map (carried_wide place) piece_faces ≡ map (λ s. carried_whole place (carried_piece (opposite_place place) s)) piece_faces }
     ensures as_two { (s : HeldState) (place amount : ℕ) → place < 3
@@ -127,8 +130,8 @@ pub fn held_stickers()
         (held_cube_after s (Face (opposite_place place) 1 amount)) }
 {}
 
-/// A mirror shows turns the other way round. Turns of opposite faces can be exchanged. The 2x2x2's turns are those of the
-/// 3x3x3's corners, where DBL stands still.
+/// A mirror shows turns the other way round. Turns of opposite faces can be exchanged. The 2x2x2's turns are those of
+/// the 3x3x3's corners, where DBL stands still.
 #[tactic(auto, unfolding(crate::proofs::OnLiterals::cubes_on_literals))]
 pub fn symmetries()
     ensures left_right { ShowsTurns left_right }
@@ -172,8 +175,8 @@ pub fn known_states()
     } }
 {}
 
-/// Where centres stand after wide turns of a cube that is held with white up and green in front; the words of the holds; and
-/// held cubes with known numbers.
+/// Where centres stand after wide turns of a cube that is held with white up and green in front; the words of the
+/// holds; and held cubes with known numbers.
 #[tactic(auto, unfolding(crate::proofs::OnLiterals::held_on_literals))]
 pub fn known_holds()
     ensures spelled { text_of (Face 1 2 1 ∷ Face 2 2 2 ∷ Face 0 2 3 ∷ []) ≡ codes "Rw Fw2 Uw'" }

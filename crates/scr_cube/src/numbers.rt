@@ -12,8 +12,8 @@ use scr_orbit::Placed;
 use scr_rank::permutations::{is_odd, rank_permutation, unrank_with_parity};
 use scr_rank::{MixedRadix, PermRank, TwistRank};
 
-/// The numbering of the 3x3x3: the flips are the least digit, then come the twists, the list of corners, and half the number
-/// of the list of edges, since of two lists of edges the cube has the one with the corners' parity.
+/// The numbering of the 3x3x3: the flips are the least digit, then come the twists, the list of corners, and half the
+/// number of the list of edges, since of two lists of edges the cube has the one with the corners' parity.
 #[derive(Clone, Copy)]
 pub struct CubeNumbers;
 

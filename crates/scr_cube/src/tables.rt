@@ -1,5 +1,5 @@
-//! All turns of both cubes, as rearrangements in the order of the turns' numbers: of each face the turns by one, two and
-//! three quarters. A wrong entry is refused, since the calls ensure that the tables are those of the definitions.
+//! All turns of both cubes, as rearrangements in the order of the turns' numbers: of each face the turns by one, two
+//! and three quarters. A wrong entry is refused, since the calls ensure that the tables are those of the definitions.
 ghost use Rattle.scr_orbit.specs.Orbits.{IsZeroSumRearrangement};
 ghost use Rattle.scr_orbit.specs.PlaceTurns.{IsTurnTable};
 ghost use Rattle.scr_orbit.specs.PowerPuzzles.{all_turns, part_turns};

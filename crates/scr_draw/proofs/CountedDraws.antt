@@ -30,8 +30,8 @@ or_right true = refl
 or_right false = refl
 
 -- one number, and the numbers after it
-first_number : {S : Type 0} (s : S) (a b x : Bool) (o later : Option S) → (IsTrue a ↔ (o ≡ Some s)) → (IsTrue b ↔ (o ≡ None))
-    → (IsTrue x ↔ (later ≡ Some s)) → IsTrue (a || (b && x)) ↔ (option_or o later ≡ Some s)
+first_number : {S : Type 0} (s : S) (a b x : Bool) (o later : Option S) → (IsTrue a ↔ (o ≡ Some s))
+    → (IsTrue b ↔ (o ≡ None)) → (IsTrue x ↔ (later ≡ Some s)) → IsTrue (a || (b && x)) ↔ (option_or o later ≡ Some s)
 first_number s a b x (Some t) later ha hb hx = (
   λ h.
       elim (or_cases a (b && x) h) [

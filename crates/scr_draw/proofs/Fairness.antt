@@ -113,8 +113,8 @@ module _ {S : Type 0} (n : Numbered S) (law : IsNumbering n) where
         }
 
 -- fairness, for other words on the same states
-pub fair_for : {S : Type 0} {count : ℕ} {state_at : ℕ → S} {hits : ℕ → Option S} (P Q : S → Type 0) → ((s : S) → P s ↔ Q s)
-    → IsFair count state_at hits P → IsFair count state_at hits Q
+pub fair_for : {S : Type 0} {count : ℕ} {state_at : ℕ → S} {hits : ℕ → Option S} (P Q : S → Type 0)
+    → ((s : S) → P s ↔ Q s) → IsFair count state_at hits P → IsFair count state_at hits Q
 fair_for P Q same fair_p = record {
   some = fair_p.some;
   equally = λ s h. fair_p.equally s ((same s).1 h);

@@ -13,9 +13,10 @@ next_place place tried = omega arith
 first_place : (place : ℕ) → place + 3 * 0 ≡ place
 first_place place = omega arith
 
-missed_after : {S : Type 0} (hits : ℕ → Option S) (word : ℕ → ℕ) (place tried : ℕ) → hits (attempt_value word place) ≡ None
-    → ((earlier : ℕ) → earlier < tried → hits (attempt_value word (place + 3 + 3 * earlier)) ≡ None)
-    → (earlier : ℕ) → earlier < suc tried → hits (attempt_value word (place + 3 * earlier)) ≡ None
+missed_after : {S : Type 0} (hits : ℕ → Option S) (word : ℕ → ℕ) (place tried : ℕ)
+    → hits (attempt_value word place) ≡ None
+    → ((earlier : ℕ) → earlier < tried → hits (attempt_value word (place + 3 + 3 * earlier)) ≡ None) → (earlier : ℕ)
+    → earlier < suc tried → hits (attempt_value word (place + 3 * earlier)) ≡ None
 missed_after hits word place tried miss later zero lt = ap (λ (p : ℕ). hits (attempt_value word p)) (first_place place) ∙ miss
 missed_after hits word place tried miss later (suc earlier) lt =
     ap (λ (p : ℕ). hits (attempt_value word p)) (sym (next_place place earlier)) ∙ later earlier (omega arith)
@@ -56,7 +57,8 @@ drawn_first hits word s (suc all) place h =
     by_first hits word s all place (hits (attempt_value word place)) refl h (drawn_first hits word s all (place + 3))
 
 -- and the first hit is drawn, after as many numbers as its place says
-of_first : {S : Type 0} (hits : ℕ → Option S) (word : ℕ → ℕ) (s : S) (all place tried : ℕ) → IsFirstHit hits word place all s tried
+of_first : {S : Type 0} (hits : ℕ → Option S) (word : ℕ → ℕ) (s : S) (all place tried : ℕ)
+    → IsFirstHit hits word place all s tried
     → (drawn hits (attempt_values word place all) ≡ Some s) × (numbers_read hits (attempt_values word place all) ≡ suc tried)
 unfolding attempt_values drawn numbers_read
 of_first hits word s zero place tried first = let below = first.below in absurd (omega arith)

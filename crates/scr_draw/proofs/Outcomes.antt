@@ -15,7 +15,8 @@ use Rattle.scr_draw.proofs.Fairness.{hit_parts, hit_from, fair, fair_for}
 
 -- ---- what is drawn, by what each number hits
 
-drawn-agree : {S : Type 0} (f g : ℕ → Option S) → ((v : ℕ) → f v ≡ g v) → (values : List ℕ) → drawn f values ≡ drawn g values
+drawn-agree : {S : Type 0} (f g : ℕ → Option S) → ((v : ℕ) → f v ≡ g v) → (values : List ℕ)
+    → drawn f values ≡ drawn g values
 unfolding drawn
 drawn-agree f g same [] = refl
 drawn-agree f g same (v ∷ vs) =
@@ -34,8 +35,9 @@ unfolding drawn
 drawn-nothing f = refl
 
 -- two tests that tell hit alike, where there is a state
-hits_agree : {S : Type 0} (space : StateSpace S) (least : ℕ) → 1 ≤ space.count → (a b : S → Bool) → TellsNeed space least a
-    → TellsNeed space least b → (v : ℕ) → hit space.count space.state_at a v ≡ hit space.count space.state_at b v
+hits_agree : {S : Type 0} (space : StateSpace S) (least : ℕ) → 1 ≤ space.count → (a b : S → Bool)
+    → TellsNeed space least a → TellsNeed space least b → (v : ℕ)
+    → hit space.count space.state_at a v ≡ hit space.count space.state_at b v
 hits_agree {S} space least some a b ta tb v =
     let s : S = space.state_at (v % space.count) in
     let below : v % space.count < space.count = omega arith in
@@ -85,7 +87,8 @@ module _ {S : Type 0} (n : Numbered S) (puzzle : Puzzle S) (least : ℕ) (number
     none-f v misses = none-f_by v (f v) refl misses
 
     -- each number misses exactly where none is drawn
-    missed_by : (v : ℕ) (vs : List ℕ) (o : Option S) → f v ≡ o → drawn f (v ∷ vs) ≡ None → (f v ≡ None) × (drawn f vs ≡ None)
+    missed_by : (v : ℕ) (vs : List ℕ) (o : Option S) → f v ≡ o → drawn f (v ∷ vs) ≡ None
+        → (f v ≡ None) × (drawn f vs ≡ None)
     missed_by v vs None e d = (e, sym (drawn-later f v vs e) ∙ d)
     missed_by v vs (Some s) e d = let first = drawn-first f v vs s e in cc (sym d ∙ first)
 
@@ -102,7 +105,8 @@ module _ {S : Type 0} (n : Numbered S) (puzzle : Puzzle S) (least : ℕ) (number
 
     -- and a state is drawn exactly where the first number that doesn't miss hits it
     first_by : (v : ℕ) (vs : List ℕ) (s : S) (o : Option S) → f v ≡ o → drawn f (v ∷ vs) ≡ Some s
-        → (drawn f vs ≡ Some s → FirstHits (space_of n puzzle) least vs s) → FirstHits (space_of n puzzle) least (v ∷ vs) s
+        → (drawn f vs ≡ Some s → FirstHits (space_of n puzzle) least vs s)
+        → FirstHits (space_of n puzzle) least (v ∷ vs) s
     first_by v vs s None e d later =
         let rest = later (sym (drawn-later f v vs e) ∙ d) in
         record {
@@ -122,7 +126,8 @@ module _ {S : Type 0} (n : Numbered S) (puzzle : Puzzle S) (least : ℕ) (number
     first_of [] s d = let none = drawn-nothing f in cc (sym none ∙ d)
     first_of (v ∷ vs) s d = first_by v vs s (f v) refl d (first_of vs s)
 
-    drawn_before : (before after : List ℕ) (v : ℕ) (s : S) → All (Misses (space_of n puzzle) least) before → f v ≡ Some s → drawn f (before ++ v ∷ after) ≡ Some s
+    drawn_before : (before after : List ℕ) (v : ℕ) (s : S) → All (Misses (space_of n puzzle) least) before
+        → f v ≡ Some s → drawn f (before ++ v ∷ after) ≡ Some s
     drawn_before [] after v s all e = drawn-first f v after s e
     drawn_before (x ∷ before) after v s all e =
         drawn-later f x (before ++ v ∷ after) (none-f x (All-head (Misses (space_of n puzzle) least) x before all))
@@ -130,7 +135,8 @@ module _ {S : Type 0} (n : Numbered S) (puzzle : Puzzle S) (least : ℕ) (number
 
   -- ---- the same of outcomes
 
-  first_hits : (values : List ℕ) (s : S) → Draws (space_of n puzzle) least values (Some s) → FirstHits (space_of n puzzle) least values s
+  first_hits : (values : List ℕ) (s : S) → Draws (space_of n puzzle) least values (Some s)
+      → FirstHits (space_of n puzzle) least values s
   unfolding f
   first_hits values s d = first_of d.test d.tells values s d.drawn_is
 

@@ -7,7 +7,8 @@ use Rattle.scr_combinatorics.proofs.Digits.{lists_one_to_one}
 use Rattle.scr_draw.specs.Attempt.{attempt_value}
 
 -- the number that three words spell is that of three digits in base 2 ^ 32
-spelled : (words : List ℕ) → length words ≡ 3 → attempt_value (slice_index words) 0 ≡ mixed_number (replicate 3 (2 ^ 32)) words
+spelled : (words : List ℕ) → length words ≡ 3
+    → attempt_value (slice_index words) 0 ≡ mixed_number (replicate 3 (2 ^ 32)) words
 spelled [] e = absurd (omega arith)
 spelled (a ∷ []) e = absurd (omega arith)
 spelled (a ∷ b ∷ []) e = absurd (omega arith)

@@ -15,7 +15,8 @@ pub record IsTried {S : Type 0} (count : ℕ) (state_at : ℕ → S) (permits : 
       ≡ tried + numbers_read (hit count state_at permits) (attempt_values word (place + 3 * tried) (all - tried))
 
 -- the numbers of attempts, the first apart
-values_step : (word : ℕ → ℕ) (place n : ℕ) → attempt_values word place (suc n) ≡ attempt_value word place ∷ attempt_values word (place + 3) n
+values_step : (word : ℕ → ℕ) (place n : ℕ)
+    → attempt_values word place (suc n) ≡ attempt_value word place ∷ attempt_values word (place + 3) n
 unfolding attempt_values
 values_step word place n = refl
 
@@ -24,7 +25,8 @@ unfolding attempt_values
 values_none word place = refl
 
 -- what a first number does that misses
-drawn_past : {S : Type 0} (hits : ℕ → Option S) (v : ℕ) (vs : List ℕ) → hits v ≡ None → drawn hits (v ∷ vs) ≡ drawn hits vs
+drawn_past : {S : Type 0} (hits : ℕ → Option S) (v : ℕ) (vs : List ℕ) → hits v ≡ None
+    → drawn hits (v ∷ vs) ≡ drawn hits vs
 unfolding drawn
 drawn_past hits v vs miss = rw miss refl
 
@@ -34,11 +36,13 @@ unfolding numbers_read
 read_past hits v vs miss = rw miss refl
 
 -- and one that hits
-drawn_here : {S : Type 0} (hits : ℕ → Option S) (v : ℕ) (vs : List ℕ) (s : S) → hits v ≡ Some s → drawn hits (v ∷ vs) ≡ Some s
+drawn_here : {S : Type 0} (hits : ℕ → Option S) (v : ℕ) (vs : List ℕ) (s : S) → hits v ≡ Some s
+    → drawn hits (v ∷ vs) ≡ Some s
 unfolding drawn
 drawn_here hits v vs s here = rw here refl
 
-read_here : {S : Type 0} (hits : ℕ → Option S) (v : ℕ) (vs : List ℕ) (s : S) → hits v ≡ Some s → numbers_read hits (v ∷ vs) ≡ 1
+read_here : {S : Type 0} (hits : ℕ → Option S) (v : ℕ) (vs : List ℕ) (s : S) → hits v ≡ Some s
+    → numbers_read hits (v ∷ vs) ≡ 1
 unfolding numbers_read
 read_here hits v vs s here = rw here refl
 
@@ -100,8 +104,9 @@ pub record EndsWith {S : Type 0} (hits : ℕ → Option S) (word : ℕ → ℕ) 
 module _ {S : Type 0} {count : ℕ} {state_at : ℕ → S} {permits : S → Bool} {word : ℕ → ℕ} {place all : ℕ} {word_now : ℕ → ℕ} {place_now tried : ℕ} where
   -- one more missed, and its three words were taken
   tried_miss : IsTried count state_at permits word place all word_now place_now tried → tried < all
-      → hit count state_at permits (attempt_value word (place + 3 * tried)) ≡ None → (word_next : ℕ → ℕ) (place_next : ℕ)
-      → word_next ≡ word_now → place_next ≡ place_now + 3 → IsTried count state_at permits word place all word_next place_next (tried + 1)
+      → hit count state_at permits (attempt_value word (place + 3 * tried)) ≡ None
+      → (word_next : ℕ → ℕ) (place_next : ℕ) → word_next ≡ word_now → place_next ≡ place_now + 3
+      → IsTried count state_at permits word place all word_next place_next (tried + 1)
   tried_miss so_far more miss word_next place_next same three =
       let hits : ℕ → Option S = hit count state_at permits in
       let v : ℕ = attempt_value word (place + 3 * tried) in
@@ -130,22 +135,25 @@ module _ {S : Type 0} {count : ℕ} {state_at : ℕ → S} {permits : S → Bool
 
   module _ {count_now : ℕ} (so_far : IsTried count state_at permits word place all word_now place_now tried) (more : tried < all) (ec : count_now ≡ count) where
     -- an attempt's answer, at the count and the words that the attempts began with
-    answer_at : (o : Option ℕ) → o ≡ answer count_now (attempt_value word_now place_now) → answer count (attempt_value word (place + 3 * tried)) ≡ o
+    answer_at : (o : Option ℕ) → o ≡ answer count_now (attempt_value word_now place_now)
+        → answer count (attempt_value word (place + 3 * tried)) ≡ o
     answer_at o h =
         sym (h ∙ ap (λ (c : ℕ). answer c (attempt_value word_now place_now)) ec
         ∙ ap (λ (w : ℕ → ℕ). answer count (attempt_value w place_now)) so_far.same_words
         ∙ ap (λ (p : ℕ). answer count (attempt_value word p)) so_far.taken)
 
     -- it was refused
-    pub tried_refused : {word_next : ℕ → ℕ} {place_next : ℕ} → None ≡ answer count_now (attempt_value word_now place_now)
-        → word_next ≡ word_now → place_next ≡ place_now + 3 → IsTried count state_at permits word place all word_next place_next (tried + 1)
+    pub tried_refused : {word_next : ℕ → ℕ} {place_next : ℕ}
+        → None ≡ answer count_now (attempt_value word_now place_now) → word_next ≡ word_now → place_next ≡ place_now + 3
+        → IsTried count state_at permits word place all word_next place_next (tried + 1)
     tried_refused {word_next} {place_next} h same three =
         let miss = hit_of_refused count state_at permits (attempt_value word (place + 3 * tried)) (answer_at None h) in
         tried_miss so_far more miss word_next place_next same three
 
     -- it was accepted, and its state failed the test
-    pub tried_failed : {word_next : ℕ → ℕ} {place_next i : ℕ} {s : S} → Some i ≡ answer count_now (attempt_value word_now place_now)
-        → s ≡ state_at i → permits s ≡ false → word_next ≡ word_now → place_next ≡ place_now + 3
+    pub tried_failed : {word_next : ℕ → ℕ} {place_next i : ℕ} {s : S}
+        → Some i ≡ answer count_now (attempt_value word_now place_now) → s ≡ state_at i → permits s ≡ false
+        → word_next ≡ word_now → place_next ≡ place_now + 3
         → IsTried count state_at permits word place all word_next place_next (tried + 1)
     tried_failed {word_next} {place_next} {i} h is failed same three =
         let miss = hit_of_failed count state_at permits (attempt_value word (place + 3 * tried)) i (answer_at (Some i) h) (rw is at failed) in

@@ -28,7 +28,7 @@ pub record IsFair {S : Type 0} (count : ℕ) (state_at : ℕ → S) (hits : ℕ 
   -- the numbers that hit nothing
   pub misses : ℕ
   pub missed : IsCount (λ v. hits v ≡ None) (2 ^ 96) misses
-  -- each permitted state is drawn by the same number of lists of each length: the lists of `len` numbers below 2 ^ 96 are
-  -- those of the digits in that base of the numbers below (2 ^ 96) ^ len
+  -- each permitted state is drawn by the same number of lists of each length: the lists of `len` numbers below 2 ^ 96
+  -- are those of the digits in that base of the numbers below (2 ^ 96) ^ len
   pub same_ways : (len : ℕ) (s : S) → IsPermitted s
       → IsCount (λ n. drawn hits (mixed_digits (replicate len (2 ^ 96)) n) ≡ Some s) ((2 ^ 96) ^ len) (ways (2 ^ 96) (quotient count) misses len)

@@ -1,5 +1,5 @@
--- What some numbers draw, said with no test: which numbers hit a state, and that there is one outcome. A law of drawing says
--- so; what is drawn is defined without it.
+-- What some numbers draw, said with no test: which numbers hit a state, and that there is one outcome. A law of drawing
+-- says so; what is drawn is defined without it.
 use Rattle.std.specs.Prelude.{ℕ, ◌≡◌, ◌%◌, ◌↔◌, All, IsTrue, List, ◌∷◌, ◌++◌, Option, Some, None}
 use Rattle.scr_combinatorics.specs.Reach.{Needs, IsPermitted}
 use Rattle.scr_draw.specs.Attempt.{is_accepted}

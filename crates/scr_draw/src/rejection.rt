@@ -32,8 +32,8 @@ pub fn next_number<W: Words>(words: &mut W) -> u128
     low + (middle << 32) + (high << 64)
 }
 
-/// Takes three words and reads them as a number below 2^96. Below the end of the last whole run of `count` numbers the answer
-/// is the number's place in its run, a number below `count`; from there on there is none.
+/// Takes three words and reads them as a number below 2^96. Below the end of the last whole run of `count` numbers the
+/// answer is the number's place in its run, a number below `count`; from there on there is none.
 ///
 /// `count` is at least 1, and fewer than 2^63 - 3 words were taken before.
 pub fn attempt<W: Words>(words: &mut W, count: u128) -> Option<u128>

@@ -35,8 +35,9 @@ unfolding cubes_on_literals frame frame_back
 frame_back-played = refl
 
 -- as it is made
-pub frame_back-made : (start : CubeState) (forth undone : List Turn) (end : Option CubeState) → start ≡ solved_cube → forth ≡ frame
-    → undone ≡ back opposite forth → end ≡ play (after_letter cube_powers) start undone → end ≡ Some frame_back
+pub frame_back-made : (start : CubeState) (forth undone : List Turn) (end : Option CubeState) → start ≡ solved_cube
+    → forth ≡ frame → undone ≡ back opposite forth → end ≡ play (after_letter cube_powers) start undone
+    → end ≡ Some frame_back
 frame_back-made start forth undone end a b c d =
     d ∙ ap (λ s. play (after_letter cube_powers) s undone) a ∙ ap (play (after_letter cube_powers) solved_cube) (c ∙ ap (back opposite) b) ∙ frame_back-played
 
@@ -71,7 +72,8 @@ between-again s own =
     ∙ ap (cube_then s) back_and_frame ∙ j.solved_last s own
 
 -- as it is made
-pub between-made : (s back rest b : CubeState) → back ≡ frame_back → rest ≡ cube_then s back → b ≡ cube_then back rest → b ≡ between s
+pub between-made : (s back rest b : CubeState) → back ≡ frame_back → rest ≡ cube_then s back → b ≡ cube_then back rest
+    → b ≡ between s
 unfolding between
 between-made s back rest b e f g =
     g ∙ ap (cube_then back) f ∙ ap (λ c. cube_then c (cube_then s c)) e
@@ -93,7 +95,8 @@ abbrev pub framed : List Turn → List Turn
 framed middle = frame ++ middle ++ frame
 
 -- Two frames about a word to the cube between lead to the state.
-pub framed-played : (s : CubeState) (middle : List Turn) → IsCube s → play (after_letter cube_powers) solved_cube middle ≡ Some (between s)
+pub framed-played : (s : CubeState) (middle : List Turn) → IsCube s
+    → play (after_letter cube_powers) solved_cube middle ≡ Some (between s)
     → play (after_letter cube_powers) solved_cube (framed middle) ≡ Some s
 framed-played s middle own played =
     let after = after_letter cube_powers in
@@ -114,7 +117,8 @@ length-framed middle =
     omega (arith, ap length joined, length-append (frame ++ middle) frame, length-append frame middle, length-frame)
 
 -- a state has one scramble
-pub IsScrambleFewest-unique : (tries : ℕ) (s : CubeState) (turns other : List Turn) → IsScrambleFewest tries s turns → IsScrambleFewest tries s other → turns ≡ other
+pub IsScrambleFewest-unique : (tries : ℕ) (s : CubeState) (turns other : List Turn) → IsScrambleFewest tries s turns
+    → IsScrambleFewest tries s other → turns ≡ other
 IsScrambleFewest-unique tries s turns other a b =
     let middle : a.middle ≡ b.middle =
     IsScrambleBy-unique (two_parts (between s) tries) (between s) a.middle b.middle a.scramble b.scramble in
@@ -173,7 +177,8 @@ frame_behind xs ys n i is =
     (at_end xs ys (n + 2) (i + 2) (omega (arith, is)))
 
 -- turns whose last three pass end in the frame
-ends : (turns : List Turn) (n : ℕ) → length turns ≡ n + 3 → IsTrue (is_frame_at turns n) → (middle : List Turn) × (turns ≡ middle ++ frame)
+ends : (turns : List Turn) (n : ℕ) → length turns ≡ n + 3 → IsTrue (is_frame_at turns n)
+    → (middle : List Turn) × (turns ≡ middle ++ frame)
 unfolding is_frame_at
 ends [] n size is = absurd (omega (arith, size))
 ends (a ∷ []) n size is = absurd (omega (arith, size))

@@ -58,8 +58,8 @@ fn framed(middle: &Scramble) -> Scramble
     scramble
 }
 
-/// Whether the turns of a scramble are between two frames: at least six, of which the first three and the last three are
-/// R' U' F.
+/// Whether the turns of a scramble are between two frames: at least six, of which the first three and the last three
+/// are R' U' F.
 #[tactic(auto, unfolding(crate::specs::Fewest::is_framed))]
 pub fn is_framed(scramble: &Scramble) -> bool
     ensures { result ≡ is_framed scramble.now.turns }

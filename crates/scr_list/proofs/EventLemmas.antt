@@ -36,7 +36,8 @@ parts : (a b : Bool) → (a && b) ≡ true → (a ≡ true) × (b ≡ true)
 parts true b is = (refl, is)
 parts false b is = cc
 
-id-facts : (e : Event) → is_id e ≡ true → event_of (id_of e) ≡ Some e → bytes_eq (id_of e) (codes "444") ≡ false → IsId e
+id-facts : (e : Event) → is_id e ≡ true → event_of (id_of e) ≡ Some e → bytes_eq (id_of e) (codes "444") ≡ false
+    → IsId e
 unfolding is_id
 id-facts e test finds not_444 =
     let last = parts _ _ test in
@@ -99,6 +100,7 @@ unfolding event_named
 event_named-id e = (id-IsId e).finds
 
 -- a word, read as text
-pub event_named-text : (word text : List ℕ) (found : Option Event) → text ≡ word → found ≡ event_of text → found ≡ event_named word
+pub event_named-text : (word text : List ℕ) (found : Option Event) → text ≡ word → found ≡ event_of text
+    → found ≡ event_named word
 unfolding event_named
 event_named-text word text found same is = is ∙ ap event_of same

@@ -61,7 +61,8 @@ without_blanks_before text = drop (prefix_len is_blank text) text
 abbrev pub without_blanks_behind : List ℕ → List ℕ
 without_blanks_behind text = take (length text - suffix_len is_blank text) text
 
-first_plain : (text : List ℕ) → 1 ≤ length (without_blanks_before text) → is_blank (get_or (without_blanks_before text) 0 0) ≡ false
+first_plain : (text : List ℕ) → 1 ≤ length (without_blanks_before text)
+    → is_blank (get_or (without_blanks_before text) 0 0) ≡ false
 first_plain text some =
     let n = prefix_len is_blank text in
     let size = length-drop n text in
@@ -152,7 +153,8 @@ name_in-name name it =
 -- ---- the first colon
 
 -- where it is
-pub told_part-some : (line : List ℕ) (colon : ℕ) → position is_colon line ≡ Some colon → told_part true line ≡ take colon line
+pub told_part-some : (line : List ℕ) (colon : ℕ) → position is_colon line ≡ Some colon
+    → told_part true line ≡ take colon line
 unfolding told_part
 told_part-some line colon found =
     let is = position-Some is_colon line colon 0 found in
@@ -179,7 +181,8 @@ unfolding told_part name_part
 parts-whole line = (refl, refl)
 
 -- a line with a colon
-colon_place : (front back : List ℕ) → All (λ b. is_colon b ≡ false) front → position_or_len is_colon (front ++ 58 ∷ back) ≡ length front
+colon_place : (front back : List ℕ) → All (λ b. is_colon b ≡ false) front
+    → position_or_len is_colon (front ++ 58 ∷ back) ≡ length front
 colon_place [] back plain = refl
 colon_place (b ∷ front) back plain =
     let here = All-head (λ x. is_colon x ≡ false) b front plain in
@@ -206,7 +209,8 @@ parts-colon front back plain =
     )
 
 -- a line without a colon
-pub parts-plain : (line : List ℕ) → All (λ b. is_colon b ≡ false) line → (told_part true line ≡ line) × (name_part true line ≡ None)
+pub parts-plain : (line : List ℕ) → All (λ b. is_colon b ≡ false) line
+    → (told_part true line ≡ line) × (name_part true line ≡ None)
 parts-plain line plain =
     let n = length line in
     let place = position_or_len_is is_colon line n 0 (omega arith) (λ k h. plain k 0 h) (λ h. absurd (omega arith)) in

@@ -31,7 +31,8 @@ use Rattle.scr_list.proofs.RoundLemmas.{read_on, read_on-start, read_on-none, re
 use Rattle.scr_list.proofs.VersionLemmas.{version_of-id}
 
 -- a number's text is read as that number
-number_between-decimal : (least greatest n : ℕ) → n < 2 ^ 64 → least ≤ n → n ≤ greatest → number_between least greatest (decimal n) ≡ Some n
+number_between-decimal : (least greatest n : ℕ) → n < 2 ^ 64 → least ≤ n → n ≤ greatest
+    → number_between least greatest (decimal n) ≡ Some n
 unfolding number_between
 number_between-decimal least greatest n low above below = rw (number_of_text-decimal n low) (in_range-some least greatest n above below)
 
@@ -111,7 +112,8 @@ round_words-named most before round name low it called = at (minima_of round.eve
 -- ---- a line
 
 -- what holds of a space and of the bytes of some words holds of those of their line
-join-all : (P : ℕ → Type 0) (words : List (List ℕ)) → P 32 → All (λ word. All P word) words → All P (join_with_byte 32 words)
+join-all : (P : ℕ → Type 0) (words : List (List ℕ)) → P 32 → All (λ word. All P word) words
+    → All P (join_with_byte 32 words)
 join-all P [] blank all = All-nil P
 join-all P (word ∷ []) blank all = All-head (λ w. All P w) word [] all
 join-all P (word ∷ next ∷ words) blank all =
@@ -177,7 +179,8 @@ join-short (word ∷ next ∷ words) all =
 length-round_words : (round : Round) → length (round_words round) ≤ 3
 length-round_words round = at (minima_of round.event)
   where
-    at : (minima : Option Minima) → length (id_of round.event ∷ decimal round.groups ∷ least_words minima round.least) ≤ 3
+    at : (minima : Option Minima)
+        → length (id_of round.event ∷ decimal round.groups ∷ least_words minima round.least) ≤ 3
     at None = omega arith
     at (Some minima) = omega arith
 
@@ -186,7 +189,8 @@ record IsNameText (text : List ℕ) : Type 0 where
   high : All (λ b. 31 < b) text
   short : length text ≤ 42
 
-name_behind_colon-IsNameText : (name : List ℕ) → (has_bytes name ≡ true → IsName name) → IsNameText (name_behind_colon name)
+name_behind_colon-IsNameText : (name : List ℕ) → (has_bytes name ≡ true → IsName name)
+    → IsNameText (name_behind_colon name)
 name_behind_colon-IsNameText [] it = record { high = All-nil (λ b. 31 < b); short = omega arith }
 name_behind_colon-IsNameText (byte ∷ name) it =
     let bytes = is_name-HasNameBytes (byte ∷ name) (it refl).test in
@@ -206,7 +210,8 @@ round_line-IsLine round it =
     (All-weaker IsShortWord (λ word. All (λ b. 32 < b) word) (λ word short. short.plain) (round_words round) (round_words-short round it)))
     (name_behind_colon-IsNameText round.name it.name).high)
 
-round_line-short : (round : Round) → IsRound round → length (round_line round) ≤ 18 + length (name_behind_colon round.name)
+round_line-short : (round : Round) → IsRound round
+    → length (round_line round) ≤ 18 + length (name_behind_colon round.name)
 round_line-short round it =
     let line = join-short (round_words round) (round_words-short round it) in
     let few = length-round_words round in
@@ -224,7 +229,8 @@ lines-short most (round ∷ rest) all few =
     omega (arith, line, name, more, joined)
 
 -- the empty line behind the last round names none
-no_line-read : (takes_names : Bool) (most before : ℕ) → round_of_words most before (name_part takes_names []) (line_words (told_part takes_names [])) ≡ Ok None
+no_line-read : (takes_names : Bool) (most before : ℕ)
+    → round_of_words most before (name_part takes_names []) (line_words (told_part takes_names [])) ≡ Ok None
 unfolding round_of_words line_words told_part name_part
 no_line-read true most before = refl
 no_line-read false most before = refl
@@ -245,7 +251,8 @@ lines-read version done number (round ∷ rest) all fits few =
     ∙ ap Ok (append_assoc done (round ∷ []) rest)
 
 -- their text, and the empty line behind it
-lines_of-rounds : (rounds : List Round) → All IsRound rounds → lines_of (text_of_lines (map round_line rounds)) ≡ map round_line rounds ++ [] ∷ []
+lines_of-rounds : (rounds : List Round) → All IsRound rounds
+    → lines_of (text_of_lines (map round_line rounds)) ≡ map round_line rounds ++ [] ∷ []
 lines_of-rounds rounds all =
     lines_of-text_of_lines (map round_line rounds)
     (All-map IsLine round_line rounds (All-weaker IsRound (λ round. IsLine (round_line round)) round_line-IsLine rounds all))

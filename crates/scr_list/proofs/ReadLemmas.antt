@@ -21,7 +21,8 @@ use Rattle.scr_list.proofs.RoundLemmas.{TellsLength, rounds_of-TellsLength, roun
 use Rattle.scr_list.proofs.VersionLemmas.{version_of-cases, version_of-append}
 
 -- the first bytes of a list after another
-take_past : (k n : ℕ) (xs ys zs : List ℕ) → length xs ≡ k → n ≤ length ys → take (k + n) (xs ++ (ys ++ zs)) ≡ xs ++ take n ys
+take_past : (k n : ℕ) (xs ys zs : List ℕ) → length xs ≡ k → n ≤ length ys
+    → take (k + n) (xs ++ (ys ++ zs)) ≡ xs ++ take n ys
 take_past k n xs ys zs long few =
     rw (← long) (take-append-add xs (ys ++ zs) n ∙ ap (λ x. xs ++ x) (take-append-le n ys zs few))
 
@@ -57,7 +58,8 @@ put_back-twice : (xs ys : List ℕ) (o : Option (List ℕ)) → put_back xs (put
 put_back-twice xs ys None = refl
 put_back-twice xs ys (Some left) = ap Some (sym (append_assoc xs ys left))
 
-pub in_part-few : {change : Change} (size : ℕ) → size ≤ 4097 → ReadsInPart change (λ _. size) → ReadsInPart change most_read
+pub in_part-few : {change : Change} (size : ℕ) → size ≤ 4097 → ReadsInPart change (λ _. size)
+    → ReadsInPart change most_read
 in_part-few size small part =
     let range = most_read-range part.bytes in
     let few = part.few in
@@ -88,8 +90,8 @@ in_part-after {left'' = left''} {faults'' = faults''} xs size long room first no
       never_falls = subst (λ f. f ≤ faults'') first.no_fault part.never_falls;
     }
 
--- What was read into a buffer behind as many bytes as the first version has room for: they are followed by what was read,
--- and reading ends where they say.
+-- What was read into a buffer behind as many bytes as the first version has room for: they are followed by what was
+-- read, and reading ends where they say.
 pub record IsReadOn (buffer front next : List ℕ) (room more : ℕ) : Type 0 where
   pub whole : take (4097 + more) (put_mid 4097 (room - 4097) (front ++ drop 4097 buffer) next) ≡ front ++ take more next
   pub most : most_read (take (4097 + more) (put_mid 4097 (room - 4097) (front ++ drop 4097 buffer) next)) ≡ room
@@ -118,11 +120,13 @@ read-on buffer front next room more all first room_is most as_long few =
 -- ---- what a source had
 
 -- bytes that a source gave are the first of those that it had
-had : (list bytes : List ℕ) (o : Option (List ℕ)) → Some list ≡ put_back bytes o → (left : List ℕ) × (o ≡ Some left) × (list ≡ bytes ++ left)
+had : (list bytes : List ℕ) (o : Option (List ℕ)) → Some list ≡ put_back bytes o
+    → (left : List ℕ) × (o ≡ Some left) × (list ≡ bytes ++ left)
 had list bytes None is = let none : ⊥ = cc in absurd none
 had list bytes (Some left) is = (left, refl, let whole : list ≡ bytes ++ left = cc in whole)
 
-same_version : (list bytes left : List ℕ) → list ≡ bytes ++ left → 11 ≤ length bytes → version_of list ≡ version_of bytes
+same_version : (list bytes left : List ℕ) → list ≡ bytes ++ left → 11 ≤ length bytes
+    → version_of list ≡ version_of bytes
 same_version list bytes left whole long = ap version_of whole ∙ version_of-append bytes left long
 
 -- a list of which too many bytes were read is too long

@@ -33,7 +33,8 @@ number_between-range : (least greatest : ℕ) (text : List ℕ) (n : ℕ) → nu
 unfolding number_between
 number_between-range least greatest text n found = at (number_of_text text) found
   where
-    tests : (m : ℕ) (a b : Bool) → nat_le least m ≡ a → nat_le m greatest ≡ b → cond (a && b) (Some m) None ≡ Some n → (least ≤ n) × (n ≤ greatest)
+    tests : (m : ℕ) (a b : Bool) → nat_le least m ≡ a → nat_le m greatest ≡ b → cond (a && b) (Some m) None ≡ Some n
+        → (least ≤ n) × (n ≤ greatest)
     tests m true true low high is =
         let same : m ≡ n = cc in
         let P : ℕ → Type 0 = λ x. (least ≤ x) × (x ≤ greatest) in
@@ -58,12 +59,14 @@ or_cause-part why None next y is = cc
 or_cause-part why (Some x) next y is = (x, refl, is)
 
 -- the choice of a fault
-not_fault : {Y : Type 0} (b : Bool) (why : ListCause) (more : Result Y ListCause) (y : Y) → cond b (Err why) more ≡ Ok y → (b ≡ false) × (more ≡ Ok y)
+not_fault : {Y : Type 0} (b : Bool) (why : ListCause) (more : Result Y ListCause) (y : Y) → cond b (Err why) more ≡ Ok y
+    → (b ≡ false) × (more ≡ Ok y)
 not_fault true why more y is = cc
 not_fault false why more y is = (refl, is)
 
 -- a name that a line gives
-name-IsName : (text : Option (List ℕ)) (name : List ℕ) → round_name text ≡ Some name → has_bytes name ≡ true → IsName name
+name-IsName : (text : Option (List ℕ)) (name : List ℕ) → round_name text ≡ Some name → has_bytes name ≡ true
+    → IsName name
 name-IsName None name is some =
     let none : [] ≡ name = cc in
     absurd (no_bytes (subst (λ n. has_bytes n ≡ true) (sym none) some))
@@ -144,7 +147,8 @@ rounds_of_lines-AreLeft version before number (line ∷ lines) =
     at (round_of_line version before line) (λ round. round_of_line-IsPlaced version before line round)
     (λ stand. rounds_of_lines-AreLeft version stand (number + 1) lines)
   where
-    count : (size : ℕ) → (size ≡ 0) ⊎ (before + 1 + size ≤ version.most_rounds) → before < version.most_rounds → before + (size + 1) ≤ version.most_rounds
+    count : (size : ℕ) → (size ≡ 0) ⊎ (before + 1 + size ≤ version.most_rounds) → before < version.most_rounds
+        → before + (size + 1) ≤ version.most_rounds
     count size (inl none) low = omega arith
     count size (inr some) low = omega arith
 
@@ -156,7 +160,8 @@ rounds_of_lines-AreLeft version before number (line ∷ lines) =
     }
     behind round placed (Err fault) it = tt
 
-    nothing : (answer : Result (List Round) ListFault) → IfLeft version.most_rounds (before + 0) answer → IfLeft version.most_rounds before (with_named [] answer)
+    nothing : (answer : Result (List Round) ListFault) → IfLeft version.most_rounds (before + 0) answer
+        → IfLeft version.most_rounds before (with_named [] answer)
     nothing (Ok rounds) it = record { each = it.each; few = elim it.few [ inl none ↦ inl none | inr some ↦ inr (omega arith) ] }
     nothing (Err fault) it = tt
 
@@ -201,11 +206,13 @@ rounds_of-IsRounds bytes rounds found =
 
 -- ---- what the grammar's answer is
 
-pub answer-IsRounds : (bytes : List ℕ) (r : Result (ArrayVec Round) ListFault) → listed r ≡ rounds_of bytes → IfOk r (λ rounds. IsRounds rounds.items)
+pub answer-IsRounds : (bytes : List ℕ) (r : Result (ArrayVec Round) ListFault) → listed r ≡ rounds_of bytes
+    → IfOk r (λ rounds. IsRounds rounds.items)
 answer-IsRounds bytes (Ok rounds) is = rounds_of-IsRounds bytes rounds.items (sym is)
 answer-IsRounds bytes (Err fault) is = tt
 
-pub answer-not_Read : (bytes : List ℕ) (r : Result (ArrayVec Round) ListFault) → listed r ≡ rounds_of bytes → IfErr r (λ fault. fault ≡ Read → ⊥)
+pub answer-not_Read : (bytes : List ℕ) (r : Result (ArrayVec Round) ListFault) → listed r ≡ rounds_of bytes
+    → IfErr r (λ fault. fault ≡ Read → ⊥)
 answer-not_Read bytes (Ok rounds) is = tt
 answer-not_Read bytes (Err fault) is = λ read.
     subst (TellsLength (version_of bytes).most_bytes bytes) (sym is ∙ ap Err read) (rounds_of-TellsLength bytes)

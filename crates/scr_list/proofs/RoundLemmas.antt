@@ -16,7 +16,8 @@ use Rattle.scr_list.specs.Versions.{version_of}
 use Rattle.scr_list.specs.Rounds.{named_round, placed_round, round_of_words, round_of_line, rounds_of_lines, rounds_of}
 
 -- a line by its first four words, and what follows its colon
-abbrev pub by_words : ℕ → ℕ → Option (List ℕ) → Option (List ℕ) → Option (List ℕ) → Option (List ℕ) → Option (List ℕ) → Result (Option Round) ListCause
+abbrev pub by_words : ℕ → ℕ → Option (List ℕ) → Option (List ℕ) → Option (List ℕ) → Option (List ℕ) → Option (List ℕ)
+    → Result (Option Round) ListCause
 by_words most before name None second third fourth = if is_none name then Ok None else Err Words
 by_words most before name (Some event) None third fourth = Err Words
 by_words most before name (Some event) (Some groups) third (Some more) = Err Words
@@ -34,8 +35,9 @@ round_of_words-by most before name (event ∷ groups ∷ least ∷ more ∷ othe
 
 -- a line whose words, as they are read, are two or three
 pub round_of_words-named : (most before : ℕ) (name : Option (List ℕ)) (words : List (List ℕ)) (first second fourth third : Option (Bor (List ℕ))) (event groups : Bor (List ℕ))
-    → option_copied first ≡ slice_get words 0 → option_copied second ≡ slice_get words 1 → option_copied fourth ≡ slice_get words 3
-    → option_copied third ≡ slice_get words 2 → first ≡ Some event → second ≡ Some groups → fourth ≡ None
+    → option_copied first ≡ slice_get words 0 → option_copied second ≡ slice_get words 1
+    → option_copied fourth ≡ slice_get words 3 → option_copied third ≡ slice_get words 2 → first ≡ Some event
+    → second ≡ Some groups → fourth ≡ None
     → round_of_words most before name words ≡ placed_round most before (named_round event.now groups.now (option_copied third) name)
 round_of_words-named most before name words first second fourth third event groups zeroth one three two is_event is_groups no_more =
     rw (round_of_words-by, ← zeroth, ← one, ← three, ← two, is_event, is_groups, no_more) refl
@@ -45,7 +47,8 @@ abbrev pub with_named : List Round → Result (List Round) ListFault → Result 
 with_named named answer = and_then answer (λ others. Ok (named ++ others))
 
 -- what a line names before what the lines after it name
-abbrev pub then_rounds : ℕ → Result (Option Round) ListCause → (List Round → Result (List Round) ListFault) → Result (List Round) ListFault
+abbrev pub then_rounds : ℕ → Result (Option Round) ListCause → (List Round → Result (List Round) ListFault)
+    → Result (List Round) ListFault
 then_rounds number r others = and_then (result_map_both option_to_list (Line number) r) (λ named. with_named named (others named))
 
 -- rounds that were read, before those of the lines that follow
@@ -146,7 +149,8 @@ lines-TellsLength most bytes version before number [] short = short
 lines-TellsLength most bytes version before number (line ∷ lines) short =
     at (round_of_line version before line) (λ stand. lines-TellsLength most bytes version stand (number + 1) lines short)
   where
-    behind : (named : List Round) (answer : Result (List Round) ListFault) → TellsLength most bytes answer → TellsLength most bytes (with_named named answer)
+    behind : (named : List Round) (answer : Result (List Round) ListFault) → TellsLength most bytes answer
+        → TellsLength most bytes (with_named named answer)
     behind named (Ok rounds) it = it
     behind named (Err fault) it = it
 
@@ -179,15 +183,18 @@ abbrev pub left_of : Option (Bor (List ℕ)) → ℕ
 left_of None = 0
 left_of (Some text) = length text.now + 1
 
-pub left_of-shorter : (o : Option (Bor (List ℕ))) (size : ℕ) → IfSome o (λ rest. length rest.now < size) → left_of o ≤ size
+pub left_of-shorter : (o : Option (Bor (List ℕ))) (size : ℕ) → IfSome o (λ rest. length rest.now < size)
+    → left_of o ≤ size
 left_of-shorter None size shorter = omega arith
 left_of-shorter (Some rest) size shorter = omega arith
 
-pub left_of-few : (o : Option (Bor (List ℕ))) (most : ℕ) → IfSome o (λ text. length text.now ≤ most) → left_of o ≤ most + 1
+pub left_of-few : (o : Option (Bor (List ℕ))) (most : ℕ) → IfSome o (λ text. length text.now ≤ most)
+    → left_of o ≤ most + 1
 left_of-few None most few = omega arith
 left_of-few (Some text) most few = omega arith
 
-pub left-few : (o : Option (Bor (List ℕ))) (size most : ℕ) → IfSome o (λ rest. length rest.now < size) → size ≤ most → IfSome o (λ rest. length rest.now ≤ most)
+pub left-few : (o : Option (Bor (List ℕ))) (size most : ℕ) → IfSome o (λ rest. length rest.now < size) → size ≤ most
+    → IfSome o (λ rest. length rest.now ≤ most)
 left-few None size most shorter short = tt
 left-few (Some rest) size most shorter short = omega arith
 

@@ -8,7 +8,8 @@ use Rattle.scr_text.specs.Lines.{is_blank}
 abbrev pub is_colon : ℕ → Bool
 is_colon byte = byte == 58
 
--- what a line tells of its round: where names are taken, what stands before its first colon, and all of it where it has none
+-- what a line tells of its round: where names are taken, what stands before its first colon, and all of it where it has
+-- none
 unfoldable pub told_part : Bool → List ℕ → List ℕ
 told_part takes_names line = if takes_names then before_first is_colon line else line
 

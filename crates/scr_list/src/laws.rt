@@ -71,8 +71,8 @@ pub fn known_lists()
     ensures no_name { rounds_of (codes "clock 1 : Final") ≡ Err (Line 1 Words) }
 {}
 
-/// Rows of the second version: names with blanks about them and with a colon inside, lines with a colon that lack a name
-/// or words, and first lines that tell no version.
+/// Rows of the second version: names with blanks about them and with a colon inside, lines with a colon that lack a
+/// name or words, and first lines that tell no version.
 #[tactic(auto, unfolding(crate::proofs::OnLiterals::lists_on_literals))]
 pub fn known_lists_with_names()
     ensures name { rounds_of (codes "version 2\r\n\nclock 1 :\tFinal: A \r\n")

@@ -7,7 +7,8 @@ use Rattle.scr_notation.specs.declared.turn.Turn.{Turn}
 use Rattle.scr_notation.specs.declared.turn.Turn.TheVariants.{Face, Axis, Tip, Layers, Twist, Pins, Over, Wide}
 use Rattle.scr_net.specs.Nets.{Letters, net_after, turned_net, turns_layers}
 
-does : (side : ℕ) (net : Letters) (t : Turn) → IsTrue (turns_layers side t) → (r : Letters) × (net_after side net t ≡ Some r)
+does : (side : ℕ) (net : Letters) (t : Turn) → IsTrue (turns_layers side t)
+    → (r : Letters) × (net_after side net t ≡ Some r)
 unfolding turns_layers
 does side net (Face face depth amount) is =
     let turned = turned_net side face depth amount net in

@@ -22,7 +22,8 @@ module _ (side : ℕ) (letter : Sticker → ℕ) where
   abbrev face_by : ℕ → List (List ℕ)
   face_by face = map (row_by face) (range_with_len 0 side)
 
-  pub cell-net_of : (face row column : ℕ) → face < 6 → row < side → column < side → cell (net_of side letter) face row column ≡ letter_of face row column
+  pub cell-net_of : (face row column : ℕ) → face < 6 → row < side → column < side
+      → cell (net_of side letter) face row column ≡ letter_of face row column
   unfolding net_of
   cell-net_of face row column lf lr lc =
       ap (λ rows. slice_index (get_or rows row []) column) (get_or-map-range_with_len face_by 0 6 face face [] lf (omega arith))
@@ -31,7 +32,8 @@ module _ (side : ℕ) (letter : Sticker → ℕ) where
 
   -- what has these letters is that net
   pub net-same : (net : Letters) → HasShape side net
-      → ((face row column : ℕ) → face < 6 → row < side → column < side → cell net face row column ≡ letter_of face row column) → net ≡ net_of side letter
+      → ((face row column : ℕ) → face < 6 → row < side → column < side → cell net face row column ≡ letter_of face row column)
+      → net ≡ net_of side letter
   unfolding net_of
   net-same net h each =
       fill_by_all face_by net 6 [] h.faces (λ face lf.
@@ -51,7 +53,8 @@ module _ (side : ℕ) (letter : Sticker → ℕ) where
   }
 
   -- the letter at a sticker
-  pub letter_at-net_of : (s : Sticker) → 0 < side → IsSticker (side - 1) s → letter_at side (net_of side letter) s ≡ letter s
+  pub letter_at-net_of : (s : Sticker) → 0 < side → IsSticker (side - 1) s
+      → letter_at side (net_of side letter) s ≡ letter s
   letter_at-net_of s some h =
       let row = row_of-le (side - 1) s.face s.point h.face h.within in
       let column = column_of-le (side - 1) s.face s.point h.face h.within in
@@ -68,7 +71,8 @@ net_of-same side letter other same =
 
 -- letters of faces wherever there are letters, and 0 elsewhere
 pub letters-below : (side : ℕ) (net : Letters) → HasShape side net
-    → ((face row column : ℕ) → face < 6 → row < side → column < side → cell net face row column < 6) → (face row column : ℕ) → cell net face row column < 6
+    → ((face row column : ℕ) → face < 6 → row < side → column < side → cell net face row column < 6)
+    → (face row column : ℕ) → cell net face row column < 6
 letters-below side net h each face row column = face_case
   where
     past : (xs : List ℕ) → length xs ≤ column → slice_index xs column < 6
@@ -100,7 +104,8 @@ unfolding quarter_net
 letter_at-quarter side face depth net s some h = letter_at-net_of side (λ s. letter_at side net (brought_from (side - 1) face depth s)) s some h
 
 -- takes each letter along with its sticker
-pub letter_at-carried : (side face depth : ℕ) (net : Letters) (s : Sticker) → 0 < side → face < 6 → IsSticker (side - 1) s
+pub letter_at-carried : (side face depth : ℕ) (net : Letters) (s : Sticker) → 0 < side → face < 6
+    → IsSticker (side - 1) s
     → letter_at side (quarter_net side face depth net) (carried (side - 1) face depth s) ≡ letter_at side net s
 letter_at-carried side face depth net s some lf h =
     letter_at-quarter side face depth net (carried (side - 1) face depth s) some (IsSticker-carried (side - 1) face depth s lf h)
@@ -108,15 +113,17 @@ letter_at-carried side face depth net s some lf h =
 
 -- ---- so many quarter turns
 
-pub turned_net-more : (side face depth deep amount made : ℕ) (net next goal : Letters) → made < amount → deep ≡ depth → next ≡ quarter_net side face deep net
-    → turned_net side face depth (amount - made) net ≡ goal → turned_net side face depth (amount - (made + 1)) next ≡ goal
+pub turned_net-more : (side face depth deep amount made : ℕ) (net next goal : Letters) → made < amount → deep ≡ depth
+    → next ≡ quarter_net side face deep net → turned_net side face depth (amount - made) net ≡ goal
+    → turned_net side face depth (amount - (made + 1)) next ≡ goal
 unfolding turned_net
 turned_net-more side face depth deep amount made net next goal lt same quarter so_far =
     let left : suc (amount - (made + 1)) ≡ amount - made = omega arith in
     ap (turned_net side face depth (amount - (made + 1))) (quarter ∙ ap (λ d. quarter_net side face d net) same)
     ∙ ap (λ n. turned_net side face depth n net) left ∙ so_far
 
-pub turned_net-all : (side face depth amount made : ℕ) (net goal : Letters) → amount ≤ made → turned_net side face depth (amount - made) net ≡ goal → net ≡ goal
+pub turned_net-all : (side face depth amount made : ℕ) (net goal : Letters) → amount ≤ made
+    → turned_net side face depth (amount - made) net ≡ goal → net ≡ goal
 unfolding turned_net
 turned_net-all side face depth amount made net goal le so_far =
     let none : zero ≡ amount - made = omega arith in

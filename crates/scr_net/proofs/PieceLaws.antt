@@ -56,8 +56,8 @@ same_place-same (Some k) (Some j) h = (k, refl, ap Some (sym (eqb-true k j h)))
 abbrev pub number_at : List (List ℕ) → ℕ → ℕ → ℕ → Option ℕ
 number_at places face place digit = position (λ f. f == face) (standing (get_or places place []) digit)
 
--- A turn brings to a place's face what stood at another's: the piece comes from there, and whatever its digit was, the letter
--- that is there now was there. Where no such piece is, the rest tells.
+-- A turn brings to a place's face what stood at another's: the piece comes from there, and whatever its digit was, the
+-- letter that is there now was there. Where no such piece is, the rest tells.
 abbrev pub comes_from : ℕ → ℕ → List (List ℕ) → Rearrangement → ℕ → ℕ → Bool → Option ℕ → Option ℕ → Bool
 comes_from n modulus places r face from rest None None = rest
 comes_from n modulus places r face from rest (Some k) (Some j) =
@@ -73,7 +73,8 @@ digit-below modulus ds k some each = elim (cases_lt k (length ds)) [
 
 module _ (n modulus : ℕ) (places : List (List ℕ)) (o : Orbit) (r : Rearrangement) (some : 0 < modulus) (own : IsZeroSumOrbit n modulus o) (turn : IsZeroSumRearrangement n modulus r) where
   -- what stands at a place after a turn
-  piece-turned : (k : ℕ) → k < n → slice_index (turned_orbit modulus o r).pieces k ≡ slice_index o.pieces (slice_index r.places k)
+  piece-turned : (k : ℕ) → k < n
+      → slice_index (turned_orbit modulus o r).pieces k ≡ slice_index o.pieces (slice_index r.places k)
   unfolding turned_orbit
   piece-turned k lt = pick-at o.pieces r.places k (omega (arith, turn.places.size))
 
@@ -107,7 +108,8 @@ module _ (n modulus : ℕ) (places : List (List ℕ)) (o : Orbit) (r : Rearrange
         ap (option_map (slice_index letters)) same.2,
       )
 
-  option-turned : (face from x y : ℕ) (rest : Bool) (a b : Option ℕ) → (rest ≡ true → x ≡ y) → comes_from n modulus places r face from rest a b ≡ true
+  option-turned : (face from x y : ℕ) (rest : Bool) (a b : Option ℕ) → (rest ≡ true → x ≡ y)
+      → comes_from n modulus places r face from rest a b ≡ true
       → unwrap_or (option_and_then (piece_letter places (turned_orbit modulus o r) face) a) x ≡ unwrap_or (option_and_then (piece_letter places o from) b) y
   option-turned face from x y rest None None other h = other h
   option-turned face from x y rest None (Some j) other h = absurd (cc)
@@ -135,8 +137,9 @@ module _ (last : ℕ) (places : List (List ℕ)) (pieces digits : List ℕ) (s :
   letter-nowhere e = ap (option_and_then (piece_letter places (record { pieces = pieces; digits = digits }) s.face)) e
 
   -- by the number at which the face stands, at a place that was found
-  by_number : (place : ℕ) (faces : List ℕ) (number : Option ℕ) → place < length places → faces ≡ get_or places place faces
-      → place_at last places s.point ≡ Some place → position (λ f. f == s.face) (standing faces (slice_index digits place)) ≡ number
+  by_number : (place : ℕ) (faces : List ℕ) (number : Option ℕ) → place < length places
+      → faces ≡ get_or places place faces → place_at last places s.point ≡ Some place
+      → position (λ f. f == s.face) (standing faces (slice_index digits place)) ≡ number
       → letter ≡ option_map (slice_index (get_or places (slice_index pieces place) [])) number
   unfolding letter_of_pieces
   by_number place faces number lt same found e =
@@ -146,11 +149,13 @@ module _ (last : ℕ) (places : List (List ℕ)) (pieces digits : List ℕ) (s :
       ∙ ap (option_map (slice_index (get_or places (slice_index pieces place) []))) e
 
   pub letter-unnumbered : (place : ℕ) (faces : List ℕ) → place < length places → faces ≡ get_or places place faces
-      → place_at last places s.point ≡ Some place → position (λ f. f == s.face) (standing faces (slice_index digits place)) ≡ None → letter ≡ None
+      → place_at last places s.point ≡ Some place
+      → position (λ f. f == s.face) (standing faces (slice_index digits place)) ≡ None → letter ≡ None
   letter-unnumbered place faces lt same found e = by_number place faces None lt same found e
 
   pub letter-found : (place number : ℕ) (faces : List ℕ) → place < length places → faces ≡ get_or places place faces
-      → place_at last places s.point ≡ Some place → position (λ f. f == s.face) (standing faces (slice_index digits place)) ≡ Some number
+      → place_at last places s.point ≡ Some place
+      → position (λ f. f == s.face) (standing faces (slice_index digits place)) ≡ Some number
       → letter ≡ Some (slice_index (get_or places (slice_index pieces place) []) number)
   letter-found place number faces lt same found e = by_number place faces (Some number) lt same found e
 
@@ -164,13 +169,14 @@ face-below [] k h = lit< tt
 face-below (x ∷ xs) zero h = ltb-true x 6 (and_parts (nat_lt x 6) (list_all (λ x. nat_lt x 6) xs) h).0
 face-below (x ∷ xs) (suc k) h = face-below xs k (and_parts (nat_lt x 6) (list_all (λ x. nat_lt x 6) xs) h).1
 
-faces-below : (places : List (List ℕ)) (place k : ℕ) → are_faces places ≡ true → slice_index (get_or places place []) k < 6
+faces-below : (places : List (List ℕ)) (place k : ℕ) → are_faces places ≡ true
+    → slice_index (get_or places place []) k < 6
 faces-below [] place k h = lit< tt
 faces-below (fs ∷ places) zero k h = face-below fs k (and_parts (list_all (λ x. nat_lt x 6) fs) (are_faces places) h).0
 faces-below (fs ∷ places) (suc place) k h = faces-below places place k (and_parts (list_all (λ x. nat_lt x 6) fs) (are_faces places) h).1
 
-pub letter-below : (last : ℕ) (places : List (List ℕ)) (o : Orbit) (s : Sticker) (x : ℕ) → are_faces places ≡ true → x < 6
-    → unwrap_or (letter_of_pieces last places o s) x < 6
+pub letter-below : (last : ℕ) (places : List (List ℕ)) (o : Orbit) (s : Sticker) (x : ℕ) → are_faces places ≡ true
+    → x < 6 → unwrap_or (letter_of_pieces last places o s) x < 6
 unfolding letter_of_pieces
 letter-below last places o s x faces low = by (letter_of_pieces last places o s) refl
   where
@@ -186,8 +192,8 @@ letter-below last places o s x faces low = by (letter_of_pieces last places o s)
 -- ---- both cubes
 
 -- the lists of a valid orbit, over as many places
-pub valid_lists : (n modulus : ℕ) (places : List (List ℕ)) (o : Orbit) (pieces digits : List ℕ) → length places ≡ n → IsZeroSumOrbit n modulus o
-    → pieces ≡ o.pieces → digits ≡ o.digits
+pub valid_lists : (n modulus : ℕ) (places : List (List ℕ)) (o : Orbit) (pieces digits : List ℕ) → length places ≡ n
+    → IsZeroSumOrbit n modulus o → pieces ≡ o.pieces → digits ≡ o.digits
     → (length pieces ≡ length places) × ((length digits ≡ length places) × (All (λ k. k < length places) pieces × All (λ d. d < modulus) digits))
 valid_lists n modulus places o pieces digits size own a b =
     let below : All (λ k. k < length places) o.pieces = subst (λ m. All (λ k. k < m) o.pieces) (sym size) (All-permutation n o.pieces own.pieces) in (
@@ -217,8 +223,9 @@ unfolding cube_letter
 cube_letter-below c s low =
     letter-below 2 corner_faces c.corners s (unwrap_or (letter_of_pieces 2 edge_faces c.edges s) s.face) refl (letter-below 2 edge_faces c.edges s s.face refl low)
 
-pub corners_letter-is : (o : Orbit) (s : Sticker) (corners twists : List ℕ) (corner : Option ℕ) → corners ≡ o.pieces → twists ≡ o.digits
-    → corner ≡ letter_of_pieces 1 corner_faces_222 (record { pieces = corners; digits = twists }) s → unwrap_or corner s.face ≡ corners_letter o s
+pub corners_letter-is : (o : Orbit) (s : Sticker) (corners twists : List ℕ) (corner : Option ℕ) → corners ≡ o.pieces
+    → twists ≡ o.digits → corner ≡ letter_of_pieces 1 corner_faces_222 (record { pieces = corners; digits = twists }) s
+    → unwrap_or corner s.face ≡ corners_letter o s
 unfolding corners_letter
 corners_letter-is o s corners twists corner a b first =
     ap (λ l. unwrap_or l s.face)

@@ -29,7 +29,8 @@ use Rattle.scr_net.proofs.NetLaws.{letter_at-net_of, net_of-same}
 use Rattle.scr_net.proofs.PieceLaws.{comes_from, each_sticker, each_sticker-at, letter_of_pieces-turned}
 
 -- a net by a rule turns as the rule does, where it does so at each sticker that passes a test, as all do
-net-quarter : (side face : ℕ) (letter other : Sticker → ℕ) (test : Sticker → Bool) → 0 < side → each_sticker side test ≡ true
+net-quarter : (side face : ℕ) (letter other : Sticker → ℕ) (test : Sticker → Bool) → 0 < side
+    → each_sticker side test ≡ true
     → ((s : Sticker) → test s ≡ true → letter (brought_from (side - 1) face 1 s) ≡ other s)
     → quarter_net side face 1 (net_of side letter) ≡ net_of side other
 unfolding quarter_net
@@ -50,7 +51,8 @@ module _ {S R : Type 0} (a : Action S R) (IsValid : S → Type 0) (IsTurn : R �
   abbrev net : S → Letters
   net s = net_of side (letter s)
 
-  quarter : (face : ℕ) (q : R) → slice_get generators face ≡ Some q → (s : S) → IsValid s → quarter_net side face 1 (net s) ≡ net (a.turned s q)
+  quarter : (face : ℕ) (q : R) → slice_get generators face ≡ Some q → (s : S) → IsValid s
+      → quarter_net side face 1 (net s) ≡ net (a.turned s q)
   quarter face q there s own =
       net-quarter side face (letter s) (letter (a.turned s q)) (comes_by face q) (omega (arith, large)) (tests face q there)
       (λ x. letter-turned face q s x own (turns face q there))
@@ -89,7 +91,8 @@ module _ {S R : Type 0} (a : Action S R) (IsValid : S → Type 0) (IsTurn : R �
             ∙ ap Some (net-power letter.0.generator found.0 found.1 letter.0.exponent s own ∙ ap net made);
       }
 
-  net-played : (w : List Turn) (s e : S) → IsValid s → play after s w ≡ Some e → play (net_after side) (net s) w ≡ Some (net e)
+  net-played : (w : List Turn) (s e : S) → IsValid s → play after s w ≡ Some e
+      → play (net_after side) (net s) w ≡ Some (net e)
   net-played [] s e own h =
       play-empty (net_after side) (net s) ∙ ap (λ x. Some (net x)) (same_Some s e (sym (play-empty after s) ∙ h))
   net-played (t ∷ w) s e own h =
@@ -102,7 +105,8 @@ module _ {S R : Type 0} (a : Action S R) (IsValid : S → Type 0) (IsTurn : R �
       → play (net_after side) (solved_net side) w ≡ option_map net (play after s w)
   played_net s own solved w some = ap (λ n. play (net_after side) n w) (sym solved) ∙ by (play after s w) refl some
     where
-      by : (o : Option S) → play after s w ≡ o → IsSome o → play (net_after side) (net s) w ≡ option_map net (play after s w)
+      by : (o : Option S) → play after s w ≡ o → IsSome o
+          → play (net_after side) (net s) w ≡ option_map net (play after s w)
       by None e h = absurd (cc)
       by (Some r) e h = net-played w s r own e ∙ sym (ap (option_map net) e)
 
@@ -137,11 +141,12 @@ cube_comes_from face q s =
     let t = brought_from 2 face 1 s in
     comes_from 8 3 corner_faces q.corners s.face t.face (edges_come_from face q s) (place_at 2 corner_faces s.point) (place_at 2 corner_faces t.point)
 
-cube_tests : (face : ℕ) (q : CubeTurn) → slice_get cube_quarters face ≡ Some q → each_sticker 3 (cube_comes_from face q) ≡ true
+cube_tests : (face : ℕ) (q : CubeTurn) → slice_get cube_quarters face ≡ Some q
+    → each_sticker 3 (cube_comes_from face q) ≡ true
 cube_tests = each_at (λ face q. each_sticker 3 (cube_comes_from face q) ≡ true) cube_quarters (refl, (refl, (refl, (refl, (refl, (refl, tt))))))
 
-cube_letter-turned : (face : ℕ) (q : CubeTurn) (c : CubeState) (s : Sticker) → IsCube c → IsCubeTurn q → cube_comes_from face q s ≡ true
-    → cube_letter c (brought_from 2 face 1 s) ≡ cube_letter (cube_action.turned c q) s
+cube_letter-turned : (face : ℕ) (q : CubeTurn) (c : CubeState) (s : Sticker) → IsCube c → IsCubeTurn q
+    → cube_comes_from face q s ≡ true → cube_letter c (brought_from 2 face 1 s) ≡ cube_letter (cube_action.turned c q) s
 unfolding cube_letter
 cube_letter-turned face q c s own turn h =
     let t : Sticker = brought_from 2 face 1 s in
@@ -171,10 +176,12 @@ corners_come_from face q s =
     let t = brought_from 1 face 1 s in
     comes_from 7 3 corner_faces_222 q s.face t.face (t.face == s.face) (place_at 1 corner_faces_222 s.point) (place_at 1 corner_faces_222 t.point)
 
-corners_tests : (face : ℕ) (q : Rearrangement) → slice_get quarters_222 face ≡ Some q → each_sticker 2 (corners_come_from face q) ≡ true
+corners_tests : (face : ℕ) (q : Rearrangement) → slice_get quarters_222 face ≡ Some q
+    → each_sticker 2 (corners_come_from face q) ≡ true
 corners_tests = each_at (λ face q. each_sticker 2 (corners_come_from face q) ≡ true) quarters_222 (refl, (refl, (refl, tt)))
 
-corners_letter-turned : (face : ℕ) (q : Rearrangement) (o : Orbit) (s : Sticker) → IsCorners222 o → IsZeroSumRearrangement 7 3 q → corners_come_from face q s ≡ true
+corners_letter-turned : (face : ℕ) (q : Rearrangement) (o : Orbit) (s : Sticker) → IsCorners222 o
+    → IsZeroSumRearrangement 7 3 q → corners_come_from face q s ≡ true
     → corners_letter o (brought_from 1 face 1 s) ≡ corners_letter (powers_222.action.turned o q) s
 unfolding corners_letter
 corners_letter-turned face q o s own turn h =

@@ -24,7 +24,8 @@ same_sticker s t a b =
 
 -- ---- stickers by rows and columns
 
-pub IsSticker-at : (last face row column : ℕ) → face < 6 → row ≤ last → column ≤ last → IsSticker last (sticker_at last face row column)
+pub IsSticker-at : (last face row column : ℕ) → face < 6 → row ≤ last → column ≤ last
+    → IsSticker last (sticker_at last face row column)
 IsSticker-at last face row column lt lr lc =
     each_face (λ face. IsSticker last (sticker_at last face row column))
     (record { within = record { x = omega arith; y = omega arith; z = omega arith }; face = lit< tt; on = omega arith })
@@ -35,12 +36,14 @@ IsSticker-at last face row column lt lr lc =
     (record { within = record { x = omega arith; y = omega arith; z = omega arith }; face = lit< tt; on = omega arith })
     face lt
 
-pub row_of-at : (last face row column : ℕ) → face < 6 → row ≤ last → row_of last face (point_at last face row column) ≡ row
+pub row_of-at : (last face row column : ℕ) → face < 6 → row ≤ last
+    → row_of last face (point_at last face row column) ≡ row
 row_of-at last face row column lt lr =
     each_face (λ face. row_of last face (point_at last face row column) ≡ row)
     (omega arith) (omega arith) (omega arith) (omega arith) (omega arith) (omega arith) face lt
 
-pub column_of-at : (last face row column : ℕ) → face < 6 → column ≤ last → column_of last face (point_at last face row column) ≡ column
+pub column_of-at : (last face row column : ℕ) → face < 6 → column ≤ last
+    → column_of last face (point_at last face row column) ≡ column
 column_of-at last face row column lt lc =
     each_face (λ face. column_of last face (point_at last face row column) ≡ column)
     (omega arith) (omega arith) (omega arith) (omega arith) (omega arith) (omega arith) face lt
@@ -55,7 +58,8 @@ column_of-le last face p lt w =
     each_face (λ face. column_of last face p ≤ last)
     (omega arith) (omega arith) (omega arith) (omega arith) (omega arith) (omega arith) face lt
 
-point_at-of : (last face : ℕ) (p : Point) → face < 6 → IsWithin last p → distance last face p ≡ 0 → point_at last face (row_of last face p) (column_of last face p) ≡ p
+point_at-of : (last face : ℕ) (p : Point) → face < 6 → IsWithin last p → distance last face p ≡ 0
+    → point_at last face (row_of last face p) (column_of last face p) ≡ p
 point_at-of last face p lt w =
     each_face (λ face. distance last face p ≡ 0 → point_at last face (row_of last face p) (column_of last face p) ≡ p)
     (λ on. same_point _ p (omega arith) (omega arith) (omega arith))
@@ -66,7 +70,8 @@ point_at-of last face p lt w =
     (λ on. same_point _ p (omega arith) (omega arith) (omega arith))
     face lt
 
-pub sticker_at-of : (last : ℕ) (s : Sticker) → IsSticker last s → sticker_at last s.face (row_of last s.face s.point) (column_of last s.face s.point) ≡ s
+pub sticker_at-of : (last : ℕ) (s : Sticker) → IsSticker last s
+    → sticker_at last s.face (row_of last s.face s.point) (column_of last s.face s.point) ≡ s
 sticker_at-of last s h = same_sticker _ s (point_at-of last s.face s.point h.face h.within h.on) refl
 
 -- ---- turns
@@ -141,7 +146,8 @@ face-back face from lt =
 pub opposite_face-below : (face : ℕ) → opposite_face face < 6
 opposite_face-below face = omega arith
 
-IsSticker-turned : (last face : ℕ) (s : Sticker) → face < 6 → IsSticker last s → IsSticker last (turned_sticker last face s)
+IsSticker-turned : (last face : ℕ) (s : Sticker) → face < 6 → IsSticker last s
+    → IsSticker last (turned_sticker last face s)
 IsSticker-turned last face s lt h = record {
   within = IsWithin-turned last face s.point lt h.within;
   face = turned_face-below face s.face lt h.face;
@@ -153,20 +159,24 @@ by_layer : (P : Sticker → Type 0) (b : Bool) (s t : Sticker) → P s → P t �
 by_layer P true s t a c = a
 by_layer P false s t a c = c
 
-pub IsSticker-carried : (last face depth : ℕ) (s : Sticker) → face < 6 → IsSticker last s → IsSticker last (carried last face depth s)
+pub IsSticker-carried : (last face depth : ℕ) (s : Sticker) → face < 6 → IsSticker last s
+    → IsSticker last (carried last face depth s)
 IsSticker-carried last face depth s lt h =
     by_layer (IsSticker last) (ltb (distance last face s.point) depth) _ s (IsSticker-turned last face s lt h) h
 
-pub IsSticker-brought : (last face depth : ℕ) (s : Sticker) → IsSticker last s → IsSticker last (brought_from last face depth s)
+pub IsSticker-brought : (last face depth : ℕ) (s : Sticker) → IsSticker last s
+    → IsSticker last (brought_from last face depth s)
 IsSticker-brought last face depth s h =
     by_layer (IsSticker last) (ltb (distance last face s.point) depth) _ s
     (IsSticker-turned last (opposite_face face) s (opposite_face-below face) h) h
 
 -- a sticker comes from where it was
-pub brought_from-carried : (last face depth : ℕ) (s : Sticker) → face < 6 → IsSticker last s → brought_from last face depth (carried last face depth s) ≡ s
+pub brought_from-carried : (last face depth : ℕ) (s : Sticker) → face < 6 → IsSticker last s
+    → brought_from last face depth (carried last face depth s) ≡ s
 brought_from-carried last face depth s lt h = in_layer (ltb (distance last face s.point) depth) refl
   where
-    in_layer : (b : Bool) → ltb (distance last face s.point) depth ≡ b → brought_from last face depth (carried last face depth s) ≡ s
+    in_layer : (b : Bool) → ltb (distance last face s.point) depth ≡ b
+        → brought_from last face depth (carried last face depth s) ≡ s
     in_layer true e =
         ap (λ b. brought_from last face depth (cond b (turned_sticker last face s) s)) e
         ∙ ap (λ d. cond (ltb d depth) (turned_sticker last (opposite_face face) (turned_sticker last face s)) (turned_sticker last face s))

@@ -15,7 +15,8 @@ module _ (side : ℕ) (line : ℕ → List ℕ) where
   lines = map line (range_with_len 0 side)
 
   -- the next line of those that are left
-  pub next_line : (row : ℕ) → row < side → text_of_lines (drop row lines) ≡ (line row ++ codes "\n") ++ text_of_lines (drop (row + 1) lines)
+  pub next_line : (row : ℕ) → row < side
+      → text_of_lines (drop row lines) ≡ (line row ++ codes "\n") ++ text_of_lines (drop (row + 1) lines)
   next_line row lt =
       ap text_of_lines (drop-cons lines row [] (omega (arith, length-map-range_with_len line 0 side)))
       ∙ first_line (get_or lines row []) (drop (suc row) lines)
@@ -27,10 +28,12 @@ module _ (side : ℕ) (line : ℕ → List ℕ) where
   no_line row le = ap text_of_lines (drop_all row lines (omega (arith, length-map-range_with_len line 0 side)))
 
 -- one more piece of each of a list
-pub map_more : (f : ℕ → ℕ) (xs : List ℕ) (k : ℕ) → k < length xs → map f (take (k + 1) xs) ≡ map f (take k xs) ++ f (get_or xs k 0) ∷ []
+pub map_more : (f : ℕ → ℕ) (xs : List ℕ) (k : ℕ) → k < length xs
+    → map f (take (k + 1) xs) ≡ map f (take k xs) ++ f (get_or xs k 0) ∷ []
 map_more f xs k lt = ap (map f) (take_more xs k 0 lt) ∙ map-append f (take k xs) (get_or xs k 0 ∷ [])
 
-pub flat_map_next : (f : ℕ → List ℕ) (xs : List ℕ) (k : ℕ) → k < length xs → flat_map f (take (k + 1) xs) ≡ flat_map f (take k xs) ++ f (get_or xs k 0)
+pub flat_map_next : (f : ℕ → List ℕ) (xs : List ℕ) (k : ℕ) → k < length xs
+    → flat_map f (take (k + 1) xs) ≡ flat_map f (take k xs) ++ f (get_or xs k 0)
 flat_map_next f xs k lt =
     ap (flat_map f) (take_more xs k 0 lt) ∙ flat_map-append f (take k xs) (get_or xs k 0 ∷ []) ∙ ap (λ t. flat_map f (take k xs) ++ t) (append-nil (f (get_or xs k 0)))
 

@@ -16,8 +16,8 @@ by_face face u r f d l b =
 abbrev pub point : ℕ → ℕ → ℕ → Point
 point x y z = record { x = x; y = y; z = z }
 
--- The point at a row and a column of a face. A net shows each face as it is seen from outside: L, F, R and B with U above
--- them, U with F below it and D with F above it.
+-- The point at a row and a column of a face. A net shows each face as it is seen from outside: L, F, R and B with U
+-- above them, U with F below it and D with F above it.
 abbrev pub point_at : ℕ → ℕ → ℕ → ℕ → Point
 point_at last face row column =
     by_face face
@@ -64,7 +64,8 @@ carried last face depth s = if nat_lt (distance last face s.point) depth then tu
 abbrev pub opposite_face : ℕ → ℕ
 opposite_face face = (face + 3) % 6
 
--- Where the sticker that such a turn takes here was before: the other way about a face is clockwise about the opposite one.
+-- Where the sticker that such a turn takes here was before: the other way about a face is clockwise about the opposite
+-- one.
 abbrev pub brought_from : ℕ → ℕ → ℕ → Sticker → Sticker
 brought_from last face depth s =
     if nat_lt (distance last face s.point) depth then turned_sticker last (opposite_face face) s else s

@@ -1,5 +1,5 @@
--- The net of a cube: which letter stands at each row and column of each face. A letter is the number of the face that has it
--- on a solved cube.
+-- The net of a cube: which letter stands at each row and column of each face. A letter is the number of the face that
+-- has it on a solved cube.
 use Rattle.std.specs.Prelude.{◌≡◌, ℕ, zero, suc, ◌-◌, ◌<◌, ◌≤◌, nat_lt, Bool, false, if◌then◌else◌, List, [], map, length, slice_index, Option, Some, None}
 use Rattle.std.specs.List.{slice_index_or, range_with_len}
 use Rattle.scr_notation.specs.declared.turn.Turn.{Turn}
@@ -31,8 +31,8 @@ net_of side letter =
 abbrev pub solved_net : ℕ → Letters
 solved_net side = net_of side (λ s. s.face)
 
--- A quarter turn of so many layers at a face moves stickers with their letters: at each place stands the letter of the sticker
--- that the turn brings there. (That each sticker's letter is where the turn takes the sticker, `laws` says.)
+-- A quarter turn of so many layers at a face moves stickers with their letters: at each place stands the letter of the
+-- sticker that the turn brings there. (That each sticker's letter is where the turn takes the sticker, `laws` says.)
 unfoldable pub quarter_net : ℕ → ℕ → ℕ → Letters → Letters
 quarter_net side face depth net = net_of side (λ s. letter_at side net (brought_from (side - 1) face depth s))
 

@@ -1,5 +1,5 @@
--- The nets of a 3x3x3 and of a 2x2x2, by their pieces. A piece has the letters of the faces that meet at its own place, in the
--- order of that place's name: URF has U, R and F.
+-- The nets of a 3x3x3 and of a 2x2x2, by their pieces. A piece has the letters of the faces that meet at its own place,
+-- in the order of that place's name: URF has U, R and F.
 use Rattle.std.specs.Prelude.{ℕ, ◌==◌, List, [], remove, slice_index, Option, option_and_then, position, unwrap_or}
 use Rattle.std.specs.List.{slice_index_or, list_all}
 use Rattle.std.specs.Option.{option_map}
@@ -16,8 +16,8 @@ use Rattle.scr_net.specs.Nets.{Letters, net_of}
 abbrev pub place_at : ℕ → List (List ℕ) → Point → Option ℕ
 place_at last places p = position (list_all (λ face. distance last face p == 0)) places
 
--- The letter that the piece at a place has on one of the place's faces. Letter k stands at the place's face k plus the piece's
--- digit, the twist of a corner or the flip of an edge.
+-- The letter that the piece at a place has on one of the place's faces. Letter k stands at the place's face k plus the
+-- piece's digit, the twist of a corner or the flip of an edge.
 abbrev pub piece_letter : List (List ℕ) → Orbit → ℕ → ℕ → Option ℕ
 piece_letter places o face place =
     option_map (slice_index (slice_index_or places (slice_index o.pieces place) []))

@@ -41,8 +41,8 @@ fn make_point(x: usize, y: usize, z: usize) -> Point
     Point { x, y, z }
 }
 
-/// The point at a row and a column of a face, where `last` is the greatest coordinate. L, F, R and B are seen with U above
-/// them, U with F below it, D with F above it.
+/// The point at a row and a column of a face, where `last` is the greatest coordinate. L, F, R and B are seen with U
+/// above them, U with F below it, D with F above it.
 #[inline(always)]
 fn point_at(last: usize, face: u8, row: usize, column: usize) -> Point
     requires row { row ≤ last }
@@ -135,8 +135,8 @@ fn turned_face(face: u8, from: u8) -> u8
     TURNED_FACES[usize::from(face)][usize::from(from)]
 }
 
-/// Where the sticker was before that a quarter turn of `depth` layers at a face takes here: the other way about a face is
-/// clockwise about the opposite one.
+/// Where the sticker was before that a quarter turn of `depth` layers at a face takes here: the other way about a face
+/// is clockwise about the opposite one.
 #[inline(always)]
 pub(crate) fn brought_from(last: usize, face: u8, depth: usize, sticker: Sticker) -> Sticker
     requires face { face < 6 }

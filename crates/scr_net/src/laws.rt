@@ -14,8 +14,8 @@ ghost use Rattle.scr_net.specs.Pieces.{net_of_corners, net_of_cube};
 
 use scr_notation::Scramble;
 
-/// Each row and column of each face has a sticker, and each sticker is at one of these. A quarter turn takes stickers to
-/// stickers, and the letter of each along with it.
+/// Each row and column of each face has a sticker, and each sticker is at one of these. A quarter turn takes stickers
+/// to stickers, and the letter of each along with it.
 pub fn stickers()
     ensures places { (last face row column : ℕ) → face < 6 → row ≤ last → column ≤ last
         → IsSticker last (sticker_at last face row column) }
@@ -32,19 +32,20 @@ pub fn stickers()
 
 /// Turns lead from a net to a net exactly where each of them is one of layers at a face, fewer than all.
 pub fn played_where_all_turn_layers()
-    ensures { (side : ℕ) (net : Letters) (w : List Letter) → IsSome (play (net_after side) net w) ↔ AllPass (turns_layers side) w }
+    ensures { (side : ℕ) (net : Letters) (w : List Letter)
+        → IsSome (play (net_after side) net w) ↔ AllPass (turns_layers side) w }
 {}
 
-/// For every scramble that a 3x3x3 plays, the net of the solved cube after the scramble is the net of the state that the
-/// scramble leads to.
+/// For every scramble that a 3x3x3 plays, the net of the solved cube after the scramble is the net of the state that
+/// the scramble leads to.
 pub fn cube_net(scramble: &Scramble)
     requires { IsSome (play (after_letter cube_powers) solved_cube scramble.now.turns) }
     ensures { play (net_after 3) (solved_net 3) scramble.now.turns
         ≡ option_map net_of_cube (play (after_letter cube_powers) solved_cube scramble.now.turns) }
 {}
 
-/// For every scramble that a 2x2x2 plays, the net of the solved cube after the scramble is the net of the state that the
-/// scramble leads to.
+/// For every scramble that a 2x2x2 plays, the net of the solved cube after the scramble is the net of the state that
+/// the scramble leads to.
 pub fn corners_net(scramble: &Scramble)
     requires { IsSome (play (after_letter powers_222) solved_222 scramble.now.turns) }
     ensures { play (net_after 2) (solved_net 2) scramble.now.turns

@@ -13,8 +13,8 @@ use crate::shown::shown;
 use scr_notation::{Scramble, Turn};
 use std::marker::Model;
 
-/// The net of a cube of `SIDE` layers, from 2 to 7: the letter at each row and column of each face. The faces U R F D L B are 0
-/// to 5, and a letter is the number of the face that has it on a solved cube.
+/// The net of a cube of `SIDE` layers, from 2 to 7: the letter at each row and column of each face. The faces U R F D L
+/// B are 0 to 5, and a letter is the number of the face that has it on a solved cube.
 #[derive(Clone, Copy, Debug, PartialEq, Eq)]
 pub struct Net<const SIDE: usize> {
     letters: [[[u8; SIDE]; SIDE]; 6],
@@ -61,8 +61,8 @@ impl<const SIDE: usize> Net<SIDE> {
         }
     }
 
-    /// The letter, below 6, at a row and a column of a face: faces are 0 to 5 for U R F D L B, rows and columns below the
-    /// number of layers.
+    /// The letter, below 6, at a row and a column of a face: faces are 0 to 5 for U R F D L B, rows and columns below
+    /// the number of layers.
     pub fn cell(&self, face: u8, row: u8, column: u8) -> u8
         requires face { face < 6 }
         requires row { row < SIDE }
@@ -74,8 +74,8 @@ impl<const SIDE: usize> Net<SIDE> {
         self.letters[usize::from(face)][usize::from(row)][usize::from(column)]
     }
 
-    /// The net after the `depth` outer layers at a face, at least 1 and fewer than all, were turned, clockwise by `amount`
-    /// quarters, 1 to 3. Faces are 0 to 5 for U R F D L B.
+    /// The net after the `depth` outer layers at a face, at least 1 and fewer than all, were turned, clockwise by
+    /// `amount` quarters, 1 to 3. Faces are 0 to 5 for U R F D L B.
     pub fn turn(&self, face: u8, depth: u8, amount: u8) -> Net<SIDE>
         requires side { IsSide SIDE }
         requires face { face < 6 }
@@ -151,8 +151,8 @@ impl<const SIDE: usize> Net<SIDE> {
         self.letters[usize::from(sticker.face)][row][column]
     }
 
-    /// The net after the turns of a scramble. `None` comes exactly where one of them isn't a turn of layers at a face, or is of
-    /// all layers.
+    /// The net after the turns of a scramble. `None` comes exactly where one of them isn't a turn of layers at a face,
+    /// or is of all layers.
     pub fn play(&self, scramble: &Scramble) -> Option<Net<SIDE>>
         requires { IsSide SIDE }
         ensures { result ≡ play (net_after SIDE) self.now scramble.now.turns }

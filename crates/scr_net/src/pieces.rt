@@ -9,8 +9,8 @@ use crate::geometry::{Point, Sticker, distance};
 use crate::net::Net;
 use scr_cube::{Corners222, Cube};
 
-/// The faces of the corner places of a 3x3x3, clockwise, that of U or D first: URF, UFL, ULB, UBR, DFR, DLF, DBL, DRB. They are
-/// the letters of the corners.
+/// The faces of the corner places of a 3x3x3, clockwise, that of U or D first: URF, UFL, ULB, UBR, DFR, DLF, DBL, DRB.
+/// They are the letters of the corners.
 static CORNER_FACES: [[u8; 3]; 8] = [
     [0, 1, 2],
     [0, 2, 4],
@@ -92,8 +92,8 @@ fn places_222() -> [[u8; 3]; 7]
     ]
 }
 
-/// The letter at a sticker, where one of these pieces is. Letter k of a piece stands at the place's face k plus the piece's
-/// digit, its twist or its flip.
+/// The letter at a sticker, where one of these pieces is. Letter k of a piece stands at the place's face k plus the
+/// piece's digit, its twist or its flip.
 fn letter_of_pieces<const K: usize>(
     last: usize,
     places: &[[u8; K]],

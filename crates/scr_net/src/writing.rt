@@ -10,9 +10,9 @@ use crate::net::Net;
 use arrayvec::ArrayString;
 use scr_outside::{Failed, Sink, write_line};
 
-/// Writes a net, one piece a line: the rows of U, each behind as many spaces as a row and one more, those of L, F, R and B
-/// beside each other, and those of D below U's. At `Failed`, which comes only where the sink's count of faults rose, a first
-/// part of it was written.
+/// Writes a net, one piece a line: the rows of U, each behind as many spaces as a row and one more, those of L, F, R
+/// and B beside each other, and those of D below U's. At `Failed`, which comes only where the sink's count of faults
+/// rose, a first part of it was written.
 pub fn write_net<O: Sink, const SIDE: usize>(out: &mut O, net: &Net<SIDE>) -> Result<(), Failed>
     requires { IsSide SIDE }
     ensures { Writes (change_of O.held O.faults out.old out.new) (net_text SIDE net.now) result }

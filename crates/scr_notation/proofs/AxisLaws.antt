@@ -60,15 +60,18 @@ IsThirdsOf-read Over p e = absurd (cc)
 IsThirdsOf-read (Wide letter plus) p e = absurd (cc)
 
 -- and each such turn is
-pub thirds_of-axis : (axis amount : ℕ) → axis < 4 → 0 < amount → amount < 3 → thirds_of (Axis axis amount) ≡ Some (record { generator = axis; exponent = amount })
+pub thirds_of-axis : (axis amount : ℕ) → axis < 4 → 0 < amount → amount < 3
+    → thirds_of (Axis axis amount) ≡ Some (record { generator = axis; exponent = amount })
 thirds_of-axis axis amount there some few =
     ap (λ b. cond b (Some (record { generator = axis; exponent = amount })) None) (both_true (lt-ltb axis 4 there) (both_true (lt-ltb 0 amount some) (lt-ltb amount 3 few)))
 
-pub thirds_of-tip : (tip amount : ℕ) → tip < 4 → 0 < amount → amount < 3 → thirds_of (Tip tip amount) ≡ Some (record { generator = 4 + tip; exponent = amount })
+pub thirds_of-tip : (tip amount : ℕ) → tip < 4 → 0 < amount → amount < 3
+    → thirds_of (Tip tip amount) ≡ Some (record { generator = 4 + tip; exponent = amount })
 thirds_of-tip tip amount there some few =
     ap (λ b. cond b (Some (record { generator = 4 + tip; exponent = amount })) None) (both_true (lt-ltb tip 4 there) (both_true (lt-ltb 0 amount some) (lt-ltb amount 3 few)))
 
-opposite_by : (t : Turn) (p : Power) → IsThirdsOf t p → thirds_of (opposite t) ≡ Some (record { generator = p.generator; exponent = 3 - p.exponent })
+opposite_by : (t : Turn) (p : Power) → IsThirdsOf t p
+    → thirds_of (opposite t) ≡ Some (record { generator = p.generator; exponent = 3 - p.exponent })
 opposite_by t p h =
     elim h.is [
       | inl a ↦ ap (λ u. thirds_of (opposite u)) a.1 ∙ thirds_of-axis p.generator (3 - p.exponent) a.0 (omega (arith, h.some, h.few)) (omega (arith, h.some))
@@ -108,7 +111,8 @@ unfolding axis_turn_at
 axis_turn_at-high n l = cond-false (ltb n 8) _ _ (le-ltb n 8 l)
 
 -- the first sixteen turns are of axes and tips
-pub thirds_of-numbered : (n : ℕ) → n < 16 → thirds_of (axis_turn_at n) ≡ Some (record { generator = n / 2; exponent = n % 2 + 1 })
+pub thirds_of-numbered : (n : ℕ) → n < 16
+    → thirds_of (axis_turn_at n) ≡ Some (record { generator = n / 2; exponent = n % 2 + 1 })
 thirds_of-numbered n l =
     ⊎_elim
     (λ low. ap thirds_of (axis_turn_at-low n low) ∙ thirds_of-axis (n / 2) (n % 2 + 1) (omega arith) (omega arith) (omega arith))
@@ -126,20 +130,23 @@ thirds_of-past n l =
     ∙ ap (λ b. cond (b && is_amount 3 amount) (Some (record { generator = 4 + (n - 8) / 2; exponent = amount })) None) (le-ltb ((n - 8) / 2) 4 (omega arith))
 
 -- the numbers of an axis' and of a tip's turns
-pub axis_turn_at-axis : (n axis amount : ℕ) → n ≡ 2 * axis + (amount - 1) → axis < 4 → 0 < amount → amount < 3 → axis_turn_at n ≡ Axis axis amount
+pub axis_turn_at-axis : (n axis amount : ℕ) → n ≡ 2 * axis + (amount - 1) → axis < 4 → 0 < amount → amount < 3
+    → axis_turn_at n ≡ Axis axis amount
 axis_turn_at-axis n axis amount number there some few =
     let which : n / 2 ≡ axis = omega arith in
     let much : n % 2 + 1 ≡ amount = omega arith in
     axis_turn_at-low n (omega arith) ∙ ap (λ g. Axis g (n % 2 + 1)) which ∙ ap (λ e. Axis axis e) much
 
-pub axis_turn_at-tip : (n tip amount : ℕ) → n ≡ 8 + 2 * tip + (amount - 1) → 0 < amount → amount < 3 → axis_turn_at n ≡ Tip tip amount
+pub axis_turn_at-tip : (n tip amount : ℕ) → n ≡ 8 + 2 * tip + (amount - 1) → 0 < amount → amount < 3
+    → axis_turn_at n ≡ Tip tip amount
 axis_turn_at-tip n tip amount number some few =
     let which : (n - 8) / 2 ≡ tip = omega arith in
     let much : n % 2 + 1 ≡ amount = omega arith in
     axis_turn_at-high n (omega arith) ∙ ap (λ g. Tip g (n % 2 + 1)) which ∙ ap (λ e. Tip tip e) much
 
 -- a power's letter is that of its number
-pub axis_turn_at-power : (t : Turn) (p : Power) → thirds_of t ≡ Some p → axis_turn_at (2 * p.generator + (p.exponent - 1)) ≡ t
+pub axis_turn_at-power : (t : Turn) (p : Power) → thirds_of t ≡ Some p
+    → axis_turn_at (2 * p.generator + (p.exponent - 1)) ≡ t
 axis_turn_at-power t p e =
     let h = IsThirdsOf-read t p e in
     elim h.is [

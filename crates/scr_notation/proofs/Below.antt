@@ -38,17 +38,21 @@ not_same xs ys h e =
     let s : not (same xs xs) ≡ true = subst Q (sym e) h in
     false≢true (sym (ap not (same-refl xs)) ∙ s)
 
-any_by : (x : ℕ) (xs : List ℕ) (p : ℕ) (b : Bool) → eqb x p ≡ b → (IsTrue (list_any (λ y. y == p) xs) → (k : ℕ) × (k < length xs) × (slice_index xs k ≡ p)) → IsTrue (list_any (λ y. y == p) (x ∷ xs)) → (k : ℕ) × (k < length (x ∷ xs)) × (slice_index (x ∷ xs) k ≡ p)
+any_by : (x : ℕ) (xs : List ℕ) (p : ℕ) (b : Bool) → eqb x p ≡ b
+    → (IsTrue (list_any (λ y. y == p) xs) → (k : ℕ) × (k < length xs) × (slice_index xs k ≡ p))
+    → IsTrue (list_any (λ y. y == p) (x ∷ xs)) → (k : ℕ) × (k < length (x ∷ xs)) × (slice_index (x ∷ xs) k ≡ p)
 any_by x xs p true e r h = (0, omega arith, eqb-true x p e)
 any_by x xs p false e r h =
     let k = r (sym (ap (λ c. c || list_any (λ y. y == p) xs) e) ∙ h) in
     (suc k.0, omega (arith, k.1), k.2)
 
 -- a number that stands in a list stands at some place of it
-pub place_of : (xs : List ℕ) (p : ℕ) → IsTrue (list_any (λ x. x == p) xs) → (k : ℕ) × (k < length xs) × (slice_index xs k ≡ p)
+pub place_of : (xs : List ℕ) (p : ℕ) → IsTrue (list_any (λ x. x == p) xs)
+    → (k : ℕ) × (k < length xs) × (slice_index xs k ≡ p)
 place_of [] p h = absurd (false≢true h)
 place_of (x ∷ xs) p h = any_by x xs p (eqb x p) refl (place_of xs p) h
 
-pub All-from_test : (p : ℕ → Bool) (P : ℕ → Type 0) → ((x : ℕ) → IsTrue (p x) → P x) → (xs : List ℕ) → IsTrue (list_all p xs) → All P xs
+pub All-from_test : (p : ℕ → Bool) (P : ℕ → Type 0) → ((x : ℕ) → IsTrue (p x) → P x) → (xs : List ℕ)
+    → IsTrue (list_all p xs) → All P xs
 All-from_test p P f [] h = All-nil P
 All-from_test p P f (x ∷ xs) h = All-cons P x xs (f x (and_first (p x) (list_all p xs) h)) (All-from_test p P f xs (and_second (p x) (list_all p xs) h))

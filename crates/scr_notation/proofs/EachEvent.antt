@@ -31,7 +31,8 @@ each_alike f g all Bf333 = cc
 each_alike f g all Fm333 = cc
 
 -- a test that all events pass is passed by each
-pub each_passes : (test : Event → Bool) → map test events ≡ map (λ event. true) events → (event : Event) → IsTrue (test event)
+pub each_passes : (test : Event → Bool) → map test events ≡ map (λ event. true) events → (event : Event)
+    → IsTrue (test event)
 each_passes test all event = each_alike test (λ e. true) all event
 
 -- ---- the events differ
@@ -59,7 +60,8 @@ number-at n event at =
     sym (get_or_from_slice_get (range_with_len 0 13) n (number_of event) 0 read) ∙ get_or-range_with_len 0 13 n 0 below ∙ zero-add n
 
 -- no two have one number
-pub one_number : (n other : ℕ) (event : Event) → slice_get events n ≡ Some event → slice_get events other ≡ Some event → n ≡ other
+pub one_number : (n other : ℕ) (event : Event) → slice_get events n ≡ Some event → slice_get events other ≡ Some event
+    → n ≡ other
 one_number n other event at there = sym (number-at n event at) ∙ number-at other event there
 
 -- ---- each event's turns are of a kind

@@ -20,7 +20,8 @@ pub record IsQuartersOf (t : Turn) (p : Power) : Type 0 where
   pub some : 0 < p.exponent
   pub few : p.exponent < 4
 
-face_read : (face depth amount : ℕ) (p : Power) → quarters_of (Face face depth amount) ≡ Some p → IsQuartersOf (Face face depth amount) p
+face_read : (face depth amount : ℕ) (p : Power) → quarters_of (Face face depth amount) ≡ Some p
+    → IsQuartersOf (Face face depth amount) p
 face_read face depth amount p e =
     let low : Bool = ltb 0 amount && ltb amount 4 in
     let read = cond_some (eqb depth 1 && low) (record { generator = face; exponent = amount }) p e in
@@ -44,7 +45,8 @@ IsQuartersOf-read Over p e = absurd (cc)
 IsQuartersOf-read (Wide letter plus) p e = absurd (cc)
 
 -- and each such turn is
-pub quarters_of-face : (face amount : ℕ) → 0 < amount → amount < 4 → quarters_of (Face face 1 amount) ≡ Some (record { generator = face; exponent = amount })
+pub quarters_of-face : (face amount : ℕ) → 0 < amount → amount < 4
+    → quarters_of (Face face 1 amount) ≡ Some (record { generator = face; exponent = amount })
 quarters_of-face face amount some few =
     ap (λ b. cond b (Some (record { generator = face; exponent = amount })) None) (both_true (lt-ltb 0 amount some) (lt-ltb amount 4 few))
 
@@ -58,7 +60,8 @@ merged_by face amount more false e =
     ap (λ b. merged_power quarters_of face (cond b None (Some (Face face 1 ((amount + more) % 4))))) e
     ∙ quarters_of-face face ((amount + more) % 4) (omega (arith, eqb-false ((amount + more) % 4) 0 e)) (omega arith)
 
-same_face : (t u : Turn) (p q : Power) → IsTrue (are_alike t u) → IsQuartersOf t p → IsQuartersOf u q → p.generator ≡ q.generator
+same_face : (t u : Turn) (p q : Power) → IsTrue (are_alike t u) → IsQuartersOf t p → IsQuartersOf u q
+    → p.generator ≡ q.generator
 same_face t u p q alike a b =
     let whole : IsTrue (are_alike (Face p.generator 1 p.exponent) (Face q.generator 1 q.exponent)) =
     ap (λ v. are_alike v (Face q.generator 1 q.exponent)) (sym a.is) ∙ ap (are_alike t) (sym b.is) ∙ alike in
@@ -97,7 +100,8 @@ inner n l =
     let amount : ℕ = n % 3 + 1 in
     ap (λ b. cond (b && is_amount 4 amount) (Some (record { generator = n / 3 % 6; exponent = amount })) None) (ne_eqb (n / 18 + 1) 1 (λ q. omega arith))
 
-face_turn_at-number : (n face amount : ℕ) → n ≡ 3 * face + (amount - 1) → face < 6 → 0 < amount → amount < 4 → face_turn_at n ≡ Face face 1 amount
+face_turn_at-number : (n face amount : ℕ) → n ≡ 3 * face + (amount - 1) → face < 6 → 0 < amount → amount < 4
+    → face_turn_at n ≡ Face face 1 amount
 face_turn_at-number n face amount number there some few =
     let which : n / 3 ≡ face = omega arith in
     let much : n % 3 + 1 ≡ amount = omega arith in

@@ -24,8 +24,8 @@ use Rattle.scr_notation.proofs.LayersLaws.{IsLayersTurn, layers_parts, layers_of
 abbrev left : {A : Type 0} → (A → Turn) → (A → Bool) → A → Option Turn
 left turn_of is_none a = cond (is_none a) None (Some (turn_of a))
 
--- Turns that are merged by adding amounts, where an amount that is none is no turn: it doesn't matter which two of three are
--- merged first.
+-- Turns that are merged by adding amounts, where an amount that is none is no turn: it doesn't matter which two of
+-- three are merged first.
 record AddsAmounts {A : Type 0} (turn_of : A → Turn) (is_none : A → Bool) (sum : A → A → A) (IsAmount : A → Type 0) : Type 0 where
   merged : (a b : A) → turns_merged (turn_of a) (turn_of b) ≡ left turn_of is_none (sum a b)
   some : (a : A) → IsAmount a → is_none a ≡ false
@@ -149,8 +149,8 @@ alike_first _ _ v p m = absurd (false≢true p)
 
 -- ---- the kinds that have them
 
-closed_faces : (near far : ℕ) (t u v : Turn) → IsTrue (is_face_turn near far t) → IsTrue (is_face_turn near far u) → IsTrue (are_alike t u)
-    → turns_merged t u ≡ Some v → IsTrue (is_face_turn near far v)
+closed_faces : (near far : ℕ) (t u v : Turn) → IsTrue (is_face_turn near far t) → IsTrue (is_face_turn near far u)
+    → IsTrue (are_alike t u) → turns_merged t u ≡ Some v → IsTrue (is_face_turn near far v)
 closed_faces near far (Face f d a) (Face g e b) v p q h m =
     let n : ℕ = (a + b) % 4 in
     let r = left_turn (eqb n 0) (Face g e n) v m in
@@ -227,5 +227,6 @@ IsMerging-kind PinSets h = absurd (false≢true h)
 IsMerging-kind WideTurns h = absurd (false≢true h)
 
 -- the turns of an event of such a kind
-pub IsMerging-event : (e : Event) → IsTrue (has_merging (kind_of e)) → IsMerging turn_merging (λ t. IsTrue (permits e t))
+pub IsMerging-event : (e : Event) → IsTrue (has_merging (kind_of e))
+    → IsMerging turn_merging (λ t. IsTrue (permits e t))
 IsMerging-event e h = IsMerging-kind (kind_of e) h

@@ -69,7 +69,8 @@ face_numbered near far k (Face f d a) h =
     (n, face_number_below near far f d a k p, cc)
 face_numbered near far k _ h = absurd (false≢true h)
 
-face_turns : (near far n : ℕ) → IsKind (Faces near far) → n < 9 * (near + far) → IsTrue (is_face_turn near far (face_turn_at n))
+face_turns : (near far n : ℕ) → IsKind (Faces near far) → n < 9 * (near + far)
+    → IsTrue (is_face_turn near far (face_turn_at n))
 unfolding face_turn_at
 face_turns near far n k l =
     face_turn_of_parts near far (n / 3 % 6) (n / 18 + 1) (n % 3 + 1) (record {
@@ -118,7 +119,8 @@ tip_numbered a m p =
     let amount : n % 2 + 1 ≡ m = omega (arith, p.some_third, p.no_whole) in
     (n, omega (arith, p.axis_below, p.no_whole), ap (λ b. cond b (Axis (n / 2) (n % 2 + 1)) (Tip ((n - 8) / 2) (n % 2 + 1))) behind ∙ cc)
 
-axes_numbered : (tips : Bool) (t : Turn) → IsTrue (is_axis_turn tips t) → (n : ℕ) × (n < cond tips 16 8) × (axis_turn_at n ≡ t)
+axes_numbered : (tips : Bool) (t : Turn) → IsTrue (is_axis_turn tips t)
+    → (n : ℕ) × (n < cond tips 16 8) × (axis_turn_at n ≡ t)
 axes_numbered true (Axis a m) h = let n = axis_numbered a m (thirds_parts a m h) in (n.0, omega (arith, n.1), n.2)
 axes_numbered false (Axis a m) h = axis_numbered a m (thirds_parts a m h)
 axes_numbered true (Tip a m) h = tip_numbered a m (thirds_parts a m h)
@@ -176,7 +178,8 @@ layers_turns = refl
 
 -- ---- turns of a Clock
 
-pins_numbered : (k p a : ℕ) → k < 9 → a < 12 → slice_index pin_sets k ≡ p → (n : ℕ) × (n < 109) × (clock_turn_at n ≡ Pins p a)
+pins_numbered : (k p a : ℕ) → k < 9 → a < 12 → slice_index pin_sets k ≡ p
+    → (n : ℕ) × (n < 109) × (clock_turn_at n ≡ Pins p a)
 unfolding clock_turn_at
 pins_numbered k p a l m e =
     let n = k * 12 + a in
@@ -224,7 +227,8 @@ wide_turns = refl
 -- ---- all kinds
 
 -- each turn of a kind has a number
-pub numbered : (kind : Kind) (t : Turn) → IsKind kind → IsTrue (has_turn kind t) → (n : ℕ) × (n < turn_count kind) × (turn_at kind n ≡ t)
+pub numbered : (kind : Kind) (t : Turn) → IsKind kind → IsTrue (has_turn kind t)
+    → (n : ℕ) × (n < turn_count kind) × (turn_at kind n ≡ t)
 unfolding turn_at
 numbered (Faces near far) t k h = face_numbered near far k t h
 numbered (Axes tips) t k h = axes_numbered tips t h

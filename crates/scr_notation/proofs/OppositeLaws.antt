@@ -44,7 +44,8 @@ opposite_face near far (Face f d a) h =
     }
 opposite_face near far _ h = absurd (false≢true h)
 
-opposite_thirds : (axis amount : ℕ) → IsThirds axis amount → IsTrue (nat_lt axis 4 && is_amount 3 (3 - amount)) × (3 - (3 - amount) ≡ amount)
+opposite_thirds : (axis amount : ℕ) → IsThirds axis amount
+    → IsTrue (nat_lt axis 4 && is_amount 3 (3 - amount)) × (3 - (3 - amount) ≡ amount)
 opposite_thirds axis amount p = (
   thirds_of_parts axis (3 - amount)
       (record { axis_below = p.axis_below; some_third = omega (arith, p.no_whole); no_whole = omega (arith, p.some_third) }),
@@ -63,7 +64,8 @@ opposite_axis tips _ h = absurd (false≢true h)
 none_back : (z : ℤ) → IsTwelfths z → twelfths (neg_ℤ z) ≡ pos 0 → z ≡ pos 0
 none_back z t e = sym (twelfths-back z t) ∙ ap (λ x. twelfths (neg_ℤ x)) e
 
-still_back : (x y : ℤ) (b : Bool) → IsLayersTurn x y → are_still (twelfths (neg_ℤ x)) (twelfths (neg_ℤ y)) ≡ b → b ≡ false
+still_back : (x y : ℤ) (b : Bool) → IsLayersTurn x y → are_still (twelfths (neg_ℤ x)) (twelfths (neg_ℤ y)) ≡ b
+    → b ≡ false
 still_back x y true p e =
     let top = none_back x p.top_within (are_still-first (twelfths (neg_ℤ x)) (twelfths (neg_ℤ y)) e) in
     let bottom = none_back y p.bottom_within (are_still-second (twelfths (neg_ℤ x)) (twelfths (neg_ℤ y)) e) in

@@ -35,7 +35,8 @@ unfolding with_word
 with_another text word n = ap (λ b. cond b word (text ++ 32 ∷ word)) (ne_eqb (length text) 0 n)
 
 -- the text of one turn more
-text_of-more : (e : Event) (ts : List Turn) (t : Turn) → All (λ u. IsTrue (permits e u)) ts → text_of (ts ++ t ∷ []) ≡ with_word (text_of ts) (spelling t)
+text_of-more : (e : Event) (ts : List Turn) (t : Turn) → All (λ u. IsTrue (permits e u)) ts
+    → text_of (ts ++ t ∷ []) ≡ with_word (text_of ts) (spelling t)
 text_of-more e [] t a = sym (with_first (spelling t))
 text_of-more e (u ∷ ts) t a =
     let P : Turn → Type 0 = λ x. IsTrue (permits e x) in
@@ -44,20 +45,24 @@ text_of-more e (u ∷ ts) t a =
     ∙ sym (with_another (text_of (u ∷ ts)) (spelling t) (text_of-some e u ts (All-get_or P (u ∷ ts) 0 u (omega arith) a)))
 
 -- while a scramble is printed, there is room for a space and a turn
-pub print-room : (s : Written) (i : ℕ) (text : List ℕ) → IsWritten s → i < length s.turns → text ≡ text_of (take i s.turns) → length text + 8 ≤ 1280
+pub print-room : (s : Written) (i : ℕ) (text : List ℕ) → IsWritten s → i < length s.turns
+    → text ≡ text_of (take i s.turns) → length text + 8 ≤ 1280
 print-room s i text w l e =
     let P : Turn → Type 0 = λ u. IsTrue (permits s.event u) in
     let short = length-text_of s.event (take i s.turns) (All-take P i s.turns w.permitted) in
     omega (arith, short, w.room, ap length e, length_taken i s.turns (omega arith))
 
-pub print-more : (s : Written) (i : ℕ) (d : Turn) (text new : List ℕ) → IsWritten s → i < length s.turns → text ≡ text_of (take i s.turns) → new ≡ with_word text (spelling (get_or s.turns i d)) → new ≡ text_of (take (i + 1) s.turns)
+pub print-more : (s : Written) (i : ℕ) (d : Turn) (text new : List ℕ) → IsWritten s → i < length s.turns
+    → text ≡ text_of (take i s.turns) → new ≡ with_word text (spelling (get_or s.turns i d))
+    → new ≡ text_of (take (i + 1) s.turns)
 print-more s i d text new w l e h =
     let P : Turn → Type 0 = λ u. IsTrue (permits s.event u) in
     h ∙ ap (λ x. with_word x (spelling (get_or s.turns i d))) e
     ∙ sym (text_of-more s.event (take i s.turns) (get_or s.turns i d) (All-take P i s.turns w.permitted))
     ∙ ap text_of (sym (take_more s.turns i d l))
 
-pub print-permitted : (s : Written) (i : ℕ) (d : Turn) → IsWritten s → i < length s.turns → IsTrue (permits s.event (get_or s.turns i d))
+pub print-permitted : (s : Written) (i : ℕ) (d : Turn) → IsWritten s → i < length s.turns
+    → IsTrue (permits s.event (get_or s.turns i d))
 print-permitted s i d w l = All-get_or (λ u. IsTrue (permits s.event u)) s.turns i d l w.permitted
 
 -- a word that is read is short
@@ -69,7 +74,9 @@ pub place-short : (s : Written) (place : ℕ) → IsWritten s → place ≡ plac
 place-short s place w e = omega (arith, w.room, place_after-short s.event s.turns w.permitted)
 
 -- the word is one more turn
-pub read-as : (before after : Written) (word : List ℕ) (t : Turn) (place : ℕ) → spelling t ≡ word → after ≡ record { event = before.event; turns = before.turns ++ t ∷ [] } → IsWritten after → place ≡ place_after (map spelling before.turns) → IsReadAs before word after (place + length word + 1)
+pub read-as : (before after : Written) (word : List ℕ) (t : Turn) (place : ℕ) → spelling t ≡ word
+    → after ≡ record { event = before.event; turns = before.turns ++ t ∷ [] } → IsWritten after
+    → place ≡ place_after (map spelling before.turns) → IsReadAs before word after (place + length word + 1)
 read-as before after word t place s e w p = record {
   turn = t;
   spelled = s;
@@ -84,7 +91,8 @@ read-as before after word t place s e w p = record {
 }
 
 -- nothing is read yet
-pub read-none : (e : Event) (text : List ℕ) (s : Written) → s ≡ record { event = e; turns = [] } → IsWritten s → IsReadSoFar e (spaced_words text) 0 s 0
+pub read-none : (e : Event) (text : List ℕ) (s : Written) → s ≡ record { event = e; turns = [] } → IsWritten s
+    → IsReadSoFar e (spaced_words text) 0 s 0
 unfolding place_after
 read-none e text s h w = record {
   of_event = ap (λ x. x.event) h;
@@ -95,7 +103,9 @@ read-none e text s h w = record {
 }
 
 -- one more word is read
-pub read-more : (e : Event) (words : List (List ℕ)) (n : ℕ) (before after : Written) (place behind : ℕ) (word : List ℕ) → IsReadSoFar e words n before place → n < length words → word ≡ get_or words n word → IsReadAs before word after behind → IsReadSoFar e words (n + 1) after behind
+pub read-more : (e : Event) (words : List (List ℕ)) (n : ℕ) (before after : Written) (place behind : ℕ) (word : List ℕ)
+    → IsReadSoFar e words n before place → n < length words → word ≡ get_or words n word
+    → IsReadAs before word after behind → IsReadSoFar e words (n + 1) after behind
 read-more e words n before after place behind word r l g a = record {
   of_event = a.event ∙ r.of_event;
   valid = a.valid;
@@ -116,14 +126,17 @@ spelled_of : (e : Event) (s : Written) → s.event ≡ e → IsWritten s → All
 spelled_of e s v w =
     let Q : Event → Type 0 = λ x. All (IsSpelling x) (map spelling s.turns) in subst Q v (spelled_all s.event s.turns w.permitted)
 
-split_at : (words : List (List ℕ)) (n : ℕ) (word : List ℕ) (before : List (List ℕ)) → n < length words → word ≡ get_or words n word → before ≡ take n words → words ≡ before ++ word ∷ drop (n + 1) words
+split_at : (words : List (List ℕ)) (n : ℕ) (word : List ℕ) (before : List (List ℕ)) → n < length words
+    → word ≡ get_or words n word → before ≡ take n words → words ≡ before ++ word ∷ drop (n + 1) words
 split_at words n word before l g e =
     let next : suc n ≡ n + 1 = omega arith in
     let rest : drop n words ≡ word ∷ drop (n + 1) words = drop-cons words n word l ∙ ap (λ x. x ∷ drop (suc n) words) (sym g) ∙ ap (λ k. word ∷ drop k words) next in
     sym (take-append-drop n words) ∙ ap (λ x. x ++ drop n words) (sym e) ∙ ap (λ x. before ++ x) rest
 
 -- a fault found at the next word is the first
-pub first-fault : (e : Event) (text : List ℕ) (n : ℕ) (s : Written) (place : ℕ) (word : List ℕ) (f : NotationFault) → IsReadSoFar e (spaced_words text) n s place → n < length (spaced_words text) → word ≡ get_or (spaced_words text) n word → IsFault s.event (map spelling s.turns) word f → IsFirstFault e text f
+pub first-fault : (e : Event) (text : List ℕ) (n : ℕ) (s : Written) (place : ℕ) (word : List ℕ) (f : NotationFault)
+    → IsReadSoFar e (spaced_words text) n s place → n < length (spaced_words text)
+    → word ≡ get_or (spaced_words text) n word → IsFault s.event (map spelling s.turns) word f → IsFirstFault e text f
 first-fault e text n s place word f r l g h = record {
   before = map spelling s.turns;
   word = word;
@@ -134,11 +147,14 @@ first-fault e text n s place word f r l g h = record {
 }
 
 -- all words are read: the text is that of the turns
-pub read-all : (e : Event) (text : List ℕ) (s : Written) (place : ℕ) → 1 ≤ length text → IsReadSoFar e (spaced_words text) (length (spaced_words text)) s place → text_of s.turns ≡ text
+pub read-all : (e : Event) (text : List ℕ) (s : Written) (place : ℕ) → 1 ≤ length text
+    → IsReadSoFar e (spaced_words text) (length (spaced_words text)) s place → text_of s.turns ≡ text
 read-all e text s place l r =
     ap (join_with_byte 32) (r.spelled ∙ take_all (length (spaced_words text)) (spaced_words text) (le_refl (length (spaced_words text))) ∙ words_of-some text l) ∙ join_with_byte-slice_split 32 text
 
-fault-none : (e : Event) (before behind : List (List ℕ)) (word : List ℕ) (f : NotationFault) (ts : List Turn) → All (λ u. IsTrue (permits e u)) ts → length ts ≤ 160 → map spelling ts ≡ before ++ word ∷ behind → IsFault e before word f → ⊥
+fault-none : (e : Event) (before behind : List (List ℕ)) (word : List ℕ) (f : NotationFault) (ts : List Turn)
+    → All (λ u. IsTrue (permits e u)) ts → length ts ≤ 160 → map spelling ts ≡ before ++ word ∷ behind
+    → IsFault e before word f → ⊥
 fault-none e before behind word (Spelling place) ts a l h f =
     let k : length before < length (map spelling ts) = omega (arith, ap length h, length-append before (word ∷ behind)) in
     let Q : List ℕ → Type 0 = IsSpelling e in
@@ -148,7 +164,8 @@ fault-none e before behind word (TooLong place) ts a l h f =
     omega (arith, f.0, ap length h, length-append before (word ∷ behind), length-map ts spelling)
 
 -- the text of a scramble has no fault
-pub no-fault : (e : Event) (text : List ℕ) (f : NotationFault) (s : Written) → IsFirstFault e text f → IsWritten s → s.event ≡ e → text_of s.turns ≡ text → ⊥
+pub no-fault : (e : Event) (text : List ℕ) (f : NotationFault) (s : Written) → IsFirstFault e text f → IsWritten s
+    → s.event ≡ e → text_of s.turns ≡ text → ⊥
 no-fault e text f s h w v t =
     let Q : Event → Type 0 = λ x. IsFault x h.before h.word f in
     fault-none s.event h.before h.behind h.word f s.turns w.permitted w.room
@@ -156,7 +173,8 @@ no-fault e text f s h w v t =
     (subst Q (sym v) h.at_fault)
 
 -- and is that of no other scramble of the event
-pub one-scramble : (s other : Written) → IsWritten s → IsWritten other → other.event ≡ s.event → text_of other.turns ≡ text_of s.turns → s ≡ other
+pub one-scramble : (s other : Written) → IsWritten s → IsWritten other → other.event ≡ s.event
+    → text_of other.turns ≡ text_of s.turns → s ≡ other
 one-scramble s other w v e t =
     let Q : Event → Type 0 = λ x. All (λ u. IsTrue (permits x u)) other.turns in
     let same = text_of-only s.event s.turns other.turns w.permitted (subst Q e v.permitted) (sym t) in
@@ -172,7 +190,9 @@ on_true true P e h = h
 on_true false P e h = absurd (false≢true e)
 
 -- the words of a text that isn't empty are those that it is split into
-pub next-word : (text : List ℕ) (n : ℕ) (word : List ℕ) → 1 ≤ length text → (n < length (slice_split (λ b. b == 32) text)) × (word ≡ get_or (slice_split (λ b. b == 32) text) n word) → (n < length (spaced_words text)) × (word ≡ get_or (spaced_words text) n word)
+pub next-word : (text : List ℕ) (n : ℕ) (word : List ℕ) → 1 ≤ length text
+    → (n < length (slice_split (λ b. b == 32) text)) × (word ≡ get_or (slice_split (λ b. b == 32) text) n word)
+    → (n < length (spaced_words text)) × (word ≡ get_or (spaced_words text) n word)
 next-word text n word l h =
     let Q : List (List ℕ) → Type 0 = λ ws. (n < length ws) × (word ≡ get_or ws n word) in subst Q (sym (words_of-some text l)) h
 

@@ -81,7 +81,8 @@ same_number e n m l k q =
     one_number (turn_at kind) (most_turns kind) (AreSpelled-kind kind) n m (count_below kind n is l) (count_below kind m is k) q
 
 -- The spellings of an event's turns differ: each has one turn.
-pub one_spelling : (e : Event) (t u : Turn) → IsTrue (permits e t) → IsTrue (permits e u) → spelling t ≡ spelling u → t ≡ u
+pub one_spelling : (e : Event) (t u : Turn) → IsTrue (permits e t) → IsTrue (permits e u) → spelling t ≡ spelling u
+    → t ≡ u
 one_spelling e t u h k q =
     let n = numbered (kind_of e) t (IsKind-kind_of e) h in
     let m = numbered (kind_of e) u (IsKind-kind_of e) k in

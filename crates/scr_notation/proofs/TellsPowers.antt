@@ -17,7 +17,8 @@ use Rattle.scr_notation.proofs.FaceLaws.{IsQuartersOf-read, quarters_of-face}
 
 -- ---- turns of faces: of three faces of a small cube, of six where the far ones turn too
 
-outer_face : (far face depth : ℕ) → far ≤ 1 → 1 ≤ depth → depth ≤ depths_of 1 far face → (depth ≡ 1) × (face < 3 + 3 * far)
+outer_face : (far face depth : ℕ) → far ≤ 1 → 1 ≤ depth → depth ≤ depths_of 1 far face
+    → (depth ≡ 1) × (face < 3 + 3 * far)
 outer_face far face depth small some few =
     elim (cases_lt face 3) [
       | inl near ↦ (let most : depths_of 1 far face ≡ 1 = cond-true (ltb face 3) _ _ (lt-ltb face 3 near) in (omega arith, omega arith))
@@ -57,7 +58,8 @@ module _ (far : ℕ) (small : far ≤ 1) where
       outer_face far face depth small (leb-true 1 depth (and_first (leb 1 depth) (leb depth most) deep)) (leb-true depth most (and_second (leb 1 depth) (leb depth most) deep)) in
       (record { generator = face; exponent = amount }, ap (λ d. quarters_of (Face face d amount)) outer.0 ∙ quarters_of-face face amount range.0 range.1, outer.1)
 
-  face_powers_of : (t : Turn) → IsTrue (is_face_turn 1 far t) → (p : Power) × (quarters_of t ≡ Some p) × (p.generator < 3 + 3 * far)
+  face_powers_of : (t : Turn) → IsTrue (is_face_turn 1 far t)
+      → (p : Power) × (quarters_of t ≡ Some p) × (p.generator < 3 + 3 * far)
   face_powers_of (Face face depth amount) h = face_power face depth amount h
   face_powers_of (Axis axis amount) h = absurd (false≢true h)
   face_powers_of (Tip tip amount) h = absurd (false≢true h)
@@ -87,13 +89,15 @@ axis_power axis amount count four h =
     let range = amount_range 3 amount (and_second (ltb axis 4) (is_amount 3 amount) h) in
     (record { generator = axis; exponent = amount }, thirds_of-axis axis amount there range.0 range.1, omega (arith, there))
 
-tip_power : (tip amount : ℕ) → IsTrue (ltb tip 4 && is_amount 3 amount) → (p : Power) × (thirds_of (Tip tip amount) ≡ Some p) × (p.generator < 8)
+tip_power : (tip amount : ℕ) → IsTrue (ltb tip 4 && is_amount 3 amount)
+    → (p : Power) × (thirds_of (Tip tip amount) ≡ Some p) × (p.generator < 8)
 tip_power tip amount h =
     let there = ltb-true tip 4 (and_first (ltb tip 4) (is_amount 3 amount) h) in
     let range = amount_range 3 amount (and_second (ltb tip 4) (is_amount 3 amount) h) in
     (record { generator = 4 + tip; exponent = amount }, thirds_of-tip tip amount there range.0 range.1, omega (arith, there))
 
-axis_powers_of : (tips : Bool) (t : Turn) → IsTrue (is_axis_turn tips t) → (p : Power) × (thirds_of t ≡ Some p) × (p.generator < cond tips 8 4)
+axis_powers_of : (tips : Bool) (t : Turn) → IsTrue (is_axis_turn tips t)
+    → (p : Power) × (thirds_of t ≡ Some p) × (p.generator < cond tips 8 4)
 axis_powers_of false (Axis axis amount) h = axis_power axis amount 4 (omega arith) h
 axis_powers_of true (Axis axis amount) h = axis_power axis amount 8 (omega arith) h
 axis_powers_of false (Tip tip amount) h = absurd (false≢true h)

@@ -16,7 +16,8 @@ use Rattle.scr_notation.specs.Reading.{spaced_words, place_after}
 use Rattle.scr_notation.proofs.SpellingLaws.{IsWord, IsWord-spelling, one_spelling}
 
 -- words, joined and cut again
-cut : (w : List ℕ) (ws : List (List ℕ)) → All IsWord (w ∷ ws) → slice_split (λ b. b == 32) (join_with_byte 32 (w ∷ ws)) ≡ w ∷ ws
+cut : (w : List ℕ) (ws : List (List ℕ)) → All IsWord (w ∷ ws)
+    → slice_split (λ b. b == 32) (join_with_byte 32 (w ∷ ws)) ≡ w ∷ ws
 cut w [] a = slice_split_none (λ b. b == 32) w (All-head IsWord w [] a).no_space
 cut w (v ∷ ws) a =
     slice_split_at (λ b. b == 32) w 32 (join_with_byte 32 (v ∷ ws)) (All-head IsWord w (v ∷ ws) a).no_space refl
@@ -43,7 +44,8 @@ All-words e (t ∷ ts) a =
     All-cons IsWord (spelling t) (map spelling ts) (IsWord-spelling e t (All-head P t ts a)) (All-words e ts (All-tail P t ts a))
 
 -- the words of a text of turns are their spellings
-pub words_of-text_of : (e : Event) (ts : List Turn) → All (λ t. IsTrue (permits e t)) ts → spaced_words (text_of ts) ≡ map spelling ts
+pub words_of-text_of : (e : Event) (ts : List Turn) → All (λ t. IsTrue (permits e t)) ts
+    → spaced_words (text_of ts) ≡ map spelling ts
 words_of-text_of e ts a = words_of-joined (map spelling ts) (All-words e ts a)
 
 -- a text of turns is ASCII
@@ -60,7 +62,8 @@ IsUtf8-text_of e ts a = IsUtf8-from_ascii (text_of ts) (IsAscii-from_all (text_o
 first_same : (t u : Turn) (ts us : List Turn) → t ≡ u → ts ≡ us → t ∷ ts ≡ u ∷ us
 first_same t u ts us a b = cc
 
-spellings-only : (e : Event) (ts us : List Turn) → All (λ t. IsTrue (permits e t)) ts → All (λ t. IsTrue (permits e t)) us → map spelling ts ≡ map spelling us → ts ≡ us
+spellings-only : (e : Event) (ts us : List Turn) → All (λ t. IsTrue (permits e t)) ts
+    → All (λ t. IsTrue (permits e t)) us → map spelling ts ≡ map spelling us → ts ≡ us
 spellings-only e [] [] a b h = refl
 spellings-only e [] (u ∷ us) a b h = absurd (cc)
 spellings-only e (t ∷ ts) [] a b h = absurd (cc)
@@ -72,17 +75,20 @@ spellings-only e (t ∷ ts) (u ∷ us) a b h =
     (spellings-only e ts us (All-tail P t ts a) (All-tail P u us b) rest)
 
 -- Turns of an event with one text are the same turns.
-pub text_of-only : (e : Event) (ts us : List Turn) → All (λ t. IsTrue (permits e t)) ts → All (λ t. IsTrue (permits e t)) us → text_of ts ≡ text_of us → ts ≡ us
+pub text_of-only : (e : Event) (ts us : List Turn) → All (λ t. IsTrue (permits e t)) ts
+    → All (λ t. IsTrue (permits e t)) us → text_of ts ≡ text_of us → ts ≡ us
 text_of-only e ts us a b h =
     spellings-only e ts us a b (sym (words_of-text_of e ts a) ∙ ap spaced_words h ∙ words_of-text_of e us b)
 
 -- one more word, behind a space unless it is the first
-pub joined-more : (w : List ℕ) (ws : List (List ℕ)) (x : List ℕ) → join_with_byte 32 ((w ∷ ws) ++ x ∷ []) ≡ join_with_byte 32 (w ∷ ws) ++ 32 ∷ x
+pub joined-more : (w : List ℕ) (ws : List (List ℕ)) (x : List ℕ)
+    → join_with_byte 32 ((w ∷ ws) ++ x ∷ []) ≡ join_with_byte 32 (w ∷ ws) ++ 32 ∷ x
 joined-more w [] x = refl
 joined-more w (v ∷ ws) x = ap (λ y. w ++ 32 ∷ y) (joined-more v ws x) ∙ sym (append_assoc w (32 ∷ join_with_byte 32 (v ∷ ws)) (32 ∷ x))
 
 -- a text of turns is at most eight bytes a turn long
-joined_short : (w : List ℕ) (ws : List (List ℕ)) → All IsWord (w ∷ ws) → length (join_with_byte 32 (w ∷ ws)) + 1 ≤ 8 * length (w ∷ ws)
+joined_short : (w : List ℕ) (ws : List (List ℕ)) → All IsWord (w ∷ ws)
+    → length (join_with_byte 32 (w ∷ ws)) + 1 ≤ 8 * length (w ∷ ws)
 joined_short w [] a = omega (arith, (All-head IsWord w [] a).short)
 joined_short w (v ∷ ws) a =
     omega (arith, (All-head IsWord w (v ∷ ws) a).short, length-append w (32 ∷ join_with_byte 32 (v ∷ ws)), joined_short v ws (All-tail IsWord w (v ∷ ws) a))
@@ -91,7 +97,8 @@ joined_fits : (ws : List (List ℕ)) → All IsWord ws → length (join_with_byt
 joined_fits [] a = omega arith
 joined_fits (w ∷ ws) a = omega (arith, joined_short w ws a)
 
-pub length-text_of : (e : Event) (ts : List Turn) → All (λ t. IsTrue (permits e t)) ts → length (text_of ts) ≤ 8 * length ts
+pub length-text_of : (e : Event) (ts : List Turn) → All (λ t. IsTrue (permits e t)) ts
+    → length (text_of ts) ≤ 8 * length ts
 length-text_of e ts a = omega (arith, joined_fits (map spelling ts) (All-words e ts a), length-map ts spelling)
 
 -- the place behind one more word
@@ -105,5 +112,6 @@ unfolding place_after
 place_after_fits [] a = omega arith
 place_after_fits (w ∷ ws) a = omega (arith, (All-head IsWord w ws a).short, place_after_fits ws (All-tail IsWord w ws a))
 
-pub place_after-short : (e : Event) (ts : List Turn) → All (λ t. IsTrue (permits e t)) ts → place_after (map spelling ts) ≤ 8 * length ts
+pub place_after-short : (e : Event) (ts : List Turn) → All (λ t. IsTrue (permits e t)) ts
+    → place_after (map spelling ts) ≤ 8 * length ts
 place_after-short e ts a = omega (arith, place_after_fits (map spelling ts) (All-words e ts a), length-map ts spelling)

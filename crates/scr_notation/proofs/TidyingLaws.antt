@@ -26,20 +26,23 @@ reversed : (rest : List Turn) (u : Turn) → reverse (rest ++ u ∷ []) ≡ u �
 reversed rest u = reverse-append rest (u ∷ [])
 
 -- a turn before no turn
-pub before-none : (t : Turn) (old new : List Turn) → old ≡ [] → new ≡ old ++ t ∷ [] → reverse new ≡ with_turn turn_merging t (reverse old)
+pub before-none : (t : Turn) (old new : List Turn) → old ≡ [] → new ≡ old ++ t ∷ []
+    → reverse new ≡ with_turn turn_merging t (reverse old)
 unfolding begins_alike
 before-none t old new e h =
     ap reverse (h ∙ ap (λ x. x ++ t ∷ []) e)
     ∙ sym (ap (λ x. with_turn turn_merging t (reverse x)) e ∙ with_turn-apart turn_merging t [] refl)
 
 -- before a turn of its face, with which it comes to one turn or to none
-pub before-alike : (t u : Turn) (o : Option Turn) (old rest new : List Turn) → IsTrue (are_alike t u) → turns_merged t u ≡ o
-    → old ≡ rest ++ u ∷ [] → reverse new ≡ word_of o ++ reverse rest → reverse new ≡ with_turn turn_merging t (reverse old)
+pub before-alike : (t u : Turn) (o : Option Turn) (old rest new : List Turn) → IsTrue (are_alike t u)
+    → turns_merged t u ≡ o → old ≡ rest ++ u ∷ [] → reverse new ≡ word_of o ++ reverse rest
+    → reverse new ≡ with_turn turn_merging t (reverse old)
 before-alike t u o old rest new a m e h =
     h ∙ ap (λ x. word_of x ++ reverse rest) (sym m) ∙ sym (with_turn-alike turn_merging t u (reverse rest) a)
     ∙ ap (with_turn turn_merging t) (sym (ap reverse e ∙ reversed rest u))
 
-pub merged-one : (v : Turn) (rest new : List Turn) → new ≡ rest ++ v ∷ [] → reverse new ≡ word_of (Some v) ++ reverse rest
+pub merged-one : (v : Turn) (rest new : List Turn) → new ≡ rest ++ v ∷ []
+    → reverse new ≡ word_of (Some v) ++ reverse rest
 unfolding word_of
 merged-one v rest new h = ap reverse h ∙ reversed rest v
 
@@ -57,7 +60,8 @@ before-other t u old rest new a e h =
     ∙ sym (ap (with_turn turn_merging t) r ∙ with_turn-apart turn_merging t (u ∷ reverse rest) a)
 
 -- what is left from one place earlier on
-pub one-earlier : (ts : List Turn) (k : ℕ) (d : Turn) → 0 < k → k ≤ length ts → drop (k - 1) ts ≡ get_or ts (k - 1) d ∷ drop k ts
+pub one-earlier : (ts : List Turn) (k : ℕ) (d : Turn) → 0 < k → k ≤ length ts
+    → drop (k - 1) ts ≡ get_or ts (k - 1) d ∷ drop k ts
 one-earlier ts k d p l =
     let next : suc (k - 1) ≡ k = omega arith in
     drop-cons ts (k - 1) d (omega arith) ∙ ap (λ j. get_or ts (k - 1) d ∷ drop j ts) next
@@ -67,8 +71,10 @@ unfolding tidy
 tidy-none ts old e = ap reverse e ∙ sym (ap (tidy turn_merging) (drop_all (length ts) ts (le_refl (length ts))))
 
 -- one turn more is tidied
-pub tidy-more : (ts : List Turn) (k : ℕ) (d : Turn) (old new : List Turn) → 0 < k → k ≤ length ts → reverse old ≡ tidy turn_merging (drop k ts)
-    → reverse new ≡ with_turn turn_merging (get_or ts (k - 1) d) (reverse old) → reverse new ≡ tidy turn_merging (drop (k - 1) ts)
+pub tidy-more : (ts : List Turn) (k : ℕ) (d : Turn) (old new : List Turn) → 0 < k → k ≤ length ts
+    → reverse old ≡ tidy turn_merging (drop k ts)
+    → reverse new ≡ with_turn turn_merging (get_or ts (k - 1) d) (reverse old)
+    → reverse new ≡ tidy turn_merging (drop (k - 1) ts)
 unfolding tidy
 tidy-more ts k d old new p l e h =
     h ∙ ap (with_turn turn_merging (get_or ts (k - 1) d)) e ∙ sym (ap (tidy turn_merging) (one-earlier ts k d p l))
@@ -92,8 +98,8 @@ pub back-more : (ts : List Turn) (k : ℕ) (d : Turn) → 0 < k → k ≤ length
 back-more ts k d p l = ap (back opposite) (one-earlier ts k d p l) ∙ back-first opposite (get_or ts (k - 1) d) (drop k ts)
 
 -- the opposite of a scramble's turn is a turn of the event
-pub permitted-back : (e : Event) (ts us : List Turn) (k : ℕ) (d : Turn) → All (λ t. IsTrue (permits e t)) ts → us ≡ ts → k < length us
-    → IsTrue (permits e (opposite (get_or us k d)))
+pub permitted-back : (e : Event) (ts us : List Turn) (k : ℕ) (d : Turn) → All (λ t. IsTrue (permits e t)) ts → us ≡ ts
+    → k < length us → IsTrue (permits e (opposite (get_or us k d)))
 permitted-back e ts us k d a s l =
     let P : Turn → Type 0 = λ t. IsTrue (permits e t) in
     let Q : List Turn → Type 0 = λ x. All P x in
@@ -115,8 +121,9 @@ All-reverse P (t ∷ ts) a =
     subst Q (sym (reverse-cons t ts)) (All-push P (reverse ts) t (All-reverse P ts (All-tail P t ts a)) (All-head P t ts a))
 
 -- the turns of a tidied scramble, kept with the last one first, are turns of the event
-pub permitted-tidied : (e : Event) (ts kept : List Turn) (k : ℕ) (d : Turn) → IsTrue (has_merging (kind_of e)) → All (λ t. IsTrue (permits e t)) ts
-    → reverse kept ≡ tidy turn_merging ts → k < length kept → IsTrue (permits e (get_or kept k d))
+pub permitted-tidied : (e : Event) (ts kept : List Turn) (k : ℕ) (d : Turn) → IsTrue (has_merging (kind_of e))
+    → All (λ t. IsTrue (permits e t)) ts → reverse kept ≡ tidy turn_merging ts → k < length kept
+    → IsTrue (permits e (get_or kept k d))
 permitted-tidied e ts kept k d i a h l =
     let P : Turn → Type 0 = λ t. IsTrue (permits e t) in
     let Q : List Turn → Type 0 = λ x. All P x in

@@ -41,7 +41,8 @@ pub enum Event {
 /// A kind of puzzles, by the turns that they have.
 #[derive(Clone, Copy, Debug, PartialEq, Eq)]
 pub enum Kind {
-    /// Turns of a cube's faces: at the near faces U R F of up to `near` layers, and at the far faces D L B of up to `far`.
+    /// Turns of a cube's faces: at the near faces U R F of up to `near` layers, and at the far faces D L B of up to
+    /// `far`.
     Faces { near: u8, far: u8 },
     /// Turns about four axes, and of the tips at them if there are any.
     Axes { tips: bool },

@@ -15,8 +15,8 @@ ghost use Rattle.scr_notation.specs.Spelling.{spelling, text_of};
 ghost use Rattle.scr_notation.specs.Turning.{opposite, turn_merging, has_merging};
 ghost use Rattle.scr_notation.specs.Reading.{IsFirstFault};
 
-/// The events in the order of their numbers: how they are named, how many scrambles a group has, and how many turns from
-/// solved states are at least, usually and at most (0 for events without minima).
+/// The events in the order of their numbers: how they are named, how many scrambles a group has, and how many turns
+/// from solved states are at least, usually and at most (0 for events without minima).
 pub fn known_events()
     ensures ids { join_with_byte 32 (map id_of events)
         ≡ codes "222 333 333oh 555 666 777 clock minx pyram skewb sq1 333bf 333fm" }
@@ -99,7 +99,8 @@ pub fn known_numbers()
     ensures wide_turns { text_of (map wide_turn_at (0 ∷ 1 ∷ 2 ∷ 3 ∷ 4 ∷ 5 ∷ [])) ≡ codes "R++ R-- D++ D-- U U'" }
 {}
 
-/// Each number below the count of an event's turns is that of one of its turns, each of them has one, and no two the same.
+/// Each number below the count of an event's turns is that of one of its turns, each of them has one, and no two the
+/// same.
 pub fn turn_numbers()
     ensures turns { (event : Event) (n : ℕ) → n < turn_count (kind_of event)
         → IsTrue (permits event (turn_at (kind_of event) n)) }
@@ -117,13 +118,14 @@ pub fn one_fault_for_each_text()
 
 /// The opposite of an event's turn is one, and the opposite of that is the turn.
 pub fn opposites()
-    ensures of_event { (event : Event) (turn : Turn) → IsTrue (permits event turn) → IsTrue (permits event (opposite turn)) }
+    ensures of_event { (event : Event) (turn : Turn) → IsTrue (permits event turn)
+        → IsTrue (permits event (opposite turn)) }
     ensures twice { (event : Event) (turn : Turn) → IsTrue (permits event turn) → opposite (opposite turn) ≡ turn }
 {}
 
-/// Of an event whose turns are merged: merges give turns of the event, and it doesn't matter which of three neighbours are
-/// merged first. So a tidied word has no neighbours that can be merged; merges lead to it, and to no other word that can't be
-/// merged further, in whatever order they are done.
+/// Of an event whose turns are merged: merges give turns of the event, and it doesn't matter which of three neighbours
+/// are merged first. So a tidied word has no neighbours that can be merged; merges lead to it, and to no other word
+/// that can't be merged further, in whatever order they are done.
 pub fn tidied_words()
     ensures lawful { (event : Event) → IsTrue (has_merging (kind_of event))
         → IsMerging turn_merging (λ t. IsTrue (permits event t)) }

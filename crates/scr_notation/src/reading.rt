@@ -39,8 +39,8 @@ pub fn parse(event: Event, text: &str) -> Result<Scramble, NotationFault>
     Ok(scramble)
 }
 
-/// Reads one more word, which begins at byte `place`, as a turn of the scramble. It answers the byte behind the word and
-/// the space that follows.
+/// Reads one more word, which begins at byte `place`, as a turn of the scramble. It answers the byte behind the word
+/// and the space that follows.
 fn read_next(scramble: &mut Scramble, place: u32, word: &str) -> Result<u32, NotationFault>
     requires { place ≡ place_after (map spelling scramble.old.turns) }
     ensures valid { IsWritten scramble.old }

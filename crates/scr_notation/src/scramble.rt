@@ -73,8 +73,8 @@ impl Scramble {
         }
     }
 
-    /// Adds a turn at the end. It answers false exactly where 160 turns are there or the event hasn't this turn, and then
-    /// changes nothing.
+    /// Adds a turn at the end. It answers false exactly where 160 turns are there or the event hasn't this turn, and
+    /// then changes nothing.
     pub fn push(&mut self, turn: Turn) -> bool
         ensures exact { IsTrue result ↔ (length self.old.turns < 160) × IsTrue (permits self.old.event turn) }
         ensures pushed { OnTrue result (self.new ≡ record { event = self.old.event; turns = self.old.turns ++ turn ∷ [] }) }

@@ -19,7 +19,8 @@ use crate::event::{Event, Kind};
 pub enum Turn {
     /// The `depth` outer layers at a face of a cube, clockwise by `amount` quarters. The faces U R F D L B are 0 to 5.
     Face { face: u8, depth: u8, amount: u8 },
-    /// The large turn about an axis of a Pyraminx or a Skewb, clockwise by `amount` thirds. The axes U L R B are 0 to 3.
+    /// The large turn about an axis of a Pyraminx or a Skewb, clockwise by `amount` thirds. The axes U L R B are 0 to
+    /// 3.
     Axis { axis: u8, amount: u8 },
     /// A tip of a Pyraminx, clockwise by `amount` thirds. The tips u l r b are 0 to 3.
     Tip { tip: u8, amount: u8 },

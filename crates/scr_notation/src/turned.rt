@@ -31,8 +31,8 @@ pub trait PowerTurned: Copy {
     /// The letters name as many generators, and no other letter makes anything.
     ghost generators: { HasGenerators Self.Kind.letters GENERATORS after };
 
-    /// The state after a generator, so many times: after a turn of a face clockwise by `exponent` quarters, from 1 to 3, or
-    /// about an axis by `exponent` thirds, 1 or 2.
+    /// The state after a generator, so many times: after a turn of a face clockwise by `exponent` quarters, from 1 to
+    /// 3, or about an axis by `exponent` thirds, 1 or 2.
     final fn turn(&self, generator: u8, exponent: u8) -> Self
         requires generator { generator < GENERATORS }
         requires some { 0 < exponent }

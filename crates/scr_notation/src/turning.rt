@@ -27,9 +27,9 @@ pub fn inverse(scramble: &Scramble) -> Scramble
     undoing
 }
 
-/// What is left of a scramble of cubes or of Square-1 when neighbouring turns of one face, or of the layers, or two twists
-/// are merged, until there are none: two such come to one turn, or to nothing. The order in which that is done doesn't
-/// matter.
+/// What is left of a scramble of cubes or of Square-1 when neighbouring turns of one face, or of the layers, or two
+/// twists are merged, until there are none: two such come to one turn, or to nothing. The order in which that is done
+/// doesn't matter.
 pub fn tidy(scramble: &Scramble) -> Scramble
     requires { IsTrue (has_merging (kind_of scramble.now.event)) }
     ensures value { result ≡ record { event = scramble.now.event; turns = tidy turn_merging scramble.now.turns } }

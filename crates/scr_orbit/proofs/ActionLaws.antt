@@ -1,5 +1,5 @@
--- Laws of puzzles whose turns are rearrangements, once for all of them: a word comes to one rearrangement, and turns are
--- lawful, so that words are taken back and tidied by the laws of `scr_combinatorics`.
+-- Laws of puzzles whose turns are rearrangements, once for all of them: a word comes to one rearrangement, and turns
+-- are lawful, so that words are taken back and tidied by the laws of `scr_combinatorics`.
 use Rattle.std.proofs.Common.{◌≡◌, ℕ, zero, suc, ◌+◌, ◌*◌, ◌/◌, ◌%◌, ◌<◌, IsTrue, List, [], ◌∷◌, Option, Some, None, refl, sym, ap, ◌∙◌, subst, arith}
 use Rattle.std.specs.Prelude.{option_and_then}
 use Rattle.std.specs.Option.{option_map}
@@ -32,7 +32,8 @@ module _ {S R : Type 0} (a : Action S R) (IsValid : S → Type 0) (IsTurn : R �
       ∙ sym (l.grouped r (power a r n) (power a r m) h (IsTurn-power r n h) (IsTurn-power r m h))
 
   -- the order's multiples change nothing
-  pub power-multiple : (r : R) (order k : ℕ) → IsTurn r → power a r order ≡ a.identity → power a r (order * k) ≡ a.identity
+  pub power-multiple : (r : R) (order k : ℕ) → IsTurn r → power a r order ≡ a.identity
+      → power a r (order * k) ≡ a.identity
   unfolding power
   power-multiple r order zero h e = let none : order * zero ≡ zero = omega arith in ap (power a r) none
   power-multiple r order (suc k) h e =
@@ -43,7 +44,8 @@ module _ {S R : Type 0} (a : Action S R) (IsValid : S → Type 0) (IsTurn : R �
       ∙ power-multiple r order k h e
 
   -- exponents count modulo the order
-  pub power-mod : (r : R) (order n : ℕ) → 0 < order → IsTurn r → power a r order ≡ a.identity → power a r (n % order) ≡ power a r n
+  pub power-mod : (r : R) (order n : ℕ) → 0 < order → IsTurn r → power a r order ≡ a.identity
+      → power a r (n % order) ≡ power a r n
   power-mod r order n pos h e =
       let whole : order * (n / order) + n % order ≡ n = omega arith in
       sym (l.nothing_before (power a r (n % order)) (IsTurn-power r (n % order) h))
@@ -89,7 +91,8 @@ module _ {S R T : Type 0} (a : Action S R) (IsValid : S → Type 0) (IsTurn : R 
       ∙ sym (ap (option_map (a.turned s)) (first_by t w (Some r) e))
 
   -- A word is one rearrangement, the same for each state.
-  pub play-composed_word : (s : S) (w : List T) → IsValid s → play (after_by a table) s w ≡ option_map (a.turned s) (composed_word a table w)
+  pub play-composed_word : (s : S) (w : List T) → IsValid s
+      → play (after_by a table) s w ≡ option_map (a.turned s) (composed_word a table w)
   unfolding play composed_word
   play-composed_word s [] v = ap Some (sym (l.turned_by_none s v))
   play-composed_word s (t ∷ w) v = play_by s t w (table t) refl v (λ r k. play-composed_word r w k)

@@ -22,7 +22,8 @@ All-added_digits m (d ∷ ds) (e ∷ es) pos =
     All-cons (λ d. d < m) ((d + e) % m) (added_digits m ds es) (mod_below (d + e) m pos) (All-added_digits m ds es pos)
 
 -- each place has its sum
-pub added_digits-at : (m : ℕ) (ds es : List ℕ) (k : ℕ) → length ds ≡ length es → k < length ds → slice_index (added_digits m ds es) k ≡ (slice_index ds k + slice_index es k) % m
+pub added_digits-at : (m : ℕ) (ds es : List ℕ) (k : ℕ) → length ds ≡ length es → k < length ds
+    → slice_index (added_digits m ds es) k ≡ (slice_index ds k + slice_index es k) % m
 unfolding added_digits
 added_digits-at m [] es k h lt = absurd (omega (arith, lt))
 added_digits-at m (d ∷ ds) [] k h lt = absurd (omega (arith, h))
@@ -49,7 +50,8 @@ sum_step m d e s t u h =
     ∙ ap (λ z. z % m) (omega arith)
 
 -- the sum of added digits is the sum of both sums
-pub total-added_digits : (m : ℕ) (ds es : List ℕ) → length ds ≡ length es → total (added_digits m ds es) % m ≡ (total ds + total es) % m
+pub total-added_digits : (m : ℕ) (ds es : List ℕ) → length ds ≡ length es
+    → total (added_digits m ds es) % m ≡ (total ds + total es) % m
 unfolding added_digits
 total-added_digits m [] [] h = refl
 total-added_digits m [] (e ∷ es) h = absurd (omega (arith, h))
@@ -61,7 +63,8 @@ same_sum : (m d e f : ℕ) → ((d + e) % m + f) % m ≡ (d + (e + f) % m) % m
 same_sum m d e f = mod-add-mod (d + e) m f ∙ ap (λ z. z % m) (add_assoc d e f) ∙ sym (add-mod-mod d (e + f) m)
 
 -- whichever are added first
-pub added_digits-assoc : (m : ℕ) (ds es fs : List ℕ) → added_digits m (added_digits m ds es) fs ≡ added_digits m ds (added_digits m es fs)
+pub added_digits-assoc : (m : ℕ) (ds es fs : List ℕ)
+    → added_digits m (added_digits m ds es) fs ≡ added_digits m ds (added_digits m es fs)
 unfolding added_digits
 added_digits-assoc m [] es fs = refl
 added_digits-assoc m (d ∷ ds) [] fs = refl
@@ -71,7 +74,8 @@ added_digits-assoc m (d ∷ ds) (e ∷ es) (f ∷ fs) =
     ∙ ap (λ xs. (d + (e + f) % m) % m ∷ xs) (added_digits-assoc m ds es fs)
 
 -- sums are picked as their parts are
-pub pick-added_digits : (m : ℕ) (ds es ks : List ℕ) → length ds ≡ length es → All (λ k. k < length ds) ks → pick (added_digits m ds es) ks ≡ added_digits m (pick ds ks) (pick es ks)
+pub pick-added_digits : (m : ℕ) (ds es ks : List ℕ) → length ds ≡ length es → All (λ k. k < length ds) ks
+    → pick (added_digits m ds es) ks ≡ added_digits m (pick ds ks) (pick es ks)
 unfolding added_digits
 pick-added_digits m ds es [] h below = refl
 pick-added_digits m ds es (k ∷ ks) h below =
@@ -104,7 +108,8 @@ added_digits-zeros m (d ∷ ds) h =
     ∙ ap (λ xs. d ∷ xs) (added_digits-zeros m ds (All-tail (λ x. x < m) d ds h))
 
 -- and what is added to zeros is there
-pub added_digits-to_zeros : (m n : ℕ) (ks ds : List ℕ) → All (λ d. d < m) ds → length ks ≡ length ds → added_digits m (pick (zeros n) ks) ds ≡ ds
+pub added_digits-to_zeros : (m n : ℕ) (ks ds : List ℕ) → All (λ d. d < m) ds → length ks ≡ length ds
+    → added_digits m (pick (zeros n) ks) ds ≡ ds
 unfolding added_digits
 added_digits-to_zeros m n [] [] h e = refl
 added_digits-to_zeros m n [] (d ∷ ds) h e = absurd (omega (arith, e))

@@ -11,7 +11,8 @@ use Rattle.scr_orbit.specs.InPlace.{AreDigitsInPlace, in_place_action}
 use Rattle.scr_orbit.proofs.Parts.{IsMadeAt}
 use Rattle.scr_orbit.proofs.DigitLaws.{length-added_digits, All-added_digits, added_digits-assoc, length-zeros, All-zeros, added_digits-zeros, added_digits-to_zeros}
 
-AreDigitsInPlace-added : (n m : ℕ) (ds es : List ℕ) → 0 < m → AreDigitsInPlace n m ds → AreDigitsInPlace n m es → AreDigitsInPlace n m (added_digits m ds es)
+AreDigitsInPlace-added : (n m : ℕ) (ds es : List ℕ) → 0 < m → AreDigitsInPlace n m ds → AreDigitsInPlace n m es
+    → AreDigitsInPlace n m (added_digits m ds es)
 AreDigitsInPlace-added n m ds es pos a b =
     record { size = length-added_digits m ds es (a.size ∙ sym b.size) ∙ a.size; below = All-added_digits m ds es pos }
 
@@ -41,11 +42,13 @@ in_place_laws n m pos = record {
 }
 
 -- a row of a table, and the digits after a turn that is read from it
-row-at : (rows all : List (List ℕ)) (k : ℕ) (d : List ℕ) → rows ≡ all → k < length rows → slice_get all k ≡ Some (get_or rows k d)
+row-at : (rows all : List (List ℕ)) (k : ℕ) (d : List ℕ) → rows ≡ all → k < length rows
+    → slice_get all k ≡ Some (get_or rows k d)
 row-at rows all k d e lt = ap (λ xs. slice_get xs k) (sym e) ∙ slice_get-get_or rows k d lt
 
-pub added-at : {all : List (List ℕ)} {ds from to : List ℕ} (m : ℕ) (rows : List (List ℕ)) (k : ℕ) (d : List ℕ) → from ≡ ds → rows ≡ all → k < length rows
-    → to ≡ added_digits m from (get_or rows k d) → IsMadeAt all k (added_digits m ds) to
+pub added-at : {all : List (List ℕ)} {ds from to : List ℕ} (m : ℕ) (rows : List (List ℕ)) (k : ℕ) (d : List ℕ)
+    → from ≡ ds → rows ≡ all → k < length rows → to ≡ added_digits m from (get_or rows k d)
+    → IsMadeAt all k (added_digits m ds) to
 added-at {all = all} {ds = ds} m rows k d same e lt made = record {
   is = ap (option_map (added_digits m ds)) (row-at rows all k d e lt) ∙ ap Some (sym (made ∙ ap (λ x. added_digits m x (get_or rows k d)) same));
 }

@@ -24,8 +24,9 @@ pub record IsJoining {S : Type 0} (joined : S → S → S) (solved : S) (IsValid
   pub solved_last : (a : S) → IsValid a → joined a solved ≡ a
 
 -- a state that is solved with another both ways is its inverse
-pub IsInverse-both : {S : Type 0} (joined : S → S → S) (solved : S) (IsValid : S → Type 0) → IsJoining joined solved IsValid
-    → (s r : S) → IsValid s → IsValid r → joined s r ≡ solved → joined r s ≡ solved → IsInverse joined solved IsValid s r
+pub IsInverse-both : {S : Type 0} (joined : S → S → S) (solved : S) (IsValid : S → Type 0)
+    → IsJoining joined solved IsValid → (s r : S) → IsValid s → IsValid r → joined s r ≡ solved → joined r s ≡ solved
+    → IsInverse joined solved IsValid s r
 IsInverse-both joined solved IsValid j s r own valid after before = record {
   valid = valid;
   after = after;
@@ -39,9 +40,10 @@ IsInverse-both joined solved IsValid j s r own valid after before = record {
 }
 
 -- where each state is solved with another, that is its inverse
-pub IsInverse-right : {S : Type 0} (joined : S → S → S) (solved : S) (IsValid : S → Type 0) → IsJoining joined solved IsValid
-    → (inverted : S → S) → ((s : S) → IsValid s → IsValid (inverted s)) → ((s : S) → IsValid s → joined s (inverted s) ≡ solved)
-    → (s : S) → IsValid s → IsInverse joined solved IsValid s (inverted s)
+pub IsInverse-right : {S : Type 0} (joined : S → S → S) (solved : S) (IsValid : S → Type 0)
+    → IsJoining joined solved IsValid → (inverted : S → S) → ((s : S) → IsValid s → IsValid (inverted s))
+    → ((s : S) → IsValid s → joined s (inverted s) ≡ solved) → (s : S) → IsValid s
+    → IsInverse joined solved IsValid s (inverted s)
 IsInverse-right joined solved IsValid j inverted valid after s own =
     let r = inverted s in
     let r_is = valid s own in
@@ -56,12 +58,14 @@ pub IsRearrangement-to : (n m : ℕ) (o : Orbit) → IsOrbit n m o → IsRearran
 unfolding rearrangement_to
 IsRearrangement-to n m o h = record { places = h.pieces; size = h.size; below = h.below }
 
-pub IsZeroSumRearrangement-to : (n m : ℕ) (o : Orbit) → IsZeroSumOrbit n m o → IsZeroSumRearrangement n m (rearrangement_to o)
+pub IsZeroSumRearrangement-to : (n m : ℕ) (o : Orbit) → IsZeroSumOrbit n m o
+    → IsZeroSumRearrangement n m (rearrangement_to o)
 unfolding rearrangement_to
 IsZeroSumRearrangement-to n m o h = record { places = h.pieces; added = h.digits }
 
 -- what an orbit is turned by comes to both, composed
-pub rearrangement_to-turned : (m : ℕ) (o : Orbit) (r : Rearrangement) → rearrangement_to (turned_orbit m o r) ≡ composed m (rearrangement_to o) r
+pub rearrangement_to-turned : (m : ℕ) (o : Orbit) (r : Rearrangement)
+    → rearrangement_to (turned_orbit m o r) ≡ composed m (rearrangement_to o) r
 unfolding rearrangement_to turned_orbit composed
 rearrangement_to-turned m o r = refl
 
@@ -94,14 +98,16 @@ none_left m d lt =
     add-mod-mod d (m - d) m ∙ ap (λ z. z % m) whole ∙ mod_self m
 
 -- both come to nothing
-added-opposite_digits : (m : ℕ) (ds : List ℕ) → All (λ d. d < m) ds → added_digits m ds (opposite_digits m ds) ≡ zeros (length ds)
+added-opposite_digits : (m : ℕ) (ds : List ℕ) → All (λ d. d < m) ds
+    → added_digits m ds (opposite_digits m ds) ≡ zeros (length ds)
 unfolding added_digits
 added-opposite_digits m [] h = refl
 added-opposite_digits m (d ∷ ds) h =
     ap (λ x. x ∷ added_digits m ds (opposite_digits m ds)) (none_left m d (All-head (λ x. x < m) d ds h))
     ∙ ap (λ xs. 0 ∷ xs) (added-opposite_digits m ds (All-tail (λ x. x < m) d ds h))
 
--- Each piece has the number of the place where the piece with its place's number stands, and what is left of that one's digit.
+-- Each piece has the number of the place where the piece with its place's number stands, and what is left of that one's
+-- digit.
 pub inverse_orbit : ℕ → Orbit → Orbit
 inverse_orbit m o = record { pieces = inverse o.pieces; digits = opposite_digits m (pick o.digits (inverse o.pieces)) }
 
@@ -124,7 +130,8 @@ then-inverse_orbit n m o h =
     let size : length picked ≡ n = length-pick o.digits from ∙ length-inverse o.pieces ∙ h.pieces.size in
     same_orbit _ _ (pick-inverse n o.pieces h.pieces) (added-opposite_digits m picked below ∙ ap zeros size)
 
-pub IsInverse-orbit : (n m : ℕ) (o : Orbit) → 0 < m → IsOrbit n m o → IsInverse (orbit_then m) (solved_orbit n) (IsOrbit n m) o (inverse_orbit m o)
+pub IsInverse-orbit : (n m : ℕ) (o : Orbit) → 0 < m → IsOrbit n m o
+    → IsInverse (orbit_then m) (solved_orbit n) (IsOrbit n m) o (inverse_orbit m o)
 IsInverse-orbit n m o pos h =
     IsInverse-right (orbit_then m) (solved_orbit n) (IsOrbit n m) (IsJoining-orbits n m pos) (inverse_orbit m)
     (λ s k. IsOrbit-inverse n m s pos k) (then-inverse_orbit n m) o h
@@ -145,7 +152,8 @@ inverse_by_places xs ys h e each =
 
 -- and one that has at each place what is left of the digit that is picked there
 pub opposite_by_places : (m : ℕ) (xs ks ys : List ℕ) → length ys ≡ length ks
-    → ((k : ℕ) → k < length ks → get_or ys k 0 ≡ (m - get_or xs (get_or ks k 0) 0) % m) → ys ≡ opposite_digits m (pick xs ks)
+    → ((k : ℕ) → k < length ks → get_or ys k 0 ≡ (m - get_or xs (get_or ks k 0) 0) % m)
+    → ys ≡ opposite_digits m (pick xs ks)
 opposite_by_places m xs [] [] e each = refl
 opposite_by_places m xs [] (y ∷ ys) e each = absurd (omega (arith, e))
 opposite_by_places m xs (k ∷ ks) [] e each = absurd (omega (arith, e))
@@ -162,7 +170,8 @@ pub opposite-zero : (m d : ℕ) → d ≡ 0 → 0 ≡ (m - d) % m
 opposite-zero m d e = let all : m - d ≡ m = omega (arith, e) in sym (ap (λ z. z % m) all ∙ mod_self m)
 
 -- an orbit that is inverted list by list
-pub inverted_by_lists : (m : ℕ) (o : Orbit) (pieces digits : List ℕ) → pieces ≡ inverse o.pieces → digits ≡ opposite_digits m (pick o.digits pieces)
+pub inverted_by_lists : (m : ℕ) (o : Orbit) (pieces digits : List ℕ) → pieces ≡ inverse o.pieces
+    → digits ≡ opposite_digits m (pick o.digits pieces)
     → record { pieces = pieces; digits = digits } ≡ inverse_orbit m o
 unfolding inverse_orbit
 inverted_by_lists m o pieces digits a b = same_orbit _ _ a (b ∙ ap (λ ks. opposite_digits m (pick o.digits ks)) a)
@@ -170,7 +179,8 @@ inverted_by_lists m o pieces digits a b = same_orbit _ _ a (b ∙ ap (λ ks. opp
 -- ---- what the inverse keeps
 
 -- digits that sum to 0
-pub IsZeroSumOrbit-inverse : (n m : ℕ) (o p : Orbit) → IsZeroSumOrbit n m o → IsOrbit n m p → orbit_then m p o ≡ solved_orbit n → IsZeroSumOrbit n m p
+pub IsZeroSumOrbit-inverse : (n m : ℕ) (o p : Orbit) → IsZeroSumOrbit n m o → IsOrbit n m p
+    → orbit_then m p o ≡ solved_orbit n → IsZeroSumOrbit n m p
 unfolding rearrangement_to solved_orbit
 IsZeroSumOrbit-inverse n m o p h k e =
     let o_is = IsOrbit-zero_sum n m o h in
@@ -187,7 +197,8 @@ same_parity : (a b : ℕ) → a < 2 → b < 2 → (a + b) % 2 ≡ 0 → a ≡ b
 same_parity a b h k e = omega arith
 
 -- and the parity
-pub parity-inverse_orbit : (n m : ℕ) (o p : Orbit) → IsOrbit n m o → IsOrbit n m p → orbit_then m p o ≡ solved_orbit n → parity p.pieces ≡ parity o.pieces
+pub parity-inverse_orbit : (n m : ℕ) (o p : Orbit) → IsOrbit n m o → IsOrbit n m p → orbit_then m p o ≡ solved_orbit n
+    → parity p.pieces ≡ parity o.pieces
 unfolding rearrangement_to solved_orbit
 parity-inverse_orbit n m o p h k e =
     let sum = parity-turned n m p (rearrangement_to o) k.pieces h.pieces in

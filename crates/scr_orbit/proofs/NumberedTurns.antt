@@ -21,7 +21,8 @@ module _ {S R T : Type 0} (l : PowerLetters T) (h : AreNumbered l) (a : Action S
   count-le = omega (arith, length-all_powers a l.order generators, mul-le-mul_left (l.order - 1) few)
 
   -- all turns, in the order of their numbers, are what the letters with these numbers rearrange
-  pub all_powers-numbered : (n : ℕ) → slice_get (all_powers a l.order generators) n ≡ power_table a generators l.power_at (l.letter_at n)
+  pub all_powers-numbered : (n : ℕ)
+      → slice_get (all_powers a l.order generators) n ≡ power_table a generators l.power_at (l.letter_at n)
   all_powers-numbered n =
       ⊎_elim
       (λ lt.
@@ -57,7 +58,8 @@ module _ {S R T : Type 0} (l : PowerLetters T) (h : AreNumbered l) (a : Action S
       ((l.order - 1) * p.0.generator + (p.0.exponent - 1), number-lt l p.0 (length generators) is there, h.numbered p.0 is ∙ h.only t p.0 p.1)
 
   -- and a turn with another number does nothing
-  pub no_more_turns : (s : S) (n : ℕ) → (l.order - 1) * length generators ≤ n → after_by a (power_table a generators l.power_at) s (l.letter_at n) ≡ None
+  pub no_more_turns : (s : S) (n : ℕ) → (l.order - 1) * length generators ≤ n
+      → after_by a (power_table a generators l.power_at) s (l.letter_at n) ≡ None
   no_more_turns s n le =
       ap (option_map (a.turned s))
       (sym (all_powers-numbered n) ∙ slice_get_past (all_powers a l.order generators) n (omega (arith, length-all_powers a l.order generators, le)))

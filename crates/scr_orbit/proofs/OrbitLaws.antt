@@ -21,13 +21,15 @@ same_orbit o p a b =
 pub places_in : (n : ℕ) (ks xs : List ℕ) → IsPermutation n ks → length xs ≡ n → All (λ k. k < length xs) ks
 places_in n ks xs h e = subst (λ n. All (λ k. k < n) ks) (sym e) (All-permutation n ks h)
 
-picked_size : (n : ℕ) (r : Rearrangement) (xs : List ℕ) → IsPermutation n r.places → length r.added ≡ n → length (pick xs r.places) ≡ length r.added
+picked_size : (n : ℕ) (r : Rearrangement) (xs : List ℕ) → IsPermutation n r.places → length r.added ≡ n
+    → length (pick xs r.places) ≡ length r.added
 picked_size n r xs h e = length-pick xs r.places ∙ h.size ∙ sym e
 
 -- ---- what a turn makes of an orbit
 
 -- a turn keeps a valid orbit
-pub IsOrbit-turned : (n m : ℕ) (o : Orbit) (r : Rearrangement) → 0 < m → IsOrbit n m o → IsRearrangement n m r → IsOrbit n m (turned_orbit m o r)
+pub IsOrbit-turned : (n m : ℕ) (o : Orbit) (r : Rearrangement) → 0 < m → IsOrbit n m o → IsRearrangement n m r
+    → IsOrbit n m (turned_orbit m o r)
 unfolding turned_orbit
 IsOrbit-turned n m o r pos a b = record {
   pieces = IsPermutation-pick n o.pieces r.places a.pieces b.places;
@@ -36,20 +38,22 @@ IsOrbit-turned n m o r pos a b = record {
 }
 
 -- the sum of the digits after a turn is their sum and what is added
-pub total-turned : (n m : ℕ) (o : Orbit) (r : Rearrangement) → IsOrbit n m o → IsRearrangement n m r → total (turned_orbit m o r).digits % m ≡ (total o.digits + total r.added) % m
+pub total-turned : (n m : ℕ) (o : Orbit) (r : Rearrangement) → IsOrbit n m o → IsRearrangement n m r
+    → total (turned_orbit m o r).digits % m ≡ (total o.digits + total r.added) % m
 unfolding turned_orbit
 total-turned n m o r a b =
     total-added_digits m (pick o.digits r.places) r.added (picked_size n r o.digits b.places b.size)
     ∙ ap (λ z. (z + total r.added) % m) (total-pick o.digits r.places (subst (λ k. IsPermutation k r.places) (sym a.size) b.places))
 
 -- the parity of the pieces after a turn is the sum of both parities
-pub parity-turned : (n m : ℕ) (o : Orbit) (r : Rearrangement) → IsPermutation n o.pieces → IsPermutation n r.places → parity (turned_orbit m o r).pieces ≡ (parity o.pieces + parity r.places) % 2
+pub parity-turned : (n m : ℕ) (o : Orbit) (r : Rearrangement) → IsPermutation n o.pieces → IsPermutation n r.places
+    → parity (turned_orbit m o r).pieces ≡ (parity o.pieces + parity r.places) % 2
 unfolding turned_orbit
 parity-turned n m o r a b = parity-pick n o.pieces r.places a b
 
 -- turning by two rearrangements at once is turning by one and then by the other
-pub turned-composed : (n m : ℕ) (o : Orbit) (r s : Rearrangement) → IsOrbit n m o → IsRearrangement n m r → IsRearrangement n m s
-    → turned_orbit m o (composed m r s) ≡ turned_orbit m (turned_orbit m o r) s
+pub turned-composed : (n m : ℕ) (o : Orbit) (r s : Rearrangement) → IsOrbit n m o → IsRearrangement n m r
+    → IsRearrangement n m s → turned_orbit m o (composed m r s) ≡ turned_orbit m (turned_orbit m o r) s
 unfolding turned_orbit composed
 turned-composed n m o r s a b c =
     let pieces : pick (pick o.pieces r.places) s.places ≡ pick o.pieces (pick r.places s.places) =
@@ -97,7 +101,8 @@ unfolding orbit_of
 IsOrbit-of n m r h = record { pieces = h.places; size = h.size; below = h.below }
 
 -- two rearrangements are one
-pub IsRearrangement-composed : (n m : ℕ) (r s : Rearrangement) → 0 < m → IsRearrangement n m r → IsRearrangement n m s → IsRearrangement n m (composed m r s)
+pub IsRearrangement-composed : (n m : ℕ) (r s : Rearrangement) → 0 < m → IsRearrangement n m r → IsRearrangement n m s
+    → IsRearrangement n m (composed m r s)
 unfolding composed turned_orbit orbit_of
 IsRearrangement-composed n m r s pos a b =
     let made = IsOrbit-turned n m (orbit_of r) s pos (IsOrbit-of n m r a) b in
@@ -109,8 +114,8 @@ IsRearrangement-identity n m pos =
     let made = IsOrbit-solved n m pos in
     record { places = made.pieces; size = made.size; below = made.below }
 
-pub composed-assoc : (n m : ℕ) (r q p : Rearrangement) → IsRearrangement n m r → IsRearrangement n m q → IsRearrangement n m p
-    → composed m (composed m r q) p ≡ composed m r (composed m q p)
+pub composed-assoc : (n m : ℕ) (r q p : Rearrangement) → IsRearrangement n m r → IsRearrangement n m q
+    → IsRearrangement n m p → composed m (composed m r q) p ≡ composed m r (composed m q p)
 unfolding composed turned_orbit orbit_of rearrangement_to
 composed-assoc n m r q p a b c =
     ap rearrangement_to (sym (turned-composed n m (orbit_of r) q p (IsOrbit-of n m r a) b c))
@@ -152,7 +157,8 @@ IsRearrangement-zero_sum n m r h = record { places = h.places; size = h.added.si
 no_sum : (m d e : ℕ) → d % m ≡ 0 → e % m ≡ 0 → (d + e) % m ≡ 0
 no_sum m d e a b = sym (mod-add-mod d m e) ∙ ap (λ z. (z + e) % m) a ∙ ap (λ z. z % m) (omega arith) ∙ b
 
-IsZeroSumOrbit-turned : (n m : ℕ) (o : Orbit) (r : Rearrangement) → 0 < m → IsZeroSumOrbit n m o → IsZeroSumRearrangement n m r → IsZeroSumOrbit n m (turned_orbit m o r)
+IsZeroSumOrbit-turned : (n m : ℕ) (o : Orbit) (r : Rearrangement) → 0 < m → IsZeroSumOrbit n m o
+    → IsZeroSumRearrangement n m r → IsZeroSumOrbit n m (turned_orbit m o r)
 IsZeroSumOrbit-turned n m o r pos a b =
     let o_is = IsOrbit-zero_sum n m o a in
     let r_is = IsRearrangement-zero_sum n m r b in
@@ -166,7 +172,8 @@ IsZeroSumOrbit-turned n m o r pos a b =
       };
     }
 
-IsZeroSumRearrangement-composed : (n m : ℕ) (r s : Rearrangement) → 0 < m → IsZeroSumRearrangement n m r → IsZeroSumRearrangement n m s → IsZeroSumRearrangement n m (composed m r s)
+IsZeroSumRearrangement-composed : (n m : ℕ) (r s : Rearrangement) → 0 < m → IsZeroSumRearrangement n m r
+    → IsZeroSumRearrangement n m s → IsZeroSumRearrangement n m (composed m r s)
 unfolding composed turned_orbit orbit_of
 IsZeroSumRearrangement-composed n m r s pos a b =
     let made = IsZeroSumOrbit-turned n m (orbit_of r) s pos (record { pieces = a.places; digits = a.added }) b in

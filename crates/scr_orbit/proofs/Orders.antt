@@ -33,8 +33,8 @@ tells_in_place n m = record { shows = zeros_only n; passes = (bytes_eq-Decides (
 
 -- and with two parts, each of which has a test
 pub tells_both : {S R T Q U P : Type 0} (a : Action S R) (b : Action T Q) (c : Action U P) (state : S → T × U) (turn : R → Q × P)
-    → IsSeenAs a (pair_action b c) state turn → (test : Q → Bool) (other : P → Bool) → TellsIdentity b test → TellsIdentity c other
-    → TellsIdentity a (λ r. test (turn r).0 && other (turn r).1)
+    → IsSeenAs a (pair_action b c) state turn → (test : Q → Bool) (other : P → Bool) → TellsIdentity b test
+    → TellsIdentity c other → TellsIdentity a (λ r. test (turn r).0 && other (turn r).1)
 tells_both a b c state turn seen test other first second = record {
   shows = λ r h.
       let both = and_parts (test (turn r).0) (other (turn r).1) h in
@@ -47,8 +47,8 @@ abbrev pub apart : {S R : Type 0} → Action S R → (R → Bool) → R → ℕ 
 apart a test r zero p = true
 apart a test r (suc n) p = not (test p) && apart a test r n (a.composed r p)
 
-apart-at : {S R : Type 0} (a : Action S R) (test : R → Bool) (r : R) (n j i : ℕ) → apart a test r n (power a r j) ≡ true → i < n
-    → test (power a r (j + i)) ≡ true → ⊥
+apart-at : {S R : Type 0} (a : Action S R) (test : R → Bool) (r : R) (n j i : ℕ) → apart a test r n (power a r j) ≡ true
+    → i < n → test (power a r (j + i)) ≡ true → ⊥
 unfolding power
 apart-at a test r zero j i h lt e = absurd (omega arith)
 apart-at a test r (suc n) j zero h lt e =
@@ -83,12 +83,14 @@ module _ {S R : Type 0} (a : Action S R) (test : R → Bool) (tells : TellsIdent
 
   -- each of these is a turn of this order
   module _ (IsTurn : R → Type 0) (is_turn : R → Bool) (shows : (r : R) → is_turn r ≡ true → IsTurn r) (n : ℕ) where
-    pub All-ordered : (rs : List R) → list_all (λ r. is_turn r && has_order a test n r) rs ≡ true → All (λ r. IsOrder a r n) rs
+    pub All-ordered : (rs : List R) → list_all (λ r. is_turn r && has_order a test n r) rs ≡ true
+        → All (λ r. IsOrder a r n) rs
     All-ordered rs h =
         All-from_test (λ r. is_turn r && has_order a test n r) (λ r. IsOrder a r n)
         (λ r k. IsOrder-from_test n r (and_parts (is_turn r) (has_order a test n r) k).1) rs h
 
-    pub All-generators : (rs : List R) → list_all (λ r. is_turn r && has_order a test n r) rs ≡ true → All (IsGenerator a IsTurn n) rs
+    pub All-generators : (rs : List R) → list_all (λ r. is_turn r && has_order a test n r) rs ≡ true
+        → All (IsGenerator a IsTurn n) rs
     All-generators rs h =
         All-from_test (λ r. is_turn r && has_order a test n r) (IsGenerator a IsTurn n)
         (λ r k.
@@ -98,7 +100,8 @@ module _ {S R : Type 0} (a : Action S R) (test : R → Bool) (tells : TellsIdent
 
   -- words by the numbers of their letters, each beside how often it is done to move nothing
   module _ {T : Type 0} (table : T → Option R) (letter_at : ℕ → T) where
-    by : (w : List T) (n : ℕ) (o : Option R) → composed_word a table w ≡ o → word_has_order a test n o ≡ true → IsWordOrder a table w n
+    by : (w : List T) (n : ℕ) (o : Option R) → composed_word a table w ≡ o → word_has_order a test n o ≡ true
+        → IsWordOrder a table w n
     by w n None e h = absurd (false≢true h)
     by w n (Some r) e h = record { turn = r; comes_to = e; order = IsOrder-from_test n r h }
 
@@ -116,7 +119,8 @@ abbrev pub EachFrom : {X : Type 0} → (ℕ → X → Type 0) → ℕ → List X
 EachFrom P k [] = Unit {0}
 EachFrom P k (x ∷ xs) = P k x × EachFrom P (suc k) xs
 
-each_from : {X : Type 0} (P : ℕ → X → Type 0) (j : ℕ) (xs : List X) → EachFrom P j xs → (k : ℕ) (x : X) → slice_get xs k ≡ Some x → P (j + k) x
+each_from : {X : Type 0} (P : ℕ → X → Type 0) (j : ℕ) (xs : List X) → EachFrom P j xs → (k : ℕ) (x : X)
+    → slice_get xs k ≡ Some x → P (j + k) x
 each_from P j [] h k x e = absurd (cc)
 each_from P j (y ∷ xs) h zero x e =
     let here : j ≡ j + zero = omega arith in
@@ -125,7 +129,8 @@ each_from P j (y ∷ xs) h (suc k) x e =
     let next : suc j + k ≡ j + suc k = omega arith in
     subst (λ i. P i x) next (each_from P (suc j) xs h.1 k x e)
 
-pub each_at : {X : Type 0} (P : ℕ → X → Type 0) (xs : List X) → EachFrom P 0 xs → (k : ℕ) (x : X) → slice_get xs k ≡ Some x → P k x
+pub each_at : {X : Type 0} (P : ℕ → X → Type 0) (xs : List X) → EachFrom P 0 xs → (k : ℕ) (x : X)
+    → slice_get xs k ≡ Some x → P k x
 each_at P xs h k x e =
     let here : 0 + k ≡ k = omega arith in
     subst (λ i. P i x) here (each_from P 0 xs h k x e)

@@ -16,7 +16,8 @@ use Rattle.scr_orbit.proofs.OrbitLaws.{same_orbit}
 use Rattle.scr_orbit.proofs.Parts.{IsMadeAt}
 
 -- a list that has at each place what is picked there
-pub pick_by_places : (xs ks ys : List ℕ) → length ys ≡ length ks → ((k : ℕ) → k < length ks → get_or ys k 0 ≡ get_or xs (get_or ks k 0) 0) → ys ≡ pick xs ks
+pub pick_by_places : (xs ks ys : List ℕ) → length ys ≡ length ks
+    → ((k : ℕ) → k < length ks → get_or ys k 0 ≡ get_or xs (get_or ks k 0) 0) → ys ≡ pick xs ks
 pick_by_places xs ks ys e h =
     ext_get_or 0 ys (pick xs ks) (e ∙ sym (length-pick xs ks)) (λ k lt. h k (omega arith) ∙ sym (pick-at xs ks k (omega arith)))
 
@@ -62,18 +63,20 @@ unfolding turned_orbit
 turned_by_lists m o r pieces picked digits a b c = same_orbit _ _ a (c ∙ ap (λ xs. added_digits m xs r.added) b)
 
 -- what is picked of digits below m is below m
-pub picked_below : (m : ℕ) (ds places picked : List ℕ) → All (λ d. d < m) ds → All (λ k. k < length ds) places → picked ≡ pick ds places → All (λ d. d < m) picked
+pub picked_below : (m : ℕ) (ds places picked : List ℕ) → All (λ d. d < m) ds → All (λ k. k < length ds) places
+    → picked ≡ pick ds places → All (λ d. d < m) picked
 picked_below m ds places picked low below e = subst (All (λ d. d < m)) (sym e) (All-pick (λ d. d < m) ds places low below)
 
 -- a turn read from a table of turns in arrays
-pub turn-at : {n : ℕ} (ts : List (PlaceTurn n)) (all : List Rearrangement) (k : ℕ) (d : PlaceTurn n) → map rearrangement_of ts ≡ all → k < length ts
-    → slice_get all k ≡ Some (rearrangement_of (get_or ts k d))
+pub turn-at : {n : ℕ} (ts : List (PlaceTurn n)) (all : List Rearrangement) (k : ℕ) (d : PlaceTurn n)
+    → map rearrangement_of ts ≡ all → k < length ts → slice_get all k ≡ Some (rearrangement_of (get_or ts k d))
 turn-at ts all k d e lt =
     ap (λ rs. slice_get rs k) (sym e) ∙ slice_get-map rearrangement_of ts k ∙ ap (option_map rearrangement_of) (slice_get-get_or ts k d lt)
 
 -- and the orbit after it
-pub turned-at : {n : ℕ} {all : List Rearrangement} {o from to : Orbit} (m : ℕ) (ts : List (PlaceTurn n)) (k : ℕ) (d : PlaceTurn n) → from ≡ o
-    → map rearrangement_of ts ≡ all → k < length ts → to ≡ turned_orbit m from (rearrangement_of (get_or ts k d)) → IsMadeAt all k (turned_orbit m o) to
+pub turned-at : {n : ℕ} {all : List Rearrangement} {o from to : Orbit} (m : ℕ) (ts : List (PlaceTurn n)) (k : ℕ) (d : PlaceTurn n)
+    → from ≡ o → map rearrangement_of ts ≡ all → k < length ts
+    → to ≡ turned_orbit m from (rearrangement_of (get_or ts k d)) → IsMadeAt all k (turned_orbit m o) to
 turned-at {all = all} {o = o} m ts k d same e lt made = record {
   is = ap (option_map (turned_orbit m o)) (turn-at ts all k d e lt)
       ∙ ap Some (sym (made ∙ ap (λ x. turned_orbit m x (rearrangement_of (get_or ts k d))) same));

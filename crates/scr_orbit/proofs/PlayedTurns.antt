@@ -32,7 +32,8 @@ module _ {S R T : Type 0} (p : PowerPuzzle S R T) (test : T → Bool) (tells : T
       let found = map-some (λ g. power p.action g letter.0.exponent) (slice_get p.generators letter.0.generator) r letter.2 in
       tells.only t letter.0 letter.1 (slice_get_within p.generators letter.0.generator found.0 found.1)
 
-  pub TellsTurns-powers : {IsValid : S → Type 0} {IsTurn : R → Type 0} {opposite : T → T} {m : Merging T} → IsPowerPuzzle p IsValid IsTurn opposite m → TellsTurns (after_letter p) IsValid test
+  pub TellsTurns-powers : {IsValid : S → Type 0} {IsTurn : R → Type 0} {opposite : T → T} {m : Merging T}
+      → IsPowerPuzzle p IsValid IsTurn opposite m → TellsTurns (after_letter p) IsValid test
   TellsTurns-powers law = record {
     does = λ s t own h. let r = in_table t h in (p.action.turned s r.0, ap (option_map (p.action.turned s)) r.1);
     only = λ s r t own e. let q = map-some (p.action.turned s) (letter_table p t) r e in is_turn t q.0 q.1;
@@ -40,6 +41,7 @@ module _ {S R T : Type 0} (p : PowerPuzzle S R T) (test : T → Bool) (tells : T
   }
 
   -- so from valid states words are defined exactly where the test is true of all their letters
-  pub plays_turns : {IsValid : S → Type 0} {IsTurn : R → Type 0} {opposite : T → T} {m : Merging T} → IsPowerPuzzle p IsValid IsTurn opposite m
-      → (s : S) (w : List T) → IsValid s → IsSome (play (after_letter p) s w) ↔ AllPass test w
+  pub plays_turns : {IsValid : S → Type 0} {IsTurn : R → Type 0} {opposite : T → T} {m : Merging T}
+      → IsPowerPuzzle p IsValid IsTurn opposite m → (s : S) (w : List T) → IsValid s
+      → IsSome (play (after_letter p) s w) ↔ AllPass test w
   plays_turns law = played-iff (TellsTurns-powers law)

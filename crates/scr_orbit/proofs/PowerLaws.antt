@@ -1,5 +1,5 @@
--- Laws of puzzles whose turns are powers of generators of one order: their tables are of turns, opposite letters undo each
--- other and merged ones add up, so that the turns are lawful; and the list of all turns has each at its number.
+-- Laws of puzzles whose turns are powers of generators of one order: their tables are of turns, opposite letters undo
+-- each other and merged ones add up, so that the turns are lawful; and the list of all turns has each at its number.
 use Rattle.std.proofs.Common.{◌≡◌, ℕ, zero, suc, ◌+◌, ◌-◌, ◌*◌, ◌%◌, ◌<◌, ◌≤◌, IsTrue, List, [], ◌∷◌, ◌++◌, Option, Some, None, map, length, length-append, get_or, refl, sym, ap, ◌∙◌, subst, arith}
 use Rattle.std.specs.Prelude.{All, slice_get, option_and_then}
 use Rattle.std.specs.Option.{option_map}
@@ -30,13 +30,15 @@ get-append [] ys i lt = absurd (omega arith)
 get-append (x ∷ xs) ys zero lt = refl
 get-append (x ∷ xs) ys (suc i) lt = get-append xs ys i (omega arith)
 
-pub get-append_past : {X : Type 0} (xs ys : List X) (n i : ℕ) → n ≡ length xs + i → slice_get (xs ++ ys) n ≡ slice_get ys i
+pub get-append_past : {X : Type 0} (xs ys : List X) (n i : ℕ) → n ≡ length xs + i
+    → slice_get (xs ++ ys) n ≡ slice_get ys i
 get-append_past [] ys n i e = let same : n ≡ i = omega (arith, e) in ap (slice_get ys) same
 get-append_past (x ∷ xs) ys zero i e = absurd (omega (arith, e))
 get-append_past (x ∷ xs) ys (suc n) i e = get-append_past xs ys n i (omega (arith, e))
 
 module _ {S R : Type 0} (a : Action S R) (order : ℕ) where
-  powers_at : (r : R) (e : ℕ) → 0 < e → e < order → slice_get (map (power a r) (numbers_from 1 (order - 1))) (e - 1) ≡ Some (power a r e)
+  powers_at : (r : R) (e : ℕ) → 0 < e → e < order
+      → slice_get (map (power a r) (numbers_from 1 (order - 1))) (e - 1) ≡ Some (power a r e)
   powers_at r e some lt =
       let in_list : e - 1 < length (numbers_from 1 (order - 1)) = omega (arith, length-numbers_from 1 (order - 1)) in
       let at : get_or (numbers_from 1 (order - 1)) (e - 1) 0 ≡ e = omega (arith, numbers_from-at 1 (order - 1) (e - 1) (omega arith)) in
@@ -62,7 +64,8 @@ module _ {S R : Type 0} (a : Action S R) (order : ℕ) where
       ∙ all_powers-at rs g e some lt
 
   -- and there are so many
-  pub length-all_powers : (generators : List R) → length (all_powers a order generators) ≡ (order - 1) * length generators
+  pub length-all_powers : (generators : List R)
+      → length (all_powers a order generators) ≡ (order - 1) * length generators
   unfolding all_powers
   length-all_powers [] = omega arith
   length-all_powers (r ∷ rs) =
@@ -115,7 +118,8 @@ module _ {S R T : Type 0} (a : Action S R) (IsValid : S → Type 0) (IsTurn : R 
       let p = IsPowerOf-table t r e in
       subst IsTurn p.made (IsTurn-power a IsValid IsTurn l p.generator p.letter.exponent p.is.turn)
 
-  power_of-at : (n e : ℕ) (g : R) → slice_get generators n ≡ Some g → power_of a generators (record { generator = n; exponent = e }) ≡ Some (power a g e)
+  power_of-at : (n e : ℕ) (g : R) → slice_get generators n ≡ Some g
+      → power_of a generators (record { generator = n; exponent = e }) ≡ Some (power a g e)
   unfolding power_of
   power_of-at n e g h = ap (option_map (λ x. power a x e)) h
 
@@ -168,10 +172,11 @@ module _ {S R T : Type 0} (a : Action S R) (IsValid : S → Type 0) (IsTurn : R 
 
 -- ---- what holds of such a puzzle
 
-pub HasLawfulTurns-powers : {S R T : Type 0} (a : Action S R) (IsValid : S → Type 0) (IsTurn : R → Type 0) → IsAction a IsValid IsTurn
-    → (order : ℕ) (generators : List R) → All (IsGenerator a IsTurn order) generators
+pub HasLawfulTurns-powers : {S R T : Type 0} (a : Action S R) (IsValid : S → Type 0) (IsTurn : R → Type 0)
+    → IsAction a IsValid IsTurn → (order : ℕ) (generators : List R) → All (IsGenerator a IsTurn order) generators
     → (power_at : T → Option Power) (opposite : T → T) (m : Merging T) → ArePowers order power_at opposite m
-    → (solved : S) → IsValid solved → HasLawfulTurns a IsValid IsTurn (power_table a generators power_at) opposite m solved
+    → (solved : S) → IsValid solved
+    → HasLawfulTurns a IsValid IsTurn (power_table a generators power_at) opposite m solved
 HasLawfulTurns-powers a IsValid IsTurn l order generators each power_at opposite m ps solved own =
     let turns = IsTurn-power_table a IsValid IsTurn l order generators each power_at opposite m ps in
     let table = power_table a generators power_at in
@@ -188,7 +193,8 @@ HasLawfulTurns-powers a IsValid IsTurn l order generators each power_at opposite
 
 -- A letter that is a power of none of the generators makes nothing.
 pub after-no_power : {S R T : Type 0} (a : Action S R) (generators : List R) (power_at : T → Option Power) (s : S) (t : T)
-    → ((p : Power) → power_at t ≡ Some p → length generators ≤ p.generator) → after_by a (power_table a generators power_at) s t ≡ None
+    → ((p : Power) → power_at t ≡ Some p → length generators ≤ p.generator)
+    → after_by a (power_table a generators power_at) s t ≡ None
 unfolding power_of
 after-no_power a generators power_at s t none = by (power_at t) refl
   where

@@ -17,10 +17,11 @@ pub record AreLetters {S R T : Type 0} (p : PowerPuzzle S R T) (opposite : T →
   pub powers : ArePowers p.letters.order p.letters.power_at opposite m
   pub few : length p.generators ≤ p.letters.most
 
-pub IsPowerPuzzle-from_test : {S R T : Type 0} (p : PowerPuzzle S R T) (IsValid : S → Type 0) (IsTurn : R → Type 0) {opposite : T → T} {m : Merging T} → AreLetters p opposite m
-    → IsAction p.action IsValid IsTurn → IsValid p.solved
-    → (test : R → Bool) → TellsIdentity p.action test → (is_turn : R → Bool) → ((r : R) → is_turn r ≡ true → IsTurn r)
-    → list_all (λ r. is_turn r && has_order p.action test p.letters.order r) p.generators ≡ true → IsPowerPuzzle p IsValid IsTurn opposite m
+pub IsPowerPuzzle-from_test : {S R T : Type 0} (p : PowerPuzzle S R T) (IsValid : S → Type 0) (IsTurn : R → Type 0) {opposite : T → T} {m : Merging T}
+    → AreLetters p opposite m → IsAction p.action IsValid IsTurn → IsValid p.solved → (test : R → Bool)
+    → TellsIdentity p.action test → (is_turn : R → Bool) → ((r : R) → is_turn r ≡ true → IsTurn r)
+    → list_all (λ r. is_turn r && has_order p.action test p.letters.order r) p.generators ≡ true
+    → IsPowerPuzzle p IsValid IsTurn opposite m
 unfolding all_turns
 IsPowerPuzzle-from_test p IsValid IsTurn {opposite = opposite} {m = m} l acts solved test tells is_turn shows all =
     let order = p.letters.order in

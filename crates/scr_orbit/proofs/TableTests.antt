@@ -17,7 +17,8 @@ use Rattle.scr_orbit.specs.InPlace.{AreDigitsInPlace}
 use Rattle.scr_orbit.proofs.Parts.{ap_both}
 
 -- what a test shows of each element
-pub All-from_test : {X : Type 0} (p : X → Bool) (P : X → Type 0) → ((x : X) → p x ≡ true → P x) → (xs : List X) → list_all p xs ≡ true → All P xs
+pub All-from_test : {X : Type 0} (p : X → Bool) (P : X → Type 0) → ((x : X) → p x ≡ true → P x) → (xs : List X)
+    → list_all p xs ≡ true → All P xs
 All-from_test p P shows xs h = All-weaker (λ x. p x ≡ true) P shows xs (AllPass-from_list_all p xs h)
 
 -- what three tests show
@@ -44,7 +45,8 @@ IsRearrangement-from_test n m r h =
     }
 
 -- and so each turn of a table
-pub All-rearrangements : (n m : ℕ) (ts : List (PlaceTurn n)) → list_all (λ t. is_rearrangement n m (rearrangement_of t)) ts ≡ true
+pub All-rearrangements : (n m : ℕ) (ts : List (PlaceTurn n))
+    → list_all (λ t. is_rearrangement n m (rearrangement_of t)) ts ≡ true
     → All (λ t. IsRearrangement n m (rearrangement_of t)) ts
 All-rearrangements n m ts h =
     All-from_test (λ t. is_rearrangement n m (rearrangement_of t)) (λ t. IsRearrangement n m (rearrangement_of t))
@@ -64,7 +66,8 @@ still n r h =
 abbrev pub is_zero_sum_turn : ℕ → ℕ → Rearrangement → Bool
 is_zero_sum_turn n modulus r = is_rearrangement n modulus r && (total r.added % modulus == 0)
 
-pub IsZeroSumRearrangement-from_test : (n m : ℕ) (r : Rearrangement) → is_zero_sum_turn n m r ≡ true → IsZeroSumRearrangement n m r
+pub IsZeroSumRearrangement-from_test : (n m : ℕ) (r : Rearrangement) → is_zero_sum_turn n m r ≡ true
+    → IsZeroSumRearrangement n m r
 IsZeroSumRearrangement-from_test n m r h =
     let both = and_parts (is_rearrangement n m r) (total r.added % m == 0) h in
     let is = IsRearrangement-from_test n m r both.0 in
@@ -74,7 +77,8 @@ IsZeroSumRearrangement-from_test n m r h =
     }
 
 -- and so each turn of a table
-pub All-zero_sum_turns : (n m : ℕ) (ts : List (PlaceTurn n)) → list_all (λ t. is_zero_sum_turn n m (rearrangement_of t)) ts ≡ true
+pub All-zero_sum_turns : (n m : ℕ) (ts : List (PlaceTurn n))
+    → list_all (λ t. is_zero_sum_turn n m (rearrangement_of t)) ts ≡ true
     → All (λ t. IsZeroSumRearrangement n m (rearrangement_of t)) ts
 All-zero_sum_turns n m ts h =
     All-from_test (λ t. is_zero_sum_turn n m (rearrangement_of t)) (λ t. IsZeroSumRearrangement n m (rearrangement_of t))

@@ -12,7 +12,8 @@ use Rattle.scr_orbit.proofs.PowerLaws.{after-no_power}
 
 module _ {S R L : Type 0} (p : PowerPuzzle S R L) where
   -- a letter that is a power of none of the generators is no turn
-  pub HasGenerators-puzzle : length p.generators ≤ p.letters.most → HasGenerators p.letters (length p.generators) (after_letter p)
+  pub HasGenerators-puzzle : length p.generators ≤ p.letters.most
+      → HasGenerators p.letters (length p.generators) (after_letter p)
   HasGenerators-puzzle few = record { few = few; barred = after-no_power p.action p.generators p.letters.power_at }
 
   -- what the turn with a number makes of a state, and it is valid
@@ -39,7 +40,8 @@ module _ {S R L : Type 0} (p : PowerPuzzle S R L) where
         IsTurned-at q.0 q.1 (seen.same_state _ _ (seen.turned s q.0 ∙ q.2))
 
     -- where it shows as two parts
-    pub IsTurned-two : {T Q U P : Type 0} (b : Action T Q) (c : Action U P) (state : S → T × U) (turn : R → Q × P) → IsSeenAs p.action (pair_action b c) state turn
+    pub IsTurned-two : {T Q U P : Type 0} (b : Action T Q) (c : Action U P) (state : S → T × U) (turn : R → Q × P)
+        → IsSeenAs p.action (pair_action b c) state turn
         → IsMadeAt (part_turns (λ q. (turn q).0) p) n (b.turned (state s).0) (state r).0
         → IsMadeAt (part_turns (λ q. (turn q).1) p) n (c.turned (state s).1) (state r).1 → IsTurned IsValid s n r
     IsTurned-two b c state turn seen first second =

@@ -1,6 +1,6 @@
--- Puzzles whose turns rearrange a state's pieces: what one rearrangement makes of a state, two of them as one, tables that
--- say what each letter of a notation rearranges, and what a word comes to. No puzzle stands here, and no orbit: a state
--- may be of several. In the words of algebra, the rearrangements are a monoid that acts on the states.
+-- Puzzles whose turns rearrange a state's pieces: what one rearrangement makes of a state, two of them as one, tables
+-- that say what each letter of a notation rearranges, and what a word comes to. No puzzle stands here, and no orbit: a
+-- state may be of several. In the words of algebra, the rearrangements are a monoid that acts on the states.
 use Rattle.std.specs.Prelude.{◌≡◌, ℕ, zero, suc, ◌-◌, ◌<◌, List, [], ◌∷◌, map, slice_get, Option, Some, option_and_then}
 use Rattle.std.specs.Option.{option_map}
 use Rattle.std.specs.List.{flat_map}

@@ -7,9 +7,9 @@ use Rattle.scr_combinatorics.specs.Tidy.{Merging, IsKeptByTidy}
 use Rattle.scr_combinatorics.specs.Reach.{IsReached}
 use Rattle.scr_orbit.specs.Actions.{Action, IsAction, after_by, table_puzzle, composed_word}
 
--- The turns of such a puzzle are lawful. They act on the valid states, and each letter's rearrangement is one of them; words
--- are taken back by their opposite letters, and tidied by what two letters of one face come to; each word comes to one
--- rearrangement, the same for every valid state; and what turns reach from the solved state is valid.
+-- The turns of such a puzzle are lawful. They act on the valid states, and each letter's rearrangement is one of them;
+-- words are taken back by their opposite letters, and tidied by what two letters of one face come to; each word comes
+-- to one rearrangement, the same for every valid state; and what turns reach from the solved state is valid.
 pub record HasLawfulTurns {S R T : Type 0} (a : Action S R) (IsValid : S → Type 0) (IsTurn : R → Type 0) (table : T → Option R) (opposite : T → T) (m : Merging T) (solved : S) : Type 0 where
   pub acts : IsAction a IsValid IsTurn
   pub turns : (t : T) (r : R) → table t ≡ Some r → IsTurn r

@@ -43,8 +43,9 @@ word_at p numbers = map p.letters.letter_at numbers
 abbrev pub HaveOrders : {S R T : Type 0} → PowerPuzzle S R T → List (List ℕ × ℕ) → Type 0
 HaveOrders p rows = All (λ row. IsWordOrder p.action (letter_table p) (word_at p row.0) row.1) rows
 
--- What holds of such a puzzle, where letters are taken back and merged so: its turns are lawful; each generator is of the
--- letters' order; all turns, in order, are those of the letters with their numbers, and no other letter does anything.
+-- What holds of such a puzzle, where letters are taken back and merged so: its turns are lawful; each generator is of
+-- the letters' order; all turns, in order, are those of the letters with their numbers, and no other letter does
+-- anything.
 pub record IsPowerPuzzle {S R T : Type 0} (p : PowerPuzzle S R T) (IsValid : S → Type 0) (IsTurn : R → Type 0)
     (opposite : T → T) (m : Merging T) : Type 0 where
   pub lawful : HasLawfulTurns p.action IsValid IsTurn (letter_table p) opposite m p.solved

@@ -7,8 +7,8 @@ ghost use Rattle.scr_orbit.specs.InPlace.{AreDigitsInPlace, in_place_action};
 ghost use Rattle.scr_orbit.specs.Orbits.{Orbit, Rearrangement, IsOrbit, IsRearrangement, IsZeroSumOrbit, IsZeroSumRearrangement, turned_orbit, composed, solved_orbit, rearrangement_to, orbit_action};
 
 /// Rearrangements act on orbits: what a turn makes of a valid orbit is one, turning by two rearrangements at once is
-/// turning by one and then by the other, and where nothing moves an orbit stays as it is. The same holds of orbits whose
-/// digits sum to 0, and of digits of pieces that stay at their places.
+/// turning by one and then by the other, and where nothing moves an orbit stays as it is. The same holds of orbits
+/// whose digits sum to 0, and of digits of pieces that stay at their places.
 pub fn actions()
     ensures orbits { (n m : ℕ) → 0 < m → IsAction (orbit_action n m) (IsOrbit n m) (IsRearrangement n m) }
     ensures zero_sums { (n m : ℕ)

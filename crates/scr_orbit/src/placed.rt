@@ -81,8 +81,8 @@ impl<const N: usize> Placed<N> {
         Placed { pieces, digits }
     }
 
-    /// This orbit and then another: each place gets this one's piece from the place that `next` has there, and the digits
-    /// are added, modulo `modulus`, which is at most 128.
+    /// This orbit and then another: each place gets this one's piece from the place that `next` has there, and the
+    /// digits are added, modulo `modulus`, which is at most 128.
     pub fn then(&self, next: &Placed<N>, modulus: u8) -> Placed<N>
         requires small { modulus ≤ 128 }
         requires valid { IsOrbit N modulus self.now }
@@ -111,8 +111,8 @@ impl<const N: usize> Placed<N> {
         Placed { pieces, digits }
     }
 
-    /// Whether each piece stands at one place, and the digits are below `modulus`, at least 1, and sum to 0 modulo it. There
-    /// are at most 256 places.
+    /// Whether each piece stands at one place, and the digits are below `modulus`, at least 1, and sum to 0 modulo it.
+    /// There are at most 256 places.
     pub fn is_zero_sum(&self, modulus: u8) -> bool
         requires few { N ≤ 256 }
         requires modulus { 0 < modulus }

@@ -26,8 +26,8 @@ pub fn are_twists(digits: &[u8], base: u8) -> bool
     are_completed(digits, 0, base)
 }
 
-/// Whether digits, of which there are at most 256, are below `base` and sum to 0 modulo it together with `more`. `base` is at
-/// least 1.
+/// Whether digits, of which there are at most 256, are below `base` and sum to 0 modulo it together with `more`. `base`
+/// is at least 1.
 pub fn are_completed(digits: &[u8], more: u8, base: u8) -> bool
     requires few { length digits.now ≤ 256 }
     requires base { 0 < base }

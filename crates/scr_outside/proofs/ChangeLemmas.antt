@@ -31,7 +31,8 @@ ends_told-none (suc n) ends none = absurd (omega arith)
 
 -- ---- what a source gives
 
-pub Gives-nothing : {left : Option (List ℕ)} {faults ends : ℕ} → Gives (read_from_to left faults ends left faults ends) []
+pub Gives-nothing : {left : Option (List ℕ)} {faults ends : ℕ}
+    → Gives (read_from_to left faults ends left faults ends) []
 Gives-nothing {left} = record { given = sym (put_back-nil left); no_fault = refl }
 
 pub Gives-append : {left left' left'' : Option (List ℕ)} {faults faults' faults'' ends ends' ends'' : ℕ} {bytes more : List ℕ} →
@@ -87,7 +88,8 @@ Falters-after {held} {faults'' = faults''} {bytes = bytes} gains falters = recor
 }
 
 -- a first part of these bytes is one of more
-pub Falters-longer : {change : Change} {bytes : List ℕ} (more : List ℕ) → Falters change bytes → Falters change (bytes ++ more)
+pub Falters-longer : {change : Change} {bytes : List ℕ} (more : List ℕ) → Falters change bytes
+    → Falters change (bytes ++ more)
 Falters-longer more falters = record {
   part = falters.part;
   first = record {
@@ -108,7 +110,8 @@ pub record IsWrittenUpTo (change : Change) (whole left : List ℕ) : Type 0 wher
   pub parts : whole ≡ text ++ left
 
 -- nothing was written yet
-pub written-none : {held : Option (List ℕ)} {faults : ℕ} {whole : List ℕ} → IsWrittenUpTo (from_to held faults held faults) whole whole
+pub written-none : {held : Option (List ℕ)} {faults : ℕ} {whole : List ℕ}
+    → IsWrittenUpTo (from_to held faults held faults) whole whole
 written-none = record { text = []; gains = Gains-nothing; parts = refl }
 
 -- one more piece

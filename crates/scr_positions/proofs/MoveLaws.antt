@@ -48,7 +48,8 @@ length-rows_of c (suc n) =
     ∙ omega (arith, length-rows_of c n, length-each_below (λ p. target c p n) c.count)
 
 -- each entry stands at its place
-rows_of-at : (c : Coordinate) (n t p : ℕ) → t < n → p < c.count → slice_index (rows_of c n) (t * c.count + p) ≡ target c p t
+rows_of-at : (c : Coordinate) (n t p : ℕ) → t < n → p < c.count
+    → slice_index (rows_of c n) (t * c.count + p) ≡ target c p t
 unfolding rows_of
 rows_of-at c zero t p lt at = absurd (omega arith)
 rows_of-at c (suc n) t p lt at =
@@ -80,20 +81,22 @@ unfolding each_below
 each_below-none f = refl
 
 -- one more entry behind those of a row
-pub row_more : (c : Coordinate) (t p entry : ℕ) (before now new : List ℕ) → now ≡ before ++ moves_row c t p → entry ≡ target c p t
-    → new ≡ now ++ entry ∷ [] → new ≡ before ++ moves_row c t (p + 1)
+pub row_more : (c : Coordinate) (t p entry : ℕ) (before now new : List ℕ) → now ≡ before ++ moves_row c t p
+    → entry ≡ target c p t → new ≡ now ++ entry ∷ [] → new ≡ before ++ moves_row c t (p + 1)
 row_more c t p entry before now new kept e pushed =
     pushed ∙ ap (λ xs. xs ++ entry ∷ []) kept ∙ append_assoc before (moves_row c t p) (entry ∷ [])
     ∙ ap (λ k. before ++ (moves_row c t p ++ k ∷ [])) e ∙ ap (λ xs. before ++ xs) (sym (each_below-more (λ p. target c p t) p))
 
 -- an entry is read as it was written
-position-read : (count : ℕ) (o : Option ℕ) → count ≤ barred → ((q : ℕ) → o ≡ Some q → q < count) → position_below count (unwrap_or o barred) ≡ o
+position-read : (count : ℕ) (o : Option ℕ) → count ≤ barred → ((q : ℕ) → o ≡ Some q → q < count)
+    → position_below count (unwrap_or o barred) ≡ o
 position-read count None small below = ap (λ b. cond b (Some barred) None) (le-ltb barred count small)
 position-read count (Some q) small below = ap (λ b. cond b (Some q) None) (lt-ltb q count (below q refl))
 
 -- A table with all rows shows the same.
-pub ShowsSame-built : (c : Coordinate) (count turns : ℕ) (targets : List ℕ) (goals : List Bool) → StaysBelow c → count ≡ c.count → turns ≡ c.turns
-    → count < 2 ^ 32 → targets ≡ rows_of c turns → goals ≡ each_below c.is_goal c.count
+pub ShowsSame-built : (c : Coordinate) (count turns : ℕ) (targets : List ℕ) (goals : List Bool) → StaysBelow c
+    → count ≡ c.count → turns ≡ c.turns → count < 2 ^ 32 → targets ≡ rows_of c turns
+    → goals ≡ each_below c.is_goal c.count
     → ShowsSame c (moves_coordinate (record { count = count; turns = turns; targets = targets; goals = goals }))
 ShowsSame-built c count turns targets goals law e f small is are = record {
   count = e;

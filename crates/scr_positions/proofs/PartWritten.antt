@@ -7,12 +7,14 @@ module _ (start size : ℕ) (entries part : List ℕ) (inside : start + size ≤
   before : length (take start entries) ≡ start
   before = length-take-le start entries (omega arith)
 
-  pub in_part : (k : ℕ) → start ≤ k → k < start + size → get_or (put_mid start size entries part) k 0 ≡ get_or part (k - start) 0
+  pub in_part : (k : ℕ) → start ≤ k → k < start + size
+      → get_or (put_mid start size entries part) k 0 ≡ get_or part (k - start) 0
   in_part k from to =
       get_or-append_right (take start entries) (part ++ post_of start size entries) start k 0 before from
       ∙ get_or_append_left part (post_of start size entries) 0 (k - start) (omega arith)
 
-  pub beside_part : (k : ℕ) → (k < start) ⊎ (start + size ≤ k) → get_or (put_mid start size entries part) k 0 ≡ get_or entries k 0
+  pub beside_part : (k : ℕ) → (k < start) ⊎ (start + size ≤ k)
+      → get_or (put_mid start size entries part) k 0 ≡ get_or entries k 0
   beside_part k (inl less) =
       get_or_append_left (take start entries) (part ++ post_of start size entries) 0 k (omega (arith, before))
       ∙ get_or-take start entries k 0 less

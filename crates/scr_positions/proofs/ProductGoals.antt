@@ -13,14 +13,16 @@ use Rattle.scr_positions.proofs.StaysBelowLaws.{part_below}
 
 -- ---- one stretch of positions behind another
 
-pub HasNoGoal-joined : (c : Coordinate) (from middle to : ℕ) → HasNoGoal c from middle → HasNoGoal c middle to → HasNoGoal c from to
+pub HasNoGoal-joined : (c : Coordinate) (from middle to : ℕ) → HasNoGoal c from middle → HasNoGoal c middle to
+    → HasNoGoal c from to
 HasNoGoal-joined c from middle to before behind = λ p least below.
     elim (cases_lt p middle) [
       | inl early ↦ before p least early
       | inr late ↦ behind p late below
     ]
 
-pub IsNextGoal-joined : (c : Coordinate) (from middle goal : ℕ) → from ≤ middle → HasNoGoal c from middle → IsNextGoal c middle goal → IsNextGoal c from goal
+pub IsNextGoal-joined : (c : Coordinate) (from middle goal : ℕ) → from ≤ middle → HasNoGoal c from middle
+    → IsNextGoal c middle goal → IsNextGoal c from goal
 IsNextGoal-joined c from middle goal least before next = record {
   from_on = omega (arith, next.from_on);
   below = next.below;
@@ -44,7 +46,8 @@ module _ (low high : Coordinate) where
       let row = row_at low.count h p (omega arith) (omega arith) in
       low_false p (ap low.is_goal row.0 ∙ none (p - h * low.count) (omega arith) (omega arith))
 
-  pair_true : (a h : ℕ) → a < low.count → IsGoal low a → IsGoal high h → IsGoal (product_coordinate low high) (a + low.count * h)
+  pair_true : (a h : ℕ) → a < low.count → IsGoal low a → IsGoal high h
+      → IsGoal (product_coordinate low high) (a + low.count * h)
   pair_true a h below first second =
       ap (λ q. low.is_goal q && high.is_goal ((a + low.count * h) / low.count)) (part-low low.count a h below)
       ∙ ap (λ q. low.is_goal a && high.is_goal q) (part-high low.count a h below)
@@ -53,12 +56,14 @@ module _ (low high : Coordinate) where
   -- ---- from a position on, in its row
 
   module _ (from : ℕ) (at : from < low.count * high.count) where
-    pub row-none-high : high.is_goal (from / low.count) ≡ false → HasNoGoal (product_coordinate low high) from (low.count * (from / low.count + 1))
+    pub row-none-high : high.is_goal (from / low.count) ≡ false
+        → HasNoGoal (product_coordinate low high) from (low.count * (from / low.count + 1))
     row-none-high none = λ p least below.
         let row = row_at low.count (from / low.count) p (omega (arith, div-add-mod from low.count)) (omega arith) in
         high_false p (ap high.is_goal row.1 ∙ none)
 
-    pub row-none-low : HasNoGoal low (from % low.count) low.count → HasNoGoal (product_coordinate low high) from (low.count * (from / low.count + 1))
+    pub row-none-low : HasNoGoal low (from % low.count) low.count
+        → HasNoGoal (product_coordinate low high) from (low.count * (from / low.count + 1))
     row-none-low none = λ p least below.
         row_false (from / low.count) (from % low.count) low.count p none (omega arith) (omega (arith, div-add-mod from low.count)) (omega arith)
 
@@ -84,12 +89,14 @@ module _ (low high : Coordinate) where
         | inr from_on ↦ from_on
       ]
 
-  pub rows-none-high : (row : ℕ) → HasNoGoal high row high.count → HasNoGoal (product_coordinate low high) (low.count * row) (low.count * high.count)
+  pub rows-none-high : (row : ℕ) → HasNoGoal high row high.count
+      → HasNoGoal (product_coordinate low high) (low.count * row) (low.count * high.count)
   rows-none-high row none = λ p least below.
       let parts = part_below low.count high.count p below in
       high_false p (none (p / low.count) (above_row row p least (omega (arith, parts.0))) parts.1)
 
-  pub rows-none-low : (from : ℕ) → HasNoGoal low 0 low.count → HasNoGoal (product_coordinate low high) from (low.count * high.count)
+  pub rows-none-low : (from : ℕ) → HasNoGoal low 0 low.count
+      → HasNoGoal (product_coordinate low high) from (low.count * high.count)
   rows-none-low from none = λ p least below.
       let parts = part_below low.count high.count p below in
       low_false p (none (p % low.count) (omega arith) parts.0)

@@ -14,9 +14,9 @@ use Rattle.scr_positions.specs.SearchSpaces.{positions, Follows, ShowsSame}
 use Rattle.scr_positions.proofs.StaysBelowLaws.{part_below}
 
 -- two positions side by side are a position
-pub pair_below : (low high : Coordinate) (n p t a b : ℕ) → n ≡ low.count → high.turns ≡ low.turns → StaysBelow low → StaysBelow high
-    → p < low.count * high.count → t < low.turns → low.after (p % n) t ≡ Some a → high.after (p / n) t ≡ Some b
-    → a + n * b < low.count * high.count
+pub pair_below : (low high : Coordinate) (n p t a b : ℕ) → n ≡ low.count → high.turns ≡ low.turns → StaysBelow low
+    → StaysBelow high → p < low.count * high.count → t < low.turns → low.after (p % n) t ≡ Some a
+    → high.after (p / n) t ≡ Some b → a + n * b < low.count * high.count
 pair_below low high n p t a b e same f g at turn to_a to_b =
     let parts = part_below low.count high.count p at in
     let turn' : t < high.turns = omega arith in
@@ -51,8 +51,8 @@ pub row_below : (n p end : ℕ) → 0 < n → p < end → p / n < div_ceil end n
 row_below n p end some lt = (div-lt_iff_lt-mul {k = n} {x = p} {y = div_ceil end n} some).1 (omega (arith, (div_ceil_times end n some).0))
 
 -- and those are the rows that end behind the first position and begin before the end
-pub row_reached : (n m h start size : ℕ) → 0 < size → start + size ≤ n * m → start / n ≤ h → h < div_ceil (start + size) n
-    → (start < (h + 1) * n) × (h * n < start + size)
+pub row_reached : (n m h start size : ℕ) → 0 < size → start + size ≤ n * m → start / n ≤ h
+    → h < div_ceil (start + size) n → (start < (h + 1) * n) × (h * n < start + size)
 row_reached n m h start size some fits from to =
     let pos : 0 < n = omega (arith, (part_below n m start (omega arith)).0) in (
       (div-lt_iff_lt-mul {k = n} {x = start} {y = h + 1} pos).0 (omega arith),
@@ -69,8 +69,8 @@ row_after low high h p t from to =
 
 -- ---- products of coordinates that show the same
 
-pub ShowsSame-product : (low high shown_low shown_high : Coordinate) → high.turns ≡ low.turns → ShowsSame low shown_low → ShowsSame high shown_high
-    → ShowsSame (product_coordinate low high) (product_coordinate shown_low shown_high)
+pub ShowsSame-product : (low high shown_low shown_high : Coordinate) → high.turns ≡ low.turns → ShowsSame low shown_low
+    → ShowsSame high shown_high → ShowsSame (product_coordinate low high) (product_coordinate shown_low shown_high)
 ShowsSame-product low high shown_low shown_high turns f g = record {
   count = ap (λ n. n * shown_high.count) f.count ∙ ap (λ n. low.count * n) g.count;
   turns = f.turns;
@@ -95,7 +95,8 @@ pair_map n v u None = refl
 pair_map n v u (Some s) = refl
 
 pair_moved : {S : Type 0} (n : ℕ) (v u : S → ℕ) (o : Option S) (low high : Option ℕ) (b : Bool)
-    → cond b low None ≡ option_map v o → cond b high None ≡ option_map u o → cond b (side_by_side n low high) None ≡ option_map (λ s. v s + n * u s) o
+    → cond b low None ≡ option_map v o → cond b high None ≡ option_map u o
+    → cond b (side_by_side n low high) None ≡ option_map (λ s. v s + n * u s) o
 pair_moved n v u o low high true e f = ap (λ x. side_by_side n x high) e ∙ ap (λ x. side_by_side n (option_map v o) x) f ∙ pair_map n v u o
 pair_moved n v u None low high false e f = refl
 pair_moved n v u (Some s) low high false e f = absurd (cc)

@@ -5,8 +5,8 @@ use Rattle.scr_positions.specs.Coordinates.{Coordinate, StaysBelow, value_at}
 use Rattle.scr_positions.specs.Products.{side_by_side}
 
 -- the values of a row are those of the positions with its high part
-pub seen_in_row : (low : Coordinate) (high p t first size : ℕ) (values : List ℕ) → StaysBelow low → p < low.count → t < low.turns
-    → first ≡ high * low.count → size ≡ low.count
+pub seen_in_row : (low : Coordinate) (high p t first size : ℕ) (values : List ℕ) → StaysBelow low → p < low.count
+    → t < low.turns → first ≡ high * low.count → size ≡ low.count
     → value_at (take size (drop first values)) (low.after p t) ≡ value_at values (side_by_side low.count (low.after p t) (Some high))
 seen_in_row low high p t first size values below at turn begins long = by_target (low.after p t) refl
   where

@@ -13,27 +13,31 @@ use Rattle.scr_positions.specs.SearchSpaces.{SearchSpace, positions, Follows, Fi
 
 module _ {S R : Type 0} (space : SearchSpace S) (other : SearchSpace R) (view : S → R) (f : Follows space other view) where
   -- the rest of a word, behind a turn that leads somewhere or nowhere
-  rest_played : (w : List ℕ) (o : Option S) → ((r : S) → o ≡ Some r → play other.after (view r) w ≡ option_map view (play space.after r w))
+  rest_played : (w : List ℕ) (o : Option S)
+      → ((r : S) → o ≡ Some r → play other.after (view r) w ≡ option_map view (play space.after r w))
       → option_and_then (λ r. play other.after r w) (option_map view o) ≡ option_map view (option_and_then (λ r. play space.after r w) o)
   rest_played w None h = refl
   rest_played w (Some r) h = h r refl
 
   -- what a word makes of the view is the view of what it makes of the state
-  pub play-view : (s : S) (w : List ℕ) → space.IsValid s → play other.after (view s) w ≡ option_map view (play space.after s w)
+  pub play-view : (s : S) (w : List ℕ) → space.IsValid s
+      → play other.after (view s) w ≡ option_map view (play space.after s w)
   unfolding play
   play-view s [] v = refl
   play-view s (t ∷ w) v =
       ap (option_and_then (λ r. play other.after r w)) (f.turned s t v)
       ∙ rest_played w (space.after s t) (λ r e. play-view r w (f.kept s r t v e))
 
-  pub LeadsTo-view : (s : S) (w : List ℕ) → space.IsValid s → LeadsTo space.after space.IsGoal s w → LeadsTo other.after other.IsGoal (view s) w
+  pub LeadsTo-view : (s : S) (w : List ℕ) → space.IsValid s → LeadsTo space.after space.IsGoal s w
+      → LeadsTo other.after other.IsGoal (view s) w
   LeadsTo-view s w v l = record {
     end = view l.end;
     played = play-view s w v ∙ ap (option_map view) l.played;
     goal = (f.goals l.end (play-keeps space.after space.IsValid f.kept s l.end w v l.played)).0 l.goal;
   }
 
-  pub LeadsTo-viewed : (s : S) (w : List ℕ) → space.IsValid s → LeadsTo other.after other.IsGoal (view s) w → LeadsTo space.after space.IsGoal s w
+  pub LeadsTo-viewed : (s : S) (w : List ℕ) → space.IsValid s → LeadsTo other.after other.IsGoal (view s) w
+      → LeadsTo space.after space.IsGoal s w
   LeadsTo-viewed s w v l =
       let made = map-some view (play space.after s w) l.end (sym (play-view s w v) ∙ l.played) in
       record {
@@ -42,8 +46,8 @@ module _ {S R : Type 0} (space : SearchSpace S) (other : SearchSpace R) (view : 
         goal = (f.goals made.0 (play-keeps space.after space.IsValid f.kept s made.0 w v made.1)).1 (subst other.IsGoal (sym made.2) l.goal);
       }
 
--- Of two spaces and a state of each, where words lead to goals from both or from neither: distances and first words are the
--- same.
+-- Of two spaces and a state of each, where words lead to goals from both or from neither: distances and first words are
+-- the same.
 distance_by : {S R : Type 0} (space : SearchSpace S) (other : SearchSpace R) (s : S) (r : R) (d : ℕ)
     → ((w : List ℕ) → LeadsTo space.after space.IsGoal s w → LeadsTo other.after other.IsGoal r w)
     → ((w : List ℕ) → LeadsTo other.after other.IsGoal r w → LeadsTo space.after space.IsGoal s w)
@@ -78,7 +82,8 @@ FindsTheSame-follows space other view f =
       );
     }
 
-map_map : {A B C : Type 0} (g : B → C) (h : A → B) (o : Option A) → option_map g (option_map h o) ≡ option_map (λ a. g (h a)) o
+map_map : {A B C : Type 0} (g : B → C) (h : A → B) (o : Option A)
+    → option_map g (option_map h o) ≡ option_map (λ a. g (h a)) o
 map_map g h None = refl
 map_map g h (Some a) = refl
 
@@ -98,7 +103,8 @@ Follows-through space middle last view onward f g = record {
 
 -- ---- coordinates that show the same
 
-moved_below : (c : Coordinate) (p t q : ℕ) (b : Bool) → StaysBelow c → p < c.count → nat_lt t c.turns ≡ b → cond b (c.after p t) None ≡ Some q → q < c.count
+moved_below : (c : Coordinate) (p t q : ℕ) (b : Bool) → StaysBelow c → p < c.count → nat_lt t c.turns ≡ b
+    → cond b (c.after p t) None ≡ Some q → q < c.count
 moved_below c p t q true law at e h = law p t q at (ltb-true t c.turns e) h
 moved_below c p t q false law at e h = absurd (cc)
 
@@ -107,7 +113,8 @@ moved_same : (c shown : Coordinate) (p t : ℕ) (b : Bool) → ShowsSame c shown
 moved_same c shown p t true same at e = same.after p t at (ltb-true t c.turns e)
 moved_same c shown p t false same at e = refl
 
-pub Follows-same : (c shown : Coordinate) → StaysBelow c → ShowsSame c shown → Follows (positions c) (positions shown) (λ p. p)
+pub Follows-same : (c shown : Coordinate) → StaysBelow c → ShowsSame c shown
+    → Follows (positions c) (positions shown) (λ p. p)
 Follows-same c shown law same = record {
   kept = λ p q t at e. moved_below c p t q (nat_lt t c.turns) law at refl e;
   valid = λ p at. omega (arith, same.count);

@@ -35,7 +35,8 @@ part_below zero m p lt = absurd (omega arith)
 part_below (suc n) m p lt =
     (mod_below p (suc n) (omega arith), (div-lt_iff_lt-mul {k = suc n} {x = p} {y = m} (omega arith)).1 (omega arith))
 
-pub StaysBelow-product : (low high : Coordinate) → high.turns ≡ low.turns → StaysBelow low → StaysBelow high → StaysBelow (product_coordinate low high)
+pub StaysBelow-product : (low high : Coordinate) → high.turns ≡ low.turns → StaysBelow low → StaysBelow high
+    → StaysBelow (product_coordinate low high)
 StaysBelow-product low high same f g p t q at turn e =
     let parts = part_below low.count high.count p at in
     let turn' : t < high.turns = omega arith in

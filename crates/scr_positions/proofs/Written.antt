@@ -20,13 +20,14 @@ written_at P entries p entry inside here k there = by_place (cases_order k p)
 
 -- what holds of each entry before a place holds of one more, where it holds of what is written there
 pub each_written : (P : ℕ → ℕ → Type 0) (entries : List ℕ) (p entry : ℕ) → p < length entries
-    → ((k : ℕ) → k < p → P k (get_or entries k 0)) → P p entry → (k : ℕ) → k < p + 1 → P k (get_or (set entries p entry) k 0)
+    → ((k : ℕ) → k < p → P k (get_or entries k 0)) → P p entry → (k : ℕ) → k < p + 1
+    → P k (get_or (set entries p entry) k 0)
 each_written P entries p entry inside before here k lt =
     written_at P entries p entry inside here k (λ other. before k (omega arith))
 
 -- the same where the places are counted from another
-pub each_written_from : (P : ℕ → ℕ → Type 0) (entries : List ℕ) (start p entry : ℕ) → start ≤ p → p - start < length entries
-    → ((k : ℕ) → start + k < p → P k (get_or entries k 0)) → P (p - start) entry → (k : ℕ) → start + k < p + 1
-    → P k (get_or (set entries (p - start) entry) k 0)
+pub each_written_from : (P : ℕ → ℕ → Type 0) (entries : List ℕ) (start p entry : ℕ) → start ≤ p
+    → p - start < length entries → ((k : ℕ) → start + k < p → P k (get_or entries k 0)) → P (p - start) entry → (k : ℕ)
+    → start + k < p + 1 → P k (get_or (set entries (p - start) entry) k 0)
 each_written_from P entries start p entry from inside before here k lt =
     each_written P entries (p - start) entry inside (λ j less. before j (omega arith)) here k (omega arith)

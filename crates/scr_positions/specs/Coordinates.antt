@@ -3,8 +3,8 @@ use Rattle.std.specs.Prelude.{◌≡◌, ℕ, ◌+◌, ◌<◌, ◌≤◌, nat_l
 use Rattle.std.specs.Option.{option_map_or}
 use Rattle.scr_positions.specs.declared.coordinate.TheConstants.{NOWHERE}
 
--- Positions, the numbers below a count; turns, the numbers below another; where a turn leads from a position, or nothing
--- where it is barred there; and which positions are goals.
+-- Positions, the numbers below a count; turns, the numbers below another; where a turn leads from a position, or
+-- nothing where it is barred there; and which positions are goals.
 pub record Coordinate : Type 0 where
   pub count : ℕ
   pub turns : ℕ

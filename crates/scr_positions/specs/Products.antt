@@ -8,8 +8,8 @@ side_by_side low_count None high = None
 side_by_side low_count (Some low) None = None
 side_by_side low_count (Some low) (Some high) = Some (low + low_count * high)
 
--- Position low + low_count * high stands for the position low of one coordinate and the position high of the other. Each
--- turn moves both, and is barred where either bars it; a goal is where both have one.
+-- Position low + low_count * high stands for the position low of one coordinate and the position high of the other.
+-- Each turn moves both, and is barred where either bars it; a goal is where both have one.
 abbrev pub product_coordinate : Coordinate → Coordinate → Coordinate
 product_coordinate low high = record {
   count = low.count * high.count;

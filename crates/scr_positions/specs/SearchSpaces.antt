@@ -29,8 +29,8 @@ pub record Follows {S R : Type 0} (space : SearchSpace S) (other : SearchSpace R
   pub turned : (s : S) (t : ℕ) → space.IsValid s → other.after (view s) t ≡ option_map view (space.after s t)
   pub goals : (s : S) → space.IsValid s → space.IsGoal s ↔ other.IsGoal (view s)
 
--- A search finds the same from a valid state and from its view: words lead from the one to goals exactly where they do from
--- the other, and so both have the same distances and the same first words.
+-- A search finds the same from a valid state and from its view: words lead from the one to goals exactly where they do
+-- from the other, and so both have the same distances and the same first words.
 pub record FindsTheSame {S R : Type 0} (space : SearchSpace S) (other : SearchSpace R) (view : S → R) : Type 0 where
   pub played : (s : S) (w : List ℕ) → space.IsValid s → play other.after (view s) w ≡ option_map view (play space.after s w)
   pub words : (s : S) (w : List ℕ) → space.IsValid s

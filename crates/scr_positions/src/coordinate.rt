@@ -8,8 +8,8 @@ pub const BARRED: u32 = u32::MAX;
 /// What [`Coord::look`] gives in place of a value where a turn is barred, and so leads nowhere.
 pub const NOWHERE: u8 = 255;
 
-/// A coordinate of a puzzle: positions, which are the numbers of the lists that it sees of a state, and where turns lead
-/// from each. A turn may be barred.
+/// A coordinate of a puzzle: positions, which are the numbers of the lists that it sees of a state, and where turns
+/// lead from each. A turn may be barred.
 pub trait Coord {
     /// What it shows.
     ghost coordinate: { Self → Coordinate };
@@ -29,8 +29,8 @@ pub trait Coord {
         requires turn { turn < (coordinate self.now).turns }
         ensures { result ≡ (coordinate self.now).after position turn };
 
-    /// The values that a turn, below `turns`, leads to from positions one after another, `start` first: `NOWHERE` where it is
-    /// barred. There are so many positions from `start` on. `values` has one for each position.
+    /// The values that a turn, below `turns`, leads to from positions one after another, `start` first: `NOWHERE` where
+    /// it is barred. There are so many positions from `start` on. `values` has one for each position.
     fn look(&self, values: &[u8], start: u32, turn: u32, into: &mut [u8])
         requires values { length values.now ≡ (coordinate self.now).count }
         requires positions { start + length into.old ≤ (coordinate self.now).count }

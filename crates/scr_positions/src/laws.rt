@@ -5,8 +5,8 @@ ghost use Rattle.scr_positions.specs.SearchSpaces.{positions, tested_space, Foll
 ghost use Rattle.scr_positions.specs.Products.{side_by_side, product_coordinate};
 ghost use Rattle.scr_positions.specs.Moves.{moves_coordinate};
 
-/// A search finds the same on coordinates that show the same, as on a move table and what it was made of: the same words
-/// to goals, distances and first words. Products of such coordinates show the same too.
+/// A search finds the same on coordinates that show the same, as on a move table and what it was made of: the same
+/// words to goals, distances and first words. Products of such coordinates show the same too.
 pub fn shown_alike()
     ensures searched { (c shown : Coordinate) → StaysBelow c → ShowsSame c shown
         → FindsTheSame (positions c) (positions shown) (λ p. p) }
@@ -15,8 +15,8 @@ pub fn shown_alike()
         → ShowsSame (product_coordinate low high) (product_coordinate shown_low shown_high) }
 {}
 
-/// A search finds the same on any states and on a view of them that goes along with turns, and such views can be taken one
-/// after another.
+/// A search finds the same on any states and on a view of them that goes along with turns, and such views can be taken
+/// one after another.
 pub fn views<S, R>()
     ensures searched { (valid goal : S → Bool) (after : S → ℕ → Option S) (other : Coordinate) (view : S → ℕ)
         → Follows (tested_space valid after goal) (positions other) view
@@ -40,7 +40,8 @@ pub fn rows()
     ensures pair { (side_by_side 5 (Some 3) (Some 2) ≡ Some 13) × (side_by_side 5 None (Some 2) ≡ None)
         × (side_by_side 5 (Some 3) None ≡ None) }
 
-    // two positions with two turns each: the second turn of position 0 is barred, and the first of position 1 leads to 0
+    // two positions with two turns each: the second turn of position 0 is barred, and the first of position 1 leads to
+    // 0
     ensures table { let entries = 1 ∷ 0 ∷ 4294967295 ∷ 1 ∷ [] in
         let table = moves_coordinate (record { count = 2; turns = 2; targets = entries; goals = true ∷ false ∷ [] }) in
         (table.after 0 1 ≡ None) × (table.after 1 0 ≡ Some 0) × (table.is_goal 0 ≡ true) × (table.is_goal 1 ≡ false) }

@@ -1,7 +1,8 @@
 //! Coordinates: what a search sees of a puzzle's states, as numbers.
 //!
 //! No puzzle stands here. A [`Coord`] says how many positions there are, where each turn leads from each, and which are
-//! goals; its contract is one record of `specs/Coordinates.antt`, over which words, distances and first words are defined.
+//! goals; its contract is one record of `specs/Coordinates.antt`, over which words, distances and first words are
+//! defined.
 //!
 //! A [`MoveTable`] is made of any coordinate, shows the same, and steps by one look into a list. [`Product`] puts two
 //! coordinates side by side; large tables are made over products of move tables.

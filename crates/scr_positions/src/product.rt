@@ -9,8 +9,8 @@ use crate::move_table::MoveTable;
 use scr_outside::NoMemory;
 use std::alloc::Global;
 
-/// Two coordinates side by side: position `low + low_count * high` stands for one position of each. A turn moves both, and
-/// is barred where either bars it; a goal is where both have one.
+/// Two coordinates side by side: position `low + low_count * high` stands for one position of each. A turn moves both,
+/// and is barred where either bars it; a goal is where both have one.
 pub struct Product<L: Coord, H: Coord> {
     /// The coordinate whose positions follow each other.
     low: L,
@@ -52,14 +52,15 @@ impl<L: Coord, H: Coord> Product<L, H> {
         Some(both)
     }
 
-    /// Enters the values that a turn leads to from the positions with this high part, as far as they are among those that are
-    /// asked for, `start` first.
+    /// Enters the values that a turn leads to from the positions with this high part, as far as they are among those
+    /// that are asked for, `start` first.
     fn look_along_row(&self, values: &[u8], high: u32, turn: u32, start: u32, into: &mut [u8])
         requires values { length values.now ≡ (L.coordinate self.now.low).count * (H.coordinate self.now.high).count }
         requires high { high < (H.coordinate self.now.high).count }
         requires turn { turn < (L.coordinate self.now.low).turns }
         requires positions { start + length into.old ≤ (L.coordinate self.now.low).count * (H.coordinate self.now.high).count }
-        requires reached { let n = (L.coordinate self.now.low).count in (start < (high + 1) * n) × (high * n < start + length into.old) }
+        requires reached { let n = (L.coordinate self.now.low).count in (start < (high + 1) * n)
+            × (high * n < start + length into.old) }
         ensures entered { let c = product_coordinate (L.coordinate self.now.low) (H.coordinate self.now.high) in
             (k : ℕ) → k < length into.old → (start + k) / (L.coordinate self.now.low).count ≡ high
             → slice_index into.new k ≡ value_at values.now (c.after (start + k) turn) }
@@ -81,8 +82,8 @@ impl<L: Coord, H: Coord> Product<L, H> {
         );
     }
 
-    /// Enters the values that a turn leads to from positions with one high part, which it leads to another or nowhere. `start` is
-    /// the low part of the first.
+    /// Enters the values that a turn leads to from positions with one high part, which it leads to another or nowhere.
+    /// `start` is the low part of the first.
     fn look_in_row(
         &self,
         values: &[u8],
@@ -145,8 +146,8 @@ impl<L: Coord, H: Coord> Product<L, H> {
 }
 
 impl Product<MoveTable, MoveTable> {
-    /// The moves of two coordinates that have the same turns, and fewer than 2^32 pairs of positions. Only memory can be
-    /// wanting.
+    /// The moves of two coordinates that have the same turns, and fewer than 2^32 pairs of positions. Only memory can
+    /// be wanting.
     pub fn of_moves<L: Coord, H: Coord>(
         alloc: Global,
         low: &L,
@@ -188,8 +189,8 @@ impl<L: Coord, H: Coord> Coord for Product<L, H> {
         self.side_by_side(low, high)
     }
 
-    // Positions with the same high part are a row, for which the high part is turned once. What the turn leads to from there is
-    // a row too, in which the low part looks.
+    // Positions with the same high part are a row, for which the high part is turned once. What the turn leads to from
+    // there is a row too, in which the low part looks.
     fn look(&self, values: &[u8], start: u32, turn: u32, into: &mut [u8]) {
         if into.is_empty() {
             return;

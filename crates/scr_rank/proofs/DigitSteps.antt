@@ -22,14 +22,16 @@ module _ (base place : ℕ) (ds : List ℕ) where
   abbrev pub rest_number : ℕ
   rest_number = mixed_number (drop place (replicate (length ds - 1) base)) (drop place ds)
 
-rank_more : (base : ℕ) (ds : List ℕ) (place number : ℕ) → 0 < place → place ≤ length ds - 1 → number ≡ rest_number base place ds → number * base + slice_index ds (place - 1) ≡ rest_number base (place - 1) ds
+rank_more : (base : ℕ) (ds : List ℕ) (place number : ℕ) → 0 < place → place ≤ length ds - 1
+    → number ≡ rest_number base place ds → number * base + slice_index ds (place - 1) ≡ rest_number base (place - 1) ds
 rank_more base ds place number pos le e =
     let m : ℕ = length ds - 1 in
     let size : length (replicate m base) ≡ m = length-replicate m base in
     ap (λ b. number * b + slice_index ds (place - 1)) (sym (get_or-replicate m (place - 1) base 0 (omega arith)))
     ∙ number_more (replicate m base) ds place number (omega arith) pos (omega arith) e
 
-rank_low : (base place : ℕ) (ds : List ℕ) → base ≤ 12 → (1 ≤ length ds) × (length ds ≤ 12) → IsTwists (length ds) base ds → rest_number base place ds < 743008370688
+rank_low : (base place : ℕ) (ds : List ℕ) → base ≤ 12 → (1 ≤ length ds) × (length ds ≤ 12)
+    → IsTwists (length ds) base ds → rest_number base place ds < 743008370688
 rank_low base place ds lb size h =
     let m : ℕ = length ds - 1 in
     let few = size.1 in
@@ -47,7 +49,9 @@ pub record IsRankedBy (base place : ℕ) (ds : List ℕ) (next : ℕ) : Type 0 w
   pub counted : next ≡ rest_number base (place - 1) ds
   pub low : next < 743008370688
 
-pub ranked_by : (base : ℕ) (ds : List ℕ) (place number b : ℕ) → b ≡ base → base ≤ 12 → (1 ≤ length ds) × (length ds ≤ 12) → IsTwists (length ds) base ds → 0 < place → place ≤ length ds - 1 → number ≡ rest_number base place ds → IsRankedBy base place ds (number * b + slice_index ds (place - 1))
+pub ranked_by : (base : ℕ) (ds : List ℕ) (place number b : ℕ) → b ≡ base → base ≤ 12
+    → (1 ≤ length ds) × (length ds ≤ 12) → IsTwists (length ds) base ds → 0 < place → place ≤ length ds - 1
+    → number ≡ rest_number base place ds → IsRankedBy base place ds (number * b + slice_index ds (place - 1))
 ranked_by base ds place number b eb lb size h pos le e =
     let more : number * b + slice_index ds (place - 1) ≡ rest_number base (place - 1) ds =
     ap (λ z. number * z + slice_index ds (place - 1)) eb ∙ rank_more base ds place number pos le e in
@@ -65,13 +69,16 @@ module _ (base last place rest sum : ℕ) (out : List ℕ) (lt : place < last) (
       ∙ append_assoc (take place out) (rest % base ∷ []) later
       ∙ ap (λ z. take place out ++ mixed_digits (replicate z base) rest) e
 
-  pub summed_more : sum ≡ total (take place out) % base → (sum + rest % base) % base ≡ total (take (place + 1) (set out place (rest % base))) % base
+  pub summed_more : sum ≡ total (take place out) % base
+      → (sum + rest % base) % base ≡ total (take (place + 1) (set out place (rest % base))) % base
   summed_more e =
       ap (λ z. (z + rest % base) % base) e
       ∙ mod-add-mod (total (take place out)) base (rest % base)
       ∙ ap (λ z. z % base) (sym (ap total (take_more_set out place (rest % base) room) ∙ total-push (take place out) (rest % base)))
 
-pub written_end : (base last place rest number : ℕ) (out : List ℕ) → last ≤ place → place ≤ last → take place out ++ mixed_digits (replicate (last - place) base) rest ≡ mixed_digits (replicate last base) number → take last out ≡ mixed_digits (replicate last base) number
+pub written_end : (base last place rest number : ℕ) (out : List ℕ) → last ≤ place → place ≤ last
+    → take place out ++ mixed_digits (replicate (last - place) base) rest ≡ mixed_digits (replicate last base) number
+    → take last out ≡ mixed_digits (replicate last base) number
 written_end base last place rest number out low high e =
     let same : last ≡ place = omega arith in
     let none : 0 ≡ last - place = omega arith in
@@ -79,7 +86,9 @@ written_end base last place rest number out low high e =
 
 -- ---- the last digit
 
-pub ended : (base number sum n last : ℕ) (out : List ℕ) → last ≡ n - 1 → length out ≡ suc last → take last out ≡ mixed_digits (replicate last base) number → sum ≡ total (take last out) % base → set out last ((base - sum) % base) ≡ twists_at n base number
+pub ended : (base number sum n last : ℕ) (out : List ℕ) → last ≡ n - 1 → length out ≡ suc last
+    → take last out ≡ mixed_digits (replicate last base) number → sum ≡ total (take last out) % base
+    → set out last ((base - sum) % base) ≡ twists_at n base number
 unfolding with_sum_fixed twists_at
 ended base number sum n last out back size written summed =
     let d : ℕ = (base - sum) % base in

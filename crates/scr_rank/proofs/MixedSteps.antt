@@ -7,7 +7,8 @@ use Rattle.scr_combinatorics.specs.Digits.{product, AreDigits, mixed_number}
 use Rattle.scr_combinatorics.proofs.Digits.{BeginsWithDigits, begins_with_digits, first_number-lt, factor_pos}
 
 -- each base divides the product: what comes from a place on is no larger than all, and every base is positive
-pub product-drop : (bases : List ℕ) (place : ℕ) → 0 < product bases → (0 < product (drop place bases)) × (product (drop place bases) ≤ product bases)
+pub product-drop : (bases : List ℕ) (place : ℕ) → 0 < product bases
+    → (0 < product (drop place bases)) × (product (drop place bases) ≤ product bases)
 product-drop bases zero pos = (pos, omega arith)
 product-drop [] (suc place) pos = (pos, omega arith)
 product-drop (b ∷ bs) (suc place) pos =
@@ -33,7 +34,8 @@ length-digits [] (d ∷ ds) h = absurd h
 length-digits (b ∷ bs) [] h = absurd h
 length-digits (b ∷ bs) (d ∷ ds) h = ap suc (length-digits bs ds h.1)
 
-BeginsWithDigits-drop : (bases ds : List ℕ) (place : ℕ) → BeginsWithDigits bases ds → BeginsWithDigits (drop place bases) (drop place ds)
+BeginsWithDigits-drop : (bases ds : List ℕ) (place : ℕ) → BeginsWithDigits bases ds
+    → BeginsWithDigits (drop place bases) (drop place ds)
 BeginsWithDigits-drop bases ds zero h = h
 BeginsWithDigits-drop [] [] (suc place) h = h
 BeginsWithDigits-drop [] (d ∷ ds) (suc place) h = h
@@ -42,7 +44,8 @@ BeginsWithDigits-drop (b ∷ bs) (d ∷ ds) (suc place) h = BeginsWithDigits-dro
 
 -- ---- products and numbers from a place on
 
-pub product_more : (bases : List ℕ) (place count : ℕ) → 0 < place → place ≤ length bases → count ≡ product (drop place bases) → count * slice_index bases (place - 1) ≡ product (drop (place - 1) bases)
+pub product_more : (bases : List ℕ) (place count : ℕ) → 0 < place → place ≤ length bases
+    → count ≡ product (drop place bases) → count * slice_index bases (place - 1) ≡ product (drop (place - 1) bases)
 product_more bases place count pos le e =
     let q : ℕ = place - 1 in
     let back : q + 1 ≡ place = omega arith in
@@ -51,7 +54,9 @@ product_more bases place count pos le e =
     ∙ mul_comm (product (drop (q + 1) bases)) b
     ∙ sym (at_drop_more product bases q 0 (omega arith))
 
-pub number_more : (bases ds : List ℕ) (place number : ℕ) → length bases ≤ length ds → 0 < place → place ≤ length bases → number ≡ mixed_number (drop place bases) (drop place ds) → number * slice_index bases (place - 1) + slice_index ds (place - 1) ≡ mixed_number (drop (place - 1) bases) (drop (place - 1) ds)
+pub number_more : (bases ds : List ℕ) (place number : ℕ) → length bases ≤ length ds → 0 < place → place ≤ length bases
+    → number ≡ mixed_number (drop place bases) (drop place ds)
+    → number * slice_index bases (place - 1) + slice_index ds (place - 1) ≡ mixed_number (drop (place - 1) bases) (drop (place - 1) ds)
 number_more bases ds place number size pos le e =
     let q : ℕ = place - 1 in
     let back : q + 1 ≡ place = omega arith in
@@ -62,7 +67,8 @@ number_more bases ds place number size pos le e =
     ∙ ap (mixed_number (b ∷ drop (q + 1) bases)) (drop_more ds q 0 (omega arith)) in
     omega (arith, whole, ap (λ z. z * b) e, ap (λ z. b * mixed_number (drop z bases) (drop z ds)) back, mul_comm b (mixed_number (drop place bases) (drop place ds)))
 
-pub number_low : (bases ds : List ℕ) (place : ℕ) → 0 < product bases → BeginsWithDigits bases ds → mixed_number (drop place bases) (drop place ds) < product bases
+pub number_low : (bases ds : List ℕ) (place : ℕ) → 0 < product bases → BeginsWithDigits bases ds
+    → mixed_number (drop place bases) (drop place ds) < product bases
 number_low bases ds place pos h =
     let rest = product-drop bases place pos in
     omega (arith, first_number-lt (drop place bases) (drop place ds) (BeginsWithDigits-drop bases ds place h), rest.1)
@@ -72,7 +78,9 @@ pub record IsRankedBy (bases ds : List ℕ) (place next : ℕ) : Type 0 where
   pub counted : next ≡ mixed_number (drop (place - 1) bases) (drop (place - 1) ds)
   pub low : next < product bases
 
-pub ranked_by : (bases ds : List ℕ) (place number : ℕ) → 0 < product bases → AreDigits bases ds → 0 < place → place ≤ length bases → number ≡ mixed_number (drop place bases) (drop place ds) → IsRankedBy bases ds place (number * slice_index bases (place - 1) + slice_index ds (place - 1))
+pub ranked_by : (bases ds : List ℕ) (place number : ℕ) → 0 < product bases → AreDigits bases ds → 0 < place
+    → place ≤ length bases → number ≡ mixed_number (drop place bases) (drop place ds)
+    → IsRankedBy bases ds place (number * slice_index bases (place - 1) + slice_index ds (place - 1))
 ranked_by bases ds place number some valid pos le e =
     let more = number_more bases ds place number (omega (arith, length-digits bases ds valid)) pos le e in
     record { counted = more; low = omega (arith, more, number_low bases ds (place - 1) some (begins_with_digits bases ds valid)) }

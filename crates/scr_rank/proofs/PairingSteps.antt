@@ -14,8 +14,9 @@ pub record WrittenPairs (places x : ℕ) (rest out : List ℕ) (index : ℕ) : T
   pub partner : slice_index out (suc x) ≡ 0
   pub others : (j : ℕ) → j < index → slice_index out (other_place x j) ≡ other_place x (slice_index rest j)
 
-pub WrittenPairs-end : (places x : ℕ) (rest out : List ℕ) (index : ℕ) → places + 2 ≤ 8 → x ≤ places → length rest ≡ 8 → places ≤ index
-    → WrittenPairs places x rest out index → take (places + 2) out ≡ with_first_pair x (take places rest)
+pub WrittenPairs-end : (places x : ℕ) (rest out : List ℕ) (index : ℕ) → places + 2 ≤ 8 → x ≤ places → length rest ≡ 8
+    → places ≤ index → WrittenPairs places x rest out index
+    → take (places + 2) out ≡ with_first_pair x (take places rest)
 WrittenPairs-end places x rest out index room le size end w =
     let some : List ℕ = take places rest in
     let count : length some ≡ places = length-take-le places rest (omega arith) in
@@ -35,8 +36,8 @@ pub record WrittenRest (x : ℕ) (partners out : List ℕ) (index : ℕ) : Type 
   pub size : length out ≡ 8
   pub others : (j : ℕ) → j < index → slice_index out j ≡ place_among_others x (slice_index partners (other_place x j))
 
-pub WrittenRest-end : (places x : ℕ) (partners out : List ℕ) (index : ℕ) → places + 2 ≤ 8 → length partners ≡ 8 → places ≤ index
-    → IsPairing (places + 2) (take (places + 2) partners) → WrittenRest x partners out index
+pub WrittenRest-end : (places x : ℕ) (partners out : List ℕ) (index : ℕ) → places + 2 ≤ 8 → length partners ≡ 8
+    → places ≤ index → IsPairing (places + 2) (take (places + 2) partners) → WrittenRest x partners out index
     → (others : List ℕ) → take (places + 2) partners ≡ suc x ∷ others → take places out ≡ without_first_pair x others
 WrittenRest-end places x partners out index room size end valid w others is =
     let two : places + 2 ≡ suc (suc places) = omega arith in
@@ -58,14 +59,17 @@ pub record UnrankedPairs (pairs r left : ℕ) (partners : List ℕ) : Type 0 whe
   pub list : take (2 * pairs) partners ≡ pairing_at pairs (r % pairing_count pairs)
   pub left_is : left ≡ r / pairing_count pairs
 
-pub IsPairing-unranked : (pairs r left : ℕ) (partners : List ℕ) → UnrankedPairs pairs r left partners → IsPairing (2 * pairs) (take (2 * pairs) partners)
+pub IsPairing-unranked : (pairs r left : ℕ) (partners : List ℕ) → UnrankedPairs pairs r left partners
+    → IsPairing (2 * pairs) (take (2 * pairs) partners)
 IsPairing-unranked pairs r left partners u =
     subst (IsPairing (2 * pairs)) (sym u.list)
     (IsPairing-at pairs (r % pairing_count pairs) (mod_below r (pairing_count pairs) (pairing_count-pos pairs)))
 
 -- one pair more
-pub unranked_more : (pairs r left choices : ℕ) (partners next : List ℕ) → length next ≡ 8 → choices ≡ 2 * pairs + 1 → UnrankedPairs pairs r left partners
-    → take (2 * pairs + 2) next ≡ with_first_pair (left % choices) (take (2 * pairs) partners) → UnrankedPairs (pairs + 1) r (left / choices) next
+pub unranked_more : (pairs r left choices : ℕ) (partners next : List ℕ) → length next ≡ 8 → choices ≡ 2 * pairs + 1
+    → UnrankedPairs pairs r left partners
+    → take (2 * pairs + 2) next ≡ with_first_pair (left % choices) (take (2 * pairs) partners)
+    → UnrankedPairs (pairs + 1) r (left / choices) next
 unfolding pairing_at
 unranked_more pairs r left choices partners next size e u is =
     let count : ℕ = pairing_count pairs in
@@ -122,8 +126,8 @@ pub record RankStep (pairs number : ℕ) (rest partners : List ℕ) : Type 0 whe
       → ((x : ℕ) (others : List ℕ) → take (2 * pairs + 2) rest ≡ suc x ∷ others → take (2 * pairs) next ≡ without_first_pair x others)
       → length next ≡ 8 → RankedPairs pairs (number * (2 * pairs + 1) + (slice_index rest 0 - 1)) next partners
 
-pub rank_step : (before pairs number : ℕ) (rest partners : List ℕ) → before ≡ suc pairs → IsPairing 8 partners → RankedPairs before number rest partners
-    → RankStep pairs number rest partners
+pub rank_step : (before pairs number : ℕ) (rest partners : List ℕ) → before ≡ suc pairs → IsPairing 8 partners
+    → RankedPairs before number rest partners → RankStep pairs number rest partners
 rank_step before pairs number rest partners e h was =
     let r : RankedPairs (suc pairs) number rest partners = subst (λ n. RankedPairs n number rest partners) e was in
     let f = pairing_first pairs (take (2 * suc pairs) rest) r.valid in
@@ -149,7 +153,8 @@ rank_step before pairs number rest partners e h was =
           });
     }
 
-pub rank_end : (pairs number : ℕ) (rest partners : List ℕ) → pairs ≤ 0 → RankedPairs pairs number rest partners → number ≡ pairing_number 4 partners
+pub rank_end : (pairs number : ℕ) (rest partners : List ℕ) → pairs ≤ 0 → RankedPairs pairs number rest partners
+    → number ≡ pairing_number 4 partners
 unfolding pairing_number
 rank_end zero number rest partners le r = omega (arith, r.counted)
 rank_end (suc pairs) number rest partners le r = absurd (omega arith)

@@ -39,7 +39,8 @@ inversions-small xs lt = omega (arith, inversions-le (2 ^ 16) xs (omega arith))
 
 -- ---- the inversions from a place on
 
-pub inversions-drop : (xs : List ℕ) (place : ℕ) → place < length xs → inversions (drop place xs) ≡ lesser_count (slice_index xs place) (take (length xs - (place + 1)) (drop (place + 1) xs)) + inversions (drop (place + 1) xs)
+pub inversions-drop : (xs : List ℕ) (place : ℕ) → place < length xs
+    → inversions (drop place xs) ≡ lesser_count (slice_index xs place) (take (length xs - (place + 1)) (drop (place + 1) xs)) + inversions (drop (place + 1) xs)
 inversions-drop xs place lt =
     at_drop_more inversions xs place 0 lt
     ∙ ap (λ zs. lesser_count (slice_index xs place) zs + inversions (drop (place + 1) xs)) (sym (take_rest xs (place + 1)))
@@ -52,7 +53,10 @@ pub record RankStep (xs : List ℕ) (place number weight count : ℕ) : Type 0 w
   pub low : number + weight * count < 2 ^ 32
   pub low_weight : weight * (length xs - (place - 1)) < 2 ^ 32
 
-pub rank_step : (xs : List ℕ) (place number weight count : ℕ) → length xs ≤ 12 → 0 < place → place ≤ length xs → number ≡ permutation_number (drop place xs) → weight ≡ factorial (length xs - place) → count ≡ lesser_count (slice_index xs (place - 1)) (take (length xs - (place - 1 + 1)) (drop (place - 1 + 1) xs)) → RankStep xs place number weight count
+pub rank_step : (xs : List ℕ) (place number weight count : ℕ) → length xs ≤ 12 → 0 < place → place ≤ length xs
+    → number ≡ permutation_number (drop place xs) → weight ≡ factorial (length xs - place)
+    → count ≡ lesser_count (slice_index xs (place - 1)) (take (length xs - (place - 1 + 1)) (drop (place - 1 + 1) xs))
+    → RankStep xs place number weight count
 rank_step xs place number weight count few pos le en ew ec =
     let q : ℕ = place - 1 in
     let e : q + 1 ≡ place = omega arith in
@@ -102,7 +106,8 @@ first_digit r n f pos =
     (ap (λ z. z / f) whole ∙ div-mul-add d f (r % f) low, ap (λ z. z % f) whole ∙ mod-mul-add d f (r % f) low)
 
 -- one digit more
-unrank_more : (n r rest : ℕ) (xs : List ℕ) → UnrankStep n r rest xs → UnrankStep (suc n) r (rest / suc n) (rest % suc n ∷ map (nth_except (rest % suc n)) xs)
+unrank_more : (n r rest : ℕ) (xs : List ℕ) → UnrankStep n r rest xs
+    → UnrankStep (suc n) r (rest / suc n) (rest % suc n ∷ map (nth_except (rest % suc n)) xs)
 unfolding permutation_at
 unrank_more n r rest xs h =
     let f : ℕ = factorial n in
@@ -115,11 +120,13 @@ unrank_more n r rest xs h =
     }
 
 -- what lies after the place that is written
-after_write : (out : List ℕ) (q d : ℕ) → take (length (set out q d) - (q + 1)) (drop (q + 1) (set out q d)) ≡ drop (q + 1) out
+after_write : (out : List ℕ) (q d : ℕ)
+    → take (length (set out q d) - (q + 1)) (drop (q + 1) (set out q d)) ≡ drop (q + 1) out
 after_write out q d = take_rest (set out q d) (q + 1) ∙ drop-set-lt (q + 1) out q d (omega arith)
 
 -- the list from that place on, once what follows is nth_except
-from_write : (out : List ℕ) (q d : ℕ) (ys : List ℕ) → q < length out → drop q (put_mid (q + 1) (length (set out q d) - (q + 1)) (set out q d) ys) ≡ d ∷ ys
+from_write : (out : List ℕ) (q d : ℕ) (ys : List ℕ) → q < length out
+    → drop q (put_mid (q + 1) (length (set out q d) - (q + 1)) (set out q d) ys) ≡ d ∷ ys
 from_write out q d ys lt =
     let s : List ℕ = set out q d in
     let k : ℕ = length s - (q + 1) in
@@ -140,7 +147,9 @@ module _ (len : ℕ) (out : List ℕ) (size : length out ≡ len) (place r rest 
       All-same (λ z. z < 255) _ (drop place out) (after_write out q d ∙ ap (λ z. drop z out) e)
       (All-weaker (λ z. z < n) (λ z. z < 255) (λ z low. omega arith) (drop place out) (All-permutation n (drop place out) own))
 
-  pub unrank_step : (ys : List ℕ) → ys ≡ map (nth_except d) (take (length (set out (place - 1) d) - (place - 1 + 1)) (drop (place - 1 + 1) (set out (place - 1) d))) → UnrankStep (len - (place - 1)) r (rest / (len - (place - 1))) (drop (place - 1) (put_mid (place - 1 + 1) (length (set out (place - 1) d) - (place - 1 + 1)) (set out (place - 1) d) ys))
+  pub unrank_step : (ys : List ℕ)
+      → ys ≡ map (nth_except d) (take (length (set out (place - 1) d) - (place - 1 + 1)) (drop (place - 1 + 1) (set out (place - 1) d)))
+      → UnrankStep (len - (place - 1)) r (rest / (len - (place - 1))) (drop (place - 1) (put_mid (place - 1 + 1) (length (set out (place - 1) d) - (place - 1 + 1)) (set out (place - 1) d) ys))
   unrank_step ys ey =
       let q : ℕ = place - 1 in
       let e : q + 1 ≡ place = omega arith in
@@ -164,7 +173,8 @@ unrank_start out r =
     subst (λ n. UnrankStep n r r (drop (length out) out)) none (record { list = drop_all (length out) out (omega arith); rest_is = sym (div-one r) })
 
 -- and at the end all is
-pub unrank_end : (n r rest place : ℕ) (out : List ℕ) → r < factorial n → place ≤ 0 → UnrankStep (n - place) r rest (drop place out) → out ≡ permutation_at n r
+pub unrank_end : (n r rest place : ℕ) (out : List ℕ) → r < factorial n → place ≤ 0
+    → UnrankStep (n - place) r rest (drop place out) → out ≡ permutation_at n r
 unrank_end n r rest place out lt none h =
     let first : place ≡ 0 = omega arith in
     let whole : n - place ≡ n = omega arith in
@@ -172,7 +182,8 @@ unrank_end n r rest place out lt none h =
 
 -- ---- the last two elements exchanged
 
-swap_later : (x y : ℕ) (ys : List ℕ) (i j : ℕ) → i < length (y ∷ ys) → j < length (y ∷ ys) → swap (x ∷ y ∷ ys) (suc i) (suc j) ≡ x ∷ swap (y ∷ ys) i j
+swap_later : (x y : ℕ) (ys : List ℕ) (i j : ℕ) → i < length (y ∷ ys) → j < length (y ∷ ys)
+    → swap (x ∷ y ∷ ys) (suc i) (suc j) ≡ x ∷ swap (y ∷ ys) i j
 swap_later x y ys i j li lj = ap (λ zs. x ∷ zs) (swap_is (y ∷ ys) i j x li lj)
 
 swap_last_two : (xs : List ℕ) (i : ℕ) → suc (suc i) ≡ length xs → swap xs i (suc i) ≡ last_swapped xs
@@ -184,7 +195,8 @@ swap_last_two (x ∷ y ∷ z ∷ xs) zero e = absurd (omega arith)
 swap_last_two (x ∷ y ∷ z ∷ xs) (suc i) e =
     swap_later x y (z ∷ xs) i (suc i) (omega arith) (omega arith) ∙ ap (λ zs. x ∷ zs) (swap_last_two (y ∷ z ∷ xs) i (omega arith))
 
-pub swap-last : (xs : List ℕ) (low high : ℕ) → 2 ≤ length xs → low ≡ length xs - 1 - 1 → high ≡ length xs - 1 → swap xs low high ≡ last_swapped xs
+pub swap-last : (xs : List ℕ) (low high : ℕ) → 2 ≤ length xs → low ≡ length xs - 1 - 1 → high ≡ length xs - 1
+    → swap xs low high ≡ last_swapped xs
 swap-last xs low high le el eh =
     let next : high ≡ suc low = omega arith in
     ap (swap xs low) next ∙ swap_last_two xs low (omega arith)

@@ -69,7 +69,8 @@ pub record NextSets (places place size sets : ℕ) : Type 0 where
   pub small : sets * size < 2 ^ 32
   pub few : sets ≤ 4096
 
-pub next_sets : (places place size sets : ℕ) → places ≤ 12 → place < places → size ≤ 12 → sets ≡ binomial (places - place) size → NextSets places place size sets
+pub next_sets : (places place size sets : ℕ) → places ≤ 12 → place < places → size ≤ 12
+    → sets ≡ binomial (places - place) size → NextSets places place size sets
 next_sets places place size sets few lt within e =
     let n : ℕ = places - (place + 1) in
     let all : places - place ≡ suc n = omega arith in
@@ -83,7 +84,8 @@ next_sets places place size sets few lt within e =
     }
 
 -- a set that takes the place has one place less to come
-pub next_size : (n length chosen chosen' : ℕ) → chosen < length → chosen' ≡ chosen + 1 → with_first n (length - chosen) ≡ binomial n (length - chosen')
+pub next_size : (n length chosen chosen' : ℕ) → chosen < length → chosen' ≡ chosen + 1
+    → with_first n (length - chosen) ≡ binomial n (length - chosen')
 next_size n length chosen chosen' lt e =
     let more : length - chosen ≡ suc (length - chosen') = omega arith in
     ap (with_first n) more
@@ -101,7 +103,9 @@ rest_number xs places place passed = place_set_number_from place (places - place
 rest_of : (places place : ℕ) → place < places → places - place ≡ suc (places - (place + 1))
 rest_of places place lt = omega arith
 
-pub rank_here : (xs : List ℕ) (places place passed : ℕ) → place < places → passed < length xs → slice_index xs passed ≡ place → rest_number xs places place passed ≡ rest_number xs places (place + 1) (passed + 1)
+pub rank_here : (xs : List ℕ) (places place passed : ℕ) → place < places → passed < length xs
+    → slice_index xs passed ≡ place
+    → rest_number xs places place passed ≡ rest_number xs places (place + 1) (passed + 1)
 rank_here xs places place passed lt more here =
     let rest : ℕ = places - (place + 1) in
     let x : ℕ = slice_index xs passed in
@@ -111,11 +115,14 @@ rank_here xs places place passed lt more here =
     ∙ number-here place rest x ys here
     ∙ ap (λ z. place_set_number_from z rest ys) (sym (add-one place))
 
-number-past : (place rest : ℕ) (zs : List ℕ) → ((x : ℕ) (ys : List ℕ) → zs ≡ x ∷ ys → x ≡ place → ⊥) → place_set_number_from place (suc rest) zs ≡ with_first rest (length zs) + place_set_number_from (suc place) rest zs
+number-past : (place rest : ℕ) (zs : List ℕ) → ((x : ℕ) (ys : List ℕ) → zs ≡ x ∷ ys → x ≡ place → ⊥)
+    → place_set_number_from place (suc rest) zs ≡ with_first rest (length zs) + place_set_number_from (suc place) rest zs
 number-past place rest [] other = omega (arith, number-empty (suc place) rest)
 number-past place rest (x ∷ ys) other = number-later place rest x ys (other x ys refl)
 
-pub rank_past : (xs : List ℕ) (places place passed : ℕ) → place < places → (passed < length xs → slice_index xs passed ≡ place → ⊥) → rest_number xs places place passed ≡ with_first (places - (place + 1)) (length xs - passed) + rest_number xs places (place + 1) passed
+pub rank_past : (xs : List ℕ) (places place passed : ℕ) → place < places
+    → (passed < length xs → slice_index xs passed ≡ place → ⊥)
+    → rest_number xs places place passed ≡ with_first (places - (place + 1)) (length xs - passed) + rest_number xs places (place + 1) passed
 rank_past xs places place passed lt other =
     let rest : ℕ = places - (place + 1) in
     let zs : List ℕ = drop passed xs in
@@ -128,7 +135,8 @@ rank_past xs places place passed lt other =
     ∙ ap (λ z. with_first rest z + place_set_number_from (suc place) rest zs) (length-drop passed xs)
     ∙ ap (λ z. with_first rest (length xs - passed) + place_set_number_from z rest zs) (sym (add-one place))
 
-pub rank_small : (places : ℕ) (xs : List ℕ) → places ≤ 12 → IsPlaceSet places (length xs) xs → (place_set_number places xs < 2 ^ 32) × (length xs ≤ 12)
+pub rank_small : (places : ℕ) (xs : List ℕ) → places ≤ 12 → IsPlaceSet places (length xs) xs
+    → (place_set_number places xs < 2 ^ 32) × (length xs ≤ 12)
 rank_small places xs few h =
     let low : place_set_number places xs < binomial places (length xs) = place_set_number-lt places (length xs) xs h in
     (omega (arith, low, binomial-small places (length xs) few), omega (arith, size_within places (length xs) _ low))
@@ -140,11 +148,13 @@ abbrev pub whole : List ℕ → ℕ → ℕ → ℕ → ℕ → List ℕ
 whole out places place chosen rest = take chosen out ++ place_set_from place (places - place) (length out - chosen) rest
 
 module _ (out : List ℕ) (places place chosen rest : ℕ) (lt : place < places) where
-  set-past : (count k : ℕ) → with_first count k ≤ rest → place_set_from place (suc count) k rest ≡ place_set_from (suc place) count k (rest - with_first count k)
+  set-past : (count k : ℕ) → with_first count k ≤ rest
+      → place_set_from place (suc count) k rest ≡ place_set_from (suc place) count k (rest - with_first count k)
   set-past count zero high = sym (set-none (suc place) count (rest - 0))
   set-past count (suc k) high = set-skips place count k rest high
 
-  unrank_takes : chosen < length out → rest < with_first (places - (place + 1)) (length out - chosen) → take (chosen + 1) (set out chosen place) ++ place_set_from (place + 1) (places - (place + 1)) (length out - (chosen + 1)) rest ≡ whole out places place chosen rest
+  unrank_takes : chosen < length out → rest < with_first (places - (place + 1)) (length out - chosen)
+      → take (chosen + 1) (set out chosen place) ++ place_set_from (place + 1) (places - (place + 1)) (length out - (chosen + 1)) rest ≡ whole out places place chosen rest
   unrank_takes more low =
       let count : ℕ = places - (place + 1) in
       let k : ℕ = length out - (chosen + 1) in
@@ -159,7 +169,8 @@ module _ (out : List ℕ) (places place chosen rest : ℕ) (lt : place < places)
       ∙ ap (λ z. take chosen out ++ place_set_from place z (suc k) rest) all
       ∙ ap (λ z. take chosen out ++ place_set_from place (places - place) z rest) some
 
-  unrank_past : with_first (places - (place + 1)) (length out - chosen) ≤ rest → whole out places (place + 1) chosen (rest - with_first (places - (place + 1)) (length out - chosen)) ≡ whole out places place chosen rest
+  unrank_past : with_first (places - (place + 1)) (length out - chosen) ≤ rest
+      → whole out places (place + 1) chosen (rest - with_first (places - (place + 1)) (length out - chosen)) ≡ whole out places place chosen rest
   unrank_past high =
       let count : ℕ = places - (place + 1) in
       let k : ℕ = length out - chosen in
@@ -170,7 +181,8 @@ module _ (out : List ℕ) (places place chosen rest : ℕ) (lt : place < places)
 
   -- the same at the values that the code leaves
   module _ (out' : List ℕ) (chosen' rest' with_place : ℕ) (is : with_place ≡ with_first (places - (place + 1)) (length out - chosen)) where
-    pub next_takes : chosen < length out → rest < with_place → out' ≡ set out chosen place → chosen' ≡ chosen + 1 → rest' ≡ rest → whole out' places (place + 1) chosen' rest' ≡ whole out places place chosen rest
+    pub next_takes : chosen < length out → rest < with_place → out' ≡ set out chosen place → chosen' ≡ chosen + 1
+        → rest' ≡ rest → whole out' places (place + 1) chosen' rest' ≡ whole out places place chosen rest
     next_takes more low eo ec er =
         ap (λ z. whole out' places (place + 1) chosen' z) er
         ∙ ap (λ z. whole out' places (place + 1) z rest) ec
@@ -178,7 +190,8 @@ module _ (out : List ℕ) (places place chosen rest : ℕ) (lt : place < places)
         ∙ ap (λ z. take (chosen + 1) (set out chosen place) ++ place_set_from (place + 1) (places - (place + 1)) (z - (chosen + 1)) rest) (length-set out chosen place)
         ∙ unrank_takes more (omega arith)
 
-    pub next_past : with_place ≤ rest → out' ≡ out → chosen' ≡ chosen → rest' ≡ rest - with_place → whole out' places (place + 1) chosen' rest' ≡ whole out places place chosen rest
+    pub next_past : with_place ≤ rest → out' ≡ out → chosen' ≡ chosen → rest' ≡ rest - with_place
+        → whole out' places (place + 1) chosen' rest' ≡ whole out places place chosen rest
     next_past high eo ec er =
         ap (λ z. whole out' places (place + 1) chosen' z) (er ∙ ap (λ z. rest - z) is)
         ∙ ap (λ z. whole out' places (place + 1) z (rest - with_first (places - (place + 1)) (length out - chosen))) ec
@@ -186,7 +199,10 @@ module _ (out : List ℕ) (places place chosen rest : ℕ) (lt : place < places)
         ∙ unrank_past (omega arith)
 
 -- at the end the list is written whole
-pub unrank_end : (out : List ℕ) (places place chosen rest number : ℕ) → number < binomial places (length out) → places ≤ place → chosen ≤ length out → whole out places place chosen rest ≡ place_set_at places (length out) number → out ≡ place_set_at places (length out) number
+pub unrank_end : (out : List ℕ) (places place chosen rest number : ℕ) → number < binomial places (length out)
+    → places ≤ place → chosen ≤ length out
+    → whole out places place chosen rest ≡ place_set_at places (length out) number
+    → out ≡ place_set_at places (length out) number
 unrank_end out places place chosen rest number low done within e =
     let none : places - place ≡ 0 = omega arith in
     let front : take chosen out ≡ place_set_at places (length out) number =
@@ -214,7 +230,8 @@ ranked_start xs places sets e =
       counted = omega (arith, ap (λ n. place_set_number_from 0 n xs) all);
     }
 
-pub ranked_next : {xs : List ℕ} {places place passed number sets : ℕ} → places ≤ 12 → IsPlaceSet places (length xs) xs → place < places → IsRanked xs places place passed number sets → NextSets places place (length xs - passed) sets
+pub ranked_next : {xs : List ℕ} {places place passed number sets : ℕ} → places ≤ 12 → IsPlaceSet places (length xs) xs
+    → place < places → IsRanked xs places place passed number sets → NextSets places place (length xs - passed) sets
 ranked_next {xs} {places} {place} {passed} {number} {sets} few valid lt so_far =
     let small = rank_small places xs few valid in
     next_sets places place (length xs - passed) sets few lt (omega (arith, small.1)) so_far.sets_left
@@ -225,7 +242,8 @@ pub record IsUnranked (number places : ℕ) (out : List ℕ) (place chosen rest 
   pub sets_left : sets ≡ binomial (places - place) (length out - chosen)
   pub written : whole out places place chosen rest ≡ place_set_at places (length out) number
 
-pub unranked_start : (number places : ℕ) (out : List ℕ) (sets : ℕ) → sets ≡ binomial places (length out) → IsUnranked number places out 0 0 number sets
+pub unranked_start : (number places : ℕ) (out : List ℕ) (sets : ℕ) → sets ≡ binomial places (length out)
+    → IsUnranked number places out 0 0 number sets
 unfolding place_set_at
 unranked_start number places out sets e = record {
   within = omega arith;
@@ -233,7 +251,9 @@ unranked_start number places out sets e = record {
   written = ap (λ n. place_set_from 0 n (length out - 0) number) (omega arith) ∙ ap (λ k. place_set_from 0 places k number) (omega arith);
 }
 
-pub unranked_next : {number places : ℕ} {out : List ℕ} {place chosen rest sets : ℕ} {all : ℕ} → places ≤ 12 → length out ≡ all → number < binomial places all → place < places → IsUnranked number places out place chosen rest sets → NextSets places place (length out - chosen) sets
+pub unranked_next : {number places : ℕ} {out : List ℕ} {place chosen rest sets : ℕ} {all : ℕ} → places ≤ 12
+    → length out ≡ all → number < binomial places all → place < places
+    → IsUnranked number places out place chosen rest sets → NextSets places place (length out - chosen) sets
 unranked_next {number} {places} {out} {place} {chosen} {rest} {sets} {all} few size below lt so_far =
     next_sets places place (length out - chosen) sets few lt (omega (arith, size_within places all number below)) so_far.sets_left
 

@@ -39,7 +39,8 @@ slice_get-left [] ys i below = absurd (omega arith)
 slice_get-left (x ∷ xs) ys zero below = refl
 slice_get-left (x ∷ xs) ys (suc i) below = slice_get-left xs ys i (omega arith)
 
-pub slice_get-right : {X : Type 0} (xs ys : List X) (i n : ℕ) → n ≡ length xs + i → slice_get (xs ++ ys) n ≡ slice_get ys i
+pub slice_get-right : {X : Type 0} (xs ys : List X) (i n : ℕ) → n ≡ length xs + i
+    → slice_get (xs ++ ys) n ≡ slice_get ys i
 slice_get-right [] ys i n is = ap (slice_get ys) (let e : n ≡ i = omega arith in e)
 slice_get-right (x ∷ xs) ys i zero is = absurd (omega arith)
 slice_get-right (x ∷ xs) ys i (suc n) is = slice_get-right xs ys i n (omega arith)
@@ -50,7 +51,8 @@ pub length-labels_from : (number own : ℕ) → length (labels_from number own) 
 length-labels_from number zero = refl
 length-labels_from number (suc own) = let rest = length-labels_from (number + 1) own in omega (arith, rest)
 
-pub labels_from-own : (number own i : ℕ) → i < own → slice_get (labels_from number own) i ≡ Some (decimal (number + i) ++ codes ". ")
+pub labels_from-own : (number own i : ℕ) → i < own
+    → slice_get (labels_from number own) i ≡ Some (decimal (number + i) ++ codes ". ")
 labels_from-own number zero i below = absurd (omega arith)
 labels_from-own number (suc own) zero below = let same : number ≡ number + 0 = omega arith in ap (λ n. Some (decimal n ++ codes ". ")) same
 labels_from-own number (suc own) (suc i) below =
@@ -106,7 +108,8 @@ group_lines-last own letter slot =
 
 -- ---- all groups
 
-pub length-groups_lines : (own groups letter slot : ℕ) → length (groups_lines own groups letter slot) ≡ groups * (own + 4)
+pub length-groups_lines : (own groups letter slot : ℕ)
+    → length (groups_lines own groups letter slot) ≡ groups * (own + 4)
 length-groups_lines own zero letter slot = omega arith
 length-groups_lines own (suc more) letter slot =
     let all = length-append (group_lines own letter slot) (groups_lines own more (letter + 1) (slot + (own + 2))) in

@@ -28,8 +28,9 @@ use Rattle.scr_search.proofs.Leads.{leads-parts, after_of-place, play-places}
 use Rattle.scr_search.specs.Views.{Sees, View, Views}
 
 -- A word that leads to a goal has at least as many turns as stand at the state's position.
-pub least-of : {S : Type 0} (space : SearchSpace S) (c : Coordinate) (number : S → ℕ) → Follows space (positions c) number → (table : Distances) → Measures c table
-    → (s e : S) (w : List ℕ) → space.IsValid s → play space.after s w ≡ Some e → space.IsGoal e → get_or table.distances (number s) 0 ≤ length w
+pub least-of : {S : Type 0} (space : SearchSpace S) (c : Coordinate) (number : S → ℕ)
+    → Follows space (positions c) number → (table : Distances) → Measures c table → (s e : S) (w : List ℕ)
+    → space.IsValid s → play space.after s w ≡ Some e → space.IsGoal e → get_or table.distances (number s) 0 ≤ length w
 least-of space c number f table m s e w h played goal =
     let l = ((FindsTheSame-follows space (positions c) number f).words s w h).0 (record { end = e; played = played; goal = goal }) in
     (m.exact (number s) (f.valid s h)).least w l
@@ -39,8 +40,8 @@ pub IsCube-turned : (c d : CubeState) (t : ℕ) → IsCube c → after_turn c t 
 IsCube-turned c d t h e = lawful_cube.lawful.kept c d (face_turn_at t) h e
 
 -- A table leaves a turn that leads near enough, by the outlook of the position or for want of one.
-leaves : (c : Coordinate) (distances : List ℕ) (all : List Outlook) (p q t left : ℕ) → AreOutlooks c distances all → p < c.count → moved c p t ≡ Some q
-    → get_or distances q 0 < left → get_or distances p 0 ≤ left → t < 18
+leaves : (c : Coordinate) (distances : List ℕ) (all : List Outlook) (p q t left : ℕ) → AreOutlooks c distances all
+    → p < c.count → moved c p t ≡ Some q → get_or distances q 0 < left → get_or distances p 0 ≤ left → t < 18
     → contains_turn (option_map_or (λ o. turns_within o left) (slice_get all p) (cond (nat_le (get_or distances p 0) left) (2 ^ 18 - 1) 0)) t ≡ true
 leaves c distances all p q t left are here to near far below = by_outlook (slice_get all p) refl
   where
@@ -60,8 +61,8 @@ module _ (v : Views) (few : length v.turns ≤ 18) (view : View) (s : Sees v vie
       least-of (cube_space v.IsSeen v.turns (λ d. IsGoal view.coordinate (view.number d))) view.coordinate view.number s.along table.distances
       is.distances.measures c e w h played (s.ends e seen end)
 
-  pub near-way : (c : CubeState) (p n : ℕ) (w : List ℕ) → v.IsSeen c → p ≡ view.number c → Contains (words_of v.turns n) w → leads v.ends c w ≡ true
-      → get_or table.distances.distances p 0 ≤ n
+  pub near-way : (c : CubeState) (p n : ℕ) (w : List ℕ) → v.IsSeen c → p ≡ view.number c
+      → Contains (words_of v.turns n) w → leads v.ends c w ≡ true → get_or table.distances.distances p 0 ≤ n
   near-way c p n w h at there way =
       let to = leads-parts v.ends c w way in
       let word = All-contains (IsWordOf v.turns n) (words_of v.turns n) w (words_of-each v.turns n) there in
@@ -69,8 +70,8 @@ module _ (v : Views) (few : length v.turns ≤ 18) (view : View) (s : Sees v vie
       play-places v.turns c word.places word.below ∙ ap (play after_turn c) (sym word.is) ∙ to.1 in
       omega (arith, far c to.0 word.places h played to.2, word.size, ap (λ k. get_or table.distances.distances k 0) at)
 
-  kept-way : (c : CubeState) (p more left place : ℕ) (w : List ℕ) → v.IsSeen c → p ≡ view.number c → left ≡ more + 1 → place < length v.turns
-      → Contains (words_of v.turns more) w → leads v.ends c (get_or v.turns place 0 ∷ w) ≡ true
+  kept-way : (c : CubeState) (p more left place : ℕ) (w : List ℕ) → v.IsSeen c → p ≡ view.number c → left ≡ more + 1
+      → place < length v.turns → Contains (words_of v.turns more) w → leads v.ends c (get_or v.turns place 0 ∷ w) ≡ true
       → contains_turn (turns_left table p left) place ≡ true
   unfolding turns_left play
   kept-way c p more left place w h at one lt there way =
@@ -93,16 +94,17 @@ module _ (v : Views) (few : length v.turns ≤ 18) (view : View) (s : Sees v vie
       (omega (arith, near, word.size, one)) (omega (arith, same, from, word.size, one)) (omega (arith, lt, few))
 
   -- so it leaves the ways
-  pub LeavesWays-table : (c : CubeState) (p more left bits : ℕ) → v.IsSeen c → p ≡ view.number c → left ≡ more + 1 → bits ≡ turns_left table p left
-      → LeavesWays v.turns v.ends c more bits
+  pub LeavesWays-table : (c : CubeState) (p more left bits : ℕ) → v.IsSeen c → p ≡ view.number c → left ≡ more + 1
+      → bits ≡ turns_left table p left → LeavesWays v.turns v.ends c more bits
   LeavesWays-table c p more left bits h at one turns = record {
     left = λ place w lt there way.
         subst (λ b. contains_turn b place ≡ true) (sym turns) (kept-way c p more left place w h at one lt there way);
   }
 
 -- and so do the turns that two tables leave
-pub LeavesWays-both : (turns : List ℕ) (goal : CubeState → Bool) (c : CubeState) (more one other both : ℕ) → LeavesWays turns goal c more one
-    → LeavesWays turns goal c more other → ((place : ℕ) → contains_turn both place ≡ (contains_turn one place && contains_turn other place))
+pub LeavesWays-both : (turns : List ℕ) (goal : CubeState → Bool) (c : CubeState) (more one other both : ℕ)
+    → LeavesWays turns goal c more one → LeavesWays turns goal c more other
+    → ((place : ℕ) → contains_turn both place ≡ (contains_turn one place && contains_turn other place))
     → LeavesWays turns goal c more both
 LeavesWays-both turns goal c more one other both a b and = record {
   left = λ place w lt there way.

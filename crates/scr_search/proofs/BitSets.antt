@@ -40,7 +40,8 @@ and-false : (b : Bool) → (b && false) ≡ false
 and-false true = refl
 and-false false = refl
 
-pub has_turn-with : (bits turn t : ℕ) → turn < 18 → contains_turn (bit_or bits (1 * 2 ^ turn % 2 ^ 32)) t ≡ (contains_turn bits t || (t == turn))
+pub has_turn-with : (bits turn t : ℕ) → turn < 18
+    → contains_turn (bit_or bits (1 * 2 ^ turn % 2 ^ 32)) t ≡ (contains_turn bits t || (t == turn))
 has_turn-with bits turn t lt =
     elim (cases_eq t turn) [
       | inl same ↦
@@ -56,14 +57,16 @@ has_turn-with bits turn t lt =
 keep_by : {X : Type 0} (b c : Bool) (x : X) (xs ys : List X) → b ≡ c → xs ≡ ys → cond b (x ∷ xs) xs ≡ cond c (x ∷ ys) ys
 keep_by b c x xs ys e f = ap (λ d. cond d (x ∷ xs) xs) e ∙ ap (λ zs. cond c (x ∷ zs) zs) f
 
-agree_from : (p q : ℕ → Bool) (low n : ℕ) → ((k : ℕ) → low ≤ k → k < low + n → p k ≡ q k) → filter p (numbers_from low n) ≡ filter q (numbers_from low n)
+agree_from : (p q : ℕ → Bool) (low n : ℕ) → ((k : ℕ) → low ≤ k → k < low + n → p k ≡ q k)
+    → filter p (numbers_from low n) ≡ filter q (numbers_from low n)
 agree_from p q low zero h = refl
 agree_from p q low (suc n) h =
     keep_by (p low) (q low) low (filter p (numbers_from (suc low) n)) (filter q (numbers_from (suc low) n)) (h low (omega arith) (omega arith))
     (agree_from p q (suc low) n (λ k le lt. h k (omega arith) (omega arith)))
 
-first_from : (p q : ℕ → Bool) (low n t : ℕ) → low ≤ t → t < low + n → p t ≡ true → q t ≡ false → ((k : ℕ) → k < t → p k ≡ false)
-    → ((k : ℕ) → k < low + n → k ≢ t → q k ≡ p k) → filter p (numbers_from low n) ≡ t ∷ filter q (numbers_from low n)
+first_from : (p q : ℕ → Bool) (low n t : ℕ) → low ≤ t → t < low + n → p t ≡ true → q t ≡ false
+    → ((k : ℕ) → k < t → p k ≡ false) → ((k : ℕ) → k < low + n → k ≢ t → q k ≡ p k)
+    → filter p (numbers_from low n) ≡ t ∷ filter q (numbers_from low n)
 first_from p q low zero t le lt a b before same = absurd (omega arith)
 first_from p q low (suc n) t le lt a b before same =
     elim (cases_eq low t) [

@@ -17,7 +17,8 @@ use Rattle.scr_search.specs.Views.{beside}
 
 -- ---- two coordinates side by side, in either order
 
-pub ShowsSame-beside : (b : Bool) (l h low high : Coordinate) → h.turns ≡ l.turns → ShowsSame l low → ShowsSame h high → ShowsSame (beside b l h) (beside b low high)
+pub ShowsSame-beside : (b : Bool) (l h low high : Coordinate) → h.turns ≡ l.turns → ShowsSame l low → ShowsSame h high
+    → ShowsSame (beside b l h) (beside b low high)
 ShowsSame-beside false l h low high turns f g = ShowsSame-product l h low high turns f g
 ShowsSame-beside true l h low high turns f g = ShowsSame-product h l high low (sym turns) g f
 
@@ -25,12 +26,14 @@ count-beside : (b : Bool) (low high : Coordinate) → (beside b low high).count 
 count-beside false low high = refl
 count-beside true low high = omega arith
 
-pub below-beside : (b : Bool) (low high : Coordinate) (n m p all : ℕ) → low.count ≡ n → high.count ≡ m → p < n * m → all ≡ (beside b low high).count → p < all
+pub below-beside : (b : Bool) (low high : Coordinate) (n m p all : ℕ) → low.count ≡ n → high.count ≡ m → p < n * m
+    → all ≡ (beside b low high).count → p < all
 below-beside b low high n m p all e f lt is = omega (arith, lt, is, count-beside b low high, ap (λ k. k * high.count) e, ap (λ k. n * k) f)
 
 -- what is asked of the moves that stand side by side
-pub fits-beside : (l h low high : Coordinate) (n m turns : ℕ) → l.turns ≡ turns → h.turns ≡ turns → l.count ≡ n → h.count ≡ m → ShowsSame l low → ShowsSame h high
-    → n * m < 2 ^ 32 → (high.turns ≡ low.turns) × (low.count * high.count < 2 ^ 32)
+pub fits-beside : (l h low high : Coordinate) (n m turns : ℕ) → l.turns ≡ turns → h.turns ≡ turns → l.count ≡ n
+    → h.count ≡ m → ShowsSame l low → ShowsSame h high → n * m < 2 ^ 32
+    → (high.turns ≡ low.turns) × (low.count * high.count < 2 ^ 32)
 fits-beside l h low high n m turns a b e f s t lt = (
   t.turns ∙ b ∙ sym (s.turns ∙ a),
   omega (arith, lt, ap (λ k. k * high.count) (s.count ∙ e), ap (λ k. n * k) (t.count ∙ f)),
@@ -39,7 +42,8 @@ fits-beside l h low high n m turns a b e f s t lt = (
 -- ---- outlooks
 
 -- there may be none
-pub AreOutlooks-none : (c : Coordinate) (distances : List ℕ) (all : List Outlook) → all ≡ [] → AreOutlooks c distances all
+pub AreOutlooks-none : (c : Coordinate) (distances : List ℕ) (all : List Outlook) → all ≡ []
+    → AreOutlooks c distances all
 AreOutlooks-none c distances all none = record { each = λ p o at there. absurd (no_outlook all p o none there) }
   where
     no_outlook : (os : List Outlook) (p : ℕ) (o : Outlook) → os ≡ [] → slice_get os p ≡ Some o → ⊥
@@ -47,8 +51,8 @@ AreOutlooks-none c distances all none = record { each = λ p o at there. absurd 
     no_outlook (u ∷ us) p o none there = cc
 
 -- those over what shows a coordinate are those over the coordinate
-AreOutlooks-same : (c shown : Coordinate) → StaysBelow shown → ShowsSame c shown → (distances : List ℕ) (all : List Outlook)
-    → AreOutlooks shown distances all → AreOutlooks c distances all
+AreOutlooks-same : (c shown : Coordinate) → StaysBelow shown → ShowsSame c shown
+    → (distances : List ℕ) (all : List Outlook) → AreOutlooks shown distances all → AreOutlooks c distances all
 AreOutlooks-same c shown below same distances all o = record {
   each = λ p outlook at there. record {
     kept = λ t q left to lt.
@@ -57,9 +61,11 @@ AreOutlooks-same c shown below same distances all o = record {
   };
 }
 
--- Those that are found over what shows a line's coordinate are those of its table, by either name of what the line is made of.
-pub IfOk-outlooks : {X E : Type 0} (items : X → List Outlook) (line : Extent → TableLine) (e f : Extent) → e ≡ f → (table : PruningTable) (shown : Coordinate)
-    → StaysBelow shown → ShowsSame (line e).coordinate shown → (r : Result X E) → IfOk r (λ all. AreOutlooks shown table.distances.distances (items all))
+-- Those that are found over what shows a line's coordinate are those of its table, by either name of what the line is
+-- made of.
+pub IfOk-outlooks : {X E : Type 0} (items : X → List Outlook) (line : Extent → TableLine) (e f : Extent) → e ≡ f
+    → (table : PruningTable) (shown : Coordinate) → StaysBelow shown → ShowsSame (line e).coordinate shown
+    → (r : Result X E) → IfOk r (λ all. AreOutlooks shown table.distances.distances (items all))
     → IfOk r (λ all. AreOutlooksOf (line f) table (items all))
 IfOk-outlooks items line e f same table shown below shows r found =
     subst (λ x. IfOk r (λ all. AreOutlooksOf (line x) table (items all))) same

@@ -18,20 +18,24 @@ use Rattle.scr_search.specs.Orderly.{after_turn, leads}
 
 -- ---- where words lead
 
-pub leads-parts : (test : CubeState → Bool) (c : CubeState) (w : List ℕ) → leads test c w ≡ true → (d : CubeState) × (play after_turn c w ≡ Some d) × (test d ≡ true)
+pub leads-parts : (test : CubeState → Bool) (c : CubeState) (w : List ℕ) → leads test c w ≡ true
+    → (d : CubeState) × (play after_turn c w ≡ Some d) × (test d ≡ true)
 leads-parts test c w e = by (play after_turn c w) refl e
   where
-    by : (o : Option CubeState) → play after_turn c w ≡ o → option_map_or test o false ≡ true → (d : CubeState) × (play after_turn c w ≡ Some d) × (test d ≡ true)
+    by : (o : Option CubeState) → play after_turn c w ≡ o → option_map_or test o false ≡ true
+        → (d : CubeState) × (play after_turn c w ≡ Some d) × (test d ≡ true)
     by None is h = absurd (false≢true h)
     by (Some d) is h = (d, is, h)
 
-pub leads-played : (test : CubeState → Bool) (c d : CubeState) (w : List ℕ) → play after_turn c w ≡ Some d → leads test c w ≡ test d
+pub leads-played : (test : CubeState → Bool) (c d : CubeState) (w : List ℕ) → play after_turn c w ≡ Some d
+    → leads test c w ≡ test d
 leads-played test c d w e = ap (λ o. option_map_or test o false) e
 
 -- ---- words of places
 
 -- what the turn at a place does is what the turn with its number does
-pub after_of-place : (turns : List ℕ) (c : CubeState) (k : ℕ) → k < length turns → after_of turns c k ≡ after_turn c (slice_index turns k)
+pub after_of-place : (turns : List ℕ) (c : CubeState) (k : ℕ) → k < length turns
+    → after_of turns c k ≡ after_turn c (slice_index turns k)
 after_of-place turns c k lt = after_of-is turns c k ∙ ap (option_and_then (after_turn c)) (slice_get-get_or turns k 0 lt)
 
 pub play-places : (turns : List ℕ) (c : CubeState) (places : List ℕ) → All (λ k. k < length turns) places
@@ -42,13 +46,15 @@ play-places turns c (k ∷ places) below =
     ap (option_and_then (λ d. play (after_of turns) d places)) (after_of-place turns c k (All-head (λ j. j < length turns) k places below))
     ∙ rest (after_turn c (slice_index turns k)) (λ d. play-places turns d places (All-tail (λ j. j < length turns) k places below))
   where
-    rest : (o : Option CubeState) → ((d : CubeState) → play (after_of turns) d places ≡ play after_turn d (pick turns places))
+    rest : (o : Option CubeState)
+        → ((d : CubeState) → play (after_of turns) d places ≡ play after_turn d (pick turns places))
         → option_and_then (λ d. play (after_of turns) d places) o ≡ option_and_then (λ d. play after_turn d (pick turns places)) o
     rest None h = refl
     rest (Some d) h = h d
 
 -- each of the turns leads somewhere
-turn_leads-to : (c : CubeState) (t : ℕ) → t < 18 → after_turn c t ≡ Some (cube_action.turned c (get_or (cube_turns cube_powers) t cube_action.identity))
+turn_leads-to : (c : CubeState) (t : ℕ) → t < 18
+    → after_turn c t ≡ Some (cube_action.turned c (get_or (cube_turns cube_powers) t cube_action.identity))
 unfolding cube_turns
 turn_leads-to c t lt =
     ap (option_map (cube_action.turned c)) (sym (lawful_cube.numbered t)
@@ -69,16 +75,17 @@ turn-below c d t e =
     ]
 
 -- and where: the turn with the number rearranges the pieces
-pub after_turn-is : (c d : CubeState) (t : ℕ) → after_turn c t ≡ Some d → d ≡ cube_action.turned c (get_or (cube_turns cube_powers) t cube_action.identity)
+pub after_turn-is : (c d : CubeState) (t : ℕ) → after_turn c t ≡ Some d
+    → d ≡ cube_action.turned c (get_or (cube_turns cube_powers) t cube_action.identity)
 after_turn-is c d t to = same_Some d (cube_action.turned c (get_or (cube_turns cube_powers) t cube_action.identity)) (sym to ∙ (turn_leads-to c t (turn-below c d t to)))
 
 -- where words of turns lead behind a word
-pub leads-behind : (test : CubeState → Bool) (c there : CubeState) (word v : List ℕ) → play after_turn c word ≡ Some there
-    → leads test c (word ++ v) ≡ leads test there v
+pub leads-behind : (test : CubeState → Bool) (c there : CubeState) (word v : List ℕ)
+    → play after_turn c word ≡ Some there → leads test c (word ++ v) ≡ leads test there v
 leads-behind test c there word v played = ap (λ o. option_map_or test o false) (play-append after_turn c there word v played)
 
-pub played_more : (c there d : CubeState) (word : List ℕ) (t : ℕ) → play after_turn c word ≡ Some there → after_turn there t ≡ Some d
-    → play after_turn c (word ++ t ∷ []) ≡ Some d
+pub played_more : (c there d : CubeState) (word : List ℕ) (t : ℕ) → play after_turn c word ≡ Some there
+    → after_turn there t ≡ Some d → play after_turn c (word ++ t ∷ []) ≡ Some d
 played_more c there d word t played to = play-append after_turn c there word (t ∷ []) played ∙ play-one after_turn there t ∙ to
 
 -- ---- tests of words and numbers

@@ -22,8 +22,9 @@ abbrev pub both_set : ℕ → ℕ → ℕ → ℕ
 both_set word first second = bit_or (bit_or word (1 * 2 ^ first % 2 ^ 64)) (1 * 2 ^ second % 2 ^ 64)
 
 -- a number whose word is written
-pub HasBits-entered : (words : List ℕ) (number word at first second : ℕ) → at ≡ word_of number → first ≡ first_bit number → second ≡ second_bit number
-    → first < 64 → second < 64 → at < length words → HasBits (set words at (both_set word first second)) number
+pub HasBits-entered : (words : List ℕ) (number word at first second : ℕ) → at ≡ word_of number
+    → first ≡ first_bit number → second ≡ second_bit number → first < 64 → second < 64 → at < length words
+    → HasBits (set words at (both_set word first second)) number
 HasBits-entered words number word at first second e f s few_first few_second inside =
     let one : ℕ = bit_or word (1 * 2 ^ first % 2 ^ 64) in
     let two : ℕ = both_set word first second in
@@ -37,8 +38,8 @@ HasBits-entered words number word at first second e f s few_first few_second ins
     }
 
 -- a bit that was set is set after a word is written
-still : (words : List ℕ) (seat i word at first second : ℕ) → word ≡ get_or words at 0 → at < length words → bit_at (get_or words seat 0) i ≡ 1
-    → bit_at (get_or (set words at (both_set word first second)) seat 0) i ≡ 1
+still : (words : List ℕ) (seat i word at first second : ℕ) → word ≡ get_or words at 0 → at < length words
+    → bit_at (get_or words seat 0) i ≡ 1 → bit_at (get_or (set words at (both_set word first second)) seat 0) i ≡ 1
 still words seat i word at first second is inside was =
     let one : ℕ = bit_or word (1 * 2 ^ first % 2 ^ 64) in
     let two : ℕ = both_set word first second in
@@ -51,16 +52,17 @@ still words seat i word at first second is inside was =
     ]
 
 -- and any other
-pub HasBits-kept : (words : List ℕ) (other word at first second : ℕ) → word ≡ get_or words at 0 → at < length words → HasBits words other
-    → HasBits (set words at (both_set word first second)) other
+pub HasBits-kept : (words : List ℕ) (other word at first second : ℕ) → word ≡ get_or words at 0 → at < length words
+    → HasBits words other → HasBits (set words at (both_set word first second)) other
 HasBits-kept words other word at first second is inside h = record {
   first = still words (word_of other) (first_bit other) word at first second is inside h.first;
   second = still words (word_of other) (second_bit other) word at first second is inside h.second;
 }
 
 -- what a look at both bits answers
-pub both_bits : (words : List ℕ) (number word at first second : ℕ) → word ≡ get_or words at 0 → at ≡ word_of number → first ≡ first_bit number → second ≡ second_bit number
-    → HasBits words number → (bit_and (bit_and (word / 2 ^ first) 1) (bit_and (word / 2 ^ second) 1) == 1) ≡ true
+pub both_bits : (words : List ℕ) (number word at first second : ℕ) → word ≡ get_or words at 0 → at ≡ word_of number
+    → first ≡ first_bit number → second ≡ second_bit number → HasBits words number
+    → (bit_and (bit_and (word / 2 ^ first) 1) (bit_and (word / 2 ^ second) 1) == 1) ≡ true
 both_bits words number word at first second is e f s h =
     let here : word ≡ get_or words (word_of number) 0 = is ∙ ap (λ k. get_or words k 0) e in
     let a : bit_and (word / 2 ^ first) 1 ≡ 1 =

@@ -47,7 +47,8 @@ pub record IsStep (test : CubeState → Bool) (c : CubeState) (t : ℕ) (others 
   pub to : after_turn c t ≡ Some there
   pub way : leads test there others ≡ true
 
-pub step_of : (test : CubeState → Bool) (c : CubeState) (t : ℕ) (others : List ℕ) → leads test c (t ∷ others) ≡ true → IsStep test c t others
+pub step_of : (test : CubeState → Bool) (c : CubeState) (t : ℕ) (others : List ℕ) → leads test c (t ∷ others) ≡ true
+    → IsStep test c t others
 step_of test c t others way =
     let whole = leads-parts test c (t ∷ others) way in
     let parts = play-parts after_turn c whole.0 t others whole.1 in
@@ -56,8 +57,9 @@ step_of test c t others way =
 -- ---- level by level
 
 -- one more at the end of a list
-pub each-pushed : {X : Type 0} (P : ℕ → X → Type 0) (xs : List X) (x d : X) → ((k : ℕ) → k < length xs → P k (get_or xs k d)) → P (length xs) x
-    → (k : ℕ) → k < length xs + 1 → P k (get_or (xs ++ x ∷ []) k d)
+pub each-pushed : {X : Type 0} (P : ℕ → X → Type 0) (xs : List X) (x d : X)
+    → ((k : ℕ) → k < length xs → P k (get_or xs k d)) → P (length xs) x → (k : ℕ) → k < length xs + 1
+    → P k (get_or (xs ++ x ∷ []) k d)
 each-pushed P xs x d before here =
     let end : length xs ≡ length xs + 0 = omega arith in
     let last : get_or (xs ++ x ∷ []) (length xs) d ≡ x = ap (λ k. get_or (xs ++ x ∷ []) k d) end ∙ get_or-append-add xs (x ∷ []) 0 d in
@@ -66,7 +68,8 @@ each-pushed P xs x d before here =
     (subst (P (length xs)) (sym last) here)
 
 -- what a worker found, where it did
-found_there : (P : List ℕ → Type 0) (found : Listed) → IsSomeAnd found (λ out. IfOk out (λ list. P list.items)) → IsThere found → P (numbers_in found)
+found_there : (P : List ℕ → Type 0) (found : Listed) → IsSomeAnd found (λ out. IfOk out (λ list. P list.items))
+    → IsThere found → P (numbers_in found)
 found_there P (Some (Ok list)) h there = h
 found_there P (Some (Err fault)) h there = absurd there
 found_there P None h there = absurd there
@@ -96,9 +99,10 @@ module _ (turns : List ℕ) (IsSeen : CubeState → Type 0) (number : CubeState 
   }
 
   -- one turn more, of a block
-  pub near_in_block : (backs : List ℕ) (most : ℕ) (lists : List Listed) (block : ℕ) (Has : ℕ → Type 0) → AreTakenBack turns backs IsSeen
-      → IsNear turns IsSeen number test most (IsListed lists) → IsSpread turns IsSeen number lists block Has
-      → (c : CubeState) (n : ℕ) (v : List ℕ) → IsSeen c → number c / 2 ^ 32 ≡ block → n ≤ most + 1 → Contains (words_of turns n) v → leads test c v ≡ true
+  pub near_in_block : (backs : List ℕ) (most : ℕ) (lists : List Listed) (block : ℕ) (Has : ℕ → Type 0)
+      → AreTakenBack turns backs IsSeen → IsNear turns IsSeen number test most (IsListed lists)
+      → IsSpread turns IsSeen number lists block Has → (c : CubeState) (n : ℕ) (v : List ℕ) → IsSeen c
+      → number c / 2 ^ 32 ≡ block → n ≤ most + 1 → Contains (words_of turns n) v → leads test c v ≡ true
       → Has (number c % 2 ^ 32)
   near_in_block backs most lists block Has back h spread c n v seen at le there way =
       elim (cases_lt most n) [
@@ -116,7 +120,8 @@ module _ (turns : List ℕ) (IsSeen : CubeState → Type 0) (number : CubeState 
   pub IsNear-listed : (backs : List ℕ) (most : ℕ) (lists next : List Listed) → AreTakenBack turns backs IsSeen
       → ((c : CubeState) → IsSeen c → number c / 2 ^ 32 < length next)
       → AreAnswered (λ block out. IfOk out (λ list. IsSpread turns IsSeen number lists block (Contains list.items))) next
-      → ((k : ℕ) → k < length next → IsThere (slice_index_or next k None)) → IsNear turns IsSeen number test most (IsListed lists)
+      → ((k : ℕ) → k < length next → IsThere (slice_index_or next k None))
+      → IsNear turns IsSeen number test most (IsListed lists)
       → IsNear turns IsSeen number test (most + 1) (IsListed next)
   IsNear-listed backs most lists next back below answered all h = record {
     near = λ c n v seen le there way.
@@ -127,8 +132,8 @@ module _ (turns : List ℕ) (IsSeen : CubeState → Type 0) (number : CubeState 
   }
 
   -- and as they enter them into a near set
-  pub IsNear-entered : (backs : List ℕ) (most : ℕ) (lists : List Listed) (blocks : List NearBlock) (set : NearSet) → AreTakenBack turns backs IsSeen
-      → set.blocks.items ≡ blocks
+  pub IsNear-entered : (backs : List ℕ) (most : ℕ) (lists : List Listed) (blocks : List NearBlock) (set : NearSet)
+      → AreTakenBack turns backs IsSeen → set.blocks.items ≡ blocks
       → ((k : ℕ) (d : NearBlock) → k < length blocks → IsSpread turns IsSeen number lists k (HasBits (slice_index_or blocks k d).words))
       → IsNear turns IsSeen number test most (IsListed lists) → IsNear turns IsSeen number test (most + 1) (IsInSet set)
   IsNear-entered backs most lists blocks set back is spread h = record {
@@ -202,8 +207,9 @@ module _ (turns : List ℕ) (IsSeen : CubeState → Type 0) (number : CubeState 
           ];
     }
 
-    pub LeavesNear-looked : (backs : List ℕ) (test : CubeState → Bool) (c : CubeState) (more : ℕ) → others ≡ 0 → AreTakenBack turns backs IsSeen
-        → IsNear turns IsSeen number test more Has → IsSeen c → Shown c → LeavesNear turns test c more all into
+    pub LeavesNear-looked : (backs : List ℕ) (test : CubeState → Bool) (c : CubeState) (more : ℕ) → others ≡ 0
+        → AreTakenBack turns backs IsSeen → IsNear turns IsSeen number test more Has → IsSeen c → Shown c
+        → LeavesNear turns test c more all into
     LeavesNear-looked backs test c more none back near seen shown = record {
       among = h.into_among;
       left = λ place v lt listed way is.
@@ -216,13 +222,15 @@ module _ (turns : List ℕ) (IsSeen : CubeState → Type 0) (number : CubeState 
     }
 
 -- nothing is left out
-pub LeavesNear-all : (turns : List ℕ) (test : CubeState → Bool) (c : CubeState) (more bits : ℕ) → LeavesNear turns test c more bits bits
+pub LeavesNear-all : (turns : List ℕ) (test : CubeState → Bool) (c : CubeState) (more bits : ℕ)
+    → LeavesNear turns test c more bits bits
 LeavesNear-all turns test c more bits = record { among = λ place h. h; left = λ place v lt listed way h. h }
 
 -- What a near set leaves keeps the ways.
 pub KeepsWays-near : (turns : List ℕ) (goal : CubeState → Bool) (test : List ℕ → Bool) (c there : CubeState) (word : List ℕ) (more bits near : ℕ)
     → ((w : List ℕ) → test w ≡ true → leads goal c w ≡ true) → play after_turn c word ≡ Some there
-    → KeepsWays turns test word more bits → LeavesNear turns goal there more bits near → KeepsWays turns test word more near
+    → KeepsWays turns test word more bits → LeavesNear turns goal there more bits near
+    → KeepsWays turns test word more near
 KeepsWays-near turns goal test c there word more bits near ways played keeps leaves = record {
   kept = λ place v lt listed passes.
       let t : ℕ = get_or turns place 0 in

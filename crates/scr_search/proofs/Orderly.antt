@@ -8,7 +8,8 @@ use Rattle.scr_search.specs.Search.{may_end}
 
 -- ---- the last letter
 
-last-cons : (t u : ℕ) (w : List ℕ) → slice_get (t ∷ u ∷ w) (length (t ∷ u ∷ w) - 1) ≡ slice_get (u ∷ w) (length (u ∷ w) - 1)
+last-cons : (t u : ℕ) (w : List ℕ)
+    → slice_get (t ∷ u ∷ w) (length (t ∷ u ∷ w) - 1) ≡ slice_get (u ∷ w) (length (u ∷ w) - 1)
 last-cons t u w =
     let outer : length (t ∷ u ∷ w) - 1 ≡ suc (length w) = omega arith in
     let inner : length (u ∷ w) - 1 ≡ length w = omega arith in
@@ -26,7 +27,8 @@ and-assoc true b c = refl
 and-assoc false b c = refl
 
 -- a word and then others behind one more turn
-pub is_orderly-behind : (w : List ℕ) (t : ℕ) (v : List ℕ) → is_orderly (w ++ t ∷ v) ≡ ((is_orderly w && may_end w t) && is_orderly (t ∷ v))
+pub is_orderly-behind : (w : List ℕ) (t : ℕ) (v : List ℕ)
+    → is_orderly (w ++ t ∷ v) ≡ ((is_orderly w && may_end w t) && is_orderly (t ∷ v))
 unfolding is_orderly may_end
 is_orderly-behind [] t v = refl
 is_orderly-behind (u ∷ []) t v = refl

@@ -22,8 +22,9 @@ module _ (gives : List ℕ → Option (List ℕ)) where
     IsLeft-all others e = record { same = ap (first_given gives tries) e; used = ap (λ ps. tries - length ps) e }
 
     -- some were tried, and none of them gave anything
-    pub IsLeft-passed : (some others : List (List ℕ)) (left now : ℕ) (before after : List ℕ) → IsLeft all tries (some ++ others) left
-        → IsSearched gives some left before false after now → IsLeft all tries others now
+    pub IsLeft-passed : (some others : List (List ℕ)) (left now : ℕ) (before after : List ℕ)
+        → IsLeft all tries (some ++ others) left → IsSearched gives some left before false after now
+        → IsLeft all tries others now
     IsLeft-passed some others left now before after h s = record {
       same = h.same ∙ first_given-append gives left some others ∙ ap (λ o. option_or o (first_given gives (left - length some) others)) s.given
           ∙ ap (λ n. first_given gives n others) (sym (s.tried refl));
@@ -31,8 +32,9 @@ module _ (gives : List ℕ → Option (List ℕ)) where
     }
 
     -- one did
-    pub IsLeft-found : (some others : List (List ℕ)) (left now : ℕ) (before after : List ℕ) → IsLeft all tries (some ++ others) left
-        → IsSearched gives some left before true after now → IsSearched gives all tries word true after now
+    pub IsLeft-found : (some others : List (List ℕ)) (left now : ℕ) (before after : List ℕ)
+        → IsLeft all tries (some ++ others) left → IsSearched gives some left before true after now
+        → IsSearched gives all tries word true after now
     IsLeft-found some others left now before after h s = record {
       given = h.same ∙ first_given-append gives left some others ∙ ap (λ o. option_or o (first_given gives (left - length some) others)) s.given;
       same = λ e. absurd (cc);
@@ -40,7 +42,8 @@ module _ (gives : List ℕ → Option (List ℕ)) where
     }
 
     -- at the end none did
-    pub IsLeft-none : (left : ℕ) (after : List ℕ) → after ≡ word → IsLeft all tries [] left → IsSearched gives all tries word false after left
+    pub IsLeft-none : (left : ℕ) (after : List ℕ) → after ≡ word → IsLeft all tries [] left
+        → IsSearched gives all tries word false after left
     IsLeft-none left after e h = record {
       given = h.same ∙ first_given-none gives left;
       same = λ f. e;
@@ -48,7 +51,8 @@ module _ (gives : List ℕ → Option (List ℕ)) where
     }
 
   -- no word is looked at once all tries are made
-  pub IsSearched-spent : (words : List (List ℕ)) (tries : ℕ) (word : List ℕ) → tries ≡ 0 → IsSearched gives words tries word false word tries
+  pub IsSearched-spent : (words : List (List ℕ)) (tries : ℕ) (word : List ℕ) → tries ≡ 0
+      → IsSearched gives words tries word false word tries
   IsSearched-spent words tries word e = record {
     given = ap (λ n. first_given gives n words) e ∙ first_given-spent gives words;
     same = λ f. refl;
@@ -56,7 +60,8 @@ module _ (gives : List ℕ → Option (List ℕ)) where
   }
 
   -- where there is none
-  pub IsSearched-none : (words : List (List ℕ)) (tries : ℕ) (word : List ℕ) → words ≡ [] → IsSearched gives words tries word false word tries
+  pub IsSearched-none : (words : List (List ℕ)) (tries : ℕ) (word : List ℕ) → words ≡ []
+      → IsSearched gives words tries word false word tries
   IsSearched-none words tries word e = record {
     given = ap (first_given gives tries) e ∙ first_given-none gives tries;
     same = λ f. refl;
@@ -64,9 +69,9 @@ module _ (gives : List ℕ → Option (List ℕ)) where
   }
 
   -- where there is one
-  pub IsSearched-one : (words : List (List ℕ)) (tries left : ℕ) (word after : List ℕ) (found : Bool) → words ≡ word ∷ [] → 0 < tries
-      → gives word ≡ cond found (Some after) None → (found ≡ false → after ≡ word) → (found ≡ false → left ≡ tries - 1)
-      → IsSearched gives words tries word found after left
+  pub IsSearched-one : (words : List (List ℕ)) (tries left : ℕ) (word after : List ℕ) (found : Bool) → words ≡ word ∷ []
+      → 0 < tries → gives word ≡ cond found (Some after) None → (found ≡ false → after ≡ word)
+      → (found ≡ false → left ≡ tries - 1) → IsSearched gives words tries word found after left
   IsSearched-one words tries left word after found e some given same tried =
       let more : tries ≡ suc (tries - 1) = omega arith in
       record {
@@ -87,7 +92,8 @@ module _ (turns : List ℕ) (test : List ℕ → Bool) (gives : List ℕ → Opt
   pub record AreLongerLeft (from left : ℕ) : Type 0 where
     pub words : IsLeft gives all_words tries (longer from) left
 
-  pub AreLongerLeft-begin : (least : ℕ) → ((n : ℕ) → n < least → words_behind turns test word n ≡ []) → AreLongerLeft least tries
+  pub AreLongerLeft-begin : (least : ℕ) → ((n : ℕ) → n < least → words_behind turns test word n ≡ [])
+      → AreLongerLeft least tries
   AreLongerLeft-begin least none =
       let all : most + 1 ≡ most + 1 - 0 = omega arith in
       record {
@@ -101,18 +107,21 @@ module _ (turns : List ℕ) (test : List ℕ → Bool) (gives : List ℕ → Opt
     next lt = subst (λ ns. IsLeft gives all_words tries (flat_map (words_behind turns test word) ns) left) (numbers_from-next from (most + 1) lt) h.words
 
     module _ (lt : from < most + 1) (now : ℕ) (at after : List ℕ) (is : at ≡ word) where
-      pub AreLongerLeft-next : IsSearched gives (words_behind turns test at from) left at false after now → AreLongerLeft (from + 1) now
+      pub AreLongerLeft-next : IsSearched gives (words_behind turns test at from) left at false after now
+          → AreLongerLeft (from + 1) now
       AreLongerLeft-next s = record {
         words = IsLeft-passed gives all_words tries word (words_behind turns test word from) (longer (from + 1)) left now at after (next lt)
             (subst (λ w. IsSearched gives (words_behind turns test w from) left at false after now) is s);
       }
 
-      pub AreLongerLeft-found : IsSearched gives (words_behind turns test at from) left at true after now → IsSearched gives all_words tries word true after now
+      pub AreLongerLeft-found : IsSearched gives (words_behind turns test at from) left at true after now
+          → IsSearched gives all_words tries word true after now
       AreLongerLeft-found s =
           IsLeft-found gives all_words tries word (words_behind turns test word from) (longer (from + 1)) left now at after (next lt)
           (subst (λ w. IsSearched gives (words_behind turns test w from) left at true after now) is s)
 
-    pub AreLongerLeft-end : most + 1 ≤ from → (after : List ℕ) → after ≡ word → IsSearched gives all_words tries word false after left
+    pub AreLongerLeft-end : most + 1 ≤ from → (after : List ℕ) → after ≡ word
+        → IsSearched gives all_words tries word false after left
     AreLongerLeft-end le after same =
         IsLeft-none gives all_words tries word left after same
         (subst (λ ns. IsLeft gives all_words tries (flat_map (words_behind turns test word) ns) left) (numbers_from-end from (most + 1) le) h.words)

@@ -15,9 +15,10 @@ taken : {X : Type 0} (P : X → Type 0) (b : Bool) (x y : X) → (b ≡ true →
 taken P true x y f g = f refl
 taken P false x y f g = g refl
 
-pub IsOutlook-found : (c : Coordinate) (distances : List ℕ) (p turn : ℕ) (found : Found) (o : Outlook) → AreFound c distances p turn found
-    → get_or distances p 0 ≤ 24 → c.turns ≤ turn → c.turns ≤ 18 → o.nearer ≡ found.nearer.bits + get_or distances p 0 * 262144
-    → o.no_farther ≡ found.no_farther.bits → IsOutlook c distances p o
+pub IsOutlook-found : (c : Coordinate) (distances : List ℕ) (p turn : ℕ) (found : Found) (o : Outlook)
+    → AreFound c distances p turn found → get_or distances p 0 ≤ 24 → c.turns ≤ turn → c.turns ≤ 18
+    → o.nearer ≡ found.nearer.bits + get_or distances p 0 * 262144 → o.no_farther ≡ found.no_farther.bits
+    → IsOutlook c distances p o
 unfolding turns_within
 IsOutlook-found c distances p turn found o h small all few near level = record {
   kept = λ t q left to lt.
@@ -47,8 +48,8 @@ AreFound-none c distances p = record {
 }
 
 -- what is so of each place of a list once one is written anew
-pub each_rewritten : {X : Type 0} (P : ℕ → X → Type 0) (xs : List X) (k : ℕ) (x : X) → k < length xs → P k x → (j : ℕ) (d : X)
-    → (j ≢ k → P j (get_or xs j d)) → P j (get_or (set xs k x) j d)
+pub each_rewritten : {X : Type 0} (P : ℕ → X → Type 0) (xs : List X) (k : ℕ) (x : X) → k < length xs → P k x
+    → (j : ℕ) (d : X) → (j ≢ k → P j (get_or xs j d)) → P j (get_or (set xs k x) j d)
 each_rewritten P xs k x inside here j d there =
     elim (cases_eq j k) [
       | inl same ↦

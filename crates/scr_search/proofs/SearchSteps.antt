@@ -22,15 +22,18 @@ use Rattle.scr_search.proofs.Outcomes.{IsLeft, IsLeft-all, IsLeft-passed, IsLeft
 
 -- ---- turns, told by their places
 
-flat_map-picked : {X : Type 0} (f : ℕ → List X) (xs ks : List ℕ) → flat_map f (pick xs ks) ≡ flat_map (λ k. f (get_or xs k 0)) ks
+flat_map-picked : {X : Type 0} (f : ℕ → List X) (xs ks : List ℕ)
+    → flat_map f (pick xs ks) ≡ flat_map (λ k. f (get_or xs k 0)) ks
 flat_map-picked f xs [] = refl
 flat_map-picked f xs (k ∷ ks) = ap (λ ys. f (get_or xs k 0) ++ ys) (flat_map-picked f xs ks)
 
-pub flat_map-places : {X : Type 0} (f : ℕ → List X) (xs : List ℕ) → flat_map f xs ≡ flat_map (λ k. f (get_or xs k 0)) (numbers_from 0 (length xs))
+pub flat_map-places : {X : Type 0} (f : ℕ → List X) (xs : List ℕ)
+    → flat_map f xs ≡ flat_map (λ k. f (get_or xs k 0)) (numbers_from 0 (length xs))
 flat_map-places f xs = ap (flat_map f) (sym (pick-in_order xs)) ∙ flat_map-picked f xs (numbers_from 0 (length xs))
 
 -- numbers that all fail add nothing
-filter-failing : (test : ℕ → Bool) (low n : ℕ) → ((k : ℕ) → low ≤ k → test k ≡ false) → filter test (numbers_from low n) ≡ []
+filter-failing : (test : ℕ → Bool) (low n : ℕ) → ((k : ℕ) → low ≤ k → test k ≡ false)
+    → filter test (numbers_from low n) ≡ []
 filter-failing test low zero h = refl
 filter-failing test low (suc n) h =
     ap (λ b. cond b (low ∷ filter test (numbers_from (suc low) n)) (filter test (numbers_from (suc low) n))) (h low (omega arith))
@@ -48,7 +51,8 @@ append-none [] ys e = e
 append-none (x ∷ xs) ys e = ap (λ zs. x ∷ zs) (append-none xs ys e)
 
 -- where all that pass are below a number, more numbers add nothing
-filter-more : (test : ℕ → Bool) (n m : ℕ) → ((k : ℕ) → n ≤ k → test k ≡ false) → filter test (numbers_from 0 (n + m)) ≡ filter test (numbers_from 0 n)
+filter-more : (test : ℕ → Bool) (n m : ℕ) → ((k : ℕ) → n ≤ k → test k ≡ false)
+    → filter test (numbers_from 0 (n + m)) ≡ filter test (numbers_from 0 n)
 filter-more test n m none =
     let from : 0 + n ≡ n = omega arith in
     ap (filter test) (numbers_from-parts 0 n m ∙ ap (λ k. numbers_from 0 n ++ numbers_from k m) from)
@@ -56,7 +60,8 @@ filter-more test n m none =
     ∙ append-none (filter test (numbers_from 0 n)) (filter test (numbers_from n m)) (filter-failing test n m none)
 
 -- the turns of a set, all of which are below a number
-turns_in-below : (bits n : ℕ) → bits < 2 ^ 18 → ((k : ℕ) → n ≤ k → contains_turn bits k ≡ false) → turns_in bits ≡ filter (contains_turn bits) (numbers_from 0 n)
+turns_in-below : (bits n : ℕ) → bits < 2 ^ 18 → ((k : ℕ) → n ≤ k → contains_turn bits k ≡ false)
+    → turns_in bits ≡ filter (contains_turn bits) (numbers_from 0 n)
 unfolding turns_in
 turns_in-below bits n small none =
     let both : 18 + n ≡ n + 18 = omega arith in
@@ -67,7 +72,8 @@ kept_if : (P : ℕ → Type 0) (b : Bool) (x : ℕ) (xs : List ℕ) → (b ≡ t
 kept_if P true x xs h others = All-cons P x xs (h refl) others
 kept_if P false x xs h others = others
 
-each_passes : (P : ℕ → Type 0) (test : ℕ → Bool) (xs : List ℕ) → ((x : ℕ) → test x ≡ true → P x) → All P (filter test xs)
+each_passes : (P : ℕ → Type 0) (test : ℕ → Bool) (xs : List ℕ) → ((x : ℕ) → test x ≡ true → P x)
+    → All P (filter test xs)
 each_passes P test [] f = All-nil P
 each_passes P test (x ∷ xs) f = kept_if P (test x) x (filter test xs) (f x) (each_passes P test xs f)
 
@@ -82,9 +88,11 @@ below_count bits n place small is =
 
 -- Ways to a goal are kept by a set that leaves them, of the turns that may stand behind the word.
 pub KeepsWays-left : (turns : List ℕ) (goal : CubeState → Bool) (test : List ℕ → Bool) (c there : CubeState) (word : List ℕ) (more by_tables behind both : ℕ)
-    → ((w : List ℕ) → test w ≡ true → (is_orderly w ≡ true) × (leads goal c w ≡ true)) → play after_turn c word ≡ Some there
-    → LeavesWays turns goal there more by_tables → ((place : ℕ) → place < length turns → contains_turn behind place ≡ may_end word (get_or turns place 0))
-    → behind < 2 ^ length turns → ((place : ℕ) → contains_turn both place ≡ (contains_turn behind place && contains_turn by_tables place))
+    → ((w : List ℕ) → test w ≡ true → (is_orderly w ≡ true) × (leads goal c w ≡ true))
+    → play after_turn c word ≡ Some there → LeavesWays turns goal there more by_tables
+    → ((place : ℕ) → place < length turns → contains_turn behind place ≡ may_end word (get_or turns place 0))
+    → behind < 2 ^ length turns
+    → ((place : ℕ) → contains_turn both place ≡ (contains_turn behind place && contains_turn by_tables place))
     → KeepsWays turns test word more both
 KeepsWays-left turns goal test c there word more by_tables behind both ways played leaves may small and = record {
   kept = λ place v lt listed passes.
@@ -104,7 +112,8 @@ module _ (turns : List ℕ) (test : List ℕ → Bool) (word : List ℕ) where
   words_by more bits = flat_map (λ k. words_behind turns test (word ++ get_or turns k 0 ∷ []) more) (turns_in bits)
 
   -- Where a set keeps the ways, these are all of the words.
-  words_kept : (more bits : ℕ) → bits < 2 ^ 18 → KeepsWays turns test word more bits → words_behind turns test word (suc more) ≡ words_by more bits
+  words_kept : (more bits : ℕ) → bits < 2 ^ 18 → KeepsWays turns test word more bits
+      → words_behind turns test word (suc more) ≡ words_by more bits
   unfolding words_by
   words_kept more bits small keeps =
       let f = λ (t : ℕ). words_behind turns test (word ++ t ∷ []) more in
@@ -132,7 +141,8 @@ module _ (turns : List ℕ) (test : List ℕ → Bool) (gives : List ℕ → Opt
     pub follow : All (MayFollow turns word) (turns_in bits)
     pub few : bits < 2 ^ 18
 
-  pub IsUnderWay-begin : (bits : ℕ) → (left ≡ 0 → ⊥) → KeepsWays turns test word (left - 1) bits → bits < 2 ^ 18 → IsUnderWay bits tries
+  pub IsUnderWay-begin : (bits : ℕ) → (left ≡ 0 → ⊥) → KeepsWays turns test word (left - 1) bits → bits < 2 ^ 18
+      → IsUnderWay bits tries
   unfolding turns_in
   IsUnderWay-begin bits some keeps small =
       let next : left ≡ suc (left - 1) = omega arith in
@@ -159,11 +169,14 @@ module _ (turns : List ℕ) (test : List ℕ → Bool) (gives : List ℕ → Opt
 
     -- the words by that turn are searched, behind the word with the turn
     module _ (place other later : ℕ) (pushed after : List ℕ) (e : turns_in bits ≡ place ∷ turns_in other) (is : pushed ≡ word ++ get_or turns place 0 ∷ []) where
-      behind_it : (found : Bool) → IsSearched gives (words_behind turns test pushed (left - 1)) now pushed found after later
+      behind_it : (found : Bool)
+          → IsSearched gives (words_behind turns test pushed (left - 1)) now pushed found after later
           → IsSearched gives (words_behind turns test (word ++ get_or turns place 0 ∷ []) (left - 1)) now pushed found after later
       behind_it found s = subst (λ w. IsSearched gives (words_behind turns test w (left - 1)) now pushed found after later) is s
 
-      pub IsUnderWay-next : other < 2 ^ 18 → IsSearched gives (words_behind turns test pushed (left - 1)) now pushed false after later → IsUnderWay other later
+      pub IsUnderWay-next : other < 2 ^ 18
+          → IsSearched gives (words_behind turns test pushed (left - 1)) now pushed false after later
+          → IsUnderWay other later
       IsUnderWay-next few s = record {
         words = IsLeft-passed gives (words_behind turns test word left) tries word (words_behind turns test (word ++ get_or turns place 0 ∷ []) (left - 1))
             (words_by turns test word (left - 1) other) now later pushed after (others_by place other e) (behind_it false s);
@@ -177,7 +190,8 @@ module _ (turns : List ℕ) (test : List ℕ → Bool) (gives : List ℕ → Opt
           IsLeft-found gives (words_behind turns test word left) tries word (words_behind turns test (word ++ get_or turns place 0 ∷ []) (left - 1))
           (words_by turns test word (left - 1) other) now later pushed after (others_by place other e) (behind_it true s)
 
-    pub IsUnderWay-end : (after : List ℕ) → after ≡ word → turns_in bits ≡ [] → IsSearched gives (words_behind turns test word left) tries word false after now
+    pub IsUnderWay-end : (after : List ℕ) → after ≡ word → turns_in bits ≡ []
+        → IsSearched gives (words_behind turns test word left) tries word false after now
     unfolding words_by
     IsUnderWay-end after same e =
         let f = λ (k : ℕ). words_behind turns test (word ++ get_or turns k 0 ∷ []) (left - 1) in
@@ -185,8 +199,9 @@ module _ (turns : List ℕ) (test : List ℕ → Bool) (gives : List ℕ → Opt
         (subst (λ ws. IsLeft gives (words_behind turns test word left) tries ws now) (ap (flat_map f) e) h.words)
 
 -- one turn more
-pub IsAt-turned : {At : Type 0} (Shows : CubeState → At → Type 0) (c : CubeState) (turns word : List ℕ) (at next : At) (place : ℕ) → get_or turns place 0 < 18
-    → IsAt Shows c word at → MayFollow turns word place → ((d e : CubeState) → Shows d at → after_turn d (get_or turns place 0) ≡ Some e → Shows e next)
+pub IsAt-turned : {At : Type 0} (Shows : CubeState → At → Type 0) (c : CubeState) (turns word : List ℕ) (at next : At) (place : ℕ)
+    → get_or turns place 0 < 18 → IsAt Shows c word at → MayFollow turns word place
+    → ((d e : CubeState) → Shows d at → after_turn d (get_or turns place 0) ≡ Some e → Shows e next)
     → IsAt Shows c (word ++ get_or turns place 0 ∷ []) next
 IsAt-turned Shows c turns word at next place lt h may f =
     let t : ℕ = get_or turns place 0 in

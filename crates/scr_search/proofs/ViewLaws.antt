@@ -39,18 +39,21 @@ Sees-product v low high a b =
     (Follows-product v.IsSeen IsLow IsHigh (after_of v.turns) low.coordinate high.coordinate low.number high.number (b.turns ∙ sym a.turns) a.along b.along)
     (λ c h end. (a.ends c h end, b.ends c h end))
 
-pub Sees-beside : (first : Bool) (v : Views) (own middle : View) → Sees v own → Sees v middle → Sees v (view_beside first own middle)
+pub Sees-beside : (first : Bool) (v : Views) (own middle : View) → Sees v own → Sees v middle
+    → Sees v (view_beside first own middle)
 Sees-beside false v own middle a b = Sees-product v own middle a b
 Sees-beside true v own middle a b = Sees-product v middle own b a
 
 module _ (v : Views) (view : View) (s : Sees v view) where
   -- turns keep what the part goes through
-  pub seen-turned : (c d : CubeState) (place : ℕ) → v.IsSeen c → place < length v.turns → after_turn c (get_or v.turns place 0) ≡ Some d → v.IsSeen d
+  pub seen-turned : (c d : CubeState) (place : ℕ) → v.IsSeen c → place < length v.turns
+      → after_turn c (get_or v.turns place 0) ≡ Some d → v.IsSeen d
   seen-turned c d place h lt to = s.along.kept c d place h (after_of-place v.turns c place lt ∙ to)
 
   -- where a turn leads in moves that show it
-  pub shown-turned : (moves : Coordinate) → ShowsSame view.coordinate moves → (c d : CubeState) (p place : ℕ) → v.IsSeen c → p ≡ view.number c
-      → place < length v.turns → after_turn c (get_or v.turns place 0) ≡ Some d → moves.after p place ≡ Some (view.number d)
+  pub shown-turned : (moves : Coordinate) → ShowsSame view.coordinate moves → (c d : CubeState) (p place : ℕ)
+      → v.IsSeen c → p ≡ view.number c → place < length v.turns → after_turn c (get_or v.turns place 0) ≡ Some d
+      → moves.after p place ≡ Some (view.number d)
   shown-turned moves same c d p place h at lt to =
       let seen = view.coordinate in
       let here : p < seen.count = subst (λ k. k < seen.count) (sym at) (s.along.valid c h) in
@@ -61,7 +64,8 @@ module _ (v : Views) (view : View) (s : Sees v view) where
 
 -- ---- positions
 
-pub IsPosition-shown : (v : Views) (e : Extent) → AreViews v e → (c : CubeState) (at : PartPosition) → Shows v c at → IsPosition v at
+pub IsPosition-shown : (v : Views) (e : Extent) → AreViews v e → (c : CubeState) (at : PartPosition) → Shows v c at
+    → IsPosition v at
 IsPosition-shown v e are c at h = record {
   one = omega (arith, h.one, are.one.along.valid c h.seen);
   other = omega (arith, h.other, are.other.along.valid c h.seen);
@@ -79,15 +83,17 @@ Shows-of v c h = record { seen = h; one = refl; other = refl; middle = refl }
 abbrev is_there : PartPosition → ℕ → Bool
 is_there at middle = (at.one == 0 && at.other == 0) && at.middle == middle
 
-position_parts : (at : PartPosition) (middle : ℕ) → is_there at middle ≡ true → (at.one ≡ 0) × (at.other ≡ 0) × (at.middle ≡ middle)
+position_parts : (at : PartPosition) (middle : ℕ) → is_there at middle ≡ true
+    → (at.one ≡ 0) × (at.other ≡ 0) × (at.middle ≡ middle)
 position_parts at middle e =
     let whole = and_parts (at.one == 0 && at.other == 0) (at.middle == middle) e in
     let both = and_parts (at.one == 0) (at.other == 0) whole.0 in
     (eqb-true at.one 0 both.0, eqb-true at.other 0 both.1, eqb-true at.middle middle whole.1)
 
 -- the number of the cubes at the end, where positions show which they are
-pub part_number-end : (v : Views) (c : CubeState) (middle : ℕ) → v.IsSeen c → ((at : PartPosition) → Shows v c at → v.ends c ≡ is_there at middle)
-    → v.ends c ≡ true → 2 ^ 32 * middle ≡ part_number v c
+pub part_number-end : (v : Views) (c : CubeState) (middle : ℕ) → v.IsSeen c
+    → ((at : PartPosition) → Shows v c at → v.ends c ≡ is_there at middle) → v.ends c ≡ true
+    → 2 ^ 32 * middle ≡ part_number v c
 part_number-end v c middle h shown e =
     let at = position_of v c in
     let is = position_parts at middle (sym (shown at (Shows-of v c h)) ∙ e) in
@@ -96,7 +102,8 @@ part_number-end v c middle h shown e =
 -- it agrees with another that says the same of each number
 pub tests_agree : (b : Bool) (at : PartPosition) (middle : ℕ)
     → (b ≡ true → ((at.one == 0) ≡ true) × ((at.other == 0) ≡ true) × ((at.middle == middle) ≡ true))
-    → (((at.one == 0) ≡ true) × ((at.other == 0) ≡ true) × ((at.middle == middle) ≡ true) → b ≡ true) → b ≡ is_there at middle
+    → (((at.one == 0) ≡ true) × ((at.other == 0) ≡ true) × ((at.middle == middle) ≡ true) → b ≡ true)
+    → b ≡ is_there at middle
 tests_agree b at middle to from =
     same_test b (is_there at middle)
     (λ e. let all = to e in and_from (at.one == 0 && at.other == 0) (at.middle == middle) (and_from (at.one == 0) (at.other == 0) all.0 all.1) all.2)
@@ -105,12 +112,14 @@ tests_agree b at middle to from =
     let both = and_parts (at.one == 0) (at.other == 0) whole.0 in
     from (both.0, both.1, whole.1))
 
-same_index : (f : ℕ → ℕ → ℕ → ℕ → ℕ) (n n' m m' i i' j j' : ℕ) → n ≡ n' → m ≡ m' → i ≡ i' → j ≡ j' → f n m i j ≡ f n' m' i' j'
+same_index : (f : ℕ → ℕ → ℕ → ℕ → ℕ) (n n' m m' i i' j j' : ℕ) → n ≡ n' → m ≡ m' → i ≡ i' → j ≡ j'
+    → f n m i j ≡ f n' m' i' j'
 same_index f n n' m m' i i' j j' a b c d = cc
 
 -- a position in a view beside that of the middle layer
-pub index-shown : (first : Bool) (own middle : View) (n m i j p : ℕ) (c : CubeState) → own.coordinate.count ≡ n → middle.coordinate.count ≡ m
-    → i ≡ own.number c → j ≡ middle.number c → p ≡ index_beside first n m i j → p ≡ (view_beside first own middle).number c
+pub index-shown : (first : Bool) (own middle : View) (n m i j p : ℕ) (c : CubeState) → own.coordinate.count ≡ n
+    → middle.coordinate.count ≡ m → i ≡ own.number c → j ≡ middle.number c → p ≡ index_beside first n m i j
+    → p ≡ (view_beside first own middle).number c
 index-shown first own middle n m i j p c a b x y is =
     is
     ∙ same_index (index_beside first) n own.coordinate.count m middle.coordinate.count i (own.number c) j (middle.number c) (sym a) (sym b) x y
@@ -150,7 +159,8 @@ module _ (v : Views) (e : Extent) (are : AreViews v e) (c : CubeState) (h : v.Is
       ∙ part-high v.one.coordinate.count (v.one.number c) (v.other.number c) (are.one.along.valid c h)
 
   -- as it is made of both
-  pub low-made : (one other : ℕ) → one ≡ v.one.number c → other ≡ v.other.number c → (other * e.ones % 2 ^ 32 + one) % 2 ^ 32 ≡ low_part
+  pub low-made : (one other : ℕ) → one ≡ v.one.number c → other ≡ v.other.number c
+      → (other * e.ones % 2 ^ 32 + one) % 2 ^ 32 ≡ low_part
   low-made one other a b =
       let few = low_part-lt in
       let times : other * e.ones ≡ v.one.coordinate.count * v.other.number c =

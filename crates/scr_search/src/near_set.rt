@@ -1,4 +1,5 @@
-//! Near sets: bit tables that have the numbers of all cubes from which few turns lead to the end of a part, and some others.
+//! Near sets: bit tables that have the numbers of all cubes from which few turns lead to the end of a part, and some
+//! others.
 ghost use Rattle.std.specs.Prelude.{◌≡◌, ℕ, ◌+◌, ◌^◌, ◌<◌, ◌≤◌, IfOk, IsTrue, length, slice_index_or};
 ghost use Rattle.scr_cube.specs.Cube333.{CubeState};
 ghost use Rattle.scr_search.specs.Near.{HasBits, IsInSet, IsNear, LeavesNear, first_bit, second_bit, word_of};
@@ -21,8 +22,8 @@ pub(crate) const NEAR_AT: u32 = 8;
 /// How many words a block of numbers has.
 const WORDS: usize = 4096;
 
-/// A set of the numbers of a block, each of which has two bits of one word. It has each number that was entered, and each other
-/// one of which both bits are set by those.
+/// A set of the numbers of a block, each of which has two bits of one word. It has each number that was entered, and
+/// each other one of which both bits are set by those.
 #[derive(Clone, Copy)]
 pub struct NearBlock {
     /// The words, in which a number's mixed bits tell where its two bits stand.

@@ -10,8 +10,8 @@ use scr_workers::{Jobs, OpenGate, run_chunks};
 use std::alloc::{AllocError, Global};
 use std::thread::Threads;
 
-/// The numbers of a block that are listed, each told by its place in its block, in order: none yet, or those that a worker
-/// found, if there was memory for them.
+/// The numbers of a block that are listed, each told by its place in its block, in order: none yet, or those that a
+/// worker found, if there was memory for them.
 pub(crate) type Listed = Option<Result<Vec<u32>, AllocError>>;
 
 /// A set of numbers of a block that grows.
@@ -62,7 +62,8 @@ impl Growing {
     }
 }
 
-/// Enters those of the listed numbers that are of a block, and those of its cubes from which one turn leads to a listed one.
+/// Enters those of the listed numbers that are of a block, and those of its cubes from which one turn leads to a listed
+/// one.
 pub(crate) fn spread<S: Space, N: Numbers>(space: &S, lists: &[Listed], block: u32, into: &mut N)
     ensures { IsSpread S.turns S.IsSeen S.numbering lists.now block (N.Has into.new) }
 {

@@ -68,8 +68,8 @@ const UNSEEN: Outlook = Outlook {
     no_farther: 0,
 };
 
-/// The outlooks of the positions of a table, in order, found by 1 to 64 workers. The coordinate has at most 18 turns, and as many
-/// positions as the table.
+/// The outlooks of the positions of a table, in order, found by 1 to 64 workers. The coordinate has at most 18 turns,
+/// and as many positions as the table.
 pub(crate) fn outlooks<R: Threads + Sync, C: Coord + Sync>(
     rt: &R,
     alloc: Global,
@@ -132,7 +132,8 @@ fn read_distances<R: Threads + Sync>(rt: &R, table: &DistanceTable, into: &mut [
 /// Reads those of the positions from `start` on.
 fn read_from(table: &DistanceTable, start: usize, into: &mut [u8])
     requires { start + length into.old ≤ length table.now.distances }
-    ensures same { (k : ℕ) → k < length into.old → slice_index into.new k ≡ slice_index table.now.distances (start + k) }
+    ensures same { (k : ℕ) → k < length into.old
+        → slice_index into.new k ≡ slice_index table.now.distances (start + k) }
     ensures small { (k : ℕ) → k < length into.old → slice_index into.new k ≤ 24 }
 {
     let _positions = table.positions();

@@ -12,8 +12,8 @@ pub struct PartPosition {
     pub middle: u32,
 }
 
-/// The turns of a part, each told by its place, how many positions its coordinates have, where it ends, and what its pruning
-/// tables are.
+/// The turns of a part, each told by its place, how many positions its coordinates have, where it ends, and what its
+/// pruning tables are.
 pub struct Extent {
     /// How many turns there are.
     pub turns: u32,

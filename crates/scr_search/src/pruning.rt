@@ -24,8 +24,8 @@ pub struct PruningTable {
 }
 
 impl PruningTable {
-    /// The table of a name and of what a coordinate of at most 18 turns shows, built by 1 to 64 workers, or why it isn't built. It may
-    /// reach at most 24 turns.
+    /// The table of a name and of what a coordinate of at most 18 turns shows, built by 1 to 64 workers, or why it
+    /// isn't built. It may reach at most 24 turns.
     pub fn build<R: Threads + Sync, C: Coord + Sync>(
         rt: &R,
         alloc: Global,
@@ -38,7 +38,8 @@ impl PruningTable {
         requires workers { (1 ≤ workers) × (workers ≤ 64) }
         ensures table { (c : Coordinate) → ShowsSame c (C.coordinate coord.now)
             → IfOk result (IsPruningTable (record { name = reach.0; coordinate = c; bound = reach.1 })) }
-        ensures cause { (c : Coordinate) → ShowsSame c (C.coordinate coord.now) → IfErr result (IsCause reach.0 c reach.1) }
+        ensures cause { (c : Coordinate) → ShowsSame c (C.coordinate coord.now)
+            → IfErr result (IsCause reach.0 c reach.1) }
     {
         coord.stays_below();
         let (name, bound) = reach;

@@ -8,8 +8,8 @@ use crate::turn_set::TurnSet;
 use crate::word::Word;
 use scr_cube::Cube;
 
-/// A part of the solution of a cube, as a search sees it: some of the 18 turns, told by their places among them, and which
-/// orderly words of these turns are looked for.
+/// A part of the solution of a cube, as a search sees it: some of the 18 turns, told by their places among them, and
+/// which orderly words of these turns are looked for.
 pub trait Part {
     ghost use Rattle.std.specs.Prelude.{◌≡◌, ℕ, ◌-◌, ◌^◌, ◌<◌, ◌≤◌, Bool, List, [], Option, Some, length, slice_index};
     ghost use Rattle.scr_cube.specs.Cube333.{CubeState};
@@ -41,8 +41,8 @@ pub trait Part {
         ensures { (c : CubeState) (n : ℕ) → IsAt Shows c word.now at → n < result
             → words_behind turns (passes c) word.now n ≡ [] };
 
-    /// The turns of which one may be the next behind a word that leads to a position, where `left` turns, one or more, are
-    /// still to be made.
+    /// The turns of which one may be the next behind a word that leads to a position, where `left` turns, one or more,
+    /// are still to be made.
     fn turns_from(&self, word: &Word, at: Self::Position, left: u32) -> TurnSet
         requires at { (c : CubeState) × IsAt Shows c word.now at }
         requires some { 0 < left }
@@ -74,8 +74,8 @@ pub trait Part {
     ghost short: { most ≤ 22 };
 }
 
-/// Makes of a word what the first gives of the words that go on from it by at most `most` turns. Each of them counts one
-/// try, and none is looked at once `tries` are made. If none gives anything, the word stays.
+/// Makes of a word what the first gives of the words that go on from it by at most `most` turns. Each of them counts
+/// one try, and none is looked at once `tries` are made. If none gives anything, the word stays.
 pub fn search_within<P: Part>(
     part: &P,
     cube: &Cube,

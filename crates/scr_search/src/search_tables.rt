@@ -24,8 +24,8 @@ use std::alloc::{AllocError, Global};
 use std::marker::PhantomData;
 use std::thread::Threads;
 
-/// Where turns lead in the three coordinates of a part, its pruning tables, each of one of its own coordinates beside the middle
-/// layer's, and its near set, which is that of all cubes until it is built.
+/// Where turns lead in the three coordinates of a part, its pruning tables, each of one of its own coordinates beside
+/// the middle layer's, and its near set, which is that of all cubes until it is built.
 #[derive(Drop)]
 pub struct SearchTables<V: PartViews> {
     one: MoveTable,
@@ -95,8 +95,10 @@ impl<V: PartViews> SearchTables<V> {
         workers: u32,
     ) -> Result<Vec<Outlook>, AllocError>
         requires workers { (1 ≤ workers) × (workers ≤ 64) }
-        ensures one { IsTrue of_one → IfOk result (λ all. AreOutlooksOf (one_line V.views V.extent) self.now.one_slice all.items) }
-        ensures other { of_one ≡ false → IfOk result (λ all. AreOutlooksOf (other_line V.views V.extent) self.now.other_slice all.items) }
+        ensures one { IsTrue of_one
+            → IfOk result (λ all. AreOutlooksOf (one_line V.views V.extent) self.now.one_slice all.items) }
+        ensures other { of_one ≡ false
+            → IfOk result (λ all. AreOutlooksOf (other_line V.views V.extent) self.now.other_slice all.items) }
     {
         let extent = V::extent();
         if of_one {
@@ -140,8 +142,8 @@ impl<V: PartViews> SearchTables<V> {
         by_one.and(by_other)
     }
 
-    /// The turns of which one may be the next behind a word that leads to a position, where `left` turns, one or more, are
-    /// still to be made.
+    /// The turns of which one may be the next behind a word that leads to a position, where `left` turns, one or more,
+    /// are still to be made.
     #[inline]
     pub fn turns_behind(&self, word: &Word, at: PartPosition, left: u32) -> TurnSet
         requires at { (c : CubeState) × IsAt (Shows V.views) c word.now at }

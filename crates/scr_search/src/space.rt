@@ -3,8 +3,8 @@
 /// How many numbers a block has.
 pub const BLOCK: u64 = 1 << 32;
 
-/// Cubes as a part of their solution sees them, by their numbers. Where a turn leads from the cubes of a block of numbers, is one
-/// block.
+/// Cubes as a part of their solution sees them, by their numbers. Where a turn leads from the cubes of a block of
+/// numbers, is one block.
 pub trait Space {
     ghost use Rattle.std.specs.Prelude.{◌≡◌, ℕ, ◌/◌, ◌%◌, ◌^◌, ◌<◌, ◌≤◌, Bool, IsTrue, List, Some, length, slice_index};
     ghost use Rattle.scr_cube.specs.Cube333.{CubeState};
@@ -36,8 +36,8 @@ pub trait Space {
         requires { place < length turns }
         ensures { result ≡ slice_index backs place };
 
-    /// The place in its block of the number of the cubes to which the turn at a place leads from those with a number, which is
-    /// told by its block and its place in it, if there are any.
+    /// The place in its block of the number of the cubes to which the turn at a place leads from those with a number,
+    /// which is told by its block and its place in it, if there are any.
     fn number_after(&self, block: u32, number: u32, place: u32) -> u32
         requires { place < length turns }
         ensures { (c d : CubeState) → IsSeen c → block ≡ numbering c / 2 ^ 32 → number ≡ numbering c % 2 ^ 32
@@ -78,7 +78,8 @@ pub trait Positions: Space {
     /// Where the turn at a place leads.
     fn after(&self, at: Self::Position, place: u32) -> Self::Position
         requires { place < length Self.turns }
-        ensures { (c d : CubeState) → Shows c at → after_turn c (slice_index Self.turns place) ≡ Some d → Shows d result };
+        ensures { (c d : CubeState) → Shows c at → after_turn c (slice_index Self.turns place) ≡ Some d
+            → Shows d result };
 
     /// The number of the cubes that a position shows, if it shows any.
     fn number_of(at: Self::Position) -> u64

@@ -40,7 +40,8 @@ impl TurnSet {
     #[inline]
     pub fn and(self, other: TurnSet) -> TurnSet
         requires { self.bits < 2 ^ 18 }
-        ensures turns { (t : ℕ) → contains_turn result.bits t ≡ (contains_turn self.bits t && contains_turn other.bits t) }
+        ensures turns { (t : ℕ)
+            → contains_turn result.bits t ≡ (contains_turn self.bits t && contains_turn other.bits t) }
         ensures few { result.bits < 2 ^ 18 }
     {
         TurnSet {
@@ -70,7 +71,8 @@ impl TurnSet {
     }
 }
 
-/// The turns that may stand right behind a word, where `sets` has those for each face of its last turn, and then all turns.
+/// The turns that may stand right behind a word, where `sets` has those for each face of its last turn, and then all
+/// turns.
 #[inline]
 pub(crate) fn behind(word: &Word, sets: &[u32; 7]) -> TurnSet
     ensures turns { (turns : List ℕ) → AreBehind turns sets.now → (place : ℕ) → place < length turns

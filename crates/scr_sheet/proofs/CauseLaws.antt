@@ -54,8 +54,8 @@ making-list : (settings : Settings) (parts : List Part) (out : Change) (refusal 
 making-list settings parts out refusal (inl made) = made.1
 making-list settings parts out refusal (inr lacks) = build-list refusal lacks.0.0 lacks.0.2
 
-making-write : (settings : Settings) (parts : List Part) (out : Change) → EndsMaking settings parts out (Err fault.Write)
-    → Rose out.faults_before out.faults_after
+making-write : (settings : Settings) (parts : List Part) (out : Change)
+    → EndsMaking settings parts out (Err fault.Write) → Rose out.faults_before out.faults_after
 making-write settings parts out (inl made) = made.1.is.rose
 making-write settings parts out (inr lacks) = absurd (build-write lacks.0.0 lacks.0.2)
 
@@ -73,15 +73,16 @@ telling-list settings parts sheet lines (Err why) out refusal making told =
     making-list settings parts (gaining sheet) refusal (subst (λ e. EndsMaking settings parts (gaining sheet) e) (sym told.0) making)
 
 telling-write : (settings : Settings) (parts : List Part) (sheet lines : List ℕ) (made : Result (Unit {0}) Fault) (out : Change)
-    → EndsMaking settings parts (gaining sheet) made → EndsTelling made lines out (Err fault.Write) → Rose out.faults_before out.faults_after
+    → EndsMaking settings parts (gaining sheet) made → EndsTelling made lines out (Err fault.Write)
+    → Rose out.faults_before out.faults_after
 telling-write settings parts sheet lines (Ok u) out making told = told.1.rose
 telling-write settings parts sheet lines (Err why) out making told =
     absurd (not_risen (making-write settings parts (gaining sheet) (subst (λ e. EndsMaking settings parts (gaining sheet) e) (sym told.0) making)))
 
 -- ---- commands
 
-words-usage : (asked : Result Command UsageFault) (source out : Change) (usage : UsageFault) → Ends asked source out (Err (fault.Usage usage))
-    → asked ≡ Err usage
+words-usage : (asked : Result Command UsageFault) (source out : Change) (usage : UsageFault)
+    → Ends asked source out (Err (fault.Usage usage)) → asked ≡ Err usage
 words-usage (Err other) source out usage ends = let same = ends.1.0 in cc
 words-usage (Ok (One event seed)) source out usage ends = absurd (making-usage (settings_of seed usual_options) (single_part event None ∷ []) out usage ends.1)
 words-usage (Ok (Sheet seed options)) source out usage (inl ends) = absurd (making-usage (settings_of seed options) (round_parts 0 ends.0) out usage ends.2)
@@ -96,8 +97,8 @@ words-usage (Ok (Check seed attempts)) source out usage ends = absurd (check-usa
 abbrev pub IsListRefused : Change → ListFault → Type 0
 IsListRefused source refusal = ReadsNoList source refusal ⊎ ReadsNoListPart source refusal
 
-words-list : (asked : Result Command UsageFault) (source out : Change) (refusal : ListFault) → Ends asked source out (Err (fault.List refusal))
-    → IsListRefused source refusal
+words-list : (asked : Result Command UsageFault) (source out : Change) (refusal : ListFault)
+    → Ends asked source out (Err (fault.List refusal)) → IsListRefused source refusal
 words-list (Err usage) source out refusal ends = let same = ends.1.0 in cc
 words-list (Ok (One event seed)) source out refusal ends = absurd (making-list (settings_of seed usual_options) (single_part event None ∷ []) out refusal ends.1)
 words-list (Ok (Sheet seed options)) source out refusal (inl ends) = absurd (making-list (settings_of seed options) (round_parts 0 ends.0) out refusal ends.2)
@@ -125,8 +126,9 @@ words-write (Ok (Check seed attempts)) source out ends = check-write _ source ou
 -- ---- runs
 
 -- a run that ended so, and not for want of memory before anything was read
-ends-so : (words : List (List ℕ)) (outcome : Status) (source out err : Change) (why : Fault) → (run : IsRun words outcome source out err)
-    → run.ended ≡ Err why → why ≢ fault.NoMemory → Ends (command_of words) source out (Err why)
+ends-so : (words : List (List ℕ)) (outcome : Status) (source out err : Change) (why : Fault)
+    → (run : IsRun words outcome source out err) → run.ended ≡ Err why → why ≢ fault.NoMemory
+    → Ends (command_of words) source out (Err why)
 ends-so words outcome source out err why run is other =
     elim run.performed.ends [
       | inl ends ↦ subst (λ e. Ends (command_of words) source out e) is ends

@@ -51,7 +51,8 @@ input-fault settings (Ok rounds) input why (Err check.Read, comes, is) = absurd 
 
 -- and of what was read of an input, where nothing follows
 read-fault : (settings : Settings) (source : Change) (why : Fault)
-    → (reads : ReadsInput source (λ input. InputComesTo settings (rounds_in input) input (Err why))) → IsOfInput (rounds_in (reads.bytes ++ [])) why
+    → (reads : ReadsInput source (λ input. InputComesTo settings (rounds_in input) input (Err why)))
+    → IsOfInput (rounds_in (reads.bytes ++ [])) why
 read-fault settings source why reads = input-fault settings _ _ why (reads.tells [] (λ ended. refl))
 
 -- ---- what a check ends with
@@ -60,7 +61,8 @@ read-fault settings source why reads = input-fault settings _ _ why (reads.tells
 abbrev Fails : Fault → BuildFault → Type 0
 Fails f why = (let ended : Result (Unit {0}) Fault = Err f in ended) ≡ Err (fault_of_build why)
 
-checking-usage : (settings : Settings) (source : Change) (usage : UsageFault) → EndsChecking settings source (Err (fault.Usage usage)) → ⊥
+checking-usage : (settings : Settings) (source : Change) (usage : UsageFault)
+    → EndsChecking settings source (Err (fault.Usage usage)) → ⊥
 checking-usage settings source usage (inl reads) = read-fault settings source (fault.Usage usage) reads
 checking-usage settings source usage (inr (inl lacks)) = at lacks.2.0 lacks.2.2
   where
@@ -79,7 +81,8 @@ checking-write settings source (inr (inl lacks)) = at lacks.2.0 lacks.2.2
 checking-write settings source (inr (inr unread)) = let same = unread.0 in cc
 
 no_list-read : (settings : Settings) (source : Change) (refusal : ListFault)
-    → ReadsInput source (λ input. InputComesTo settings (rounds_in input) input (Err (fault.List refusal))) → ReadsNoListPart source refusal
+    → ReadsInput source (λ input. InputComesTo settings (rounds_in input) input (Err (fault.List refusal)))
+    → ReadsNoListPart source refusal
 no_list-read settings source list.Read reads =
     absurd (answer-not_Read _ (Err list.Read) (sym (read-fault settings source (fault.List list.Read) reads)) refl)
 no_list-read settings source (list.TooLong limit) reads = record {
@@ -99,8 +102,8 @@ no_list-read settings source (list.Line number cause) reads = record {
   tells = λ rest follows. input-fault settings _ _ (fault.List (list.Line number cause)) (reads.tells rest follows);
 }
 
-checking-list : (settings : Settings) (source : Change) (refusal : ListFault) → EndsChecking settings source (Err (fault.List refusal))
-    → ReadsNoListPart source refusal
+checking-list : (settings : Settings) (source : Change) (refusal : ListFault)
+    → EndsChecking settings source (Err (fault.List refusal)) → ReadsNoListPart source refusal
 checking-list settings source refusal (inl reads) = no_list-read settings source refusal reads
 checking-list settings source refusal (inr (inl lacks)) = absurd (at lacks.2.0 lacks.2.2)
   where
@@ -125,13 +128,14 @@ told-fault : (answer : Result (Unit {0}) Fault) (lines : List ℕ) (out : Change
 told-fault (Ok u) lines out why other told = absurd (other told.0)
 told-fault (Err found) lines out why other told = sym told.0
 
-pub check-usage : (settings : Settings) (source out : Change) (usage : UsageFault) → EndsCheck settings source out (Err (fault.Usage usage)) → ⊥
+pub check-usage : (settings : Settings) (source out : Change) (usage : UsageFault)
+    → EndsCheck settings source out (Err (fault.Usage usage)) → ⊥
 check-usage settings source out usage ends =
     checking-usage settings source usage
     (subst (EndsChecking settings source) (told-fault ends.0 _ out (fault.Usage usage) (λ same. cc) ends.2) ends.1)
 
-pub check-list : (settings : Settings) (source out : Change) (refusal : ListFault) → EndsCheck settings source out (Err (fault.List refusal))
-    → ReadsNoListPart source refusal
+pub check-list : (settings : Settings) (source out : Change) (refusal : ListFault)
+    → EndsCheck settings source out (Err (fault.List refusal)) → ReadsNoListPart source refusal
 check-list settings source out refusal ends =
     checking-list settings source refusal
     (subst (EndsChecking settings source) (told-fault ends.0 _ out (fault.List refusal) (λ same. cc) ends.2) ends.1)
@@ -140,21 +144,22 @@ pub check-write : (settings : Settings) (source out : Change) → EndsCheck sett
     → Rose out.faults_before out.faults_after
 check-write settings source out ends = at ends.0 _ ends.1 ends.2
   where
-    at : (answer : Result (Unit {0}) Fault) (lines : List ℕ) → EndsChecking settings source answer → EndsTelling answer lines out (Err fault.Write)
-        → Rose out.faults_before out.faults_after
+    at : (answer : Result (Unit {0}) Fault) (lines : List ℕ) → EndsChecking settings source answer
+        → EndsTelling answer lines out (Err fault.Write) → Rose out.faults_before out.faults_after
     at (Ok u) lines checked told = told.1.rose
     at (Err found) lines checked told = absurd (checking-write settings source (subst (EndsChecking settings source) (sym told.0) checked))
 
 -- a source that failed ends the check for just that
-pub check-input : (settings : Settings) (source out : Change) (ended : Result (Unit {0}) Fault) → EndsCheck settings source out ended
-    → source.faults_before < source.faults_after → status_of ended ≡ status.ReadFault
+pub check-input : (settings : Settings) (source out : Change) (ended : Result (Unit {0}) Fault)
+    → EndsCheck settings source out ended → source.faults_before < source.faults_after
+    → status_of ended ≡ status.ReadFault
 check-input settings source out ended ends rose = at ends.1
   where
     stays : {P : List ℕ → Type 0} → ReadsInput source P → ⊥
     stays reads = let same = reads.gives.no_fault in omega (arith, same, rose)
 
-    told : (answer : Result (Unit {0}) Fault) (lines : List ℕ) → answer ≡ Err (fault.List list.Read) → EndsTelling answer lines out ended
-        → ended ≡ Err (fault.List list.Read)
+    told : (answer : Result (Unit {0}) Fault) (lines : List ℕ) → answer ≡ Err (fault.List list.Read)
+        → EndsTelling answer lines out ended → ended ≡ Err (fault.List list.Read)
     told (Ok u) lines is tells = cc
     told (Err found) lines is tells = tells.0 ∙ is
 

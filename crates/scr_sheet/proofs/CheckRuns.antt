@@ -36,8 +36,8 @@ named-rounds bytes rounds is =
 
 -- an input comes to one end
 comes-one : (settings : Settings) (rounds : Result (List Round) ListFault) (input : List ℕ) (one other : Result (Unit {0}) Fault)
-    → ((named : List Round) → rounds ≡ Ok named → IsRounds named) → InputComesTo settings rounds input one → InputComesTo settings rounds input other
-    → one ≡ other
+    → ((named : List Round) → rounds ≡ Ok named → IsRounds named) → InputComesTo settings rounds input one
+    → InputComesTo settings rounds input other → one ≡ other
 comes-one settings (Err list) input one other valid first second = first ∙ sym second
 comes-one settings (Ok rounds) input one other valid first second =
     let same = one-answer (expected_lines settings rounds) (lines-lawful settings rounds (valid rounds refl)) (cut_lines (sheet_part input)) first.0 second.0
@@ -45,18 +45,21 @@ comes-one settings (Ok rounds) input one other valid first second =
     first.2 ∙ ap (result_map_both (λ done. done) fault_of_check) same ∙ sym second.2
 
 -- what was read of an input that is told whole tells it of this input
-left_of : (input bytes : List ℕ) (left : Option (List ℕ)) → Some input ≡ put_back bytes left → (rest : List ℕ) × (left ≡ Some rest) × (input ≡ bytes ++ rest)
+left_of : (input bytes : List ℕ) (left : Option (List ℕ)) → Some input ≡ put_back bytes left
+    → (rest : List ℕ) × (left ≡ Some rest) × (input ≡ bytes ++ rest)
 left_of input bytes None is = let none : ⊥ = cc in absurd none
 left_of input bytes (Some rest) is = (rest, refl, let whole : input ≡ bytes ++ rest = cc in whole)
 
-told-whole : (source : Change) (input : List ℕ) {Tells : List ℕ → Type 0} → source.bytes_before ≡ Some input → ReadsInput source Tells → Tells input
+told-whole : (source : Change) (input : List ℕ) {Tells : List ℕ → Type 0} → source.bytes_before ≡ Some input
+    → ReadsInput source Tells → Tells input
 told-whole source input {Tells} told reads =
     let left = left_of input reads.bytes source.bytes_after (sym told ∙ reads.gives.given) in
     let spent : reads.ended ≡ true → left.0 ≡ [] = λ ended. subst IsSpent left.1 (reads.end ended).spent in
     subst Tells (sym left.2) (reads.tells left.0 spent)
 
 -- tables that could not be built
-lacks-ends : (why : BuildFault) (answer : Result (Unit {0}) Fault) (wanted : Status) → answer ≡ Err (fault_of_build why) → EndsWith (status_of answer) wanted
+lacks-ends : (why : BuildFault) (answer : Result (Unit {0}) Fault) (wanted : Status) → answer ≡ Err (fault_of_build why)
+    → EndsWith (status_of answer) wanted
 lacks-ends build.NoMemory answer wanted is = inr (inl (ap status_of is))
 lacks-ends (build.Gap table index) answer wanted is = inr (inr (ap status_of is))
 
@@ -72,7 +75,8 @@ check-ends {source = source} {out = out} {settings = settings} {input = input} r
       | inr wanting ↦ inr (inl (ap status_of wanting.1.0))
     ])
   where
-    checked : (found : Result (Unit {0}) Fault) → EndsChecking settings source found → EndsWith (status_of found) (status_of answer)
+    checked : (found : Result (Unit {0}) Fault) → EndsChecking settings source found
+        → EndsWith (status_of found) (status_of answer)
     checked found (inl reads) =
         inl (ap status_of (comes-one settings (rounds_in input) input found answer (λ named is. named-rounds _ named is)
         (told-whole source input run.told reads) comes))

@@ -51,11 +51,12 @@ listed-short bytes rounds is =
 
 module _ {S : Type 0} (left : S → Option (List ℕ)) (faults ends : S → ℕ) where
   -- a list part that names rounds, of an input that may follow, tells these rounds
-  told-rounds : {list : List ℕ} {answer : Result (List Round) ListFault} (input : List ℕ) → take list_room (list_part input) ≡ list
-      → rounds_of list ≡ answer → rounds_in input ≡ answer
+  told-rounds : {list : List ℕ} {answer : Result (List Round) ListFault} (input : List ℕ)
+      → take list_room (list_part input) ≡ list → rounds_of list ≡ answer → rounds_in input ≡ answer
   told-rounds input is says = ap rounds_of is ∙ says
 
-  pub takes-rounds : {before after : Reading S} {answer : Result (List Round) ListFault} → TakesList left faults ends before after answer
+  pub takes-rounds : {before after : Reading S} {answer : Result (List Round) ListFault}
+      → TakesList left faults ends before after answer
       → TakesInput left faults ends before after (λ input. rounds_in input ≡ answer)
   takes-rounds taken = record {
     bytes = taken.takes.bytes;
@@ -64,7 +65,8 @@ module _ {S : Type 0} (left : S → Option (List ℕ)) (faults ends : S → ℕ)
   }
 
   -- a list part that is no list
-  takes-refusal : (settings : Settings) {before after : Reading S} (refusal : ListFault) → TakesList left faults ends before after (Err refusal)
+  takes-refusal : (settings : Settings) {before after : Reading S} (refusal : ListFault)
+      → TakesList left faults ends before after (Err refusal)
       → EndsReading left faults ends before after settings (Err (fault.List refusal))
   takes-refusal settings refusal taken =
       let read = takes-rounds taken in
@@ -76,7 +78,8 @@ module _ {S : Type 0} (left : S → Option (List ℕ)) (faults ends : S → ℕ)
             subst (λ r. InputComesTo settings r (read.bytes ++ rest) answer) (sym (read.tells rest follows)) refl;
       })
 
-  pub refused-list : (settings : Settings) (before after : Reading S) (refusal : ListFault) → ReadsListPart left faults ends before after (Err refusal)
+  pub refused-list : (settings : Settings) (before after : Reading S) (refusal : ListFault)
+      → ReadsListPart left faults ends before after (Err refusal)
       → EndsReading left faults ends before after settings (Err (fault.List refusal))
   refused-list settings before after list.Read stops = inr (inr (refl, stops))
   refused-list settings before after (list.TooLong limit) taken = takes-refusal settings (list.TooLong limit) taken
@@ -90,8 +93,8 @@ module _ {S : Type 0} (left : S → Option (List ℕ)) (faults ends : S → ℕ)
       inr (inl (rounds, takes-rounds taken, (why, cause, refl)))
 
   -- what may follow both of two takings follows the first with the second
-  both-follow : {b c : Reading S} {ys : List ℕ} → Takes left faults ends b c ys → (rest : List ℕ) → CanFollow c.ended rest
-      → CanFollow b.ended (ys ++ rest)
+  both-follow : {b c : Reading S} {ys : List ℕ} → Takes left faults ends b c ys → (rest : List ℕ)
+      → CanFollow c.ended rest → CanFollow b.ended (ys ++ rest)
   both-follow {b} {c} {ys} second rest follows ended =
       let nothing = second.nothing_behind ended in
       let same : c.ended ≡ true = ap (λ (r : Reading S). r.ended) nothing.0 ∙ ended in
@@ -99,7 +102,8 @@ module _ {S : Type 0} (left : S → Option (List ℕ)) (faults ends : S → ℕ)
 
   -- a sheet that was held against the lines of a list's sheet
   takes-sheet : (settings : Settings) (a b c : Reading S) (rounds : List Round) (found : Result (Unit {0}) CheckFault)
-      → ReadsListPart left faults ends a b (Ok rounds) → TakesSheet left faults ends b c (expected_lines settings rounds) found
+      → ReadsListPart left faults ends a b (Ok rounds)
+      → TakesSheet left faults ends b c (expected_lines settings rounds) found
       → TakesInput left faults ends a c (λ input. InputComesTo settings (rounds_in input) input (end_of_check found))
   takes-sheet settings a b c rounds found taken sheet = record {
     bytes = taken.takes.bytes ++ sheet.bytes;
@@ -118,7 +122,8 @@ module _ {S : Type 0} (left : S → Option (List ℕ)) (faults ends : S → ℕ)
   }
 
   pub checked-sheet : (settings : Settings) (a b c : Reading S) (rounds : List Round) (found : Result (Unit {0}) CheckFault)
-      → ReadsListPart left faults ends a b (Ok rounds) → ChecksSheet left faults ends b c (expected_lines settings rounds) found
+      → ReadsListPart left faults ends a b (Ok rounds)
+      → ChecksSheet left faults ends b c (expected_lines settings rounds) found
       → EndsReading left faults ends a c settings (end_of_check found)
   checked-sheet settings a b c rounds (Ok u) taken checked = inl (takes-sheet settings a b c rounds (Ok u) taken checked.0)
   checked-sheet settings a b c rounds (Err (check.Differs line)) taken checked =
@@ -139,9 +144,9 @@ module _ {S : Type 0} (left : S → Option (List ℕ)) (faults ends : S → ℕ)
   -- what was taken, and what was read ahead, the source gave
   reads-taken : (source : S) (after : Reading S) {Tells : List ℕ → Type 0}
       → ((bytes : List ℕ) → Takes left faults ends (fresh source) after bytes → Gives (intake_of left faults ends source after.source) (bytes ++ after.ahead))
-      → ((bytes : List ℕ) → Takes left faults ends (fresh source) after bytes → after.ended ≡ true
-      → TellsEnd (intake_of left faults ends source after.source) × (after.ahead ≡ []))
-      → TakesInput left faults ends (fresh source) after Tells → ReadsInput (intake_of left faults ends source after.source) Tells
+      → ((bytes : List ℕ) → Takes left faults ends (fresh source) after bytes → after.ended ≡ true → TellsEnd (intake_of left faults ends source after.source) × (after.ahead ≡ []))
+      → TakesInput left faults ends (fresh source) after Tells
+      → ReadsInput (intake_of left faults ends source after.source) Tells
   reads-taken source after {Tells} gives end taken = record {
     bytes = taken.bytes ++ after.ahead;
     ended = after.ended;
@@ -155,10 +160,10 @@ module _ {S : Type 0} (left : S → Option (List ℕ)) (faults ends : S → ℕ)
 
   pub ends-reading : (settings : Settings) (source : S) (after : Reading S) (answer : Result (Unit {0}) Fault)
       → ((bytes : List ℕ) → Takes left faults ends (fresh source) after bytes → Gives (intake_of left faults ends source after.source) (bytes ++ after.ahead))
-      → ((bytes : List ℕ) → Takes left faults ends (fresh source) after bytes → after.ended ≡ true
-      → TellsEnd (intake_of left faults ends source after.source) × (after.ahead ≡ []))
+      → ((bytes : List ℕ) → Takes left faults ends (fresh source) after bytes → after.ended ≡ true → TellsEnd (intake_of left faults ends source after.source) × (after.ahead ≡ []))
       → ((bytes : List ℕ) → StopsShort left faults ends (fresh source) after bytes → left source ≡ put_back (bytes ++ after.ahead) (left after.source))
-      → EndsReading left faults ends (fresh source) after settings answer → EndsChecking settings (intake_of left faults ends source after.source) answer
+      → EndsReading left faults ends (fresh source) after settings answer
+      → EndsChecking settings (intake_of left faults ends source after.source) answer
   ends-reading settings source after answer gives end gave (inl taken) = inl (reads-taken source after gives end taken)
   ends-reading settings source after answer gives end gave (inr (inl lacks)) =
       inr (inl (lacks.0, reads-taken source after gives end lacks.1, lacks.2))
@@ -185,7 +190,8 @@ passing-next p P x xs true is rest own =
 passing-next p P x xs false is rest own =
     All-cons (λ y. IsTrue (p y) → P y) x xs (λ passes. let no : false ≡ true = sym is ∙ passes in cc) (rest own)
 
-passing : {X : Type 0} (p : X → Bool) (P : X → Type 0) (xs : List X) → All P (filter p xs) → All (λ x. IsTrue (p x) → P x) xs
+passing : {X : Type 0} (p : X → Bool) (P : X → Type 0) (xs : List X) → All P (filter p xs)
+    → All (λ x. IsTrue (p x) → P x) xs
 passing p P [] all = All-nil (λ x. IsTrue (p x) → P x)
 passing p P (x ∷ xs) all = passing-next p P x xs (p x) refl (passing p P xs) all
 
@@ -197,7 +203,8 @@ each_tested events rounds same =
     (each_asked events (filter (λ (round : Round). is_tested_by_table round.event) rounds) same)
 
 -- so few are tested
-pub tested-few : (p : Round → Bool) (rounds : List Round) (i : ℕ) → i < length rounds → length (filter p (take i rounds)) < length rounds
+pub tested-few : (p : Round → Bool) (rounds : List Round) (i : ℕ) → i < length rounds
+    → length (filter p (take i rounds)) < length rounds
 tested-few p rounds i below =
     let size = length-filter p (take i rounds) in
     let few = count_by-le-length p (take i rounds) in

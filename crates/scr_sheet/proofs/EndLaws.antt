@@ -54,22 +54,22 @@ parts-output settings k parts out (Err fault.NoMemory) ends rose = absurd (gaine
 parts-output settings k parts out (Err (fault.Gap table index)) ends rose = absurd ends
 parts-output settings k parts out (Err (fault.Differs line)) ends rose = absurd ends
 
-making-output : (settings : Settings) (parts : List Part) (out : Change) (ended : Result (Unit {0}) Fault) → EndsMaking settings parts out ended
-    → IsOutputFault out ended
+making-output : (settings : Settings) (parts : List Part) (out : Change) (ended : Result (Unit {0}) Fault)
+    → EndsMaking settings parts out ended → IsOutputFault out ended
 making-output settings parts out ended making rose =
     elim making [
       | inl made ↦ parts-output settings 0 parts out ended made.1 rose
       | inr lacks ↦ absurd (gained lacks.1 rose)
     ]
 
-telling-output : (made : Result (Unit {0}) Fault) (lines : List ℕ) (out : Change) (ended : Result (Unit {0}) Fault) → EndsTelling made lines out ended
-    → IsOutputFault out ended
+telling-output : (made : Result (Unit {0}) Fault) (lines : List ℕ) (out : Change) (ended : Result (Unit {0}) Fault)
+    → EndsTelling made lines out ended → IsOutputFault out ended
 telling-output (Ok u) lines out (Ok v) told rose = absurd (gained told rose)
 telling-output (Ok u) lines out (Err f) told rose = ap (λ g. status_of (Err g)) told.0
 telling-output (Err f) lines out ended told rose = absurd (gained told.1 rose)
 
-command-output : (command : Command) (source out : Change) (ended : Result (Unit {0}) Fault) → Ends (Ok command) source out ended
-    → IsOutputFault out ended
+command-output : (command : Command) (source out : Change) (ended : Result (Unit {0}) Fault)
+    → Ends (Ok command) source out ended → IsOutputFault out ended
 command-output (One event seed) source out ended ends rose = making-output _ _ out ended ends.1 rose
 command-output (Sheet seed options) source out ended (inl ends) rose = making-output _ _ out ended ends.2 rose
 command-output (Sheet seed options) source out ended (inr refused) rose = absurd (gained refused.2.1 rose)
@@ -81,14 +81,15 @@ command-output (Check seed attempts) source out ended ends rose = telling-output
 
 -- ---- the input
 
-refused-input : (source : Change) (refusal : ListFault) → ReadsNoList source refusal → source.faults_before < source.faults_after
-    → status_of (Err (fault.List refusal)) ≡ status.ReadFault
+refused-input : (source : Change) (refusal : ListFault) → ReadsNoList source refusal
+    → source.faults_before < source.faults_after → status_of (Err (fault.List refusal)) ≡ status.ReadFault
 refused-input source (list.TooLong limit) cause rose = absurd (stayed cause.gives.no_fault rose)
 refused-input source (list.Line number why) cause rose = absurd (stayed cause.gives.no_fault rose)
 refused-input source list.Read cause rose = refl
 
-command-input : (command : Command) (source out : Change) (ended : Result (Unit {0}) Fault) → Ends (Ok command) source out ended
-    → source.faults_before < source.faults_after → status_of ended ≡ status.ReadFault
+command-input : (command : Command) (source out : Change) (ended : Result (Unit {0}) Fault)
+    → Ends (Ok command) source out ended → source.faults_before < source.faults_after
+    → status_of ended ≡ status.ReadFault
 command-input (One event seed) source out ended ends rose = absurd (unchanged ends.0 rose)
 command-input (Sheet seed options) source out ended (inl ends) rose = absurd (stayed ends.1.gives.no_fault rose)
 command-input (Sheet seed options) source out ended (inr refused) rose = ap status_of refused.2.0 ∙ refused-input source refused.0 refused.1 rose
@@ -104,8 +105,8 @@ module _ (Rises : Change → Change → Type 0) (status_then : Status)
     (command_then : (command : Command) (source out : Change) (ended : Result (Unit {0}) Fault) → Ends (Ok command) source out ended
     → Rises source out → status_of ended ≡ status_then)
     (unmoved : (source out : Change) → IsUnchanged source → IsUnwritten out → Rises source out → ⊥) where
-  words-then : (asked : Result Command UsageFault) (source out : Change) (ended : Result (Unit {0}) Fault) → Ends asked source out ended
-      → Rises source out → status_of ended ≡ status_then
+  words-then : (asked : Result Command UsageFault) (source out : Change) (ended : Result (Unit {0}) Fault)
+      → Ends asked source out ended → Rises source out → status_of ended ≡ status_then
   words-then (Ok command) source out ended ends rose = command_then command source out ended ends rose
   words-then (Err usage) source out ended ends rose = absurd (unmoved source out ends.0 ends.1.1 rose)
 
@@ -118,13 +119,13 @@ module _ (Rises : Change → Change → Type 0) (status_then : Status)
         | inr wanting ↦ absurd (unmoved source out wanting.0 wanting.1.1 rose)
       ]
 
-pub run-output : (words : List (List ℕ)) (outcome : Status) (source out err : Change) → IsRun words outcome source out err
-    → out.faults_before < out.faults_after → outcome ≡ status.WriteFault
+pub run-output : (words : List (List ℕ)) (outcome : Status) (source out err : Change)
+    → IsRun words outcome source out err → out.faults_before < out.faults_after → outcome ≡ status.WriteFault
 run-output =
     run-then (λ source out. out.faults_before < out.faults_after) status.WriteFault command-output (λ source out unread unwritten rose. gained unwritten rose)
 
-pub run-input : (words : List (List ℕ)) (outcome : Status) (source out err : Change) → IsRun words outcome source out err
-    → source.faults_before < source.faults_after → outcome ≡ status.ReadFault
+pub run-input : (words : List (List ℕ)) (outcome : Status) (source out err : Change)
+    → IsRun words outcome source out err → source.faults_before < source.faults_after → outcome ≡ status.ReadFault
 run-input =
     run-then (λ source out. source.faults_before < source.faults_after) status.ReadFault command-input (λ source out unread unwritten rose. unchanged unread rose)
 
@@ -133,7 +134,8 @@ run-input =
 told-done : (err : Change) (ended : Result (Unit {0}) Fault) → ended ≡ Ok tt → Tells err ended → IsUnwritten err
 told-done err ended is tells = subst (λ e. Tells err e) is tells
 
-pub run-done : (words : List (List ℕ)) (source out err : Change) → IsRun words status.Done source out err → IsUnwritten err
+pub run-done : (words : List (List ℕ)) (source out err : Change) → IsRun words status.Done source out err
+    → IsUnwritten err
 run-done words source out err run = told-done err run.ended (end-of status.Done run.ended (sym run.answer)) run.tells
 
 pub run-memory : (words : List (List ℕ)) (source out err : Change) → IsRun words status.NoMemory source out err
@@ -144,17 +146,19 @@ run-memory words source out err run = run.performed.memory (end-of status.NoMemo
 abbrev pub FaltersInTables : Event → Change → Type 0
 FaltersInTables event out = (text : List ℕ) × IsTablesText (tables_for (event ∷ [])) text × Falters out text
 
-tables-broken : (event : Event) (out : Change) → EndsTables event out (Err fault.Write) ⊎ (LacksTables (event ∷ []) (Err fault.Write) × IsUnwritten out)
+tables-broken : (event : Event) (out : Change)
+    → EndsTables event out (Err fault.Write) ⊎ (LacksTables (event ∷ []) (Err fault.Write) × IsUnwritten out)
     → FaltersInTables event out
 tables-broken event out (inl ends) = (ends.0, ends.1, ends.2.1)
 tables-broken event out (inr lacks) = absurd (no_write lacks.0.0 lacks.0.2)
   where
-    no_write : (why : BuildFault) → (let ended : Result (Unit {0}) Fault = Err fault.Write in ended) ≡ Err (fault_of_build why) → ⊥
+    no_write : (why : BuildFault)
+        → (let ended : Result (Unit {0}) Fault = Err fault.Write in ended) ≡ Err (fault_of_build why) → ⊥
     no_write build.NoMemory same = cc
     no_write (build.Gap table index) same = cc
 
-pub run-tables : (words : List (List ℕ)) (event : Event) (source out err : Change) → command_of words ≡ Ok (Tables event)
-    → IsRun words status.WriteFault source out err → FaltersInTables event out
+pub run-tables : (words : List (List ℕ)) (event : Event) (source out err : Change)
+    → command_of words ≡ Ok (Tables event) → IsRun words status.WriteFault source out err → FaltersInTables event out
 run-tables words event source out err asks run =
     let P : Result Command UsageFault → Type 0 = λ asked. Ends asked source out run.ended in
     elim run.performed.ends [

@@ -45,8 +45,8 @@ use Rattle.scr_sheet.proofs.PartLaws.{EachSlot-map}
 use Rattle.scr_sheet.proofs.RunLaws.{IsFairPart}
 
 -- the scrambles of slots of an event that is drawn fairly
-fair_scrambles : (scrambling : Scrambling) (settings : Settings) (least stream : ℕ) (scrambles : List Written) → IsDrawnFairly scrambling least
-    → EachSlot (IsSlotScramble scrambling settings least) stream scrambles
+fair_scrambles : (scrambling : Scrambling) (settings : Settings) (least stream : ℕ) (scrambles : List Written)
+    → IsDrawnFairly scrambling least → EachSlot (IsSlotScramble scrambling settings least) stream scrambles
     → AreFairScrambles (shown_by scrambling) settings least stream (turns_of_each scrambles)
 fair_scrambles (ByState S event drawn numbers IsScramble) settings least stream scrambles fair each = (
   numbers.count,
@@ -78,7 +78,8 @@ record IsFairText (settings : Settings) (part : Part) (text : List ℕ) : Type 0
   is : text ≡ part.text scrambles
 
 -- so is the text of a part that is drawn fairly
-fair_text : (settings : Settings) (part : Part) (text : List ℕ) → IsFairPart part → IsPartText settings part text → IsFairText settings part text
+fair_text : (settings : Settings) (part : Part) (text : List ℕ) → IsFairPart part → IsPartText settings part text
+    → IsFairText settings part text
 fair_text settings part text fair is =
     let P : Shown → Type 0 = λ shown. AreFairScrambles shown settings part.least part.first_stream (turns_of_each is.scrambles) in
     record {
@@ -89,8 +90,8 @@ fair_text settings part text fair is =
     }
 
 -- and of leading parts
-fair_texts : (settings : Settings) (led rest : List Part) (text : List ℕ) → All IsFairPart (led ++ rest) → IsText (IsPartText settings) led text
-    → IsText (IsFairText settings) led text
+fair_texts : (settings : Settings) (led rest : List Part) (text : List ℕ) → All IsFairPart (led ++ rest)
+    → IsText (IsPartText settings) led text → IsText (IsFairText settings) led text
 fair_texts settings [] rest text fair is = is
 fair_texts settings (part ∷ led) rest text fair is = (
   is.0,
@@ -110,8 +111,8 @@ record IsFairlyLed (settings : Settings) (parts : List Part) (out : Change) : Ty
   written : Gains out text ⊎ Falters out text
 
 fair-led : (settings : Settings) (parts : List Part) (out : Change) (Is : List ℕ → Type 0) (Leaves : ℕ → List Part → Type 0)
-    → All IsFairPart parts → ((text : List ℕ) → Is text → Gains out text ⊎ Falters out text) → IsLed settings parts Is Leaves
-    → IsFairlyLed settings parts out
+    → All IsFairPart parts → ((text : List ℕ) → Is text → Gains out text ⊎ Falters out text)
+    → IsLed settings parts Is Leaves → IsFairlyLed settings parts out
 fair-led settings parts out Is Leaves fair writes ends = record {
   led = ends.led;
   rest = ends.rest;
@@ -122,8 +123,8 @@ fair-led settings parts out Is Leaves fair writes ends = record {
 }
 
 -- so it is however parts end
-fair-parts : (settings : Settings) (k : ℕ) (parts : List Part) (out : Change) (ended : Result (Unit {0}) Fault) → All IsFairPart parts
-    → EndsParts settings k parts out ended → IsFairlyLed settings parts out
+fair-parts : (settings : Settings) (k : ℕ) (parts : List Part) (out : Change) (ended : Result (Unit {0}) Fault)
+    → All IsFairPart parts → EndsParts settings k parts out ended → IsFairlyLed settings parts out
 fair-parts settings k parts out (Ok u) fair ends =
     fair-led settings parts out (Gains out) _ fair (λ text. inl) ends
 fair-parts settings k parts out (Err (fault.Usage usage)) fair ends = absurd ends
@@ -169,8 +170,9 @@ fair-single : (settings : Settings) (event : Event) (side : Option ℕ) (text : 
     → IsFairText settings (single_part event side) text → IsFairSingle settings event side text
 fair-single settings event side text it = of_scrambles it.scrambles it.each_slot it.fair it.is
   where
-    of_scrambles : (scrambles : List (List Turn)) → length scrambles ≡ 1 → AreFairScrambles (shown_of event) settings 0 0 scrambles
-        → text ≡ (single_part event side).text scrambles → IsFairSingle settings event side text
+    of_scrambles : (scrambles : List (List Turn)) → length scrambles ≡ 1
+        → AreFairScrambles (shown_of event) settings 0 0 scrambles → text ≡ (single_part event side).text scrambles
+        → IsFairSingle settings event side text
     of_scrambles [] size fair is = absurd (omega (arith, size))
     of_scrambles (turns ∷ []) size fair is = record { turns = turns; fair = fair; is = is }
     of_scrambles (turns ∷ other ∷ others) size fair is = absurd (omega (arith, size))
@@ -191,8 +193,8 @@ single-writes Is settings event side out ended so making =
 
 -- ---- rounds
 
-fair-round : (settings : Settings) (k : ℕ) (round : Round) (text : List ℕ) → IsRound round → IsFairText settings (round_part k round) text
-    → IsFairRound k settings text
+fair-round : (settings : Settings) (k : ℕ) (round : Round) (text : List ℕ) → IsRound round
+    → IsFairText settings (round_part k round) text → IsFairRound k settings text
 fair-round settings k round text is_round it =
     let order = round-in_order k round it.scrambles it.each_slot in
     record {
@@ -207,8 +209,9 @@ fair-round settings k round text is_round it =
     }
 
 -- the first of a list's parts are rounds
-fair-rounds : (settings : Settings) (k : ℕ) (rounds : List Round) (led rest : List Part) (text : List ℕ) → All IsRound rounds
-    → round_parts k rounds ≡ led ++ rest → IsText (IsFairText settings) led text → AreFairRounds k settings text
+fair-rounds : (settings : Settings) (k : ℕ) (rounds : List Round) (led rest : List Part) (text : List ℕ)
+    → All IsRound rounds → round_parts k rounds ≡ led ++ rest → IsText (IsFairText settings) led text
+    → AreFairRounds k settings text
 fair-rounds settings k rounds [] rest text each are fair = subst (AreFairRounds k settings) (sym fair) (no_round k settings)
 fair-rounds settings k [] (part ∷ led) rest text each are fair =
     let none : ⊥ = cc in
@@ -250,7 +253,8 @@ and_then-asked : {X : Type 0} (Is : Command → Type 0) (read : Result X UsageFa
 and_then-asked Is (Ok part) next each = each part
 and_then-asked Is (Err fault) next each = tt
 
-seeded-asked : (Is : Command → Type 0) (make : Seed → Command) → ((seed : Seed) → Is (make seed)) → (word : List ℕ) → IsAsked Is (seeded make word)
+seeded-asked : (Is : Command → Type 0) (make : Seed → Command) → ((seed : Seed) → Is (make seed)) → (word : List ℕ)
+    → IsAsked Is (seeded make word)
 seeded-asked Is make makes word = by_seed (seed_of word)
   where
     by_seed : (read : Result Seed SeedFault) → IsAsked Is (result_map_both make NoSeed read)
@@ -301,22 +305,23 @@ fair-line settings event side text it = record {
   is = it.is ∙ append_assoc (text_of it.turns) (codes "\n") (shown_net side it.turns);
 }
 
-one-writes : (source out : Change) (ended : Result (Unit {0}) Fault) (asked : Result Command UsageFault) → IsAsked IsOne asked
-    → Ends asked source out ended → WritesOnly (IsFairLine []) out
+one-writes : (source out : Change) (ended : Result (Unit {0}) Fault) (asked : Result Command UsageFault)
+    → IsAsked IsOne asked → Ends asked source out ended → WritesOnly (IsFairLine []) out
 one-writes source out ended (Err usage) asks ends = nothing-written (IsFairLine []) out ends.1.1
 one-writes source out ended (Ok command) (event, seed, is) ends =
     let making = (subst (λ c. Ends (Ok c) source out ended) is ends).1 in
     single-writes (IsFairLine []) _ event None out ended (fair-line _ event None) making
 
-net-writes : (source out : Change) (ended : Result (Unit {0}) Fault) (asked : Result Command UsageFault) → IsAsked IsNet asked
-    → Ends asked source out ended → WritesOnly IsBelow out
+net-writes : (source out : Change) (ended : Result (Unit {0}) Fault) (asked : Result Command UsageFault)
+    → IsAsked IsNet asked → Ends asked source out ended → WritesOnly IsBelow out
 net-writes source out ended (Err usage) asks ends = nothing-written IsBelow out ends.1.1
 net-writes source out ended (Ok command) (event, seed, is) ends =
     let making = (subst (λ c. Ends (Ok c) source out ended) is ends).1 in
     single-writes IsBelow _ event (net_side_of event) out ended (λ text it. (_, fair-line _ event (net_side_of event) text it)) making
 
-rounds-write : (settings : Settings) (rounds : List Round) → All IsRound rounds → (out : Change) (ended : Result (Unit {0}) Fault)
-    → EndsMaking settings (round_parts 0 rounds) out ended → WritesOnly (AreFairRounds 0) out
+rounds-write : (settings : Settings) (rounds : List Round) → All IsRound rounds
+    → (out : Change) (ended : Result (Unit {0}) Fault) → EndsMaking settings (round_parts 0 rounds) out ended
+    → WritesOnly (AreFairRounds 0) out
 rounds-write settings rounds each out ended making =
     let led = fair-making settings (round_parts 0 rounds) out ended making in
     record {
@@ -326,8 +331,8 @@ rounds-write settings rounds each out ended making =
       written = led.written;
     }
 
-sheet-writes : (source out : Change) (ended : Result (Unit {0}) Fault) (asked : Result Command UsageFault) → IsAsked IsSheet asked
-    → Ends asked source out ended → WritesOnly (AreFairRounds 0) out
+sheet-writes : (source out : Change) (ended : Result (Unit {0}) Fault) (asked : Result Command UsageFault)
+    → IsAsked IsSheet asked → Ends asked source out ended → WritesOnly (AreFairRounds 0) out
 sheet-writes source out ended (Err usage) asks ends = nothing-written (AreFairRounds 0) out ends.1.1
 sheet-writes source out ended (Ok command) (seed, options, is) ends =
     elim (subst (λ c. Ends (Ok c) source out ended) is ends) [
@@ -346,8 +351,8 @@ word-writes Is name word words source out ended performed so is =
     ]
 
 -- whatever a run writes of scrambles is fair
-pub fair-run : (words : List (List ℕ)) (source out : Change) (ended : Result (Unit {0}) Fault) → IsPerformed words source out ended
-    → IsFairRun words out
+pub fair-run : (words : List (List ℕ)) (source out : Change) (ended : Result (Unit {0}) Fault)
+    → IsPerformed words source out ended → IsFairRun words out
 fair-run [] source out ended performed = tt
 fair-run (word ∷ words) source out ended performed = (
   word-writes (IsFairLine []) (codes "one") word words source out ended performed (one-writes source out ended _ (one-asked words)),

@@ -39,7 +39,8 @@ load_rounds-IsRounds number =
     record { each = rounds_from-IsRound number 0 (1 + number % 16); few = omega (arith, size, few) }
 
 -- the events of the lists are the first ones of all
-in_turn : (number : ℕ) → slice_index_or events (number % 11) C222 ≡ slice_index_or load_events (number % length load_events) C222
+in_turn : (number : ℕ)
+    → slice_index_or events (number % 11) C222 ≡ slice_index_or load_events (number % length load_events) C222
 in_turn number = sym (get_or-take 11 events (number % 11) C222 (mod_below number 11 (omega arith)))
 
 -- so many groups of an event, with its usual minimum and no name

@@ -20,7 +20,8 @@ use Rattle.scr_net.specs.Nets.{Letters, net_after, solved_net, turned_net}
 
 -- turns of fewer layers than the cube has, at the near faces and at the far ones
 module _ (near far side : ℕ) (near_inside : near < side) (far_inside : far < side) where
-  shown : (t : Turn) → IsTrue (is_face_turn near far t) → (net : Letters) → (after : Letters) × (net_after side net t ≡ Some after)
+  shown : (t : Turn) → IsTrue (is_face_turn near far t) → (net : Letters)
+      → (after : Letters) × (net_after side net t ≡ Some after)
   shown (Face face depth amount) is net =
       let parts = face_turn_parts near far face depth amount is in
       let inside : depth < side =
@@ -36,7 +37,8 @@ module _ (near far side : ℕ) (near_inside : near < side) (far_inside : far < s
   shown Over is net = cc
   shown (Wide letter plus) is net = cc
 
-  all_shown : (turns : List Turn) → All (λ t. IsTrue (is_face_turn near far t)) turns → (net : Letters) → IsSome (play (net_after side) net turns)
+  all_shown : (turns : List Turn) → All (λ t. IsTrue (is_face_turn near far t)) turns → (net : Letters)
+      → IsSome (play (net_after side) net turns)
   all_shown [] all net = subst IsSome (sym (play-empty (net_after side) net)) refl
   all_shown (t ∷ turns) all net =
       let P : Turn → Type 0 = λ u. IsTrue (is_face_turn near far u) in
@@ -54,8 +56,8 @@ fits LayersAndTwist (Some side) = false
 fits PinSets (Some side) = false
 fits WideTurns (Some side) = false
 
-by_kind : (kind : Kind) (side : ℕ) → IsTrue (fits kind (Some side)) → (turns : List Turn) → All (λ t. IsTrue (has_turn kind t)) turns
-    → IsSome (play (net_after side) (solved_net side) turns)
+by_kind : (kind : Kind) (side : ℕ) → IsTrue (fits kind (Some side)) → (turns : List Turn)
+    → All (λ t. IsTrue (has_turn kind t)) turns → IsSome (play (net_after side) (solved_net side) turns)
 unfolding fits
 by_kind (Faces near far) side inside turns all =
     let near_inside = ltb-true near side (and_first (nat_lt near side) (nat_lt far side) inside) in
@@ -66,8 +68,8 @@ by_kind LayersAndTwist side inside turns all = cc
 by_kind PinSets side inside turns all = cc
 by_kind WideTurns side inside turns all = cc
 
-pub nets-shown : (event : Event) (side : ℕ) → net_side_of event ≡ Some side → (turns : List Turn) → All (λ t. IsTrue (permits event t)) turns
-    → IsSome (play (net_after side) (solved_net side) turns)
+pub nets-shown : (event : Event) (side : ℕ) → net_side_of event ≡ Some side → (turns : List Turn)
+    → All (λ t. IsTrue (permits event t)) turns → IsSome (play (net_after side) (solved_net side) turns)
 unfolding fits
 nets-shown event side is turns all =
     let inside = each_passes (λ e. fits (kind_of e) (net_side_of e)) refl event in

@@ -15,7 +15,8 @@ abbrev Lacks : ℕ → List ℕ → Type 0
 Lacks c text = list_any (λ byte. byte == c) text ≡ false
 
 -- two texts are parted at the same place
-apart : (c : ℕ) (xs ys other others : List ℕ) → (c == c) ≡ true → Lacks c xs → Lacks c other → xs ++ c ∷ ys ≡ other ++ c ∷ others → (xs ≡ other) × (ys ≡ others)
+apart : (c : ℕ) (xs ys other others : List ℕ) → (c == c) ≡ true → Lacks c xs → Lacks c other
+    → xs ++ c ∷ ys ≡ other ++ c ∷ others → (xs ≡ other) × (ys ≡ others)
 apart c [] ys [] others is bare bare' same = (refl, cc)
 apart c [] ys (x ∷ other) others is bare bare' same =
     let first : c ≡ x = cc in
@@ -130,8 +131,8 @@ by_dot : (before t below : List ℕ) → before ++ codes ". " ++ t ++ 10 ∷ bel
 by_dot before t below = append_assoc (before ++ codes ". ") t (10 ∷ below) ∙ append_assoc before (codes ". ") (t ++ 10 ∷ below)
 
 -- two readings of one text
-spelled_alike : (some : List (List Turn)) (text : List ℕ) (other : List (List Turn)) (again : List ℕ) → StandInOrder some text
-    → StandInOrder other again → text ≡ again → map text_of some ≡ map text_of other
+spelled_alike : (some : List (List Turn)) (text : List ℕ) (other : List (List Turn)) (again : List ℕ)
+    → StandInOrder some text → StandInOrder other again → text ≡ again → map text_of some ≡ map text_of other
 spelled_alike _ _ _ _ (no_more text bare) (no_more again plain) same = refl
 spelled_alike _ _ _ _ (no_more text bare) (next before turns others below bare' rest) same =
     absurd (first_dot before (text_of turns) below (subst HasNoDot same bare))

@@ -22,20 +22,22 @@ use Rattle.scr_sheet.specs.Outcome.{IsUnwritten, IsLed, IsStopped, EndsParts}
 -- ---- slots one after another
 
 -- the first ones of some, and the one behind them
-pub EachSlot-before : {X : Type 0} (Is : ℕ → X → Type 0) (stream : ℕ) (xs ys : List X) → EachSlot Is stream (xs ++ ys) → EachSlot Is stream xs
+pub EachSlot-before : {X : Type 0} (Is : ℕ → X → Type 0) (stream : ℕ) (xs ys : List X) → EachSlot Is stream (xs ++ ys)
+    → EachSlot Is stream xs
 EachSlot-before Is stream [] ys each = tt
 EachSlot-before Is stream (x ∷ xs) ys each = (each.0, EachSlot-before Is (stream + 1) xs ys each.1)
 
-pub EachSlot-behind : {X : Type 0} (Is : ℕ → X → Type 0) (stream : ℕ) (xs : List X) (y : X) (ys : List X) → EachSlot Is stream (xs ++ y ∷ ys)
-    → Is (stream + length xs) y
+pub EachSlot-behind : {X : Type 0} (Is : ℕ → X → Type 0) (stream : ℕ) (xs : List X) (y : X) (ys : List X)
+    → EachSlot Is stream (xs ++ y ∷ ys) → Is (stream + length xs) y
 EachSlot-behind Is stream [] y ys each = let here : stream ≡ stream + 0 = omega arith in subst (λ s. Is s y) here each.0
 EachSlot-behind Is stream (x ∷ xs) y ys each =
     let place : stream + 1 + length xs ≡ stream + length (x ∷ xs) = omega arith in
     subst (λ s. Is s y) place (EachSlot-behind Is (stream + 1) xs y ys each.1)
 
 -- what is so of each is so of what is made of each
-pub EachSlot-map : {X Y : Type 0} (Is : ℕ → X → Type 0) (So : ℕ → Y → Type 0) (f : X → Y) → ((s : ℕ) (x : X) → Is s x → So s (f x))
-    → (stream : ℕ) (xs : List X) → EachSlot Is stream xs → EachSlot So stream (map f xs)
+pub EachSlot-map : {X Y : Type 0} (Is : ℕ → X → Type 0) (So : ℕ → Y → Type 0) (f : X → Y)
+    → ((s : ℕ) (x : X) → Is s x → So s (f x)) → (stream : ℕ) (xs : List X) → EachSlot Is stream xs
+    → EachSlot So stream (map f xs)
 EachSlot-map Is So f so stream [] each = tt
 EachSlot-map Is So f so stream (x ∷ xs) each = (so stream x each.0, EachSlot-map Is So f so (stream + 1) xs each.1)
 
@@ -88,8 +90,8 @@ AreScrambles-all settings part answers scrambles are same =
     }
 
 -- and one of which an answer is none has a first slot without
-pub IsFirstWithout-none : (settings : Settings) (part : Part) (answers : List (Option Written)) (place : ℕ) → AreAnswers settings part answers
-    → IsFirstNone answers place → IsFirstWithout settings part place
+pub IsFirstWithout-none : (settings : Settings) (part : Part) (answers : List (Option Written)) (place : ℕ)
+    → AreAnswers settings part answers → IsFirstNone answers place → IsFirstWithout settings part place
 IsFirstWithout-none settings part answers place are first =
     let scrambling = scrambling_of part.event in
     let Is : ℕ → Option Written → Type 0 = IsSlotAnswer scrambling settings part.least in
@@ -115,12 +117,13 @@ IsFirstWithout-none settings part answers place are first =
 -- ---- texts
 
 -- the text of one part
-pub IsText-one : (IsOne : Part → List ℕ → Type 0) (part : Part) (text : List ℕ) → IsOne part text → IsText IsOne (part ∷ []) text
+pub IsText-one : (IsOne : Part → List ℕ → Type 0) (part : Part) (text : List ℕ) → IsOne part text
+    → IsText IsOne (part ∷ []) text
 IsText-one IsOne part text is = (text, [], is, refl, sym (append-nil text))
 
 -- the text of parts behind others
-pub IsText-append : (IsOne : Part → List ℕ → Type 0) (parts more : List Part) (text next : List ℕ) → IsText IsOne parts text
-    → IsText IsOne more next → IsText IsOne (parts ++ more) (text ++ next)
+pub IsText-append : (IsOne : Part → List ℕ → Type 0) (parts more : List Part) (text next : List ℕ)
+    → IsText IsOne parts text → IsText IsOne more next → IsText IsOne (parts ++ more) (text ++ next)
 IsText-append IsOne [] more text next none after = subst (λ t. IsText IsOne more (t ++ next)) (sym none) after
 IsText-append IsOne (part ∷ parts) more text next before after = (
   before.0,
@@ -142,7 +145,8 @@ pub record IsDone (settings : Settings) (parts : List Part) (out : Change) : Typ
 abbrev pub IsWhole : Settings → List Part → Change → Type 0
 IsWhole settings parts out = IsLed settings parts (Gains out) (λ led rest. rest ≡ [])
 
-pub done-whole : {settings : Settings} {parts : List Part} {out : Change} → IsDone settings parts out → IsWhole settings parts out
+pub done-whole : {settings : Settings} {parts : List Part} {out : Change} → IsDone settings parts out
+    → IsWhole settings parts out
 done-whole {parts = parts} done = record {
   led = parts;
   rest = [];
@@ -153,7 +157,8 @@ done-whole {parts = parts} done = record {
   leaves = refl;
 }
 
-pub whole-done : {settings : Settings} {parts : List Part} {out : Change} → IsWhole settings parts out → IsDone settings parts out
+pub whole-done : {settings : Settings} {parts : List Part} {out : Change} → IsWhole settings parts out
+    → IsDone settings parts out
 whole-done {settings = settings} whole = record {
   text = whole.text;
   all = subst (λ p. IsText (IsPartText settings) p whole.text)
@@ -219,8 +224,8 @@ IsLed-behind {settings} {k = k} {Leaves' = Leaves'} rest made so leaving ends =
     }
 
 -- a slot without a scramble, of the first of some parts, with others behind them
-IsStopped-before : (settings : Settings) (number slot words k k' : ℕ) (left rest : List Part) → k ≡ k' → IsStopped settings number slot words k left
-    → IsStopped settings number slot words k' (left ++ rest)
+IsStopped-before : (settings : Settings) (number slot words k k' : ℕ) (left rest : List Part) → k ≡ k'
+    → IsStopped settings number slot words k left → IsStopped settings number slot words k' (left ++ rest)
 IsStopped-before settings number slot words k k' [] rest same stopped = absurd stopped
 IsStopped-before settings number slot words k k' (failing ∷ left) rest same stopped = (stopped.0 ∙ ap (λ n. n + 1) same, stopped.1, stopped.2)
 
@@ -282,8 +287,8 @@ IsPartText-made {k = k} {made = made} is = record {
 }
 
 -- nothing was written of some parts
-IsLed-none : {settings : Settings} {parts : List Part} {out : Change} {Leaves : ℕ → List Part → Type 0} → Leaves 0 parts → IsUnwritten out
-    → IsLed settings parts (Gains out) Leaves
+IsLed-none : {settings : Settings} {parts : List Part} {out : Change} {Leaves : ℕ → List Part → Type 0} → Leaves 0 parts
+    → IsUnwritten out → IsLed settings parts (Gains out) Leaves
 IsLed-none {parts = parts} leaves unwritten = record {
   led = [];
   rest = parts;
@@ -296,7 +301,8 @@ IsLed-none {parts = parts} leaves unwritten = record {
 
 -- a part that stands alone has a slot without a scramble
 pub first-stopped : {settings : Settings} {part : Part} {words : ℕ} {out : Change} (k j : ℕ)
-    → IsLimit settings part j words → IsUnwritten out → EndsParts settings k (part ∷ []) out (Err (fault.DrawLimit (k + 1) (j + 1) words))
+    → IsLimit settings part j words → IsUnwritten out
+    → EndsParts settings k (part ∷ []) out (Err (fault.DrawLimit (k + 1) (j + 1) words))
 first-stopped k j limit = IsLed-none (omega arith, limit.taken, (j, refl, limit.first))
 
 -- a part that stands alone is not made for want of memory
@@ -305,8 +311,8 @@ pub first-unmade : {settings : Settings} {part : Part} {out : Change} → IsUnwr
 first-unmade = IsLed-none (omega arith)
 
 -- a part that stands alone was written in part
-pub first-broken : {settings : Settings} {part : Part} {text : List ℕ} {out : Change} → IsPartText settings part text → Falters out text
-    → IsLed settings (part ∷ []) (Falters out) (λ led rest. Unit {0})
+pub first-broken : {settings : Settings} {part : Part} {text : List ℕ} {out : Change} → IsPartText settings part text
+    → Falters out text → IsLed settings (part ∷ []) (Falters out) (λ led rest. Unit {0})
 first-broken {settings = settings} {part = part} {text = text} is faltered = record {
   led = part ∷ [];
   rest = [];
@@ -318,8 +324,8 @@ first-broken {settings = settings} {part = part} {text = text} is faltered = rec
 }
 
 -- and whole
-pub IsWhole-first : {settings : Settings} {part : Part} {text : List ℕ} {out : Change} → IsPartText settings part text → Gains out text
-    → IsWhole settings (part ∷ []) out
+pub IsWhole-first : {settings : Settings} {part : Part} {text : List ℕ} {out : Change} → IsPartText settings part text
+    → Gains out text → IsWhole settings (part ∷ []) out
 IsWhole-first {settings = settings} {part = part} {text = text} is gained = done-whole (record {
   text = text;
   all = IsText-one (IsPartText settings) part text is;

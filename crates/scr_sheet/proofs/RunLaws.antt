@@ -51,7 +51,8 @@ IsDecided part = HasOneAnswer (scrambling_of part.event) part.least
 
 module _ (settings : Settings) (scrambling : Scrambling) (least : ℕ) (decided : HasOneAnswer scrambling least) where
   EachSlot-one : (stream : ℕ) (some other : List Written) → length some ≡ length other
-      → EachSlot (IsSlotScramble scrambling settings least) stream some → EachSlot (IsSlotScramble scrambling settings least) stream other → some ≡ other
+      → EachSlot (IsSlotScramble scrambling settings least) stream some
+      → EachSlot (IsSlotScramble scrambling settings least) stream other → some ≡ other
   EachSlot-one stream [] [] size first second = refl
   EachSlot-one stream [] (y ∷ ys) size first second = absurd (omega (arith, size))
   EachSlot-one stream (x ∷ xs) [] size first second = absurd (omega (arith, size))
@@ -61,8 +62,8 @@ module _ (settings : Settings) (scrambling : Scrambling) (least : ℕ) (decided 
       let others : xs ≡ ys = EachSlot-one (stream + 1) xs ys fewer first.1 second.1 in
       cc
 
-IsPartText-one : (settings : Settings) (part : Part) (text other : List ℕ) → IsDecided part → IsPartText settings part text
-    → IsPartText settings part other → text ≡ other
+IsPartText-one : (settings : Settings) (part : Part) (text other : List ℕ) → IsDecided part
+    → IsPartText settings part text → IsPartText settings part other → text ≡ other
 IsPartText-one settings part text other decided first second =
     let same =
     EachSlot-one settings (scrambling_of part.event) part.least decided part.first_stream first.scrambles second.scrambles
@@ -89,8 +90,8 @@ all_decided decided (part ∷ parts) = All-cons IsDecided part parts (decided pa
 -- ---- the ends of parts
 
 -- a slot of some has its own
-EachSlot-at : {X : Type 0} (Is : ℕ → X → Type 0) (stream : ℕ) (xs : List X) (j : ℕ) → EachSlot Is stream xs → j < length xs
-    → (x : X) × Is (stream + j) x
+EachSlot-at : {X : Type 0} (Is : ℕ → X → Type 0) (stream : ℕ) (xs : List X) (j : ℕ) → EachSlot Is stream xs
+    → j < length xs → (x : X) × Is (stream + j) x
 EachSlot-at Is stream [] j each below = absurd (omega (arith, below))
 EachSlot-at Is stream (x ∷ xs) zero each below =
     let place : stream ≡ stream + 0 = omega arith in
@@ -102,8 +103,8 @@ EachSlot-at Is stream (x ∷ xs) (suc j) each below =
     (there.0, subst (λ s. Is s there.0) place there.1)
 
 -- a part with a text lacks no scramble
-IsPartText-apart : (settings : Settings) (part : Part) (text : List ℕ) (j : ℕ) → IsDecided part → IsPartText settings part text
-    → IsFirstWithout settings part j → ⊥
+IsPartText-apart : (settings : Settings) (part : Part) (text : List ℕ) (j : ℕ) → IsDecided part
+    → IsPartText settings part text → IsFirstWithout settings part j → ⊥
 IsPartText-apart settings part text j decided is lacks =
     let size = is.all.each_slot in
     let below : j < length is.scrambles = omega (arith, size, lacks.below) in
@@ -112,21 +113,22 @@ IsPartText-apart settings part text j decided is lacks =
     cc
 
 IsText-apart : (settings : Settings) (led : List Part) (part : Part) (rest : List Part) (text : List ℕ) (j : ℕ)
-    → All IsDecided (led ++ part ∷ rest) → IsText (IsPartText settings) (led ++ part ∷ rest) text → IsFirstWithout settings part j → ⊥
+    → All IsDecided (led ++ part ∷ rest) → IsText (IsPartText settings) (led ++ part ∷ rest) text
+    → IsFirstWithout settings part j → ⊥
 IsText-apart settings [] part rest text j decided is lacks = IsPartText-apart settings part is.0 j (All-head IsDecided part rest decided) is.2 lacks
 IsText-apart settings (other ∷ led) part rest text j decided is lacks = IsText-apart settings led part rest is.1 j (All-tail IsDecided other (led ++ part ∷ rest) decided) is.3 lacks
 
 -- where one of them has none
-LacksScramble-stopped : (settings : Settings) (parts : List Part) (number slot words k : ℕ) (led rest : List Part) → parts ≡ led ++ rest
-    → IsStopped settings number slot words k rest → LacksScramble settings parts
+LacksScramble-stopped : (settings : Settings) (parts : List Part) (number slot words k : ℕ) (led rest : List Part)
+    → parts ≡ led ++ rest → IsStopped settings number slot words k rest → LacksScramble settings parts
 LacksScramble-stopped settings parts number slot words k led [] are stopped = absurd stopped
 LacksScramble-stopped settings parts number slot words k led (failing ∷ rest) are (numbered, taken, (j, place, first)) =
     record { led = led; part = failing; rest = rest; are = are; slot = j; first = first }
 
 -- parts whose slots all have scrambles, where the output doesn't fail
 EndsParts-done : (settings : Settings) (parts : List Part) (out : Change) (ended : Result (Unit {0}) Fault)
-    → EndsParts settings 0 parts out ended → ¬ (Rose out.faults_before out.faults_after) → ¬ (LacksScramble settings parts)
-    → EndsWith (status_of ended) status.Done
+    → EndsParts settings 0 parts out ended → ¬ (Rose out.faults_before out.faults_after)
+    → ¬ (LacksScramble settings parts) → EndsWith (status_of ended) status.Done
 EndsParts-done settings parts out (Ok u) ends written each = inl refl
 EndsParts-done settings parts out (Err (fault.Usage usage)) ends written each = absurd ends
 EndsParts-done settings parts out (Err (fault.List list)) ends written each = absurd ends
@@ -139,8 +141,8 @@ EndsParts-done settings parts out (Err (fault.Differs line)) ends written each =
 
 -- parts of which one lacks a scramble
 EndsParts-limit : (settings : Settings) (parts : List Part) (out : Change) (ended : Result (Unit {0}) Fault)
-    → EndsParts settings 0 parts out ended → ¬ (Rose out.faults_before out.faults_after) → All IsDecided parts → LacksScramble settings parts
-    → EndsWith (status_of ended) status.DrawLimit
+    → EndsParts settings 0 parts out ended → ¬ (Rose out.faults_before out.faults_after) → All IsDecided parts
+    → LacksScramble settings parts → EndsWith (status_of ended) status.DrawLimit
 EndsParts-limit settings parts out (Ok u) ends written decided lacks =
     let done = whole-done ends in
     absurd (IsText-apart settings lacks.led lacks.part lacks.rest done.text lacks.slot (subst (All IsDecided) lacks.are decided)
@@ -161,8 +163,9 @@ ReadWhole = (change : Change) (list : List ℕ) (answer : Result (List Round) Li
     → change.bytes_before ≡ Some list → (rounds_of list ≡ answer) × (change.bytes_after ≡ Some [])
 
 -- a list of rounds is no list that is refused
-IsList-read : (source : Change) (bytes : List ℕ) (rounds : List Round) (refusal : ListFault) → ReadWhole → rounds_of bytes ≡ Ok rounds
-    → source.bytes_before ≡ Some bytes → ¬ (Rose source.faults_before source.faults_after) → ReadsNoList source refusal → ⊥
+IsList-read : (source : Change) (bytes : List ℕ) (rounds : List Round) (refusal : ListFault) → ReadWhole
+    → rounds_of bytes ≡ Ok rounds → source.bytes_before ≡ Some bytes → ¬ (Rose source.faults_before source.faults_after)
+    → ReadsNoList source refusal → ⊥
 IsList-read source bytes rounds (list.TooLong limit) whole is input read refused =
     let again : rounds_of bytes ≡ Err (list.TooLong limit) = too_many-refused source limit bytes refused input in
     let none : ⊥ = cc in
@@ -190,14 +193,15 @@ record IsWell (settings : Settings) (parts : List Part) (ended : Result (Unit {0
   same : ended ≡ made
 
 -- parts that are made
-made_parts : (settings : Settings) (parts : List Part) (out : Change) (ended : Result (Unit {0}) Fault) → EndsMaking settings parts out ended
+made_parts : (settings : Settings) (parts : List Part) (out : Change) (ended : Result (Unit {0}) Fault)
+    → EndsMaking settings parts out ended
     → EndsParts settings 0 parts out ended ⊎ ((events : List Event) × LacksTables events ended)
 made_parts settings parts out ended making =
     elim making [ inl making ↦ inl making.1 | inr lacks ↦ inr (map (λ (part : Part). part.event) parts, lacks.0) ]
 
 -- parts that are written
-IsWell-written : (settings : Settings) (parts : List Part) (out : Change) (ended : Result (Unit {0}) Fault) → ¬ (Rose out.faults_before out.faults_after)
-    → EndsMaking settings parts out ended → IsWell settings parts ended
+IsWell-written : (settings : Settings) (parts : List Part) (out : Change) (ended : Result (Unit {0}) Fault)
+    → ¬ (Rose out.faults_before out.faults_after) → EndsMaking settings parts out ended → IsWell settings parts ended
 IsWell-written settings parts out ended written making = record {
   sink = out;
   made = ended;
@@ -218,7 +222,8 @@ not_risen (inl higher) = absurd (omega (arith, higher))
 not_risen (inr last) = absurd (omega (arith, last))
 
 -- tables are told with no parts at all
-tables_as_parts : (settings : Settings) (event : Event) (out : Change) (ended : Result (Unit {0}) Fault) → ¬ (Rose out.faults_before out.faults_after)
+tables_as_parts : (settings : Settings) (event : Event) (out : Change) (ended : Result (Unit {0}) Fault)
+    → ¬ (Rose out.faults_before out.faults_after)
     → EndsTables event out ended ⊎ (LacksTables (event ∷ []) ended × IsUnwritten out) → IsWell settings [] ended
 tables_as_parts settings event out (Ok u) written (inl ends) = record {
   sink = gaining [];
@@ -278,8 +283,8 @@ IsUnhindered-ends {source = source} {out = out} {settings = settings} {parts = p
 -- the end of a run that nothing hindered, where this follows from its making
 unhindered-with : {words : List (List ℕ)} {outcome : Status} {source out err : Change} {settings : Settings} {parts : List Part} (wanted : Status)
     → ReadWhole → IsUnhindered words outcome source out err settings parts
-    → ((sink : Change) (made : Result (Unit {0}) Fault) → EndsParts settings 0 parts sink made → ¬ (Rose sink.faults_before sink.faults_after)
-    → EndsWith (status_of made) wanted) → EndsWith outcome wanted
+    → ((sink : Change) (made : Result (Unit {0}) Fault) → EndsParts settings 0 parts sink made → ¬ (Rose sink.faults_before sink.faults_after) → EndsWith (status_of made) wanted)
+    → EndsWith outcome wanted
 unhindered-with {parts = parts} wanted whole run each =
     rw run.run.answer
     (elim (IsUnhindered-ends whole run) [
@@ -294,14 +299,15 @@ unhindered-with {parts = parts} wanted whole run each =
 
 -- where each slot has its scramble
 pub IsUnhindered-done : {words : List (List ℕ)} {outcome : Status} {source out err : Change} {settings : Settings} {parts : List Part}
-    → ReadWhole → IsUnhindered words outcome source out err settings parts → ¬ (LacksScramble settings parts) → EndsWith outcome status.Done
+    → ReadWhole → IsUnhindered words outcome source out err settings parts → ¬ (LacksScramble settings parts)
+    → EndsWith outcome status.Done
 IsUnhindered-done {settings = settings} {parts = parts} whole run each =
     unhindered-with status.Done whole run (λ sink made ends written. EndsParts-done settings parts sink made ends written each)
 
 -- and where one has none
 pub IsUnhindered-limit : {words : List (List ℕ)} {outcome : Status} {source out err : Change} {settings : Settings} {parts : List Part}
-    → ReadWhole → IsUnhindered words outcome source out err settings parts → All IsDecided parts → LacksScramble settings parts
-    → EndsWith outcome status.DrawLimit
+    → ReadWhole → IsUnhindered words outcome source out err settings parts → All IsDecided parts
+    → LacksScramble settings parts → EndsWith outcome status.DrawLimit
 IsUnhindered-limit {settings = settings} {parts = parts} whole run decided lacks =
     unhindered-with status.DrawLimit whole run (λ sink made ends written. EndsParts-limit settings parts sink made ends written decided lacks)
 
@@ -339,5 +345,6 @@ each_asked events rounds same =
 
 -- where the events of a list's rounds are drawn fairly, so are the parts of its sheet
 pub parts_of_rounds-fair : (events : List Bool) (rounds : List Round) → AreFairEvents events → All IsRound rounds
-    → ((event : Event) → Has events event ↔ Contains (map (λ (round : Round). round.event) rounds) event) → All IsFairPart (round_parts 0 rounds)
+    → ((event : Event) → Has events event ↔ Contains (map (λ (round : Round). round.event) rounds) event)
+    → All IsFairPart (round_parts 0 rounds)
 parts_of_rounds-fair events rounds fair each same = round_parts-fair events 0 rounds fair each (each_asked events rounds same)

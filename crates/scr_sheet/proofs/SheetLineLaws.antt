@@ -24,7 +24,8 @@ use Rattle.scr_sheet.proofs.ShortLines.{IsShort, all-at, list_lines-short, agree
 -- ---- one answer
 
 slot_answer-one : (settings : Settings) (k : ℕ) (round : Round) (label : List ℕ) (slot : ℕ) (text : List ℕ) (one other : Result Bool Missing)
-    → IsLineAnswer settings k round (Slot label slot) text one → IsLineAnswer settings k round (Slot label slot) text other → one ≡ other
+    → IsLineAnswer settings k round (Slot label slot) text one
+    → IsLineAnswer settings k round (Slot label slot) text other → one ≡ other
 slot_answer-one settings k round label slot text (Ok a) (Ok b) first second = ap Ok (tests_agree a b first.1 second.1)
 slot_answer-one settings k round label slot text (Ok a) (Err m) first second = absurd (first.0 second.0)
 slot_answer-one settings k round label slot text (Err m) (Ok b) first second = absurd (second.0 first.0)
@@ -51,8 +52,8 @@ line_missing settings k round (Slot label slot) text other missing is = is
 
 -- ---- texts that agree are short
 
-line_agreed : (settings : Settings) (k : ℕ) (round : Round) (line : Line) (text : List ℕ) → IsShort line → IsLineAnswer settings k round line text (Ok true)
-    → length text ≤ 1300
+line_agreed : (settings : Settings) (k : ℕ) (round : Round) (line : Line) (text : List ℕ) → IsShort line
+    → IsLineAnswer settings k round line text (Ok true) → length text ≤ 1300
 line_agreed settings k round (Fixed own) text short is =
     let agrees : bytes_eq text own ≡ true = cc in
     subst (λ t. length t ≤ 1300) (sym ((bytes_eq-Decides text own).0 agrees)) short
@@ -62,7 +63,8 @@ line_agreed settings k round (Slot label slot) text short is =
     let size = length-append label it.behind in
     subst (λ t. length t ≤ 1300) (sym it.is) (omega (arith, short, behind, size))
 
-pub lines-lawful : (settings : Settings) (rounds : List Round) → IsRounds rounds → AreLawful (expected_lines settings rounds)
+pub lines-lawful : (settings : Settings) (rounds : List Round) → IsRounds rounds
+    → AreLawful (expected_lines settings rounds)
 lines-lawful settings rounds valid = record {
   one = answer-one settings (list_lines 0 rounds);
   short = λ i text is.
@@ -103,8 +105,9 @@ pub record AreCounted (rounds : List Round) (i total : ℕ) : Type 0 where
   pub parts : total + length (list_lines i (drop i rounds)) ≡ length (list_lines 0 rounds)
   pub few : total ≤ i * 235
 
-pub counted-more : (rounds : List Round) (i total count : ℕ) (round : Round) → round ≡ get_or rounds i round → i < length rounds
-    → length (round_lines i round) ≡ count → count ≤ 235 → AreCounted rounds i total → AreCounted rounds (i + 1) (total + count)
+pub counted-more : (rounds : List Round) (i total count : ℕ) (round : Round) → round ≡ get_or rounds i round
+    → i < length rounds → length (round_lines i round) ≡ count → count ≤ 235 → AreCounted rounds i total
+    → AreCounted rounds (i + 1) (total + count)
 counted-more rounds i total count round is below size few counted =
     let next = length-next rounds i count round is below size in
     record { parts = omega (arith, next, counted.parts); few = omega (arith, few, counted.few) }
@@ -113,7 +116,8 @@ counted-more rounds i total count round is below size few counted =
 lines-none : (rounds : List Round) (i : ℕ) → length rounds ≤ i → length (list_lines i (drop i rounds)) ≡ 0
 lines-none rounds i past = ap (λ left. length (list_lines i left)) (drop_all i rounds past)
 
-pub counted-all : (rounds : List Round) (i total : ℕ) → length rounds ≤ i → AreCounted rounds i total → total ≡ length (list_lines 0 rounds)
+pub counted-all : (rounds : List Round) (i total : ℕ) → length rounds ≤ i → AreCounted rounds i total
+    → total ≡ length (list_lines 0 rounds)
 counted-all rounds i total past counted = let none = lines-none rounds i past in omega (arith, none, counted.parts)
 
 -- ---- finding one
@@ -124,8 +128,9 @@ pub record IsLeft (rounds : List Round) (line i left : ℕ) : Type 0 where
   pub below : left < length (list_lines i (drop i rounds))
 
 -- it is not of the next round
-pub left-more : (rounds : List Round) (line i left count : ℕ) (round : Round) → round ≡ get_or rounds i round → i < length rounds
-    → length (round_lines i round) ≡ count → count ≤ left → IsLeft rounds line i left → IsLeft rounds line (i + 1) (left - count)
+pub left-more : (rounds : List Round) (line i left count : ℕ) (round : Round) → round ≡ get_or rounds i round
+    → i < length rounds → length (round_lines i round) ≡ count → count ≤ left → IsLeft rounds line i left
+    → IsLeft rounds line (i + 1) (left - count)
 left-more rounds line i left count round is below size behind it =
     let own = length-map (round_lines i round) (λ (l : Line). let at : ListLine = record { k = i; round = round; line = l } in at) in
     let next = length-next rounds i count round is below size in
@@ -138,8 +143,9 @@ left-more rounds line i left count round is below size behind it =
     }
 
 -- or it is
-pub left-found : (rounds : List Round) (line i left count : ℕ) (round : Round) → round ≡ get_or rounds i round → i < length rounds
-    → length (round_lines i round) ≡ count → left < count → IsLeft rounds line i left → IsPlacedAt rounds line i left
+pub left-found : (rounds : List Round) (line i left count : ℕ) (round : Round) → round ≡ get_or rounds i round
+    → i < length rounds → length (round_lines i round) ≡ count → left < count → IsLeft rounds line i left
+    → IsPlacedAt rounds line i left
 left-found rounds line i left count round is below size here it =
     let inside : left < length (round_lines i round) = omega (arith, size, here) in
     let own : Line = get_or (round_lines i round) left (Fixed []) in
@@ -163,12 +169,13 @@ left-none rounds line i left past it = let none = lines-none rounds i past in le
 -- ---- labels
 
 -- a text that is cut behind as many bytes as a label has begins with it where the front is the label
-pub label_before : (label text front behind : List ℕ) → IsSplitAt text (length label) front behind → front ≡ label → text ≡ label ++ behind
+pub label_before : (label text front behind : List ℕ) → IsSplitAt text (length label) front behind → front ≡ label
+    → text ≡ label ++ behind
 label_before label text front behind split same =
     sym (take-append-drop (length label) text) ∙ ap (λ x. x ++ drop (length label) text) (sym split.1 ∙ same) ∙ ap (λ x. label ++ x) (sym split.2)
 
-pub no_label_before : (label text front behind other : List ℕ) → IsSplitAt text (length label) front behind → text ≡ label ++ other
-    → (front ≡ label → ⊥) → ⊥
+pub no_label_before : (label text front behind other : List ℕ) → IsSplitAt text (length label) front behind
+    → text ≡ label ++ other → (front ≡ label → ⊥) → ⊥
 no_label_before label text front behind other split is differs =
     differs (split.1 ∙ ap (take (length label)) is ∙ take-append-le (length label) label other (omega arith) ∙ take_all (length label) label (omega arith))
 
@@ -177,7 +184,8 @@ cancelled [] behind other same = same
 cancelled (byte ∷ label) behind other same = cancelled label behind other (let rest : label ++ behind ≡ label ++ other = cc in rest)
 
 -- what is told of the text behind a label is answered for the slot's line
-pub slot-judged : (settings : Settings) (k : ℕ) (round : Round) (label : List ℕ) (slot : ℕ) (text behind : List ℕ) (told : Bool) → text ≡ label ++ behind
+pub slot-judged : (settings : Settings) (k : ℕ) (round : Round) (label : List ℕ) (slot : ℕ) (text behind : List ℕ) (told : Bool)
+    → text ≡ label ++ behind
     → IsJudged (scrambling_of round.event) settings round.least (first_stream k + slot) behind (Some told)
     → IsLineAnswer settings k round (Slot label slot) text (Ok told)
 slot-judged settings k round label slot text behind told is judged = (

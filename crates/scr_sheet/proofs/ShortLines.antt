@@ -41,7 +41,8 @@ labels-short number (suc own) few =
     All-cons (λ label. length label ≤ 20) (decimal number ++ codes ". ") (labels_from (number + 1) own) (omega (arith, digits, size))
     (labels-short (number + 1) own (omega arith))
 
-slot_lines-short : (labels : List (List ℕ)) (slot : ℕ) → All (λ label. length label ≤ 20) labels → All IsShort (slot_lines labels slot)
+slot_lines-short : (labels : List (List ℕ)) (slot : ℕ) → All (λ label. length label ≤ 20) labels
+    → All IsShort (slot_lines labels slot)
 slot_lines-short [] slot all = All-nil IsShort
 slot_lines-short (label ∷ labels) slot all =
     let P : List ℕ → Type 0 = λ l. length l ≤ 20 in

@@ -41,13 +41,15 @@ module _ {settings : Settings} {event : Event} (side : Option ℕ) (fair : IsDra
 
   -- it was written in part
   pub single-broken : {out : Change} (scramble : Written) → IsSlotScramble (scrambling_of event) settings 0 0 scramble
-      → Falters out (single_text side scramble.turns) → EndsMaking settings (single_part event side ∷ []) out (Err fault.Write)
+      → Falters out (single_text side scramble.turns)
+      → EndsMaking settings (single_part event side ∷ []) out (Err fault.Write)
   single-broken scramble slot falters =
       inl (All-cons Fair (single_part event side) [] fair (All-nil Fair), first-broken (written scramble slot) falters)
 
   -- there is none
-  pub single-limit : {out : Change} (words : ℕ) → HasNoScramble (scrambling_of event) settings 0 0 → words ≡ 3 * settings.attempts
-      → IsUnwritten out → EndsMaking settings (single_part event side ∷ []) out (Err (fault.DrawLimit 1 1 words))
+  pub single-limit : {out : Change} (words : ℕ) → HasNoScramble (scrambling_of event) settings 0 0
+      → words ≡ 3 * settings.attempts → IsUnwritten out
+      → EndsMaking settings (single_part event side ∷ []) out (Err (fault.DrawLimit 1 1 words))
   single-limit words none taken unwritten =
       inl (
         All-cons Fair (single_part event side) [] fair (All-nil Fair),

@@ -23,7 +23,8 @@ pub record IsSizedUpTo (settings : Settings) (parts rest : List Part) (k : ℕ) 
   pub amounts : IsSizeOf sheet size
 
 -- none is counted yet
-pub sized-none : (settings : Settings) (parts : List Part) → IsSizedUpTo settings parts parts 0 (record { bytes = 0; sum = 0 })
+pub sized-none : (settings : Settings) (parts : List Part)
+    → IsSizedUpTo settings parts parts 0 (record { bytes = 0; sum = 0 })
 sized-none settings parts = record { sheet = []; made = made-none; amounts = record { counted = refl; added = refl } }
 
 IsSizeOf-append : (text more : List ℕ) (size added : Size) → IsSizeOf text size → IsSizeOf more added
@@ -38,8 +39,9 @@ IsSizeOf-append text more size added first second =
     record { counted = omega (arith, bytes, counted, counted'); added = omega (arith, sums, sum, sum') }
 
 -- one more round
-pub sized-more : {settings : Settings} {size more : Size} (rounds : List Round) (i : ℕ) (round : Round) → round ≡ get_or rounds i round
-    → i < length rounds → IsSizedUpTo settings (round_parts 0 rounds) (round_parts i (drop i rounds)) i size
+pub sized-more : {settings : Settings} {size more : Size} (rounds : List Round) (i : ℕ) (round : Round)
+    → round ≡ get_or rounds i round → i < length rounds
+    → IsSizedUpTo settings (round_parts 0 rounds) (round_parts i (drop i rounds)) i size
     → IsPartSize settings (round_part i round) more
     → IsSizedUpTo settings (round_parts 0 rounds) (round_parts (i + 1) (drop (i + 1) rounds)) (i + 1) (with_more size more)
 sized-more {settings} {size} {more} rounds i round is there sized part =
@@ -56,8 +58,9 @@ sized-more {settings} {size} {more} rounds i round is there sized part =
     }
 
 -- a round that was not made
-pub sized-fault : {settings : Settings} {size : Size} (rounds : List Round) (i : ℕ) (round : Round) → round ≡ get_or rounds i round
-    → (fault : Fault) → i < length rounds → IsSizedUpTo settings (round_parts 0 rounds) (round_parts i (drop i rounds)) i size
+pub sized-fault : {settings : Settings} {size : Size} (rounds : List Round) (i : ℕ) (round : Round)
+    → round ≡ get_or rounds i round → (fault : Fault) → i < length rounds
+    → IsSizedUpTo settings (round_parts 0 rounds) (round_parts i (drop i rounds)) i size
     → EndsUnmade settings i (round_part i round) fault → SizesParts settings (round_parts 0 rounds) (Err fault)
 sized-fault rounds i round is fault there sized ends = record {
   sheet = sized.sheet;

@@ -57,8 +57,8 @@ round-labels event =
 -- ---- the lines of a round
 
 -- a line with no dot may stand before
-line_before : (line : List ℕ) (scrambles : List (List Turn)) (text : List ℕ) → HasNoDot line → StandInOrder scrambles text
-    → StandInOrder scrambles (line ++ 10 ∷ text)
+line_before : (line : List ℕ) (scrambles : List (List Turn)) (text : List ℕ) → HasNoDot line
+    → StandInOrder scrambles text → StandInOrder scrambles (line ++ 10 ∷ text)
 line_before line _ _ no_dot (no_more text bare) = no_more (line ++ 10 ∷ text) (HasNoDot-line line text no_dot bare)
 line_before line _ _ no_dot (next before turns scrambles below bare rest) =
     let start = 10 ∷ before in
@@ -74,11 +74,12 @@ module _ (all : List (List Turn)) where
   abbrev From : ℕ → List Line → Type 0
   From place lines = StandInOrder (drop place all) (text_of_lines (map (line_text all) lines))
 
-  From-other : (text : List ℕ) (place : ℕ) (lines : List Line) → HasNoDot text → From place lines → From place (Fixed text ∷ lines)
+  From-other : (text : List ℕ) (place : ℕ) (lines : List Line) → HasNoDot text → From place lines
+      → From place (Fixed text ∷ lines)
   From-other text place lines no_dot below = line_before text (drop place all) (text_of_lines (map (line_text all) lines)) no_dot below
 
-  From-slot : (label : List ℕ) (place : ℕ) (lines : List Line) → IsLabel label → place < length all → From (place + 1) lines
-      → From place (Slot label place ∷ lines)
+  From-slot : (label : List ℕ) (place : ℕ) (lines : List Line) → IsLabel label → place < length all
+      → From (place + 1) lines → From place (Slot label place ∷ lines)
   From-slot label place lines is within below =
       let turns = slice_index_or all place [] in
       let rest = text_of_lines (map (line_text all) lines) in
@@ -90,8 +91,9 @@ module _ (all : List (List Turn)) where
       (subst (λ s. P s (is.before ++ codes ". " ++ text_of turns ++ 10 ∷ rest)) (sym (drop_more all place [] within)) here)
 
   -- slots one after another
-  From-slots : (labels : List (List ℕ)) (place behind : ℕ) (lines : List Line) → All IsLabel labels → behind ≡ place + length labels
-      → behind ≤ length all → From behind lines → From place (slot_lines labels place ++ lines)
+  From-slots : (labels : List (List ℕ)) (place behind : ℕ) (lines : List Line) → All IsLabel labels
+      → behind ≡ place + length labels → behind ≤ length all → From behind lines
+      → From place (slot_lines labels place ++ lines)
   From-slots [] place behind lines are follows within below =
       let same : behind ≡ place = omega (arith, follows) in
       subst (λ n. From n lines) same below
@@ -100,8 +102,9 @@ module _ (all : List (List Turn)) where
       (From-slots labels (place + 1) behind lines (All-tail IsLabel label labels are) (omega (arith, follows)) within below)
 
   -- a group
-  From-group : (own letter place behind : ℕ) (lines : List Line) → All IsLabel (labels_from 1 own) → 65 ≤ letter → behind ≡ place + (own + 2)
-      → behind ≤ length all → From behind lines → From place (group_lines own letter place ++ lines)
+  From-group : (own letter place behind : ℕ) (lines : List Line) → All IsLabel (labels_from 1 own) → 65 ≤ letter
+      → behind ≡ place + (own + 2) → behind ≤ length all → From behind lines
+      → From place (group_lines own letter place ++ lines)
   From-group own letter place behind lines are letters follows within below =
       let slots = slot_lines (labels_from 1 own) place in
       let size = length-labels_from 1 own in
@@ -111,8 +114,8 @@ module _ (all : List (List Turn)) where
       From-other (codes "Group " ++ letter ∷ []) place ((slots ++ Fixed [] ∷ []) ++ lines) no_dot (subst (From place) order inner)
 
   -- groups one after another, to the last scramble
-  From-groups : (own groups letter place : ℕ) → All IsLabel (labels_from 1 own) → 65 ≤ letter → length all ≡ place + groups * (own + 2)
-      → From place (groups_lines own groups letter place)
+  From-groups : (own groups letter place : ℕ) → All IsLabel (labels_from 1 own) → 65 ≤ letter
+      → length all ≡ place + groups * (own + 2) → From place (groups_lines own groups letter place)
   From-groups own zero letter place are letters all_there =
       subst (λ s. StandInOrder s []) (sym (drop_all place all (omega (arith, all_there)))) (no_more [] refl)
   From-groups own (suc more) letter place are letters all_there =

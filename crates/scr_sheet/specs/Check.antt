@@ -1,5 +1,5 @@
--- How a sheet is checked: the input is a round list and, behind the line `=====`, a sheet, which is held against the lines
--- that the sheet of these rounds has.
+-- How a sheet is checked: the input is a round list and, behind the line `=====`, a sheet, which is held against the
+-- lines that the sheet of these rounds has.
 use Rattle.std.specs.Prelude.{◌≡◌, ◌↔◌, ◌⊎◌, ◌+◌, ◌*◌, ◌-◌, ℕ, Bool, true, false, IsTrue, List, [], ◌∷◌, ◌++◌, length, map, take, filter, slice_get}
 use Rattle.std.specs.Prelude.{Option, Some, None, Result, Ok, Err}
 use Rattle.std.specs.Result.{result_map_both}

@@ -17,9 +17,9 @@ use Rattle.scr_slots.specs.Events.{shown_of}
 use Rattle.scr_sheet.specs.Sheet.{EachSlot}
 
 -- The slots on streams one after another are drawn fairly. Of a puzzle's states: by some numbers of them, every state
--- that turns reach and that needs so many is drawn by equally many lists of numbers, and no other state by any; and these
--- turns give the states that the slots' numbers draw. Of random moves: each step takes each of its choices by equally many
--- numbers, and the slots have those of their streams.
+-- that turns reach and that needs so many is drawn by equally many lists of numbers, and no other state by any; and
+-- these turns give the states that the slots' numbers draw. Of random moves: each step takes each of its choices by
+-- equally many numbers, and the slots have those of their streams.
 abbrev pub AreFairScrambles : Shown → Settings → ℕ → ℕ → List (List Turn) → Type 0
 AreFairScrambles (States S drawn) settings least stream scrambles =
     (count : ℕ) × (state_at : ℕ → S) × (
@@ -40,8 +40,8 @@ pub data StandInOrder : List (List Turn) → List ℕ → Type 0 where
   next : (before : List ℕ) (turns : List Turn) (others : List (List Turn)) (below : List ℕ) → HasNoDot before
       → StandInOrder others below → StandInOrder (turns ∷ others) (before ++ codes ". " ++ text_of turns ++ 10 ∷ below)
 
--- The text of a round, which is round k, counted from 0: its head, a line that names its event and its minimum, and below
--- it the scrambles of its slots in order, which are fair.
+-- The text of a round, which is round k, counted from 0: its head, a line that names its event and its minimum, and
+-- below it the scrambles of its slots in order, which are fair.
 pub record IsFairRound (k : ℕ) (settings : Settings) (text : List ℕ) : Type 0 where
   pub round : Round
   pub scrambles : List (List Turn)

@@ -21,8 +21,8 @@ load_seed number = record { 0 = to_le_bytes w64 number ++ replicate 24 0 }
 abbrev pub load_events : List Event
 load_events = take 11 events
 
--- its round k, counted from 0: the events come in turn, again and again, with numbers of groups from 1 to 8 in steps of five,
--- the event's usual minimum and no name
+-- its round k, counted from 0: the events come in turn, again and again, with numbers of groups from 1 to 8 in steps of
+-- five, the event's usual minimum and no name
 abbrev pub load_round : ℕ → ℕ → Round
 load_round number k =
     let event : Event = slice_index_or load_events ((number + k) % length load_events) C222 in

@@ -19,8 +19,8 @@ pub record RoundSlots : Type 0 where
   pub index : ℕ
   pub round : Round
 
--- round k of a list can be made: there are the tables of its event, k is small, a list can name it, and the settings are in
--- their ranges
+-- round k of a list can be made: there are the tables of its event, k is small, a list can name it, and the settings
+-- are in their ranges
 pub record CanBeMade (tables : List Bool) (settings : Settings) (k : ℕ) (round : Round) : Type 0 where
   pub has_tables : Has tables round.event
   pub few_before : k < 256

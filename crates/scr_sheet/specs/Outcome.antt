@@ -33,7 +33,8 @@ IsUnwritten out = Gains out []
 
 -- ---- the one table of outcomes, over the parts that a command writes; the first of them is part k
 
--- Some leading parts have their scrambles, and it is so of their text; and so of how many they are and of the parts behind.
+-- Some leading parts have their scrambles, and it is so of their text; and so of how many they are and of the parts
+-- behind.
 pub record IsLed (settings : Settings) (parts : List Part) (Is : List ℕ → Type 0) (Leaves : ℕ → List Part → Type 0) : Type 0 where
   pub led : List Part
   pub rest : List Part

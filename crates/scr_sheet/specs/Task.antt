@@ -17,8 +17,8 @@ use Rattle.scr_sheet.specs.Check.{check_settings}
 use Rattle.scr_sheet.specs.Outcome.{IsRun}
 use Rattle.scr_words.specs.declared.seed.Seed.{Seed}
 
--- what a command makes, and writes or sums; only `sheet` asks what its source holds, `tables` makes no parts, and a check is
--- no such task
+-- what a command makes, and writes or sums; only `sheet` asks what its source holds, `tables` makes no parts, and a
+-- check is no such task
 abbrev pub IsTask : Command → Change → Settings → List Part → Type 0
 IsTask (One event seed) source settings parts = (settings ≡ settings_of seed usual_options) × (parts ≡ single_part event None ∷ [])
 IsTask (Sheet seed options) source settings parts =

@@ -21,8 +21,8 @@ use scr_words::Seed;
 use std::alloc::Global;
 use std::thread::Threads;
 
-/// Checks the sheet in an input against the rounds that the input lists before it, made with a seed and so many attempts a
-/// slot, and writes that they agree, where they do.
+/// Checks the sheet in an input against the rounds that the input lists before it, made with a seed and so many
+/// attempts a slot, and writes that they agree, where they do.
 pub(crate) fn write_check<R: Threads + Sync, S: Source, O: Sink>(
     rt: &R,
     alloc: Global,
@@ -60,8 +60,8 @@ fn check_input<R: Threads + Sync, S: Source>(
     check_reader(rt, alloc, settings, &mut reader)
 }
 
-/// Reads the list of an input, builds the tables by which its states are tested, and holds the sheet behind it against the
-/// lines that the list's sheet has.
+/// Reads the list of an input, builds the tables by which its states are tested, and holds the sheet behind it against
+/// the lines that the list's sheet has.
 fn check_reader<R: Threads + Sync, S: Source>(
     rt: &R,
     alloc: Global,

@@ -9,10 +9,10 @@ use std::process::ExitCode;
 use std::thread::Threads;
 use std::{env, io};
 
-/// Runs on the words of the command line without the program's name, the standard input, output and error output, and gives
-/// the code of the status that the run answers. Where there is no memory for the words themselves, that is told too; where the
-/// system gives no words, or some that are no text, it is 1. `rt` and `host` are the same runtime: the one starts threads,
-/// the other has the words and the streams.
+/// Runs on the words of the command line without the program's name, the standard input, output and error output, and
+/// gives the code of the status that the run answers. Where there is no memory for the words themselves, that is told
+/// too; where the system gives no words, or some that are no text, it is 1. `rt` and `host` are the same runtime: the
+/// one starts threads, the other has the words and the streams.
 pub fn run_on_host<R: Threads + Sync>(rt: &R, host: &HostRuntime) -> ExitCode {
     match run_on_words(rt, host) {
         Ok(status) => ExitCode::from(status.code()),

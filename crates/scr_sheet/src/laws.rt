@@ -36,7 +36,8 @@ ghost use Rattle.scr_sheet.specs.Task.{IsUnhindered, IsUnhinderedCheck, LacksScr
 use scr_list::laws as list_laws;
 use scr_slots::laws as slot_laws;
 
-/// A list has one sheet, and an event one line of `one`, and one of `net` with its net: made with the same settings, two are the same.
+/// A list has one sheet, and an event one line of `one`, and one of `net` with its net: made with the same settings,
+/// two are the same.
 pub fn one_sheet()
     ensures sheet { (settings : Settings) (rounds : List Round) (text other : List ℕ)
         → IsText (IsPartText settings) (round_parts 0 rounds) text → IsText (IsPartText settings) (round_parts 0 rounds) other → text ≡ other }
@@ -47,8 +48,8 @@ pub fn one_sheet()
     slot_laws::one_answer();
 }
 
-/// Which runs must end with all that they are to write: those whose words are a command, where the source of a sheet tells
-/// its bytes and they name rounds, neither input nor output fails and each slot has a scramble. Where one has
+/// Which runs must end with all that they are to write: those whose words are a command, where the source of a sheet
+/// tells its bytes and they name rounds, neither input nor output fails and each slot has a scramble. Where one has
 /// none, the status is `DrawLimit` and never `Done`. Want of memory, and a gap in a table, are always free.
 pub fn completeness()
     ensures done { (words : List (List ℕ)) (outcome : Status) (source out err : Change) (settings : Settings) (parts : List Part)
@@ -60,8 +61,8 @@ pub fn completeness()
     list_laws::lists_that_were_read();
 }
 
-/// What a check of an input ends with whose source tells its bytes, where neither input nor output fails: the status of what the
-/// input comes to. Want of memory, and a gap in a table, are always free.
+/// What a check of an input ends with whose source tells its bytes, where neither input nor output fails: the status of
+/// what the input comes to. Want of memory, and a gap in a table, are always free.
 pub fn checks()
     ensures { (words : List (List ℕ)) (outcome : Status) (source out err : Change) (settings : Settings) (input : List ℕ) (answer : Result (Unit {0}) Fault)
         → IsUnhinderedCheck words outcome source out err settings input
@@ -76,8 +77,8 @@ pub fn faults()
         → IsRun words outcome source out err → out.faults_before < out.faults_after → outcome ≡ WriteFault }
 {}
 
-/// What the statuses tell: the count of faults of the input rose, or that of the output; the words are no command; the input
-/// was read and is no list, or its list part is none.
+/// What the statuses tell: the count of faults of the input rose, or that of the output; the words are no command; the
+/// input was read and is no list, or its list part is none.
 pub fn causes()
     ensures input { (words : List (List ℕ)) (source out err : Change) → IsRun words ReadFault source out err
         → Rose source.faults_before source.faults_after }
@@ -90,10 +91,11 @@ pub fn causes()
         × (ReadsNoList source refusal ⊎ ReadsInput source (λ input. rounds_in input ≡ Err refusal)) }
 {}
 
-/// A run that ends well tells nothing. Memory is wanted only for a sheet, for tables and for rounds. Where the output fails
-/// under the text of tables, a first part of it was written.
+/// A run that ends well tells nothing. Memory is wanted only for a sheet, for tables and for rounds. Where the output
+/// fails under the text of tables, a first part of it was written.
 pub fn ends()
-    ensures well { (words : List (List ℕ)) (source out err : Change) → IsRun words Done source out err → IsUnwritten err }
+    ensures well { (words : List (List ℕ)) (source out err : Change) → IsRun words Done source out err
+        → IsUnwritten err }
     ensures memory { (words : List (List ℕ)) (source out err : Change) → IsRun words NoMemory source out err
         → HasOptions words ⊎ TakesMemory (command_of words) }
     ensures tables { (words : List (List ℕ)) (event : Event) (source out err : Change) → command_of words ≡ Ok (Tables event)

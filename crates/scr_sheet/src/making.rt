@@ -49,13 +49,13 @@ impl From<NoMemory> for RoundFault {
 /// The most workers that there are at once.
 const MOST_WORKERS: u32 = 64;
 
-/// Makes round `index` of a list, counted from 0: the scramble of each slot, in order. Workers claim the slots one by one;
-/// how many there are changes no scramble. Each slot passes the gate before it is drawn.
+/// Makes round `index` of a list, counted from 0: the scramble of each slot, in order. Workers claim the slots one by
+/// one; how many there are changes no scramble. Each slot passes the gate before it is drawn.
 ///
-/// The tables have the round's event, `index` is below 256, the round is one that a list can name, and there are at most
-/// 1,000,000 attempts, and 1 to 1,000 ways to the square shape. All memory is taken before the first draw. `Limit` names
-/// the first slot whose attempts give no permitted state, and comes exactly where there is one. The event is drawn fairly
-/// at the round's minimum; of random moves this says that each of their steps is fair.
+/// The tables have the round's event, `index` is below 256, the round is one that a list can name, and there are at
+/// most 1,000,000 attempts, and 1 to 1,000 ways to the square shape. All memory is taken before the first draw. `Limit`
+/// names the first slot whose attempts give no permitted state, and comes exactly where there is one. The event is
+/// drawn fairly at the round's minimum; of random moves this says that each of their steps is fair.
 pub fn make_round<R: Threads + Sync, G: Gate + Sync>(
     rt: &R,
     alloc: Global,
@@ -136,8 +136,8 @@ impl<'a, R: Threads + Sync, G: Gate + Sync> Making<'a, R, G> {
         }
     }
 
-    /// Makes round `index` of a list: all slots are answered, and the first without a scramble is named. Memory is taken
-    /// before the first slot is drawn.
+    /// Makes round `index` of a list: all slots are answered, and the first without a scramble is named. Memory is
+    /// taken before the first slot is drawn.
     pub fn round(&self, index: u32, round: &Round) -> Result<RoundResult, RoundFault>
         requires { CanBeMade self.now.tables.now self.now.settings index round.now }
         ensures { let settings = self.now.settings in

@@ -18,8 +18,8 @@ use std::alloc::Global;
 use std::thread::Threads;
 
 /// Does all that the program does, on its words without its own name: reads the round list from `source` where they ask
-/// for a sheet, and a list and a sheet where they ask for a check; writes what they ask for to `out`, tells on `err` what
-/// goes wrong, and gives the status.
+/// for a sheet, and a list and a sheet where they ask for a check; writes what they ask for to `out`, tells on `err`
+/// what goes wrong, and gives the status.
 ///
 /// Whatever the number of workers says, it writes exactly the sheet that the definitions give for its seed and round
 /// list, or the named part of it at a refusal; every state of an event of random states that turns reach and that needs
@@ -58,8 +58,8 @@ pub fn run<'w, R: Threads + Sync, S: Source, O: Sink, E: Sink, G: Gate + Sync>(
     ensures whole { IsRun (texts words.now) result (intake_of S.left S.faults S.ends source.old source.new)
         (change_of O.held O.faults out.old out.new) (change_of E.held E.faults err.old err.new) }
     // Of this, what speaks of fairness and of play alone: the slots of what is written are drawn fairly, and their
-    // scrambles stand in order, each as it is spelled, and give the states that were drawn, within their puzzles' bounds.
-    // What else a round has below its head, and what `net` writes below its line, is left to `whole`.
+    // scrambles stand in order, each as it is spelled, and give the states that were drawn, within their puzzles'
+    // bounds. What else a round has below its head, and what `net` writes below its line, is left to `whole`.
     ensures headline { IsFairRun (texts words.now) (change_of O.held O.faults out.old out.new) }
 {
     let ended = perform(rt, alloc, words, source, out, gate);

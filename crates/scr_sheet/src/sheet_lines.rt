@@ -14,8 +14,8 @@ use scr_round::{SheetLine, line_at, line_count, slots};
 use scr_slots::{Settings, Tables, slot_agrees};
 use std::marker::Model;
 
-/// The lines of the sheet of a list's rounds. Which line a text is held against, and with which slot, is decided as it is asked:
-/// no scramble is looked for, and no memory taken.
+/// The lines of the sheet of a list's rounds. Which line a text is held against, and with which slot, is decided as it
+/// is asked: no scramble is looked for, and no memory taken.
 #[derive(Drop)]
 pub(crate) struct SheetLines<'a> {
     tables: &'a Tables,

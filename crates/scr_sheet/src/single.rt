@@ -22,8 +22,8 @@ use scr_words::Seed;
 use std::alloc::Global;
 use std::thread::Threads;
 
-/// Draws the state of stream 0 of a seed, of which no minimum is asked, and writes the line of its scramble, and below it the net
-/// that this makes of a cube with so many layers, where one is asked.
+/// Draws the state of stream 0 of a seed, of which no minimum is asked, and writes the line of its scramble, and below
+/// it the net that this makes of a cube with so many layers, where one is asked.
 pub(crate) fn write_single<R: Threads + Sync, O: Sink>(
     rt: &R,
     alloc: Global,

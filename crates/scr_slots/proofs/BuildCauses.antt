@@ -43,8 +43,8 @@ or_behind true b h = refl
 or_behind false b h = h
 
 -- an event asks for its family
-pub asks_for-event : (events : List Event) (family : Family) (event : Event) → Contains events event → family_of event ≡ Some family
-    → IsTrue (asks_for events family)
+pub asks_for-event : (events : List Event) (family : Family) (event : Event) → Contains events event
+    → family_of event ≡ Some family → IsTrue (asks_for events family)
 asks_for-event [] family event there of_family = absurd (omega (arith, there.1))
 asks_for-event (first ∷ events) family event (zero, inside, is) of_family =
     let same : family_of first ≡ Some family = ap family_of is ∙ of_family in
@@ -61,8 +61,8 @@ event_list = map (λ round. round.event)
 abbrev pub AsksNot : Family → Round → Type 0
 AsksNot family round = is_family family (family_of round.event) ≡ false
 
-pub asks_for-none : (rounds : List Round) (family : Family) (n : ℕ) → n ≡ length rounds → All (AsksNot family) (take n rounds)
-    → asks_for (event_list rounds) family ≡ false
+pub asks_for-none : (rounds : List Round) (family : Family) (n : ℕ) → n ≡ length rounds
+    → All (AsksNot family) (take n rounds) → asks_for (event_list rounds) family ≡ false
 asks_for-none rounds family n size none =
     let whole : take n rounds ≡ rounds = ap (λ i. take i rounds) size ∙ take-length rounds in
     list_any_none (λ (event : Event). is_family family (family_of event)) (event_list rounds)
@@ -115,16 +115,19 @@ events-all rounds n set size held =
 
 -- where a set has the events that ask for a family, its tables are there that are built where one asks
 pub HoldsTables-asked : {Built : Type 0} (events : List Event) (set : List Bool) (family : Family) (tables : Option Built)
-    → ((event : Event) → Has set event ↔ Contains events event) → (IsTrue (asks_for events family) → IsSome tables) → HoldsTables set family tables
+    → ((event : Event) → Has set event ↔ Contains events event) → (IsTrue (asks_for events family) → IsSome tables)
+    → HoldsTables set family tables
 HoldsTables-asked events set family tables same built has =
     built (asks_for-event events family has.event ((same has.event).0 has.has) has.of_family)
 
 -- ---- the tables of the families that are asked for
 
-tables_asked-of : (events : List Event) (family : Family) → IsTrue (asks_for events family) → tables_asked events family ≡ family_tables family
+tables_asked-of : (events : List Event) (family : Family) → IsTrue (asks_for events family)
+    → tables_asked events family ≡ family_tables family
 tables_asked-of events family asked = ap (λ b. cond b (family_tables family) []) asked
 
-pub whole-unasked : (events : List Event) (family : Family) → asks_for events family ≡ false → AreWhole (tables_asked events family)
+pub whole-unasked : (events : List Event) (family : Family) → asks_for events family ≡ false
+    → AreWhole (tables_asked events family)
 whole-unasked events family unasked =
     let none : tables_asked events family ≡ [] = ap (λ b. cond b (family_tables family) []) unasked in
     subst AreWhole (sym none) tt
@@ -135,14 +138,16 @@ pub whole-asked : (events : List Event) (family : Family) → AreLinesOf (family
 whole-asked events family told asked none =
     subst AreWhole (sym (tables_asked-of events family asked)) (AreWhole-lines (family_tables family) (family_lines family) told none)
 
-pub cause-asked : (events : List Event) (family : Family) (why : BuildFault) → AreLinesOf (family_tables family) (family_lines family)
-    → IsTrue (asks_for events family) → IsCauseOf (family_lines family) why → IsCauseAmong (tables_asked events family) why
+pub cause-asked : (events : List Event) (family : Family) (why : BuildFault)
+    → AreLinesOf (family_tables family) (family_lines family) → IsTrue (asks_for events family)
+    → IsCauseOf (family_lines family) why → IsCauseAmong (tables_asked events family) why
 cause-asked events family why told asked cause =
     subst (λ tables. IsCauseAmong tables why) (sym (tables_asked-of events family asked))
     (IsCauseAmong-lines (family_tables family) (family_lines family) why told cause)
 
 -- the line of a family that one table solves
-small_lines-of : (family : Family) → IsSome (family_line (Some family)) → option_to_list (family_line (Some family)) ≡ family_lines family
+small_lines-of : (family : Family) → IsSome (family_line (Some family))
+    → option_to_list (family_line (Some family)) ≡ family_lines family
 unfolding family_lines
 small_lines-of Cube222 some = refl
 small_lines-of Cube333 some = let none : ⊥ = cc in absurd none
@@ -152,8 +157,9 @@ small_lines-of Square1 some = let none : ⊥ = cc in absurd none
 
 -- the one table of a family is that of its lines
 pub small-are : (family : Family) (event : Event) (found : Option (Bor BuiltTable)) (built : Bor BuiltTable) (table : Distances)
-    → IsSome (family_line (Some family)) → family_of event ≡ Some family → IfSome found (λ tables. tables.now.event ≡ event)
-    → found ≡ Some built → table ≡ built.now.distances → IsBuilt built.now → AreTablesOf (family_lines family) (table ∷ [])
+    → IsSome (family_line (Some family)) → family_of event ≡ Some family
+    → IfSome found (λ tables. tables.now.event ≡ event) → found ≡ Some built → table ≡ built.now.distances
+    → IsBuilt built.now → AreTablesOf (family_lines family) (table ∷ [])
 small-are family event found built table some of_family of_event there same is =
     let own : built.now.event ≡ event = subst (λ (f : Option (Bor BuiltTable)). IfSome f (λ tables. tables.now.event ≡ event)) there of_event in
     let line : is.line ∷ [] ≡ family_lines family =
@@ -162,7 +168,8 @@ small-are family event found built table some of_family of_event there same is =
     (subst (λ lines. AreTablesOf lines (built.now.distances ∷ [])) line (is.table, tt))
 
 -- one event needs the tables of its family
-tables_for-one : (event : Event) (family : Family) → family_of event ≡ Some family → tables_for (event ∷ []) ≡ family_tables family
+tables_for-one : (event : Event) (family : Family) → family_of event ≡ Some family
+    → tables_for (event ∷ []) ≡ family_tables family
 unfolding family_tables
 tables_for-one event Cube222 is = rw is refl
 tables_for-one event Cube333 is = rw is refl
@@ -174,9 +181,9 @@ pub tables_for-none : (event : Event) → family_of event ≡ None → tables_fo
 tables_for-none event is = rw is refl
 
 -- their texts, told by the positions of the lines, are those of the tables
-pub texts-one : {E : Type 0} (event : Event) (family : Family) (change : Change) (r : Result (Unit {0}) E) → family_of event ≡ Some family
-    → AreLinesOf (family_tables family) (family_lines family) → WritesTables (all_by_positions (family_lines family)) change r
-    → WritesTables (tables_for (event ∷ [])) change r
+pub texts-one : {E : Type 0} (event : Event) (family : Family) (change : Change) (r : Result (Unit {0}) E)
+    → family_of event ≡ Some family → AreLinesOf (family_tables family) (family_lines family)
+    → WritesTables (all_by_positions (family_lines family)) change r → WritesTables (tables_for (event ∷ [])) change r
 texts-one event family change r of_family told writes =
     subst (λ tables. WritesTables tables change r) (sym (tables_for-one event family of_family)) (
       writes.0,
@@ -206,15 +213,17 @@ abbrev pub AreWholeOf : List Event → List Family → Type 0
 AreWholeOf events [] = Unit {0}
 AreWholeOf events (family ∷ more) = AreWhole (tables_asked events family) × AreWholeOf events more
 
-pub AreWhole-of : (events : List Event) (families : List Family) → AreWholeOf events families → AreWhole (asked_of events families)
+pub AreWhole-of : (events : List Event) (families : List Family) → AreWholeOf events families
+    → AreWhole (asked_of events families)
 AreWhole-of events [] whole = tt
 AreWhole-of events (family ∷ []) whole = whole.0
 AreWhole-of events (family ∷ next ∷ more) whole =
     AreWhole-append (tables_asked events family) (asked_of events (next ∷ more)) whole.0 (AreWhole-of events (next ∷ more) whole.1)
 
 -- The cause of those of one family is that of all, where those of the families before it have no gap,
-cause-among : (events : List Event) (why : BuildFault) (before : List Family) (family : Family) (behind : List Family) → AreWholeOf events before
-    → IsCauseAmong (tables_asked events family) why → IsCauseAmong (asked_of events (before ++ family ∷ behind)) why
+cause-among : (events : List Event) (why : BuildFault) (before : List Family) (family : Family) (behind : List Family)
+    → AreWholeOf events before → IsCauseAmong (tables_asked events family) why
+    → IsCauseAmong (asked_of events (before ++ family ∷ behind)) why
 cause-among events why [] family [] whole cause = cause
 cause-among events why [] family (next ∷ behind) whole cause =
     IsCauseAmong-before (tables_asked events family) (asked_of events (next ∷ behind)) why cause
@@ -226,8 +235,9 @@ cause-among events why (first ∷ second ∷ before) family behind whole cause =
     (cause-among events why (second ∷ before) family behind whole.1 cause)
 
 -- and is handed on as such.
-pub cause-handed : {A : Type 0} (events : List Event) (why : BuildFault) (r : Result A BuildFault) → IsErrAnd r (λ f. f ≡ why)
-    → (before : List Family) (family : Family) (behind : List Family) → AreWholeOf events before → IsCauseAmong (tables_asked events family) why
+pub cause-handed : {A : Type 0} (events : List Event) (why : BuildFault) (r : Result A BuildFault)
+    → IsErrAnd r (λ f. f ≡ why) → (before : List Family) (family : Family) (behind : List Family)
+    → AreWholeOf events before → IsCauseAmong (tables_asked events family) why
     → IfErr r (IsCauseAmong (asked_of events (before ++ family ∷ behind)))
 cause-handed events why r handed before family behind whole cause =
     IfErr-handed (IsCauseAmong (asked_of events (before ++ family ∷ behind))) why r handed (cause-among events why before family behind whole cause)

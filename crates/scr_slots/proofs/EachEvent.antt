@@ -1,5 +1,5 @@
--- What is so of each event: it has one answer a slot and one listing of its states, is drawn fairly where its tables are built,
--- and is shown as it is scrambled.
+-- What is so of each event: it has one answer a slot and one listing of its states, is drawn fairly where its tables
+-- are built, and is shown as it is scrambled.
 use Rattle.std.proofs.Common.{◌≡◌, ℕ, ◌≤◌, Bool, List, refl, lit≤}
 use Rattle.scr_notation.specs.declared.event.Event.{Event}
 use Rattle.scr_notation.specs.declared.event.Event.TheVariants.{C222, C333, Oh333, C555, C666, C777, Clock, Minx, Pyram, Skewb, Sq1, Bf333, Fm333}
@@ -114,8 +114,8 @@ pub record FairFamilies (events : List Bool) : Type 0 where
   pub of_skewb : HasFamily events family.Skewb → AreFair Skewb
   pub of_sq1 : HasFamily events family.Square1 → AreFair Sq1
 
-pub each_fair : (events : List Bool) → FairFamilies events → (event : Event) (least : ℕ) → Has events event → least ≤ greatest_of event
-    → IsDrawnFairly (scrambling_of event) least
+pub each_fair : (events : List Bool) → FairFamilies events → (event : Event) (least : ℕ) → Has events event
+    → least ≤ greatest_of event → IsDrawnFairly (scrambling_of event) least
 unfolding scrambling_of
 each_fair events fair C222 least has le = fair.of_222 (record { event = C222; has = has; of_family = refl }) least le
 each_fair events fair C333 least has le = fair.of_333 (record { event = C333; has = has; of_family = refl }) least le

@@ -37,7 +37,8 @@ module _ {S : Type 0} (event : Event) (n : Numbers S) (puzzle : Puzzle S) (playe
   judged-unread none = (drawn_some, (λ is. cc, λ it. absurd (none it.scramble it.written it.event_is it.is)))
 
   -- and that of a scramble agrees where the scramble leads to the state
-  pub judged-read : (s : Written) → IsReadAs event text (Some s) → (told : Bool) → IsTrue told ↔ played s.turns ≡ Some state → IsVerdict (Some told)
+  pub judged-read : (s : Written) → IsReadAs event text (Some s) → (told : Bool)
+      → IsTrue told ↔ played s.turns ≡ Some state → IsVerdict (Some told)
   judged-read s read told leads = (
     drawn_some,
     (
@@ -63,8 +64,8 @@ module _ {S : Type 0} (event : Event) (n : Numbers S) (puzzle : Puzzle S) (playe
   )
 
 -- What is told of a text and random moves, of which there are some.
-pub judged-moves : (event : Event) (random : RandomMoves) (settings : Settings) (least stream : ℕ) (text : List ℕ) (s : Written) → IsWritten s
-    → IsSlotAnswer (ByMoves event random) settings least stream (Some s)
+pub judged-moves : (event : Event) (random : RandomMoves) (settings : Settings) (least stream : ℕ) (text : List ℕ) (s : Written)
+    → IsWritten s → IsSlotAnswer (ByMoves event random) settings least stream (Some s)
     → IsJudged (ByMoves event random) settings least stream text (Some (bytes_eq (text_of s.turns) text))
 judged-moves event random settings least stream text s written has = (
   λ none. let same : Some s.turns ≡ None = sym has.turns ∙ none in cc,

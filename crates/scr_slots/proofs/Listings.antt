@@ -37,14 +37,16 @@ module _ {S : Type 0} (n : Numbers S) (puzzle : Puzzle S) where
         listings-alike (v % n.count) (omega arith)
 
     -- numbers hit alike
-    hit_by : (test : S → Bool) (v : ℕ) (accepted : Bool) → is_accepted n.count v ≡ accepted → hit n.count one test v ≡ hit n.count other test v
+    hit_by : (test : S → Bool) (v : ℕ) (accepted : Bool) → is_accepted n.count v ≡ accepted
+        → hit n.count one test v ≡ hit n.count other test v
     hit_by test v true e = ap (λ s. if is_accepted n.count v && test s then Some s else None) (accepted-alike v e)
     hit_by test v false e = rw e refl
 
     hits-alike : (test : S → Bool) → hit n.count one test ≡ hit n.count other test
     hits-alike test = λ i. λ v. hit_by test v (is_accepted n.count v) refl i
 
-    tells-alike : (least : ℕ) (test : S → Bool) → TellsNeed (listed one) least test → TellsNeed (listed other) least test
+    tells-alike : (least : ℕ) (test : S → Bool) → TellsNeed (listed one) least test
+        → TellsNeed (listed other) least test
     tells-alike least test tells =
         λ i below. subst (λ s. IsTrue (test s) ↔ Needs puzzle s least) (listings-alike i below) (tells i below)
 
@@ -93,12 +95,13 @@ module _ {S : Type 0} (n : Numbers S) (puzzle : Puzzle S) where
       (Draws-alike first.state_at second.state_at first.listing second.listing least values some first.is) second.is
 
 -- what is so by a numbering's own listing
-pub by-numbering : {S : Type 0} {n : Numbered S} {puzzle : Puzzle S} {Is : StateSpace S → Type 0} → IsNumbering n → Is (space_of n puzzle)
-    → ByListing (numbers_of n) puzzle Is
+pub by-numbering : {S : Type 0} {n : Numbered S} {puzzle : Puzzle S} {Is : StateSpace S → Type 0} → IsNumbering n
+    → Is (space_of n puzzle) → ByListing (numbers_of n) puzzle Is
 by-numbering {n = n} numbering is = record { state_at = n.state_at; listing = numbering.one_to_one; is = is }
 
 -- And states that are numbered one to one have one listing.
-pub HaveOneListing-numbered : {S : Type 0} (n : Numbered S) (puzzle : Puzzle S) → IsNumbering n → HaveOneListing (numbers_of n) puzzle
+pub HaveOneListing-numbered : {S : Type 0} (n : Numbered S) (puzzle : Puzzle S) → IsNumbering n
+    → HaveOneListing (numbers_of n) puzzle
 HaveOneListing-numbered n puzzle numbering = record {
   some = by-numbering numbering tt;
   alike = λ one first other second. listings-alike (numbers_of n) puzzle one other first second;

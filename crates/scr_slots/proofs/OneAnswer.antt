@@ -30,12 +30,14 @@ module _ {S : Type 0} (event : Event) (drawn : DrawnPuzzle S) (n : Numbers S) (I
   abbrev IsDrawn : Settings → ℕ → Option S → Type 0
   IsDrawn settings stream = IsOutcome n drawn.puzzle least (slot_numbers settings stream)
 
-  one_drawn : (settings : Settings) (stream : ℕ) (o p : Option S) → IsDrawn settings stream o → IsDrawn settings stream p → o ≡ p
+  one_drawn : (settings : Settings) (stream : ℕ) (o p : Option S) → IsDrawn settings stream o
+      → IsDrawn settings stream p → o ≡ p
   one_drawn settings stream = one-outcome n drawn.puzzle least some (slot_numbers settings stream)
 
   -- what the slot of a scramble draws
   drawn_of : (settings : Settings) (stream : ℕ) (a : Written)
-      → (is : IsSlotScramble (ByState S event drawn n IsScramble) settings least stream a) → IsDrawn settings stream (Some is.turns.is.of_state.state)
+      → (is : IsSlotScramble (ByState S event drawn n IsScramble) settings least stream a)
+      → IsDrawn settings stream (Some is.turns.is.of_state.state)
   drawn_of settings stream a is = record { state_at = is.turns.state_at; listing = is.turns.listing; is = is.turns.is.of_state.draws }
 
   pub HasOneAnswer-state : HasOneAnswer (ByState S event drawn n IsScramble) least

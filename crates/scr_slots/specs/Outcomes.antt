@@ -20,8 +20,8 @@ ByEachListing {S} numbers puzzle Is =
     (state_at : ℕ → S) → IsOneToOne numbers.count state_at numbers.number_of numbers.IsValid
     → Is (record { count = numbers.count; state_at = state_at; puzzle = puzzle })
 
--- States have a listing, and it makes no difference which: all are alike below the count, and what is drawn by one is drawn
--- by each, as fairly.
+-- States have a listing, and it makes no difference which: all are alike below the count, and what is drawn by one is
+-- drawn by each, as fairly.
 pub record HaveOneListing {S : Type 0} (numbers : Numbers S) (puzzle : Puzzle S) : Type 0 where
   pub some : ByListing numbers puzzle (λ space. Unit {0})
   pub alike : ByEachListing numbers puzzle (λ one.

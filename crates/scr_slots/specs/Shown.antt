@@ -7,8 +7,8 @@ use Rattle.scr_combinatorics.specs.Reach.{Puzzle, IsPermitted}
 use Rattle.scr_notation.specs.declared.turn.Turn.{Turn}
 use Rattle.scr_slots.specs.declared.settings.Settings.{Settings}
 
--- A puzzle whose states are drawn (WCA Regulations, article 4): its turns, what the turns of a scramble make of it solved,
--- and of how few turns its scrambles are.
+-- A puzzle whose states are drawn (WCA Regulations, article 4): its turns, what the turns of a scramble make of it
+-- solved, and of how few turns its scrambles are.
 pub record DrawnPuzzle (S : Type 0) : Type 1 where
   pub puzzle : Puzzle S
   pub played : List Turn → Option S
@@ -17,8 +17,9 @@ pub record DrawnPuzzle (S : Type 0) : Type 1 where
 abbrev pub drawn_puzzle : {S : Type 0} → Puzzle S → (List Turn → Option S) → (List Turn → Type 0) → DrawnPuzzle S
 drawn_puzzle puzzle played IsWithin = record { puzzle = puzzle; played = played; IsWithin = IsWithin }
 
--- Scrambles of random moves (WCA Regulations, article 4): the turns that words give from a place on, where each turn has so
--- many attempts, and what is promised of how they are chosen. Nothing is promised of the states that they lead to.
+-- Scrambles of random moves (WCA Regulations, article 4): the turns that words give from a place on, where each turn
+-- has so many attempts, and what is promised of how they are chosen. Nothing is promised of the states that they lead
+-- to.
 pub record RandomMoves : Type 1 where
   pub moves : ℕ → (ℕ → ℕ) → ℕ → Option (List Turn)
   pub AreFair : Type 0
@@ -32,8 +33,8 @@ pub data Shown : Type 1 where
 abbrev pub slot_numbers : Settings → ℕ → List ℕ
 slot_numbers settings stream = attempt_values (stream_word settings.seed.0 stream) 0 settings.attempts
 
--- Some numbers draw a state that turns reach and that needs so many, and these turns, few enough, give it: played on the
--- solved puzzle they lead to it.
+-- Some numbers draw a state that turns reach and that needs so many, and these turns, few enough, give it: played on
+-- the solved puzzle they lead to it.
 pub record GivesDrawn {S : Type 0} (drawn : DrawnPuzzle S) (space : StateSpace S) (least : ℕ) (numbers : List ℕ) (turns : List Turn) : Type 0 where
   pub state : S
   pub draws : Draws space least numbers (Some state)

@@ -11,9 +11,9 @@ use Rattle.scr_slots.specs.declared.settings.Effort.{Effort}
 use Rattle.scr_slots.specs.declared.settings.Settings.{Settings}
 use Rattle.scr_slots.specs.Shown.{DrawnPuzzle, RandomMoves, GivesDrawn, HasMoves, slot_numbers}
 
--- How an event is scrambled, and the event that its scrambles are of, by whose notation they are written: by the states of a
--- puzzle, each drawn by its number, where it is told which turns are the scramble of a state to which a solver gives so much
--- effort; or by random moves.
+-- How an event is scrambled, and the event that its scrambles are of, by whose notation they are written: by the states
+-- of a puzzle, each drawn by its number, where it is told which turns are the scramble of a state to which a solver
+-- gives so much effort; or by random moves.
 pub data Scrambling : Type 1 where
   ByState : (S : Type 0) → Event → DrawnPuzzle S → Numbers S → (Effort → S → List Turn → Type 0) → Scrambling
   ByMoves : Event → RandomMoves → Scrambling
@@ -22,8 +22,8 @@ abbrev pub event_of_scrambles : Scrambling → Event
 event_of_scrambles (ByState S event drawn numbers IsScramble) = event
 event_of_scrambles (ByMoves event random) = event
 
--- It is so of what is drawn from, by a listing of the states: at each number below the count stands the state that has it.
--- (There is one, and it makes no difference which: they are alike below the count.)
+-- It is so of what is drawn from, by a listing of the states: at each number below the count stands the state that has
+-- it. (There is one, and it makes no difference which: they are alike below the count.)
 pub record ByListing {S : Type 0} (numbers : Numbers S) (puzzle : Puzzle S) (Is : StateSpace S → Type 0) : Type 0 where
   pub state_at : ℕ → S
   pub listing : IsOneToOne numbers.count state_at numbers.number_of numbers.IsValid

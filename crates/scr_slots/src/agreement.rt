@@ -26,11 +26,11 @@ use scr_sq1solve::DrawSq1;
 use scr_twophase::{Draw333, DrawHeld};
 use scr_words::ChaChaWords;
 
-/// Whether a text agrees with a slot of an event on this stream: played from solved, it gives the state that the slot draws, or it
-/// is the text of the random moves that the slot has. `None` comes exactly where the slot has no scramble.
+/// Whether a text agrees with a slot of an event on this stream: played from solved, it gives the state that the slot
+/// draws, or it is the text of the random moves that the slot has. `None` comes exactly where the slot has no scramble.
 ///
-/// The tables have the event where its states are tested by one; `least` is in its range, and there are at most 1,000,000
-/// attempts. Nothing is searched for.
+/// The tables have the event where its states are tested by one; `least` is in its range, and there are at most
+/// 1,000,000 attempts. Nothing is searched for.
 #[tactic(auto, unfolding(crate::specs::Events::scrambling_of))]
 pub fn slot_agrees(
     tables: &Tables,
@@ -86,7 +86,8 @@ pub fn slot_agrees(
     }
 }
 
-/// Whether the states of an event are tested by its table as they are drawn. (Those of others are tested by trying words.)
+/// Whether the states of an event are tested by its table as they are drawn. (Those of others are tested by trying
+/// words.)
 pub fn is_tested_by_table(event: Event) -> bool
     ensures { result ≡ is_tested_by_table event }
 {

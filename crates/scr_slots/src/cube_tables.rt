@@ -34,8 +34,8 @@ impl Drop for CubeTables {
 }
 
 impl CubeTables {
-    /// All eight, built by 1 to 64 workers, who share out the stages and the parts, or why one isn't built. They are made ready
-    /// for so many cubes.
+    /// All eight, built by 1 to 64 workers, who share out the stages and the parts, or why one isn't built. They are
+    /// made ready for so many cubes.
     #[tactic(auto, unfolding(crate::specs::TableLines::family_lines))]
     pub fn build<R: Threads + Sync>(
         rt: &R,

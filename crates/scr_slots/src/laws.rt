@@ -36,8 +36,8 @@ pub fn one_answer()
     ensures { (event : EventOf) (least : ℕ) → HasOneAnswer (scrambling_of event) least }
 {}
 
-/// The states of an event that are drawn have one listing by their numbers, up to what stands behind their count: what a
-/// slot draws, and that it is drawn fairly, does not depend on it.
+/// The states of an event that are drawn have one listing by their numbers, up to what stands behind their count: what
+/// a slot draws, and that it is drawn fairly, does not depend on it.
 pub fn one_listing()
     ensures { (event : EventOf) → HasOneListing (scrambling_of event) }
 {
@@ -101,7 +101,8 @@ fn fairly_clock()
 /// The 2x2x2, where its table is built.
 #[tactic(auto, unfolding(crate::specs::Events::scrambling_of))]
 fn fairly_222(tables: &Tables)
-    ensures { HasFamily tables.now family.Cube222 → (least : ℕ) → least ≤ 11 → IsDrawnFairly (scrambling_of C222) least }
+    ensures { HasFamily tables.now family.Cube222 → (least : ℕ) → least ≤ 11
+        → IsDrawnFairly (scrambling_of C222) least }
 {
     if let Some(tables) = tables.of_222() {
         small::reached_by_table::<Numbers222>(tables);
@@ -123,7 +124,8 @@ fn fairly_333(tables: &Tables)
 /// The 3x3x3 as it is held, where the tables of the 3x3x3 are built.
 #[tactic(auto, unfolding(crate::specs::Events::scrambling_of))]
 fn fairly_333bf(tables: &Tables)
-    ensures { HasFamily tables.now family.Cube333 → (least : ℕ) → least ≤ 5 → IsDrawnFairly (scrambling_of Bf333) least }
+    ensures { HasFamily tables.now family.Cube333 → (least : ℕ) → least ≤ 5
+        → IsDrawnFairly (scrambling_of Bf333) least }
 {
     if let Some(tables) = tables.of_333() {
         stages::reached(&tables.stages);
@@ -135,7 +137,8 @@ fn fairly_333bf(tables: &Tables)
 /// The 3x3x3 for fewest moves, where the tables of the 3x3x3 are built.
 #[tactic(auto, unfolding(crate::specs::Events::scrambling_of))]
 fn fairly_333fm(tables: &Tables)
-    ensures { HasFamily tables.now family.Cube333 → (least : ℕ) → least ≤ 5 → IsDrawnFairly (scrambling_of Fm333) least }
+    ensures { HasFamily tables.now family.Cube333 → (least : ℕ) → least ≤ 5
+        → IsDrawnFairly (scrambling_of Fm333) least }
 {
     if let Some(tables) = tables.of_333() {
         stages::reached(&tables.stages);
@@ -146,7 +149,8 @@ fn fairly_333fm(tables: &Tables)
 /// The Pyraminx, where its table is built.
 #[tactic(auto, unfolding(crate::specs::Events::scrambling_of))]
 fn fairly_pyram(tables: &Tables)
-    ensures { HasFamily tables.now family.Pyraminx → (least : ℕ) → least ≤ 15 → IsDrawnFairly (scrambling_of Pyram) least }
+    ensures { HasFamily tables.now family.Pyraminx → (least : ℕ) → least ≤ 15
+        → IsDrawnFairly (scrambling_of Pyram) least }
 {
     if let Some(tables) = tables.of_pyram() {
         small::pyram_reached_by_table(tables);

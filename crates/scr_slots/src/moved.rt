@@ -11,7 +11,8 @@ use scr_bigs::{big_cube, megaminx};
 use scr_notation::Scramble;
 use scr_words::ChaChaWords;
 
-/// The scramble of a slot of a cube with `SIDE` layers on this stream; `None` where all attempts of one turn are refused.
+/// The scramble of a slot of a cube with `SIDE` layers on this stream; `None` where all attempts of one turn are
+/// refused.
 ///
 /// There are at most 1,000,000 attempts.
 pub(crate) fn cube_scramble<const SIDE: usize>(settings: &Settings, stream: u64) -> Option<Scramble>

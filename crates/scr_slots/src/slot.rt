@@ -79,8 +79,8 @@ pub fn slot_answer(
     }
 }
 
-/// The answer of a slot whose state is drawn of an event, and scrambled by a scrambler of its states; this is one body for
-/// all of them.
+/// The answer of a slot whose state is drawn of an event, and scrambled by a scrambler of its states; this is one body
+/// for all of them.
 ///
 /// `least` and the settings are in their ranges. What the scrambler's turns make of the solved puzzle is what the event's
 /// turns reach.

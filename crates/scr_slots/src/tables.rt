@@ -71,9 +71,9 @@ impl Drop for Tables {
 
 impl Tables {
     /// Builds the tables of the events of these rounds by 1 to 64 workers, each family's once, in the order of the
-    /// families. None of them has a gap; where one has, it is that of the first table that has one. Memory can be wanting
-    /// only where one of the events needs a table. Each event is then drawn fairly at each minimum of its range; of random moves this says that
-    /// each of their steps is fair.
+    /// families. None of them has a gap; where one has, it is that of the first table that has one. Memory can be
+    /// wanting only where one of the events needs a table. Each event is then drawn fairly at each minimum of its
+    /// range; of random moves this says that each of their steps is fair.
     #[tactic(auto, unfolding(crate::specs::TableLines::family_lines))]
     pub fn build<R: Threads + Sync>(
         rt: &R,

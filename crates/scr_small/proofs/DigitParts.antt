@@ -19,7 +19,8 @@ behind-div [] i = sym (div-one i)
 behind-div (b ∷ bs) i = behind-div bs (i / b) ∙ div-div-eq-div-mul i b (product bs)
 
 -- first digits are those of the number modulo the product of their bases
-digits_before : (bases : List ℕ) (r q : ℕ) → 0 < product bases → mixed_digits bases (r + product bases * q) ≡ mixed_digits bases r
+digits_before : (bases : List ℕ) (r q : ℕ) → 0 < product bases
+    → mixed_digits bases (r + product bases * q) ≡ mixed_digits bases r
 digits_before [] r q some = refl
 digits_before (b ∷ bs) r q some =
     let both = factor_pos b (product bs) some in
@@ -29,7 +30,8 @@ digits_before (b ∷ bs) r q some =
     ∙ ap (λ n. r % b ∷ mixed_digits bs n) (add-mul-div_left r (product bs * q) both.0)
     ∙ ap (λ ds. r % b ∷ ds) (digits_before bs (r / b) q both.1)
 
-digits-mod : (bases : List ℕ) (i : ℕ) → 0 < product bases → mixed_digits bases i ≡ mixed_digits bases (i % product bases)
+digits-mod : (bases : List ℕ) (i : ℕ) → 0 < product bases
+    → mixed_digits bases i ≡ mixed_digits bases (i % product bases)
 digits-mod bases i some =
     ap (mixed_digits bases) (sym (mod-add-div i (product bases))) ∙ digits_before bases (i % product bases) (i / product bases) some
 

@@ -22,16 +22,18 @@ StaysBelow-low p low_count i n q at turn e =
     subst (λ k. k < low_count) led.2 (mod_below (p.numbered.number_of led.0) low_count (omega arith))
 
 -- the place of a low part among the states, and of a high one
-pub low_place : (low_count high_count count i : ℕ) → count ≡ low_count * high_count → 0 < count → i < low_count → i < count
+pub low_place : (low_count high_count count i : ℕ) → count ≡ low_count * high_count → 0 < count → i < low_count
+    → i < count
 low_place low_count zero count i pairs some at = absurd (omega (arith, pairs, some))
 low_place low_count (suc k) count i pairs some at = omega (arith, pairs, at)
 
-pub high_place : (low_count high_count count i : ℕ) → count ≡ low_count * high_count → 0 < count → i < high_count → low_count * i < count
+pub high_place : (low_count high_count count i : ℕ) → count ≡ low_count * high_count → 0 < count → i < high_count
+    → low_count * i < count
 high_place zero high_count count i pairs some at = absurd (omega (arith, pairs, some))
 high_place (suc k) high_count count i pairs some at = subst (λ c. suc k * i < c) (sym pairs) (mul-lt-mul_of_pos_left at (omega arith))
 
-pub StaysBelow-high : {S T : Type 0} (p : NumberedPuzzle S T) → IsNumberedPuzzle p → (low_count high_count : ℕ) → MovesByParts p low_count high_count
-    → StaysBelow (high_part p low_count high_count)
+pub StaysBelow-high : {S T : Type 0} (p : NumberedPuzzle S T) → IsNumberedPuzzle p → (low_count high_count : ℕ)
+    → MovesByParts p low_count high_count → StaysBelow (high_part p low_count high_count)
 StaysBelow-high p l low_count high_count b i n q at turn e =
     let s = p.numbered.state_at (low_count * i) in
     let led = map-some (λ s. p.numbered.number_of s / low_count) (after_number p s n) q e in

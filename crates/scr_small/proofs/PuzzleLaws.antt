@@ -82,12 +82,14 @@ module _ {S T : Type 0} (p : NumberedPuzzle S T) (l : IsNumberedPuzzle p) where
       ∙ l.taken_back s leads.end (map p.letter_at w) h (play-letters s w ∙ leads.played)
 
   -- a scramble leads from solved to the state
-  pub play-scrambled : (s : S) (turns : List T) → p.numbered.IsValid s → IsScrambleOf p s turns → play p.after p.solved turns ≡ Some s
+  pub play-scrambled : (s : S) (turns : List T) → p.numbered.IsValid s → IsScrambleOf p s turns
+      → play p.after p.solved turns ≡ Some s
   play-scrambled s turns h scramble =
       ap (play p.after p.solved) scramble.taken_back ∙ play-scramble s scramble.solution h scramble.first.leads
 
   -- a state has one scramble at most
-  pub IsScrambleOf-unique : (s : S) (some other : List T) → IsScrambleOf p s some → IsScrambleOf p s other → some ≡ other
+  pub IsScrambleOf-unique : (s : S) (some other : List T) → IsScrambleOf p s some → IsScrambleOf p s other
+      → some ≡ other
   IsScrambleOf-unique s some other a b =
       a.taken_back
       ∙ ap (λ w. back p.opposite (map p.letter_at w))
@@ -106,7 +108,8 @@ module _ {S T : Type 0} (p : NumberedPuzzle S T) (l : IsNumberedPuzzle p) where
         let found = first_word (state_coordinate p) StaysBelow-states table m (p.numbered.number_of s) (l.numbering.one_to_one.below s h) in
         (found.0, (finds_the_same.first_words s found.0 h).1 found.1)
 
-    pub IsDistance-state : (s : S) → p.numbered.IsValid s → IsDistance (after_number p) (λ r. r ≡ p.solved) s (distance_of s)
+    pub IsDistance-state : (s : S) → p.numbered.IsValid s
+        → IsDistance (after_number p) (λ r. r ≡ p.solved) s (distance_of s)
     IsDistance-state s h =
         (finds_the_same.distances s (distance_of s) h).1 (m.exact (p.numbered.number_of s) (l.numbering.one_to_one.below s h))
 
@@ -144,11 +147,13 @@ module _ {S T : Type 0} (p : NumberedPuzzle S T) (l : IsNumberedPuzzle p) where
     )
 
     -- and so says the test of the table's entry
-    pub tested-iff : (s : S) (least : ℕ) → p.numbered.IsValid s → IsTrue (nat_le least (distance_of s)) ↔ Needs (puzzle_of p) s least
+    pub tested-iff : (s : S) (least : ℕ) → p.numbered.IsValid s
+        → IsTrue (nat_le least (distance_of s)) ↔ Needs (puzzle_of p) s least
     tested-iff s least h = tested_by least (distance_of s) (Needs-iff s least h)
 
     -- the scramble of a valid state has as many turns as its distance
-    pub length-scramble : (s : S) (turns : List T) → p.numbered.IsValid s → IsScrambleOf p s turns → length turns ≡ distance_of s
+    pub length-scramble : (s : S) (turns : List T) → p.numbered.IsValid s → IsScrambleOf p s turns
+        → length turns ≡ distance_of s
     length-scramble s turns h scramble =
         ap length scramble.taken_back ∙ length-reverse (map p.opposite (map p.letter_at scramble.solution))
         ∙ length-map (map p.letter_at scramble.solution) p.opposite ∙ length-map scramble.solution p.letter_at

@@ -52,21 +52,24 @@ unfolding solved_pyram
 IsPyram-solved = record { body = IsTetraminx-solved; tips = AreDigitsInPlace-zeros 4 3 (lit< tt) }
 
 -- large turns that lead to the body, and then the turns of the tips, lead from solved to the state
-pub play-by_parts : (s : PyramState) → IsPyram s → (large : List Turn) → play (after_letter tetraminx_powers) solved_tetraminx large ≡ Some s.body
+pub play-by_parts : (s : PyramState) → IsPyram s → (large : List Turn)
+    → play (after_letter tetraminx_powers) solved_tetraminx large ≡ Some s.body
     → play (after_letter pyram_powers) solved_pyram (large ++ tips_word s.tips) ≡ Some s
 unfolding solved_pyram
 play-by_parts s h large e =
     play-append (after_letter pyram_powers) _ _ large (tips_word s.tips) (with_tips solved_tetraminx s.body (zeros 4) large IsPyram-solved e)
     ∙ tips_word-played s.body s.tips h.body h.tips
 
-pub play-scrambled_pyram : (s : PyramState) (turns : List Turn) → IsPyram s → IsScramblePyram s turns → play (after_letter pyram_powers) solved_pyram turns ≡ Some s
+pub play-scrambled_pyram : (s : PyramState) (turns : List Turn) → IsPyram s → IsScramblePyram s turns
+    → play (after_letter pyram_powers) solved_pyram turns ≡ Some s
 play-scrambled_pyram s turns h scramble =
     ap (play (after_letter pyram_powers) solved_pyram) scramble.with_tips
     ∙ play-by_parts s h scramble.large
     (play-scrambled numbered_puzzle_tetraminx lawful_puzzle_tetraminx s.body scramble.large h.body scramble.without_tips)
 
 -- a state has one scramble at most
-pub IsScramblePyram-unique : (s : PyramState) (some other : List Turn) → IsScramblePyram s some → IsScramblePyram s other → some ≡ other
+pub IsScramblePyram-unique : (s : PyramState) (some other : List Turn) → IsScramblePyram s some
+    → IsScramblePyram s other → some ≡ other
 IsScramblePyram-unique s some other a b =
     a.with_tips
     ∙ ap (λ w. w ++ tips_word s.tips)
@@ -84,14 +87,16 @@ module _ (table : Distances) (m : Measures coordinate_tetraminx table) where
   abbrev pub pyram_distance : PyramState → ℕ
   pyram_distance s = get_or table.distances (numbered_tetraminx.number_of s.body) 0 + turned_count s.tips
 
-  pub length-scramble_pyram : (s : PyramState) (turns : List Turn) → IsPyram s → IsScramblePyram s turns → length turns ≡ pyram_distance s
+  pub length-scramble_pyram : (s : PyramState) (turns : List Turn) → IsPyram s → IsScramblePyram s turns
+      → length turns ≡ pyram_distance s
   length-scramble_pyram s turns h scramble =
       let large = length-scramble numbered_puzzle_tetraminx lawful_puzzle_tetraminx table m s.body scramble.large h.body scramble.without_tips in
       ap length scramble.with_tips ∙ length-append scramble.large (tips_word s.tips)
       ∙ ap (λ n. n + length (tips_word s.tips)) large
       ∙ ap (λ n. get_or table.distances (numbered_tetraminx.number_of s.body) 0 + n) (length-tips_word s.tips h.tips)
 
-  pub large-le : table.bound ≡ 11 → (s : PyramState) → IsPyram s → get_or table.distances (numbered_tetraminx.number_of s.body) 0 ≤ 11
+  pub large-le : table.bound ≡ 11 → (s : PyramState) → IsPyram s
+      → get_or table.distances (numbered_tetraminx.number_of s.body) 0 ≤ 11
   large-le bound s h =
       omega (arith, bound, m.within (numbered_tetraminx.number_of s.body) (tetraminx_numbering.one_to_one.below s.body h.body))
 
@@ -110,7 +115,8 @@ module _ (table : Distances) (m : Measures coordinate_tetraminx table) where
   )
 
   -- no word that solves a state is shorter
-  no_shorter : (s end : PyramState) (w : List Turn) → IsPyram s → play (after_letter pyram_powers) s w ≡ Some end → end ≡ solved_pyram → pyram_distance s ≤ length w
+  no_shorter : (s end : PyramState) (w : List Turn) → IsPyram s → play (after_letter pyram_powers) s w ≡ Some end
+      → end ≡ solved_pyram → pyram_distance s ≤ length w
   unfolding solved_pyram
   no_shorter s end w h played solved =
       let parts = by_parts s end w h played in
@@ -121,7 +127,8 @@ module _ (table : Distances) (m : Measures coordinate_tetraminx table) where
       omega (arith, parts.tips, parts.count, word.2, least, none)
 
   -- a state needs so many turns exactly where that is no more
-  pub Needs-pyram : (s : PyramState) (least : ℕ) → IsPyram s → (least ≤ pyram_distance s) ↔ Needs (power_puzzle pyram_powers) s least
+  pub Needs-pyram : (s : PyramState) (least : ℕ) → IsPyram s
+      → (least ≤ pyram_distance s) ↔ Needs (power_puzzle pyram_powers) s least
   Needs-pyram s least h = (
     λ le v end few played solved. omega (arith, count_once v, no_shorter s end v h played solved),
     λ needs.
@@ -137,5 +144,6 @@ module _ (table : Distances) (m : Measures coordinate_tetraminx table) where
   )
 
   -- and so says the test of the number
-  pub tested_pyram : (s : PyramState) (least : ℕ) → IsPyram s → IsTrue (nat_le least (pyram_distance s)) ↔ Needs (power_puzzle pyram_powers) s least
+  pub tested_pyram : (s : PyramState) (least : ℕ) → IsPyram s
+      → IsTrue (nat_le least (pyram_distance s)) ↔ Needs (power_puzzle pyram_powers) s least
   tested_pyram s least h = tested_by least (pyram_distance s) (Needs-pyram s least h)

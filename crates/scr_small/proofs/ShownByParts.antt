@@ -30,13 +30,15 @@ module _ {S T : Type 0} (p : NumberedPuzzle S T) (l : IsNumberedPuzzle p) (low_c
       some_of (suc k) pairs = omega arith
 
   -- where a turn does nothing to one state, it does nothing to another
-  none_alike : (s r : S) (t : T) → p.numbered.IsValid s → p.numbered.IsValid r → p.after s t ≡ None → (o : Option S) → p.after r t ≡ o → o ≡ None
+  none_alike : (s r : S) (t : T) → p.numbered.IsValid s → p.numbered.IsValid r → p.after s t ≡ None → (o : Option S)
+      → p.after r t ≡ o → o ≡ None
   none_alike s r t v w none None e = refl
   none_alike s r t v w none (Some r') e = absurd (let made = b.alike r s r' t w v e in cc (none, made.1))
 
   -- the two parts of a turned state, side by side
-  joined : (s low_state high_state : S) (t : T) → p.numbered.IsValid s → p.numbered.IsValid low_state → p.numbered.IsValid high_state
-      → low s ≡ low low_state → high s ≡ high high_state → (o : Option S) → p.after s t ≡ o
+  joined : (s low_state high_state : S) (t : T) → p.numbered.IsValid s → p.numbered.IsValid low_state
+      → p.numbered.IsValid high_state → low s ≡ low low_state → high s ≡ high high_state → (o : Option S)
+      → p.after s t ≡ o
       → side_by_side low_count (option_map low (p.after low_state t)) (option_map high (p.after high_state t)) ≡ option_map p.numbered.number_of o
   joined s x y t v vx vy e f None none =
       ap (λ o. side_by_side low_count (option_map low o) (option_map high (p.after y t))) (none_alike s x t v vx none (p.after x t) refl)

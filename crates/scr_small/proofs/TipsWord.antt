@@ -17,7 +17,8 @@ tips_word_from tip (d ∷ ds) =
 abbrev turn_of : List ℕ → ℕ → List Turn
 turn_of tips k = if get_or tips k 0 == 0 then [] else Tip k (get_or tips k 0) ∷ []
 
-with_first : (still : Bool) (t : Turn) (w : List Turn) → (if still then w else t ∷ w) ≡ (if still then [] else t ∷ []) ++ w
+with_first : (still : Bool) (t : Turn) (w : List Turn)
+    → (if still then w else t ∷ w) ≡ (if still then [] else t ∷ []) ++ w
 with_first true t w = refl
 with_first false t w = refl
 

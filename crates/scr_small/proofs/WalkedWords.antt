@@ -20,7 +20,8 @@ All-turns c p (t ∷ w) l =
 
 -- the first word from a state's position is the first that solves the state
 pub IsScrambleOf-walked : {S T : Type 0} (p : NumberedPuzzle S T) → IsNumberedPuzzle p → (s : S) → p.numbered.IsValid s
-    → (i : ℕ) → i ≡ p.numbered.number_of s → (w : List ℕ) → IsFirstWord (moved (state_coordinate p)) (IsGoal (state_coordinate p)) i w
+    → (i : ℕ) → i ≡ p.numbered.number_of s → (w : List ℕ)
+    → IsFirstWord (moved (state_coordinate p)) (IsGoal (state_coordinate p)) i w
     → IsScrambleOf p s (back p.opposite (map p.letter_at w))
 IsScrambleOf-walked p l s valid i here w first =
     let P : ℕ → Type 0 = λ k. IsFirstWord (moved (state_coordinate p)) (IsGoal (state_coordinate p)) k w in

@@ -36,8 +36,8 @@ pub fn shown_by_parts<P: OneTable>()
     P::is_solved_by_table();
 }
 
-/// The lines by which the tables are built are those of the tables as their states tell them: turns lead from numbers to
-/// numbers as from states to states, and each number is that of a state.
+/// The lines by which the tables are built are those of the tables as their states tell them: turns lead from numbers
+/// to numbers as from states to states, and each number is that of a state.
 pub fn told_by_states()
     ensures corners { IsLineOf corners_table corners_line }
     ensures pyramid { IsLineOf pyramid_table pyramid_line }
@@ -85,7 +85,8 @@ pub fn measured<P: OneTable>()
 /// Where a table measures the Pyraminx without tips, the valid states of the Pyraminx are those that turns reach; a
 /// state needs as many turns as its distance without tips and one for each tip that stands turned, and no more; and
 /// each valid state has a scramble, which leads to it from solved and has just so many turns: at most 11 large ones and
-/// 4 of tips. With or without a table it has no two. A state's position in the table is its number over 81, rounded down.
+/// 4 of tips. With or without a table it has no two. A state's position in the table is its number over 81, rounded
+/// down.
 pub fn measured_pyram()
     ensures position { (s : PyramState) → IsPyram s
         → numbered_pyram.number_of s / 81 ≡ numbered_tetraminx.number_of s.body }
@@ -118,7 +119,8 @@ pub fn rows_222()
     ensures { HasRow (state_coordinate numbered_puzzle_222) (record { count = 3674160; turns = 9; turn = 0; to = 1574640; back = 2 }) }
 {}
 
-/// The Pyraminx without tips: it has 933,120; U leads from solved to number 186625, and U' back; there is no ninth turn.
+/// The Pyraminx without tips: it has 933,120; U leads from solved to number 186625, and U' back; there is no ninth
+/// turn.
 #[tactic(auto, unfolding(crate::proofs::OnLiterals::positions_on_literals))]
 pub fn rows_pyram()
     ensures { HasRow coordinate_tetraminx (record { count = 933120; turns = 8; turn = 0; to = 186625; back = 1 }) }

@@ -6,7 +6,8 @@
 //!
 //! What a table tells that measures the coordinate, the module `laws` says of any such puzzle: its valid states are
 //! those that turns reach, a state needs as many turns as its distance, and each has one scramble, which leads to it
-//! from solved. The table of the Pyraminx is over its states without tips; the laws say what it tells of those with tips.
+//! from solved. The table of the Pyraminx is over its states without tips; the laws say what it tells of those with
+//! tips.
 //!
 //! A state is two parts that turns move each by itself (`specs/StateParts.antt`), so that a table is filled over two
 //! move tables side by side. [`OneTable`] is what a puzzle gives beside its numbering and its turns, with these laws.

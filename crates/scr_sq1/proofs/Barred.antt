@@ -41,8 +41,9 @@ letter_barred s _ h = refl
 
 -- ---- letters one after another
 
-first_or_later : (s : Sq1State) (t : Turn) (w : List Turn) → ((r : Sq1State) → play sq1_after r w ≡ None → IsBarredAlong r w)
-    → (o : Option Sq1State) → sq1_after s t ≡ o → play sq1_after s (t ∷ w) ≡ None → IsBarredAlong s (t ∷ w)
+first_or_later : (s : Sq1State) (t : Turn) (w : List Turn)
+    → ((r : Sq1State) → play sq1_after r w ≡ None → IsBarredAlong r w) → (o : Option Sq1State) → sq1_after s t ≡ o
+    → play sq1_after s (t ∷ w) ≡ None → IsBarredAlong s (t ∷ w)
 first_or_later s t w later None h e =
     record { before = []; letter = t; behind = w; state = s; word = refl; leads = play-empty sq1_after s; barred = barred_letter s t h }
 first_or_later s t w later (Some r) h e =

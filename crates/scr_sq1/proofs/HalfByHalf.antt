@@ -183,10 +183,12 @@ HasPartner-first us vs k six lt h =
 
 -- what is read of a shape's pieces
 pub record ShapeUnits (hs cs es : List ℕ) : Type 0 where
-  pub partners : (k : ℕ) → k < 6 * length hs → slice_index (laid (shape_word hs) cs es) k < 8 → HasPartner (laid (shape_word hs) cs es) k
+  pub partners : (k : ℕ) → k < 6 * length hs → slice_index (laid (shape_word hs) cs es) k < 8
+      → HasPartner (laid (shape_word hs) cs es) k
   pub halves : halves_in (length hs) (laid (shape_word hs) cs es) ≡ hs
 
-pub ShapeUnits-laid : (hs cs es : List ℕ) → All (λ h. h < 13) hs → All (λ c. c < 8) cs → Fits (shape_word hs) cs es → ShapeUnits hs cs es
+pub ShapeUnits-laid : (hs cs es : List ℕ) → All (λ h. h < 13) hs → All (λ c. c < 8) cs → Fits (shape_word hs) cs es
+    → ShapeUnits hs cs es
 unfolding halves_in
 ShapeUnits-laid [] cs es low below f = record { partners = λ k lt. absurd (omega arith); halves = refl }
 ShapeUnits-laid (h ∷ hs) cs es low below f =

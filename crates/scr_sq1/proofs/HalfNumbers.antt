@@ -16,13 +16,15 @@ use Rattle.scr_sq1.proofs.HalfWords.{corner_count}
 
 module _ (f : ℕ → ℕ) where
   -- so many runs and the next one
-  pub total-run : (ks : List ℕ) (i : ℕ) → i < length ks → total (map f (take i ks)) + f (slice_index ks i) ≤ total (map f ks)
+  pub total-run : (ks : List ℕ) (i : ℕ) → i < length ks
+      → total (map f (take i ks)) + f (slice_index ks i) ≤ total (map f ks)
   total-run [] i lt = absurd (omega arith)
   total-run (k ∷ ks) zero lt = omega arith
   total-run (k ∷ ks) (suc i) lt = omega (arith, total-run ks i (omega arith))
 
   -- of two runs, the one behind begins no sooner than the one before ends
-  pub total-runs : (ks : List ℕ) (i j : ℕ) → i < j → j ≤ length ks → total (map f (take i ks)) + f (slice_index ks i) ≤ total (map f (take j ks))
+  pub total-runs : (ks : List ℕ) (i j : ℕ) → i < j → j ≤ length ks
+      → total (map f (take i ks)) + f (slice_index ks i) ≤ total (map f (take j ks))
   total-runs [] i j lt le = absurd (omega arith)
   total-runs (k ∷ ks) i zero lt le = absurd (omega arith)
   total-runs (k ∷ ks) zero (suc j) lt le = omega arith
@@ -67,7 +69,8 @@ module _ (f : ℕ → ℕ) where
       ∙ ap (λ p. let q : ℕ × ℕ = (suc p.0, p.1) in q) (ap (run_of f ks) less ∙ run_of-put ks i r (omega arith) inside)
 
   -- a sum with one run more
-  pub total-more : (ks : List ℕ) (i : ℕ) → i < length ks → total (map f (take (i + 1) ks)) ≡ total (map f (take i ks)) + f (slice_index ks i)
+  pub total-more : (ks : List ℕ) (i : ℕ) → i < length ks
+      → total (map f (take (i + 1) ks)) ≡ total (map f (take i ks)) + f (slice_index ks i)
   total-more [] i lt = absurd (omega arith)
   total-more (k ∷ ks) zero lt = omega arith
   total-more (k ∷ ks) (suc i) lt =
@@ -75,8 +78,8 @@ module _ (f : ℕ → ℕ) where
 
 -- ---- halves with so many corners
 
--- The number of some halves among all lists of as many with c corners, from 0: for each lower first half, all lists that
--- begin with it come before.
+-- The number of some halves among all lists of as many with c corners, from 0: for each lower first half, all lists
+-- that begin with it come before.
 unfoldable pub halves_number : ℕ → List ℕ → ℕ
 halves_number c [] = 0
 halves_number c (h ∷ hs) =
@@ -145,12 +148,14 @@ ways_after-many (suc n) c k lt = cond-false (nat_le k c) (total (map (ways_after
 abbrev pub numbers_before : ℕ → ℕ → ℕ → ℕ
 numbers_before n c h = total (map (ways_after n c) (take h corner_counts))
 
-pub halves_number-cons : (n c h : ℕ) (hs : List ℕ) → length hs ≡ n → halves_number c (h ∷ hs) ≡ numbers_before n c h + halves_number (c - corner_count h) hs
+pub halves_number-cons : (n c h : ℕ) (hs : List ℕ) → length hs ≡ n
+    → halves_number c (h ∷ hs) ≡ numbers_before n c h + halves_number (c - corner_count h) hs
 unfolding halves_number
 halves_number-cons n c h hs e = ap (λ m. numbers_before m c h + halves_number (c - corner_count h) hs) e
 
 -- each first half has its run of numbers
-run_within : (n c h : ℕ) → h < 13 → corner_count h ≤ c → numbers_before n c h + ways_to_have n (c - corner_count h) ≤ ways_to_have (suc n) c
+run_within : (n c h : ℕ) → h < 13 → corner_count h ≤ c
+    → numbers_before n c h + ways_to_have n (c - corner_count h) ≤ ways_to_have (suc n) c
 run_within n c h lt few =
     omega (
       arith,
@@ -205,7 +210,8 @@ first_half n c r lt =
       whole = falls.whole;
     }
 
-pub halves_at-suc : (n c r : ℕ) (f : FirstHalf n c r) → halves_at (suc n) c r ≡ f.half ∷ halves_at n (c - corner_count f.half) f.rest
+pub halves_at-suc : (n c r : ℕ) (f : FirstHalf n c r)
+    → halves_at (suc n) c r ≡ f.half ∷ halves_at n (c - corner_count f.half) f.rest
 unfolding halves_at
 halves_at-suc n c r f = ap (λ p. p.0 ∷ halves_at n (c - corner_count p.0) p.1) f.is
 
@@ -298,7 +304,8 @@ with_corners-flat c xss (k ∷ ks) =
     ∙ ap (λ xs. with_first c k xss ++ xs) (with_corners-flat c xss ks)
 
 -- the place of a list behind others that are not the same, and where it stands before them
-place_of_same : (h : ℕ) (hs : List ℕ) (xss : List (List ℕ)) → place_in (h ∷ hs) (map (λ hs. h ∷ hs) xss) ≡ place_in hs xss
+place_of_same : (h : ℕ) (hs : List ℕ) (xss : List (List ℕ))
+    → place_in (h ∷ hs) (map (λ hs. h ∷ hs) xss) ≡ place_in hs xss
 place_of_same h hs [] = refl
 place_of_same h hs (gs ∷ xss) =
     let same : bytes_eq (h ∷ hs) (h ∷ gs) ≡ bytes_eq hs gs = ap (λ b. b && bytes_eq hs gs) (eq-eqb h h refl) in
@@ -310,7 +317,8 @@ place_stays x [] ys lt = absurd (omega arith)
 place_stays x (y ∷ xs) ys lt =
     stays (not (bytes_eq x y)) (place_in x xs) (place_in x (xs ++ ys)) (length xs) lt (place_stays x xs ys)
   where
-    stays : (b : Bool) (p q n : ℕ) → cond b (1 + p) 0 < suc n → (p < n → q ≡ p) → (let r : ℕ = cond b (1 + q) 0 in r ≡ cond b (1 + p) 0)
+    stays : (b : Bool) (p q n : ℕ) → cond b (1 + p) 0 < suc n → (p < n → q ≡ p)
+        → (let r : ℕ = cond b (1 + q) 0 in r ≡ cond b (1 + p) 0)
     stays true p q n lt f = ap (λ z. 1 + z) (f (omega arith))
     stays false p q n lt f = refl
 
@@ -341,7 +349,8 @@ module _ (c : ℕ) (xss : List (List ℕ)) (f : ℕ → ℕ) (sizes : (h : ℕ) 
       ap (λ i. total (map f (take i corner_counts))) {x = suc s} {y = s + 1} (omega arith)
       ∙ total-more f corner_counts s (omega (arith, length-corner_counts))
 
-  length_from : (m s : ℕ) → s + m ≡ 13 → before s + length (flat_map (λ h. with_first c h xss) (numbers_from s m)) ≡ before 13
+  length_from : (m s : ℕ) → s + m ≡ 13
+      → before s + length (flat_map (λ h. with_first c h xss) (numbers_from s m)) ≡ before 13
   length_from zero s e = omega (arith, ap before {x = s} {y = 13} (omega arith))
   length_from (suc m) s e =
       omega (
@@ -403,7 +412,8 @@ listed-length (suc n) c =
     ∙ ap (λ ks. total (map (ways_after n c) ks)) (take_all 13 corner_counts (omega (arith, length-corner_counts)))
     ∙ sym (ways-suc n c)
 
-listed-place : (n c : ℕ) (hs : List ℕ) → AreHalves n c hs → place_in hs (with_corners c (halves_lists n)) ≡ halves_number c hs
+listed-place : (n c : ℕ) (hs : List ℕ) → AreHalves n c hs
+    → place_in hs (with_corners c (halves_lists n)) ≡ halves_number c hs
 unfolding halves_lists halves_number before
 listed-place zero c [] a = ap (place_in []) (cond-true (0 == c) ([] ∷ []) [] (eq-eqb 0 c a.corners))
 listed-place zero c (h ∷ hs) a = absurd (omega (arith, a.size))
@@ -457,7 +467,8 @@ shapes_one_to_one = record {
   state_again = λ hs a. ap (halves_at 4 8) (shape_number-halves hs a) ∙ halves_at-number 4 8 hs a;
 }
 
-pub halves_number-order : (n c : ℕ) (hs gs : List ℕ) → AreHalves n c hs → AreHalves n c gs → ComesBefore hs gs → halves_number c hs < halves_number c gs
+pub halves_number-order : (n c : ℕ) (hs gs : List ℕ) → AreHalves n c hs → AreHalves n c gs → ComesBefore hs gs
+    → halves_number c hs < halves_number c gs
 halves_number-order zero c [] gs a b before = absurd before
 halves_number-order zero c (h ∷ hs) gs a b before = absurd (omega (arith, a.size))
 halves_number-order (suc n) c [] gs a b before = absurd before
@@ -487,6 +498,7 @@ halves_number-order (suc n) c (h ∷ hs) (g ∷ gs) a b (inr both) =
       halves_number-order n (c - corner_count g) hs gs hs_again t.others both.1,
     )
 
-pub shape_number-order : (hs gs : List ℕ) → IsShape hs → IsShape gs → ComesBefore hs gs → shape_number hs < shape_number gs
+pub shape_number-order : (hs gs : List ℕ) → IsShape hs → IsShape gs → ComesBefore hs gs
+    → shape_number hs < shape_number gs
 shape_number-order hs gs a b before =
     omega (arith, shape_number-halves hs a, shape_number-halves gs b, halves_number-order 4 8 hs gs a b before)

@@ -1,4 +1,5 @@
--- The thirteen halves are all the ways to fill six units; which half six units are is told by the bits of their corners.
+-- The thirteen halves are all the ways to fill six units; which half six units are is told by the bits of their
+-- corners.
 use Rattle.std.proofs.Common.{◌≡◌, ℕ, zero, suc, ◌<◌, ◌≤◌, Bool, true, false, IsTrue, cond, List, [], ◌∷◌, map, length, take, drop, slice_index, refl, sym, ap, ◌∙◌, arith, eqb-true, eq-eqb}
 use Rattle.std.specs.Prelude.{◌+◌, ◌*◌, ◌&&◌, ◌==◌, nat_lt}
 use Rattle.std.specs.List.{position_or_len}

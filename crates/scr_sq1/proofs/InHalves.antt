@@ -1,5 +1,5 @@
--- The two units of each corner lie in one half, side by side, where they are neighbours and no corner lies across the cut, and the
--- other way round.
+-- The two units of each corner lie in one half, side by side, where they are neighbours and no corner lies across the
+-- cut, and the other way round.
 use Rattle.std.proofs.Common.{◌≡◌, ℕ, zero, suc, ◌+◌, ◌-◌, ◌%◌, ◌<◌, ◌≤◌, ◌⊎◌, inl, inr, Bool, true, false, IsTrue, not, List, [], ◌∷◌, length, slice_index, cond, lit<, lit≤, refl, sym, ap, ◌∙◌, subst, arith, eqb-true, eq-eqb, ltb-true}
 use Rattle.std.specs.Prelude.{◌&&◌, ◌==◌}
 use Rattle.std.proofs.lemmas.Bool.{cases_eq, cases_lt, false≢true, and_parts, and_from, or_cases, or_left, or_right, lt-ltb, le-ltb, ne_eqb, cond-true, cond-false}
@@ -57,10 +57,12 @@ pub not_true : (b : Bool) → IsTrue (not b) → IsTrue b → ⊥
 not_true true h t = false≢true h
 not_true false h t = false≢true t
 
-pub one_corner : (units : List ℕ) (j k : ℕ) → slice_index units j < 8 → slice_index units k ≡ slice_index units j → IsTrue (are_of_one_corner units j k)
+pub one_corner : (units : List ℕ) (j k : ℕ) → slice_index units j < 8 → slice_index units k ≡ slice_index units j
+    → IsTrue (are_of_one_corner units j k)
 one_corner units j k lt e = and_from (is_corner (slice_index units j)) (slice_index units k == slice_index units j) (lt-ltb (slice_index units j) 8 lt) (eq-eqb (slice_index units k) (slice_index units j) e)
 
-pub of_one_corner : (units : List ℕ) (j k : ℕ) → IsTrue (are_of_one_corner units j k) → (slice_index units j < 8) × (slice_index units k ≡ slice_index units j)
+pub of_one_corner : (units : List ℕ) (j k : ℕ) → IsTrue (are_of_one_corner units j k)
+    → (slice_index units j < 8) × (slice_index units k ≡ slice_index units j)
 of_one_corner units j k h =
     let both = and_parts (is_corner (slice_index units j)) (slice_index units k == slice_index units j) h in
     (ltb-true (slice_index units j) 8 both.0, eqb-true (slice_index units k) (slice_index units j) both.1)
@@ -138,7 +140,8 @@ module _ (P : ℕ → Type 0) (d : ℕ) (top_right : P d) (top_left : P (6 + d))
 
 module _ (units : List ℕ) (h : IsPutTogether units) where
   -- no corner goes on across the cut
-  not_behind : (k : ℕ) → k < 24 → k % 6 ≡ 5 → slice_index units k < 8 → slice_index units (next_unit k) ≡ slice_index units k → ⊥
+  not_behind : (k : ℕ) → k < 24 → k % 6 ≡ 5 → slice_index units k < 8
+      → slice_index units (next_unit k) ≡ slice_index units k → ⊥
   not_behind =
       let o = IsOpen-test units h.opened in
       by_half (λ k. slice_index units k < 8 → slice_index units (next_unit k) ≡ slice_index units k → ⊥) 5
@@ -147,7 +150,8 @@ module _ (units : List ℕ) (h : IsPutTogether units) where
       (λ c e. o.bottom_back (one_corner units 17 18 c e))
       (λ c e. o.bottom_front (one_corner units 23 12 c e))
 
-  not_before : (k : ℕ) → k < 24 → k % 6 ≡ 0 → slice_index units k < 8 → slice_index units (previous_unit k) ≡ slice_index units k → ⊥
+  not_before : (k : ℕ) → k < 24 → k % 6 ≡ 0 → slice_index units k < 8
+      → slice_index units (previous_unit k) ≡ slice_index units k → ⊥
   not_before =
       let o = IsOpen-test units h.opened in
       by_half (λ k. slice_index units k < 8 → slice_index units (previous_unit k) ≡ slice_index units k → ⊥) 0
@@ -156,14 +160,16 @@ module _ (units : List ℕ) (h : IsPutTogether units) where
       (λ c e. o.bottom_front (one_corner units 23 12 (omega arith) (sym e)))
       (λ c e. o.bottom_back (one_corner units 17 18 (omega arith) (sym e)))
 
-  behind : (k : ℕ) → k < 24 → slice_index units k < 8 → slice_index units (next_unit k) ≡ slice_index units k → HasPartner units k
+  behind : (k : ℕ) → k < 24 → slice_index units k < 8 → slice_index units (next_unit k) ≡ slice_index units k
+      → HasPartner units k
   behind k lt corner e =
       elim (cases_lt (k % 6) 5) [
         | inl inside ↦ inl (inside, ap (λ i. slice_index units i) (sym (next_unit-inside k lt inside)) ∙ e)
         | inr last ↦ absurd (not_behind k lt (omega arith) corner e)
       ]
 
-  before : (k : ℕ) → k < 24 → slice_index units k < 8 → slice_index units (previous_unit k) ≡ slice_index units k → HasPartner units k
+  before : (k : ℕ) → k < 24 → slice_index units k < 8 → slice_index units (previous_unit k) ≡ slice_index units k
+      → HasPartner units k
   before k lt corner e =
       elim (cases_eq (k % 6) 0) [
         | inl first ↦ absurd (not_before k lt first corner e)
@@ -193,13 +199,14 @@ module _ (units : List ℕ) (h : IsPutTogether units) where
 
 module _ (units : List ℕ) (h : InHalves units) where
   -- no corner fills three units
-  pub no_third : (i j k : ℕ) → i < j → j < k → k < 24 → slice_index units k < 8 → slice_index units i ≡ slice_index units k
-      → slice_index units j ≡ slice_index units k → ⊥
+  pub no_third : (i j k : ℕ) → i < j → j < k → k < 24 → slice_index units k < 8
+      → slice_index units i ≡ slice_index units k → slice_index units j ≡ slice_index units k → ⊥
   no_third i j k a b lt corner d e =
       omega (arith, h.size, occurrences-thrice units i j k a b (omega (arith, h.size)) d e, h.corners (slice_index units k) corner)
 
   -- a corner at the last unit of a half has its other unit before it
-  partner_before : (j : ℕ) → suc j < 24 → 5 ≤ suc j % 6 → slice_index units (suc j) < 8 → slice_index units j ≡ slice_index units (suc j)
+  partner_before : (j : ℕ) → suc j < 24 → 5 ≤ suc j % 6 → slice_index units (suc j) < 8
+      → slice_index units j ≡ slice_index units (suc j)
   partner_before j lt last corner =
       elim (h.partners (suc j) lt corner) [
         | inl p ↦ let inside = p.0 in absurd (omega arith)
@@ -207,7 +214,8 @@ module _ (units : List ℕ) (h : InHalves units) where
       ]
 
   -- so its third unit would lie across the cut
-  apart : (j k : ℕ) → suc j < 24 → 5 ≤ suc j % 6 → k < 24 → (suc j < k) ⊎ (k < j) → IsTrue (are_of_one_corner units (suc j) k) → ⊥
+  apart : (j k : ℕ) → suc j < 24 → 5 ≤ suc j % 6 → k < 24 → (suc j < k) ⊎ (k < j)
+      → IsTrue (are_of_one_corner units (suc j) k) → ⊥
   apart j k lt last low order one =
       let is = of_one_corner units (suc j) k one in
       let first : slice_index units j ≡ slice_index units (suc j) = partner_before j lt last is.0 in
@@ -296,7 +304,8 @@ module _ (s : Sq1State) (h : IsSq1 s) where
     partners = valid_partner;
   }
 
-pub IsSq1-halves : (units : List ℕ) → InHalves units → (equator : Bool) → IsSq1 (record { units = units; equator = equator })
+pub IsSq1-halves : (units : List ℕ) → InHalves units → (equator : Bool)
+    → IsSq1 (record { units = units; equator = equator })
 IsSq1-halves units h equator = record {
   size = h.size;
   pieces = (IsPutTogether-halves units h).pieces;
@@ -313,7 +322,8 @@ IsSq1-halves units h equator = record {
 pub IsPutTogether-valid : (s : Sq1State) → IsSq1 s → IsPutTogether s.units
 IsPutTogether-valid s h = IsPutTogether-halves s.units (InHalves-valid s h)
 
-pub IsSq1-together : (units : List ℕ) (equator : Bool) → IsPutTogether units → IsSq1 (record { units = units; equator = equator })
+pub IsSq1-together : (units : List ℕ) (equator : Bool) → IsPutTogether units
+    → IsSq1 (record { units = units; equator = equator })
 IsSq1-together units equator h = IsSq1-halves units (InHalves-together units h) equator
 
 -- no corner of a valid state lies across the cut

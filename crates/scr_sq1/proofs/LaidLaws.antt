@@ -49,7 +49,8 @@ length-laid =
     by_pieces (λ w cs es. length (laid w cs es) ≡ units_among w) refl
     (λ w c cs es f h. omega (arith, h)) (λ w e cs es f h. omega (arith, h))
 
-pub laid-append : (v w : List Bool) (cs ds es fs : List ℕ) → Fits v cs es → laid (v ++ w) (cs ++ ds) (es ++ fs) ≡ laid v cs es ++ laid w ds fs
+pub laid-append : (v w : List Bool) (cs ds es fs : List ℕ) → Fits v cs es
+    → laid (v ++ w) (cs ++ ds) (es ++ fs) ≡ laid v cs es ++ laid w ds fs
 laid-append v w cs ds es fs =
     by_pieces (λ v cs es. laid (v ++ w) (cs ++ ds) (es ++ fs) ≡ laid v cs es ++ laid w ds fs) refl
     (λ v c cs es f h. ap (λ us. c ∷ c ∷ us) h) (λ v e cs es f h. ap (λ us. (8 + e) ∷ us) h) v cs es
@@ -104,7 +105,8 @@ pick-even xs size =
     (eqb-true (slice_index even_places k) (2 * k) (at_below (λ k. slice_index even_places k == 2 * k) 8 k even_tested lt))
     ∙ sym (every_second-at xs k))
 
-pub corners_of-sixteen : (units : List ℕ) → length (filter is_corner units) ≡ 16 → corners_of units ≡ every_second (filter is_corner units)
+pub corners_of-sixteen : (units : List ℕ) → length (filter is_corner units) ≡ 16
+    → corners_of units ≡ every_second (filter is_corner units)
 unfolding corners_of
 corners_of-sixteen units size = pick-even (filter is_corner units) size
 
@@ -123,7 +125,8 @@ length-corner_units =
     let rest : List ℕ = filter is_corner (laid w cs es) in
     ap length (cond-false (is_corner (8 + e)) ((8 + e) ∷ rest) rest (edge_is e)) ∙ h low)
 
-pub filter-corners : (w : List Bool) (cs es : List ℕ) → Fits w cs es → All (λ c. c < 8) cs → every_second (filter is_corner (laid w cs es)) ≡ cs
+pub filter-corners : (w : List Bool) (cs es : List ℕ) → Fits w cs es → All (λ c. c < 8) cs
+    → every_second (filter is_corner (laid w cs es)) ≡ cs
 filter-corners =
     by_pieces (λ w cs es. All (λ c. c < 8) cs → every_second (filter is_corner (laid w cs es)) ≡ cs) (λ low. refl)
     (λ w c cs es f h low.
@@ -150,7 +153,8 @@ filter-edges =
     ap (map (λ piece. piece - 8)) (cond-true (not (is_corner (8 + e))) ((8 + e) ∷ rest) rest (ap not (edge_is e)))
     ∙ ap (λ x. x ∷ map (λ piece. piece - 8) rest) (add-sub_cancel_left 8 e) ∙ ap (λ us. e ∷ us) (h low))
 
-pub corners_of-laid : (w : List Bool) (cs es : List ℕ) → Fits w cs es → All (λ c. c < 8) cs → length cs ≡ 8 → corners_of (laid w cs es) ≡ cs
+pub corners_of-laid : (w : List Bool) (cs es : List ℕ) → Fits w cs es → All (λ c. c < 8) cs → length cs ≡ 8
+    → corners_of (laid w cs es) ≡ cs
 corners_of-laid w cs es f low eight =
     corners_of-sixteen (laid w cs es) (omega (arith, length-corner_units w cs es f low, eight)) ∙ filter-corners w cs es f low
 
@@ -158,7 +162,8 @@ pub edges_of-laid : (w : List Bool) (cs es : List ℕ) → Fits w cs es → All 
 unfolding edges_of
 edges_of-laid = filter-edges
 
-pub corner_bits-laid : (w : List Bool) (cs es : List ℕ) → Fits w cs es → All (λ c. c < 8) cs → corner_bits (laid w cs es) ≡ word_bits w
+pub corner_bits-laid : (w : List Bool) (cs es : List ℕ) → Fits w cs es → All (λ c. c < 8) cs
+    → corner_bits (laid w cs es) ≡ word_bits w
 corner_bits-laid =
     by_pieces (λ w cs es. All (λ c. c < 8) cs → corner_bits (laid w cs es) ≡ word_bits w) (λ low. refl)
     (λ w c cs es f h low.
@@ -181,15 +186,16 @@ FillsNext-later : (u : ℕ) (us : List ℕ) (i : ℕ) → FillsNext us i → Fil
 FillsNext-later u us i (inl p) = inl (omega (arith, p.0), p.1)
 FillsNext-later u us i (inr p) = inr (suc p.0, ap suc p.1, p.2)
 
-pub FillsNext-laid : (w : List Bool) (cs es : List ℕ) → Fits w cs es → (i : ℕ) → i < length (laid w cs es) → slice_index (laid w cs es) i < 8
-    → FillsNext (laid w cs es) i
+pub FillsNext-laid : (w : List Bool) (cs es : List ℕ) → Fits w cs es → (i : ℕ) → i < length (laid w cs es)
+    → slice_index (laid w cs es) i < 8 → FillsNext (laid w cs es) i
 FillsNext-laid =
     by_pieces (λ w cs es. (i : ℕ) → i < length (laid w cs es) → slice_index (laid w cs es) i < 8 → FillsNext (laid w cs es) i)
     (λ i lt corner. absurd (omega arith)) behind_corner behind_edge
   where
     behind_corner : (w : List Bool) (c : ℕ) (cs es : List ℕ) → Fits w cs es
         → ((i : ℕ) → i < length (laid w cs es) → slice_index (laid w cs es) i < 8 → FillsNext (laid w cs es) i)
-        → (i : ℕ) → i < length (laid (true ∷ w) (c ∷ cs) es) → slice_index (laid (true ∷ w) (c ∷ cs) es) i < 8 → FillsNext (laid (true ∷ w) (c ∷ cs) es) i
+        → (i : ℕ) → i < length (laid (true ∷ w) (c ∷ cs) es) → slice_index (laid (true ∷ w) (c ∷ cs) es) i < 8
+        → FillsNext (laid (true ∷ w) (c ∷ cs) es) i
     behind_corner w c cs es f h zero lt corner = inl (omega arith, refl)
     behind_corner w c cs es f h (suc zero) lt corner = inr (0, refl, refl)
     behind_corner w c cs es f h (suc (suc i)) lt corner =
@@ -197,7 +203,8 @@ FillsNext-laid =
 
     behind_edge : (w : List Bool) (e : ℕ) (cs es : List ℕ) → Fits w cs es
         → ((i : ℕ) → i < length (laid w cs es) → slice_index (laid w cs es) i < 8 → FillsNext (laid w cs es) i)
-        → (i : ℕ) → i < length (laid (false ∷ w) cs (e ∷ es)) → slice_index (laid (false ∷ w) cs (e ∷ es)) i < 8 → FillsNext (laid (false ∷ w) cs (e ∷ es)) i
+        → (i : ℕ) → i < length (laid (false ∷ w) cs (e ∷ es)) → slice_index (laid (false ∷ w) cs (e ∷ es)) i < 8
+        → FillsNext (laid (false ∷ w) cs (e ∷ es)) i
     behind_edge w e cs es f h zero lt corner = absurd (omega arith)
     behind_edge w e cs es f h (suc i) lt corner = FillsNext-later (8 + e) (laid w cs es) i (h i (omega arith) corner)
 

@@ -40,19 +40,23 @@ pub record IsAfterLayers (s r : Sq1State) (x y : ℤ) : Type 0 where
   pub is : r ≡ turned s x y
   pub opened : IsTrue (is_open (turned s x y).units)
 
-some_of : {A : Type 0} (b : Bool) (x y : A) → (let o : Option A = cond b (Some x) None in o ≡ Some y) → IsTrue b × (y ≡ x)
+some_of : {A : Type 0} (b : Bool) (x y : A) → (let o : Option A = cond b (Some x) None in o ≡ Some y)
+    → IsTrue b × (y ≡ x)
 some_of true x y e = (refl, cc)
 some_of false x y e = absurd (cc)
 
-of_true : {A : Type 0} (b : Bool) (o : Option A) (y : A) → (let p : Option A = cond b o None in p ≡ Some y) → IsTrue b × (o ≡ Some y)
+of_true : {A : Type 0} (b : Bool) (o : Option A) (y : A) → (let p : Option A = cond b o None in p ≡ Some y)
+    → IsTrue b × (o ≡ Some y)
 of_true true o y e = (refl, e)
 of_true false o y e = absurd (cc)
 
-pub after_layers-some : (s r : Sq1State) (x y : ℤ) → after_layers s x y ≡ Some r → IsTrue (is_open (turned s x y).units) × (r ≡ turned s x y)
+pub after_layers-some : (s r : Sq1State) (x y : ℤ) → after_layers s x y ≡ Some r
+    → IsTrue (is_open (turned s x y).units) × (r ≡ turned s x y)
 unfolding after_layers
 after_layers-some s r x y e = some_of (is_open (turned s x y).units) (turned s x y) r e
 
-pub after_layers-open : (s : Sq1State) (x y : ℤ) → IsTrue (is_open (turned s x y).units) → after_layers s x y ≡ Some (turned s x y)
+pub after_layers-open : (s : Sq1State) (x y : ℤ) → IsTrue (is_open (turned s x y).units)
+    → after_layers s x y ≡ Some (turned s x y)
 unfolding after_layers
 after_layers-open s x y opened = cond-true (is_open (turned s x y).units) _ _ opened
 
@@ -67,8 +71,8 @@ sq1_after-layers s r x y e =
     let inner = after_layers-some s r x y outer.1 in
     record { letter = outer.0; is = inner.1; opened = inner.0 }
 
-pub sq1_after-by_layers : (s : Sq1State) (x y : ℤ) → IsTrue (is_layer_turn (Layers x y)) → IsTrue (is_open (turned s x y).units)
-    → sq1_after s (Layers x y) ≡ Some (turned s x y)
+pub sq1_after-by_layers : (s : Sq1State) (x y : ℤ) → IsTrue (is_layer_turn (Layers x y))
+    → IsTrue (is_open (turned s x y).units) → sq1_after s (Layers x y) ≡ Some (turned s x y)
 unfolding sq1_after
 sq1_after-by_layers s x y letter opened = cond-true (is_layer_turn (Layers x y)) _ _ letter ∙ after_layers-open s x y opened
 
@@ -77,7 +81,8 @@ unfolding sq1_after
 sq1_after-twist s r e = cc
 
 -- the units of a state that is turned
-pub units_turned : (s : Sq1State) (x y : ℤ) (n m : ℕ) (units : List ℕ) → n ≡ clockwise x → m ≡ clockwise y → units ≡ pick s.units (turn_places n m)
+pub units_turned : (s : Sq1State) (x y : ℤ) (n m : ℕ) (units : List ℕ) → n ≡ clockwise x → m ≡ clockwise y
+    → units ≡ pick s.units (turn_places n m)
     → (let r : Sq1State = record { units = units; equator = s.equator } in r ≡ turned s x y)
 unfolding turned
 units_turned s x y n m units e f is =
@@ -91,7 +96,8 @@ IsSq1-turned s x y h opened =
 
 -- ---- turns one after another
 
-same_units : (us vs : List ℕ) (b : Bool) → us ≡ vs → (let s : Sq1State = record { units = us; equator = b } in let r : Sq1State = record { units = vs; equator = b } in s ≡ r)
+same_units : (us vs : List ℕ) (b : Bool) → us ≡ vs
+    → (let s : Sq1State = record { units = us; equator = b } in let r : Sq1State = record { units = vs; equator = b } in s ≡ r)
 same_units us vs b e = ap (λ zs. let s : Sq1State = record { units = zs; equator = b } in s) e
 
 pub pick_nothing : (units : List ℕ) → length units ≡ 24 → pick units (numbers_from 0 24) ≡ units
@@ -134,7 +140,8 @@ turned-sum s x y z w =
     ∙ ap (λ m. turned_by s (clockwise (twelfths (x +ℤ z))) m) (sym (clockwise-twelfths (y +ℤ w) ∙ clockwise-sum y w))
 
 -- and back
-turned-back : (s : Sq1State) (x y : ℤ) → length s.units ≡ 24 → turned (turned s x y) (twelfths (neg_ℤ x)) (twelfths (neg_ℤ y)) ≡ s
+turned-back : (s : Sq1State) (x y : ℤ) → length s.units ≡ 24
+    → turned (turned s x y) (twelfths (neg_ℤ x)) (twelfths (neg_ℤ y)) ≡ s
 turned-back s x y size =
     turned-both s x y (twelfths (neg_ℤ x)) (twelfths (neg_ℤ y)) ∙ turned_by-none s _ _ size (clockwise-back x) (clockwise-back y)
 
@@ -174,8 +181,9 @@ undoes s r Twist h e = ap (λ q. Some (twisted q)) (sq1_after-twist s r e) ∙ a
 undoes s r _ h e = absurd (cc)
 
 -- what is left of two turns of the layers: one, or nothing
-layers_merge : (s q : Sq1State) (x y : ℤ) (b : Bool) → are_still x y ≡ b → IsTwelfths x → IsTwelfths y → IsSq1 s → IsTrue (is_open q.units)
-    → q ≡ turned s x y → play sq1_after s (word_of (cond b None (Some (Layers x y)))) ≡ Some q
+layers_merge : (s q : Sq1State) (x y : ℤ) (b : Bool) → are_still x y ≡ b → IsTwelfths x → IsTwelfths y → IsSq1 s
+    → IsTrue (is_open q.units) → q ≡ turned s x y
+    → play sq1_after s (word_of (cond b None (Some (Layers x y)))) ≡ Some q
 unfolding word_of
 layers_merge s q x y true still tx ty h opened is =
     play-empty sq1_after s ∙ ap Some (sym (is ∙ turned-still s x y h.size (are_still-first x y still) (are_still-second x y still)))
@@ -184,8 +192,8 @@ layers_merge s q x y false some tx ty h opened is =
     ∙ sq1_after-by_layers s x y (layers_of_parts x y (record { top_within = tx; bottom_within = ty; some = some })) (ap (λ r. is_open r.units) (sym is) ∙ opened)
     ∙ ap Some (sym is)
 
-merges : (s r q : Sq1State) (t u : Turn) → IsSq1 s → IsTrue (turn_merging.alike t u) → sq1_after s t ≡ Some r → sq1_after r u ≡ Some q
-    → play sq1_after s (word_of (turn_merging.merged t u)) ≡ Some q
+merges : (s r q : Sq1State) (t u : Turn) → IsSq1 s → IsTrue (turn_merging.alike t u) → sq1_after s t ≡ Some r
+    → sq1_after r u ≡ Some q → play sq1_after s (word_of (turn_merging.merged t u)) ≡ Some q
 unfolding sq1_after word_of
 merges s r q (Layers x y) (Layers z w) h alike e f =
     let a = sq1_after-layers s r x y e in

@@ -1,5 +1,5 @@
--- A turn of both layers is one of the top, and then one of the bottom: whether a corner comes across the cut in a layer is told by
--- how far that layer is turned.
+-- A turn of both layers is one of the top, and then one of the bottom: whether a corner comes across the cut in a layer
+-- is told by how far that layer is turned.
 use Rattle.std.proofs.Common.{◌≡◌, ℕ, ◌<◌, Bool, true, false, cond, List, slice_index, Option, Some, None, sym, ap, ◌∙◌, arith, lit<}
 use Rattle.std.specs.Prelude.{◌&&◌, not, ◌==◌, ℤ, pos, option_and_then}
 use Rattle.scr_combinatorics.specs.Lists.{pick}
@@ -11,7 +11,8 @@ use Rattle.scr_sq1.proofs.InHalves.{is_open-layers, is_open-valid}
 
 -- ---- what comes across the cut
 
-unit-turned : (units : List ℕ) (n m k : ℕ) → k < 24 → slice_index (pick units (turn_places n m)) k ≡ slice_index units (place_before n m k)
+unit-turned : (units : List ℕ) (n m k : ℕ) → k < 24
+    → slice_index (pick units (turn_places n m)) k ≡ slice_index units (place_before n m k)
 unfolding turn_places
 unit-turned units n m k lt =
     pick-at units (turn_places n m) k (omega (arith, lt, length-places_by (place_before n m)))
@@ -34,7 +35,8 @@ bottom_open units m =
     not (are_of_one_corner units (place_before 0 m 23) (place_before 0 m 12))
     && not (are_of_one_corner units (place_before 0 m 17) (place_before 0 m 18))
 
-is_open-turned : (units : List ℕ) (n m : ℕ) → is_open (pick units (turn_places n m)) ≡ (top_open units n && bottom_open units m)
+is_open-turned : (units : List ℕ) (n m : ℕ)
+    → is_open (pick units (turn_places n m)) ≡ (top_open units n && bottom_open units m)
 is_open-turned units n m =
     let us : List ℕ = pick units (turn_places n m) in
     let one = of_one_corner-turned units n m in
@@ -57,8 +59,8 @@ bottom_open-here : (s : Sq1State) → IsSq1 s → bottom_open s.units 0 ≡ true
 bottom_open-here s h = both_true (top_open s.units 0) (bottom_open s.units 0) (sym (is_open-layers s.units) ∙ is_open-valid s h)
 
 -- a test of both layers, and one of the top before one of both
-two_tests : {S : Type 0} (t b : Bool) (after : S → Option S) (r q : S) (first whole : Bool) → first ≡ (t && true) → whole ≡ (t && b)
-    → after r ≡ (let o : Option S = cond whole (Some q) None in o)
+two_tests : {S : Type 0} (t b : Bool) (after : S → Option S) (r q : S) (first whole : Bool) → first ≡ (t && true)
+    → whole ≡ (t && b) → after r ≡ (let o : Option S = cond whole (Some q) None in o)
     → (let o : Option S = cond whole (Some q) None in o) ≡ option_and_then after (cond first (Some r) None)
 two_tests {S = S} true b after r q first whole e f g = sym g ∙ ap (λ x. option_and_then after (cond x (Some r) None)) (sym e)
 two_tests {S = S} false b after r q first whole e f g =

@@ -17,7 +17,8 @@ turned-at s x y k lt =
     pick-at s.units (turn_places (clockwise x) (clockwise y)) k (omega (arith, length-places_by place))
     ∙ ap (λ i. slice_index s.units i) (places_by-at place k lt)
 
-twisted-at : (s : Sq1State) (k : ℕ) → k < 24 → slice_index (twisted s).units k ≡ slice_index s.units (place_before_twist k)
+twisted-at : (s : Sq1State) (k : ℕ) → k < 24
+    → slice_index (twisted s).units k ≡ slice_index s.units (place_before_twist k)
 unfolding twisted
 twisted-at s k lt =
     pick-at s.units twist_places k (omega (arith, IsPermutation-twist_places.size))

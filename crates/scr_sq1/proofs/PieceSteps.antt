@@ -37,8 +37,9 @@ IsKnownWord-below h lt =
 -- ---- a half behind the pieces of a word
 
 -- one piece more
-pub piece_more : (h from piece : ℕ) (before word : List Bool) (x : Bool) → h < 13 → piece < length (half_word h) → from + piece < length word
-    → x ≡ get_or (get_or HALVES h []) piece false → take (from + piece) word ≡ take from before ++ take piece (half_word h)
+pub piece_more : (h from piece : ℕ) (before word : List Bool) (x : Bool) → h < 13 → piece < length (half_word h)
+    → from + piece < length word → x ≡ get_or (get_or HALVES h []) piece false
+    → take (from + piece) word ≡ take from before ++ take piece (half_word h)
     → take (from + (piece + 1)) (set word (from + piece) x) ≡ take from before ++ take (piece + 1) (half_word h)
 piece_more h from piece before word x low inside room e made =
     let w = half_word h in
@@ -65,7 +66,8 @@ length-shape_word hs shape =
     omega (arith, length_word (shape_word hs), counted.corners, counted.units, shape.corners, shape.size)
 
 -- the word of the halves from a place on
-pub shape_word-drop : (hs : List ℕ) (i : ℕ) → i < length hs → shape_word (drop i hs) ≡ half_word (slice_index hs i) ++ shape_word (drop (i + 1) hs)
+pub shape_word-drop : (hs : List ℕ) (i : ℕ) → i < length hs
+    → shape_word (drop i hs) ≡ half_word (slice_index hs i) ++ shape_word (drop (i + 1) hs)
 shape_word-drop hs i lt = at_drop_more shape_word hs i 0 lt ∙ shape_word-cons (slice_index hs i) (drop (i + 1) hs)
 
 -- so many pieces are put into the word
@@ -91,8 +93,9 @@ put_room i pieces word hs shape lt p =
       length-append w (shape_word (drop (i + 1) hs)),
     )
 
-pub put_more : (i pieces next : ℕ) (word more : List Bool) (hs : List ℕ) → IsShape hs → i < 4 → PutHalves i pieces word hs
-    → next ≡ pieces + length (half_word (slice_index hs i)) → take next more ≡ take pieces word ++ half_word (slice_index hs i) → length more ≡ 16
+pub put_more : (i pieces next : ℕ) (word more : List Bool) (hs : List ℕ) → IsShape hs → i < 4
+    → PutHalves i pieces word hs → next ≡ pieces + length (half_word (slice_index hs i))
+    → take next more ≡ take pieces word ++ half_word (slice_index hs i) → length more ≡ 16
     → PutHalves (i + 1) next more hs
 put_more i pieces next word more hs shape lt p en ew size =
     let w = half_word (slice_index hs i) in
@@ -104,7 +107,8 @@ put_more i pieces next word more hs shape lt p en ew size =
           ∙ ap (λ xs. take pieces word ++ xs) (sym (shape_word-drop hs i (omega (arith, shape.size)))) ∙ p.made;
     }
 
-pub put_end : (i pieces : ℕ) (word : List Bool) (hs : List ℕ) → IsShape hs → 4 ≤ i → PutHalves i pieces word hs → word ≡ shape_word hs
+pub put_end : (i pieces : ℕ) (word : List Bool) (hs : List ℕ) → IsShape hs → 4 ≤ i → PutHalves i pieces word hs
+    → word ≡ shape_word hs
 unfolding shape_word
 put_end i pieces word hs shape le p =
     let none : shape_word (drop i hs) ≡ [] = ap shape_word (drop_all i hs (omega (arith, shape.size))) in
@@ -143,8 +147,8 @@ pub edges_start : (units edges : List ℕ) → length edges ≡ 8 → ReadEdges 
 edges_start units edges size = record { size = size; few = omega arith; read = refl }
 
 -- there is room for an edge
-pub edges_room : (i found : ℕ) (edges units : List ℕ) → length (edges_of units) ≡ 8 → i < length units → 8 ≤ slice_index units i → ReadEdges i found edges units
-    → found < 8
+pub edges_room : (i found : ℕ) (edges units : List ℕ) → length (edges_of units) ≡ 8 → i < length units
+    → 8 ≤ slice_index units i → ReadEdges i found edges units → found < 8
 edges_room i found edges units eight lt edge r =
     omega (
       arith,
@@ -155,7 +159,8 @@ edges_room i found edges units eight lt edge r =
       ap length (at_drop_more edges_of units i 0 lt ∙ edges_of-edge (slice_index units i) (drop (i + 1) units) edge),
     )
 
-pub edges_more : (i found : ℕ) (edges units : List ℕ) → length (edges_of units) ≡ 8 → i < length units → 8 ≤ slice_index units i → ReadEdges i found edges units
+pub edges_more : (i found : ℕ) (edges units : List ℕ) → length (edges_of units) ≡ 8 → i < length units
+    → 8 ≤ slice_index units i → ReadEdges i found edges units
     → ReadEdges (i + 1) (found + 1) (set edges found (slice_index units i - 8)) units
 edges_more i found edges units eight lt edge r =
     let u : ℕ = slice_index units i in
@@ -169,14 +174,16 @@ edges_more i found edges units eight lt edge r =
           ∙ r.read;
     }
 
-pub edges_same : (i found : ℕ) (edges units : List ℕ) → i < length units → slice_index units i < 8 → ReadEdges i found edges units → ReadEdges (i + 1) found edges units
+pub edges_same : (i found : ℕ) (edges units : List ℕ) → i < length units → slice_index units i < 8
+    → ReadEdges i found edges units → ReadEdges (i + 1) found edges units
 edges_same i found edges units lt corner r = record {
   size = r.size;
   few = r.few;
   read = ap (λ xs. take found edges ++ xs) (sym (at_drop_more edges_of units i 0 lt ∙ edges_of-corner (slice_index units i) (drop (i + 1) units) corner)) ∙ r.read;
 }
 
-pub edges_end : (i found : ℕ) (edges units : List ℕ) → length (edges_of units) ≡ 8 → length units ≤ i → ReadEdges i found edges units → edges ≡ edges_of units
+pub edges_end : (i found : ℕ) (edges units : List ℕ) → length (edges_of units) ≡ 8 → length units ≤ i
+    → ReadEdges i found edges units → edges ≡ edges_of units
 unfolding edges_of
 edges_end i found edges units eight le r =
     let none : edges_of (drop i units) ≡ [] = ap edges_of (drop_all i units le) in
@@ -206,8 +213,8 @@ first_unit i units lt corner =
     ∙ ap every_second (filter_corner u (drop (i + 1) units) corner)
     ∙ every_second-cons u (filter is_corner (drop (i + 1) units))
 
-pub corners_room : (i found : ℕ) (corners units : List ℕ) → length (filter is_corner units) ≡ 16 → i < length units → slice_index units i < 8
-    → ReadCorners i found false corners units → found < 8
+pub corners_room : (i found : ℕ) (corners units : List ℕ) → length (filter is_corner units) ≡ 16 → i < length units
+    → slice_index units i < 8 → ReadCorners i found false corners units → found < 8
 corners_room i found corners units sixteen lt corner r =
     omega (
       arith,
@@ -218,8 +225,9 @@ corners_room i found corners units sixteen lt corner r =
       ap length (first_unit i units lt corner),
     )
 
-pub corners_first : (i found : ℕ) (corners units : List ℕ) → length (filter is_corner units) ≡ 16 → i < length units → slice_index units i < 8
-    → ReadCorners i found false corners units → ReadCorners (i + 1) (found + 1) true (set corners found (slice_index units i)) units
+pub corners_first : (i found : ℕ) (corners units : List ℕ) → length (filter is_corner units) ≡ 16 → i < length units
+    → slice_index units i < 8 → ReadCorners i found false corners units
+    → ReadCorners (i + 1) (found + 1) true (set corners found (slice_index units i)) units
 corners_first i found corners units sixteen lt corner r =
     let u : ℕ = slice_index units i in
     let rest : List ℕ = every_second (drop 1 (filter is_corner (drop (i + 1) units))) in
@@ -261,8 +269,8 @@ nothing_left : (second : Bool) → every_second (drop (cond second 1 0) (filter 
 nothing_left true = refl
 nothing_left false = refl
 
-pub corners_end : (i found : ℕ) (second : Bool) (corners units : List ℕ) → length (filter is_corner units) ≡ 16 → length units ≤ i
-    → ReadCorners i found second corners units → corners ≡ corners_of units
+pub corners_end : (i found : ℕ) (second : Bool) (corners units : List ℕ) → length (filter is_corner units) ≡ 16
+    → length units ≤ i → ReadCorners i found second corners units → corners ≡ corners_of units
 corners_end i found second corners units sixteen le r =
     let none : every_second (drop (cond second 1 0) (filter is_corner (drop i units))) ≡ [] =
     ap (λ us. every_second (drop (cond second 1 0) (filter is_corner us))) (drop_all i units le) ∙ nothing_left second in
@@ -272,29 +280,33 @@ corners_end i found second corners units sixteen le r =
 
 -- ---- what the code's branches come to
 
-pub corners_as : (i found found' : ℕ) (second second' : Bool) (corners corners' units : List ℕ) → found' ≡ found → second' ≡ second → corners' ≡ corners
-    → ReadCorners i found second corners units → ReadCorners i found' second' corners' units
+pub corners_as : (i found found' : ℕ) (second second' : Bool) (corners corners' units : List ℕ) → found' ≡ found
+    → second' ≡ second → corners' ≡ corners → ReadCorners i found second corners units
+    → ReadCorners i found' second' corners' units
 corners_as i found found' second second' corners corners' units ef es ec r =
     subst (λ n. ReadCorners i n second' corners' units) (sym ef)
     (subst (λ b. ReadCorners i found b corners' units) (sym es) (subst (λ cs. ReadCorners i found second cs units) (sym ec) r))
 
-pub corners_room_at : (i found : ℕ) (second : Bool) (corners units : List ℕ) → length (filter is_corner units) ≡ 16 → i < length units → slice_index units i < 8
-    → second ≡ false → ReadCorners i found second corners units → found < 8
+pub corners_room_at : (i found : ℕ) (second : Bool) (corners units : List ℕ) → length (filter is_corner units) ≡ 16
+    → i < length units → slice_index units i < 8 → second ≡ false → ReadCorners i found second corners units → found < 8
 corners_room_at i found second corners units eight lt corner e r =
     corners_room i found corners units eight lt corner (subst (λ b. ReadCorners i found b corners units) e r)
 
-pub corners_first_at : (i found : ℕ) (second : Bool) (corners units : List ℕ) → length (filter is_corner units) ≡ 16 → i < length units → slice_index units i < 8
-    → second ≡ false → ReadCorners i found second corners units → ReadCorners (i + 1) (found + 1) (not second) (set corners found (slice_index units i)) units
+pub corners_first_at : (i found : ℕ) (second : Bool) (corners units : List ℕ) → length (filter is_corner units) ≡ 16
+    → i < length units → slice_index units i < 8 → second ≡ false → ReadCorners i found second corners units
+    → ReadCorners (i + 1) (found + 1) (not second) (set corners found (slice_index units i)) units
 corners_first_at i found second corners units eight lt corner e r =
     subst (λ b. ReadCorners (i + 1) (found + 1) b (set corners found (slice_index units i)) units) (sym (ap not e))
     (corners_first i found corners units eight lt corner (subst (λ b. ReadCorners i found b corners units) e r))
 
-pub corners_second_at : (i found : ℕ) (second : Bool) (corners units : List ℕ) → i < length units → slice_index units i < 8
-    → second ≡ true → ReadCorners i found second corners units → ReadCorners (i + 1) found (not second) corners units
+pub corners_second_at : (i found : ℕ) (second : Bool) (corners units : List ℕ) → i < length units
+    → slice_index units i < 8 → second ≡ true → ReadCorners i found second corners units
+    → ReadCorners (i + 1) found (not second) corners units
 corners_second_at i found second corners units lt corner e r =
     subst (λ b. ReadCorners (i + 1) found b corners units) (sym (ap not e))
     (corners_second i found corners units lt corner (subst (λ b. ReadCorners i found b corners units) e r))
 
-pub edges_as : (i found found' : ℕ) (edges edges' units : List ℕ) → found' ≡ found → edges' ≡ edges → ReadEdges i found edges units → ReadEdges i found' edges' units
+pub edges_as : (i found found' : ℕ) (edges edges' units : List ℕ) → found' ≡ found → edges' ≡ edges
+    → ReadEdges i found edges units → ReadEdges i found' edges' units
 edges_as i found found' edges edges' units ef ee r =
     subst (λ n. ReadEdges i n edges' units) (sym ef) (subst (λ es. ReadEdges i found es units) (sym ee) r)

@@ -27,12 +27,14 @@ same_places f g same =
     ext_get_or 0 (places_by f) (places_by g) refl (λ k lt. places_by-at f k lt ∙ same k lt ∙ sym (places_by-at g k lt))
 
 -- a list that has at each unit what the function says
-pub places_by_units : (place : ℕ → ℕ) (out : List ℕ) → length out ≡ 24 → ((k : ℕ) → k < 24 → slice_index out k ≡ place k) → out ≡ places_by place
+pub places_by_units : (place : ℕ → ℕ) (out : List ℕ) → length out ≡ 24
+    → ((k : ℕ) → k < 24 → slice_index out k ≡ place k) → out ≡ places_by place
 places_by_units place out size filled =
     ext_get_or 0 out (places_by place) size (λ k lt. filled k (omega arith) ∙ sym (places_by-at place k (omega arith)))
 
 -- one after the other
-pub pick-places_by : (f g : ℕ → ℕ) → ((k : ℕ) → k < 24 → g k < 24) → pick (places_by f) (places_by g) ≡ places_by (λ k. f (g k))
+pub pick-places_by : (f g : ℕ → ℕ) → ((k : ℕ) → k < 24 → g k < 24)
+    → pick (places_by f) (places_by g) ≡ places_by (λ k. f (g k))
 pick-places_by f g below =
     ext_get_or 0 (pick (places_by f) (places_by g)) (places_by (λ k. f (g k))) refl (λ k lt.
     pick-at (places_by f) (places_by g) k lt
@@ -99,8 +101,10 @@ turn_tables = refl
 
 pub record IsTurnTable (n m : ℕ) : Type 0 where
   pub permutation : IsPermutation 24 (turn_places n m)
-  pub next : (k : ℕ) → k < 24 → slice_index (turn_places n m) (next_unit k) ≡ next_unit (slice_index (turn_places n m) k)
-  pub previous : (k : ℕ) → k < 24 → slice_index (turn_places n m) (previous_unit k) ≡ previous_unit (slice_index (turn_places n m) k)
+  pub next : (k : ℕ) → k < 24
+      → slice_index (turn_places n m) (next_unit k) ≡ next_unit (slice_index (turn_places n m) k)
+  pub previous : (k : ℕ) → k < 24
+      → slice_index (turn_places n m) (previous_unit k) ≡ previous_unit (slice_index (turn_places n m) k)
 
 -- a unit's neighbours are units
 next_units : IsTrue (all_below (λ i. nat_lt (next_unit i) 24) 24)

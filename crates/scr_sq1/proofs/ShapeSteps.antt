@@ -40,7 +40,8 @@ half_tables : IsTrue (all_below (λ b. get_or HALF_OF_BITS b 0 == place_of b hal
 unfolding all_below half_words half_bits
 half_tables = refl
 
-pub half_table : (units : List ℕ) (b : ℕ) → length units ≡ 6 → b ≡ corner_bits units → b < 64 → get_or HALF_OF_BITS b 0 ≡ half_of units
+pub half_table : (units : List ℕ) (b : ℕ) → length units ≡ 6 → b ≡ corner_bits units → b < 64
+    → get_or HALF_OF_BITS b 0 ≡ half_of units
 half_table units b six e lt =
     eqb-true (get_or HALF_OF_BITS b 0) (place_of b half_bits) (at_below (λ b. get_or HALF_OF_BITS b 0 == place_of b half_bits) 64 b half_tables lt)
     ∙ ap (λ i. place_of i half_bits) e ∙ sym (half_of-bits units six)
@@ -63,11 +64,13 @@ pub run_of-next : (f : ℕ → ℕ) (ks : List ℕ) (i r : ℕ) → i < length k
 run_of-next f ks i r lt le =
     at_drop_more (λ xs. run_of f xs r) ks i 0 lt ∙ run_of-later f (slice_index ks i) (drop (i + 1) ks) r le
 
-pub run_of-found : (f : ℕ → ℕ) (ks : List ℕ) (i r : ℕ) → i < length ks → r < f (slice_index ks i) → (let p : ℕ × ℕ = (0, r) in run_of f (drop i ks) r ≡ p)
+pub run_of-found : (f : ℕ → ℕ) (ks : List ℕ) (i r : ℕ) → i < length ks → r < f (slice_index ks i)
+    → (let p : ℕ × ℕ = (0, r) in run_of f (drop i ks) r ≡ p)
 run_of-found f ks i r lt less =
     at_drop_more (λ xs. run_of f xs r) ks i 0 lt ∙ run_of-here f (slice_index ks i) (drop (i + 1) ks) r less
 
-pub run_of-end : (f : ℕ → ℕ) (ks : List ℕ) (i r : ℕ) → length ks ≤ i → (let p : ℕ × ℕ = (0, r) in run_of f (drop i ks) r ≡ p)
+pub run_of-end : (f : ℕ → ℕ) (ks : List ℕ) (i r : ℕ) → length ks ≤ i
+    → (let p : ℕ × ℕ = (0, r) in run_of f (drop i ks) r ≡ p)
 run_of-end f ks i r le = at_drop_all (λ xs. run_of f xs r) ks i le
 
 -- ---- the number of a shape, half by half
@@ -88,8 +91,8 @@ pub record CountedStep (n corners number h : ℕ) (others hs : List ℕ) : Type 
   pub small : number + numbers_before n corners h < 3678
   pub next : CountedHalves n (corners - corner_count h) (number + numbers_before n corners h) others hs
 
-pub counted_step : (n corners number h : ℕ) (others hs : List ℕ) → IsShape hs → CountedHalves (suc n) corners number (h ∷ others) hs
-    → CountedStep n corners number h others hs
+pub counted_step : (n corners number h : ℕ) (others hs : List ℕ) → IsShape hs
+    → CountedHalves (suc n) corners number (h ∷ others) hs → CountedStep n corners number h others hs
 counted_step n corners number h others hs shape c =
     let s = StartsWith-halves n corners h others c.halves in
     let all = halves_number-cons n corners h others s.others.size in
@@ -100,7 +103,8 @@ counted_step n corners number h others hs shape c =
       next = record { halves = s.others; counted = omega (arith, c.counted, all); few = omega (arith, c.few) };
     }
 
-pub counted_end : (corners number : ℕ) (left hs : List ℕ) → CountedHalves 0 corners number left hs → number ≡ shape_number hs
+pub counted_end : (corners number : ℕ) (left hs : List ℕ) → CountedHalves 0 corners number left hs
+    → number ≡ shape_number hs
 unfolding halves_number
 counted_end corners number [] hs c = omega (arith, c.counted)
 counted_end corners number (h ∷ left) hs c = absurd (omega (arith, c.halves.size))
@@ -124,9 +128,9 @@ pub record MadeStep (place n corners rest h left number : ℕ) (halves : List �
   pub few : corner_count h ≤ corners
   pub next : MadeHalves (place + 1) n (corners - corner_count h) left number (set halves place h)
 
-pub made_step : (place n corners rest h left number : ℕ) (halves : List ℕ) → place < 4 → MadeHalves place (suc n) corners rest number halves
-    → h ≡ (run_of (ways_after n corners) corner_counts rest).0 → left ≡ (run_of (ways_after n corners) corner_counts rest).1
-    → MadeStep place n corners rest h left number halves
+pub made_step : (place n corners rest h left number : ℕ) (halves : List ℕ) → place < 4
+    → MadeHalves place (suc n) corners rest number halves → h ≡ (run_of (ways_after n corners) corner_counts rest).0
+    → left ≡ (run_of (ways_after n corners) corner_counts rest).1 → MadeStep place n corners rest h left number halves
 made_step place n corners rest h left number halves lt m eh el =
     let f = first_half n corners rest m.below in
     let half : h ≡ f.half = eh ∙ ap (λ p. p.0) f.is in
@@ -148,8 +152,8 @@ made_step place n corners rest h left number halves lt m eh el =
       };
     }
 
-pub made_end : (place n corners rest number : ℕ) (halves : List ℕ) → 4 ≤ place → n ≡ 0 → MadeHalves place n corners rest number halves
-    → halves ≡ shape_at number
+pub made_end : (place n corners rest number : ℕ) (halves : List ℕ) → 4 ≤ place → n ≡ 0
+    → MadeHalves place n corners rest number halves → halves ≡ shape_at number
 unfolding halves_at
 made_end place n corners rest number halves le e m =
     sym (take_all place halves (omega (arith, m.size))) ∙ sym (append-nil (take place halves))
@@ -178,7 +182,8 @@ read_step place n h units halves lt r e = record {
       ∙ r.read;
 }
 
-pub read_end : (place n : ℕ) (units halves : List ℕ) → 4 ≤ place → n ≡ 0 → ReadHalves place n units halves → halves ≡ shape_of units
+pub read_end : (place n : ℕ) (units halves : List ℕ) → 4 ≤ place → n ≡ 0 → ReadHalves place n units halves
+    → halves ≡ shape_of units
 unfolding halves_in
 read_end place n units halves le e r =
     sym (take_all place halves (omega (arith, r.size))) ∙ sym (append-nil (take place halves))
@@ -197,7 +202,8 @@ places_left place lt = omega arith
 places_after : (place : ℕ) → place < 4 → 3 - place ≡ 4 - (place + 1)
 places_after place lt = omega arith
 
-pub counted_at : (place corners number : ℕ) (hs : List ℕ) → place < 4 → IsShape hs → CountedHalves (4 - place) corners number (drop place hs) hs
+pub counted_at : (place corners number : ℕ) (hs : List ℕ) → place < 4 → IsShape hs
+    → CountedHalves (4 - place) corners number (drop place hs) hs
     → CountedStep (3 - place) corners number (slice_index hs place) (drop (place + 1) hs) hs
 counted_at place corners number hs lt shape c =
     let here : drop place hs ≡ slice_index hs place ∷ drop (place + 1) hs = drop_more hs place 0 (omega (arith, shape.size)) in
@@ -206,7 +212,8 @@ counted_at place corners number hs lt shape c =
     (subst (λ xs. CountedHalves (4 - place) corners number xs hs) here c))
 
 -- the next step, as it was computed
-pub counted_next : (place corners number h before count : ℕ) (hs : List ℕ) → place < 4 → before ≡ numbers_before (3 - place) corners h → count ≡ corner_count h
+pub counted_next : (place corners number h before count : ℕ) (hs : List ℕ) → place < 4
+    → before ≡ numbers_before (3 - place) corners h → count ≡ corner_count h
     → CountedStep (3 - place) corners number h (drop (place + 1) hs) hs
     → CountedHalves (4 - (place + 1)) (corners - count) (number + before) (drop (place + 1) hs) hs
 counted_next place corners number h before count hs lt eb ec s =
@@ -214,12 +221,15 @@ counted_next place corners number h before count hs lt eb ec s =
     (subst (λ k. CountedHalves (3 - place) (corners - k) (number + before) (drop (place + 1) hs) hs) (sym ec)
     (subst (λ b. CountedHalves (3 - place) (corners - corner_count h) (number + b) (drop (place + 1) hs) hs) (sym eb) s.next))
 
-pub counted_whole : (place corners number : ℕ) (hs : List ℕ) → 4 ≤ place → CountedHalves (4 - place) corners number (drop place hs) hs → number ≡ shape_number hs
+pub counted_whole : (place corners number : ℕ) (hs : List ℕ) → 4 ≤ place
+    → CountedHalves (4 - place) corners number (drop place hs) hs → number ≡ shape_number hs
 counted_whole place corners number hs le c =
     counted_end corners number (drop place hs) hs (subst (λ n. CountedHalves n corners number (drop place hs) hs) (omega arith) c)
 
-pub made_at : (place corners rest h left number : ℕ) (halves : List ℕ) → place < 4 → MadeHalves place (4 - place) corners rest number halves
-    → h ≡ (run_of (ways_after (3 - place) corners) corner_counts rest).0 → left ≡ (run_of (ways_after (3 - place) corners) corner_counts rest).1
+pub made_at : (place corners rest h left number : ℕ) (halves : List ℕ) → place < 4
+    → MadeHalves place (4 - place) corners rest number halves
+    → h ≡ (run_of (ways_after (3 - place) corners) corner_counts rest).0
+    → left ≡ (run_of (ways_after (3 - place) corners) corner_counts rest).1
     → MadeStep place (3 - place) corners rest h left number halves
 made_at place corners rest h left number halves lt m eh el =
     made_step place (3 - place) corners rest h left number halves lt (subst (λ n. MadeHalves place n corners rest number halves) (places_left place lt) m) eh el
@@ -232,7 +242,8 @@ made_next place corners rest h left number count halves lt ec s =
     (subst (λ k. MadeHalves (place + 1) (3 - place) (corners - k) left number (set halves place h)) (sym ec) s.next)
 
 pub read_next : (place h : ℕ) (units halves : List ℕ) → place < 4 → ReadHalves place (4 - place) units halves
-    → h ≡ half_of (take 6 (drop (6 * place) units)) → ReadHalves (place + 1) (4 - (place + 1)) units (set halves place h)
+    → h ≡ half_of (take 6 (drop (6 * place) units))
+    → ReadHalves (place + 1) (4 - (place + 1)) units (set halves place h)
 read_next place h units halves lt r e =
     subst (λ n. ReadHalves (place + 1) n units (set halves place h)) (places_after place lt)
     (read_step place (3 - place) h units halves lt (subst (λ n. ReadHalves place n units halves) (places_left place lt) r) e)

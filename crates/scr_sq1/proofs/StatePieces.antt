@@ -1,5 +1,5 @@
--- The corners and the edges of valid states, in unit order, are permutations; and permutations laid by a shape are a valid
--- state.
+-- The corners and the edges of valid states, in unit order, are permutations; and permutations laid by a shape are a
+-- valid state.
 use Rattle.std.proofs.Common.{◌≡◌, ℕ, zero, suc, ◌+◌, ◌-◌, ◌*◌, ◌<◌, eqb, Bool, List, [], ◌∷◌, map, length, refl, sym, ap, ◌∙◌, subst, arith}
 use Rattle.std.specs.Prelude.{All, filter}
 use Rattle.std.proofs.lemmas.Bool.Decides.{nat_tests}
@@ -39,7 +39,8 @@ lesser_count-once : (n : ℕ) (xs : List ℕ) → ((k : ℕ) → k < n → occur
 lesser_count-once zero xs once = lesser_count-zero xs
 lesser_count-once (suc n) xs once = omega (arith, lesser_count-suc n xs, lesser_count-once n xs (λ k lt. once k (omega arith)), once n (omega arith))
 
-pub IsPermutation-once : (n : ℕ) (xs : List ℕ) → All (λ x. x < n) xs → ((k : ℕ) → k < n → occurrences k xs ≡ 1) → IsPermutation n xs
+pub IsPermutation-once : (n : ℕ) (xs : List ℕ) → All (λ x. x < n) xs → ((k : ℕ) → k < n → occurrences k xs ≡ 1)
+    → IsPermutation n xs
 IsPermutation-once n xs below once = record { size = sym (lesser_count-all n xs below) ∙ lesser_count-once n xs once; once = once }
 
 -- ---- the pieces of a valid state

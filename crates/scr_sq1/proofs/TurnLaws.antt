@@ -21,7 +21,8 @@ module _ (units places : List ℕ) (size : length units ≡ 24) (permutation : I
   moved_occurrences p = IsRearranged-pick units places (subst (λ n. IsPermutation n places) (sym size) permutation) p
 
 -- a turn that leaves no corner across the cut
-pub IsSq1-moved : (s : Sq1State) (n m : ℕ) → IsSq1 s → IsTurnTable n m → IsTrue (is_open (pick s.units (turn_places n m)))
+pub IsSq1-moved : (s : Sq1State) (n m : ℕ) → IsSq1 s → IsTurnTable n m
+    → IsTrue (is_open (pick s.units (turn_places n m)))
     → IsSq1 (record { units = pick s.units (turn_places n m); equator = s.equator })
 IsSq1-moved s n m h t opened =
     let places : List ℕ = turn_places n m in
@@ -46,7 +47,8 @@ IsSq1-moved s n m h t opened =
     })
 
 -- a twist
-pub IsSq1-twisted : (s : Sq1State) (equator : Bool) → IsSq1 s → IsSq1 (record { units = pick s.units twist_places; equator = equator })
+pub IsSq1-twisted : (s : Sq1State) (equator : Bool) → IsSq1 s
+    → IsSq1 (record { units = pick s.units twist_places; equator = equator })
 IsSq1-twisted s equator h =
     let places : List ℕ = twist_places in
     let permutation = IsPermutation-twist_places in

@@ -84,13 +84,15 @@ over_twist = refl
 
 -- two tables in either order
 both_ways : (units places more : List ℕ) → IsPermutation 24 places → IsPermutation 24 more
-    → pick over_places more ≡ pick places over_places → pick (pick units over_places) more ≡ pick (pick units places) over_places
+    → pick over_places more ≡ pick places over_places
+    → pick (pick units over_places) more ≡ pick (pick units places) over_places
 both_ways units places more p q same =
     pick-pick units over_places more (subst (λ n. All (λ k. k < n) more) (sym IsPermutation-over.size) (All-permutation 24 more q))
     ∙ ap (pick units) same
     ∙ sym (pick-pick units places over_places (subst (λ n. All (λ k. k < n) over_places) (sym p.size) (All-permutation 24 over_places IsPermutation-over)))
 
-same_state : (us vs : List ℕ) (b : Bool) → us ≡ vs → (let s : Sq1State = record { units = us; equator = b } in let r : Sq1State = record { units = vs; equator = b } in s ≡ r)
+same_state : (us vs : List ℕ) (b : Bool) → us ≡ vs
+    → (let s : Sq1State = record { units = us; equator = b } in let r : Sq1State = record { units = vs; equator = b } in s ≡ r)
 same_state us vs b e = ap (λ zs. let s : Sq1State = record { units = zs; equator = b } in s) e
 
 turned-over : (s : Sq1State) (x y : ℤ) → turned (turned_over_sq1 s) y x ≡ turned_over_sq1 (turned s x y)
@@ -116,11 +118,13 @@ is_layer_turn-over x y =
     ap (λ b. b && not (are_still y x)) (and_swap (is_twelfths y) (is_twelfths x))
     ∙ ap (λ b. (is_twelfths x && is_twelfths y) && not b) (and_swap (int_eq y (pos 0)) (int_eq x (pos 0)))
 
-map_if : {A B : Type 0} (f : A → B) (b : Bool) (o : Option A) → (let p : Option B = cond b (option_map f o) None in let q : Option A = cond b o None in p ≡ option_map f q)
+map_if : {A B : Type 0} (f : A → B) (b : Bool) (o : Option A)
+    → (let p : Option B = cond b (option_map f o) None in let q : Option A = cond b o None in p ≡ option_map f q)
 map_if f true o = refl
 map_if f false o = refl
 
-after_layers-over : (s : Sq1State) (x y : ℤ) → after_layers (turned_over_sq1 s) y x ≡ option_map turned_over_sq1 (after_layers s x y)
+after_layers-over : (s : Sq1State) (x y : ℤ)
+    → after_layers (turned_over_sq1 s) y x ≡ option_map turned_over_sq1 (after_layers s x y)
 unfolding after_layers over_places
 after_layers-over s x y =
     let q : Sq1State = turned s x y in
@@ -128,7 +132,8 @@ after_layers-over s x y =
     ∙ ap (λ b. let o : Option Sq1State = cond b (Some (turned_over_sq1 q)) None in o) (is_open-over q.units)
     ∙ map_if turned_over_sq1 (is_open q.units) (Some q)
 
-pub layers_over : (s : Sq1State) (x y : ℤ) → sq1_after (turned_over_sq1 s) (Layers y x) ≡ option_map turned_over_sq1 (sq1_after s (Layers x y))
+pub layers_over : (s : Sq1State) (x y : ℤ)
+    → sq1_after (turned_over_sq1 s) (Layers y x) ≡ option_map turned_over_sq1 (sq1_after s (Layers x y))
 unfolding sq1_after
 layers_over s x y =
     ap (λ b. let o : Option Sq1State = cond b (after_layers (turned_over_sq1 s) y x) None in o) (is_layer_turn-over x y)

@@ -19,9 +19,9 @@ ghost use Rattle.scr_sq1.specs.Shapes.{half_word, corner_counts, IsShape, shape_
 ghost use Rattle.scr_sq1.specs.Numbers.{sq1_numbered};
 ghost use Rattle.scr_sq1.specs.Known.{anticlockwise, slices, IsKnownWord, ReturnsAfter, solved_top, solved_bottom, layers, parity_word, long_word, barred_units, impossible_units, AreOfNoState, HasShape, turned_over_sq1};
 
-/// The turns are lawful: they keep states valid, each is undone by its opposite, and two turns of the layers one after the other
-/// come to one or to none, as two twists come to none. So words are taken back and tidied, and what turns reach is valid. No corner
-/// of a valid state lies across the cut.
+/// The turns are lawful: they keep states valid, each is undone by its opposite, and two turns of the layers one after
+/// the other come to one or to none, as two twists come to none. So words are taken back and tidied, and what turns
+/// reach is valid. No corner of a valid state lies across the cut.
 pub fn turns()
     ensures lawful { IsLawful sq1_after opposite turn_merging IsSq1 }
     ensures taken_back { IsTakenBack sq1_after opposite IsSq1 }
@@ -30,21 +30,23 @@ pub fn turns()
     ensures opened { (s : Sq1State) → IsSq1 s → IsTrue (is_open s.units) }
 {}
 
-/// Turns lead from a state nowhere exactly where one of them, in its place, is no turn of the event or would turn a corner
-/// across the cut.
+/// Turns lead from a state nowhere exactly where one of them, in its place, is no turn of the event or would turn a
+/// corner across the cut.
 pub fn played_where_none_is_barred()
     ensures { (s : Sq1State) (turns : List Letter) → (play sq1_after s turns ≡ None) ↔ IsBarredAlong s turns }
 {}
 
-/// A turn of the layers takes the piece in each unit so many units on, round its layer, and leaves the equator. A twist exchanges
-/// the right halves and turns the equator, and leaves the left halves.
+/// A turn of the layers takes the piece in each unit so many units on, round its layer, and leaves the equator. A twist
+/// exchanges the right halves and turns the equator, and leaves the left halves.
 pub fn motions()
     ensures top { (s r : Sq1State) (top bottom : ℤ) (k : ℕ) → sq1_after s (Layers top bottom) ≡ Some r → k < 12
         → slice_index r.units ((k + clockwise top) % 12) ≡ slice_index s.units k }
     ensures bottom { (s r : Sq1State) (top bottom : ℤ) (k : ℕ) → sq1_after s (Layers top bottom) ≡ Some r → k < 12
         → slice_index r.units (12 + (k + clockwise bottom) % 12) ≡ slice_index s.units (12 + k) }
-    ensures equator { (s r : Sq1State) (top bottom : ℤ) → sq1_after s (Layers top bottom) ≡ Some r → r.equator ≡ s.equator }
-    ensures to_bottom { (s : Sq1State) (k : ℕ) → k < 6 → slice_index (twisted s).units (12 + k) ≡ slice_index s.units k }
+    ensures equator { (s r : Sq1State) (top bottom : ℤ) → sq1_after s (Layers top bottom) ≡ Some r
+        → r.equator ≡ s.equator }
+    ensures to_bottom { (s : Sq1State) (k : ℕ) → k < 6
+        → slice_index (twisted s).units (12 + k) ≡ slice_index s.units k }
     ensures to_top { (s : Sq1State) (k : ℕ) → k < 6 → slice_index (twisted s).units k ≡ slice_index s.units (12 + k) }
     ensures left { (s : Sq1State) (k : ℕ) → 6 ≤ k → k < 12 → (slice_index (twisted s).units k ≡ slice_index s.units k)
         × (slice_index (twisted s).units (12 + k) ≡ slice_index s.units (12 + k)) }
@@ -55,11 +57,12 @@ pub fn motions()
 pub fn symmetry()
     ensures layers { (s : Sq1State) (top bottom : ℤ)
         → sq1_after (turned_over_sq1 s) (Layers bottom top) ≡ option_map turned_over_sq1 (sq1_after s (Layers top bottom)) }
-    ensures twist { (s : Sq1State) → sq1_after (turned_over_sq1 s) Twist ≡ option_map turned_over_sq1 (sq1_after s Twist) }
+    ensures twist { (s : Sq1State)
+        → sq1_after (turned_over_sq1 s) Twist ≡ option_map turned_over_sq1 (sq1_after s Twist) }
 {}
 
-/// The thirteen halves are the words of corners and edges that fill six units. Each shape, of which there are 3,678, has its own
-/// number in dictionary order. A valid state has a shape, and solved has the shape of number 1,172.
+/// The thirteen halves are the words of corners and edges that fill six units. Each shape, of which there are 3,678,
+/// has its own number in dictionary order. A valid state has a shape, and solved has the shape of number 1,172.
 pub fn shapes()
     ensures halves { (word : List Bool) → units_among word ≡ 6 → (h : ℕ) × (h < 13) × (half_word h ≡ word) }
     ensures once { (h g : ℕ) → h < 13 → g < 13 → half_word h ≡ half_word g → h ≡ g }
@@ -86,7 +89,8 @@ pub fn numbering()
 pub fn minima()
     ensures counts { (w : List Letter) → count_in sq1_puzzle.counted w ≡ length w }
     ensures one_needed { (s : Sq1State) → (s ≡ solved_sq1 → ⊥) → Needs sq1_puzzle s 1 }
-    ensures both_layers { (s : Sq1State) → sq1_after solved_sq1 (Layers (pos 1) (anticlockwise 1)) ≡ Some s → Needs sq1_puzzle s 2 → ⊥ }
+    ensures both_layers { (s : Sq1State) → sq1_after solved_sq1 (Layers (pos 1) (anticlockwise 1)) ≡ Some s
+        → Needs sq1_puzzle s 2 → ⊥ }
     ensures twist { Needs sq1_puzzle (twisted solved_sq1) 2 → ⊥ }
 {}
 
@@ -109,8 +113,8 @@ pub fn known_turns()
     ensures no_turn { sq1_after solved_sq1 (Layers (pos 0) (pos 0)) ≡ None }
 {}
 
-/// Algorithms that are known from elsewhere: one exchanges the edges next to the cut, each with the one below or above it; one
-/// exchanges corners; one exchanges two edges of the top alone; one turns the equator alone. And a long word.
+/// Algorithms that are known from elsewhere: one exchanges the edges next to the cut, each with the one below or above
+/// it; one exchanges corners; one exchanges two edges of the top alone; one turns the equator alone. And a long word.
 #[tactic(auto, unfolding(crate::proofs::OnLiterals::sq1_on_literals))]
 pub fn known_words()
     ensures edges { IsKnownWord (slices ((pos 1, pos 0) ∷ (anticlockwise 1, anticlockwise 1) ∷ []) ++ Layers (pos 0) (pos 1) ∷ [])
@@ -132,7 +136,8 @@ pub fn known_words()
     ensures both_quarters { ReturnsAfter 4 (slices ((pos 3, pos 3) ∷ [])) }
 {}
 
-/// Numbers that are known from elsewhere: solved, solved but for the equator, solved but for edges 6 and 7, the first and the last.
+/// Numbers that are known from elsewhere: solved, solved but for the equator, solved but for edges 6 and 7, the first
+/// and the last.
 #[tactic(auto, unfolding(crate::proofs::OnLiterals::sq1_on_literals))]
 pub fn known_numbers()
     ensures solved { sq1_numbered.state_at 3810646425600 ≡ solved_sq1 }
@@ -144,8 +149,8 @@ pub fn known_numbers()
     ensures last { sq1_numbered.state_at 11958666854399 ≡ layers (codes "776655443322") (codes "fe1100dcba98") true }
 {}
 
-/// Shapes that are known from elsewhere, in which each of the thirteen halves stands: named by where the corner of the top right
-/// half lies, or how many corners it has.
+/// Shapes that are known from elsewhere, in which each of the thirteen halves stands: named by where the corner of the
+/// top right half lies, or how many corners it has.
 #[tactic(auto, unfolding(crate::proofs::OnLiterals::sq1_on_literals))]
 pub fn known_shapes()
     ensures corner_second { HasShape (codes "8009abcd11ef223344556677") (2 ∷ 3 ∷ 12 ∷ 12 ∷ []) 143 }

@@ -26,8 +26,8 @@ fn digits_of(state: &Sq1) -> [u128; 4]
     ]
 }
 
-/// The numbering of the Square-1: the equator is the least digit, then come the lists of corners and of edges in unit order, and
-/// the shape.
+/// The numbering of the Square-1: the equator is the least digit, then come the lists of corners and of edges in unit
+/// order, and the shape.
 #[derive(Clone, Copy)]
 pub struct Sq1Numbers;
 

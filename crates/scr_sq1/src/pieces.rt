@@ -108,8 +108,8 @@ fn with_half(word: &mut [bool; PIECES], from: usize, half: u8) -> usize
     from + pieces
 }
 
-/// The units of pieces that lie one behind the other: each corner of the word is the next one of these and fills two units, and
-/// each edge is the next one of these.
+/// The units of pieces that lie one behind the other: each corner of the word is the next one of these and fills two
+/// units, and each edge is the next one of these.
 fn laid(word: &[bool; PIECES], corners: &[u8; 8], edges: &[u8; 8]) -> [u8; UNITS]
     requires fits { Fits word.now corners.now edges.now }
     requires units { units_among word.now ≡ 24 }

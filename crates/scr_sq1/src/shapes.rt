@@ -45,8 +45,9 @@ impl Model for Shape {
 }
 
 impl Shape {
-    /// The numbers of the halves top right, top left, bottom right and bottom left, each below 13. With c for a corner and e
-    /// for an edge they are eeeeee, ceeee, eceee, eecee, eeece, eeeec, ccee, cece, ceec, ecce, ecec, eecc and ccc.
+    /// The numbers of the halves top right, top left, bottom right and bottom left, each below 13. With c for a corner
+    /// and e for an edge they are eeeeee, ceeee, eceee, eecee, eeece, eeeec, ccee, cece, ceec, ecce, ecec, eecc and
+    /// ccc.
     pub fn halves(&self) -> [u8; 4]
         ensures same { result ≡ self.now }
         ensures valid { IsShape self.now }
@@ -125,8 +126,8 @@ pub fn shape_at(number: u32) -> Shape
     Shape { halves }
 }
 
-/// How many lists of halves begin with a lower half than this one, where so many others follow and there are so many corners in
-/// all.
+/// How many lists of halves begin with a lower half than this one, where so many others follow and there are so many
+/// corners in all.
 fn numbers_before(others: usize, corners: u8, half: u8) -> u32
     requires others { others ≤ 3 }
     requires corners { corners ≤ 8 }

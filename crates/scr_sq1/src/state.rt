@@ -17,9 +17,9 @@ use std::marker::Model;
 
 /// A Square-1 that can be put together, and that can twist: no corner lies across the cut.
 ///
-/// Units 0 to 11 are the top layer, clockwise as seen from above, from the cut at the back on; 12 to 23 are the bottom layer,
-/// clockwise as seen from below, from the cut at the front on. Corners are pieces 0 to 7, and fill two units; edges are pieces
-/// 8 to 15, and fill one.
+/// Units 0 to 11 are the top layer, clockwise as seen from above, from the cut at the back on; 12 to 23 are the bottom
+/// layer, clockwise as seen from below, from the cut at the front on. Corners are pieces 0 to 7, and fill two units;
+/// edges are pieces 8 to 15, and fill one.
 #[derive(Clone, Copy, Debug, PartialEq, Eq)]
 pub struct Sq1 {
     units: [u8; UNITS],
@@ -52,8 +52,8 @@ impl Sq1 {
         }
     }
 
-    /// The state in which each unit is of this piece, and whose equator stands turned or not. `None` comes exactly where these
-    /// aren't the sixteen pieces, each in its own units, or where a corner lies across the cut.
+    /// The state in which each unit is of this piece, and whose equator stands turned or not. `None` comes exactly
+    /// where these aren't the sixteen pieces, each in its own units, or where a corner lies across the cut.
     pub fn from_units(units: [u8; UNITS], equator: bool) -> Option<Sq1>
         ensures valid { IsSome result ↔ IsSq1 (record { units = units; equator = equator }) }
         ensures value { IfSome result (λ state. state ≡ record { units = units; equator = equator }) }
@@ -79,6 +79,13 @@ impl Sq1 {
         ensures valid { IsSq1 self.now }
     {
         self.units
+    }
+
+    /// Does nothing: the state is valid.
+    pub fn is_valid(&self)
+        ensures { IsSq1 self.now }
+    {
+        let _units = self.units();
     }
 
     /// Whether the equator stands turned, as it does after an odd number of twists from solved.
@@ -143,8 +150,8 @@ impl Sq1 {
         }
     }
 
-    /// The state after the turns of a scramble. `None` comes exactly where one of them isn't a turn of a Square-1, or is
-    /// barred in its place.
+    /// The state after the turns of a scramble. `None` comes exactly where one of them isn't a turn of a Square-1, or
+    /// is barred in its place.
     pub fn play(&self, scramble: &Scramble) -> Option<Sq1>
         ensures { result ≡ play sq1_after self.now scramble.now.turns }
     {

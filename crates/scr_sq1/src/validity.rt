@@ -26,8 +26,8 @@ fn are_of_one_corner(units: &[u8; UNITS], unit: usize, other: usize) -> bool
     units[unit] < 8 && units[other] == units[unit]
 }
 
-/// Whether no corner lies across the cut once the layers are turned by so many twelfths clockwise. No unit is moved for it,
-/// since most turns of most states are barred.
+/// Whether no corner lies across the cut once the layers are turned by so many twelfths clockwise. No unit is moved for
+/// it, since most turns of most states are barred.
 #[inline]
 pub(crate) fn is_open_turned(units: &[u8; UNITS], top: u8, bottom: u8) -> bool
     requires top { top < 12 }

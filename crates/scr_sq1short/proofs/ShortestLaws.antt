@@ -29,7 +29,8 @@ NoFewer s total v = (other : List Turn) → IsTotal s v other → twists_in tota
 
 -- ---- one word after another
 
-pub IsShortest-one : (s : Sq1State) (word : List ℕ) (total : List Turn) → IsTotal s word total → IsShortest s (word ∷ []) total
+pub IsShortest-one : (s : Sq1State) (word : List ℕ) (total : List Turn) → IsTotal s word total
+    → IsShortest s (word ∷ []) total
 IsShortest-one s word total is = record {
   before = [];
   word = word;
@@ -91,8 +92,8 @@ pub record IsLeast (s : Sq1State) (words : List (List ℕ)) (least : Written) : 
 
 -- the words as they are looked at, one place after another
 module _ (s : Sq1State) (words : List (List ℕ)) where
-  pub IsLeast-begun : (word : List ℕ) (total : Written) → 0 < length words → word ≡ get_or words 0 [] → IsTotal s word total.turns
-      → IsWritten total → IsLeast s (take 1 words) total
+  pub IsLeast-begun : (word : List ℕ) (total : Written) → 0 < length words → word ≡ get_or words 0 []
+      → IsTotal s word total.turns → IsWritten total → IsLeast s (take 1 words) total
   IsLeast-begun word total some at is written = record {
     shortest = subst (λ ws. IsShortest s ws total.turns) (sym (take_more words 0 [] some ∙ ap (λ w. w ∷ []) (sym at)))
         (IsShortest-one s word total.turns is);
@@ -101,7 +102,8 @@ module _ (s : Sq1State) (words : List (List ℕ)) where
 
   module _ (place : ℕ) (word : List ℕ) (inside : place < length words) (at : word ≡ get_or words place []) (least total : Written)
       (h : IsLeast s (take place words) least) (is : IsTotal s word total.turns) where
-    by_words : (t : Written) → IsShortest s (take place words ++ word ∷ []) t.turns → IsWritten t → IsLeast s (take (place + 1) words) t
+    by_words : (t : Written) → IsShortest s (take place words ++ word ∷ []) t.turns → IsWritten t
+        → IsLeast s (take (place + 1) words) t
     by_words t shortest written = record {
       shortest = subst (λ ws. IsShortest s ws t.turns) (ap (λ w. take place words ++ w ∷ []) at ∙ sym (take_more words place [] inside)) shortest;
       written = written;
@@ -111,7 +113,8 @@ module _ (s : Sq1State) (words : List (List ℕ)) where
     IsLeast-kept no_fewer =
         by_words least (IsShortest-kept s (take place words) least.turns h.shortest word total.turns is no_fewer) h.written
 
-    pub IsLeast-new : IsWritten total → twists_in total.turns < twists_in least.turns → IsLeast s (take (place + 1) words) total
+    pub IsLeast-new : IsWritten total → twists_in total.turns < twists_in least.turns
+        → IsLeast s (take (place + 1) words) total
     IsLeast-new written fewer =
         by_words total (IsShortest-new s (take place words) least.turns h.shortest word total.turns is fewer) written
 
@@ -123,7 +126,8 @@ All-behind P (z ∷ xs) x ys h = All-behind P xs x ys (All-tail P z (xs ++ x ∷
 
 -- by where their words stand
 one_at : (s : Sq1State) (us bs cs ds : List (List ℕ)) (v w : List ℕ) (t u : List Turn) → us ++ v ∷ bs ≡ cs ++ w ∷ ds
-    → IsTotal s v t → IsTotal s w u → All (More s t) us → All (NoFewer s t) bs → All (More s u) cs → All (NoFewer s u) ds → t ≡ u
+    → IsTotal s v t → IsTotal s w u → All (More s t) us → All (NoFewer s t) bs → All (More s u) cs
+    → All (NoFewer s u) ds → t ≡ u
 one_at s [] bs [] ds v w t u e is other more no_fewer more_other no_fewer_other =
     let same : v ≡ w = cc in
     IsTotal-unique s w t u (subst (λ x. IsTotal s x t) same is) other
@@ -141,13 +145,14 @@ one_at s (a ∷ us) bs (c ∷ cs) ds v w t u e is other more no_fewer more_other
     let rest : us ++ v ∷ bs ≡ cs ++ w ∷ ds = cc in
     one_at s us bs cs ds v w t u rest is other (All-tail (More s t) a us more) no_fewer (All-tail (More s u) c cs more_other) no_fewer_other
 
-pub IsShortest-unique : (s : Sq1State) (words : List (List ℕ)) (t u : List Turn) → IsShortest s words t → IsShortest s words u → t ≡ u
+pub IsShortest-unique : (s : Sq1State) (words : List (List ℕ)) (t u : List Turn) → IsShortest s words t
+    → IsShortest s words u → t ≡ u
 IsShortest-unique s words t u a b =
     one_at s a.before a.behind b.before b.behind a.word b.word t u (sym a.in_order ∙ b.in_order) a.is b.is a.more_before a.no_fewer_behind
     b.more_before b.no_fewer_behind
 
-pub IsShortScramble-unique : (short : ℕ) (s : Sq1State) (turns other : List Turn) → IsShortScramble short s turns → IsShortScramble short s other
-    → turns ≡ other
+pub IsShortScramble-unique : (short : ℕ) (s : Sq1State) (turns other : List Turn) → IsShortScramble short s turns
+    → IsShortScramble short s other → turns ≡ other
 IsShortScramble-unique short s turns other a b =
     a.taken_back ∙ ap (back opposite) (IsShortest-unique s (take short (shape_words s)) a.total b.total a.shortest b.shortest)
     ∙ sym b.taken_back
@@ -155,8 +160,8 @@ IsShortScramble-unique short s turns other a b =
 -- ---- beside the scramble by stages
 
 -- where the first of the words is that of the first stage, the shortest has no more twists
-pub no_more_twists : (s : Sq1State) (words : List (List ℕ)) (least turns : List Turn) (word : List ℕ) → IsSq1 s → IsShortest s words least
-    → Contains words word → IsStageWord sq1_after shape_stage s word → IsScrambleSq1 s turns
+pub no_more_twists : (s : Sq1State) (words : List (List ℕ)) (least turns : List Turn) (word : List ℕ) → IsSq1 s
+    → IsShortest s words least → Contains words word → IsStageWord sq1_after shape_stage s word → IsScrambleSq1 s turns
     → twists_in (back opposite least) ≤ twists_in turns
 no_more_twists s words least turns word valid h there is scramble =
     let first = IsFirstTotal-scramble s turns valid scramble in
@@ -172,12 +177,14 @@ one_taken : (words : List (List ℕ)) (word : List ℕ) → slice_get words 0 �
 one_taken [] word e = absurd (cc)
 one_taken (w ∷ words) word e = let same : w ≡ word = cc in ap (λ v. v ∷ []) same
 
-taken_one : (words before : List (List ℕ)) (word : List ℕ) (behind : List (List ℕ)) → take 1 words ≡ before ++ word ∷ behind → slice_get words 0 ≡ Some word
+taken_one : (words before : List (List ℕ)) (word : List ℕ) (behind : List (List ℕ))
+    → take 1 words ≡ before ++ word ∷ behind → slice_get words 0 ≡ Some word
 taken_one [] before word behind e = absurd (omega (arith, ap length e, length-append before (word ∷ behind)))
 taken_one (w ∷ words) [] word behind e = let same : w ≡ word = cc in ap Some same
 taken_one (w ∷ words) (b ∷ before) word behind e = absurd (omega (arith, ap length e, length-append before (word ∷ behind)))
 
-pub IsShortScramble-one : (s : Sq1State) (turns : List Turn) → IsSq1 s → IsShortScramble 1 s turns ↔ IsScrambleSq1 s turns
+pub IsShortScramble-one : (s : Sq1State) (turns : List Turn) → IsSq1 s
+    → IsShortScramble 1 s turns ↔ IsScrambleSq1 s turns
 IsShortScramble-one s turns valid = (
   λ h.
       let least = h.shortest in
@@ -196,7 +203,8 @@ IsShortScramble-one s turns valid = (
 )
 
 -- the word of a shortest total is one of the words
-word-there : (s : Sq1State) (words : List (List ℕ)) (total : List Turn) (h : IsShortest s words total) → Contains words h.word
+word-there : (s : Sq1State) (words : List (List ℕ)) (total : List Turn) (h : IsShortest s words total)
+    → Contains words h.word
 word-there s words total h =
     subst (λ ws. Contains ws h.word) (sym h.in_order)
     (Contains-append_right h.before (h.word ∷ h.behind) h.word (0, omega arith, refl))
@@ -208,8 +216,8 @@ more_taken fewer more words word le (k, lt, e) =
     let below : k < fewer = omega (arith, lt, sizes) in
     (k, omega (arith, lt, sizes, length-take more words, le), get_or-take more words k word (omega (arith, below, le)) ∙ sym (get_or-take fewer words k word below) ∙ e)
 
-pub fewer_by_more : (s : Sq1State) (fewer more : ℕ) (turns other : List Turn) → fewer ≤ more → IsShortScramble fewer s turns
-    → IsShortScramble more s other → twists_in other ≤ twists_in turns
+pub fewer_by_more : (s : Sq1State) (fewer more : ℕ) (turns other : List Turn) → fewer ≤ more
+    → IsShortScramble fewer s turns → IsShortScramble more s other → twists_in other ≤ twists_in turns
 fewer_by_more s fewer more turns other le a b =
     let words = shape_words s in
     let there = more_taken fewer more words a.shortest.word le (word-there s (take fewer words) a.total a.shortest) in

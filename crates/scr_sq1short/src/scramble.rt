@@ -12,10 +12,10 @@ use scr_notation::{Scramble, Turn, inverse};
 use scr_sq1::Sq1;
 use scr_sq1solve::{Sq1Tables, total_from};
 
-/// The scramble of a Square-1, of at most 76 twists and 153 turns, for which its first `short` words to the square shape
-/// are looked at, from 1 to 1,000, or all where there are fewer: of the solutions that they begin, that of the fewest
-/// twists, the earliest among equals, taken back. With 1 it is the scramble by stages. There is no refusal, and no memory
-/// is taken.
+/// The scramble of a Square-1, of at most 76 twists and 153 turns, for which its first `short` words to the square
+/// shape are looked at, from 1 to 1,000, or all where there are fewer: of the solutions that they begin, that of the
+/// fewest twists, the earliest among equals, taken back. With 1 it is the scramble by stages. There is no refusal, and
+/// no memory is taken.
 pub fn scramble_sq1_short(tables: &Sq1Tables, state: &Sq1, short: u32) -> Scramble
     requires short { (1 ≤ short) × (short ≤ 1000) }
     ensures event { result.event ≡ EventSq1 }
@@ -26,7 +26,7 @@ pub fn scramble_sq1_short(tables: &Sq1Tables, state: &Sq1, short: u32) -> Scramb
     ensures at_most { length result.turns ≤ 153 }
     ensures played { play sq1_after solved_sq1 result.turns ≡ Some state.now }
 {
-    let _units = state.units();
+    state.is_valid();
     let words = tables.shape_words(state, short);
     let mut least = total_from(tables, state, words.word(0));
     for place in 1..words.len() {

@@ -1,5 +1,6 @@
--- A valid state is the state of its shape whose pieces are in order, with its pieces called otherwise. So what a word does to a
--- state is told by its shape: it moves the lists of corners and of edges of all states of a shape by the same places.
+-- A valid state is the state of its shape whose pieces are in order, with its pieces called otherwise. So what a word
+-- does to a state is told by its shape: it moves the lists of corners and of edges of all states of a shape by the same
+-- places.
 use Rattle.std.proofs.Common.{◌≡◌, ℕ, zero, suc, ◌+◌, ◌-◌, ◌%◌, ◌<◌, inl, inr, Bool, true, false, cond, List, [], ◌∷◌, map, length, slice_index, take, drop, Some, refl, sym, ap, ◌∙◌, arith}
 use Rattle.std.specs.Prelude.{not, All, filter}
 use Rattle.std.specs.List.{position_or_len}
@@ -31,7 +32,8 @@ use Rattle.scr_sq1solve.proofs.Renamed.{is_corner-named, play-renamed}
 -- ---- what is read of units whose pieces are called otherwise
 
 module _ (n : Names) (h : AreNames n) where
-  filter_corners : (us : List ℕ) → filter is_corner (map (named n) us) ≡ map (λ p. slice_index n.corners p) (filter is_corner us)
+  filter_corners : (us : List ℕ)
+      → filter is_corner (map (named n) us) ≡ map (λ p. slice_index n.corners p) (filter is_corner us)
   filter_corners [] = refl
   filter_corners (u ∷ us) =
       let f = named n in
@@ -69,7 +71,8 @@ module _ (n : Names) (h : AreNames n) where
             ∙ sym (ap (λ xs. map g (less xs)) (cond-true (not (is_corner u)) (u ∷ kept us) (kept us) (ap not (le-ltb u 8 le))))
       ]
 
-  pub corners_of-named : (us : List ℕ) → length (filter is_corner us) ≡ 16 → corners_of (map (named n) us) ≡ pick n.corners (corners_of us)
+  pub corners_of-named : (us : List ℕ) → length (filter is_corner us) ≡ 16
+      → corners_of (map (named n) us) ≡ pick n.corners (corners_of us)
   corners_of-named us sixteen =
       let f : ℕ → ℕ = λ p. slice_index n.corners p in
       corners_of-sixteen (map (named n) us) (ap length (filter_corners us) ∙ length-map (filter is_corner us) f ∙ sixteen)

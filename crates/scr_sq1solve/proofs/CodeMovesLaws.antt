@@ -50,8 +50,8 @@ code_at_place p =
 place-lt : (p : ℕ) → p % 192 + 192 * row_parity (p / 192) < 384
 place-lt p = (IsPlace-at p (row_parity (p / 192)) (odd_below (total (mixed_digits (2 ∷ 2 ∷ 2 ∷ 2 ∷ []) (p / 192 % 16))))).below
 
-pub StaysBelow-rows : (letter : ℕ → List Turn) (edges : Coordinate) → ShowsSame (codes_coordinate edges_of letter) edges → StaysBelow edges
-    → StaysBelow (rows_coordinate letter)
+pub StaysBelow-rows : (letter : ℕ → List Turn) (edges : Coordinate) → ShowsSame (codes_coordinate edges_of letter) edges
+    → StaysBelow edges → StaysBelow (rows_coordinate letter)
 StaysBelow-rows letter edges shows below p t q at turn e =
     let made = map-some place_in_row ((codes_coordinate edges_of letter).after (code_in_row p) t) q e in
     let code : code_in_row p < 384 = code_below (total (mixed_digits (2 ∷ 2 ∷ 2 ∷ []) (p % 8))) in
@@ -93,7 +93,8 @@ module _ {letter : ℕ → List Turn} (kept : IsKept letter) {corners rows : Coo
     row = same_Some cs step.corners (a ∙ corners-made)
 
     -- where the corners aren't brought home
-    pub elsewhere : (cs ≡ 0 → ⊥) → (cs == 0) ≡ has_number 0 (option_map square_index (by_letters sq1_after 32 letter (square_state p) t))
+    pub elsewhere : (cs ≡ 0 → ⊥)
+        → (cs == 0) ≡ has_number 0 (option_map square_index (by_letters sq1_after 32 letter (square_state p) t))
     elsewhere away =
         ne_eqb cs 0 away
         ∙ sym (ap (has_number 0) step.made ∙ ne_eqb (position_of step.edges step.corners) 0 (λ e. away (omega (arith, e, row))))

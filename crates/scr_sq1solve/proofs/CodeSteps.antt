@@ -1,4 +1,5 @@
--- Letters lead from the index of a state in which mates stand opposite to each other as they lead from the codes of its lists.
+-- Letters lead from the index of a state in which mates stand opposite to each other as they lead from the codes of its
+-- lists.
 use Rattle.std.proofs.Common.{◌≡◌, ℕ, ◌+◌, ◌*◌, ◌/◌, ◌%◌, ◌<◌, List, [], ◌∷◌, Some, None, sym, ap, ◌∙◌, arith}
 use Rattle.std.specs.Prelude.{nat_lt}
 use Rattle.std.specs.Option.{option_map}
@@ -42,7 +43,8 @@ pub code-lt : (xs : List ℕ) → HasCode xs → code_number xs < 384
 unfolding code_number
 code-lt xs h = omega (arith, h.bits, h.pairs)
 
-pub position-index : (s : Sq1State) → HasCodes s → position_of (code_number (edges_of s.units)) (code_number (corners_of s.units)) ≡ square_index s
+pub position-index : (s : Sq1State) → HasCodes s
+    → position_of (code_number (edges_of s.units)) (code_number (corners_of s.units)) ≡ square_index s
 unfolding code_number square_index
 position-index s h = omega (arith, h.corners.bits, h.corners.pairs, h.edges.bits, h.edges.pairs)
 
@@ -64,7 +66,8 @@ record AreDigits (p : ℕ) (cs es : List ℕ) : Type 0 where
   pub corner_bits : bits_number cs ≡ p / 192 % 16
   pub corners : code_number cs ≡ corners_at p
 
-AreDigits-position : (p : ℕ) (cs es : List ℕ) → HasCode cs → HasCode es → position_of (code_number es) (code_number cs) ≡ p → AreDigits p cs es
+AreDigits-position : (p : ℕ) (cs es : List ℕ) → HasCode cs → HasCode es
+    → position_of (code_number es) (code_number cs) ≡ p → AreDigits p cs es
 unfolding code_number
 AreDigits-position p cs es c e index = record {
   low = omega (arith, c.bits, c.pairs, e.bits, e.pairs, index);

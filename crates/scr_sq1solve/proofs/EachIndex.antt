@@ -16,10 +16,12 @@ use Rattle.scr_sq1solve.specs.SearchTables.{shapes_table, pairings_table, square
 use Rattle.scr_sq1solve.proofs.ShapeStage.{IsIndex-shapes, square_of, IsSquareOf-lists}
 use Rattle.scr_sq1solve.proofs.HomeStage.{IsIndex-square}
 
-pub each-shapes : (i : ℕ) → i < shapes_line.coordinate.count → (s : Sq1State) × shapes_table.space.IsValid s × (shapes_index s ≡ i)
+pub each-shapes : (i : ℕ) → i < shapes_line.coordinate.count
+    → (s : Sq1State) × shapes_table.space.IsValid s × (shapes_index s ≡ i)
 each-shapes i lt = (shapes_state i, IsIndex-shapes.valid i lt, IsIndex-shapes.again i lt)
 
-pub each-square : (i : ℕ) → i < square_line.coordinate.count → (s : Sq1State) × square_table.space.IsValid s × (square_index s ≡ i)
+pub each-square : (i : ℕ) → i < square_line.coordinate.count
+    → (s : Sq1State) × square_table.space.IsValid s × (square_index s ≡ i)
 each-square i lt = (square_state i, IsIndex-square.valid i lt, IsIndex-square.again i lt)
 
 -- ---- pairings
@@ -68,7 +70,8 @@ IsEvenList-below pairing lt =
       number = eqb-true (pairing_number 4 (pairing_of pieces)) pairing b.1;
     }
 
-pub each-pairings : (i : ℕ) → i < pairings_line.coordinate.count → (s : Sq1State) × pairings_table.space.IsValid s × (pairings_index s ≡ i)
+pub each-pairings : (i : ℕ) → i < pairings_line.coordinate.count
+    → (s : Sq1State) × pairings_table.space.IsValid s × (pairings_index s ≡ i)
 each-pairings i lt =
     let cs : List ℕ = even_list (i % 105) in
     let es : List ℕ = even_list (i / 105) in

@@ -14,7 +14,8 @@ use Rattle.scr_sq1solve.specs.Tables.{has_index, has_number, shapes_index, shape
 use Rattle.scr_sq1solve.proofs.ShapeSteps.{normal_index}
 use Rattle.scr_sq1solve.proofs.ShapeParts.{amount, squaring-index}
 
-has_index-mapped : (index_of : Sq1State → ℕ) (i : ℕ) (o : Option Sq1State) → has_index index_of i o ≡ has_number i (option_map index_of o)
+has_index-mapped : (index_of : Sq1State → ℕ) (i : ℕ) (o : Option Sq1State)
+    → has_index index_of i o ≡ has_number i (option_map index_of o)
 has_index-mapped index_of i None = refl
 has_index-mapped index_of i (Some r) = refl
 
@@ -35,7 +36,8 @@ quarter-tested l p n r o is lt made e =
 
 -- what the index after one of the four turns tells
 pub squaring-tested : (p : ℕ) → p < 7356 → (n : ℕ) (r o : Option ℕ) → n < 4
-    → r ≡ option_map shapes_index (play sq1_after (shapes_state p) (turn_word (amount (5 - n % 2)) (amount (5 + n / 2)))) → r ≡ o
+    → r ≡ option_map shapes_index (play sq1_after (shapes_state p) (turn_word (amount (5 - n % 2)) (amount (5 + n / 2))))
+    → r ≡ o
     → has_index shapes_index (shapes_index solved_sq1) (play sq1_after (shapes_state p) (squaring_letter n)) ≡ has_number 2344 o
 squaring-tested p at n r o few made e =
     has_index-mapped shapes_index (shapes_index solved_sq1) (play sq1_after (shapes_state p) (squaring_letter n))

@@ -46,7 +46,8 @@ after_twist s = refl
 both : Sq1State → Sq1State
 both s = half_turned (twisted s)
 
-play-both : (s : Sq1State) (w : List Turn) → IsSq1 s → play sq1_after s (Twist ∷ Layers (pos 6) (pos 0) ∷ w) ≡ play sq1_after (both s) w
+play-both : (s : Sq1State) (w : List Turn) → IsSq1 s
+    → play sq1_after s (Twist ∷ Layers (pos 6) (pos 0) ∷ w) ≡ play sq1_after (both s) w
 unfolding both
 play-both s w valid =
     play-first sq1_after s (twisted s) Twist (Layers (pos 6) (pos 0) ∷ w) (after_twist s)
@@ -64,7 +65,8 @@ not_thrice : (b : Bool) → not (not (not b)) ≡ not b
 not_thrice true = refl
 not_thrice false = refl
 
-thrice : (s : Sq1State) → both (both (both s)) ≡ record { units = pick s.units (numbers_from 0 24); equator = not (not (not s.equator)) }
+thrice : (s : Sq1State)
+    → both (both (both s)) ≡ record { units = pick s.units (numbers_from 0 24); equator = not (not (not s.equator)) }
 unfolding both half_turned turned twisted turn_places twist_places
 thrice s = refl
 

@@ -1,5 +1,5 @@
--- The word that turns the equator stands in a solution exactly where the equator, turned over once for each twist of the solution of
--- the layers, would else stand turned.
+-- The word that turns the equator stands in a solution exactly where the equator, turned over once for each twist of
+-- the solution of the layers, would else stand turned.
 use Rattle.std.proofs.Common.{◌≡◌, ℕ, zero, suc, ◌+◌, Bool, cond, List, [], ◌∷◌, ◌++◌, Option, Some, refl, sym, ap, ◌∙◌}
 use Rattle.std.proofs.Common.{arith}
 use Rattle.std.specs.Prelude.{not}
@@ -33,7 +33,8 @@ turned_over-sum zero n b = ap (λ k. turned_over k b) {x = n} {y = 0 + n} (omega
 turned_over-sum (suc m) n b =
     turned_over-not n (turned_over m b) ∙ ap not (turned_over-sum m n b) ∙ ap (λ k. turned_over k b) {x = suc (m + n)} {y = suc m + n} (omega arith)
 
-pub equator-played : (s r : Sq1State) (w : List Turn) → play sq1_after s w ≡ Some r → r.equator ≡ turned_over (twists_in w) s.equator
+pub equator-played : (s r : Sq1State) (w : List Turn) → play sq1_after s w ≡ Some r
+    → r.equator ≡ turned_over (twists_in w) s.equator
 unfolding count_in turned_over
 equator-played s r [] e =
     let here = play-empty sq1_after s in
@@ -48,7 +49,8 @@ equator-played s r (t ∷ w) e =
     ∙ ap (turned_over (twists_in w)) (equator-after s parts.0 t parts.1)
     ∙ turned_over-sum (twists_of t) (twists_in w) s.equator
 
-pub equator-solution : (s : Sq1State) (layers w : List Turn) → IsSq1 s → IsSolution sq1_after layer_stages s layers → IsSolution sq1_after sq1_stages s w
+pub equator-solution : (s : Sq1State) (layers w : List Turn) → IsSq1 s → IsSolution sq1_after layer_stages s layers
+    → IsSolution sq1_after sq1_stages s w
     → w ≡ (let e : List Turn = cond (turned_over (twists_in layers) s.equator) equator_word [] in e) ++ layers
 equator-solution s layers w valid a b =
     let home = layers-end s layers a in

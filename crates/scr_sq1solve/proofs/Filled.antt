@@ -19,14 +19,15 @@ filled_more f out n x d lt e so_far =
     (get_or-set_same out n x d lt ∙ e)
 
 -- all are
-pub mapped_all : (f : ℕ → ℕ) (xs out : List ℕ) → length out ≡ length xs → ((k : ℕ) → k < length xs → slice_index out k ≡ f (slice_index xs k)) → out ≡ map f xs
+pub mapped_all : (f : ℕ → ℕ) (xs out : List ℕ) → length out ≡ length xs
+    → ((k : ℕ) → k < length xs → slice_index out k ≡ f (slice_index xs k)) → out ≡ map f xs
 mapped_all f xs out size each =
     ext_get_or 0 out (map f xs) (size ∙ sym (length-map xs f)) (λ k lt.
     let inside : k < length xs = omega (arith, lt, size) in
     each k inside ∙ sym (get_or-map f xs k 0 0 inside))
 
-pub numbers_all : {A : Type 0} (f : ℕ → A) (n : ℕ) (out : List A) (d : A) → length out ≡ n → ((k : ℕ) → k < n → slice_index_or out k d ≡ f k)
-    → out ≡ map f (numbers_from 0 n)
+pub numbers_all : {A : Type 0} (f : ℕ → A) (n : ℕ) (out : List A) (d : A) → length out ≡ n
+    → ((k : ℕ) → k < n → slice_index_or out k d ≡ f k) → out ≡ map f (numbers_from 0 n)
 numbers_all f n out d size each =
     ext_get_or d out (map f (numbers_from 0 n)) (size ∙ sym (length-map (numbers_from 0 n) f ∙ length-numbers_from 0 n)) (λ k lt.
     let inside : k < n = omega (arith, lt, size) in

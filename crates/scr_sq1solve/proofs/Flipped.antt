@@ -33,7 +33,8 @@ renamed-flipped s None = refl
 renamed-flipped s (Some b) =
     ap (λ e. let r : Sq1State = record { units = (renamed (names_of s) b).units; equator = e } in Some r) (other_if-flipped s.equator b.equator)
 
-pub play-flipped : (s : Sq1State) (w : List Turn) → IsSq1 s → play sq1_after (flipped s) w ≡ option_map flipped (play sq1_after s w)
+pub play-flipped : (s : Sq1State) (w : List Turn) → IsSq1 s
+    → play sq1_after (flipped s) w ≡ option_map flipped (play sq1_after s w)
 play-flipped s w valid =
     play-base (flipped s) w (valid_flipped s valid) ∙ renamed-flipped s (play sq1_after (base_of (shape_of s.units)) w)
     ∙ sym (ap (option_map flipped) (play-base s w valid))
@@ -67,13 +68,15 @@ module _ (stage : Stage Sq1State Turn) (level : IsLevel stage) where
   finds : FindsTheSame (stage_space sq1_after stage IsSq1) (stage_space sq1_after stage IsSq1) flipped
   finds = FindsTheSame-follows (stage_space sq1_after stage IsSq1) (stage_space sq1_after stage IsSq1) flipped Follows-flipped
 
-  IsStageWord-flipped : (s : Sq1State) (w : List ℕ) → IsSq1 s → IsStageWord sq1_after stage s w ↔ IsStageWord sq1_after stage (flipped s) w
+  IsStageWord-flipped : (s : Sq1State) (w : List ℕ) → IsSq1 s
+      → IsStageWord sq1_after stage s w ↔ IsStageWord sq1_after stage (flipped s) w
   IsStageWord-flipped s w v = (
     λ is. record { first = (finds.first_words s w v).0 is.first; within = is.within },
     λ is. record { first = (finds.first_words s w v).1 is.first; within = is.within },
   )
 
-  has_word-flipped : (s : Sq1State) → IsSq1 s → HasStageWord sq1_after stage s ↔ HasStageWord sq1_after stage (flipped s)
+  has_word-flipped : (s : Sq1State) → IsSq1 s
+      → HasStageWord sq1_after stage s ↔ HasStageWord sq1_after stage (flipped s)
   has_word-flipped s v = (
     λ found. (found.0, (IsStageWord-flipped s found.0 v).0 found.1),
     λ found. (found.0, (IsStageWord-flipped s found.0 v).1 found.1),
@@ -102,7 +105,8 @@ level-squaring s v = (λ n. record { shape = n.shape; even = n.even }, λ n. rec
 level-last : IsLevel last_stage
 level-last s v = (λ home. home, λ home. home)
 
-pub layers-flipped : (s : Sq1State) (w : List Turn) → IsSq1 s → IsSolution sq1_after layer_stages s w → IsSolution sq1_after layer_stages (flipped s) w
+pub layers-flipped : (s : Sq1State) (w : List Turn) → IsSq1 s → IsSolution sq1_after layer_stages s w
+    → IsSolution sq1_after layer_stages (flipped s) w
 unfolding AreLevel
 layers-flipped =
     solution-flipped layer_stages (

@@ -1,5 +1,5 @@
--- The third stage: a state in which mates stand together is told by its index, but for the equator, and so its index goes along
--- with words.
+-- The third stage: a state in which mates stand together is told by its index, but for the equator, and so its index
+-- goes along with words.
 use Rattle.std.proofs.Common.{◌≡◌, ℕ, ◌+◌, ◌*◌, ◌/◌, ◌%◌, ◌<◌, Bool, false, IsTrue, List, map, Option, Some, None, refl, sym, ap, ◌∙◌, subst, arith, lit<}
 use Rattle.std.specs.Option.{option_map}
 use Rattle.std.proofs.lemmas.Bool.{and_parts}
@@ -50,7 +50,8 @@ module _ (letter : ℕ → List Turn) (tested : IsTrue (are_normal letter)) (mat
       let both = and_parts (same cs mates) (same es mates) (at_below (keeps_mates letter) 32 n mates_tested lt) in
       (same-true cs mates both.0, same-true es mates both.1)
 
-  pub IsPaired-moved : (s : Sq1State) (n : ℕ) → IsPairedSq1 s → n < 32 → (m : IsMovedBy letter tested s n) × IsPairedSq1 m.state
+  pub IsPaired-moved : (s : Sq1State) (n : ℕ) → IsPairedSq1 s → n < 32
+      → (m : IsMovedBy letter tested s n) × IsPairedSq1 m.state
   IsPaired-moved s n h lt =
       let m = IsMovedBy-normal letter tested s n h.normal lt in
       let p = StatePieces-valid s h.normal.valid in
@@ -65,7 +66,8 @@ module _ (letter : ℕ → List Turn) (tested : IsTrue (are_normal letter)) (mat
         },
       )
 
-  pub IsPaired-after : (s r : Sq1State) (n : ℕ) → IsPairedSq1 s → n < 32 → play sq1_after s (letter n) ≡ Some r → IsPairedSq1 r
+  pub IsPaired-after : (s r : Sq1State) (n : ℕ) → IsPairedSq1 s → n < 32 → play sq1_after s (letter n) ≡ Some r
+      → IsPairedSq1 r
   IsPaired-after s r n h lt e =
       let m = IsPaired-moved s n h lt in
       subst IsPairedSq1 (IsMovedBy-is letter tested s r n m.0 e) m.1
@@ -86,10 +88,12 @@ pub quarters_paired : IsTrue (keep_mates quarter_word)
 unfolding keep_mates same carried_pairing units_after all_below play turn_word quarter_word sq1_after after_layers turned turn_places twisted twist_places corners_of edges_of
 quarters_paired = refl
 
-pub IsPaired-home : (s r : Sq1State) (n : ℕ) → IsPairedSq1 s → n < 32 → play sq1_after s (home_letter n) ≡ Some r → IsPairedSq1 r
+pub IsPaired-home : (s r : Sq1State) (n : ℕ) → IsPairedSq1 s → n < 32 → play sq1_after s (home_letter n) ≡ Some r
+    → IsPairedSq1 r
 IsPaired-home = IsPaired-after home_letter home_letters_normal home_letters_paired
 
-IsPaired-quarter : (s r : Sq1State) (n : ℕ) → IsPairedSq1 s → n < 32 → play sq1_after s (quarter_word n) ≡ Some r → IsPairedSq1 r
+IsPaired-quarter : (s r : Sq1State) (n : ℕ) → IsPairedSq1 s → n < 32 → play sq1_after s (quarter_word n) ≡ Some r
+    → IsPairedSq1 r
 IsPaired-quarter = IsPaired-after quarter_word quarters_normal quarters_paired
 
 -- ---- the index tells the layers

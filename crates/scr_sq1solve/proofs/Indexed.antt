@@ -1,5 +1,5 @@
--- States by an index: where words do the same to the indexes of states that have one index, a search finds the same on the
--- indexes as on the states.
+-- States by an index: where words do the same to the indexes of states that have one index, a search finds the same on
+-- the indexes as on the states.
 use Rattle.std.proofs.Common.{◌≡◌, ℕ, ◌<◌, Bool, true, false, IsTrue, cond, List, Option, Some, None, refl, sym, ap, ◌∙◌, eq-eqb, eqb-true, ltb-true}
 use Rattle.std.specs.Prelude.{◌↔◌, ◌==◌, nat_lt}
 use Rattle.std.specs.Option.{option_map}
@@ -16,9 +16,9 @@ use Rattle.scr_combinatorics.proofs.StageLaws.{by_letters-parts}
 use Rattle.scr_combinatorics.proofs.OneLetter.{IsEnding}
 use Rattle.scr_sq1solve.proofs.EndingTests.{TellsLetters, word-tested, tested-word}
 
--- What holds of states by an index: each index below the count is that of a valid state; words do the same to the indexes of
--- valid states that have one index; a stage's letters keep states valid; and where a letter of the next stage leads, that one's
--- goal is to have the index of the solved state.
+-- What holds of states by an index: each index below the count is that of a valid state; words do the same to the
+-- indexes of valid states that have one index; a stage's letters keep states valid; and where a letter of the next
+-- stage leads, that one's goal is to have the index of the solved state.
 pub record IsIndex (IsValid : Sq1State → Type 0) (count : ℕ) (index_of : Sq1State → ℕ) (state_at : ℕ → Sq1State)
     (stage next : Stage Sq1State Turn) : Type 0 where
   pub valid : (i : ℕ) → i < count → IsValid (state_at i)
@@ -26,7 +26,8 @@ pub record IsIndex (IsValid : Sq1State → Type 0) (count : ℕ) (index_of : Sq1
   pub below : (s : Sq1State) → IsValid s → index_of s < count
   pub alike : (s r : Sq1State) (w : List Turn) → IsValid s → IsValid r → index_of s ≡ index_of r
       → option_map index_of (play sq1_after s w) ≡ option_map index_of (play sq1_after r w)
-  pub kept : (s r : Sq1State) (n : ℕ) → IsValid s → n < stage.letters → play sq1_after s (stage.letter n) ≡ Some r → IsValid r
+  pub kept : (s r : Sq1State) (n : ℕ) → IsValid s → n < stage.letters → play sq1_after s (stage.letter n) ≡ Some r
+      → IsValid r
   pub ending : IsEnding sq1_after next
   pub ended : (s r : Sq1State) (n : ℕ) → IsValid s → n < next.letters → play sq1_after s (next.letter n) ≡ Some r
       → next.IsGoal r ↔ (index_of r ≡ index_of solved_sq1)

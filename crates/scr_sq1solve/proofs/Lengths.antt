@@ -83,7 +83,8 @@ Costs-home n =
     let whole = Costs-append (Costs-quarter (n % 16)) exchange in
     whole
 
-pub Costs-letter : (letters : Letters) (n : ℕ) → Costs (letter_of letters n) (each_of letters).turns (each_of letters).twists
+pub Costs-letter : (letters : Letters) (n : ℕ)
+    → Costs (letter_of letters n) (each_of letters).turns (each_of letters).twists
 unfolding squaring_letter
 Costs-letter OfShapes n = Costs-shape n
 Costs-letter OfPairings n = Costs-pairing n
@@ -93,7 +94,8 @@ Costs-letter Quarters n = Costs-quarter n
 
 -- ---- tidying adds no twists
 
-kept_merged : (b : Bool) (t : Turn) → twists_of t ≡ 0 → twists_in (word_of (let o : Option Turn = cond b None (Some t) in o)) ≡ 0
+kept_merged : (b : Bool) (t : Turn) → twists_of t ≡ 0
+    → twists_in (word_of (let o : Option Turn = cond b None (Some t) in o)) ≡ 0
 unfolding count_in word_of
 kept_merged true t e = refl
 kept_merged false t e = omega (arith, e)
@@ -131,7 +133,8 @@ unfolding with_turn count_in
 twists-with_turn t [] = omega arith
 twists-with_turn t (u ∷ w) = merged (are_alike t u)
   where
-    merged : (b : Bool) → twists_in (let v : List Turn = cond b (word_of (turns_merged t u) ++ w) (t ∷ u ∷ w) in v) ≤ twists_of t + (twists_of u + twists_in w)
+    merged : (b : Bool)
+        → twists_in (let v : List Turn = cond b (word_of (turns_merged t u) ++ w) (t ∷ u ∷ w) in v) ≤ twists_of t + (twists_of u + twists_in w)
     merged true = omega (arith, twists-append (word_of (turns_merged t u)) w, twists-merged t u)
     merged false = omega arith
 

@@ -19,12 +19,14 @@ use Rattle.scr_sq1solve.specs.declared.stage_letters.Step.TheVariants.{Turned, T
 -- ---- turns of the layers
 
 -- the amounts of a turn, modulo 12, are those of one, unless neither layer is turned
-pub layers-permitted : (x y : ℤ) → are_still (twelfths x) (twelfths y) ≡ false → IsTrue (is_layer_turn (Layers (twelfths x) (twelfths y)))
+pub layers-permitted : (x y : ℤ) → are_still (twelfths x) (twelfths y) ≡ false
+    → IsTrue (is_layer_turn (Layers (twelfths x) (twelfths y)))
 layers-permitted x y some =
     layers_of_parts (twelfths x) (twelfths y)
     (record { top_within = (AreTwelfths-twelfths x).within; bottom_within = (AreTwelfths-twelfths y).within; some = some })
 
-pub turn_word-some : (x y : ℤ) → are_still (twelfths x) (twelfths y) ≡ false → turn_word x y ≡ Layers (twelfths x) (twelfths y) ∷ []
+pub turn_word-some : (x y : ℤ) → are_still (twelfths x) (twelfths y) ≡ false
+    → turn_word x y ≡ Layers (twelfths x) (twelfths y) ∷ []
 unfolding turn_word
 turn_word-some x y some = cond-false (are_still (twelfths x) (twelfths y)) [] (Layers (twelfths x) (twelfths y) ∷ []) some
 
@@ -44,11 +46,13 @@ pub shape-steps : (n : ℕ) → shape_letter n ≡ first_word OfShapes n ++ step
 unfolding shape_letter
 shape-steps n = refl
 
-pub pairing-low : (n : ℕ) → nat_lt n 16 ≡ true → pairing_letter n ≡ first_word OfPairings n ++ steps (Twisted ∷ Turned (pos 0) (pos 1) ∷ [])
+pub pairing-low : (n : ℕ) → nat_lt n 16 ≡ true
+    → pairing_letter n ≡ first_word OfPairings n ++ steps (Twisted ∷ Turned (pos 0) (pos 1) ∷ [])
 unfolding pairing_letter turn_word
 pairing-low n e = cond-true (nat_lt n 16) _ _ e ∙ ap (λ w. w ++ steps (Twisted ∷ Turned (pos 0) (pos 1) ∷ [])) (sym (cond-true (nat_lt n 16) _ _ e))
 
-pub pairing-high : (n : ℕ) → nat_lt n 16 ≡ false → pairing_letter n ≡ first_word OfPairings n ++ steps (Twisted ∷ Turned (negsuc 0) (pos 0) ∷ [])
+pub pairing-high : (n : ℕ) → nat_lt n 16 ≡ false
+    → pairing_letter n ≡ first_word OfPairings n ++ steps (Twisted ∷ Turned (negsuc 0) (pos 0) ∷ [])
 unfolding pairing_letter turn_word
 pairing-high n e = cond-false (nat_lt n 16) _ _ e ∙ ap (λ w. w ++ steps (Twisted ∷ Turned (negsuc 0) (pos 0) ∷ [])) (sym (cond-false (nat_lt n 16) _ _ e))
 
@@ -76,8 +80,9 @@ still-written v x y a b event top bottom still =
     ∙ ap written (sym (append-nil v.turns))
     ∙ ap (λ ts. written (v.turns ++ ts)) (sym (turn_word-none x y is))
 
-pub layers-written : (v w : Written) (x y a b : ℤ) → v.event ≡ Sq1 → a ≡ twelfths x → b ≡ twelfths y → are_still a b ≡ false
-    → w ≡ record { event = v.event; turns = v.turns ++ Layers a b ∷ [] } → w ≡ written (v.turns ++ turn_word x y)
+pub layers-written : (v w : Written) (x y a b : ℤ) → v.event ≡ Sq1 → a ≡ twelfths x → b ≡ twelfths y
+    → are_still a b ≡ false → w ≡ record { event = v.event; turns = v.turns ++ Layers a b ∷ [] }
+    → w ≡ written (v.turns ++ turn_word x y)
 layers-written v w x y a b event top bottom some made =
     let is : are_still (twelfths x) (twelfths y) ≡ false = sym (ap (λ z. are_still z b) top ∙ ap (are_still (twelfths x)) bottom) ∙ some in
     made
@@ -86,8 +91,8 @@ layers-written v w x y a b event top bottom some made =
     ∙ ap (λ z. written (v.turns ++ Layers (twelfths x) z ∷ [])) bottom
     ∙ ap (λ ts. written (v.turns ++ ts)) (sym (turn_word-some x y is))
 
-pub layers-permitted-by : (v : Written) (x y a b : ℤ) → v.event ≡ Sq1 → a ≡ twelfths x → b ≡ twelfths y → are_still a b ≡ false
-    → IsTrue (permits v.event (Layers a b))
+pub layers-permitted-by : (v : Written) (x y a b : ℤ) → v.event ≡ Sq1 → a ≡ twelfths x → b ≡ twelfths y
+    → are_still a b ≡ false → IsTrue (permits v.event (Layers a b))
 layers-permitted-by v x y a b event top bottom some =
     let is : are_still (twelfths x) (twelfths y) ≡ false = sym (ap (λ z. are_still z b) top ∙ ap (are_still (twelfths x)) bottom) ∙ some in
     ap (λ e. permits e (Layers a b)) event

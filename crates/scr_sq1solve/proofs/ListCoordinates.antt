@@ -25,7 +25,8 @@ use Rattle.scr_sq1solve.proofs.PairingStage.{IsPairing-mates}
 
 -- ---- pairings
 
-pub StaysBelow-pairing_lists : (letters : List (List ℕ)) → All (IsPermutation 8) letters → StaysBelow (projection pairings_view (moves_of letters))
+pub StaysBelow-pairing_lists : (letters : List (List ℕ)) → All (IsPermutation 8) letters
+    → StaysBelow (projection pairings_view (moves_of letters))
 StaysBelow-pairing_lists letters each =
     StaysBelow-projection pairings_view (IsPairing 8) (λ turn. IsPermutation 8 turn.places) (moves_of letters)
     (record { one_to_one = pairings_one_to_one 4; turned = λ xs turn h p. IsPairing-carried xs turn.places h p; goal = IsPairing-mates })
@@ -78,7 +79,8 @@ IsListView-codes = record {
   goal = in_order_opposite;
 }
 
-pub StaysBelow-code_lists : (letters : List (List ℕ)) → All KeepsMates letters → StaysBelow (projection codes_view (moves_of letters))
+pub StaysBelow-code_lists : (letters : List (List ℕ)) → All KeepsMates letters
+    → StaysBelow (projection codes_view (moves_of letters))
 StaysBelow-code_lists letters each =
     StaysBelow-projection codes_view IsOpposite (λ turn. KeepsMates turn.places) (moves_of letters) IsListView-codes
     (All-map (λ turn. KeepsMates turn.places) move_by letters each)

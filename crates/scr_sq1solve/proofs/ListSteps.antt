@@ -10,8 +10,9 @@ use Rattle.scr_sq1solve.specs.Placed.{move_by, moves_of}
 pub moves-count : (letters : List (List ℕ)) → length (moves_of letters) ≡ length letters
 moves-count letters = length-map letters move_by
 
-pub list-after : (v : ListView) (letters : List (List ℕ)) (p t q : ℕ) (ks : List ℕ) → t < length letters → ks ≡ slice_index_or letters t []
-    → q ≡ v.number_of (v.turned (v.list_at p) (move_by ks)) → Some q ≡ (projection v (moves_of letters)).after p t
+pub list-after : (v : ListView) (letters : List (List ℕ)) (p t q : ℕ) (ks : List ℕ) → t < length letters
+    → ks ≡ slice_index_or letters t [] → q ≡ v.number_of (v.turned (v.list_at p) (move_by ks))
+    → Some q ≡ (projection v (moves_of letters)).after p t
 list-after v letters p t q ks lt is number =
     ap Some (number ∙ ap (λ ls. v.number_of (v.turned (v.list_at p) (move_by ls))) is)
     ∙ sym (ap (option_map (λ r. v.number_of (v.turned (v.list_at p) r)))

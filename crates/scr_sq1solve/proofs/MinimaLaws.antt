@@ -1,4 +1,5 @@
--- The test of a minimum is exact, and so is a search that leaves out turns of the layers right after each other, and twists.
+-- The test of a minimum is exact, and so is a search that leaves out turns of the layers right after each other, and
+-- twists.
 use Rattle.std.proofs.Common.{◌≡◌, ℕ, suc, ◌+◌, ◌%◌, ◌/◌, ◌<◌, ◌≤◌, inl, inr, Bool, true, false, IsTrue, cond, List, []}
 use Rattle.std.proofs.Common.{◌∷◌, length, Option, Some, None, refl, sym, ap, ◌∙◌, subst, arith, eq-eqb, eqb-true}
 use Rattle.std.specs.Prelude.{◌↔◌, All, ◌==◌, ◌&&◌, not, nat_lt, ℤ, pos, ◌+ℤ◌, ◌-ℤ◌}
@@ -52,7 +53,8 @@ is_solved-iff s = (λ t. solved_from s.units s.equator t, λ e. ap is_solved_sq1
 
 -- ---- turns by their numbers
 
-pub turned-number : (s : Sq1State) (n : ℕ) → length s.units ≡ 24 → n < 144 → number_turned sq1_moves s n ≡ sq1_after s (layer_turn_at n)
+pub turned-number : (s : Sq1State) (n : ℕ) → length s.units ≡ 24 → n < 144
+    → number_turned sq1_moves s n ≡ sq1_after s (layer_turn_at n)
 turned-number s n size lt =
     cond-true (nat_lt n 144) (cond (length s.units == 24) (sq1_after s (layer_turn_at n)) None) None (lt-ltb n 144 lt)
     ∙ cond-true (length s.units == 24) (sq1_after s (layer_turn_at n)) None (eq-eqb (length s.units) 24 size)
@@ -84,7 +86,8 @@ layers_number n apart = cond-false (n == 65) Twist (Layers (top_of n) (bottom_of
 
 -- ---- two turns of the layers, or two twists, right after each other
 
-turned_together : (s : Sq1State) (x y z w : ℤ) → turned (turned s x y) z w ≡ turned s (twelfths (x +ℤ z)) (twelfths (y +ℤ w))
+turned_together : (s : Sq1State) (x y z w : ℤ)
+    → turned (turned s x y) z w ≡ turned s (twelfths (x +ℤ z)) (twelfths (y +ℤ w))
 unfolding turned
 turned_together s x y z w =
     let p : IsPermutation 24 (turn_places (clockwise x) (clockwise y)) = (IsTurnTable-turn (clockwise x) (clockwise y) (clockwise-lt x) (clockwise-lt y)).permutation in
@@ -110,8 +113,8 @@ MadeByOne s q = (w : List ℕ) × (length w ≤ 1) × (play (number_turned sq1_m
 by_none : (s q : Sq1State) → q ≡ s → MadeByOne s q
 by_none s q e = ([], omega arith, play-empty (number_turned sq1_moves) s ∙ ap Some (sym e))
 
-by_layers : (s q : Sq1State) (x y : ℤ) (b : Bool) → are_still x y ≡ b → length s.units ≡ 24 → IsTrue (is_open q.units) → q ≡ turned s x y
-    → (x ≡ twelfths x) → (y ≡ twelfths y) → MadeByOne s q
+by_layers : (s q : Sq1State) (x y : ℤ) (b : Bool) → are_still x y ≡ b → length s.units ≡ 24 → IsTrue (is_open q.units)
+    → q ≡ turned s x y → (x ≡ twelfths x) → (y ≡ twelfths y) → MadeByOne s q
 unfolding turn_at
 by_layers s q x y true still size opened is tx ty =
     by_none s q (is ∙ turned_nothing s x y size (are_still-first x y still) (are_still-second x y still))
@@ -222,8 +225,8 @@ after-twist s r n valid is made =
     ∙ sym (cond-true (length s.units == 24) (sq1_after s (layer_turn_at n)) None (eq-eqb (length s.units) 24 valid.size)
     ∙ ap (sq1_after s) (ap layer_turn_at is ∙ twist_number))
 
-pub after-number : (s : Sq1State) (n : ℕ) (o : Option Sq1State) → IsSq1 s → n < 144 → (n ≡ 65 → ⊥) → o ≡ after_layers s (top_of n) (bottom_of n)
-    → o ≡ sq1_moves.after s n
+pub after-number : (s : Sq1State) (n : ℕ) (o : Option Sq1State) → IsSq1 s → n < 144 → (n ≡ 65 → ⊥)
+    → o ≡ after_layers s (top_of n) (bottom_of n) → o ≡ sq1_moves.after s n
 unfolding sq1_after turn_at
 after-number s n o valid lt apart made =
     let letter : IsTrue (is_layer_turn (Layers (top_of n) (bottom_of n))) =

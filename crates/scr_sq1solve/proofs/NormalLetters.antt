@@ -42,7 +42,8 @@ module _ (letter : ℕ → List Turn) (tested : IsTrue (are_normal letter)) wher
     pub played : play sq1_after solved_sq1 (letter n) ≡ Some state
     pub are : IsNormalSq1 state
 
-  made_of : (n : ℕ) (o : Option Sq1State) → play sq1_after solved_sq1 (letter n) ≡ o → IsTrue (option_map_or is_normal o false) → IsMade n
+  made_of : (n : ℕ) (o : Option Sq1State) → play sq1_after solved_sq1 (letter n) ≡ o
+      → IsTrue (option_map_or is_normal o false) → IsMade n
   made_of n None e t = absurd (false≢true t)
   made_of n (Some r) e t =
       let valid = keeps_sq1 solved_sq1 r (letter n) IsSq1-solved e in

@@ -95,7 +95,8 @@ HasCode-test xs t =
       again = same-true (paired_at (bits_number xs) (pairs_number xs)) xs a.1;
     }
 
-HasCode-filled : (a b c d : ℕ) → a < 8 → b < 8 → c < 8 → d < 8 → IsPermutation 8 (filled a b c d) → HasCode (filled a b c d)
+HasCode-filled : (a b c d : ℕ) → a < 8 → b < 8 → c < 8 → d < 8 → IsPermutation 8 (filled a b c d)
+    → HasCode (filled a b c d)
 HasCode-filled a b c d la lb lc ld p =
     let xs : List ℕ = filled a b c d in
     let at_b = at_below (λ j. all_below (λ k. all_below (λ l. list_test a j k l) 8) 8) 8 b (at_below lists_test 8 a lists_tested la) lb in
@@ -136,7 +137,8 @@ HasCode-paired xs p paired =
     (subst (IsPermutation 8) (sym full) p))
 
 -- two lists with one code are the same
-pub same_list : (xs ys : List ℕ) → HasCode xs → HasCode ys → bits_number xs ≡ bits_number ys → pairs_number xs ≡ pairs_number ys → xs ≡ ys
+pub same_list : (xs ys : List ℕ) → HasCode xs → HasCode ys → bits_number xs ≡ bits_number ys
+    → pairs_number xs ≡ pairs_number ys → xs ≡ ys
 same_list xs ys a b bits pairs =
     sym a.again ∙ ap (λ n. paired_at n (pairs_number xs)) bits ∙ ap (paired_at (bits_number ys)) pairs ∙ b.again
 
@@ -169,7 +171,8 @@ last_tested : IsTrue (all_below (λ low. all_below (λ last. last_test low last)
 unfolding all_below
 last_tested = refl
 
-pub parity-last : (low last : ℕ) → low < 8 → last < 2 → bits_parity (low + 8 * last) ≡ (total (mixed_digits (2 ∷ 2 ∷ 2 ∷ []) low) + last) % 2
+pub parity-last : (low last : ℕ) → low < 8 → last < 2
+    → bits_parity (low + 8 * last) ≡ (total (mixed_digits (2 ∷ 2 ∷ 2 ∷ []) low) + last) % 2
 parity-last low last la lb =
     let row = at_below (λ i. all_below (λ j. last_test i j) 2) 8 low last_tested la in
     eqb-true (bits_parity (low + 8 * last)) ((total (mixed_digits (2 ∷ 2 ∷ 2 ∷ []) low) + last) % 2) (at_below (λ j. last_test low j) 2 last row lb)

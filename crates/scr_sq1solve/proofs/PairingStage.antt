@@ -103,7 +103,8 @@ module _ (pieces_of : List ℕ → List ℕ) (permutation : (s : Sq1State) → I
       (record { one_to_one = pairings_one_to_one 4; turned = λ xs turn h p. IsPairing-carried xs turn.places h p; goal = IsPairing-mates })
       (λ n d lt. subst (λ turn. IsPermutation 8 turn.places) (sym (turn_at n d lt)) (places n lt))
     where
-      turn_at : (n : ℕ) (d : Rearrangement) → n < 32 → slice_index_or (letters_by pieces_of pairing_letter) n d ≡ part_places n
+      turn_at : (n : ℕ) (d : Rearrangement) → n < 32
+          → slice_index_or (letters_by pieces_of pairing_letter) n d ≡ part_places n
       turn_at n d lt =
           get_or-map part_places (numbers_from 0 32) n 0 d lt ∙ ap part_places {y = n} (omega (arith, numbers_from-at 0 32 n lt))
 

@@ -69,7 +69,8 @@ module _ (n : ℕ) (xs : List ℕ) (p : IsPermutation n xs) where
       ]
 
   -- where a piece stands when the pieces are moved
-  pub place_of-pick : (v : ℕ) (ks : List ℕ) → v < n → All (λ k. k < n) ks → place_of v (pick xs ks) ≡ place_of (place_of v xs) ks
+  pub place_of-pick : (v : ℕ) (ks : List ℕ) → v < n → All (λ k. k < n) ks
+      → place_of v (pick xs ks) ≡ place_of (place_of v xs) ks
   place_of-pick v [] lv below = refl
   place_of-pick v (k ∷ ks) lv below =
       ap (λ b. let m : ℕ = cond b 0 (suc (place_of v (pick xs ks))) in m) (same_place v k lv (All-head (λ z. z < n) k ks below))
@@ -106,7 +107,8 @@ module _ (xs : List ℕ) (p : IsPermutation 8 xs) where
       }
 
   -- moves of the pieces carry it along
-  pub pairing_of-pick : (ks : List ℕ) → IsPermutation 8 ks → pairing_of (pick xs ks) ≡ carried_pairing (pairing_of xs) ks
+  pub pairing_of-pick : (ks : List ℕ) → IsPermutation 8 ks
+      → pairing_of (pick xs ks) ≡ carried_pairing (pairing_of xs) ks
   unfolding pairing_of carried_pairing
   pairing_of-pick ks q = carried ks (All-permutation 8 ks q)
     where

@@ -143,11 +143,13 @@ module _ (n : Names) (h : AreNames n) where
       let t = IsTurnTable-turn (clockwise x) (clockwise y) (clockwise-lt x) (clockwise-lt y) in
       length-pick s.units (turn_places (clockwise x) (clockwise y)) ∙ t.permutation.size
 
-  some_if : (b : Bool) (r : Sq1State) → (let o : Option Sq1State = cond b (Some (renamed n r)) None in o) ≡ option_map (renamed n) (cond b (Some r) None)
+  some_if : (b : Bool) (r : Sq1State)
+      → (let o : Option Sq1State = cond b (Some (renamed n r)) None in o) ≡ option_map (renamed n) (cond b (Some r) None)
   some_if true r = refl
   some_if false r = refl
 
-  after_layers-renamed : (s : Sq1State) (x y : ℤ) → length s.units ≡ 24 → after_layers (renamed n s) x y ≡ option_map (renamed n) (after_layers s x y)
+  after_layers-renamed : (s : Sq1State) (x y : ℤ) → length s.units ≡ 24
+      → after_layers (renamed n s) x y ≡ option_map (renamed n) (after_layers s x y)
   unfolding after_layers
   after_layers-renamed s x y size =
       let moved : Sq1State = turned s x y in
@@ -160,7 +162,8 @@ module _ (n : Names) (h : AreNames n) where
   layers_if true o p e = e
   layers_if false o p e = refl
 
-  pub sq1_after-renamed : (s : Sq1State) (t : Turn) → length s.units ≡ 24 → sq1_after (renamed n s) t ≡ option_map (renamed n) (sq1_after s t)
+  pub sq1_after-renamed : (s : Sq1State) (t : Turn) → length s.units ≡ 24
+      → sq1_after (renamed n s) t ≡ option_map (renamed n) (sq1_after s t)
   unfolding sq1_after
   sq1_after-renamed s (Layers x y) size = layers_if (is_layer_turn (Layers x y)) (after_layers (renamed n s) x y) (after_layers s x y) (after_layers-renamed s x y size)
   sq1_after-renamed s Twist size = ap Some (twisted-renamed s size)
@@ -177,7 +180,8 @@ module _ (n : Names) (h : AreNames n) where
   rest_renamed w None e = refl
   rest_renamed w (Some r) e = e r refl
 
-  pub play-renamed : (s : Sq1State) (w : List Turn) → IsSq1 s → play sq1_after (renamed n s) w ≡ option_map (renamed n) (play sq1_after s w)
+  pub play-renamed : (s : Sq1State) (w : List Turn) → IsSq1 s
+      → play sq1_after (renamed n s) w ≡ option_map (renamed n) (play sq1_after s w)
   unfolding play
   play-renamed s [] valid = refl
   play-renamed s (t ∷ w) valid =

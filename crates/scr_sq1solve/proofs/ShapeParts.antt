@@ -72,7 +72,8 @@ module _ (s : Sq1State) (h : IsSq1 s) where
       ap (play sq1_after s) (cond-true (nat_lt n 12) _ _ (lt-ltb n 12 lt))
       ∙ play-layers s (amount n) (pos 0) h (IsTwelfths-amount n lt) IsTwelfths-none
 
-  pub play-bottom : (n k : ℕ) → n ≡ 12 + k → k < 12 → play sq1_after s (shape_part n) ≡ after_layers s (pos 0) (amount k)
+  pub play-bottom : (n k : ℕ) → n ≡ 12 + k → k < 12
+      → play sq1_after s (shape_part n) ≡ after_layers s (pos 0) (amount k)
   unfolding shape_part
   play-bottom n k is lt =
       ap (play sq1_after s) (cond-false (nat_lt n 12) _ _ (le-ltb n 12 (omega arith)) ∙ cond-true (nat_lt n 24) _ _ (lt-ltb n 24 (omega arith)))
@@ -88,7 +89,8 @@ pub read-amount : (k : ℕ) → k < 12 → to_z w8 (of_z w8 (to_z w8 k -ℤ pos 
 read-amount k lt = omega (arith, ints, lt)
 
 -- a turn by amounts that are told otherwise
-pub after-amounts : (s : Sq1State) (o : Option Sq1State) (x y a b : ℤ) → o ≡ after_layers s x y → x ≡ a → y ≡ b → o ≡ after_layers s a b
+pub after-amounts : (s : Sq1State) (o : Option Sq1State) (x y a b : ℤ) → o ≡ after_layers s x y → x ≡ a → y ≡ b
+    → o ≡ after_layers s a b
 after-amounts s o x y a b e top bottom = e ∙ ap (λ z. after_layers s z y) top ∙ ap (after_layers s a) bottom
 
 -- ---- a letter's parts, one after the other
@@ -104,7 +106,8 @@ joined_at : (v w : List Turn) (o : Option Sq1State)
 joined_at v w None each = refl
 joined_at v w (Some r) each = each r
 
-play-joined : (s : Sq1State) (v w : List Turn) → play sq1_after s (v ++ w) ≡ option_and_then (λ q. play sq1_after q w) (play sq1_after s v)
+play-joined : (s : Sq1State) (v w : List Turn)
+    → play sq1_after s (v ++ w) ≡ option_and_then (λ q. play sq1_after q w) (play sq1_after s v)
 unfolding play
 play-joined s [] w = refl
 play-joined s (t ∷ v) w = joined_at v w (sq1_after s t) (λ r. play-joined r v w)
@@ -166,7 +169,8 @@ squaring-index n few =
     ap (λ z. turn_word z (pos (n / 2))) (omega (arith, ints)) ∙ ap (turn_word (amount (5 - n % 2))) (omega (arith, ints))
 
 -- a part that turns nothing
-still-index : (i k : ℕ) → i < 7356 → k < 25 → play sq1_after (shapes_state i) (shape_part k) ≡ after_layers (shapes_state i) (pos 0) (pos 0)
+still-index : (i k : ℕ) → i < 7356 → k < 25
+    → play sq1_after (shapes_state i) (shape_part k) ≡ after_layers (shapes_state i) (pos 0) (pos 0)
     → Some i ≡ option_map shapes_index (by_letters sq1_after 25 shape_part (shapes_state i) k)
 still-index i k at part played =
     sym (ap (option_map shapes_index)
@@ -174,12 +178,14 @@ still-index i k at part played =
     ∙ sym (still-layers (shapes_state i) (pos 0) (pos 0) (valid i at) IsTwelfths-none IsTwelfths-none refl))
     ∙ ap Some (IsIndex-shapes.again i at))
 
-pub still-top : (i k : ℕ) → i < 7356 → k ≡ 5 → Some i ≡ option_map shapes_index (by_letters sq1_after 25 shape_part (shapes_state i) k)
+pub still-top : (i k : ℕ) → i < 7356 → k ≡ 5
+    → Some i ≡ option_map shapes_index (by_letters sq1_after 25 shape_part (shapes_state i) k)
 still-top i k at is =
     still-index i 5 at (lit< tt) (play-top (shapes_state i) (valid i at) 5 (lit< tt))
     ∙ ap (λ n. option_map shapes_index (by_letters sq1_after 25 shape_part (shapes_state i) n)) (sym is)
 
-pub still-bottom : (i k : ℕ) → i < 7356 → k ≡ 17 → Some i ≡ option_map shapes_index (by_letters sq1_after 25 shape_part (shapes_state i) k)
+pub still-bottom : (i k : ℕ) → i < 7356 → k ≡ 17
+    → Some i ≡ option_map shapes_index (by_letters sq1_after 25 shape_part (shapes_state i) k)
 still-bottom i k at is =
     still-index i 17 at (lit< tt) (play-bottom (shapes_state i) (valid i at) 17 5 refl (lit< tt))
     ∙ ap (λ n. option_map shapes_index (by_letters sq1_after 25 shape_part (shapes_state i) n)) (sym is)
@@ -202,7 +208,7 @@ parts-below i k (Some j) at part e =
     StaysBelow-parts i k j at part (ap (option_map shapes_index) (by_letters-played sq1_after 25 shape_part (shapes_state i) k part) ∙ sym e)
 
 -- the part of a state that stands for an index
-pub part-made : (s : Sq1State) (i k : ℕ) (o : Option Sq1State) → k < 25 → s ≡ shapes_state i → o ≡ play sq1_after s (shape_part k)
-    → by_letters sq1_after 25 shape_part (shapes_state i) k ≡ o
+pub part-made : (s : Sq1State) (i k : ℕ) (o : Option Sq1State) → k < 25 → s ≡ shapes_state i
+    → o ≡ play sq1_after s (shape_part k) → by_letters sq1_after 25 shape_part (shapes_state i) k ≡ o
 part-made s i k o lt is made =
     by_letters-played sq1_after 25 shape_part (shapes_state i) k lt ∙ ap (λ r. play sq1_after r (shape_part k)) (sym is) ∙ sym made

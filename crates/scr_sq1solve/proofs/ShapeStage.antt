@@ -49,7 +49,8 @@ SameIndex-index s r vs vr e =
 
 -- two states with names of one parity
 both_renamed : (n m : Names) (o : Option Sq1State) → AreNames n → AreNames m
-    → (parity n.corners + parity n.edges) % 2 ≡ (parity m.corners + parity m.edges) % 2 → ((b : Sq1State) → o ≡ Some b → IsSq1 b)
+    → (parity n.corners + parity n.edges) % 2 ≡ (parity m.corners + parity m.edges) % 2
+    → ((b : Sq1State) → o ≡ Some b → IsSq1 b)
     → option_map shapes_index (option_map (renamed n) o) ≡ option_map shapes_index (option_map (renamed m) o)
 both_renamed n m None hn hm e v = refl
 both_renamed n m (Some b) hn hm e v =
@@ -133,7 +134,8 @@ pub record IsSquareOf (cs es : List ℕ) : Type 0 where
   pub corners : corners_of (square_of cs es).units ≡ cs
   pub edges : edges_of (square_of cs es).units ≡ es
 
-pub IsSquareOf-lists : (cs es : List ℕ) → IsPermutation 8 cs → IsPermutation 8 es → (parity cs + parity es) % 2 ≡ 0 → IsSquareOf cs es
+pub IsSquareOf-lists : (cs es : List ℕ) → IsPermutation 8 cs → IsPermutation 8 es → (parity cs + parity es) % 2 ≡ 0
+    → IsSquareOf cs es
 unfolding oddness
 IsSquareOf-lists cs es p q even =
     let hs : List ℕ = shape_of solved_sq1.units in

@@ -56,10 +56,12 @@ module _ (s : Sq1State) (valid : IsSq1 s) where
 -- ---- the first of them
 
 -- letters of the first stage have numbers below 144
-shape_letters : (s : Sq1State) (word : List ℕ) → LeadsTo (by_letters sq1_after 144 shape_letter) shape_stage.IsGoal s word → All (λ n. n < 144) word
+shape_letters : (s : Sq1State) (word : List ℕ)
+    → LeadsTo (by_letters sq1_after 144 shape_letter) shape_stage.IsGoal s word → All (λ n. n < 144) word
 shape_letters s word l = All-letters sq1_after 144 shape_letter s l.end word l.played
 
-pub IsStageWord-listed : (s : Sq1State) (word : List ℕ) → slice_get (shape_words s) 0 ≡ Some word ↔ IsStageWord sq1_after shape_stage s word
+pub IsStageWord-listed : (s : Sq1State) (word : List ℕ)
+    → slice_get (shape_words s) 0 ≡ Some word ↔ IsStageWord sq1_after shape_stage s word
 unfolding shape_words
 IsStageWord-listed s word =
     let first =
@@ -73,7 +75,8 @@ module _ (s : Sq1State) where
   IsEarlier-shape_words =
       IsEarlier-listed (by_letters sq1_after 144 shape_letter) shape_stage.IsGoal s 144 13 (is_shape_word s) (IsShapeWord-iff s) (shape_letters s)
 
-  pub Contains-shape_words : (word : List ℕ) → Contains (shape_words s) word ↔ (length word ≤ 13) × IsTrue (is_shape_word s word)
+  pub Contains-shape_words : (word : List ℕ)
+      → Contains (shape_words s) word ↔ (length word ≤ 13) × IsTrue (is_shape_word s word)
   unfolding shape_words
   Contains-shape_words word =
       let tells = IsShapeWord-iff s word in
@@ -98,7 +101,8 @@ first-taken (suc n) [] some = refl
 first-taken (suc n) (x ∷ xs) some = refl
 
 -- where the table is built, there is a first one
-pub first-shape_word : (shapes : Distances) → IsTableOf shapes_line shapes → (s : Sq1State) → IsSq1 s → (wanted : ℕ) → 1 ≤ wanted
+pub first-shape_word : (shapes : Distances) → IsTableOf shapes_line shapes → (s : Sq1State) → IsSq1 s → (wanted : ℕ)
+    → 1 ≤ wanted
     → (word : List ℕ) × IsStageWord sq1_after shape_stage s word × (slice_get (take wanted (shape_words s)) 0 ≡ Some word)
 first-shape_word shapes built s valid wanted some =
     let found = stage_word sq1_after shape_stage IsSq1 shapes_line shapes_index Follows-shapes (lit≤ tt) shapes built StaysBelow-shapes s valid in

@@ -42,7 +42,8 @@ layers-end s w a =
     (leads.end, leads.played, leads.goal)
 
 -- and behind the first stage the equator too
-pub play-solution : (s : Sq1State) (w : List Turn) → IsSolution sq1_after sq1_stages s w → play sq1_after s w ≡ Some solved_sq1
+pub play-solution : (s : Sq1State) (w : List Turn) → IsSolution sq1_after sq1_stages s w
+    → play sq1_after s w ≡ Some solved_sq1
 play-solution s w a =
     let leads = a.2.first.leads in
     let one : leads.goal.0 ≡ a.1 = IsSolution-unique sq1_after layer_stages leads.end leads.goal.0 a.1 leads.goal.1 a.3 in
@@ -65,7 +66,8 @@ module _ (s : Sq1State) (valid : IsSq1 s) (w : List Turn) (home : Sq1State) (pla
   turned : home.equator ≡ true → play sq1_after (flipped s) w ≡ Some solved_sq1
   turned is = play-flipped s w valid ∙ ap (option_map flipped) played ∙ ap (λ r. Some (flipped r)) (is_home true is)
 
-  played_by : (b : Bool) → home.equator ≡ b → play sq1_after s ((let e : List Turn = cond b equator_word [] in e) ++ w) ≡ Some solved_sq1
+  played_by : (b : Bool) → home.equator ≡ b
+      → play sq1_after s ((let e : List Turn = cond b equator_word [] in e) ++ w) ≡ Some solved_sq1
   played_by true is = play-append sq1_after s (flipped s) equator_word w (play-equator s valid) ∙ turned is
   played_by false is = upright is
 
@@ -73,7 +75,8 @@ module _ (s : Sq1State) (valid : IsSq1 s) (w : List Turn) (home : Sq1State) (pla
   play-with_equator = played_by home.equator refl
 
   module _ (a : IsSolution sq1_after layer_stages s w) where
-    by_equator : (b : Bool) → home.equator ≡ b → IsSolution sq1_after sq1_stages s ((let e : List Turn = cond b equator_word [] in e) ++ w)
+    by_equator : (b : Bool) → home.equator ≡ b
+        → IsSolution sq1_after sq1_stages s ((let e : List Turn = cond b equator_word [] in e) ++ w)
     by_equator true is =
         let lettered = by_letters sq1_after 1 equator_stage.letter in
         let flipped_solution = layers-flipped s w valid a in

@@ -1,5 +1,5 @@
--- The words to the square shape, and the totals that they begin: a word has but one, which solves the state, and that of
--- the first word taken back is the scramble.
+-- The words to the square shape, and the totals that they begin: a word has but one, which solves the state, and that
+-- of the first word taken back is the scramble.
 use Rattle.std.proofs.Common.{◌≡◌, ℕ, ◌<◌, Bool, false, cond, IsTrue, List, [], ◌∷◌, ◌++◌, Option, Some, None, refl, sym, ap, ◌∙◌, subst, arith}
 use Rattle.std.specs.Prelude.{◌↔◌, All}
 use Rattle.std.specs.Option.{option_map_or}
@@ -30,11 +30,13 @@ use Rattle.scr_sq1solve.proofs.Solutions.{with_equator, play-with_equator, one_s
 -- ---- tests
 
 -- what passes a test is there
-some_tested : {A : Type 0} (test : A → Bool) (o : Option A) → IsTrue (option_map_or test o false) → (a : A) × (o ≡ Some a) × IsTrue (test a)
+some_tested : {A : Type 0} (test : A → Bool) (o : Option A) → IsTrue (option_map_or test o false)
+    → (a : A) × (o ≡ Some a) × IsTrue (test a)
 some_tested test None t = absurd (cc)
 some_tested test (Some a) t = (a, refl, t)
 
-TellsLetters-squaring : (s : Sq1State) → TellsLetters squaring_stage s (λ n. option_map_or is_normal (play sq1_after s (squaring_letter n)) false)
+TellsLetters-squaring : (s : Sq1State)
+    → TellsLetters squaring_stage s (λ n. option_map_or is_normal (play sq1_after s (squaring_letter n)) false)
 TellsLetters-squaring s = record {
   passes = λ k r e. ap (λ o. option_map_or is_normal o false) e.played ∙ (IsNormal-test r).1 e.goal;
   ends = λ k lt t.
@@ -53,7 +55,8 @@ IsSquared-iff s =
 abbrev after_shape_letter : Sq1State → ℕ → Option Sq1State
 after_shape_letter = by_letters sq1_after 144 shape_letter
 
-pub IsShapeWord-iff : (s : Sq1State) (word : List ℕ) → IsTrue (is_shape_word s word) ↔ LeadsTo (by_letters sq1_after 144 shape_letter) shape_stage.IsGoal s word
+pub IsShapeWord-iff : (s : Sq1State) (word : List ℕ)
+    → IsTrue (is_shape_word s word) ↔ LeadsTo (by_letters sq1_after 144 shape_letter) shape_stage.IsGoal s word
 unfolding is_shape_word
 IsShapeWord-iff s word = (
   λ t.
@@ -81,7 +84,8 @@ module _ (s : Sq1State) (word : List ℕ) (t : IsTrue (is_shape_word s word)) wh
       subst shape_stage.IsGoal (same_Some shape_word-leads.end r (sym play-shape_word ∙ led)) shape_word-leads.goal
 
 -- the first stage's word is one, of at most 13 letters
-pub stage_word-is : (s : Sq1State) (word : List ℕ) → IsStageWord sq1_after shape_stage s word → IsTrue (is_shape_word s word)
+pub stage_word-is : (s : Sq1State) (word : List ℕ) → IsStageWord sq1_after shape_stage s word
+    → IsTrue (is_shape_word s word)
 stage_word-is s word is = (IsShapeWord-iff s word).1 is.first.leads
 
 -- ---- totals

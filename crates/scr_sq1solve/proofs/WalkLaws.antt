@@ -35,8 +35,9 @@ use Rattle.scr_sq1solve.proofs.ShapeStage.{IsEnding-squaring}
 use Rattle.scr_sq1solve.proofs.HomeStage.{IsEnding-last}
 
 -- the turns of a stage's word, where they are played
-pub IsWalk-played : (stage : Stage Sq1State Turn) (s end : Sq1State) (word : List ℕ) (turns : List Turn) → IsStageWord sq1_after stage s word → turns ≡ spelled stage.letter word
-    → play sq1_after s turns ≡ Some end → IsWalk stage s turns end
+pub IsWalk-played : (stage : Stage Sq1State Turn) (s end : Sq1State) (word : List ℕ) (turns : List Turn)
+    → IsStageWord sq1_after stage s word → turns ≡ spelled stage.letter word → play sq1_after s turns ≡ Some end
+    → IsWalk stage s turns end
 IsWalk-played stage s end word turns is are played = record {
   word = word;
   is = is;
@@ -72,8 +73,8 @@ walk-costs letters w =
     subst (λ ts. Costs ts (most * (each_of letters).turns) (most * (each_of letters).twists)) (sym w.turns_are)
     (Costs-spelled letters w.word most w.is.within)
 
-pub walk-costs_one : (letters : Letters) {s end : Sq1State} {turns : List Turn} → (stage_of letters).bound ≡ 1 → IsWalk (stage_of letters) s turns end
-    → Costs turns (each_of letters).turns (each_of letters).twists
+pub walk-costs_one : (letters : Letters) {s end : Sq1State} {turns : List Turn} → (stage_of letters).bound ≡ 1
+    → IsWalk (stage_of letters) s turns end → Costs turns (each_of letters).turns (each_of letters).twists
 walk-costs_one letters short w =
     let costs = walk-costs letters w in
     record {
@@ -101,7 +102,8 @@ record Solves (some : List (Stage Sq1State Turn)) (s : Sq1State) (turns : List T
   is : IsSolution sq1_after some s turns
   played : play sq1_after s turns ≡ Some home
 
-Solves-last : {stage : Stage Sq1State Turn} {s home : Sq1State} {turns : List Turn} → IsWalk stage s turns home → Solves (stage ∷ []) s turns home
+Solves-last : {stage : Stage Sq1State Turn} {s home : Sq1State} {turns : List Turn} → IsWalk stage s turns home
+    → Solves (stage ∷ []) s turns home
 Solves-last {stage} {s} {home} {turns} w = record {
   is = (w.word, [], w.is, refl, w.turns_are ∙ sym (append-nil (spelled stage.letter w.word)));
   played = walk-played w;
@@ -115,7 +117,8 @@ Solves-next {stage} {rest} {s} {end} {home} {turns} {more} w h = record {
 }
 
 -- where the rest of a word is tidied before
-onward : (v all : List Turn) {w rest : List Turn} → w ≡ tidy turn_merging (v ++ rest) → rest ≡ tidy turn_merging all → w ≡ tidy turn_merging (v ++ all)
+onward : (v all : List Turn) {w rest : List Turn} → w ≡ tidy turn_merging (v ++ rest) → rest ≡ tidy turn_merging all
+    → w ≡ tidy turn_merging (v ++ all)
 onward v all here before = here ∙ ap (λ r. tidy turn_merging (v ++ r)) before ∙ tidy-rest v all
 
 module _ {s shaped normal paired homed home : Sq1State} {word : List ℕ} {shape squaring pairing homing last : List Turn}
@@ -123,10 +126,10 @@ module _ {s shaped normal paired homed home : Sq1State} {word : List ℕ} {shape
     (b : IsWalk squaring_stage shaped squaring normal) (c : IsWalk pairing_stage normal pairing paired)
     (d : IsWalk home_stage paired homing homed) (e : IsWalk last_stage homed last home) where
   -- the words, joined from their end and tidied whenever one is joined, are the total
-  pub IsTotal-joined : (first : List Turn) {h p q r w : List Turn} → h ≡ tidy turn_merging (homing ++ last) → p ≡ tidy turn_merging (pairing ++ h)
-      → q ≡ tidy turn_merging (squaring ++ p) → r ≡ tidy turn_merging (shape ++ q)
-      → first ≡ (let e : List Turn = cond home.equator equator_word [] in e) → w ≡ tidy turn_merging (first ++ r)
-      → IsTotal s word w
+  pub IsTotal-joined : (first : List Turn) {h p q r w : List Turn} → h ≡ tidy turn_merging (homing ++ last)
+      → p ≡ tidy turn_merging (pairing ++ h) → q ≡ tidy turn_merging (squaring ++ p)
+      → r ≡ tidy turn_merging (shape ++ q) → first ≡ (let e : List Turn = cond home.equator equator_word [] in e)
+      → w ≡ tidy turn_merging (first ++ r) → IsTotal s word w
   unfolding equator_part
   IsTotal-joined first homed_is paired_is squared_is shaped_is first_is whole_is =
       let later : List Turn = squaring ++ (pairing ++ (homing ++ last)) in
@@ -158,8 +161,8 @@ IsEnding-short Quarters short = IsEnding-last
 
 -- ---- the words that the tables find
 
-pub below-word : (stage : Stage Sq1State Turn) (s : Sq1State) (w : List ℕ) → IsStageWord sq1_after stage s w → stage.letters ≤ 144
-    → All (λ n. n < 144) w
+pub below-word : (stage : Stage Sq1State Turn) (s : Sq1State) (w : List ℕ) → IsStageWord sq1_after stage s w
+    → stage.letters ≤ 144 → All (λ n. n < 144) w
 below-word stage s w is few =
     let below = All-stage_word sq1_after stage s w is in λ k d lt. omega (arith, below k d lt, few)
 

@@ -11,8 +11,9 @@ ghost use Rattle.scr_sq1solve.specs.Letters.{letter_of};
 use crate::stage_letters::Letters;
 use scr_positions::{Coord, MoveTable};
 
-/// These lists by their places in a row: a row's list of corners tells whether they are even or odd, and so the last bit of
-/// their code. The 192 places of an even row come first, and then those of an odd one; each leads to a place below 192.
+/// These lists by their places in a row: a row's list of corners tells whether they are even or odd, and so the last
+/// bit of their code. The 192 places of an even row come first, and then those of an odd one; each leads to a place
+/// below 192.
 #[derive(Drop)]
 pub(crate) struct EdgeRows<'a> {
     /// Where the letters lead from the codes.

@@ -22,8 +22,8 @@ ghost use Rattle.scr_table.specs.TableStates.{AreLinesOf};
 
 use crate::tables::Sq1Tables;
 
-/// Each valid state has a solution where the three tables are built, and so is reached. A state has but one, which leads
-/// to solved. So the scramble is one, and leads from solved to the state.
+/// Each valid state has a solution where the three tables are built, and so is reached. A state has but one, which
+/// leads to solved. So the scramble is one, and leads from solved to the state.
 pub fn solutions()
     ensures some { (tables : List Distances) → AreTablesOf sq1_lines tables
         → (s : Sq1State) → IsSq1 s → (w : List Letter) × IsSolution sq1_after sq1_stages s w }
@@ -33,7 +33,8 @@ pub fn solutions()
         → v ≡ w }
     ensures solved { (s : Sq1State) (w : List Letter) → IsSolution sq1_after sq1_stages s w
         → play sq1_after s w ≡ Some solved_sq1 }
-    ensures scramble { (s : Sq1State) (w : List Letter) → IsSq1 s → IsScrambleSq1 s w → play sq1_after solved_sq1 w ≡ Some s }
+    ensures scramble { (s : Sq1State) (w : List Letter) → IsSq1 s → IsScrambleSq1 s w
+        → play sq1_after solved_sq1 w ≡ Some s }
 {}
 
 /// With built tables the valid states are those that turns reach.

@@ -21,7 +21,7 @@ pub fn needs_sq1(state: &Sq1, least: u32) -> bool
     ensures exact { IsTrue result ↔ Needs sq1_puzzle state.now least }
     ensures tested { result ≡ needs_test_sq1 state.now least }
 {
-    let _units = state.units();
+    state.is_valid();
     no_shorter(&Sq1Moves, state, least)
 }
 
@@ -41,7 +41,7 @@ impl Moves for Sq1Moves {
 
     #[inline]
     fn after(&self, state: &Sq1, turn: u32) -> Option<Sq1> {
-        let _units = state.units();
+        state.is_valid();
         if turn == TWIST {
             Some(state.twist())
         } else {

@@ -22,8 +22,8 @@ pub(crate) const NORMAL: u32 = 2344;
 /// The part that twists.
 const TWIST: u32 = 24;
 
-/// The moves of the table `shapes`, built of those of 25 parts: a letter turns the top, then the bottom, and twists. So no more
-/// than a sixth of the letters' states are made.
+/// The moves of the table `shapes`, built of those of 25 parts: a letter turns the top, then the bottom, and twists. So
+/// no more than a sixth of the letters' states are made.
 #[derive(Drop)]
 pub(crate) struct ShapeMoves {
     parts: MoveTable,

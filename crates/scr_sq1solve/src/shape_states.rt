@@ -29,8 +29,8 @@ const LISTS: u128 = 40_320;
 /// The number of the list of eight pieces in which the first two are exchanged.
 const EXCHANGED: u128 = 5040;
 
-/// The states that stand for the indexes, so that a step reads no state's number. The turns are the parts of the letters of
-/// the first stage.
+/// The states that stand for the indexes, so that a step reads no state's number. The turns are the parts of the
+/// letters of the first stage.
 #[derive(Drop)]
 pub(crate) struct ShapeStates {
     states: Vec<Sq1>,
@@ -74,7 +74,7 @@ fn after_part(state: &Sq1, part: u32) -> Option<Sq1>
     requires { part < 25 }
     ensures { result ≡ play sq1_after state.now (shape_part part) }
 {
-    let _units = state.units();
+    state.is_valid();
     if part < 12 {
         state.turn(part as i8 - 5, 0)
     } else if part < 24 {
@@ -97,7 +97,8 @@ impl Coord for ShapeStates {
 
     #[inline]
     fn after(&self, position: u32, turn: u32) -> Option<u32> {
-        // No state bars these two, which turn nothing: of the states that would be made and numbered here, a sixth is spared.
+        // No state bars these two, which turn nothing: of the states that would be made and numbered here, a sixth is
+        // spared.
         if turn == STILL_TOP || turn == STILL_BOTTOM {
             return Some(position);
         }

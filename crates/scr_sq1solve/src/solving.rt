@@ -23,7 +23,7 @@ pub fn scramble_sq1(tables: &Sq1Tables, state: &Sq1) -> Scramble
     ensures only { (turns : List Letter) → IsScrambleSq1 state.now turns → turns ≡ result.turns }
     ensures played { play sq1_after solved_sq1 result.turns ≡ Some state.now }
 {
-    let _units = state.units();
+    state.is_valid();
     let word = stage_word(&tables.shapes, state);
     inverse(&total_from(tables, state, &word[..]))
 }

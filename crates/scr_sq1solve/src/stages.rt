@@ -21,8 +21,8 @@ pub(crate) trait StageLine: Line {
 
     const LETTERS: Letters;
 
-    /// What a walk down the table rests on: from a state and from its index a search finds the same, and the table reaches
-    /// no farther than the stage, whose words and letters are few. The call does nothing.
+    /// What a walk down the table rests on: from a state and from its index a search finds the same, and the table
+    /// reaches no farther than the stage, whose words and letters are few. The call does nothing.
     fn is_found_by_index()
         ensures follows { Follows (stage_space sq1_after (stage_of LETTERS) (starts_of LETTERS))
             (positions Self.line.coordinate) (index_by LETTERS) }

@@ -40,8 +40,8 @@ impl TableSet for Sq1Tables {
 }
 
 impl Sq1Tables {
-    /// The tables, built in their order, each by 1 to 64 workers, or why they are not: there is no memory, or one has a gap. The
-    /// first gap of the first such table is named.
+    /// The tables, built in their order, each by 1 to 64 workers, or why they are not: there is no memory, or one has a
+    /// gap. The first gap of the first such table is named.
     pub fn build<R: Threads + Sync>(
         rt: &R,
         alloc: Global,
@@ -71,8 +71,8 @@ impl Sq1Tables {
         ]
     }
 
-    /// The first `wanted` shape words of a state, of at most 13 letters, in the order of words: by length, and then by the
-    /// letters' numbers; at most 1,000, and all where there are fewer. It takes no memory.
+    /// The first `wanted` shape words of a state, of at most 13 letters, in the order of words: by length, and then by
+    /// the letters' numbers; at most 1,000, and all where there are fewer. It takes no memory.
     pub fn shape_words(&self, state: &Sq1, wanted: u32) -> FirstWords
         requires { wanted ≤ 1000 }
         ensures words { result ≡ take wanted (shape_words state.now) }
@@ -83,7 +83,7 @@ impl Sq1Tables {
         ensures first { 1 ≤ wanted
             → (word : List ℕ) × IsStageWord sq1_after shape_stage state.now word × (slice_get result 0 ≡ Some word) }
     {
-        let _units = state.units();
+        state.is_valid();
         self.shapes.first_words(shapes_index(state), 13, wanted)
     }
 }

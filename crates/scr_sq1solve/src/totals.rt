@@ -34,7 +34,7 @@ pub fn total_from(tables: &Sq1Tables, state: &Sq1, shape_word: &[u8]) -> Scrambl
     ensures solves { play sq1_after state.now result.turns ≡ Some solved_sq1 }
     ensures taken_back { play sq1_after solved_sq1 (back opposite result.turns) ≡ Some state.now }
 {
-    let _units = state.units();
+    state.is_valid();
     let shaped = shape_walk(state, shape_word);
     let squared = end_walk(Letters::Squarings, &shaped.end);
     let paired = stage_walk(&tables.pairings, &squared.end);

@@ -47,7 +47,8 @@ All-marked-below marked xs =
     All-place_set 0 (length xs) (marked_places marked xs) (IsPlaceSetFrom-marked marked 0 (length xs) xs (omega arith))
 
 -- with marked pieces
-pub All-marked : (marked : ℕ → Bool) (xs : List ℕ) → All (λ place. marked (slice_index xs place) ≡ true) (marked_places marked xs)
+pub All-marked : (marked : ℕ → Bool) (xs : List ℕ)
+    → All (λ place. marked (slice_index xs place) ≡ true) (marked_places marked xs)
 All-marked marked xs m d lt =
     let place : ℕ = slice_index (marked_places marked xs) m in
     let below : place < length xs = All-marked-below marked xs m 0 lt in
@@ -67,7 +68,8 @@ place_there marked xs place lt e =
 -- ---- pieces told by their places in a block
 
 -- the places of its own pieces in a block are those in order
-pub place_of-own : (low n j : ℕ) (block : List ℕ) → IsPlaceSetFrom low n block → j < length block → place_of (slice_index block j) block ≡ j
+pub place_of-own : (low n j : ℕ) (block : List ℕ) → IsPlaceSetFrom low n block → j < length block
+    → place_of (slice_index block j) block ≡ j
 place_of-own low n j [] h lt = absurd (omega arith)
 place_of-own low n zero (x ∷ xs) h lt = ap (λ b. cond b 0 (suc (place_of x xs))) (eq-eqb x x refl)
 place_of-own low n (suc j) (x ∷ xs) h lt =
@@ -82,7 +84,8 @@ place_of-own low n (suc j) (x ∷ xs) h lt =
         All-cons (λ z. low < z) y ys (omega (arith, h.0)) (All-weaker (λ z. y < z) (λ z. low < z) (λ z lt. omega (arith, h.0)) ys (All-from y n ys h.2))
 
 -- pieces that stand in a block are picked from it by their places there
-pub pick-places : (block xs : List ℕ) → All (λ x. stands_in block x ≡ true) xs → pick block (map (λ x. place_of x block) xs) ≡ xs
+pub pick-places : (block xs : List ℕ) → All (λ x. stands_in block x ≡ true) xs
+    → pick block (map (λ x. place_of x block) xs) ≡ xs
 pick-places block [] h = refl
 pick-places block (x ∷ xs) h =
     ap (λ y. y ∷ pick block (map (λ z. place_of z block) xs)) (at-place_of x block (occurs-stands_in x block (All-head (λ z. stands_in block z ≡ true) x xs h)))
@@ -102,11 +105,13 @@ pick-order_in block xs =
     pick-places block (pick xs places) (All-map (λ x. stands_in block x ≡ true) (slice_index xs) places (All-marked (stands_in block) xs))
 
 -- there are as many of these places as pieces in the block
-pub IsPlaceSet-places_in : (n k : ℕ) (block xs : List ℕ) → IsPlaceSet n k block → IsPermutation n xs → IsPlaceSet n k (places_in block xs)
+pub IsPlaceSet-places_in : (n k : ℕ) (block xs : List ℕ) → IsPlaceSet n k block → IsPermutation n xs
+    → IsPlaceSet n k (places_in block xs)
 IsPlaceSet-places_in n k block xs set h =
     IsPlaceSet-marked n k (stands_in block) xs h (ap length (marked-own 0 n n block (omega arith) set.increasing) ∙ set.size)
 
-pub length-places : (n k : ℕ) (block xs : List ℕ) → IsPlaceSet n k block → IsPermutation n xs → length (marked_places (stands_in block) xs) ≡ k
+pub length-places : (n k : ℕ) (block xs : List ℕ) → IsPlaceSet n k block → IsPermutation n xs
+    → length (marked_places (stands_in block) xs) ≡ k
 length-places n k block xs set h = (IsPlaceSet-places_in n k block xs set h).size
 
 -- which is a permutation of them
@@ -170,7 +175,8 @@ IsPermutation-both n marked xs size =
 -- ---- pieces read and put back
 
 -- the pieces at some places, in their order, put back to these places
-pub pick-arranged : (n : ℕ) (xs places : List ℕ) → length xs ≡ n → IsPermutation n places → pick (pick xs places) (inverse places) ≡ xs
+pub pick-arranged : (n : ℕ) (xs places : List ℕ) → length xs ≡ n → IsPermutation n places
+    → pick (pick xs places) (inverse places) ≡ xs
 pick-arranged n xs places size h =
     let below = All-permutation n (inverse places) (IsPermutation-inverse n places h) in
     pick-pick xs places (inverse places) (subst (λ m. All (λ k. k < m) (inverse places)) (sym h.size) below)

@@ -27,24 +27,26 @@ use Rattle.scr_stages.proofs.TurnFacts.{IsSliceTurn, IsDominoTurn}
 
 -- ---- digits that stay 0
 
-zeros-turned : (n m : ℕ) (o : Orbit) (r : Rearrangement) → 0 < m → IsPermutation n r.places → o.digits ≡ zeros n → r.added ≡ zeros n
-    → (turned_orbit m o r).digits ≡ zeros n
+zeros-turned : (n m : ℕ) (o : Orbit) (r : Rearrangement) → 0 < m → IsPermutation n r.places → o.digits ≡ zeros n
+    → r.added ≡ zeros n → (turned_orbit m o r).digits ≡ zeros n
 unfolding turned_orbit
 zeros-turned n m o r pos h e f =
     ap (λ ds. added_digits m (pick ds r.places) r.added) e ∙ ap (added_digits m (pick (zeros n) r.places)) f
     ∙ added_digits-to_zeros m n r.places (zeros n) (All-zeros m n pos) (h.size ∙ sym (length-zeros n))
 
-pub HasNoFlips-turned : (c : CubeState) (r : CubeTurn) → HasNoFlips c → IsSliceTurn r → HasNoFlips (cube_action.turned c r)
+pub HasNoFlips-turned : (c : CubeState) (r : CubeTurn) → HasNoFlips c → IsSliceTurn r
+    → HasNoFlips (cube_action.turned c r)
 HasNoFlips-turned c r e t = zeros-turned 12 2 c.edges r.edges (lit< tt) t.valid.edges.places e t.no_flips
 
 -- ---- where marked pieces stand
 
-pub places-turned : (n m : ℕ) (block : List ℕ) (o : Orbit) (r : Rearrangement) → IsPermutation n o.pieces → IsPermutation n r.places
-    → places_in block (turned_orbit m o r).pieces ≡ turned_set (places_in block o.pieces) r
+pub places-turned : (n m : ℕ) (block : List ℕ) (o : Orbit) (r : Rearrangement) → IsPermutation n o.pieces
+    → IsPermutation n r.places → places_in block (turned_orbit m o r).pieces ≡ turned_set (places_in block o.pieces) r
 unfolding turned_orbit
 places-turned n m block o r h k = marked-turned (stands_in block) o.pieces r (places_below n r.places o.pieces k h.size)
 
-pub IsDomino-turned : (c : CubeState) (r : CubeTurn) → IsCube c → IsDomino c → IsDominoTurn r → IsDomino (cube_action.turned c r)
+pub IsDomino-turned : (c : CubeState) (r : CubeTurn) → IsCube c → IsDomino c → IsDominoTurn r
+    → IsDomino (cube_action.turned c r)
 IsDomino-turned c r h d t = record {
   no_flips = HasNoFlips-turned c r d.no_flips t.slice;
   no_twists = zeros-turned 8 3 c.corners r.corners (lit< tt) t.slice.valid.corners.places d.no_twists t.no_twists;
@@ -52,7 +54,8 @@ IsDomino-turned c r h d t = record {
       ∙ ap (λ places. turned_set places r.edges) d.middle ∙ t.middle;
 }
 
-pub IsDominoCube-turned : (c : CubeState) (r : CubeTurn) → IsDominoCube c → IsDominoTurn r → IsDominoCube (cube_action.turned c r)
+pub IsDominoCube-turned : (c : CubeState) (r : CubeTurn) → IsDominoCube c → IsDominoTurn r
+    → IsDominoCube (cube_action.turned c r)
 IsDominoCube-turned c r h t =
     record { cube = cube_laws.valid c r h.cube t.slice.valid; domino = IsDomino-turned c r h.cube h.domino t }
 
@@ -71,7 +74,8 @@ pub IsPlaceSet-outer : IsPlaceSet 8 4 first_edges
 IsPlaceSet-outer = IsPlaceSet-from_test 8 4 first_edges refl refl
 
 -- places below a lower bound
-IsPlaceSetFrom-below : (low n m : ℕ) (xs : List ℕ) → IsPlaceSetFrom low n xs → All (λ x. x < m) xs → IsPlaceSetFrom low m xs
+IsPlaceSetFrom-below : (low n m : ℕ) (xs : List ℕ) → IsPlaceSetFrom low n xs → All (λ x. x < m) xs
+    → IsPlaceSetFrom low m xs
 IsPlaceSetFrom-below low n m [] h below = tt
 IsPlaceSetFrom-below low n m (x ∷ xs) h below =
     (h.0, All-head (λ x. x < m) x xs below, IsPlaceSetFrom-below (suc x) n m xs h.2 (All-tail (λ x. x < m) x xs below))
@@ -123,7 +127,8 @@ module _ (c : CubeState) (d : IsDominoCube c) where
   abbrev pub edges_are : IsPermutation 12 c.edges.pieces
   edges_are = d.cube.edges.pieces
 
-  pub middle-at : (place : ℕ) → place < 12 → stands_in middle_edges (slice_index c.edges.pieces place) ≡ stands_in middle_edges place
+  pub middle-at : (place : ℕ) → place < 12
+      → stands_in middle_edges (slice_index c.edges.pieces place) ≡ stands_in middle_edges place
   middle-at = places_from-kept 12 4 middle_edges IsPlaceSet-middle c.edges.pieces edges_are.size d.domino.middle
 
   -- the first edges stand above and below
@@ -144,7 +149,8 @@ module _ (c : CubeState) (d : IsDominoCube c) where
 
 -- ---- turns of the edges above and below
 
-pub marked-none : (marked : ℕ → Bool) (low : ℕ) (xs : List ℕ) → All (λ x. marked x ≡ false) xs → marked_from marked low xs ≡ []
+pub marked-none : (marked : ℕ → Bool) (low : ℕ) (xs : List ℕ) → All (λ x. marked x ≡ false) xs
+    → marked_from marked low xs ≡ []
 marked-none marked low [] h = refl
 marked-none marked low (x ∷ xs) h =
     ap (λ b. cond b (low ∷ marked_from marked (suc low) xs) (marked_from marked (suc low) xs)) (All-head (λ y. marked y ≡ false) x xs h)

@@ -101,7 +101,8 @@ record HasParity (edges : List ℕ) (odd : ℕ) : Type 0 where
   permutation : IsPermutation 12 edges
   same : parity edges ≡ odd
 
-HasParity-from_test : (edges : List ℕ) (odd : ℕ) → (is_permutation 12 edges && (parity edges == odd)) ≡ true → HasParity edges odd
+HasParity-from_test : (edges : List ℕ) (odd : ℕ) → (is_permutation 12 edges && (parity edges == odd)) ≡ true
+    → HasParity edges odd
 HasParity-from_test edges odd e =
     let both = and_parts (is_permutation 12 edges) (parity edges == odd) e in
     record { permutation = IsPermutation-from_test 12 edges both.0; same = eqb-true (parity edges) odd both.1 }
@@ -154,7 +155,8 @@ module _ (a b c : List ℕ) (h : AreOrders a b c) where
   alone_third = record { first = ordered; second = ordered; third = h.third }
 
   -- a block that is left as it is stays as it was picked
-  left : (xs block order : List ℕ) → length block ≡ 4 → IsPermutation 4 order → pick xs block ≡ block → pick xs (pick block order) ≡ pick block order
+  left : (xs block order : List ℕ) → length block ≡ 4 → IsPermutation 4 order → pick xs block ≡ block
+      → pick xs (pick block order) ≡ pick block order
   left xs block order size is e =
       sym (pick-pick xs block order (subst (λ n. All (λ k. k < n) order) (sym size) (All-permutation 4 order is))) ∙ ap (λ ys. pick ys order) e
 

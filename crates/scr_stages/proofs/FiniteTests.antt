@@ -28,7 +28,8 @@ test-below test n k all lt =
 abbrev pub all_pass : (List ℕ → Bool) → ℕ → Bool
 all_pass test n = passes_below (λ k. test (permutation_at n k)) (factorial n)
 
-pub test-permutation : (test : List ℕ → Bool) (n : ℕ) (xs : List ℕ) → all_pass test n ≡ true → IsPermutation n xs → test xs ≡ true
+pub test-permutation : (test : List ℕ → Bool) (n : ℕ) (xs : List ℕ) → all_pass test n ≡ true → IsPermutation n xs
+    → test xs ≡ true
 test-permutation test n xs all h =
     let below : permutation_number xs < factorial n = subst (λ m. permutation_number xs < factorial m) h.size (permutation_number-lt xs) in
     ap test (sym (permutation_at-number n xs h)) ∙ test-below (λ k. test (permutation_at n k)) (factorial n) (permutation_number xs) all below
@@ -50,7 +51,8 @@ pub same_list : (xs ys : List ℕ) → bytes_eq xs ys ≡ true → xs ≡ ys
 same_list xs ys e = (bytes_eq-Decides xs ys).0 e
 
 -- what a test shows of each element
-pub All-from_test : {X : Type 0} (p : X → Bool) (P : X → Type 0) → ((x : X) → p x ≡ true → P x) → (xs : List X) → list_all p xs ≡ true → All P xs
+pub All-from_test : {X : Type 0} (p : X → Bool) (P : X → Type 0) → ((x : X) → p x ≡ true → P x) → (xs : List X)
+    → list_all p xs ≡ true → All P xs
 All-from_test p P shows xs h = All-weaker (λ x. p x ≡ true) P shows xs (AllPass-from_list_all p xs h)
 
 -- a list of places increases

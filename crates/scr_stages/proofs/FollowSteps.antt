@@ -16,7 +16,8 @@ use Rattle.scr_cube.proofs.ListedTurns.{after_of-is}
 module _ (turns : List ℕ) where
   -- one more turn
   pub follow_more : (c d e : CubeState) (word : List ℕ) (at : ℕ) → at < length word → get_or word at 0 < length turns
-      → play (after_of turns) c (take at word) ≡ Some d → (after_letter cube_powers) d (face_turn_at (get_or turns (get_or word at 0) 0)) ≡ Some e
+      → play (after_of turns) c (take at word) ≡ Some d
+      → (after_letter cube_powers) d (face_turn_at (get_or turns (get_or word at 0) 0)) ≡ Some e
       → play (after_of turns) c (take (at + 1) word) ≡ Some e
   follow_more c d e word at lt there played turned =
       let place = get_or word at 0 in
@@ -27,7 +28,8 @@ module _ (turns : List ℕ) where
       ∙ ap (option_and_then (λ t. (after_letter cube_powers) d (face_turn_at t))) (slice_get-get_or turns place 0 there)
       ∙ turned
 
-  spelled-more : (v w : List ℕ) → spelled (letter_in turns) (v ++ w) ≡ spelled (letter_in turns) v ++ spelled (letter_in turns) w
+  spelled-more : (v w : List ℕ)
+      → spelled (letter_in turns) (v ++ w) ≡ spelled (letter_in turns) v ++ spelled (letter_in turns) w
   spelled-more [] w = refl
   spelled-more (place ∷ v) w = ap (λ ts. face_turn_at (get_or turns place 0) ∷ ts) (spelled-more v w)
 

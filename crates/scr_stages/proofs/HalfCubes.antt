@@ -189,7 +189,8 @@ half_cube-again c h =
 
 -- ---- four digits give a half cube
 
-pub IsZeroSum-still : (n m : ℕ) (xs : List ℕ) → 0 < m → IsPermutation n xs → IsZeroSumOrbit n m (record { pieces = xs; digits = zeros n })
+pub IsZeroSum-still : (n m : ℕ) (xs : List ℕ) → 0 < m → IsPermutation n xs
+    → IsZeroSumOrbit n m (record { pieces = xs; digits = zeros n })
 unfolding solved_orbit
 IsZeroSum-still n m xs pos h = record { pieces = h; digits = (IsZeroSumOrbit-solved n m pos).digits }
 

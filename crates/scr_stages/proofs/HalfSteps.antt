@@ -34,7 +34,8 @@ unfolding passes_below parity_tells permutation_at
 parity_tells_all = refl
 
 -- which of two numbers it is
-pub number-by_half : (n : ℕ) → n < 24 → n ≡ 2 * (n / 2) + (parity (permutation_at 4 n) + parity (permutation_at 4 (2 * (n / 2)))) % 2
+pub number-by_half : (n : ℕ) → n < 24
+    → n ≡ 2 * (n / 2) + (parity (permutation_at 4 n) + parity (permutation_at 4 (2 * (n / 2)))) % 2
 unfolding parity_tells
 number-by_half n lt =
     eqb-true n (2 * (n / 2) + (parity (permutation_at 4 n) + parity (permutation_at 4 (2 * (n / 2)))) % 2) (test-below parity_tells 24 n parity_tells_all lt)
@@ -131,7 +132,8 @@ module _ (c : CubeState) (half : IsHalfCube c) (t : ℕ) (lt : t < 6) where
       → half_corners_coordinate.after q t ≡ option_map (λ d. half_corners_number d.corners.pieces) after
   corners_after q e = part_after half_corners_coordinate _ (λ d. half_corners_number d.corners.pieces) q Follows-half_corners e lt
 
-  pub block_after : (block : List ℕ) → IsHalfBlock block → (q : ℕ) → q ≡ permutation_number (in_block block c.edges.pieces)
+  pub block_after : (block : List ℕ) → IsHalfBlock block → (q : ℕ)
+      → q ≡ permutation_number (in_block block c.edges.pieces)
       → (half_block_coordinate block).after q t ≡ option_map (λ d. permutation_number (in_block block d.edges.pieces)) after
   block_after block b q e = part_after (half_block_coordinate block) _ (λ d. permutation_number (in_block block d.edges.pieces)) q (Follows-half_block block b) e lt
 
@@ -146,8 +148,8 @@ turned_cube c t lt =
     )
 
 -- a table that shows a coordinate leads below its count
-shown_below : (part : Coordinate) (moves : Moves) → ShowsSame part (moves_coordinate moves) → (q t r : ℕ) → q < part.count → t < part.turns
-    → (moves_coordinate moves).after q t ≡ Some r → r < part.count
+shown_below : (part : Coordinate) (moves : Moves) → ShowsSame part (moves_coordinate moves) → (q t r : ℕ)
+    → q < part.count → t < part.turns → (moves_coordinate moves).after q t ≡ Some r → r < part.count
 shown_below part moves shows q t r at turn e =
     omega (arith, shows.count, StaysBelow-moves moves q t r (omega (arith, shows.count, at)) (omega (arith, shows.turns, turn)) e)
 
@@ -164,8 +166,9 @@ module _ (me : HalfMoves) (p : ℕ) (at : p < 663552) (parts : HalfParts)
   to : (d : CubeState) × (after_of half_turns start t ≡ Some d)
   to = turned_cube start t lt
 
-  block_to : (block : List ℕ) → IsHalfBlock block → (moves : Moves) → ShowsSame (half_block_coordinate block) (moves_coordinate moves)
-      → (q : ℕ) → q ≡ permutation_number (in_block block start.edges.pieces) → q < 24
+  block_to : (block : List ℕ) → IsHalfBlock block → (moves : Moves)
+      → ShowsSame (half_block_coordinate block) (moves_coordinate moves) → (q : ℕ)
+      → q ≡ permutation_number (in_block block start.edges.pieces) → q < 24
       → (moves_coordinate moves).after q t ≡ Some (permutation_number (in_block block to.0.edges.pieces))
   block_to block b moves shows q of q_lt =
       shows.after q t q_lt lt ∙ block_after start (half p at) t lt block b q of

@@ -52,7 +52,8 @@ corner_index-kept p ks h k e f =
     ∙ ap corner_index (pick-from_order 8 ks (All-permutation 8 ks k))
     ∙ f
 
-pub IsHalfCube-turned : (c : CubeState) (r : CubeTurn) → IsHalfCube c → IsHalfTurn r → IsHalfCube (cube_action.turned c r)
+pub IsHalfCube-turned : (c : CubeState) (r : CubeTurn) → IsHalfCube c → IsHalfTurn r
+    → IsHalfCube (cube_action.turned c r)
 unfolding turned_orbit
 IsHalfCube-turned c r h t =
     let d = h.domino in
@@ -71,7 +72,8 @@ IsHalfCube-turned c r h t =
 pub halves_moves : TurnsStates cube_action.turned (turns_of half_turns) (after_of half_turns) IsHalfCube IsHalfTurn
 halves_moves = record { each = halves_turns; after_is = after_of-turns half_turns (All-numbers half_turns refl); keeps = IsHalfCube-turned }
 
-pub IsHalfCube-after : (c d : CubeState) (place : ℕ) → IsHalfCube c → after_of half_turns c place ≡ Some d → IsHalfCube d
+pub IsHalfCube-after : (c d : CubeState) (place : ℕ) → IsHalfCube c → after_of half_turns c place ≡ Some d
+    → IsHalfCube d
 IsHalfCube-after = kept_by cube_action.turned (turns_of half_turns) (after_of half_turns) IsHalfCube IsHalfTurn halves_moves
 
 IsCube-solved : IsCube solved_cube
@@ -108,7 +110,8 @@ own_opposite : All (λ t. opposite (face_turn_at t) ≡ face_turn_at t) half_tur
 unfolding face_turn_at
 own_opposite = All-from_recursion (λ t. opposite (face_turn_at t) ≡ face_turn_at t) half_turns (refl, (refl, (refl, (refl, (refl, (refl, tt))))))
 
-undone : (c d : CubeState) (place : ℕ) → IsCube c → after_of half_turns c place ≡ Some d → after_of half_turns d place ≡ Some c
+undone : (c d : CubeState) (place : ℕ) → IsCube c → after_of half_turns c place ≡ Some d
+    → after_of half_turns d place ≡ Some c
 undone c d place h e =
     let turn = and_then-some (λ t. (after_letter cube_powers) c (face_turn_at t)) (slice_get half_turns place) d
     (sym (after_of-is half_turns c place) ∙ e) in
@@ -121,9 +124,10 @@ undone c d place h e =
     ∙ lawful_cube.lawful.taken_back c d (letter ∷ []) h (play-one (after_letter cube_powers) c letter ∙ turn.2)
 
 -- a word of turns that undo themselves leads back in reversed order
-play-reversed : {S : Type 0} (after : S → ℕ → Option S) (IsValid : S → Type 0) → ((s r : S) (t : ℕ) → IsValid s → after s t ≡ Some r → IsValid r)
-    → ((s r : S) (t : ℕ) → IsValid s → after s t ≡ Some r → after r t ≡ Some s)
-    → (s r : S) (w : List ℕ) → IsValid s → play after s w ≡ Some r → play after r (reverse w) ≡ Some s
+play-reversed : {S : Type 0} (after : S → ℕ → Option S) (IsValid : S → Type 0)
+    → ((s r : S) (t : ℕ) → IsValid s → after s t ≡ Some r → IsValid r)
+    → ((s r : S) (t : ℕ) → IsValid s → after s t ≡ Some r → after r t ≡ Some s) → (s r : S) (w : List ℕ) → IsValid s
+    → play after s w ≡ Some r → play after r (reverse w) ≡ Some s
 play-reversed after IsValid keeps undoes s r [] h e =
     let d = play-empty after s in let f = play-empty after r in let same : s ≡ r = cc in f ∙ ap Some (sym same)
 play-reversed after IsValid keeps undoes s r (t ∷ w) h e =
@@ -135,7 +139,8 @@ play-reversed after IsValid keeps undoes s r (t ∷ w) h e =
 -- ---- the theorem
 
 -- Where a table measures the halves, such a cube is reached by half turns.
-pub IsHalfTurned-half_cube : (table : Distances) → Measures halves_coordinate table → (c : CubeState) → IsHalfCube c → IsHalfTurned c
+pub IsHalfTurned-half_cube : (table : Distances) → Measures halves_coordinate table → (c : CubeState) → IsHalfCube c
+    → IsHalfTurned c
 IsHalfTurned-half_cube table m c h =
     let number = half_cubes.number_of c in
     let found = first_word halves_coordinate StaysBelow-halves table m number (half_cubes-numbered.one_to_one.below c h) in
@@ -147,8 +152,8 @@ IsHalfTurned-half_cube table m c h =
     )
 
 -- A domino has the tetrads number of solved exactly where half turns reach it.
-pub tetrads_number-half_turned : (table : Distances) → Measures halves_coordinate table → (c : CubeState) → IsDominoCube c
-    → (tetrads_number c ≡ tetrads_number solved_cube) ↔ IsHalfTurned c
+pub tetrads_number-half_turned : (table : Distances) → Measures halves_coordinate table → (c : CubeState)
+    → IsDominoCube c → (tetrads_number c ≡ tetrads_number solved_cube) ↔ IsHalfTurned c
 tetrads_number-half_turned table m c d = (
   λ e. IsHalfTurned-half_cube table m c (record { domino = d; index = e }),
   λ h. (IsHalfCube-half_turned c h).index,

@@ -16,7 +16,8 @@ use Rattle.scr_stages.proofs.Blocks.{stands_in-at, occurs-stands_in, place_of-ow
 
 -- places whose pieces are marked where places are
 pub marked-by_places : (n : ℕ) (marked other : ℕ → Bool) (xs : List ℕ) → length xs ≡ n
-    → ((place : ℕ) → place < n → marked (slice_index xs place) ≡ other place) → marked_places marked xs ≡ marked_places other (numbers_from 0 n)
+    → ((place : ℕ) → place < n → marked (slice_index xs place) ≡ other place)
+    → marked_places marked xs ≡ marked_places other (numbers_from 0 n)
 marked-by_places n marked other xs size h =
     ap (marked_places marked) (sym (ap (λ m. pick xs (numbers_from 0 m)) (sym size) ∙ pick-in_order xs))
     ∙ marked-map marked (slice_index xs) 0 (numbers_from 0 n)
@@ -26,7 +27,8 @@ marked-by_places n marked other xs size h =
 module _ (n k : ℕ) (block : List ℕ) (set : IsPlaceSet n k block) where
   -- The pieces of the block stand in it where a piece is of the block exactly if its place is.
   pub kept_from-places : (xs : List ℕ) → length xs ≡ n
-      → ((place : ℕ) → place < n → stands_in block (slice_index xs place) ≡ stands_in block place) → places_in block xs ≡ block
+      → ((place : ℕ) → place < n → stands_in block (slice_index xs place) ≡ stands_in block place)
+      → places_in block xs ≡ block
   kept_from-places xs size h =
       marked-by_places n (stands_in block) (stands_in block) xs size h ∙ marked-own 0 n n block (omega arith) set.increasing
 
@@ -47,7 +49,8 @@ module _ (n k : ℕ) (block : List ℕ) (set : IsPlaceSet n k block) where
       All-map-marked xs = All-map (λ x. stands_in block x ≡ true) (slice_index xs) (places_in block xs) (All-marked (stands_in block) xs)
 
   -- Pieces that are picked from the block by a permutation are told by that.
-  pub in_block-picked : (xs order : List ℕ) → IsPermutation k order → pick xs block ≡ pick block order → in_block block xs ≡ order
+  pub in_block-picked : (xs order : List ℕ) → IsPermutation k order → pick xs block ≡ pick block order
+      → in_block block xs ≡ order
   in_block-picked xs order h e =
       ap (map (λ x. place_of x block)) e
       ∙ own order (subst (λ m. All (λ j. j < m) order) (sym set.size) (All-permutation k order h))
@@ -64,7 +67,8 @@ module _ (n k : ℕ) (block : List ℕ) (set : IsPlaceSet n k block) where
     at_block m lt =
         sym (pick-at xs block m (omega (arith, set.size))) ∙ ap (λ ys. slice_index ys m) e ∙ pick-at block order m (omega (arith, o.size))
 
-    stands_by : (place : ℕ) → place < n → (b c : Bool) → stands_in block (slice_index xs place) ≡ b → stands_in block place ≡ c → b ≡ c
+    stands_by : (place : ℕ) → place < n → (b c : Bool) → stands_in block (slice_index xs place) ≡ b
+        → stands_in block place ≡ c → b ≡ c
     stands_by place lt true true p q = refl
     stands_by place lt false false p q = refl
     stands_by place lt false true p q =
@@ -96,7 +100,8 @@ module _ (n k : ℕ) (block : List ℕ) (set : IsPlaceSet n k block) where
         stands_by place lt (stands_in block (slice_index xs place)) (stands_in block place) refl refl)
 
   -- a turn that carries the pieces at the places of the block among these
-  pub in_block-turned : (xs ks : List ℕ) → length xs ≡ n → All (λ x. stands_in block x ≡ true) (pick ks block) → All (λ place. place < length ks) block
+  pub in_block-turned : (xs ks : List ℕ) → length xs ≡ n → All (λ x. stands_in block x ≡ true) (pick ks block)
+      → All (λ place. place < length ks) block
       → in_block block (pick xs ks) ≡ pick (in_block block xs) (in_block block ks)
   in_block-turned xs ks size kept below =
       let places = in_block block ks in
@@ -104,7 +109,8 @@ module _ (n k : ℕ) (block : List ℕ) (set : IsPlaceSet n k block) where
       ∙ sym (pick-pick xs block places (All-places ks kept)))
       ∙ map-picked (λ x. place_of x block) (pick xs block) places (subst (λ m. All (λ j. j < m) places) (sym (length-pick xs block)) (All-places ks kept))
     where
-      All-places : (ks : List ℕ) → All (λ x. stands_in block x ≡ true) (pick ks block) → All (λ j. j < length block) (in_block block ks)
+      All-places : (ks : List ℕ) → All (λ x. stands_in block x ≡ true) (pick ks block)
+          → All (λ j. j < length block) (in_block block ks)
       All-places ks kept =
           All-map (λ j. j < length block) (λ x. place_of x block) (pick ks block)
           (λ m d lt. place_of-lt (get_or (pick ks block) m d) block (occurs-stands_in (get_or (pick ks block) m d) block (kept m d lt)))

@@ -6,8 +6,8 @@ use Rattle.std.proofs.lemmas.Nat.{mod_below}
 use Rattle.scr_combinatorics.specs.Permutations.{parity, inversions}
 
 -- one more is filled
-pub filled_place : (f : ℕ → ℕ) (out : List ℕ) (n x : ℕ) → n < length out → x ≡ f n → ((k : ℕ) → k < n → get_or out k 0 ≡ f k)
-    → (k : ℕ) → k < n + 1 → get_or (set out n x) k 0 ≡ f k
+pub filled_place : (f : ℕ → ℕ) (out : List ℕ) (n x : ℕ) → n < length out → x ≡ f n
+    → ((k : ℕ) → k < n → get_or out k 0 ≡ f k) → (k : ℕ) → k < n + 1 → get_or (set out n x) k 0 ≡ f k
 filled_place f out n x lt e so_far =
     below_more _ _
     (λ k less.

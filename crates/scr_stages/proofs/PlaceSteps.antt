@@ -21,7 +21,8 @@ place_of-le x (y ∷ ys) = by (eqb y x) (place_of-le x ys)
 -- ---- the pieces of a block
 
 pub in_block-by_places : (block pieces out : List ℕ) → length out ≡ length block
-    → ((k : ℕ) → k < length block → get_or out k 0 ≡ place_of (get_or pieces (get_or block k 0) 0) block) → out ≡ in_block block pieces
+    → ((k : ℕ) → k < length block → get_or out k 0 ≡ place_of (get_or pieces (get_or block k 0) 0) block)
+    → out ≡ in_block block pieces
 in_block-by_places block pieces out size h =
     ext_get_or 0 out (in_block block pieces) (size ∙ sym (length-map (pick pieces block) (λ x. place_of x block) ∙ length-pick pieces block)) (λ k lt.
     let inside : k < length block = omega arith in
@@ -32,8 +33,8 @@ in_block-by_places block pieces out size h =
 -- ---- pieces put at places
 
 pub arranged-more : (n : ℕ) (places pieces out : List ℕ) (from : ℕ) → IsPermutation n places → length out ≡ n → from < n
-    → ((k : ℕ) → k < from → get_or out (get_or places k 0) 0 ≡ get_or pieces k 0)
-    → (k : ℕ) → k < from + 1 → get_or (set out (get_or places from 0) (get_or pieces from 0)) (get_or places k 0) 0 ≡ get_or pieces k 0
+    → ((k : ℕ) → k < from → get_or out (get_or places k 0) 0 ≡ get_or pieces k 0) → (k : ℕ) → k < from + 1
+    → get_or (set out (get_or places from 0) (get_or pieces from 0)) (get_or places k 0) 0 ≡ get_or pieces k 0
 arranged-more n places pieces out from h size lt so_far =
     let at : ℕ = get_or places from 0 in
     let at_lt : at < length out = omega (arith, at-permutation n places h from lt, size) in

@@ -31,13 +31,15 @@ use Rattle.scr_stages.proofs.HalfTurned.{tetrads_number-half_turned}
 use Rattle.scr_stages.proofs.StageWords.{StaysBelow-flips, StaysBelow-slice, StaysBelow-tetrads, Follows-half_turned}
 
 -- turns keep a cube valid
-pub IsCube-played : (c d : CubeState) (turns word : List ℕ) → IsCube c → play (after_of turns) c word ≡ Some d → IsCube d
+pub IsCube-played : (c d : CubeState) (turns word : List ℕ) → IsCube c → play (after_of turns) c word ≡ Some d
+    → IsCube d
 IsCube-played c d turns word h e = play-keeps (after_letter cube_powers) IsCube lawful_cube.lawful.kept c d (spelled (letter_in turns) word) h
     (play-spelled (after_letter cube_powers) (length turns) (letter_in turns) c d word e)
 
 -- ---- the four stages
 
-pub solution-at_most : (c : CubeState) (s : List Turn) → IsSolution (after_letter cube_powers) stages c s → length s ≤ 52
+pub solution-at_most : (c : CubeState) (s : List Turn) → IsSolution (after_letter cube_powers) stages c s
+    → length s ≤ 52
 unfolding bounds CountsWithin count_in
 solution-at_most c s a =
     let once : (n : ℕ) → 1 ≤ 1 = λ n. lit≤ tt in
@@ -47,7 +49,8 @@ solution-at_most c s a =
       count-solution (after_letter cube_powers) (λ t. 1) stages (1 ∷ 1 ∷ 1 ∷ 1 ∷ []) c s (once, (once, (once, (once, tt)))) a,
     )
 
-pub solution-played : (c : CubeState) (s : List Turn) → IsSolution (after_letter cube_powers) stages c s → play (after_letter cube_powers) c s ≡ Some solved_cube
+pub solution-played : (c : CubeState) (s : List Turn) → IsSolution (after_letter cube_powers) stages c s
+    → play (after_letter cube_powers) c s ≡ Some solved_cube
 unfolding last_goal
 solution-played c s a =
     let Any : CubeState → Type 0 = λ c. Unit {0} in
@@ -82,7 +85,8 @@ module _ (of_flips of_slice of_tetrads of_halves : Distances) (is_flips : IsTabl
       (next slice_stage (tetrads_stage ∷ halves_stage ∷ []) first.end slice
       (next tetrads_stage (halves_stage ∷ []) second.end tetrads (next halves_stage [] third.end halves ([], refl))))
 
-pub solution : (tables : List Distances) → AreTablesOf stage_lines tables → (c : CubeState) → IsCube c → (s : List Turn) × IsSolution (after_letter cube_powers) stages c s
+pub solution : (tables : List Distances) → AreTablesOf stage_lines tables → (c : CubeState) → IsCube c
+    → (s : List Turn) × IsSolution (after_letter cube_powers) stages c s
 solution tables built c h =
     let table = table_of_line stage_lines tables built in
     let flips = table flips_line (0, lit< tt, refl) in
@@ -115,7 +119,8 @@ scramble-at_most c s a =
     )
 
 -- a scramble leads from solved to the cube
-pub scramble-played : (c : CubeState) (s : List Turn) → IsCube c → IsStageScramble c s → play (after_letter cube_powers) solved_cube s ≡ Some c
+pub scramble-played : (c : CubeState) (s : List Turn) → IsCube c → IsStageScramble c s
+    → play (after_letter cube_powers) solved_cube s ≡ Some c
 scramble-played c s h a =
     play-scramble (after_letter cube_powers) opposite turn_merging stages IsCube lawful_cube.lawful.taken_back lawful_cube.lawful.kept_by_tidy c
     solved_cube s h a (solution-played c a.solution a.is)

@@ -167,7 +167,8 @@ unfolding solved_cube solved_orbit
 tetrads_number-solved = refl
 
 -- so says the number
-pub IsTetradsHome-iff : (c : CubeState) → IsDominoCube c → (tetrads_number c ≡ tetrads_number solved_cube) ↔ IsTetradsHome c
+pub IsTetradsHome-iff : (c : CubeState) → IsDominoCube c
+    → (tetrads_number c ≡ tetrads_number solved_cube) ↔ IsTetradsHome c
 IsTetradsHome-iff c h =
     let places = places_in first_edges c.edges.pieces in
     let set = IsPlaceSet-first_places c h in (

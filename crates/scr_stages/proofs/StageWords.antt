@@ -66,7 +66,8 @@ IsPermutation-corners i lt =
     IsPermutation-pick 8 (corners_related (i % 6)) (inverse all) (IsPermutation-related (i % 6) (mod_below i 6 (lit< tt)))
     (IsPermutation-inverse 8 all (IsPermutation-places places (IsPlaceSet-at 8 4 (i / 6) (omega arith))))
 
-pub StaysBelow-corners : (turns : List Rearrangement) → All (λ r. IsPermutation 8 r.places) turns → StaysBelow (projection tetrads_view turns)
+pub StaysBelow-corners : (turns : List Rearrangement) → All (λ r. IsPermutation 8 r.places) turns
+    → StaysBelow (projection tetrads_view turns)
 StaysBelow-corners turns each p t q at turn e =
     let IsMove : Rearrangement → Type 0 = λ r. IsPermutation 8 r.places in
     let found = map-some (λ r. corner_index (pick (corners_at p) r.places)) (slice_get turns t) q e in

@@ -20,7 +20,8 @@ three-elements (a ∷ (b ∷ [])) e = absurd (omega arith)
 three-elements (a ∷ (b ∷ (c ∷ []))) e = refl
 three-elements (a ∷ (b ∷ (c ∷ (d ∷ ds)))) e = absurd (omega arith)
 
-pub four-elements : (xs : List ℕ) → length xs ≡ 4 → xs ≡ get_or xs 0 0 ∷ get_or xs 1 0 ∷ get_or xs 2 0 ∷ get_or xs 3 0 ∷ []
+pub four-elements : (xs : List ℕ) → length xs ≡ 4
+    → xs ≡ get_or xs 0 0 ∷ get_or xs 1 0 ∷ get_or xs 2 0 ∷ get_or xs 3 0 ∷ []
 four-elements [] e = absurd (omega arith)
 four-elements (a ∷ xs) e = ap (λ ys. a ∷ ys) (three-elements xs (omega arith))
 
@@ -69,7 +70,8 @@ across_all : passes_below (λ k. passes_below (across_test k) 3) 4 ≡ true
 unfolding passes_below across_test corner_across shared_axis
 across_all = refl
 
-across-at : (k axis : ℕ) → k < 4 → axis < 3 → get_or (get_or ACROSS k []) axis 0 ≡ corner_across (get_or second_tetrad k 0) axis
+across-at : (k axis : ℕ) → k < 4 → axis < 3
+    → get_or (get_or ACROSS k []) axis 0 ≡ corner_across (get_or second_tetrad k 0) axis
 unfolding across_test
 across-at k axis lk la =
     eqb-true (get_or (get_or ACROSS k []) axis 0) (corner_across (get_or second_tetrad k 0) axis)
@@ -117,8 +119,9 @@ unfolding relation_number
 relation_number-places axes others e = sym (ap (λ xs. permutation_number (map (λ axis. place_of axis others) xs)) (three-elements axes e))
 
 pub relation_number-read : (axes others : List ℕ) (a b c number : ℕ) → length axes ≡ 3
-    → a ≡ place_of (get_or axes 0 0) others → b ≡ place_of (get_or axes 1 0) others → c ≡ place_of (get_or axes 2 0) others
-    → number ≡ permutation_number (a ∷ b ∷ c ∷ []) → number ≡ relation_number axes others
+    → a ≡ place_of (get_or axes 0 0) others → b ≡ place_of (get_or axes 1 0) others
+    → c ≡ place_of (get_or axes 2 0) others → number ≡ permutation_number (a ∷ b ∷ c ∷ [])
+    → number ≡ relation_number axes others
 relation_number-read axes others a b c number e ea eb ec is =
     is ∙ ap (λ x. permutation_number (x ∷ b ∷ c ∷ [])) ea
     ∙ ap (λ x. permutation_number (place_of (get_or axes 0 0) others ∷ x ∷ c ∷ [])) eb

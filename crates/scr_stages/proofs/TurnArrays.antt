@@ -24,8 +24,8 @@ use Rattle.scr_stages.proofs.TurnFacts.{All-turns}
 use Rattle.scr_cube.proofs.ListedTurns.{length-turns}
 
 pub AreTurns-moves : {n : ℕ} (IsMove : Rearrangement → Type 0) (turns : List (PlaceTurn n)) (moves : List Rearrangement)
-    → map rearrangement_of turns ≡ moves → All IsMove moves → (number : ℕ) → length moves ≡ number → 1 ≤ number → number ≤ 256
-    → AreTurns (λ turn. IsMove (rearrangement_of turn)) turns
+    → map rearrangement_of turns ≡ moves → All IsMove moves → (number : ℕ) → length moves ≡ number → 1 ≤ number
+    → number ≤ 256 → AreTurns (λ turn. IsMove (rearrangement_of turn)) turns
 AreTurns-moves IsMove turns moves e each number count some few =
     let size : length turns ≡ length moves = sym (length-map turns rearrangement_of) ∙ ap length e in
     record {
@@ -36,13 +36,15 @@ AreTurns-moves IsMove turns moves e each number count some few =
           (each k (rearrangement_of d) (omega (arith, size)));
     }
 
-pub length-turned : (part : CubeTurn → Rearrangement) (numbers : List ℕ) → length (map part (turns_of numbers)) ≡ length numbers
+pub length-turned : (part : CubeTurn → Rearrangement) (numbers : List ℕ)
+    → length (map part (turns_of numbers)) ≡ length numbers
 length-turned part numbers = length-map (turns_of numbers) part ∙ length-map numbers (λ t. slice_index_or (all_turns cube_powers) t cube_action.identity)
 
 -- ---- turns of a block by numbers
 
 module _ (part : CubeTurn → Rearrangement) (block : List ℕ) where
-  at_number : (t : ℕ) → t < 18 → slice_index_or (map part (all_turns cube_powers)) t (record { places = []; added = [] }) ≡ part (slice_index_or (all_turns cube_powers) t cube_action.identity)
+  at_number : (t : ℕ) → t < 18
+      → slice_index_or (map part (all_turns cube_powers)) t (record { places = []; added = [] }) ≡ part (slice_index_or (all_turns cube_powers) t cube_action.identity)
   at_number t lt = get_or-map part (all_turns cube_powers) t cube_action.identity (record { places = []; added = [] }) (omega (arith, length-turns))
 
   pub block_turns-parts : (numbers : List ℕ) → All (λ t. t < 18) numbers
@@ -67,7 +69,8 @@ module _ (part : CubeTurn → Rearrangement) (block : List ℕ)
       ∙ sym (get_or-map (block_turn block) all t still still (omega (arith, at, length-map (all_turns cube_powers) part)))
       ∙ ap (λ rs. get_or rs t still) whole ∙ read
 
-  whole_turns : (numbers : List ℕ) → All (λ t. t < 18) numbers → map (block_turn block) (map part (turns_of numbers)) ≡ map part (turns_of numbers)
+  whole_turns : (numbers : List ℕ) → All (λ t. t < 18) numbers
+      → map (block_turn block) (map part (turns_of numbers)) ≡ map part (turns_of numbers)
   whole_turns [] below = refl
   whole_turns (t ∷ ts) below =
       ap (λ r. r ∷ map (block_turn block) (map part (turns_of ts))) (whole-at t (All-head (λ t. t < 18) t ts below))
@@ -93,8 +96,8 @@ module _ (n base : ℕ) (part : CubeTurn → Rearrangement)
       are ∙ ap (λ all. block_turns (numbers_from 0 n) all numbers) defined
       ∙ block_turns-parts part (numbers_from 0 n) numbers below ∙ whole_turns part (numbers_from 0 n) whole numbers below
 
-  pub AreTurned-whole : ((r : CubeTurn) → IsCubeTurn r → IsZeroSumRearrangement n base (part r)) → (number : ℕ) → length numbers ≡ number
-      → 1 ≤ number → number ≤ 256 → AreTurned n base (map part (turns_of numbers)) turns
+  pub AreTurned-whole : ((r : CubeTurn) → IsCubeTurn r → IsZeroSumRearrangement n base (part r)) → (number : ℕ)
+      → length numbers ≡ number → 1 ≤ number → number ≤ 256 → AreTurned n base (map part (turns_of numbers)) turns
   AreTurned-whole valid number size some few =
       let IsMove = IsZeroSumRearrangement n base in
       let are_valid = AreTurns-moves IsMove turns (map part (turns_of numbers)) turned-by

@@ -10,8 +10,8 @@
 //!
 //! The moves of every table are built of small ones, so that no step of a build or a descent reads a cube's number.
 //! What some turns do to corners, edges and blocks of edges ([`corners_turned`], [`edges_turned`],
-//! [`block_edges_turned`]) serves other coordinates too, and so does the number of a block ([`block_number`]). The crate
-//! stands on the cubes of `scr_cube`, on coordinates and on distance tables.
+//! [`block_edges_turned`]) serves other coordinates too, and so does the number of a block ([`block_number`]). The
+//! crate stands on the cubes of `scr_cube`, on coordinates and on distance tables.
 #![tactic(auto)]
 
 mod block_turns;

@@ -21,7 +21,8 @@ pub fn solve_stages(tables: &StageTables, cube: &Cube) -> Scramble
     ensures event { result.event ≡ C333 }
     ensures at_most { length result.turns ≤ 52 }
     ensures solution { IsSolution (after_letter cube_powers) stages cube.now result.turns }
-    ensures only { (turns : List Letter) → IsSolution (after_letter cube_powers) stages cube.now turns → turns ≡ result.turns }
+    ensures only { (turns : List Letter) → IsSolution (after_letter cube_powers) stages cube.now turns
+        → turns ≡ result.turns }
     ensures played { play (after_letter cube_powers) cube.now result.turns ≡ Some solved_cube }
     ensures valid { IsCube cube.now }
 {

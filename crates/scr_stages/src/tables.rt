@@ -33,8 +33,8 @@ impl TableSet for StageTables {
 }
 
 impl StageTables {
-    /// The tables, built in their order, each by 1 to 64 workers, or why they are not: there is no memory, or one has a gap. The
-    /// first gap of the first such table is named.
+    /// The tables, built in their order, each by 1 to 64 workers, or why they are not: there is no memory, or one has a
+    /// gap. The first gap of the first such table is named.
     pub fn build<R: Threads + Sync>(
         rt: &R,
         alloc: Global,

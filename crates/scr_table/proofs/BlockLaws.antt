@@ -10,8 +10,9 @@ use Rattle.scr_table.specs.Filled.{AreKnown, AreMarked, IsLeastNeighbour, Agrees
 use Rattle.scr_table.proofs.FilledLaws.{AreKnown-agreed, IsKnown-next}
 
 -- the entry of the next level by the least that turns lead to
-pub IsNextEntry-least : (c : Coordinate) (level : ℕ) (entries : List ℕ) (p least next : ℕ) → IsLeastNeighbour c entries p least
-    → next ≡ next_entry level (get_or entries p 0) least → IsNextEntry c level entries p next
+pub IsNextEntry-least : (c : Coordinate) (level : ℕ) (entries : List ℕ) (p least next : ℕ)
+    → IsLeastNeighbour c entries p least → next ≡ next_entry level (get_or entries p 0) least
+    → IsNextEntry c level entries p next
 IsNextEntry-least c level entries p least next near is = record {
   kept = λ known.
       is ∙ ap (λ b. if b && nat_eq least level then level + 1 else get_or entries p 0) (ne_eqb (get_or entries p 0) 255 known);
@@ -53,7 +54,8 @@ module _ (c : Coordinate) (below : StaysBelow c) (level : ℕ) (small : level < 
     (entries now : List ℕ) (count : length blocks ≡ block_count (length entries)) (same : length now ≡ length entries)
     (are : (p : ℕ) → p < length entries → get_or now p 0 ≡ entered blocks entries p) where
   next_level_of : AreKnown c level entries
-      → ((p : ℕ) → p < length entries → IsNextEntry c level entries p (entered blocks entries p)) → AreKnown c (level + 1) now
+      → ((p : ℕ) → p < length entries → IsNextEntry c level entries p (entered blocks entries p))
+      → AreKnown c (level + 1) now
   next_level_of known each = record {
     positions = omega (arith, same, known.positions);
     each = λ p lt.
@@ -63,7 +65,8 @@ module _ (c : Coordinate) (below : StaysBelow c) (level : ℕ) (small : level < 
   }
 
   -- A level of blocks that are answered, or that all agree, is made of the one before.
-  AreKnown-next : AreKnown c level entries → AreAnswered (IsNextBlock c level entries) blocks → AreKnown c (level + 1) now
+  AreKnown-next : AreKnown c level entries → AreAnswered (IsNextBlock c level entries) blocks
+      → AreKnown c (level + 1) now
   AreKnown-next known answered =
       next_level_of known (λ p lt.
       next_at c level entries p lt (slice_index_or blocks (p / 1024) None)
@@ -87,15 +90,16 @@ module _ (c : Coordinate) (below : StaysBelow c) (level : ℕ) (small : level < 
           (checked p inside).0
 
   -- which of the two it is, by whether the entries are checked
-  pub AreKnown-behind : (checked : Bool) → OnTrue checked (AreMarked c entries) → OnFalse checked (AreKnown c level entries)
-      → AreAnswered (IsBlockBehind checked c level entries) blocks
-      → (checked ≡ true → (k : ℕ) → k < length blocks → IsThere (slice_index_or blocks k None)) → AreKnown c (level + 1) now
+  pub AreKnown-behind : (checked : Bool) → OnTrue checked (AreMarked c entries)
+      → OnFalse checked (AreKnown c level entries) → AreAnswered (IsBlockBehind checked c level entries) blocks
+      → (checked ≡ true → (k : ℕ) → k < length blocks → IsThere (slice_index_or blocks k None))
+      → AreKnown c (level + 1) now
   AreKnown-behind true marked known answered there = AreKnown-checked marked answered (there refl)
   AreKnown-behind false marked known answered there = AreKnown-next known answered
 
 -- A block whose entries agree with the least that turns lead to, and whose next level is made of these.
-pub IsCheckedBlock-of : (c : Coordinate) (level : ℕ) (entries : List ℕ) (block start end : ℕ) (least : List ℕ) → start ≡ 1024 * block
-    → ((k : ℕ) → k < 1024 → start + k < length entries → start + k < end)
+pub IsCheckedBlock-of : (c : Coordinate) (level : ℕ) (entries : List ℕ) (block start end : ℕ) (least : List ℕ)
+    → start ≡ 1024 * block → ((k : ℕ) → k < 1024 → start + k < length entries → start + k < end)
     → ((k : ℕ) → start + k < end → IsLeastNeighbour c entries (start + k) (get_or least k 0)) → (o : Option (List ℕ))
     → IfSome o (λ _. (k : ℕ) → start + k < end → Agrees level (get_or entries (start + k) 0) (get_or least k 0))
     → IfSome o (λ next. (k : ℕ) → start + k < end → get_or next k 0 ≡ next_entry level (get_or entries (start + k) 0) (get_or least k 0))

@@ -16,7 +16,8 @@ pub record IsDescending (c : Coordinate) (table : Distances) (p : ℕ) (word : L
   pub position : at < c.count
   pub distance : get_or table.distances at 0 ≡ left
   pub room : length word + left ≤ 24
-  pub continues : (rest : List ℕ) → IsFirstWord (moved c) (IsGoal c) at rest → IsFirstWord (moved c) (IsGoal c) p (word ++ rest)
+  pub continues : (rest : List ℕ) → IsFirstWord (moved c) (IsGoal c) at rest
+      → IsFirstWord (moved c) (IsGoal c) p (word ++ rest)
 
 module _ (c : Coordinate) (below : StaysBelow c) (table : Distances) (m : Measures c table) where
   -- what stands at a position is its distance
@@ -46,13 +47,15 @@ module _ (c : Coordinate) (below : StaysBelow c) (table : Distances) (m : Measur
         none t r (moved-turn c p t r moves).0 moves
         (IsDistance-unique (moved c) (IsGoal c) r _ lower (m.exact r (moved-below c below p t r lt moves)) d))
 
-  pub IsDescending-begun : (p left : ℕ) → p < c.count → get_or table.distances p 0 ≡ left → left ≤ 24 → IsDescending c table p [] p left
+  pub IsDescending-begun : (p left : ℕ) → p < c.count → get_or table.distances p 0 ≡ left → left ≤ 24
+      → IsDescending c table p [] p left
   IsDescending-begun p left lt e small = record { position = lt; distance = e; room = omega arith; continues = λ rest f. f }
 
   module _ (p : ℕ) (word : List ℕ) (at left : ℕ) (h : IsDescending c table p word at left) where
     -- one turn down
-    pub IsDescending-more : (turn next lower : ℕ) → left ≡ lower + 1 → next < c.count → get_or table.distances next 0 ≡ lower
-        → LowersFirst (moved c) (IsGoal c) at next turn lower → IsDescending c table p (word ++ turn ∷ []) next lower
+    pub IsDescending-more : (turn next lower : ℕ) → left ≡ lower + 1 → next < c.count
+        → get_or table.distances next 0 ≡ lower → LowersFirst (moved c) (IsGoal c) at next turn lower
+        → IsDescending c table p (word ++ turn ∷ []) next lower
     IsDescending-more turn next lower e lt there l = record {
       position = lt;
       distance = there;
@@ -73,8 +76,8 @@ module _ (c : Coordinate) (below : StaysBelow c) (table : Distances) (m : Measur
         subst P (append-nil word) (h.continues [] (IsFirstWord-goal (moved c) (IsGoal c) at goal))
 
 -- a coordinate has one table of a name and a bound
-pub Measures-unique : (c : Coordinate) (some other : Distances) → Measures c some → Measures c other → some.name ≡ other.name
-    → some.bound ≡ other.bound → some ≡ other
+pub Measures-unique : (c : Coordinate) (some other : Distances) → Measures c some → Measures c other
+    → some.name ≡ other.name → some.bound ≡ other.bound → some ≡ other
 Measures-unique c some other a b name bound =
     let long : length some.distances ≡ length other.distances = a.positions ∙ sym b.positions in
     let each : (k : ℕ) → k < length some.distances → get_or some.distances k 0 ≡ get_or other.distances k 0 = λ k lt.

@@ -173,12 +173,13 @@ module _ (c : Coordinate) where
             omega (arith, rest_long t q w parts.1 parts.2 (get_or entries q 0) refl (each q (moved-below c below p t q lt parts.1)))
 
 -- an entry of the next level tells its position
-pub IsKnown-next : (c : Coordinate) → StaysBelow c → (level : ℕ) → level < 254 → (entries : List ℕ) → AreKnown c level entries
-    → (p next : ℕ) → p < c.count → IsNextEntry c level entries p next → IsKnown c (level + 1) p next
+pub IsKnown-next : (c : Coordinate) → StaysBelow c → (level : ℕ) → level < 254 → (entries : List ℕ)
+    → AreKnown c level entries → (p next : ℕ) → p < c.count → IsNextEntry c level entries p next
+    → IsKnown c (level + 1) p next
 IsKnown-next c below level small entries known p next lt is = by_entry (cases_eq (get_or entries p 0) 255)
   where
-    by_least : get_or entries p 0 ≡ 255 → (least : ℕ) → IsLeastNeighbour c entries p least → next ≡ next_entry level 255 least
-        → (b : Bool) → nat_eq least level ≡ b → IsKnown c (level + 1) p next
+    by_least : get_or entries p 0 ≡ 255 → (least : ℕ) → IsLeastNeighbour c entries p least
+        → next ≡ next_entry level 255 least → (b : Bool) → nat_eq least level ≡ b → IsKnown c (level + 1) p next
     by_least unknown least near e true same =
         let here : next ≡ level + 1 = e ∙ ap (λ b. if b then level + 1 else 255) same in
         let equal : least ≡ level = eqb-true least level same in
@@ -198,8 +199,8 @@ IsKnown-next c below level small entries known p next lt is = by_entry (cases_eq
         rw here (IsKnown-found c level (level + 1) p (get_or entries p 0) there (known.each p lt))
 
 -- what all words of a level tell is known of all longer ones where each position is known
-pub AreKnown-all : (c : Coordinate) (level more : ℕ) (entries : List ℕ) → ((p : ℕ) → p < c.count → get_or entries p 0 ≢ 255)
-    → AreKnown c level entries → AreKnown c more entries
+pub AreKnown-all : (c : Coordinate) (level more : ℕ) (entries : List ℕ)
+    → ((p : ℕ) → p < c.count → get_or entries p 0 ≢ 255) → AreKnown c level entries → AreKnown c more entries
 AreKnown-all c level more entries there h = record {
   positions = h.positions;
   each = λ p lt. IsKnown-found c level more p (get_or entries p 0) (there p lt) (h.each p lt);
@@ -224,7 +225,8 @@ module _ (c : Coordinate) (entries : List ℕ) (p turn least : ℕ) (h : IsLeast
   pub IsLeast-barred : moved c p turn ≡ None → IsLeast c entries p (turn + 1) least
   IsLeast-barred barred = record { at_most = λ t q lt e. by_turn t q lt e (cases_order t turn); some = h.some }
     where
-      by_turn : (t q : ℕ) → t < turn + 1 → moved c p t ≡ Some q → (t ≡ turn) ⊎ ((t < turn) ⊎ (turn < t)) → least ≤ get_or entries q 0
+      by_turn : (t q : ℕ) → t < turn + 1 → moved c p t ≡ Some q → (t ≡ turn) ⊎ ((t < turn) ⊎ (turn < t))
+          → least ≤ get_or entries q 0
       by_turn t q lt e (inl same) = let other : moved c p t ≡ None = ap (moved c p) same ∙ barred in absurd (cc)
       by_turn t q lt e (inr (inl less)) = h.at_most t q less e
       by_turn t q lt e (inr (inr more)) = absurd (omega arith)
@@ -237,7 +239,8 @@ module _ (c : Coordinate) (entries : List ℕ) (p turn least : ℕ) (h : IsLeast
     some = λ known. by_entry known (cases_lt (get_or entries next 0) least);
   }
     where
-      by_turn : (t q : ℕ) → t < turn + 1 → moved c p t ≡ Some q → (t ≡ turn) ⊎ ((t < turn) ⊎ (turn < t)) → new ≤ get_or entries q 0
+      by_turn : (t q : ℕ) → t < turn + 1 → moved c p t ≡ Some q → (t ≡ turn) ⊎ ((t < turn) ⊎ (turn < t))
+          → new ≤ get_or entries q 0
       by_turn t q lt e (inl same) =
           let here : moved c p t ≡ Some next = ap (moved c p) same ∙ leads in
           let ends : q ≡ next = cc in
@@ -245,7 +248,8 @@ module _ (c : Coordinate) (entries : List ℕ) (p turn least : ℕ) (h : IsLeast
       by_turn t q lt e (inr (inl less)) = omega (arith, h.at_most t q less e)
       by_turn t q lt e (inr (inr more)) = absurd (omega arith)
 
-      by_entry : new ≢ 255 → (get_or entries next 0 < least) ⊎ (least ≤ get_or entries next 0) → Neighbours c entries p new
+      by_entry : new ≢ 255 → (get_or entries next 0 < least) ⊎ (least ≤ get_or entries next 0)
+          → Neighbours c entries p new
       by_entry known (inl less) = (turn, next, leads, omega arith)
       by_entry known (inr kept) =
           let same : least ≡ new = omega arith in
@@ -258,7 +262,8 @@ IsLeast-none c entries p = record { at_most = λ t q lt e. absurd (omega arith);
 
 -- the lower of a number and what a turn leads to
 pub IsLeast-seen : (c : Coordinate) (entries : List ℕ) (p turn least new : ℕ) → turn < c.turns
-    → new ≡ min least (value_at entries (c.after p turn)) → IsLeast c entries p turn least → IsLeast c entries p (turn + 1) new
+    → new ≡ min least (value_at entries (c.after p turn)) → IsLeast c entries p turn least
+    → IsLeast c entries p (turn + 1) new
 IsLeast-seen c entries p turn least new lt is h = by_target (c.after p turn) refl
   where
     moves : moved c p turn ≡ c.after p turn
@@ -279,8 +284,8 @@ IsLeast-seen c entries p turn least new lt is h = by_target (c.after p turn) ref
         IsLeast-next c entries p turn least h q new (moves ∙ e) (is ∙ ap (λ o. min least (value_at entries o)) e)
 
 -- all turns
-pub IsLeastNeighbour-all : (c : Coordinate) (entries : List ℕ) (p done least : ℕ) → c.turns ≤ done → IsLeast c entries p done least
-    → IsLeastNeighbour c entries p least
+pub IsLeastNeighbour-all : (c : Coordinate) (entries : List ℕ) (p done least : ℕ) → c.turns ≤ done
+    → IsLeast c entries p done least → IsLeastNeighbour c entries p least
 IsLeastNeighbour-all c entries p done least all h = record {
   at_most = λ t q e. h.at_most t q (omega (arith, all, (moved-turn c p t q e).0)) e;
   some = h.some;
@@ -315,8 +320,9 @@ IsFirstGap-above c bound index entries small known inside above first = record {
         (known.each earlier (omega (arith, at))).found (λ same. omega (arith, first earlier less))
 
 -- Entries that are known and within the bound are the table.
-pub Measures-known : (c : Coordinate) (name : TableName) (bound : ℕ) (entries : List ℕ) → bound < 255 → AreKnown c bound entries
-    → ((p : ℕ) → get_or entries p 0 ≤ bound) → Measures c (record { name = name; bound = bound; distances = entries })
+pub Measures-known : (c : Coordinate) (name : TableName) (bound : ℕ) (entries : List ℕ) → bound < 255
+    → AreKnown c bound entries → ((p : ℕ) → get_or entries p 0 ≤ bound)
+    → Measures c (record { name = name; bound = bound; distances = entries })
 Measures-known c name bound entries small known within = record {
   positions = known.positions;
   exact = λ p lt. (known.each p lt).found (λ far. omega (arith, far, within p));

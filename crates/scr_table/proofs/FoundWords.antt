@@ -21,14 +21,16 @@ least_below test (suc n) =
       | inr none ↦ at (test n) refl none
     ]
   where
-    below_next : (b : Bool) → test n ≡ b → ((t : ℕ) → t < n → test t ≡ false) → (t : ℕ) → t < suc n → b ≡ false → test t ≡ false
+    below_next : (b : Bool) → test n ≡ b → ((t : ℕ) → t < n → test t ≡ false) → (t : ℕ) → t < suc n → b ≡ false
+        → test t ≡ false
     below_next b is none t lt not =
         elim (cases_lt t n) [
           | inl less ↦ none t less
           | inr le ↦ let same : n ≡ t = omega arith in ap test (sym same) ∙ is ∙ not
         ]
 
-    at : (b : Bool) → test n ≡ b → ((t : ℕ) → t < n → test t ≡ false) → LeastBelow test (suc n) ⊎ ((t : ℕ) → t < suc n → test t ≡ false)
+    at : (b : Bool) → test n ≡ b → ((t : ℕ) → t < n → test t ≡ false)
+        → LeastBelow test (suc n) ⊎ ((t : ℕ) → t < suc n → test t ≡ false)
     at true is none = inl (n, omega arith, is, none)
     at false is none = inr (λ t lt. below_next false is none t lt refl)
 
@@ -38,12 +40,14 @@ module _ (c : Coordinate) (stays : StaysBelow c) (table : Distances) (measures :
   leads_to lower None = false
   leads_to lower (Some q) = eqb (get_or table.distances q 0) lower
 
-  leads_to-some : (lower : ℕ) (o : Option ℕ) → leads_to lower o ≡ true → (q : ℕ) × (o ≡ Some q) × (get_or table.distances q 0 ≡ lower)
+  leads_to-some : (lower : ℕ) (o : Option ℕ) → leads_to lower o ≡ true
+      → (q : ℕ) × (o ≡ Some q) × (get_or table.distances q 0 ≡ lower)
   unfolding leads_to
   leads_to-some lower None is = absurd (cc)
   leads_to-some lower (Some q) is = (q, refl, eqb-true (get_or table.distances q 0) lower is)
 
-  leads_to-none : (lower q : ℕ) (o : Option ℕ) → leads_to lower o ≡ false → o ≡ Some q → get_or table.distances q 0 ≡ lower → ⊥
+  leads_to-none : (lower q : ℕ) (o : Option ℕ) → leads_to lower o ≡ false → o ≡ Some q
+      → get_or table.distances q 0 ≡ lower → ⊥
   unfolding leads_to
   leads_to-none lower q o not is here =
       let there : leads_to lower o ≡ true = ap (leads_to lower) is ∙ eq-eqb (get_or table.distances q 0) lower here in
@@ -68,7 +72,8 @@ module _ (c : Coordinate) (stays : StaysBelow c) (table : Distances) (measures :
             (λ t q less moves at. leads_to-none lower q (moved c p t) (none t less) moves at))
       ]
 
-  word_at : (d p : ℕ) → p < c.count → get_or table.distances p 0 ≡ d → (w : List ℕ) × IsFirstWord (moved c) (IsGoal c) p w
+  word_at : (d p : ℕ) → p < c.count → get_or table.distances p 0 ≡ d
+      → (w : List ℕ) × IsFirstWord (moved c) (IsGoal c) p w
   word_at zero p lt e =
       let goal = IsGoal-distance (moved c) (IsGoal c) p (Bool-set (c.is_goal p) true) (distance_at c stays table measures p 0 lt e) in
       ([], IsFirstWord-goal (moved c) (IsGoal c) p goal)

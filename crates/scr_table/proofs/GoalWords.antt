@@ -44,7 +44,8 @@ module _ {X : Type 0} (wanted : ℕ) (all : List X) where
     unfolding later
     next = ap (λ ns. take wanted (found ++ flat_map f ns)) (sym (numbers_from-next at end lt)) ∙ h.same
 
-    pub IsTaking-next : (now : List X) → now ≡ take wanted (found ++ f at) → IsTaking now (flat_map f (numbers_from (at + 1) (end - (at + 1))))
+    pub IsTaking-next : (now : List X) → now ≡ take wanted (found ++ f at)
+        → IsTaking now (flat_map f (numbers_from (at + 1) (end - (at + 1))))
     unfolding later next
     IsTaking-next now e = record {
       same = ap (λ zs. take wanted (zs ++ later)) e ∙ take-again wanted (found ++ f at) later
@@ -68,7 +69,8 @@ module _ (c : Coordinate) where
   unfolding leads_to_goal
   LeadsTo-test p w leads = by (play (moved c) p w) refl leads
     where
-      by : (o : Option ℕ) → play (moved c) p w ≡ o → option_map_or c.is_goal o false ≡ true → LeadsTo (moved c) (IsGoal c) p w
+      by : (o : Option ℕ) → play (moved c) p w ≡ o → option_map_or c.is_goal o false ≡ true
+          → LeadsTo (moved c) (IsGoal c) p w
       by None is passes = absurd (false≢true passes)
       by (Some q) is passes = record { end = q; played = is; goal = passes }
 
@@ -195,8 +197,9 @@ module _ (c : Coordinate) where
 
   module _ (table : Distances) (m : Measures c table) where
     -- a position that is no turn away from a goal is one, and its word is the only one
-    pub goal_words-found : (found : List (List ℕ)) (wanted p left : ℕ) (word : List ℕ) → p < c.count → get_or table.distances p 0 ≤ left
-        → left ≡ 0 → length found < wanted → found ++ word ∷ [] ≡ take wanted (found ++ goal_words_behind c p word left)
+    pub goal_words-found : (found : List (List ℕ)) (wanted p left : ℕ) (word : List ℕ) → p < c.count
+        → get_or table.distances p 0 ≤ left → left ≡ 0 → length found < wanted
+        → found ++ word ∷ [] ≡ take wanted (found ++ goal_words_behind c p word left)
     goal_words-found found wanted p left word lt near none few =
         let P : ℕ → Type 0 = λ d. IsDistance (moved c) (IsGoal c) p d in
         let zero_there : get_or table.distances p 0 ≡ 0 = omega arith in

@@ -15,16 +15,16 @@ pub record AreMarkedBelow (c : Coordinate) (from : ℕ) (entries : List ℕ) : T
   pub unknown : (p : ℕ) → from ≤ p → p < c.count → get_or entries p 0 ≡ 255
 
 -- where there is no goal before the next one, or behind the last, what is not known is as it is to be
-skipped : (c : Coordinate) (from to : ℕ) (entries : List ℕ) → to ≤ c.count → AreMarkedBelow c from entries → HasNoGoal c from to
-    → (p : ℕ) → p < to → IsKnown c 0 p (get_or entries p 0)
+skipped : (c : Coordinate) (from to : ℕ) (entries : List ℕ) → to ≤ c.count → AreMarkedBelow c from entries
+    → HasNoGoal c from to → (p : ℕ) → p < to → IsKnown c 0 p (get_or entries p 0)
 skipped c from to entries inside h none = λ p lt.
     elim (cases_lt p from) [
       | inl early ↦ h.below p early
       | inr late ↦ subst (IsKnown c 0 p) (sym (h.unknown p late (omega arith))) (IsKnown-marked c p false (none p late lt))
     ]
 
-pub AreMarkedBelow-next : (c : Coordinate) (from goal : ℕ) (entries : List ℕ) → AreMarkedBelow c from entries → IsNextGoal c from goal
-    → AreMarkedBelow c (goal + 1) (set entries goal 0)
+pub AreMarkedBelow-next : (c : Coordinate) (from goal : ℕ) (entries : List ℕ) → AreMarkedBelow c from entries
+    → IsNextGoal c from goal → AreMarkedBelow c (goal + 1) (set entries goal 0)
 AreMarkedBelow-next c from goal entries h next =
     let inside : goal < length entries = omega (arith, next.below, h.positions) in
     record {
@@ -35,5 +35,6 @@ AreMarkedBelow-next c from goal entries h next =
       unknown = λ p late lt. get_or-set_other entries goal p 0 0 (λ e. omega arith) ∙ h.unknown p (omega (arith, next.from_on)) lt;
     }
 
-pub AreKnown-marked : (c : Coordinate) (from : ℕ) (entries : List ℕ) → AreMarkedBelow c from entries → HasNoGoal c from c.count → AreKnown c 0 entries
+pub AreKnown-marked : (c : Coordinate) (from : ℕ) (entries : List ℕ) → AreMarkedBelow c from entries
+    → HasNoGoal c from c.count → AreKnown c 0 entries
 AreKnown-marked c from entries h none = record { positions = h.positions; each = skipped c from c.count entries (omega arith) h none }

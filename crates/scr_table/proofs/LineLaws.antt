@@ -103,8 +103,8 @@ AreTablesOf-prop (line ∷ lines) [] = hlevel props
 AreTablesOf-prop (line ∷ lines) (table ∷ tables) = hlevel (props, AreTablesOf-prop lines tables)
 
 -- among the tables of some lines stands that of each
-pub table_of_line : (lines : List TableLine) (tables : List Distances) → AreTablesOf lines tables → (line : TableLine) → Contains lines line
-    → (table : Distances) × IsTableOf line table
+pub table_of_line : (lines : List TableLine) (tables : List Distances) → AreTablesOf lines tables → (line : TableLine)
+    → Contains lines line → (table : Distances) × IsTableOf line table
 table_of_line [] tables are line there = absurd (omega (arith, there.1))
 table_of_line (first ∷ lines) [] are line there = absurd are
 table_of_line (first ∷ lines) (table ∷ tables) are line (zero, inside, is) = (table, subst (λ l. IsTableOf l table) is are.0)

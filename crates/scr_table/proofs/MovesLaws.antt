@@ -18,16 +18,16 @@ module _ {S : Type 0} (m : MoveSet S) where
       let parts = taken_where (nat_lt t m.count) (m.after s t) r e in
       (ltb-true t m.count parts.0, parts.1)
 
-  -- Of words of at most so many turns that lead to solved, those that begin with a turn below one are looked at: each can be
-  -- made shorter, or goes on idly from the turn before.
+  -- Of words of at most so many turns that lead to solved, those that begin with a turn below one are looked at: each
+  -- can be made shorter, or goes on idly from the turn before.
   abbrev pub AreTried : S → Option ℕ → ℕ → ℕ → Type 0
   AreTried s before most done =
       (t : ℕ) (w : List ℕ) → t < done → LeadsTo (after_move m) (IsSolved m) s (t ∷ w) → length w < most
       → HasShorter m s (t ∷ w) ⊎ BeginsIdly m before (t ∷ w)
 
   -- two turns of which the second never helps are done by at most one
-  HasShorter-idle : (s : S) (t : ℕ) (v : List ℕ) → BeginsIdly m (Some t) v → LeadsTo (after_move m) (IsSolved m) s (t ∷ v)
-      → HasShorter m s (t ∷ v)
+  HasShorter-idle : (s : S) (t : ℕ) (v : List ℕ) → BeginsIdly m (Some t) v
+      → LeadsTo (after_move m) (IsSolved m) s (t ∷ v) → HasShorter m s (t ∷ v)
   HasShorter-idle s t v (u, x, same, idle) l =
       let P : List ℕ → Type 0 = λ w. LeadsTo (after_move m) (IsSolved m) s (t ∷ w) in
       let first = LeadsTo-parts (after_move m) (IsSolved m) s t (u ∷ x) (subst P same l) in
@@ -41,8 +41,9 @@ module _ {S : Type 0} (m : MoveSet S) where
       (short.0 ++ x, leads, simp length-append (omega (arith, short.1, ap length same)))
 
   -- a word whose rest can be made shorter, or goes on idly from its first turn, can be made shorter
-  HasShorter-first : (s r : S) (t : ℕ) (v : List ℕ) → after_move m s t ≡ Some r → LeadsTo (after_move m) (IsSolved m) s (t ∷ v)
-      → HasShorter m r v ⊎ BeginsIdly m (Some t) v → HasShorter m s (t ∷ v)
+  HasShorter-first : (s r : S) (t : ℕ) (v : List ℕ) → after_move m s t ≡ Some r
+      → LeadsTo (after_move m) (IsSolved m) s (t ∷ v) → HasShorter m r v ⊎ BeginsIdly m (Some t) v
+      → HasShorter m s (t ∷ v)
   HasShorter-first s r t v e l (inl (x, leads, less)) =
       (t ∷ x, LeadsTo-cons (after_move m) (IsSolved m) s r t x e leads, omega arith)
   HasShorter-first s r t v e l (inr idly) = HasShorter-idle s t v idly l
@@ -79,7 +80,8 @@ module _ {S : Type 0} (m : MoveSet S) where
         → AreTried s before most (turn + 1)
     AreTried-looked next leads out = tried_more (λ w l short. inl (shorter w l short))
       where
-        shorter : (w : List ℕ) → LeadsTo (after_move m) (IsSolved m) s (turn ∷ w) → length w < most → HasShorter m s (turn ∷ w)
+        shorter : (w : List ℕ) → LeadsTo (after_move m) (IsSolved m) s (turn ∷ w) → length w < most
+            → HasShorter m s (turn ∷ w)
         shorter w l short =
             let parts = LeadsTo-parts (after_move m) (IsSolved m) s turn w l in
             let led = (turned-turn s parts.0 turn parts.1).1 in

@@ -23,7 +23,8 @@ step_down p q true e = absurd (cc)
 step_down p q false e = let same : p - 1 ≡ q = cc in omega arith
 
 -- no word from a position is shorter than its number
-pub row_least : (n p : ℕ) (w : List ℕ) → LeadsTo (moved (row_coordinate n)) (IsGoal (row_coordinate n)) p w → p ≤ length w
+pub row_least : (n p : ℕ) (w : List ℕ) → LeadsTo (moved (row_coordinate n)) (IsGoal (row_coordinate n)) p w
+    → p ≤ length w
 row_least n p [] l = omega (arith, eqb-true p 0 (IsGoal-empty (moved (row_coordinate n)) (IsGoal (row_coordinate n)) p l))
 row_least n p (t ∷ w) l =
     let parts = LeadsTo-parts (moved (row_coordinate n)) (IsGoal (row_coordinate n)) p t w l in

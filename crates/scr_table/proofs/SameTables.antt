@@ -1,5 +1,5 @@
--- A coordinate, and one that shows the same: the tables of the one are those of the other, and so are gaps, the causes of
--- refused builds, and first words.
+-- A coordinate, and one that shows the same: the tables of the one are those of the other, and so are gaps, the causes
+-- of refused builds, and first words.
 use Rattle.std.proofs.Common.{ℕ, ◌<◌, List, get_or, sym, ◌∙◌, arith}
 use Rattle.scr_combinatorics.specs.FirstWord.{IsFirstWord}
 use Rattle.scr_positions.specs.Coordinates.{Coordinate, StaysBelow, moved, IsGoal}
@@ -37,7 +37,8 @@ module _ (c shown : Coordinate) (below : StaysBelow shown) (same : ShowsSame c s
     within = λ p at. m.within p (omega (arith, at, same.count));
   }
 
-  pub IsTableOf-same : (name : TableName) (bound : ℕ) (table : Distances) → IsTableOf (record { name = name; coordinate = shown; bound = bound }) table
+  pub IsTableOf-same : (name : TableName) (bound : ℕ) (table : Distances)
+      → IsTableOf (record { name = name; coordinate = shown; bound = bound }) table
       → IsTableOf (record { name = name; coordinate = c; bound = bound }) table
   IsTableOf-same name bound table is = record { name = is.name; bound = is.bound; measures = Measures-same table is.measures }
 
@@ -64,10 +65,12 @@ module _ (c shown : Coordinate) (below : StaysBelow shown) (same : ShowsSame c s
   }
 
   -- and so is why there is no table
-  pub IsCause-same : (name : TableName) (bound : ℕ) (fault : BuildFault) → IsCause name shown bound fault → IsCause name c bound fault
+  pub IsCause-same : (name : TableName) (bound : ℕ) (fault : BuildFault) → IsCause name shown bound fault
+      → IsCause name c bound fault
   IsCause-same name bound NoMemory cause = tt
   IsCause-same name bound (Gap table index) cause = (cause.0, IsFirstGap-same bound index cause.1)
 
   -- a first word of the one is one of the other
-  pub IsFirstWord-same : (p : ℕ) (word : List ℕ) → p < c.count → IsFirstWord (moved shown) (IsGoal shown) p word → IsFirstWord (moved c) (IsGoal c) p word
+  pub IsFirstWord-same : (p : ℕ) (word : List ℕ) → p < c.count → IsFirstWord (moved shown) (IsGoal shown) p word
+      → IsFirstWord (moved c) (IsGoal c) p word
   IsFirstWord-same p word at first = (finds_the_same.first_words p word at).1 first

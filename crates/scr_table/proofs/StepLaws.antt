@@ -5,7 +5,8 @@ use borrow.Author.Tests.{ltb-true}
 use Rattle.scr_positions.specs.Coordinates.{Coordinate, StaysBelow, moved}
 
 -- what is taken where a test holds
-pub taken_where : {A : Type 0} (b : Bool) (o : Option A) (q : A) → (if b then o else None) ≡ Some q → (b ≡ true) × (o ≡ Some q)
+pub taken_where : {A : Type 0} (b : Bool) (o : Option A) (q : A) → (if b then o else None) ≡ Some q
+    → (b ≡ true) × (o ≡ Some q)
 taken_where true o q e = (refl, e)
 taken_where false o q e = absurd (cc)
 

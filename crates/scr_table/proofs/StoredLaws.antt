@@ -119,16 +119,16 @@ stored_is ds blocks deep halves is =
     ext_get_or 0 _ ds count
     (λ p lt. each_below-at distance (length ds) p 0 (omega arith) ∙ distance_is ds blocks deep halves is p (omega arith))
 
-pub AreStored-stored : (ds : List ℕ) (blocks : List (List ℕ)) (deep : List Deep) → AreBlocksOf ds blocks → deep ≡ deep_of ds
-    → AreStored (stored (length ds) blocks deep) (length ds) blocks deep
+pub AreStored-stored : (ds : List ℕ) (blocks : List (List ℕ)) (deep : List Deep) → AreBlocksOf ds blocks
+    → deep ≡ deep_of ds → AreStored (stored (length ds) blocks deep) (length ds) blocks deep
 AreStored-stored ds blocks deep halves is =
     subst (λ s. AreStored s (length ds) blocks deep) (sym (stored_is ds blocks deep halves is))
     (record { count = refl; in_blocks = halves; deep_ones = is })
 
 -- what a reader of a slice of blocks and a slice of deep positions finds at a position whose half byte is the mark
 pub found_stored : (s ds : List ℕ) (n p half : ℕ) (blocks read : List (List ℕ)) (deep listed : List Deep)
-    → AreStored s n blocks deep → s ≡ ds → p < length ds → read ≡ blocks → half ≡ half_byte_at read p → half ≡ 14 → listed ≡ deep
-    → (i : ℕ) × (i < length listed) × (deep_at listed i ≡ (p, get_or ds p 0))
+    → AreStored s n blocks deep → s ≡ ds → p < length ds → read ≡ blocks → half ≡ half_byte_at read p → half ≡ 14
+    → listed ≡ deep → (i : ℕ) × (i < length listed) × (deep_at listed i ≡ (p, get_or ds p 0))
 found_stored s ds n p half blocks read deep listed h view inside same is marked lists =
     let h : AreStored ds n blocks deep = subst (λ s. AreStored s n blocks deep) view h in
     let at : half_byte_at blocks p ≡ 14 = ap (λ b. half_byte_at b p) (sym same) ∙ sym is ∙ marked in

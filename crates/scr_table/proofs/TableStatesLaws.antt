@@ -17,9 +17,11 @@ use Rattle.scr_table.specs.TableStates.{IsEach, IsLineOf, AreLinesOf, AreWhole, 
 
 -- ---- one table
 
--- where each position of a line is the number of a state of a table that goes along with it, the line is that of the table
-pub IsLineOf-each : (table : SearchTable) (line : TableLine) → line.name ≡ table.name → line.coordinate.count ≡ table.count
-    → line.bound ≡ table.bound → Follows table.space (positions line.coordinate) table.number_of
+-- where each position of a line is the number of a state of a table that goes along with it, the line is that of the
+-- table
+pub IsLineOf-each : (table : SearchTable) (line : TableLine) → line.name ≡ table.name
+    → line.coordinate.count ≡ table.count → line.bound ≡ table.bound
+    → Follows table.space (positions line.coordinate) table.number_of
     → IsEach table.space table.number_of line.coordinate.count → IsLineOf table line
 IsLineOf-each table line name count bound follows each = record {
   name = name;
@@ -111,7 +113,8 @@ module _ (table : SearchTable) (line : TableLine) (is : IsLineOf table line) whe
 
 -- ---- tables one after another
 
-pub AreWhole-lines : (tables : List SearchTable) (lines : List TableLine) → AreLinesOf tables lines → All HasNoGap lines → AreWhole tables
+pub AreWhole-lines : (tables : List SearchTable) (lines : List TableLine) → AreLinesOf tables lines → All HasNoGap lines
+    → AreWhole tables
 AreWhole-lines [] lines are none = tt
 AreWhole-lines (table ∷ tables) [] are none = absurd are
 AreWhole-lines (table ∷ tables) (line ∷ lines) are none = (
@@ -119,7 +122,8 @@ AreWhole-lines (table ∷ tables) (line ∷ lines) are none = (
   AreWhole-lines tables lines are.1 (All-tail HasNoGap line lines none),
 )
 
-pub EachSeesAlike-lines : (tables : List SearchTable) (lines : List TableLine) → AreLinesOf tables lines → EachSeesAlike tables
+pub EachSeesAlike-lines : (tables : List SearchTable) (lines : List TableLine) → AreLinesOf tables lines
+    → EachSeesAlike tables
 EachSeesAlike-lines [] lines are = tt
 EachSeesAlike-lines (table ∷ tables) [] are = absurd are
 EachSeesAlike-lines (table ∷ tables) (line ∷ lines) are = (SeesAlike-line table line are.0, EachSeesAlike-lines tables lines are.1)
@@ -138,8 +142,8 @@ first_gap (table ∷ tables) (first ∷ before) line behind name i are none name
 )
 
 -- the cause of some lines is that of their tables
-pub IsCauseAmong-lines : (tables : List SearchTable) (lines : List TableLine) (fault : BuildFault) → AreLinesOf tables lines
-    → IsCauseOf lines fault → IsCauseAmong tables fault
+pub IsCauseAmong-lines : (tables : List SearchTable) (lines : List TableLine) (fault : BuildFault)
+    → AreLinesOf tables lines → IsCauseOf lines fault → IsCauseAmong tables fault
 IsCauseAmong-lines [] [] NoMemory are cause = absurd (cause refl)
 IsCauseAmong-lines [] (line ∷ lines) NoMemory are cause = absurd are
 IsCauseAmong-lines (table ∷ tables) lines NoMemory are cause = omega arith
@@ -156,18 +160,19 @@ first-before (table ∷ tables) more name i (inl here) = inl here
 first-before (table ∷ tables) more name i (inr later) = inr (later.0, first-before tables more name i later.1)
 
 -- and so is the cause
-pub IsCauseAmong-before : (tables more : List SearchTable) (fault : BuildFault) → IsCauseAmong tables fault → IsCauseAmong (tables ++ more) fault
+pub IsCauseAmong-before : (tables more : List SearchTable) (fault : BuildFault) → IsCauseAmong tables fault
+    → IsCauseAmong (tables ++ more) fault
 IsCauseAmong-before tables more NoMemory cause = omega (arith, cause, length-append tables more)
 IsCauseAmong-before tables more (Gap name i) cause = first-before tables more name i cause
 
 -- and behind tables that have no gap so is that of the others
-first-behind : (built tables : List SearchTable) (name : TableName) (i : ℕ) → AreWhole built → IsFirstGapAmong tables name i
-    → IsFirstGapAmong (built ++ tables) name i
+first-behind : (built tables : List SearchTable) (name : TableName) (i : ℕ) → AreWhole built
+    → IsFirstGapAmong tables name i → IsFirstGapAmong (built ++ tables) name i
 first-behind [] tables name i whole gap = gap
 first-behind (table ∷ built) tables name i whole gap = inr (whole.0, first-behind built tables name i whole.1 gap)
 
-pub IsCauseAmong-behind : (built tables : List SearchTable) (fault : BuildFault) → AreWhole built → IsCauseAmong tables fault
-    → IsCauseAmong (built ++ tables) fault
+pub IsCauseAmong-behind : (built tables : List SearchTable) (fault : BuildFault) → AreWhole built
+    → IsCauseAmong tables fault → IsCauseAmong (built ++ tables) fault
 IsCauseAmong-behind built tables NoMemory whole cause = omega (arith, cause, length-append built tables)
 IsCauseAmong-behind built tables (Gap name i) whole cause = first-behind built tables name i whole cause
 
@@ -175,8 +180,8 @@ pub AreWhole-append : (tables more : List SearchTable) → AreWhole tables → A
 AreWhole-append [] more whole rest = rest
 AreWhole-append (table ∷ tables) more whole rest = (whole.0, AreWhole-append tables more whole.1 rest)
 
-pub AreLinesOf-append : (tables more : List SearchTable) (lines others : List TableLine) → AreLinesOf tables lines → AreLinesOf more others
-    → AreLinesOf (tables ++ more) (lines ++ others)
+pub AreLinesOf-append : (tables more : List SearchTable) (lines others : List TableLine) → AreLinesOf tables lines
+    → AreLinesOf more others → AreLinesOf (tables ++ more) (lines ++ others)
 AreLinesOf-append [] more [] others are rest = rest
 AreLinesOf-append [] more (line ∷ lines) others are rest = absurd are
 AreLinesOf-append (table ∷ tables) more [] others are rest = absurd are

@@ -11,7 +11,8 @@ use Rattle.scr_combinatorics.proofs.PlayLaws.{play-empty}
 use Rattle.scr_combinatorics.proofs.FirstWordLaws.{IsGoal-empty, LeadsTo-cons, LeadsTo-parts}
 use Rattle.scr_table.specs.TriedWords.{passes, leads_within, needs_test}
 
-passed : {S : Type 0} (test : S → Bool) (o : Option S) → IsTrue (passes test o) → (r : S) × (o ≡ Some r) × IsTrue (test r)
+passed : {S : Type 0} (test : S → Bool) (o : Option S) → IsTrue (passes test o)
+    → (r : S) × (o ≡ Some r) × IsTrue (test r)
 passed test None t = absurd (false≢true t)
 passed test (Some r) t = (r, refl, t)
 
@@ -46,7 +47,8 @@ module _ {S : Type 0} (turns : ℕ) (after : S → ℕ → Option S) (is_solved 
   here : (n : ℕ) (s : S) → IsSolved s → (w : List ℕ) × LeadsTo after IsSolved s w × (length w ≤ n)
   here n s t = ([], record { end = s; played = play-empty after s; goal = t }, omega arith)
 
-  word-leads : (n : ℕ) (s : S) → IsTrue (leads_within turns after is_solved n s) → (w : List ℕ) × LeadsTo after IsSolved s w × (length w ≤ n)
+  word-leads : (n : ℕ) (s : S) → IsTrue (leads_within turns after is_solved n s)
+      → (w : List ℕ) × LeadsTo after IsSolved s w × (length w ≤ n)
   unfolding leads_within
   word-leads zero s t = here 0 s t
   word-leads (suc n) s t =
@@ -60,7 +62,8 @@ module _ {S : Type 0} (turns : ℕ) (after : S → ℕ → Option S) (is_solved 
       ]
 
   module _ (below : (s r : S) (t : ℕ) → after s t ≡ Some r → t < turns) where
-    leads-word : (n : ℕ) (s : S) (w : List ℕ) → LeadsTo after IsSolved s w → length w ≤ n → IsTrue (leads_within turns after is_solved n s)
+    leads-word : (n : ℕ) (s : S) (w : List ℕ) → LeadsTo after IsSolved s w → length w ≤ n
+        → IsTrue (leads_within turns after is_solved n s)
     unfolding leads_within
     leads-word zero s [] l le = IsGoal-empty after IsSolved s l
     leads-word zero s (t ∷ w) l le = absurd (omega arith)

@@ -20,37 +20,42 @@ filter-none test (x ∷ xs) h =
     ap (λ b. cond b (x ∷ filter test xs) (filter test xs)) (All-head (λ y. test y ≡ false) x xs h)
     ∙ filter-none test xs (All-tail (λ y. test y ≡ false) x xs h)
 
-pub filter-flat_map : {X A : Type 0} (test : A → Bool) (f : X → List A) (xs : List X) → filter test (flat_map f xs) ≡ flat_map (λ x. filter test (f x)) xs
+pub filter-flat_map : {X A : Type 0} (test : A → Bool) (f : X → List A) (xs : List X)
+    → filter test (flat_map f xs) ≡ flat_map (λ x. filter test (f x)) xs
 filter-flat_map test f [] = refl
 filter-flat_map test f (x ∷ xs) = filter-append test (f x) (flat_map f xs) ∙ ap (λ ys. filter test (f x) ++ ys) (filter-flat_map test f xs)
 
-pub map-flat_map : {X A B : Type 0} (g : A → B) (f : X → List A) (xs : List X) → map g (flat_map f xs) ≡ flat_map (λ x. map g (f x)) xs
+pub map-flat_map : {X A B : Type 0} (g : A → B) (f : X → List A) (xs : List X)
+    → map g (flat_map f xs) ≡ flat_map (λ x. map g (f x)) xs
 map-flat_map g f [] = refl
 map-flat_map g f (x ∷ xs) = map-append g (f x) (flat_map f xs) ∙ ap (λ ys. map g (f x) ++ ys) (map-flat_map g f xs)
 
-pub flat_map-same : {X A : Type 0} (f g : X → List A) → ((x : X) → f x ≡ g x) → (xs : List X) → flat_map f xs ≡ flat_map g xs
+pub flat_map-same : {X A : Type 0} (f g : X → List A) → ((x : X) → f x ≡ g x) → (xs : List X)
+    → flat_map f xs ≡ flat_map g xs
 flat_map-same f g h [] = refl
 flat_map-same f g h (x ∷ xs) = ap (λ ys. ys ++ flat_map f xs) (h x) ∙ ap (λ ys. g x ++ ys) (flat_map-same f g h xs)
 
-pub All-flat_map : {X A : Type 0} (P : A → Type 0) (f : X → List A) (xs : List X) → All (λ x. All P (f x)) xs → All P (flat_map f xs)
+pub All-flat_map : {X A : Type 0} (P : A → Type 0) (f : X → List A) (xs : List X) → All (λ x. All P (f x)) xs
+    → All P (flat_map f xs)
 All-flat_map P f [] h = All-nil P
 All-flat_map P f (x ∷ xs) h =
     All-append P (f x) (flat_map f xs) (All-head (λ y. All P (f y)) x xs h) (All-flat_map P f xs (All-tail (λ y. All P (f y)) x xs h))
 
-kept_by : {X A : Type 0} (f : X → List A) (b : Bool) (x : X) (xs kept : List X) → (b ≡ false → f x ≡ []) → flat_map f xs ≡ flat_map f kept
-    → flat_map f (x ∷ xs) ≡ flat_map f (cond b (x ∷ kept) kept)
+kept_by : {X A : Type 0} (f : X → List A) (b : Bool) (x : X) (xs kept : List X) → (b ≡ false → f x ≡ [])
+    → flat_map f xs ≡ flat_map f kept → flat_map f (x ∷ xs) ≡ flat_map f (cond b (x ∷ kept) kept)
 kept_by f true x xs kept h e = ap (λ ys. f x ++ ys) e
 kept_by f false x xs kept h e = ap (λ ys. ys ++ flat_map f xs) (h refl) ∙ e
 
 -- elements that come to nothing can be left out
-pub flat_map-kept : {X A : Type 0} (f : X → List A) (keep : X → Bool) (xs : List X) → All (λ x. keep x ≡ false → f x ≡ []) xs
-    → flat_map f xs ≡ flat_map f (filter keep xs)
+pub flat_map-kept : {X A : Type 0} (f : X → List A) (keep : X → Bool) (xs : List X)
+    → All (λ x. keep x ≡ false → f x ≡ []) xs → flat_map f xs ≡ flat_map f (filter keep xs)
 flat_map-kept f keep [] h = refl
 flat_map-kept f keep (x ∷ xs) h =
     kept_by f (keep x) x xs (filter keep xs) (All-head (λ y. keep y ≡ false → f y ≡ []) x xs h)
     (flat_map-kept f keep xs (All-tail (λ y. keep y ≡ false → f y ≡ []) x xs h))
 
-found_by : {X : Type 0} (b : Bool) (x : X) (o : Option X) (xs : List X) → o ≡ slice_get xs 0 → cond b (Some x) o ≡ slice_get (cond b (x ∷ xs) xs) 0
+found_by : {X : Type 0} (b : Bool) (x : X) (o : Option X) (xs : List X) → o ≡ slice_get xs 0
+    → cond b (Some x) o ≡ slice_get (cond b (x ∷ xs) xs) 0
 found_by true x o xs e = refl
 found_by false x o xs e = e
 
@@ -65,7 +70,8 @@ made_by made true x o p e = refl
 made_by made false x o p e = e
 
 -- what is made of it
-pub find-made : {X Y : Type 0} (made : X → Y) (test : Y → Bool) (xs : List X) → option_map made (find (λ x. test (made x)) xs) ≡ find test (map made xs)
+pub find-made : {X Y : Type 0} (made : X → Y) (test : Y → Bool) (xs : List X)
+    → option_map made (find (λ x. test (made x)) xs) ≡ find test (map made xs)
 find-made made test [] = refl
 find-made made test (x ∷ xs) =
     made_by made (test (made x)) x (find (λ x. test (made x)) xs) (find test (map made xs)) (find-made made test xs)
@@ -73,7 +79,8 @@ find-made made test (x ∷ xs) =
 -- ---- lists by numbers, as by the lengths of words
 
 -- the numbers from one on begin with it
-pub numbers_from-next : (at end : ℕ) → at < end → numbers_from at (end - at) ≡ at ∷ numbers_from (at + 1) (end - (at + 1))
+pub numbers_from-next : (at end : ℕ) → at < end
+    → numbers_from at (end - at) ≡ at ∷ numbers_from (at + 1) (end - (at + 1))
 numbers_from-next at end lt =
     let more : end - at ≡ suc (end - (at + 1)) = omega arith in
     let next : suc at ≡ at + 1 = omega arith in
@@ -83,7 +90,8 @@ pub numbers_from-end : (at end : ℕ) → end ≤ at → numbers_from at (end - 
 numbers_from-end at end le = let none : end - at ≡ 0 = omega arith in ap (numbers_from at) none
 
 -- lengths of which there is no word can be left out before all others
-length_skipped : {X : Type 0} (f : ℕ → List X) (at end : ℕ) → f at ≡ [] → flat_map f (numbers_from at (end - at)) ≡ flat_map f (numbers_from (at + 1) (end - (at + 1)))
+length_skipped : {X : Type 0} (f : ℕ → List X) (at end : ℕ) → f at ≡ []
+    → flat_map f (numbers_from at (end - at)) ≡ flat_map f (numbers_from (at + 1) (end - (at + 1)))
 length_skipped f at end none =
     elim (cases_lt at end) [
       | inl lt ↦ ap (flat_map f) (numbers_from-next at end lt) ∙ ap (λ xs. xs ++ flat_map f (numbers_from (at + 1) (end - (at + 1)))) none
@@ -111,7 +119,8 @@ IsWordOf-empty : (turns : List ℕ) → IsWordOf turns 0 []
 IsWordOf-empty turns = record { places = []; size = refl; below = All-nil (λ k. k < length turns); is = refl }
 
 -- one turn more
-IsWordOf-turn : (turns : List ℕ) (n k t : ℕ) (word : List ℕ) → k < length turns → get_or turns k t ≡ t → IsWordOf turns n word → IsWordOf turns (suc n) (t ∷ word)
+IsWordOf-turn : (turns : List ℕ) (n k t : ℕ) (word : List ℕ) → k < length turns → get_or turns k t ≡ t
+    → IsWordOf turns n word → IsWordOf turns (suc n) (t ∷ word)
 IsWordOf-turn turns n k t word lt e h = record {
   places = k ∷ h.places;
   size = ap suc h.size;
@@ -143,7 +152,8 @@ module _ (turns : List ℕ) (test : List ℕ → Bool) where
   words_behind-end word = ap (λ w. cond (test w) (w ∷ []) []) (append-nil word)
 
   -- one letter and then the others
-  pub words_behind-turns : (word : List ℕ) (more : ℕ) → words_behind turns test word (suc more) ≡ flat_map (λ t. words_behind turns test (word ++ t ∷ []) more) turns
+  pub words_behind-turns : (word : List ℕ) (more : ℕ)
+      → words_behind turns test word (suc more) ≡ flat_map (λ t. words_behind turns test (word ++ t ∷ []) more) turns
   unfolding words_behind words_of
   words_behind-turns word more =
       let ws = words_of turns more in
@@ -152,12 +162,15 @@ module _ (turns : List ℕ) (test : List ℕ → Bool) where
       ∙ flat_map-same (λ t. filter test (map (λ v. word ++ v) (map (λ w. t ∷ w) ws))) (λ t. filter test (map (λ v. (word ++ t ∷ []) ++ v) ws))
       (λ t. ap (filter test) (shifted t ws)) turns
     where
-      shifted : (t : ℕ) (ws : List (List ℕ)) → map (λ v. word ++ v) (map (λ w. t ∷ w) ws) ≡ map (λ v. (word ++ t ∷ []) ++ v) ws
+      shifted : (t : ℕ) (ws : List (List ℕ))
+          → map (λ v. word ++ v) (map (λ w. t ∷ w) ws) ≡ map (λ v. (word ++ t ∷ []) ++ v) ws
       shifted t [] = refl
       shifted t (w ∷ ws) = ap (λ v. v ∷ map (λ v. word ++ v) (map (λ w. t ∷ w) ws)) (sym (append_assoc word (t ∷ []) w)) ∙ ap (λ vs. ((word ++ t ∷ []) ++ w) ∷ vs) (shifted t ws)
 
   -- none where none passes
-  pub words_behind-none : (word : List ℕ) (more : ℕ) → ((v : List ℕ) → Contains (words_of turns more) v → test (word ++ v) ≡ false) → words_behind turns test word more ≡ []
+  pub words_behind-none : (word : List ℕ) (more : ℕ)
+      → ((v : List ℕ) → Contains (words_of turns more) v → test (word ++ v) ≡ false)
+      → words_behind turns test word more ≡ []
   unfolding words_behind
   words_behind-none word more h =
       filter-none test (map (λ v. word ++ v) (words_of turns more))
@@ -173,10 +186,12 @@ module _ (turns : List ℕ) (test : List ℕ → Bool) where
       ∙ filter-flat_map test (λ n. map (λ v. word ++ v) (words_of turns n)) (numbers_from 0 (most + 1))
 
 -- a turn that is written, and taken away again
-pub pushed_word : (now before word : List ℕ) (turn t : ℕ) → now ≡ before ++ turn ∷ [] → before ≡ word → turn ≡ t → now ≡ word ++ t ∷ []
+pub pushed_word : (now before word : List ℕ) (turn t : ℕ) → now ≡ before ++ turn ∷ [] → before ≡ word → turn ≡ t
+    → now ≡ word ++ t ∷ []
 pushed_word now before word turn t e same is = e ∙ ap (λ w. w ++ turn ∷ []) same ∙ ap (λ u. word ++ u ∷ []) is
 
-pub popped_word : (now before word : List ℕ) (t : ℕ) → now ≡ take (length before - 1) before → before ≡ word ++ t ∷ [] → now ≡ word
+pub popped_word : (now before word : List ℕ) (t : ℕ) → now ≡ take (length before - 1) before → before ≡ word ++ t ∷ []
+    → now ≡ word
 popped_word now before word t e is =
     let short : length before - 1 ≡ length word = omega (arith, ap length is, length-append word (t ∷ [])) in
     e ∙ ap (λ n. take n before) short ∙ ap (take (length word)) is ∙ take-append_seam word (t ∷ [])

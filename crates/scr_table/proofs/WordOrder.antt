@@ -26,16 +26,16 @@ AllPairs-head R x xs h = λ k d lt. h 0 (suc k) d (omega arith) (omega (arith, l
 AllPairs-tail : {X : Type 0} (R : X → X → Type 0) (x : X) (xs : List X) → AllPairs R (x ∷ xs) → AllPairs R xs
 AllPairs-tail R x xs h = λ i j d lt below. h (suc i) (suc j) d (omega (arith, lt)) (omega (arith, below))
 
-AllPairs-append : {X : Type 0} (R : X → X → Type 0) (xs ys : List X) → AllPairs R xs → AllPairs R ys → All (λ x. All (R x) ys) xs
-    → AllPairs R (xs ++ ys)
+AllPairs-append : {X : Type 0} (R : X → X → Type 0) (xs ys : List X) → AllPairs R xs → AllPairs R ys
+    → All (λ x. All (R x) ys) xs → AllPairs R (xs ++ ys)
 AllPairs-append R [] ys h k across = k
 AllPairs-append R (x ∷ xs) ys h k across =
     AllPairs-cons R x (xs ++ ys)
     (All-append (R x) xs ys (AllPairs-head R x xs h) (λ j d lt. across 0 x (omega arith) j d lt))
     (AllPairs-append R xs ys (AllPairs-tail R x xs h) k (λ j d lt. across (suc j) d (omega (arith, lt))))
 
-AllPairs-map : {X Y : Type 0} (R : X → X → Type 0) (Q : Y → Y → Type 0) (f : X → Y) → ((x y : X) → R x y → Q (f x) (f y))
-    → (xs : List X) → AllPairs R xs → AllPairs Q (map f xs)
+AllPairs-map : {X Y : Type 0} (R : X → X → Type 0) (Q : Y → Y → Type 0) (f : X → Y)
+    → ((x y : X) → R x y → Q (f x) (f y)) → (xs : List X) → AllPairs R xs → AllPairs Q (map f xs)
 AllPairs-map R Q f keeps [] h = AllPairs-nil Q
 AllPairs-map R Q f keeps (x ∷ xs) h =
     AllPairs-cons Q (f x) (map f xs)
@@ -158,7 +158,8 @@ module _ {S : Type 0} (after : S → ℕ → Option S) (IsGoal : S → Type 0) (
       ↔ IsFirstWord after IsGoal s w × (length w ≤ most)
   first-listed w = (λ e. (IsFirstWord-listed w e, (leads w e).0), λ is. listed_first w is.0 is.1)
     where
-      same : (w head : List ℕ) → slice_get listed 0 ≡ Some head → LeadsTo after IsGoal s w → (head ≡ w) ⊎ IsEarlier w head → head ≡ w
+      same : (w head : List ℕ) → slice_get listed 0 ≡ Some head → LeadsTo after IsGoal s w
+          → (head ≡ w) ⊎ IsEarlier w head → head ≡ w
       same w head at l (inl e) = e
       same w head at l (inr earlier) =
           elim ((IsFirstWord-listed head at).first w l) [

@@ -10,8 +10,8 @@ pub record Distances : Type 0 where
   pub bound : ℕ
   pub distances : List ℕ
 
--- The table measures the coordinate: at each of its positions stands the least number of turns to a goal, and it is at most
--- the bound. The turns are those below the coordinate's number of turns, where they are not barred.
+-- The table measures the coordinate: at each of its positions stands the least number of turns to a goal, and it is at
+-- most the bound. The turns are those below the coordinate's number of turns, where they are not barred.
 pub record Measures (c : Coordinate) (table : Distances) : Type 0 where
   pub positions : length table.distances ≡ c.count
   pub exact : (p : ℕ) → p < c.count → IsDistance (moved c) (IsGoal c) p (slice_index table.distances p)

@@ -5,8 +5,8 @@ use Rattle.scr_combinatorics.specs.FirstWord.{IsDistance}
 use Rattle.scr_table.specs.Distances.{NoneWithin}
 use Rattle.scr_table.specs.declared.fill.TheConstants.{UNKNOWN}
 
--- What an entry says of its position, when all words of at most `level` turns are looked at: the distance, or that there is
--- no such word.
+-- What an entry says of its position, when all words of at most `level` turns are looked at: the distance, or that
+-- there is no such word.
 pub record IsKnown (c : Coordinate) (level p entry : ℕ) : Type 0 where
   pub found : entry ≢ UNKNOWN → IsDistance (moved c) (IsGoal c) p entry
   pub left : entry ≡ UNKNOWN → NoneWithin c p level
@@ -29,8 +29,8 @@ pub record IsLeastNeighbour (c : Coordinate) (entries : List ℕ) (p least : ℕ
   pub at_most : (t q : ℕ) → moved c p t ≡ Some q → least ≤ slice_index entries q
   pub some : least ≢ UNKNOWN → Neighbours c entries p least
 
--- An entry agrees with the least that turns lead to, where the entries up to a level are there: a distance other than 0 is
--- greater by one, and beside what isn't known yet nothing is below the level.
+-- An entry agrees with the least that turns lead to, where the entries up to a level are there: a distance other than 0
+-- is greater by one, and beside what isn't known yet nothing is below the level.
 pub record Agrees (level entry least : ℕ) : Type 0 where
   pub known : entry ≢ UNKNOWN → entry ≢ 0 → (entry ≡ least + 1) × (entry ≤ level)
   pub unknown : entry ≡ UNKNOWN → level ≤ least
@@ -38,7 +38,8 @@ pub record Agrees (level entry least : ℕ) : Type 0 where
 abbrev pub IsAgreed : Coordinate → ℕ → List ℕ → ℕ → Type 0
 IsAgreed c level entries p = (least : ℕ) × IsLeastNeighbour c entries p least × Agrees level (slice_index entries p) least
 
--- The entry of a position on the next level: what is known is kept, and what isn't is reached where a turn leads to the level.
+-- The entry of a position on the next level: what is known is kept, and what isn't is reached where a turn leads to the
+-- level.
 abbrev pub next_entry : ℕ → ℕ → ℕ → ℕ
 next_entry level entry least = if entry == UNKNOWN && least == level then level + 1 else entry
 

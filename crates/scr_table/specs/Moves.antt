@@ -4,7 +4,8 @@ use Rattle.scr_combinatorics.specs.Play.{play}
 use Rattle.scr_combinatorics.specs.Reach.{Puzzle}
 use Rattle.scr_combinatorics.specs.FirstWord.{LeadsTo}
 
--- Turns, the numbers below a count; what a turn makes of a state, or nothing where it is refused; which states are solved.
+-- Turns, the numbers below a count; what a turn makes of a state, or nothing where it is refused; which states are
+-- solved.
 pub record MoveSet (S : Type 0) : Type 0 where
   pub count : ℕ
   pub after : S → ℕ → Option S
@@ -25,7 +26,8 @@ move_puzzle m = record { Turn = ℕ; after = after_move m; IsSolved = IsSolved m
 abbrev pub NeedsTurns : {S : Type 0} → MoveSet S → S → ℕ → Type 0
 NeedsTurns m s least = (w : List ℕ) → LeadsTo (after_move m) (IsSolved m) s w → least ≤ length w
 
--- One turn right after another never helps: whatever the two make of a state, a word of at most one turn makes of it too.
+-- One turn right after another never helps: whatever the two make of a state, a word of at most one turn makes of it
+-- too.
 abbrev pub NeverHelps : {S : Type 0} → MoveSet S → ℕ → ℕ → Type 0
 NeverHelps {S} m first second =
     (s r q : S) → after_move m s first ≡ Some r → after_move m r second ≡ Some q
@@ -44,7 +46,8 @@ abbrev pub BeginsIdly : {S : Type 0} → MoveSet S → Option ℕ → List ℕ �
 BeginsIdly m None w = ⊥
 BeginsIdly m (Some before) w = (t : ℕ) × (v : List ℕ) × (w ≡ t ∷ v) × NeverHelps m before t
 
--- Each word of at most so many turns that brings a state to solved can be made shorter, or goes on idly from the turn before.
+-- Each word of at most so many turns that brings a state to solved can be made shorter, or goes on idly from the turn
+-- before.
 abbrev pub AreLeftOut : {S : Type 0} → MoveSet S → S → Option ℕ → ℕ → Type 0
 AreLeftOut m s before most =
     (w : List ℕ) → LeadsTo (after_move m) (IsSolved m) s w → length w ≤ most → HasShorter m s w ⊎ BeginsIdly m before w

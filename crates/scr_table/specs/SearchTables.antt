@@ -6,8 +6,8 @@ use Rattle.scr_table.specs.declared.name.TableName.{TableName}
 use Rattle.scr_table.specs.declared.fault.BuildFault.{BuildFault}
 use Rattle.scr_table.specs.declared.fault.BuildFault.TheVariants.{NoMemory, Gap}
 
--- A table: its name; the states of which it speaks, with the turns and the goals of its search; the number that it sees of
--- each, and how many numbers there are; and how many turns a state may be from a goal.
+-- A table: its name; the states of which it speaks, with the turns and the goals of its search; the number that it sees
+-- of each, and how many numbers there are; and how many turns a state may be from a goal.
 pub record SearchTable : Type 1 where
   pub State : Type 0
   pub name : TableName
@@ -49,8 +49,8 @@ IsFirstGapAmong [] name i = ⊥
 IsFirstGapAmong (table ∷ tables) name i =
     ((table.name ≡ name) × HasFirstGap table i) ⊎ (IsWhole table × IsFirstGapAmong tables name i)
 
--- Why these tables, built one after another, are not built. Memory is wanted only where there is a table; no more of its cause
--- can be told.
+-- Why these tables, built one after another, are not built. Memory is wanted only where there is a table; no more of
+-- its cause can be told.
 abbrev pub IsCauseAmong : List SearchTable → BuildFault → Type 0
 IsCauseAmong tables NoMemory = 0 < length tables
 IsCauseAmong tables (Gap name i) = IsFirstGapAmong tables name i

@@ -9,8 +9,8 @@ use Rattle.scr_table.specs.SearchTables.{SearchTable, table_over, IsWhole}
 abbrev pub IsEach : {S : Type 0} → SearchSpace S → (S → ℕ) → ℕ → Type 0
 IsEach {S} space number_of count = (i : ℕ) → i < count → (s : S) × space.IsValid s × (number_of s ≡ i)
 
--- The line by which a table is built: the states of the table go along with the line's positions by their numbers, and each
--- position is the number of one.
+-- The line by which a table is built: the states of the table go along with the line's positions by their numbers, and
+-- each position is the number of one.
 pub record IsLineOf (table : SearchTable) (line : TableLine) : Type 0 where
   pub name : line.name ≡ table.name
   pub count : line.coordinate.count ≡ table.count
@@ -39,8 +39,8 @@ abbrev pub AreWhole : List SearchTable → Type 0
 AreWhole [] = Unit {0}
 AreWhole (table ∷ tables) = IsWhole table × AreWhole tables
 
--- What makes it the same to speak of some state with a number, and of each: the numbers below the count are those of the
--- states, and states with one number have the same words to goals, and so the same distances.
+-- What makes it the same to speak of some state with a number, and of each: the numbers below the count are those of
+-- the states, and states with one number have the same words to goals, and so the same distances.
 pub record SeesAlike (table : SearchTable) : Type 0 where
   pub below : (s : table.State) → table.space.IsValid s → table.number_of s < table.count
   pub each : IsEach table.space table.number_of table.count

@@ -8,8 +8,8 @@ abbrev pub passes : {S : Type 0} → (S → Bool) → Option S → Bool
 passes test None = false
 passes test (Some s) = test s
 
--- Whether a word of at most so many turns leads to solved. The turns have the numbers below a count, and a turn gives a state
--- or nothing.
+-- Whether a word of at most so many turns leads to solved. The turns have the numbers below a count, and a turn gives a
+-- state or nothing.
 unfoldable pub leads_within : {S : Type 0} → ℕ → (S → ℕ → Option S) → (S → Bool) → ℕ → S → Bool
 leads_within turns after is_solved zero s = is_solved s
 leads_within turns after is_solved (suc fewer) s =

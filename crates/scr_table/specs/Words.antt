@@ -1,5 +1,5 @@
--- All words of some turns, in the order of words: by length, then by turn numbers from the first turn; and those of them that
--- lead from a position to a goal. No puzzle stands here.
+-- All words of some turns, in the order of words: by length, then by turn numbers from the first turn; and those of
+-- them that lead from a position to a goal. No puzzle stands here.
 use Rattle.std.specs.Prelude.{ℕ, zero, suc, ◌+◌, Bool, false, List, [], ◌∷◌, ◌++◌, map, filter}
 use Rattle.std.specs.List.{flat_map}
 use Rattle.std.specs.Option.{option_map_or}
@@ -26,8 +26,8 @@ words_behind turns test word more = filter test (map (λ v. word ++ v) (words_of
 unfoldable pub leads_to_goal : Coordinate → ℕ → List ℕ → Bool
 leads_to_goal c position word = option_map_or c.is_goal (play (moved c) position word) false
 
--- The words of at most so many turns that lead from a position to a goal, in the order of words. One that meets a goal on its
--- way is one too.
+-- The words of at most so many turns that lead from a position to a goal, in the order of words. One that meets a goal
+-- on its way is one too.
 unfoldable pub words_to_goal : Coordinate → ℕ → ℕ → List (List ℕ)
 words_to_goal c position most = filter (leads_to_goal c position) (words_within (numbers_from 0 c.turns) most)
 

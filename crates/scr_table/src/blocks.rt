@@ -12,8 +12,8 @@ pub(crate) const BLOCK: usize = 1024;
 /// What a worker made of a block: its entries, where there is something to enter. There is nothing at all before.
 pub(crate) type Made = Option<Option<[u8; BLOCK]>>;
 
-/// Whether an entry stands at one of the positions from `start` up to `end`. All are looked at, which is faster than to stop
-/// there.
+/// Whether an entry stands at one of the positions from `start` up to `end`. All are looked at, which is faster than to
+/// stop there.
 pub(crate) fn contains(entries: &[u8], start: usize, end: usize, entry: u8) -> bool
     requires { end ≤ length entries.now }
     ensures found { OnTrue result ((p : ℕ) × (start ≤ p) × (p < end) × (slice_index entries.now p ≡ entry)) }

@@ -1,8 +1,8 @@
-//! Filling the entries of a table. Early levels, of few positions, are pushed from the goals, and nothing is proved of them but
-//! that 0 stands at the goals. One pass then checks that each entry agrees with those around it, from which it follows that
-//! these levels are exact, and makes the next level by the same looks; each level behind is made from the one before. Where
-//! the entries don't agree, all levels are made so; and at once where a turn from a goal can't be taken back, since then they
-//! hardly would.
+//! Filling the entries of a table. Early levels, of few positions, are pushed from the goals, and nothing is proved of
+//! them but that 0 stands at the goals. One pass then checks that each entry agrees with those around it, from which it
+//! follows that these levels are exact, and makes the next level by the same looks; each level behind is made from the
+//! one before. Where the entries don't agree, all levels are made so; and at once where a turn from a goal can't be
+//! taken back, since then they hardly would.
 
 ghost use Rattle.std.specs.Prelude.{◌≡◌, ◌<◌, ◌≤◌, IfOk, length};
 ghost use Rattle.scr_table.specs.Filled.{AreKnown, AreMarked, block_count};
@@ -14,12 +14,12 @@ use scr_positions::{BARRED, Coord, NOWHERE};
 use std::alloc::{AllocError, Global};
 use std::thread::Threads;
 
-/// What stands at a position whose distance is not known yet. It is greater than any bound, and the same as what a look gives
-/// where a turn is barred: neither is lower than a distance.
+/// What stands at a position whose distance is not known yet. It is greater than any bound, and the same as what a look
+/// gives where a turn is barred: neither is lower than a distance.
 pub(crate) const UNKNOWN: u8 = NOWHERE;
 
-/// The entries, one for each position: the position's distance, or `UNKNOWN` where no word of at most `bound` turns leads to
-/// a goal. `bound` is at most 24. 1 to 64 workers share the late levels.
+/// The entries, one for each position: the position's distance, or `UNKNOWN` where no word of at most `bound` turns
+/// leads to a goal. `bound` is at most 24. 1 to 64 workers share the late levels.
 pub(crate) fn filled<R: Threads + Sync, C: Coord + Sync>(
     rt: &R,
     alloc: Global,
@@ -99,8 +99,8 @@ fn mark_goals<C: Coord>(coord: &C, entries: &mut [u8])
     }
 }
 
-/// Whether each turn from the first goal is taken back by a turn. It tells whether it is worth while to push, and nothing
-/// rests on it.
+/// Whether each turn from the first goal is taken back by a turn. It tells whether it is worth while to push, and
+/// nothing rests on it.
 fn are_taken_back<C: Coord>(coord: &C) -> bool {
     match coord.next_goal(0) {
         Some(goal) => leads_back(coord, goal),
@@ -136,8 +136,8 @@ fn leads_to<C: Coord>(coord: &C, from: u32, to: u32) -> bool
     false
 }
 
-/// Spreads the distances from the goals along turns, and answers the level that is reached, at most `bound`. This gives the
-/// distances to the goals where turns can be undone. No clause says so, and none needs to.
+/// Spreads the distances from the goals along turns, and answers the level that is reached, at most `bound`. This gives
+/// the distances to the goals where turns can be undone. No clause says so, and none needs to.
 fn push_levels<C: Coord>(coord: &C, entries: &mut [u8], bound: u8) -> u8
     requires marked { AreMarked (C.coordinate coord.now) entries.old }
     requires few_turns { (C.coordinate coord.now).turns ≤ 256 }

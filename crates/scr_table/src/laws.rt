@@ -1,5 +1,5 @@
-//! What is so of distances, first words, words to goals and minima, which later crates rest on. The functions do nothing:
-//! what each ensures is the law.
+//! What is so of distances, first words, words to goals and minima, which later crates rest on. The functions do
+//! nothing: what each ensures is the law.
 
 ghost use Rattle.std.specs.Prelude.{◌≡◌, ℕ, suc, ◌+◌, ◌-◌, ◌≤◌, ◌==◌, ◌↔◌, List, [], ◌∷◌, ◌++◌, All, Contains, length, map, slice_get, codes, Some};
 ghost use Rattle.std.specs.List.{AllPairs, join_with_byte};
@@ -21,8 +21,8 @@ ghost use Rattle.scr_table.specs.Words.{words_of, words_within, words_to_goal};
 
 use crate::moves::Moves;
 
-/// A position has one distance: 0 exactly at the goals; elsewhere some turn leads to a position whose distance is one less,
-/// and no turn leads further down.
+/// A position has one distance: 0 exactly at the goals; elsewhere some turn leads to a position whose distance is one
+/// less, and no turn leads further down.
 pub fn distances()
     ensures one { (c : Coordinate) (p d e : ℕ)
         → IsDistance (moved c) (IsGoal c) p d → IsDistance (moved c) (IsGoal c) p e → d ≡ e }
@@ -80,8 +80,10 @@ pub fn rows()
     ensures first_word { IsFirstWord (moved (row_coordinate 3)) (IsGoal (row_coordinate 3)) 2 (0 ∷ 0 ∷ []) }
     ensures no_first_word { IsFirstWord (moved (row_coordinate 3)) (IsGoal (row_coordinate 3)) 2 (0 ∷ []) → ⊥ }
     ensures measures { Measures (row_coordinate 3) (record { name = Corners; bound = 2; distances = 0 ∷ 1 ∷ 2 ∷ [] }) }
-    ensures no_greater { Measures (row_coordinate 3) (record { name = Corners; bound = 2; distances = 0 ∷ 1 ∷ 1 ∷ [] }) → ⊥ }
-    ensures no_longer { Measures (row_coordinate 3) (record { name = Corners; bound = 1; distances = 0 ∷ 1 ∷ 2 ∷ [] }) → ⊥ }
+    ensures no_greater { Measures (row_coordinate 3) (record { name = Corners; bound = 2; distances = 0 ∷ 1 ∷ 1 ∷ [] })
+        → ⊥ }
+    ensures no_longer { Measures (row_coordinate 3) (record { name = Corners; bound = 1; distances = 0 ∷ 1 ∷ 2 ∷ [] })
+        → ⊥ }
     ensures gap { IsGap (row_coordinate 3) 1 2 }
     ensures no_gap { IsGap (row_coordinate 3) 2 2 → ⊥ }
     ensures outside { IsGap (row_coordinate 3) 1 3 → ⊥ }
@@ -108,8 +110,8 @@ pub fn known_words()
         ≡ [] ∷ (0 ∷ []) ∷ (3 ∷ []) ∷ (0 ∷ 0 ∷ []) ∷ (0 ∷ 3 ∷ []) ∷ (3 ∷ 0 ∷ []) ∷ (3 ∷ 3 ∷ []) ∷ [] }
 {}
 
-/// The words to a goal are all words of at most so many turns that lead from the position to one, also those that meet one on
-/// their way, in the order of words: the one that stands first is the first word.
+/// The words to a goal are all words of at most so many turns that lead from the position to one, also those that meet
+/// one on their way, in the order of words: the one that stands first is the first word.
 pub fn goal_words()
     ensures all { (c : Coordinate) (p most : ℕ) (w : List ℕ)
         → Contains (words_to_goal c p most) w ↔ (length w ≤ most) × LeadsTo (moved c) (IsGoal c) p w }

@@ -11,9 +11,9 @@ use scr_positions::Coord;
 use scr_workers::{Jobs, OpenGate, run_chunks};
 use std::thread::Threads;
 
-/// The entries of the level `level` and those before it, of which the next level is made. A block's answer is the block on the
-/// next level. Where each position is checked, there is none where the block doesn't agree; else there is none where nothing in
-/// it is unknown.
+/// The entries of the level `level` and those before it, of which the next level is made. A block's answer is the block
+/// on the next level. Where each position is checked, there is none where the block doesn't agree; else there is none
+/// where nothing in it is unknown.
 #[derive(Drop)]
 struct NextLevel<'a, C: Coord> {
     coord: &'a C,
@@ -94,8 +94,8 @@ fn next_entry(entry: u8, least: u8, level: u8) -> u8
     }
 }
 
-/// The entries of the positions from `start` up to `end` on the next level, where each agrees with the least that a turn
-/// leads to from its position.
+/// The entries of the positions from `start` up to `end` on the next level, where each agrees with the least that a
+/// turn leads to from its position.
 fn checked_block(
     entries: &[u8],
     start: usize,
@@ -122,7 +122,8 @@ fn checked_block(
     Some(next)
 }
 
-/// Whether an entry agrees with the least that a turn leads to from its position, where the entries up to `level` are there.
+/// Whether an entry agrees with the least that a turn leads to from its position, where the entries up to `level` are
+/// there.
 #[inline]
 fn agrees(entry: u8, least: u8, level: u8) -> bool
     ensures { IsTrue result → Agrees level entry least }

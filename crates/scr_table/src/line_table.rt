@@ -70,8 +70,8 @@ impl<L: Line> Model for LineTable<L> {
 }
 
 impl<L: Line> LineTable<L> {
-    /// The table, built by 1 to 64 workers, or why it isn't built: there is no memory for it, or it has a gap, of which the
-    /// first is named.
+    /// The table, built by 1 to 64 workers, or why it isn't built: there is no memory for it, or it has a gap, of which
+    /// the first is named.
     pub fn build<R: Threads + Sync>(
         rt: &R,
         alloc: Global,

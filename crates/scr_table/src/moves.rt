@@ -28,8 +28,8 @@ pub trait Moves {
     fn is_solved(&self, state: &Self::State) -> bool
         ensures { result ≡ (moves self.now).is_solved state.now };
 
-    /// Whether the turn `second` never helps right after `first`: whatever the two make of a state, at most one turn makes
-    /// of it too. A search leaves such words out. This may answer false of any two turns.
+    /// Whether the turn `second` never helps right after `first`: whatever the two make of a state, at most one turn
+    /// makes of it too. A search leaves such words out. This may answer false of any two turns.
     fn is_idle(&self, first: u32, second: u32) -> bool
         ensures { IsTrue result → NeverHelps (moves self.now) first second }
     {
@@ -46,8 +46,8 @@ pub fn no_shorter<M: Moves>(moves: &M, state: &M::State, least: u32) -> bool
     least == 0 || !is_within(moves, state, None, least - 1)
 }
 
-/// Whether a word of at most `most` turns brings a state to solved. `before` is the turn that led to the state, if there
-/// was one: words that go on idly from it are left out.
+/// Whether a word of at most `most` turns brings a state to solved. `before` is the turn that led to the state, if
+/// there was one: words that go on idly from it are left out.
 fn is_within<M: Moves>(moves: &M, state: &M::State, before: Option<u32>, most: u32) -> bool
     ensures found { OnTrue result (HasWordWithin (M.moves moves.now) state.now most) }
     ensures none { OnFalse result (AreLeftOut (M.moves moves.now) state.now before most) }

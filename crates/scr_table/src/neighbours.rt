@@ -47,7 +47,8 @@ pub(crate) fn least_neighbours<C: Coord>(
     requires entries { length entries.now ≡ (C.coordinate coord.now).count }
     requires positions { start + count ≤ (C.coordinate coord.now).count }
     requires block { count ≤ 1024 }
-    ensures { (k : ℕ) → k < count → IsLeastNeighbour (C.coordinate coord.now) entries.now (start + k) (slice_index result k) }
+    ensures { (k : ℕ) → k < count
+        → IsLeastNeighbour (C.coordinate coord.now) entries.now (start + k) (slice_index result k) }
 {
     let mut seen = [NOWHERE; BLOCK];
     let mut least = unknown_block();

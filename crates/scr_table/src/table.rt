@@ -111,9 +111,9 @@ impl DistanceTable {
         u32::from(self.entries.get(position))
     }
 
-    /// The distances at four bits each, in blocks of 1,024 positions. The half byte of position p stands in block p / 1024,
-    /// byte p % 1024 / 2, the low half where p is even. It is the distance up to 13, 14 where the distance stands in `deep`,
-    /// and 15 past the last position.
+    /// The distances at four bits each, in blocks of 1,024 positions. The half byte of position p stands in block p /
+    /// 1024, byte p % 1024 / 2, the low half where p is even. It is the distance up to 13, 14 where the distance stands
+    /// in `deep`, and 15 past the last position.
     pub fn blocks(&self) -> &[[u8; 512]]
         ensures { AreBlocksOf self.now.distances result.now }
     {
@@ -136,8 +136,8 @@ impl DistanceTable {
         counts_of(&self.entries)
     }
 
-    /// The first word from a position, below `positions`, to a goal. The table measures the coordinate, which has at most
-    /// 256 turns.
+    /// The first word from a position, below `positions`, to a goal. The table measures the coordinate, which has at
+    /// most 256 turns.
     pub fn descend<C: Coord>(&self, coord: &C, position: u32) -> ArrayVec<u8, 24>
         requires measures { Measures (C.coordinate coord.now) self.now }
         requires few_turns { (C.coordinate coord.now).turns ≤ 256 }

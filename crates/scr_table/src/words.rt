@@ -74,9 +74,9 @@ impl FirstWords {
 }
 
 impl<L: Line> LineTable<L> {
-    /// The first `wanted` words of at most `most` turns that lead from a position, below the number of positions, to a goal,
-    /// in the order of words: by length, then by turn numbers from the first turn. All of them, where there are fewer. One
-    /// that meets a goal on its way is one too. It takes no memory.
+    /// The first `wanted` words of at most `most` turns that lead from a position, below the number of positions, to a
+    /// goal, in the order of words: by length, then by turn numbers from the first turn. All of them, where there are
+    /// fewer. One that meets a goal on its way is one too. It takes no memory.
     pub fn first_words(&self, position: u32, most: u32, wanted: u32) -> FirstWords
         requires position { position < L.line.coordinate.count }
         requires most { most ≤ 24 }
@@ -95,8 +95,9 @@ impl<L: Line> LineTable<L> {
         found
     }
 
-    /// Puts behind the words that are found those that go on from a word by just `left` turns, which lead from a position to
-    /// a goal, as far as they are wanted. There are fewer than are wanted so far, and the position is near enough.
+    /// Puts behind the words that are found those that go on from a word by just `left` turns, which lead from a
+    /// position to a goal, as far as they are wanted. There are fewer than are wanted so far, and the position is near
+    /// enough.
     fn push_behind(
         &self,
         position: u32,

@@ -18,7 +18,8 @@ use Rattle.scr_table_text.specs.TableText.{AreCounts, IsTableText}
 use Rattle.scr_table_text.specs.Counted.{AreEntryCounts, counted_text}
 
 -- how many of the first n elements pass is how many of the places below n have one that does
-count_below-entries : (p : ℕ → Bool) (xs : List ℕ) (n : ℕ) → n ≤ length xs → count_below (λ k. p (slice_index xs k)) n ≡ count_by p (take n xs)
+count_below-entries : (p : ℕ → Bool) (xs : List ℕ) (n : ℕ) → n ≤ length xs
+    → count_below (λ k. p (slice_index xs k)) n ≡ count_by p (take n xs)
 unfolding count_below
 count_below-entries p xs zero le = refl
 count_below-entries p xs (suc n) le =
@@ -26,7 +27,8 @@ count_below-entries p xs (suc n) le =
     let there : n < length xs = omega arith in
     at (p (slice_index xs n)) refl before there
   where
-    at : (b : Bool) → p (slice_index xs n) ≡ b → count_below (λ k. p (slice_index xs k)) n ≡ count_by p (take n xs) → n < length xs
+    at : (b : Bool) → p (slice_index xs n) ≡ b → count_below (λ k. p (slice_index xs k)) n ≡ count_by p (take n xs)
+        → n < length xs
         → count_below (λ k. p (slice_index xs k)) n + cond (p (slice_index xs n)) 1 0 ≡ count_by p (take (suc n) xs)
     at true is before there =
         ap (λ b. count_below (λ k. p (slice_index xs k)) n + cond b 1 0) is ∙ ap (λ m. m + 1) before
@@ -70,7 +72,8 @@ AreCounts-measured line table counts measures entries =
 
 -- the text of a table that measures a coordinate
 pub IsTableText-measured : (line : TableLine) (table : Distances) (counts : List ℕ) → Measures line.coordinate table
-    → table.name ≡ line.name → table.bound ≡ line.bound → AreEntryCounts table.distances counts → IsTableText (by_positions line) (counted_text table counts)
+    → table.name ≡ line.name → table.bound ≡ line.bound → AreEntryCounts table.distances counts
+    → IsTableText (by_positions line) (counted_text table counts)
 IsTableText-measured line table counts measures name bound entries = record {
   counts = counts;
   are = AreCounts-measured line table counts measures entries;
@@ -155,7 +158,8 @@ values-at f start (suc m) (suc d) lt =
     values-at f (suc start) m d (omega arith) ∙ ap f (let same : suc start + d ≡ start + suc d = omega arith in same)
 
 -- the entries of a table are counted by some counts
-pub counts_of-entries : (line : TableLine) (table : Distances) → Measures line.coordinate table → (counts : List ℕ) × AreEntryCounts table.distances counts
+pub counts_of-entries : (line : TableLine) (table : Distances) → Measures line.coordinate table
+    → (counts : List ℕ) × AreEntryCounts table.distances counts
 counts_of-entries line table measures =
     let m = suc table.bound in
     let f : ℕ → ℕ = λ d. count_by (λ e. e == d) table.distances in

@@ -7,8 +7,8 @@ use Rattle.scr_text.proofs.WrittenLines.{first_line}
 use Rattle.scr_table_text.specs.TableText.{count_lines}
 
 -- the line that stands next
-pub count_lines-next : (counts : List ℕ) (d : ℕ) (label text : List ℕ) → d < length counts → label ≡ decimal d ++ codes " "
-    → text ≡ decimal (get_or counts d 0)
+pub count_lines-next : (counts : List ℕ) (d : ℕ) (label text : List ℕ) → d < length counts
+    → label ≡ decimal d ++ codes " " → text ≡ decimal (get_or counts d 0)
     → text_of_lines (count_lines d (drop d counts)) ≡ ((label ++ text) ++ codes "\n") ++ text_of_lines (count_lines (d + 1) (drop (d + 1) counts))
 count_lines-next counts d label text there is_label is_text =
     let line : label ++ text ≡ decimal d ++ 32 ∷ decimal (get_or counts d 0) =

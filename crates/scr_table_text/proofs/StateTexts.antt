@@ -10,8 +10,8 @@ use Rattle.scr_table.specs.TableStates.{IsLineOf, AreLinesOf, by_positions, all_
 use Rattle.scr_table.proofs.TableStatesLaws.{IsAtDistance-states, IsAtDistance-positions}
 use Rattle.scr_table_text.specs.TableText.{head_text, count_lines, AreCounts, IsTableText, AreTableTexts, IsTablesText}
 
-AreCounts-states : (table : SearchTable) (line : TableLine) → IsLineOf table line → (counts : List ℕ) → AreCounts (by_positions line) counts
-    → AreCounts table counts
+AreCounts-states : (table : SearchTable) (line : TableLine) → IsLineOf table line → (counts : List ℕ)
+    → AreCounts (by_positions line) counts → AreCounts table counts
 AreCounts-states table line is counts are = record {
   counted = λ d lt.
       let count = are.counted d lt in
@@ -26,8 +26,8 @@ AreCounts-states table line is counts are = record {
   greatest = are.greatest;
 }
 
-IsTableText-states : (table : SearchTable) (line : TableLine) → IsLineOf table line → (text : List ℕ) → IsTableText (by_positions line) text
-    → IsTableText table text
+IsTableText-states : (table : SearchTable) (line : TableLine) → IsLineOf table line → (text : List ℕ)
+    → IsTableText (by_positions line) text → IsTableText table text
 IsTableText-states table line is text of_line = record {
   counts = of_line.counts;
   are = AreCounts-states table line is of_line.counts of_line.are;
@@ -47,8 +47,8 @@ AreTableTexts-states (table ∷ tables) (line ∷ lines) are text texts = (
   texts.4,
 )
 
-pub IsTablesText-states : (tables : List SearchTable) (lines : List TableLine) → AreLinesOf tables lines → (text : List ℕ)
-    → IsTablesText (all_by_positions lines) text → IsTablesText tables text
+pub IsTablesText-states : (tables : List SearchTable) (lines : List TableLine) → AreLinesOf tables lines
+    → (text : List ℕ) → IsTablesText (all_by_positions lines) text → IsTablesText tables text
 IsTablesText-states [] [] are text told = told
 IsTablesText-states [] (line ∷ lines) are text told = absurd are
 IsTablesText-states (table ∷ tables) [] are text told = absurd are

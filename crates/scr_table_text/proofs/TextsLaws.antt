@@ -13,7 +13,8 @@ use Rattle.scr_table_text.specs.Counted.{AreEntryCounts, counted_text, tables_in
 use Rattle.scr_table_text.proofs.CountLaws.{IsTableText-measured, counts_of-entries}
 
 -- the first of some tables, and the others
-pub tables_in-first : (tables : List (Bor Distances)) (first : Bor Distances) → 1 ≤ length tables → first ≡ get_or tables 0 first
+pub tables_in-first : (tables : List (Bor Distances)) (first : Bor Distances) → 1 ≤ length tables
+    → first ≡ get_or tables 0 first
     → tables_in tables ≡ first.now ∷ tables_in (take (length tables - 1) (drop 1 tables))
 tables_in-first [] first some is = absurd (omega arith)
 tables_in-first (table ∷ tables) first some is =
@@ -26,7 +27,8 @@ tables_in-none [] none = refl
 tables_in-none (table ∷ tables) none = absurd (omega arith)
 
 -- built tables have texts
-texts_of-tables : (lines : List TableLine) (tables : List Distances) → AreTablesOf lines tables → (text : List ℕ) × AreTableTexts (all_by_positions lines) text
+texts_of-tables : (lines : List TableLine) (tables : List Distances) → AreTablesOf lines tables
+    → (text : List ℕ) × AreTableTexts (all_by_positions lines) text
 texts_of-tables [] [] are = ([], refl)
 texts_of-tables [] (table ∷ tables) are = absurd are
 texts_of-tables (line ∷ lines) [] are = absurd are
@@ -60,7 +62,8 @@ texts-more held'' faults'' (line ∷ lines) table tables counts r are entries ga
 
 -- the first text could not be written whole
 pub texts-part : {change : Change} (lines : List TableLine) (table : Distances) (tables : List Distances) (counts : List ℕ)
-    → AreTablesOf lines (table ∷ tables) → AreEntryCounts table.distances counts → Falters change (counted_text table counts)
+    → AreTablesOf lines (table ∷ tables) → AreEntryCounts table.distances counts
+    → Falters change (counted_text table counts)
     → (text : List ℕ) × AreTableTexts (all_by_positions lines) text × Falters change text
 texts-part [] table tables counts are entries falters = absurd are
 texts-part (line ∷ lines) table tables counts are entries falters =
@@ -72,8 +75,8 @@ texts-part (line ∷ lines) table tables counts are entries falters =
     )
 
 -- the text of an event that has no tables
-pub tables-none : {E : Type 0} (change : Change) (r : Result (Unit {0}) E) (lines : List TableLine) → AreTablesOf lines []
-    → Writes change (codes "no tables\n") r → WritesTables (all_by_positions lines) change r
+pub tables-none : {E : Type 0} (change : Change) (r : Result (Unit {0}) E) (lines : List TableLine)
+    → AreTablesOf lines [] → Writes change (codes "no tables\n") r → WritesTables (all_by_positions lines) change r
 tables-none change r [] are writes = (codes "no tables\n", refl, writes)
 tables-none change r (line ∷ lines) are writes = absurd are
 

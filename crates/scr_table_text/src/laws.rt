@@ -17,8 +17,8 @@ pub fn measured()
         → AreEntryCounts table.distances counts → IsTableText (by_positions line) (counted_text table counts) }
 {}
 
-/// Texts that are known from elsewhere: of the 2x2x2, whose states are counted by how many turns each is from solved; of a
-/// row of three positions; and of an event without tables.
+/// Texts that are known from elsewhere: of the 2x2x2, whose states are counted by how many turns each is from solved;
+/// of a row of three positions; and of an event without tables.
 pub fn known_texts()
     ensures of_222 { text_of_lines (head_text Corners 3674160 11 ∷ count_lines 0
         (1 ∷ 9 ∷ 54 ∷ 321 ∷ 1847 ∷ 9992 ∷ 50136 ∷ 227536 ∷ 870072 ∷ 1887748 ∷ 623800 ∷ 2644 ∷ []))

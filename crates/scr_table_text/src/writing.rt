@@ -15,9 +15,9 @@ use scr_outside::{Failed, Sink, write_line};
 use scr_table::{DistanceTable, TableName};
 use scr_text::decimal;
 
-/// Writes the texts of an event's tables, one after another, or the line of an event that has none. They are those of the
-/// tables as their lines have them, by positions. At `Failed`, which comes only where the sink's count of faults rose, a
-/// first part of it was written.
+/// Writes the texts of an event's tables, one after another, or the line of an event that has none. They are those of
+/// the tables as their lines have them, by positions. At `Failed`, which comes only where the sink's count of faults
+/// rose, a first part of it was written.
 pub fn write_tables<O: Sink>(out: &mut O, tables: &[&DistanceTable]) -> Result<(), Failed>
     ensures { (lines : List TableLine) → AreTablesOf lines (tables_in tables.now)
         → WritesTables (all_by_positions lines) (change_of O.held O.faults out.old out.new) result }

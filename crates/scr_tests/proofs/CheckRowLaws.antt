@@ -11,7 +11,8 @@ short true = omega arith
 short false = omega arith
 
 -- no long text agrees
-short-by : (count line : ℕ) (text : List ℕ) (there : Bool) → Ok true ≡ answered there line (bytes_eq text (wanted count line)) → length text ≤ 1300
+short-by : (count line : ℕ) (text : List ℕ) (there : Bool)
+    → Ok true ≡ answered there line (bytes_eq text (wanted count line)) → length text ≤ 1300
 short-by count line text true agrees = absurd (cc)
 short-by count line text false agrees =
     let same : bytes_eq text (wanted count line) ≡ true = cc in

@@ -1,4 +1,5 @@
-//! Sheets of a few lines checked, and inputs split, from sources that give one byte a call, that give all at once, and that fail.
+//! Sheets of a few lines checked, and inputs split, from sources that give one byte a call, that give all at once, and
+//! that fail.
 
 ghost use Rattle.std.specs.Prelude.{◌<◌};
 ghost use Rattle.scr_tests.specs.CheckRows.{row_lines};

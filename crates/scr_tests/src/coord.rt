@@ -1,5 +1,5 @@
-//! The lists of the 3x3x3's corners and edges at their real sizes, walked by words of known order: a face's turn has order
-//! 4, and R U has order 105, which is 15 on the corners, 5 on their places, and 7 on the edges.
+//! The lists of the 3x3x3's corners and edges at their real sizes, walked by words of known order: a face's turn has
+//! order 4, and R U has order 105, which is 15 on the corners, 5 on their places, and 7 on the edges.
 ghost use Rattle.std.specs.Prelude.{◌<◌};
 
 use scr_coord::{Lists, PlaceSet, Twists};

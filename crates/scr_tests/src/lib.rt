@@ -1,6 +1,6 @@
-//! The tests of the crates below slots and sheets: rows, vectors and texts from outside, a file for each crate or puzzle. They
-//! stand in one crate, since a check of tests proves the crate that they stand in anew. The tests of whole runs have a crate of
-//! their own, `scr_run_tests`, so that these need not wait for all of the program.
+//! The tests of the crates below slots and sheets: rows, vectors and texts from outside, a file for each crate or
+//! puzzle. They stand in one crate, since a check of tests proves the crate that they stand in anew. The tests of whole
+//! runs have a crate of their own, `scr_run_tests`, so that these need not wait for all of the program.
 #![tactic(auto)]
 
 #[cfg(test)]

@@ -1,5 +1,5 @@
-//! Nets that are known from elsewhere: by hand, from the superflip as solvers write it, and from a model that turns stickers in
-//! space by matrices.
+//! Nets that are known from elsewhere: by hand, from the superflip as solvers write it, and from a model that turns
+//! stickers in space by matrices.
 ghost use Rattle.scr_net.specs.Nets.{IsSide};
 
 use crate::read;

@@ -44,8 +44,8 @@ fn known_skewbs(rt: HostRuntime) -> Result<(), Fail> {
     Ok(())
 }
 
-// Two exchanged centres, two exchanged corners, a corner twice, a twisted corner of the four, one of the three, and the four in
-// another class.
+// Two exchanged centres, two exchanged corners, a corner twice, a twisted corner of the four, one of the three, and the
+// four in another class.
 #[test]
 fn what_no_turns_reach(rt: HostRuntime) {
     let four = [0, 1, 2, 3];

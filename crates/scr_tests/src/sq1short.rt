@@ -7,9 +7,9 @@ use scr_sq1short::scramble_sq1_short;
 use scr_sq1solve::Sq1Tables;
 use std::test::Fail;
 
-/// Numbers of states, how many words are looked at, and how many twists the scramble may have: solved; solved but for the
-/// equator; solved but for the edges 6 and 7, which the first word alone solves with 24. Where the scramble is known, its
-/// text.
+/// Numbers of states, how many words are looked at, and how many twists the scramble may have: solved; solved but for
+/// the equator; solved but for the edges 6 and 7, which the first word alone solves with 24. Where the scramble is
+/// known, its text.
 const STATES: [(u128, u32, usize, Option<&str>); 7] = [
     (3_810_646_425_600, 1, 0, Some("")),
     (3_810_646_425_600, 2, 0, Some("")),

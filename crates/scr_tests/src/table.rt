@@ -9,8 +9,8 @@ use std::alloc::Global;
 use std::process::Abort;
 use std::thread::Threads;
 
-/// A row of positions: from each but the first, one turn leads to the position before, and the first is the goal. The turn
-/// can't be undone.
+/// A row of positions: from each but the first, one turn leads to the position before, and the first is the goal. The
+/// turn can't be undone.
 #[derive(Clone, Copy)]
 struct Row(u32);
 
@@ -94,8 +94,8 @@ fn walked(measured: &Measured, position: u32) -> ArrayVec<u8, 24>
     measured.table.descend(&Row(21), position)
 }
 
-/// Two lamps. The first turn switches the first lamp; the second turn switches the second lamp, and is refused where the
-/// first is on. Solved is both off.
+/// Two lamps. The first turn switches the first lamp; the second turn switches the second lamp, and is refused where
+/// the first is on. Solved is both off.
 struct Lamps;
 
 impl Moves for Lamps {

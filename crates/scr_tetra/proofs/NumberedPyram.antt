@@ -52,7 +52,8 @@ tetraminx_of_three a f e la lf le =
     }
 
 -- and a state has them
-pub tetraminx_has_three : (s : TetraminxState) → IsTetraminx s → HasDigits tetraminx_bases tetraminx_of_digits tetraminx_digits IsTetraminx s
+pub tetraminx_has_three : (s : TetraminxState) → IsTetraminx s
+    → HasDigits tetraminx_bases tetraminx_of_digits tetraminx_digits IsTetraminx s
 unfolding tetraminx_of_digits tetraminx_digits
 tetraminx_has_three s h =
     let flips = twists_at-number 6 2 s.edges.digits (lit< tt) (lit< tt) h.edges.digits in

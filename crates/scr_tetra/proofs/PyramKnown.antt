@@ -16,7 +16,8 @@ unfolding moves_nothing moves_no_body composed_word power power_of composed iden
 word_orders = All-word_orders pyram_action moves_nothing tells_pyram (letter_table pyram_powers) axis_turn_at pyram_orders refl
 
 -- a table is what a third does to stickers
-pub carries_stickers : (axis : ℕ) (r : TetraminxTurn) → slice_get tetraminx_thirds axis ≡ Some r → CarriesPyramStickers axis r
+pub carries_stickers : (axis : ℕ) (r : TetraminxTurn) → slice_get tetraminx_thirds axis ≡ Some r
+    → CarriesPyramStickers axis r
 carries_stickers =
     each_at CarriesPyramStickers tetraminx_thirds (
       record { edges = refl; axials = refl },

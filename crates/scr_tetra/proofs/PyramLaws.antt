@@ -1,5 +1,5 @@
--- Laws of the turns of a Pyraminx, without its tips and with them: they act on its states, each third has order 3, and what
--- follows of that.
+-- Laws of the turns of a Pyraminx, without its tips and with them: they act on its states, each third has order 3, and
+-- what follows of that.
 use Rattle.std.proofs.Common.{◌≡◌, ℕ, ◌+◌, ◌%◌, Bool, true, List, refl, ap, ◌∙◌, lit<, lit≤, eqb-true}
 use Rattle.std.specs.Prelude.{◌==◌, ◌&&◌}
 use Rattle.std.specs.Str.{bytes_eq}

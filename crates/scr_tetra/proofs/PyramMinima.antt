@@ -24,8 +24,8 @@ are_still : List ℕ → Bool
 are_still tips = bytes_eq tips (zeros 4)
 
 -- a letter's turn is one of all turns
-among_turns : (s end : PyramState) (t : Turn) (r : PyramTurn) → (after_letter pyram_powers) s t ≡ Some end → letter_table pyram_powers t ≡ Some r
-    → (n : ℕ) × (slice_get (all_turns pyram_powers) n ≡ Some r)
+among_turns : (s end : PyramState) (t : Turn) (r : PyramTurn) → (after_letter pyram_powers) s t ≡ Some end
+    → letter_table pyram_powers t ≡ Some r → (n : ℕ) × (slice_get (all_turns pyram_powers) n ≡ Some r)
 unfolding all_turns
 among_turns s end t r e at =
     let number = lawful_pyram.numbers s end t e in

@@ -35,7 +35,8 @@ pub record IsTipStep (s r : PyramState) : Type 0 where
   pub there : slice_get (part_turns (λ r. r.axials) tetraminx_powers) place ≡ Some row
   pub tips : r.tips ≡ added_digits 3 s.tips row
 
-axis_table : (axis amount : ℕ) → axis < 4 → 0 < amount → amount < 3 → letter_table pyram_powers (Axis axis amount) ≡ option_map large_turn (letter_table tetraminx_powers (Axis axis amount))
+axis_table : (axis amount : ℕ) → axis < 4 → 0 < amount → amount < 3
+    → letter_table pyram_powers (Axis axis amount) ≡ option_map large_turn (letter_table tetraminx_powers (Axis axis amount))
 unfolding all_turns
 axis_table axis amount there some few =
     let n : ℕ = 2 * axis + (amount - 1) in
@@ -43,14 +44,16 @@ axis_table axis amount there some few =
     ap (letter_table pyram_powers) (sym letter) ∙ sym (lawful_pyram.numbered n) ∙ large_at n (omega arith)
     ∙ ap (option_map large_turn) (lawful_tetraminx.numbered n ∙ ap (letter_table tetraminx_powers) letter)
 
-tip_table : (tip amount : ℕ) → 0 < amount → amount < 3 → letter_table pyram_powers (Tip tip amount) ≡ option_map tip_turn (slice_get (part_turns (λ r. r.axials) tetraminx_powers) (2 * tip + (amount - 1)))
+tip_table : (tip amount : ℕ) → 0 < amount → amount < 3
+    → letter_table pyram_powers (Tip tip amount) ≡ option_map tip_turn (slice_get (part_turns (λ r. r.axials) tetraminx_powers) (2 * tip + (amount - 1)))
 unfolding all_turns
 tip_table tip amount some few =
     let k : ℕ = 2 * tip + (amount - 1) in
     let letter = axis_turn_at-tip (8 + k) tip amount (omega arith) some few in
     ap (letter_table pyram_powers) (sym letter) ∙ sym (lawful_pyram.numbered (8 + k)) ∙ tip_at (8 + k) k refl
 
-large_step : (s r : PyramState) (axis amount : ℕ) → axis < 4 → 0 < amount → amount < 3 → IsPyram s → (after_letter pyram_powers) s (Axis axis amount) ≡ Some r → IsLargeStep s r (Axis axis amount)
+large_step : (s r : PyramState) (axis amount : ℕ) → axis < 4 → 0 < amount → amount < 3 → IsPyram s
+    → (after_letter pyram_powers) s (Axis axis amount) ≡ Some r → IsLargeStep s r (Axis axis amount)
 large_step s r axis amount there some few own e =
     let turn = map-some (pyram_action.turned s) (letter_table pyram_powers (Axis axis amount)) r e in
     let part = map-some large_turn (letter_table tetraminx_powers (Axis axis amount)) turn.0 (sym (axis_table axis amount there some few) ∙ turn.1) in
@@ -60,7 +63,8 @@ large_step s r axis amount there some few own e =
       tips = sym (ap (λ x. x.tips) made) ∙ added_digits-still 4 3 s.tips own.tips;
     }
 
-tip_step : (s r : PyramState) (tip amount : ℕ) → 0 < amount → amount < 3 → IsPyram s → (after_letter pyram_powers) s (Tip tip amount) ≡ Some r → IsTipStep s r
+tip_step : (s r : PyramState) (tip amount : ℕ) → 0 < amount → amount < 3 → IsPyram s
+    → (after_letter pyram_powers) s (Tip tip amount) ≡ Some r → IsTipStep s r
 tip_step s r tip amount some few own e =
     let turn = map-some (pyram_action.turned s) (letter_table pyram_powers (Tip tip amount)) r e in
     let k : ℕ = 2 * tip + (amount - 1) in
@@ -135,7 +139,8 @@ pub record IsByParts (s end : PyramState) (w : List Turn) : Type 0 where
   pub tips : turned_count s.tips ≤ turned_count end.tips + tip_turn_count w
   pub count : length (large_turns w) + tip_turn_count w ≡ length w
 
-with_letter : (s r end : PyramState) (t : Turn) (w : List Turn) → IsPyram s → (after_letter pyram_powers) s t ≡ Some r → IsByParts r end w → IsByParts s end (t ∷ w)
+with_letter : (s r end : PyramState) (t : Turn) (w : List Turn) → IsPyram s → (after_letter pyram_powers) s t ≡ Some r
+    → IsByParts r end w → IsByParts s end (t ∷ w)
 with_letter s r end t w own e rest =
     let P : Turn → Type 0 = λ u. IsByParts s end (u ∷ w) in
     letter_by P s r t e
@@ -155,7 +160,8 @@ with_letter s r end t w own e rest =
       count = omega (arith, rest.count);
     })
 
-pub by_parts : (s end : PyramState) (w : List Turn) → IsPyram s → play (after_letter pyram_powers) s w ≡ Some end → IsByParts s end w
+pub by_parts : (s end : PyramState) (w : List Turn) → IsPyram s → play (after_letter pyram_powers) s w ≡ Some end
+    → IsByParts s end w
 by_parts s end [] own e =
     let same : s ≡ end = same_Some s end (sym (play-empty (after_letter pyram_powers) s) ∙ e) in
     let tips : turned_count s.tips ≡ turned_count end.tips = ap (λ x. turned_count x.tips) same in
@@ -165,7 +171,8 @@ by_parts s end (t ∷ w) own e =
     with_letter s parts.0 end t w own parts.1 (by_parts parts.0 end w (lawful_pyram.lawful.kept s parts.0 t own parts.1) parts.2)
 
 -- and words of large turns do to the body what they do without tips
-pub with_tips : (b c : TetraminxState) (tips : List ℕ) (w : List Turn) → IsPyram (record { body = b; tips = tips }) → play (after_letter tetraminx_powers) b w ≡ Some c
+pub with_tips : (b c : TetraminxState) (tips : List ℕ) (w : List Turn) → IsPyram (record { body = b; tips = tips })
+    → play (after_letter tetraminx_powers) b w ≡ Some c
     → play (after_letter pyram_powers) (record { body = b; tips = tips }) w ≡ Some (record { body = c; tips = tips })
 with_tips b c tips [] own e =
     let same : b ≡ c = same_Some b c (sym (play-empty (after_letter tetraminx_powers) b) ∙ e) in

@@ -34,7 +34,8 @@ pub record IsBehind (ds : List ℕ) (first : ℕ) : Type 0 where
   pub twists : IsTwists 4 3 (first ∷ get_or ds 0 0 ∷ get_or ds 1 0 ∷ get_or ds 2 0 ∷ [])
   pub number : twists_number 3 (first ∷ get_or ds 0 0 ∷ get_or ds 1 0 ∷ get_or ds 2 0 ∷ []) / 3 ≡ mixed_number (3 ∷ 3 ∷ []) ds
 
-behind_class : (ds : List ℕ) (class : ℕ) → length ds ≡ 3 → All (λ d. d < 3) ds → class < 3 → (total ds + class) % 3 ≡ 0 → IsBehind ds class
+behind_class : (ds : List ℕ) (class : ℕ) → length ds ≡ 3 → All (λ d. d < 3) ds → class < 3 → (total ds + class) % 3 ≡ 0
+    → IsBehind ds class
 behind_class (a ∷ b ∷ c ∷ []) class size below low sum = record {
   twists = record {
     size = refl;
@@ -65,7 +66,8 @@ twists-four s ds ps h e f =
     subst Q (sym f) (subst P (sym e) made)
 
 -- and with the class of the four and the twists of the three
-pub twists-three : (s : SkewbState) (ds ps : List ℕ) (class : ℕ) → IsSkewb s → ds ≡ s.three.digits → ps ≡ s.four.pieces → class ≡ class_of ps → IsBehind ds class
+pub twists-three : (s : SkewbState) (ds ps : List ℕ) (class : ℕ) → IsSkewb s → ds ≡ s.three.digits → ps ≡ s.four.pieces
+    → class ≡ class_of ps → IsBehind ds class
 twists-three s ds ps class h e f g =
     let made = behind_class s.three.digits (class_of s.four.pieces) h.three.size h.three.below
     (class_below s.four.pieces (record { permutation = h.four.pieces; even = h.even_four })) h.twists_of_three in
@@ -87,8 +89,7 @@ pub skewb_of_digits-made : (ds four twists three more centres : List ℕ) (first
     → four ≡ half_at 4 0 (get_or ds 2 0) → twists ≡ mixed_digits (3 ∷ 3 ∷ 3 ∷ 3 ∷ []) (get_or ds 0 0)
     → first ≡ completing (total twists) → three ≡ half_at 3 0 first → class ≡ class_of four
     → more ≡ mixed_digits (3 ∷ 3 ∷ []) (get_or ds 1 0) ++ completing (total (mixed_digits (3 ∷ 3 ∷ []) (get_or ds 1 0)) + class) ∷ []
-    → centres ≡ half_at 6 0 (get_or ds 3 0)
-    → put_together four twists three more centres ≡ skewb_of_digits ds
+    → centres ≡ half_at 6 0 (get_or ds 3 0) → put_together four twists three more centres ≡ skewb_of_digits ds
 unfolding skewb_of_digits
 skewb_of_digits-made ds four twists three more centres first class a b c d e f g =
     let two : List ℕ = mixed_digits (3 ∷ 3 ∷ []) (get_or ds 1 0) in

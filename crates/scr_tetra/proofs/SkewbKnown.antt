@@ -19,7 +19,8 @@ unfolding moves_nothing composed_word power power_of composed identity added_dig
 word_orders = All-word_orders skewb_action moves_nothing tells_skewb (letter_table skewb_powers) axis_turn_at skewb_orders refl
 
 -- a table is what a turn does to stickers
-pub carries_stickers : (axis : ℕ) (r : SkewbTurn) → slice_get skewb_thirds axis ≡ Some r → CarriesAll (skewb_carried_piece axis) r
+pub carries_stickers : (axis : ℕ) (r : SkewbTurn) → slice_get skewb_thirds axis ≡ Some r
+    → CarriesAll (skewb_carried_piece axis) r
 carries_stickers =
     each_at (λ axis. CarriesAll (skewb_carried_piece axis)) skewb_thirds (
       record { four = refl; three = refl; centres = refl },

@@ -27,15 +27,16 @@ adds_with f ps qs = f (pick ps qs) == (f ps + f qs) % 3
 adds_up : (List ℕ → ℕ) → ℕ → Bool
 adds_up f n = passes_all (λ ps. passes_all (adds_with f ps) n) n
 
-adds-even : (f : List ℕ → ℕ) (n : ℕ) (ps qs : List ℕ) → 1 < n → adds_up f n ≡ true → IsEvenPermutation n ps → IsEvenPermutation n qs
-    → f (pick ps qs) ≡ (f ps + f qs) % 3
+adds-even : (f : List ℕ → ℕ) (n : ℕ) (ps qs : List ℕ) → 1 < n → adds_up f n ≡ true → IsEvenPermutation n ps
+    → IsEvenPermutation n qs → f (pick ps qs) ≡ (f ps + f qs) % 3
 unfolding adds_up adds_with
 adds-even f n ps qs le all h k =
     eqb-true (f (pick ps qs)) ((f ps + f qs) % 3)
     (test-even (adds_with f ps) n qs le (test-even (λ ps. passes_all (adds_with f ps) n) n ps le all h) k)
 
 -- the class of the four
-class-pick : (ps qs : List ℕ) → IsEvenPermutation 4 ps → IsEvenPermutation 4 qs → class_of (pick ps qs) ≡ (class_of ps + class_of qs) % 3
+class-pick : (ps qs : List ℕ) → IsEvenPermutation 4 ps → IsEvenPermutation 4 qs
+    → class_of (pick ps qs) ≡ (class_of ps + class_of qs) % 3
 unfolding adds_up adds_with passes_all half_at permutation_at
 class-pick ps qs h k = adds-even class_of 4 ps qs (lit< tt) refl h k
 
@@ -51,15 +52,17 @@ first-pick ps qs h k = adds-even first_of 3 ps qs (lit< tt) refl h k
 -- ---- turns keep a Skewb valid
 
 -- what sums up with something to 0 does so where both are added to
-sums-added : (s t a b c d : ℕ) → s % 3 ≡ (a + b) % 3 → t ≡ (c + d) % 3 → (a + c) % 3 ≡ 0 → (b + d) % 3 ≡ 0 → (s + t) % 3 ≡ 0
+sums-added : (s t a b c d : ℕ) → s % 3 ≡ (a + b) % 3 → t ≡ (c + d) % 3 → (a + c) % 3 ≡ 0 → (b + d) % 3 ≡ 0
+    → (s + t) % 3 ≡ 0
 sums-added s t a b c d e f g h = omega (arith, e, f, g, h)
 
-even-turned : (n m : ℕ) (o : Orbit) (r : Rearrangement) → IsOrbit n m o → IsRearrangement n m r → IsEven o.pieces → IsEven r.places
-    → IsEven (turned_orbit m o r).pieces
+even-turned : (n m : ℕ) (o : Orbit) (r : Rearrangement) → IsOrbit n m o → IsRearrangement n m r → IsEven o.pieces
+    → IsEven r.places → IsEven (turned_orbit m o r).pieces
 even-turned n m o r h k e f = parity-turned n m o r h.pieces k.places ∙ ap (λ x. (x + parity r.places) % 2) e ∙ ap (λ x. (0 + x) % 2) f
 
 -- a rearrangement as what it makes of the solved orbit
-turn_by : (n m : ℕ) (r : Rearrangement) → IsOrbit n m (record { pieces = r.places; digits = r.added }) → IsRearrangement n m r
+turn_by : (n m : ℕ) (r : Rearrangement) → IsOrbit n m (record { pieces = r.places; digits = r.added })
+    → IsRearrangement n m r
 turn_by n m r h = record { places = h.pieces; size = h.size; below = h.below }
 
 pub IsSkewb-turned : (s : SkewbState) (r : SkewbTurn) → IsSkewb s → IsSkewbTurn r → IsSkewb (skewb_action.turned s r)
@@ -181,7 +184,8 @@ lawful_skewb =
     skewb_laws IsSkewb-solved moves_nothing tells_skewb is_turn IsSkewbTurn-from_test refl
 
 -- the Skewb after a turn, and it is valid
-pub skewb_turned : (s : SkewbState) (four three centres : Orbit) (n : ℕ) → IsSkewb s → IsMadeAt (part_turns (λ r. r.four) skewb_powers) n (turned_orbit 3 s.four) four
+pub skewb_turned : (s : SkewbState) (four three centres : Orbit) (n : ℕ) → IsSkewb s
+    → IsMadeAt (part_turns (λ r. r.four) skewb_powers) n (turned_orbit 3 s.four) four
     → IsMadeAt (part_turns (λ r. r.three) skewb_powers) n (turned_orbit 3 s.three) three
     → IsMadeAt (part_turns (λ r. r.centres) skewb_powers) n (turned_orbit 1 s.centres) centres
     → IsTurned skewb_powers IsSkewb s n (record { four = four; three = three; centres = centres })

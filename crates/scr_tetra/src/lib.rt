@@ -1,5 +1,5 @@
-//! The Pyraminx and the Skewb: their states, their turns, what a scramble makes of them, and their numberings, by which they
-//! are drawn fairly.
+//! The Pyraminx and the Skewb: their states, their turns, what a scramble makes of them, and their numberings, by which
+//! they are drawn fairly.
 //!
 //! A Pyraminx is the orbit of its six edges, and digits of its axial pieces and its tips, which stay at their places;
 //! without tips it is a [`Tetraminx`]. A [`Skewb`] is three orbits: of four corners, of three, and of the centres. A

@@ -20,16 +20,16 @@ ghost use Rattle.scr_tetra.specs.PyramStickers.{CarriesPyramStickers, ShowsThird
 ghost use Rattle.scr_tetra.specs.PyramParts.{large_turns, tip_turn_count, turned_count, tips_word};
 ghost use Rattle.scr_tetra.specs.PyramKnown.{pyram_orders, edge_cycle, edge_flip, cycled, flipped, two_tips};
 
-/// The turns are lawful, with tips and without: they keep states valid, and composed turns act as one after the other; words
-/// are taken back, and each comes to one rearrangement, the same for every state. What turns reach is valid. A third has order
-/// 3, and each turn has the number that the notation gives it.
+/// The turns are lawful, with tips and without: they keep states valid, and composed turns act as one after the other;
+/// words are taken back, and each comes to one rearrangement, the same for every state. What turns reach is valid. A
+/// third has order 3, and each turn has the number that the notation gives it.
 pub fn turns()
     ensures pyraminx { IsPowerPuzzle pyram_powers IsPyram IsPyramTurn opposite turn_merging }
     ensures tetraminx { IsPowerPuzzle tetraminx_powers IsTetraminx IsTetraminxTurn opposite turn_merging }
 {}
 
-/// From each valid state turns lead to a state exactly where each of them is a turn of the event; and without tips, where
-/// each is one about an axis.
+/// From each valid state turns lead to a state exactly where each of them is a turn of the event; and without tips,
+/// where each is one about an axis.
 pub fn played_where_all_are_turns()
     ensures pyraminx { PlaysTurnsOf Pyram IsPyram (after_letter pyram_powers) }
     ensures without_tips { (s : TetraminxState) (w : List Letter) → IsTetraminx s
@@ -51,8 +51,9 @@ pub fn minima()
     ensures two_enough { Needs (power_puzzle pyram_powers) two_tips 3 → ⊥ }
 {}
 
-/// Words by parts: the large turns alone move the body, and do to it what they do without tips; and a turn of a tip solves one
-/// tip at most. The word of tips brings solved ones to where they stand, with one turn for each that stands turned.
+/// Words by parts: the large turns alone move the body, and do to it what they do without tips; and a turn of a tip
+/// solves one tip at most. The word of tips brings solved ones to where they stand, with one turn for each that stands
+/// turned.
 pub fn words_by_parts()
     ensures body { (s end : PyramState) (w : List Letter) → IsPyram s → play (after_letter pyram_powers) s w ≡ Some end
         → play (after_letter tetraminx_powers) s.body (large_turns w) ≡ Some end.body }

@@ -14,8 +14,8 @@ use scr_rank::{EvenPermRank, MixedRadix, TwistRank, in_bytes};
 #[derive(Clone, Copy)]
 pub struct PyramNumbers;
 
-/// The numbering of the Pyraminx without tips: the axial pieces are the least digit, then come the flips and the list of
-/// edges, which is even.
+/// The numbering of the Pyraminx without tips: the axial pieces are the least digit, then come the flips and the list
+/// of edges, which is even.
 #[derive(Clone, Copy)]
 pub struct TetraminxNumbers;
 

@@ -1,5 +1,5 @@
-//! All large turns of a Pyraminx in the order of their numbers, U U' L L' R R' B B': of each axis the turns by one third and
-//! by two. A wrong entry is refused, since the calls ensure that the tables are those of the definitions.
+//! All large turns of a Pyraminx in the order of their numbers, U U' L L' R R' B B': of each axis the turns by one
+//! third and by two. A wrong entry is refused, since the calls ensure that the tables are those of the definitions.
 ghost use Rattle.std.specs.Prelude.{◌≡◌, length, All};
 ghost use Rattle.scr_orbit.specs.InPlace.{AreDigitsInPlace};
 ghost use Rattle.scr_orbit.specs.Orbits.{IsZeroSumRearrangement};
@@ -9,8 +9,8 @@ ghost use Rattle.scr_tetra.specs.Pyraminx.{tetraminx_powers};
 
 use scr_orbit::{PlaceTurn, place_turns};
 
-/// What the 8 large turns do to the edges. Turn number `2 * axis + amount - 1` is the axis', by `amount` thirds; the axes U L
-/// R B are 0 to 3.
+/// What the 8 large turns do to the edges. Turn number `2 * axis + amount - 1` is the axis', by `amount` thirds; the
+/// axes U L R B are 0 to 3.
 #[inline]
 pub fn edge_turns() -> &'static [PlaceTurn<6>]
     ensures { IsTurnTable 8 (IsZeroSumRearrangement 6 2) (part_turns (λ r. r.edges) tetraminx_powers) result.now }

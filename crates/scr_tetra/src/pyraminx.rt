@@ -8,8 +8,8 @@ use crate::tetraminx::{Tetraminx, are_thirds};
 use scr_notation::PowerTurned;
 use std::marker::Model;
 
-/// A Pyraminx that can be put together without taking one apart: the list of edges is even, flips sum to 0 modulo 2, and
-/// axial pieces and tips stand turned by 0 to 2 thirds.
+/// A Pyraminx that can be put together without taking one apart: the list of edges is even, flips sum to 0 modulo 2,
+/// and axial pieces and tips stand turned by 0 to 2 thirds.
 ///
 /// Edge places and pieces: 0 UL, 1 UR, 2 UB, 3 LR, 4 LB, 5 RB. Axes: 0 U, 1 L, 2 R, 3 B.
 #[derive(Clone, Copy, Debug, PartialEq, Eq)]
@@ -43,8 +43,8 @@ impl Pyraminx {
         }
     }
 
-    /// The state with these edges at the places, with these flips, 0 or 1, and with axial pieces and tips that stand turned
-    /// by so many thirds. `None` comes exactly where they aren't those of a valid state.
+    /// The state with these edges at the places, with these flips, 0 or 1, and with axial pieces and tips that stand
+    /// turned by so many thirds. `None` comes exactly where they aren't those of a valid state.
     pub fn from_lists(
         edges: [u8; 6],
         flips: [u8; 6],

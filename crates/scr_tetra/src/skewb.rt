@@ -8,12 +8,12 @@ use scr_orbit::{Placed, are_completed, is_permutation};
 use scr_rank::permutations::is_odd;
 use std::marker::Model;
 
-/// A Skewb that can be put together without taking one apart: the lists of the four corners, of the three and of the centres
-/// are even, the twists of the three and the class of the four sum to 0 modulo 3, and so do the twists of the four and the
-/// piece at place 0 of the three.
+/// A Skewb that can be put together without taking one apart: the lists of the four corners, of the three and of the
+/// centres are even, the twists of the three and the class of the four sum to 0 modulo 3, and so do the twists of the
+/// four and the piece at place 0 of the three.
 ///
-/// The corner UFR stands still. Places and pieces: the four 0 UFL, 1 UBR, 2 DFR, 3 DBL; the three 0 ULB, 1 DLF, 2 DRB; the
-/// centres 0 U, 1 R, 2 F, 3 D, 4 L, 5 B.
+/// The corner UFR stands still. Places and pieces: the four 0 UFL, 1 UBR, 2 DFR, 3 DBL; the three 0 ULB, 1 DLF, 2 DRB;
+/// the centres 0 U, 1 R, 2 F, 3 D, 4 L, 5 B.
 #[derive(Clone, Copy, Debug, PartialEq, Eq)]
 pub struct Skewb {
     four: Placed<4>,
@@ -47,8 +47,8 @@ impl Skewb {
         }
     }
 
-    /// The Skewb with these pieces at the places, with these twists, from 0 to 2. `None` comes exactly where they aren't
-    /// those of a valid Skewb.
+    /// The Skewb with these pieces at the places, with these twists, from 0 to 2. `None` comes exactly where they
+    /// aren't those of a valid Skewb.
     pub fn from_lists(
         four: [u8; 4],
         four_twists: [u8; 4],

@@ -15,9 +15,9 @@ ghost use Rattle.scr_tetra.specs.Skewb.{SkewbTurn, IsSkewb, IsSkewbTurn, skewb_t
 ghost use Rattle.scr_tetra.specs.SkewbStickers.{CarriesAll, skewb_carried_piece, rotated_piece};
 ghost use Rattle.scr_tetra.specs.SkewbKnown.{skewb_orders, after_b_u, after_b_r, rotation, RotatesTurns};
 
-/// The turns are lawful: they keep states valid, and composed turns act as one after the other; words are taken back and
-/// tidied, and each comes to one rearrangement, the same for every state. What turns reach is valid. A turn by one third has
-/// order 3, and each turn has the number that the notation gives it.
+/// The turns are lawful: they keep states valid, and composed turns act as one after the other; words are taken back
+/// and tidied, and each comes to one rearrangement, the same for every state. What turns reach is valid. A turn by one
+/// third has order 3, and each turn has the number that the notation gives it.
 pub fn turns()
     ensures { IsPowerPuzzle skewb_powers IsSkewb IsSkewbTurn opposite turn_merging }
 {}
@@ -48,7 +48,8 @@ pub fn orders()
 
 /// Each table is what a turn by one third about the axis does to stickers.
 pub fn stickers()
-    ensures { (axis : ℕ) (r : SkewbTurn) → slice_get skewb_thirds axis ≡ Some r → CarriesAll (skewb_carried_piece axis) r }
+    ensures { (axis : ℕ) (r : SkewbTurn) → slice_get skewb_thirds axis ≡ Some r
+        → CarriesAll (skewb_carried_piece axis) r }
 {}
 
 /// The Skewb looks the same turned as a whole about UFR: each turn shows as the one about the next axis.

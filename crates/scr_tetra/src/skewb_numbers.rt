@@ -9,18 +9,18 @@ use scr_draw::{NumberedStates, Numbering};
 use scr_orbit::Placed;
 use scr_rank::{EvenPermRank, MixedRadix, TwistRank};
 
-/// The numbering of the Skewb: the twists of the four are the least digit, then come the twists of the three at places 0 and
-/// 1, the even list of the four, and the even list of the centres. The third twist of the three and their list are fixed by
-/// the two sums.
+/// The numbering of the Skewb: the twists of the four are the least digit, then come the twists of the three at places
+/// 0 and 1, the even list of the four, and the even list of the centres. The third twist of the three and their list
+/// are fixed by the two sums.
 #[derive(Clone, Copy)]
 pub struct SkewbNumbers;
 
-/// How many twists of the four, twists of the three at places 0 and 1, even lists of the four and even lists of centres there
-/// are.
+/// How many twists of the four, twists of the three at places 0 and 1, even lists of the four and even lists of centres
+/// there are.
 const SKEWB_BASES: [u128; 4] = [81, 9, 12, 360];
 
-/// The twists of the four with a number, place 0 the least digit, and the piece at place 0 of the three, which completes their
-/// sum.
+/// The twists of the four with a number, place 0 the least digit, and the piece at place 0 of the three, which
+/// completes their sum.
 fn twists_of_four(number: u128) -> ([u8; 4], u8)
     requires { number < 81 }
     ensures twists { result.0 ≡ mixed_digits (3 ∷ 3 ∷ 3 ∷ 3 ∷ []) number }
@@ -31,8 +31,8 @@ fn twists_of_four(number: u128) -> ([u8; 4], u8)
     ([zero, one, two, three], first)
 }
 
-/// The twists of the three with a number, place 0 the least digit, where the four have this class: the last one completes the
-/// sum.
+/// The twists of the three with a number, place 0 the least digit, where the four have this class: the last one
+/// completes the sum.
 fn twists_of_three(number: u128, class: u8) -> [u8; 3]
     requires number { number < 9 }
     requires class { class < 3 }
@@ -61,7 +61,8 @@ fn number_of_three_twists(skewb: &Skewb) -> u128
     TwistRank::<4, 3>::rank(&[class_of(&skewb.four()), zero, one, two]) / 3
 }
 
-/// The numbers of the twists of the four, of those of the three, of the even list of the four and of that of the centres.
+/// The numbers of the twists of the four, of those of the three, of the even list of the four and of that of the
+/// centres.
 fn digits_of(skewb: &Skewb) -> [u128; 4]
     requires { IsSkewb skewb.now }
     ensures { result ≡ skewb_digits skewb.now }

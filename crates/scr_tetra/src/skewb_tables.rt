@@ -1,5 +1,5 @@
-//! All turns of a Skewb, as rearrangements in the order of the turns' numbers: of each axis the turns by one and two thirds. A
-//! wrong entry is refused, since the calls ensure that the tables are those of the definitions.
+//! All turns of a Skewb, as rearrangements in the order of the turns' numbers: of each axis the turns by one and two
+//! thirds. A wrong entry is refused, since the calls ensure that the tables are those of the definitions.
 ghost use Rattle.scr_orbit.specs.Orbits.{IsRearrangement};
 ghost use Rattle.scr_orbit.specs.PlaceTurns.{IsTurnTable};
 ghost use Rattle.scr_orbit.specs.PowerPuzzles.{part_turns};
@@ -7,8 +7,8 @@ ghost use Rattle.scr_tetra.specs.Skewb.{skewb_powers};
 
 use scr_orbit::{PlaceTurn, place_turns};
 
-/// What the eight turns of a Skewb do to the four corners: U U' L L' R R' B B'. Turn number `2 * axis + amount - 1` is the
-/// axis's, by `amount` thirds; the axes U L R B are 0 to 3.
+/// What the eight turns of a Skewb do to the four corners: U U' L L' R R' B B'. Turn number `2 * axis + amount - 1` is
+/// the axis's, by `amount` thirds; the axes U L R B are 0 to 3.
 #[inline]
 pub fn four_turns() -> &'static [PlaceTurn<4>]
     ensures { IsTurnTable 8 (IsRearrangement 4 3) (part_turns (λ r. r.four) skewb_powers) result.now }

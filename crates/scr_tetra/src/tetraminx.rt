@@ -43,8 +43,8 @@ impl Tetraminx {
         }
     }
 
-    /// The state with these edges at the places, with these flips, 0 or 1, and with axial pieces that stand turned by so many
-    /// thirds. `None` comes exactly where they aren't those of a valid state.
+    /// The state with these edges at the places, with these flips, 0 or 1, and with axial pieces that stand turned by
+    /// so many thirds. `None` comes exactly where they aren't those of a valid state.
     pub fn from_lists(edges: [u8; 6], flips: [u8; 6], axials: [u8; 4]) -> Option<Tetraminx>
         ensures valid { IsSome result ↔ IsTetraminx (record {
           edges = record { pieces = edges; digits = flips };

@@ -16,7 +16,8 @@ use Rattle.scr_text.specs.Lines.{lines_of, line_words, is_blank, is_line_feed, h
 use Rattle.scr_text.specs.Parts.{IsLine, IsWord}
 use Rattle.scr_text.proofs.NumberLaws.{digits_model}
 
-pub lines_of-text_of_lines : (lines : List (List ℕ)) → All IsLine lines → lines_of (text_of_lines lines) ≡ lines ++ [] ∷ []
+pub lines_of-text_of_lines : (lines : List (List ℕ)) → All IsLine lines
+    → lines_of (text_of_lines lines) ≡ lines ++ [] ∷ []
 unfolding lines_of
 lines_of-text_of_lines [] all = refl
 lines_of-text_of_lines (line ∷ lines) all =
@@ -25,10 +26,12 @@ lines_of-text_of_lines (line ∷ lines) all =
     ∙ ap (λ x. x ∷ lines_of (text_of_lines lines)) it.end
     ∙ ap (λ x. line ∷ x) (lines_of-text_of_lines lines (All-tail IsLine line lines all))
 
-kept : (word : List ℕ) (words : List (List ℕ)) → has_bytes word ≡ true → filter has_bytes (word ∷ words) ≡ word ∷ filter has_bytes words
+kept : (word : List ℕ) (words : List (List ℕ)) → has_bytes word ≡ true
+    → filter has_bytes (word ∷ words) ≡ word ∷ filter has_bytes words
 kept word words some = rw some refl
 
-pub line_words-join_with_byte : (words : List (List ℕ)) → All IsWord words → line_words (join_with_byte 32 words) ≡ words
+pub line_words-join_with_byte : (words : List (List ℕ)) → All IsWord words
+    → line_words (join_with_byte 32 words) ≡ words
 unfolding line_words
 line_words-join_with_byte [] all = refl
 line_words-join_with_byte (word ∷ []) all =
@@ -55,7 +58,8 @@ found_at size place true is none = cc
 found_at size place false is none = grind (arith, nat_tests)
 
 -- a text without a line feed
-pub lines_of-last : (text : List ℕ) → position is_line_feed text ≡ None → lines_of text ≡ strip_carriage_return text ∷ []
+pub lines_of-last : (text : List ℕ) → position is_line_feed text ≡ None
+    → lines_of text ≡ strip_carriage_return text ∷ []
 unfolding lines_of
 lines_of-last text none =
     let past = found_at (length text) (position_or_len is_line_feed text) (nat_lt (position_or_len is_line_feed text) (length text)) refl none in
@@ -89,7 +93,8 @@ IsLine-plain text high = record {
 }
 
 -- words of such bytes, joined, are a line
-pub join_with_byte-plain : (words : List (List ℕ)) → All (λ word. All (λ b. 32 < b) word) words → All (λ b. 31 < b) (join_with_byte 32 words)
+pub join_with_byte-plain : (words : List (List ℕ)) → All (λ word. All (λ b. 32 < b) word) words
+    → All (λ b. 31 < b) (join_with_byte 32 words)
 join_with_byte-plain [] all = All-nil (λ b. 31 < b)
 join_with_byte-plain (word ∷ []) all =
     All-weaker (λ b. 32 < b) (λ b. 31 < b) (λ b h. omega arith) word (All-head (λ w. All (λ b. 32 < b) w) word [] all)

@@ -20,7 +20,8 @@ pub digits_model : IsNumeralModel (λ ds. list_all is_ascii_digit ds ≡ true) (
 digits_model = numerals_by_value _ (search rules)
 
 -- a plain start, in numbers
-pub plain_start : (text : List ℕ) → 0 < length text → (get_or text 0 0 ≡ 48 → length text ≡ 1) → has_plain_start text ≡ true
+pub plain_start : (text : List ℕ) → 0 < length text → (get_or text 0 0 ≡ 48 → length text ≡ 1)
+    → has_plain_start text ≡ true
 plain_start [] some lone = absurd (omega arith)
 plain_start (digit ∷ []) some lone = refl
 plain_start (first ∷ second ∷ rest) some lone = at (eqb first 48) refl
@@ -29,7 +30,8 @@ plain_start (first ∷ second ∷ rest) some lone = at (eqb first 48) refl
     at true is = let first_is : first ≡ 48 = grind (arith, nat_tests) in let two = lone first_is in absurd (omega arith)
     at false other = rw other refl
 
-pub plain_start-is : (text : List ℕ) → has_plain_start text ≡ true → (0 < length text) × (get_or text 0 0 ≡ 48 → length text ≡ 1)
+pub plain_start-is : (text : List ℕ) → has_plain_start text ≡ true
+    → (0 < length text) × (get_or text 0 0 ≡ 48 → length text ≡ 1)
 plain_start-is [] plain = cc
 plain_start-is (digit ∷ []) plain = (omega arith, λ h. refl)
 plain_start-is (first ∷ second ∷ rest) plain = (omega arith, λ h. grind (arith, nat_tests))

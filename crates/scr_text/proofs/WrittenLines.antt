@@ -8,7 +8,8 @@ abbrev pub line_of : List ℕ → List ℕ → List ℕ
 line_of label text = (label ++ text) ++ codes "\n"
 
 -- the first line of a text, and the others
-pub first_line : (line : List ℕ) (lines : List (List ℕ)) → text_of_lines (line ∷ lines) ≡ (line ++ codes "\n") ++ text_of_lines lines
+pub first_line : (line : List ℕ) (lines : List (List ℕ))
+    → text_of_lines (line ∷ lines) ≡ (line ++ codes "\n") ++ text_of_lines lines
 first_line line lines = sym (append_assoc line (10 ∷ []) (text_of_lines lines))
 
 -- lines in two parts

@@ -33,8 +33,8 @@ IsDomino-test c =
     )
 
 -- a cube by its four lists
-pub same_cube : (c d : CubeState) → c.corners.pieces ≡ d.corners.pieces → c.corners.digits ≡ d.corners.digits → c.edges.pieces ≡ d.edges.pieces
-    → c.edges.digits ≡ d.edges.digits → c ≡ d
+pub same_cube : (c d : CubeState) → c.corners.pieces ≡ d.corners.pieces → c.corners.digits ≡ d.corners.digits
+    → c.edges.pieces ≡ d.edges.pieces → c.edges.digits ≡ d.edges.digits → c ≡ d
 same_cube c d p q r s =
     ap (λ xs. record { corners = record { pieces = xs; digits = c.corners.digits }; edges = c.edges }) p
     ∙ ap (λ xs. record { corners = record { pieces = d.corners.pieces; digits = xs }; edges = c.edges }) q

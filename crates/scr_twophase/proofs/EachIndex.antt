@@ -23,12 +23,10 @@ each-twistslice = each-slice
 
 -- ---- the second part
 
--- Where any list of eight and any order of the edges of the middle layer are those of a domino, with another list of eight that has
--- the parity of both, so is each number that is made of theirs.
+-- Where any list of eight and any order of the edges of the middle layer are those of a domino, with another list of
+-- eight that has the parity of both, so is each number that is made of theirs.
 each-beside_middle : (number : CubeState → ℕ)
-    → ((own other middle : List ℕ) → IsPermutation 8 own → IsPermutation 8 other → IsPermutation 4 middle
-    → parity other ≡ (parity own + parity middle) % 2
-    → (c : CubeState) × IsDominoCube c × (middle_edges_of c ≡ permutation_number middle) × (number c ≡ permutation_number own))
+    → ((own other middle : List ℕ) → IsPermutation 8 own → IsPermutation 8 other → IsPermutation 4 middle → parity other ≡ (parity own + parity middle) % 2 → (c : CubeState) × IsDominoCube c × (middle_edges_of c ≡ permutation_number middle) × (number c ≡ permutation_number own))
     → (i : ℕ) → i < 24 * 40320 → (c : CubeState) × IsDominoCube c × (middle_edges_of c + 24 * number c ≡ i)
 each-beside_middle number domino =
     each_pair IsDominoCube middle_edges_of number 24 40320

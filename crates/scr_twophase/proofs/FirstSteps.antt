@@ -104,8 +104,10 @@ ends_so c word t e =
     sym (ap (λ o. option_map_or is_side_quarter o true) (last-push word t)) ∙ (and_parts (is_orderly w) (ends_in_quarter w) parts.0).1
 
 -- Where one turn is left, none but these need be tried.
-pub KeepsWays-quarters : (c : CubeState) (word : List ℕ) (bits both : ℕ) → KeepsWays turn_numbers (is_first_part c) word 0 bits
-    → ((t : ℕ) → contains_turn both t ≡ (contains_turn bits t && contains_turn side_quarters t)) → KeepsWays turn_numbers (is_first_part c) word 0 both
+pub KeepsWays-quarters : (c : CubeState) (word : List ℕ) (bits both : ℕ)
+    → KeepsWays turn_numbers (is_first_part c) word 0 bits
+    → ((t : ℕ) → contains_turn both t ≡ (contains_turn bits t && contains_turn side_quarters t))
+    → KeepsWays turn_numbers (is_first_part c) word 0 both
 unfolding words_of
 KeepsWays-quarters c word bits both keeps and = record {
   kept = λ place v lt there passes.
@@ -127,17 +129,21 @@ module _ (c : CubeState) (word : List ℕ) (at : PartPosition) (h : IsAt (Shows 
       ap (λ b. (b && ends_in_quarter word) && leads is_domino c word) h.orderly
       ∙ ap (λ b. ends_in_quarter word && b) (leads-played is_domino c h.there word h.played ∙ is_domino-shown h.there at h.shows)
 
-  at_end : (b : Bool) → (ends_in_quarter word && is_domino_position at) ≡ b → words_behind turn_numbers (is_first_part c) word 0 ≡ cond b (word ∷ []) []
+  at_end : (b : Bool) → (ends_in_quarter word && is_domino_position at) ≡ b
+      → words_behind turn_numbers (is_first_part c) word 0 ≡ cond b (word ∷ []) []
   at_end b e = words_behind-end turn_numbers (is_first_part c) word ∙ ap (λ t. cond t (word ∷ []) []) (test_is ∙ e)
 
-  pub no_part : (ends_in_quarter word && is_domino_position at) ≡ false → words_behind turn_numbers (is_first_part c) word 0 ≡ []
+  pub no_part : (ends_in_quarter word && is_domino_position at) ≡ false
+      → words_behind turn_numbers (is_first_part c) word 0 ≡ []
   no_part e = at_end false e
 
-  pub one_part : (ends_in_quarter word && is_domino_position at) ≡ true → words_behind turn_numbers (is_first_part c) word 0 ≡ word ∷ []
+  pub one_part : (ends_in_quarter word && is_domino_position at) ≡ true
+      → words_behind turn_numbers (is_first_part c) word 0 ≡ word ∷ []
   one_part e = at_end true e
 
 -- a position of dominoes is that of one
-pub domino_there : (c : CubeState) (at : PartPosition) → Shows first_views c at → is_domino_position at ≡ true → IsDominoCube c
+pub domino_there : (c : CubeState) (at : PartPosition) → Shows first_views c at → is_domino_position at ≡ true
+    → IsDominoCube c
 domino_there c at h e = record { cube = h.seen; domino = (IsDomino-test c).0 (is_domino-shown c at h ∙ e) }
 
 -- ---- both parts

@@ -38,7 +38,8 @@ permits-held (Face face depth amount) h =
 permits-held t h = absurd (false≢true h)
 
 -- The cube's scramble leads from solved to the state before the hold's word, and the word leads on.
-pub joined-played : (s b : HeldState) (first : List Turn) → IsBefore s b → play (after_letter cube_powers) solved_cube first ≡ Some b.cube
+pub joined-played : (s b : HeldState) (first : List Turn) → IsBefore s b
+    → play (after_letter cube_powers) solved_cube first ≡ Some b.cube
     → play held_cube_after solved_held (first ++ hold_word (hold_of s.centres)) ≡ Some s
 unfolding solved_held
 joined-played s b first before played =
@@ -49,7 +50,8 @@ joined-played s b first before played =
     play-append held_cube_after solved_held b first (hold_word (hold_of s.centres)) there ∙ before.again
 
 -- a state has one scramble
-pub IsScramble333bf-unique : (tries : ℕ) (s : HeldState) (turns other : List Turn) → IsScramble333bf tries s turns → IsScramble333bf tries s other → turns ≡ other
+pub IsScramble333bf-unique : (tries : ℕ) (s : HeldState) (turns other : List Turn) → IsScramble333bf tries s turns
+    → IsScramble333bf tries s other → turns ≡ other
 IsScramble333bf-unique tries s turns other a b =
     let same : a.before ≡ b.before = same_Some a.before b.before (sym a.turned_back ∙ b.turned_back) in
     let first : a.first ≡ b.first =
@@ -58,7 +60,8 @@ IsScramble333bf-unique tries s turns other a b =
     a.joined ∙ ap (λ w. w ++ hold_word (hold_of s.centres)) first ∙ sym b.joined
 
 -- the test of a minimum is exact
-pub Needs-held_tested : (s : HeldState) (least : ℕ) → IsHeld s → IsTrue (needs_turns s.cube least) ↔ Needs held_puzzle s least
+pub Needs-held_tested : (s : HeldState) (least : ℕ) → IsHeld s
+    → IsTrue (needs_turns s.cube least) ↔ Needs held_puzzle s least
 Needs-held_tested s least valid =
     let tested = Needs-tested s.cube least in
     let held = Needs-held s least valid.centres in

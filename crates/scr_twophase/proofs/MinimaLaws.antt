@@ -30,7 +30,8 @@ same_rest : (o : Option CubeState) (w : List ℕ)
 same_rest None w h = refl
 same_rest (Some d) w h = h d
 
-pub play-spelled : (c : CubeState) (w : List ℕ) → play (after_letter cube_powers) c (map face_turn_at w) ≡ play after_turn c w
+pub play-spelled : (c : CubeState) (w : List ℕ)
+    → play (after_letter cube_powers) c (map face_turn_at w) ≡ play after_turn c w
 unfolding play
 play-spelled c [] = refl
 play-spelled c (t ∷ w) = same_rest (after_turn c t) w (λ d. play-spelled d w)
@@ -42,7 +43,8 @@ record IsNumbered (c d : CubeState) (turns : List Turn) (w : List ℕ) : Type 0 
   below : All (λ t. t < 18) w
 
 -- each word of letters that leads somewhere is one of numbers
-numbered : (c d : CubeState) (turns : List Turn) → play (after_letter cube_powers) c turns ≡ Some d → (w : List ℕ) × IsNumbered c d turns w
+numbered : (c d : CubeState) (turns : List Turn) → play (after_letter cube_powers) c turns ≡ Some d
+    → (w : List ℕ) × IsNumbered c d turns w
 numbered c d [] e =
     ([], record { played = play-empty after_turn c ∙ sym (play-empty (after_letter cube_powers) c) ∙ e; size = refl; below = All-nil (λ t. t < 18) })
 numbered c d (letter ∷ turns) e =
@@ -77,7 +79,8 @@ play-turned c (t ∷ w) =
     others None h = refl
     others (Some d) h = h d
 
-pub NeedsTurns-iff : (c : CubeState) (least : ℕ) → NeedsTurns face_moves c least ↔ Needs (power_puzzle cube_powers) c least
+pub NeedsTurns-iff : (c : CubeState) (least : ℕ)
+    → NeedsTurns face_moves c least ↔ Needs (power_puzzle cube_powers) c least
 NeedsTurns-iff c least = (
   λ h turns end few played solved.
       let word = numbered c end turns played in

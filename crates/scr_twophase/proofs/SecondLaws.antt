@@ -16,11 +16,13 @@ use Rattle.scr_search.specs.Orderly.{after_turn}
 use Rattle.scr_twophase.proofs.Spaces.{Follows-corners}
 use Rattle.scr_search.proofs.Leads.{after_of-place}
 
-place-turn : (c : CubeState) (place : ℕ) → place < 10 → after_of domino_turns c place ≡ after_turn c (get_or domino_turns place 0)
+place-turn : (c : CubeState) (place : ℕ) → place < 10
+    → after_of domino_turns c place ≡ after_turn c (get_or domino_turns place 0)
 place-turn c place lt = after_of-place domino_turns c place lt
 
 -- the ten turns keep dominoes
-pub IsDominoCube-turned : (c d : CubeState) (place : ℕ) → IsDominoCube c → place < 10 → after_turn c (get_or domino_turns place 0) ≡ Some d → IsDominoCube d
+pub IsDominoCube-turned : (c d : CubeState) (place : ℕ) → IsDominoCube c → place < 10
+    → after_turn c (get_or domino_turns place 0) ≡ Some d → IsDominoCube d
 IsDominoCube-turned c d place h lt to = Follows-corners.kept c d place h (place-turn c place lt ∙ to)
 
 -- the ten turns carry the edges of the middle layer among its places

@@ -58,8 +58,8 @@ domino_turn-lt place d lt = tetrads_numbers place d lt
 -- ---- tests
 
 -- a domino whose corners, outer and middle edges are home is solved
-all_home : (c : CubeState) → IsDominoCube c → in_block outer_places c.edges.pieces ≡ numbers_from 0 8 → in_block middle_edges c.edges.pieces ≡ numbers_from 0 4
-    → c.edges.pieces ≡ numbers_from 0 12
+all_home : (c : CubeState) → IsDominoCube c → in_block outer_places c.edges.pieces ≡ numbers_from 0 8
+    → in_block middle_edges c.edges.pieces ≡ numbers_from 0 4 → c.edges.pieces ≡ numbers_from 0 12
 all_home c d outer middle =
     let p = c.edges.pieces in
     let is = d.cube.edges.pieces in
@@ -71,7 +71,8 @@ all_home c d outer middle =
     ∙ pick-append p outer_places middle_edges ∙ ap (λ xs. xs ++ pick p middle_edges) first ∙ ap (λ xs. outer_places ++ xs) last
 
 -- a position shows whether a domino is solved
-pub is_solved-shown : (c : CubeState) (at : PartPosition) → Shows second_views c at → is_solved c ≡ is_solved_position at
+pub is_solved-shown : (c : CubeState) (at : PartPosition) → Shows second_views c at
+    → is_solved c ≡ is_solved_position at
 unfolding solved_cube solved_orbit
 is_solved-shown c at h =
     let corners = goal_number (AreCornersHome c) (corners_of c) (permutation_number (numbers_from 0 8)) at.one 0 (Follows-corners.goals c h.seen) h.one (permutation_number-in_order 8) in
@@ -115,18 +116,21 @@ IsTestOf-solution c = record {
 }
 
 -- a whole word is a solution where it leads to solved
-pub IsSearched-solution : (c : CubeState) (word : List ℕ) (at : PartPosition) (tries : ℕ) (found : Bool) → IsAt (Shows second_views) c word at → 0 < tries
-    → found ≡ is_solved_position at → IsSearched (λ w. Some w) (words_behind domino_turns (is_solution c) word 0) tries word found word tries
+pub IsSearched-solution : (c : CubeState) (word : List ℕ) (at : PartPosition) (tries : ℕ) (found : Bool)
+    → IsAt (Shows second_views) c word at → 0 < tries → found ≡ is_solved_position at
+    → IsSearched (λ w. Some w) (words_behind domino_turns (is_solution c) word 0) tries word found word tries
 unfolding is_solution
 IsSearched-solution c word at tries found h some e = by found (sym (is ∙ sym e))
   where
     is : is_solution c word ≡ is_solved_position at
     is = ap (λ b. b && leads is_solved c word) h.orderly ∙ leads-played is_solved c h.there word h.played ∙ is_solved-shown h.there at h.shows
 
-    words : (b : Bool) → b ≡ is_solution c word → words_behind domino_turns (is_solution c) word 0 ≡ cond b (word ∷ []) []
+    words : (b : Bool) → b ≡ is_solution c word
+        → words_behind domino_turns (is_solution c) word 0 ≡ cond b (word ∷ []) []
     words b same = words_behind-end domino_turns (is_solution c) word ∙ ap (λ d. cond d (word ∷ []) []) (sym same)
 
-    by : (b : Bool) → b ≡ is_solution c word → IsSearched (λ w. Some w) (words_behind domino_turns (is_solution c) word 0) tries word b word tries
+    by : (b : Bool) → b ≡ is_solution c word
+        → IsSearched (λ w. Some w) (words_behind domino_turns (is_solution c) word 0) tries word b word tries
     by true same =
         IsSearched-one (λ w. Some w) (words_behind domino_turns (is_solution c) word 0) tries tries word word true (words true same) some refl (λ f. refl) (λ f. absurd (cc))
     by false same = IsSearched-none (λ w. Some w) (words_behind domino_turns (is_solution c) word 0) tries word (words false same)
@@ -151,7 +155,8 @@ joined-searched c word after found left s =
 
 -- what a turn in an array carries where is what it does by its number
 module _ {n : ℕ} (part : CubeTurn → Rearrangement) (turns : List (PlaceTurn n)) (defined : map rearrangement_of turns ≡ part_turns part cube_powers) where
-  turn-places : (t : ℕ) → t < 18 → get_or (map (λ u. u.places) turns) t [] ≡ (part (get_or (all_turns cube_powers) t cube_action.identity)).places
+  turn-places : (t : ℕ) → t < 18
+      → get_or (map (λ u. u.places) turns) t [] ≡ (part (get_or (all_turns cube_powers) t cube_action.identity)).places
   turn-places t lt =
       let all = all_turns cube_powers in
       let few : t < length all = omega (arith, length-turns, lt) in
@@ -165,8 +170,10 @@ module _ {n : ℕ} (part : CubeTurn → Rearrangement) (turns : List (PlaceTurn 
       map-map (u ∷ us) = ap (λ xs. u.places ∷ xs) (map-map us)
 
   -- the pieces of a kind are carried as the turns say
-  pub carried-played : (pieces : CubeState → List ℕ) → ((c : CubeState) (r : CubeTurn) → pieces (cube_action.turned c r) ≡ pick (pieces c) (part r).places)
-      → (c d : CubeState) (word : List ℕ) → play after_turn c word ≡ Some d → carried (map (λ u. u.places) turns) (pieces c) word ≡ pieces d
+  pub carried-played : (pieces : CubeState → List ℕ)
+      → ((c : CubeState) (r : CubeTurn) → pieces (cube_action.turned c r) ≡ pick (pieces c) (part r).places)
+      → (c d : CubeState) (word : List ℕ) → play after_turn c word ≡ Some d
+      → carried (map (λ u. u.places) turns) (pieces c) word ≡ pieces d
   unfolding play
   carried-played pieces turned c d [] e = ap pieces (same_Some c d e)
   carried-played pieces turned c d (t ∷ word) e =
@@ -177,17 +184,20 @@ module _ {n : ℕ} (part : CubeTurn → Rearrangement) (turns : List (PlaceTurn 
       ap (λ xs. carried (map (λ u. u.places) turns) xs word) (sym next) ∙ carried-played pieces turned parts.0 d word parts.2
 
 -- of corners and of edges
-pub corners-turned : (c : CubeState) (r : CubeTurn) → (cube_action.turned c r).corners.pieces ≡ pick c.corners.pieces r.corners.places
+pub corners-turned : (c : CubeState) (r : CubeTurn)
+    → (cube_action.turned c r).corners.pieces ≡ pick c.corners.pieces r.corners.places
 unfolding turned_orbit
 corners-turned c r = refl
 
-pub edges-turned : (c : CubeState) (r : CubeTurn) → (cube_action.turned c r).edges.pieces ≡ pick c.edges.pieces r.edges.places
+pub edges-turned : (c : CubeState) (r : CubeTurn)
+    → (cube_action.turned c r).edges.pieces ≡ pick c.edges.pieces r.edges.places
 unfolding turned_orbit
 edges-turned c r = refl
 
 -- a position is that of a domino by the numbers of its pieces
-pub Shows-numbers : (c : CubeState) (at : PartPosition) (corners edges : List ℕ) → IsDominoCube c → corners ≡ c.corners.pieces → edges ≡ c.edges.pieces
-    → at.one ≡ permutation_number corners → at.other ≡ permutation_number (in_block outer_places edges)
+pub Shows-numbers : (c : CubeState) (at : PartPosition) (corners edges : List ℕ) → IsDominoCube c
+    → corners ≡ c.corners.pieces → edges ≡ c.edges.pieces → at.one ≡ permutation_number corners
+    → at.other ≡ permutation_number (in_block outer_places edges)
     → at.middle ≡ permutation_number (in_block middle_edges edges) → Shows second_views c at
 Shows-numbers c at corners edges domino same_corners same_edges a b d = record {
   seen = domino;

@@ -74,7 +74,8 @@ number-lt : (n : ℕ) (xs : List ℕ) → IsPermutation n xs → permutation_num
 number-lt n xs h = subst (λ m. permutation_number xs < factorial m) h.size (permutation_number-lt xs)
 
 -- a list is in order where its number says so
-in_order : (n : ℕ) (xs : List ℕ) → IsPermutation n xs → (xs ≡ numbers_from 0 n) ↔ (permutation_number xs ≡ permutation_number (numbers_from 0 n))
+in_order : (n : ℕ) (xs : List ℕ) → IsPermutation n xs
+    → (xs ≡ numbers_from 0 n) ↔ (permutation_number xs ≡ permutation_number (numbers_from 0 n))
 in_order n xs h = (λ e. ap permutation_number e, λ e. permutation_number-injective n xs (numbers_from 0 n) h (IsPermutation-numbers_from n) e)
 
 -- the corners, and the edges above and below, stand in order
@@ -120,7 +121,8 @@ Follows-middle_edges =
     Follows-block 4 middle_edges IsPlaceSet-middle IsPermutation-middle (λ r t. All-kept 12 4 middle_edges IsPlaceSet-middle r.edges.places t.middle)
 
 -- the edges of the middle layer beside something else
-Follows-beside_middle : (high : Coordinate) (u : CubeState → ℕ) (IsHigh : CubeState → Type 0) → high.turns ≡ 10 → Follows (dominoes_to IsHigh) (positions high) u
+Follows-beside_middle : (high : Coordinate) (u : CubeState → ℕ) (IsHigh : CubeState → Type 0) → high.turns ≡ 10
+    → Follows (dominoes_to IsHigh) (positions high) u
     → Follows (dominoes_to (λ c. AreMiddleHome c × IsHigh c)) (positions (product_coordinate middle_edges_coordinate high)) (λ c. middle_edges_of c + 24 * u c)
 Follows-beside_middle high u IsHigh turns follows =
     Follows-product IsDominoCube AreMiddleHome IsHigh (after_of domino_turns) middle_edges_coordinate high middle_edges_of u turns Follows-middle_edges follows

@@ -24,8 +24,7 @@ use Rattle.scr_twophase.proofs.SecondLaws.{IsDominoCube-turned}
 AreTakenBack-by : (turns backs : List ℕ) (IsSeen : CubeState → Type 0) → ((c : CubeState) → IsSeen c → IsCube c)
     → ((c d : CubeState) (place : ℕ) → IsSeen c → place < length turns → after_turn c (get_or turns place 0) ≡ Some d → IsSeen d)
     → map (λ k. face_turn_at (get_or turns k 0)) (take (length turns) backs) ≡ map (λ t. opposite (face_turn_at t)) turns
-    → All (λ k. k < length turns) (take (length turns) backs)
-    → AreTakenBack turns backs IsSeen
+    → All (λ k. k < length turns) (take (length turns) backs) → AreTakenBack turns backs IsSeen
 AreTakenBack-by turns backs IsSeen cube kept same below = record {
   below = λ place lt. subst (λ k. k < length turns) (own place lt) (below place 0 (few place lt));
   seen = λ c d place seen lt to. kept c d place seen lt to;

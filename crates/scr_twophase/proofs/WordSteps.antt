@@ -15,7 +15,8 @@ use Rattle.scr_search.specs.TurnSets.{contains_turn}
 is_behind : List ℕ → List ℕ → ℕ → Bool
 is_behind turns sets last = passes_below (λ k. agree (contains_turn (get_or sets (last / 3) 0) k) (may_precede last (get_or turns k 0))) (length turns)
 
-AreBehind-tested : (turns sets : List ℕ) → passes_below (is_behind turns sets) 18 ≡ true → passes_below (contains_turn (get_or sets 6 0)) (length turns) ≡ true → AreBehind turns sets
+AreBehind-tested : (turns sets : List ℕ) → passes_below (is_behind turns sets) 18 ≡ true
+    → passes_below (contains_turn (get_or sets 6 0)) (length turns) ≡ true → AreBehind turns sets
 unfolding is_behind
 AreBehind-tested turns sets each all = record {
   each = λ last place a b.
@@ -34,5 +35,6 @@ unfolding is_behind passes_below agree may_precede
 AreBehind-ten = AreBehind-tested domino_turns ten.SECOND_EXTENT.behind refl refl
 
 -- sets of numbers below a limit
-pub sets_below : (n : ℕ) (sets : List ℕ) → list_all (λ set. nat_lt set (2 ^ n)) sets ≡ true → All (λ set. set < 2 ^ n) sets
+pub sets_below : (n : ℕ) (sets : List ℕ) → list_all (λ set. nat_lt set (2 ^ n)) sets ≡ true
+    → All (λ set. set < 2 ^ n) sets
 sets_below n sets = All-from_test (λ set. nat_lt set (2 ^ n)) (λ set. set < 2 ^ n) (λ set. ltb-true set (2 ^ n)) sets

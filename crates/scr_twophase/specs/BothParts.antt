@@ -8,8 +8,8 @@ use Rattle.scr_twophase.specs.TwoParts.{is_domino, is_solved}
 use Rattle.scr_cube.specs.ListedTurns.{turn_numbers}
 use Rattle.scr_stages.specs.Stages.{domino_turns}
 
--- The first goes through all cubes, by all turns, to the dominoes. It sees the flips, the twists, and the set of the places of
--- the edges of the middle layer.
+-- The first goes through all cubes, by all turns, to the dominoes. It sees the flips, the twists, and the set of the
+-- places of the edges of the middle layer.
 abbrev pub first_views : Views
 first_views = record {
   turns = turn_numbers;
@@ -20,8 +20,8 @@ first_views = record {
   middle = record { coordinate = middle_set_coordinate; number = middle_set_of };
 }
 
--- The second goes through dominoes, by the ten turns that keep them, to solved. It sees the lists of the corners, of the edges
--- above and below, and of those of the middle layer.
+-- The second goes through dominoes, by the ten turns that keep them, to solved. It sees the lists of the corners, of
+-- the edges above and below, and of those of the middle layer.
 abbrev pub second_views : Views
 second_views = record {
   turns = domino_turns;

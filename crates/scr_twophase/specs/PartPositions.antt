@@ -11,8 +11,8 @@ is_domino_position at = (at.one == 0 && at.other == 0) && at.middle == 494
 abbrev pub is_solved_position : PartPosition → Bool
 is_solved_position at = (at.one == 0 && at.other == 0) && at.middle == 0
 
--- Which piece stands at each place after turns, where each turn's number has a list that says for each place which place's
--- piece comes there.
+-- Which piece stands at each place after turns, where each turn's number has a list that says for each place which
+-- place's piece comes there.
 abbrev pub carried : List (List ℕ) → List ℕ → List ℕ → List ℕ
 carried places pieces [] = pieces
 carried places pieces (t ∷ word) = carried places (pick pieces (slice_index_or places t [])) word

@@ -19,8 +19,8 @@ use scr_draw::{NumberedStates, Numbering, Permit};
 use scr_notation::{Event, Scramble, Turn, inverse, push_all, push_turn};
 use scr_stages::StageTables;
 
-/// The scramble of a held cube, of the event 333bf. It ends in the word of the hold, of at most two wide turns; before it
-/// stands the scramble, of at most 52 turns, of the cube from which the faces that the word turns lead to this one.
+/// The scramble of a held cube, of the event 333bf. It ends in the word of the hold, of at most two wide turns; before
+/// it stands the scramble, of at most 52 turns, of the cube from which the faces that the word turns lead to this one.
 pub fn scramble_333bf(
     prune: &PruneTables,
     stages: &StageTables,

@@ -16,8 +16,8 @@ use scr_search::{Part, PartPosition, Positions, SearchTables, TurnSet, Word, sea
 /// The quarter turns of R, F, L and B.
 const SIDE_QUARTERS: TurnSet = TurnSet { bits: 0x2_d168 };
 
-/// The tables of both parts. A search by them is for a first part, of all turns, which gives what its second part makes of
-/// it.
+/// The tables of both parts. A search by them is for a first part, of all turns, which gives what its second part makes
+/// of it.
 #[derive(Drop)]
 pub(crate) struct PartTables {
     pub first: SearchTables<FirstPart>,

@@ -1,4 +1,5 @@
-//! What makes searches faster and changes no answer: the outlooks of both parts' tables, and their near sets, found side by side.
+//! What makes searches faster and changes no answer: the outlooks of both parts' tables, and their near sets, found
+//! side by side.
 ghost use Rattle.std.specs.Prelude.{◌≡◌, ◌≤◌, IfOk, true, false};
 ghost use Rattle.scr_twophase.specs.Built.{distances_of};
 ghost use Rattle.scr_twophase.specs.Ready.{AreOthers, AreOutlookPair, IsNearOf};

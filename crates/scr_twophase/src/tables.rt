@@ -52,8 +52,8 @@ impl TableSet for PruneTables {
 }
 
 impl PruneTables {
-    /// The tables, built by 1 to 64 workers, who share out the two parts, or why they are not: there is no memory, or one has a
-    /// gap. The first gap of the first such table is named.
+    /// The tables, built by 1 to 64 workers, who share out the two parts, or why they are not: there is no memory, or
+    /// one has a gap. The first gap of the first such table is named.
     pub fn build<R: Threads + Sync>(
         rt: &R,
         alloc: Global,
@@ -86,8 +86,9 @@ impl PruneTables {
         })
     }
 
-    /// Makes ready for the search for the parts of so many cubes: where they are many, it builds what makes each search faster and
-    /// changes no answer, by 1 to 64 workers. The tables stay the same, also where there is no memory for more.
+    /// Makes ready for the search for the parts of so many cubes: where they are many, it builds what makes each search
+    /// faster and changes no answer, by 1 to 64 workers. The tables stay the same, also where there is no memory for
+    /// more.
     pub fn prepare<R: Threads + Sync>(
         &mut self,
         rt: &R,

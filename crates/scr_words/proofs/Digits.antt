@@ -84,7 +84,8 @@ place_of (InvalidHexCharacter c i) = i
 place_of _ = 0
 
 -- the seed of 64 digits
-pub seed_of-digits : (s bytes : List ℕ) → length s ≡ 64 → decode_sized s 32 ≡ Ok bytes → Ok (record { 0 = bytes }) ≡ seed_of s
+pub seed_of-digits : (s bytes : List ℕ) → length s ≡ 64 → decode_sized s 32 ≡ Ok bytes
+    → Ok (record { 0 = bytes }) ≡ seed_of s
 seed_of-digits s bytes len h =
     let is = decoded_is_spelled s bytes len h in
     let all : digits_before s ≡ 64 = is.0 in

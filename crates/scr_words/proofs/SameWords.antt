@@ -1,5 +1,5 @@
--- The stream as `rand_chacha` specifies it is the stream of the seed, in our layout of the key, the number of the block and
--- the stream.
+-- The stream as `rand_chacha` specifies it is the stream of the seed, in our layout of the key, the number of the block
+-- and the stream.
 use Rattle.std.proofs.Common.{◌≡◌, ℕ, List, refl, ap}
 use Rattle.rand_core.specs.Steps.{u32_at}
 use Rattle.rand_chacha.specs.Block.{block_word as chacha_word}

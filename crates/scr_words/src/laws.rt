@@ -4,8 +4,9 @@ ghost use Rattle.std.specs.Prelude.{◌≡◌, ◌+◌, ◌*◌, ◌^◌, ◌++�
 ghost use Rattle.std.specs.List.{range_with_len};
 ghost use Rattle.scr_words.specs.Runs.{words_from};
 
-/// The streams have the block vectors of RFC 8439 that fit two words of block number and two of stream. The RFC's counter
-/// and the first word of its nonce are the block number here, the low word first; the rest of its nonce is the stream.
+/// The streams have the block vectors of RFC 8439 that fit two words of block number and two of stream. The RFC's
+/// counter and the first word of its nonce are the block number here, the low word first; the rest of its nonce is the
+/// stream.
 #[tactic(auto, unfolding(crate::proofs::OnLiterals::stream_on_literals))]
 pub fn block_vectors()
     // 2.3.2: the key 0, 1, 2 and so on to 31

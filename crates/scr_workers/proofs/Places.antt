@@ -55,8 +55,8 @@ module _ {T : Type 0} (IsAnswer : ℕ → T → Type 0) where
       (λ (there : HasAnswer IsAnswer out k). inr (kept_set out slot a within is k there))
       known)
 
-  -- What has come of placing a list's answers: those that are left are of slots, places that had an answer have one, and so
-  -- has the place of each slot of the list that isn't left.
+  -- What has come of placing a list's answers: those that are left are of slots, places that had an answer have one,
+  -- and so has the place of each slot of the list that isn't left.
   pub record ArePlaced (list : List (ℕ × T)) (start : List (Option T)) (left : List (ℕ × T)) (out : List (Option T)) : Type 0 where
     pub mine : All (HasSlotAnswer (length out) IsAnswer) left
     pub kept : (k : ℕ) → HasAnswer IsAnswer start k → HasAnswer IsAnswer out k

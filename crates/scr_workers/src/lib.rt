@@ -10,8 +10,8 @@
 //!
 //! What is worked at is a [`Jobs`]: any number of slots, with any relation that says what an answer of a slot is.
 //! Threads are started by `for_each_chunk_mut`, `for_each_mut` and `join` of the standard library alone; the last makes
-//! two calls side by side ([`both`]). That two of them ran, in which order, or that it saved time, no contract says. The crate stands on `scr_outside`, for its want of memory,
-//! and on `atomic_table`.
+//! two calls side by side ([`both`]). That two of them ran, in which order, or that it saved time, no contract says.
+//! The crate stands on `scr_outside`, for its want of memory, and on `atomic_table`.
 #![tactic(auto)]
 
 mod board;

@@ -4,8 +4,8 @@ ghost use Rattle.std.specs.Prelude.{◌≡◌, ◌+◌, ◌≤◌, max};
 
 use std::thread::{Threads, join};
 
-/// What two calls give. They are made side by side where there are two workers or more; with one worker they are made one
-/// after the other, and no thread is started.
+/// What two calls give. They are made side by side where there are two workers or more; with one worker they are made
+/// one after the other, and no thread is started.
 pub fn both<R: Threads, F: FnOnce() -> A + Send, G: FnOnce() -> B, A: Send, B>(
     rt: &R,
     workers: u32,

@@ -1,5 +1,5 @@
-//! The program `scramble`: a run on the system's words and streams, of which the stored run is the first line that README
-//! shows.
+//! The program `scramble`: a run on the system's words and streams, of which the stored run is the first line that
+//! README shows.
 #![tactic(auto)]
 
 use scr_sheet::run_on_host;

@@ -4,8 +4,8 @@
 pub(crate) const SCRAMBLE: &str =
     "UR4+ DR4+ DL5- UL5+ U3- R2+ D4+ L1- ALL3- y2 U3- R4+ D2- L4+ ALL3+\n";
 
-/// The same of the events with tables, with what tells how many positions of each table are so many turns from a goal: of
-/// the 2x2x2 it is that of state 3015702, of the Pyraminx that of 52354422, of the Skewb that of 1965942.
+/// The same of the events with tables, with what tells how many positions of each table are so many turns from a goal:
+/// of the 2x2x2 it is that of state 3015702, of the Pyraminx that of 52354422, of the Skewb that of 1965942.
 pub(crate) const BY_TABLES: [(&str, &str, &str); 5] = [
     (
         "222",

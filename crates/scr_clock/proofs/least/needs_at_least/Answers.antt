@@ -9,7 +9,8 @@ none : (dials : List ℕ) (least : ℕ) → least ≡ 0 → eqb least 0 ≡ need
 unfolding needs_test_clock
 none dials least e = subst (λ (n : ℕ). eqb n 0 ≡ needs_test_clock dials n) (sym e) refl
 
-some : (b : Bool) (dials : List ℕ) (least : ℕ) → least ≡ suc (least - 1) → b ≡ turns_lead (least - 1) dials → not b ≡ needs_test_clock dials least
+some : (b : Bool) (dials : List ℕ) (least : ℕ) → least ≡ suc (least - 1) → b ≡ turns_lead (least - 1) dials
+    → not b ≡ needs_test_clock dials least
 unfolding needs_test_clock
 some b dials least e h = ap not h ∙ sym (ap (needs_test_clock dials) e)
 

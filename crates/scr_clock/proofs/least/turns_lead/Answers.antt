@@ -3,8 +3,8 @@ use Rattle.scr_clock.specs.Least.{turns_lead}
 use Rattle.scr_clock.proofs.SideLaws.{none_by_sides, one_by_sides, two_by_sides, same_tests}
 use Rattle.scr_clock.proofs.least.turns_lead.Goals as goal
 
-same_number : (b : Bool) (P : Type 0) (n turns : ℕ) (dials : List ℕ) → n ≡ turns → IsTrue b ↔ P → IsTrue (turns_lead n dials) ↔ P
-    → b ≡ turns_lead turns dials
+same_number : (b : Bool) (P : Type 0) (n turns : ℕ) (dials : List ℕ) → n ≡ turns → IsTrue b ↔ P
+    → IsTrue (turns_lead n dials) ↔ P → b ≡ turns_lead turns dials
 same_number b P n turns dials e f g = subst (λ (k : ℕ). b ≡ turns_lead k dials) e (same_tests b (turns_lead n dials) P f g)
 
 pub returns-in-0-clause-value : goal.returns-in-0-clause-value

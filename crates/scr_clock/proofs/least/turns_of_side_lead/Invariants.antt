@@ -9,6 +9,7 @@ invariant-loop-pins l =
 
 abbrev pub invariant-loop-amount : goal.invariant-loop-amount
 invariant-loop-amount l = record {
-  before : (p : ℕ) → 0 < p → p < l.pins → (a : ℕ) → a < 12 → SidesLead (l.back ∷ []) (dials_turned l.clock (dial_turn l.back p a)) → ⊥;
+  before : (p : ℕ) → 0 < p → p < l.pins → (a : ℕ) → a < 12
+      → SidesLead (l.back ∷ []) (dials_turned l.clock (dial_turn l.back p a)) → ⊥;
   here : (a : ℕ) → a < l.amount → SidesLead (l.back ∷ []) (dials_turned l.clock (dial_turn l.back l.pins a)) → ⊥;
 }

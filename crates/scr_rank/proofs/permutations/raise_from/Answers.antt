@@ -7,7 +7,8 @@ use Rattle.scr_rank.proofs.permutations.raise_from.Goals as goal
 use Rattle.scr_rank.proofs.permutations.raise_from.Goals.{then-number-first, else-number-first}
 
 -- what is not reached yet is as it was
-not_yet : (f : ℕ → ℕ) (xs ys : List ℕ) (i : ℕ) → i < length xs → ys ≡ map f (take i xs) ++ drop i xs → get_or ys i 0 ≡ get_or xs i 0
+not_yet : (f : ℕ → ℕ) (xs ys : List ℕ) (i : ℕ) → i < length xs → ys ≡ map f (take i xs) ++ drop i xs
+    → get_or ys i 0 ≡ get_or xs i 0
 not_yet f xs ys i lt e =
     ap (λ zs. get_or zs i 0) e
     ∙ get_or-append_right (map f (take i xs)) (drop i xs) i i 0 (length-map (take i xs) f ∙ length-take-le i xs (omega arith)) (omega arith)
@@ -21,7 +22,9 @@ overflow_add-number c =
     let xs = c.args.list.now in
     omega (arith, not_yet (nth_except c.args.first) xs l.list l.number-index c.loop-number-test.true l.invariant, c.requires l.number-index 0 c.loop-number-test.true)
 
-step : (f : ℕ → ℕ) (xs ys zs : List ℕ) (i : ℕ) → i < length xs → length ys ≡ length xs → ys ≡ map f (take i xs) ++ drop i xs → zs ≡ set ys i (f (get_or ys i 0)) → zs ≡ map f (take (i + 1) xs) ++ drop (i + 1) xs
+step : (f : ℕ → ℕ) (xs ys zs : List ℕ) (i : ℕ) → i < length xs → length ys ≡ length xs
+    → ys ≡ map f (take i xs) ++ drop i xs → zs ≡ set ys i (f (get_or ys i 0))
+    → zs ≡ map f (take (i + 1) xs) ++ drop (i + 1) xs
 step f xs ys zs i lt size e ez =
     let x : ℕ = get_or ys i 0 in
     ez ∙ map_over_more f xs ys i x lt e (get_or_default ys i 0 x (omega arith))

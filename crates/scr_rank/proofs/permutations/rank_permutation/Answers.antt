@@ -3,7 +3,8 @@ use Rattle.scr_rank.proofs.PermutationSteps.{RankStep, rank_step}
 use Rattle.scr_rank.proofs.permutations.rank_permutation.Goals as goal
 use Rattle.scr_rank.proofs.permutations.rank_permutation.Goals.{After-count_lesser}
 
-step : (c : After-count_lesser) → RankStep c.args.list.now c.loop-place.place c.loop-place.number c.loop-place.weight c.count_lesser.result
+step : (c : After-count_lesser)
+    → RankStep c.args.list.now c.loop-place.place c.loop-place.number c.loop-place.weight c.count_lesser.result
 step c = rank_step c.args.list.now c.loop-place.place c.loop-place.number c.loop-place.weight c.count_lesser.result c.requires c.loop-place-test.true c.loop-place.auto.place c.loop-place.invariant.counted c.loop-place.invariant.weighed c.count_lesser.ensures
 
 pub overflow_mul-number : goal.overflow_mul-number

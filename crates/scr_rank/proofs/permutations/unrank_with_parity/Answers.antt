@@ -8,14 +8,16 @@ use Rattle.scr_rank.proofs.PermutationSteps.{factorial-small, swap-last}
 use Rattle.scr_rank.proofs.permutations.unrank_with_parity.Goals as goal
 
 -- a parity that is found, and one that is wanted
-same_parity : (found odd : Bool) (p : ℕ) → p < 2 → ((found ≡ true) ↔ (p ≡ 1)) → not (beq found odd) ≡ false → p ≡ cond odd 1 0
+same_parity : (found odd : Bool) (p : ℕ) → p < 2 → ((found ≡ true) ↔ (p ≡ 1)) → not (beq found odd) ≡ false
+    → p ≡ cond odd 1 0
 same_parity true true p low h same = h.0 refl
 same_parity false false p low h same =
     elim (cases_eq p 1) [ inl one ↦ absurd (false≢true (h.1 one)) | inr other ↦ omega arith ]
 same_parity true false p low h same = absurd (false≢true (sym same))
 same_parity false true p low h same = absurd (false≢true (sym same))
 
-other_parity : (found odd : Bool) (p : ℕ) → p < 2 → ((found ≡ true) ↔ (p ≡ 1)) → not (beq found odd) ≡ true → 1 - p ≡ cond odd 1 0
+other_parity : (found odd : Bool) (p : ℕ) → p < 2 → ((found ≡ true) ↔ (p ≡ 1)) → not (beq found odd) ≡ true
+    → 1 - p ≡ cond odd 1 0
 other_parity true true p low h differ = absurd (false≢true differ)
 other_parity false false p low h differ = absurd (false≢true differ)
 other_parity true false p low h differ = omega (arith, h.0 refl)
@@ -31,7 +33,8 @@ module _ (n half : ℕ) (found odd : Bool) (xs : List ℕ) (valid : IsPermutatio
     number = omega (arith, number);
   }
 
-  other_half : 1 < n → not (beq found odd) ≡ true → (ys : List ℕ) → ys ≡ swap xs (length xs - 1 - 1) (length xs - 1) → IsHalf n (cond odd 1 0) half ys
+  other_half : 1 < n → not (beq found odd) ≡ true → (ys : List ℕ) → ys ≡ swap xs (length xs - 1 - 1) (length xs - 1)
+      → IsHalf n (cond odd 1 0) half ys
   other_half few differ ys swapped =
       let own : IsHalf n (parity xs) half xs = record { permutation = valid; same_parity = refl; number = omega (arith, number) } in
       rw (swapped ∙ swap-last xs _ _ (omega (arith, valid.size)) refl refl, ← other_parity found odd (parity xs) (omega arith) tells differ)

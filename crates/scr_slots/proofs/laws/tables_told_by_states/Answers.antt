@@ -14,9 +14,9 @@ use Rattle.scr_slots.specs.TableLines.{family_lines}
 use Rattle.scr_slots.specs.Tables.{family_tables}
 use Rattle.scr_slots.proofs.laws.tables_told_by_states.Goals as goal
 
-AreLinesOf-family : IsLineOf corners_table corners_line → IsLineOf pyramid_table pyramid_line → IsLineOf skewb_table skewb_line
-    → AreLinesOf stage_tables stage_lines → AreLinesOf prune_tables prune_lines → AreLinesOf sq1_tables sq1_lines
-    → (family : Family) → AreLinesOf (family_tables family) (family_lines family)
+AreLinesOf-family : IsLineOf corners_table corners_line → IsLineOf pyramid_table pyramid_line
+    → IsLineOf skewb_table skewb_line → AreLinesOf stage_tables stage_lines → AreLinesOf prune_tables prune_lines
+    → AreLinesOf sq1_tables sq1_lines → (family : Family) → AreLinesOf (family_tables family) (family_lines family)
 unfolding family_tables family_lines
 AreLinesOf-family corners pyramid skewb stages prune square Cube222 = (corners, tt)
 AreLinesOf-family corners pyramid skewb stages prune square Cube333 =

@@ -6,7 +6,8 @@ use Rattle.scr_sq1.proofs.ShapeSteps.{corners_table-listed, run_of-next, run_of-
 use Rattle.scr_sq1.proofs.shapes.first_half.Goals as goal
 
 -- the run that was computed is that of this half
-run_is : (others corners half from run : ℕ) → run ≡ ways_after others corners (get_or CORNERS from 0) → from ≡ half → run ≡ ways_after others corners (slice_index corner_counts half)
+run_is : (others corners half from run : ℕ) → run ≡ ways_after others corners (get_or CORNERS from 0) → from ≡ half
+    → run ≡ ways_after others corners (slice_index corner_counts half)
 run_is others corners half from run e f =
     e ∙ ap (λ i. ways_after others corners (get_or CORNERS i 0)) f ∙ ap (ways_after others corners) (corners_table-listed half)
 

@@ -96,7 +96,7 @@ returns-clause-no_more c = λ turns scramble.
     omega (
       arith,
       ap twists_in (made c),
-      no_more_twists s words least turns first.0 c.units-units.ensures.valid shortest there first.1 scramble,
+      no_more_twists s words least turns first.0 c.is_valid.ensures shortest there first.1 scramble,
     )
 
 pub returns-clause-twists : goal.returns-clause-twists
@@ -109,4 +109,4 @@ pub returns-clause-played : goal.returns-clause-played
 returns-clause-played c =
     let s = c.args.state.now in
     let h = c.loop-place.invariant.shortest in
-    ap (play sq1_after solved_sq1) (made c) ∙ play-total_back s h.word c.loop-place.least.turns c.units-units.ensures.valid h.is
+    ap (play sq1_after solved_sq1) (made c) ∙ play-total_back s h.word c.loop-place.least.turns c.is_valid.ensures h.is

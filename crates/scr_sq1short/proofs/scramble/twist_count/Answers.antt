@@ -8,8 +8,9 @@ use Rattle.scr_sq1solve.specs.Counts.{twists_of, twists_in}
 use Rattle.scr_sq1short.proofs.scramble.twist_count.Goals as goal
 
 -- one turn more
-twists-next : (turns : List Turn) (i : ℕ) (d : Turn) (count more : ℕ) → i < length turns → count ≡ twists_in (take i turns)
-    → more ≡ twists_of (get_or turns i d) → count + more ≡ twists_in (take (i + 1) turns)
+twists-next : (turns : List Turn) (i : ℕ) (d : Turn) (count more : ℕ) → i < length turns
+    → count ≡ twists_in (take i turns) → more ≡ twists_of (get_or turns i d)
+    → count + more ≡ twists_in (take (i + 1) turns)
 unfolding count_in
 twists-next turns i d count more inside counted e =
     omega (

@@ -9,6 +9,7 @@ abbrev pub invariant-loop-number : goal.invariant-loop-number
 invariant-loop-number l = record {
   corners_size : length l.corners ≡ 32;
   edges_size : length l.edges ≡ 32;
-  corners_filled : (k : ℕ) → k < l.number → slice_index_or l.corners k [] ≡ corners_of (units_after (letter_of l.letters) k);
+  corners_filled : (k : ℕ) → k < l.number
+      → slice_index_or l.corners k [] ≡ corners_of (units_after (letter_of l.letters) k);
   edges_filled : (k : ℕ) → k < l.number → slice_index_or l.edges k [] ≡ edges_of (units_after (letter_of l.letters) k);
 }

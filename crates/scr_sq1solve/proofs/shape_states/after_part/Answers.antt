@@ -11,7 +11,7 @@ returns-then-part-lt12 c =
     let s = c.args.state.now in
     let n = c.args.part in
     after-amounts s c.turn.result _ (pos 0) (amount n) (pos 0) c.turn.ensures (read-amount n c.if-part-lt12.true) refl
-    ∙ sym (play-top s c.units-units.ensures.valid n c.if-part-lt12.true)
+    ∙ sym (play-top s c.is_valid.ensures n c.if-part-lt12.true)
 
 pub returns-then-part-lt24 : goal.returns-then-part-lt24
 returns-then-part-lt24 c =
@@ -19,7 +19,7 @@ returns-then-part-lt24 c =
     let n = c.args.part in
     let k = n - 12 in
     after-amounts s c.turn-then-part-lt24.result (pos 0) _ (pos 0) (amount k) c.turn-then-part-lt24.ensures refl (read-amount k (omega arith))
-    ∙ sym (play-bottom s c.units-units.ensures.valid n k (omega arith) (omega arith))
+    ∙ sym (play-bottom s c.is_valid.ensures n k (omega arith) (omega arith))
 
 pub returns-else-part-lt24 : goal.returns-else-part-lt24
 returns-else-part-lt24 c =

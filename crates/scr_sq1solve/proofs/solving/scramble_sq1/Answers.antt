@@ -21,20 +21,20 @@ returns-clause-scramble c =
     let s = c.args.state.now in
     let word = c.deref.result.now in
     subst (IsScrambleSq1 s) (sym (ap (λ w. w.turns) c.inverse.ensures.value))
-    (IsScrambleSq1-total s word c.total_from.result.turns c.units-units.ensures.valid c.total_from.ensures.total
+    (IsScrambleSq1-total s word c.total_from.result.turns c.is_valid.ensures c.total_from.ensures.total
     (subst (IsStageWord sq1_after shape_stage s) (sym c.deref.ensures.0) c.stage_word-word.ensures))
 
 pub returns-clause-twists : goal.returns-clause-twists
 returns-clause-twists c =
-    (IsWithinBounds-scramble c.args.state.now c.inverse.result.turns c.units-units.ensures.valid (returns-clause-scramble c)).twists
+    (IsWithinBounds-scramble c.args.state.now c.inverse.result.turns c.is_valid.ensures (returns-clause-scramble c)).twists
 
 pub returns-clause-at_most : goal.returns-clause-at_most
 returns-clause-at_most c =
-    (IsWithinBounds-scramble c.args.state.now c.inverse.result.turns c.units-units.ensures.valid (returns-clause-scramble c)).turns
+    (IsWithinBounds-scramble c.args.state.now c.inverse.result.turns c.is_valid.ensures (returns-clause-scramble c)).turns
 
 pub returns-clause-only : goal.returns-clause-only
 returns-clause-only c = λ turns other.
     one_scramble c.args.state.now turns c.inverse.result.turns other (returns-clause-scramble c)
 
 pub returns-clause-played : goal.returns-clause-played
-returns-clause-played c = play-scramble c.args.state.now c.inverse.result.turns c.units-units.ensures.valid (returns-clause-scramble c)
+returns-clause-played c = play-scramble c.args.state.now c.inverse.result.turns c.is_valid.ensures (returns-clause-scramble c)

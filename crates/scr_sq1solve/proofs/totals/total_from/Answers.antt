@@ -15,8 +15,8 @@ returns-clause-only c = λ turns other.
 
 pub returns-clause-solves : goal.returns-clause-solves
 returns-clause-solves c =
-    play-total c.args.state.now c.args.shape_word.now c.joined.result.turns c.units-units.ensures.valid (returns-clause-total c)
+    play-total c.args.state.now c.args.shape_word.now c.joined.result.turns c.is_valid.ensures (returns-clause-total c)
 
 pub returns-clause-taken_back : goal.returns-clause-taken_back
 returns-clause-taken_back c =
-    play-total_back c.args.state.now c.args.shape_word.now c.joined.result.turns c.units-units.ensures.valid (returns-clause-total c)
+    play-total_back c.args.state.now c.args.shape_word.now c.joined.result.turns c.is_valid.ensures (returns-clause-total c)

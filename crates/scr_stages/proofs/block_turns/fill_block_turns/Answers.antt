@@ -6,8 +6,9 @@ use Rattle.scr_stages.specs.Tables.{block_turn, block_turns}
 use Rattle.scr_stages.proofs.block_turns.fill_block_turns.Goals as goal
 
 -- one more is filled
-filled_more : {X Y : Type 0} (f : X → Y) (g : ℕ → Y) (out : List X) (numbers : List ℕ) (at : ℕ) (y : X) → at < length out → at < length numbers
-    → map f (take at out) ≡ map g (take at numbers) → f y ≡ g (get_or numbers at 0) → map f (take (at + 1) (set out at y)) ≡ map g (take (at + 1) numbers)
+filled_more : {X Y : Type 0} (f : X → Y) (g : ℕ → Y) (out : List X) (numbers : List ℕ) (at : ℕ) (y : X)
+    → at < length out → at < length numbers → map f (take at out) ≡ map g (take at numbers)
+    → f y ≡ g (get_or numbers at 0) → map f (take (at + 1) (set out at y)) ≡ map g (take (at + 1) numbers)
 filled_more f g out numbers at y lt more so_far e =
     ap (map f) (take_more_set out at y lt) ∙ map-append f (take at out) (y ∷ [])
     ∙ ap (λ xs. xs ++ f y ∷ []) so_far ∙ ap (λ z. map g (take at numbers) ++ z ∷ []) e

@@ -56,7 +56,8 @@ before c =
     let turns = ap (λ (w : Written). w.turns) c.inverse.ensures.value ∙ ap (back opposite) word in
     IsBefore-played s c.in-Some.before c.hold.ensures.valid (ap (play held_cube_after s) (sym turns) ∙ sym c.play.ensures ∙ c.in-Some.is)
 
-joined : (c : goal.After-push_all) → c.push_all.new.scramble.turns ≡ c.scramble_333-first.result.turns ++ hold_word (hold_of c.args.held.now.centres)
+joined : (c : goal.After-push_all)
+    → c.push_all.new.scramble.turns ≡ c.scramble_333-first.result.turns ++ hold_word (hold_of c.args.held.now.centres)
 joined c =
     let word = ap (λ (w : Written). w.turns) c.word_of_hold-word.ensures ∙ ap hold_word c.hold.ensures.number in
     ap (λ (s : Written). s.turns) c.push_all.ensures

@@ -14,7 +14,8 @@ loop-dial-preserved c =
           (omega (arith, c.loop-dial.invariant.fourteen)) c.loop-dial.invariant.turned);
     }
 
-turned_dials : (c : goal.After-loop-dial) → c.loop-dial.dials ≡ dials_turned c.args.self.now (dial_turn c.args.back c.args.pins c.args.amount)
+turned_dials : (c : goal.After-loop-dial)
+    → c.loop-dial.dials ≡ dials_turned c.args.self.now (dial_turn c.args.back c.args.pins c.args.amount)
 turned_dials c =
     let t : DialTurn = dial_turn c.args.back c.args.pins c.args.amount in
     turned_by_dials c.self.inside.dials c.loop-dial.dials t c.loop-dial.invariant.fourteen

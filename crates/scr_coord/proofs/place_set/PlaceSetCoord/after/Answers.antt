@@ -11,9 +11,9 @@ use Rattle.scr_coord.proofs.ProjectionLaws.{turn_read, after_read}
 use Rattle.scr_coord.proofs.place_set.PlaceSetCoord.after.Goals as goal
 
 -- a turn that is read moves a set to a set
-set_turned : {n : ℕ} (k : ℕ) (set : List ℕ) (turns : List (PlaceTurn n)) (t : ℕ) (turn : PlaceTurn n) → IsPlaceSet n k set
-    → AreTurns (λ turn. IsPermutation n turn.places) turns → t < length (map rearrangement_of turns)
-    → IsPlaceSet n k (turned_set set (rearrangement_of (get_or turns t turn)))
+set_turned : {n : ℕ} (k : ℕ) (set : List ℕ) (turns : List (PlaceTurn n)) (t : ℕ) (turn : PlaceTurn n)
+    → IsPlaceSet n k set → AreTurns (λ turn. IsPermutation n turn.places) turns
+    → t < length (map rearrangement_of turns) → IsPlaceSet n k (turned_set set (rearrangement_of (get_or turns t turn)))
 set_turned {n} k set turns t turn is valid lt =
     IsPlaceSet-turned n k set (rearrangement_of (get_or turns t turn)) is (turn_read (λ turn. IsPermutation n turn.places) turns t turn valid lt)
 

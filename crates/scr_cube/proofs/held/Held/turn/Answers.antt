@@ -11,8 +11,8 @@ use Rattle.scr_cube.proofs.HeldLaws.{place_parts, turned_face-lt, Contains-turne
 use Rattle.scr_cube.proofs.held.Held.turn.Goals as goal
 
 -- the face that the turn turns
-face_is : (centres : List ℕ) (place depth amount face : ℕ) → face_letter centres (Face place depth amount) ≡ Face face 1 amount
-    → face ≡ turned_face centres place depth
+face_is : (centres : List ℕ) (place depth amount face : ℕ)
+    → face_letter centres (Face place depth amount) ≡ Face face 1 amount → face ≡ turned_face centres place depth
 face_is centres place depth amount face e = sym (ap place_of_letter e)
   where
     place_of_letter : Turn → ℕ

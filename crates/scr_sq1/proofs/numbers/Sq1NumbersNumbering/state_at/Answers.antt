@@ -20,7 +20,8 @@ of_valid-requires c =
     (l.valid equator)
 
 -- states that are laid of the same
-same_laid : (hs gs cs bs es ds : List ℕ) (q r : Bool) → hs ≡ gs → cs ≡ bs → es ≡ ds → q ≡ r → (let s : Sq1State = record { units = laid (shape_word hs) cs es; equator = q } in let t : Sq1State = record { units = laid (shape_word gs) bs ds; equator = r } in s ≡ t)
+same_laid : (hs gs cs bs es ds : List ℕ) (q r : Bool) → hs ≡ gs → cs ≡ bs → es ≡ ds → q ≡ r
+    → (let s : Sq1State = record { units = laid (shape_word hs) cs es; equator = q } in let t : Sq1State = record { units = laid (shape_word gs) bs ds; equator = r } in s ≡ t)
 same_laid hs gs cs bs es ds q r halves corners edges equator =
     ap (λ x. let s : Sq1State = record { units = laid (shape_word x) cs es; equator = q } in s) halves
     ∙ ap (λ x. let s : Sq1State = record { units = laid (shape_word gs) x es; equator = q } in s) corners

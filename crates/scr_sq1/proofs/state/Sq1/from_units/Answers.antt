@@ -6,9 +6,10 @@ use Rattle.scr_sq1.proofs.InHalves.{IsPutTogether-valid, IsSq1-together}
 use Rattle.scr_sq1.proofs.state.Sq1.from_units.Goals as goal
 use Rattle.scr_sq1.proofs.state.Sq1.from_units.Goals.{else-has_each_piece-via-then-has_each_piece+then-are_corners_whole+else-is_open, else-has_each_piece-via-then-has_each_piece+else-are_corners_whole, else-has_each_piece-via-else-has_each_piece}
 
-together : (units : List ℕ) (equator : Bool) → length units ≡ 24 → ((p : ℕ) → p < 16 → occurrences p units ≡ cond (is_corner p) 2 1)
-    → ((k : ℕ) → k < 24 → IsTrue (is_corner (slice_index units k)) → IsTrue (fills_neighbour units k)) → IsTrue (is_open units)
-    → IsSq1 (record { units = units; equator = equator })
+together : (units : List ℕ) (equator : Bool) → length units ≡ 24
+    → ((p : ℕ) → p < 16 → occurrences p units ≡ cond (is_corner p) 2 1)
+    → ((k : ℕ) → k < 24 → IsTrue (is_corner (slice_index units k)) → IsTrue (fills_neighbour units k))
+    → IsTrue (is_open units) → IsSq1 (record { units = units; equator = equator })
 together units equator size pieces neighbours opened =
     IsSq1-together units equator (record { size = size; pieces = pieces; neighbours = neighbours; opened = opened })
 

@@ -10,7 +10,8 @@ abbrev state : After-is_open_turned → Sq1State
 state c = record { units = c.self.inside.units; equator = c.self.inside.equator }
 
 -- units that are moved by the amounts as they are read are those of the turned state
-moved : (c : After-is_open_turned) (units : List ℕ) → units ≡ pick (state c).units (turn_places c.clockwise-top.result c.clockwise-bottom.result)
+moved : (c : After-is_open_turned) (units : List ℕ)
+    → units ≡ pick (state c).units (turn_places c.clockwise-top.result c.clockwise-bottom.result)
     → (let r : Sq1State = record { units = units; equator = (state c).equator } in r) ≡ turned (state c) c.args.top c.args.bottom
 moved c units are =
     let top = c.ranges.top in
@@ -20,7 +21,8 @@ moved c units are =
     units_turned (state c) c.args.top c.args.bottom c.clockwise-top.result c.clockwise-bottom.result units n m are
 
 -- and what is tested of them is so of that state
-tested : (c : After-is_open_turned) → is_open (turned (state c) c.args.top c.args.bottom).units ≡ c.is_open_turned.result
+tested : (c : After-is_open_turned)
+    → is_open (turned (state c) c.args.top c.args.bottom).units ≡ c.is_open_turned.result
 tested c = sym (ap (λ r. is_open r.units) (moved c _ refl)) ∙ sym c.is_open_turned.ensures
 
 pub invariant_of-result : goal.invariant_of-result

@@ -4,7 +4,8 @@ use Rattle.scr_sq1.specs.Units.{Sq1State, IsSq1, twist_places, twisted}
 use Rattle.scr_sq1.proofs.TurnLaws.{IsSq1-twisted}
 use Rattle.scr_sq1.proofs.state.Sq1.twist.Goals as goal
 
-valid_units : (s : Sq1State) (units : List ℕ) (equator : Bool) → units ≡ pick s.units twist_places → IsSq1 s → IsSq1 (record { units = units; equator = equator })
+valid_units : (s : Sq1State) (units : List ℕ) (equator : Bool) → units ≡ pick s.units twist_places → IsSq1 s
+    → IsSq1 (record { units = units; equator = equator })
 valid_units s units equator are h =
     subst (λ us. let r : Sq1State = record { units = us; equator = equator } in IsSq1 r) (sym are) (IsSq1-twisted s equator h)
 

@@ -6,10 +6,10 @@ use Rattle.scr_sq1solve.proofs.minima.Sq1MovesMoves.after.Goals as goal
 
 pub returns-then-turn-eq-TWIST : goal.returns-then-turn-eq-TWIST
 returns-then-turn-eq-TWIST c =
-    after-twist c.args.state.now c.twist.result c.args.turn c.units-units.ensures.valid c.if-turn-eq-TWIST.true c.twist.ensures
+    after-twist c.args.state.now c.twist.result c.args.turn c.is_valid.ensures c.if-turn-eq-TWIST.true c.twist.ensures
 
 pub returns-else-turn-eq-TWIST : goal.returns-else-turn-eq-TWIST
 returns-else-turn-eq-TWIST c =
     let n = c.args.turn in
-    after-number c.args.state.now n c.turn.result c.units-units.ensures.valid c.requires c.if-turn-eq-TWIST.false
+    after-number c.args.state.now n c.turn.result c.is_valid.ensures c.requires c.if-turn-eq-TWIST.false
     (after-amounts c.args.state.now c.turn.result _ _ (top_of n) (bottom_of n) c.turn.ensures (omega (arith, ints, c.requires)) (omega (arith, ints)))

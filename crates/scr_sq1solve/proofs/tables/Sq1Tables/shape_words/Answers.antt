@@ -11,7 +11,7 @@ pub returns-clause-words : goal.returns-clause-words
 returns-clause-words c =
     c.first_words.ensures
     ∙ ap (λ i. take c.args.wanted (words_to_goal shapes_coordinate i 13)) c.shapes_index.ensures.value
-    ∙ ap (take c.args.wanted) (words-by_index c.args.state.now c.units-units.ensures.valid)
+    ∙ ap (take c.args.wanted) (words-by_index c.args.state.now c.is_valid.ensures)
 
 pub returns-clause-each : goal.returns-clause-each
 returns-clause-each c =
@@ -28,5 +28,5 @@ returns-clause-short c =
 pub returns-clause-first : goal.returns-clause-first
 returns-clause-first c = λ some.
     let s = c.args.state.now in
-    let first = first-shape_word c.args.self.now.shapes c.args.self.now.built.0 s c.units-units.ensures.valid c.args.wanted some in
+    let first = first-shape_word c.args.self.now.shapes c.args.self.now.built.0 s c.is_valid.ensures c.args.wanted some in
     (first.0, first.1, ap (λ words. slice_get words 0) (returns-clause-words c) ∙ first.2)

@@ -12,8 +12,8 @@ use Rattle.scr_stages.proofs.corner_lists.CornerListsCoord.after.Goals as goal
 abbrev none : PlaceTurn 8
 none = record { places = []; added = [] }
 
-turn_at : (turns : List (PlaceTurn 8)) (t : ℕ) → AreTurns (λ turn. IsPermutation 8 turn.places) turns → t < length (map rearrangement_of turns)
-    → IsPermutation 8 (get_or turns t none).places
+turn_at : (turns : List (PlaceTurn 8)) (t : ℕ) → AreTurns (λ turn. IsPermutation 8 turn.places) turns
+    → t < length (map rearrangement_of turns) → IsPermutation 8 (get_or turns t none).places
 turn_at turns t valid lt = turn_read (λ turn. IsPermutation 8 turn.places) turns t none valid lt
 
 pub pick_into-requires-clause-places : goal.pick_into-requires-clause-places

@@ -14,8 +14,8 @@ lamps = record {
 }
 
 -- a turn and then itself, from where each is not refused
-back_again : (t : ℕ) (a b : Bool) (r q : Bool × Bool) → after_move lamps (a, b) t ≡ Some r → after_move lamps r t ≡ Some q
-    → Some (a, b) ≡ Some q
+back_again : (t : ℕ) (a b : Bool) (r q : Bool × Bool) → after_move lamps (a, b) t ≡ Some r
+    → after_move lamps r t ≡ Some q → Some (a, b) ≡ Some q
 back_again zero true b r q e f = let there : r ≡ (false, b) = cc in rw there at f
 back_again zero false b r q e f = let there : r ≡ (true, b) = cc in rw there at f
 back_again (suc zero) true b r q e f = absurd (cc)

@@ -21,8 +21,10 @@ use Rattle.scr_search.proofs.ViewLaws.{Sees-beside, index-shown}
 use Rattle.scr_twophase.proofs.second.SecondTables.least_from.Goals as goal
 
 -- a word to solved has at least as many turns as the corners' table says
-far_corners : (table : PruningTable) → IsPruningTable cornerslice_line table → (c : CubeState) (at : PartPosition) (p n : ℕ) (v : List ℕ) → Shows second_views c at
-    → p ≡ index_beside true 40320 24 at.one at.middle → Contains (words_of domino_turns n) v → leads is_solved c v ≡ true → get_or table.distances.distances p 0 ≤ n
+far_corners : (table : PruningTable) → IsPruningTable cornerslice_line table
+    → (c : CubeState) (at : PartPosition) (p n : ℕ) (v : List ℕ) → Shows second_views c at
+    → p ≡ index_beside true 40320 24 at.one at.middle → Contains (words_of domino_turns n) v
+    → leads is_solved c v ≡ true → get_or table.distances.distances p 0 ≤ n
 far_corners table is c at p n v shows place listed way =
     let are = AreViews-second in
     near-way second_views are.few.0 (view_beside true second_views.one second_views.middle)
