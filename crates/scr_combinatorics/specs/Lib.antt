@@ -14,3 +14,4 @@ pub mod Lawful
 pub mod PowerLetters
 pub mod FirstWord
 pub mod Stages
+pub mod Words

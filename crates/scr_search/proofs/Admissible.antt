@@ -15,7 +15,7 @@ use Rattle.scr_cube.specs.Cube333.{CubeState, IsCube}
 use Rattle.scr_cube.proofs.Laws333.{lawful_cube}
 use Rattle.scr_notation.specs.TurnNumbers.{face_turn_at}
 use Rattle.scr_cube.specs.ListedTurns.{cube_space, after_of}
-use Rattle.scr_table.specs.Words.{words_of}
+use Rattle.scr_combinatorics.specs.Words.{words_of}
 use Rattle.scr_table.proofs.WordLists.{IsWordOf, words_of-each}
 use Rattle.scr_search.specs.declared.outlook.Outlook.{Outlook}
 use Rattle.scr_search.specs.declared.pruning.PruningTable.{PruningTable}

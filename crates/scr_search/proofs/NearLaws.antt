@@ -10,7 +10,7 @@ use Rattle.scr_combinatorics.specs.Play.{play}
 use Rattle.scr_combinatorics.proofs.PlayLaws.{play-empty, play-parts}
 use Rattle.scr_cube.specs.Cube333.{CubeState}
 use Rattle.scr_workers.specs.Answered.{AreAnswered}
-use Rattle.scr_table.specs.Words.{words_of}
+use Rattle.scr_combinatorics.specs.Words.{words_of}
 use Rattle.scr_table.proofs.WordLists.{All-flat_map, words_of-none}
 use Rattle.scr_search.specs.declared.near_set.NearBlock.{NearBlock}
 use Rattle.scr_search.specs.declared.near_set.NearSet.{NearSet}

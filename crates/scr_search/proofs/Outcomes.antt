@@ -5,7 +5,7 @@ use Rattle.std.specs.List.{flat_map}
 use Rattle.std.specs.Option.{option_or}
 use Rattle.std.proofs.lemmas.List.{length-append}
 use Rattle.scr_combinatorics.specs.Lists.{numbers_from}
-use Rattle.scr_table.specs.Words.{words_behind, words_within}
+use Rattle.scr_combinatorics.specs.Words.{words_behind, words_within}
 use Rattle.scr_table.proofs.WordLists.{lengths_from, numbers_from-next, numbers_from-end, words_behind-within}
 use Rattle.scr_search.specs.Search.{first_given, IsSearched}
 use Rattle.scr_search.proofs.Tries.{first_given-append, first_given-none, first_given-one, first_given-spent}

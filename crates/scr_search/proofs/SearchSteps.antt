@@ -10,7 +10,7 @@ use Rattle.scr_combinatorics.specs.Lists.{numbers_from, pick}
 use Rattle.scr_combinatorics.specs.Play.{play}
 use Rattle.scr_combinatorics.proofs.Picks.{pick-in_order, numbers_from-at, length-numbers_from}
 use Rattle.scr_cube.specs.Cube333.{CubeState}
-use Rattle.scr_table.specs.Words.{words_behind}
+use Rattle.scr_combinatorics.specs.Words.{words_behind}
 use Rattle.scr_table.proofs.WordLists.{flat_map-kept, words_behind-none, words_behind-turns}
 use Rattle.scr_search.specs.TurnSets.{contains_turn, turns_in}
 use Rattle.scr_cube.specs.ListedTurns.{turn_numbers}

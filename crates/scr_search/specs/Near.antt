@@ -2,7 +2,7 @@
 use Rattle.std.specs.Prelude.{◌≡◌, ℕ, ◌*◌, ◌/◌, ◌%◌, ◌^◌, ◌<◌, ◌≤◌, Bool, Contains, IsTrue, List, length, slice_get, slice_index, Some, ◌∷◌}
 use Rattle.std.specs.Int.{bit_at}
 use Rattle.scr_cube.specs.Cube333.{CubeState}
-use Rattle.scr_table.specs.Words.{words_of}
+use Rattle.scr_combinatorics.specs.Words.{words_of}
 use Rattle.scr_search.specs.declared.near_set.NearBlock.{NearBlock}
 use Rattle.scr_search.specs.declared.near_set.NearSet.{NearSet}
 use Rattle.scr_search.specs.TurnSets.{contains_turn}

@@ -4,7 +4,7 @@ use Rattle.std.specs.List.{filter_map}
 use Rattle.std.specs.Option.{option_map_or}
 use Rattle.scr_combinatorics.specs.Play.{play}
 use Rattle.scr_cube.specs.Cube333.{CubeState}
-use Rattle.scr_table.specs.Words.{words_of}
+use Rattle.scr_combinatorics.specs.Words.{words_of}
 use Rattle.scr_search.specs.Orderly.{may_precede, is_orderly, after_turn, leads}
 use Rattle.scr_search.specs.TurnSets.{contains_turn}
 

@@ -1,7 +1,7 @@
 //! The search for a part of a solution: through the words of its turns, depth first and by rising length.
 ghost use Rattle.std.specs.Prelude.{◌≡◌, ◌+◌, ◌++◌, ◌≤◌, filter, length, map};
 ghost use Rattle.scr_cube.specs.Cube333.{CubeState};
-ghost use Rattle.scr_table.specs.Words.{words_behind, words_within};
+ghost use Rattle.scr_combinatorics.specs.Words.{words_behind, words_within};
 ghost use Rattle.scr_search.specs.Search.{IsAt, IsSearched};
 
 use crate::turn_set::TurnSet;
@@ -15,7 +15,7 @@ pub trait Part {
     ghost use Rattle.scr_cube.specs.Cube333.{CubeState};
     ghost use Rattle.scr_search.specs.Search.{IsAt, IsSearched, KeepsWays};
     ghost use Rattle.scr_search.specs.Orderly.{after_turn};
-    ghost use Rattle.scr_table.specs.Words.{words_behind};
+    ghost use Rattle.scr_combinatorics.specs.Words.{words_behind};
 
     /// What the search sees of the cube to which a word leads.
     type Position: Copy;

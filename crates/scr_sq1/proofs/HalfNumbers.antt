@@ -8,8 +8,9 @@ use Rattle.std.proofs.lemmas.List.{length-append, length-map, take_all}
 use Rattle.std.proofs.lemmas.List.Elements.{All-nil, All-cons, All-head, All-tail, filter-append}
 use Rattle.scr_combinatorics.specs.Lists.{total, numbers_from, pick, ComesBefore}
 use Rattle.scr_combinatorics.specs.Numbering.{IsOneToOne}
+use Rattle.scr_combinatorics.specs.Words.{words_of}
 use Rattle.scr_notation.proofs.Below.{All-from_test}
-use Rattle.scr_sq1.specs.Shapes.{half_words, corner_counts, AreHalves, IsShape, ways_after, halves_lists, shape_number, run_of, halves_at, shape_at, shape_count}
+use Rattle.scr_sq1.specs.Shapes.{half_words, corner_counts, AreHalves, IsShape, ways_after, shape_number, run_of, halves_at, shape_at, shape_count}
 use Rattle.scr_sq1.proofs.HalfWords.{corner_count}
 
 -- ---- runs of so many numbers
@@ -381,20 +382,20 @@ module _ (c : ℕ) (xss : List (List ℕ)) (f : ℕ → ℕ) (sizes : (h : ℕ) 
             ∙ ap (λ p. before h + p) (place_stays (h ∷ hs) (with_first c h xss) rest found)
       ]
 
-listed_sizes : (n : ℕ) → ((c : ℕ) → length (with_corners c (halves_lists n)) ≡ ways_to_have n c) → (c h : ℕ)
-    → length (with_first c h (halves_lists n)) ≡ ways_after n c (corner_count h)
+listed_sizes : (n : ℕ) → ((c : ℕ) → length (with_corners c (words_of (numbers_from 0 13) n)) ≡ ways_to_have n c) → (c h : ℕ)
+    → length (with_first c h (words_of (numbers_from 0 13) n)) ≡ ways_after n c (corner_count h)
 listed_sizes n sizes c h =
     let k : ℕ = corner_count h in
     elim (cases_lt c k) [
-      | inl many ↦ ap length (with_first-many c h (halves_lists n) many) ∙ sym (ways_after-many n c k many)
+      | inl many ↦ ap length (with_first-many c h (words_of (numbers_from 0 13) n) many) ∙ sym (ways_after-many n c k many)
       | inr few ↦
-          ap length (with_first-few c h (halves_lists n) few) ∙ length-map (with_corners (c - k) (halves_lists n)) (λ hs. h ∷ hs)
+          ap length (with_first-few c h (words_of (numbers_from 0 13) n) few) ∙ length-map (with_corners (c - k) (words_of (numbers_from 0 13) n)) (λ hs. h ∷ hs)
           ∙ sizes (c - k) ∙ sym (ways_after-few n c k few)
     ]
 
 -- how many lists have c corners
-pub listed-length : (n c : ℕ) → length (with_corners c (halves_lists n)) ≡ ways_to_have n c
-unfolding halves_lists before
+pub listed-length : (n c : ℕ) → length (with_corners c (words_of (numbers_from 0 13) n)) ≡ ways_to_have n c
+unfolding words_of before
 listed-length zero c =
     elim (cases_eq c 0) [
       | inl e ↦
@@ -405,7 +406,7 @@ listed-length zero c =
           ∙ sym (ways-none c ∙ cond-false {A = ℕ} (c == 0) 1 0 (ne_eqb c 0 some))
     ]
 listed-length (suc n) c =
-    let xss : List (List ℕ) = halves_lists n in
+    let xss : List (List ℕ) = words_of (numbers_from 0 13) n in
     let whole : length (flat_map (λ h. with_first c h xss) (numbers_from 0 13)) ≡ total (map (ways_after n c) (take 13 corner_counts)) =
     omega (arith, length_from c xss (ways_after n c) (listed_sizes n (listed-length n) c) 13 0 refl) in
     ap length (with_corners-flat c xss (numbers_from 0 13)) ∙ whole
@@ -413,15 +414,15 @@ listed-length (suc n) c =
     ∙ sym (ways-suc n c)
 
 listed-place : (n c : ℕ) (hs : List ℕ) → AreHalves n c hs
-    → place_in hs (with_corners c (halves_lists n)) ≡ halves_number c hs
-unfolding halves_lists halves_number before
+    → place_in hs (with_corners c (words_of (numbers_from 0 13) n)) ≡ halves_number c hs
+unfolding words_of halves_number before
 listed-place zero c [] a = ap (place_in []) (cond-true (0 == c) ([] ∷ []) [] (eq-eqb 0 c a.corners))
 listed-place zero c (h ∷ hs) a = absurd (omega (arith, a.size))
 listed-place (suc n) c [] a = absurd (omega (arith, a.size))
 listed-place (suc n) c (h ∷ hs) a =
     let s = StartsWith-halves n c h hs a in
     let k : ℕ = corner_count h in
-    let xss : List (List ℕ) = halves_lists n in
+    let xss : List (List ℕ) = words_of (numbers_from 0 13) n in
     let sizes = listed_sizes n (listed-length n) c in
     let here : place_in (h ∷ hs) (with_first c h xss) ≡ halves_number (c - k) hs =
     ap (place_in (h ∷ hs)) (with_first-few c h xss s.few) ∙ place_of_same h hs (with_corners (c - k) xss)

@@ -2,10 +2,11 @@
 --
 -- No corner lies across the cut, so that each half of a layer is filled by whole pieces. A shape is the list of the
 -- halves top right, top left, bottom right and bottom left.
-use Rattle.std.specs.Prelude.{◌≡◌, ℕ, zero, suc, ◌+◌, ◌-◌, ◌*◌, ◌/◌, ◌<◌, Bool, true, false, ◌==◌, nat_le, nat_lt, if◌then◌else◌, List, [], ◌∷◌, length, map, filter, flat_map, take, drop, slice_index, slice_index_or, codes, All}
+use Rattle.std.specs.Prelude.{◌≡◌, ℕ, zero, suc, ◌+◌, ◌-◌, ◌*◌, ◌/◌, ◌<◌, Bool, true, false, ◌==◌, nat_le, nat_lt, if◌then◌else◌, List, [], ◌∷◌, length, map, filter, take, drop, slice_index, slice_index_or, codes, All}
 use Rattle.std.specs.List.{position_or_len}
 use Rattle.std.specs.Str.{bytes_eq}
 use Rattle.scr_combinatorics.specs.Lists.{total, occurrences, numbers_from, pick}
+use Rattle.scr_combinatorics.specs.Words.{words_of}
 use Rattle.scr_sq1.specs.Units.{is_corner}
 
 -- What fills the six units of a half, clockwise: c is a unit of a corner, which fills two of them, and e an edge. There
@@ -31,14 +32,10 @@ shape_of units = map (λ k. half_of (take 6 (drop (6 * k) units))) (numbers_from
 
 -- ---- the numbers of shapes
 
--- all lists of so many halves, in dictionary order
-unfoldable pub halves_lists : ℕ → List (List ℕ)
-halves_lists zero = [] ∷ []
-halves_lists (suc n) = flat_map (λ h. map (λ hs. h ∷ hs) (halves_lists n)) (numbers_from 0 13)
-
--- the number of a shape: its place among the lists of four halves with eight corners in all
+-- the number of a shape: its place among the words of four halves with eight corners in all
 unfoldable pub shape_number : List ℕ → ℕ
-shape_number hs = position_or_len (bytes_eq hs) (filter (λ gs. total (pick corner_counts gs) == 8) (halves_lists 4))
+shape_number hs =
+    position_or_len (bytes_eq hs) (filter (λ gs. total (pick corner_counts gs) == 8) (words_of (numbers_from 0 13) 4))
 
 -- ---- the shape of a number
 

@@ -2,7 +2,8 @@
 //!
 //! That Square-1s are drawn fairly is the law of `scr_draw` for any event that it draws.
 ghost use Rattle.std.specs.Prelude.{◌≡◌, ◌↔◌, IsTrue, ℕ, ◌+◌, ◌*◌, ◌%◌, ◌<◌, ◌≤◌, ℤ, pos, Bool, true, false, not, List, [], ◌∷◌, ◌++◌, length, slice_index, filter, ◌==◌, All, Some, None, option_map, codes};
-ghost use Rattle.scr_combinatorics.specs.Lists.{total, pick, ComesBefore};
+ghost use Rattle.scr_combinatorics.specs.Lists.{total, numbers_from, pick, ComesBefore};
+ghost use Rattle.scr_combinatorics.specs.Words.{words_of};
 ghost use Rattle.scr_combinatorics.specs.Permutations.{factorial};
 ghost use Rattle.scr_combinatorics.specs.Numbering.{IsOneToOne, IsNumbering};
 ghost use Rattle.scr_combinatorics.specs.Play.{play, count_in};
@@ -15,7 +16,7 @@ ghost use Rattle.scr_notation.specs.declared.turn.Turn.TheVariants.{Layers, Twis
 ghost use Rattle.scr_notation.specs.Turning.{opposite, turn_merging};
 ghost use Rattle.scr_sq1.specs.Barred.{IsBarredAlong};
 ghost use Rattle.scr_sq1.specs.Units.{Sq1State, IsSq1, is_open, solved_sq1, clockwise, twisted, sq1_after, sq1_puzzle};
-ghost use Rattle.scr_sq1.specs.Shapes.{half_word, corner_counts, IsShape, shape_of, ways_after, halves_lists, shape_number, shape_at, shape_count, units_among};
+ghost use Rattle.scr_sq1.specs.Shapes.{half_word, corner_counts, IsShape, shape_of, ways_after, shape_number, shape_at, shape_count, units_among};
 ghost use Rattle.scr_sq1.specs.Numbers.{sq1_numbered};
 ghost use Rattle.scr_sq1.specs.Known.{anticlockwise, slices, IsKnownWord, ReturnsAfter, solved_top, solved_bottom, layers, parity_word, long_word, barred_units, impossible_units, AreOfNoState, HasShape, turned_over_sq1};
 
@@ -67,7 +68,7 @@ pub fn shapes()
     ensures halves { (word : List Bool) → units_among word ≡ 6 → (h : ℕ) × (h < 13) × (half_word h ≡ word) }
     ensures once { (h g : ℕ) → h < 13 → g < 13 → half_word h ≡ half_word g → h ≡ g }
     ensures counted { ways_after 4 8 0 ≡ shape_count }
-    ensures listed { length (filter (λ hs. total (pick corner_counts hs) == 8) (halves_lists 4)) ≡ shape_count }
+    ensures listed { length (filter (λ hs. total (pick corner_counts hs) == 8) (words_of (numbers_from 0 13) 4)) ≡ shape_count }
     ensures one_to_one { IsOneToOne shape_count shape_at shape_number IsShape }
     ensures in_order { (hs gs : List ℕ) → IsShape hs → IsShape gs → ComesBefore hs gs
         → shape_number hs < shape_number gs }

@@ -19,7 +19,8 @@ use Rattle.scr_sq1solve.proofs.ShapeStage.{Follows-shapes, StaysBelow-shapes}
 use Rattle.scr_sq1solve.proofs.TotalLaws.{IsShapeWord-iff}
 use Rattle.scr_table.specs.Distances.{Distances}
 use Rattle.scr_table.specs.Lines.{IsTableOf}
-use Rattle.scr_table.specs.Words.{words_within, leads_to_goal, words_to_goal}
+use Rattle.scr_combinatorics.specs.Words.{words_within}
+use Rattle.scr_table.specs.Words.{leads_to_goal, words_to_goal}
 use Rattle.scr_table.proofs.GoalWords.{LeadsTo-test, leads-LeadsTo}
 use Rattle.scr_table.proofs.StageLaws.{stage_word}
 use Rattle.scr_table.proofs.WordOrder.{IsEarlier-listed, Contains-listed, first-listed}

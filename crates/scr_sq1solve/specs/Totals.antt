@@ -17,7 +17,7 @@ use Rattle.scr_notation.specs.Turning.{turn_merging}
 use Rattle.scr_sq1.specs.Units.{Sq1State, solved_sq1, sq1_after}
 use Rattle.scr_sq1.specs.Shapes.{shape_of}
 use Rattle.scr_sq1solve.specs.Stages.{oddness, squaring_letter, shape_letter, later_stages, equator_word}
-use Rattle.scr_table.specs.Words.{words_within}
+use Rattle.scr_combinatorics.specs.Words.{words_within}
 
 -- ---- the words that lead to the square shape
 

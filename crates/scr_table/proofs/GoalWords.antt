@@ -13,7 +13,8 @@ use Rattle.scr_combinatorics.specs.Play.{play}
 use Rattle.scr_combinatorics.proofs.FirstWordLaws.{IsGoal-distance, LeadsTo-parts}
 use Rattle.scr_positions.specs.Coordinates.{Coordinate, StaysBelow, moved, IsGoal}
 use Rattle.scr_table.specs.Distances.{Distances, Measures}
-use Rattle.scr_table.specs.Words.{words_of, words_within, leads_to_goal, words_to_goal, goal_words_behind}
+use Rattle.scr_combinatorics.specs.Words.{words_of, words_within}
+use Rattle.scr_table.specs.Words.{leads_to_goal, words_to_goal, goal_words_behind}
 use Rattle.scr_table.proofs.ListedWords.{IsListed-listed}
 use Rattle.scr_table.proofs.StepLaws.{moved-turn, moved-below}
 use Rattle.scr_table.proofs.WordLists.{filter-none, filter-flat_map, map-flat_map, flat_map-same, numbers_from-next, lengths_from}

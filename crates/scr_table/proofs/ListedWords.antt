@@ -9,7 +9,7 @@ use Rattle.std.proofs.lemmas.List.Elements.{All-nil, All-cons, All-head, All-tai
 use Rattle.std.proofs.lemmas.List.Elements.{All-contains_itself, Contains-append_left, Contains-append_right}
 use Rattle.scr_combinatorics.specs.Lists.{numbers_from}
 use Rattle.scr_combinatorics.proofs.Picks.{length-numbers_from, numbers_from-at, length-pick, All-pick}
-use Rattle.scr_table.specs.Words.{words_of, words_within}
+use Rattle.scr_combinatorics.specs.Words.{words_of, words_within}
 use Rattle.scr_table.proofs.WordLists.{IsWordOf, words_of-each, All-flat_map}
 
 -- ---- lists of lists

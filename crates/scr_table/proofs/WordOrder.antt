@@ -11,7 +11,7 @@ use Rattle.scr_combinatorics.specs.FirstWord.{LeadsTo, IsEarlier, IsFirstWord}
 use Rattle.scr_combinatorics.specs.Lists.{numbers_from, ComesBefore}
 use Rattle.scr_combinatorics.proofs.FirstWordLaws.{IsEarlier-asymmetric}
 use Rattle.scr_combinatorics.proofs.Picks.{length-numbers_from, numbers_from-at}
-use Rattle.scr_table.specs.Words.{words_of, words_within}
+use Rattle.scr_combinatorics.specs.Words.{words_of, words_within}
 use Rattle.scr_table.proofs.WordLists.{All-flat_map}
 use Rattle.scr_table.proofs.ListedWords.{All-numbers, IsListed-listed, Contains-words_within, IsWithin-listed, Contains-filter, Contains-passed}
 

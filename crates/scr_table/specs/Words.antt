@@ -1,26 +1,10 @@
--- All words of some turns, in the order of words: by length, then by turn numbers from the first turn; and those of
--- them that lead from a position to a goal. No puzzle stands here.
-use Rattle.std.specs.Prelude.{ℕ, zero, suc, ◌+◌, Bool, false, List, [], ◌∷◌, ◌++◌, map, filter}
-use Rattle.std.specs.List.{flat_map}
+-- The words of a coordinate's turns that lead from a position to a goal, in the order of words. No puzzle stands here.
+use Rattle.std.specs.Prelude.{ℕ, Bool, false, List, ◌++◌, map, filter}
 use Rattle.std.specs.Option.{option_map_or}
 use Rattle.scr_combinatorics.specs.Lists.{numbers_from}
 use Rattle.scr_combinatorics.specs.Play.{play}
+use Rattle.scr_combinatorics.specs.Words.{words_of, words_within}
 use Rattle.scr_positions.specs.Coordinates.{Coordinate, moved}
-
--- all words of n letters: for each turn, those of n - 1 letters behind it
-unfoldable pub words_of : List ℕ → ℕ → List (List ℕ)
-words_of turns zero = [] ∷ []
-words_of turns (suc n) = flat_map (λ t. map (λ w. t ∷ w) (words_of turns n)) turns
-
--- all words of at most so many letters
-unfoldable pub words_within : List ℕ → ℕ → List (List ℕ)
-words_within turns most = flat_map (words_of turns) (numbers_from 0 (most + 1))
-
--- of the words that go on from one by so many letters, those that pass a test
-unfoldable pub words_behind : List ℕ → (List ℕ → Bool) → List ℕ → ℕ → List (List ℕ)
-words_behind turns test word more = filter test (map (λ v. word ++ v) (words_of turns more))
-
--- ---- words to goals
 
 -- the word leads from a position to a goal
 unfoldable pub leads_to_goal : Coordinate → ℕ → List ℕ → Bool

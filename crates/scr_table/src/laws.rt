@@ -17,7 +17,8 @@ ghost use Rattle.scr_table.specs.Lines.{TableLine, HasNoGap, AreTablesOf};
 ghost use Rattle.scr_table.specs.Moves.{NeedsTurns, move_puzzle};
 ghost use Rattle.scr_table.specs.Names.{name_text};
 ghost use Rattle.scr_table.specs.Row.{row_coordinate, row_line};
-ghost use Rattle.scr_table.specs.Words.{words_of, words_within, words_to_goal};
+ghost use Rattle.scr_combinatorics.specs.Words.{words_of, words_within};
+ghost use Rattle.scr_table.specs.Words.{words_to_goal};
 
 use crate::moves::Moves;
 

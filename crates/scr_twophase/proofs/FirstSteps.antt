@@ -15,7 +15,7 @@ use Rattle.scr_stages.specs.Stages.{HasNoFlips, IsUntwisted, IsInMiddle, middle_
 use Rattle.scr_stages.specs.Numbers.{flips_number, middle_set_of, IsDominoCube}
 use Rattle.scr_stages.proofs.FiniteTests.{agree, agree-same, passes_below, test-below}
 use Rattle.scr_stages.proofs.StageSpaces.{Follows-flips}
-use Rattle.scr_table.specs.Words.{words_of, words_behind, words_within}
+use Rattle.scr_combinatorics.specs.Words.{words_of, words_behind, words_within}
 use Rattle.scr_table.proofs.WordLists.{words_behind-end, words_of-none}
 use Rattle.scr_twophase.specs.declared.first.TheConstants.{FIRST_EXTENT}
 use Rattle.scr_search.specs.declared.position.PartPosition.{PartPosition}

@@ -13,7 +13,7 @@ use Rattle.scr_notation.specs.TurnNumbers.{face_turn_at}
 use Rattle.scr_notation.specs.Turning.{opposite}
 use Rattle.scr_cube.specs.Cube333.{CubeState, solved_cube}
 use Rattle.scr_stages.proofs.SolutionLaws.{IsStageScramble-unique}
-use Rattle.scr_table.specs.Words.{words_within}
+use Rattle.scr_combinatorics.specs.Words.{words_within}
 use Rattle.scr_stages.specs.Stages.{IsStageScramble, domino_turns}
 use Rattle.scr_search.specs.Orderly.{after_turn, is_orderly, leads}
 use Rattle.scr_twophase.specs.TwoParts.{first_parts, is_solution, is_solved, joined, two_parts}

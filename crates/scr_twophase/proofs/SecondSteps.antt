@@ -24,7 +24,7 @@ use Rattle.scr_stages.proofs.DominoLaws.{IsPlaceSet-middle}
 use Rattle.scr_stages.proofs.HalfCubes.{pick-in_block}
 use Rattle.scr_cube.proofs.ListedTurns.{length-turns}
 use Rattle.scr_stages.proofs.TurnFacts.{tetrads_numbers}
-use Rattle.scr_table.specs.Words.{words_behind, words_within}
+use Rattle.scr_combinatorics.specs.Words.{words_behind, words_within}
 use Rattle.scr_table.proofs.WordLists.{find-filter, words_behind-end}
 use Rattle.scr_twophase.specs.declared.second.TheConstants.{SECOND_EXTENT}
 use Rattle.scr_search.specs.declared.position.PartPosition.{PartPosition}

@@ -15,7 +15,7 @@ use Rattle.scr_coord.specs.Projections.{marked_places, stands_in}
 use Rattle.scr_cube.specs.Cube333.{CubeState}
 use Rattle.scr_stages.specs.Stages.{middle_edges, IsStageScramble, domino_turns}
 use Rattle.scr_cube.specs.ListedTurns.{turn_numbers}
-use Rattle.scr_table.specs.Words.{words_within}
+use Rattle.scr_combinatorics.specs.Words.{words_within}
 use Rattle.scr_search.specs.Orderly.{axis_of, is_orderly, leads}
 
 -- ---- what the parts lead to

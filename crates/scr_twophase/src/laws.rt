@@ -3,7 +3,7 @@ ghost use Rattle.std.specs.Prelude.{◌≡◌, ◌<◌, ◌≤◌, ◌↔◌, �
 ghost use Rattle.std.specs.Prelude.{length};
 ghost use Rattle.scr_combinatorics.specs.Play.{play};
 ghost use Rattle.scr_cube.specs.Cube333.{CubeState, solved_cube};
-ghost use Rattle.scr_table.specs.Words.{words_of};
+ghost use Rattle.scr_combinatorics.specs.Words.{words_of};
 ghost use Rattle.scr_twophase.specs.Tables.{prune_lines};
 ghost use Rattle.scr_stages.specs.Stages.{domino_turns};
 ghost use Rattle.scr_cube.specs.ListedTurns.{turn_numbers};

@@ -10,7 +10,7 @@ ghost use Rattle.scr_cube.specs.Cube333.{CubeState};
 ghost use Rattle.scr_stages.specs.Numbers.{IsDominoCube};
 ghost use Rattle.scr_stages.specs.Stages.{domino_turns};
 ghost use Rattle.scr_stages.specs.Tables.{block_turn, edges_by};
-ghost use Rattle.scr_table.specs.Words.{words_of};
+ghost use Rattle.scr_combinatorics.specs.Words.{words_of};
 ghost use Rattle.scr_twophase.specs.PartPositions.{carried, is_solved_position};
 ghost use Rattle.scr_search.specs.Orderly.{after_turn, is_orderly, leads};
 ghost use Rattle.scr_twophase.specs.TwoParts.{is_solution, is_solved, joined};

@@ -1,5 +1,5 @@
 use Rattle.std.proofs.Common.{ℕ, ◌<◌, [], ◌∷◌, length, length-append, get_or, refl, sym, ap, ◌∙◌, subst, arith}
-use Rattle.scr_table.specs.Words.{words_behind}
+use Rattle.scr_combinatorics.specs.Words.{words_behind}
 use Rattle.scr_table.proofs.WordLists.{popped_word, pushed_word}
 use Rattle.scr_search.specs.Search.{IsAt, IsSearched}
 use Rattle.scr_search.proofs.Outcomes.{IsSearched-spent}

@@ -3,7 +3,8 @@ use Rattle.std.specs.Prelude.{◌↔◌}
 use Rattle.scr_combinatorics.specs.FirstWord.{LeadsTo}
 use Rattle.scr_combinatorics.specs.Play.{play}
 use Rattle.scr_positions.specs.Coordinates.{Coordinate, moved, IsGoal}
-use Rattle.scr_table.specs.Words.{words_of, words_within, words_to_goal, leads_to_goal}
+use Rattle.scr_combinatorics.specs.Words.{words_of, words_within}
+use Rattle.scr_table.specs.Words.{words_to_goal, leads_to_goal}
 use Rattle.scr_table.proofs.GoalWords.{LeadsTo-below, LeadsTo-test, leads-LeadsTo}
 use Rattle.scr_table.proofs.WordOrder.{IsEarlier-listed, Contains-listed, first-listed}
 use Rattle.scr_table.proofs.laws.goal_words.Goals as goal

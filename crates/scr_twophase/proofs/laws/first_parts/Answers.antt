@@ -5,7 +5,7 @@ use Rattle.std.proofs.lemmas.Bool.{and_from}
 use Rattle.scr_combinatorics.specs.Play.{play}
 use Rattle.scr_orbit.specs.Orbits.{solved_orbit}
 use Rattle.scr_cube.specs.Cube333.{CubeState, solved_cube}
-use Rattle.scr_table.specs.Words.{words_within}
+use Rattle.scr_combinatorics.specs.Words.{words_within}
 use Rattle.scr_table.proofs.ListedWords.{Contains-words_within, IsWithin-listed, Contains-filter, Contains-passed}
 use Rattle.scr_stages.proofs.FiniteTests.{All-from_test}
 use Rattle.scr_cube.specs.ListedTurns.{turn_numbers}

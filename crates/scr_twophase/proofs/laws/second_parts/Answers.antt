@@ -2,7 +2,7 @@ use Rattle.std.proofs.Common.{◌++◌, Option, Some, None, refl, sym, subst, �
 use Rattle.std.specs.Prelude.{IsSome, IsTrue, find}
 use Rattle.std.specs.Option.{option_map}
 use Rattle.scr_combinatorics.proofs.PlayLaws.{map-some}
-use Rattle.scr_table.specs.Words.{words_within}
+use Rattle.scr_combinatorics.specs.Words.{words_within}
 use Rattle.scr_table.proofs.ListedWords.{Contains-words_within, IsWithin, IsWithin-each, IsSome-find, found}
 use Rattle.scr_table.proofs.WordLists.{find-made}
 use Rattle.scr_stages.specs.Stages.{domino_turns}

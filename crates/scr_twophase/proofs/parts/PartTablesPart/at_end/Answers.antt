@@ -1,6 +1,6 @@
 use Rattle.std.proofs.Common.{◌-◌, sym, ◌∙◌, arith, refl}
 use Rattle.std.proofs.lemmas.Bool.{and_parts}
-use Rattle.scr_table.specs.Words.{words_behind}
+use Rattle.scr_combinatorics.specs.Words.{words_behind}
 use Rattle.scr_twophase.specs.PartPositions.{is_domino_position}
 use Rattle.scr_cube.specs.ListedTurns.{turn_numbers}
 use Rattle.scr_twophase.specs.TwoParts.{ends_in_quarter, is_first_part, joined}

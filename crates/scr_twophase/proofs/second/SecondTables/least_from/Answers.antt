@@ -2,7 +2,7 @@ use Rattle.std.proofs.Common.{◌≡◌, ℕ, ◌≤◌, List, true, get_or, inl
 use Rattle.std.specs.Prelude.{Contains}
 use Rattle.std.proofs.lemmas.Bool.{cases_lt, false≢true}
 use Rattle.scr_cube.specs.Cube333.{CubeState}
-use Rattle.scr_table.specs.Words.{words_of}
+use Rattle.scr_combinatorics.specs.Words.{words_of}
 use Rattle.scr_table.specs.declared.name.TableName.TheVariants.{CornerSlice}
 use Rattle.scr_search.specs.declared.position.PartPosition.{PartPosition}
 use Rattle.scr_search.specs.declared.pruning.PruningTable.{PruningTable}
