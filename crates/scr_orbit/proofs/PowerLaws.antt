@@ -30,8 +30,7 @@ get-append [] ys i lt = absurd (omega arith)
 get-append (x ∷ xs) ys zero lt = refl
 get-append (x ∷ xs) ys (suc i) lt = get-append xs ys i (omega arith)
 
-pub get-append_past : {X : Type 0} (xs ys : List X) (n i : ℕ) → n ≡ length xs + i
-    → slice_get (xs ++ ys) n ≡ slice_get ys i
+pub get-append_past : {X : Type 0} (xs ys : List X) (n i : ℕ) → n ≡ length xs + i → slice_get (xs ++ ys) n ≡ slice_get ys i
 get-append_past [] ys n i e = let same : n ≡ i = omega (arith, e) in ap (slice_get ys) same
 get-append_past (x ∷ xs) ys zero i e = absurd (omega (arith, e))
 get-append_past (x ∷ xs) ys (suc n) i e = get-append_past xs ys n i (omega (arith, e))

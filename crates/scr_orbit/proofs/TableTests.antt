@@ -46,8 +46,7 @@ IsRearrangement-from_test n m r h =
 
 -- and so each turn of a table
 pub All-rearrangements : (n m : ℕ) (ts : List (PlaceTurn n))
-    → list_all (λ t. is_rearrangement n m (rearrangement_of t)) ts ≡ true
-    → All (λ t. IsRearrangement n m (rearrangement_of t)) ts
+    → list_all (λ t. is_rearrangement n m (rearrangement_of t)) ts ≡ true → All (λ t. IsRearrangement n m (rearrangement_of t)) ts
 All-rearrangements n m ts h =
     All-from_test (λ t. is_rearrangement n m (rearrangement_of t)) (λ t. IsRearrangement n m (rearrangement_of t))
     (λ t. IsRearrangement-from_test n m (rearrangement_of t)) ts h
@@ -78,8 +77,7 @@ IsZeroSumRearrangement-from_test n m r h =
 
 -- and so each turn of a table
 pub All-zero_sum_turns : (n m : ℕ) (ts : List (PlaceTurn n))
-    → list_all (λ t. is_zero_sum_turn n m (rearrangement_of t)) ts ≡ true
-    → All (λ t. IsZeroSumRearrangement n m (rearrangement_of t)) ts
+    → list_all (λ t. is_zero_sum_turn n m (rearrangement_of t)) ts ≡ true → All (λ t. IsZeroSumRearrangement n m (rearrangement_of t)) ts
 All-zero_sum_turns n m ts h =
     All-from_test (λ t. is_zero_sum_turn n m (rearrangement_of t)) (λ t. IsZeroSumRearrangement n m (rearrangement_of t))
     (λ t. IsZeroSumRearrangement-from_test n m (rearrangement_of t)) ts h
