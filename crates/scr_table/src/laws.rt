@@ -104,7 +104,7 @@ pub fn known_names()
 {}
 
 /// The words of two turns, 0 and 3, in order.
-#[tactic(auto, unfolding(crate::specs::Words::words_of, crate::specs::Words::words_within))]
+#[tactic(auto, unfolding(scr_combinatorics::specs::Words::words_of, scr_combinatorics::specs::Words::words_within))]
 pub fn known_words()
     ensures two { words_of (0 ∷ 3 ∷ []) 2 ≡ (0 ∷ 0 ∷ []) ∷ (0 ∷ 3 ∷ []) ∷ (3 ∷ 0 ∷ []) ∷ (3 ∷ 3 ∷ []) ∷ [] }
     ensures at_most_two { words_within (0 ∷ 3 ∷ []) 2
