@@ -3,7 +3,7 @@ ghost use Rattle.std.specs.Prelude.{◌≡◌, ◌-◌, ◌++◌, ◌∷◌, [],
 
 use std::marker::Model;
 
-/// How many turns two parts have at most.
+/// How many turns a word has room for: those of two parts.
 const MOST: usize = 22;
 
 /// A word of at most 22 turns, told by their numbers.

@@ -31,5 +31,5 @@ mod words;
 
 pub use half_parts::{MIDDLE_EDGES, OUTER_EDGES, block_number};
 pub use solving::{scramble_by_stages, solve_stages};
-pub use stage_turns::{ALL_TURNS, TETRADS_TURNS, block_edges_turned, corners_turned, edges_turned};
+pub use stage_turns::{ALL_TURNS, DOMINO_TURNS, block_edges_turned, corners_turned, edges_turned};
 pub use tables::StageTables;

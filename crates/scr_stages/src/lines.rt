@@ -5,7 +5,7 @@ use crate::corners::CornerIndexes;
 use crate::half_moves::HalfMoves;
 use crate::half_parts::{FIRST_EDGES, MIDDLE_EDGES, OUTER_EDGES};
 use crate::stage_turns::{
-    ALL_TURNS, SLICE_TURNS, TETRADS_TURNS, block_edges_turned, corners_turned, edges_turned,
+    ALL_TURNS, DOMINO_TURNS, SLICE_TURNS, block_edges_turned, corners_turned, edges_turned,
 };
 use scr_coord::{PlaceSet, Twists};
 use scr_outside::NoMemory;
@@ -71,8 +71,8 @@ impl Line for TetradsLine {
     type Moves = Product<MoveTable, MoveTable>;
 
     fn moves(alloc: Global) -> Result<Product<MoveTable, MoveTable>, NoMemory> {
-        let edges = block_edges_turned(&OUTER_EDGES, &TETRADS_TURNS);
-        let corners = corners_turned(&TETRADS_TURNS);
+        let edges = block_edges_turned(&OUTER_EDGES, &DOMINO_TURNS);
+        let corners = corners_turned(&DOMINO_TURNS);
         let first = PlaceSet::<8, 4>::new(&edges[..], FIRST_EDGES);
         let indexes = CornerLists::<CornerIndexes>::new(&corners[..]);
         Product::of_moves(alloc, &first, &indexes)

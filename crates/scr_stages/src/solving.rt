@@ -9,7 +9,7 @@ ghost use Rattle.scr_cube.specs.Cube333.{IsCube, cube_powers, solved_cube};
 ghost use Rattle.scr_cube.specs.ListedTurns.{after_of, letter_in};
 ghost use Rattle.scr_stages.specs.Stages.{stages, IsStageScramble};
 
-use crate::stage_turns::{ALL_TURNS, HALF_TURNS, SLICE_TURNS, TETRADS_TURNS};
+use crate::stage_turns::{ALL_TURNS, DOMINO_TURNS, HALF_TURNS, SLICE_TURNS};
 use crate::tables::StageTables;
 use crate::words::{flips_word, halves_word, slice_word, tetrads_word};
 use scr_cube::{Cube, PowerTurned};
@@ -32,7 +32,7 @@ pub fn solve_stages(tables: &StageTables, cube: &Cube) -> Scramble
     let word = slice_word(tables, &unflipped);
     let domino = follow(&unflipped, &SLICE_TURNS[..], &word[..], &mut solution);
     let word = tetrads_word(tables, &domino);
-    let half_turned = follow(&domino, &TETRADS_TURNS[..], &word[..], &mut solution);
+    let half_turned = follow(&domino, &DOMINO_TURNS[..], &word[..], &mut solution);
     let word = halves_word(tables, &half_turned);
     follow(&half_turned, &HALF_TURNS[..], &word[..], &mut solution);
     solution

@@ -17,7 +17,7 @@ pub const ALL_TURNS: [u8; 18] = [0, 1, 2, 3, 4, 5, 6, 7, 8, 9, 10, 11, 12, 13, 1
 pub(crate) const SLICE_TURNS: [u8; 14] = [0, 1, 2, 3, 4, 5, 7, 9, 10, 11, 12, 13, 14, 16];
 
 /// Those of the third stage, which keep a domino: U U2 U' R2 F2 D D2 D' L2 B2.
-pub const TETRADS_TURNS: [u8; 10] = [0, 1, 2, 4, 7, 9, 10, 11, 13, 16];
+pub const DOMINO_TURNS: [u8; 10] = [0, 1, 2, 4, 7, 9, 10, 11, 13, 16];
 
 /// Those of the last: U2 R2 F2 D2 L2 B2.
 pub(crate) const HALF_TURNS: [u8; 6] = [1, 4, 7, 10, 13, 16];

@@ -29,7 +29,7 @@ use scr_search::{
     index_beside, search_within,
 };
 use scr_stages::{
-    MIDDLE_EDGES, OUTER_EDGES, TETRADS_TURNS, block_edges_turned, block_number, corners_turned,
+    DOMINO_TURNS, MIDDLE_EDGES, OUTER_EDGES, block_edges_turned, block_number, corners_turned,
 };
 use scr_table::TableName;
 use std::alloc::Global;
@@ -67,7 +67,7 @@ impl PartViews for SecondPart {
     }
 
     fn one_moves(alloc: Global) -> Result<MoveTable, NoMemory> {
-        MoveTable::build(alloc, &Lists::<8>::new(&corners_turned(&TETRADS_TURNS)[..]))
+        MoveTable::build(alloc, &Lists::<8>::new(&corners_turned(&DOMINO_TURNS)[..]))
     }
 
     fn other_moves(alloc: Global) -> Result<MoveTable, NoMemory> {
@@ -90,7 +90,7 @@ fn edge_moves<const N: usize>(alloc: Global, block: &[u8; N]) -> Result<MoveTabl
 {
     MoveTable::build(
         alloc,
-        &Lists::<N>::new(&block_edges_turned(block, &TETRADS_TURNS)[..]),
+        &Lists::<N>::new(&block_edges_turned(block, &DOMINO_TURNS)[..]),
     )
 }
 
@@ -188,7 +188,7 @@ impl Part for SecondTables {
 
     #[inline]
     fn turn(place: u32) -> u8 {
-        TETRADS_TURNS[place as usize]
+        DOMINO_TURNS[place as usize]
     }
 
     #[inline]
