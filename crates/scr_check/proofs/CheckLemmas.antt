@@ -1,18 +1,41 @@
 -- What a check took, line by line.
-use Rattle.std.proofs.Common.{◌≡◌, ℕ, suc, ◌+◌, ◌≤◌, Bool, true, false, Option, Some, List, [], ◌∷◌, ◌++◌, length, Ok, Err, refl, sym, ap, subst, ◌∙◌, append-nil, append_assoc, inl, inr, ◌⊎◌, length-append, arith}
-use Rattle.std.proofs.lemmas.Bool.{false≢true, cases_Bool}
+use Rattle.std.proofs.Common.{nat_eq, ◌≡◌, ℕ, suc, ◌+◌, ◌≤◌, Bool, true, false, Option, Some, List, [], ◌∷◌, ◌++◌, length, Ok, Err, refl, sym, ap, subst, ◌∙◌, append-nil, append_assoc, inl, inr, ◌⊎◌, length-append, arith}
+use Rattle.std.proofs.lemmas.Bool.{false≢true, cases_Bool, eqb-true}
 use Rattle.scr_check.specs.declared.fault.Missing.{Missing}
 use Rattle.scr_check.specs.declared.fault.CheckFault.{CheckFault}
 use Rattle.scr_check.specs.declared.fault.CheckFault.TheVariants.{Differs, Limit, Read}
 use Rattle.scr_check.specs.Lines.{CutLine, cut_lines, line_end, IsPlain, AreEnded}
 use Rattle.scr_check.specs.Reading.{Reading, Takes, StopsShort}
 use Rattle.scr_check.specs.Agreement.{ExpectedLines, AreLawful, most_bytes, line_at, LineAgrees, ComesTo}
-use Rattle.scr_check.specs.Taken.{IsMissing, CanFollow, AreTakenByLines, LineComesTo, TakesGoodLine, TakesBadLine, ChecksLine, TakesSheet, ChecksSheet}
-use Rattle.scr_check.proofs.CutLemmas.{cut-none, cut-ended, cut-begun, cut-append, cut-push, cut-some, first_bytes, is_first_ended, AreEnded-none, AreEnded-one, AreEnded-append}
+use Rattle.scr_check.specs.Taken.{IsMissing, CanFollow, AreOfOneLine, AreTakenByLines, LineComesTo, TakesGoodLine, TakesBadLine, ChecksLine, TakesSheet, ChecksSheet}
+use Rattle.scr_check.proofs.CutLemmas.{IsPlain-none, IsPlain-one, cut-none, cut-ended, cut-begun, cut-append, cut-push, cut-some, first_bytes, is_first_ended, AreEnded-none, AreEnded-one, AreEnded-append}
 use Rattle.scr_check.proofs.ReadingLemmas.{Takes-none, Takes-append, StopsShort-after}
 use Rattle.scr_check.proofs.FaultLemmas.{OfEach, OfEach-none, OfEach-push, all-agree, each-faultless, comes-to-line, comes-to-agreement, comes-to-more}
 
 -- ---- one line
+
+of-nothing : AreOfOneLine (most_bytes + 1) []
+of-nothing = record { text = []; ended = false; plain = IsPlain-none; parts = refl; few = omega arith }
+
+of-one-byte : (byte : ℕ) → (nat_eq byte 10 ≡ true) ⊎ (nat_eq byte 10 ≡ false) → AreOfOneLine (most_bytes + 1) (byte ∷ [])
+of-one-byte byte (inl feed) = record {
+  text = [];
+  ended = true;
+  plain = IsPlain-none;
+  parts = ap (λ b. b ∷ []) (eqb-true byte 10 feed);
+  few = omega arith;
+}
+of-one-byte byte (inr other) = record {
+  text = byte ∷ [];
+  ended = false;
+  plain = IsPlain-one byte other;
+  parts = refl;
+  few = omega arith;
+}
+
+-- bytes of a line without its line feed
+pub of-plain : (text : List ℕ) → IsPlain text → length text ≤ most_bytes + 1 → AreOfOneLine (most_bytes + 1) text
+of-plain text plain few = record { text = text; ended = false; plain = plain; parts = sym (append-nil text); few = few }
 
 -- a line that is ended, where it is read whole
 first-ended : (text rest : List ℕ) → IsPlain text →
@@ -69,7 +92,13 @@ module _ {S : Type 0} (left : S → Option (List ℕ)) (faults ends : S → ℕ)
   line-ended before after expected i text fault plain takes short comes = record {
     bytes = text ++ 10 ∷ [];
     takes = takes;
-    few = omega (arith, length-append text (10 ∷ []));
+    one_line = record {
+      text = text;
+      ended = true;
+      plain = plain;
+      parts = refl;
+      few = omega (arith, length-append text (10 ∷ []));
+    };
     comes_to = λ rest may. subst (λ found. LineComesTo expected i found fault) (sym (first-ended text rest plain)) comes;
   }
 
@@ -79,7 +108,7 @@ module _ {S : Type 0} (left : S → Option (List ℕ)) (faults ends : S → ℕ)
   line-none before after expected i takes full = record {
     bytes = [];
     takes = takes;
-    few = omega arith;
+    one_line = of-nothing;
     comes_to = λ rest may. none-there expected i rest (may (ended-by after.ended full));
   }
 
@@ -91,7 +120,13 @@ module _ {S : Type 0} (left : S → Option (List ℕ)) (faults ends : S → ℕ)
   line-begun before after expected i byte text fault plain takes few comes = record {
     bytes = (byte ∷ text) ++ [];
     takes = takes;
-    few = omega (arith, ap length (append-nil text));
+    one_line = record {
+      text = byte ∷ text;
+      ended = false;
+      plain = plain;
+      parts = refl;
+      few = omega (arith, ap length (append-nil text));
+    };
     comes_to = λ rest may. subst (λ found. LineComesTo expected i found fault) (sym (first-begun byte text rest plain)) (comes rest may);
   }
 
@@ -175,10 +210,10 @@ module _ {S : Type 0} (left : S → Option (List ℕ)) (faults ends : S → ℕ)
         count = ap length lines ∙ length-append (cut_lines so.bytes) (last ∷ []) ∙ ap (λ n. n + 1) so.count;
       }
 
-  by-lines : (expected : ExpectedLines) (bytes more : List ℕ) → OfEach (LineAgrees expected) (cut_lines bytes) → length more ≤ most_bytes + 1 →
+  by-lines : (expected : ExpectedLines) (bytes more : List ℕ) → OfEach (LineAgrees expected) (cut_lines bytes) → AreOfOneLine (most_bytes + 1) more →
       AreTakenByLines expected (most_bytes + 1) (bytes ++ more)
-  by-lines expected bytes more agree few =
-      record { whole = bytes; part = more; parts = refl; agree = all-agree expected (cut_lines bytes) agree; few = few }
+  by-lines expected bytes more agree of_one =
+      record { whole = bytes; part = more; parts = refl; agree = all-agree expected (cut_lines bytes) agree; one_line = of_one }
 
   bad-line : (before middle after : Reading S) (expected : ExpectedLines) → AreLawful expected → (line : ℕ) (fault : CheckFault) → IsAgreed before middle expected line →
       line + 1 ≤ expected.count → TakesBadLine left faults ends middle after expected (line + 1) fault →
@@ -186,7 +221,7 @@ module _ {S : Type 0} (left : S → Option (List ℕ)) (faults ends : S → ℕ)
   bad-line before middle after expected lawful line fault so few bad = record {
     bytes = so.bytes ++ bad.bytes;
     takes = Takes-append left faults ends so.takes bad.takes;
-    by_lines = by-lines expected so.bytes bad.bytes so.agree bad.few;
+    by_lines = by-lines expected so.bytes bad.bytes so.agree bad.one_line;
     comes_to = λ rest may.
         let lines : cut_lines ((so.bytes ++ bad.bytes) ++ rest) ≡ cut_lines so.bytes ++ cut_lines (bad.bytes ++ rest) =
         ap cut_lines (append_assoc so.bytes bad.bytes rest) ∙ cut-append so.bytes (bad.bytes ++ rest) so.ended in
@@ -207,7 +242,7 @@ module _ {S : Type 0} (left : S → Option (List ℕ)) (faults ends : S → ℕ)
   sheet-fault before middle after expected lawful line Read so few bad = record {
     bytes = so.bytes ++ bad.bytes;
     stops = StopsShort-after left faults ends so.takes bad.stops;
-    by_lines = by-lines expected so.bytes bad.bytes so.agree bad.few;
+    by_lines = by-lines expected so.bytes bad.bytes so.agree bad.one_line;
   }
 
   -- the end of input behind all lines
@@ -217,7 +252,7 @@ module _ {S : Type 0} (left : S → Option (List ℕ)) (faults ends : S → ℕ)
     record {
       bytes = so.bytes ++ [];
       takes = Takes-append left faults ends so.takes takes;
-      by_lines = by-lines expected so.bytes [] so.agree (omega arith);
+      by_lines = by-lines expected so.bytes [] so.agree of-nothing;
       comes_to = λ rest may.
           let lines : cut_lines ((so.bytes ++ []) ++ rest) ≡ cut_lines so.bytes ++ [] =
           ap cut_lines (append_assoc so.bytes [] rest) ∙ ap (λ x. cut_lines (so.bytes ++ x)) (may ended)
@@ -235,7 +270,7 @@ module _ {S : Type 0} (left : S → Option (List ℕ)) (faults ends : S → ℕ)
   sheet-more before middle after expected lawful line byte number so all is takes = record {
     bytes = so.bytes ++ byte ∷ [];
     takes = Takes-append left faults ends so.takes takes;
-    by_lines = by-lines expected so.bytes (byte ∷ []) so.agree (omega arith);
+    by_lines = by-lines expected so.bytes (byte ∷ []) so.agree (of-one-byte byte (cases_Bool (nat_eq byte 10)));
     comes_to = λ rest may.
         let next = cut-some byte rest in
         let lines : cut_lines ((so.bytes ++ byte ∷ []) ++ rest) ≡ cut_lines so.bytes ++ next.line ∷ next.behind =
@@ -254,5 +289,5 @@ module _ {S : Type 0} (left : S → Option (List ℕ)) (faults ends : S → ℕ)
   sheet-failed before middle after expected line so stops = record {
     bytes = so.bytes ++ [];
     stops = StopsShort-after left faults ends so.takes stops;
-    by_lines = by-lines expected so.bytes [] so.agree (omega arith);
+    by_lines = by-lines expected so.bytes [] so.agree of-nothing;
   }

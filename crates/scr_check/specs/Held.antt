@@ -1,6 +1,10 @@
 -- What a reader holds of its source's bytes.
 use Rattle.std.specs.Prelude.{ℕ, Bool, List}
 
+-- So many bytes are read at once, at most. The number is our own choice.
+abbrev pub most_held : ℕ
+most_held = 4096
+
 -- the bytes that were read from the source and not yet taken, and whether the source told its end
 pub record Held : Type 0 where
   pub bytes : List ℕ

@@ -5,7 +5,7 @@ use Rattle.std.specs.Prelude.{Result, Ok, Err}
 use Rattle.scr_check.specs.declared.fault.Missing.{Missing}
 use Rattle.scr_check.specs.declared.fault.CheckFault.{CheckFault}
 use Rattle.scr_check.specs.declared.fault.CheckFault.TheVariants.{Differs, Limit, Read}
-use Rattle.scr_check.specs.Lines.{CutLine, cut_lines, IsPlain}
+use Rattle.scr_check.specs.Lines.{CutLine, cut_lines, line_end, IsPlain}
 use Rattle.scr_check.specs.Parts.{list_part, sheet_part, list_room}
 use Rattle.scr_check.specs.Reading.{Reading, Takes, StopsShort}
 use Rattle.scr_check.specs.Agreement.{ExpectedLines, most_bytes, LineAgrees, AllAgree, line_at, ComesTo}
@@ -20,13 +20,21 @@ pub record IsSplit (input list sheet : List ℕ) : Type 0 where
   pub list_is : take list_room (list_part input) ≡ list
   pub sheet_is : length list < list_room → sheet_part input ≡ sheet
 
+-- bytes of one line, so many at most: a line feed stands among them as the last byte only
+pub record AreOfOneLine (most : ℕ) (bytes : List ℕ) : Type 0 where
+  pub text : List ℕ
+  pub ended : Bool
+  pub plain : IsPlain text
+  pub parts : bytes ≡ text ++ line_end ended
+  pub few : length bytes ≤ most
+
 -- lines that agree were taken, and at most so many bytes of the line after them
 pub record AreTakenByLines (expected : ExpectedLines) (most : ℕ) (bytes : List ℕ) : Type 0 where
   pub whole : List ℕ
   pub part : List ℕ
   pub parts : bytes ≡ whole ++ part
   pub agree : AllAgree expected (cut_lines whole)
-  pub few : length part ≤ most
+  pub one_line : AreOfOneLine most part
 
 -- its slot is missing
 abbrev pub IsMissing : ExpectedLines → ℕ → CutLine → Missing → Type 0
@@ -65,7 +73,7 @@ module _ {S : Type 0} (left : S → Option (List ℕ)) (faults ends : S → ℕ)
   pub record TakesBadLine (before after : Reading S) (expected : ExpectedLines) (i : ℕ) (fault : CheckFault) : Type 0 where
     pub bytes : List ℕ
     pub takes : Takes left faults ends before after bytes
-    pub few : length bytes ≤ most_bytes + 1
+    pub one_line : AreOfOneLine (most_bytes + 1) bytes
     pub comes_to : (rest : List ℕ) → CanFollow after.ended rest →
         LineComesTo expected i (line_at (cut_lines (bytes ++ rest)) 1) fault
 
@@ -73,7 +81,7 @@ module _ {S : Type 0} (left : S → Option (List ℕ)) (faults ends : S → ℕ)
   pub record StopsInLine (before after : Reading S) : Type 0 where
     pub bytes : List ℕ
     pub stops : StopsShort left faults ends before after bytes
-    pub few : length bytes ≤ most_bytes + 1
+    pub one_line : AreOfOneLine (most_bytes + 1) bytes
 
   abbrev pub ChecksLine : Reading S → Reading S → ExpectedLines → ℕ → Result (Unit {0}) CheckFault → Type 0
   ChecksLine before after expected i (Ok _) = TakesGoodLine before after expected i

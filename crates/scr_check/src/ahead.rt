@@ -31,6 +31,8 @@ impl Model for Ahead {
 }
 
 impl Ahead {
+    ghost use Rattle.scr_check.specs.Held.{most_held};
+
     /// Nothing, of a source that hasn't told its end.
     pub(crate) fn new() -> Ahead
         ensures { result ≡ record { bytes = []; ended = false } }
@@ -57,6 +59,7 @@ impl Ahead {
         ensures unended { IfSome result (λ _. self.old.ended ≡ false) }
         ensures none { IfNone result ((self.old.bytes ≡ []) × (self.new ≡ self.old)) }
         ensures ended { self.new.ended ≡ self.old.ended }
+        ensures few { length self.new.bytes ≤ most_held }
     {
         if self.from == self.to {
             return None;
@@ -78,6 +81,7 @@ impl Ahead {
             (self.new.bytes ≡ []) × TellsEnd (intake_of S.left S.faults S.ends source.old source.new)) }
         ensures failed { OnErr result (Fails (intake_of S.left S.faults S.ends source.old source.new)) }
         ensures kept { OnErr result (self.new ≡ self.old) }
+        ensures few { length self.new.bytes ≤ most_held }
     {
         let count = read_into(source, &mut self.buffer)?;
         self.from = 0;

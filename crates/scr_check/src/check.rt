@@ -1,7 +1,8 @@
 //! The check of a sheet, line by line.
 
-ghost use Rattle.std.specs.Prelude.{◌≡◌, ◌+◌, ◌-◌, ◌^◌, ◌<◌, ◌≤◌};
+ghost use Rattle.std.specs.Prelude.{◌≡◌, ◌+◌, ◌-◌, ◌^◌, ◌<◌, ◌≤◌, length};
 ghost use Rattle.scr_check.specs.Agreement.{AreLawful};
+ghost use Rattle.scr_check.specs.Held.{most_held};
 ghost use Rattle.scr_check.specs.Reading.{reading, source_name};
 ghost use Rattle.scr_check.specs.Taken.{ChecksLine, ChecksSheet};
 
@@ -15,13 +16,15 @@ use scr_outside::Source;
 /// Checks what a reader has still to give, to its end, as a sheet; the answer comes exactly by the first
 /// line at fault. Lines are cut at line feeds; bytes after the last line feed are a line that agrees with
 /// none. At most 1,301 bytes of a line are taken before it is judged, and nothing behind the first line at
-/// fault. `Read` comes only where the source's count of faults rose. It takes no memory.
+/// fault; at most 4,096 bytes more are read from the source and not taken. `Read` comes only where the source's
+/// count of faults rose. It takes no memory.
 pub fn check_lines<S: Source, X: Expected>(
     reader: &mut ByteReader<'_, S>,
     expected: &X,
 ) -> Result<(), CheckFault>
     requires { (X.lines expected.now).count < 2 ^ 32 - 1 }
     ensures same_source { source_name reader.new ≡ source_name reader.old }
+    ensures few_ahead { length (reading reader.new).ahead ≤ most_held }
     ensures sheet { ChecksSheet S.left S.faults S.ends (reading reader.old) (reading reader.new)
         (X.lines expected.now) result }
 {

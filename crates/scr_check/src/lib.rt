@@ -4,7 +4,7 @@
 //! What is expected is anything that says how many lines there are and whether a text agrees with one of
 //! them (`Expected`); the crate knows no event and no scramble. It stands on the sources of `scr_outside`
 //! and takes no memory. Its theorem is that of `check_lines`: whatever pieces a source gives, the answer is
-//! the one that the definition (`ComesTo`) gives for the bytes that were read and for all that may follow
+//! the one that the definition (`ComesTo`) gives for the bytes that were taken and for all that may follow
 //! them, or the source's count of faults rose.
 #![tactic(auto)]
 

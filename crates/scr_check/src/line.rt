@@ -8,10 +8,10 @@ use crate::reader::ByteReader;
 use arrayvec::ArrayVec;
 use scr_outside::{Failed, Source};
 
-/// So many bytes of a line are read at most: one more than a text that agrees has.
+/// So many bytes of a line are taken at most: one more than a text that agrees has.
 pub(crate) const LINE_ROOM: usize = 1301;
 
-/// Reads a line, or as much of it as there is room for, and says whether its line feed was read.
+/// Takes a line, or as much of it as there is room for, and says whether its line feed was taken.
 pub(crate) fn read_line<S: Source>(
     reader: &mut ByteReader<'_, S>,
     text: &mut ArrayVec<u8, LINE_ROOM>,

@@ -1,6 +1,7 @@
 //! The list part of an input.
 
-ghost use Rattle.std.specs.Prelude.{◌≡◌, take, bytes_eq, IfOk, OnErr};
+ghost use Rattle.std.specs.Prelude.{◌≡◌, ◌≤◌, length, take, bytes_eq, IfOk, OnErr};
+ghost use Rattle.scr_check.specs.Held.{most_held};
 ghost use Rattle.scr_check.specs.Parts.{list_room, separator, ends_line};
 ghost use Rattle.scr_check.specs.Reading.{reading, source_name};
 ghost use Rattle.scr_check.specs.Taken.{TakesListPart, StopsInPart};
@@ -20,11 +21,13 @@ const TEXT_ROOM: usize = LIST_ROOM + SEPARATOR.len();
 
 /// The list part of an input: all before the first line `=====`, or its first 16,385 bytes where it has
 /// so many. Without such a line it is the whole input. Where it has fewer bytes, the separator was taken,
-/// if there is one. `Failed` comes only where the source's count of faults rose.
+/// if there is one. At most 4,096 bytes more are read from the source and not taken. `Failed` comes only where the
+/// source's count of faults rose.
 pub fn list_part<S: Source>(
     reader: &mut ByteReader<'_, S>,
 ) -> Result<ArrayVec<u8, LIST_ROOM>, Failed>
     ensures same_source { source_name reader.new ≡ source_name reader.old }
+    ensures few_ahead { length (reading reader.new).ahead ≤ most_held }
     ensures part { IfOk result (λ list.
         TakesListPart S.left S.faults S.ends (reading reader.old) (reading reader.new) list.items) }
     ensures failed { OnErr result

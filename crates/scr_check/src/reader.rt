@@ -1,19 +1,22 @@
 //! A source's bytes one by one.
 
-ghost use Rattle.std.specs.Prelude.{◌≡◌, ◌↔◌, [], true, None, IfOk, OnErr};
-ghost use Rattle.scr_check.specs.Reading.{reading, source_name, fresh, byte_given, Takes, StopsShort};
+ghost use Rattle.std.specs.Prelude.{◌≡◌, ◌↔◌, ◌≤◌, [], true, None, IfOk, OnErr, length};
+ghost use Rattle.scr_check.specs.Held.{most_held};
 
 use crate::ahead::Ahead;
 use scr_outside::{Failed, Source};
 
-/// A reader of single bytes, which reads its source in larger pieces.
+/// A reader of single bytes, which reads its source in larger pieces: at most 4,096 bytes are read and not yet taken.
 #[derive(Drop)]
 pub struct ByteReader<'a, S> {
     source: &'a mut S,
     ahead: Ahead,
+    pub ghost few_ahead: { length ahead.bytes ≤ most_held },
 }
 
 impl<'a, S: Source> ByteReader<'a, S> {
+    ghost use Rattle.scr_check.specs.Reading.{reading, source_name, fresh, byte_given, Takes, StopsShort};
+
     /// A reader of what the source has left. It reads nothing yet.
     pub fn new(source: &'a mut S) -> ByteReader<'a, S>
         ensures same_source { source_name result ≡ source.entry.ghost_name }

@@ -63,6 +63,15 @@ pub all_left : (words : List (Bor Text))
 all_left [] h = tt
 all_left (w ∷ words) h = (left_of w.now (h 0 w (omega arith)), all_left words (λ k d lt. h (suc k) d (omega arith)))
 
+-- none of them is a lone hyphen or two
+pub none_bare : (words : List (Bor Text))
+    → ((k : ℕ) (d : Bor Text) → k < length words → IsOrdinary (slice_index_or words k d).now)
+    → list_any is_bare (texts words) ≡ false
+none_bare [] h = refl
+none_bare (w ∷ words) h =
+    ap (λ b. b || list_any is_bare (texts words)) (h 0 w (omega arith)).1
+    ∙ none_bare words (λ k d lt. h (suc k) d (omega arith))
+
 -- ---- a lone hyphen or two are never in the grammar
 
 bare_word : (word : Text) → is_bare word ≡ true

@@ -6,7 +6,7 @@
 //! what it holds after each of them to what the grammar has read. The two words on which they differ,
 //! `-` and `--`, are refused before; options that the command doesn't have, after.
 
-ghost use Rattle.std.specs.Prelude.{◌≡◌, ◌<◌, ℕ, Bool, List, IfOk, Some, None, [], length, true, false, map};
+ghost use Rattle.std.specs.Prelude.{◌≡◌, ◌<◌, ◌↔◌, ℕ, Bool, List, IfOk, Some, None, [], length, true, false, map};
 ghost use Rattle.std.specs.Prelude.{option_map, is_some};
 ghost use Rattle.std.specs.List.{list_any, slice_index_or};
 ghost use Rattle.std.specs.Str.{IsUtf8};
@@ -77,7 +77,9 @@ pub enum OptionsFault {
 /// value is the next word, which doesn't begin with a hyphen, or stands in the same word after the
 /// first `=`, and is then anything. A value may be empty.
 ///
-/// Words outside of this grammar are refused as `Usage`. Want of memory may come with any words.
+/// Words outside of this grammar are refused as `Usage`. Want of memory is what the parser says: no clause of its own
+/// ties that to a cause, so it may come with any words but those that are refused before it is called, among which a
+/// lone `-` or `--` stands.
 pub fn split_options<'w>(
     alloc: Global,
     own: &[OptionName],
@@ -85,18 +87,14 @@ pub fn split_options<'w>(
 ) -> Result<SplitOptions<'w>, OptionsFault>
     ensures ok { IfOk result (λ values. options_of own.entry.now (texts words.entry.now) ≡ Some (found_values values)) }
     ensures usage { result ≡ Err OptionsFault.Usage → options_of own.entry.now (texts words.entry.now) ≡ None }
+    ensures memory { result ≡ Err OptionsFault.NoMemory → list_any is_bare (texts words.entry.now) ≡ false }
 {
     if has_bare_hyphens(words) {
         return Err(OptionsFault::Usage);
     }
     let matches = match parse(alloc, words) {
         Ok(matches) => matches,
-        Err(error) => {
-            return Err(match error.kind() {
-                ErrorKind::OutOfMemory => OptionsFault::NoMemory,
-                _ => OptionsFault::Usage,
-            });
-        }
+        Err(error) => return Err(fault_of_parser(error.kind())),
     };
     let split = SplitOptions { matches };
     if split.value(OptionName::Seed).is_none() {
@@ -106,6 +104,16 @@ pub fn split_options<'w>(
         return Err(OptionsFault::Usage);
     }
     Ok(split)
+}
+
+// Why words are refused that the parser refuses: want of memory exactly where the parser says so.
+fn fault_of_parser(kind: ErrorKind) -> OptionsFault
+    ensures { result ≡ OptionsFault.NoMemory ↔ (kind ≡ ErrorKind.OutOfMemory) }
+{
+    match kind {
+        ErrorKind::OutOfMemory => OptionsFault::NoMemory,
+        _ => OptionsFault::Usage,
+    }
 }
 
 // Splits words by the parser of command lines, which knows all options.

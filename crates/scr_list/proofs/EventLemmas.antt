@@ -99,6 +99,12 @@ pub event_named-id : (e : Event) → event_named (id_of e) ≡ Some e
 unfolding event_named
 event_named-id e = (id-IsId e).finds
 
+-- what a word names has it as its id
+pub event_named-is : (word : List ℕ) (e : Event) → event_named word ≡ Some e → id_of e ≡ word
+unfolding event_named
+event_named-is word e found =
+    (bytes_eq-Decides (id_of e) word).0 (find-passes (λ x. bytes_eq (id_of x) word) events e found)
+
 -- a word, read as text
 pub event_named-text : (word text : List ℕ) (found : Option Event) → text ≡ word → found ≡ event_of text
     → found ≡ event_named word

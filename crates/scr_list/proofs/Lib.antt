@@ -6,3 +6,6 @@ pub mod RoundFacts
 pub mod ReadLemmas
 pub mod PrintedLemmas
 pub mod OnLiterals
+pub mod FaultLemmas
+pub mod AnswerLemmas
+pub mod OnlyLemmas

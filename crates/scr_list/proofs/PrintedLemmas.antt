@@ -31,7 +31,7 @@ use Rattle.scr_list.proofs.RoundLemmas.{read_on, read_on-start, read_on-none, re
 use Rattle.scr_list.proofs.VersionLemmas.{version_of-id}
 
 -- a number's text is read as that number
-number_between-decimal : (least greatest n : ℕ) → n < 2 ^ 64 → least ≤ n → n ≤ greatest
+pub number_between-decimal : (least greatest n : ℕ) → n < 2 ^ 64 → least ≤ n → n ≤ greatest
     → number_between least greatest (decimal n) ≡ Some n
 unfolding number_between
 number_between-decimal least greatest n low above below = rw (number_of_text-decimal n low) (in_range-some least greatest n above below)

@@ -1,6 +1,7 @@
 -- What holds of each round that a list names.
-use Rattle.std.proofs.Common.{◌≡◌, ℕ, ◌+◌, ◌<◌, ◌≤◌, Bool, true, false, cond, List, [], ◌∷◌, drop, length, Option, Some, None, Result, Ok, Err, refl, sym, ap, ◌∙◌, subst, arith, inl, inr, lit≤}
+use Rattle.std.proofs.Common.{◌≡◌, ℕ, ◌+◌, ◌^◌, ◌<◌, ◌≤◌, Bool, true, false, cond, List, [], ◌∷◌, drop, length, Option, Some, None, Result, Ok, Err, refl, sym, ap, ◌∙◌, subst, arith, inl, inr, lit≤}
 use Rattle.std.specs.Prelude.{nat_lt, nat_le, ◌&&◌, ◌⊎◌, All, codes, is_none, ok_or, option_and_then, IfOk, IfErr}
+use Rattle.std.specs.Fmt.{decimal}
 use Rattle.std.specs.Str.{bytes_eq}
 use Rattle.std.proofs.lemmas.List.Elements.{All-cons, All-nil}
 use borrow.Author.Tests.{ltb-true, leb-true}
@@ -8,6 +9,7 @@ use Rattle.arrayvec.specs.ArrayVec.{ArrayVec}
 use Rattle.scr_text.specs.Lines.{has_bytes, lines_of, line_words}
 use Rattle.scr_text.specs.Numbers.{in_range, number_of_text, number_between}
 use Rattle.scr_text.specs.Steps.{and_then}
+use Rattle.scr_text.proofs.NumberLaws.{number_of_text-is}
 use Rattle.scr_notation.specs.declared.event.Minima.{Minima}
 use Rattle.scr_list.specs.declared.round.Round.{Round}
 use Rattle.scr_list.specs.declared.version.Version.{Version}
@@ -45,6 +47,22 @@ number_between-range least greatest text n found = at (number_of_text text) foun
     at : (o : Option ℕ) → option_and_then (in_range least greatest) o ≡ Some n → (least ≤ n) × (n ≤ greatest)
     at None is = cc
     at (Some m) is = tests m (nat_le least m) (nat_le m greatest) refl refl is
+
+-- and its text
+pub number_between-is : (least greatest : ℕ) (text : List ℕ) (n : ℕ) → greatest < 2 ^ 64 → number_between least greatest text ≡ Some n
+    → (least ≤ n) × (n ≤ greatest) × (text ≡ decimal n)
+unfolding number_between
+number_between-is least greatest text n low found =
+    let range = number_between-range least greatest text n found in
+    (range.0, range.1, number_of_text-is text n (omega (arith, range.1)) (at (number_of_text text) refl found))
+  where
+    same : (m : ℕ) (b : Bool) → cond b (Some m) None ≡ Some n → Some m ≡ Some n
+    same m true is = is
+    same m false is = cc
+
+    at : (o : Option ℕ) → number_of_text text ≡ o → option_and_then (in_range least greatest) o ≡ Some n → number_of_text text ≡ Some n
+    at None told is = cc
+    at (Some m) told is = told ∙ same m (nat_le least m && nat_le m greatest) is
 
 least_of-le : (minima : Option Minima) (word : Option (List ℕ)) (least : ℕ) → usual_in minima ≤ greatest_in minima →
     least_of minima word ≡ Some least → least ≤ greatest_in minima

@@ -6,3 +6,4 @@ pub mod Rounds
 pub mod RoundLists
 pub mod Reading
 pub mod Printed
+pub mod Faults

@@ -12,6 +12,7 @@ ghost use Rattle.scr_list.specs.declared.fault.ListCause.TheVariants.{Words, Eve
 ghost use Rattle.scr_list.specs.Versions.{version_1, version_2, version_of};
 ghost use Rattle.scr_list.specs.Printed.{text_of_rounds};
 ghost use Rattle.scr_list.specs.Reading.{ReadsList, ReadsNoList};
+ghost use Rattle.scr_list.specs.Faults.{IsAnswer};
 ghost use Rattle.scr_list.specs.Rounds.{rounds_of};
 ghost use Rattle.scr_list.specs.RoundLists.{IsRounds};
 
@@ -87,4 +88,16 @@ pub fn known_lists_with_names()
     ensures another_version { rounds_of (codes "version 3") ≡ Err (Line 1 Event) }
     ensures a_return_alone { rounds_of (codes "version 2\r") ≡ Err (Line 1 Event) }
     ensures a_blank_behind { rounds_of (codes "version 2 \n") ≡ Err (Line 1 Event) }
+{}
+
+/// What a list comes to. Where it isn't too long, each of its lines is skipped or names a round, by an event, 1 to 26
+/// groups, a minimum in the event's range or none, and in the second version a name or none, and these are the rounds
+/// that it names; or the first line that is neither, or that names one round too many, is told with the first cause
+/// that applies to it.
+///
+/// A list comes to nothing else.
+pub fn answers()
+    ensures answer { (bytes : List ℕ) → IsAnswer bytes (rounds_of bytes) }
+    ensures only { (bytes : List ℕ) (answer : Result (List Round) ListFault) → IsAnswer bytes answer
+        → rounds_of bytes ≡ answer }
 {}

@@ -1,15 +1,10 @@
 -- The lines of a round, by their numbers.
-use Rattle.std.proofs.Common.{◌≡◌, ℕ, zero, suc, ◌+◌, ◌-◌, ◌*◌, ◌<◌, ◌≤◌, Some, List, [], ◌∷◌, ◌++◌, map, drop, length, refl, sym, ap, ◌∙◌, arith, length-append, suc-mul}
+use Rattle.std.proofs.Common.{◌≡◌, ℕ, zero, suc, ◌+◌, ◌-◌, ◌*◌, ◌<◌, ◌≤◌, Some, List, [], ◌∷◌, ◌++◌, map, drop, length, refl, ap, ◌∙◌, arith, length-append, suc-mul}
 use Rattle.std.specs.Prelude.{codes, slice_get}
 use Rattle.std.specs.Fmt.{decimal}
 use Rattle.scr_text.specs.Lines.{text_of_lines}
 use Rattle.scr_text.proofs.WrittenLines.{first_line}
-use Rattle.scr_outside.specs.Change.{Change}
-use Rattle.scr_outside.proofs.ChangeLemmas.{IsWrittenUpTo}
-use Rattle.scr_notation.specs.Written.{Written}
-use Rattle.scr_list.specs.declared.round.Round.{Round}
-use Rattle.scr_round.specs.Made.{turns_of_each}
-use Rattle.scr_round.specs.Round.{round_text, Line, Fixed, Slot, labels_from, slot_lines, group_lines, groups_lines, IsBelow}
+use Rattle.scr_round.specs.Round.{Line, Fixed, Slot, labels_from, slot_lines, group_lines, groups_lines, IsBelow}
 
 -- ---- the text of the lines that are left
 
@@ -22,15 +17,6 @@ text_left-next f (y ∷ xs) zero x is =
 text_left-next f (y ∷ xs) (suc i) x is =
     let same : suc (i + 1) ≡ suc i + 1 = omega arith in
     text_left-next f xs i x is ∙ ap (λ n. (f x ++ codes "\n") ++ text_of_lines (map f (drop n (y ∷ xs)))) same
-
--- the round that is written, said in another way
-pub written_round : {change : Change} {left : List ℕ} (i i' : ℕ) (r r' : Round) (s s' : List Written) → i ≡ i' → r ≡ r' → s ≡ s' →
-    IsWrittenUpTo change (round_text i r (turns_of_each s)) left → IsWrittenUpTo change (round_text i' r' (turns_of_each s')) left
-written_round i i' r r' s s' same_index same_round same_scrambles written = record {
-  text = written.text;
-  gains = written.gains;
-  parts = sym (λ j. round_text (same_index j) (same_round j) (turns_of_each (same_scrambles j))) ∙ written.parts;
-}
 
 -- ---- an element of two lists in a row
 

@@ -2,9 +2,8 @@
 use Rattle.std.specs.Prelude.{ℕ, ◌<◌, ◌≡◌, List, map, length}
 use Rattle.scr_notation.specs.declared.turn.Turn.{Turn}
 use Rattle.scr_notation.specs.Written.{Written}
-use Rattle.scr_list.specs.Rounds.{IsRound}
 use Rattle.scr_list.specs.declared.round.Round.{Round}
-use Rattle.scr_round.specs.Round.{slots_of}
+use Rattle.scr_round.specs.Round.{IsInRange, slots_of}
 
 -- what a contract sees of a round that was made: its place in the list, from 0, and its scrambles, one for each slot
 pub record Made : Type 0 where
@@ -12,9 +11,9 @@ pub record Made : Type 0 where
   pub index : ℕ
   pub scrambles : List Written
 
--- there are fewer than 256 rounds, and a scramble for each slot
+-- its numbers are in their ranges, fewer than 256 rounds stand before it, and each slot has a scramble
 pub record IsMade (made : Made) : Type 0 where
-  pub round : IsRound made.round
+  pub round : IsInRange made.round
   pub index : made.index < 256
   pub each_slot : length made.scrambles ≡ slots_of made.round
 

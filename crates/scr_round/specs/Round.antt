@@ -1,13 +1,20 @@
 -- A round of a sheet: its slots, its lines and its text. The layout is our own choice.
-use Rattle.std.specs.Prelude.{ℕ, zero, suc, ◌+◌, ◌*◌, ◌<◌, Option, Some, None, List, [], ◌∷◌, ◌++◌, map, codes}
+use Rattle.std.specs.Prelude.{ℕ, zero, suc, ◌+◌, ◌*◌, ◌<◌, ◌≤◌, Option, Some, None, List, [], ◌∷◌, ◌++◌, map, codes}
 use Rattle.std.specs.List.{slice_index_or}
 use Rattle.std.specs.Fmt.{decimal}
 use Rattle.scr_notation.specs.declared.turn.Turn.{Turn}
-use Rattle.scr_notation.specs.Event.{name_of, per_group_of, minima_of}
+use Rattle.scr_notation.specs.Event.{name_of, per_group_of, minima_of, greatest_of}
 use Rattle.scr_notation.specs.Spelling.{text_of}
 use Rattle.scr_text.specs.Lines.{text_of_lines}
 use Rattle.scr_notation.specs.declared.event.Minima.{Minima}
 use Rattle.scr_list.specs.declared.round.Round.{Round}
+
+-- The numbers of a round are in their ranges. Its name may hold anything: what lists take is not asked of a round that
+-- is made.
+pub record IsInRange (round : Round) : Type 0 where
+  pub some_groups : 1 ≤ round.groups
+  pub few_groups : round.groups ≤ 26
+  pub least : round.least ≤ greatest_of round.event
 
 -- how many slots a round has: for each group one for each of its scrambles, and two for the extra ones
 abbrev pub slots_of : Round → ℕ

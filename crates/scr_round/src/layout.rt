@@ -4,9 +4,8 @@ ghost use Rattle.std.specs.Prelude.{◌≡◌, ℕ, ◌+◌, ◌*◌, ◌≤◌,
 ghost use Rattle.std.specs.Fmt.{decimal};
 ghost use Rattle.arrayvec.specs.ArrayString.{array_string_len};
 ghost use Rattle.scr_notation.specs.Event.{name_of};
-ghost use Rattle.scr_list.specs.Rounds.{IsRound};
 ghost use Rattle.scr_round.specs.Round.{slots_of, labels_from, group_lines, minimum_text, own_name_text, heading, round_lines};
-ghost use Rattle.scr_round.specs.Round.{IsBelow};
+ghost use Rattle.scr_round.specs.Round.{IsBelow, IsInRange};
 ghost use Rattle.scr_round.specs.SheetLine.{line_of};
 
 use arrayvec::ArrayString;
@@ -36,7 +35,7 @@ pub enum SheetLine {
 
 /// How many slots a round has: at most 182.
 pub fn slots(round: &Round) -> u32
-    requires { IsRound round.now }
+    requires { IsInRange round.now }
     ensures count { result ≡ slots_of round.now }
     ensures few { result ≤ 182 }
 {
@@ -45,7 +44,7 @@ pub fn slots(round: &Round) -> u32
 
 /// How many lines a round has, whichever its place in the list: at most 235.
 pub fn line_count(round: &Round) -> u32
-    requires { IsRound round.now }
+    requires { IsInRange round.now }
     ensures count { (k : ℕ) → length (round_lines k round.now) ≡ result }
     ensures few { result ≤ 235 }
 {
@@ -55,7 +54,7 @@ pub fn line_count(round: &Round) -> u32
 /// Line number `line`, from 0, of round `index` of a list, counted from 0 too.
 pub fn line_at(index: u32, round: &Round, line: u32) -> SheetLine
     requires index { index < 256 }
-    requires round { IsRound round.now }
+    requires round { IsInRange round.now }
     requires line { line < length (round_lines index round.now) }
     ensures value { slice_get (round_lines index round.now) line ≡ Some (line_of result) }
     ensures slot { IsBelow (slots_of round.now) (line_of result) }

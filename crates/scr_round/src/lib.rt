@@ -10,4 +10,4 @@ mod writing;
 
 pub use layout::{SheetLine, line_at, line_count, slots};
 pub use made::RoundResult;
-pub use writing::write_round;
+pub use writing::{write_round, write_slots};

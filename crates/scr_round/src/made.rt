@@ -25,13 +25,13 @@ impl Model for RoundResult {
 }
 
 impl RoundResult {
-    ghost use Rattle.scr_list.specs.Rounds.{IsRound};
-    ghost use Rattle.scr_round.specs.Round.{slots_of};
+    ghost use Rattle.scr_round.specs.Round.{IsInRange, slots_of};
     ghost use Rattle.scr_round.specs.Made.{Made, IsMade};
 
-    /// Round `index` of a list, counted from 0 and below 256, with a scramble for each slot.
+    /// Round `index` of a list, counted from 0 and below 256, with a scramble for each slot. It has 1 to 26 groups,
+    /// and a minimum of its event's range; its name may be any.
     pub fn new(round: Round, index: u32, scrambles: Vec<Scramble>) -> RoundResult
-        requires round { IsRound round }
+        requires round { IsInRange round }
         requires index { index < 256 }
         requires each_slot { length scrambles.items ≡ slots_of round }
         ensures { result ≡ record { round = round; index = index; scrambles = scrambles.items } }

@@ -8,8 +8,10 @@ use std::process::Abort;
 use std::test::Fail;
 use std::thread::Threads;
 
+mod ample;
 mod checks;
 mod commands;
+mod exits;
 mod expected;
 mod failing;
 mod limits;

@@ -47,17 +47,20 @@ build-write (build.Gap table index) is = cc
 making-usage : (settings : Settings) (parts : List Part) (out : Change) (usage : UsageFault)
     → EndsMaking settings parts out (Err (fault.Usage usage)) → ⊥
 making-usage settings parts out usage (inl made) = made.1
-making-usage settings parts out usage (inr lacks) = build-usage usage lacks.0.0 lacks.0.2
+making-usage settings parts out usage (inr (inl lacks, none)) = build-usage usage lacks.0 lacks.2
+making-usage settings parts out usage (inr (inr is, none)) = cc
 
 making-list : (settings : Settings) (parts : List Part) (out : Change) (refusal : ListFault)
     → EndsMaking settings parts out (Err (fault.List refusal)) → ⊥
 making-list settings parts out refusal (inl made) = made.1
-making-list settings parts out refusal (inr lacks) = build-list refusal lacks.0.0 lacks.0.2
+making-list settings parts out refusal (inr (inl lacks, none)) = build-list refusal lacks.0 lacks.2
+making-list settings parts out refusal (inr (inr is, none)) = cc
 
 making-write : (settings : Settings) (parts : List Part) (out : Change)
     → EndsMaking settings parts out (Err fault.Write) → Rose out.faults_before out.faults_after
 making-write settings parts out (inl made) = made.1.is.rose
-making-write settings parts out (inr lacks) = absurd (build-write lacks.0.0 lacks.0.2)
+making-write settings parts out (inr (inl lacks, none)) = absurd (build-write lacks.0 lacks.2)
+making-write settings parts out (inr (inr is, none)) = cc
 
 -- a sheet that is told of
 telling-usage : (settings : Settings) (parts : List Part) (sheet lines : List ℕ) (made : Result (Unit {0}) Fault) (out : Change) (usage : UsageFault)

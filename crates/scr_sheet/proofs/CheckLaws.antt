@@ -123,7 +123,7 @@ EndsCheck settings source out ended =
     (answer : Result (Unit {0}) Fault) × EndsChecking settings source answer × EndsTelling answer (codes "agrees\n") out ended
 
 -- where it told a fault that isn't the output's, the check ended with it
-told-fault : (answer : Result (Unit {0}) Fault) (lines : List ℕ) (out : Change) (why : Fault) → (why ≡ fault.Write → ⊥)
+pub told-fault : (answer : Result (Unit {0}) Fault) (lines : List ℕ) (out : Change) (why : Fault) → (why ≡ fault.Write → ⊥)
     → EndsTelling answer lines out (Err why) → answer ≡ Err why
 told-fault (Ok u) lines out why other told = absurd (other told.0)
 told-fault (Err found) lines out why other told = sym told.0
@@ -165,5 +165,5 @@ check-input settings source out ended ends rose = at ends.1
 
     at : EndsChecking settings source ends.0 → status_of ended ≡ status.ReadFault
     at (inl reads) = absurd (stays reads)
-    at (inr (inl lacks)) = absurd (stays lacks.1)
+    at (inr (inl lacks)) = absurd (stays lacks.1.reads)
     at (inr (inr unread)) = ap status_of (told ends.0 _ unread.0 ends.2)

@@ -29,7 +29,7 @@ use Rattle.scr_sheet.proofs.RunLaws.{EndsTelling-same}
 use Rattle.scr_sheet.proofs.SheetLineLaws.{lines-lawful}
 
 -- rounds that a list names are rounds that lists can name
-named-rounds : (bytes : List ℕ) (rounds : List Round) → rounds_of bytes ≡ Ok rounds → IsRounds rounds
+pub named-rounds : (bytes : List ℕ) (rounds : List Round) → rounds_of bytes ≡ Ok rounds → IsRounds rounds
 named-rounds bytes rounds is =
     let named : ArrayVec Round = record { items = rounds } in
     answer-IsRounds bytes (Ok named) (sym is)

@@ -31,7 +31,7 @@ use Rattle.scr_sheet.specs.declared.fault.Fault.{Fault}
 use Rattle.scr_sheet.specs.declared.fault.Fault.TheVariants as fault
 use Rattle.scr_sheet.specs.Causes.{fault_of_build}
 use Rattle.std.specs.Result.{result_map_both}
-use Rattle.scr_sheet.specs.Check.{expected_lines, fault_of_check, rounds_in, InputComesTo, ReadsInput, EndsChecking, tested_events, TakesList, ReadsListPart, TakesInput, EndsReading}
+use Rattle.scr_sheet.specs.Check.{expected_lines, fault_of_check, rounds_in, InputComesTo, ReadsInput, ReadsListAlone, EndsChecking, tested_events, TakesList, ReadsListPart, TakesInput, EndsReading}
 use Rattle.scr_sheet.proofs.RunLaws.{each_asked}
 
 -- what a check found, as the end of a run
@@ -90,7 +90,7 @@ module _ {S : Type 0} (left : S → Option (List ℕ)) (faults ends : S → ℕ)
       → ReadsListPart left faults ends before after (Ok rounds) → IsBuildCause (tested_events rounds) why
       → EndsReading left faults ends before after settings (Err (fault_of_build why))
   lacks-tests settings before after rounds why taken cause =
-      inr (inl (rounds, takes-rounds taken, (why, cause, refl)))
+      inr (inl (rounds, taken, (why, cause, refl)))
 
   -- what may follow both of two takings follows the first with the second
   both-follow : {b c : Reading S} {ys : List ℕ} → Takes left faults ends b c ys → (rest : List ℕ)
@@ -158,6 +158,25 @@ module _ {S : Type 0} (left : S → Option (List ℕ)) (faults ends : S → ℕ)
         (taken.tells (after.ahead ++ rest) (λ ended. ap (λ x. x ++ rest) (end taken.bytes taken.takes ended).1 ∙ follows ended));
   }
 
+  -- where no more was taken than the list part, this is so of the source
+  reads-list : (source : S) (after : Reading S) {named : List Round}
+      → ((bytes : List ℕ) → Takes left faults ends (fresh source) after bytes → Gives (intake_of left faults ends source after.source) (bytes ++ after.ahead))
+      → ((bytes : List ℕ) → Takes left faults ends (fresh source) after bytes → after.ended ≡ true → TellsEnd (intake_of left faults ends source after.source) × (after.ahead ≡ []))
+      → TakesList left faults ends (fresh source) after (Ok named)
+      → ReadsListAlone (intake_of left faults ends source after.source) named
+  unfolding reads-taken takes-rounds
+  reads-list source after {named} gives end taken =
+      let bytes = taken.takes.bytes in
+      let nothing : after.ended ≡ true → after.ahead ≡ [] = λ ended. (end bytes taken.takes.takes ended).1 in record {
+        reads = reads-taken source after gives end (takes-rounds taken);
+        ahead = after.ahead;
+        behind = λ rest follows.
+            ap sheet_part (append_assoc bytes after.ahead rest)
+            ∙ (taken.takes.split (after.ahead ++ rest) (λ ended. ap (λ x. x ++ rest) (nothing ended) ∙ follows ended)).sheet_is
+            (listed-short taken.list named taken.says);
+        no_end = nothing;
+      }
+
   pub ends-reading : (settings : Settings) (source : S) (after : Reading S) (answer : Result (Unit {0}) Fault)
       → ((bytes : List ℕ) → Takes left faults ends (fresh source) after bytes → Gives (intake_of left faults ends source after.source) (bytes ++ after.ahead))
       → ((bytes : List ℕ) → Takes left faults ends (fresh source) after bytes → after.ended ≡ true → TellsEnd (intake_of left faults ends source after.source) × (after.ahead ≡ []))
@@ -166,7 +185,7 @@ module _ {S : Type 0} (left : S → Option (List ℕ)) (faults ends : S → ℕ)
       → EndsChecking settings (intake_of left faults ends source after.source) answer
   ends-reading settings source after answer gives end gave (inl taken) = inl (reads-taken source after gives end taken)
   ends-reading settings source after answer gives end gave (inr (inl lacks)) =
-      inr (inl (lacks.0, reads-taken source after gives end lacks.1, lacks.2))
+      inr (inl (lacks.0, reads-list source after gives end lacks.1, lacks.2))
   ends-reading settings source after answer gives end gave (inr (inr (is, stops))) = inr (inr (
     is,
     record {

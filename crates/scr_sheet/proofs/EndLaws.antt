@@ -50,7 +50,7 @@ parts-output settings k parts out (Err (fault.Usage usage)) ends rose = absurd e
 parts-output settings k parts out (Err (fault.List list)) ends rose = absurd ends
 parts-output settings k parts out (Err (fault.DrawLimit number slot words)) ends rose = absurd (gained ends.is rose)
 parts-output settings k parts out (Err fault.Write) ends rose = refl
-parts-output settings k parts out (Err fault.NoMemory) ends rose = absurd (gained ends.is rose)
+parts-output settings k parts out (Err fault.NoMemory) ends rose = absurd ends
 parts-output settings k parts out (Err (fault.Gap table index)) ends rose = absurd ends
 parts-output settings k parts out (Err (fault.Differs line)) ends rose = absurd ends
 

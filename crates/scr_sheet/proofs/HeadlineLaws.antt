@@ -135,8 +135,7 @@ fair-parts settings k parts out (Err (fault.DrawLimit number slot words)) fair e
     fair-led settings parts out (Gains out) _ fair (λ text. inl) ends
 fair-parts settings k parts out (Err fault.Write) fair ends =
     fair-led settings parts out (Falters out) _ fair (λ text. inr) ends
-fair-parts settings k parts out (Err fault.NoMemory) fair ends =
-    fair-led settings parts out (Gains out) _ fair (λ text. inl) ends
+fair-parts settings k parts out (Err fault.NoMemory) fair ends = absurd ends
 
 fair-making : (settings : Settings) (parts : List Part) (out : Change) (ended : Result (Unit {0}) Fault)
     → EndsMaking settings parts out ended → IsFairlyLed settings parts out

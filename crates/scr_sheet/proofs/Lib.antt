@@ -1,5 +1,6 @@
 pub mod PartLaws
 pub mod LoadRounds
+pub mod RoomLaws
 pub mod RunLaws
 pub mod SlotOrder
 pub mod OneReading
@@ -10,8 +11,11 @@ pub mod SheetLineLaws
 pub mod CheckLaws
 pub mod CheckedInput
 pub mod CheckRuns
+pub mod OwnLines
+pub mod OwnSheet
 pub mod CauseLaws
 pub mod EndLaws
+pub mod MemoryLaws
 pub mod NetLaws
 pub mod SingleLaws
 pub mod SizeLaws

@@ -11,7 +11,7 @@ use Rattle.scr_notation.specs.Spelling.{text_of, spelling, letter_text, amount_t
 use Rattle.scr_sheet.specs.Headline.{HasNoDot, StandInOrder, no_more, next}
 
 -- this byte isn't in a text
-abbrev Lacks : ℕ → List ℕ → Type 0
+abbrev pub Lacks : ℕ → List ℕ → Type 0
 Lacks c text = list_any (λ byte. byte == c) text ≡ false
 
 -- two texts are parted at the same place
@@ -41,14 +41,14 @@ apart c (x ∷ xs) ys (y ∷ other) others is bare bare' same =
 
 -- ---- no spelling has a line feed
 
-abbrev IsClean : List ℕ → Type 0
+abbrev pub IsClean : List ℕ → Type 0
 IsClean text = Lacks 10 text
 
-either : (a b : Bool) → (a || b) ≡ false → (a ≡ false) × (b ≡ false)
+pub either : (a b : Bool) → (a || b) ≡ false → (a ≡ false) × (b ≡ false)
 either true b h = cc
 either false b h = (refl, h)
 
-joined : (x y : List ℕ) → IsClean x → IsClean y → IsClean (x ++ y)
+pub joined : (x y : List ℕ) → IsClean x → IsClean y → IsClean (x ++ y)
 joined x y first second = list_any-append (λ byte. byte == 10) x y ∙ ap (λ b. b || list_any (λ byte. byte == 10) y) first ∙ second
 
 chosen : (test : Bool) (x y : List ℕ) → IsClean x → IsClean y → IsClean (if test then x else y)
@@ -111,7 +111,7 @@ spelled (Wide n plus) =
     let way = chosen (n == 2) (if plus then [] else codes "'") (if plus then codes "++" else codes "--") plain doubled in
     joined (letter_text (codes "RDU") n) (way_text n plus) (letter (codes "RDU") n refl) way
 
-text-clean : (turns : List Turn) → IsClean (text_of turns)
+pub text-clean : (turns : List Turn) → IsClean (text_of turns)
 text-clean [] = refl
 text-clean (t ∷ []) = spelled t
 text-clean (t ∷ u ∷ turns) = joined (spelling t) (32 ∷ text_of (u ∷ turns)) (spelled t) (text-clean (u ∷ turns))

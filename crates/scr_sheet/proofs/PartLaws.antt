@@ -1,8 +1,8 @@
 -- Parts made and written one after another.
 use Rattle.std.proofs.Math.Seq.{take-append_seam}
-use Rattle.std.proofs.lemmas.List.{length-map}
-use Rattle.std.proofs.Common.{◌≡◌, ℕ, suc, ◌+◌, ◌<◌, List, [], ◌∷◌, ◌++◌, length, map, take, drop, get_or, Err, refl, sym, ap, subst, ◌∙◌, append_assoc, append-nil, length-append, drop-cons, add-one, arith}
-use Rattle.std.specs.Prelude.{Option, Some, None, IsSomeAnd, slice_index_or}
+use Rattle.std.proofs.lemmas.List.{length-map, map-append, take-append-drop, length-take-le}
+use Rattle.std.proofs.Common.{◌≡◌, ℕ, suc, ◌+◌, ◌<◌, List, [], ◌∷◌, ◌++◌, length, map, take, drop, get_or, Ok, Err, refl, sym, ap, subst, ◌∙◌, append_assoc, append-nil, length-append, drop-cons, add-one, arith}
+use Rattle.std.specs.Prelude.{Option, Some, None, IsSomeAnd, Result, MatchResult, slice_index_or}
 use Rattle.scr_notation.specs.Written.{Written}
 use Rattle.scr_outside.specs.Change.{Change, Gains, Falters}
 use Rattle.scr_outside.proofs.ChangeLemmas.{from_to, Gains-nothing, Gains-append, Falters-after}
@@ -71,6 +71,26 @@ AreAnswers-placed settings part n answers behind as_many slots each =
       each = EachSlot-answered Is part.first_stream answers each;
     })
 
+-- the first of answers that is none, where those before it are some
+pub IsFirstNone-here : (answers : List (Option (Option Written))) (before : List Written) (k : ℕ) (d : Option (Option Written))
+    → k < length answers → map Some before ≡ map answer_at (take k answers) → answer_at (get_or answers k d) ≡ None
+    → IsFirstNone (map answer_at answers) k
+IsFirstNone-here answers before k d there led none =
+    let here : drop k answers ≡ get_or answers k d ∷ drop (k + 1) answers = rw add-one (drop-cons answers k d there) in
+    let parts : answers ≡ take k answers ++ drop k answers = sym (take-append-drop k answers) in
+    let some = length-map before (λ (w : Written). Some w) in
+    let mapped = length-map (take k answers) answer_at in
+    let size = length-take-le k answers (omega (arith, there)) in
+    let same : length (map Some before) ≡ length (map answer_at (take k answers)) = ap length led in record {
+      before = before;
+      behind = map answer_at (drop (k + 1) answers);
+      are = ap (map answer_at) parts ∙ map-append answer_at (take k answers) (drop k answers)
+          ∙ ap (λ xs. xs ++ map answer_at (drop k answers)) (sym led)
+          ∙ ap (λ xs. map Some before ++ map answer_at xs) here
+          ∙ ap (λ x. map Some before ++ x ∷ map answer_at (drop (k + 1) answers)) none;
+      as_many = omega (arith, some, mapped, size, same);
+    }
+
 -- answers that all are scrambles
 pub scrambles_of_answers : (scrambling : Scrambling) (settings : Settings) (least stream : ℕ) (scrambles : List Written)
     → EachSlot (IsSlotAnswer scrambling settings least) stream (map Some scrambles)
@@ -113,6 +133,13 @@ IsFirstWithout-none settings part answers place are first =
             (EachSlot-before Is part.first_stream (map Some first.before) (None ∷ first.behind) each);
       };
     }
+
+-- so it is with what workers made of them
+pub made-slots : (settings : Settings) (part : Part) (answers : List (Option Written)) (scrambles : List Written) (made : Result (Unit {0}) ℕ)
+    → AreAnswers settings part answers → MatchResult made (λ _. map Some scrambles ≡ answers) (IsFirstNone answers)
+    → MatchResult made (λ _. AreScrambles settings part part.slots scrambles) (IsFirstWithout settings part)
+made-slots settings part answers scrambles (Ok u) are same = AreScrambles-all settings part answers scrambles are same
+made-slots settings part answers scrambles (Err place) are first = IsFirstWithout-none settings part answers place are first
 
 -- ---- texts
 
@@ -243,9 +270,7 @@ made-fault {settings = settings} {rest = rest} {k = k} held'' faults'' (fault.Dr
     (λ led left. IsStopped-before settings number slot words (k + led) (0 + (k + led)) left rest (omega arith)) ends
 made-fault {rest = rest} held'' faults'' fault.Write made ends =
     IsLed-behind rest made (λ text. Falters-after made.gained) (λ led left u. tt) ends
-made-fault {rest = rest} held'' faults'' fault.NoMemory made ends =
-    IsLed-behind rest made (λ text. Gains-append made.gained)
-    (λ led left some. let size = length-append left rest in omega (arith, size)) ends
+made-fault held'' faults'' fault.NoMemory made ends = absurd ends
 
 -- ---- the rounds of a list
 
@@ -276,15 +301,11 @@ round-fault {settings} {held} {held'} {faults} {faults'} rounds i round is held'
     let Ends : Round → Type 0 = λ r. EndsParts settings i (round_part i r ∷ []) (from_to held' faults' held'' faults'') (Err f) in
     made-fault held'' faults'' f (subst P (round_parts-next rounds i round there) made) (subst Ends is ends)
 
--- the text of a round that was made
-pub IsPartText-made : {settings : Settings} {k : ℕ} {round : Round} {made : Made} → IsRoundMade settings k round made
-    → IsPartText settings (round_part k round) (round_text made.index made.round (turns_of_each made.scrambles))
-IsPartText-made {k = k} {made = made} is = record {
-  scrambles = made.scrambles;
-  all = is.scrambles;
-  is = ap (λ i. round_text i made.round (turns_of_each made.scrambles)) is.same_index
-      ∙ ap (λ r. round_text k r (turns_of_each made.scrambles)) is.same_round;
-}
+-- the text of a round whose slots have their scrambles
+pub IsPartText-made : {settings : Settings} {scrambles : List Written} (k : ℕ) (round : Round)
+    → AreScrambles settings (round_part k round) (round_part k round).slots scrambles
+    → IsPartText settings (round_part k round) (round_text k round (turns_of_each scrambles))
+IsPartText-made {scrambles = scrambles} k round all = record { scrambles = scrambles; all = all; is = refl }
 
 -- nothing was written of some parts
 IsLed-none : {settings : Settings} {parts : List Part} {out : Change} {Leaves : ℕ → List Part → Type 0} → Leaves 0 parts
@@ -304,11 +325,6 @@ pub first-stopped : {settings : Settings} {part : Part} {words : ℕ} {out : Cha
     → IsLimit settings part j words → IsUnwritten out
     → EndsParts settings k (part ∷ []) out (Err (fault.DrawLimit (k + 1) (j + 1) words))
 first-stopped k j limit = IsLed-none (omega arith, limit.taken, (j, refl, limit.first))
-
--- a part that stands alone is not made for want of memory
-pub first-unmade : {settings : Settings} {part : Part} {out : Change} → IsUnwritten out
-    → IsLed settings (part ∷ []) (Gains out) (λ led rest. 0 < length rest)
-first-unmade = IsLed-none (omega arith)
 
 -- a part that stands alone was written in part
 pub first-broken : {settings : Settings} {part : Part} {text : List ℕ} {out : Change} → IsPartText settings part text

@@ -135,7 +135,7 @@ EndsParts-done settings parts out (Err (fault.List list)) ends written each = ab
 EndsParts-done settings parts out (Err (fault.DrawLimit number slot words)) ends written each =
     absurd (each (LacksScramble-stopped settings parts number slot words (0 + length ends.led) ends.led ends.rest ends.are ends.leaves))
 EndsParts-done settings parts out (Err fault.Write) ends written each = absurd (written ends.is.rose)
-EndsParts-done settings parts out (Err fault.NoMemory) ends written each = inr (inl refl)
+EndsParts-done settings parts out (Err fault.NoMemory) ends written each = absurd ends
 EndsParts-done settings parts out (Err (fault.Gap table index)) ends written each = absurd ends
 EndsParts-done settings parts out (Err (fault.Differs line)) ends written each = absurd ends
 
@@ -151,7 +151,7 @@ EndsParts-limit settings parts out (Err (fault.Usage usage)) ends written decide
 EndsParts-limit settings parts out (Err (fault.List list)) ends written decided lacks = absurd ends
 EndsParts-limit settings parts out (Err (fault.DrawLimit number slot words)) ends written decided lacks = inl refl
 EndsParts-limit settings parts out (Err fault.Write) ends written decided lacks = absurd (written ends.is.rose)
-EndsParts-limit settings parts out (Err fault.NoMemory) ends written decided lacks = inr (inl refl)
+EndsParts-limit settings parts out (Err fault.NoMemory) ends written decided lacks = absurd ends
 EndsParts-limit settings parts out (Err (fault.Gap table index)) ends written decided lacks = absurd ends
 EndsParts-limit settings parts out (Err (fault.Differs line)) ends written decided lacks = absurd ends
 
@@ -184,18 +184,27 @@ LacksTables-ends events ended wanted lacks = at lacks.0 lacks.2
     at build.NoMemory is = inr (inl (ap status_of is))
     at (build.Gap table index) is = inr (inr (ap status_of is))
 
+-- parts of these events were not made: tables could not be built, or memory was wanting for the rounds
+abbrev IsUnready : List Event → Result (Unit {0}) Fault → Type 0
+IsUnready events ended = LacksTables events ended ⊎ (ended ≡ Err fault.NoMemory)
+
+IsUnready-ends : (events : List Event) (ended : Result (Unit {0}) Fault) (wanted : Status) → IsUnready events ended
+    → EndsWith (status_of ended) wanted
+IsUnready-ends events ended wanted (inl lacks) = LacksTables-ends events ended wanted lacks
+IsUnready-ends events ended wanted (inr is) = inr (inl (ap status_of is))
+
 -- A run ended as the making of its parts did, or as tables that were not built, for a sink that didn't fail.
 record IsWell (settings : Settings) (parts : List Part) (ended : Result (Unit {0}) Fault) : Type 0 where
   sink : Change
   made : Result (Unit {0}) Fault
-  making : EndsParts settings 0 parts sink made ⊎ ((events : List Event) × LacksTables events made)
+  making : EndsParts settings 0 parts sink made ⊎ ((events : List Event) × IsUnready events made)
   whole : ¬ (Rose sink.faults_before sink.faults_after)
   same : ended ≡ made
 
 -- parts that are made
 made_parts : (settings : Settings) (parts : List Part) (out : Change) (ended : Result (Unit {0}) Fault)
     → EndsMaking settings parts out ended
-    → EndsParts settings 0 parts out ended ⊎ ((events : List Event) × LacksTables events ended)
+    → EndsParts settings 0 parts out ended ⊎ ((events : List Event) × IsUnready events ended)
 made_parts settings parts out ended making =
     elim making [ inl making ↦ inl making.1 | inr lacks ↦ inr (map (λ (part : Part). part.event) parts, lacks.0) ]
 
@@ -236,7 +245,7 @@ tables_as_parts settings event out (Err why) written (inl ends) = absurd (writte
 tables_as_parts settings event out ended written (inr lacks) = record {
   sink = out;
   made = ended;
-  making = inr (event ∷ [], lacks.0);
+  making = inr (event ∷ [], inl lacks.0);
   whole = written;
   same = refl;
 }
@@ -292,7 +301,7 @@ unhindered-with {parts = parts} wanted whole run each =
           rw well.same
           (elim well.making [
             | inl ends ↦ each well.sink well.made ends well.whole
-            | inr lacks ↦ LacksTables-ends lacks.0 well.made wanted lacks.1
+            | inr unready ↦ IsUnready-ends unready.0 well.made wanted unready.1
           ])
       | inr wanting ↦ inr (inl (ap status_of wanting))
     ])

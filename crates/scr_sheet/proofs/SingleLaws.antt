@@ -10,9 +10,10 @@ use Rattle.scr_notation.specs.Written.{Written}
 use Rattle.scr_slots.specs.declared.settings.Settings.{Settings}
 use Rattle.scr_slots.specs.Slots.{IsDrawnFairly, IsSlotScramble, HasNoScramble}
 use Rattle.scr_slots.specs.Events.{scrambling_of}
+use Rattle.scr_sheet.specs.declared.fault.Fault.{Fault}
 use Rattle.scr_sheet.specs.declared.fault.Fault.TheVariants as fault
 use Rattle.scr_sheet.specs.Sheet.{Part, IsPartText, single_part, line_of, shown_net}
-use Rattle.scr_sheet.specs.Outcome.{EndsMaking, IsUnwritten}
+use Rattle.scr_sheet.specs.Outcome.{EndsMaking, EndsParts, IsUnwritten}
 use Rattle.scr_sheet.proofs.PartLaws.{first-stopped, first-broken, IsWhole-first}
 
 -- a part is drawn fairly
@@ -23,7 +24,7 @@ Fair part = IsDrawnFairly (scrambling_of part.event) part.least
 abbrev single_text : Option ℕ → List Turn → List ℕ
 single_text side turns = line_of turns ++ shown_net side turns
 
-module _ {settings : Settings} {event : Event} (side : Option ℕ) (fair : IsDrawnFairly (scrambling_of event) 0) where
+module _ {settings : Settings} {event : Event} (side : Option ℕ) where
   -- what is written of one scramble
   written : (scramble : Written) → IsSlotScramble (scrambling_of event) settings 0 0 scramble
       → IsPartText settings (single_part event side) (single_text side scramble.turns)
@@ -35,29 +36,32 @@ module _ {settings : Settings} {event : Event} (side : Option ℕ) (fair : IsDra
 
   -- it was written whole
   pub single-done : {out : Change} (scramble : Written) → IsSlotScramble (scrambling_of event) settings 0 0 scramble
-      → Gains out (single_text side scramble.turns) → EndsMaking settings (single_part event side ∷ []) out (Ok tt)
+      → Gains out (single_text side scramble.turns) → EndsParts settings 0 (single_part event side ∷ []) out (Ok tt)
   single-done scramble slot gains =
-      inl (All-cons Fair (single_part event side) [] fair (All-nil Fair), IsWhole-first (written scramble slot) gains)
+      IsWhole-first (written scramble slot) gains
 
   -- it was written in part
   pub single-broken : {out : Change} (scramble : Written) → IsSlotScramble (scrambling_of event) settings 0 0 scramble
       → Falters out (single_text side scramble.turns)
-      → EndsMaking settings (single_part event side ∷ []) out (Err fault.Write)
+      → EndsParts settings 0 (single_part event side ∷ []) out (Err fault.Write)
   single-broken scramble slot falters =
-      inl (All-cons Fair (single_part event side) [] fair (All-nil Fair), first-broken (written scramble slot) falters)
+      first-broken (written scramble slot) falters
 
   -- there is none
   pub single-limit : {out : Change} (words : ℕ) → HasNoScramble (scrambling_of event) settings 0 0
       → words ≡ 3 * settings.attempts → IsUnwritten out
-      → EndsMaking settings (single_part event side ∷ []) out (Err (fault.DrawLimit 1 1 words))
+      → EndsParts settings 0 (single_part event side ∷ []) out (Err (fault.DrawLimit 1 1 words))
   single-limit words none taken unwritten =
-      inl (
-        All-cons Fair (single_part event side) [] fair (All-nil Fair),
-        first-stopped 0 0 (record {
-          first = record { below = omega arith; nothing = none; before = []; all_before = record { each_slot = refl; each = tt } };
-          taken = taken;
-        }) unwritten,
-      )
+      first-stopped 0 0 (record {
+        first = record { below = omega arith; nothing = none; before = []; all_before = record { each_slot = refl; each = tt } };
+        taken = taken;
+      }) unwritten
+
+-- the one part is drawn fairly, however it ends
+pub single-making : (settings : Settings) (event : Event) (side : Option ℕ) {out : Change} {ended : Result (Unit {0}) Fault}
+    → IsDrawnFairly (scrambling_of event) 0 → EndsParts settings 0 (single_part event side ∷ []) out ended
+    → EndsMaking settings (single_part event side ∷ []) out ended
+single-making settings event side fair ends = inl (All-cons Fair (single_part event side) [] fair (All-nil Fair), ends)
 
 -- a text behind one that was written
 pub Writes-behind : {E : Type 0} (held held' held'' : Option (List ℕ)) (faults faults' faults'' : ℕ) (text more : List ℕ) (ended : Result (Unit {0}) E)

@@ -1,5 +1,5 @@
 -- Rounds that are made one after another and counted.
-use Rattle.std.proofs.Common.{◌≡◌, ℕ, ◌+◌, ◌<◌, List, [], ◌∷◌, ◌++◌, length, drop, get_or, Ok, Err, refl, length-append, arith}
+use Rattle.std.proofs.Common.{◌≡◌, ℕ, ◌+◌, ◌<◌, List, [], ◌∷◌, ◌++◌, length, drop, get_or, Ok, Err, refl, sym, ap, subst, ◌∙◌, append_assoc, append-nil, length-append, arith}
 use Rattle.std.proofs.lemmas.List.Sums.{sum_by-append}
 use Rattle.std.specs.Prelude.{Some}
 use Rattle.scr_outside.proofs.ChangeLemmas.{from_to, Gains-nothing}
@@ -74,3 +74,26 @@ sized-fault rounds i round is fault there sized ends = record {
 pub sized-all : {settings : Settings} {parts : List Part} {k : ℕ} {size : Size} → IsSizedUpTo settings parts [] k size
     → SizesParts settings parts (Ok size)
 sized-all sized = record { sheet = sized.sheet; ends = made-all sized.made; amounts = sized.amounts }
+
+-- ---- lines that are counted one after another
+
+-- of a text all is counted but what is left
+pub record IsCountedUpTo (whole left : List ℕ) (size : Size) : Type 0 where
+  pub text : List ℕ
+  pub amounts : IsSizeOf text size
+  pub parts : text ++ left ≡ whole
+
+pub counted-none : (whole : List ℕ) → IsCountedUpTo whole whole (record { bytes = 0; sum = 0 })
+counted-none whole = record { text = []; amounts = record { counted = refl; added = refl }; parts = refl }
+
+pub counted-more : {whole rest : List ℕ} {size more : Size} (left line : List ℕ) → left ≡ line ++ rest
+    → IsCountedUpTo whole left size → IsSizeOf line more → IsCountedUpTo whole rest (with_more size more)
+counted-more {rest = rest} {size = size} {more = more} left line is counted own = record {
+  text = counted.text ++ line;
+  amounts = IsSizeOf-append counted.text line size more counted.amounts own;
+  parts = append_assoc counted.text line rest ∙ ap (λ x. counted.text ++ x) (sym is) ∙ counted.parts;
+}
+
+pub counted-all : {whole : List ℕ} {size : Size} (left : List ℕ) → left ≡ [] → IsCountedUpTo whole left size → IsSizeOf whole size
+counted-all {size = size} left none counted =
+    subst (λ text. IsSizeOf text size) (sym (append-nil counted.text) ∙ ap (λ x. counted.text ++ x) (sym none) ∙ counted.parts) counted.amounts

@@ -109,16 +109,24 @@ pub record ReadsInput (source : Change) (Tells : List ℕ → Type 0) : Type 0 w
   pub no_end : ended ≡ false → source.ends_after ≡ source.ends_before
   pub tells : (rest : List ℕ) → CanFollow ended rest → Tells (bytes ++ rest)
 
--- What the check of an input ends with, by what was read of it: what the input comes to, that the tables could not be
--- built by which the states of its rounds are tested, or that the input could not be read.
-abbrev pub EndsBy : ((List ℕ → Type 0) → Type 0) → Type 0 → Settings → Result (Unit {0}) Fault → Type 0
-EndsBy Reads Stops settings answer =
+-- Of an input the list part was read, which names these rounds. Nothing was taken of the sheet part, but what a reader
+-- had read ahead, before it met the end.
+pub record ReadsListAlone (source : Change) (named : List Round) : Type 0 where
+  pub reads : ReadsInput source (λ input. rounds_in input ≡ Ok named)
+  pub ahead : List ℕ
+  pub behind : (rest : List ℕ) → CanFollow reads.ended rest → sheet_part (reads.bytes ++ rest) ≡ ahead ++ rest
+  pub no_end : reads.ended ≡ true → ahead ≡ []
+
+-- What the check of an input ends with, by what was read of it: what the input comes to; that the tables could not be
+-- built by which the states of its rounds are tested, once its list part was read; or that it could not be read.
+abbrev pub EndsBy : ((List ℕ → Type 0) → Type 0) → (List Round → Type 0) → Type 0 → Settings → Result (Unit {0}) Fault → Type 0
+EndsBy Reads ReadsList Stops settings answer =
     Reads (λ input. InputComesTo settings (rounds_in input) input answer)
-    ⊎ (((named : List Round) × Reads (λ input. rounds_in input ≡ Ok named) × LacksTables (tested_events named) answer)
+    ⊎ (((named : List Round) × ReadsList named × LacksTables (tested_events named) answer)
     ⊎ ((answer ≡ Err (fault.List list.Read)) × Stops))
 
 abbrev pub EndsChecking : Settings → Change → Result (Unit {0}) Fault → Type 0
-EndsChecking settings source = EndsBy (ReadsInput source) (ReadsInPart source (λ bytes. length bytes)) settings
+EndsChecking settings source = EndsBy (ReadsInput source) (ReadsListAlone source) (ReadsInPart source length) settings
 
 -- a check is made with a seed and so many attempts a slot; no scramble is looked for
 abbrev pub check_settings : Seed → ℕ → Settings
@@ -161,4 +169,5 @@ module _ {S : Type 0} (left : S → Option (List ℕ)) (faults ends : S → ℕ)
 
   -- what a check ends with whose input is what a reader has still to give
   abbrev pub EndsReading : Reading S → Reading S → Settings → Result (Unit {0}) Fault → Type 0
-  EndsReading before after = EndsBy (TakesInput before after) (StopsInPart left faults ends before after)
+  EndsReading before after =
+      EndsBy (TakesInput before after) (λ named. TakesList before after (Ok named)) (StopsInPart left faults ends before after)

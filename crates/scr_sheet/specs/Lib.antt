@@ -1,12 +1,13 @@
 pub mod Sheet
 pub mod Causes
 pub mod Check
+pub mod Exit
 pub mod Headline
 pub mod Load
 pub mod Making
 pub mod Message
 pub mod Outcome
+pub mod Room
 pub mod Sizes
 pub mod Status
 pub mod Task
-pub mod TextSink

@@ -3,11 +3,11 @@ use Rattle.std.specs.Prelude.{◌≡◌, ℕ, ◌*◌, ◌<◌, Bool, List, ◌�
 use Rattle.scr_notation.specs.EventSets.{Has}
 use Rattle.scr_notation.specs.Written.{Written}
 use Rattle.scr_list.specs.declared.round.Round.{Round}
-use Rattle.scr_list.specs.Rounds.{IsRound}
 use Rattle.scr_slots.specs.declared.settings.Settings.{Settings}
 use Rattle.scr_slots.specs.Ranges.{AreInRange}
 use Rattle.scr_slots.specs.Slots.{IsSlotAnswer}
 use Rattle.scr_slots.specs.Events.{scrambling_of}
+use Rattle.scr_round.specs.Round.{IsInRange}
 use Rattle.scr_round.specs.Made.{Made}
 use Rattle.scr_sheet.specs.declared.making.RoundFault.{RoundFault}
 use Rattle.scr_sheet.specs.declared.making.RoundFault.TheVariants.{NoMemory, Limit}
@@ -19,12 +19,12 @@ pub record RoundSlots : Type 0 where
   pub index : ℕ
   pub round : Round
 
--- round k of a list can be made: there are the tables of its event, k is small, a list can name it, and the settings
--- are in their ranges
+-- Round k of a list can be made: there are the tables of its event, k is small, and its numbers and the settings are in
+-- their ranges. Its name may hold anything.
 pub record CanBeMade (tables : List Bool) (settings : Settings) (k : ℕ) (round : Round) : Type 0 where
   pub has_tables : Has tables round.event
   pub few_before : k < 256
-  pub named : IsRound round
+  pub round_in_range : IsInRange round
   pub in_range : AreInRange settings
 
 -- what stands at a place for an answer: where nothing does, there is no scramble

@@ -51,14 +51,13 @@ IsStopped settings number slot words k [] = ⊥
 IsStopped settings number slot words k (failing ∷ rest) =
     (number ≡ k + 1) × (words ≡ 3 * settings.attempts) × ((j : ℕ) × (slot ≡ j + 1) × IsFirstWithout settings failing j)
 
--- How the parts end that are made and written one after another. All were written. Or a slot has no scramble, or memory
--- was wanting for a part: those before it were written. Or the output failed: a first part was written of the text of
--- some leading parts.
+-- How the parts end that are made and written one after another. All were written. Or a slot has no scramble: those
+-- before its part were written. Or the output failed: a first part was written of the text of some leading parts. Memory
+-- is never wanting here: it was taken before, by what saw no seed.
 abbrev pub EndsParts : Settings → ℕ → List Part → Change → Result (Unit {0}) Fault → Type 0
 EndsParts settings k parts out (Ok _) = IsLed settings parts (Gains out) (λ led rest. rest ≡ [])
 EndsParts settings k parts out (Err (fault.DrawLimit number slot words)) =
     IsLed settings parts (Gains out) (λ led. IsStopped settings number slot words (k + led))
-EndsParts settings k parts out (Err fault.NoMemory) = IsLed settings parts (Gains out) (λ led rest. 0 < length rest)
 EndsParts settings k parts out (Err fault.Write) = IsLed settings parts (Falters out) (λ led rest. Unit {0})
 EndsParts settings k parts out (Err _) = ⊥
 
@@ -72,12 +71,12 @@ EndsUnmade settings k part why = (out : Change) → IsUnwritten out → EndsPart
 abbrev pub Stops : Fault → Change → Result (Unit {0}) Fault → Type 0
 Stops why out ended = (ended ≡ Err why) × IsUnwritten out
 
--- How the making and writing of parts ends, whose tables are built first. They were built, so that each part is drawn
--- fairly (of random moves: each of their steps is), and so end the parts; or they could not be built.
+-- How the making and writing of parts ends, for which tables are built and memory is taken first. There they are, so that
+-- each part is drawn fairly (of random moves: each of their steps is), and so end the parts; or they could not be had.
 abbrev pub EndsMaking : Settings → List Part → Change → Result (Unit {0}) Fault → Type 0
 EndsMaking settings parts out ended =
     (All (λ part. IsDrawnFairly (scrambling_of part.event) part.least) parts × EndsParts settings 0 parts out ended)
-    ⊎ (LacksTables (map (λ part. part.event) parts) ended × IsUnwritten out)
+    ⊎ ((LacksTables (map (λ part. part.event) parts) ended ⊎ (ended ≡ Err fault.NoMemory)) × IsUnwritten out)
 
 -- a sink that gained this text, and did not fail
 abbrev pub gaining : List ℕ → Change

@@ -50,6 +50,15 @@ pub record IsUnhinderedCheck (words : List (List ℕ)) (outcome : Status) (sourc
   pub read : ¬ (Rose source.faults_before source.faults_after)
   pub written : ¬ (Rose out.faults_before out.faults_after)
 
+-- the same command, with another seed where it has one
+abbrev pub with_seed : Seed → Command → Command
+with_seed seed (One event other) = One event seed
+with_seed seed (Sheet other options) = Sheet seed options
+with_seed seed (Tables event) = Tables event
+with_seed seed (Load number) = Load number
+with_seed seed (Net event other) = Net event seed
+with_seed seed (Check other attempts) = Check seed attempts
+
 -- some slot of these parts has no scramble
 pub record LacksScramble (settings : Settings) (parts : List Part) : Type 0 where
   pub led : List Part

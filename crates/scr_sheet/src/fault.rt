@@ -11,11 +11,10 @@ use arrayvec::ArrayString;
 use scr_check::{CheckFault, Missing};
 use scr_command::{CommandFault, UsageFault};
 use scr_list::{ListCause, ListFault};
-use scr_outside::Failed;
+use scr_outside::{Failed, NoMemory as Want};
 use scr_table::{BuildFault, TableName};
 use scr_text::decimal;
 use scr_words::SeedFault;
-use std::alloc::AllocError;
 
 /// What went wrong.
 #[derive(Clone, Copy, Debug)]
@@ -63,10 +62,10 @@ impl From<Failed> for Fault {
     }
 }
 
-impl From<AllocError> for Fault {
+impl From<Want> for Fault {
     ghost from_gives = { λ _ fault. fault ≡ NoMemory };
 
-    fn from(_wanting: AllocError) -> Fault {
+    fn from(_wanting: Want) -> Fault {
         Fault::NoMemory
     }
 }

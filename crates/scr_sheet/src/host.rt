@@ -1,47 +1,84 @@
 //! A run on the system's words and streams.
 
+ghost use Rattle.std.specs.Result.{result_map_both};
+ghost use Rattle.scr_outside.specs.Change.{change_of, intake_of};
+ghost use Rattle.scr_command.specs.Words.{texts};
+ghost use Rattle.scr_sheet.specs.Exit.{EndsProgram, EndsOnStreams, IsExitCode};
+
+use crate::exit::{Exit, NoWords};
 use crate::fault::Fault;
 use crate::program::{run, tell};
-use crate::status::Status;
-use scr_outside::{StdSink, StdSource};
+use scr_outside::{Sink, Source, StdSink, StdSource};
 use scr_workers::OpenGate;
-use std::process::ExitCode;
+use std::alloc::Global;
+use std::env;
 use std::thread::Threads;
-use std::{env, io};
 
 /// Runs on the words of the command line without the program's name, the standard input, output and error output, and
-/// gives the code of the status that the run answers. Where there is no memory for the words themselves, that is told
-/// too; where the system gives no words, or some that are no text, it is 1. `rt` and `host` are the same runtime: the
-/// one starts threads, the other has the words and the streams.
-pub fn run_on_host<R: Threads + Sync>(rt: &R, host: &HostRuntime) -> ExitCode {
-    match run_on_words(rt, host) {
-        Ok(status) => ExitCode::from(status.code()),
-        Err(error) if error.kind() == io::ErrorKind::OutOfMemory => {
-            let ended = Err(Fault::NoMemory);
-            tell(&mut StdSink::new(host.stderr()), ended);
-            ExitCode::from(Status::of(ended).code())
-        }
-        Err(_) => ExitCode::FAILURE,
+/// gives the exit code with which the program has to end. `rt` and `host` are the same runtime: the one starts threads,
+/// the other has the words and the streams.
+pub fn run_on_host<R: Threads + Sync>(rt: &R, host: &HostRuntime) -> Exit
+    ensures { IsExitCode result }
+{
+    match words_of(host) {
+        Ok(owned) => match borrowed(host.alloc(), &owned) {
+            Ok(words) => run_on_streams(rt, host, Ok(&words)),
+            Err(why) => run_on_streams(rt, host, Err(why)),
+        },
+        Err(why) => run_on_streams(rt, host, Err(why)),
     }
 }
 
-/// The same, or why there are no words.
-fn run_on_words<R: Threads + Sync>(rt: &R, host: &HostRuntime) -> io::Result<Status> {
-    let owned: Vec<String> = env::args(host)?.skip(1).collect(host.alloc())?;
-    let mut words = Vec::new(host.alloc());
-    for word in &owned {
-        words.push(word.as_str())?;
-    }
+/// Runs on these words, over the system's streams.
+fn run_on_streams<R: Threads + Sync>(
+    rt: &R,
+    host: &HostRuntime,
+    words: Result<&[&str], NoWords>,
+) -> Exit
+    ensures { EndsOnStreams (result_map_both (λ given. texts given.now) (λ why. why) words.entry) result }
+{
     let mut source = StdSource::new(host.stdin());
     let mut out = StdSink::new(host.stdout());
     let mut err = StdSink::new(host.stderr());
-    Ok(run(
-        rt,
-        host.alloc(),
-        &words,
-        &mut source,
-        &mut out,
-        &mut err,
-        &OpenGate,
-    ))
+    run_on_words(rt, host.alloc(), words, &mut source, &mut out, &mut err)
+}
+
+/// Runs on these words, without the program's own name, and gives the exit code of the run's status. Where there are no
+/// words it tells want of memory, if that is why, and the exit code is that of it or 1.
+pub fn run_on_words<'w, R: Threads + Sync, S: Source, O: Sink, E: Sink>(
+    rt: &R,
+    alloc: Global,
+    words: Result<&'w [&'w str], NoWords>,
+    source: &mut S,
+    out: &mut O,
+    err: &mut E,
+) -> Exit
+    ensures { EndsProgram (result_map_both (λ given. texts given.now) (λ why. why) words.entry) result
+        (intake_of S.left S.faults S.ends source.old source.new)
+        (change_of O.held O.faults out.old out.new) (change_of E.held E.faults err.old err.new) }
+{
+    match words {
+        Ok(words) => Exit::of(run(rt, alloc, words, source, out, err, &OpenGate)),
+        Err(NoWords::NoMemory) => {
+            tell(err, Err(Fault::NoMemory));
+            Exit::without_words(NoWords::NoMemory)
+        }
+        Err(NoWords::NotGiven) => Exit::without_words(NoWords::NotGiven),
+    }
+}
+
+/// The words of the command line without the program's name, or why there are none.
+fn words_of(host: &HostRuntime) -> Result<Vec<String>, NoWords> {
+    Ok(env::args(host)?.skip(1).collect(host.alloc())?)
+}
+
+/// These words, borrowed.
+fn borrowed(alloc: Global, owned: &[String]) -> Result<Vec<&str>, NoWords> {
+    let mut words = Vec::new(alloc);
+    for word in owned {
+        if words.push(word.as_str()).is_err() {
+            return Err(NoWords::NoMemory);
+        }
+    }
+    Ok(words)
 }

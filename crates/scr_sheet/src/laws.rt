@@ -1,6 +1,6 @@
 //! What holds of sheets and of runs whatever the code: calls that do nothing, whose contracts are the laws.
 
-ghost use Rattle.std.specs.Prelude.{◌≡◌, ◌≢◌, ◌<◌, ◌⊎◌, ℕ, List, [], ◌∷◌, map, length, sum_by, All, IsTrue, IsSome, Option, Some, Result, Ok, Err};
+ghost use Rattle.std.specs.Prelude.{◌≡◌, ◌≢◌, ◌<◌, ◌⊎◌, ℕ, List, [], ◌∷◌, ◌++◌, map, length, sum_by, All, IsTrue, IsSome, Option, Some, Result, Ok, Err};
 ghost use Rattle.scr_outside.specs.Change.{Change, Falters};
 ghost use Rattle.scr_outside.specs.Faults.{Rose};
 ghost use Rattle.scr_combinatorics.specs.Play.{play};
@@ -18,7 +18,9 @@ ghost use Rattle.scr_slots.specs.declared.settings.Settings.{Settings};
 ghost use Rattle.scr_sheet.specs.declared.fault.Fault.{Fault};
 ghost use Rattle.scr_sheet.specs.declared.status.Status.{Status};
 ghost use Rattle.scr_command.specs.declared.command.Command.TheVariants.{Tables};
+ghost use Rattle.scr_command.specs.declared.command.Command.{Command};
 ghost use Rattle.scr_command.specs.declared.command.UsageFault.{UsageFault};
+ghost use Rattle.scr_words.specs.declared.seed.Seed.{Seed};
 ghost use Rattle.scr_notation.specs.Event.{net_side_of};
 ghost use Rattle.scr_command.specs.Command.{command_of, HasOptions};
 ghost use Rattle.scr_table_text.specs.TableText.{IsTablesText};
@@ -31,8 +33,15 @@ ghost use Rattle.scr_sheet.specs.Sheet.{Part, round_parts, single_part, IsPartTe
 ghost use Rattle.scr_sheet.specs.Headline.{StandInOrder};
 ghost use Rattle.scr_sheet.specs.Load.{load_rounds};
 ghost use Rattle.scr_round.specs.Round.{slots_of};
-ghost use Rattle.scr_sheet.specs.Task.{IsUnhindered, IsUnhinderedCheck, LacksScramble, EndsWith};
+ghost use Rattle.scr_sheet.specs.Task.{IsUnhindered, IsUnhinderedCheck, LacksScramble, EndsWith, with_seed};
+ghost use Rattle.scr_check.specs.Parts.{separator, sheet_part};
+ghost use Rattle.scr_check.specs.Shapes.{IsListText};
+ghost use Rattle.scr_command.specs.declared.options.Options.{Options};
+ghost use Rattle.scr_list.specs.Rounds.{rounds_of};
+ghost use Rattle.scr_sheet.specs.Check.{check_settings};
+ghost use Rattle.scr_sheet.specs.Sheet.{settings_of};
 
+use scr_check::laws as check_laws;
 use scr_list::laws as list_laws;
 use scr_slots::laws as slot_laws;
 
@@ -67,6 +76,15 @@ pub fn checks()
     ensures { (words : List (List ℕ)) (outcome : Status) (source out err : Change) (settings : Settings) (input : List ℕ) (answer : Result (Unit {0}) Fault)
         → IsUnhinderedCheck words outcome source out err settings input
         → InputComesTo settings (rounds_in input) input answer → EndsWith outcome (status_of answer) }
+{}
+
+/// Want of memory tells nothing of what is drawn: whatever a run shows that ends so (what was taken of the input, that
+/// nothing was written, what was told) may be shown as well by a run that is asked for the same with any other seed.
+pub fn want_of_memory()
+    ensures seed { (first : List ℕ) (words other : List (List ℕ)) (command : Command) (seed : Seed) (source out err : Change)
+        → command_of (first ∷ words) ≡ Ok command → command_of (first ∷ other) ≡ Ok (with_seed seed command)
+        → IsRun (first ∷ words) NoMemory source out err → IsRun (first ∷ other) NoMemory source out err }
+    ensures nothing { (words : List (List ℕ)) (source out err : Change) → IsRun words NoMemory source out err → IsUnwritten out }
 {}
 
 /// Where the input's count of faults rose the status is `ReadFault`, and where the output's did it is `WriteFault`.
@@ -122,3 +140,19 @@ pub fn one_reading()
     ensures { (text : List ℕ) (some other : List (List Turn)) → StandInOrder some text → StandInOrder other text
         → map text_of some ≡ map text_of other }
 {}
+
+/// The program's own sheet agrees. Where an input's list part names rounds and its sheet part is the text of their
+/// sheet, a check with the seed and the attempts of that sheet finds that all agrees, however much work its scrambles
+/// took. So it does of a list of whole lines, the line that separates, and the sheet of the list's rounds.
+pub fn own_sheet_agrees()
+    ensures parts { (seed : Seed) (options : Options) (rounds : List Round) (input : List ℕ) → rounds_in input ≡ Ok rounds
+        → IsText (IsPartText (settings_of seed options)) (round_parts 0 rounds) (sheet_part input)
+        → InputComesTo (check_settings seed options.attempts) (rounds_in input) input (Ok tt) }
+    ensures behind { (seed : Seed) (options : Options) (rounds : List Round) (list text : List ℕ) → IsListText list
+        → rounds_of list ≡ Ok rounds → IsText (IsPartText (settings_of seed options)) (round_parts 0 rounds) text
+        → let input = list ++ (separator ++ 10 ∷ text) in
+        InputComesTo (check_settings seed options.attempts) (rounds_in input) input (Ok tt) }
+{
+    check_laws::parts_are_read_back();
+    slot_laws::one_answer();
+}

@@ -9,6 +9,7 @@
 #![tactic(auto)]
 
 mod check;
+mod exit;
 mod fault;
 mod host;
 pub mod laws;
@@ -16,14 +17,15 @@ mod load;
 mod making;
 mod parts;
 mod program;
+mod room;
 mod sheet_lines;
 mod single;
 mod slot_jobs;
 mod status;
-mod text_sink;
 
+pub use exit::{Exit, NoWords};
 pub use fault::Fault;
-pub use host::run_on_host;
+pub use host::{run_on_host, run_on_words};
 pub use making::{RoundFault, make_round};
 pub use program::run;
 pub use scr_command::{Command, CommandFault, Options, UsageFault, read_command};

@@ -1,9 +1,8 @@
 //! The command `load`: a sheet is made whose list follows from a number, and told is what it amounts to.
 //!
-//! The sheet is not written, and never held whole: each round is made, written to a sink of its own, counted and
-//! dropped.
+//! The sheet is not written, and never held: each round is made, and its lines are counted.
 
-ghost use Rattle.std.specs.Prelude.{◌≡◌, ◌*◌, ◌<◌, ◌≤◌, ℕ, List, ◌++◌, codes, length, sum, sum_by, All, MatchResult, IfOk};
+ghost use Rattle.std.specs.Prelude.{◌≡◌, ◌+◌, ◌*◌, ◌<◌, ◌≤◌, ℕ, List, ◌++◌, codes, length, sum, sum_by, All, MatchResult, IfOk};
 ghost use Rattle.scr_notation.specs.EventSets.{Has};
 ghost use Rattle.std.specs.Fmt.{decimal};
 ghost use Rattle.scr_outside.specs.Change.{change_of, Writes};
@@ -12,21 +11,25 @@ ghost use Rattle.scr_command.specs.Command.{usual_options};
 ghost use Rattle.scr_slots.specs.Ranges.{AreInRange};
 ghost use Rattle.scr_sheet.specs.Sheet.{settings_of, round_part, round_parts};
 ghost use Rattle.scr_sheet.specs.Load.{load_seed, load_round, load_rounds, load_text};
-ghost use Rattle.scr_round.specs.Round.{slots_of};
+ghost use Rattle.std.specs.Vec.{vec_len};
+ghost use Rattle.scr_round.specs.Round.{slots_of, line_text, round_text, IsBelow, IsInRange};
+ghost use Rattle.scr_round.specs.SheetLine.{line_of};
+ghost use Rattle.scr_round.specs.Made.{turns_of_each};
 ghost use Rattle.scr_sheet.specs.Making.{CanBeMade};
+ghost use Rattle.scr_sheet.specs.Room.{IsRoom, IsRoomFor, SpendsOne};
 ghost use Rattle.scr_sheet.specs.Outcome.{EndsLoad, EndsUnmade};
 ghost use Rattle.scr_sheet.specs.Sizes.{IsSizeOf, IsPartSize, SizesMaking, SizesParts};
 
 use crate::fault::Fault;
 use crate::making::Making;
-use crate::parts::made_round;
-use crate::text_sink::{TEXT_ROOM, TextSink};
+use crate::parts::make_in_room;
+use crate::room::{Room, most_slots};
 use arrayvec::{ArrayString, ArrayVec};
 use scr_command::Options;
 use scr_list::Round;
-use scr_notation::EVENTS;
-use scr_outside::{Failed, Sink, write_line};
-use scr_round::{slots, write_round};
+use scr_notation::{EVENTS, Scramble, print};
+use scr_outside::{Failed, LINE_ROOM, Sink, write_line};
+use scr_round::{SheetLine, line_at, line_count, slots};
 use scr_slots::Tables;
 use scr_text::decimal;
 use scr_words::Seed;
@@ -36,6 +39,9 @@ use std::thread::Threads;
 
 /// The most rounds of a list that follows from a number.
 const MOST_ROUNDS: usize = 16;
+
+/// The most lines of a round.
+const MOST_LINES: usize = 235;
 
 /// How many events such lists have: the first ones, which stay the same when events are added.
 const LOADED_EVENTS: usize = 11;
@@ -118,60 +124,107 @@ fn sheet_size<R: Threads + Sync, G: Gate + Sync>(
     ensures { SizesMaking (settings_of seed.now usual_options) (round_parts 0 rounds.now) result }
 {
     let tables = Tables::build(rt, alloc, rounds, 1)?;
-    let making = Making::new(rt, alloc, &tables, seed, &Options::default(), gate);
-    rounds_size(&making, rounds)
+    let mut room = Room::take(alloc, rounds.len() as u32, most_slots(rounds), 1)?;
+    let making = Making::new(rt, &tables, seed, &Options::default(), gate);
+    rounds_size(&making, &mut room, rounds)
 }
 
-/// The same, where the tables of the rounds' events are built.
+/// The same, where the tables of the rounds' events are built, in a room for the rounds.
 fn rounds_size<R: Threads + Sync, G: Gate + Sync>(
     making: &Making<'_, R, G>,
+    room: &mut Room,
     rounds: &[Round],
 ) -> Result<Size, Fault>
     requires tables { All (λ round. Has making.now.tables.now round.event) rounds.now }
     requires rounds { IsRounds rounds.now }
     requires few { length rounds.now ≤ 16 }
     requires settings { AreInRange making.now.settings }
+    requires room { IsRoomFor rounds.now room.old }
     ensures { SizesParts making.now.settings (round_parts 0 rounds.now) result }
 {
     let mut size = Size { bytes: 0, sum: 0 };
     for (index, round) in rounds.iter().enumerate() {
-        let more = round_size(making, index as u32, round)?;
+        let more = size_in_room(making, room, index as u32, round)?;
         size.bytes += more.bytes;
         size.sum += more.sum;
     }
     Ok(size)
 }
 
-/// What the text of a round amounts to. Memory may be wanting for the text.
-fn round_size<R: Threads + Sync, G: Gate + Sync>(
+/// Makes a round, and gives what its text amounts to.
+fn size_in_room<R: Threads + Sync, G: Gate + Sync>(
     making: &Making<'_, R, G>,
+    room: &mut Room,
     index: u32,
     round: &Round,
 ) -> Result<Size, Fault>
-    requires { CanBeMade making.now.tables.now making.now.settings index round.now }
+    requires can { CanBeMade making.now.tables.now making.now.settings index round.now }
+    requires room { IsRoom 1 room.old }
+    requires slots { slots_of round.now ≤ vec_len room.old.answers }
     ensures size { let settings = making.now.settings in
         MatchResult result (IsPartSize settings (round_part index round.now)) (EndsUnmade settings index (round_part index round.now)) }
-    ensures few { IfOk result (λ size. size.bytes ≤ TEXT_ROOM) }
-    ensures low { IfOk result (λ size. size.sum ≤ TEXT_ROOM * 255) }
+    ensures few { IfOk result (λ size. size.bytes ≤ MOST_LINES * LINE_ROOM) }
+    ensures low { IfOk result (λ size. size.sum ≤ MOST_LINES * LINE_ROOM * 255) }
+    ensures room { SpendsOne room.old room.new }
 {
-    let made = made_round(making, index, round)?;
-    let mut text = TextSink::new(making.alloc)?;
-    match write_round(&mut text, &made) {
-        Ok(()) => Ok(size_of(text.text())),
-        Err(_) => Err(Fault::NoMemory),
+    make_in_room(making, room, index, round)?;
+    Ok(round_size(index, round, &room.scrambles))
+}
+
+/// What the text of round `index` with these scrambles amounts to, counted line by line.
+fn round_size(index: u32, round: &Round, scrambles: &[Scramble]) -> Size
+    requires index { index < 256 }
+    requires round { IsInRange round.now }
+    requires each_slot { length scrambles.now ≡ slots_of round.now }
+    ensures size { IsSizeOf (round_text index round.now (turns_of_each scrambles.now)) result }
+    ensures few { result.bytes ≤ MOST_LINES * LINE_ROOM }
+    ensures low { result.sum ≤ MOST_LINES * LINE_ROOM * 255 }
+{
+    let mut size = Size { bytes: 0, sum: 0 };
+    for line in 0..line_count(round) {
+        let more = line_size(&line_at(index, round, line), scrambles);
+        size.bytes += more.bytes;
+        size.sum += more.sum;
+    }
+    size
+}
+
+/// What a line of a round with these scrambles amounts to.
+fn line_size(line: &SheetLine, scrambles: &[Scramble]) -> Size
+    requires { IsBelow (length scrambles.now) (line_of line.now) }
+    ensures size { IsSizeOf (line_text (turns_of_each scrambles.now) (line_of line.now) ++ codes "\n") result }
+    ensures few { result.bytes ≤ LINE_ROOM }
+    ensures low { result.sum ≤ LINE_ROOM * 255 }
+{
+    match line {
+        SheetLine::Fixed(text) => size_of("", text.as_str()),
+        SheetLine::Slot { label, slot } => size_of(
+            label.as_str(),
+            print(&scrambles[*slot as usize]).as_str(),
+        ),
     }
 }
 
-/// What a text amounts to.
-fn size_of(text: &[u8]) -> Size
-    requires { length text.now ≤ TEXT_ROOM }
-    ensures size { IsSizeOf text.now result }
-    ensures low { result.sum ≤ TEXT_ROOM * 255 }
+/// What a line amounts to, a label before a text, with its line feed.
+fn size_of(label: &str, text: &str) -> Size
+    requires { length label.now + length text.now < LINE_ROOM }
+    ensures size { IsSizeOf (label.now ++ text.now ++ codes "\n") result }
+    ensures few { result.bytes ≤ LINE_ROOM }
+    ensures low { result.sum ≤ LINE_ROOM * 255 }
 {
     Size {
-        bytes: text.len() as u32,
-        sum: text.iter().map(|byte| u32::from(*byte)).sum(),
+        bytes: (label.len() + text.len() + 1) as u32,
+        sum: sum_of(label.as_bytes()) + sum_of(text.as_bytes()) + u32::from(b'\n'),
     }
+}
+
+/// What some bytes add up to.
+fn sum_of(bytes: &[u8]) -> u32
+    requires { length bytes.now < LINE_ROOM }
+    ensures sum { result ≡ sum bytes.now }
+    ensures low { result ≤ length bytes.now * 255 }
+{
+    bytes.iter().map(|byte| u32::from(*byte)).sum()
 }
 
 /// Writes how many rounds and slots a sheet has, and what it amounts to.

@@ -1,13 +1,17 @@
 //! The scrambles of rounds, drawn slot by slot, by workers.
 
-ghost use Rattle.std.specs.Prelude.{◌≡◌, ◌<◌, ◌≤◌, ◌++◌, [], ◌∷◌, map, Some, IfOk, MatchResult};
+ghost use Rattle.std.specs.Prelude.{◌≡◌, ℕ, ◌+◌, ◌≤◌, length, map, Some, All, MatchResult};
 ghost use Rattle.std.specs.Vec.{vec_len, vec_capacity};
+ghost use Rattle.scr_workers.specs.Boards.{HasRoom};
+ghost use Rattle.scr_round.specs.Round.{slots_of};
 ghost use Rattle.scr_slots.specs.Events.{scrambling_of};
 ghost use Rattle.scr_slots.specs.Slots.{IsDrawnFairly};
 ghost use Rattle.scr_sheet.specs.declared.making.RoundFault.TheVariants as fault;
 ghost use Rattle.scr_sheet.specs.Making.{answer_at, CanBeMade, IsRoundMade, IsPartFault, IsFirstNone};
-ghost use Rattle.scr_sheet.specs.Sheet.{settings_of, round_part};
+ghost use Rattle.scr_sheet.specs.Room.{IsRoom, SpendsOne};
+ghost use Rattle.scr_sheet.specs.Sheet.{settings_of, round_part, AreScrambles, IsFirstWithout};
 
+use crate::room::Room;
 use crate::slot_jobs::SlotJobs;
 use scr_command::Options;
 use scr_list::Round;
@@ -17,8 +21,8 @@ use scr_round::{RoundResult, slots};
 use scr_slots::laws::each_drawn_fairly;
 use scr_slots::{Effort, Settings, Tables};
 use scr_words::Seed;
-use scr_workers::{Board, Gate, run_claims};
-use std::alloc::{AllocError, Global};
+use scr_workers::{ClaimWord, Gate, Lane, claim_slots};
+use std::alloc::Global;
 use std::thread::Threads;
 
 /// Why a round could not be made.
@@ -28,14 +32,6 @@ pub enum RoundFault {
     NoMemory,
     /// No attempt of this slot, from 0, gave a permitted state; they took so many words.
     Limit { slot: u32, words: u32 },
-}
-
-impl From<AllocError> for RoundFault {
-    ghost from_gives = { λ _ given. given ≡ fault.NoMemory };
-
-    fn from(_wanting: AllocError) -> RoundFault {
-        RoundFault::NoMemory
-    }
 }
 
 impl From<NoMemory> for RoundFault {
@@ -52,8 +48,8 @@ const MOST_WORKERS: u32 = 64;
 /// Makes round `index` of a list, counted from 0: the scramble of each slot, in order. Workers claim the slots one by
 /// one; how many there are changes no scramble. Each slot passes the gate before it is drawn.
 ///
-/// The tables have the round's event, `index` is below 256, the round is one that a list can name, and there are at
-/// most 1,000,000 attempts, and 1 to 1,000 ways to the square shape. All memory is taken before the first draw. `Limit`
+/// The tables have the round's event, `index` is below 256, the round has 1 to 26 groups and a minimum of its event's
+/// range, and any name, and there are at most 1,000,000 attempts, and 1 to 1,000 ways to the square shape. All memory is taken before the first draw. `Limit`
 /// names the first slot whose attempts give no permitted state, and comes exactly where there is one. The event is
 /// drawn fairly at the round's minimum; of random moves this says that each of their steps is fair.
 pub fn make_round<R: Threads + Sync, G: Gate + Sync>(
@@ -72,7 +68,17 @@ pub fn make_round<R: Threads + Sync, G: Gate + Sync>(
     ensures fair { IsDrawnFairly (scrambling_of round.now.event) round.now.least }
 {
     each_drawn_fairly(tables);
-    Making::new(rt, alloc, tables, seed, options, gate).round(index, round)
+    let mut room = Room::take(alloc, 1, slots(round), workers_of(options))?;
+    match Making::new(rt, tables, seed, options, gate).round(&mut room, index, round) {
+        Ok(()) => {
+            let Room { scrambles, .. } = room;
+            Ok(RoundResult::new(round.copied(), index, scrambles))
+        }
+        Err(slot) => Err(RoundFault::Limit {
+            slot,
+            words: 3 * options.attempts,
+        }),
+    }
 }
 
 /// What a sheet of a seed is made with, under these options.
@@ -96,19 +102,15 @@ pub(crate) fn workers_of(options: &Options) -> u32
     options.workers.clamp(1, MOST_WORKERS)
 }
 
-/// What the scrambles of rounds are made with.
+/// What the scrambles of rounds are made with. It has no memory to give.
 #[derive(Drop)]
 pub(crate) struct Making<'a, R: Threads + Sync, G: Gate + Sync> {
     /// What starts threads.
     pub rt: &'a R,
-    /// Where memory comes from.
-    pub alloc: Global,
     /// The tables of the rounds' events.
     pub tables: &'a Tables,
     /// The seed, and how much work scrambles may take.
     pub settings: Settings,
-    /// How many workers answer the slots of a round, where it has as many.
-    pub workers: u32,
     /// What each slot passes before it is drawn.
     pub gate: &'a G,
 }
@@ -117,7 +119,6 @@ impl<'a, R: Threads + Sync, G: Gate + Sync> Making<'a, R, G> {
     /// With this seed and these options.
     pub fn new(
         rt: &'a R,
-        alloc: Global,
         tables: &'a Tables,
         seed: &Seed,
         options: &Options,
@@ -128,77 +129,101 @@ impl<'a, R: Threads + Sync, G: Gate + Sync> Making<'a, R, G> {
     {
         Making {
             rt,
-            alloc,
             tables,
             settings: settings_of(seed, options),
-            workers: workers_of(options),
             gate,
         }
     }
 
-    /// Makes round `index` of a list: all slots are answered, and the first without a scramble is named. Memory is
-    /// taken before the first slot is drawn.
-    pub fn round(&self, index: u32, round: &Round) -> Result<RoundResult, RoundFault>
-        requires { CanBeMade self.now.tables.now self.now.settings index round.now }
-        ensures { let settings = self.now.settings in
-            MatchResult result (IsRoundMade settings index round.now) (IsPartFault settings (round_part index round.now)) }
+    /// Makes round `index` of a list in a room, which has its scrambles afterwards; or gives the first slot without
+    /// one. The slots are answered in as many lanes as the room has, where there are as many slots.
+    pub fn round(&self, room: &mut Room, index: u32, round: &Round) -> Result<(), u32>
+        requires can { CanBeMade self.now.tables.now self.now.settings index round.now }
+        requires room { IsRoom 1 room.old }
+        requires slots { slots_of round.now ≤ vec_len room.old.answers }
+        ensures made { let part = round_part index round.now in
+            MatchResult result (λ _. AreScrambles self.now.settings part part.slots room.new.scrambles.items)
+            (IsFirstWithout self.now.settings part) }
+        ensures room { SpendsOne room.old room.new }
     {
-        let slots = slots(round);
-        let workers = self.workers.min(slots).clamp(1, MOST_WORKERS);
-        let board = Board::new(self.alloc, workers, slots)?;
-        let mut answers = unanswered(self.alloc, slots)?;
-        let scrambles = Vec::with_capacity(self.alloc, slots as usize)?;
         let jobs = SlotJobs::new(self.tables, &self.settings, index, round);
-        run_claims(self.rt, board, &jobs, &mut answers, self.gate);
-        match all_scrambles(answers, scrambles) {
-            Ok(all) => Ok(RoundResult::new(round.copied(), index, all)),
-            Err(slot) => Err(RoundFault::Limit {
-                slot,
-                words: 3 * self.settings.attempts,
-            }),
+        match room.words.pop() {
+            Some(word) => self.answer_slots(
+                word,
+                room.lanes.as_mut_slice(),
+                &jobs,
+                room.answers.as_mut_slice(),
+                slots(round) as usize,
+                &mut room.scrambles,
+            ),
+            None => unreachable!(),
         }
     }
-}
 
-/// A place for the answer of each slot, with none in it yet.
-fn unanswered(alloc: Global, slots: u32) -> Result<Vec<Option<Option<Scramble>>>, AllocError>
-    ensures { IfOk result (λ answers. vec_len answers ≡ slots) }
-{
-    let mut answers = Vec::with_capacity(alloc, slots as usize)?;
-    for _slot in 0..slots {
-        push_within(&mut answers, None);
+    /// Answers the slots of a round, in no more lanes than there are slots, and gathers their scrambles; or gives the
+    /// first slot without one.
+    fn answer_slots(
+        &self,
+        word: ClaimWord,
+        lanes: &mut [Lane<Option<Scramble>>],
+        jobs: &SlotJobs<'_>,
+        places: &mut [Option<Option<Scramble>>],
+        slots: usize,
+        scrambles: &mut Vec<Scramble>,
+    ) -> Result<(), u32>
+        requires slots { slots ≡ slots_of jobs.now.round }
+        requires few { slots ≤ 182 }
+        requires places { slots ≤ length places.old }
+        requires list { slots ≤ vec_capacity scrambles.old }
+        requires lanes { (1 ≤ length lanes.old) × (length lanes.old ≤ 64) }
+        requires room { All (HasRoom slots) lanes.old }
+        ensures made { let settings = jobs.now.settings in
+            let part = round_part jobs.now.index jobs.now.round in
+            MatchResult result (λ _. AreScrambles settings part part.slots scrambles.new.items) (IsFirstWithout settings part) }
+        ensures room { (slots : ℕ) → All (HasRoom slots) lanes.old → All (HasRoom slots) lanes.new }
+        ensures list { vec_capacity scrambles.new ≡ vec_capacity scrambles.old }
+    {
+        let workers = lanes.len().min(slots).max(1);
+        claim_slots(
+            self.rt,
+            word,
+            &mut lanes[..workers],
+            jobs,
+            &mut places[..slots],
+            self.gate,
+        );
+        take_scrambles(&mut places[..slots], scrambles)
     }
-    Ok(answers)
 }
 
-/// The scrambles of answers, all of which are one, in a list that has room for them; or the first that is none.
-fn all_scrambles(
-    answers: Vec<Option<Option<Scramble>>>,
-    mut scrambles: Vec<Scramble>,
-) -> Result<Vec<Scramble>, u32>
-    requires few { vec_len answers ≤ 182 }
-    requires empty { scrambles.items ≡ [] }
-    requires room { vec_len answers ≤ vec_capacity scrambles }
-    ensures { let all_answers = map answer_at answers.items in
-        MatchResult result (λ all. map Some all.items ≡ all_answers) (IsFirstNone all_answers) }
+/// Moves the scrambles of answers, all of which are one, to a list that has room for them; or gives the first that is
+/// none.
+fn take_scrambles(
+    answers: &mut [Option<Option<Scramble>>],
+    scrambles: &mut Vec<Scramble>,
+) -> Result<(), u32>
+    requires few { length answers.old ≤ 182 }
+    requires room { length answers.old ≤ vec_capacity scrambles.old }
+    ensures taken { let all_answers = map answer_at answers.old in
+        MatchResult result (λ _. map Some scrambles.new.items ≡ all_answers) (IsFirstNone all_answers) }
+    ensures room { vec_capacity scrambles.new ≡ vec_capacity scrambles.old }
 {
-    for answer in answers {
-        match answer {
-            Some(Some(scramble)) => push_within(&mut scrambles, scramble),
-            _ => return Err(scrambles.len() as u32),
+    scrambles.clear();
+    for k in 0..answers.len() {
+        match answer_at(answers[k].take()) {
+            Some(scramble) => scrambles.push_reserved(scramble),
+            None => return Err(k as u32),
         }
     }
-    Ok(scrambles)
+    Ok(())
 }
 
-/// Appends to a list that has room.
-fn push_within<T: Drop>(list: &mut Vec<T>, item: T)
-    requires { vec_len list.old < vec_capacity list.old }
-    ensures items { list.new.items ≡ list.old.items ++ item ∷ [] }
-    ensures room { vec_capacity list.old ≤ vec_capacity list.new }
+/// What stands at a place for an answer; where nothing does, there is no scramble.
+fn answer_at(place: Option<Option<Scramble>>) -> Option<Scramble>
+    ensures { result ≡ answer_at place }
 {
-    match list.push(item) {
-        Ok(()) => {}
-        Err(_) => unreachable!(),
+    match place {
+        Some(answer) => answer,
+        None => None,
     }
 }

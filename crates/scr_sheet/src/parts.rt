@@ -5,21 +5,25 @@ ghost use Rattle.scr_outside.specs.Change.{change_of, intake_of};
 ghost use Rattle.scr_notation.specs.EventSets.{Has};
 ghost use Rattle.scr_list.specs.RoundLists.{IsRounds};
 ghost use Rattle.scr_command.specs.declared.command.Command.TheVariants.{Sheet};
+ghost use Rattle.std.specs.Vec.{vec_len};
+ghost use Rattle.scr_round.specs.Round.{slots_of};
 ghost use Rattle.scr_slots.specs.Tables.{HasTables};
 ghost use Rattle.scr_slots.specs.Ranges.{AreInRange, IsShort};
 ghost use Rattle.scr_sheet.specs.declared.fault.Fault.TheVariants.{NoMemory};
-ghost use Rattle.scr_sheet.specs.Sheet.{settings_of, round_part, round_parts};
+ghost use Rattle.scr_sheet.specs.Sheet.{settings_of, round_part, round_parts, AreScrambles};
 ghost use Rattle.scr_sheet.specs.Outcome.{Ends, EndsMaking, EndsParts, EndsTables, EndsUnmade, IsUnwritten};
 ghost use Rattle.scr_sheet.specs.Causes.{LacksTables};
-ghost use Rattle.scr_sheet.specs.Making.{CanBeMade, IsRoundMade};
+ghost use Rattle.scr_sheet.specs.Making.{CanBeMade};
+ghost use Rattle.scr_sheet.specs.Room.{IsRoom, IsRoomFor, SpendsOne};
 
 use crate::fault::Fault;
-use crate::making::{Making, RoundFault, workers_of};
+use crate::making::{Making, workers_of};
+use crate::room::{Room, most_slots};
 use scr_command::Options;
 use scr_list::{Round, read_rounds};
 use scr_notation::Event;
 use scr_outside::{Sink, Source};
-use scr_round::{RoundResult, write_round};
+use scr_round::write_slots;
 use scr_slots::{Tables, write_tables_of};
 use scr_words::Seed;
 use scr_workers::Gate;
@@ -61,25 +65,29 @@ fn make_sheet<R: Threads + Sync, O: Sink, G: Gate + Sync>(
     ensures { EndsMaking (settings_of seed.now options.now) (round_parts 0 rounds.now)
         (change_of O.held O.faults out.old out.new) result }
 {
-    let tables = Tables::build(rt, alloc, rounds, workers_of(options))?;
-    let making = Making::new(rt, alloc, &tables, seed, options, gate);
-    write_rounds(&making, rounds, out)
+    let workers = workers_of(options);
+    let tables = Tables::build(rt, alloc, rounds, workers)?;
+    let mut room = Room::take(alloc, rounds.len() as u32, most_slots(rounds), workers)?;
+    let making = Making::new(rt, &tables, seed, options, gate);
+    write_rounds(&making, &mut room, rounds, out)
 }
 
 /// Makes and writes these rounds, each once all its slots have their scrambles.
 fn write_rounds<R: Threads + Sync, O: Sink, G: Gate + Sync>(
     making: &Making<'_, R, G>,
+    room: &mut Room,
     rounds: &[Round],
     out: &mut O,
 ) -> Result<(), Fault>
     requires tables { All (λ round. Has making.now.tables.now round.event) rounds.now }
     requires rounds { IsRounds rounds.now }
     requires settings { AreInRange making.now.settings }
+    requires room { IsRoomFor rounds.now room.old }
     ensures { EndsParts making.now.settings 0 (round_parts 0 rounds.now)
         (change_of O.held O.faults out.old out.new) result }
 {
     for (index, round) in rounds.iter().enumerate() {
-        write_one_round(making, index as u32, round, out)?;
+        write_one_round(making, room, index as u32, round, out)?;
     }
     Ok(())
 }
@@ -87,37 +95,45 @@ fn write_rounds<R: Threads + Sync, O: Sink, G: Gate + Sync>(
 /// Makes a round, and writes it.
 fn write_one_round<R: Threads + Sync, O: Sink, G: Gate + Sync>(
     making: &Making<'_, R, G>,
+    room: &mut Room,
     index: u32,
     round: &Round,
     out: &mut O,
 ) -> Result<(), Fault>
-    requires { CanBeMade making.now.tables.now making.now.settings index round.now }
-    ensures { EndsParts making.now.settings index (round_part index round.now ∷ [])
+    requires can { CanBeMade making.now.tables.now making.now.settings index round.now }
+    requires room { IsRoom 1 room.old }
+    requires slots { slots_of round.now ≤ vec_len room.old.answers }
+    ensures ends { EndsParts making.now.settings index (round_part index round.now ∷ [])
         (change_of O.held O.faults out.old out.new) result }
+    ensures room { SpendsOne room.old room.new }
 {
-    let made = made_round(making, index, round)?;
-    write_round(out, &made)?;
+    make_in_room(making, room, index, round)?;
+    write_slots(out, index, round, &room.scrambles)?;
     Ok(())
 }
 
-/// Makes a round, or gives what the run ends with.
-pub(crate) fn made_round<R: Threads + Sync, G: Gate + Sync>(
+/// Makes a round, whose scrambles the room has then, or gives what the run ends with.
+pub(crate) fn make_in_room<R: Threads + Sync, G: Gate + Sync>(
     making: &Making<'_, R, G>,
+    room: &mut Room,
     index: u32,
     round: &Round,
-) -> Result<RoundResult, Fault>
-    requires { CanBeMade making.now.tables.now making.now.settings index round.now }
-    ensures { let settings = making.now.settings in
-        MatchResult result (IsRoundMade settings index round.now) (EndsUnmade settings index (round_part index round.now)) }
+) -> Result<(), Fault>
+    requires can { CanBeMade making.now.tables.now making.now.settings index round.now }
+    requires room { IsRoom 1 room.old }
+    requires slots { slots_of round.now ≤ vec_len room.old.answers }
+    ensures made { let part = round_part index round.now in
+        MatchResult result (λ _. AreScrambles making.now.settings part part.slots room.new.scrambles.items)
+        (EndsUnmade making.now.settings index part) }
+    ensures room { SpendsOne room.old room.new }
 {
-    match making.round(index, round) {
-        Ok(made) => Ok(made),
-        Err(RoundFault::Limit { slot, words }) => Err(Fault::DrawLimit {
+    match making.round(room, index, round) {
+        Ok(()) => Ok(()),
+        Err(slot) => Err(Fault::DrawLimit {
             round: index + 1,
             slot: slot + 1,
-            words,
+            words: 3 * making.settings.attempts,
         }),
-        Err(RoundFault::NoMemory) => Err(Fault::NoMemory),
     }
 }
 

@@ -1,15 +1,14 @@
 //! The commands that write one scramble.
 
-ghost use Rattle.std.specs.Prelude.{◌≡◌, ◌≤◌, ◌++◌, ◌∷◌, [], ℕ, Option, IfSome, IfOk, IfErr, Err, Some};
-ghost use Rattle.scr_outside.specs.Change.{Change, change_of, Writes};
+ghost use Rattle.std.specs.Prelude.{◌≡◌, ◌≤◌, ◌++◌, ◌∷◌, [], IfSome, Err, Some};
+ghost use Rattle.scr_outside.specs.Change.{change_of, Writes};
+ghost use Rattle.scr_notation.specs.EventSets.{Has};
 ghost use Rattle.scr_command.specs.Command.{usual_options};
 ghost use Rattle.scr_net.specs.Nets.{IsSide};
-ghost use Rattle.scr_slots.specs.Events.{scrambling_of};
-ghost use Rattle.scr_slots.specs.Slots.{IsDrawnFairly, IsSlotScramble};
 ghost use Rattle.scr_slots.specs.Tables.{HasTables};
 ghost use Rattle.scr_sheet.specs.declared.fault.Fault.TheVariants.{NoMemory};
 ghost use Rattle.scr_sheet.specs.Sheet.{settings_of, single_part, line_of, shown_net};
-ghost use Rattle.scr_sheet.specs.Outcome.{EndsMaking, IsUnwritten};
+ghost use Rattle.scr_sheet.specs.Outcome.{EndsMaking, EndsParts};
 
 use crate::fault::Fault;
 use crate::making::settings_of;
@@ -23,7 +22,7 @@ use std::alloc::Global;
 use std::thread::Threads;
 
 /// Draws the state of stream 0 of a seed, of which no minimum is asked, and writes the line of its scramble, and below
-/// it the net that this makes of a cube with so many layers, where one is asked.
+/// it the net that this makes of a cube with so many layers, where one is asked. Memory is taken for the tables alone.
 pub(crate) fn write_single<R: Threads + Sync, O: Sink>(
     rt: &R,
     alloc: Global,
@@ -37,28 +36,26 @@ pub(crate) fn write_single<R: Threads + Sync, O: Sink>(
         (change_of O.held O.faults out.old out.new) result }
     ensures memory { result ≡ Err NoMemory → HasTables event }
 {
-    let scramble = one_scramble(rt, alloc, event, seed)?;
-    write_with_net(side, &scramble, out)?;
-    Ok(())
+    let tables = Tables::of_event(rt, alloc, event)?;
+    write_drawn(&tables, event, seed, side, out)
 }
 
-/// The scramble of the state of stream 0 of a seed, of which no minimum is asked, or what the run ends with.
-fn one_scramble<R: Threads + Sync>(
-    rt: &R,
-    alloc: Global,
+/// The same, where the tables of the event are built.
+fn write_drawn<O: Sink>(
+    tables: &Tables,
     event: Event,
     seed: &Seed,
-) -> Result<Scramble, Fault>
-    ensures fair { IfOk result (λ _. IsDrawnFairly (scrambling_of event) 0) }
-    ensures scramble { IfOk result (IsSlotScramble (scrambling_of event) (settings_of seed.now usual_options) 0 0) }
-    ensures fault { IfErr result (λ fault. (side : Option ℕ) (out : Change) → IsUnwritten out
-        → EndsMaking (settings_of seed.now usual_options) (single_part event side ∷ []) out (Err fault)) }
-    ensures memory { result ≡ Err NoMemory → HasTables event }
+    side: Option<u8>,
+    out: &mut O,
+) -> Result<(), Fault>
+    requires tables { Has tables.now event }
+    requires side { IfSome side (λ side. (2 ≤ side) × (side ≤ 7)) }
+    ensures { EndsParts (settings_of seed.now usual_options) 0 (single_part event side ∷ [])
+        (change_of O.held O.faults out.old out.new) result }
 {
-    let tables = Tables::of_event(rt, alloc, event)?;
     let settings = settings_of(seed, &Options::default());
-    match slot_answer(&tables, event, &settings, 0, 0) {
-        Some(scramble) => Ok(scramble),
+    match slot_answer(tables, event, &settings, 0, 0) {
+        Some(scramble) => Ok(write_with_net(side, &scramble, out)?),
         None => Err(Fault::DrawLimit {
             round: 1,
             slot: 1,

@@ -6,7 +6,7 @@ use Rattle.scr_combinatorics.specs.Reach.{Puzzle}
 use Rattle.scr_draw.specs.StateSpace.{StateSpace, Draws, IsFairFor}
 use Rattle.scr_notation.specs.declared.event.Event.{Event}
 use Rattle.scr_notation.specs.declared.turn.Turn.{Turn}
-use Rattle.scr_notation.specs.Written.{Written}
+use Rattle.scr_notation.specs.Written.{Written, IsWritten}
 use Rattle.scr_slots.specs.declared.settings.Effort.{Effort}
 use Rattle.scr_slots.specs.declared.settings.Settings.{Settings}
 use Rattle.scr_slots.specs.Shown.{DrawnPuzzle, RandomMoves, GivesDrawn, HasMoves, slot_numbers}
@@ -40,9 +40,10 @@ AreSlotTurns (ByState S event drawn numbers IsScramble) settings least stream tu
     ByListing numbers drawn.puzzle (IsDrawnScramble drawn IsScramble settings least stream turns)
 AreSlotTurns (ByMoves event random) settings least stream turns = HasMoves random settings stream (Some turns)
 
--- A slot's scramble: its event and its turns.
+-- A slot's scramble: its event and its turns, all of which the event has.
 pub record IsSlotScramble (scrambling : Scrambling) (settings : Settings) (least stream : ℕ) (scramble : Written) : Type 0 where
   pub event : scramble.event ≡ event_of_scrambles scrambling
+  pub written : IsWritten scramble
   pub turns : AreSlotTurns scrambling settings least stream scramble.turns
 
 -- A slot has no scramble: each of its attempts misses, or all those of one of its random moves are refused.

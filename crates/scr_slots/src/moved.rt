@@ -21,7 +21,9 @@ pub(crate) fn cube_scramble<const SIDE: usize>(settings: &Settings, stream: u64)
     ensures { let cube = cube_of SIDE in IsSlotAnswer (ByMoves cube.event (cube_random_moves cube)) settings.now 0 stream result }
 {
     let mut words = ChaChaWords::new(&settings.seed, stream);
-    big_cube::<_, SIDE>(&mut words, settings.attempts).ok()
+    let scramble = big_cube::<_, SIDE>(&mut words, settings.attempts).ok()?;
+    let _turns = scramble.turns();
+    Some(scramble)
 }
 
 /// The scramble of a slot of a Megaminx on this stream.
@@ -29,5 +31,7 @@ pub(crate) fn megaminx_scramble(settings: &Settings, stream: u64) -> Scramble
     ensures { IsSlotScramble (ByMoves Minx moves_minx) settings.now 0 stream result }
 {
     let mut words = ChaChaWords::new(&settings.seed, stream);
-    megaminx(&mut words)
+    let scramble = megaminx(&mut words);
+    let _turns = scramble.turns();
+    scramble
 }

@@ -104,7 +104,11 @@ pub fn drawn_answer<E: Numbering + Permit<E::State>, Z: Scrambler<E::State>>(
     let _numbering = event.count();
     let mut words = ChaChaWords::new(&settings.seed, stream);
     match draw(&mut words, event, least, settings.attempts) {
-        Ok(state) => Some(scrambler.scramble(&state, settings.effort)),
+        Ok(state) => {
+            let scramble = scrambler.scramble(&state, settings.effort);
+            let _turns = scramble.turns();
+            Some(scramble)
+        }
         Err(_) => None,
     }
 }

@@ -34,6 +34,7 @@ mod orbit;
 #[cfg(test)]
 mod outside;
 #[cfg(test)]
+#[cfg(test)]
 mod pyram;
 #[cfg(test)]
 mod rank;

@@ -4,7 +4,7 @@ use scr_outside::*;
 use std::io;
 use std::test::Fail;
 
-/// A reader that gives `a`, is interrupted, gives `b`, and ends.
+/// A reader that gives `a`, is interrupted, fails twice, gives `b`, and ends.
 #[derive(Drop)]
 struct Interrupted {
     calls: u8,
@@ -16,7 +16,9 @@ impl io::Read for Interrupted {
         let byte = match self.calls {
             1 => b'a',
             2 => return Err(io::Error::from(io::ErrorKind::Interrupted)),
-            3 => b'b',
+            3 => return Err(io::Error::from(io::ErrorKind::WouldBlock)),
+            4 => return Err(io::Error::from(io::ErrorKind::Other)),
+            5 => b'b',
             _ => return Ok(0),
         };
         match buffer {
@@ -29,7 +31,7 @@ impl io::Read for Interrupted {
     }
 }
 
-/// A writer that takes one byte, then none, then fails, and then takes all.
+/// A writer that takes one byte, then none, then fails three times, and then takes all.
 #[derive(Drop)]
 struct Faltering {
     calls: u8,
@@ -42,6 +44,8 @@ impl io::Write for Faltering {
             1 => Ok(piece.len().min(1)),
             2 => Ok(0),
             3 => Err(io::Error::from(io::ErrorKind::Interrupted)),
+            4 => Err(io::Error::from(io::ErrorKind::WouldBlock)),
+            5 => Err(io::Error::from(io::ErrorKind::Other)),
             _ => Ok(piece.len()),
         }
     }
@@ -92,13 +96,15 @@ fn sources_give_their_bytes(rt: HostRuntime) -> Result<(), Fail> {
 }
 
 // Each answer is the stream's at just that call: an adapter that failed without asking, once or for ever after a fault,
-// would be a call behind.
+// would be a call behind, and one that asked again at an error would be ahead.
 #[test]
 fn adapters_pass_bytes_and_faults(rt: HostRuntime) {
     let mut source = StdSource::new(Interrupted { calls: 0 });
     let mut buffer = [0; 8];
     for (wanted, byte) in [
         (Ok(1), b'a'),
+        (Err(Failed), b'a'),
+        (Err(Failed), b'a'),
         (Err(Failed), b'a'),
         (Ok(1), b'b'),
         (Ok(0), b'b'),
@@ -109,7 +115,15 @@ fn adapters_pass_bytes_and_faults(rt: HostRuntime) {
     }
 
     let mut sink = StdSink::new(Faltering { calls: 0 });
-    for wanted in [Ok(1), Err(Failed), Err(Failed), Ok(2), Ok(2)] {
+    for wanted in [
+        Ok(1),
+        Err(Failed),
+        Err(Failed),
+        Err(Failed),
+        Err(Failed),
+        Ok(2),
+        Ok(2),
+    ] {
         assert_eq!(rt; sink.write(b"ab"), wanted);
     }
 }

@@ -1,22 +1,11 @@
--- A lane and a board as `Board::new` makes them.
-use Rattle.std.specs.Prelude.{◌≡◌, ℕ, ◌≤◌, [], All, IsSomeAnd, Option, Some, None, List, vec_len, vec_capacity, sum_by}
+-- A lane and a board as `Board::new` makes them, and lanes without seats.
+use Rattle.std.specs.Prelude.{◌≡◌, ℕ, ◌<◌, ◌≤◌, [], All, IsSomeAnd, Option, Some, None, List, length, slice_index_or, vec_len, vec_capacity, sum_by}
 use Rattle.atomic_table.specs.Seated.{TableId}
-use Rattle.atomic_table.specs.declared.shared.Seat.{Seat}
-use Rattle.scr_workers.specs.declared.rule.Claims.{Claims}
+use Rattle.scr_workers.specs.Seats.{Placed, IsFreshSeat}
 use Rattle.scr_workers.specs.declared.lane.Lane.{Lane}
 use Rattle.scr_workers.specs.declared.board.Board.{Board}
 use Rattle.scr_workers.specs.declared.table.ClaimTable.{ClaimTable}
-
--- a worker's seat
-abbrev pub Placed : Type 0
-Placed = Seat (Unit {0}) Claims
-
--- a seat of this word, with some weight and no claim
-pub record IsFreshSeat (word : TableId) (seat : Placed) : Type 0 where
-  pub of_word : seat.table_id ≡ word
-  pub some_weight : 1 ≤ seat.me.0.weight
-  pub no_claim : seat.me.0.list ≡ []
-  pub no_slot : seat.me.1 ≡ []
+use Rattle.scr_workers.specs.declared.word.ClaimWord.{ClaimWord}
 
 abbrev pub weight_in : Option Placed → ℕ
 weight_in None = 0
@@ -25,6 +14,10 @@ weight_in (Some seat) = seat.me.0.weight
 -- which claim word it is
 abbrev pub word_id : ClaimTable → TableId
 word_id table = table.table.shared.table_id
+
+-- and of a fresh one
+abbrev pub word_of : ClaimWord → TableId
+word_of word = word.table.table.shared.table_id
 
 module _ {T : Type 0} where
   abbrev pub seat_of : Lane T → Option Placed
@@ -38,6 +31,16 @@ module _ {T : Type 0} where
 
   abbrev pub lane_count : Board T → ℕ
   lane_count board = vec_len board.lanes
+
+  -- an empty own list with room for so many slots
+  pub record HasRoom (slots : ℕ) (lane : Lane T) : Type 0 where
+    pub no_answer : lane.own.items ≡ []
+    pub room : slots ≤ vec_capacity lane.own
+
+  -- the own lists have the room that they had
+  abbrev pub KeepRoom : List (Lane T) → List (Lane T) → Type 0
+  KeepRoom before after = (i : ℕ) (d : Lane T) → i < length before
+      → vec_capacity (slice_index_or after i d).own ≡ vec_capacity (slice_index_or before i d).own
 
   -- a lane with a fresh seat, and an empty own list with room for so many slots
   pub record IsFreshLane (word : TableId) (slots : ℕ) (lane : Lane T) : Type 0 where

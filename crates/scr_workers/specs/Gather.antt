@@ -4,7 +4,7 @@ use Rattle.std.specs.Prelude.{None, map, sum_by, vec_len}
 use Rattle.atomic_table.specs.Seated.{TableId}
 use Rattle.scr_workers.specs.declared.lane.Lane.{Lane}
 use Rattle.scr_workers.specs.declared.board.Board.{Board}
-use Rattle.scr_workers.specs.Boards.{Placed}
+use Rattle.scr_workers.specs.Seats.{Placed}
 use Rattle.scr_workers.specs.Rule.{weigh}
 use Rattle.scr_workers.specs.Work.{slot_of, IsAnswerOfSlot, HasWorked}
 

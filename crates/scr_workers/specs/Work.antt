@@ -1,6 +1,6 @@
 -- What a worker leaves.
 use Rattle.std.specs.Prelude.{◌≡◌, ℕ, ◌<◌, ◌≤◌, List, [], ◌∷◌, ◌++◌, map, All}
-use Rattle.scr_workers.specs.Boards.{Placed}
+use Rattle.scr_workers.specs.Seats.{Placed}
 
 module _ {T : Type 0} where
   abbrev pub slot_of : ℕ × T → ℕ

@@ -3,10 +3,10 @@
 ghost use Rattle.std.specs.Prelude.{◌≡◌, ◌≤◌, IfOk};
 ghost use Rattle.scr_workers.specs.Boards.{IsFresh, lanes_of};
 
-use crate::lane::Lane;
-use crate::rule::Cut;
+use crate::lane::{Lane, empty_lanes};
+use crate::seats::seat_lanes;
 use crate::table::ClaimTable;
-use atomic_table::Table;
+use crate::word::ClaimWord;
 use scr_outside::NoMemory;
 use std::alloc::Global;
 
@@ -25,22 +25,9 @@ impl<T: Send + Drop> Board<T> {
         requires { (1 ≤ workers) × (workers ≤ 64) }
         ensures { IfOk result (IsFresh workers slots) }
     {
-        let (table, mut first) = Table::of_words(alloc, &[0], &())?;
-        let mut lanes = Vec::with_capacity(alloc, workers as usize)?;
-        for _worker in 1..workers {
-            let own = Vec::with_capacity(alloc, slots as usize)?;
-            let part = table.shared.split_seat::<Cut>(&mut first);
-            lanes.push_reserved(Lane {
-                seat: Some(part),
-                own,
-            });
-        }
-        let own = Vec::with_capacity(alloc, slots as usize)?;
-        lanes.push_reserved(Lane {
-            seat: Some(first),
-            own,
-        });
-        let table = ClaimTable { table };
+        let ClaimWord { table, seat } = ClaimWord::new(alloc)?;
+        let mut lanes = empty_lanes(alloc, workers, slots)?;
+        seat_lanes(&table, seat, lanes.as_mut_slice());
         Ok(Board { table, lanes })
     }
 

@@ -1,8 +1,8 @@
 //! Slots claimed one by one from a shared word.
 
-ghost use Rattle.std.specs.Prelude.{◌≡◌, ℕ, ◌+◌, ◌++◌, ◌^◌, ◌<◌, [], length, slice_index_or, All, map, sum_by};
+ghost use Rattle.std.specs.Prelude.{◌≡◌, ℕ, ◌+◌, ◌++◌, ◌^◌, ◌<◌, ◌≤◌, [], length, slice_index_or, vec_capacity, All, map, sum_by};
 ghost use Rattle.scr_workers.specs.Answered.{AreAnswered};
-ghost use Rattle.scr_workers.specs.Boards.{IsFresh, IsFreshLane, lane_count, weight_in};
+ghost use Rattle.scr_workers.specs.Boards.{IsFresh, IsFreshLane, HasRoom, KeepRoom, lane_count, weight_in, word_of};
 ghost use Rattle.scr_workers.specs.Gather.{HasRun, AreDone, IsDone, IsSeated, without_seat, list_in};
 ghost use Rattle.scr_workers.specs.Rule.{weigh, weigh_below};
 
@@ -12,7 +12,9 @@ use crate::jobs::Jobs;
 use crate::lane::Lane;
 use crate::laws;
 use crate::rule::{Both, ClaimSeat, Look};
+use crate::seats::seat_lanes;
 use crate::table::ClaimTable;
+use crate::word::ClaimWord;
 use std::thread::{Threads, for_each_mut};
 
 /// Answers each slot, in as many workers as the board has lanes. A worker claims its slots one by one, each by one
@@ -40,6 +42,30 @@ pub fn run_claims<R: Threads + Sync, J: Jobs + Sync, G: Gate + Sync>(
     Board { table, lanes }
 }
 
+/// As `run_claims`, by a word of its own and by lanes that earlier runs may have used: each answers slots as one worker.
+/// The lanes are 1 to 64, whose own lists are empty and have room for all slots; so they are afterwards, and may be used
+/// again. Of the seats the first lane has one, which claimed each number below the slots and the lanes together.
+pub fn claim_slots<R: Threads + Sync, J: Jobs + Sync, G: Gate + Sync>(
+    rt: &R,
+    word: ClaimWord,
+    lanes: &mut [Lane<J::Out>],
+    jobs: &J,
+    out: &mut [Option<J::Out>],
+    gate: &G,
+)
+    requires slots { length out.old ≡ J.slots jobs.now }
+    requires few { length out.old < 2 ^ 32 }
+    requires workers { (1 ≤ length lanes.old) × (length lanes.old ≤ 64) }
+    requires room { All (HasRoom (length out.old)) lanes.old }
+    ensures out { AreAnswered (J.is_answer jobs.now) out.new }
+    ensures lanes { AreDone (word_of word) (length out.old) (length lanes.old) lanes.new }
+    ensures room { (slots : ℕ) → All (HasRoom slots) lanes.old → All (HasRoom slots) lanes.new }
+{
+    let ClaimWord { table, seat } = word;
+    seat_lanes(&table, seat, lanes);
+    run_lanes(rt, &table, lanes, jobs, out, gate);
+}
+
 /// Runs the lanes' workers, joins their seats to the first one's, and gathers their answers.
 fn run_lanes<R: Threads + Sync, J: Jobs + Sync, G: Gate + Sync>(
     rt: &R,
@@ -55,6 +81,8 @@ fn run_lanes<R: Threads + Sync, J: Jobs + Sync, G: Gate + Sync>(
     requires weights { sum_by (λ lane. weight_in lane.seat) lanes.old ≡ 64 }
     ensures out { AreAnswered (J.is_answer jobs.now) out.new }
     ensures lanes { AreDone table.now.table.shared.table_id (length out.old) (length lanes.old) lanes.new }
+    ensures own { All (λ lane. lane.own.items ≡ []) lanes.new }
+    ensures room { KeepRoom lanes.old lanes.new }
 {
     let slots = out.len() as u32;
     run_workers(rt, table, lanes, jobs, slots, gate);
@@ -79,6 +107,7 @@ fn run_workers<R: Threads + Sync, J: Jobs + Sync, G: Gate + Sync>(
     ensures run { All (HasRun table.now.table.shared.table_id slots (J.is_answer jobs.now)) lanes.new }
     ensures weights { (i : ℕ) (d : _) → i < length lanes.old
         → weight_in (slice_index_or lanes.new i d).seat ≡ weight_in (slice_index_or lanes.old i d).seat }
+    ensures room { KeepRoom lanes.old lanes.new }
 {
     let workers = lanes.len();
     for_each_mut(
@@ -103,6 +132,7 @@ fn run_worker<J: Jobs + Sync, G: Gate + Sync>(
     requires fresh { IsFreshLane table.now.table.shared.table_id slots lane.old }
     ensures run { HasRun table.now.table.shared.table_id slots (J.is_answer jobs.now) lane.new }
     ensures weight { weight_in lane.new.seat ≡ weight_in lane.old.seat }
+    ensures room { vec_capacity lane.new.own ≡ vec_capacity lane.old.own }
 {
     if let Some(seat) = lane.seat.take() {
         lane.seat = Some(laws::work(table, seat, jobs, &mut lane.own, slots, gate));

@@ -1,10 +1,12 @@
-//! What stands between the steps on the claim word: what a worker does, how answers are gathered, and what claims are.
+//! What stands between the steps on the claim word: what a worker does, how answers are gathered, and what claims are;
+//! and that what workers leave does not depend on them.
 
-ghost use Rattle.std.specs.Prelude.{◌≡◌, ◌≤◌, ◌<◌, ℕ, [], vec_capacity, length, All, map};
-ghost use Rattle.scr_workers.specs.Answered.{AreAnswered, HasAnswer};
-ghost use Rattle.scr_workers.specs.Boards.{IsFreshSeat, own_of, seat_of, word_id};
+ghost use Rattle.std.specs.Prelude.{◌≡◌, ◌≤◌, ◌<◌, ℕ, [], ◌∷◌, vec_capacity, length, All, List, Option, map};
+ghost use Rattle.scr_workers.specs.Answered.{AreAnswered, HasAnswer, HaveOneAnswer};
+ghost use Rattle.scr_workers.specs.Boards.{KeepRoom, own_of, seat_of, word_id};
+ghost use Rattle.scr_workers.specs.Seats.{IsFreshSeat};
 ghost use Rattle.scr_workers.specs.Gather.{HoldAnswers, HasSlotAnswer, times};
-ghost use Rattle.scr_workers.specs.Schedules.{EachIsClaimedOnce};
+ghost use Rattle.scr_workers.specs.Schedules.{EachIsClaimedOnce, IsComplete, IsSchedule, times_claimed};
 ghost use Rattle.scr_workers.specs.Work.{HasWorked, IsSameSeat, slot_of};
 
 use crate::gate::Gate;
@@ -31,6 +33,7 @@ pub fn work<J: Jobs + Sync, G: Gate + Sync>(
     requires slots { slots ≡ J.slots jobs.now }
     ensures seat { IsSameSeat seat result }
     ensures claims { HasWorked slots (J.is_answer jobs.now) result own.new.items }
+    ensures room { vec_capacity own.new ≡ vec_capacity own.old }
 {
     loop {
         let number = table.table.shared.fetch_add::<Claim>(&mut seat, 0, 1);
@@ -51,6 +54,7 @@ pub fn gather<J: Jobs>(jobs: &J, lanes: &mut [Lane<J::Out>], out: &mut [Option<J
     ensures out { AreAnswered (J.is_answer jobs.now) out.new }
     ensures seats { map seat_of lanes.new ≡ map seat_of lanes.old }
     ensures own { All (λ lane. own_of lane ≡ []) lanes.new }
+    ensures room { KeepRoom lanes.old lanes.new }
 {
     for k in 0..lanes.len() {
         place_answers(jobs, &mut lanes[k], out);
@@ -62,6 +66,7 @@ fn place_answers<J: Jobs>(jobs: &J, lane: &mut Lane<J::Out>, out: &mut [Option<J
     requires { All (HasSlotAnswer (length out.old) (J.is_answer jobs.now)) lane.old.own.items }
     ensures seat { lane.new.seat ≡ lane.old.seat }
     ensures own { lane.new.own.items ≡ [] }
+    ensures room { vec_capacity lane.new.own ≡ vec_capacity lane.old.own }
     ensures kept { (k : ℕ) → HasAnswer (J.is_answer jobs.now) out.old k → HasAnswer (J.is_answer jobs.now) out.new k }
     ensures placed { (k : ℕ) → 0 < times k (map slot_of lane.old.own.items)
         → HasAnswer (J.is_answer jobs.now) out.new k }
@@ -74,4 +79,25 @@ fn place_answers<J: Jobs>(jobs: &J, lane: &mut Lane<J::Out>, out: &mut [Option<J
 /// Each slot of a complete schedule is claimed exactly once.
 pub fn schedule()
     ensures { EachIsClaimedOnce }
+{}
+
+/// Schedules that are complete, with the claims of each seat in its order. Of one seat and one slot: 0, and then 1, which
+/// is no slot. Of two seats and two slots: the first seat claims 0 and 3, and the second 1 and 2. One that stops before
+/// its seat claimed a number that is no slot is not complete.
+pub fn known_schedules()
+    ensures one_seat { IsSchedule 1 (0 ∷ 0 ∷ []) }
+    ensures of_one { IsComplete 1 1 (0 ∷ 0 ∷ []) }
+    ensures once { times_claimed 1 0 (0 ∷ 0 ∷ []) ≡ 1 }
+    ensures two_seats { IsSchedule 2 (0 ∷ 1 ∷ 1 ∷ 0 ∷ []) }
+    ensures of_two { IsComplete 2 2 (0 ∷ 1 ∷ 1 ∷ 0 ∷ []) }
+    ensures not_ended { IsComplete 1 1 (0 ∷ []) → ⊥ }
+{}
+
+/// Where each slot has one answer, what is left does not depend on who answered: any two lists with a place for each
+/// slot, and an answer of it there, are equal. So [`run_chunks`](crate::run_chunks) and
+/// [`run_claims`](crate::run_claims), with any number of workers, leave what one worker leaves.
+pub fn one_result<J: Jobs>(jobs: &J)
+    ensures { HaveOneAnswer (J.slots jobs.now) (J.is_answer jobs.now) → (out other : List (Option J.Out))
+        → length out ≡ J.slots jobs.now → length other ≡ J.slots jobs.now
+        → AreAnswered (J.is_answer jobs.now) out → AreAnswered (J.is_answer jobs.now) other → out ≡ other }
 {}

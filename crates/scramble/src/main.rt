@@ -2,9 +2,8 @@
 //! README shows.
 #![tactic(auto)]
 
-use scr_sheet::run_on_host;
-use std::process::ExitCode;
+use scr_sheet::{Exit, run_on_host};
 
-fn main(rt: HostRuntime) -> ExitCode {
+fn main(rt: HostRuntime) -> Exit {
     run_on_host(&rt, &rt)
 }

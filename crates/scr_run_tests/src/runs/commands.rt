@@ -1,6 +1,8 @@
 //! Commands, lists and messages.
 
-use super::expected::{BY_TABLES, NET_222, NET_555, SCRAMBLE, SCRAMBLE_MINX};
+use super::expected::{
+    BY_TABLES, NET_222, NET_333, NET_555, NET_666, NET_777, SCRAMBLE, SCRAMBLE_MINX,
+};
 use super::{NO_444, USAGE, ZEROS, check, run_with};
 use scr_sheet::{Fault, ListCause, ListFault, Status, UsageFault};
 use scr_table::TableName;
@@ -27,13 +29,20 @@ fn words_and_lists(rt: HostRuntime) -> Result<(), Fail> {
 
 #[test]
 fn nets_of_scrambled_cubes(rt: HostRuntime) -> Result<(), Fail> {
-    let small = run_with(&rt, &["net", "222", ZEROS], b"", 4096, [&[], &[], &[]])?;
-    let large = run_with(&rt, &["net", "555", ZEROS], b"", 4096, [&[], &[], &[]])?;
-    for (ran, lines) in [(small, &NET_222[..]), (large, &NET_555[..])] {
+    let nets: [(&str, &[&str]); 6] = [
+        ("222", &NET_222),
+        ("333", &NET_333),
+        ("333oh", &NET_333),
+        ("555", &NET_555),
+        ("666", &NET_666),
+        ("777", &NET_777),
+    ];
+    for (event, lines) in nets {
         let mut text = Vec::new(rt.alloc());
         for line in lines {
             text.extend_from_slice(line.as_bytes())?;
         }
+        let ran = run_with(&rt, &["net", event, ZEROS], b"", 4096, [&[], &[], &[]])?;
         assert_eq!(rt; ran.code, 0);
         assert_eq!(rt; ran.out.contents(), text.as_slice());
     }

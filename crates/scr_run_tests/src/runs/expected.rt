@@ -105,9 +105,24 @@ pub(crate) const NET_222: [&str; 7] = [
     "   DD\n",
 ];
 
+/// The same of the 3x3x3.
+pub(crate) const NET_333: [&str; 10] = [
+    "U2 F2 U R2 B2 U' B2 D2 U B2 R D2 R2 D B F2 D' U2 F L\n",
+    "    BBR\n",
+    "    BUD\n",
+    "    FRR\n",
+    "LUU LUB UFU FLD\n",
+    "LLF UFD LRB RBU\n",
+    "DDD LFF RFB URB\n",
+    "    FRD\n",
+    "    BDL\n",
+    "    RDL\n",
+];
+
 /// The same of the 5x5x5.
 pub(crate) const NET_555: [&str; 16] = [
-    "L Bw2 D' Rw' L Fw2 Bw2 Rw2 F2 Rw' D L2 U' Rw U Fw2 L2 Dw' B2 R2 Dw' Lw B2 L Dw B2 Bw' R Uw Dw2 Bw' U' L' D B' Rw' L Bw2 R2 U L2 U R' U' Rw D Bw Uw2 B2 R2 Lw F2 Bw2 L2 Lw' F' U F L2 Bw\n",
+    "L Bw2 D' Rw' L Fw2 Bw2 Rw2 F2 Rw' D L2 U' Rw U Fw2 L2 Dw' B2 R2 Dw' Lw B2 L Dw B2 Bw' R Uw Dw2 Bw' \
+    U' L' D B' Rw' L Bw2 R2 U L2 U R' U' Rw D Bw Uw2 B2 R2 Lw F2 Bw2 L2 Lw' F' U F L2 Bw\n",
     "      ULFBR\n",
     "      RUFFD\n",
     "      RBULB\n",
@@ -123,4 +138,58 @@ pub(crate) const NET_555: [&str; 16] = [
     "      DLDUL\n",
     "      DDDLR\n",
     "      ULDLD\n",
+];
+
+/// The same of the 6x6x6.
+pub(crate) const NET_666: [&str; 19] = [
+    "Lw Dw2 B' U' R Uw2 R2 Bw2 Rw2 D' Lw Dw2 3Rw' F 3Uw D2 Lw2 B' Dw2 Rw2 Fw' R 3Rw2 U 3Rw B2 D' F U 3Fw2 \
+    3Rw' Fw' B' 3Uw Dw' 3Rw' B Dw2 R2 Bw Rw2 Fw 3Fw' B' Dw 3Rw L Bw2 L2 Fw2 B D2 Bw2 Dw2 3Rw' U' D Fw \
+    Dw2 L 3Fw U Bw' D' Bw R2 Lw2 D' Bw D Rw L Fw B2 3Uw B' R' Lw B Dw\n",
+    "       FBDLLU\n",
+    "       FDDURU\n",
+    "       FDLDFB\n",
+    "       FUDBDF\n",
+    "       RBFFLL\n",
+    "       BRDRLD\n",
+    "DLLRUL UFFBBL BUUDRF RDFFRL\n",
+    "FUFDDR FURUDL DBLRFR BUDLRU\n",
+    "FRBFRU LLLFUB URDFUR UFURFR\n",
+    "DBFBBB DRRUBD LLUURL BBRLFR\n",
+    "ULUBFD RRBUFU BBLRLU FDBDRB\n",
+    "BRDUFU BFBFLD FDUBDL UDRDBR\n",
+    "       RDLUUR\n",
+    "       LBLLLB\n",
+    "       BURLLL\n",
+    "       RDDBDR\n",
+    "       DFFBUB\n",
+    "       DLLUFF\n",
+];
+
+/// The same of the 7x7x7.
+pub(crate) const NET_777: [&str; 22] = [
+    "R Fw2 3Uw' 3Rw' Dw 3Bw2 3Dw2 3Lw2 U2 B' R 3Dw2 R' B 3Uw B2 Bw2 3Dw' F2 3Lw2 Fw' 3Lw F2 Fw Lw 3Dw2 \
+    3Lw' 3Fw R 3Bw2 Rw' Lw' Bw' 3Dw Rw' U' 3Fw 3Lw2 U2 F U2 3Fw 3Lw' Bw' 3Dw Lw D B2 3Rw2 Bw2 3Lw U2 Uw2 \
+    Bw2 D' R' 3Rw 3Uw L2 D 3Rw L 3Bw' Uw' Lw F2 Dw2 3Lw' Bw 3Lw F R Uw B2 Uw Bw' L' F 3Uw 3Bw 3Dw R' Fw' \
+    Dw Lw F Lw2 3Lw' Fw' 3Uw D' Dw2 Rw' 3Uw2 3Fw' 3Lw' 3Bw2 Dw 3Fw Lw\n",
+    "        DFBLBLD\n",
+    "        BFFDRBL\n",
+    "        RDFBRBL\n",
+    "        LFDURLU\n",
+    "        BULLFBD\n",
+    "        FUURFUU\n",
+    "        FRBBDUR\n",
+    "FLUBRDR UDLDRFD BBBBDUF LDRULUR\n",
+    "ULRDDDU BBFBBDD FURBUBR BRLDFLR\n",
+    "LFULBDU FURDLUR FRUFBBF LUBRRUU\n",
+    "UULLUBB RRBFDUD LLRRFRF DBFBBFR\n",
+    "BDUDURR FDDULBU LLRUBRL DRFLDBU\n",
+    "UDLFLRD BLDLBFF RRLFDUR BFLULFR\n",
+    "UDDFFLL ULBLDFL DLFURLB RLFDFDB\n",
+    "        FFUFBRB\n",
+    "        DLRLLBB\n",
+    "        UDDULBL\n",
+    "        RDRDBRF\n",
+    "        RUDFFFU\n",
+    "        RDFUFRF\n",
+    "        LBDRDUU\n",
 ];

@@ -5,7 +5,7 @@ ghost use Rattle.std.specs.Prelude.{◌≡◌};
 use super::{ZEROS, run_with};
 use scr_outside::{MemSink, SliceSource};
 use scr_sheet::{Gate, run};
-use scr_workers::{Jobs, run_chunks};
+use scr_workers::{Jobs, both, run_chunks};
 use std::process::Abort;
 use std::sync::atomic::{AtomicU64, Ordering};
 use std::test::Fail;
@@ -83,6 +83,16 @@ fn two_chunks_at_once(rt: HostRuntime) -> Result<(), Fail> {
         assert_eq!(rt; gate.is_missed(), is_missed);
     }
     Ok(())
+}
+
+// While the first of two calls waits, the second is made; by one worker, not before the first has ended.
+#[test]
+fn two_calls_at_once(rt: HostRuntime) {
+    for (workers, is_missed) in [(2, false), (1, true)] {
+        let gate = Meeting::new(1);
+        both(&rt, workers, || gate.pass(0), || gate.pass(1));
+        assert_eq!(rt; gate.is_missed(), is_missed);
+    }
 }
 
 // While one worker waits in slot 0, the other claims slot 1.

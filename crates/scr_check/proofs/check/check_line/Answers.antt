@@ -2,7 +2,7 @@ use Rattle.std.proofs.Common.{◌≡◌, [], true, false, length, sym, ap, ◌�
 use Rattle.std.proofs.lemmas.Bool.{false≢true, eqb-true, eqb-false}
 use Rattle.std.proofs.lemmas.Result.{err_from_is_err_and}
 use Rattle.scr_check.specs.Reading.{reading}
-use Rattle.scr_check.proofs.CheckLemmas.{IsLineRead, line-absent, line-limit, line-differs}
+use Rattle.scr_check.proofs.CheckLemmas.{IsLineRead, of-plain, line-absent, line-limit, line-differs}
 use Rattle.scr_check.proofs.check.check_line.Given.{Over}
 use Rattle.scr_check.proofs.check.check_line.Goals.{In_ok-ended, After-agrees, else-is_empty-via-then-is_empty+else-not-ended, else-is_empty-via-else-is_empty, else-agrees-via-then-agrees+else-ended, else-agrees-via-else-agrees}
 use Rattle.scr_check.proofs.check.check_line.Goals as goal
@@ -30,7 +30,7 @@ returns-in_err-ended-clause-line g c =
     rw (p.1, p.2) (record {
       bytes = c.read_line.new.text.items;
       stops = c.in_err-ended.ensures.failed;
-      few = c.read_line.ensures.few;
+      one_line = of-plain c.read_line.new.text.items c.read_line.ensures.plain c.read_line.ensures.few;
     })
 
 pub returns-then-not-ended-clause-line : goal.returns-then-not-ended-clause-line

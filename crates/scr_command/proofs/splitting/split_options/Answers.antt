@@ -2,10 +2,9 @@ use Rattle.std.proofs.Common.{◌∙◌, ⊎_elim, sym}
 use Rattle.clap.specs.Words.{found_of}
 use Rattle.scr_command.specs.Split.{found_values}
 use Rattle.scr_command.specs.Words.{texts}
-use Rattle.scr_command.proofs.Ordinary.{all_left, bare_refused}
+use Rattle.scr_command.proofs.Ordinary.{all_left, bare_refused, none_bare}
 use Rattle.scr_command.proofs.Parsed.{fault_refused, matches_give, none_given, no_seed_given, own_given, other_given}
 use Rattle.scr_command.proofs.splitting.split_options.Goals as goal
-use Rattle.scr_command.proofs.splitting.split_options.Goals.{in-OutOfMemory, in_default}
 
 pub returns-then-has_bare_hyphens-clause-usage : goal.returns-then-has_bare_hyphens-clause-usage
 returns-then-has_bare_hyphens-clause-usage c = λ _. bare_refused c.args.own.now (texts c.args.words.now) (c.has_bare_hyphens.ensures.found c.if-has_bare_hyphens.true)
@@ -13,12 +12,13 @@ returns-then-has_bare_hyphens-clause-usage c = λ _. bare_refused c.args.own.now
 pub returns-in-Err-clause-usage : goal.returns-in-Err-clause-usage
 returns-in-Err-clause-usage c =
     let left = all_left c.args.words.now (c.has_bare_hyphens.ensures.none c.if-has_bare_hyphens.false) in
-    λ e. elim c.match-kind.branch [
-      | in-OutOfMemory w ↦ let is = w.result-is in cc
-      | in_default w ↦ none_given c.args.own.now (texts c.args.words.now)
-          (⊎_elim (λ memory. absurd (w.in_default.not-OutOfMemory (c.kind.ensures ∙ memory)))
-          (λ among. fault_refused (texts c.args.words.now) _ left among) c.in-Err.ensures.kinds)
-    ]
+    λ e. none_given c.args.own.now (texts c.args.words.now)
+    (⊎_elim (λ memory. let is = c.fault_of_parser.ensures.1 (c.kind.ensures ∙ memory) in cc)
+    (λ among. fault_refused (texts c.args.words.now) _ left among) c.in-Err.ensures.kinds)
+
+pub returns-in-Err-clause-memory : goal.returns-in-Err-clause-memory
+returns-in-Err-clause-memory c =
+    λ _. none_bare c.args.words.now (c.has_bare_hyphens.ensures.none c.if-has_bare_hyphens.false)
 
 pub returns-then-is_none-clause-usage : goal.returns-then-is_none-clause-usage
 returns-then-is_none-clause-usage c =

@@ -2,6 +2,7 @@ use Rattle.std.proofs.Common.{[], inl, inr, refl, sym, subst}
 use Rattle.std.proofs.lemmas.Result.{err_from_is_err_and}
 use Rattle.scr_outside.proofs.ChangeLemmas.{Gains-nothing}
 use Rattle.scr_slots.specs.Tables.{IsBuildCause}
+use Rattle.scr_sheet.proofs.RoomLaws.{taken-for}
 use Rattle.scr_sheet.proofs.RunLaws.{events_of_parts, each_asked, parts_of_rounds-fair}
 use Rattle.scr_sheet.proofs.load.sheet_size.Goals as goal
 
@@ -29,7 +30,7 @@ returns-in_err-tables g c =
       sheet = [];
       making =
           inr (
-            (
+            inl (
               why,
               subst (λ events. IsBuildCause events why) (sym (events_of_parts 0 c.args.rounds.now)) c.in_err-tables.ensures.cause,
               refl,
@@ -38,3 +39,12 @@ returns-in_err-tables g c =
           );
       amounts = tt;
     })
+
+pub rounds_size-requires-clause-room : goal.rounds_size-requires-clause-room
+rounds_size-requires-clause-room g c κs within =
+    taken-for c.args.rounds.now _ _ c.in_ok-room.room refl c.in_ok-room.ensures.slots c.most_slots.ensures c.in_ok-room.ensures.room
+
+pub returns-in_err-room : goal.returns-in_err-room
+returns-in_err-room g c =
+    let p = err_from_is_err_and c.from_residual-in_err-room.result c.from_residual-in_err-room.ensures.1 in
+    rw (p.1, p.2) (record { sheet = []; making = inr (inr refl, Gains-nothing); amounts = tt })

@@ -1,17 +1,20 @@
-use Rattle.std.proofs.Common.{◌≡◌, ℕ, ◌<◌, ◌≤◌, length, get_or, sum, arith, rules}
-use Rattle.std.proofs.iter.runs.Sources.{sums}
-use Rattle.std.proofs.lemmas.List.Elements.{All-from_get_or}
-use Rattle.std.proofs.lemmas.List.Sums.{sum_by-le}
+use Rattle.std.proofs.Common.{◌≡◌, ◌++◌, ◌∙◌, List, ℕ, length, length-append, refl, ap, sum, arith}
+use Rattle.std.specs.Prelude.{codes}
+use Rattle.std.proofs.lemmas.List.Sums.{sum_by-append}
 use Rattle.scr_sheet.proofs.load.size_of.Goals as goal
 
-pub sum-requires-clause-fits : goal.sum-requires-clause-fits
-sum-requires-clause-fits c = search (rules, sums)
-
-pub returns-clause-low : goal.returns-clause-low
-returns-clause-low c =
-    let text = c.args.text.now in
-    let added : c.sum.result ≡ sum text = search (rules, sums) in
-    let byte : (i : ℕ) → i < length text → get_or text i 0 ≤ 255 = λ i there. let fits = c.type_inv.text i in omega (arith, fits) in
-    let low = sum_by-le (λ b. b) 255 text (All-from_get_or (λ b. b ≤ 255) text 0 byte) in
-    let few = c.requires in
-    omega (arith, added, low, few)
+pub returns-clause-size : goal.returns-clause-size
+returns-clause-size c =
+    let label : List ℕ = c.args.label.now in
+    let text : List ℕ = c.args.text.now in
+    let end : List ℕ = codes "\n" in
+    let size = length-append (label ++ text) end in
+    let size' = length-append label text in
+    let one : length end ≡ 1 = refl in
+    let added = sum_by-append (λ x. x) (label ++ text) end in
+    let added' = sum_by-append (λ x. x) label text in
+    let last : sum end ≡ 10 = refl in
+    let first : c.sum_of.result ≡ sum label = c.sum_of.ensures.sum ∙ ap sum c.as_bytes.ensures.value in
+    let second : c.sum_of-2.result ≡ sum text = c.sum_of-2.ensures.sum ∙ ap sum c.as_bytes-2.ensures.value in
+    let feed = c.from.ensures in
+    record { counted = omega (arith, size, size', one); added = omega (arith, added, added', last, first, second, feed) }

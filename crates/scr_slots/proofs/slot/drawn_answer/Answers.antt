@@ -3,16 +3,17 @@ use Rattle.scr_slots.proofs.slot.drawn_answer.Goals as goal
 
 pub returns-in-Ok : goal.returns-in-Ok
 returns-in-Ok g c = record {
-  event = c.scramble.ensures.event;
+  event = c.scramble-scramble.ensures.event;
+  written = c.turns-turns.ensures.valid;
   turns = by-numbering c.count-numbering.ensures.numbering (record {
     of_state = record {
       state = c.in-Ok.state;
       draws = rw (c.new-words.ensures.words, c.new-words.ensures.none_taken) at c.in-Ok.ensures.draws;
-      permitted = (c.requires.reaches c.scramble.result.turns c.in-Ok.state c.scramble.ensures.gives, c.in-Ok.ensures.needs);
-      gives = c.scramble.ensures.gives;
-      within = c.scramble.ensures.within;
+      permitted = (c.requires.reaches c.scramble-scramble.result.turns c.in-Ok.state c.scramble-scramble.ensures.gives, c.in-Ok.ensures.needs);
+      gives = c.scramble-scramble.ensures.gives;
+      within = c.scramble-scramble.ensures.within;
     };
-    scramble = c.scramble.ensures.scramble;
+    scramble = c.scramble-scramble.ensures.scramble;
   });
 }
 

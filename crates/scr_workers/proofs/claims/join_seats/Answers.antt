@@ -1,7 +1,8 @@
 use Rattle.std.proofs.Common.{◌≡◌, ℕ, ◌<◌, length, slice_index_or, List, Some, sym, ap, ◌∙◌, subst, arith}
 use Rattle.scr_workers.specs.declared.lane.Lane.{Lane}
 use Rattle.std.specs.Prelude.{Option, IsSomeAnd, []}
-use Rattle.scr_workers.specs.Boards.{weight_in, Placed}
+use Rattle.scr_workers.specs.Boards.{weight_in}
+use Rattle.scr_workers.specs.Seats.{Placed}
 use Rattle.scr_workers.specs.Gather.{IsSeated, without_seat, list_in}
 use Rattle.scr_workers.specs.Rule.{weigh}
 use Rattle.std.proofs.lemmas.List.Sums.{sum_by_more}

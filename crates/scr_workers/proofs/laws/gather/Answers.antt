@@ -1,5 +1,5 @@
 use Rattle.std.proofs.Common.{◌≡◌, [], ℕ, ◌<◌, List, length, slice_index_or, map, take, set, sym, ◌∙◌, ap, subst}
-use Rattle.std.proofs.Common.{arith, length-set, get_or-set_same, get_or-set_other}
+use Rattle.std.proofs.Common.{arith, vec_capacity, length-set, get_or-set_same, get_or-set_other}
 use Rattle.std.specs.Prelude.{sum_by}
 use Rattle.std.proofs.lemmas.List.Sums.{sum_by_more}
 use Rattle.std.proofs.Math.Seq.{take-length}
@@ -34,6 +34,13 @@ loop-k-preserved g c =
           ap (λ (l : A). l.seat) (get_or-set_same ys k new d in_ys) ∙ (placed.seat ∙ was) in
           subst (λ j. (slice_index_or (set ys k new) j d).seat ≡ (slice_index_or xs j d).seat) (sym is) here)
           (λ other. ap (λ (l : A). l.seat) (get_or-set_other ys k i new d other) ∙ inv.seats i d h');
+      room = λ i d h. let h' : i < length ys = omega (arith, length-set ys k new, h) in
+          dite (ℕ_discrete i k)
+          (λ is. let was = inv.room k e in_ys ∙ ap (λ (l : A). vec_capacity l.own) (get_or-any xs k e d in_xs) in
+          let here : vec_capacity (slice_index_or (set ys k new) k d).own ≡ vec_capacity (slice_index_or xs k d).own =
+          ap (λ (l : A). vec_capacity l.own) (get_or-set_same ys k new d in_ys) ∙ (placed.room ∙ was) in
+          subst (λ j. vec_capacity (slice_index_or (set ys k new) j d).own ≡ vec_capacity (slice_index_or xs j d).own) (sym is) here)
+          (λ other. ap (λ (l : A). vec_capacity l.own) (get_or-set_other ys k i new d other) ∙ inv.room i d h');
       spent = λ i d h.
           dite (ℕ_discrete i k)
           (λ is. let here = ap (λ (l : A). l.own.items) (get_or-set_same ys k new d in_ys) ∙ placed.own in

@@ -10,6 +10,7 @@ invariant-loop-seat g l = record {
   own_slots : map slot_of l.own.items ≡ l.seat.me.0.list;
   answers : All (IsAnswerOfSlot (g.J.Jobs.is_answer l.jobs)) l.own.items;
   room : l.slots ≤ vec_capacity l.own;
+  kept : vec_capacity l.own ≡ vec_capacity l.initial.own;
 }
 
 abbrev pub decreases-loop-seat : goal.decreases-loop-seat

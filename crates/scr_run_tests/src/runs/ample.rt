@@ -1,0 +1,71 @@
+//! Large runs. That they end well shows that memory is not wanting where it is ample, of which no contract speaks.
+
+use super::{ZEROS, run_with};
+use arrayvec::ArrayString;
+use scr_outside::MemSink;
+use scr_sheet::*;
+use scr_words::Seed;
+use std::process::Abort;
+use std::test::Fail;
+
+// Forty cubes by nine workers, two hundred by sixty-four, twenty-six groups, twenty-six rounds, the largest tables, and the
+// longest list that follows from a number.
+#[test]
+fn large_runs_end_well(rt: HostRuntime) -> Result<(), Fail> {
+    let nine: &[&str] = &["sheet", "--seed", ZEROS, "--workers", "9"];
+    let most: &[&str] = &["sheet", "--seed", ZEROS, "--workers", "64"];
+    let rounds =
+        "clock 1\nminx 1\n222 1\npyram 1\nskewb 1\nsq1 1\n333 1\n333oh 1\n333bf 1\n333fm 1\n555 1\n666 1\n777 1\n";
+    let mut twice = Vec::new(rt.alloc());
+    twice.extend_from_slice(rounds.as_bytes())?;
+    twice.extend_from_slice(rounds.as_bytes())?;
+    let runs: [(&[&str], &[u8]); 7] = [
+        (nine, b"333 6\n"),
+        (most, b"333 26\n333oh 3\n"),
+        (most, b"clock 26\n"),
+        (nine, &twice),
+        (&["tables", "333"], b""),
+        (&["tables", "sq1"], b""),
+        (&["load", "15"], b""),
+    ];
+    for (words, list) in runs {
+        let ran = run_with(&rt, words, list, 4096, [&[], &[], &[]])?;
+        assert_eq!(rt; ran.err.contents(), b"".as_slice());
+        assert_eq!(rt; ran.code, 0);
+    }
+    Ok(())
+}
+
+// Lists ask of a name that no blank stands at its ends; a round that is made may have any.
+#[test]
+fn a_round_of_any_name(rt: HostRuntime) -> Result<(), Fail> {
+    let mut name = ArrayString::new();
+    name.push_str(" A\t");
+    let round = Round {
+        event: Event::Clock,
+        groups: 1,
+        least: 2,
+        name,
+    };
+    let tables = Tables::of_event(&rt, rt.alloc(), Event::Clock)?;
+    let seed = Seed([0; 32]);
+    let options = Options::default();
+    let made = make_round(
+        &rt,
+        rt.alloc(),
+        &tables,
+        &seed,
+        0,
+        &round,
+        &options,
+        &OpenGate,
+    )?;
+    assert_eq!(rt; made.scrambles().len(), 7);
+    let mut out = MemSink::new(rt.alloc(), 4096, 4096, Vec::new(rt.alloc()))?;
+    assert!(rt; write_round(&mut out, &made).is_ok());
+    assert!(rt;
+        out.contents()
+            .starts_with(b"Round 1: Clock, at least 2,  A\t\nGroup A\n1. ")
+    );
+    Ok(())
+}

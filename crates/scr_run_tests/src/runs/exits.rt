@@ -1,0 +1,42 @@
+//! Exit codes, of runs on words and where there are none.
+
+use super::{USAGE, ZEROS};
+use scr_outside::{MemSink, SliceSource};
+use scr_sheet::{NoWords, run_on_words};
+use std::process::{Abort, ExitCode, Termination};
+use std::test::Fail;
+
+#[test]
+fn exit_codes(rt: HostRuntime) -> Result<(), Fail> {
+    let no_444 = "scramble: line 1: 444 is not supported\n";
+    let none = "scramble: round 1 slot 1: no permitted state in 3 words\n";
+    let runs: [(Result<&[&str], NoWords>, &str, u8, &str); 7] = [
+        (Ok(&["one", "clock", ZEROS]), "", 0, ""),
+        (Ok(&["sheet"]), "", 2, USAGE),
+        (Ok(&["sheet", "--seed", ZEROS]), "444 1\n", 3, no_444),
+        (
+            Ok(&["sheet", "--seed", ZEROS, "--attempts=1"]),
+            "pyram 1 15\n",
+            4,
+            none,
+        ),
+        (
+            Ok(&["check", "--seed", ZEROS]),
+            "clock 1\n=====\nRound 2: Clock, at least 2\n",
+            9,
+            "scramble: line 1 differs\n",
+        ),
+        (Err(NoWords::NoMemory), "", 7, "scramble: out of memory\n"),
+        (Err(NoWords::NotGiven), "", 1, ""),
+    ];
+    for (words, input, code, message) in runs {
+        let mut source = SliceSource::new(input.as_bytes());
+        let mut out = MemSink::new(rt.alloc(), 4096, 4096, Vec::new(rt.alloc()))?;
+        let mut err = MemSink::new(rt.alloc(), 256, 256, Vec::new(rt.alloc()))?;
+        let exit = run_on_words(&rt, rt.alloc(), words, &mut source, &mut out, &mut err);
+        let given = exit.report(&rt);
+        assert_eq!(rt; given, ExitCode::from(code));
+        assert_eq!(rt; err.contents(), message.as_bytes());
+    }
+    Ok(())
+}
