@@ -5,6 +5,10 @@ use Rattle.std.proofs.lemmas.Bool.{false≢true}
 use Rattle.scr_combinatorics.proofs.PlayedWhere.{TellsTurns}
 use Rattle.scr_notation.specs.declared.turn.Turn.{Turn}
 use Rattle.scr_notation.specs.declared.turn.Turn.TheVariants.{Face, Axis, Tip, Layers, Twist, Pins, Over, Wide}
+use Rattle.scr_notation.specs.declared.event.Kind.{Kind}
+use Rattle.scr_notation.specs.declared.event.Kind.TheVariants.{Faces, Axes, LayersAndTwist, PinSets, WideTurns}
+use Rattle.scr_notation.specs.Turns.{has_turn}
+use Rattle.scr_notation.proofs.NumberLaws.{IsFaceTurn, face_turn_parts}
 use Rattle.scr_net.specs.Nets.{Letters, net_after, turned_net, turns_layers}
 
 does : (side : ℕ) (net : Letters) (t : Turn) → IsTrue (turns_layers side t)
@@ -42,3 +46,12 @@ TellsTurns-net side = record {
   only = λ net r t own e. only side net r t e;
   keeps = λ net r t own e. tt;
 }
+
+-- what a turn of layers at a face is, whatever kind of puzzles has it
+pub face_turn : (kind : Kind) (face depth amount : ℕ) → IsTrue (has_turn kind (Face face depth amount))
+    → (near : ℕ) × (far : ℕ) × IsFaceTurn near far face depth amount
+face_turn (Faces near far) face depth amount h = (near, far, face_turn_parts near far face depth amount h)
+face_turn (Axes tips) face depth amount h = cc
+face_turn LayersAndTwist face depth amount h = cc
+face_turn PinSets face depth amount h = cc
+face_turn WideTurns face depth amount h = cc

@@ -1,6 +1,9 @@
 pub mod StickerLaws
 pub mod NetLaws
+pub mod TurnLaws
+pub mod LettersKept
 pub mod PieceLaws
 pub mod PlayedNets
+pub mod HeldNets
 pub mod LayerTurns
 pub mod TextLaws

@@ -6,7 +6,7 @@ use Rattle.std.proofs.lemmas.List.{get_or_past}
 use Rattle.std.proofs.lemmas.Bool.{cases_lt}
 use Rattle.std.proofs.lemmas.List.FromFn.{get_or-map-range_with_len, length-map-range_with_len, fill_by_all}
 use Rattle.scr_net.specs.declared.geometry.Sticker.{Sticker}
-use Rattle.scr_net.specs.Geometry.{row_of, column_of, carried, brought_from, IsSticker, sticker_at}
+use Rattle.scr_net.specs.Geometry.{row_of, column_of, carried_sticker, brought_from, IsSticker, sticker_at}
 use Rattle.scr_net.specs.Nets.{Letters, cell, letter_at, net_of, quarter_net, turned_net, HasShape}
 use Rattle.scr_net.proofs.StickerLaws.{IsSticker-carried, brought_from-carried, row_of-le, column_of-le, sticker_at-of}
 
@@ -106,9 +106,9 @@ letter_at-quarter side face depth net s some h = letter_at-net_of side (λ s. le
 -- takes each letter along with its sticker
 pub letter_at-carried : (side face depth : ℕ) (net : Letters) (s : Sticker) → 0 < side → face < 6
     → IsSticker (side - 1) s
-    → letter_at side (quarter_net side face depth net) (carried (side - 1) face depth s) ≡ letter_at side net s
+    → letter_at side (quarter_net side face depth net) (carried_sticker (side - 1) face depth s) ≡ letter_at side net s
 letter_at-carried side face depth net s some lf h =
-    letter_at-quarter side face depth net (carried (side - 1) face depth s) some (IsSticker-carried (side - 1) face depth s lf h)
+    letter_at-quarter side face depth net (carried_sticker (side - 1) face depth s) some (IsSticker-carried (side - 1) face depth s lf h)
     ∙ ap (letter_at side net) (brought_from-carried (side - 1) face depth s lf h)
 
 -- ---- so many quarter turns

@@ -112,7 +112,7 @@ module _ {S R : Type 0} (a : Action S R) (IsValid : S → Type 0) (IsTurn : R �
 
 -- ---- the 3x3x3
 
-cube_turns : (face : ℕ) (q : CubeTurn) → slice_get cube_quarters face ≡ Some q → IsCubeTurn q
+pub cube_turns : (face : ℕ) (q : CubeTurn) → slice_get cube_quarters face ≡ Some q → IsCubeTurn q
 cube_turns = each_at (λ face q. IsCubeTurn q) cube_quarters (
   record { corners = IsZeroSumRearrangement-from_test 8 3 _ refl; edges = IsZeroSumRearrangement-from_test 12 2 _ refl; same_parity = refl },
   (
@@ -136,16 +136,16 @@ edges_come_from face q s =
     let t = brought_from 2 face 1 s in
     comes_from 12 2 edge_faces q.edges s.face t.face (t.face == s.face) (place_at 2 edge_faces s.point) (place_at 2 edge_faces t.point)
 
-abbrev cube_comes_from : ℕ → CubeTurn → Sticker → Bool
+abbrev pub cube_comes_from : ℕ → CubeTurn → Sticker → Bool
 cube_comes_from face q s =
     let t = brought_from 2 face 1 s in
     comes_from 8 3 corner_faces q.corners s.face t.face (edges_come_from face q s) (place_at 2 corner_faces s.point) (place_at 2 corner_faces t.point)
 
-cube_tests : (face : ℕ) (q : CubeTurn) → slice_get cube_quarters face ≡ Some q
+pub cube_tests : (face : ℕ) (q : CubeTurn) → slice_get cube_quarters face ≡ Some q
     → each_sticker 3 (cube_comes_from face q) ≡ true
 cube_tests = each_at (λ face q. each_sticker 3 (cube_comes_from face q) ≡ true) cube_quarters (refl, (refl, (refl, (refl, (refl, (refl, tt))))))
 
-cube_letter-turned : (face : ℕ) (q : CubeTurn) (c : CubeState) (s : Sticker) → IsCube c → IsCubeTurn q
+pub cube_letter-turned : (face : ℕ) (q : CubeTurn) (c : CubeState) (s : Sticker) → IsCube c → IsCubeTurn q
     → cube_comes_from face q s ≡ true → cube_letter c (brought_from 2 face 1 s) ≡ cube_letter (cube_action.turned c q) s
 unfolding cube_letter
 cube_letter-turned face q c s own turn h =

@@ -1,8 +1,11 @@
 -- Laws of stickers: each is at a row and a column of its face, and quarter turns take stickers to stickers and back.
-use Rattle.std.proofs.Common.{◌≡◌, ℕ, zero, suc, ◌<◌, ◌≤◌, Bool, true, false, cond, ltb, refl, ap, ◌∙◌, lit<, arith}
-use Rattle.scr_net.specs.declared.geometry.Point.{Point}
+use Rattle.std.proofs.Common.{◌≡◌, ℕ, zero, suc, ◌+◌, ◌%◌, ◌<◌, ◌≤◌, Bool, true, false, cond, leb, [], refl, ap, ◌∙◌, lit<, arith}
+use Rattle.scr_space.specs.declared.spin.Point.{Point}
+use Rattle.scr_space.specs.Spins.{IsWithin, value, rotated, is_moved}
+use Rattle.scr_space.specs.Turning.{KeepsCount}
+use Rattle.scr_space.proofs.SpinLaws.{same_point, IsWithin-rotated, sum-rotated}
 use Rattle.scr_net.specs.declared.geometry.Sticker.{Sticker}
-use Rattle.scr_net.specs.Geometry.{point, point_at, row_of, column_of, distance, turned_point, turned_face, turned_sticker, carried, opposite_face, brought_from, IsWithin, IsSticker, sticker_at}
+use Rattle.scr_net.specs.Geometry.{point_at, row_of, column_of, outward, quarter, face_at, turned_sticker, carried_sticker, brought_from, IsSticker, sticker_at}
 
 -- what holds of each face
 pub each_face : (P : ℕ → Type 0) → P 0 → P 1 → P 2 → P 3 → P 4 → P 5 → (face : ℕ) → face < 6 → P face
@@ -13,9 +16,6 @@ each_face P u r f d l b (suc (suc (suc zero))) lt = d
 each_face P u r f d l b (suc (suc (suc (suc zero)))) lt = l
 each_face P u r f d l b (suc (suc (suc (suc (suc zero))))) lt = b
 each_face P u r f d l b (suc (suc (suc (suc (suc (suc n)))))) lt = absurd (omega arith)
-
-pub same_point : (p q : Point) → p.x ≡ q.x → p.y ≡ q.y → p.z ≡ q.z → p ≡ q
-same_point p q a b c = ap (λ x. point x p.y p.z) a ∙ ap (λ y. point q.x y p.z) b ∙ ap (λ z. point q.x q.y z) c
 
 pub same_sticker : (s t : Sticker) → s.point ≡ t.point → s.face ≡ t.face → s ≡ t
 same_sticker s t a b =
@@ -58,10 +58,10 @@ column_of-le last face p lt w =
     each_face (λ face. column_of last face p ≤ last)
     (omega arith) (omega arith) (omega arith) (omega arith) (omega arith) (omega arith) face lt
 
-point_at-of : (last face : ℕ) (p : Point) → face < 6 → IsWithin last p → distance last face p ≡ 0
+point_at-of : (last face : ℕ) (p : Point) → face < 6 → IsWithin last p → value last (outward face) p ≡ last
     → point_at last face (row_of last face p) (column_of last face p) ≡ p
 point_at-of last face p lt w =
-    each_face (λ face. distance last face p ≡ 0 → point_at last face (row_of last face p) (column_of last face p) ≡ p)
+    each_face (λ face. value last (outward face) p ≡ last → point_at last face (row_of last face p) (column_of last face p) ≡ p)
     (λ on. same_point _ p (omega arith) (omega arith) (omega arith))
     (λ on. same_point _ p (omega arith) (omega arith) (omega arith))
     (λ on. same_point _ p (omega arith) (omega arith) (omega arith))
@@ -76,35 +76,62 @@ sticker_at-of last s h = same_sticker _ s (point_at-of last s.face s.point h.fac
 
 -- ---- turns
 
-IsWithin-turned : (last face : ℕ) (p : Point) → face < 6 → IsWithin last p → IsWithin last (turned_point last face p)
-IsWithin-turned last face p lt w =
-    each_face (λ face. IsWithin last (turned_point last face p))
-    (record { x = omega arith; y = omega arith; z = omega arith })
-    (record { x = omega arith; y = omega arith; z = omega arith })
-    (record { x = omega arith; y = omega arith; z = omega arith })
-    (record { x = omega arith; y = omega arith; z = omega arith })
-    (record { x = omega arith; y = omega arith; z = omega arith })
-    (record { x = omega arith; y = omega arith; z = omega arith })
+abbrev pub opposite_face : ℕ → ℕ
+opposite_face face = (face + 3) % 6
+
+pub opposite_face-below : (face : ℕ) → opposite_face face < 6
+opposite_face-below face = omega arith
+
+-- a quarter turn leaves its own layers
+pub KeepsCount-quarter : (last face depth : ℕ) → face < 6
+    → KeepsCount (quarter last face depth) (quarter last face depth).counted
+KeepsCount-quarter last face depth lt =
+    each_face (λ face. KeepsCount (quarter last face depth) (quarter last face depth).counted)
+    (record { moves = []; below = tt; is = refl })
+    (record { moves = []; below = tt; is = refl })
+    (record { moves = []; below = tt; is = refl })
+    (record { moves = []; below = tt; is = refl })
+    (record { moves = []; below = tt; is = refl })
+    (record { moves = []; below = tt; is = refl })
     face lt
 
-turned_face-below : (face from : ℕ) → face < 6 → from < 6 → turned_face face from < 6
-turned_face-below face from lt =
-    each_face (λ face. from < 6 → turned_face face from < 6)
-    (each_face (λ from. turned_face 0 from < 6) (lit< tt) (lit< tt) (lit< tt) (lit< tt) (lit< tt) (lit< tt) from)
-    (each_face (λ from. turned_face 1 from < 6) (lit< tt) (lit< tt) (lit< tt) (lit< tt) (lit< tt) (lit< tt) from)
-    (each_face (λ from. turned_face 2 from < 6) (lit< tt) (lit< tt) (lit< tt) (lit< tt) (lit< tt) (lit< tt) from)
-    (each_face (λ from. turned_face 3 from < 6) (lit< tt) (lit< tt) (lit< tt) (lit< tt) (lit< tt) (lit< tt) from)
-    (each_face (λ from. turned_face 4 from < 6) (lit< tt) (lit< tt) (lit< tt) (lit< tt) (lit< tt) (lit< tt) from)
-    (each_face (λ from. turned_face 5 from < 6) (lit< tt) (lit< tt) (lit< tt) (lit< tt) (lit< tt) (lit< tt) from)
-    face lt
+-- where it takes what is on a face
+abbrev pub turned_face : ℕ → ℕ → ℕ → ℕ → ℕ
+turned_face last face depth from = face_at (rotated 2 (quarter last face depth) (point_at 2 from 1 1))
 
--- a turn takes each face to the one behind it
-module _ (last : ℕ) (p : Point) (w : IsWithin last p) where
+module _ (last depth : ℕ) where
+  pub turned_face-below : (face from : ℕ) → face < 6 → from < 6 → turned_face last face depth from < 6
+  turned_face-below face from lt =
+      each_face (λ face. from < 6 → turned_face last face depth from < 6)
+      (each_face (λ from. turned_face last 0 depth from < 6) (lit< tt) (lit< tt) (lit< tt) (lit< tt) (lit< tt) (lit< tt) from)
+      (each_face (λ from. turned_face last 1 depth from < 6) (lit< tt) (lit< tt) (lit< tt) (lit< tt) (lit< tt) (lit< tt) from)
+      (each_face (λ from. turned_face last 2 depth from < 6) (lit< tt) (lit< tt) (lit< tt) (lit< tt) (lit< tt) (lit< tt) from)
+      (each_face (λ from. turned_face last 3 depth from < 6) (lit< tt) (lit< tt) (lit< tt) (lit< tt) (lit< tt) (lit< tt) from)
+      (each_face (λ from. turned_face last 4 depth from < 6) (lit< tt) (lit< tt) (lit< tt) (lit< tt) (lit< tt) (lit< tt) from)
+      (each_face (λ from. turned_face last 5 depth from < 6) (lit< tt) (lit< tt) (lit< tt) (lit< tt) (lit< tt) (lit< tt) from)
+      face lt
+
+  -- the turn of the opposite face takes back
+  face-back : (face from : ℕ) → face < 6 → from < 6
+      → turned_face last (opposite_face face) depth (turned_face last face depth from) ≡ from
+  face-back face from lt =
+      each_face (λ face. from < 6 → turned_face last (opposite_face face) depth (turned_face last face depth from) ≡ from)
+      (each_face (λ from. turned_face last 3 depth (turned_face last 0 depth from) ≡ from) refl refl refl refl refl refl from)
+      (each_face (λ from. turned_face last 4 depth (turned_face last 1 depth from) ≡ from) refl refl refl refl refl refl from)
+      (each_face (λ from. turned_face last 5 depth (turned_face last 2 depth from) ≡ from) refl refl refl refl refl refl from)
+      (each_face (λ from. turned_face last 0 depth (turned_face last 3 depth from) ≡ from) refl refl refl refl refl refl from)
+      (each_face (λ from. turned_face last 1 depth (turned_face last 4 depth from) ≡ from) refl refl refl refl refl refl from)
+      (each_face (λ from. turned_face last 2 depth (turned_face last 5 depth from) ≡ from) refl refl refl refl refl refl from)
+      face lt
+
+module _ (last depth : ℕ) (p : Point) (w : IsWithin last p) where
+  -- what is on a face is on the face to which that goes
   abbrev IsKept : ℕ → ℕ → Type 0
-  IsKept face from = distance last (turned_face face from) (turned_point last face p) ≡ distance last from p
+  IsKept face from =
+      value last (outward (turned_face last face depth from)) (rotated last (quarter last face depth) p) ≡ value last (outward from) p
 
-  distance-turned : (face from : ℕ) → face < 6 → from < 6 → IsKept face from
-  distance-turned face from lt =
+  outward-turned : (face from : ℕ) → face < 6 → from < 6 → IsKept face from
+  outward-turned face from lt =
       each_face (λ face. from < 6 → IsKept face from)
       (each_face (IsKept 0) (omega arith) (omega arith) (omega arith) (omega arith) (omega arith) (omega arith) from)
       (each_face (IsKept 1) (omega arith) (omega arith) (omega arith) (omega arith) (omega arith) (omega arith) from)
@@ -114,16 +141,16 @@ module _ (last : ℕ) (p : Point) (w : IsWithin last p) where
       (each_face (IsKept 5) (omega arith) (omega arith) (omega arith) (omega arith) (omega arith) (omega arith) from)
       face lt
 
-  -- which leaves its own layers
-  pub depth-turned : (face : ℕ) → face < 6 → distance last face (turned_point last face p) ≡ distance last face p
-  depth-turned face lt =
-      each_face (λ face. distance last face (turned_point last face p) ≡ distance last face p)
-      (omega arith) (omega arith) (omega arith) (omega arith) (omega arith) (omega arith) face lt
+  is_moved-turned : (face : ℕ) → face < 6
+      → is_moved last (quarter last face depth) (rotated last (quarter last face depth) p) ≡ is_moved last (quarter last face depth) p
+  is_moved-turned face lt =
+      let turn = quarter last face depth in
+      ap (λ n. leb turn.least n) (sum-rotated last turn turn.counted p w (KeepsCount-quarter last face depth lt))
 
-  -- the turn of the opposite face takes back
-  point-back : (face : ℕ) → face < 6 → turned_point last (opposite_face face) (turned_point last face p) ≡ p
+  point-back : (face : ℕ) → face < 6
+      → rotated last (quarter last (opposite_face face) depth) (rotated last (quarter last face depth) p) ≡ p
   point-back face lt =
-      each_face (λ face. turned_point last (opposite_face face) (turned_point last face p) ≡ p)
+      each_face (λ face. rotated last (quarter last (opposite_face face) depth) (rotated last (quarter last face depth) p) ≡ p)
       (same_point _ p (omega arith) (omega arith) (omega arith))
       (same_point _ p (omega arith) (omega arith) (omega arith))
       (same_point _ p (omega arith) (omega arith) (omega arith))
@@ -132,26 +159,12 @@ module _ (last : ℕ) (p : Point) (w : IsWithin last p) where
       (same_point _ p (omega arith) (omega arith) (omega arith))
       face lt
 
-face-back : (face from : ℕ) → face < 6 → from < 6 → turned_face (opposite_face face) (turned_face face from) ≡ from
-face-back face from lt =
-    each_face (λ face. from < 6 → turned_face (opposite_face face) (turned_face face from) ≡ from)
-    (each_face (λ from. turned_face 3 (turned_face 0 from) ≡ from) refl refl refl refl refl refl from)
-    (each_face (λ from. turned_face 4 (turned_face 1 from) ≡ from) refl refl refl refl refl refl from)
-    (each_face (λ from. turned_face 5 (turned_face 2 from) ≡ from) refl refl refl refl refl refl from)
-    (each_face (λ from. turned_face 0 (turned_face 3 from) ≡ from) refl refl refl refl refl refl from)
-    (each_face (λ from. turned_face 1 (turned_face 4 from) ≡ from) refl refl refl refl refl refl from)
-    (each_face (λ from. turned_face 2 (turned_face 5 from) ≡ from) refl refl refl refl refl refl from)
-    face lt
-
-pub opposite_face-below : (face : ℕ) → opposite_face face < 6
-opposite_face-below face = omega arith
-
-IsSticker-turned : (last face : ℕ) (s : Sticker) → face < 6 → IsSticker last s
-    → IsSticker last (turned_sticker last face s)
-IsSticker-turned last face s lt h = record {
-  within = IsWithin-turned last face s.point lt h.within;
-  face = turned_face-below face s.face lt h.face;
-  on = distance-turned last s.point h.within face s.face lt h.face ∙ h.on;
+IsSticker-turned : (last face depth : ℕ) (s : Sticker) → face < 6 → IsSticker last s
+    → IsSticker last (turned_sticker last (quarter last face depth) s)
+IsSticker-turned last face depth s lt h = record {
+  within = IsWithin-rotated last (quarter last face depth) s.point h.within;
+  face = turned_face-below last depth face s.face lt h.face;
+  on = outward-turned last depth s.point h.within face s.face lt h.face ∙ h.on;
 }
 
 -- stickers go to stickers, and come from stickers
@@ -160,29 +173,32 @@ by_layer P true s t a c = a
 by_layer P false s t a c = c
 
 pub IsSticker-carried : (last face depth : ℕ) (s : Sticker) → face < 6 → IsSticker last s
-    → IsSticker last (carried last face depth s)
+    → IsSticker last (carried_sticker last face depth s)
 IsSticker-carried last face depth s lt h =
-    by_layer (IsSticker last) (ltb (distance last face s.point) depth) _ s (IsSticker-turned last face s lt h) h
+    by_layer (IsSticker last) (is_moved last (quarter last face depth) s.point) _ s (IsSticker-turned last face depth s lt h) h
 
 pub IsSticker-brought : (last face depth : ℕ) (s : Sticker) → IsSticker last s
     → IsSticker last (brought_from last face depth s)
 IsSticker-brought last face depth s h =
-    by_layer (IsSticker last) (ltb (distance last face s.point) depth) _ s
-    (IsSticker-turned last (opposite_face face) s (opposite_face-below face) h) h
+    by_layer (IsSticker last) (is_moved last (quarter last face depth) s.point) _ s
+    (IsSticker-turned last (opposite_face face) depth s (opposite_face-below face) h) h
 
 -- a sticker comes from where it was
 pub brought_from-carried : (last face depth : ℕ) (s : Sticker) → face < 6 → IsSticker last s
-    → brought_from last face depth (carried last face depth s) ≡ s
-brought_from-carried last face depth s lt h = in_layer (ltb (distance last face s.point) depth) refl
+    → brought_from last face depth (carried_sticker last face depth s) ≡ s
+brought_from-carried last face depth s lt h = in_layer (is_moved last (quarter last face depth) s.point) refl
   where
-    in_layer : (b : Bool) → ltb (distance last face s.point) depth ≡ b
-        → brought_from last face depth (carried last face depth s) ≡ s
+    in_layer : (b : Bool) → is_moved last (quarter last face depth) s.point ≡ b
+        → brought_from last face depth (carried_sticker last face depth s) ≡ s
     in_layer true e =
-        ap (λ b. brought_from last face depth (cond b (turned_sticker last face s) s)) e
-        ∙ ap (λ d. cond (ltb d depth) (turned_sticker last (opposite_face face) (turned_sticker last face s)) (turned_sticker last face s))
-        (depth-turned last s.point h.within face lt)
-        ∙ ap (λ b. cond b (turned_sticker last (opposite_face face) (turned_sticker last face s)) (turned_sticker last face s)) e
-        ∙ same_sticker _ s (point-back last s.point h.within face lt) (face-back face s.face lt h.face)
+        let turn = quarter last face depth in
+        let back = quarter last (opposite_face face) depth in
+        ap (λ b. brought_from last face depth (cond b (turned_sticker last turn s) s)) e
+        ∙ ap (λ b. cond b (turned_sticker last back (turned_sticker last turn s)) (turned_sticker last turn s))
+        (is_moved-turned last depth s.point h.within face lt ∙ e)
+        ∙ same_sticker _ s (point-back last depth s.point h.within face lt) (face-back last depth face s.face lt h.face)
     in_layer false e =
-        ap (λ b. brought_from last face depth (cond b (turned_sticker last face s) s)) e
-        ∙ ap (λ b. cond b (turned_sticker last (opposite_face face) s) s) e
+        let turn = quarter last face depth in
+        let back = quarter last (opposite_face face) depth in
+        ap (λ b. brought_from last face depth (cond b (turned_sticker last turn s) s)) e
+        ∙ ap (λ b. cond b (turned_sticker last back s) s) e

@@ -1,7 +1,7 @@
 -- The net of a cube: which letter stands at each row and column of each face. A letter is the number of the face that
 -- has it on a solved cube.
 use Rattle.std.specs.Prelude.{◌≡◌, ℕ, zero, suc, ◌-◌, ◌<◌, ◌≤◌, nat_lt, Bool, false, if◌then◌else◌, List, [], map, length, slice_index, Option, Some, None}
-use Rattle.std.specs.List.{slice_index_or, range_with_len}
+use Rattle.std.specs.List.{flat_map, slice_index_or, range_with_len}
 use Rattle.scr_notation.specs.declared.turn.Turn.{Turn}
 use Rattle.scr_notation.specs.declared.turn.Turn.TheVariants.{Face}
 use Rattle.scr_net.specs.declared.geometry.Sticker.{Sticker}
@@ -50,6 +50,10 @@ net_after side net _ = None
 unfoldable pub turns_layers : ℕ → Turn → Bool
 turns_layers side (Face face depth amount) = nat_lt depth side
 turns_layers side _ = false
+
+-- all letters of a net, face by face and row by row
+abbrev pub letters_of : Letters → List ℕ
+letters_of net = flat_map (λ rows. flat_map (λ row. row) rows) net
 
 -- Six faces with so many rows of so many letters.
 pub record HasShape (side : ℕ) (net : Letters) : Type 0 where

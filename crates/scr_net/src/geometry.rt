@@ -1,16 +1,12 @@
-//! The points and the stickers of a cube, and quarter turns of both.
-ghost use Rattle.std.specs.Prelude.{◌≡◌, ◌<◌, ◌≤◌};
-ghost use Rattle.scr_net.specs.Geometry.{IsWithin, IsSticker, point_at, sticker_at, row_of, column_of, distance, turned_point, turned_face, brought_from};
+//! The stickers of a cube, and quarter turns of them.
+ghost use Rattle.std.specs.Prelude.{◌≡◌, ◌<◌, ◌≤◌, ◌^◌};
+ghost use Rattle.scr_space.specs.Spins.{IsWithin};
+ghost use Rattle.scr_net.specs.Geometry.{IsSticker, point_at, sticker_at, row_of, column_of, outward, quarter, face_at, turned_sticker, brought_from};
 
-/// A point of a cube: x counts from left to right, y from bottom to top and z from back to front, each from 0.
-#[derive(Clone, Copy)]
-pub(crate) struct Point {
-    pub(crate) x: usize,
-    pub(crate) y: usize,
-    pub(crate) z: usize,
-}
+use scr_space::{Coordinate, Counted, Point, Spin};
 
-/// A sticker, at a point and on a face. The faces U R F D L B are 0 to 5.
+/// A sticker, at a point and on a face. The faces U R F D L B are 0 to 5. Of a point x counts from left to right, y from
+/// bottom to top and z from back to front, each from 0.
 #[derive(Clone, Copy)]
 pub(crate) struct Sticker {
     pub(crate) point: Point,
@@ -90,28 +86,41 @@ pub(crate) fn column_of(last: usize, face: u8, point: Point) -> usize
     by_face! { face; point.x, last - point.z, point.x, point.x, point.z, last - point.x }
 }
 
-/// How many layers lie between a point and a face.
+/// The coordinate that is greatest on a face.
 #[inline(always)]
-pub(crate) fn distance(last: usize, face: u8, point: Point) -> usize
-    requires { IsWithin last point }
-    ensures { result ≡ distance last face point }
-{
-    by_face! { face; last - point.y, last - point.x, last - point.z, point.y, point.x, point.z }
-}
-
-/// Where a quarter turn of a face takes a point of the layers that it turns.
-#[inline(always)]
-fn turned_point(last: usize, face: u8, p: Point) -> Point
-    requires { IsWithin last p }
-    ensures { result ≡ turned_point last face p }
+pub(crate) fn outward(face: u8) -> Coordinate
+    ensures { result ≡ outward face }
 {
     by_face! { face;
-        make_point(last - p.z, p.y, p.x),
-        make_point(p.x, p.z, last - p.y),
-        make_point(p.y, last - p.x, p.z),
-        make_point(p.z, p.y, last - p.x),
-        make_point(p.x, last - p.z, p.y),
-        make_point(last - p.y, p.x, p.z),
+        Coordinate::Y,
+        Coordinate::X,
+        Coordinate::Z,
+        Coordinate::MirroredY,
+        Coordinate::MirroredX,
+        Coordinate::MirroredZ,
+    }
+}
+
+/// A quarter turn of `depth` layers at a face.
+#[inline(always)]
+fn quarter(last: usize, face: u8, depth: usize) -> Spin
+    requires { last < 2 ^ 32 }
+    ensures { result ≡ quarter last face depth }
+{
+    let (x, y, z) = by_face! { face;
+        (Coordinate::MirroredZ, Coordinate::Y, Coordinate::X),
+        (Coordinate::X, Coordinate::Z, Coordinate::MirroredY),
+        (Coordinate::Y, Coordinate::MirroredX, Coordinate::Z),
+        (Coordinate::Z, Coordinate::Y, Coordinate::MirroredX),
+        (Coordinate::X, Coordinate::MirroredZ, Coordinate::Y),
+        (Coordinate::MirroredY, Coordinate::X, Coordinate::Z),
+    };
+    Spin {
+        x,
+        y,
+        z,
+        counted: Counted::One(outward(face)),
+        least: (last + 1).saturating_sub(depth),
     }
 }
 
@@ -125,30 +134,31 @@ static TURNED_FACES: [[u8; 6]; 6] = [
     [4, 0, 2, 1, 3, 5],
 ];
 
-/// Where a quarter turn of a face takes what is on a face.
+/// Where a quarter turn of `depth` layers at a face takes a sticker that it moves.
 #[inline(always)]
-fn turned_face(face: u8, from: u8) -> u8
+fn turned_sticker(last: usize, face: u8, depth: usize, sticker: Sticker) -> Sticker
+    requires small { last < 2 ^ 32 }
     requires face { face < 6 }
-    requires from { from < 6 }
-    ensures { result ≡ turned_face face from }
+    requires sticker { IsSticker last sticker }
+    ensures { result ≡ turned_sticker last (quarter last face depth) sticker }
 {
-    TURNED_FACES[usize::from(face)][usize::from(from)]
+    Sticker {
+        point: sticker.point.rotated(last, quarter(last, face, depth)),
+        face: TURNED_FACES[usize::from(face)][usize::from(sticker.face)],
+    }
 }
 
 /// Where the sticker was before that a quarter turn of `depth` layers at a face takes here: the other way about a face
 /// is clockwise about the opposite one.
 #[inline(always)]
 pub(crate) fn brought_from(last: usize, face: u8, depth: usize, sticker: Sticker) -> Sticker
+    requires small { last < 2 ^ 32 }
     requires face { face < 6 }
     requires sticker { IsSticker last sticker }
     ensures { result ≡ brought_from last face depth sticker }
 {
-    if distance(last, face, sticker.point) < depth {
-        let opposite = (face + 3) % 6;
-        Sticker {
-            point: turned_point(last, opposite, sticker.point),
-            face: turned_face(opposite, sticker.face),
-        }
+    if sticker.point.is_moved(last, quarter(last, face, depth)) {
+        turned_sticker(last, (face + 3) % 6, depth, sticker)
     } else {
         sticker
     }

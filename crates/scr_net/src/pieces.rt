@@ -2,12 +2,14 @@
 ghost use Rattle.std.specs.Prelude.{◌≡◌, ◌<◌, ◌==◌, All, IfSome, length, position};
 ghost use Rattle.std.specs.List.{list_all};
 ghost use Rattle.scr_orbit.specs.Stickers.{standing};
-ghost use Rattle.scr_net.specs.Geometry.{IsSticker, IsWithin, distance};
+ghost use Rattle.scr_space.specs.Spins.{IsWithin, value};
+ghost use Rattle.scr_net.specs.Geometry.{IsSticker, outward};
 ghost use Rattle.scr_net.specs.Pieces.{corner_faces_222, letter_of_pieces, place_at, cube_letter, corners_letter, net_of_cube, net_of_corners};
 
-use crate::geometry::{Point, Sticker, distance};
+use crate::geometry::{Sticker, outward};
 use crate::net::Net;
 use scr_cube::{Corners222, Cube};
+use scr_space::Point;
 
 /// The faces of the corner places of a 3x3x3, clockwise, that of U or D first: URF, UFL, ULB, UBR, DFR, DLF, DBL, DRB.
 /// They are the letters of the corners.
@@ -122,7 +124,7 @@ fn place_at<const K: usize>(last: usize, places: &[[u8; K]], point: Point) -> Op
     places.iter().position(
         |faces: &[u8; K]| -> bool
             requires { IsWithin last point }
-            ensures { result ≡ list_all (λ face. distance last face point == 0) faces.now }
+            ensures { result ≡ list_all (λ face. value last (outward face) point == last) faces.now }
         { meet_at(last, &faces[..], point) },
     )
 }
@@ -130,9 +132,11 @@ fn place_at<const K: usize>(last: usize, places: &[[u8; K]], point: Point) -> Op
 /// Whether these faces all meet at a point.
 fn meet_at(last: usize, faces: &[u8], point: Point) -> bool
     requires { IsWithin last point }
-    ensures { result ≡ list_all (λ face. distance last face point == 0) faces.now }
+    ensures { result ≡ list_all (λ face. value last (outward face) point == last) faces.now }
 {
-    faces.iter().all(|face| distance(last, *face, point) == 0)
+    faces
+        .iter()
+        .all(|face| point.value(last, outward(*face)) == last)
 }
 
 /// Which letter of a piece with this digit stands at a face, where its place is named by these faces.

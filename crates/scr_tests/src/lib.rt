@@ -34,6 +34,7 @@ mod orbit;
 #[cfg(test)]
 mod outside;
 #[cfg(test)]
+mod picture;
 #[cfg(test)]
 mod pyram;
 #[cfg(test)]

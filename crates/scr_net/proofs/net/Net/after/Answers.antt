@@ -1,22 +1,10 @@
 -- A turn of layers at a face is one by the kind of its event, of which there are five whatever the events.
-use Rattle.std.proofs.Common.{ℕ, IsTrue, rules, arith, subst}
-use Rattle.scr_notation.specs.declared.event.Kind.{Kind}
-use Rattle.scr_notation.specs.declared.event.Kind.TheVariants.{Faces, Axes, LayersAndTwist, PinSets, WideTurns}
+use Rattle.std.proofs.Common.{IsTrue, rules, arith, subst}
 use Rattle.scr_notation.specs.declared.turn.Turn.{Turn}
-use Rattle.scr_notation.specs.declared.turn.Turn.TheVariants.{Face}
 use Rattle.scr_notation.specs.Event.{kind_of}
-use Rattle.scr_notation.specs.Turns.{has_turn, permits}
-use Rattle.scr_notation.proofs.NumberLaws.{IsFaceTurn, face_turn_parts}
+use Rattle.scr_notation.specs.Turns.{permits}
+use Rattle.scr_net.proofs.LayerTurns.{face_turn}
 use Rattle.scr_net.proofs.net.Net.after.Goals as goal
-
--- what a turn of layers at a face is, whatever kind of puzzles has it
-face_turn : (kind : Kind) (face depth amount : ℕ) → IsTrue (has_turn kind (Face face depth amount))
-    → (near : ℕ) × (far : ℕ) × IsFaceTurn near far face depth amount
-face_turn (Faces near far) face depth amount h = (near, far, face_turn_parts near far face depth amount h)
-face_turn (Axes tips) face depth amount h = cc
-face_turn LayersAndTwist face depth amount h = cc
-face_turn PinSets face depth amount h = cc
-face_turn WideTurns face depth amount h = cc
 
 pub turn-requires : goal.turn-requires
 turn-requires g c =

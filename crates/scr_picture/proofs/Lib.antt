@@ -1,0 +1,13 @@
+pub mod TextLaws
+pub mod PlacesBelow
+pub mod OrbitStickers
+pub mod Followed
+pub mod ShownSkewb
+pub mod ShownPyram
+pub mod MinxLaws
+pub mod AlwaysShown
+pub mod ReadTexts
+pub mod OneOrbit
+pub mod OneSkewb
+pub mod OnePyram
+pub mod OneOther

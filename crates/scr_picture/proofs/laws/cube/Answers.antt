@@ -1,0 +1,12 @@
+use Rattle.std.proofs.Common.{ap, ◌∙◌, subst, sym, refl}
+use Rattle.std.specs.Prelude.{IsSome}
+use Rattle.std.specs.Option.{option_map}
+use Rattle.scr_net.specs.Pieces.{net_of_cube}
+use Rattle.scr_net.proofs.PlayedNets.{cube_nets}
+use Rattle.scr_picture.specs.Pictures.{net_letters}
+use Rattle.scr_picture.proofs.laws.cube.Goals as goal
+
+pub returns : goal.returns
+returns c = λ w s e.
+    let shown = ap (option_map (net_letters 3)) (cube_nets w (subst IsSome (sym e) refl) ∙ ap (option_map net_of_cube) e) in
+    (shown, shown, shown)

@@ -1,0 +1,87 @@
+//! Laws of pictures. The functions do nothing: what each ensures is the law.
+ghost use Rattle.std.specs.Prelude.{◌≡◌, ℕ, All, IsTrue, List, None, Some, length, slice_get};
+ghost use Rattle.std.specs.List.{AllPass};
+ghost use Rattle.scr_combinatorics.specs.Back.{back};
+ghost use Rattle.scr_combinatorics.specs.Lists.{IsRearranged};
+ghost use Rattle.scr_combinatorics.specs.Play.{play};
+ghost use Rattle.scr_orbit.specs.Orbits.{Orbit};
+ghost use Rattle.scr_orbit.specs.PowerPuzzles.{after_letter};
+ghost use Rattle.scr_notation.specs.declared.event.Event.{Event as EventOf};
+ghost use Rattle.scr_notation.specs.declared.event.Event.TheVariants.{C222, C333, Oh333, Fm333, Minx, Pyram, Skewb, Clock, Sq1};
+ghost use Rattle.scr_notation.specs.declared.turn.Turn.{Turn as Letter};
+ghost use Rattle.scr_notation.specs.Turning.{opposite};
+ghost use Rattle.scr_notation.specs.Turns.{permits};
+ghost use Rattle.scr_cube.specs.Cube333.{CubeState, cube_powers, solved_cube};
+ghost use Rattle.scr_cube.specs.Cube222.{powers_222, solved_222};
+ghost use Rattle.scr_net.specs.Pieces.{net_of_corners, net_of_cube};
+ghost use Rattle.scr_tetra.specs.Skewb.{SkewbState, skewb_powers, solved_skewb};
+ghost use Rattle.scr_tetra.specs.Pyraminx.{PyramState, pyram_powers, solved_pyram};
+ghost use Rattle.scr_clock.specs.Dials.{solved};
+ghost use Rattle.scr_clock.specs.Held.{clock_after};
+ghost use Rattle.scr_sq1.specs.Units.{Sq1State, solved_sq1, sq1_after};
+ghost use Rattle.scr_picture.specs.declared.names.Alphabet.TheVariants.{Cube as Faces, Pyraminx as PyraminxFaces, Hours};
+ghost use Rattle.scr_picture.specs.Names.{joined_text, spaced_text};
+ghost use Rattle.scr_picture.specs.Stickers.{moved_times, stickers_after};
+ghost use Rattle.scr_picture.specs.Megaminx.{minx_moves};
+ghost use Rattle.scr_picture.specs.Pieces.{pyram_shown, skewb_shown};
+ghost use Rattle.scr_picture.specs.Pictures.{clock_hours, net_letters, picture_of, sq1_letters};
+
+/// Turns of an event make a picture, but where one of a Square-1 is barred in its place.
+pub fn shown()
+    ensures { (event : EventOf) (w : List Letter) → All (λ t. IsTrue (permits event t)) w → picture_of event w ≡ None
+        → (event ≡ Sq1) × (play sq1_after solved_sq1 w ≡ None) }
+{}
+
+/// Wherever turns lead the pieces of a 2x2x2, they make the picture of these pieces.
+pub fn corners()
+    ensures { (w : List Letter) (o : Orbit) → play (after_letter powers_222) solved_222 w ≡ Some o
+        → picture_of C222 w ≡ Some (net_letters 2 (net_of_corners o)) }
+{}
+
+/// And of a 3x3x3, whatever the event.
+pub fn cube()
+    ensures { (w : List Letter) (c : CubeState) → play (after_letter cube_powers) solved_cube w ≡ Some c
+        → (picture_of C333 w ≡ Some (net_letters 3 (net_of_cube c)))
+        × (picture_of Oh333 w ≡ Some (net_letters 3 (net_of_cube c)))
+        × (picture_of Fm333 w ≡ Some (net_letters 3 (net_of_cube c))) }
+{}
+
+/// And of a Skewb; and only one state has each picture.
+pub fn skewb()
+    ensures shown { (w : List Letter) (s : SkewbState) → play (after_letter skewb_powers) solved_skewb w ≡ Some s
+        → picture_of Skewb w ≡ Some (joined_text Faces (skewb_shown s)) }
+    ensures one { (w v : List Letter) (s r : SkewbState) → play (after_letter skewb_powers) solved_skewb w ≡ Some s
+        → play (after_letter skewb_powers) solved_skewb v ≡ Some r → picture_of Skewb w ≡ picture_of Skewb v → s ≡ r }
+{}
+
+/// And of a Pyraminx; and only one state has each picture.
+pub fn pyraminx()
+    ensures shown { (w : List Letter) (s : PyramState) → play (after_letter pyram_powers) solved_pyram w ≡ Some s
+        → picture_of Pyram w ≡ Some (joined_text PyraminxFaces (pyram_shown s)) }
+    ensures one { (w v : List Letter) (s r : PyramState) → play (after_letter pyram_powers) solved_pyram w ≡ Some s
+        → play (after_letter pyram_powers) solved_pyram v ≡ Some r → picture_of Pyram w ≡ picture_of Pyram v → s ≡ r }
+{}
+
+/// A Clock and a Square-1 show their states; and only one state has each picture.
+pub fn states()
+    ensures clock { (w : List Letter) (dials : List ℕ) → clock_after solved w ≡ Some dials
+        → picture_of Clock w ≡ Some (spaced_text Hours (clock_hours dials)) }
+    ensures sq1 { (w : List Letter) (s : Sq1State) → play sq1_after solved_sq1 w ≡ Some s
+        → picture_of Sq1 w ≡ Some (sq1_letters s) }
+    ensures one_clock { (w v : List Letter) (dials other : List ℕ) → clock_after solved w ≡ Some dials
+        → clock_after solved v ≡ Some other → picture_of Clock w ≡ picture_of Clock v → dials ≡ other }
+    ensures one_sq1 { (w v : List Letter) (s r : Sq1State) → play sq1_after solved_sq1 w ≡ Some s
+        → play sq1_after solved_sq1 v ≡ Some r → picture_of Sq1 w ≡ picture_of Sq1 v → s ≡ r }
+{}
+
+/// Each move of a Megaminx done five times moves nothing. Each turn leaves each letter as often as before, and turns
+/// taken back lead back.
+pub fn megaminx()
+    ensures five { (k : ℕ) (from letters : List ℕ) → slice_get minx_moves k ≡ Some from → length letters ≡ 132
+        → moved_times 5 from letters ≡ letters }
+    ensures kept { (t : Letter) (letters r : List ℕ) → length letters ≡ 132
+        → stickers_after minx_moves letters t ≡ Some r → IsRearranged r letters }
+    ensures back { (w : List Letter) (letters r : List ℕ) → AllPass (permits Minx) w → length letters ≡ 132
+        → play (stickers_after minx_moves) letters w ≡ Some r
+        → play (stickers_after minx_moves) r (back opposite w) ≡ Some letters }
+{}

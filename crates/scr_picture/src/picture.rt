@@ -1,0 +1,205 @@
+//! The picture of a scramble.
+ghost use Rattle.std.specs.Prelude.{◌≡◌, ◌+◌, ◌*◌, ◌<◌, ◌≤◌, ◌++◌, flat_map};
+ghost use Rattle.std.specs.Option.{option_map};
+ghost use Rattle.arrayvec.specs.ArrayString.{array_string_len};
+ghost use Rattle.scr_net.specs.Nets.{IsSide};
+ghost use Rattle.scr_picture.specs.declared.names.Alphabet.TheVariants.{Hours};
+ghost use Rattle.scr_picture.specs.Names.{spaced_text};
+ghost use Rattle.scr_picture.specs.Pictures.{row_letters, face_letters, net_letters, clock_hours, sq1_letters};
+ghost use Rattle.scr_picture.specs.Pictures.{picture_of, net_picture, pyram_picture, skewb_picture, minx_picture, clock_picture, sq1_picture};
+
+use crate::names::{Alphabet, Text, cube_name, joined, spaced};
+use crate::stickers::played;
+use crate::tables::{
+    SOLVED_MINX, SOLVED_PYRAM, SOLVED_SKEWB, minx_moves, pyram_moves, skewb_moves,
+};
+use arrayvec::ArrayString;
+use scr_clock::Clock;
+use scr_net::Net;
+use scr_notation::{Event, Scramble};
+use scr_sq1::Sq1;
+use std::marker::Model;
+
+/// What the puzzle of an event looks like after a scramble: the letters of its stickers in a fixed order.
+#[derive(Drop)]
+pub struct Picture {
+    letters: Text,
+}
+
+// Clauses see the text of the letters.
+impl Model for Picture {
+    ghost use Rattle.std.specs.Prelude.{ℕ, List};
+
+    ghost Value = { List ℕ };
+
+    ghost view = { λ p. p.letters.bytes };
+}
+
+impl Picture {
+    /// The picture of the solved puzzle of an event after a scramble of the event. `None` comes exactly where a turn of
+    /// a Square-1 is barred in its place (`laws::shown`).
+    pub fn of(scramble: &Scramble) -> Option<Picture>
+        ensures { result ≡ picture_of scramble.now.event scramble.now.turns }
+    {
+        match scramble.event() {
+            Event::C222 => net_picture::<2>(scramble),
+            Event::C333 | Event::Oh333 | Event::Bf333 | Event::Fm333 => net_picture::<3>(scramble),
+            Event::C555 => net_picture::<5>(scramble),
+            Event::C666 => net_picture::<6>(scramble),
+            Event::C777 => net_picture::<7>(scramble),
+            Event::Clock => clock_picture(scramble),
+            Event::Minx => minx_picture(scramble),
+            Event::Pyram => pyram_picture(scramble),
+            Event::Skewb => skewb_picture(scramble),
+            Event::Sq1 => sq1_picture(scramble),
+        }
+    }
+
+    /// The text of its letters.
+    pub fn letters(&self) -> &str
+        ensures { result.now ≡ self.now }
+    {
+        self.letters.as_str()
+    }
+}
+
+/// The picture of a cube.
+fn net_picture<const SIDE: usize>(scramble: &Scramble) -> Option<Picture>
+    requires { IsSide SIDE }
+    ensures { result ≡ net_picture SIDE scramble.now.turns }
+{
+    let net = Net::<SIDE>::solved().play(scramble)?;
+    Some(Picture {
+        letters: net_letters(&net),
+    })
+}
+
+/// The picture of a Clock.
+fn clock_picture(scramble: &Scramble) -> Option<Picture>
+    ensures { result ≡ clock_picture scramble.now.turns }
+{
+    let clock = Clock::solved().play(scramble)?;
+    Some(Picture {
+        letters: clock_letters(&clock),
+    })
+}
+
+/// The picture of a Square-1.
+fn sq1_picture(scramble: &Scramble) -> Option<Picture>
+    ensures { result ≡ sq1_picture scramble.now.turns }
+{
+    let state = Sq1::solved().play(scramble)?;
+    Some(Picture {
+        letters: sq1_letters(&state),
+    })
+}
+
+/// The picture of a Megaminx.
+fn minx_picture(scramble: &Scramble) -> Option<Picture>
+    ensures { result ≡ minx_picture scramble.now.turns }
+{
+    let letters = played(&SOLVED_MINX, minx_moves(), scramble.turns())?;
+    Some(Picture {
+        letters: spaced(Alphabet::Megaminx, &letters[..]),
+    })
+}
+
+/// The picture of a Pyraminx.
+fn pyram_picture(scramble: &Scramble) -> Option<Picture>
+    ensures { result ≡ pyram_picture scramble.now.turns }
+{
+    let letters = played(&SOLVED_PYRAM, pyram_moves(), scramble.turns())?;
+    Some(Picture {
+        letters: joined(Alphabet::Pyraminx, &letters[..]),
+    })
+}
+
+/// The picture of a Skewb.
+fn skewb_picture(scramble: &Scramble) -> Option<Picture>
+    ensures { result ≡ skewb_picture scramble.now.turns }
+{
+    let letters = played(&SOLVED_SKEWB, skewb_moves(), scramble.turns())?;
+    Some(Picture {
+        letters: joined(Alphabet::Cube, &letters[..]),
+    })
+}
+
+/// The letters of a net.
+fn net_letters<const SIDE: usize>(net: &Net<SIDE>) -> Text
+    requires { IsSide SIDE }
+    ensures { result.bytes ≡ net_letters SIDE net.now }
+{
+    let mut text = ArrayString::new();
+    for face in 0..6 {
+        push_face(&mut text, net, face);
+    }
+    text
+}
+
+/// Writes the letters of a face behind a text.
+fn push_face<const SIDE: usize>(text: &mut Text, net: &Net<SIDE>, face: u8)
+    requires side { IsSide SIDE }
+    requires face { face < 6 }
+    requires room { array_string_len text.old ≤ 250 }
+    ensures bytes { text.new.bytes ≡ text.old.bytes ++ face_letters SIDE net.now face }
+    ensures len { array_string_len text.new ≤ array_string_len text.old + 49 }
+{
+    for row in 0..SIDE {
+        push_row(text, net, face, row as u8);
+    }
+}
+
+/// Writes the letters of a row of a face behind a text.
+fn push_row<const SIDE: usize>(text: &mut Text, net: &Net<SIDE>, face: u8, row: u8)
+    requires side { IsSide SIDE }
+    requires face { face < 6 }
+    requires row { row < SIDE }
+    requires room { array_string_len text.old ≤ 300 }
+    ensures bytes { text.new.bytes ≡ text.old.bytes ++ row_letters SIDE net.now face row }
+    ensures len { array_string_len text.new ≤ array_string_len text.old + 7 }
+{
+    for column in 0..SIDE {
+        text.push_str(cube_name(net.cell(face, row, column as u8)));
+    }
+}
+
+/// The letters of a Clock: the hours of its two sides.
+#[tactic(auto, unfolding(crate::specs::Pictures::clock_hours))]
+fn clock_letters(clock: &Clock) -> Text
+    ensures { result.bytes ≡ spaced_text Hours (clock_hours clock.now) }
+{
+    let d = clock.dials();
+    let opposite = |hour: u8| (12 - hour) % 12;
+    let hours = [
+        d[0],
+        d[1],
+        d[2],
+        d[3],
+        d[4],
+        d[5],
+        d[6],
+        d[7],
+        d[8],
+        opposite(d[2]),
+        d[9],
+        opposite(d[0]),
+        d[10],
+        d[11],
+        d[12],
+        opposite(d[8]),
+        d[13],
+        opposite(d[6]),
+    ];
+    spaced(Alphabet::Hours, &hours[..])
+}
+
+/// The letters of a Square-1: its units and its equator.
+#[tactic(auto, unfolding(crate::specs::Pictures::sq1_letters))]
+fn sq1_letters(state: &Sq1) -> Text
+    ensures { result.bytes ≡ sq1_letters state.now }
+{
+    let units = state.units();
+    let mut text = joined(Alphabet::Units, &units[..]);
+    text.push_str(if state.equator() { "/" } else { "-" });
+    text
+}
