@@ -1,0 +1,7 @@
+pub mod WithinLaws
+pub mod Meeting
+pub mod TurnLaws
+pub mod Alternation
+pub mod KeyLaws
+pub mod LevelLaws
+pub mod Counted

@@ -1,0 +1,63 @@
+-- The turns by their numbers.
+use Rattle.std.proofs.Common.{◌≡◌, ℕ, ◌<◌, ◌/◌, ◌%◌, Bool, true, false, IsTrue, cond, Some, None, refl, sym, ap, ◌∙◌, eq-eqb, arith}
+use Rattle.std.proofs.Common.{◌+◌, inl, inr}
+use Rattle.std.proofs.lemmas.Bool.{cond-true, cases_lt}
+use Rattle.std.specs.Prelude.{ℤ, pos, ◌-ℤ◌, ◌==◌, Option}
+use Rattle.scr_notation.specs.declared.event.Kind.TheVariants.{LayersAndTwist}
+use Rattle.scr_notation.specs.declared.turn.Turn.{Turn}
+use Rattle.scr_notation.specs.declared.turn.Turn.TheVariants.{Layers, Twist}
+use Rattle.scr_notation.specs.Layers.{is_layer_turn}
+use Rattle.scr_notation.specs.TurnNumbers.{layer_turn_at, turn_at}
+use Rattle.scr_notation.proofs.NumberLaws.{numbered}
+use Rattle.scr_sq1.specs.Units.{Sq1State, IsSq1, after_layers, sq1_after}
+use Rattle.scr_sq1.proofs.Lawful.{sq1_after-layers}
+use Rattle.scr_sq1solve.specs.Minima.{sq1_moves}
+use Rattle.scr_sq1far.specs.Alternating.{is_twist}
+
+letter-after : (s r : Sq1State) (t : Turn) → sq1_after s t ≡ Some r → IsTrue (is_layer_turn t)
+unfolding sq1_after
+letter-after s r (Layers x y) e = (sq1_after-layers s r x y e).letter
+letter-after s r Twist e = refl
+letter-after s r _ e = absurd (cc)
+
+-- a turn that is not barred has a number
+pub number-after : (s r : Sq1State) (t : Turn) → sq1_after s t ≡ Some r → (n : ℕ) × (n < 144) × (layer_turn_at n ≡ t)
+unfolding turn_at
+number-after s r t e = numbered LayersAndTwist t tt (letter-after s r t e)
+
+twist-at : (n : ℕ) (b : Bool) → is_twist (cond b Twist (Layers (pos (n / 12) -ℤ pos 5) (pos (n % 12) -ℤ pos 5))) ≡ b
+twist-at n true = refl
+twist-at n false = refl
+
+pub is_twist-number : (n : ℕ) → is_twist (layer_turn_at n) ≡ (n == 65)
+unfolding layer_turn_at
+is_twist-number n = twist-at n (n == 65)
+
+-- what the moves of the search of few turns make of a valid state
+pub moved-number : (s : Sq1State) (n : ℕ) → IsSq1 s → sq1_moves.after s n ≡ sq1_after s (layer_turn_at n)
+moved-number s n valid = cond-true _ _ _ (eq-eqb _ 24 valid.size)
+
+-- what holds of the turns below a number and of this one holds of those below the next
+pub each_turn-more : (Q : Sq1State → Type 0) (s : Sq1State) (twists : Bool) (turn : ℕ)
+    → ((n : ℕ) (r : Sq1State) → n < turn → (n == 65) ≡ twists → sq1_after s (layer_turn_at n) ≡ Some r → Q r)
+    → ((r : Sq1State) → (turn == 65) ≡ twists → sq1_after s (layer_turn_at turn) ≡ Some r → Q r)
+    → (n : ℕ) (r : Sq1State) → n < turn + 1 → (n == 65) ≡ twists → sq1_after s (layer_turn_at n) ≡ Some r → Q r
+each_turn-more Q s twists turn below here n r lt kind e = elim (cases_lt n turn) [
+  | inl less ↦ below n r less kind e
+  | inr le ↦
+      let is : n ≡ turn = omega arith in
+      here r (ap (λ k. k == 65) (sym is) ∙ kind) (ap (λ k. sq1_after s (layer_turn_at k)) (sym is) ∙ e)
+]
+
+-- what holds of all turns of a kind by their numbers holds of those turns
+pub each_turn-all : (Q : Sq1State → Type 0) (s : Sq1State) (twists : Bool)
+    → ((n : ℕ) (r : Sq1State) → n < 144 → (n == 65) ≡ twists → sq1_after s (layer_turn_at n) ≡ Some r → Q r)
+    → (t : Turn) (r : Sq1State) → is_twist t ≡ twists → sq1_after s t ≡ Some r → Q r
+each_turn-all Q s twists each t r kind e =
+    let n = number-after s r t e in
+    each n.0 r n.1 (sym (is_twist-number n.0) ∙ ap is_twist n.2 ∙ kind) (ap (sq1_after s) n.2 ∙ e)
+
+-- a turn by amounts that are told otherwise
+pub after-amounts : (s : Sq1State) (o : Option Sq1State) (x y a b : ℤ) → o ≡ after_layers s x y → x ≡ a → y ≡ b
+    → o ≡ after_layers s a b
+after-amounts s o x y a b e top bottom = e ∙ ap (λ z. after_layers s z y) top ∙ ap (after_layers s a) bottom

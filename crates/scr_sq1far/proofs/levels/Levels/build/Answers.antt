@@ -1,0 +1,32 @@
+use Rattle.std.proofs.Common.{◌≡◌, length, sym, ap, subst, arith}
+use Rattle.std.specs.Prelude.{nat_eq}
+use Rattle.std.specs.HashMap.{get}
+use Rattle.std.specs.Map.{lookup}
+use Rattle.scr_sq1.specs.Units.{sq1_puzzle}
+use Rattle.scr_sq1far.specs.Within.{IsWithin}
+use Rattle.scr_sq1far.specs.Levels.{AreLevels, HasLevel, key_of}
+use Rattle.scr_sq1far.proofs.LevelLaws.{AreListed-none, AreLevels-first, TellNeeds-levels}
+use Rattle.scr_sq1far.proofs.WithinLaws.{IsWithin-solved}
+use Rattle.scr_sq1far.proofs.levels.Levels.build.Goals as goal
+
+pub add-requires-clause-near : goal.add-requires-clause-near
+add-requires-clause-near c = subst (λ q. IsWithin sq1_puzzle q 0) (sym c.solved-solved.ensures) (IsWithin-solved 0)
+
+pub add-requires-clause-listed : goal.add-requires-clause-listed
+add-requires-clause-listed c =
+    AreListed-none 0 (get nat_eq c.new-levels.result) c.new-states.result.items
+    (λ key. ap (lookup (nat_eq key)) c.new-levels.ensures.empty) (ap length c.new-states.ensures.items)
+
+pub loop-level-init : goal.loop-level-init
+loop-level-init c = record {
+  listed = c.in_ok-add.ensures.listed;
+  exact = AreLevels-first (get nat_eq c.add.new.levels) c.add.new.states.items c.in_ok-add.ensures.listed
+      (subst (λ q. HasLevel 0 (get nat_eq c.add.new.levels) (key_of q)) c.solved-solved.ensures c.in_ok-add.ensures.added);
+}
+
+pub invariant_of-result : goal.invariant_of-result
+invariant_of-result c =
+    let five : c.loop-level.level ≡ 5 = omega arith in
+    record {
+      exact = TellNeeds-levels 5 (get nat_eq c.loop-level.levels) (subst (λ n. AreLevels n (get nat_eq c.loop-level.levels)) five c.loop-level.invariant.exact);
+    }
