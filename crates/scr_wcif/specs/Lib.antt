@@ -1,0 +1,10 @@
+pub mod Fields
+pub mod FileRound
+pub mod FileRounds
+pub mod Listed
+pub mod Adding
+pub mod Reading
+pub mod Message
+pub mod Status
+pub mod Outcome
+pub mod Made

@@ -1,0 +1,31 @@
+-- The list that was made of a file.
+use Rattle.std.specs.Prelude.{ℕ, ◌≡◌, List, Result, Ok, Err, string_bytes}
+use Rattle.std.specs.declared.string.String.{String}
+use Rattle.std.specs.declared.alloc.Global.{Global}
+use Rattle.std.specs.Result.{result_map_both}
+use Rattle.json.specs.Json.{Json}
+use Rattle.scr_wcif.specs.declared.fault.Fault.{Fault}
+use Rattle.scr_wcif.specs.declared.program.FileList.{FileList}
+use Rattle.scr_wcif.specs.FileRound.{NamedRound}
+use Rattle.scr_wcif.specs.FileRounds.{rounds_of_file}
+use Rattle.scr_wcif.specs.Listed.{IsListOf, left_out_text}
+use Rattle.scr_wcif.specs.Adding.{IsAnswer}
+use Rattle.scr_wcif.specs.Outcome.{ComesToList, NamesNone}
+
+-- what is told, as a text
+abbrev pub told_text : Result (String Global) Fault → Result (List ℕ) Fault
+told_text = result_map_both (λ told. string_bytes told) (λ why. why)
+
+-- it is the list of the rounds that a value names, with what is told of those that it leaves out
+pub record IsListOfValue (json : Json) (made : FileList) : Type 0 where
+  pub named : List NamedRound
+  pub names : rounds_of_file json ≡ Ok named
+  pub list_is : IsListOf named (string_bytes made.list)
+  pub told_is : string_bytes made.told ≡ left_out_text named
+
+abbrev pub ListsValue : Json → Result FileList Fault → Type 0
+ListsValue json = IsAnswer (IsListOfValue json) (λ why. rounds_of_file json ≡ Err why)
+
+-- the same of the bytes of a file
+abbrev pub ListsFile : List ℕ → Result FileList Fault → Type 0
+ListsFile bytes = IsAnswer (λ made. ComesToList bytes (string_bytes made.list) (string_bytes made.told)) (NamesNone bytes)

@@ -1,0 +1,46 @@
+-- What goes wrong in a run, and the line that tells it.
+use Rattle.std.specs.Prelude.{ℕ, List, ◌++◌, codes}
+use Rattle.std.specs.Fmt.{decimal}
+use Rattle.scr_wcif.specs.declared.fault.EventCause.{EventCause}
+use Rattle.scr_wcif.specs.declared.fault.EventCause.TheVariants as event
+use Rattle.scr_wcif.specs.declared.fault.RoundCause.{RoundCause}
+use Rattle.scr_wcif.specs.declared.fault.RoundCause.TheVariants as round
+use Rattle.scr_wcif.specs.declared.fault.FileFault.{FileFault}
+use Rattle.scr_wcif.specs.declared.fault.FileFault.TheVariants as file
+use Rattle.scr_wcif.specs.declared.fault.Fault.{Fault}
+use Rattle.scr_wcif.specs.declared.fault.Fault.TheVariants as fault
+
+-- why an entry tells no event, and why one tells no round
+abbrev pub event_cause_text : EventCause → List ℕ
+event_cause_text event.Many = codes "more than 17 events"
+event_cause_text event.Shape = codes "no id and rounds"
+event_cause_text event.Unknown = codes "unknown event"
+event_cause_text event.Twice = codes "the same event again"
+event_cause_text event.Rounds = codes "more than four rounds"
+
+abbrev pub round_cause_text : RoundCause → List ℕ
+round_cause_text round.Id = codes "id"
+round_cause_text round.Groups = codes "scrambleSetCount"
+
+-- why a file tells no rounds; events and their rounds are counted from 1, and bytes from 0
+abbrev pub file_text : FileFault → List ℕ
+file_text file.TooLong = codes "file is longer than 67108864 bytes"
+file_text (file.NoText place) = codes "no UTF-8 at byte " ++ decimal place
+file_text (file.NoJson place) = codes "no JSON at byte " ++ decimal place
+file_text file.KeyTwice = codes "an object has a key twice"
+file_text file.NoCompetition = codes "no competition: no list of events"
+file_text (file.Event number cause) = codes "event " ++ decimal number ++ codes ": " ++ event_cause_text cause
+file_text (file.Round event number cause) =
+    codes "event " ++ decimal event ++ codes " round " ++ decimal number ++ codes ": " ++ round_cause_text cause
+file_text file.Read = codes "input could not be read"
+
+-- what went wrong
+abbrev pub fault_text : Fault → List ℕ
+fault_text fault.Usage = codes "usage: list"
+fault_text (fault.File why) = file_text why
+fault_text fault.Write = codes "output could not be written"
+fault_text fault.NoMemory = codes "out of memory"
+
+-- the line that the program writes for it
+abbrev pub message_of : Fault → List ℕ
+message_of why = codes "scramble-wcif: " ++ fault_text why ++ codes "\n"

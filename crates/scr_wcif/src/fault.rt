@@ -1,0 +1,101 @@
+//! What goes wrong in a run.
+
+ghost use Rattle.std.specs.Prelude.{◌≡◌};
+ghost use Rattle.scr_wcif.specs.declared.fault.Fault.TheVariants.{File, NoMemory, Write};
+
+use scr_outside::Failed;
+use std::alloc::AllocError;
+
+/// Why an entry of the list of events tells no event. Where more than one applies, it is the first of: many, shape,
+/// unknown, twice, rounds.
+#[derive(Clone, Copy, Debug, PartialEq, Eq)]
+pub enum EventCause {
+    /// It is the eighteenth: the WCA has seventeen events.
+    Many,
+    /// It is no object with an `id`, which is a text, and `rounds`, which is a list.
+    Shape,
+    /// Its id is that of no event of the WCA.
+    Unknown,
+    /// An entry before it has the same id.
+    Twice,
+    /// It has more than four rounds.
+    Rounds,
+}
+
+/// Why an entry of the list of an event's rounds tells no round.
+#[derive(Clone, Copy, Debug, PartialEq, Eq)]
+pub enum RoundCause {
+    /// Its `id` isn't the event's with `-r` and its number from 1.
+    Id,
+    /// Its `scrambleSetCount` isn't a number from 1 to 26.
+    Groups,
+}
+
+/// Why a file tells no rounds. Entries of lists are counted from 1, and bytes from 0.
+#[derive(Clone, Copy, Debug, PartialEq, Eq)]
+pub enum FileFault {
+    /// It has more than 67,108,864 bytes.
+    TooLong,
+    /// It is no text: at this byte it isn't UTF-8.
+    NoText {
+        place: u32,
+    },
+    /// It is no JSON, or arrays and objects nest in it more than 128 deep: the reader stopped at this byte.
+    NoJson {
+        place: u32,
+    },
+    /// An object in it has a key twice.
+    KeyTwice,
+    /// It is no object with `events`, which is a list.
+    NoCompetition,
+    /// This entry of `events` tells no event.
+    Event {
+        number: u32,
+        cause: EventCause,
+    },
+    /// This entry of the `rounds` of this event tells no round.
+    Round {
+        event: u32,
+        number: u32,
+        cause: RoundCause,
+    },
+    /// It could not be read.
+    Read,
+}
+
+/// What went wrong.
+#[derive(Clone, Copy, Debug, PartialEq, Eq)]
+pub enum Fault {
+    /// The words are no command.
+    Usage,
+    /// The file tells no rounds, or could not be read.
+    File(FileFault),
+    /// The output could not be written.
+    Write,
+    /// Want of memory.
+    NoMemory,
+}
+
+impl From<FileFault> for Fault {
+    ghost from_gives = { λ file fault. fault ≡ File file };
+
+    fn from(fault: FileFault) -> Fault {
+        Fault::File(fault)
+    }
+}
+
+impl From<Failed> for Fault {
+    ghost from_gives = { λ _ fault. fault ≡ Write };
+
+    fn from(_failed: Failed) -> Fault {
+        Fault::Write
+    }
+}
+
+impl From<AllocError> for Fault {
+    ghost from_gives = { λ _ fault. fault ≡ NoMemory };
+
+    fn from(_wanting: AllocError) -> Fault {
+        Fault::NoMemory
+    }
+}

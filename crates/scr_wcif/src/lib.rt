@@ -1,0 +1,30 @@
+//! A competition's own file, in the WCA's interchange format (WCIF): the round list that it holds.
+//!
+//! The file is a JSON value, as the kit's crate `json` defines and reads it. What rounds it names is a definition of
+//! its own, a function of that value (`specs/FileRounds.antt`); the list is that of `scr_list`, whose law says that
+//! it is read back. The theorem is that of `run`: whatever the source and the sinks do, the list that was written names
+//! exactly the rounds of the file, or there is a cause why none was written, and it is told.
+#![tactic(auto)]
+
+mod adding;
+mod command;
+mod fault;
+mod field;
+mod host;
+mod list;
+mod message;
+mod program;
+mod reading;
+mod round;
+mod rounds;
+mod status;
+mod value;
+
+pub use command::Command;
+pub use fault::{EventCause, Fault, FileFault, RoundCause};
+pub use host::run_on_host;
+pub use program::run;
+pub use reading::MOST_BYTES;
+pub use round::FileRound;
+pub use rounds::rounds_of_file;
+pub use status::Status;

@@ -1,0 +1,97 @@
+//! How faults are told.
+
+ghost use Rattle.std.specs.Prelude.{◌≡◌, ◌++◌, ◌+◌, ◌≤◌, length};
+ghost use Rattle.std.specs.Fmt.{decimal};
+ghost use Rattle.arrayvec.specs.ArrayString.{array_string_len};
+ghost use Rattle.scr_wcif.specs.Message.{message_of, file_text, event_cause_text, round_cause_text};
+
+use crate::fault::{EventCause, Fault, FileFault, RoundCause};
+use arrayvec::ArrayString;
+use scr_text::decimal;
+
+/// The length of the longest message, and a little more.
+const LONGEST: usize = 128;
+
+impl Fault {
+    /// The line that tells it, with its line feed.
+    pub fn message(self) -> ArrayString<LONGEST>
+        ensures { result.bytes ≡ message_of self }
+    {
+        let mut line = ArrayString::new();
+        line.push_str("scramble-wcif: ");
+        match self {
+            Fault::Usage => line.push_str("usage: list"),
+            Fault::File(why) => push_file(&mut line, why),
+            Fault::Write => line.push_str("output could not be written"),
+            Fault::NoMemory => line.push_str("out of memory"),
+        }
+        line.push_str("\n");
+        line
+    }
+}
+
+fn push_file(line: &mut ArrayString<LONGEST>, why: FileFault)
+    requires { array_string_len line.old ≤ 15 }
+    ensures bytes { line.new.bytes ≡ line.old.bytes ++ file_text why }
+    ensures room { array_string_len line.new ≤ 120 }
+{
+    match why {
+        FileFault::TooLong => line.push_str("file is longer than 67108864 bytes"),
+        FileFault::NoText { place } => push_at(line, "no UTF-8 at byte ", place),
+        FileFault::NoJson { place } => push_at(line, "no JSON at byte ", place),
+        FileFault::KeyTwice => line.push_str("an object has a key twice"),
+        FileFault::NoCompetition => line.push_str("no competition: no list of events"),
+        FileFault::Event { number, cause } => {
+            push_at(line, "event ", number);
+            line.push_str(": ");
+            line.push_str(event_cause_words(cause));
+        }
+        FileFault::Round {
+            event,
+            number,
+            cause,
+        } => {
+            push_at(line, "event ", event);
+            push_at(line, " round ", number);
+            line.push_str(": ");
+            line.push_str(round_cause_words(cause));
+        }
+        FileFault::Read => line.push_str("input could not be read"),
+    }
+}
+
+/// Adds a few words and a number.
+fn push_at(line: &mut ArrayString<LONGEST>, words: &str, number: u32)
+    requires words { length words.now ≤ 20 }
+    requires room { array_string_len line.old ≤ 60 }
+    ensures bytes { line.new.bytes ≡ line.old.bytes ++ (words.now ++ decimal number) }
+    ensures room { array_string_len line.new ≤ array_string_len line.old + length words.now + 10 }
+{
+    line.push_str(words);
+    line.push_str(decimal(number).as_str());
+}
+
+/// Why an entry tells no event: a few words.
+fn event_cause_words(cause: EventCause) -> &'static str
+    ensures words { result.now ≡ event_cause_text cause }
+    ensures few { length result.now ≤ 21 }
+{
+    match cause {
+        EventCause::Many => "more than 17 events",
+        EventCause::Shape => "no id and rounds",
+        EventCause::Unknown => "unknown event",
+        EventCause::Twice => "the same event again",
+        EventCause::Rounds => "more than four rounds",
+    }
+}
+
+/// Why an entry tells no round: a few words.
+fn round_cause_words(cause: RoundCause) -> &'static str
+    ensures words { result.now ≡ round_cause_text cause }
+    ensures few { length result.now ≤ 21 }
+{
+    match cause {
+        RoundCause::Id => "id",
+        RoundCause::Groups => "scrambleSetCount",
+    }
+}
