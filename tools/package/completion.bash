@@ -1,5 +1,5 @@
-# Completion in bash: of the commands, options and events of scramble, and of the options of scramble-pages. Numbers, seeds and
-# names are not completed, and files behind < and > by bash itself.
+# Completion in bash: of the commands, options and events of scramble, of the options of scramble-pages, and of the command of
+# scramble-wcif. Numbers, seeds and names are not completed, and files behind < and > by bash itself.
 
 # Of these words those that begin as what is typed.
 _scramble_offer() { COMPREPLY=($(compgen -W "$1" -- "${COMP_WORDS[COMP_CWORD]}")); }
@@ -34,5 +34,11 @@ _scramble_pages() {
     _scramble_options "--html --name"
 }
 
+_scramble_wcif() {
+    COMPREPLY=()
+    [ "$COMP_CWORD" -ne 1 ] || _scramble_offer "list"
+}
+
 complete -F _scramble scramble
 complete -F _scramble_pages scramble-pages
+complete -F _scramble_wcif scramble-wcif
