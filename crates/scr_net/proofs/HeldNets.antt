@@ -1,9 +1,9 @@
 -- The net of a cube that was turned at places, with wide turns too, is the net that these turns make.
-use Rattle.std.proofs.Common.{◌≡◌, ℕ, zero, suc, ◌+◌, ◌<◌, ◌≤◌, Bool, true, List, [], ◌∷◌, Option, Some, None, refl, sym, ap, ◌∙◌, subst, inl, inr, lit<, arith, eqb-true, leb-true, ltb-true}
-use Rattle.std.specs.Prelude.{◌==◌, ◌&&◌, nat_le, nat_lt, map, Contains, IsSome, slice_get, slice_index_or}
+use Rattle.std.proofs.Common.{◌≡◌, ℕ, zero, suc, ◌+◌, ◌<◌, ◌≤◌, true, List, [], ◌∷◌, Option, Some, None, refl, sym, ap, ◌∙◌, subst, inl, inr, lit<, arith}
+use Rattle.std.specs.Prelude.{map, Contains, IsSome, slice_get, slice_index_or}
 use Rattle.std.specs.List.{range_with_len}
 use Rattle.std.specs.Option.{option_map}
-use Rattle.std.proofs.lemmas.Bool.{and_parts, cases_lt, false≢true}
+use Rattle.std.proofs.lemmas.Bool.{cases_lt, false≢true}
 use Rattle.std.proofs.lemmas.Option.{same_Some}
 use Rattle.scr_combinatorics.specs.Play.{play}
 use Rattle.scr_combinatorics.proofs.PlayLaws.{and_then-some, map-some, play-empty, play-first, play-parts}
@@ -22,12 +22,11 @@ use Rattle.scr_cube.proofs.Laws333.{lawful_cube, IsCube-solved}
 use Rattle.scr_cube.proofs.HeldReach.{Contains-solved}
 use Rattle.scr_cube.proofs.Holds.{at_each, of_holds, turned_face, centres_turned, Contains-whole, axis-kept, whole_turned-none, whole_turned-add}
 use Rattle.scr_cube.proofs.HeldLaws.{step-of, IsHeld-after, face_parts, near_place}
-use Rattle.scr_space.specs.Spins.{value}
 use Rattle.scr_net.specs.declared.geometry.Sticker.{Sticker}
-use Rattle.scr_net.specs.Geometry.{outward, row_of, column_of, sticker_at, brought_from, IsSticker}
+use Rattle.scr_net.specs.Geometry.{row_of, column_of, sticker_at, brought_from, IsSticker}
 use Rattle.scr_net.specs.Nets.{letter_at, net_of, net_after, quarter_net, solved_net, turned_net}
 use Rattle.scr_net.specs.Pieces.{cube_letter, letter_of_pieces, net_of_held, seen_from}
-use Rattle.scr_net.proofs.StickerLaws.{IsSticker-at, IsSticker-brought, row_of-le, column_of-le, sticker_at-of}
+use Rattle.scr_net.proofs.StickerLaws.{is_sticker, IsSticker-at, IsSticker-brought, IsSticker-tested, row_of-le, column_of-le, sticker_at-of}
 use Rattle.scr_net.proofs.NetLaws.{letter_at-net_of, net_of-same}
 use Rattle.scr_net.proofs.PieceLaws.{each_sticker-at}
 use Rattle.scr_net.proofs.PlayedNets.{cube_turns, cube_comes_from, cube_tests, cube_letter-turned}
@@ -35,11 +34,11 @@ use Rattle.scr_net.proofs.PlayedNets.{cube_turns, cube_comes_from, cube_tests, c
 -- ---- what is computed over all holds and all stickers
 
 -- for each sticker of a 3x3x3, whatever the hold and the place
-abbrev over_stickers : {X : Type 0} → (Sticker → X) → List (List (List X))
+abbrev pub over_stickers : {X : Type 0} → (Sticker → X) → List (List (List X))
 over_stickers f =
     map (λ face. map (λ row. map (λ column. f (sticker_at 2 face row column)) (range_with_len 0 3)) (range_with_len 0 3)) (range_with_len 0 6)
 
-at_sticker : {X : Type 0} (f g : Sticker → X) → over_stickers f ≡ over_stickers g → (s : Sticker) → IsSticker 2 s → f s ≡ g s
+pub at_sticker : {X : Type 0} (f g : Sticker → X) → over_stickers f ≡ over_stickers g → (s : Sticker) → IsSticker 2 s → f s ≡ g s
 at_sticker f g e s h =
     let low = row_of-le 2 s.face s.point h.face h.within in
     let left = column_of-le 2 s.face s.point h.face h.within in
@@ -82,29 +81,14 @@ all_holds =
     ∷ (4 ∷ 2 ∷ 3 ∷ 1 ∷ 5 ∷ 0 ∷ [])
     ∷ (1 ∷ 2 ∷ 0 ∷ 4 ∷ 5 ∷ 3 ∷ []) ∷ []
 
-abbrev listed : ℕ → List ℕ
+abbrev pub listed : ℕ → List ℕ
 listed hold = slice_index_or all_holds hold []
 
 -- a sticker seen from a hold is a sticker
-abbrev is_sticker : Sticker → Bool
-is_sticker s = (nat_le s.point.x 2 && (nat_le s.point.y 2 && nat_le s.point.z 2)) && (nat_lt s.face 6 && (value 2 (outward s.face) s.point == 2))
-
-IsSticker-tested : (s : Sticker) → is_sticker s ≡ true → IsSticker 2 s
-IsSticker-tested s e =
-    let parts = and_parts (nat_le s.point.x 2 && (nat_le s.point.y 2 && nat_le s.point.z 2)) (nat_lt s.face 6 && (value 2 (outward s.face) s.point == 2)) e in
-    let x = and_parts (nat_le s.point.x 2) (nat_le s.point.y 2 && nat_le s.point.z 2) parts.0 in
-    let yz = and_parts (nat_le s.point.y 2) (nat_le s.point.z 2) x.1 in
-    let on = and_parts (nat_lt s.face 6) (value 2 (outward s.face) s.point == 2) parts.1 in
-    record {
-      within = record { x = leb-true s.point.x 2 x.0; y = leb-true s.point.y 2 yz.0; z = leb-true s.point.z 2 yz.1 };
-      face = ltb-true s.face 6 on.0;
-      on = eqb-true (value 2 (outward s.face) s.point) 2 on.1;
-    }
-
-IsSticker-seen : (centres : List ℕ) (s : Sticker) → Contains holds centres → IsSticker 2 s → IsSticker 2 (seen_from centres s)
+pub IsSticker-seen : (centres : List ℕ) (s : Sticker) → Contains holds centres → IsSticker 2 s → IsSticker 2 (seen_from centres s)
 IsSticker-seen centres s there h =
     of_holds (λ k. IsSticker 2 (seen_from k s)) (λ hold lt.
-    IsSticker-tested (seen_from (listed hold) s) (at_sticker (λ s. is_sticker (seen_from (listed hold) s)) (λ s. true) (at_each (λ hold. over_stickers (λ s. is_sticker (seen_from (listed hold) s))) (λ hold. over_stickers (λ s. true)) 24 refl hold lt) s h)) centres there
+    IsSticker-tested 2 (seen_from (listed hold) s) (at_sticker (λ s. is_sticker 2 (seen_from (listed hold) s)) (λ s. true) (at_each (λ hold. over_stickers (λ s. is_sticker 2 (seen_from (listed hold) s))) (λ hold. over_stickers (λ s. true)) 24 refl hold lt) s h)) centres there
 
 -- A turn at a place brings a sticker from where the cube's own turn brings what is seen there.
 abbrev brought_seen : ℕ → ℕ → List ℕ → Sticker → Sticker
@@ -296,7 +280,7 @@ net-solved-held : net_of_held solved_held ≡ solved_net 3
 unfolding net_of cube_letter letter_of_pieces solved_held solved_cube solved_orbit
 net-solved-held = refl
 
-IsHeld-solved : IsHeld solved_held
+pub IsHeld-solved : IsHeld solved_held
 unfolding solved_held
 IsHeld-solved = record { cube = IsCube-solved; centres = Contains-solved }
 

@@ -5,5 +5,7 @@ pub mod LettersKept
 pub mod PieceLaws
 pub mod PlayedNets
 pub mod HeldNets
+pub mod OneOrbit
+pub mod OneNet
 pub mod LayerTurns
 pub mod TextLaws

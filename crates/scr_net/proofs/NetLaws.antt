@@ -7,7 +7,7 @@ use Rattle.std.proofs.lemmas.Bool.{cases_lt}
 use Rattle.std.proofs.lemmas.List.FromFn.{get_or-map-range_with_len, length-map-range_with_len, fill_by_all}
 use Rattle.scr_net.specs.declared.geometry.Sticker.{Sticker}
 use Rattle.scr_net.specs.Geometry.{row_of, column_of, carried_sticker, brought_from, IsSticker, sticker_at}
-use Rattle.scr_net.specs.Nets.{Letters, cell, letter_at, net_of, quarter_net, turned_net, HasShape}
+use Rattle.scr_net.specs.Nets.{Letters, cell, letter_at, net_of, quarter_net, turned_net, HasShape, IsNet}
 use Rattle.scr_net.proofs.StickerLaws.{IsSticker-carried, brought_from-carried, row_of-le, column_of-le, sticker_at-of}
 
 -- ---- a net by a rule
@@ -95,6 +95,16 @@ letters-below side net h each face row column = face_case
       | inl lf ↦ row_case lf
       | inr le ↦ subst (λ rows. slice_index (get_or rows row []) column < 6) (sym (get_or_past net face [] (omega (arith, h.faces)))) (past [] (omega arith))
     ]
+
+pub IsNet-net_of : (side : ℕ) (letter : Sticker → ℕ) → ((s : Sticker) → s.face < 6 → letter s < 6)
+    → IsNet side (net_of side letter)
+IsNet-net_of side letter low =
+    let shape = HasShape-net_of side letter in
+    record {
+      shape = shape;
+      letters = letters-below side (net_of side letter) shape (λ face row column lf lr lc.
+          subst (λ x. x < 6) (sym (cell-net_of side letter face row column lf lr lc)) (low (sticker_at (side - 1) face row column) lf));
+    }
 
 -- ---- a quarter turn
 

@@ -11,7 +11,7 @@ use Rattle.scr_combinatorics.specs.Lists.{pick}
 use Rattle.scr_combinatorics.proofs.PermutationLaws.{All-permutation}
 use Rattle.scr_combinatorics.proofs.PlayLaws.{and_then-some, map-some}
 use Rattle.scr_combinatorics.proofs.Picks.{length-pick, pick-at}
-use Rattle.scr_orbit.specs.Orbits.{Orbit, Rearrangement, IsZeroSumOrbit, IsZeroSumRearrangement, turned_orbit}
+use Rattle.scr_orbit.specs.Orbits.{Orbit, Rearrangement, IsZeroSumOrbit, turned_orbit}
 use Rattle.scr_orbit.specs.Stickers.{standing}
 use Rattle.scr_orbit.proofs.DigitLaws.{added_digits-at}
 use Rattle.scr_cube.specs.Cube333.{CubeState}
@@ -47,17 +47,18 @@ abbrev pub same_place : Option ℕ → Option ℕ → Bool
 same_place (Some k) (Some j) = k == j
 same_place _ _ = false
 
-same_place-same : (a b : Option ℕ) → same_place a b ≡ true → (k : ℕ) × (a ≡ Some k) × (b ≡ Some k)
+pub same_place-same : (a b : Option ℕ) → same_place a b ≡ true → (k : ℕ) × (a ≡ Some k) × (b ≡ Some k)
 same_place-same None b h = absurd (cc)
 same_place-same (Some k) None h = absurd (cc)
 same_place-same (Some k) (Some j) h = (k, refl, ap Some (sym (eqb-true k j h)))
 
--- the number of a face among those at which a piece's letters stand
+-- A place has names for its stickers: the faces that they are on, or their numbers. Which of a piece's stickers stands at
+-- the one of this name, where it stands with this digit.
 abbrev pub number_at : List (List ℕ) → ℕ → ℕ → ℕ → Option ℕ
-number_at places face place digit = position (λ f. f == face) (standing (get_or places place []) digit)
+number_at places name place digit = position (λ n. n == name) (standing (get_or places place []) digit)
 
--- A turn brings to a place's face what stood at another's: the piece comes from there, and whatever its digit was, the
--- letter that is there now was there. Where no such piece is, the rest tells.
+-- A turn brings to a sticker of a place what stood at another's: the piece comes from there, and whatever its digit was,
+-- its sticker that is here now was there. Where no such piece is, the rest tells.
 abbrev pub comes_from : ℕ → ℕ → List (List ℕ) → Rearrangement → ℕ → ℕ → Bool → Option ℕ → Option ℕ → Bool
 comes_from n modulus places r face from rest None None = rest
 comes_from n modulus places r face from rest (Some k) (Some j) =
@@ -71,21 +72,22 @@ digit-below modulus ds k some each = elim (cases_lt k (length ds)) [
   | inr le ↦ subst (λ d. d < modulus) (sym (get_or_past ds k 0 le)) some
 ]
 
-module _ (n modulus : ℕ) (places : List (List ℕ)) (o : Orbit) (r : Rearrangement) (some : 0 < modulus) (own : IsZeroSumOrbit n modulus o) (turn : IsZeroSumRearrangement n modulus r) where
+module _ (n modulus : ℕ) (places : List (List ℕ)) (o : Orbit) (r : Rearrangement) (some : 0 < modulus)
+    (below : All (λ d. d < modulus) o.digits) (size : length r.places ≡ n) (added : length r.added ≡ n) where
   -- what stands at a place after a turn
   piece-turned : (k : ℕ) → k < n
       → slice_index (turned_orbit modulus o r).pieces k ≡ slice_index o.pieces (slice_index r.places k)
   unfolding turned_orbit
-  piece-turned k lt = pick-at o.pieces r.places k (omega (arith, turn.places.size))
+  piece-turned k lt = pick-at o.pieces r.places k (omega (arith, size))
 
   digit-turned : (k : ℕ) → k < n
       → slice_index (turned_orbit modulus o r).digits k ≡ (slice_index o.digits (slice_index r.places k) + slice_index r.added k) % modulus
   unfolding turned_orbit
   digit-turned k lt =
-      added_digits-at modulus (pick o.digits r.places) r.added k (omega (arith, length-pick o.digits r.places, turn.places.size, turn.added.size)) (omega (arith, length-pick o.digits r.places, turn.places.size))
-      ∙ ap (λ d. (d + slice_index r.added k) % modulus) (pick-at o.digits r.places k (omega (arith, turn.places.size)))
+      added_digits-at modulus (pick o.digits r.places) r.added k (omega (arith, length-pick o.digits r.places, size, added)) (omega (arith, length-pick o.digits r.places, size))
+      ∙ ap (λ d. (d + slice_index r.added k) % modulus) (pick-at o.digits r.places k (omega (arith, size)))
 
-  -- the letter at a place's face
+  -- what shows at a place's sticker
   letter-turned : (face from k j : ℕ) → comes_from n modulus places r face from false (Some k) (Some j) ≡ true
       → (x : ℕ) × (piece_letter places (turned_orbit modulus o r) face k ≡ Some x) × (piece_letter places o from j ≡ Some x)
   letter-turned face from k j h =
@@ -97,7 +99,7 @@ module _ (n modulus : ℕ) (places : List (List ℕ)) (o : Orbit) (r : Rearrange
       let d : ℕ = slice_index o.digits j in
       let same =
       same_place-same (number_at places face k ((d + slice_index r.added k) % modulus)) (number_at places from j d)
-      (passes (λ d. same_place (number_at places face k ((d + slice_index r.added k) % modulus)) (number_at places from j d)) modulus both.1 d (digit-below modulus o.digits j some own.digits.below)) in
+      (passes (λ d. same_place (number_at places face k ((d + slice_index r.added k) % modulus)) (number_at places from j d)) modulus both.1 d (digit-below modulus o.digits j some below)) in
       let digit : slice_index (turned_orbit modulus o r).digits k ≡ (d + slice_index r.added k) % modulus = digit-turned k lt ∙ ap (λ i. (slice_index o.digits i + slice_index r.added k) % modulus) there in
       let piece : slice_index (turned_orbit modulus o r).pieces k ≡ slice_index o.pieces j = piece-turned k lt ∙ ap (slice_index o.pieces) there in
       let letters : List ℕ = get_or places (slice_index o.pieces j) [] in (
@@ -108,13 +110,14 @@ module _ (n modulus : ℕ) (places : List (List ℕ)) (o : Orbit) (r : Rearrange
         ap (option_map (slice_index letters)) same.2,
       )
 
-  option-turned : (face from x y : ℕ) (rest : Bool) (a b : Option ℕ) → (rest ≡ true → x ≡ y)
+  -- what shows at a sticker, if a piece of this kind does, or the rest
+  pub shown-turned : (face from x y : ℕ) (rest : Bool) (a b : Option ℕ) → (rest ≡ true → x ≡ y)
       → comes_from n modulus places r face from rest a b ≡ true
       → unwrap_or (option_and_then (piece_letter places (turned_orbit modulus o r) face) a) x ≡ unwrap_or (option_and_then (piece_letter places o from) b) y
-  option-turned face from x y rest None None other h = other h
-  option-turned face from x y rest None (Some j) other h = absurd (cc)
-  option-turned face from x y rest (Some k) None other h = absurd (cc)
-  option-turned face from x y rest (Some k) (Some j) other h =
+  shown-turned face from x y rest None None other h = other h
+  shown-turned face from x y rest None (Some j) other h = absurd (cc)
+  shown-turned face from x y rest (Some k) None other h = absurd (cc)
+  shown-turned face from x y rest (Some k) (Some j) other h =
       let letter = letter-turned face from k j h in
       ap (λ o. unwrap_or o x) letter.1 ∙ sym (ap (λ o. unwrap_or o y) letter.2)
 
@@ -124,7 +127,7 @@ module _ (n modulus : ℕ) (places : List (List ℕ)) (o : Orbit) (r : Rearrange
       → unwrap_or (letter_of_pieces last places (turned_orbit modulus o r) s) x ≡ unwrap_or (letter_of_pieces last places o t) y
   unfolding letter_of_pieces
   letter_of_pieces-turned last x y s t rest other h =
-      option-turned s.face t.face x y rest (place_at last places s.point) (place_at last places t.point) other h
+      shown-turned s.face t.face x y rest (place_at last places s.point) (place_at last places t.point) other h
 
 -- ---- letters as they are looked for
 

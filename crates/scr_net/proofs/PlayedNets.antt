@@ -152,8 +152,8 @@ cube_letter-turned face q c s own turn h =
     let t : Sticker = brought_from 2 face 1 s in
     let edge : ℕ = unwrap_or (letter_of_pieces 2 edge_faces (turned_orbit 2 c.edges q.edges) s) s.face in
     let from : ℕ = unwrap_or (letter_of_pieces 2 edge_faces c.edges t) t.face in
-    sym (letter_of_pieces-turned 8 3 corner_faces c.corners q.corners (lit< tt) own.corners turn.corners 2 edge from s t (edges_come_from face q s)
-    (λ e. letter_of_pieces-turned 12 2 edge_faces c.edges q.edges (lit< tt) own.edges turn.edges 2 s.face t.face s t (t.face == s.face)
+    sym (letter_of_pieces-turned 8 3 corner_faces c.corners q.corners (lit< tt) own.corners.digits.below turn.corners.places.size turn.corners.added.size 2 edge from s t (edges_come_from face q s)
+    (λ e. letter_of_pieces-turned 12 2 edge_faces c.edges q.edges (lit< tt) own.edges.digits.below turn.edges.places.size turn.edges.added.size 2 s.face t.face s t (t.face == s.face)
     (λ same. sym (eqb-true t.face s.face same)) e) h)
 
 pub cube_nets : (w : List Turn) → IsSome (play (after_letter cube_powers) solved_cube w)
@@ -186,7 +186,7 @@ corners_letter-turned : (face : ℕ) (q : Rearrangement) (o : Orbit) (s : Sticke
 unfolding corners_letter
 corners_letter-turned face q o s own turn h =
     let t : Sticker = brought_from 1 face 1 s in
-    sym (letter_of_pieces-turned 7 3 corner_faces_222 o q (lit< tt) own turn 1 s.face t.face s t (t.face == s.face)
+    sym (letter_of_pieces-turned 7 3 corner_faces_222 o q (lit< tt) own.digits.below turn.places.size turn.added.size 1 s.face t.face s t (t.face == s.face)
     (λ same. sym (eqb-true t.face s.face same)) h)
 
 pub corners_nets : (w : List Turn) → IsSome (play (after_letter powers_222) solved_222 w)

@@ -1,5 +1,7 @@
 -- Laws of stickers: each is at a row and a column of its face, and quarter turns take stickers to stickers and back.
-use Rattle.std.proofs.Common.{◌≡◌, ℕ, zero, suc, ◌+◌, ◌%◌, ◌<◌, ◌≤◌, Bool, true, false, cond, leb, [], refl, ap, ◌∙◌, lit<, arith}
+use Rattle.std.proofs.Common.{◌≡◌, ℕ, zero, suc, ◌+◌, ◌%◌, ◌<◌, ◌≤◌, Bool, true, false, cond, leb, [], refl, ap, ◌∙◌, lit<, arith, eqb-true, leb-true, ltb-true}
+use Rattle.std.specs.Prelude.{◌==◌, ◌&&◌, nat_le, nat_lt}
+use Rattle.std.proofs.lemmas.Bool.{and_parts}
 use Rattle.scr_space.specs.declared.spin.Point.{Point}
 use Rattle.scr_space.specs.Spins.{IsWithin, value, rotated, is_moved}
 use Rattle.scr_space.specs.Turning.{KeepsCount}
@@ -73,6 +75,24 @@ point_at-of last face p lt w =
 pub sticker_at-of : (last : ℕ) (s : Sticker) → IsSticker last s
     → sticker_at last s.face (row_of last s.face s.point) (column_of last s.face s.point) ≡ s
 sticker_at-of last s h = same_sticker _ s (point_at-of last s.face s.point h.face h.within h.on) refl
+
+-- by a test
+abbrev pub is_sticker : ℕ → Sticker → Bool
+is_sticker last s =
+    (nat_le s.point.x last && (nat_le s.point.y last && nat_le s.point.z last))
+    && (nat_lt s.face 6 && (value last (outward s.face) s.point == last))
+
+pub IsSticker-tested : (last : ℕ) (s : Sticker) → is_sticker last s ≡ true → IsSticker last s
+IsSticker-tested last s e =
+    let parts = and_parts (nat_le s.point.x last && (nat_le s.point.y last && nat_le s.point.z last)) (nat_lt s.face 6 && (value last (outward s.face) s.point == last)) e in
+    let x = and_parts (nat_le s.point.x last) (nat_le s.point.y last && nat_le s.point.z last) parts.0 in
+    let yz = and_parts (nat_le s.point.y last) (nat_le s.point.z last) x.1 in
+    let on = and_parts (nat_lt s.face 6) (value last (outward s.face) s.point == last) parts.1 in
+    record {
+      within = record { x = leb-true s.point.x last x.0; y = leb-true s.point.y last yz.0; z = leb-true s.point.z last yz.1 };
+      face = ltb-true s.face 6 on.0;
+      on = eqb-true (value last (outward s.face) s.point) last on.1;
+    }
 
 -- ---- turns
 

@@ -1,6 +1,7 @@
 -- Laws of turns of any cube: four quarters are none, and turns about one axis exchange.
-use Rattle.std.proofs.Common.{◌≡◌, ℕ, zero, suc, ◌+◌, ◌-◌, ◌<◌, ◌≤◌, ◌⊎◌, Bool, true, false, cond, IsTrue, List, [], ◌∷◌, ◌++◌, Some, None, refl, sym, ap, ◌∙◌, subst, inl, inr, arith}
-use Rattle.std.specs.Prelude.{All, nat_lt, slice_index}
+use Rattle.std.proofs.Common.{◌≡◌, ℕ, zero, suc, ◌+◌, ◌-◌, ◌<◌, ◌≤◌, ◌⊎◌, Bool, true, false, cond, IsTrue, List, [], ◌∷◌, ◌++◌, Some, None, refl, sym, ap, ◌∙◌, subst, inl, inr, lit<, arith}
+use Rattle.std.specs.Prelude.{◌==◌, All, nat_lt, slice_index}
+use Rattle.std.proofs.lemmas.Bool.{eqb-false, le-leb}
 use Rattle.std.specs.List.{AllPass, slice_index_or}
 use Rattle.std.proofs.lemmas.Option.{same_Some}
 use Rattle.std.proofs.lemmas.List.Elements.{All-head, All-tail}
@@ -21,9 +22,9 @@ use Rattle.scr_space.specs.Turning.{times, HasOrder, Exchange}
 use Rattle.scr_space.proofs.SpinLaws.{is_moved-carried, carried-back, carried-exchange, times-after}
 use Rattle.scr_net.specs.declared.geometry.Sticker.{Sticker}
 use Rattle.scr_net.specs.Geometry.{quarter, point_at, column_of, brought_from, IsSticker, sticker_at}
-use Rattle.scr_net.specs.Nets.{Letters, HasShape, letter_at, net_after, net_of, quarter_net, turned_net, turns_layers}
+use Rattle.scr_net.specs.Nets.{Letters, HasShape, cell, letter_at, net_after, net_of, quarter_net, solved_net, turned_net, turns_layers}
 use Rattle.scr_net.proofs.StickerLaws.{each_face, same_sticker, opposite_face, turned_face, IsSticker-at, IsSticker-brought, row_of-at, column_of-at}
-use Rattle.scr_net.proofs.NetLaws.{net-same, net_of-same, letter_at-net_of, HasShape-net_of}
+use Rattle.scr_net.proofs.NetLaws.{cell-net_of, net-same, net_of-same, letter_at-net_of, HasShape-net_of}
 use Rattle.scr_net.proofs.LayerTurns.{TellsTurns-net, face_turn}
 
 -- ---- where stickers come from, as turns in space
@@ -266,6 +267,55 @@ module _ (side : ℕ) (some : 0 < side) where
       ∙ turned-net_of face depth 4 (letter_at side net)
       ∙ same_at (letter_at side net) (times 4 (brought_from (side - 1) face depth)) (λ s. s) (brought-order (side - 1) face depth lt)
       ∙ sym (net-letters net shape)
+
+  -- Fewer don't so to the solved net: a sticker on the face beside, in the outermost layer, goes to other faces.
+  record IsBeside (face depth : ℕ) : Type 0 where
+    on : ℕ
+    row : ℕ
+    column : ℕ
+    low : on < 6
+    row_in : row < side
+    column_in : column < side
+    turned : is_turned (side - 1) face depth (sticker_at (side - 1) on row column) ≡ true
+    once : (face_back (side - 1) face depth on == on) ≡ false
+    twice : (times 2 (face_back (side - 1) face depth) on == on) ≡ false
+    thrice : (times 3 (face_back (side - 1) face depth) on == on) ≡ false
+
+  beside : (face depth : ℕ) → face < 6 → 0 < depth → IsBeside face depth
+  beside face depth lt deep =
+      each_face (λ face. IsBeside face depth)
+      (record { on = 2; row = 0; column = 0; low = lit< tt; row_in = some; column_in = some; turned = le-leb _ _ (omega arith); once = refl; twice = refl; thrice = refl })
+      (record { on = 2; row = 0; column = side - 1; low = lit< tt; row_in = some; column_in = omega arith; turned = le-leb _ _ (omega arith); once = refl; twice = refl; thrice = refl })
+      (record { on = 0; row = side - 1; column = 0; low = lit< tt; row_in = omega arith; column_in = some; turned = le-leb _ _ (omega arith); once = refl; twice = refl; thrice = refl })
+      (record { on = 2; row = side - 1; column = 0; low = lit< tt; row_in = omega arith; column_in = some; turned = le-leb _ _ (omega arith); once = refl; twice = refl; thrice = refl })
+      (record { on = 2; row = 0; column = 0; low = lit< tt; row_in = some; column_in = some; turned = le-leb _ _ (omega arith); once = refl; twice = refl; thrice = refl })
+      (record { on = 0; row = 0; column = 0; low = lit< tt; row_in = some; column_in = some; turned = le-leb _ _ (omega arith); once = refl; twice = refl; thrice = refl })
+      face lt
+
+  on-kept : (face depth amount : ℕ) → face < 6 → turned_net side face depth amount (solved_net side) ≡ solved_net side
+      → (b : IsBeside face depth) → times amount (face_back (side - 1) face depth) b.on ≡ b.on
+  on-kept face depth amount lt e b =
+      let s : Sticker = sticker_at (side - 1) b.on b.row b.column in
+      let is : IsSticker (side - 1) s = IsSticker-at (side - 1) b.on b.row b.column b.low (omega (arith, b.row_in)) (omega (arith, b.column_in)) in
+      sym (ap (λ t. cond t (times amount (face_back (side - 1) face depth) b.on) b.on) b.turned)
+      ∙ sym (face-times (side - 1) face depth lt amount s is)
+      ∙ sym (cell-net_of side (λ s. (times amount (brought_from (side - 1) face depth) s).face) b.on b.row b.column b.low b.row_in b.column_in)
+      ∙ ap (λ net. cell net b.on b.row b.column) (sym (turned-net_of face depth amount (λ s. s.face)) ∙ e)
+      ∙ cell-net_of side (λ s. s.face) b.on b.row b.column b.low b.row_in b.column_in
+
+  pub turned_net-fewer : (face depth amount : ℕ) → face < 6 → 0 < depth → 0 < amount → amount < 4
+      → turned_net side face depth amount (solved_net side) ≡ solved_net side → ⊥
+  turned_net-fewer face depth amount lt deep more few e = by amount more few (on-kept face depth amount lt e b)
+    where
+      b : IsBeside face depth
+      b = beside face depth lt deep
+
+      by : (n : ℕ) → 0 < n → n < 4 → times n (face_back (side - 1) face depth) b.on ≡ b.on → ⊥
+      by zero more few same = absurd (omega arith)
+      by (suc zero) more few same = eqb-false _ b.on b.once same
+      by (suc (suc zero)) more few same = eqb-false _ b.on b.twice same
+      by (suc (suc (suc zero))) more few same = eqb-false _ b.on b.thrice same
+      by (suc (suc (suc (suc n)))) more few same = absurd (omega arith)
 
   -- turns about one axis exchange
   pub turned_net-exchange : (face other depth deep amount more : ℕ) (net : Letters) → face < 6 → about_one_axis face other

@@ -1,18 +1,19 @@
 //! Laws of nets. The functions do nothing: what each ensures is the law.
-ghost use Rattle.std.specs.Prelude.{◌≡◌, ◌↔◌, ℕ, ◌+◌, ◌-◌, ◌%◌, ◌<◌, ◌≤◌, ◌⊎◌, ◌++◌, List, All, IsTrue, IsSome, Some};
+ghost use Rattle.std.specs.Prelude.{◌≡◌, ◌≢◌, ◌↔◌, ℕ, ◌+◌, ◌-◌, ◌%◌, ◌<◌, ◌≤◌, ◌⊎◌, ◌++◌, List, All, IsTrue, IsSome, Some};
 ghost use Rattle.std.specs.List.{AllPass};
 ghost use Rattle.std.specs.Option.{option_map};
 ghost use Rattle.scr_combinatorics.specs.Back.{back};
 ghost use Rattle.scr_combinatorics.specs.Lists.{IsRearranged};
 ghost use Rattle.scr_combinatorics.specs.Play.{play};
+ghost use Rattle.scr_orbit.specs.Orbits.{Orbit};
 ghost use Rattle.scr_orbit.specs.PowerPuzzles.{after_letter};
 ghost use Rattle.scr_notation.specs.declared.event.Event.{Event as TurnsOf};
 ghost use Rattle.scr_notation.specs.declared.turn.Turn.{Turn as Letter};
 ghost use Rattle.scr_notation.specs.Turning.{opposite};
 ghost use Rattle.scr_notation.specs.Turns.{permits};
-ghost use Rattle.scr_cube.specs.Cube333.{cube_powers, solved_cube};
-ghost use Rattle.scr_cube.specs.Cube222.{powers_222, solved_222};
-ghost use Rattle.scr_cube.specs.Held.{held_cube_after, solved_held};
+ghost use Rattle.scr_cube.specs.Cube333.{CubeState, IsCube, cube_powers, solved_cube};
+ghost use Rattle.scr_cube.specs.Cube222.{IsCorners222, powers_222, solved_222};
+ghost use Rattle.scr_cube.specs.Held.{HeldState, IsHeld, held_cube_after, solved_held};
 ghost use Rattle.scr_net.specs.declared.geometry.Sticker.{Sticker as Place};
 ghost use Rattle.scr_net.specs.Geometry.{IsSticker, carried_sticker, column_of, point_at, row_of, sticker_at};
 ghost use Rattle.scr_net.specs.Nets.{HasShape, Letters, letter_at, letters_of, net_after, quarter_net, solved_net, turned_net, turns_layers};
@@ -37,12 +38,15 @@ pub fn stickers()
 {}
 
 /// Of a cube of any size: a turn keeps the stickers, so that each letter is there as often as before; four quarters
-/// give a net back; and turns about one axis, at one face or at opposite faces, exchange, whichever layers they turn.
+/// give a net back, and fewer don't give the solved one back; and turns about one axis, at one face or at opposite
+/// faces, exchange, whichever layers they turn.
 pub fn turns_of_layers()
     ensures kept { (side face depth amount : ℕ) (net : Letters) → 0 < side → face < 6 → HasShape side net
         → IsRearranged (letters_of (turned_net side face depth amount net)) (letters_of net) }
     ensures order { (side face depth : ℕ) (net : Letters) → 0 < side → face < 6 → HasShape side net
         → turned_net side face depth 4 net ≡ net }
+    ensures fewer { (side face depth amount : ℕ) → 0 < side → face < 6 → 0 < depth → 0 < amount → amount < 4
+        → turned_net side face depth amount (solved_net side) ≢ solved_net side }
     ensures exchange { (side face other depth deep amount more : ℕ) (net : Letters) → 0 < side → face < 6
         → ((other ≡ face) ⊎ (other ≡ (face + 3) % 6)) → HasShape side net
         → turned_net side face depth amount (turned_net side other deep more net)
@@ -85,4 +89,11 @@ pub fn held_net(scramble: &Scramble)
     requires { IsSome (play held_cube_after solved_held scramble.now.turns) }
     ensures { play (net_after 3) (solved_net 3) scramble.now.turns
         ≡ option_map net_of_held (play held_cube_after solved_held scramble.now.turns) }
+{}
+
+/// Only one state has each net: of a 3x3x3, of one that is held any way, and of a 2x2x2 whose corner DBL stands still.
+pub fn one_state()
+    ensures cube { (c d : CubeState) → IsCube c → IsCube d → net_of_cube c ≡ net_of_cube d → c ≡ d }
+    ensures held { (r q : HeldState) → IsHeld r → IsHeld q → net_of_held r ≡ net_of_held q → r ≡ q }
+    ensures corners { (o r : Orbit) → IsCorners222 o → IsCorners222 r → net_of_corners o ≡ net_of_corners r → o ≡ r }
 {}
