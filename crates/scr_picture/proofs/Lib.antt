@@ -7,7 +7,7 @@ pub mod ShownPyram
 pub mod MinxLaws
 pub mod AlwaysShown
 pub mod ReadTexts
-pub mod OneOrbit
 pub mod OneSkewb
 pub mod OnePyram
 pub mod OneOther
+pub mod OneCube

@@ -1,10 +1,12 @@
 -- Laws of the moves of a Megaminx, of what each does to all stickers.
-use Rattle.std.proofs.Common.{◌≡◌, ℕ, zero, suc, ◌<◌, true, false, IsTrue, List, [], ◌∷◌, Some, length, refl, sym, ap, ◌∙◌, subst}
-use Rattle.std.specs.Prelude.{All, slice_get}
-use Rattle.std.specs.List.{AllPass}
+use Rattle.std.proofs.Common.{◌≡◌, ℕ, zero, suc, ◌<◌, true, false, IsTrue, List, [], ◌∷◌, Some, length, refl, sym, ap, ◌∙◌, subst, arith}
+use Rattle.std.specs.Prelude.{All, not, slice_get}
+use Rattle.std.specs.List.{AllPass, list_all, range_with_len}
+use Rattle.std.specs.Str.{bytes_eq}
 use Rattle.std.specs.Option.{option_map}
 use Rattle.std.proofs.lemmas.List.Elements.{All-head, All-tail}
 use Rattle.std.proofs.lemmas.Option.{same_Some}
+use Rattle.std.proofs.lemmas.Slice.Eq.{bytes_eq-Decides}
 use Rattle.scr_combinatorics.specs.Back.{back}
 use Rattle.scr_combinatorics.specs.Lists.{IsRearranged, numbers_from, pick}
 use Rattle.scr_combinatorics.specs.Permutations.{IsPermutation}
@@ -23,7 +25,8 @@ use Rattle.scr_notation.specs.Turns.{permits}
 use Rattle.std.proofs.lemmas.Bool.{false≢true}
 use Rattle.scr_picture.specs.declared.tables.TheConstants.{MINX_MOVES}
 use Rattle.scr_picture.specs.Stickers.{sources, move_of, moved_times, stickers_after}
-use Rattle.scr_picture.specs.Megaminx.{minx_moves}
+use Rattle.scr_net.proofs.PieceLaws.{passes}
+use Rattle.scr_picture.specs.Megaminx.{minx_moves, solved_minx}
 
 -- ---- moves that are permutations
 
@@ -63,14 +66,15 @@ module _ (n : ℕ) (from : List ℕ) (is : IsPermutation n from) where
 pub record IsFifth (k : ℕ) (from : List ℕ) : Type 0 where
   pub permutation : IsPermutation 132 from
   pub five : moved_times 5 from (numbers_from 0 132) ≡ numbers_from 0 132
+  pub fewer : list_all (λ n. not (bytes_eq (moved_times (suc n) from solved_minx) solved_minx)) (range_with_len 0 4) ≡ true
 
 fifths_of_table : (k : ℕ) (from : List ℕ) → slice_get MINX_MOVES k ≡ Some from → IsFifth k from
-unfolding moved_times
+unfolding moved_times solved_minx
 fifths_of_table = each_at IsFifth MINX_MOVES (
-  record { permutation = IsPermutation-from_test 132 _ refl; five = refl },
+  record { permutation = IsPermutation-from_test 132 _ refl; five = refl; fewer = refl },
   (
-    record { permutation = IsPermutation-from_test 132 _ refl; five = refl },
-    (record { permutation = IsPermutation-from_test 132 _ refl; five = refl }, tt),
+    record { permutation = IsPermutation-from_test 132 _ refl; five = refl; fewer = refl },
+    (record { permutation = IsPermutation-from_test 132 _ refl; five = refl; fewer = refl }, tt),
   ),
 )
 
@@ -86,6 +90,15 @@ pub five_times : (k : ℕ) (from letters : List ℕ) → slice_get minx_moves k 
 five_times k from letters e size =
     let fifth = fifths k from e in
     moved-whole 132 from fifth.permutation 5 letters size fifth.five refl
+
+pub not_fewer : (k n : ℕ) (from : List ℕ) → slice_get minx_moves k ≡ Some from → 0 < n → n < 5
+    → moved_times n from solved_minx ≡ solved_minx → ⊥
+not_fewer k zero from there more few e = absurd (omega arith)
+not_fewer k (suc n) from there more few e =
+    let moved = moved_times (suc n) from solved_minx in
+    let other = passes (λ n. not (bytes_eq (moved_times (suc n) from solved_minx) solved_minx)) 4 (fifths k from there).fewer n (omega arith) in
+    let same : bytes_eq moved solved_minx ≡ true = (bytes_eq-Decides moved solved_minx).1 e in
+    false≢true (ap not (sym same) ∙ other)
 
 -- ---- turns
 

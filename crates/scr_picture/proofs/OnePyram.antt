@@ -1,8 +1,9 @@
 -- A Pyraminx is told by its picture.
-use Rattle.std.proofs.Common.{◌≡◌, ℕ, ◌+◌, ◌%◌, ◌<◌, Bool, true, List, [], Some, length, map, refl, sym, ap, ◌∙◌, subst, lit<, arith}
+use Rattle.std.proofs.Common.{◌≡◌, ℕ, ◌+◌, ◌%◌, ◌<◌, Bool, true, List, [], Some, length, map, refl, sym, ap, ◌∙◌, lit<, arith}
 use Rattle.std.specs.Prelude.{All, ◌&&◌, is_none, slice_index, unwrap_or, codes}
 use Rattle.std.specs.List.{range_with_len}
 use Rattle.std.proofs.lemmas.Bool.{and_parts}
+use Rattle.std.proofs.lemmas.Grind.{same_number_lists}
 use Rattle.std.proofs.lemmas.List.{append-nil}
 use Rattle.scr_combinatorics.specs.Lists.{numbers_from}
 use Rattle.scr_combinatorics.specs.Play.{play}
@@ -17,8 +18,7 @@ use Rattle.scr_picture.specs.declared.names.Alphabet.TheVariants.{Pyraminx}
 use Rattle.scr_picture.specs.Names.{joined_text}
 use Rattle.scr_picture.specs.Pyraminx.{solved_pyram_picture}
 use Rattle.scr_picture.specs.Pieces.{at_axes, edge_stickers, axial_stickers, tip_stickers, place_with, sticker_of, pyram_sticker, pyram_shown}
-use Rattle.scr_picture.proofs.OneOrbit.{Shows, elsewhere, one_orbit, seen-by}
-use Rattle.scr_picture.proofs.OrbitStickers.{same_lists}
+use Rattle.scr_picture.proofs.OrbitStickers.{ShowsOrbit, elsewhere, same_orbit, shows}
 use Rattle.scr_picture.proofs.ReadTexts.{pyraminx_bytes, letter_of, read-joined, All-picked}
 
 -- of no orbit before
@@ -45,42 +45,29 @@ module _ (s : PyramState) (own : IsPyram s) where
   abbrev at_axials : ℕ → ℕ
   at_axials i = unwrap_or (sticker_of axial_stickers (at_axes s.body.axials) i) (at_tips i)
 
-  shows-edges : Shows 6 2 edge_stickers solved_pyram_picture (pyram_shown s) s.body.edges
+  shows-edges : ShowsOrbit 6 2 edge_stickers solved_pyram_picture (pyram_shown s) s.body.edges
   unfolding pyram_shown pyram_sticker any solved_pyram_picture
-  shows-edges = record {
-    pieces_size = own.body.edges.pieces.size;
-    digits_size = own.body.edges.digits.size;
-    pieces = All-permutation 6 s.body.edges.pieces own.body.edges.pieces;
-    digits = own.body.edges.digits.below;
-    seen_at = seen-by 6 2 edge_stickers solved_pyram_picture 36 any (pyram_sticker s) at_axials s.body.edges refl own.body.edges.digits.size own.body.edges.digits.below (λ i h. refl);
-  }
+  shows-edges =
+      shows 6 2 edge_stickers solved_pyram_picture 36 any (pyram_sticker s) at_axials s.body.edges refl
+      own.body.edges.pieces.size (All-permutation 6 s.body.edges.pieces own.body.edges.pieces) own.body.edges.digits.size own.body.edges.digits.below
+      (λ i h. refl)
 
-  shows-axials : Shows 4 3 axial_stickers solved_pyram_picture (pyram_shown s) (at_axes s.body.axials)
+  shows-axials : ShowsOrbit 4 3 axial_stickers solved_pyram_picture (pyram_shown s) (at_axes s.body.axials)
   unfolding pyram_shown pyram_sticker no_edge solved_pyram_picture
-  shows-axials = record {
-    pieces_size = refl;
-    digits_size = own.body.axials.size;
-    pieces = four_axes;
-    digits = own.body.axials.below;
-    seen_at = seen-by 4 3 axial_stickers solved_pyram_picture 36 no_edge (pyram_sticker s) at_tips (at_axes s.body.axials) refl own.body.axials.size own.body.axials.below
-        (λ i h. elsewhere edge_stickers s.body.edges i (at_axials i) h);
-  }
+  shows-axials =
+      shows 4 3 axial_stickers solved_pyram_picture 36 no_edge (pyram_sticker s) at_tips (at_axes s.body.axials) refl refl four_axes own.body.axials.size own.body.axials.below
+      (λ i h. elsewhere edge_stickers s.body.edges i (at_axials i) h)
 
   tips-size : length (tips_of s) ≡ 4
   tips-size = length-added_digits 3 s.body.axials s.tips (own.body.axials.size ∙ sym own.tips.size) ∙ own.body.axials.size
 
-  shows-tips : Shows 4 3 tip_stickers solved_pyram_picture (pyram_shown s) (at_axes (tips_of s))
+  shows-tips : ShowsOrbit 4 3 tip_stickers solved_pyram_picture (pyram_shown s) (at_axes (tips_of s))
   unfolding pyram_shown pyram_sticker neither solved_pyram_picture
-  shows-tips = record {
-    pieces_size = refl;
-    digits_size = tips-size;
-    pieces = four_axes;
-    digits = All-added_digits 3 s.body.axials s.tips (lit< tt);
-    seen_at = seen-by 4 3 tip_stickers solved_pyram_picture 36 neither (pyram_sticker s) (λ i. i) (at_axes (tips_of s)) refl tips-size (All-added_digits 3 s.body.axials s.tips (lit< tt))
-        (λ i h.
-        let both = and_parts (is_none (place_with edge_stickers i)) (is_none (place_with axial_stickers i)) h in
-        elsewhere edge_stickers s.body.edges i (at_axials i) both.0 ∙ elsewhere axial_stickers (at_axes s.body.axials) i (at_tips i) both.1);
-  }
+  shows-tips =
+      shows 4 3 tip_stickers solved_pyram_picture 36 neither (pyram_sticker s) (λ i. i) (at_axes (tips_of s)) refl refl four_axes tips-size (All-added_digits 3 s.body.axials s.tips (lit< tt))
+      (λ i h.
+      let both = and_parts (is_none (place_with edge_stickers i)) (is_none (place_with axial_stickers i)) h in
+      elsewhere edge_stickers s.body.edges i (at_axials i) both.0 ∙ elsewhere axial_stickers (at_axes s.body.axials) i (at_tips i) both.1)
 
   IsRead : map (letter_of (codes "FRLD")) (joined_text Pyraminx (pyram_shown s)) ≡ pyram_shown s
   unfolding pyram_shown solved_pyram_picture
@@ -95,7 +82,7 @@ module _ (s : PyramState) (own : IsPyram s) where
 -- what is added is told by the sum
 same_tips : (s r : PyramState) → IsPyram s → IsPyram r → s.body.axials ≡ r.body.axials → tips_of s ≡ tips_of r → s.tips ≡ r.tips
 same_tips s r own other e f =
-    same_lists s.tips r.tips (own.tips.size ∙ sym other.tips.size) (λ k lt0.
+    same_number_lists s.tips r.tips (own.tips.size ∙ sym other.tips.size) (λ k lt0.
     let lt : k < 4 = omega (arith, lt0, own.tips.size) in
     let a : ℕ = slice_index s.body.axials k in
     let t : ℕ = slice_index s.tips k in
@@ -112,16 +99,13 @@ one_pyram : (s r : PyramState) → IsPyram s → IsPyram r → pyram_shown s ≡
 unfolding solved_pyram_picture
 one_pyram s r own other e =
     let edges =
-    one_orbit 6 2 edge_stickers solved_pyram_picture refl (pyram_shown s) s.body.edges r.body.edges (shows-edges s own)
-    (subst (λ x. Shows 6 2 edge_stickers solved_pyram_picture x r.body.edges) (sym e) (shows-edges r other)) in
+    same_orbit 6 2 edge_stickers solved_pyram_picture refl (pyram_shown s) (pyram_shown r) s.body.edges r.body.edges e (shows-edges s own) (shows-edges r other) in
     let axials =
     ap (λ (o : Orbit). o.digits)
-    (one_orbit 4 3 axial_stickers solved_pyram_picture refl (pyram_shown s) (at_axes s.body.axials) (at_axes r.body.axials) (shows-axials s own)
-    (subst (λ x. Shows 4 3 axial_stickers solved_pyram_picture x (at_axes r.body.axials)) (sym e) (shows-axials r other))) in
+    (same_orbit 4 3 axial_stickers solved_pyram_picture refl (pyram_shown s) (pyram_shown r) (at_axes s.body.axials) (at_axes r.body.axials) e (shows-axials s own) (shows-axials r other)) in
     let tips =
     ap (λ (o : Orbit). o.digits)
-    (one_orbit 4 3 tip_stickers solved_pyram_picture refl (pyram_shown s) (at_axes (tips_of s)) (at_axes (tips_of r)) (shows-tips s own)
-    (subst (λ x. Shows 4 3 tip_stickers solved_pyram_picture x (at_axes (tips_of r))) (sym e) (shows-tips r other))) in
+    (same_orbit 4 3 tip_stickers solved_pyram_picture refl (pyram_shown s) (pyram_shown r) (at_axes (tips_of s)) (at_axes (tips_of r)) e (shows-tips s own) (shows-tips r other)) in
     same_pyram s r (same_tetraminx s.body r.body edges axials) (same_tips s r own other axials tips)
 
 IsPyram-played : (w : List Turn) (s : PyramState) → play (after_letter pyram_powers) solved_pyram w ≡ Some s → IsPyram s
