@@ -24,7 +24,7 @@ use Rattle.scr_list.specs.Versions.{version_1, version_2, version_line, version_
 use Rattle.scr_list.specs.Names.{is_colon, told_part, name_part, IsName}
 use Rattle.scr_list.specs.Rounds.{IsRound, least_of, round_name, named_round, placed_round, round_of_words, round_of_line, rounds_of_lines, rounds_of}
 use Rattle.scr_list.specs.RoundLists.{IsRounds}
-use Rattle.scr_list.specs.Printed.{least_words, round_words, name_behind_colon, round_line, text_of_rounds}
+use Rattle.scr_list.specs.Printed.{FitsForm, least_words, round_words, name_behind_colon, round_line, text_of_rounds}
 use Rattle.scr_list.proofs.EventLemmas.{id-IsId, id-no_colon, event_named-id}
 use Rattle.scr_list.proofs.NameLemmas.{is_name-HasNameBytes, name_in-name, parts-whole, parts-plain, parts-colon}
 use Rattle.scr_list.proofs.RoundLemmas.{read_on, read_on-start, read_on-none, read_on-round, read_on-end, rounds_of-short}
@@ -61,21 +61,19 @@ decimal-IsShortWord n low =
     record { plain = decimal-plain n (omega arith); no_colon = decimal-no_colon n (omega arith); word = IsWord-decimal n (omega arith); short = omega arith }
 
 -- a line has two or three of them
-round_words-short : (round : Round) → IsRound round → All IsShortWord (round_words round)
-round_words-short round it = at (minima_of round.event) it.least (id-IsId round.event).range
-  where
-    at : (minima : Option Minima) → round.least ≤ greatest_in minima → greatest_in minima ≤ 15 →
-        All IsShortWord (id_of round.event ∷ decimal round.groups ∷ least_words minima round.least)
-    at minima few range =
-        All-cons IsShortWord (id_of round.event) (decimal round.groups ∷ least_words minima round.least) (id-IsShortWord round.event)
-        (All-cons IsShortWord (decimal round.groups) (least_words minima round.least)
-        (decimal-IsShortWord round.groups (let g = it.few_groups in omega arith)) (last minima few range))
-      where
-        last : (minima : Option Minima) → round.least ≤ greatest_in minima → greatest_in minima ≤ 15 →
-            All IsShortWord (least_words minima round.least)
-        last None few range = All-nil IsShortWord
-        last (Some minima) few range =
-            All-cons IsShortWord (decimal round.least) [] (decimal-IsShortWord round.least (omega arith)) (All-nil IsShortWord)
+least_words-short : (form : Bool) (minima : Option Minima) (least : ℕ) → least ≤ greatest_in minima → greatest_in minima ≤ 15
+    → All IsShortWord (least_words form minima least)
+least_words-short false minima least few range = All-nil IsShortWord
+least_words-short true None least few range = All-nil IsShortWord
+least_words-short true (Some minima) least few range =
+    All-cons IsShortWord (decimal least) [] (decimal-IsShortWord least (omega arith)) (All-nil IsShortWord)
+
+round_words-short : (form : Bool) (round : Round) → IsRound round → All IsShortWord (round_words form round)
+round_words-short form round it =
+    All-cons IsShortWord (id_of round.event) (decimal round.groups ∷ least_words form (minima_of round.event) round.least) (id-IsShortWord round.event)
+    (All-cons IsShortWord (decimal round.groups) (least_words form (minima_of round.event) round.least)
+    (decimal-IsShortWord round.groups (let g = it.few_groups in omega arith))
+    (least_words-short form (minima_of round.event) round.least it.least (id-IsId round.event).range))
 
 -- the words of its line, and what follows them, are read as the round
 named-round : (most before : ℕ) (round : Round) (least name : Option (List ℕ)) → before < most → IsRound round →
@@ -93,14 +91,15 @@ named-round most before round least name low it set called =
       fits,
     ) refl
 
-round_words-named : (most before : ℕ) (round : Round) (name : Option (List ℕ)) → before < most → IsRound round → round_name name ≡ Some round.name →
-    round_of_words most before name (round_words round) ≡ Ok (Some round)
+round_words-named : (form : Bool) (most before : ℕ) (round : Round) (name : Option (List ℕ)) → before < most → IsRound round → FitsForm form round →
+    round_name name ≡ Some round.name → round_of_words most before name (round_words form round) ≡ Ok (Some round)
 unfolding round_of_words
-round_words-named most before round name low it called = at (minima_of round.event) refl it.least (id-IsId round.event).range (id-IsId round.event).usual
+round_words-named false most before round name low it fits called = named-round most before round None name low it (ap Some (sym fits)) called
+round_words-named true most before round name low it fits called = at (minima_of round.event) refl it.least (id-IsId round.event).range (id-IsId round.event).usual
   where
     at : (minima : Option Minima) → (minima_of round.event) ≡ minima → round.least ≤ greatest_in minima → greatest_in minima ≤ 15 →
         usual_in minima ≤ greatest_in minima →
-        round_of_words most before name (id_of round.event ∷ decimal round.groups ∷ least_words minima round.least) ≡ Ok (Some round)
+        round_of_words most before name (id_of round.event ∷ decimal round.groups ∷ least_words true minima round.least) ≡ Ok (Some round)
     at None is few range usual =
         let none : 0 ≡ round.least = omega arith in
         named-round most before round None name low it (ap Some (ap usual_in is ∙ none)) called
@@ -121,18 +120,18 @@ join-all P (word ∷ next ∷ words) blank all =
     (All-cons P 32 (join_with_byte 32 (next ∷ words)) blank (join-all P (next ∷ words) blank (All-tail (λ w. All P w) word (next ∷ words) all)))
 
 -- the words of a round, joined
-abbrev told_line : Round → List ℕ
-told_line round = join_with_byte 32 (round_words round)
+abbrev told_line : Bool → Round → List ℕ
+told_line form round = join_with_byte 32 (round_words form round)
 
-told_line-no_colon : (round : Round) → IsRound round → All (λ b. is_colon b ≡ false) (told_line round)
-told_line-no_colon round it =
-    join-all (λ b. is_colon b ≡ false) (round_words round) refl
-    (All-weaker IsShortWord (λ word. All (λ b. is_colon b ≡ false) word) (λ word short. short.no_colon) (round_words round) (round_words-short round it))
+told_line-no_colon : (form : Bool) (round : Round) → IsRound round → All (λ b. is_colon b ≡ false) (told_line form round)
+told_line-no_colon form round it =
+    join-all (λ b. is_colon b ≡ false) (round_words form round) refl
+    (All-weaker IsShortWord (λ word. All (λ b. is_colon b ≡ false) word) (λ word short. short.no_colon) (round_words form round) (round_words-short form round it))
 
-told_line-words : (round : Round) → IsRound round → line_words (told_line round) ≡ round_words round
-told_line-words round it =
-    line_words-join_with_byte (round_words round)
-    (All-weaker IsShortWord IsWord (λ word short. short.word) (round_words round) (round_words-short round it))
+told_line-words : (form : Bool) (round : Round) → IsRound round → line_words (told_line form round) ≡ round_words form round
+told_line-words form round it =
+    line_words-join_with_byte (round_words form round)
+    (All-weaker IsShortWord IsWord (λ word short. short.word) (round_words form round) (round_words-short form round it))
 
 -- a name fits a list that takes names, and none fits one that doesn't
 abbrev FitsNames : Bool → List ℕ → Type 0
@@ -156,13 +155,13 @@ parts-read true front (byte ∷ name) plain it fits =
 parts-read false front (byte ∷ name) plain it fits = cc
 
 -- the line of a round is read as that round
-round_line-read : (version : Version) (before : ℕ) (round : Round) → before < version.most_rounds → IsRound round → FitsNames version.takes_names round.name →
-    round_of_line version before (round_line round) ≡ Ok (Some round)
-round_line-read version before round low it fits =
-    let parts = parts-read version.takes_names (told_line round) round.name (told_line-no_colon round it) it.name fits in
-    ap (λ words. round_of_words version.most_rounds before (name_part version.takes_names (round_line round)) words)
-    (ap line_words parts.0 ∙ told_line-words round it)
-    ∙ round_words-named version.most_rounds before round (name_part version.takes_names (round_line round)) low it parts.1
+round_line-read : (form : Bool) (version : Version) (before : ℕ) (round : Round) → before < version.most_rounds → IsRound round → FitsForm form round → FitsNames version.takes_names round.name →
+    round_of_line version before (round_line form round) ≡ Ok (Some round)
+round_line-read form version before round low it usual fits =
+    let parts = parts-read version.takes_names (told_line form round) round.name (told_line-no_colon form round it) it.name fits in
+    ap (λ words. round_of_words version.most_rounds before (name_part version.takes_names (round_line form round)) words)
+    (ap line_words parts.0 ∙ told_line-words form round it)
+    ∙ round_words-named form version.most_rounds before round (name_part version.takes_names (round_line form round)) low it usual parts.1
 
 -- ---- the lines
 
@@ -176,13 +175,14 @@ join-short (word ∷ next ∷ words) all =
     let joined = length-append word (32 ∷ join_with_byte 32 (next ∷ words)) in
     omega (arith, here, more, joined)
 
-length-round_words : (round : Round) → length (round_words round) ≤ 3
-length-round_words round = at (minima_of round.event)
+length-round_words : (form : Bool) (round : Round) → length (round_words form round) ≤ 3
+length-round_words form round = at form (minima_of round.event)
   where
-    at : (minima : Option Minima)
-        → length (id_of round.event ∷ decimal round.groups ∷ least_words minima round.least) ≤ 3
-    at None = omega arith
-    at (Some minima) = omega arith
+    at : (form : Bool) (minima : Option Minima)
+        → length (id_of round.event ∷ decimal round.groups ∷ least_words form minima round.least) ≤ 3
+    at false minima = omega arith
+    at true None = omega arith
+    at true (Some minima) = omega arith
 
 -- the bytes of a name behind its colon
 record IsNameText (text : List ℕ) : Type 0 where
@@ -202,30 +202,30 @@ name_behind_colon-IsNameText (byte ∷ name) it =
       short = let few = bytes.few in omega arith;
     }
 
-round_line-IsLine : (round : Round) → IsRound round → IsLine (round_line round)
-round_line-IsLine round it =
-    IsLine-plain (round_line round)
-    (All-append (λ b. 31 < b) (told_line round) (name_behind_colon round.name)
-    (join_with_byte-plain (round_words round)
-    (All-weaker IsShortWord (λ word. All (λ b. 32 < b) word) (λ word short. short.plain) (round_words round) (round_words-short round it)))
+round_line-IsLine : (form : Bool) (round : Round) → IsRound round → IsLine (round_line form round)
+round_line-IsLine form round it =
+    IsLine-plain (round_line form round)
+    (All-append (λ b. 31 < b) (told_line form round) (name_behind_colon round.name)
+    (join_with_byte-plain (round_words form round)
+    (All-weaker IsShortWord (λ word. All (λ b. 32 < b) word) (λ word short. short.plain) (round_words form round) (round_words-short form round it)))
     (name_behind_colon-IsNameText round.name it.name).high)
 
-round_line-short : (round : Round) → IsRound round
-    → length (round_line round) ≤ 18 + length (name_behind_colon round.name)
-round_line-short round it =
-    let line = join-short (round_words round) (round_words-short round it) in
-    let few = length-round_words round in
-    omega (arith, line, few, length-append (told_line round) (name_behind_colon round.name))
+round_line-short : (form : Bool) (round : Round) → IsRound round
+    → length (round_line form round) ≤ 18 + length (name_behind_colon round.name)
+round_line-short form round it =
+    let line = join-short (round_words form round) (round_words-short form round it) in
+    let few = length-round_words form round in
+    omega (arith, line, few, length-append (told_line form round) (name_behind_colon round.name))
 
 -- lines of rounds whose names have at most so many bytes, with their colon
-lines-short : (most : ℕ) (rounds : List Round) → All IsRound rounds → All (λ round. length (name_behind_colon round.name) ≤ most) rounds →
-    length (text_of_lines (map round_line rounds)) ≤ (19 + most) * length rounds
-lines-short most [] all few = omega arith
-lines-short most (round ∷ rest) all few =
-    let line = round_line-short round (All-head IsRound round rest all) in
+lines-short : (form : Bool) (most : ℕ) (rounds : List Round) → All IsRound rounds → All (λ round. length (name_behind_colon round.name) ≤ most) rounds →
+    length (text_of_lines (map (round_line form) rounds)) ≤ (19 + most) * length rounds
+lines-short form most [] all few = omega arith
+lines-short form most (round ∷ rest) all few =
+    let line = round_line-short form round (All-head IsRound round rest all) in
     let name = All-head (λ r. length (name_behind_colon r.name) ≤ most) round rest few in
-    let more = lines-short most rest (All-tail IsRound round rest all) (All-tail (λ r. length (name_behind_colon r.name) ≤ most) round rest few) in
-    let joined = length-append (round_line round) (10 ∷ text_of_lines (map round_line rest)) in
+    let more = lines-short form most rest (All-tail IsRound round rest all) (All-tail (λ r. length (name_behind_colon r.name) ≤ most) round rest few) in
+    let joined = length-append (round_line form round) (10 ∷ text_of_lines (map (round_line form) rest)) in
     omega (arith, line, name, more, joined)
 
 -- the empty line behind the last round names none
@@ -235,68 +235,68 @@ unfolding round_of_words line_words told_part name_part
 no_line-read true most before = refl
 no_line-read false most before = refl
 
-lines-read : (version : Version) (done : List Round) (number : ℕ) (rounds : List Round) → All IsRound rounds →
+lines-read : (form : Bool) (version : Version) (done : List Round) (number : ℕ) (rounds : List Round) → All IsRound rounds → All (FitsForm form) rounds →
     All (λ round. FitsNames version.takes_names round.name) rounds → length done + length rounds ≤ version.most_rounds →
-    read_on version done number (map round_line rounds ++ [] ∷ []) ≡ Ok (done ++ rounds)
-lines-read version done number [] all fits few =
+    read_on version done number (map (round_line form) rounds ++ [] ∷ []) ≡ Ok (done ++ rounds)
+lines-read form version done number [] all usual fits few =
     read_on-none version done number [] [] (no_line-read version.takes_names version.most_rounds (length done))
     ∙ read_on-end version done (number + 1) ∙ ap Ok (sym (append-nil done))
-lines-read version done number (round ∷ rest) all fits few =
+lines-read form version done number (round ∷ rest) all usual fits few =
     let it = All-head IsRound round rest all in
     let size = length-append done (round ∷ []) in
-    read_on-round version done number (round_line round) (map round_line rest ++ [] ∷ []) round
-    (round_line-read version (length done) round (omega arith) it (All-head (λ r. FitsNames version.takes_names r.name) round rest fits))
-    ∙ lines-read version (done ++ round ∷ []) (number + 1) rest (All-tail IsRound round rest all)
+    read_on-round version done number (round_line form round) (map (round_line form) rest ++ [] ∷ []) round
+    (round_line-read form version (length done) round (omega arith) it (All-head (FitsForm form) round rest usual) (All-head (λ r. FitsNames version.takes_names r.name) round rest fits))
+    ∙ lines-read form version (done ++ round ∷ []) (number + 1) rest (All-tail IsRound round rest all) (All-tail (FitsForm form) round rest usual)
     (All-tail (λ r. FitsNames version.takes_names r.name) round rest fits) (omega (arith, size))
     ∙ ap Ok (append_assoc done (round ∷ []) rest)
 
 -- their text, and the empty line behind it
-lines_of-rounds : (rounds : List Round) → All IsRound rounds
-    → lines_of (text_of_lines (map round_line rounds)) ≡ map round_line rounds ++ [] ∷ []
-lines_of-rounds rounds all =
-    lines_of-text_of_lines (map round_line rounds)
-    (All-map IsLine round_line rounds (All-weaker IsRound (λ round. IsLine (round_line round)) round_line-IsLine rounds all))
+lines_of-rounds : (form : Bool) (rounds : List Round) → All IsRound rounds
+    → lines_of (text_of_lines (map (round_line form) rounds)) ≡ map (round_line form) rounds ++ [] ∷ []
+lines_of-rounds form rounds all =
+    lines_of-text_of_lines (map (round_line form) rounds)
+    (All-map IsLine (round_line form) rounds (All-weaker IsRound (λ round. IsLine (round_line form round)) (round_line-IsLine form) rounds all))
 
 -- ---- a list
 
 -- no line tells the first version
-first-version : (rounds : List Round) → version_of (text_of_rounds version_1 rounds) ≡ version_1
+first-version : (form : Bool) (rounds : List Round) → version_of (text_of_rounds version_1 form rounds) ≡ version_1
 unfolding version_of
-first-version [] = refl
-first-version (round ∷ rest) =
-    let behind = 32 ∷ join_with_byte 32 (decimal round.groups ∷ least_words (minima_of round.event) round.least) in
-    let others = 10 ∷ text_of_lines (map round_line rest) in
+first-version form [] = refl
+first-version form (round ∷ rest) =
+    let behind = 32 ∷ join_with_byte 32 (decimal round.groups ∷ least_words form (minima_of round.event) round.least) in
+    let others = 10 ∷ text_of_lines (map (round_line form) rest) in
     ap version_of
-    (append_assoc (told_line round) (name_behind_colon round.name) others ∙ append_assoc (id_of round.event) behind (name_behind_colon round.name ++ others))
+    (append_assoc (told_line form round) (name_behind_colon round.name) others ∙ append_assoc (id_of round.event) behind (name_behind_colon round.name ++ others))
     ∙ version_of-id round.event (behind ++ (name_behind_colon round.name ++ others))
 
-pub first-read : (rounds : List Round) → IsRounds rounds → length rounds ≤ 64 → All (λ round. round.name ≡ []) rounds →
-    rounds_of (text_of_rounds version_1 rounds) ≡ Ok rounds
-first-read rounds it few bare =
+pub first-read : (form : Bool) (rounds : List Round) → IsRounds rounds → length rounds ≤ 64 → All (λ round. round.name ≡ []) rounds → All (FitsForm form) rounds →
+    rounds_of (text_of_rounds version_1 form rounds) ≡ Ok rounds
+first-read form rounds it few bare usual =
     let nameless : (round : Round) → round.name ≡ [] → length (name_behind_colon round.name) ≤ 0 = λ round none. rw none (omega arith) in
-    let size = lines-short 0 rounds it.each (All-weaker (λ round. round.name ≡ []) (λ round. length (name_behind_colon round.name) ≤ 0) nameless rounds bare) in
-    rounds_of-short (text_of_rounds version_1 rounds) version_1 (first-version rounds) (omega (arith, size))
-    ∙ read_on-start version_1 1 (lines_of (text_of_lines (map round_line rounds)))
-    ∙ ap (read_on version_1 [] 1) (lines_of-rounds rounds it.each)
-    ∙ lines-read version_1 [] 1 rounds it.each bare (omega arith)
+    let size = lines-short form 0 rounds it.each (All-weaker (λ round. round.name ≡ []) (λ round. length (name_behind_colon round.name) ≤ 0) nameless rounds bare) in
+    rounds_of-short (text_of_rounds version_1 form rounds) version_1 (first-version form rounds) (omega (arith, size))
+    ∙ read_on-start version_1 1 (lines_of (text_of_lines (map (round_line form) rounds)))
+    ∙ ap (read_on version_1 [] 1) (lines_of-rounds form rounds it.each)
+    ∙ lines-read form version_1 [] 1 rounds it.each usual bare (omega arith)
 
 -- the line that tells the version
 version_line-IsLine : IsLine version_line
 version_line-IsLine = IsLine-plain version_line (λ k d h. ltb-true 31 _ (AllPass-from_list_all (λ b. nat_lt 31 b) version_line refl k d h))
 
-second-version : (rounds : List Round) → version_of (text_of_rounds version_2 rounds) ≡ version_2
+second-version : (form : Bool) (rounds : List Round) → version_of (text_of_rounds version_2 form rounds) ≡ version_2
 unfolding version_of
-second-version rounds = refl
+second-version form rounds = refl
 
-pub second-read : (rounds : List Round) → IsRounds rounds → rounds_of (text_of_rounds version_2 rounds) ≡ Ok rounds
-second-read rounds it =
-    let lines = map round_line rounds in
+pub second-read : (form : Bool) (rounds : List Round) → IsRounds rounds → All (FitsForm form) rounds → rounds_of (text_of_rounds version_2 form rounds) ≡ Ok rounds
+second-read form rounds it usual =
+    let lines = map (round_line form) rounds in
     let named : (round : Round) → IsRound round → length (name_behind_colon round.name) ≤ 42 = λ round r. (name_behind_colon-IsNameText round.name r.name).short in
-    let size = lines-short 42 rounds it.each (All-weaker IsRound (λ round. length (name_behind_colon round.name) ≤ 42) named rounds it.each) in
+    let size = lines-short form 42 rounds it.each (All-weaker IsRound (λ round. length (name_behind_colon round.name) ≤ 42) named rounds it.each) in
     let few = it.few in
-    let are = All-map IsLine round_line rounds (All-weaker IsRound (λ round. IsLine (round_line round)) round_line-IsLine rounds it.each) in
+    let are = All-map IsLine (round_line form) rounds (All-weaker IsRound (λ round. IsLine (round_line form round)) (round_line-IsLine form) rounds it.each) in
     let whole = lines_of-text_of_lines (version_line ∷ lines) (All-cons IsLine version_line lines version_line-IsLine are) in
-    rounds_of-short (text_of_rounds version_2 rounds) version_2 (second-version rounds) (omega (arith, size, few))
+    rounds_of-short (text_of_rounds version_2 form rounds) version_2 (second-version form rounds) (omega (arith, size, few))
     ∙ ap (λ ls. rounds_of_lines version_2 0 2 (drop 1 ls)) whole
     ∙ read_on-start version_2 2 (lines ++ [] ∷ [])
-    ∙ lines-read version_2 [] 2 rounds it.each (λ k d h. tt) (omega (arith, few))
+    ∙ lines-read form version_2 [] 2 rounds it.each usual (λ k d h. tt) (omega (arith, few))

@@ -10,7 +10,8 @@ ghost use Rattle.scr_list.specs.declared.fault.ListFault.{ListFault};
 ghost use Rattle.scr_list.specs.declared.fault.ListFault.TheVariants.{Read, TooLong, Line};
 ghost use Rattle.scr_list.specs.declared.fault.ListCause.TheVariants.{Words, Event, Groups, Name};
 ghost use Rattle.scr_list.specs.Versions.{version_1, version_2, version_of};
-ghost use Rattle.scr_list.specs.Printed.{text_of_rounds};
+ghost use Rattle.scr_list.specs.Printed.{text_of_rounds, with_minima, without_minima};
+ghost use Rattle.scr_notation.specs.Event.{usual_of};
 ghost use Rattle.scr_list.specs.Reading.{ReadsList, ReadsNoList};
 ghost use Rattle.scr_list.specs.Faults.{IsAnswer};
 ghost use Rattle.scr_list.specs.Rounds.{rounds_of};
@@ -20,12 +21,18 @@ use crate::round::Round;
 
 /// Rounds that are written a line each, as the event's id, the groups, the minimum where the event has one, and the
 /// name where the round has one, below the line of the second version, are a list that names just these rounds. So
-/// are those without names, of which there are at most 64, in the first version.
+/// are those without names, of which there are at most 64, in the first version. Where each round has the usual
+/// minimum of its event, the minima may be left out in both.
 pub fn reads_back(rounds: &[Round])
     requires { IsRounds rounds.now }
-    ensures second { rounds_of (text_of_rounds version_2 rounds.now) ≡ Ok rounds.now }
+    ensures second { rounds_of (text_of_rounds version_2 with_minima rounds.now) ≡ Ok rounds.now }
+    ensures second_usual { All (λ round. round.least ≡ usual_of round.event) rounds.now
+        → rounds_of (text_of_rounds version_2 without_minima rounds.now) ≡ Ok rounds.now }
     ensures first { length rounds.now ≤ 64 → All (λ round. round.name ≡ []) rounds.now
-        → rounds_of (text_of_rounds version_1 rounds.now) ≡ Ok rounds.now }
+        → rounds_of (text_of_rounds version_1 with_minima rounds.now) ≡ Ok rounds.now }
+    ensures first_usual { length rounds.now ≤ 64 → All (λ round. round.name ≡ []) rounds.now
+        → All (λ round. round.least ≡ usual_of round.event) rounds.now
+        → rounds_of (text_of_rounds version_1 without_minima rounds.now) ≡ Ok rounds.now }
 {}
 
 /// A list that was read is all that its source had, where that is told, and nothing is left; no read of it failed, and

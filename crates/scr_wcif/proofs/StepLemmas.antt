@@ -6,8 +6,6 @@ use Rattle.std.proofs.lemmas.List.{take_all}
 use Rattle.std.proofs.lemmas.List.Elements.{All-cons, All-nil, All-append}
 use Rattle.json.specs.Json.{Json, Items, item}
 use Rattle.scr_text.specs.Steps.{and_then}
-use Rattle.scr_list.specs.declared.round.Round.{Round}
-use Rattle.scr_list.specs.Rounds.{IsRound}
 use Rattle.scr_wcif.specs.declared.fault.FileFault.{FileFault}
 use Rattle.scr_wcif.specs.declared.fault.Fault.{Fault}
 use Rattle.scr_wcif.specs.declared.fault.Fault.TheVariants as fault
@@ -39,11 +37,11 @@ filter_map-step {X = X} {Y = Y} h first rest = at (h first) refl
     at None is = rw is refl
     at (Some y) is = rw is refl
 
-pub valid-step : {E : Type 0} (result : Result (Unit {0}) E) (old new : List Round) (round : Round) → IsRound round → All IsRound old →
-    OnOk result (new ≡ old ++ round ∷ []) → OnOk result (All IsRound new)
-valid-step (Ok done) old new round it all is =
-    subst (All IsRound) (sym is) (All-append IsRound old (round ∷ []) all (All-cons IsRound round [] it (All-nil IsRound)))
-valid-step (Err why) old new round it all is = is
+-- what holds of the items so far, and of the next
+pub all-step : {X E : Type 0} (P : X → Type 0) (result : Result (Unit {0}) E) (old new : List X) (x : X) → P x → All P old →
+    OnOk result (new ≡ old ++ x ∷ []) → OnOk result (All P new)
+all-step P (Ok done) old new x it all is = subst (All P) (sym is) (All-append P old (x ∷ []) all (All-cons P x [] it (All-nil P)))
+all-step P (Err why) old new x it all is = is
 
 -- ---- the rounds of an event
 

@@ -4,7 +4,7 @@ use Rattle.std.specs.Fmt.{decimal}
 use Rattle.scr_notation.specs.Event.{usual_of}
 use Rattle.scr_list.specs.declared.round.Round.{Round}
 use Rattle.scr_list.specs.Events.{event_named}
-use Rattle.scr_list.specs.Printed.{text_of_rounds}
+use Rattle.scr_list.specs.Printed.{text_of_rounds, without_minima}
 use Rattle.scr_list.specs.Rounds.{rounds_of}
 use Rattle.scr_list.specs.Versions.{version_2}
 use Rattle.scr_wcif.specs.FileRound.{NamedRound}
@@ -17,9 +17,13 @@ listed_round named =
 abbrev pub listed_rounds : List NamedRound → List Round
 listed_rounds named = filter_map listed_round named
 
--- A text is a list of these rounds: in the second version, and read back as just them.
+-- it has the usual minimum of its event
+abbrev pub HasUsual : Round → Type 0
+HasUsual round = round.least ≡ usual_of round.event
+
+-- A text is a list of these rounds: in the second version, without minima, and read back as just them.
 pub record IsListOf (named : List NamedRound) (text : List ℕ) : Type 0 where
-  pub written : text ≡ text_of_rounds version_2 (listed_rounds named)
+  pub written : text ≡ text_of_rounds version_2 without_minima (listed_rounds named)
   pub read_back : rounds_of text ≡ Ok (listed_rounds named)
 
 -- a round with its event's id, its groups and its name

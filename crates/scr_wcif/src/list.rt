@@ -1,14 +1,13 @@
 //! The list of the rounds that a file names.
 
 ghost use Rattle.std.specs.Prelude.{◌≡◌, ◌+◌, ◌≤◌, [], ◌∷◌, ◌++◌, All, Ok, map, length, option_to_list, OnOk, IfOk, string_bytes};
-ghost use Rattle.std.specs.Fmt.{decimal};
 ghost use Rattle.std.specs.List.{join_with_byte};
 ghost use Rattle.scr_text.specs.Lines.{text_of_lines};
 ghost use Rattle.scr_list.specs.Rounds.{IsRound, rounds_of};
 ghost use Rattle.scr_list.specs.RoundLists.{IsRounds};
-ghost use Rattle.scr_list.specs.Printed.{round_line, round_words, name_behind_colon, text_of_rounds};
+ghost use Rattle.scr_list.specs.Printed.{without_minima, round_line, round_words, name_behind_colon, text_of_rounds};
 ghost use Rattle.scr_list.specs.Versions.{version_2};
-ghost use Rattle.scr_wcif.specs.Listed.{listed_round, listed_rounds, left_out_text, IsListOf};
+ghost use Rattle.scr_wcif.specs.Listed.{HasUsual, listed_round, listed_rounds, left_out_text, IsListOf};
 
 use crate::adding::add;
 use crate::round::FileRound;
@@ -29,6 +28,7 @@ pub(crate) fn list_of(alloc: Global, named: &[FileRound<'_>]) -> Result<String, 
 fn listed_rounds(alloc: Global, named: &[FileRound<'_>]) -> Result<Vec<Round>, AllocError>
     ensures rounds { IfOk result (λ rounds. rounds.items ≡ listed_rounds named.now) }
     ensures valid { IfOk result (λ rounds. All IsRound rounds.items) }
+    ensures usual { IfOk result (λ rounds. All HasUsual rounds.items) }
     ensures few { IfOk result (λ rounds. length rounds.items ≤ length named.now) }
 {
     let mut rounds = Vec::new(alloc);
@@ -38,9 +38,11 @@ fn listed_rounds(alloc: Global, named: &[FileRound<'_>]) -> Result<Vec<Round>, A
 
 /// Adds the rounds that a list names for these. It calls itself once for each.
 fn push_listed(named: &[FileRound<'_>], rounds: &mut Vec<Round>) -> Result<(), AllocError>
-    requires { All IsRound rounds.old.items }
+    requires valid { All IsRound rounds.old.items }
+    requires usual { All HasUsual rounds.old.items }
     ensures rounds { OnOk result (rounds.new.items ≡ rounds.old.items ++ listed_rounds named.now) }
     ensures valid { OnOk result (All IsRound rounds.new.items) }
+    ensures usual { OnOk result (All HasUsual rounds.new.items) }
     ensures few { OnOk result (length rounds.new.items ≤ length rounds.old.items + length named.now) }
 {
     match named {
@@ -54,10 +56,12 @@ fn push_listed(named: &[FileRound<'_>], rounds: &mut Vec<Round>) -> Result<(), A
 
 /// Adds the round that a list names for this one, if any.
 fn add_listed(named: &FileRound<'_>, rounds: &mut Vec<Round>) -> Result<(), AllocError>
-    requires { All IsRound rounds.old.items }
+    requires valid { All IsRound rounds.old.items }
+    requires usual { All HasUsual rounds.old.items }
     ensures rounds { OnOk result
         (rounds.new.items ≡ rounds.old.items ++ option_to_list (listed_round named.now)) }
     ensures valid { OnOk result (All IsRound rounds.new.items) }
+    ensures usual { OnOk result (All HasUsual rounds.new.items) }
     ensures few { OnOk result (length rounds.new.items ≤ length rounds.old.items + 1) }
 {
     match named.listed() {
@@ -68,8 +72,9 @@ fn add_listed(named: &FileRound<'_>, rounds: &mut Vec<Round>) -> Result<(), Allo
 
 /// The text of a list, which names just these rounds.
 fn list_text(alloc: Global, rounds: &[Round]) -> Result<String, AllocError>
-    requires { IsRounds rounds.now }
-    ensures written { IfOk result (λ text. string_bytes text ≡ text_of_rounds version_2 rounds.now) }
+    requires listed { IsRounds rounds.now }
+    requires usual { All HasUsual rounds.now }
+    ensures written { IfOk result (λ text. string_bytes text ≡ text_of_rounds version_2 without_minima rounds.now) }
     ensures read_back { IfOk result (λ text. rounds_of (string_bytes text) ≡ Ok rounds.now) }
 {
     laws::reads_back(rounds);
@@ -81,7 +86,7 @@ fn list_text(alloc: Global, rounds: &[Round]) -> Result<String, AllocError>
 /// Adds the lines of these rounds. It calls itself once for each.
 fn push_lines(rounds: &[Round], text: &mut String) -> Result<(), AllocError>
     ensures { OnOk result
-        (string_bytes text.new ≡ string_bytes text.old ++ text_of_lines (map round_line rounds.now)) }
+        (string_bytes text.new ≡ string_bytes text.old ++ text_of_lines (map (round_line without_minima) rounds.now)) }
 {
     match rounds {
         [] => Ok(()),
@@ -94,7 +99,7 @@ fn push_lines(rounds: &[Round], text: &mut String) -> Result<(), AllocError>
 
 /// Adds the line of a round.
 fn push_line(round: &Round, text: &mut String) -> Result<(), AllocError>
-    ensures { OnOk result (string_bytes text.new ≡ string_bytes text.old ++ (round_line round.now ++ 10 ∷ [])) }
+    ensures { OnOk result (string_bytes text.new ≡ string_bytes text.old ++ (round_line without_minima round.now ++ 10 ∷ [])) }
 {
     push_words(round, text)?;
     push_name(round.name.as_str(), text)?;
@@ -104,23 +109,11 @@ fn push_line(round: &Round, text: &mut String) -> Result<(), AllocError>
 /// Adds the words of a round.
 fn push_words(round: &Round, text: &mut String) -> Result<(), AllocError>
     ensures { OnOk result
-        (string_bytes text.new ≡ string_bytes text.old ++ join_with_byte 32 (round_words round.now)) }
+        (string_bytes text.new ≡ string_bytes text.old ++ join_with_byte 32 (round_words without_minima round.now)) }
 {
     text.push_str(round.event.id())?;
     text.push_str(" ")?;
-    text.push_str(decimal(u32::from(round.groups)).as_str())?;
-    match round.event.minima() {
-        Some(_) => push_least(round.least, text),
-        None => Ok(()),
-    }
-}
-
-/// Adds a minimum behind a space.
-fn push_least(least: u8, text: &mut String) -> Result<(), AllocError>
-    ensures { OnOk result (string_bytes text.new ≡ string_bytes text.old ++ 32 ∷ decimal least) }
-{
-    text.push_str(" ")?;
-    text.push_str(decimal(u32::from(least)).as_str())
+    text.push_str(decimal(u32::from(round.groups)).as_str())
 }
 
 /// Adds a name behind its colon, where there is one.

@@ -41,12 +41,13 @@ impl<'a> Model for FileRound<'a> {
 impl<'a> FileRound<'a> {
     ghost use Rattle.std.specs.Prelude.{IfSome};
     ghost use Rattle.scr_list.specs.Rounds.{IsRound};
-    ghost use Rattle.scr_wcif.specs.Listed.{listed_round, left_out_text_of, left_out_line, named_line};
+    ghost use Rattle.scr_wcif.specs.Listed.{HasUsual, listed_round, left_out_text_of, left_out_line, named_line};
 
     /// The round that a list names for it, where the program has its event.
     pub fn listed(&self) -> Option<Round>
         ensures value { result ≡ listed_round self.now }
         ensures valid { IfSome result IsRound }
+        ensures usual { IfSome result HasUsual }
     {
         let event = event_named(self.event.as_bytes())?;
         let mut name = ArrayString::new();

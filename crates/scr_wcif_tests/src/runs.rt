@@ -13,7 +13,7 @@ const FILE: &str =
 {\"scrambleSetCount\":1,\"scrambleSets\":[],\"id\":\"clock-r2\"}],\"competitorLimit\":null},
 {\"id\":\"777\",\"rounds\":[]}],\"schedule\":{},\"extensions\":[]}";
 
-const LIST: &str = "version 2\nclock 26 2: First round\nclock 1 2: Final\n";
+const LIST: &str = "version 2\nclock 26: First round\nclock 1: Final\n";
 
 const LEFT_OUT: &str = "scramble-wcif: left out: 444bf 1: Final\n";
 
