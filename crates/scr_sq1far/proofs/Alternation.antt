@@ -1,5 +1,5 @@
 -- Each word has one that is no longer, leads to the same, and in which turns of the layers and twists take turns.
-use Rattle.std.proofs.Common.{◌≡◌, ℕ, suc, ◌≤◌, Bool, true, false, IsTrue, cond, List, [], ◌∷◌, ◌++◌, length, Option, Some, None, refl, sym, ap, ◌∙◌, subst, arith}
+use Rattle.std.proofs.Common.{◌≡◌, ℕ, suc, ◌≤◌, Bool, true, false, IsTrue, cond, List, [], ◌∷◌, length, Option, Some, None, refl, sym, ap, ◌∙◌, subst, arith}
 use Rattle.std.specs.Prelude.{not, ◌+ℤ◌}
 use Rattle.std.specs.Bool.{OnTrue, OnFalse}
 use mathlib.Core.Bool.{beq}
@@ -8,7 +8,7 @@ use Rattle.scr_combinatorics.specs.Reach.{Needs}
 use Rattle.std.proofs.Common.{inl, inr}
 use Rattle.scr_combinatorics.specs.Play.{play}
 use Rattle.scr_combinatorics.specs.Tidy.{word_of}
-use Rattle.scr_combinatorics.proofs.PlayLaws.{play-empty, play-first, play-parts, play-append}
+use Rattle.scr_combinatorics.proofs.PlayLaws.{play-first, play-parts, play-append}
 use Rattle.scr_notation.specs.declared.turn.Turn.{Turn}
 use Rattle.scr_notation.specs.declared.turn.Turn.TheVariants.{Layers, Twist}
 use Rattle.scr_notation.specs.Layers.{twelfths, are_still}

@@ -1,12 +1,12 @@
 -- Words that meet in the middle, where turns can be taken back.
-use Rattle.std.proofs.Common.{◌≡◌, ℕ, zero, suc, ◌+◌, ◌≤◌, List, [], ◌∷◌, ◌++◌, length, Option, Some, refl, sym, ap, ◌∙◌, arith}
-use Rattle.std.specs.Prelude.{◌↔◌, map, reverse}
+use Rattle.std.proofs.Common.{◌≡◌, ℕ, zero, suc, ◌+◌, ◌≤◌, List, [], ◌∷◌, ◌++◌, length, Option, Some, ◌∙◌, arith}
+use Rattle.std.specs.Prelude.{◌↔◌, map}
 use Rattle.std.proofs.lemmas.List.{length-map, length-append, length-reverse}
 use Rattle.scr_combinatorics.specs.Play.{play}
 use Rattle.scr_combinatorics.specs.Back.{back, IsTakenBack}
 use Rattle.scr_combinatorics.specs.Reach.{Puzzle}
 use Rattle.scr_combinatorics.proofs.PlayLaws.{play-empty, play-first, play-parts, play-append}
-use Rattle.scr_sq1far.specs.Within.{IsWithin, IsReachedWithin, MeetsInTheMiddle}
+use Rattle.scr_sq1far.specs.Within.{IsWithin, MeetsInTheMiddle}
 
 length-back : {T : Type 0} (opposite : T → T) (w : List T) → length (back opposite w) ≡ length w
 length-back opposite w = length-reverse (map opposite w) ∙ length-map w opposite

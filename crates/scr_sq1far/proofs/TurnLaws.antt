@@ -1,17 +1,16 @@
 -- The turns by their numbers.
-use Rattle.std.proofs.Common.{◌≡◌, ℕ, ◌<◌, ◌/◌, ◌%◌, Bool, true, false, IsTrue, cond, Some, None, refl, sym, ap, ◌∙◌, eq-eqb, arith}
+use Rattle.std.proofs.Common.{◌≡◌, ℕ, ◌<◌, ◌/◌, ◌%◌, Bool, true, false, IsTrue, cond, Some, None, refl, sym, ap, ◌∙◌, subst, arith}
 use Rattle.std.proofs.Common.{◌+◌, inl, inr}
-use Rattle.std.proofs.lemmas.Bool.{cond-true, cases_lt}
+use Rattle.std.proofs.lemmas.Bool.{cond-true, cond-false, cases_lt, ne_eqb}
 use Rattle.std.specs.Prelude.{ℤ, pos, ◌-ℤ◌, ◌==◌, Option}
 use Rattle.scr_notation.specs.declared.event.Kind.TheVariants.{LayersAndTwist}
 use Rattle.scr_notation.specs.declared.turn.Turn.{Turn}
 use Rattle.scr_notation.specs.declared.turn.Turn.TheVariants.{Layers, Twist}
 use Rattle.scr_notation.specs.Layers.{is_layer_turn}
 use Rattle.scr_notation.specs.TurnNumbers.{layer_turn_at, turn_at}
-use Rattle.scr_notation.proofs.NumberLaws.{numbered}
-use Rattle.scr_sq1.specs.Units.{Sq1State, IsSq1, after_layers, sq1_after}
+use Rattle.scr_notation.proofs.NumberLaws.{numbered, has_turn_at}
+use Rattle.scr_sq1.specs.Units.{Sq1State, after_layers, twisted, sq1_after}
 use Rattle.scr_sq1.proofs.Lawful.{sq1_after-layers}
-use Rattle.scr_sq1solve.specs.Minima.{sq1_moves}
 use Rattle.scr_sq1far.specs.Alternating.{is_twist}
 
 letter-after : (s r : Sq1State) (t : Turn) → sq1_after s t ≡ Some r → IsTrue (is_layer_turn t)
@@ -33,9 +32,28 @@ pub is_twist-number : (n : ℕ) → is_twist (layer_turn_at n) ≡ (n == 65)
 unfolding layer_turn_at
 is_twist-number n = twist-at n (n == 65)
 
--- what the moves of the search of few turns make of a valid state
-pub moved-number : (s : Sq1State) (n : ℕ) → IsSq1 s → sq1_moves.after s n ≡ sq1_after s (layer_turn_at n)
-moved-number s n valid = cond-true _ _ _ (eq-eqb _ 24 valid.size)
+abbrev pub top_of : ℕ → ℤ
+top_of n = pos (n / 12) -ℤ pos 5
+
+abbrev pub bottom_of : ℕ → ℤ
+bottom_of n = pos (n % 12) -ℤ pos 5
+
+-- what the turn of a number makes of a state, where it is the twist, and where it turns the layers
+pub after-twist : (s r : Sq1State) (n : ℕ) → n ≡ 65 → r ≡ twisted s → Some r ≡ sq1_after s (layer_turn_at n)
+unfolding layer_turn_at sq1_after
+after-twist s r n is made = ap Some made ∙ sym (ap (λ k. sq1_after s (layer_turn_at k)) is)
+
+pub after-number : (s : Sq1State) (n : ℕ) (o : Option Sq1State) → n < 144 → (n ≡ 65 → ⊥)
+    → o ≡ after_layers s (top_of n) (bottom_of n) → o ≡ sq1_after s (layer_turn_at n)
+unfolding layer_turn_at sq1_after turn_at
+after-number s n o lt apart made =
+    let turn : layer_turn_at n ≡ Layers (top_of n) (bottom_of n) =
+    cond-false (n == 65) Twist (Layers (top_of n) (bottom_of n)) (ne_eqb n 65 apart) in
+    let letter : IsTrue (is_layer_turn (Layers (top_of n) (bottom_of n))) =
+    subst (λ t. IsTrue (is_layer_turn t)) turn (has_turn_at LayersAndTwist n tt lt) in
+    made
+    ∙ sym (ap (sq1_after s) turn
+    ∙ cond-true (is_layer_turn (Layers (top_of n) (bottom_of n))) (after_layers s (top_of n) (bottom_of n)) None letter)
 
 -- what holds of the turns below a number and of this one holds of those below the next
 pub each_turn-more : (Q : Sq1State → Type 0) (s : Sq1State) (twists : Bool) (turn : ℕ)

@@ -1,7 +1,6 @@
 -- Laws of what few turns lead to.
 use Rattle.std.proofs.Common.{◌≡◌, ℕ, suc, ◌-◌, ◌≤◌, ◌<◌, [], ◌∷◌, Some, refl, ◌∙◌, arith}
 use Rattle.std.specs.Prelude.{◌↔◌}
-use Rattle.scr_combinatorics.specs.Play.{play}
 use Rattle.scr_combinatorics.specs.Reach.{Puzzle, Needs}
 use Rattle.scr_combinatorics.proofs.PlayLaws.{play-empty, play-first}
 use Rattle.scr_notation.specs.Turning.{opposite}

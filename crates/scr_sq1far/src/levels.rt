@@ -15,13 +15,13 @@ use std::alloc::Global;
 use std::collections::HashMap;
 
 /// How many turns away from solved the states are that have a level.
-const REACH: u8 = 5;
+const REACH: u8 = 6;
 
-/// The 45,632 states from which at most five turns lead to solved, each with the least number of these.
+/// The 92,316 states from which at most six turns lead to solved, each with the least number of these.
 #[derive(Drop)]
 pub(crate) struct Levels {
     levels: HashMap<u128, u8>,
-    ghost exact: { TellNeeds 6 (get nat_eq levels) },
+    ghost exact: { TellNeeds 7 (get nat_eq levels) },
 }
 
 impl Levels {
@@ -38,10 +38,10 @@ impl Levels {
         Ok(Levels { levels })
     }
 
-    /// Whether a state needs at least so many turns, up to six.
+    /// Whether a state needs at least so many turns, up to seven.
     #[inline]
     pub fn needs(&self, state: &Sq1, least: u32) -> bool
-        requires { least ≤ 6 }
+        requires { least ≤ 7 }
         ensures { IsTrue result ↔ Needs sq1_puzzle state.now least }
     {
         state.is_valid();
@@ -58,7 +58,7 @@ fn add_level(
     levels: &mut HashMap<u128, u8>,
     states: &mut Vec<Sq1>,
 ) -> Result<(), NoMemory>
-    requires level { level < 5 }
+    requires level { level < 6 }
     requires listed { AreListed level (get nat_eq levels.old) states.old.items }
     requires exact { AreLevels level (get nat_eq levels.old) }
     ensures listed { OnOk result (AreListed (level + 1) (get nat_eq levels.new) states.new.items) }

@@ -11,14 +11,15 @@ use scr_outside::NoMemory;
 use scr_sq1::Sq1;
 use std::alloc::Global;
 
-/// What the test goes by: the states near solved.
+/// What the test goes by: the states near solved. It is built once and lent to each test, since it takes memory, which a
+/// test has no answer for.
 #[derive(Drop)]
 pub struct NearSolved {
     levels: Levels,
 }
 
 impl NearSolved {
-    /// The tables, of some megabytes. Only memory can be wanting.
+    /// The states, in 5 megabytes. Only memory can be wanting.
     pub fn build(alloc: Global) -> Result<NearSolved, NoMemory> {
         Ok(NearSolved {
             levels: Levels::build(alloc)?,
@@ -32,10 +33,10 @@ impl NearSolved {
         ensures refused { OnFalse result (Needs sq1_puzzle state.now least → ⊥) }
     {
         state.is_valid();
-        if least <= 6 {
+        if least <= 7 {
             return self.levels.needs(state, least);
         }
-        if !self.levels.needs(state, 6) {
+        if !self.levels.needs(state, 7) {
             return false;
         }
         for turn in 0..TURNS {
@@ -51,8 +52,10 @@ impl NearSolved {
     }
 }
 
-/// Whether no word of fewer than `least` turns, of the layers and twists, brings a Square-1 to solved. `least` is at
-/// most 11.
+/// Whether no word of fewer than `least` turns, of the layers and twists, brings a Square-1 to solved: a turn of the
+/// layers counts one, whether it turns one or both, and so does a twist (WCA Regulations, article 4b3). `least` is at most
+/// 11. The states near solved are passed, and not made here: that would take memory for each test, and could fail, where
+/// the test can't.
 pub fn needs_sq1_far(near: &NearSolved, state: &Sq1, least: u32) -> bool
     requires { least ≤ 11 }
     ensures { IsTrue result ↔ Needs sq1_puzzle state.now least }

@@ -1,8 +1,7 @@
-use Rattle.std.proofs.Common.{◌≡◌, ℕ, ◌++◌, [], ◌∷◌, List, Some, cond, refl, sym, ap, ◌∙◌, subst, arith}
+use Rattle.std.proofs.Common.{Some, cond, sym, ap, ◌∙◌, subst, arith}
 use Rattle.std.specs.Prelude.{nat_eq, not}
 use Rattle.std.proofs.lemmas.Bool.{cond-true}
 use Rattle.std.specs.HashMap.{get}
-use Rattle.scr_sq1.specs.Units.{Sq1State}
 use Rattle.scr_sq1far.specs.Levels.{AreListed, key_of}
 use Rattle.scr_sq1far.proofs.LevelLaws.{HasLevel-listed, AreListed-added, of_on_ok}
 use Rattle.scr_sq1far.proofs.levels.add.Goals as goal

@@ -1,18 +1,14 @@
-use Rattle.std.proofs.Common.{◌∙◌}
 use Rattle.std.proofs.Common.{arith}
 use Rattle.std.proofs.lemmas.Int.{ints}
-use Rattle.scr_sq1solve.proofs.MinimaLaws.{after-twist, after-number, top_of, bottom_of}
-use Rattle.scr_sq1far.proofs.TurnLaws.{after-amounts, moved-number}
+use Rattle.scr_sq1far.proofs.TurnLaws.{after-twist, after-number, after-amounts, top_of, bottom_of}
 use Rattle.scr_sq1far.proofs.turns.after.Goals as goal
 
 pub returns-then-turn-eq-TWIST : goal.returns-then-turn-eq-TWIST
 returns-then-turn-eq-TWIST c =
-    after-twist c.args.state.now c.twist.result c.args.turn c.is_valid.ensures c.if-turn-eq-TWIST.true c.twist.ensures
-    ∙ moved-number c.args.state.now c.args.turn c.is_valid.ensures
+    after-twist c.args.state.now c.twist.result c.args.turn c.if-turn-eq-TWIST.true c.twist.ensures
 
 pub returns-else-turn-eq-TWIST : goal.returns-else-turn-eq-TWIST
 returns-else-turn-eq-TWIST c =
     let n = c.args.turn in
-    after-number c.args.state.now n c.turn.result c.is_valid.ensures c.requires c.if-turn-eq-TWIST.false
+    after-number c.args.state.now n c.turn.result c.requires c.if-turn-eq-TWIST.false
     (after-amounts c.args.state.now c.turn.result _ _ (top_of n) (bottom_of n) c.turn.ensures (omega (arith, ints, c.requires)) (omega (arith, ints)))
-    ∙ moved-number c.args.state.now n c.is_valid.ensures

@@ -26,7 +26,7 @@ loop-level-init c = record {
 
 pub invariant_of-result : goal.invariant_of-result
 invariant_of-result c =
-    let five : c.loop-level.level ≡ 5 = omega arith in
+    let six : c.loop-level.level ≡ 6 = omega arith in
     record {
-      exact = TellNeeds-levels 5 (get nat_eq c.loop-level.levels) (subst (λ n. AreLevels n (get nat_eq c.loop-level.levels)) five c.loop-level.invariant.exact);
+      exact = TellNeeds-levels 6 (get nat_eq c.loop-level.levels) (subst (λ n. AreLevels n (get nat_eq c.loop-level.levels)) six c.loop-level.invariant.exact);
     }

@@ -10,8 +10,8 @@ use Rattle.scr_sq1far.proofs.TurnLaws.{each_turn-more, each_turn-all}
 use Rattle.scr_sq1far.proofs.near.NearSolved.+needs_by.Goals as goal
 use Rattle.scr_sq1far.proofs.near.NearSolved.+needs_by.Goals.{then-turn-twists+in-Some+else-not-needs_by, then-turn-twists+in_default, else-turn-twists}
 
-pub returns-then-least-le6-clause-needed : goal.returns-then-least-le6-clause-needed
-returns-then-least-le6-clause-needed t c =
+pub returns-then-least-le7-clause-needed : goal.returns-then-least-le7-clause-needed
+returns-then-least-le7-clause-needed t c =
     on_true c.needs.result (λ is. NeedsBy-needs c.args.twists c.args.state.now c.args.least (c.needs.ensures.0 is))
 
 pub loop-turn-init : goal.loop-turn-init
@@ -36,6 +36,6 @@ loop-turn-preserved t c =
 pub returns-clause-needed : goal.returns-clause-needed
 returns-clause-needed t c =
     NeedsBy-turns c.args.twists c.args.state.now (c.args.least - 1) c.args.least (omega arith)
-    (Needs-fewer sq1_puzzle c.args.state.now 6 1 (omega arith) (c.needs-2.ensures.0 c.if-not-needs.false))
+    (Needs-fewer sq1_puzzle c.args.state.now 7 1 (omega arith) (c.needs-2.ensures.0 c.if-not-needs.false))
     (each_turn-all (λ r. NeedsBy (not c.args.twists) r (c.args.least - 1)) c.args.state.now c.args.twists
     (λ n r lt kind e. c.loop-turn.invariant n r (omega arith) kind e))
