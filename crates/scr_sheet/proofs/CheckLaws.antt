@@ -31,7 +31,7 @@ ReadsNoListPart source (list.Line number cause) = ReadsInput source (λ input. r
 -- with which faults an input can be told
 abbrev IsOfInput : Result (List Round) ListFault → Fault → Type 0
 IsOfInput rounds (fault.List refusal) = rounds ≡ Err refusal
-IsOfInput rounds (fault.DrawLimit round slot words) = Unit {0}
+IsOfInput rounds (fault.DrawLimit missing) = Unit {0}
 IsOfInput rounds (fault.Differs line) = Unit {0}
 IsOfInput rounds _ = ⊥
 
@@ -45,7 +45,7 @@ input-fault settings (Ok rounds) input why (Err (check.Differs line), comes, is)
     let same : why ≡ fault.Differs line = cc in
     subst (IsOfInput (Ok rounds)) (sym same) tt
 input-fault settings (Ok rounds) input why (Err (check.Limit missing), comes, is) =
-    let same : why ≡ fault.DrawLimit missing.round missing.slot missing.words = cc in
+    let same : why ≡ fault.DrawLimit missing = cc in
     subst (IsOfInput (Ok rounds)) (sym same) tt
 input-fault settings (Ok rounds) input why (Err check.Read, comes, is) = absurd comes
 
@@ -64,7 +64,7 @@ Fails f why = (let ended : Result (Unit {0}) Fault = Err f in ended) ≡ Err (fa
 checking-usage : (settings : Settings) (source : Change) (usage : UsageFault)
     → EndsChecking settings source (Err (fault.Usage usage)) → ⊥
 checking-usage settings source usage (inl reads) = read-fault settings source (fault.Usage usage) reads
-checking-usage settings source usage (inr (inl lacks)) = at lacks.2.0 lacks.2.2
+checking-usage settings source usage (inr (inl lacks)) = at lacks.3.0 lacks.3.2
   where
     at : (why : BuildFault) → Fails (fault.Usage usage) why → ⊥
     at build.NoMemory is = cc
@@ -73,7 +73,7 @@ checking-usage settings source usage (inr (inr unread)) = let same = unread.0 in
 
 checking-write : (settings : Settings) (source : Change) → EndsChecking settings source (Err fault.Write) → ⊥
 checking-write settings source (inl reads) = read-fault settings source fault.Write reads
-checking-write settings source (inr (inl lacks)) = at lacks.2.0 lacks.2.2
+checking-write settings source (inr (inl lacks)) = at lacks.3.0 lacks.3.2
   where
     at : (why : BuildFault) → Fails fault.Write why → ⊥
     at build.NoMemory is = cc
@@ -105,7 +105,7 @@ no_list-read settings source (list.Line number cause) reads = record {
 checking-list : (settings : Settings) (source : Change) (refusal : ListFault)
     → EndsChecking settings source (Err (fault.List refusal)) → ReadsNoListPart source refusal
 checking-list settings source refusal (inl reads) = no_list-read settings source refusal reads
-checking-list settings source refusal (inr (inl lacks)) = absurd (at lacks.2.0 lacks.2.2)
+checking-list settings source refusal (inr (inl lacks)) = absurd (at lacks.3.0 lacks.3.2)
   where
     at : (why : BuildFault) → Fails (fault.List refusal) why → ⊥
     at build.NoMemory is = cc
@@ -165,5 +165,5 @@ check-input settings source out ended ends rose = at ends.1
 
     at : EndsChecking settings source ends.0 → status_of ended ≡ status.ReadFault
     at (inl reads) = absurd (stays reads)
-    at (inr (inl lacks)) = absurd (stays lacks.1.reads)
+    at (inr (inl lacks)) = absurd (stays lacks.1)
     at (inr (inr unread)) = ap status_of (told ends.0 _ unread.0 ends.2)

@@ -80,7 +80,7 @@ check-ends {source = source} {out = out} {settings = settings} {input = input} r
     checked found (inl reads) =
         inl (ap status_of (comes-one settings (rounds_in input) input found answer (λ named is. named-rounds _ named is)
         (told-whole source input run.told reads) comes))
-    checked found (inr (inl lacks)) = lacks-ends lacks.2.0 found (status_of answer) lacks.2.2
+    checked found (inr (inl lacks)) = lacks-ends lacks.3.0 found (status_of answer) lacks.3.2
     checked found (inr (inr unread)) = absurd (run.read unread.1.rose)
 
     ended : EndsCheck settings source out run.run.ended → EndsWith (status_of run.run.ended) (status_of answer)

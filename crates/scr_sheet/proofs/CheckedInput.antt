@@ -1,10 +1,10 @@
 -- The check of an input, as a reader reads it.
-use Rattle.std.proofs.Common.{◌≡◌, ℕ, ◌<◌, Bool, true, false, cond, List, [], ◌∷◌, ◌++◌, length, take, Ok, Err, inl, inr, refl, sym, ap, subst, ◌∙◌, arith, append_assoc, length-take-le}
-use Rattle.std.specs.Prelude.{Option, Result, IsTrue, All, Contains, filter, ◌↔◌}
+use Rattle.std.proofs.Common.{◌≡◌, ℕ, ◌<◌, ◌≤◌, Bool, true, false, cond, List, [], ◌∷◌, ◌++◌, length, take, Ok, Err, inl, inr, refl, sym, ap, subst, ◌∙◌, arith, append_assoc, length-take-le}
+use Rattle.std.specs.Prelude.{Option, Result, codes, IsTrue, All, Contains, filter, ◌↔◌}
 use Rattle.std.proofs.lemmas.Bool.{cases_lt}
 use Rattle.std.proofs.lemmas.List.Elements.{All-nil, All-cons, All-head, All-tail}
 use Rattle.std.proofs.lemmas.List.Sums.{length-filter, count_by-le-length}
-use Rattle.scr_outside.specs.Change.{intake_of, Gives, TellsEnd}
+use Rattle.scr_outside.specs.Change.{Change, intake_of, Gives, TellsEnd}
 use Rattle.scr_outside.specs.Bytes.{put_back}
 use Rattle.scr_check.specs.declared.fault.CheckFault.{CheckFault}
 use Rattle.scr_check.specs.declared.fault.CheckFault.TheVariants as check
@@ -23,15 +23,16 @@ use Rattle.scr_list.proofs.RoundFacts.{most_bytes-le}
 use Rattle.scr_list.proofs.RoundLemmas.{rounds_of-long}
 use Rattle.scr_notation.specs.declared.event.Event.{Event}
 use Rattle.scr_notation.specs.EventSets.{Has}
-use Rattle.scr_table.specs.declared.fault.BuildFault.{BuildFault}
 use Rattle.scr_slots.specs.declared.settings.Settings.{Settings}
 use Rattle.scr_slots.specs.Agreement.{is_tested_by_table}
-use Rattle.scr_slots.specs.Tables.{IsBuildCause}
+use Rattle.scr_sheet.specs.declared.check.Tests.{Tests}
+use Rattle.scr_sheet.specs.Outcome.{EndsTelling}
+use Rattle.scr_sheet.specs.Ready.{ReadsTests, EndsHolding}
 use Rattle.scr_sheet.specs.declared.fault.Fault.{Fault}
 use Rattle.scr_sheet.specs.declared.fault.Fault.TheVariants as fault
-use Rattle.scr_sheet.specs.Causes.{fault_of_build}
+use Rattle.scr_sheet.specs.Causes.{LacksTables}
 use Rattle.std.specs.Result.{result_map_both}
-use Rattle.scr_sheet.specs.Check.{expected_lines, fault_of_check, rounds_in, InputComesTo, ReadsInput, ReadsListAlone, EndsChecking, tested_events, TakesList, ReadsListPart, TakesInput, EndsReading}
+use Rattle.scr_sheet.specs.Check.{expected_lines, fault_of_check, rounds_in, InputComesTo, ReadsInput, EndsChecking, tested_events, TakesList, ReadsListPart, TakesInput, EndsReading}
 use Rattle.scr_sheet.proofs.RunLaws.{each_asked}
 
 -- what a check found, as the end of a run
@@ -86,11 +87,10 @@ module _ {S : Type 0} (left : S → Option (List ℕ)) (faults ends : S → ℕ)
   refused-list settings before after (list.Line number cause) taken = takes-refusal settings (list.Line number cause) taken
 
   -- tables that could not be built
-  pub lacks-tests : (settings : Settings) (before after : Reading S) (rounds : List Round) (why : BuildFault)
-      → ReadsListPart left faults ends before after (Ok rounds) → IsBuildCause (tested_events rounds) why
-      → EndsReading left faults ends before after settings (Err (fault_of_build why))
-  lacks-tests settings before after rounds why taken cause =
-      inr (inl (rounds, taken, (why, cause, refl)))
+  pub lacks-tests : (settings : Settings) (before after : Reading S) (rounds : List Round) (answer : Result (Unit {0}) Fault)
+      → ReadsListPart left faults ends before after (Ok rounds) → length after.ahead ≤ 4096 → LacksTables (tested_events rounds) answer
+      → EndsReading left faults ends before after settings answer
+  lacks-tests settings before after rounds answer taken few lacks = inr (inl (rounds, taken, few, lacks))
 
   -- what may follow both of two takings follows the first with the second
   both-follow : {b c : Reading S} {ys : List ℕ} → Takes left faults ends b c ys → (rest : List ℕ)
@@ -139,6 +139,19 @@ module _ {S : Type 0} (left : S → Option (List ℕ)) (faults ends : S → ℕ)
         },
       ))
 
+  -- what a check ends with that is handed the rounds and their tables, or why they were not got
+  pub holds-tests : (settings : Settings) (a b c : Reading S) (tests : Result Tests Fault) (out : Change) (ended : Result (Unit {0}) Fault)
+      → ReadsTests left faults ends a b tests → EndsHolding left faults ends b c settings tests out ended
+      → (answer : Result (Unit {0}) Fault) × EndsReading left faults ends a c settings answer × EndsTelling answer (codes "agrees\n") out ended
+  holds-tests settings a b c (Ok tests) out ended read (found, checked, told) =
+      (end_of_check found, checked-sheet settings a b c tests.rounds.items found read checked, told)
+  holds-tests settings a b c (Err why) out ended (inl (refusal, listed, is)) (same, stops) =
+      let Ends : Fault → Reading S → Type 0 = λ f after. EndsReading left faults ends a after settings (Err f) in
+      (Err why, subst (Ends why) (sym same) (subst (λ f. Ends f b) (sym is) (refused-list settings a b refusal listed)), stops)
+  holds-tests settings a b c (Err why) out ended (inr (rounds, listed, few, lacks)) (same, stops) =
+      let Ends : Reading S → Type 0 = λ after. EndsReading left faults ends a after settings (Err why) in
+      (Err why, subst Ends (sym same) (lacks-tests settings a b rounds (Err why) listed few lacks), stops)
+
   -- ---- by the source of a new reader
 
   -- what was taken, and what was read ahead, the source gave
@@ -158,24 +171,19 @@ module _ {S : Type 0} (left : S → Option (List ℕ)) (faults ends : S → ℕ)
         (taken.tells (after.ahead ++ rest) (λ ended. ap (λ x. x ++ rest) (end taken.bytes taken.takes ended).1 ∙ follows ended));
   }
 
-  -- where no more was taken than the list part, this is so of the source
+  -- where no more was taken than the list part, and few bytes were read ahead, few of the sheet part were read
   reads-list : (source : S) (after : Reading S) {named : List Round}
       → ((bytes : List ℕ) → Takes left faults ends (fresh source) after bytes → Gives (intake_of left faults ends source after.source) (bytes ++ after.ahead))
       → ((bytes : List ℕ) → Takes left faults ends (fresh source) after bytes → after.ended ≡ true → TellsEnd (intake_of left faults ends source after.source) × (after.ahead ≡ []))
-      → TakesList left faults ends (fresh source) after (Ok named)
-      → ReadsListAlone (intake_of left faults ends source after.source) named
+      → TakesList left faults ends (fresh source) after (Ok named) → length after.ahead ≤ 4096
+      → (read : ReadsInput (intake_of left faults ends source after.source) (λ input. rounds_in input ≡ Ok named))
+      × (length (sheet_part read.bytes) ≤ 4096)
   unfolding reads-taken takes-rounds
-  reads-list source after {named} gives end taken =
+  reads-list source after {named} gives end taken few =
       let bytes = taken.takes.bytes in
-      let nothing : after.ended ≡ true → after.ahead ≡ [] = λ ended. (end bytes taken.takes.takes ended).1 in record {
-        reads = reads-taken source after gives end (takes-rounds taken);
-        ahead = after.ahead;
-        behind = λ rest follows.
-            ap sheet_part (append_assoc bytes after.ahead rest)
-            ∙ (taken.takes.split (after.ahead ++ rest) (λ ended. ap (λ x. x ++ rest) (nothing ended) ∙ follows ended)).sheet_is
-            (listed-short taken.list named taken.says);
-        no_end = nothing;
-      }
+      let nothing : after.ended ≡ true → after.ahead ≡ [] = λ ended. (end bytes taken.takes.takes ended).1 in
+      let sheet = (taken.takes.split after.ahead nothing).sheet_is (listed-short taken.list named taken.says) in
+      (reads-taken source after gives end (takes-rounds taken), subst (λ s. length s ≤ 4096) (sym sheet) few)
 
   pub ends-reading : (settings : Settings) (source : S) (after : Reading S) (answer : Result (Unit {0}) Fault)
       → ((bytes : List ℕ) → Takes left faults ends (fresh source) after bytes → Gives (intake_of left faults ends source after.source) (bytes ++ after.ahead))
@@ -185,7 +193,7 @@ module _ {S : Type 0} (left : S → Option (List ℕ)) (faults ends : S → ℕ)
       → EndsChecking settings (intake_of left faults ends source after.source) answer
   ends-reading settings source after answer gives end gave (inl taken) = inl (reads-taken source after gives end taken)
   ends-reading settings source after answer gives end gave (inr (inl lacks)) =
-      inr (inl (lacks.0, reads-list source after gives end lacks.1, lacks.2))
+      let read = reads-list source after gives end lacks.1 lacks.2 in inr (inl (lacks.0, read.0, read.1, lacks.3))
   ends-reading settings source after answer gives end gave (inr (inr (is, stops))) = inr (inr (
     is,
     record {

@@ -48,7 +48,7 @@ parts-output : (settings : Settings) (k : ℕ) (parts : List Part) (out : Change
 parts-output settings k parts out (Ok u) ends rose = absurd (gained ends.is rose)
 parts-output settings k parts out (Err (fault.Usage usage)) ends rose = absurd ends
 parts-output settings k parts out (Err (fault.List list)) ends rose = absurd ends
-parts-output settings k parts out (Err (fault.DrawLimit number slot words)) ends rose = absurd (gained ends.is rose)
+parts-output settings k parts out (Err (fault.DrawLimit missing)) ends rose = absurd (gained ends.is rose)
 parts-output settings k parts out (Err fault.Write) ends rose = refl
 parts-output settings k parts out (Err fault.NoMemory) ends rose = absurd ends
 parts-output settings k parts out (Err (fault.Gap table index)) ends rose = absurd ends

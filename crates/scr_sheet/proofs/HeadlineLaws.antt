@@ -131,7 +131,7 @@ fair-parts settings k parts out (Err (fault.Usage usage)) fair ends = absurd end
 fair-parts settings k parts out (Err (fault.List list)) fair ends = absurd ends
 fair-parts settings k parts out (Err (fault.Gap table index)) fair ends = absurd ends
 fair-parts settings k parts out (Err (fault.Differs line)) fair ends = absurd ends
-fair-parts settings k parts out (Err (fault.DrawLimit number slot words)) fair ends =
+fair-parts settings k parts out (Err (fault.DrawLimit missing)) fair ends =
     fair-led settings parts out (Gains out) _ fair (λ text. inl) ends
 fair-parts settings k parts out (Err fault.Write) fair ends =
     fair-led settings parts out (Falters out) _ fair (λ text. inr) ends

@@ -1,5 +1,6 @@
 pub mod PartLaws
 pub mod LoadRounds
+pub mod ReadyLaws
 pub mod RoomLaws
 pub mod RunLaws
 pub mod SlotOrder

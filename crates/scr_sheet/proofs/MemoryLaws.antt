@@ -1,9 +1,10 @@
 -- What runs show that end for want of memory.
-use Rattle.std.proofs.Common.{◌≡◌, ℕ, List, [], ◌∷◌, ◌++◌, Ok, Err, inl, inr, refl, sym, subst}
+use Rattle.std.proofs.Common.{◌≡◌, ◌⊎◌, ◌≤◌, ℕ, List, [], ◌∷◌, ◌++◌, Ok, Err, inl, inr, refl, sym, subst}
 use Rattle.std.specs.Prelude.{Result, None, codes, length, sum, sum_by}
 use Rattle.scr_round.specs.Round.{slots_of}
 use Rattle.scr_sheet.specs.Load.{load_rounds, load_text}
-use Rattle.scr_outside.specs.Change.{Change}
+use Rattle.scr_outside.specs.Change.{Change, IsUnchanged}
+use Rattle.scr_check.specs.Parts.{sheet_part}
 use Rattle.scr_words.specs.declared.seed.Seed.{Seed}
 use Rattle.scr_check.specs.declared.fault.CheckFault.TheVariants as check
 use Rattle.scr_list.specs.declared.fault.ListFault.{ListFault}
@@ -17,7 +18,7 @@ use Rattle.scr_slots.specs.declared.settings.Settings.{Settings}
 use Rattle.scr_sheet.specs.declared.fault.Fault.{Fault}
 use Rattle.scr_sheet.specs.declared.fault.Fault.TheVariants as fault
 use Rattle.scr_sheet.specs.declared.status.Status.TheVariants as status
-use Rattle.scr_sheet.specs.Check.{InputComesTo, EndsChecking, check_settings}
+use Rattle.scr_sheet.specs.Check.{InputComesTo, ReadsInput, EndsChecking, check_settings, rounds_in}
 use Rattle.scr_sheet.specs.Sheet.{Part, settings_of, single_part, round_parts}
 use Rattle.scr_sheet.specs.Outcome.{Ends, EndsMaking, EndsTelling, IsRun, IsUnwritten, TakesMemory}
 use Rattle.scr_sheet.specs.Task.{with_seed}
@@ -51,6 +52,33 @@ checking-alike settings others source (inl reads) =
     absurd (comes-otherwise settings _ (reads.bytes ++ []) (reads.tells [] (λ ended. refl)))
 checking-alike settings others source (inr (inl lacks)) = inr (inl lacks)
 checking-alike settings others source (inr (inr unread)) = let same = unread.0 in cc
+
+-- of the sheet part it had read few bytes
+abbrev ReadsFew : Change → Type 0
+ReadsFew source =
+    (named : List Round) × (read : ReadsInput source (λ input. rounds_in input ≡ Ok named)) × (length (sheet_part read.bytes) ≤ 4096)
+
+checking-few : (settings : Settings) (source : Change) → EndsChecking settings source wanting → ReadsFew source
+checking-few settings source (inl reads) =
+    absurd (comes-otherwise settings _ (reads.bytes ++ []) (reads.tells [] (λ ended. refl)))
+checking-few settings source (inr (inl lacks)) = (lacks.0, lacks.1, lacks.2)
+checking-few settings source (inr (inr unread)) = let same = unread.0 in cc
+
+pub memory-few : (words : List (List ℕ)) (seed : Seed) (attempts : ℕ) (source out err : Change)
+    → command_of words ≡ Ok (Check seed attempts) → IsRun words status.NoMemory source out err → IsUnchanged source ⊎ ReadsFew source
+memory-few words seed attempts source out err asks run =
+    let wants : run.ended ≡ wanting = end-of status.NoMemory run.ended (sym run.answer) in
+    elim run.performed.ends [
+      | inl ends ↦
+          let here = subst (λ asked. Ends asked source out run.ended) asks ends in
+          inr (few (subst (Ends (Ok (Check seed attempts)) source out) wants here))
+      | inr none ↦ inl none.0
+    ]
+  where
+    few : Ends (Ok (Check seed attempts)) source out wanting → ReadsFew source
+    few (answer, checked, told) =
+        let same : answer ≡ wanting = told-fault answer (codes "agrees\n") out fault.NoMemory (λ is. cc) told in
+        checking-few (check_settings seed attempts) source (subst (EndsChecking (check_settings seed attempts) source) same checked)
 
 -- a command with another seed
 ends-alike : (seed : Seed) (command : Command) (source out : Change) → Ends (Ok command) source out wanting

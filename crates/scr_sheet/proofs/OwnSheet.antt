@@ -7,7 +7,7 @@ use Rattle.std.proofs.lemmas.List.Elements.{All-head, All-tail}
 use Rattle.std.proofs.lemmas.Option.{same_Some, slice_get_within}
 use Rattle.std.proofs.lemmas.Slice.Eq.{bytes_eq-Decides}
 use Rattle.scr_check.specs.declared.fault.Missing.{Missing}
-use Rattle.scr_check.specs.Agreement.{ExpectedLines, IsExpected, IsInOrder, LineAgrees, line_at}
+use Rattle.scr_check.specs.Agreement.{ExpectedLines, IsExpected, IsInOrder, LineAgrees}
 use Rattle.scr_check.specs.Lines.{CutLine, cut_lines, IsPlain}
 use Rattle.scr_check.specs.Parts.{sheet_part, list_part, list_room}
 use Rattle.scr_check.proofs.CutLemmas.{cut-none, cut-ended}
@@ -22,7 +22,6 @@ use Rattle.scr_list.specs.declared.round.Round.{Round}
 use Rattle.scr_list.specs.Rounds.{IsRound, rounds_of}
 use Rattle.scr_list.specs.Versions.{version_1, version_2, version_of, begins_with_version_line}
 use Rattle.scr_list.proofs.RoundLemmas.{TellsLength, rounds_of-TellsLength}
-use Rattle.scr_list.specs.RoundLists.{IsRounds}
 use Rattle.scr_command.specs.declared.options.Options.{Options}
 use Rattle.scr_round.specs.Round.{Line, Fixed, Slot, slots_of, round_lines, line_text}
 use Rattle.scr_round.specs.Made.{turns_of_each}

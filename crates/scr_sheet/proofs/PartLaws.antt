@@ -1,11 +1,12 @@
 -- Parts made and written one after another.
 use Rattle.std.proofs.Math.Seq.{take-append_seam}
 use Rattle.std.proofs.lemmas.List.{length-map, map-append, take-append-drop, length-take-le}
-use Rattle.std.proofs.Common.{◌≡◌, ℕ, suc, ◌+◌, ◌<◌, List, [], ◌∷◌, ◌++◌, length, map, take, drop, get_or, Ok, Err, refl, sym, ap, subst, ◌∙◌, append_assoc, append-nil, length-append, drop-cons, add-one, arith}
+use Rattle.std.proofs.Common.{◌≡◌, ℕ, suc, ◌+◌, ◌*◌, ◌<◌, List, [], ◌∷◌, ◌++◌, length, map, take, drop, get_or, Ok, Err, refl, sym, ap, subst, ◌∙◌, append_assoc, append-nil, length-append, drop-cons, add-one, arith}
 use Rattle.std.specs.Prelude.{Option, Some, None, IsSomeAnd, Result, MatchResult, slice_index_or}
 use Rattle.scr_notation.specs.Written.{Written}
 use Rattle.scr_outside.specs.Change.{Change, Gains, Falters}
 use Rattle.scr_outside.proofs.ChangeLemmas.{from_to, Gains-nothing, Gains-append, Falters-after}
+use Rattle.scr_check.specs.declared.fault.Missing.{Missing}
 use Rattle.scr_list.specs.declared.round.Round.{Round}
 use Rattle.scr_slots.specs.declared.settings.Settings.{Settings}
 use Rattle.scr_slots.specs.Slots.{Scrambling, IsSlotAnswer, IsSlotScramble, HasNoScramble}
@@ -13,9 +14,9 @@ use Rattle.scr_slots.specs.Events.{scrambling_of}
 use Rattle.scr_sheet.specs.declared.fault.Fault.{Fault}
 use Rattle.scr_sheet.specs.declared.fault.Fault.TheVariants as fault
 use Rattle.scr_round.specs.Round.{round_text}
-use Rattle.scr_round.specs.Made.{Made, turns_of_each}
+use Rattle.scr_round.specs.Made.{turns_of_each}
 use Rattle.scr_workers.specs.Answered.{AreAnswered}
-use Rattle.scr_sheet.specs.Making.{answer_at, AreAnswers, IsFirstNone, IsLimit, IsRoundMade}
+use Rattle.scr_sheet.specs.Making.{answer_at, AreAnswers, IsFirstNone}
 use Rattle.scr_sheet.specs.Sheet.{IsFirstWithout, Part, round_part, round_parts, EachSlot, AreScrambles, IsPartText, IsText}
 use Rattle.scr_sheet.specs.Outcome.{IsUnwritten, IsLed, IsStopped, EndsParts}
 
@@ -251,10 +252,12 @@ IsLed-behind {settings} {k = k} {Leaves' = Leaves'} rest made so leaving ends =
     }
 
 -- a slot without a scramble, of the first of some parts, with others behind them
-IsStopped-before : (settings : Settings) (number slot words k k' : ℕ) (left rest : List Part) → k ≡ k'
-    → IsStopped settings number slot words k left → IsStopped settings number slot words k' (left ++ rest)
-IsStopped-before settings number slot words k k' [] rest same stopped = absurd stopped
-IsStopped-before settings number slot words k k' (failing ∷ left) rest same stopped = (stopped.0 ∙ ap (λ n. n + 1) same, stopped.1, stopped.2)
+IsStopped-before : (settings : Settings) (missing : Missing) (k k' : ℕ) (left rest : List Part) → k ≡ k'
+    → IsStopped settings missing k left → IsStopped settings missing k' (left ++ rest)
+IsStopped-before settings missing k k' [] rest same stopped = absurd stopped
+IsStopped-before settings missing k k' (failing ∷ left) rest same (j, told, first) =
+    let Told : ℕ → Type 0 = λ n. missing ≡ record { round = n + 1; slot = j + 1; words = 3 * settings.attempts } in
+    (j, subst Told same told, first)
 
 -- a part that ends the command
 pub made-fault : {settings : Settings} {parts rest : List Part} {part : Part} {k : ℕ} {held held' : Option (List ℕ)}
@@ -265,9 +268,9 @@ made-fault held'' faults'' (fault.Usage usage) made ends = absurd ends
 made-fault held'' faults'' (fault.List list) made ends = absurd ends
 made-fault held'' faults'' (fault.Gap table index) made ends = absurd ends
 made-fault held'' faults'' (fault.Differs line) made ends = absurd ends
-made-fault {settings = settings} {rest = rest} {k = k} held'' faults'' (fault.DrawLimit number slot words) made ends =
+made-fault {settings = settings} {rest = rest} {k = k} held'' faults'' (fault.DrawLimit missing) made ends =
     IsLed-behind rest made (λ text. Gains-append made.gained)
-    (λ led left. IsStopped-before settings number slot words (k + led) (0 + (k + led)) left rest (omega arith)) ends
+    (λ led left. IsStopped-before settings missing (k + led) (0 + (k + led)) left rest (omega arith)) ends
 made-fault {rest = rest} held'' faults'' fault.Write made ends =
     IsLed-behind rest made (λ text. Falters-after made.gained) (λ led left u. tt) ends
 made-fault held'' faults'' fault.NoMemory made ends = absurd ends
@@ -321,10 +324,12 @@ IsLed-none {parts = parts} leaves unwritten = record {
 }
 
 -- a part that stands alone has a slot without a scramble
-pub first-stopped : {settings : Settings} {part : Part} {words : ℕ} {out : Change} (k j : ℕ)
-    → IsLimit settings part j words → IsUnwritten out
-    → EndsParts settings k (part ∷ []) out (Err (fault.DrawLimit (k + 1) (j + 1) words))
-first-stopped k j limit = IsLed-none (omega arith, limit.taken, (j, refl, limit.first))
+pub first-stopped : {settings : Settings} {part : Part} {out : Change} (k : ℕ) (missing : Missing)
+    → IsStopped settings missing k (part ∷ []) → IsUnwritten out
+    → EndsParts settings k (part ∷ []) out (Err (fault.DrawLimit missing))
+first-stopped {settings} {part} k missing stopped =
+    let here : k ≡ k + 0 = omega arith in
+    IsLed-none (IsStopped-before settings missing k (k + 0) (part ∷ []) [] here stopped)
 
 -- a part that stands alone was written in part
 pub first-broken : {settings : Settings} {part : Part} {text : List ℕ} {out : Change} → IsPartText settings part text

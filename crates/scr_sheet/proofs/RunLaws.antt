@@ -6,6 +6,7 @@ use Rattle.std.proofs.Math.ListN.{get_or-map}
 use Rattle.std.proofs.Common.{◌≡◌, ◌⊎◌, ℕ, zero, suc, ◌+◌, ◌≤◌, ◌<◌, Bool, List, [], ◌∷◌, ◌++◌, length, Ok, Err, inl, inr, refl, sym, ap, subst, ◌∙◌, arith, All}
 use Rattle.std.specs.Prelude.{Result, Some, None, Contains, map, ◌↔◌}
 use Rattle.scr_outside.specs.Change.{Change}
+use Rattle.scr_check.specs.declared.fault.Missing.{Missing}
 use Rattle.scr_outside.specs.Faults.{Rose}
 use Rattle.scr_notation.specs.declared.event.Event.{Event}
 use Rattle.scr_notation.specs.Event.{greatest_of}
@@ -119,10 +120,10 @@ IsText-apart settings [] part rest text j decided is lacks = IsPartText-apart se
 IsText-apart settings (other ∷ led) part rest text j decided is lacks = IsText-apart settings led part rest is.1 j (All-tail IsDecided other (led ++ part ∷ rest) decided) is.3 lacks
 
 -- where one of them has none
-LacksScramble-stopped : (settings : Settings) (parts : List Part) (number slot words k : ℕ) (led rest : List Part)
-    → parts ≡ led ++ rest → IsStopped settings number slot words k rest → LacksScramble settings parts
-LacksScramble-stopped settings parts number slot words k led [] are stopped = absurd stopped
-LacksScramble-stopped settings parts number slot words k led (failing ∷ rest) are (numbered, taken, (j, place, first)) =
+LacksScramble-stopped : (settings : Settings) (parts : List Part) (missing : Missing) (k : ℕ) (led rest : List Part)
+    → parts ≡ led ++ rest → IsStopped settings missing k rest → LacksScramble settings parts
+LacksScramble-stopped settings parts missing k led [] are stopped = absurd stopped
+LacksScramble-stopped settings parts missing k led (failing ∷ rest) are (j, told, first) =
     record { led = led; part = failing; rest = rest; are = are; slot = j; first = first }
 
 -- parts whose slots all have scrambles, where the output doesn't fail
@@ -132,8 +133,8 @@ EndsParts-done : (settings : Settings) (parts : List Part) (out : Change) (ended
 EndsParts-done settings parts out (Ok u) ends written each = inl refl
 EndsParts-done settings parts out (Err (fault.Usage usage)) ends written each = absurd ends
 EndsParts-done settings parts out (Err (fault.List list)) ends written each = absurd ends
-EndsParts-done settings parts out (Err (fault.DrawLimit number slot words)) ends written each =
-    absurd (each (LacksScramble-stopped settings parts number slot words (0 + length ends.led) ends.led ends.rest ends.are ends.leaves))
+EndsParts-done settings parts out (Err (fault.DrawLimit missing)) ends written each =
+    absurd (each (LacksScramble-stopped settings parts missing (0 + length ends.led) ends.led ends.rest ends.are ends.leaves))
 EndsParts-done settings parts out (Err fault.Write) ends written each = absurd (written ends.is.rose)
 EndsParts-done settings parts out (Err fault.NoMemory) ends written each = absurd ends
 EndsParts-done settings parts out (Err (fault.Gap table index)) ends written each = absurd ends
@@ -149,7 +150,7 @@ EndsParts-limit settings parts out (Ok u) ends written decided lacks =
     (subst (λ p. IsText (IsPartText settings) p done.text) lacks.are done.all) lacks.first)
 EndsParts-limit settings parts out (Err (fault.Usage usage)) ends written decided lacks = absurd ends
 EndsParts-limit settings parts out (Err (fault.List list)) ends written decided lacks = absurd ends
-EndsParts-limit settings parts out (Err (fault.DrawLimit number slot words)) ends written decided lacks = inl refl
+EndsParts-limit settings parts out (Err (fault.DrawLimit missing)) ends written decided lacks = inl refl
 EndsParts-limit settings parts out (Err fault.Write) ends written decided lacks = absurd (written ends.is.rose)
 EndsParts-limit settings parts out (Err fault.NoMemory) ends written decided lacks = absurd ends
 EndsParts-limit settings parts out (Err (fault.Gap table index)) ends written decided lacks = absurd ends

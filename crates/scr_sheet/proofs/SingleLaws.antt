@@ -4,6 +4,7 @@ use Rattle.std.specs.Prelude.{Result, Option}
 use Rattle.std.proofs.lemmas.List.Elements.{All-nil, All-cons}
 use Rattle.scr_outside.specs.Change.{Change, Gains, Falters, Writes}
 use Rattle.scr_outside.proofs.ChangeLemmas.{from_to, Gains-append, Falters-after}
+use Rattle.scr_check.specs.declared.fault.Missing.{Missing}
 use Rattle.scr_notation.specs.declared.event.Event.{Event}
 use Rattle.scr_notation.specs.declared.turn.Turn.{Turn}
 use Rattle.scr_notation.specs.Written.{Written}
@@ -48,14 +49,15 @@ module _ {settings : Settings} {event : Event} (side : Option ℕ) where
       first-broken (written scramble slot) falters
 
   -- there is none
-  pub single-limit : {out : Change} (words : ℕ) → HasNoScramble (scrambling_of event) settings 0 0
-      → words ≡ 3 * settings.attempts → IsUnwritten out
-      → EndsParts settings 0 (single_part event side ∷ []) out (Err (fault.DrawLimit 1 1 words))
-  single-limit words none taken unwritten =
-      first-stopped 0 0 (record {
-        first = record { below = omega arith; nothing = none; before = []; all_before = record { each_slot = refl; each = tt } };
-        taken = taken;
-      }) unwritten
+  pub single-limit : {out : Change} (missing : Missing) → HasNoScramble (scrambling_of event) settings 0 0
+      → missing ≡ record { round = 1; slot = 1; words = 3 * settings.attempts } → IsUnwritten out
+      → EndsParts settings 0 (single_part event side ∷ []) out (Err (fault.DrawLimit missing))
+  single-limit missing none told =
+      first-stopped 0 missing (
+        0,
+        told,
+        record { below = omega arith; nothing = none; before = []; all_before = record { each_slot = refl; each = tt } },
+      )
 
 -- the one part is drawn fairly, however it ends
 pub single-making : (settings : Settings) (event : Event) (side : Option ℕ) {out : Change} {ended : Result (Unit {0}) Fault}

@@ -3,14 +3,15 @@ use Rattle.std.proofs.Common.{◌≡◌, ℕ, ◌+◌, ◌<◌, List, [], ◌∷
 use Rattle.std.proofs.lemmas.List.Sums.{sum_by-append}
 use Rattle.std.specs.Prelude.{Some}
 use Rattle.scr_outside.proofs.ChangeLemmas.{from_to, Gains-nothing}
+use Rattle.scr_check.specs.declared.fault.Missing.{Missing}
 use Rattle.scr_list.specs.declared.round.Round.{Round}
 use Rattle.scr_slots.specs.declared.settings.Settings.{Settings}
-use Rattle.scr_sheet.specs.declared.fault.Fault.{Fault}
+use Rattle.scr_sheet.specs.declared.fault.Fault.TheVariants as fault
 use Rattle.scr_sheet.specs.declared.load.Size.{Size}
 use Rattle.scr_sheet.specs.Sheet.{Part, IsPartText, round_part, round_parts}
-use Rattle.scr_sheet.specs.Outcome.{EndsUnmade, gaining}
+use Rattle.scr_sheet.specs.Outcome.{IsStopped, gaining}
 use Rattle.scr_sheet.specs.Sizes.{IsSizeOf, IsPartSize, SizesParts}
-use Rattle.scr_sheet.proofs.PartLaws.{IsDone, done-whole, IsMadeUpTo, IsText-one, made-none, made-all, round-more, round-fault}
+use Rattle.scr_sheet.proofs.PartLaws.{IsDone, done-whole, IsMadeUpTo, IsText-one, made-none, made-all, round-more, round-fault, first-stopped}
 
 -- two sizes together
 abbrev pub with_more : Size → Size → Size
@@ -59,14 +60,14 @@ sized-more {settings} {size} {more} rounds i round is there sized part =
 
 -- a round that was not made
 pub sized-fault : {settings : Settings} {size : Size} (rounds : List Round) (i : ℕ) (round : Round)
-    → round ≡ get_or rounds i round → (fault : Fault) → i < length rounds
+    → round ≡ get_or rounds i round → (missing : Missing) → i < length rounds
     → IsSizedUpTo settings (round_parts 0 rounds) (round_parts i (drop i rounds)) i size
-    → EndsUnmade settings i (round_part i round) fault → SizesParts settings (round_parts 0 rounds) (Err fault)
-sized-fault rounds i round is fault there sized ends = record {
+    → IsStopped settings missing i (round_part i round ∷ []) → SizesParts settings (round_parts 0 rounds) (Err missing)
+sized-fault rounds i round is missing there sized stopped = record {
   sheet = sized.sheet;
   ends =
-      round-fault rounds i round is (Some sized.sheet) 0 fault there sized.made
-      (ends (from_to (Some sized.sheet) 0 (Some sized.sheet) 0) Gains-nothing);
+      round-fault rounds i round is (Some sized.sheet) 0 (fault.DrawLimit missing) there sized.made
+      (first-stopped i missing stopped Gains-nothing);
   amounts = tt;
 }
 

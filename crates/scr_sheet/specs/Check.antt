@@ -1,6 +1,6 @@
 -- How a sheet is checked: the input is a round list and, behind the line `=====`, a sheet, which is held against the
 -- lines that the sheet of these rounds has.
-use Rattle.std.specs.Prelude.{◌≡◌, ◌↔◌, ◌⊎◌, ◌+◌, ◌*◌, ◌-◌, ℕ, Bool, true, false, IsTrue, List, [], ◌∷◌, ◌++◌, length, map, take, filter, slice_get}
+use Rattle.std.specs.Prelude.{◌≡◌, ◌↔◌, ◌⊎◌, ◌+◌, ◌*◌, ◌-◌, ◌≤◌, ℕ, Bool, true, false, IsTrue, List, [], ◌∷◌, ◌++◌, length, map, take, filter, slice_get}
 use Rattle.std.specs.Prelude.{Option, Some, None, Result, Ok, Err}
 use Rattle.std.specs.Result.{result_map_both}
 use Rattle.std.specs.Str.{bytes_eq}
@@ -85,7 +85,7 @@ rounds_in input = rounds_of (take list_room (list_part input))
 -- what a check found, as a fault of the run
 abbrev pub fault_of_check : CheckFault → Fault
 fault_of_check (check.Differs line) = fault.Differs line
-fault_of_check (check.Limit missing) = fault.DrawLimit missing.round missing.slot missing.words
+fault_of_check (check.Limit missing) = fault.DrawLimit missing
 fault_of_check check.Read = fault.List list.Read
 
 -- The list part is no list; or its rounds are these, and the sheet part was held against their lines.
@@ -109,24 +109,15 @@ pub record ReadsInput (source : Change) (Tells : List ℕ → Type 0) : Type 0 w
   pub no_end : ended ≡ false → source.ends_after ≡ source.ends_before
   pub tells : (rest : List ℕ) → CanFollow ended rest → Tells (bytes ++ rest)
 
--- Of an input the list part was read, which names these rounds. Nothing was taken of the sheet part, but what a reader
--- had read ahead, before it met the end.
-pub record ReadsListAlone (source : Change) (named : List Round) : Type 0 where
-  pub reads : ReadsInput source (λ input. rounds_in input ≡ Ok named)
-  pub ahead : List ℕ
-  pub behind : (rest : List ℕ) → CanFollow reads.ended rest → sheet_part (reads.bytes ++ rest) ≡ ahead ++ rest
-  pub no_end : reads.ended ≡ true → ahead ≡ []
-
--- What the check of an input ends with, by what was read of it: what the input comes to; that the tables could not be
--- built by which the states of its rounds are tested, once its list part was read; or that it could not be read.
-abbrev pub EndsBy : ((List ℕ → Type 0) → Type 0) → (List Round → Type 0) → Type 0 → Settings → Result (Unit {0}) Fault → Type 0
-EndsBy Reads ReadsList Stops settings answer =
-    Reads (λ input. InputComesTo settings (rounds_in input) input answer)
-    ⊎ (((named : List Round) × ReadsList named × LacksTables (tested_events named) answer)
-    ⊎ ((answer ≡ Err (fault.List list.Read)) × Stops))
-
+-- What the check of an input ends with, by what was read of it. That is what the input comes to. Or the tables could not
+-- be built by which the states of its rounds are tested: then its list part was read, which names these rounds, and of
+-- its sheet part 4,096 bytes at most. Or it could not be read.
 abbrev pub EndsChecking : Settings → Change → Result (Unit {0}) Fault → Type 0
-EndsChecking settings source = EndsBy (ReadsInput source) (ReadsListAlone source) (ReadsInPart source length) settings
+EndsChecking settings source answer =
+    ReadsInput source (λ input. InputComesTo settings (rounds_in input) input answer)
+    ⊎ (((named : List Round) × (read : ReadsInput source (λ input. rounds_in input ≡ Ok named))
+    × (length (sheet_part read.bytes) ≤ 4096) × LacksTables (tested_events named) answer)
+    ⊎ ((answer ≡ Err (fault.List list.Read)) × ReadsInPart source length))
 
 -- a check is made with a seed and so many attempts a slot; no scramble is looked for
 abbrev pub check_settings : Seed → ℕ → Settings
@@ -167,7 +158,11 @@ module _ {S : Type 0} (left : S → Option (List ℕ)) (faults ends : S → ℕ)
     pub takes : Takes left faults ends before after bytes
     pub tells : (rest : List ℕ) → CanFollow after.ended rest → Tells (bytes ++ rest)
 
-  -- what a check ends with whose input is what a reader has still to give
+  -- What a check ends with whose input is what a reader has still to give. Where the tables could not be built, no more
+  -- than the list part was taken, and 4,096 bytes at most were read ahead.
   abbrev pub EndsReading : Reading S → Reading S → Settings → Result (Unit {0}) Fault → Type 0
-  EndsReading before after =
-      EndsBy (TakesInput before after) (λ named. TakesList before after (Ok named)) (StopsInPart left faults ends before after)
+  EndsReading before after settings answer =
+      TakesInput before after (λ input. InputComesTo settings (rounds_in input) input answer)
+      ⊎ (((named : List Round) × TakesList before after (Ok named) × (length after.ahead ≤ 4096)
+      × LacksTables (tested_events named) answer)
+      ⊎ ((answer ≡ Err (fault.List list.Read)) × StopsInPart left faults ends before after))

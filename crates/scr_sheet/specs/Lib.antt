@@ -7,6 +7,7 @@ pub mod Load
 pub mod Making
 pub mod Message
 pub mod Outcome
+pub mod Ready
 pub mod Room
 pub mod Sizes
 pub mod Status

@@ -45,9 +45,9 @@ list_text (list.Line number cause) = codes "line " ++ decimal number ++ codes ":
 abbrev pub fault_text : Fault → List ℕ
 fault_text (fault.Usage usage) = usage_text usage
 fault_text (fault.List list) = list_text list
-fault_text (fault.DrawLimit round slot words) =
-    codes "round " ++ decimal round ++ codes " slot " ++ decimal slot ++ codes ": no permitted state in "
-    ++ decimal words ++ codes " words"
+fault_text (fault.DrawLimit missing) =
+    codes "round " ++ decimal missing.round ++ codes " slot " ++ decimal missing.slot ++ codes ": no permitted state in "
+    ++ decimal missing.words ++ codes " words"
 fault_text fault.Write = codes "output could not be written"
 fault_text fault.NoMemory = codes "out of memory"
 fault_text (fault.Gap table index) = codes "table " ++ name_text table ++ codes " has a gap at " ++ decimal index

@@ -1,6 +1,7 @@
 -- How a run may end.
-use Rattle.std.specs.Prelude.{◌≡◌, ◌<◌, ◌+◌, ◌*◌, ◌⊎◌, ℕ, List, [], ◌∷◌, ◌++◌, length, map, sum, sum_by, codes, All, Some, None, Result, Ok, Err}
+use Rattle.std.specs.Prelude.{◌≡◌, ◌+◌, ◌*◌, ◌⊎◌, ℕ, List, [], ◌∷◌, ◌++◌, length, map, sum, sum_by, codes, All, Some, None, Result, Ok, Err}
 use Rattle.scr_outside.specs.Change.{Change, change_of, IsUnchanged, Gains, Falters}
+use Rattle.scr_check.specs.declared.fault.Missing.{Missing}
 use Rattle.scr_list.specs.Reading.{ReadsList, ReadsNoList}
 use Rattle.scr_notation.specs.declared.event.Event.{Event}
 use Rattle.scr_notation.specs.Event.{net_side_of}
@@ -44,26 +45,22 @@ pub record IsLed (settings : Settings) (parts : List Part) (Is : List ℕ → Ty
   pub is : Is text
   pub leaves : Leaves (length led) rest
 
--- The first of these parts, which is part k, has a slot without a scramble, whose attempts took so many words. It and
--- the slot are told by their numbers, from 1.
-abbrev pub IsStopped : Settings → ℕ → ℕ → ℕ → ℕ → List Part → Type 0
-IsStopped settings number slot words k [] = ⊥
-IsStopped settings number slot words k (failing ∷ rest) =
-    (number ≡ k + 1) × (words ≡ 3 * settings.attempts) × ((j : ℕ) × (slot ≡ j + 1) × IsFirstWithout settings failing j)
+-- The first of these parts, which is part k, has a slot without a scramble, and this is told of it: the part's number
+-- and the slot's, from 1, and how many words its attempts took.
+abbrev pub IsStopped : Settings → Missing → ℕ → List Part → Type 0
+IsStopped settings missing k [] = ⊥
+IsStopped settings missing k (failing ∷ rest) =
+    (j : ℕ) × (missing ≡ record { round = k + 1; slot = j + 1; words = 3 * settings.attempts }) × IsFirstWithout settings failing j
 
 -- How the parts end that are made and written one after another. All were written. Or a slot has no scramble: those
 -- before its part were written. Or the output failed: a first part was written of the text of some leading parts. Memory
 -- is never wanting here: it was taken before, by what saw no seed.
 abbrev pub EndsParts : Settings → ℕ → List Part → Change → Result (Unit {0}) Fault → Type 0
 EndsParts settings k parts out (Ok _) = IsLed settings parts (Gains out) (λ led rest. rest ≡ [])
-EndsParts settings k parts out (Err (fault.DrawLimit number slot words)) =
-    IsLed settings parts (Gains out) (λ led. IsStopped settings number slot words (k + led))
+EndsParts settings k parts out (Err (fault.DrawLimit missing)) =
+    IsLed settings parts (Gains out) (λ led. IsStopped settings missing (k + led))
 EndsParts settings k parts out (Err fault.Write) = IsLed settings parts (Falters out) (λ led rest. Unit {0})
 EndsParts settings k parts out (Err _) = ⊥
-
--- how part k ends where this fault comes before anything of it is written
-abbrev pub EndsUnmade : Settings → ℕ → Part → Fault → Type 0
-EndsUnmade settings k part why = (out : Change) → IsUnwritten out → EndsParts settings k (part ∷ []) out (Err why)
 
 -- ---- the commands
 
@@ -148,7 +145,7 @@ status_of (Ok _) = status.Done
 status_of (Err (fault.Usage usage)) = status.Usage
 status_of (Err (fault.List list.Read)) = status.ReadFault
 status_of (Err (fault.List list)) = status.List
-status_of (Err (fault.DrawLimit number slot words)) = status.DrawLimit
+status_of (Err (fault.DrawLimit missing)) = status.DrawLimit
 status_of (Err fault.Write) = status.WriteFault
 status_of (Err fault.NoMemory) = status.NoMemory
 status_of (Err (fault.Gap table index)) = status.Gap

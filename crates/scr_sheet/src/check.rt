@@ -1,19 +1,20 @@
 //! The command that checks a sheet.
 
-ghost use Rattle.std.specs.Prelude.{◌≡◌, ◌≤◌, filter, IfOk};
-ghost use Rattle.scr_outside.specs.Change.{change_of, intake_of};
-ghost use Rattle.scr_command.specs.declared.command.Command.TheVariants.{Check};
+ghost use Rattle.std.specs.Prelude.{◌≡◌, ◌≤◌, filter, length, Err, IfOk};
+ghost use Rattle.scr_outside.specs.Change.{change_of};
+ghost use Rattle.scr_check.specs.Held.{most_held};
 ghost use Rattle.scr_check.specs.Reading.{reading, source_name};
 ghost use Rattle.scr_list.specs.RoundLists.{IsRounds};
 ghost use Rattle.scr_list.specs.Reading.{listed};
 ghost use Rattle.scr_slots.specs.Agreement.{is_tested_by_table};
-ghost use Rattle.scr_sheet.specs.Check.{EndsChecking, EndsReading, ReadsListPart};
-ghost use Rattle.scr_sheet.specs.Outcome.{Ends};
+ghost use Rattle.scr_sheet.specs.declared.fault.Fault.TheVariants.{NoMemory};
+ghost use Rattle.scr_sheet.specs.Check.{ReadsListPart, check_settings};
+ghost use Rattle.scr_sheet.specs.Ready.{AreTests, EndsHolding, ReadsTests};
 
 use crate::fault::Fault;
 use crate::sheet_lines::SheetLines;
 use arrayvec::ArrayVec;
-use scr_check::{ByteReader, check_lines, laws, list_part};
+use scr_check::{ByteReader, check_lines, list_part};
 use scr_list::{ListFault, ROUND_ROOM, Round, rounds_of};
 use scr_outside::{Sink, Source, write_line};
 use scr_slots::{Effort, Settings, Tables, is_tested_by_table};
@@ -21,60 +22,57 @@ use scr_words::Seed;
 use std::alloc::Global;
 use std::thread::Threads;
 
-/// Checks the sheet in an input against the rounds that the input lists before it, made with a seed and so many
-/// attempts a slot, and writes that they agree, where they do.
-pub(crate) fn write_check<R: Threads + Sync, S: Source, O: Sink>(
+/// By what a sheet is checked, beside a seed.
+#[derive(Drop)]
+pub(crate) struct Tests {
+    /// The rounds that a list names.
+    pub rounds: ArrayVec<Round, ROUND_ROOM>,
+    /// The tables by which their states are tested as they are drawn.
+    pub tables: Tables,
+}
+
+/// Reads the list of an input, and builds the tables by which the states of its rounds are tested. Nothing that is drawn
+/// is seen here, and nothing of the sheet but what was read ahead: so want of memory tells nothing of either.
+pub(crate) fn tests_of_list<R: Threads + Sync, S: Source>(
     rt: &R,
     alloc: Global,
+    reader: &mut ByteReader<'_, S>,
+) -> Result<Tests, Fault>
+    ensures same_source { source_name reader.new ≡ source_name reader.old }
+    ensures tests { IfOk result AreTests }
+    ensures read { ReadsTests S.left S.faults S.ends (reading reader.old) (reading reader.new) result }
+{
+    let rounds = read_list(reader)?;
+    let tables = Tables::build(rt, alloc, &tested_rounds(&rounds), 1)?;
+    Ok(Tests { rounds, tables })
+}
+
+/// Holds what a reader has still to give against the lines of the sheet of a list's rounds, made with a seed and so many
+/// attempts a slot, and writes that they agree, where they do; or ends as the rounds or their tables were not got. It has
+/// no memory to give.
+pub(crate) fn write_check<S: Source, O: Sink>(
+    tests: Result<Tests, Fault>,
     seed: &Seed,
     attempts: u32,
-    source: &mut S,
+    reader: &mut ByteReader<'_, S>,
     out: &mut O,
 ) -> Result<(), Fault>
-    requires { attempts ≤ 1000000 }
-    ensures { Ends (Ok (Check seed.now attempts)) (intake_of S.left S.faults S.ends source.old source.new)
-        (change_of O.held O.faults out.old out.new) result }
+    requires tests { IfOk tests AreTests }
+    requires attempts { attempts ≤ 1000000 }
+    ensures same_source { source_name reader.new ≡ source_name reader.old }
+    ensures ends { EndsHolding S.left S.faults S.ends (reading reader.old) (reading reader.new)
+        (check_settings seed.now attempts) tests (change_of O.held O.faults out.old out.new) result }
+    // What was drawn, and what was judged, has no say in it.
+    ensures memory { result ≡ Err NoMemory → tests ≡ Err NoMemory }
 {
+    let Tests { rounds, tables } = tests?;
     let settings = Settings {
         seed: *seed,
         attempts,
         effort: Effort { tries: 0, short: 1 },
     };
-    check_input(rt, alloc, &settings, source)?;
+    check_lines(reader, &SheetLines::new(&tables, &settings, &rounds))?;
     write_line(out, "", "agrees")?;
-    Ok(())
-}
-
-/// Checks what a source has left.
-fn check_input<R: Threads + Sync, S: Source>(
-    rt: &R,
-    alloc: Global,
-    settings: &Settings,
-    source: &mut S,
-) -> Result<(), Fault>
-    requires { settings.now.attempts ≤ 1000000 }
-    ensures { EndsChecking settings.now (intake_of S.left S.faults S.ends source.old source.new) result }
-{
-    laws::what_the_source_gave(source);
-    let mut reader = ByteReader::new(source);
-    check_reader(rt, alloc, settings, &mut reader)
-}
-
-/// Reads the list of an input, builds the tables by which its states are tested, and holds the sheet behind it against
-/// the lines that the list's sheet has.
-fn check_reader<R: Threads + Sync, S: Source>(
-    rt: &R,
-    alloc: Global,
-    settings: &Settings,
-    reader: &mut ByteReader<'_, S>,
-) -> Result<(), Fault>
-    requires { settings.now.attempts ≤ 1000000 }
-    ensures same_source { source_name reader.new ≡ source_name reader.old }
-    ensures ends { EndsReading S.left S.faults S.ends (reading reader.old) (reading reader.new) settings.now result }
-{
-    let rounds = read_list(reader)?;
-    let tables = Tables::build(rt, alloc, &tested_rounds(&rounds), 1)?;
-    check_lines(reader, &SheetLines::new(&tables, settings, &rounds))?;
     Ok(())
 }
 
@@ -83,6 +81,7 @@ fn read_list<S: Source>(
     reader: &mut ByteReader<'_, S>,
 ) -> Result<ArrayVec<Round, ROUND_ROOM>, ListFault>
     ensures same_source { source_name reader.new ≡ source_name reader.old }
+    ensures few_ahead { length (reading reader.new).ahead ≤ most_held }
     ensures rounds { IfOk result (λ rounds. IsRounds rounds.items) }
     ensures list { ReadsListPart S.left S.faults S.ends (reading reader.old) (reading reader.new) (listed result) }
 {

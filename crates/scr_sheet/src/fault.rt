@@ -2,8 +2,9 @@
 
 ghost use Rattle.std.specs.Prelude.{◌≡◌, ◌++◌, ◌≤◌, ◌<◌, length};
 ghost use Rattle.arrayvec.specs.ArrayString.{array_string_len};
-ghost use Rattle.scr_sheet.specs.declared.fault.Fault.TheVariants.{List, NoMemory, Write};
-ghost use Rattle.scr_sheet.specs.Causes.{fault_of_build, fault_of_command};
+ghost use Rattle.scr_sheet.specs.declared.fault.Fault.TheVariants.{DrawLimit, List, NoMemory, Write};
+ghost use Rattle.scr_sheet.specs.declared.fault.MakeFault.TheVariants as make;
+ghost use Rattle.scr_sheet.specs.Causes.{fault_of_build, fault_of_command, fault_of_make};
 ghost use Rattle.scr_sheet.specs.Check.{fault_of_check};
 ghost use Rattle.scr_sheet.specs.Message.{message_of, usage_text, seed_fault_text, list_text, cause_text};
 
@@ -23,8 +24,8 @@ pub enum Fault {
     Usage(UsageFault),
     /// The input is no round list, or could not be read.
     List(ListFault),
-    /// The attempts of a slot, which took so many words, gave no permitted state. Rounds and slots are counted from 1.
-    DrawLimit { round: u32, slot: u32, words: u32 },
+    /// The attempts of this slot gave no permitted state. Rounds and slots are counted from 1.
+    DrawLimit(Missing),
     /// The output could not be written.
     Write,
     /// Want of memory.
@@ -87,10 +88,52 @@ impl From<CheckFault> for Fault {
     fn from(found: CheckFault) -> Fault {
         match found {
             CheckFault::Differs { line } => Fault::Differs { line },
-            CheckFault::Limit(Missing { round, slot, words }) => {
-                Fault::DrawLimit { round, slot, words }
-            }
+            CheckFault::Limit(missing) => Fault::DrawLimit(missing),
             CheckFault::Read => Fault::List(ListFault::Read),
+        }
+    }
+}
+
+impl From<Missing> for Fault {
+    ghost from_gives = { λ missing fault. fault ≡ DrawLimit missing };
+
+    fn from(missing: Missing) -> Fault {
+        Fault::DrawLimit(missing)
+    }
+}
+
+/// Why scrambles were not made and written. No such fault is want of memory: what draws and writes takes none.
+#[derive(Clone, Copy, Debug)]
+pub(crate) enum MakeFault {
+    /// The attempts of this slot gave no permitted state. Rounds and slots are counted from 1.
+    DrawLimit(Missing),
+    /// The output could not be written.
+    Write,
+}
+
+impl From<Missing> for MakeFault {
+    ghost from_gives = { λ missing fault. fault ≡ make.DrawLimit missing };
+
+    fn from(missing: Missing) -> MakeFault {
+        MakeFault::DrawLimit(missing)
+    }
+}
+
+impl From<Failed> for MakeFault {
+    ghost from_gives = { λ _ fault. fault ≡ make.Write };
+
+    fn from(_failed: Failed) -> MakeFault {
+        MakeFault::Write
+    }
+}
+
+impl From<MakeFault> for Fault {
+    ghost from_gives = { λ made fault. fault ≡ fault_of_make made };
+
+    fn from(made: MakeFault) -> Fault {
+        match made {
+            MakeFault::DrawLimit(missing) => Fault::DrawLimit(missing),
+            MakeFault::Write => Fault::Write,
         }
     }
 }
@@ -112,7 +155,7 @@ impl Fault {
         match self {
             Fault::Usage(fault) => push_usage(&mut line, fault),
             Fault::List(fault) => push_list(&mut line, fault),
-            Fault::DrawLimit { round, slot, words } => {
+            Fault::DrawLimit(Missing { round, slot, words }) => {
                 line.push_str("round ");
                 line.push_str(decimal(round).as_str());
                 line.push_str(" slot ");

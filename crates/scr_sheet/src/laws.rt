@@ -1,7 +1,7 @@
 //! What holds of sheets and of runs whatever the code: calls that do nothing, whose contracts are the laws.
 
-ghost use Rattle.std.specs.Prelude.{◌≡◌, ◌≢◌, ◌<◌, ◌⊎◌, ℕ, List, [], ◌∷◌, ◌++◌, map, length, sum_by, All, IsTrue, IsSome, Option, Some, Result, Ok, Err};
-ghost use Rattle.scr_outside.specs.Change.{Change, Falters};
+ghost use Rattle.std.specs.Prelude.{◌≡◌, ◌≢◌, ◌<◌, ◌≤◌, ◌⊎◌, ℕ, List, [], ◌∷◌, ◌++◌, map, length, sum_by, All, IsTrue, IsSome, Option, Some, Result, Ok, Err};
+ghost use Rattle.scr_outside.specs.Change.{Change, Falters, IsUnchanged};
 ghost use Rattle.scr_outside.specs.Faults.{Rose};
 ghost use Rattle.scr_combinatorics.specs.Play.{play};
 ghost use Rattle.scr_notation.specs.declared.event.Event.{Event};
@@ -17,7 +17,7 @@ ghost use Rattle.scr_list.specs.RoundLists.{IsRounds};
 ghost use Rattle.scr_slots.specs.declared.settings.Settings.{Settings};
 ghost use Rattle.scr_sheet.specs.declared.fault.Fault.{Fault};
 ghost use Rattle.scr_sheet.specs.declared.status.Status.{Status};
-ghost use Rattle.scr_command.specs.declared.command.Command.TheVariants.{Tables};
+ghost use Rattle.scr_command.specs.declared.command.Command.TheVariants.{Check, Tables};
 ghost use Rattle.scr_command.specs.declared.command.Command.{Command};
 ghost use Rattle.scr_command.specs.declared.command.UsageFault.{UsageFault};
 ghost use Rattle.scr_words.specs.declared.seed.Seed.{Seed};
@@ -79,12 +79,17 @@ pub fn checks()
 {}
 
 /// Want of memory tells nothing of what is drawn: whatever a run shows that ends so (what was taken of the input, that
-/// nothing was written, what was told) may be shown as well by a run that is asked for the same with any other seed.
+/// nothing was written, what was told) may be shown as well by a run that is asked for the same with any other seed. And
+/// it tells nothing of a sheet that is checked: of that 4,096 bytes at most were read, wherever its first fault stands.
 pub fn want_of_memory()
     ensures seed { (first : List ℕ) (words other : List (List ℕ)) (command : Command) (seed : Seed) (source out err : Change)
         → command_of (first ∷ words) ≡ Ok command → command_of (first ∷ other) ≡ Ok (with_seed seed command)
         → IsRun (first ∷ words) NoMemory source out err → IsRun (first ∷ other) NoMemory source out err }
     ensures nothing { (words : List (List ℕ)) (source out err : Change) → IsRun words NoMemory source out err → IsUnwritten out }
+    ensures unjudged { (words : List (List ℕ)) (seed : Seed) (attempts : ℕ) (source out err : Change)
+        → command_of words ≡ Ok (Check seed attempts) → IsRun words NoMemory source out err
+        → IsUnchanged source ⊎ ((rounds : List Round) × (read : ReadsInput source (λ input. rounds_in input ≡ Ok rounds))
+        × (length (sheet_part read.bytes) ≤ 4096)) }
 {}
 
 /// Where the input's count of faults rose the status is `ReadFault`, and where the output's did it is `WriteFault`.

@@ -2,7 +2,7 @@
 //!
 //! The sheet is not written, and never held: each round is made, and its lines are counted.
 
-ghost use Rattle.std.specs.Prelude.{◌≡◌, ◌+◌, ◌*◌, ◌<◌, ◌≤◌, ℕ, List, ◌++◌, codes, length, sum, sum_by, All, MatchResult, IfOk};
+ghost use Rattle.std.specs.Prelude.{◌≡◌, ◌+◌, ◌*◌, ◌<◌, ◌≤◌, ℕ, List, [], ◌∷◌, ◌++◌, codes, length, sum, sum_by, All, MatchResult, IfOk, Err};
 ghost use Rattle.scr_notation.specs.EventSets.{Has};
 ghost use Rattle.std.specs.Fmt.{decimal};
 ghost use Rattle.scr_outside.specs.Change.{change_of, Writes};
@@ -17,24 +17,28 @@ ghost use Rattle.scr_round.specs.SheetLine.{line_of};
 ghost use Rattle.scr_round.specs.Made.{turns_of_each};
 ghost use Rattle.scr_sheet.specs.Making.{CanBeMade};
 ghost use Rattle.scr_sheet.specs.Room.{IsRoom, IsRoomFor, SpendsOne};
-ghost use Rattle.scr_sheet.specs.Outcome.{EndsLoad, EndsUnmade};
-ghost use Rattle.scr_sheet.specs.Sizes.{IsSizeOf, IsPartSize, SizesMaking, SizesParts};
+ghost use Rattle.scr_sheet.specs.declared.fault.Fault.TheVariants.{NoMemory};
+ghost use Rattle.scr_sheet.specs.Outcome.{IsStopped};
+ghost use Rattle.scr_sheet.specs.Ready.{EndsAfter, IsReadyFor};
+ghost use Rattle.scr_sheet.specs.Sizes.{EndsSized, IsSizeOf, IsPartSize, SizesParts};
+ghost use Rattle.scr_table.specs.declared.fault.BuildFault.TheVariants as build;
 
 use crate::fault::Fault;
 use crate::making::Making;
 use crate::parts::make_in_room;
-use crate::room::{Room, most_slots};
+use crate::ready::Ready;
+use crate::room::Room;
 use arrayvec::{ArrayString, ArrayVec};
+use scr_check::Missing;
 use scr_command::Options;
 use scr_list::Round;
 use scr_notation::{EVENTS, Scramble, print};
 use scr_outside::{Failed, LINE_ROOM, Sink, write_line};
 use scr_round::{SheetLine, line_at, line_count, slots};
-use scr_slots::Tables;
+use scr_table::BuildFault;
 use scr_text::decimal;
 use scr_words::Seed;
 use scr_workers::Gate;
-use std::alloc::Global;
 use std::thread::Threads;
 
 /// The most rounds of a list that follows from a number.
@@ -53,25 +57,33 @@ pub(crate) struct Size {
     sum: u32,
 }
 
-/// Makes the sheet of the list of a number, and writes what it amounts to.
+/// Makes the sheet of these rounds, with the usual options and what is ready for them, and writes what it amounts to; or
+/// ends as it was not got ready. It has no memory to give.
 pub(crate) fn write_load<R: Threads + Sync, O: Sink, G: Gate + Sync>(
     rt: &R,
-    alloc: Global,
-    number: u32,
+    ready: Result<Ready, BuildFault>,
+    seed: &Seed,
+    rounds: &[Round],
     out: &mut O,
     gate: &G,
 ) -> Result<(), Fault>
-    requires { number ≤ 9999 }
-    ensures { EndsLoad number (change_of O.held O.faults out.old out.new) result }
+    requires ready { IfOk ready (IsReadyFor rounds.now) }
+    requires rounds { IsRounds rounds.now }
+    requires few { length rounds.now ≤ 16 }
+    ensures ends { EndsAfter ready (EndsSized (settings_of seed.now usual_options) rounds.now)
+        (change_of O.held O.faults out.old out.new) result }
+    // What was drawn has no say in it.
+    ensures memory { result ≡ Err NoMemory → ready ≡ Err build.NoMemory }
 {
-    let rounds = load_rounds(number);
-    let size = sheet_size(rt, alloc, &load_seed(number), &rounds, gate)?;
-    write_size(out, &rounds, size)?;
+    let Ready { tables, mut room } = ready?;
+    let making = Making::new(rt, &tables, seed, &Options::default(), gate);
+    let size = rounds_size(&making, &mut room, rounds)?;
+    write_size(out, rounds, size)?;
     Ok(())
 }
 
 /// The seed of a number.
-fn load_seed(number: u32) -> Seed
+pub(crate) fn load_seed(number: u32) -> Seed
     ensures { result ≡ load_seed number }
 {
     let mut seed = [0; 32];
@@ -80,7 +92,7 @@ fn load_seed(number: u32) -> Seed
 }
 
 /// The rounds of a number: 1 to 16, as lists take them.
-fn load_rounds(number: u32) -> ArrayVec<Round, MOST_ROUNDS>
+pub(crate) fn load_rounds(number: u32) -> ArrayVec<Round, MOST_ROUNDS>
     requires { number ≤ 9999 }
     ensures rounds { result.items ≡ load_rounds number }
     ensures valid { IsRounds result.items }
@@ -111,30 +123,12 @@ fn load_round(number: u32, k: u32) -> Round
     }
 }
 
-/// What the sheet of these rounds amounts to, with the usual options.
-fn sheet_size<R: Threads + Sync, G: Gate + Sync>(
-    rt: &R,
-    alloc: Global,
-    seed: &Seed,
-    rounds: &[Round],
-    gate: &G,
-) -> Result<Size, Fault>
-    requires rounds { IsRounds rounds.now }
-    requires few { length rounds.now ≤ 16 }
-    ensures { SizesMaking (settings_of seed.now usual_options) (round_parts 0 rounds.now) result }
-{
-    let tables = Tables::build(rt, alloc, rounds, 1)?;
-    let mut room = Room::take(alloc, rounds.len() as u32, most_slots(rounds), 1)?;
-    let making = Making::new(rt, &tables, seed, &Options::default(), gate);
-    rounds_size(&making, &mut room, rounds)
-}
-
-/// The same, where the tables of the rounds' events are built, in a room for the rounds.
+/// What the sheet of these rounds amounts to, made in a room for them.
 fn rounds_size<R: Threads + Sync, G: Gate + Sync>(
     making: &Making<'_, R, G>,
     room: &mut Room,
     rounds: &[Round],
-) -> Result<Size, Fault>
+) -> Result<Size, Missing>
     requires tables { All (λ round. Has making.now.tables.now round.event) rounds.now }
     requires rounds { IsRounds rounds.now }
     requires few { length rounds.now ≤ 16 }
@@ -157,12 +151,13 @@ fn size_in_room<R: Threads + Sync, G: Gate + Sync>(
     room: &mut Room,
     index: u32,
     round: &Round,
-) -> Result<Size, Fault>
+) -> Result<Size, Missing>
     requires can { CanBeMade making.now.tables.now making.now.settings index round.now }
     requires room { IsRoom 1 room.old }
     requires slots { slots_of round.now ≤ vec_len room.old.answers }
     ensures size { let settings = making.now.settings in
-        MatchResult result (IsPartSize settings (round_part index round.now)) (EndsUnmade settings index (round_part index round.now)) }
+        let part = round_part index round.now in
+        MatchResult result (IsPartSize settings part) (λ missing. IsStopped settings missing index (part ∷ [])) }
     ensures few { IfOk result (λ size. size.bytes ≤ MOST_LINES * LINE_ROOM) }
     ensures low { IfOk result (λ size. size.sum ≤ MOST_LINES * LINE_ROOM * 255) }
     ensures room { SpendsOne room.old room.new }

@@ -1,75 +1,63 @@
 //! What the commands make and write.
 
-ghost use Rattle.std.specs.Prelude.{◌≡◌, ◌≤◌, ◌⊎◌, [], ◌∷◌, All, MatchResult, Err};
-ghost use Rattle.scr_outside.specs.Change.{change_of, intake_of};
+ghost use Rattle.std.specs.Prelude.{◌≡◌, ◌≤◌, ◌⊎◌, [], ◌∷◌, All, IfOk, MatchResult, Err};
+ghost use Rattle.std.specs.Result.{result_map_both};
+ghost use Rattle.scr_outside.specs.Change.{change_of};
 ghost use Rattle.scr_notation.specs.EventSets.{Has};
 ghost use Rattle.scr_list.specs.RoundLists.{IsRounds};
-ghost use Rattle.scr_command.specs.declared.command.Command.TheVariants.{Sheet};
 ghost use Rattle.std.specs.Vec.{vec_len};
 ghost use Rattle.scr_round.specs.Round.{slots_of};
 ghost use Rattle.scr_slots.specs.Tables.{HasTables};
 ghost use Rattle.scr_slots.specs.Ranges.{AreInRange, IsShort};
 ghost use Rattle.scr_sheet.specs.declared.fault.Fault.TheVariants.{NoMemory};
+ghost use Rattle.scr_table.specs.declared.fault.BuildFault.TheVariants as build;
 ghost use Rattle.scr_sheet.specs.Sheet.{settings_of, round_part, round_parts, AreScrambles};
-ghost use Rattle.scr_sheet.specs.Outcome.{Ends, EndsMaking, EndsParts, EndsTables, EndsUnmade, IsUnwritten};
-ghost use Rattle.scr_sheet.specs.Causes.{LacksTables};
+ghost use Rattle.scr_sheet.specs.Outcome.{EndsParts, EndsTables, IsStopped, IsUnwritten};
+ghost use Rattle.scr_sheet.specs.Causes.{LacksTables, fault_of_make};
 ghost use Rattle.scr_sheet.specs.Making.{CanBeMade};
+ghost use Rattle.scr_sheet.specs.Ready.{EndsAfter, IsReadyFor};
 ghost use Rattle.scr_sheet.specs.Room.{IsRoom, IsRoomFor, SpendsOne};
 
-use crate::fault::Fault;
-use crate::making::{Making, workers_of};
-use crate::room::{Room, most_slots};
+use crate::fault::{Fault, MakeFault};
+use crate::making::Making;
+use crate::ready::Ready;
+use crate::room::Room;
+use scr_check::Missing;
 use scr_command::Options;
-use scr_list::{Round, read_rounds};
+use scr_list::Round;
 use scr_notation::Event;
-use scr_outside::{Sink, Source};
+use scr_outside::Sink;
 use scr_round::write_slots;
 use scr_slots::{Tables, write_tables_of};
+use scr_table::BuildFault;
 use scr_words::Seed;
 use scr_workers::Gate;
 use std::alloc::Global;
 use std::thread::Threads;
 
-/// Reads the round list, builds the tables of its events, and makes and writes its rounds.
-pub(crate) fn write_sheet<R: Threads + Sync, S: Source, O: Sink, G: Gate + Sync>(
+/// Makes and writes these rounds with what is ready for them; or ends as it was not got ready. It has no memory to give.
+pub(crate) fn write_sheet<R: Threads + Sync, O: Sink, G: Gate + Sync>(
     rt: &R,
-    alloc: Global,
-    seed: &Seed,
-    options: &Options,
-    source: &mut S,
-    out: &mut O,
-    gate: &G,
-) -> Result<(), Fault>
-    requires attempts { options.now.attempts ≤ 1000000 }
-    requires short { IsShort options.now.short }
-    ensures { Ends (Ok (Sheet seed.now options.now)) (intake_of S.left S.faults S.ends source.old source.new)
-        (change_of O.held O.faults out.old out.new) result }
-{
-    let rounds = read_rounds(source)?;
-    make_sheet(rt, alloc, seed, options, &rounds, out, gate)
-}
-
-/// Builds the tables of these rounds' events, and makes and writes the rounds.
-fn make_sheet<R: Threads + Sync, O: Sink, G: Gate + Sync>(
-    rt: &R,
-    alloc: Global,
+    ready: Result<Ready, BuildFault>,
     seed: &Seed,
     options: &Options,
     rounds: &[Round],
     out: &mut O,
     gate: &G,
 ) -> Result<(), Fault>
+    requires ready { IfOk ready (IsReadyFor rounds.now) }
     requires rounds { IsRounds rounds.now }
     requires attempts { options.now.attempts ≤ 1000000 }
     requires short { IsShort options.now.short }
-    ensures { EndsMaking (settings_of seed.now options.now) (round_parts 0 rounds.now)
+    ensures ends { EndsAfter ready (EndsParts (settings_of seed.now options.now) 0 (round_parts 0 rounds.now))
         (change_of O.held O.faults out.old out.new) result }
+    // What was drawn has no say in it.
+    ensures memory { result ≡ Err NoMemory → ready ≡ Err build.NoMemory }
 {
-    let workers = workers_of(options);
-    let tables = Tables::build(rt, alloc, rounds, workers)?;
-    let mut room = Room::take(alloc, rounds.len() as u32, most_slots(rounds), workers)?;
+    let Ready { tables, mut room } = ready?;
     let making = Making::new(rt, &tables, seed, options, gate);
-    write_rounds(&making, &mut room, rounds, out)
+    write_rounds(&making, &mut room, rounds, out)?;
+    Ok(())
 }
 
 /// Makes and writes these rounds, each once all its slots have their scrambles.
@@ -78,13 +66,13 @@ fn write_rounds<R: Threads + Sync, O: Sink, G: Gate + Sync>(
     room: &mut Room,
     rounds: &[Round],
     out: &mut O,
-) -> Result<(), Fault>
+) -> Result<(), MakeFault>
     requires tables { All (λ round. Has making.now.tables.now round.event) rounds.now }
     requires rounds { IsRounds rounds.now }
     requires settings { AreInRange making.now.settings }
     requires room { IsRoomFor rounds.now room.old }
     ensures { EndsParts making.now.settings 0 (round_parts 0 rounds.now)
-        (change_of O.held O.faults out.old out.new) result }
+        (change_of O.held O.faults out.old out.new) (result_map_both (λ done. done) fault_of_make result) }
 {
     for (index, round) in rounds.iter().enumerate() {
         write_one_round(making, room, index as u32, round, out)?;
@@ -99,12 +87,12 @@ fn write_one_round<R: Threads + Sync, O: Sink, G: Gate + Sync>(
     index: u32,
     round: &Round,
     out: &mut O,
-) -> Result<(), Fault>
+) -> Result<(), MakeFault>
     requires can { CanBeMade making.now.tables.now making.now.settings index round.now }
     requires room { IsRoom 1 room.old }
     requires slots { slots_of round.now ≤ vec_len room.old.answers }
     ensures ends { EndsParts making.now.settings index (round_part index round.now ∷ [])
-        (change_of O.held O.faults out.old out.new) result }
+        (change_of O.held O.faults out.old out.new) (result_map_both (λ done. done) fault_of_make result) }
     ensures room { SpendsOne room.old room.new }
 {
     make_in_room(making, room, index, round)?;
@@ -112,24 +100,24 @@ fn write_one_round<R: Threads + Sync, O: Sink, G: Gate + Sync>(
     Ok(())
 }
 
-/// Makes a round, whose scrambles the room has then, or gives what the run ends with.
+/// Makes a round, whose scrambles the room has then, or gives its first slot without one.
 pub(crate) fn make_in_room<R: Threads + Sync, G: Gate + Sync>(
     making: &Making<'_, R, G>,
     room: &mut Room,
     index: u32,
     round: &Round,
-) -> Result<(), Fault>
+) -> Result<(), Missing>
     requires can { CanBeMade making.now.tables.now making.now.settings index round.now }
     requires room { IsRoom 1 room.old }
     requires slots { slots_of round.now ≤ vec_len room.old.answers }
     ensures made { let part = round_part index round.now in
         MatchResult result (λ _. AreScrambles making.now.settings part part.slots room.new.scrambles.items)
-        (EndsUnmade making.now.settings index part) }
+        (λ missing. IsStopped making.now.settings missing index (part ∷ [])) }
     ensures room { SpendsOne room.old room.new }
 {
     match making.round(room, index, round) {
         Ok(()) => Ok(()),
-        Err(slot) => Err(Fault::DrawLimit {
+        Err(slot) => Err(Missing {
             round: index + 1,
             slot: slot + 1,
             words: 3 * making.settings.attempts,

@@ -5,14 +5,20 @@ ghost use Rattle.scr_command.specs.Words.{texts};
 ghost use Rattle.scr_sheet.specs.Outcome.{IsRun, IsPerformed, Tells};
 ghost use Rattle.scr_sheet.specs.Headline.{IsFairRun};
 
-use crate::check::write_check;
+use crate::check::{tests_of_list, write_check};
 use crate::fault::Fault;
-use crate::load::write_load;
+use crate::load::{load_rounds, load_seed, write_load};
+use crate::making::workers_of;
 use crate::parts::{write_event_tables, write_sheet};
+use crate::ready::Ready;
 use crate::single::write_single;
 use crate::status::Status;
+use scr_check::ByteReader;
+use scr_check::laws::what_the_source_gave;
 use scr_command::{Command, read_command};
+use scr_list::read_rounds;
 use scr_outside::{Sink, Source, write_all};
+use scr_slots::Tables;
 use scr_workers::Gate;
 use std::alloc::Global;
 use std::thread::Threads;
@@ -38,9 +44,9 @@ use std::thread::Threads;
 ///
 /// For minx, 555, 666 and 777 no state is drawn: each random move is taken by equally many numbers.
 ///
-/// It takes memory only where the first word is `sheet` or `check`, where tables are needed, or where rounds are made for
-/// `load`.
-/// A fault of `err` changes no status.
+/// Want of memory comes only where the first word is `sheet` or `check`, where tables are needed, or where rounds are made
+/// for `load`. It tells nothing of what is drawn or judged: it comes from calls that see no seed, and before the first
+/// draw, so then nothing is written. A fault of `err` changes no status.
 ///
 /// The slots of a round are claimed by as many workers as the words ask for, and each passes `gate` before it is drawn.
 pub fn run<'w, R: Threads + Sync, S: Source, O: Sink, E: Sink, G: Gate + Sync>(
@@ -67,7 +73,8 @@ pub fn run<'w, R: Threads + Sync, S: Source, O: Sink, E: Sink, G: Gate + Sync>(
     Status::of(ended)
 }
 
-/// Does what the words ask for.
+/// Does what the words ask for. Of all calls below it none but this has both memory to give and a seed: what takes
+/// memory sees no seed, and what sees one is handed what was got ready, or why it was not.
 fn perform<R: Threads + Sync, S: Source, O: Sink, G: Gate + Sync>(
     rt: &R,
     alloc: Global,
@@ -80,16 +87,31 @@ fn perform<R: Threads + Sync, S: Source, O: Sink, G: Gate + Sync>(
         (change_of O.held O.faults out.old out.new) result }
 {
     match read_command(alloc, words)? {
-        Command::One(event, seed) => write_single(rt, alloc, event, &seed, None, out),
+        Command::One(event, seed) => {
+            let tables = Tables::of_event(rt, alloc, event);
+            write_single(tables, event, &seed, None, out)
+        }
         Command::Sheet(seed, options) => {
-            write_sheet(rt, alloc, &seed, &options, source, out, gate)
+            let rounds = read_rounds(source)?;
+            let ready = Ready::for_rounds(rt, alloc, &rounds, workers_of(&options));
+            write_sheet(rt, ready, &seed, &options, &rounds, out, gate)
         }
         Command::Tables(event) => write_event_tables(rt, alloc, event, out),
-        Command::Load(number) => write_load(rt, alloc, number, out, gate),
-        Command::Net(event, seed) => {
-            write_single(rt, alloc, event, &seed, event.net_side(), out)
+        Command::Load(number) => {
+            let rounds = load_rounds(number);
+            let ready = Ready::for_rounds(rt, alloc, &rounds, 1);
+            write_load(rt, ready, &load_seed(number), &rounds, out, gate)
         }
-        Command::Check(seed, attempts) => write_check(rt, alloc, &seed, attempts, source, out),
+        Command::Net(event, seed) => {
+            let tables = Tables::of_event(rt, alloc, event);
+            write_single(tables, event, &seed, event.net_side(), out)
+        }
+        Command::Check(seed, attempts) => {
+            what_the_source_gave(source);
+            let mut reader = ByteReader::new(source);
+            let tests = tests_of_list(rt, alloc, &mut reader);
+            write_check(tests, &seed, attempts, &mut reader, out)
+        }
     }
 }
 

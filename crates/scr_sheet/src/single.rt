@@ -1,43 +1,49 @@
 //! The commands that write one scramble.
 
-ghost use Rattle.std.specs.Prelude.{◌≡◌, ◌≤◌, ◌++◌, ◌∷◌, [], IfSome, Err, Some};
+ghost use Rattle.std.specs.Prelude.{◌≡◌, ◌≤◌, ◌++◌, ◌∷◌, [], IfOk, IfSome, Err, Some};
+ghost use Rattle.std.specs.Result.{result_map_both};
 ghost use Rattle.scr_outside.specs.Change.{change_of, Writes};
 ghost use Rattle.scr_notation.specs.EventSets.{Has};
 ghost use Rattle.scr_command.specs.Command.{usual_options};
 ghost use Rattle.scr_net.specs.Nets.{IsSide};
-ghost use Rattle.scr_slots.specs.Tables.{HasTables};
 ghost use Rattle.scr_sheet.specs.declared.fault.Fault.TheVariants.{NoMemory};
 ghost use Rattle.scr_sheet.specs.Sheet.{settings_of, single_part, line_of, shown_net};
-ghost use Rattle.scr_sheet.specs.Outcome.{EndsMaking, EndsParts};
+ghost use Rattle.scr_sheet.specs.Outcome.{EndsParts};
+ghost use Rattle.scr_sheet.specs.Causes.{fault_of_make};
+ghost use Rattle.scr_sheet.specs.Ready.{EndsAfter};
+ghost use Rattle.scr_table.specs.declared.fault.BuildFault.TheVariants as build;
 
-use crate::fault::Fault;
+use crate::fault::{Fault, MakeFault};
 use crate::making::settings_of;
+use scr_check::Missing;
 use scr_command::Options;
 use scr_net::{Net, write_net};
 use scr_notation::{Event, Scramble, print};
 use scr_outside::{Failed, Sink, write_line};
 use scr_slots::{Tables, slot_answer};
+use scr_table::BuildFault;
 use scr_words::Seed;
-use std::alloc::Global;
-use std::thread::Threads;
 
 /// Draws the state of stream 0 of a seed, of which no minimum is asked, and writes the line of its scramble, and below
-/// it the net that this makes of a cube with so many layers, where one is asked. Memory is taken for the tables alone.
-pub(crate) fn write_single<R: Threads + Sync, O: Sink>(
-    rt: &R,
-    alloc: Global,
+/// it the net that this makes of a cube with so many layers, where one is asked; or ends as the tables of the event were
+/// not built. It has no memory to give.
+pub(crate) fn write_single<O: Sink>(
+    tables: Result<Tables, BuildFault>,
     event: Event,
     seed: &Seed,
     side: Option<u8>,
     out: &mut O,
 ) -> Result<(), Fault>
+    requires tables { IfOk tables (λ tables. Has tables event) }
     requires side { IfSome side (λ side. (2 ≤ side) × (side ≤ 7)) }
-    ensures ends { EndsMaking (settings_of seed.now usual_options) (single_part event side ∷ [])
+    ensures ends { EndsAfter tables (EndsParts (settings_of seed.now usual_options) 0 (single_part event side ∷ []))
         (change_of O.held O.faults out.old out.new) result }
-    ensures memory { result ≡ Err NoMemory → HasTables event }
+    // What was drawn has no say in it.
+    ensures memory { result ≡ Err NoMemory → tables ≡ Err build.NoMemory }
 {
-    let tables = Tables::of_event(rt, alloc, event)?;
-    write_drawn(&tables, event, seed, side, out)
+    let tables = tables?;
+    write_drawn(&tables, event, seed, side, out)?;
+    Ok(())
 }
 
 /// The same, where the tables of the event are built.
@@ -47,20 +53,20 @@ fn write_drawn<O: Sink>(
     seed: &Seed,
     side: Option<u8>,
     out: &mut O,
-) -> Result<(), Fault>
+) -> Result<(), MakeFault>
     requires tables { Has tables.now event }
     requires side { IfSome side (λ side. (2 ≤ side) × (side ≤ 7)) }
     ensures { EndsParts (settings_of seed.now usual_options) 0 (single_part event side ∷ [])
-        (change_of O.held O.faults out.old out.new) result }
+        (change_of O.held O.faults out.old out.new) (result_map_both (λ done. done) fault_of_make result) }
 {
     let settings = settings_of(seed, &Options::default());
     match slot_answer(tables, event, &settings, 0, 0) {
         Some(scramble) => Ok(write_with_net(side, &scramble, out)?),
-        None => Err(Fault::DrawLimit {
+        None => Err(MakeFault::DrawLimit(Missing {
             round: 1,
             slot: 1,
             words: 3 * settings.attempts,
-        }),
+        })),
     }
 }
 

@@ -40,7 +40,7 @@ impl Status {
             Err(Fault::Usage(_)) => Status::Usage,
             Err(Fault::List(ListFault::Read)) => Status::ReadFault,
             Err(Fault::List(_)) => Status::List,
-            Err(Fault::DrawLimit { .. }) => Status::DrawLimit,
+            Err(Fault::DrawLimit(_)) => Status::DrawLimit,
             Err(Fault::Write) => Status::WriteFault,
             Err(Fault::NoMemory) => Status::NoMemory,
             Err(Fault::Gap { .. }) => Status::Gap,

@@ -4,7 +4,7 @@ use super::expected::{
     BY_TABLES, NET_222, NET_333, NET_555, NET_666, NET_777, SCRAMBLE, SCRAMBLE_MINX,
 };
 use super::{NO_444, USAGE, ZEROS, check, run_with};
-use scr_sheet::{Fault, ListCause, ListFault, Status, UsageFault};
+use scr_sheet::{Fault, ListCause, ListFault, Missing, Status, UsageFault};
 use scr_table::TableName;
 use std::process::Abort;
 use std::test::Fail;
@@ -129,11 +129,11 @@ fn faults_are_told(rt: HostRuntime) {
         table: TableName::CornerSlice,
         index: 17,
     };
-    let limit = Fault::DrawLimit {
+    let limit = Fault::DrawLimit(Missing {
         round: 3,
         slot: 182,
         words: 3_000_000,
-    };
+    });
     for (fault, code, message) in [
         (Fault::Usage(UsageFault::Grammar), 2, USAGE),
         (

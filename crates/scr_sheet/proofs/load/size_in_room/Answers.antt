@@ -1,4 +1,3 @@
-use Rattle.std.proofs.lemmas.Result.{err_from_is_err_and}
 use Rattle.scr_sheet.proofs.PartLaws.{IsPartText-made}
 use Rattle.scr_sheet.proofs.load.size_in_room.Goals as goal
 

@@ -1,4 +1,4 @@
-use Rattle.std.proofs.Common.{◌≡◌, ℕ, ◌≤◌, length, map, take, slice_index_or, Some}
+use Rattle.std.proofs.Common.{◌≡◌, ℕ, ◌≤◌, map, take, slice_index_or, Some}
 use Rattle.std.specs.Vec.{vec_capacity}
 use Rattle.scr_sheet.specs.Making.{answer_at}
 use Rattle.scr_sheet.proofs.making.take_scrambles.Given as goal

@@ -1,12 +1,12 @@
 use Rattle.std.proofs.lemmas.Result.{err_from_is_err_and}
 use Rattle.scr_outside.proofs.ChangeLemmas.{Gains-nothing}
-use Rattle.scr_sheet.proofs.PartLaws.{first-broken, IsWhole-first, IsPartText-made}
+use Rattle.scr_sheet.proofs.PartLaws.{first-stopped, first-broken, IsWhole-first, IsPartText-made}
 use Rattle.scr_sheet.proofs.parts.write_one_round.Goals as goal
 
 pub returns-in_err-make_in_room-clause-ends : goal.returns-in_err-make_in_room-clause-ends
 returns-in_err-make_in_room-clause-ends g c =
     let p = err_from_is_err_and c.from_residual.result c.from_residual.ensures.1 in
-    rw (p.1, p.2) (c.in_err-make_in_room.ensures.made _ Gains-nothing)
+    rw (p.1, p.2) (first-stopped c.args.index c.in_err-make_in_room.field-0.0 c.in_err-make_in_room.ensures.made Gains-nothing)
 
 pub returns-in_err-write_slots-clause-ends : goal.returns-in_err-write_slots-clause-ends
 returns-in_err-write_slots-clause-ends g c =

@@ -1,5 +1,4 @@
-use Rattle.std.proofs.Common.{arith, drop, ◌∙◌}
-use Rattle.std.specs.Prelude.{All}
+use Rattle.std.proofs.Common.{arith, drop}
 use Rattle.std.proofs.lemmas.List.{length-take-le}
 use Rattle.std.proofs.lemmas.List.Elements.{All-append, All-take, All-drop}
 use Rattle.scr_workers.specs.Boards.{HasRoom}
