@@ -20,7 +20,7 @@ use Rattle.scr_sq1.specs.Units.{Sq1State, IsSq1, solved_sq1, sq1_after, sq1_puzz
 use Rattle.scr_sq1.proofs.Lawful.{IsLawful-sq1}
 use Rattle.scr_sq1far.proofs.Counted.{count_once}
 use Rattle.scr_sq1far.specs.Within.{IsWithin}
-use Rattle.scr_sq1far.specs.Levels.{key_of, is_at_least, TellNeeds, HasLevel, AreLevels, IsListed, AreListed, Grows, AreTurnsListed}
+use Rattle.scr_sq1far.specs.Levels.{key_of, is_at_least, TellNeeds, HasLevel, AreTold, AreLevels, IsListed, AreListed, Grows, AreTurnsListed}
 use Rattle.scr_sq1far.proofs.KeyLaws.{key-same}
 use Rattle.scr_sq1far.proofs.TurnLaws.{number-after}
 use Rattle.scr_sq1far.proofs.WithinLaws.{IsWithin-more, Needs-iff}
@@ -249,3 +249,13 @@ of_on_ok (Err x) e h = absurd (cc)
 pub on_ok-map : {A E P Q : Type 0} (r : Result A E) → (P → Q) → OnOk r P → OnOk r Q
 on_ok-map (Ok v) f h = f h
 on_ok-map (Err x) f h = tt
+
+pub on_ok-both : {A E : Type 0} (P Q : Type 0) (r : Result A E) → OnOk r P → OnOk r Q → OnOk r (P × Q)
+on_ok-both P Q (Ok v) p q = (p, q)
+on_ok-both P Q (Err x) p q = tt
+
+-- more levels tell as much
+pub AreTold-kept : (reach few : ℕ) (f g : ℕ → Option ℕ) → few ≤ reach → ((k level : ℕ) → f k ≡ Some level → g k ≡ Some level)
+    → AreTold reach f → AreTold few g
+AreTold-kept reach few f g le kept told s most valid low within =
+    HasLevel-kept most f g (key_of s) kept (told s most valid (omega arith) within)

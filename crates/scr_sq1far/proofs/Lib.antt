@@ -5,3 +5,4 @@ pub mod Alternation
 pub mod KeyLaws
 pub mod LevelLaws
 pub mod Counted
+mod LayersLaws

@@ -31,11 +31,15 @@ TellNeeds greatest level_of = (s : Sq1State) (least : ℕ) → IsSq1 s → least
 
 -- ---- while they are found
 
+-- Each state from which so many turns lead to solved, or fewer, has a level, which is at most their number.
+abbrev pub AreTold : ℕ → (ℕ → Option ℕ) → Type 0
+AreTold reach level_of = (s : Sq1State) (most : ℕ) → IsSq1 s → most ≤ reach → IsWithin sq1_puzzle s most
+    → HasLevel most level_of (key_of s)
+
 -- A state's level is a number of turns that lead from it to solved, and up to `reach` turns the least.
 pub record AreLevels (reach : ℕ) (level_of : ℕ → Option ℕ) : Type 0 where
   pub sound : (s : Sq1State) (level : ℕ) → IsSq1 s → level_of (key_of s) ≡ Some level → IsWithin sq1_puzzle s level
-  pub least : (s : Sq1State) (most : ℕ) → IsSq1 s → most ≤ reach → IsWithin sq1_puzzle s most
-      → HasLevel most level_of (key_of s)
+  pub least : AreTold reach level_of
 
 -- A key with this level is that of one of the states that are listed, from which so many turns lead to solved.
 pub record IsListed (most key level : ℕ) (states : List Sq1State) : Type 0 where

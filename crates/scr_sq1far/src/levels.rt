@@ -4,7 +4,7 @@ ghost use Rattle.std.specs.HashMap.{get};
 ghost use Rattle.scr_combinatorics.specs.Reach.{Needs};
 ghost use Rattle.scr_notation.specs.TurnNumbers.{layer_turn_at};
 ghost use Rattle.scr_sq1.specs.Units.{Sq1State, sq1_after, sq1_puzzle};
-ghost use Rattle.scr_sq1far.specs.Levels.{TellNeeds, AreLevels, AreListed, AreTurnsListed, Grows, HasLevel, key_of};
+ghost use Rattle.scr_sq1far.specs.Levels.{TellNeeds, AreLevels, AreTold, AreListed, AreTurnsListed, Grows, HasLevel, key_of};
 ghost use Rattle.scr_sq1far.specs.Within.{IsWithin};
 
 use crate::keys::key_of;
@@ -73,7 +73,36 @@ fn add_level(
 }
 
 /// Adds each state to which a turn leads from this one.
+///
+/// Where a twist leads to one that has no level yet, the way from here to solved begins with a turn of the layers. Then
+/// other such turns lead to no state that is farther than this one, so that the twist alone is left.
 fn add_neighbours(
+    state: &Sq1,
+    level: u8,
+    levels: &mut HashMap<u128, u8>,
+    states: &mut Vec<Sq1>,
+) -> Result<(), NoMemory>
+    requires near { IsWithin sq1_puzzle state.now (level - 1) }
+    requires level { 0 < level }
+    requires told { AreTold (level - 1) (get nat_eq levels.old) }
+    requires listed { AreListed level (get nat_eq levels.old) states.old.items }
+    ensures listed { OnOk result (AreListed level (get nat_eq levels.new) states.new.items) }
+    ensures grows { OnOk result (Grows (get nat_eq levels.old) states.old.items (get nat_eq levels.new) states.new.items) }
+    ensures turns { OnOk result (AreTurnsListed level (get nat_eq levels.new) state.now 144) }
+{
+    state.is_valid();
+    if level == 1 {
+        return add_turns(state, level, levels, states);
+    }
+    let twisted = state.twist();
+    if levels.contains_key(&key_of(&twisted)) {
+        return add_turns(state, level, levels, states);
+    }
+    add(&twisted, level, levels, states)
+}
+
+/// Adds each state to which a turn leads from this one, turn by turn.
+fn add_turns(
     state: &Sq1,
     level: u8,
     levels: &mut HashMap<u128, u8>,

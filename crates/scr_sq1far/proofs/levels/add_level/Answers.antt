@@ -4,7 +4,7 @@ use Rattle.std.specs.HashMap.{get}
 use Rattle.scr_sq1.specs.Units.{sq1_puzzle}
 use Rattle.scr_sq1far.specs.Within.{IsWithin}
 use Rattle.scr_sq1far.proofs.WithinLaws.{IsWithin-more}
-use Rattle.scr_sq1far.proofs.LevelLaws.{Grows-same, Grows-both, AreListed-later, AreLevels-next, each_state-more, state-kept}
+use Rattle.scr_sq1far.proofs.LevelLaws.{AreTold-kept, Grows-same, Grows-both, AreListed-later, AreLevels-next, each_state-more, state-kept}
 use Rattle.scr_sq1far.proofs.levels.add_level.Goals as goal
 
 pub loop-place-init : goal.loop-place-init
@@ -25,6 +25,11 @@ add_neighbours-requires-clause-near c =
     c.loop-place.place c.loop-place.invariant.grows lt c.index.ensures in
     IsWithin-more sq1_puzzle c.index.result.now c.args.level (c.args.level + 1 - 1) (omega arith)
     (subst (λ q. IsWithin sq1_puzzle q c.args.level) (sym is) (c.requires.listed.near c.loop-place.place lt))
+
+pub add_neighbours-requires-clause-told : goal.add_neighbours-requires-clause-told
+add_neighbours-requires-clause-told c =
+    AreTold-kept c.args.level (c.args.level + 1 - 1) (get nat_eq c.args.levels.now) (get nat_eq c.loop-place.levels) (omega arith)
+    c.loop-place.invariant.grows.kept c.requires.exact.least
 
 pub loop-place-preserved : goal.loop-place-preserved
 loop-place-preserved c =

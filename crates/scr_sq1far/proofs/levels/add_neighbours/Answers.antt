@@ -1,26 +1,32 @@
-use Rattle.std.proofs.Common.{arith}
+use Rattle.std.proofs.Common.{◌≡◌, ℕ, ◌-◌, Some, false, refl, sym, ap, ◌∙◌, subst, arith}
 use Rattle.std.specs.Prelude.{nat_eq}
 use Rattle.std.specs.HashMap.{get}
-use Rattle.scr_sq1far.proofs.LevelLaws.{Grows-same, Grows-both, AreTurnsListed-more}
+use Rattle.std.specs.Option.{is_some}
+use Rattle.scr_notation.specs.TurnNumbers.{layer_turn_at}
+use Rattle.scr_sq1.specs.Units.{twisted}
+use Rattle.scr_sq1far.specs.Levels.{HasLevel, key_of}
+use Rattle.scr_sq1far.proofs.LayersLaws.{AreTurnsListed-twist}
+use Rattle.scr_sq1far.proofs.LevelLaws.{on_ok-map, on_ok-both}
+use Rattle.scr_sq1far.proofs.TurnLaws.{after-twist}
+use Rattle.scr_sq1far.proofs.WithinLaws.{IsWithin-next}
 use Rattle.scr_sq1far.proofs.levels.add_neighbours.Goals as goal
 
-pub loop-turn-init : goal.loop-turn-init
-loop-turn-init c = record {
-  listed = c.requires.listed;
-  grows = Grows-same (get nat_eq c.args.levels.now) c.args.states.now.items;
-  turns = λ n r lt e. absurd (omega arith);
-}
-
-pub loop-turn-preserved : goal.loop-turn-preserved
-loop-turn-preserved c =
-    let more = c.in_ok-add_next.ensures in
-    record {
-      listed = more.listed;
-      grows = Grows-both (get nat_eq c.args.levels.now) (get nat_eq c.loop-turn.levels) (get nat_eq c.add_next.new.levels) c.args.states.now.items
-          c.loop-turn.states.items c.add_next.new.states.items c.loop-turn.invariant.grows more.grows;
-      turns = AreTurnsListed-more c.args.level (get nat_eq c.loop-turn.levels) (get nat_eq c.add_next.new.levels) c.args.state.now c.loop-turn.turn
-          more.grows.kept c.loop-turn.invariant.turns more.added;
-    }
+pub add-requires-clause-near : goal.add-requires-clause-near
+add-requires-clause-near c =
+    IsWithin-next c.args.state.now c.twist-twisted.result (layer_turn_at 65) c.args.level c.requires.level c.is_valid.ensures
+    (sym (after-twist c.args.state.now c.twist-twisted.result 65 refl c.twist-twisted.ensures)) c.requires.near
 
 pub returns-clause-turns : goal.returns-clause-turns
-returns-clause-turns c = λ n r lt e. c.loop-turn.invariant.turns n r (omega arith) e
+returns-clause-turns c =
+    let s = c.args.state.now in
+    let f = get nat_eq c.args.levels.now in
+    let g = get nat_eq c.add.new.levels in
+    let fresh : is_some (f (key_of (twisted s))) ≡ false =
+    ap (λ q. is_some (f (key_of q))) (sym c.twist-twisted.ensures) ∙ ap (λ k. is_some (f k)) (sym c.key_of.ensures)
+    ∙ sym c.contains_key.ensures ∙ c.if-contains_key.false in
+    on_ok-map c.add.result
+    (λ (h : ((key n : ℕ) → f key ≡ Some n → g key ≡ Some n) × HasLevel c.args.level g (key_of c.twist-twisted.result)).
+    AreTurnsListed-twist s (c.args.level - 1) c.args.level f g c.is_valid.ensures (omega arith) (omega arith) c.requires.near
+    c.requires.told fresh h.0 (subst (λ q. HasLevel c.args.level g (key_of q)) c.twist-twisted.ensures h.1))
+    (on_ok-both ((key n : ℕ) → f key ≡ Some n → g key ≡ Some n) (HasLevel c.args.level g (key_of c.twist-twisted.result)) c.add.result
+    (on_ok-map c.add.result (λ h. h.kept) c.add.ensures.grows) c.add.ensures.added)

@@ -1,7 +1,7 @@
 use Rattle.std.specs.Prelude.{nat_eq}
 use Rattle.std.specs.HashMap.{get}
 use Rattle.scr_sq1far.specs.Levels.{AreListed, Grows, AreTurnsListed}
-use Rattle.scr_sq1far.proofs.levels.add_neighbours.Given as goal
+use Rattle.scr_sq1far.proofs.levels.add_turns.Given as goal
 
 abbrev pub invariant-loop-turn : goal.invariant-loop-turn
 invariant-loop-turn l = record {
