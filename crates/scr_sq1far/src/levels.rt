@@ -87,7 +87,8 @@ fn add_neighbours(
     requires told { AreTold (level - 1) (get nat_eq levels.old) }
     requires listed { AreListed level (get nat_eq levels.old) states.old.items }
     ensures listed { OnOk result (AreListed level (get nat_eq levels.new) states.new.items) }
-    ensures grows { OnOk result (Grows (get nat_eq levels.old) states.old.items (get nat_eq levels.new) states.new.items) }
+    ensures grows { OnOk result
+        (Grows (get nat_eq levels.old) states.old.items (get nat_eq levels.new) states.new.items) }
     ensures turns { OnOk result (AreTurnsListed level (get nat_eq levels.new) state.now 144) }
 {
     state.is_valid();
@@ -112,7 +113,8 @@ fn add_turns(
     requires level { 0 < level }
     requires listed { AreListed level (get nat_eq levels.old) states.old.items }
     ensures listed { OnOk result (AreListed level (get nat_eq levels.new) states.new.items) }
-    ensures grows { OnOk result (Grows (get nat_eq levels.old) states.old.items (get nat_eq levels.new) states.new.items) }
+    ensures grows { OnOk result
+        (Grows (get nat_eq levels.old) states.old.items (get nat_eq levels.new) states.new.items) }
     ensures turns { OnOk result (AreTurnsListed level (get nat_eq levels.new) state.now 144) }
 {
     state.is_valid();
@@ -135,7 +137,8 @@ fn add_next(
     requires level { 0 < level }
     requires listed { AreListed level (get nat_eq levels.old) states.old.items }
     ensures listed { OnOk result (AreListed level (get nat_eq levels.new) states.new.items) }
-    ensures grows { OnOk result (Grows (get nat_eq levels.old) states.old.items (get nat_eq levels.new) states.new.items) }
+    ensures grows { OnOk result
+        (Grows (get nat_eq levels.old) states.old.items (get nat_eq levels.new) states.new.items) }
     ensures added { OnOk result ((r : Sq1State) → sq1_after state.now (layer_turn_at turn) ≡ Some r
         → HasLevel level (get nat_eq levels.new) (key_of r)) }
 {
@@ -156,7 +159,8 @@ fn add(
     requires near { IsWithin sq1_puzzle state.now level }
     requires listed { AreListed level (get nat_eq levels.old) states.old.items }
     ensures listed { OnOk result (AreListed level (get nat_eq levels.new) states.new.items) }
-    ensures grows { OnOk result (Grows (get nat_eq levels.old) states.old.items (get nat_eq levels.new) states.new.items) }
+    ensures grows { OnOk result
+        (Grows (get nat_eq levels.old) states.old.items (get nat_eq levels.new) states.new.items) }
     ensures added { OnOk result (HasLevel level (get nat_eq levels.new) (key_of state.now)) }
 {
     state.is_valid();

@@ -6,8 +6,8 @@
 //! Words meet in the middle (`laws`). [`NearSolved`] keeps the 92,316 states from which at most six turns lead to
 //! solved, each with the least number of these, its level (`specs/Levels.antt`). [`needs_sq1_far`] tries words of up to
 //! four turns that lead to one of them. Only words are tried in which turns of the layers and twists take turns: each
-//! other can be made shorter (`specs/Alternating.antt`). So no more than two turns of the layers are tried one after the
-//! other, and no cut is needed. Only the build takes memory. The crate stands on the Square-1 of `scr_sq1`.
+//! other can be made shorter (`specs/Alternating.antt`). So no word that is tried has more than two turns of the layers,
+//! and no cut is needed. Only the build takes memory. The crate stands on the Square-1 of `scr_sq1`.
 #![tactic(auto)]
 
 mod keys;

@@ -11,8 +11,8 @@ use scr_outside::NoMemory;
 use scr_sq1::Sq1;
 use std::alloc::Global;
 
-/// What the test goes by: the states near solved. It is built once and lent to each test, since it takes memory, which a
-/// test has no answer for.
+/// What the test goes by: the states near solved. They are built once and lent to each test, since that takes memory,
+/// and a test has no answer for want of it.
 #[derive(Drop)]
 pub struct NearSolved {
     levels: Levels,
@@ -53,9 +53,9 @@ impl NearSolved {
 }
 
 /// Whether no word of fewer than `least` turns, of the layers and twists, brings a Square-1 to solved: a turn of the
-/// layers counts one, whether it turns one or both, and so does a twist (WCA Regulations, article 4b3). `least` is at most
-/// 11. The states near solved are passed, and not made here: that would take memory for each test, and could fail, where
-/// the test can't.
+/// layers counts one, whether it turns one or both, and so does a twist (WCA Regulations, article 4b3). `least` is at
+/// most 11. The states near solved are passed and not made here: to make them takes memory and can fail, where the test
+/// can't.
 pub fn needs_sq1_far(near: &NearSolved, state: &Sq1, least: u32) -> bool
     requires { least ≤ 11 }
     ensures { IsTrue result ↔ Needs sq1_puzzle state.now least }
