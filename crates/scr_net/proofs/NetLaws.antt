@@ -1,5 +1,5 @@
 -- Laws of nets: letters by rules, and turns that take letters along.
-use Rattle.std.proofs.Common.{◌≡◌, ℕ, zero, suc, ◌+◌, ◌-◌, ◌<◌, ◌≤◌, List, [], map, length, get_or, sym, ap, ◌∙◌, subst, inl, inr, lit<, arith}
+use Rattle.std.proofs.Common.{◌≡◌, ℕ, ◌-◌, ◌<◌, ◌≤◌, List, [], map, length, get_or, sym, ap, ◌∙◌, subst, inl, inr, lit<, arith}
 use Rattle.std.specs.Prelude.{slice_index}
 use Rattle.std.specs.List.{range_with_len}
 use Rattle.std.proofs.lemmas.List.{get_or_past}
@@ -7,7 +7,7 @@ use Rattle.std.proofs.lemmas.Bool.{cases_lt}
 use Rattle.std.proofs.lemmas.List.FromFn.{get_or-map-range_with_len, length-map-range_with_len, fill_by_all}
 use Rattle.scr_net.specs.declared.geometry.Sticker.{Sticker}
 use Rattle.scr_net.specs.Geometry.{row_of, column_of, carried_sticker, brought_from, IsSticker, sticker_at}
-use Rattle.scr_net.specs.Nets.{Letters, cell, letter_at, net_of, quarter_net, turned_net, HasShape, IsNet}
+use Rattle.scr_net.specs.Nets.{Letters, cell, letter_at, net_of, quarter_net, HasShape, IsNet}
 use Rattle.scr_net.proofs.StickerLaws.{IsSticker-carried, brought_from-carried, row_of-le, column_of-le, sticker_at-of}
 
 -- ---- a net by a rule
@@ -120,21 +120,3 @@ pub letter_at-carried : (side face depth : ℕ) (net : Letters) (s : Sticker) �
 letter_at-carried side face depth net s some lf h =
     letter_at-quarter side face depth net (carried_sticker (side - 1) face depth s) some (IsSticker-carried (side - 1) face depth s lf h)
     ∙ ap (letter_at side net) (brought_from-carried (side - 1) face depth s lf h)
-
--- ---- so many quarter turns
-
-pub turned_net-more : (side face depth deep amount made : ℕ) (net next goal : Letters) → made < amount → deep ≡ depth
-    → next ≡ quarter_net side face deep net → turned_net side face depth (amount - made) net ≡ goal
-    → turned_net side face depth (amount - (made + 1)) next ≡ goal
-unfolding turned_net
-turned_net-more side face depth deep amount made net next goal lt same quarter so_far =
-    let left : suc (amount - (made + 1)) ≡ amount - made = omega arith in
-    ap (turned_net side face depth (amount - (made + 1))) (quarter ∙ ap (λ d. quarter_net side face d net) same)
-    ∙ ap (λ n. turned_net side face depth n net) left ∙ so_far
-
-pub turned_net-all : (side face depth amount made : ℕ) (net goal : Letters) → amount ≤ made
-    → turned_net side face depth (amount - made) net ≡ goal → net ≡ goal
-unfolding turned_net
-turned_net-all side face depth amount made net goal le so_far =
-    let none : zero ≡ amount - made = omega arith in
-    ap (λ n. turned_net side face depth n net) none ∙ so_far

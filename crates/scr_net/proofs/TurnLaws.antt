@@ -21,9 +21,9 @@ use Rattle.scr_space.specs.Spins.{rotated, is_moved, carried}
 use Rattle.scr_space.specs.Turning.{times, HasOrder, Exchange}
 use Rattle.scr_space.proofs.SpinLaws.{is_moved-carried, carried-back, carried-exchange, times-after}
 use Rattle.scr_net.specs.declared.geometry.Sticker.{Sticker}
-use Rattle.scr_net.specs.Geometry.{quarter, point_at, column_of, brought_from, IsSticker, sticker_at}
+use Rattle.scr_net.specs.Geometry.{quarter, point_at, column_of, brought_from, carried_sticker, IsSticker, sticker_at}
 use Rattle.scr_net.specs.Nets.{Letters, HasShape, cell, letter_at, net_after, net_of, quarter_net, solved_net, turned_net, turns_layers}
-use Rattle.scr_net.proofs.StickerLaws.{each_face, same_sticker, opposite_face, turned_face, IsSticker-at, IsSticker-brought, row_of-at, column_of-at}
+use Rattle.scr_net.proofs.StickerLaws.{each_face, same_sticker, opposite_face, turned_face, brought_from-carried, IsSticker-at, IsSticker-brought, IsSticker-carried, row_of-at, column_of-at}
 use Rattle.scr_net.proofs.NetLaws.{cell-net_of, net-same, net_of-same, letter_at-net_of, HasShape-net_of}
 use Rattle.scr_net.proofs.LayerTurns.{TellsTurns-net, face_turn}
 
@@ -267,6 +267,18 @@ module _ (side : ℕ) (some : 0 < side) where
       ∙ turned-net_of face depth 4 (letter_at side net)
       ∙ same_at (letter_at side net) (times 4 (brought_from (side - 1) face depth)) (λ s. s) (brought-order (side - 1) face depth lt)
       ∙ sym (net-letters net shape)
+
+  -- three quarters are one the other way, which brings stickers from where a quarter takes them
+  pub turned_net-three : (face depth : ℕ) (net : Letters) → face < 6
+      → turned_net side face depth 3 net ≡ net_of side (λ s. letter_at side net (carried_sticker (side - 1) face depth s))
+  unfolding turned_net quarter_net
+  turned_net-three face depth net lt =
+      let brought = brought_from (side - 1) face depth in
+      let carried = carried_sticker (side - 1) face depth in
+      turned-net_of face depth 2 (λ s. letter_at side net (brought s))
+      ∙ same_at (letter_at side net) (λ s. brought (times 2 brought s)) carried (λ s h.
+      sym (times-after 2 brought s) ∙ ap (times 3 brought) (sym (brought_from-carried (side - 1) face depth s lt h))
+      ∙ brought-order (side - 1) face depth lt (carried s) (IsSticker-carried (side - 1) face depth s lt h))
 
   -- Fewer don't so to the solved net: a sticker on the face beside, in the outermost layer, goes to other faces.
   record IsBeside (face depth : ℕ) : Type 0 where

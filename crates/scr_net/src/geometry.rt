@@ -1,7 +1,7 @@
 //! The stickers of a cube, and quarter turns of them.
 ghost use Rattle.std.specs.Prelude.{◌≡◌, ◌<◌, ◌≤◌, ◌^◌};
-ghost use Rattle.scr_space.specs.Spins.{IsWithin};
-ghost use Rattle.scr_net.specs.Geometry.{IsSticker, point_at, sticker_at, row_of, column_of, outward, quarter, face_at, turned_sticker, brought_from};
+ghost use Rattle.scr_space.specs.Spins.{IsWithin, is_moved};
+ghost use Rattle.scr_net.specs.Geometry.{IsSticker, point_at, sticker_at, row_of, column_of, outward, quarter, face_at, turned_sticker, brought_from, carried_sticker};
 
 use scr_space::{Coordinate, Counted, Point, Spin};
 
@@ -148,6 +148,17 @@ fn turned_sticker(last: usize, face: u8, depth: usize, sticker: Sticker) -> Stic
     }
 }
 
+/// Whether a quarter turn of `depth` layers at a face moves a sticker.
+#[inline(always)]
+fn is_turned(last: usize, face: u8, depth: usize, sticker: Sticker) -> bool
+    requires small { last < 2 ^ 32 }
+    requires face { face < 6 }
+    requires sticker { IsSticker last sticker }
+    ensures { result ≡ is_moved last (quarter last face depth) sticker.point }
+{
+    sticker.point.is_moved(last, quarter(last, face, depth))
+}
+
 /// Where the sticker was before that a quarter turn of `depth` layers at a face takes here: the other way about a face
 /// is clockwise about the opposite one.
 #[inline(always)]
@@ -157,8 +168,23 @@ pub(crate) fn brought_from(last: usize, face: u8, depth: usize, sticker: Sticker
     requires sticker { IsSticker last sticker }
     ensures { result ≡ brought_from last face depth sticker }
 {
-    if sticker.point.is_moved(last, quarter(last, face, depth)) {
+    if is_turned(last, face, depth, sticker) {
         turned_sticker(last, (face + 3) % 6, depth, sticker)
+    } else {
+        sticker
+    }
+}
+
+/// Where a quarter turn of `depth` layers at a face takes a sticker.
+#[inline(always)]
+pub(crate) fn carried_sticker(last: usize, face: u8, depth: usize, sticker: Sticker) -> Sticker
+    requires small { last < 2 ^ 32 }
+    requires face { face < 6 }
+    requires sticker { IsSticker last sticker }
+    ensures { result ≡ carried_sticker last face depth sticker }
+{
+    if is_turned(last, face, depth, sticker) {
+        turned_sticker(last, face, depth, sticker)
     } else {
         sticker
     }

@@ -5,10 +5,10 @@ ghost use Rattle.scr_combinatorics.specs.Play.{play};
 ghost use Rattle.scr_notation.specs.declared.event.Event.{Event as TurnsOf};
 ghost use Rattle.scr_notation.specs.Turns.{permits};
 ghost use Rattle.scr_net.specs.declared.geometry.Sticker.{Sticker as Place};
-ghost use Rattle.scr_net.specs.Geometry.{IsSticker, brought_from, sticker_at};
+ghost use Rattle.scr_net.specs.Geometry.{IsSticker, brought_from, carried_sticker, sticker_at};
 ghost use Rattle.scr_net.specs.Nets.{HasShape, IsNet, IsSide, cell, letter_at, solved_net, quarter_net, turned_net, net_after};
 
-use crate::geometry::{Sticker, brought_from, by_face, column_of, row_of};
+use crate::geometry::{Sticker, brought_from, by_face, carried_sticker, column_of, row_of};
 use crate::shown::shown;
 use scr_notation::{Scramble, Turn};
 use std::marker::Model;
@@ -85,11 +85,16 @@ impl<const SIDE: usize> Net<SIDE> {
         requires few { amount ≤ 3 }
         ensures { result ≡ turned_net SIDE face depth amount self.now }
     {
-        let mut net = *self;
-        for _quarter in 0..amount {
-            net = net.quarter(face, usize::from(depth));
+        let depth = usize::from(depth);
+        if amount == 3 {
+            return self.quarter_back(face, depth);
         }
-        net
+        let once = self.quarter(face, depth);
+        if amount == 1 {
+            once
+        } else {
+            once.quarter(face, depth)
+        }
     }
 
     /// The net after a quarter turn of `depth` layers at a face. Each face's code is written out, and knows its face.
@@ -136,6 +141,52 @@ impl<const SIDE: usize> Net<SIDE> {
         ensures below { result < 6 }
     {
         self.letter_at(brought_from(SIDE - 1, face, depth, sticker))
+    }
+
+    /// The net after three quarter turns of `depth` layers at a face, which are one the other way.
+    fn quarter_back(&self, face: u8, depth: usize) -> Net<SIDE>
+        requires side { IsSide SIDE }
+        requires face { face < 6 }
+        ensures { result ≡ turned_net SIDE face depth 3 self.now }
+    {
+        by_face! { face;
+            self.quarter_back_about(0, depth),
+            self.quarter_back_about(1, depth),
+            self.quarter_back_about(2, depth),
+            self.quarter_back_about(3, depth),
+            self.quarter_back_about(4, depth),
+            self.quarter_back_about(5, depth),
+        }
+    }
+
+    /// The same, of the face that is named where this is called.
+    #[inline(always)]
+    fn quarter_back_about(&self, face: u8, depth: usize) -> Net<SIDE>
+        requires side { IsSide SIDE }
+        requires face { face < 6 }
+        ensures { result ≡ turned_net SIDE face depth 3 self.now }
+    {
+        Net::of_rule(
+            |sticker: Sticker| -> u8
+                requires side { IsSide SIDE }
+                requires face { face < 6 }
+                requires sticker { IsSticker (SIDE - 1) sticker }
+                ensures value { result ≡ letter_at SIDE self.entry.now (carried_sticker (SIDE - 1) face depth sticker) }
+                ensures below { result < 6 }
+            { self.brought_back(face, depth, sticker) },
+        )
+    }
+
+    /// The letter that a quarter turn of `depth` layers at a face the other way brings to a sticker's place.
+    #[inline(always)]
+    fn brought_back(&self, face: u8, depth: usize, sticker: Sticker) -> u8
+        requires side { IsSide SIDE }
+        requires face { face < 6 }
+        requires sticker { IsSticker (SIDE - 1) sticker }
+        ensures value { result ≡ letter_at SIDE self.now (carried_sticker (SIDE - 1) face depth sticker) }
+        ensures below { result < 6 }
+    {
+        self.letter_at(carried_sticker(SIDE - 1, face, depth, sticker))
     }
 
     /// The letter at a sticker.
