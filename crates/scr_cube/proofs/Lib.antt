@@ -11,5 +11,5 @@ pub mod Holds
 pub mod HeldLaws
 pub mod HeldReach
 pub mod NumberedHeld
-pub mod HeldStickers
+pub mod WideTurns
 pub mod ListedTurns

@@ -24,7 +24,7 @@ ghost use Rattle.scr_cube.specs.Composition.{IsJoined, cube_then};
 ghost use Rattle.scr_cube.specs.Cube333.{CubeTurn, IsCube, IsCubeTurn, cube_quarters, cube_action, cube_powers, solved_cube, cube_numbered};
 ghost use Rattle.scr_cube.specs.Cube222.{IsCorners222, quarters_222, powers_222, solved_222, numbered_222};
 ghost use Rattle.scr_cube.specs.Held.{HeldState, IsHeld, whole_turned, held_cube_after, solved_held, faces_turned, hold_word, holds, held_puzzle, held_numbered};
-ghost use Rattle.scr_cube.specs.Stickers.{MovesStickers, opposite_place, piece_faces, carried_piece, carried_whole, carried_wide};
+ghost use Rattle.scr_cube.specs.Stickers.{opposite_place};
 ghost use Rattle.scr_cube.specs.Symmetry.{ShowsTurns, left_right, up_down, front_back, without_dbl};
 ghost use Rattle.scr_cube.specs.Known.{known_orders, superflip, superflip_word, colours_after};
 
@@ -116,15 +116,9 @@ pub fn orders()
     ensures { HaveOrders cube_powers known_orders }
 {}
 
-/// A quarter turn of a held cube brings all stickers, the centres' too, to the places where it carries them, in each of
-/// the 24 holds: a turn of one layer carries the pieces that have a sticker there, and a wide turn all but those of the
-/// opposite layer. So a wide turn is one of the opposite face by the same amount, and one of the whole cube.
-pub fn held_stickers()
-    ensures moved { (hold place depth : ℕ) → hold < 24 → IsTrue (permits Bf333 (Face place depth 1))
-        → MovesStickers hold place depth }
-    ensures wide { (place : ℕ) → place < 3
-        → map (carried_wide place) piece_faces ≡ map (λ s. carried_whole place (carried_piece (opposite_place place) s)) piece_faces }
-    ensures as_two { (s : HeldState) (place amount : ℕ) → place < 3
+/// A wide turn of a held cube is one of the opposite face by the same amount, and one of the whole cube.
+pub fn wide_turns()
+    ensures { (s : HeldState) (place amount : ℕ) → place < 3
         → held_cube_after s (Face place 2 amount)
         ≡ option_map (λ r. record { cube = r.cube; centres = whole_turned place r.centres amount })
         (held_cube_after s (Face (opposite_place place) 1 amount)) }

@@ -1,4 +1,4 @@
--- Orders of words, the stickers that turns carry, and how many turns a state needs, by computation.
+-- Orders of words, and how many turns a state needs, by computation.
 use Rattle.std.proofs.Common.{◌≡◌, ℕ, [], ◌∷◌, Some, refl, ap, arith, lit<}
 use Rattle.std.specs.Prelude.{slice_get, slice_index}
 use Rattle.scr_combinatorics.specs.Play.{play}
@@ -10,25 +10,12 @@ use Rattle.scr_orbit.proofs.Minima.{one_needed, enough}
 use Rattle.scr_orbit.proofs.Orders.{All-word_orders, each_at}
 use Rattle.scr_notation.specs.TurnNumbers.{axis_turn_at}
 use Rattle.scr_tetra.specs.Skewb.{SkewbTurn, skewb_thirds, skewb_action, skewb_powers, solved_skewb}
-use Rattle.scr_tetra.specs.SkewbStickers.{CarriesAll, skewb_carried_piece}
 use Rattle.scr_tetra.specs.SkewbKnown.{skewb_orders, after_b_u}
 use Rattle.scr_tetra.proofs.SkewbLaws.{moves_nothing, tells_skewb}
 
 pub word_orders : HaveOrders skewb_powers skewb_orders
 unfolding moves_nothing composed_word power power_of composed identity added_digits axis_turn_at
 word_orders = All-word_orders skewb_action moves_nothing tells_skewb (letter_table skewb_powers) axis_turn_at skewb_orders refl
-
--- a table is what a turn does to stickers
-pub carries_stickers : (axis : ℕ) (r : SkewbTurn) → slice_get skewb_thirds axis ≡ Some r
-    → CarriesAll (skewb_carried_piece axis) r
-carries_stickers =
-    each_at (λ axis. CarriesAll (skewb_carried_piece axis)) skewb_thirds (
-      record { four = refl; three = refl; centres = refl },
-      (
-        record { four = refl; three = refl; centres = refl },
-        (record { four = refl; three = refl; centres = refl }, (record { four = refl; three = refl; centres = refl }, tt)),
-      ),
-    )
 
 -- ---- how many turns a state needs
 

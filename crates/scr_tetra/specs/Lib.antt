@@ -2,6 +2,6 @@ pub mod Skewb
 pub mod SkewbStickers
 pub mod SkewbKnown
 pub mod Pyraminx
-pub mod PyramStickers
+pub mod PyramHolds
 pub mod PyramKnown
 pub mod PyramParts

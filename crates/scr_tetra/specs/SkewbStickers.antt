@@ -1,6 +1,5 @@
--- What turns of a Skewb do to stickers, which is where the tables come from. The faces U R F D L B are 0 to 5.
-use Rattle.std.specs.Prelude.{ℕ, ◌*◌, ◌==◌, nat_lt, if◌then◌else◌, List, [], ◌∷◌, map, length, count_by, slice_index, slice_index_or}
-use Rattle.std.specs.List.{list_any}
+-- What turning a Skewb as a whole does to stickers. The faces U R F D L B are 0 to 5.
+use Rattle.std.specs.Prelude.{ℕ, List, [], ◌∷◌, map, slice_index}
 use Rattle.scr_orbit.specs.Stickers.{IsCarriedBy}
 use Rattle.scr_tetra.specs.Skewb.{SkewbTurn}
 
@@ -14,25 +13,6 @@ three_faces = (0 ∷ 4 ∷ 5 ∷ []) ∷ (3 ∷ 4 ∷ 2 ∷ []) ∷ (3 ∷ 1 ∷
 
 abbrev pub centre_faces : List (List ℕ)
 centre_faces = (0 ∷ []) ∷ (1 ∷ []) ∷ (2 ∷ []) ∷ (3 ∷ []) ∷ (4 ∷ []) ∷ (5 ∷ []) ∷ []
-
--- The faces of the corner at each axis: ULB for U, DLF for L, DRB for R, DBL for B.
-abbrev pub axis_faces : List (List ℕ)
-axis_faces = (0 ∷ 4 ∷ 5 ∷ []) ∷ (3 ∷ 4 ∷ 2 ∷ []) ∷ (3 ∷ 1 ∷ 5 ∷ []) ∷ (3 ∷ 5 ∷ 4 ∷ []) ∷ []
-
--- Where a clockwise turn by one third about each of these corners takes what is at U, R, F, D, L and B: about ULB, U
--- goes to L, L to B and B to U, and the faces opposite to them likewise.
-abbrev pub skewb_carried_to : List (List ℕ)
-skewb_carried_to =
-    (4 ∷ 2 ∷ 3 ∷ 1 ∷ 5 ∷ 0 ∷ []) ∷ (1 ∷ 5 ∷ 3 ∷ 4 ∷ 2 ∷ 0 ∷ []) ∷ (4 ∷ 5 ∷ 0 ∷ 1 ∷ 2 ∷ 3 ∷ [])
-    ∷ (2 ∷ 0 ∷ 1 ∷ 5 ∷ 3 ∷ 4 ∷ []) ∷ []
-
--- The faces of a piece's stickers after a turn about an axis. It carries half of the Skewb: the pieces that have most
--- of their stickers at the faces of the axis's corner.
-abbrev pub skewb_carried_piece : ℕ → List ℕ → List ℕ
-skewb_carried_piece axis piece =
-    if nat_lt (length piece) (2 * count_by (λ s. list_any (λ f. f == s) (slice_index_or axis_faces axis [])) piece)
-    then map (slice_index (slice_index_or skewb_carried_to axis [])) piece
-    else piece
 
 -- Where a clockwise turn by one third about UFR of the Skewb as a whole takes what is at each face: U to R, R to F,
 -- F to U.

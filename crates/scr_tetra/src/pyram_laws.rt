@@ -1,5 +1,5 @@
 //! Laws of the Pyraminx. The functions do nothing: what each ensures is the law.
-ghost use Rattle.std.specs.Prelude.{◌≡◌, ◌↔◌, ℕ, ◌+◌, ◌*◌, ◌/◌, ◌^◌, ◌≤◌, false, List, [], ◌∷◌, length, slice_get, IsSome, Some, codes};
+ghost use Rattle.std.specs.Prelude.{◌≡◌, ◌↔◌, ℕ, ◌+◌, ◌*◌, ◌/◌, ◌^◌, ◌≤◌, false, List, [], ◌∷◌, length, IsSome, Some, codes};
 ghost use Rattle.std.specs.List.{AllPass};
 ghost use Rattle.scr_combinatorics.specs.Numbering.{IsNumbering};
 ghost use Rattle.scr_combinatorics.specs.Permutations.{factorial};
@@ -15,8 +15,8 @@ ghost use Rattle.scr_notation.specs.TurnNumbers.{axis_turn_at};
 ghost use Rattle.scr_notation.specs.Spelling.{text_of};
 ghost use Rattle.scr_notation.specs.Turning.{opposite, turn_merging};
 ghost use Rattle.scr_notation.specs.Played.{PlaysTurnsOf};
-ghost use Rattle.scr_tetra.specs.Pyraminx.{TetraminxState, IsTetraminx, TetraminxTurn, IsTetraminxTurn, tetraminx_thirds, tetraminx_powers, numbered_tetraminx, PyramState, IsPyram, IsPyramTurn, pyram_powers, solved_pyram, numbered_pyram};
-ghost use Rattle.scr_tetra.specs.PyramStickers.{CarriesPyramStickers, ShowsThirds, about_up, half_round};
+ghost use Rattle.scr_tetra.specs.Pyraminx.{TetraminxState, IsTetraminx, IsTetraminxTurn, tetraminx_powers, numbered_tetraminx, PyramState, IsPyram, IsPyramTurn, pyram_powers, solved_pyram, numbered_pyram};
+ghost use Rattle.scr_tetra.specs.PyramHolds.{ShowsThirds, about_up, half_round};
 ghost use Rattle.scr_tetra.specs.PyramParts.{large_turns, tip_turn_count, turned_count, tips_word};
 ghost use Rattle.scr_tetra.specs.PyramKnown.{pyram_orders, edge_cycle, edge_flip, cycled, flipped, two_tips};
 
@@ -72,11 +72,6 @@ pub fn words_by_parts()
 /// U L has order 15, and the known words have theirs.
 pub fn orders()
     ensures { HaveOrders pyram_powers pyram_orders }
-{}
-
-/// Each table is what a third does to stickers.
-pub fn stickers()
-    ensures { (axis : ℕ) (r : TetraminxTurn) → slice_get tetraminx_thirds axis ≡ Some r → CarriesPyramStickers axis r }
 {}
 
 /// Held another way, the puzzle shows thirds as thirds about other axes.

@@ -1,5 +1,5 @@
 //! Laws of the Skewb. The functions do nothing: what each ensures is the law.
-ghost use Rattle.std.specs.Prelude.{◌≡◌, ℕ, ◌*◌, ◌/◌, ◌^◌, List, [], ◌∷◌, length, slice_get, Some, codes};
+ghost use Rattle.std.specs.Prelude.{◌≡◌, ℕ, ◌*◌, ◌/◌, ◌^◌, List, [], ◌∷◌, length, Some, codes};
 ghost use Rattle.scr_combinatorics.specs.Permutations.{factorial};
 ghost use Rattle.scr_combinatorics.specs.Numbering.{IsNumbering};
 ghost use Rattle.scr_combinatorics.specs.Play.{play, count_in};
@@ -11,8 +11,8 @@ ghost use Rattle.scr_notation.specs.declared.turn.Turn.{Turn as Letter};
 ghost use Rattle.scr_notation.specs.Spelling.{text_of};
 ghost use Rattle.scr_notation.specs.Turning.{opposite, turn_merging};
 ghost use Rattle.scr_notation.specs.Played.{PlaysTurnsOf};
-ghost use Rattle.scr_tetra.specs.Skewb.{SkewbTurn, IsSkewb, IsSkewbTurn, skewb_thirds, skewb_powers, solved_skewb, skewb_numbered};
-ghost use Rattle.scr_tetra.specs.SkewbStickers.{CarriesAll, skewb_carried_piece, rotated_piece};
+ghost use Rattle.scr_tetra.specs.Skewb.{IsSkewb, IsSkewbTurn, skewb_powers, solved_skewb, skewb_numbered};
+ghost use Rattle.scr_tetra.specs.SkewbStickers.{CarriesAll, rotated_piece};
 ghost use Rattle.scr_tetra.specs.SkewbKnown.{skewb_orders, after_b_u, after_b_r, rotation, RotatesTurns};
 
 /// The turns are lawful: they keep states valid, and composed turns act as one after the other; words are taken back
@@ -44,12 +44,6 @@ pub fn minima()
 /// U L has order 45, U L' 30, U B 9, and R' L R L' 6.
 pub fn orders()
     ensures { HaveOrders skewb_powers skewb_orders }
-{}
-
-/// Each table is what a turn by one third about the axis does to stickers.
-pub fn stickers()
-    ensures { (axis : ℕ) (r : SkewbTurn) → slice_get skewb_thirds axis ≡ Some r
-        → CarriesAll (skewb_carried_piece axis) r }
 {}
 
 /// The Skewb looks the same turned as a whole about UFR: each turn shows as the one about the next axis.
