@@ -8,9 +8,6 @@ use Rattle.scr_space.specs.declared.spin.Counted.TheVariants.{Three}
 use Rattle.scr_space.specs.Spins.{carried}
 use Rattle.scr_picture.specs.Stickers.{sources}
 
-abbrev pub point : ℕ → ℕ → ℕ → Point
-point x y z = record { x = x; y = y; z = z }
-
 abbrev pub same_point : Point → Point → Bool
 same_point p q = (p.x == q.x) && ((p.y == q.y) && (p.z == q.z))
 

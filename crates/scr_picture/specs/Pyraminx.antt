@@ -3,7 +3,8 @@
 use Rattle.std.specs.Prelude.{ℕ, ◌+◌, List, [], ◌∷◌, ◌++◌, map, flat_map, replicate}
 use Rattle.std.specs.List.{range_with_len}
 use Rattle.scr_space.specs.declared.spin.Point.{Point}
-use Rattle.scr_picture.specs.Grid.{point, about_urf, about_drb, about_ulb, about_dlf, moves_of}
+use Rattle.scr_net.specs.Geometry.{point}
+use Rattle.scr_picture.specs.Grid.{about_urf, about_drb, about_ulb, about_dlf, moves_of}
 
 -- The point with these weights of the corners U, L, R and B, which add up to 9.
 abbrev pub weighed : ℕ → ℕ → ℕ → ℕ → Point

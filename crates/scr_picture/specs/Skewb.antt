@@ -1,20 +1,17 @@
 -- A Skewb by its stickers (WCA Regulations, article 12).
-use Rattle.std.specs.Prelude.{ℕ, ◌-◌, List, [], ◌∷◌, ◌++◌, flat_map, replicate}
+use Rattle.std.specs.Prelude.{ℕ, List, [], ◌∷◌, flat_map, replicate}
 use Rattle.std.specs.List.{range_with_len}
 use Rattle.scr_space.specs.declared.spin.Point.{Point}
-use Rattle.scr_picture.specs.Grid.{point, about_ulb, about_dlf, about_drb, about_dbl, moves_of}
+use Rattle.scr_net.specs.Geometry.{point_at}
+use Rattle.scr_picture.specs.Grid.{about_ulb, about_dlf, about_drb, about_dbl, moves_of}
 
 -- The five stickers of a face, by row and column: two corners' above, its centre, and two corners' below.
 abbrev pub five_at : (ℕ → ℕ → Point) → List Point
 five_at at = at 1 1 ∷ at 1 5 ∷ at 3 3 ∷ at 5 1 ∷ at 5 5 ∷ []
 
--- The faces U, R, F, D, L and B as a net shows them: L, F, R and B with U above them, U with F below it and D with F
--- above it. x counts from left to right, y from bottom to top and z from back to front, each from 0 to 6.
+-- The faces U, R, F, D, L and B as a net shows them, in a grid to 6.
 abbrev pub skewb_points : List Point
-skewb_points =
-    five_at (λ row column. point column 6 row) ++ five_at (λ row column. point 6 (6 - row) (6 - column))
-    ++ five_at (λ row column. point column (6 - row) 6) ++ five_at (λ row column. point column 0 (6 - row))
-    ++ five_at (λ row column. point 0 (6 - row) column) ++ five_at (λ row column. point (6 - column) (6 - row) 0)
+skewb_points = flat_map (λ face. five_at (point_at 6 face)) (range_with_len 0 6)
 
 -- U turns about ULB, L about DLF, R about DRB and B about DBL, each the half of the Skewb that is nearer to this corner
 -- than to the opposite one: that of a sum of at least 10, where 18 is the whole.

@@ -9,12 +9,12 @@ use Rattle.scr_notation.specs.declared.turn.Turn.TheVariants.{Axis, Tip, Wide}
 
 -- For each place of a sticker, the number of the place from which a sticker comes there: `taken` has where the stickers
 -- of the places are taken, in the same order.
-abbrev pub brought_from : {P : Type 0} → (P → P → Bool) → List P → List P → List ℕ
-brought_from same places taken = map (λ p. unwrap_or (position (same p) taken) 0) places
+abbrev pub came_from : {P : Type 0} → (P → P → Bool) → List P → List P → List ℕ
+came_from same places taken = map (λ p. unwrap_or (position (same p) taken) 0) places
 
 -- The same of a rule that says where each is taken.
 unfoldable pub sources : {P : Type 0} → (P → P → Bool) → List P → (P → P) → List ℕ
-sources same places carried = brought_from same places (map carried places)
+sources same places carried = came_from same places (map carried places)
 
 -- the letters after so many of such moves
 unfoldable pub moved_times : ℕ → List ℕ → List ℕ → List ℕ
