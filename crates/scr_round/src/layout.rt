@@ -67,8 +67,8 @@ pub fn line_at(index: u32, round: &Round, line: u32) -> SheetLine
     group_line(own, (line - 1) / size, (line - 1) % size)
 }
 
-/// The head of a round.
-fn heading(index: u32, round: &Round) -> ArrayString<FIXED_ROOM>
+/// The head of round `index` of a list, counted from 0. It says nothing of the number of groups.
+pub fn heading(index: u32, round: &Round) -> ArrayString<FIXED_ROOM>
     requires { index < 256 }
     ensures { result.bytes ≡ heading index round.now }
 {
@@ -138,8 +138,8 @@ fn group_line(own: u32, group: u32, place: u32) -> SheetLine
     }
 }
 
-/// The name of a group: its letter, from A.
-fn group_name(group: u32) -> ArrayString<FIXED_ROOM>
+/// The name of a group by its number from 0: its letter, from A.
+pub fn group_name(group: u32) -> ArrayString<FIXED_ROOM>
     requires { group < 26 }
     ensures { result.bytes ≡ codes "Group " ++ (65 + group) ∷ [] }
 {
@@ -149,8 +149,9 @@ fn group_name(group: u32) -> ArrayString<FIXED_ROOM>
     name
 }
 
-/// The label of a scramble of a group: its number, from 1, and behind them E1 and E2.
-fn label(own: u32, place: u32) -> ArrayString<LABEL_ROOM>
+/// The label of the scramble at a place of a group, from 0, which has `own` scrambles besides the extra ones: its number,
+/// from 1, and behind them E1 and E2.
+pub fn label(own: u32, place: u32) -> ArrayString<LABEL_ROOM>
     requires own { own ≤ 5 }
     requires place { place < own + 2 }
     ensures { slice_get (labels_from 1 own) place ≡ Some result.bytes }
