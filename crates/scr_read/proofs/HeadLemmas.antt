@@ -1,0 +1,157 @@
+-- A line is the head of at most one round.
+use Rattle.std.proofs.Common.{◌≡◌, ℕ, ◌+◌, ◌^◌, ◌<◌, ◌≤◌, ◌==◌, true, false, List, [], ◌∷◌, ◌++◌, Some, refl, sym, ap, subst, ◌∙◌, arith, append_assoc, leb-true, lit<}
+use Rattle.std.specs.Prelude.{Option, None, codes, find, slice_get, nat_le}
+use Rattle.std.specs.Char.{is_ascii_digit}
+use Rattle.std.specs.Fmt.{decimal}
+use Rattle.std.specs.List.{list_any}
+use Rattle.std.specs.Str.{bytes_eq}
+use Rattle.std.proofs.lemmas.Bool.Decides.{nat_tests}
+use Rattle.std.proofs.lemmas.Fmt.{digits_decimal}
+use Rattle.std.proofs.lemmas.List.{append-nil}
+use Rattle.std.proofs.lemmas.Option.{same_Some}
+use Rattle.scr_text.specs.Numbers.{number_of_text}
+use Rattle.scr_text.proofs.NumberLaws.{digits_model, number_of_text-decimal}
+use Rattle.scr_notation.specs.declared.event.Event.{Event}
+use Rattle.scr_notation.specs.declared.event.Event.TheVariants.{C222, C333, Oh333, C555, C666, C777, Clock, Minx, Pyram, Skewb, Sq1, Bf333, Fm333}
+use Rattle.scr_notation.specs.declared.event.Minima.{Minima}
+use Rattle.scr_notation.specs.Event.{events, name_of, minima_of, greatest_of, greatest_in}
+use Rattle.scr_notation.proofs.EachEvent.{each_alike, each_passes}
+use Rattle.scr_round.specs.Round.{minimum_text, own_name_text, heading}
+use Rattle.scr_round.proofs.CleanLaws.{Lacks, apart, lacks_by}
+use Rattle.scr_read.specs.Heads.{HeadOf}
+use Rattle.scr_read.specs.Reading.{as_round, IsHeading}
+
+-- each event has a number
+pub numbered : (event : Event) → (k : ℕ) × (k < 13) × (slice_get events k ≡ Some event)
+numbered C222 = (0, lit< tt, refl)
+numbered C333 = (1, lit< tt, refl)
+numbered Oh333 = (2, lit< tt, refl)
+numbered C555 = (3, lit< tt, refl)
+numbered C666 = (4, lit< tt, refl)
+numbered C777 = (5, lit< tt, refl)
+numbered Clock = (6, lit< tt, refl)
+numbered Minx = (7, lit< tt, refl)
+numbered Pyram = (8, lit< tt, refl)
+numbered Skewb = (9, lit< tt, refl)
+numbered Sq1 = (10, lit< tt, refl)
+numbered Bf333 = (11, lit< tt, refl)
+numbered Fm333 = (12, lit< tt, refl)
+
+-- a head is what it is without a name, and then its name
+pub with_name : (k : ℕ) (event : Event) (least : ℕ) (name : List ℕ)
+    → heading k (record { event = event; groups = 1; least = least; name = name })
+    ≡ heading k (record { event = event; groups = 1; least = least; name = [] }) ++ own_name_text name
+with_name k event least name =
+    let bare = codes "Round " ++ decimal (k + 1) ++ codes ": " ++ name_of event ++ minimum_text (minima_of event) least in
+    ap (λ x. x ++ own_name_text name) (sym (append-nil bare))
+
+pub cancelled : (front xs ys : List ℕ) → front ++ xs ≡ front ++ ys → xs ≡ ys
+cancelled [] xs ys same = same
+cancelled (byte ∷ front) xs ys same = cancelled front xs ys (let rest : front ++ xs ≡ front ++ ys = cc in rest)
+
+-- ---- events by their names
+
+named : List ℕ → Option Event
+named name = find (λ event. bytes_eq (name_of event) name) events
+
+named-own : (event : Event) → named (name_of event) ≡ Some event
+unfolding named
+named-own event = each_alike (λ e. named (name_of e)) (λ e. Some e) refl event
+
+one_event : (a b : Event) → name_of a ≡ name_of b → a ≡ b
+one_event a b same = same_Some a b (sym (named-own a) ∙ ap named same ∙ named-own b)
+
+no_comma : (event : Event) → Lacks 44 (name_of event)
+no_comma event = each_alike (λ e. list_any (λ b. b == 44) (name_of e)) (λ e. false) refl event
+
+-- ---- minima and names
+
+-- what follows the comma behind an event's name
+minimum_rest : Option Minima → ℕ → List ℕ
+minimum_rest (Some minima) least = codes " at least " ++ decimal least
+minimum_rest None least = codes " random moves"
+
+minimum_comma : (minima : Option Minima) (least : ℕ) → minimum_text minima least ≡ 44 ∷ minimum_rest minima least
+unfolding minimum_rest
+minimum_comma (Some minima) least = refl
+minimum_comma None least = refl
+
+digits_no_comma : (n : ℕ) → n < 2 ^ 64 → Lacks 44 (decimal n)
+digits_no_comma n low = lacks_by 44 is_ascii_digit digit (decimal n) (digits_decimal digits_model n low)
+  where
+    digit : (byte : ℕ) → is_ascii_digit byte ≡ true → (byte == 44) ≡ false
+    digit byte is = grind (arith, nat_tests)
+
+one_decimal : (n m : ℕ) → n < 2 ^ 64 → m < 2 ^ 64 → decimal n ≡ decimal m → n ≡ m
+one_decimal n m low low' same =
+    same_Some n m (sym (number_of_text-decimal n low) ∙ ap number_of_text same ∙ number_of_text-decimal m low')
+
+-- a name with a comma behind it begins with a comma
+name_rest : List ℕ → List ℕ
+name_rest [] = []
+name_rest (byte ∷ name) = codes " " ++ byte ∷ name ++ 44 ∷ []
+
+name_comma : (name : List ℕ) → own_name_text name ++ 44 ∷ [] ≡ 44 ∷ name_rest name
+unfolding name_rest
+name_comma [] = refl
+name_comma (byte ∷ name) = refl
+
+one_name : (a b : List ℕ) → own_name_text a ≡ own_name_text b → a ≡ b
+one_name [] [] same = refl
+one_name [] (byte ∷ name) same = absurd (cc)
+one_name (byte ∷ name) [] same = absurd (cc)
+one_name (x ∷ a) (y ∷ b) same = cc
+
+one_minimum : (minima : Option Minima) (n m : ℕ) (a b : List ℕ) → n ≤ greatest_in minima → m ≤ greatest_in minima → greatest_in minima ≤ 15
+    → minimum_rest minima n ++ own_name_text a ≡ minimum_rest minima m ++ own_name_text b → (n ≡ m) × (a ≡ b)
+unfolding minimum_rest
+one_minimum None n m a b few few' range same =
+    (omega (arith, few, few'), one_name a b (cancelled (codes " random moves") (own_name_text a) (own_name_text b) same))
+one_minimum (Some minima) n m a b few few' range same =
+    let low : n < 2 ^ 64 = omega (arith, few, range) in
+    let low' : m < 2 ^ 64 = omega (arith, few', range) in
+    let behind : decimal n ++ own_name_text a ≡ decimal m ++ own_name_text b =
+    cancelled (codes " at least ") (decimal n ++ own_name_text a) (decimal m ++ own_name_text b) same in
+    let ended : decimal n ++ 44 ∷ name_rest a ≡ decimal m ++ 44 ∷ name_rest b =
+    ap (λ x. decimal n ++ x) (sym (name_comma a)) ∙ sym (append_assoc (decimal n) (own_name_text a) (44 ∷ []))
+    ∙ ap (λ x. x ++ 44 ∷ []) behind ∙ append_assoc (decimal m) (own_name_text b) (44 ∷ []) ∙ ap (λ x. decimal m ++ x) (name_comma b) in
+    let digits = (apart 44 (decimal n) (name_rest a) (decimal m) (name_rest b) refl (digits_no_comma n low) (digits_no_comma m low') ended).0 in
+    let names : decimal n ++ own_name_text a ≡ decimal n ++ own_name_text b = behind ∙ ap (λ d. d ++ own_name_text b) (sym digits) in
+    (one_decimal n m low low' digits, one_name a b (cancelled (decimal n) (own_name_text a) (own_name_text b) names))
+
+-- ---- heads
+
+tail_of : HeadOf → List ℕ
+tail_of head = minimum_rest (minima_of head.event) head.least ++ own_name_text head.name
+
+parts : (k : ℕ) (head : HeadOf) → heading k (as_round head)
+    ≡ (codes "Round " ++ decimal (k + 1) ++ codes ": ") ++ (name_of head.event ++ 44 ∷ tail_of head)
+unfolding tail_of
+parts k head =
+    let front = codes "Round " ++ decimal (k + 1) ++ codes ": " in
+    let name = name_of head.event in
+    let minimum = minimum_text (minima_of head.event) head.least in
+    let own = own_name_text head.name in
+    append_assoc (front ++ name) minimum own ∙ append_assoc front name (minimum ++ own)
+    ∙ ap (λ x. front ++ (name ++ (x ++ own))) (minimum_comma (minima_of head.event) head.least)
+
+same_heads : (a b : HeadOf) → a.event ≡ b.event → a.least ≡ b.least → a.name ≡ b.name → a ≡ b
+same_heads a b event least name =
+    ap (λ x. record { event = x; least = a.least; name = a.name }) event
+    ∙ ap (λ x. record { event = b.event; least = x; name = a.name }) least
+    ∙ ap (λ x. record { event = b.event; least = b.least; name = x }) name
+
+pub one_head : (k : ℕ) (line : List ℕ) (a b : HeadOf) → IsHeading k line a → IsHeading k line b → a ≡ b
+unfolding tail_of
+one_head k line a b one other =
+    let front = codes "Round " ++ decimal (k + 1) ++ codes ": " in
+    let whole = sym (parts k a) ∙ sym one.is ∙ other.is ∙ parts k b in
+    let behind = cancelled front (name_of a.event ++ 44 ∷ tail_of a) (name_of b.event ++ 44 ∷ tail_of b) whole in
+    let cut = apart 44 (name_of a.event) (tail_of a) (name_of b.event) (tail_of b) refl (no_comma a.event) (no_comma b.event) behind in
+    let event = one_event a.event b.event cut.0 in
+    let range : greatest_of a.event ≤ 15 = leb-true (greatest_of a.event) 15 (each_passes (λ e. nat_le (greatest_of e) 15) refl a.event) in
+    let few : b.least ≤ greatest_of a.event = subst (λ e. b.least ≤ greatest_of e) (sym event) other.round.least in
+    let rest : minimum_rest (minima_of a.event) a.least ++ own_name_text a.name ≡ minimum_rest (minima_of a.event) b.least ++ own_name_text b.name =
+    cut.1 ∙ ap (λ e. minimum_rest (minima_of e) b.least ++ own_name_text b.name) (sym event) in
+    let same = one_minimum (minima_of a.event) a.least b.least a.name b.name one.round.least few range rest in
+    same_heads a b event same.0 same.1

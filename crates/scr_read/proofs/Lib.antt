@@ -1,0 +1,9 @@
+pub mod LineLemmas
+pub mod HeadLemmas
+pub mod StepLemmas
+pub mod PlaceLemmas
+pub mod NextLemmas
+pub mod TextLemmas
+pub mod SheetLemmas
+pub mod OnlyLemmas
+pub mod WalkLemmas

@@ -1,0 +1,6 @@
+pub mod Sheets
+pub mod Heads
+pub mod Reading
+pub mod Faults
+pub mod Places
+pub mod Steps

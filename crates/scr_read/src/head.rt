@@ -1,0 +1,127 @@
+//! The heads of rounds.
+
+ghost use Rattle.std.specs.Prelude.{◌≡◌, ◌<◌, ◌≤◌, ◌↔◌, true, List, ℕ, IsTrue, IfSome, IsNone};
+ghost use Rattle.scr_notation.specs.Event.{greatest_of};
+ghost use Rattle.std.specs.List.{list_all};
+ghost use Rattle.scr_text.specs.Lines.{has_bytes};
+ghost use Rattle.scr_list.specs.Names.{is_name_byte, IsName};
+ghost use Rattle.scr_round.specs.Round.{own_name_text};
+ghost use Rattle.scr_read.specs.Heads.{HeadOf};
+ghost use Rattle.scr_read.specs.Reading.{IsHeading};
+
+use crate::lines::behind;
+use crate::piece::Head;
+use arrayvec::ArrayString;
+use scr_list::{NAME_ROOM, Round};
+use scr_notation::{EVENTS, Event};
+use scr_round::heading;
+
+/// What a line tells that is the head of round `index`, counted from 0. It is held against what each event's head with
+/// each minimum begins with.
+pub(crate) fn read_head(index: u32, line: &[u8]) -> Option<Head>
+    requires { index < 256 }
+    ensures found { IfSome result (λ head. IsHeading index line.now head) }
+    ensures none { IsNone result → (head : HeadOf) → IsHeading index line.now head → ⊥ }
+{
+    for number in 0..EVENTS.len() {
+        if let Some(head) = read_head_of(index, EVENTS[number], line) {
+            return Some(head);
+        }
+    }
+    None
+}
+
+/// The same of a round of this event.
+fn read_head_of(index: u32, event: Event, line: &[u8]) -> Option<Head>
+    requires { index < 256 }
+    ensures found { IfSome result (λ head. IsHeading index line.now head) }
+    ensures none { IsNone result → (head : HeadOf) → head.event ≡ event → IsHeading index line.now head → ⊥ }
+{
+    let greatest = greatest_of(event);
+    for least in 0..greatest + 1 {
+        if let Some(name) = read_name(index, event, least, line) {
+            return Some(Head { event, least, name });
+        }
+    }
+    None
+}
+
+/// The greatest minimum of an event's rounds; 0 where they have none.
+fn greatest_of(event: Event) -> u8
+    ensures value { result ≡ greatest_of event }
+    ensures few { result ≤ 15 }
+{
+    match event.minima() {
+        Some(minima) => minima.greatest,
+        None => 0,
+    }
+}
+
+/// The name in the head of a round of this event with this minimum.
+fn read_name(index: u32, event: Event, least: u8, line: &[u8]) -> Option<ArrayString<NAME_ROOM>>
+    requires index { index < 256 }
+    requires least { least ≤ greatest_of event }
+    ensures found { IfSome result (λ name.
+        IsHeading index line.now (record { event = event; least = least; name = name.bytes })) }
+    ensures none { IsNone result → (name : List ℕ)
+        → IsHeading index line.now (record { event = event; least = least; name = name }) → ⊥ }
+{
+    let unnamed = Round {
+        event,
+        groups: 1,
+        least,
+        name: ArrayString::new(),
+    };
+    let front = heading(index, &unnamed);
+    match behind(front.as_str(), line) {
+        Some(text) => own_name(text),
+        None => None,
+    }
+}
+
+/// The name that a head ends with, where it has one.
+fn own_name(text: &[u8]) -> Option<ArrayString<NAME_ROOM>>
+    ensures found { IfSome result (λ name.
+        (text.now ≡ own_name_text name.bytes) × (has_bytes name.bytes ≡ true → IsName name.bytes)) }
+    ensures none { IsNone result → (name : List ℕ) → (has_bytes name ≡ true → IsName name)
+        → text.now ≡ own_name_text name → ⊥ }
+{
+    if text.is_empty() {
+        return Some(ArrayString::new());
+    }
+    let name = behind(", ", text)?;
+    if !is_own_name(name) {
+        return None;
+    }
+    match str::from_utf8(name) {
+        Ok(name) => {
+            let mut own = ArrayString::new();
+            own.push_str(name);
+            Some(own)
+        }
+        Err(_) => unreachable!("such bytes are text"),
+    }
+}
+
+/// Whether a text is a name that a list can give.
+fn is_own_name(text: &[u8]) -> bool
+    ensures { IsTrue result ↔ IsName text.now }
+{
+    1 <= text.len()
+        && text.len() <= NAME_ROOM
+        && are_name_bytes(text)
+        && text[0] != b' '
+        && text[text.len() - 1] != b' '
+}
+
+fn are_name_bytes(text: &[u8]) -> bool
+    ensures { result ≡ list_all is_name_byte text.now }
+{
+    text.iter().all(|byte| is_name_byte(*byte))
+}
+
+fn is_name_byte(byte: u8) -> bool
+    ensures { result ≡ is_name_byte byte }
+{
+    32 <= byte && byte <= 126
+}

@@ -1,0 +1,36 @@
+//! The lines of a text, and what stands in them behind a front.
+
+ghost use Rattle.std.specs.Prelude.{◌≡◌, ◌<◌, ◌++◌, ◌∷◌, List, ℕ, length, position, MatchOption, IfSome};
+ghost use Rattle.scr_text.specs.Lines.{is_line_feed};
+ghost use Rattle.scr_read.specs.Faults.{IsOneLine, Begins};
+
+/// The first line of a text, without its line feed, and what follows; `None` where no line feed stands in the text.
+pub(crate) fn first_line(text: &[u8]) -> Option<(&[u8], &[u8])>
+    ensures { MatchOption result (IsOneLine text.now)
+        (λ parts. (text.now ≡ parts.0.now ++ 10 ∷ parts.1.now) × IsOneLine parts.0.now) }
+{
+    match line_feed(text) {
+        Some(end) => Some((&text[..end], &text[end + 1..])),
+        None => None,
+    }
+}
+
+/// The place of the first line feed.
+fn line_feed(text: &[u8]) -> Option<usize>
+    ensures place { result ≡ position is_line_feed text.now }
+    ensures within { IfSome result (λ end. end < length text.now) }
+{
+    text.iter().position(|byte| *byte == b'\n')
+}
+
+/// What stands in a line behind a front, if the line begins with it.
+pub(crate) fn behind<'t>(front: &str, line: &'t [u8]) -> Option<&'t [u8]>
+    ensures { MatchOption result (Begins front.now line.now → ⊥) (λ behind. line.now ≡ front.now ++ behind.now) }
+{
+    let (begin, behind) = line.split_at_checked(front.len())?;
+    if begin == front.as_bytes() {
+        Some(behind)
+    } else {
+        None
+    }
+}
