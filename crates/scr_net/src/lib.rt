@@ -7,9 +7,9 @@
 //! nets of a 3x3x3, held any way too, and of a 2x2x2 by their pieces ([`of_cube`], [`of_corners`]) stand in
 //! `specs/Pieces.antt`. The theorem is the contract of `laws::cube_net`, of `laws::held_net` and of `laws::corners_net`: for
 //! every scramble that a cube plays, the net of the scramble played on stickers is the net of the state that it is played
-//! to on pieces. What holds of cubes of any size, that a turn keeps each letter as often, that four quarters are none,
-//! that turns about one axis exchange and that a word is taken back, is the contract of `laws::turns_of_layers` and of
-//! `laws::taken_back`. The crate stands on turns in space, on the cubes of `scr_cube`, on the notation of turns, and for
+//! to on pieces; and of no other state, by `laws::one_state`. What holds of cubes of any size, that a turn keeps each
+//! letter as often, that four quarters are none and fewer are something, that turns about one axis exchange and that a
+//! word is taken back, is the contract of `laws::turns_of_layers` and of `laws::taken_back`. The crate stands on turns in space, on the cubes of `scr_cube`, on the notation of turns, and for
 //! [`write_net`] on `scr_outside`. Nothing takes memory.
 #![tactic(auto)]
 
