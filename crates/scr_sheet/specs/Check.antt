@@ -109,9 +109,9 @@ pub record ReadsInput (source : Change) (Tells : List ℕ → Type 0) : Type 0 w
   pub no_end : ended ≡ false → source.ends_after ≡ source.ends_before
   pub tells : (rest : List ℕ) → CanFollow ended rest → Tells (bytes ++ rest)
 
--- What the check of an input ends with, by what was read of it. That is what the input comes to. Or the tables could not
--- be built by which the states of its rounds are tested: then its list part was read, which names these rounds, and of
--- its sheet part 4,096 bytes at most. Or it could not be read.
+-- What the check of an input ends with, by what was read of it. That is what the input comes to. Or the tables could
+-- not be built by which the states of its rounds are tested: then its list part was read, which names these rounds, and
+-- of its sheet part 4,096 bytes at most. Or it could not be read.
 abbrev pub EndsChecking : Settings → Change → Result (Unit {0}) Fault → Type 0
 EndsChecking settings source answer =
     ReadsInput source (λ input. InputComesTo settings (rounds_in input) input answer)

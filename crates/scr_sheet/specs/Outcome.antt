@@ -53,8 +53,8 @@ IsStopped settings missing k (failing ∷ rest) =
     (j : ℕ) × (missing ≡ record { round = k + 1; slot = j + 1; words = 3 * settings.attempts }) × IsFirstWithout settings failing j
 
 -- How the parts end that are made and written one after another. All were written. Or a slot has no scramble: those
--- before its part were written. Or the output failed: a first part was written of the text of some leading parts. Memory
--- is never wanting here: it was taken before, by what saw no seed.
+-- before its part were written. Or the output failed: a first part was written of the text of some leading parts.
+-- Memory is never wanting here: it was taken before, by what saw no seed.
 abbrev pub EndsParts : Settings → ℕ → List Part → Change → Result (Unit {0}) Fault → Type 0
 EndsParts settings k parts out (Ok _) = IsLed settings parts (Gains out) (λ led rest. rest ≡ [])
 EndsParts settings k parts out (Err (fault.DrawLimit missing)) =
@@ -68,8 +68,9 @@ EndsParts settings k parts out (Err _) = ⊥
 abbrev pub Stops : Fault → Change → Result (Unit {0}) Fault → Type 0
 Stops why out ended = (ended ≡ Err why) × IsUnwritten out
 
--- How the making and writing of parts ends, for which tables are built and memory is taken first. There they are, so that
--- each part is drawn fairly (of random moves: each of their steps is), and so end the parts; or they could not be had.
+-- How the making and writing of parts ends, for which tables are built and memory is taken first. There they are, so
+-- that each part is drawn fairly (of random moves: each of their steps is), and so end the parts; or they could not be
+-- had.
 abbrev pub EndsMaking : Settings → List Part → Change → Result (Unit {0}) Fault → Type 0
 EndsMaking settings parts out ended =
     (All (λ part. IsDrawnFairly (scrambling_of part.event) part.least) parts × EndsParts settings 0 parts out ended)

@@ -35,7 +35,8 @@ pub record IsReadyFor (rounds : List Round) (ready : Ready) : Type 0 where
 abbrev pub IsUnready : List Event → BuildFault → Type 0
 IsUnready events why = IsBuildCause events why ⊎ (why ≡ build.NoMemory)
 
--- How a call ends that is handed what is ready: as is said of it; or as it was not got ready, and nothing is written.
+-- How a call ends that is handed what another got ready: as is said of it; or, where that failed, for the same reason,
+-- with nothing written.
 abbrev pub EndsAfter : {X : Type 0} → Result X BuildFault → (Change → Result (Unit {0}) Fault → Type 0) → Change
     → Result (Unit {0}) Fault → Type 0
 EndsAfter (Ok ready) Ends out ended = Ends out ended

@@ -31,8 +31,8 @@ pub(crate) struct Tests {
     pub tables: Tables,
 }
 
-/// Reads the list of an input, and builds the tables by which the states of its rounds are tested. Nothing that is drawn
-/// is seen here, and nothing of the sheet but what was read ahead: so want of memory tells nothing of either.
+/// Reads the list of an input, and builds the tables by which the states of its rounds are tested. Nothing that is
+/// drawn is seen here, and nothing of the sheet but what was read ahead: so want of memory tells nothing of either.
 pub(crate) fn tests_of_list<R: Threads + Sync, S: Source>(
     rt: &R,
     alloc: Global,
@@ -47,9 +47,9 @@ pub(crate) fn tests_of_list<R: Threads + Sync, S: Source>(
     Ok(Tests { rounds, tables })
 }
 
-/// Holds what a reader has still to give against the lines of the sheet of a list's rounds, made with a seed and so many
-/// attempts a slot, and writes that they agree, where they do; or ends as the rounds or their tables were not got. It has
-/// no memory to give.
+/// Holds what a reader has still to give against the lines of the sheet of a list's rounds, made with a seed and so
+/// many attempts a slot, and writes that they agree, where they do. Where the rounds or their tables were not got, it
+/// ends for the same reason, reads no more and writes nothing. It is given no allocator.
 pub(crate) fn write_check<S: Source, O: Sink>(
     tests: Result<Tests, Fault>,
     seed: &Seed,
@@ -62,7 +62,7 @@ pub(crate) fn write_check<S: Source, O: Sink>(
     ensures same_source { source_name reader.new ≡ source_name reader.old }
     ensures ends { EndsHolding S.left S.faults S.ends (reading reader.old) (reading reader.new)
         (check_settings seed.now attempts) tests (change_of O.held O.faults out.old out.new) result }
-    // What was drawn, and what was judged, has no say in it.
+    // Whatever is drawn and judged, it doesn't end so for it.
     ensures memory { result ≡ Err NoMemory → tests ≡ Err NoMemory }
 {
     let Tests { rounds, tables } = tests?;

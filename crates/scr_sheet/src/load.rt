@@ -57,8 +57,8 @@ pub(crate) struct Size {
     sum: u32,
 }
 
-/// Makes the sheet of these rounds, with the usual options and what is ready for them, and writes what it amounts to; or
-/// ends as it was not got ready. It has no memory to give.
+/// Makes the sheet of these rounds, with the usual options and what was got ready for them, and writes what it amounts
+/// to. Where that failed, it ends for the same reason, and writes nothing. It is given no allocator.
 pub(crate) fn write_load<R: Threads + Sync, O: Sink, G: Gate + Sync>(
     rt: &R,
     ready: Result<Ready, BuildFault>,
@@ -72,7 +72,7 @@ pub(crate) fn write_load<R: Threads + Sync, O: Sink, G: Gate + Sync>(
     requires few { length rounds.now ≤ 16 }
     ensures ends { EndsAfter ready (EndsSized (settings_of seed.now usual_options) rounds.now)
         (change_of O.held O.faults out.old out.new) result }
-    // What was drawn has no say in it.
+    // Whatever is drawn, it doesn't end so for it.
     ensures memory { result ≡ Err NoMemory → ready ≡ Err build.NoMemory }
 {
     let Ready { tables, mut room } = ready?;

@@ -35,7 +35,8 @@ use scr_workers::Gate;
 use std::alloc::Global;
 use std::thread::Threads;
 
-/// Makes and writes these rounds with what is ready for them; or ends as it was not got ready. It has no memory to give.
+/// Makes and writes these rounds with what was got ready for them. Where that failed, it ends for the same reason, and
+/// writes nothing. It is given no allocator.
 pub(crate) fn write_sheet<R: Threads + Sync, O: Sink, G: Gate + Sync>(
     rt: &R,
     ready: Result<Ready, BuildFault>,
@@ -51,7 +52,7 @@ pub(crate) fn write_sheet<R: Threads + Sync, O: Sink, G: Gate + Sync>(
     requires short { IsShort options.now.short }
     ensures ends { EndsAfter ready (EndsParts (settings_of seed.now options.now) 0 (round_parts 0 rounds.now))
         (change_of O.held O.faults out.old out.new) result }
-    // What was drawn has no say in it.
+    // Whatever is drawn, it doesn't end so for it.
     ensures memory { result ≡ Err NoMemory → ready ≡ Err build.NoMemory }
 {
     let Ready { tables, mut room } = ready?;

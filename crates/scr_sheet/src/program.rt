@@ -44,9 +44,9 @@ use std::thread::Threads;
 ///
 /// For minx, 555, 666 and 777 no state is drawn: each random move is taken by equally many numbers.
 ///
-/// Want of memory comes only where the first word is `sheet` or `check`, where tables are needed, or where rounds are made
-/// for `load`. It tells nothing of what is drawn or judged: it comes from calls that see no seed, and before the first
-/// draw, so then nothing is written. A fault of `err` changes no status.
+/// Want of memory comes only where the first word is `sheet` or `check`, where tables are needed, or where rounds are
+/// made for `load`. It tells nothing of what is drawn or judged: it comes from calls that see no seed, and before the
+/// first draw, so then nothing is written. A fault of `err` changes no status.
 ///
 /// The slots of a round are claimed by as many workers as the words ask for, and each passes `gate` before it is drawn.
 pub fn run<'w, R: Threads + Sync, S: Source, O: Sink, E: Sink, G: Gate + Sync>(

@@ -35,7 +35,8 @@ impl Ready {
         requires rounds { IsRounds rounds.now }
         requires workers { (1 ≤ workers) × (workers ≤ 64) }
         ensures ready { IfOk result (IsReadyFor rounds.now) }
-        ensures fair { IfOk result (λ _. All (λ part. IsDrawnFairly (scrambling_of part.event) part.least) (round_parts 0 rounds.now)) }
+        ensures fair { IfOk result (λ _.
+            All (λ part. IsDrawnFairly (scrambling_of part.event) part.least) (round_parts 0 rounds.now)) }
         ensures cause { IfErr result (IsUnready (map (λ part. part.event) (round_parts 0 rounds.now))) }
     {
         let tables = Tables::build(rt, alloc, rounds, workers)?;

@@ -25,8 +25,8 @@ use scr_table::BuildFault;
 use scr_words::Seed;
 
 /// Draws the state of stream 0 of a seed, of which no minimum is asked, and writes the line of its scramble, and below
-/// it the net that this makes of a cube with so many layers, where one is asked; or ends as the tables of the event were
-/// not built. It has no memory to give.
+/// it the net that this makes of a cube with so many layers, where one is asked. Where the tables of the event were not
+/// built, it ends for the same reason, and writes nothing. It is given no allocator.
 pub(crate) fn write_single<O: Sink>(
     tables: Result<Tables, BuildFault>,
     event: Event,
@@ -38,7 +38,7 @@ pub(crate) fn write_single<O: Sink>(
     requires side { IfSome side (λ side. (2 ≤ side) × (side ≤ 7)) }
     ensures ends { EndsAfter tables (EndsParts (settings_of seed.now usual_options) 0 (single_part event side ∷ []))
         (change_of O.held O.faults out.old out.new) result }
-    // What was drawn has no say in it.
+    // Whatever is drawn, it doesn't end so for it.
     ensures memory { result ≡ Err NoMemory → tables ≡ Err build.NoMemory }
 {
     let tables = tables?;
