@@ -1,2 +1,3 @@
 pub mod ItemLemmas
 pub mod StepLemmas
+pub mod FillLemmas

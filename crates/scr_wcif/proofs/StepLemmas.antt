@@ -2,8 +2,8 @@
 use Rattle.std.proofs.Common.{◌≡◌, ℕ, ◌+◌, ◌-◌, ◌≤◌, List, [], ◌∷◌, ◌++◌, map, take, drop, length, get_or, Option, Some, None, Result, Ok, Err, refl, sym, ap, subst, ◌∙◌, arith, append_assoc, Bor}
 use Rattle.std.specs.Prelude.{OnOk, All, option_to_list}
 use Rattle.std.specs.List.{filter_map}
-use Rattle.std.proofs.lemmas.List.{take_all}
-use Rattle.std.proofs.lemmas.List.Elements.{All-cons, All-nil, All-append}
+use Rattle.std.proofs.lemmas.List.{take_all, map-append}
+use Rattle.std.proofs.lemmas.List.Elements.{All-cons, All-nil, All-append, All-tail}
 use Rattle.json.specs.Json.{Json, Items, item}
 use Rattle.scr_text.specs.Steps.{and_then}
 use Rattle.scr_wcif.specs.declared.fault.FileFault.{FileFault}
@@ -29,6 +29,14 @@ grown f (Ok done) old mid new xs first rest head are step mid_is new_is =
     ∙ ap (λ l. old ++ l) (sym step ∙ ap f (sym are))
 grown f (Err why) old mid new xs first rest head are step mid_is new_is = new_is
 
+-- a list whose items are seen as others grows by what is seen of one more
+pub grown-view : {V X Y E : Type 0} (view : V → Y) (f : List X → List Y) (result : Result (Unit {0}) E) (old mid new : List V) (v : V) (xs : List X) (first : X) (rest : List X) →
+    xs ≡ first ∷ rest → f (first ∷ rest) ≡ view v ∷ f rest → mid ≡ old ++ v ∷ [] → OnOk result (map view new ≡ map view mid ++ f rest) →
+    OnOk result (map view new ≡ map view old ++ f xs)
+grown-view view f result old mid new v xs first rest are step mid_is new_is =
+    grown f result (map view old) (map view mid) (map view new) xs first rest (view v ∷ []) are step
+    (ap (map view) mid_is ∙ map-append view old (v ∷ [])) new_is
+
 pub filter_map-step : {X Y : Type 0} (h : X → Option Y) (first : X) (rest : List X)
     → filter_map h (first ∷ rest) ≡ option_to_list (h first) ++ filter_map h rest
 filter_map-step {X = X} {Y = Y} h first rest = at (h first) refl
@@ -42,6 +50,13 @@ pub all-step : {X E : Type 0} (P : X → Type 0) (result : Result (Unit {0}) E) 
     OnOk result (new ≡ old ++ x ∷ []) → OnOk result (All P new)
 all-step P (Ok done) old new x it all is = subst (All P) (sym is) (All-append P old (x ∷ []) all (All-cons P x [] it (All-nil P)))
 all-step P (Err why) old new x it all is = is
+
+pub all-added : {X : Type 0} (P : X → Type 0) (old new : List X) (x : X) → P x → All P old → new ≡ old ++ x ∷ [] → All P new
+all-added P old new x it all is = subst (All P) (sym is) (All-append P old (x ∷ []) all (All-cons P x [] it (All-nil P)))
+
+pub all-rest : {X : Type 0} (P : X → Type 0) (xs : List X) → 1 ≤ length xs → All P xs → All P (take (length xs - 1) (drop 1 xs))
+all-rest P [] some all = absurd (omega arith)
+all-rest P (x ∷ xs) some all = subst (All P) (sym (take_all (length (x ∷ xs) - 1) xs (omega arith))) (All-tail P x xs all)
 
 -- ---- the rounds of an event
 

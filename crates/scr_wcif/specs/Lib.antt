@@ -8,3 +8,7 @@ pub mod Message
 pub mod Status
 pub mod Outcome
 pub mod Made
+pub mod Sheet
+pub mod Filling
+pub mod Placing
+pub mod Filled

@@ -5,6 +5,8 @@ use Rattle.scr_wcif.specs.declared.fault.EventCause.{EventCause}
 use Rattle.scr_wcif.specs.declared.fault.EventCause.TheVariants as event
 use Rattle.scr_wcif.specs.declared.fault.RoundCause.{RoundCause}
 use Rattle.scr_wcif.specs.declared.fault.RoundCause.TheVariants as round
+use Rattle.scr_wcif.specs.declared.fault.Difference.{Difference}
+use Rattle.scr_wcif.specs.declared.fault.Difference.TheVariants as difference
 use Rattle.scr_wcif.specs.declared.fault.FileFault.{FileFault}
 use Rattle.scr_wcif.specs.declared.fault.FileFault.TheVariants as file
 use Rattle.scr_wcif.specs.declared.fault.Fault.{Fault}
@@ -22,7 +24,14 @@ abbrev pub round_cause_text : RoundCause → List ℕ
 round_cause_text round.Id = codes "id"
 round_cause_text round.Groups = codes "scrambleSetCount"
 
--- why a file tells no rounds; events and their rounds are counted from 1, and bytes from 0
+-- how a round of a sheet differs
+abbrev pub difference_text : Difference → List ℕ
+difference_text difference.Event = codes "another event"
+difference_text difference.Groups = codes "another number of groups"
+difference_text difference.Missing = codes "missing"
+difference_text difference.More = codes "not in the file"
+
+-- why a file tells no rounds, or doesn't take a sheet's; events and their rounds are counted from 1, and bytes from 0
 abbrev pub file_text : FileFault → List ℕ
 file_text file.TooLong = codes "file is longer than 67108864 bytes"
 file_text (file.NoText place) = codes "no UTF-8 at byte " ++ decimal place
@@ -32,6 +41,7 @@ file_text file.NoCompetition = codes "no competition: no list of events"
 file_text (file.Event number cause) = codes "event " ++ decimal number ++ codes ": " ++ event_cause_text cause
 file_text (file.Round event number cause) =
     codes "event " ++ decimal event ++ codes " round " ++ decimal number ++ codes ": " ++ round_cause_text cause
+file_text (file.Sheet number why) = codes "sheet round " ++ decimal number ++ codes ": " ++ difference_text why
 file_text file.Read = codes "input could not be read"
 
 -- what went wrong

@@ -31,7 +31,20 @@ pub enum RoundCause {
     Groups,
 }
 
-/// Why a file tells no rounds. Entries of lists are counted from 1, and bytes from 0.
+/// How the rounds of a sheet differ from those of a file.
+#[derive(Clone, Copy, Debug, PartialEq, Eq)]
+pub enum Difference {
+    /// The round is one of another event.
+    Event,
+    /// The round has another number of groups.
+    Groups,
+    /// The sheet ends before it.
+    Missing,
+    /// The file has no more rounds.
+    More,
+}
+
+/// Why a file tells no rounds, or doesn't take those of a sheet. Entries of lists are counted from 1, and bytes from 0.
 #[derive(Clone, Copy, Debug, PartialEq, Eq)]
 pub enum FileFault {
     /// It has more than 67,108,864 bytes.
@@ -58,6 +71,11 @@ pub enum FileFault {
         event: u32,
         number: u32,
         cause: RoundCause,
+    },
+    /// The round of the sheet with this number, from 1, isn't the one that the file has there.
+    Sheet {
+        number: u32,
+        difference: Difference,
     },
     /// It could not be read.
     Read,

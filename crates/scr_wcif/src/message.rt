@@ -3,9 +3,9 @@
 ghost use Rattle.std.specs.Prelude.{◌≡◌, ◌++◌, ◌+◌, ◌≤◌, length};
 ghost use Rattle.std.specs.Fmt.{decimal};
 ghost use Rattle.arrayvec.specs.ArrayString.{array_string_len};
-ghost use Rattle.scr_wcif.specs.Message.{message_of, file_text, event_cause_text, round_cause_text};
+ghost use Rattle.scr_wcif.specs.Message.{message_of, file_text, event_cause_text, round_cause_text, difference_text};
 
-use crate::fault::{EventCause, Fault, FileFault, RoundCause};
+use crate::fault::{Difference, EventCause, Fault, FileFault, RoundCause};
 use arrayvec::ArrayString;
 use scr_text::decimal;
 
@@ -56,6 +56,11 @@ fn push_file(line: &mut ArrayString<LONGEST>, why: FileFault)
             line.push_str(": ");
             line.push_str(round_cause_words(cause));
         }
+        FileFault::Sheet { number, difference } => {
+            push_at(line, "sheet round ", number);
+            line.push_str(": ");
+            line.push_str(difference_words(difference));
+        }
         FileFault::Read => line.push_str("input could not be read"),
     }
 }
@@ -93,5 +98,18 @@ fn round_cause_words(cause: RoundCause) -> &'static str
     match cause {
         RoundCause::Id => "id",
         RoundCause::Groups => "scrambleSetCount",
+    }
+}
+
+/// How a round of a sheet differs: a few words.
+fn difference_words(difference: Difference) -> &'static str
+    ensures words { result.now ≡ difference_text difference }
+    ensures few { length result.now ≤ 24 }
+{
+    match difference {
+        Difference::Event => "another event",
+        Difference::Groups => "another number of groups",
+        Difference::Missing => "missing",
+        Difference::More => "not in the file",
     }
 }

@@ -9,7 +9,7 @@ use arrayvec::ArrayString;
 use scr_list::{Round, event_named};
 use scr_notation::Event;
 use scr_text::decimal;
-use std::alloc::AllocError;
+use std::alloc::{AllocError, Global};
 use std::marker::Model;
 
 /// A round as a file names it.
@@ -39,7 +39,9 @@ impl<'a> Model for FileRound<'a> {
 }
 
 impl<'a> FileRound<'a> {
-    ghost use Rattle.std.specs.Prelude.{IfSome};
+    ghost use Rattle.std.specs.Prelude.{IfSome, IfOk};
+    ghost use Rattle.scr_wcif.specs.FileRounds.{id_of_round};
+    ghost use Rattle.scr_wcif.specs.Placing.{is_known};
     ghost use Rattle.scr_list.specs.Rounds.{IsRound};
     ghost use Rattle.scr_wcif.specs.Listed.{HasUsual, listed_round, left_out_text_of, left_out_line, named_line};
 
@@ -58,6 +60,23 @@ impl<'a> FileRound<'a> {
             least: usual(event),
             name,
         })
+    }
+
+    /// Whether the program has its event.
+    pub(crate) fn is_known(&self) -> bool
+        ensures { result ≡ is_known self.now }
+    {
+        event_named(self.event.as_bytes()).is_some()
+    }
+
+    /// Its id in the file.
+    pub(crate) fn id(&self, alloc: Global) -> Result<String, AllocError>
+        ensures { IfOk result (λ id. string_bytes id ≡ id_of_round self.now.event self.now.number) }
+    {
+        let mut id = String::from_str(alloc, self.event)?;
+        id.push_str("-r")?;
+        id.push_str(decimal(self.number).as_str())?;
+        Ok(id)
     }
 
     /// Tells it behind a text, where the program hasn't its event.
