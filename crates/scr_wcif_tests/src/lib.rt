@@ -3,6 +3,4 @@
 #![tactic(auto)]
 
 #[cfg(test)]
-mod fills;
-#[cfg(test)]
 mod runs;
