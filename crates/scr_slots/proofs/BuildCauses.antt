@@ -1,11 +1,11 @@
 -- What the events of a list have to do with their tables and the lines of these, family by family.
-use Rattle.std.proofs.Common.{◌≡◌, ℕ, zero, suc, Bool, true, false, ◌||◌, List, [], ◌∷◌, Option, Some, None, refl, ap, ◌∙◌, sym, subst, arith, cond, inl, inr, map, take, length, get_or, ◌+◌, ◌<◌, ◌++◌, ◌↔◌, ◌⊎◌, Bor}
+use Rattle.std.proofs.Common.{◌≡◌, ℕ, zero, suc, Bool, true, false, ◌||◌, List, [], ◌∷◌, Option, Some, None, refl, ap, ◌∙◌, sym, subst, arith, cond, inl, inr, map, take, length, get_or, ◌+◌, ◌<◌, ◌++◌, ◌↔◌, ◌⊎◌}
 use Rattle.std.proofs.Math.Seq.{take-length}
 use Rattle.std.proofs.lemmas.List.{take_more, map-append, length-map}
 use Rattle.std.proofs.Math.ListN.{get_or-map}
 use Rattle.std.proofs.lemmas.List.Elements.{All-map, Contains-append_left, Contains-push, Contains-push_cases}
 use Rattle.std.proofs.lemmas.List.Folds.{list_any_none, list_any_at}
-use Rattle.std.specs.Prelude.{All, Contains, IfErr, IfSome, IsErrAnd, IsSome, IsTrue, Result}
+use Rattle.std.specs.Prelude.{All, Contains, IfErr, IsErrAnd, IsSome, IsTrue, Result}
 use Rattle.std.specs.Option.{option_to_list}
 use Rattle.scr_notation.specs.declared.event.Event.{Event}
 use Rattle.scr_notation.specs.EventSets.{Has}
@@ -14,20 +14,21 @@ use Rattle.scr_notation.specs.declared.event.Family.{Family}
 use Rattle.scr_notation.specs.declared.event.Family.TheVariants.{Cube222, Cube333, Pyraminx, Skewb, Square1}
 use Rattle.scr_notation.specs.Event.{family_of}
 use Rattle.scr_table.specs.Distances.{Distances}
-use Rattle.scr_table.specs.Lines.{AreTablesOf, HasNoGap, TableLine}
+use Rattle.scr_table.specs.Lines.{AreTablesOf, HasNoGap}
 use Rattle.scr_table.specs.Causes.{IsCauseOf}
 use Rattle.scr_table.specs.declared.fault.BuildFault.{BuildFault}
 use Rattle.scr_table.specs.SearchTables.{SearchTable, IsCauseAmong}
-use Rattle.scr_table.specs.TableStates.{AreLinesOf, AreWhole, all_by_positions}
+use Rattle.scr_table.specs.TableStates.{AreWhole, all_by_positions}
 use Rattle.scr_table.proofs.LineLaws.{IfErr-handed}
 use Rattle.scr_table.proofs.TableStatesLaws.{AreWhole-append, AreWhole-lines, IsCauseAmong-before, IsCauseAmong-behind, IsCauseAmong-lines}
 use Rattle.scr_table_text.specs.Counted.{WritesTables}
 use Rattle.scr_table_text.proofs.StateTexts.{IsTablesText-states}
 use Rattle.scr_outside.specs.Change.{Change}
-use Rattle.scr_small.specs.Tables.{BuiltTable, IsBuilt, family_line}
+use Rattle.scr_small.specs.Tables.{BuiltTable, IsBuilt, small_line, small_lines}
 use Rattle.scr_slots.specs.TableLines.{family_lines}
-use Rattle.scr_slots.specs.Held.{HoldsTables}
+use Rattle.scr_slots.specs.Held.{HoldsTables, own_event}
 use Rattle.scr_slots.specs.Tables.{is_family, asks_for, family_tables, tables_asked, tables_for}
+use Rattle.scr_slots.proofs.FamilyLaws.{AreLinesOf-family}
 
 -- ---- which families are asked for
 
@@ -133,39 +134,35 @@ whole-unasked events family unasked =
     subst AreWhole (sym none) tt
 
 -- what is so of the lines of such a family is so of its tables
-pub whole-asked : (events : List Event) (family : Family) → AreLinesOf (family_tables family) (family_lines family)
-    → IsTrue (asks_for events family) → All HasNoGap (family_lines family) → AreWhole (tables_asked events family)
-whole-asked events family told asked none =
-    subst AreWhole (sym (tables_asked-of events family asked)) (AreWhole-lines (family_tables family) (family_lines family) told none)
+pub whole-asked : (events : List Event) (family : Family) → IsTrue (asks_for events family)
+    → All HasNoGap (family_lines family) → AreWhole (tables_asked events family)
+whole-asked events family asked none =
+    subst AreWhole (sym (tables_asked-of events family asked))
+    (AreWhole-lines (family_tables family) (family_lines family) (AreLinesOf-family family) none)
 
-pub cause-asked : (events : List Event) (family : Family) (why : BuildFault)
-    → AreLinesOf (family_tables family) (family_lines family) → IsTrue (asks_for events family)
+pub cause-asked : (events : List Event) (family : Family) (why : BuildFault) → IsTrue (asks_for events family)
     → IsCauseOf (family_lines family) why → IsCauseAmong (tables_asked events family) why
-cause-asked events family why told asked cause =
+cause-asked events family why asked cause =
     subst (λ tables. IsCauseAmong tables why) (sym (tables_asked-of events family asked))
-    (IsCauseAmong-lines (family_tables family) (family_lines family) why told cause)
+    (IsCauseAmong-lines (family_tables family) (family_lines family) why (AreLinesOf-family family) cause)
 
 -- the line of a family that one table solves
-small_lines-of : (family : Family) → IsSome (family_line (Some family))
-    → option_to_list (family_line (Some family)) ≡ family_lines family
+pub small-lines : (family : Family) → IsSome (small_line (own_event family)) → small_lines (own_event family) ≡ family_lines family
 unfolding family_lines
-small_lines-of Cube222 some = refl
-small_lines-of Cube333 some = let none : ⊥ = cc in absurd none
-small_lines-of Pyraminx some = refl
-small_lines-of Skewb some = refl
-small_lines-of Square1 some = let none : ⊥ = cc in absurd none
+small-lines Cube222 some = refl
+small-lines Cube333 some = absurd (cc)
+small-lines Pyraminx some = refl
+small-lines Skewb some = refl
+small-lines Square1 some = absurd (cc)
 
 -- the one table of a family is that of its lines
-pub small-are : (family : Family) (event : Event) (found : Option (Bor BuiltTable)) (built : Bor BuiltTable) (table : Distances)
-    → IsSome (family_line (Some family)) → family_of event ≡ Some family
-    → IfSome found (λ tables. tables.now.event ≡ event) → found ≡ Some built → table ≡ built.now.distances
-    → IsBuilt built.now → AreTablesOf (family_lines family) (table ∷ [])
-small-are family event found built table some of_family of_event there same is =
-    let own : built.now.event ≡ event = subst (λ (f : Option (Bor BuiltTable)). IfSome f (λ tables. tables.now.event ≡ event)) there of_event in
-    let line : is.line ∷ [] ≡ family_lines family =
-    ap option_to_list (sym is.of_event) ∙ ap (λ f. option_to_list (family_line f)) (ap family_of own ∙ of_family) ∙ small_lines-of family some in
+pub small-are : (family : Family) (built : BuiltTable) (table : Distances) → table ≡ built.distances → IsBuilt built
+    → built.event ≡ own_event family → AreTablesOf (family_lines family) (table ∷ [])
+small-are family built table same is own =
+    let of_event : small_line (own_event family) ≡ Some is.line = ap small_line (sym own) ∙ is.of_event in
+    let line : is.line ∷ [] ≡ family_lines family = ap option_to_list (sym of_event) ∙ small-lines family (cc) in
     subst (λ t. AreTablesOf (family_lines family) (t ∷ [])) (sym same)
-    (subst (λ lines. AreTablesOf lines (built.now.distances ∷ [])) line (is.table, tt))
+    (subst (λ lines. AreTablesOf lines (built.distances ∷ [])) line (is.table, tt))
 
 -- one event needs the tables of its family
 tables_for-one : (event : Event) (family : Family) → family_of event ≡ Some family
@@ -182,24 +179,14 @@ tables_for-none event is = rw is refl
 
 -- their texts, told by the positions of the lines, are those of the tables
 pub texts-one : {E : Type 0} (event : Event) (family : Family) (change : Change) (r : Result (Unit {0}) E)
-    → family_of event ≡ Some family → AreLinesOf (family_tables family) (family_lines family)
-    → WritesTables (all_by_positions (family_lines family)) change r → WritesTables (tables_for (event ∷ [])) change r
-texts-one event family change r of_family told writes =
+    → family_of event ≡ Some family → WritesTables (all_by_positions (family_lines family)) change r
+    → WritesTables (tables_for (event ∷ [])) change r
+texts-one event family change r of_family writes =
     subst (λ tables. WritesTables tables change r) (sym (tables_for-one event family of_family)) (
       writes.0,
-      IsTablesText-states (family_tables family) (family_lines family) told writes.0 writes.1,
+      IsTablesText-states (family_tables family) (family_lines family) (AreLinesOf-family family) writes.0 writes.1,
       writes.2,
     )
-
--- and so is that of the one table of a family
-pub texts-small : {E : Type 0} (event : Event) (family : Family) (own : Event) (found : Option (Bor BuiltTable)) (built : Bor BuiltTable) (table : Distances)
-    (change : Change) (r : Result (Unit {0}) E) → IsSome (family_line (Some family)) → family_of own ≡ Some family → IfSome found (λ tables. tables.now.event ≡ own)
-    → found ≡ Some built → table ≡ built.now.distances → IsBuilt built.now → family_of event ≡ Some family → AreLinesOf (family_tables family) (family_lines family)
-    → ((lines : List TableLine) → AreTablesOf lines (table ∷ []) → WritesTables (all_by_positions lines) change r)
-    → WritesTables (tables_for (event ∷ [])) change r
-texts-small event family own found built table change r some of_own of_event there same is of_family told writes =
-    texts-one event family change r of_family told
-    (writes (family_lines family) (small-are family own found built table some of_own of_event there same is))
 
 -- ---- families whose tables are built one after another
 

@@ -1,7 +1,9 @@
 -- The tables that a list's events need are there.
 use Rattle.std.specs.Prelude.{◌≡◌, Bool, List, Option, Some, IsSome, IfSome}
 use Rattle.scr_notation.specs.declared.event.Event.{Event}
+use Rattle.scr_notation.specs.declared.event.Event.TheVariants.{C222, C333, Pyram, Skewb as EventSkewb, Sq1}
 use Rattle.scr_notation.specs.declared.event.Family.{Family}
+use Rattle.scr_notation.specs.declared.event.Family.TheVariants.{Cube222, Cube333, Pyraminx, Skewb, Square1}
 use Rattle.scr_notation.specs.Event.{family_of}
 use Rattle.scr_notation.specs.EventSets.{Has}
 use Rattle.scr_small.specs.Tables.{BuiltTable}
@@ -16,6 +18,14 @@ pub record HasFamily (events : List Bool) (family : Family) : Type 0 where
 abbrev pub HoldsTables : {Built : Type 0} → List Bool → Family → Option Built → Type 0
 HoldsTables events family tables = HasFamily events family → IsSome tables
 
--- and so is that of a family which one table solves; it is that of this event
-abbrev pub HoldsTable : List Bool → Family → Event → Option BuiltTable → Type 0
-HoldsTable events family event tables = HoldsTables events family tables × IfSome tables (λ built. built.event ≡ event)
+-- the first event of a family, by which its tables are told
+abbrev pub own_event : Family → Event
+own_event Cube222 = C222
+own_event Cube333 = C333
+own_event Pyraminx = Pyram
+own_event Skewb = EventSkewb
+own_event Square1 = Sq1
+
+-- and where they are one table, it is that of this event
+abbrev pub HoldsTable : List Bool → Family → Option BuiltTable → Type 0
+HoldsTable events family tables = HoldsTables events family tables × IfSome tables (λ built. built.event ≡ own_event family)

@@ -6,7 +6,6 @@ ghost use Rattle.scr_notation.specs.EventSets.{Has};
 ghost use Rattle.scr_table_text.specs.Counted.{WritesTables};
 ghost use Rattle.scr_slots.specs.Tables.{tables_for};
 
-use crate::laws::tables_told_by_states;
 use crate::tables::Tables;
 use scr_notation::{Event, Family};
 use scr_outside::{Failed, Sink};
@@ -20,13 +19,12 @@ pub fn write_tables_of<O: Sink>(tables: &Tables, event: Event, out: &mut O) -> R
     requires { Has tables.now event }
     ensures { WritesTables (tables_for (event ∷ [])) (change_of O.held O.faults out.old out.new) result }
 {
-    tables_told_by_states();
     match event.family() {
-        Some(Family::Cube222) => write_tables(out, &[tables.of_222().unwrap().only()]),
-        Some(Family::Cube333) => write_tables(out, &tables.of_333().unwrap().all()),
-        Some(Family::Pyraminx) => write_tables(out, &[tables.of_pyram().unwrap().only()]),
-        Some(Family::Skewb) => write_tables(out, &[tables.of_skewb().unwrap().only()]),
-        Some(Family::Square1) => write_tables(out, &tables.of_sq1().unwrap().all()),
+        Some(Family::Cube222) => write_tables(out, &[tables.of_222.as_ref().unwrap().only()]),
+        Some(Family::Cube333) => write_tables(out, &tables.of_333.as_ref().unwrap().all()),
+        Some(Family::Pyraminx) => write_tables(out, &[tables.of_pyram.as_ref().unwrap().only()]),
+        Some(Family::Skewb) => write_tables(out, &[tables.of_skewb.as_ref().unwrap().only()]),
+        Some(Family::Square1) => write_tables(out, &tables.of_sq1.as_ref().unwrap().all()),
         None => write_tables(out, &[]),
     }
 }

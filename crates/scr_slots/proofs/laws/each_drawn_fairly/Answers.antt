@@ -1,19 +1,19 @@
-use Rattle.scr_slots.specs.Events.{scrambling_of}
-use Rattle.scr_slots.proofs.EachEvent.{each_fair}
+use Rattle.std.proofs.Common.{◌≡◌, arith, subst, take}
+use Rattle.std.specs.Prelude.{All}
+use Rattle.std.proofs.lemmas.List.Elements.{All-more}
+use Rattle.std.proofs.lemmas.Option.{slice_get_within, get_or_from_slice_get}
+use Rattle.scr_notation.specs.declared.event.Event.TheVariants.{C222}
+use Rattle.scr_notation.specs.Event.{events}
+use Rattle.scr_slots.proofs.EachEvent.{IsFairIn}
 use Rattle.scr_slots.proofs.laws.each_drawn_fairly.Goals as goal
 
+pub loop-event-preserved : goal.loop-event-preserved
+loop-event-preserved c =
+    All-more (IsFairIn c.args.tables.now) events c.loop-event.event-index C222 c.loop-event-test.true c.loop-event.invariant c.drawn_fairly.ensures
+
 pub returns : goal.returns
-unfolding scrambling_of
-returns c =
-    each_fair c.args.tables.now (record {
-      cubes = c.fair_steps.ensures.cubes;
-      bits = c.fair_steps.ensures.bits;
-      clock = c.fairly_clock.ensures;
-      of_222 = c.fairly_222.ensures;
-      of_333 = c.fairly_333.ensures;
-      of_333bf = c.fairly_333bf.ensures;
-      of_333fm = c.fairly_333fm.ensures;
-      of_pyram = c.fairly_pyram.ensures;
-      of_skewb = c.fairly_skewb.ensures;
-      of_sq1 = c.fairly_sq1.ensures;
-    })
+returns c = λ event least has.
+    let P = IsFairIn c.args.tables.now in
+    let size : c.loop-event.event-index ≡ 13 = omega arith in
+    let each : All P events = subst (λ i. All P (take i events)) size c.loop-event.invariant in
+    subst P (get_or_from_slice_get events has.number event C222 has.of_event) (each has.number C222 (slice_get_within events has.number event has.of_event)) has least

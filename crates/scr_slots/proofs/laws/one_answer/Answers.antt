@@ -1,5 +1,5 @@
-use Rattle.scr_slots.proofs.EachEvent.{each_one}
+use Rattle.scr_slots.proofs.EachEvent.{each_lawful}
 use Rattle.scr_slots.proofs.laws.one_answer.Goals as goal
 
 pub returns : goal.returns
-returns c = each_one
+returns c = λ event. (each_lawful event).one_answer

@@ -1,5 +1,5 @@
 use Rattle.scr_slots.proofs.Listings.{by-numbering}
-use Rattle.scr_slots.proofs.slot.drawn_answer.Goals as goal
+use Rattle.scr_slots.proofs.slot.AnswerQuestion.of_states.Goals as goal
 
 pub returns-in-Ok : goal.returns-in-Ok
 returns-in-Ok g c = record {
@@ -9,7 +9,7 @@ returns-in-Ok g c = record {
     of_state = record {
       state = c.in-Ok.state;
       draws = rw (c.new-words.ensures.words, c.new-words.ensures.none_taken) at c.in-Ok.ensures.draws;
-      permitted = (c.requires.reaches c.scramble-scramble.result.turns c.in-Ok.state c.scramble-scramble.ensures.gives, c.in-Ok.ensures.needs);
+      permitted = ((c.is_reached.ensures c.in-Ok.state).0 c.in-Ok.ensures.valid, c.in-Ok.ensures.needs);
       gives = c.scramble-scramble.ensures.gives;
       within = c.scramble-scramble.ensures.within;
     };

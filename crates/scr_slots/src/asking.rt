@@ -1,0 +1,93 @@
+//! Questions to events, and the one place that tells by event who answers them.
+
+ghost use Rattle.std.specs.Prelude.{◌≡◌, ◌≤◌, ℕ, Bool, IfSome, IsSome, IsTrue};
+ghost use Rattle.scr_combinatorics.specs.Numbered.{numbers_of};
+ghost use Rattle.scr_notation.specs.Event.{greatest_of};
+ghost use Rattle.scr_notation.specs.EventSets.{Has};
+ghost use Rattle.scr_slots.specs.Agreement.{is_tested_by_table};
+ghost use Rattle.scr_slots.specs.Events.{scrambling_of};
+ghost use Rattle.scr_slots.specs.Shown.{drawn_puzzle};
+ghost use Rattle.scr_slots.specs.Slots.{ByMoves, ByState};
+
+use crate::event::{MoveEvent, StateEvent};
+use crate::moves::{CubeMoves, MegaminxMoves};
+use crate::tables::Tables;
+use scr_clock::ClockNumbers;
+use scr_fewest::DrawFewest;
+use scr_notation::Event;
+use scr_small::{Small222, SmallPyram, SmallSkewb};
+use scr_sq1solve::DrawSq1;
+use scr_twophase::{Draw333, DrawHeld};
+
+/// A question to an event, with an answer for events whose states are drawn and one for events of random moves.
+pub(crate) trait Question {
+    ghost use Rattle.scr_slots.specs.Slots.{Scrambling};
+
+    /// Its answer.
+    type Answer;
+
+    /// Whether it may be asked of an event whose greatest minimum is this.
+    ghost may_ask: { Self → ℕ → Type 0 };
+
+    /// Whether it asks for what finds scrambles.
+    ghost needs_solver: { Bool };
+
+    /// What answers it, of an event with this greatest minimum that is scrambled so.
+    ghost is_answer: { Self → ℕ → Scrambling → Self.Answer → Type 0 };
+
+    /// Its answer of an event whose states are drawn, and whose scrambles are written as those of `notation`.
+    fn of_states<E: StateEvent>(
+        &self,
+        event: &E,
+        notation: Event,
+        solver: Option<&E::Solver>,
+    ) -> Self::Answer
+        requires asked { may_ask self.now (E.greatest event.now) }
+        requires notation { notation ≡ E.event }
+        requires solver { IsTrue needs_solver → IsSome solver }
+        requires own { IfSome solver (λ found. E.is_own found.now) }
+        ensures { let drawn = drawn_puzzle (E.puzzle event.now) E.drawn.played E.drawn.IsWithin in
+            let numbers = numbers_of (E.numbered event.now) in
+            is_answer self.now (E.greatest event.now) (ByState E.State E.event drawn numbers E.is_scramble) result };
+
+    /// Its answer of an event of random moves.
+    fn of_moves<M: MoveEvent>(&self, moves: &M) -> Self::Answer
+        requires { may_ask self.now 0 }
+        ensures { is_answer self.now 0 (ByMoves (M.event moves.now) (M.random moves.now)) result };
+}
+
+/// The answer of an event to a question. The tables have the event where its states are tested by one, and where the
+/// question asks for what finds scrambles.
+#[tactic(auto, unfolding(crate::specs::Events::scrambling_of))]
+pub(crate) fn ask<Q: Question>(tables: &Tables, event: Event, question: &Q) -> Q::Answer
+    requires asked { Q.may_ask question.now (greatest_of event) }
+    requires tested { IsTrue (is_tested_by_table event) → Has tables.now event }
+    requires solver { IsTrue Q.needs_solver → Has tables.now event }
+    ensures { Q.is_answer question.now (greatest_of event) (scrambling_of event) result }
+{
+    match event {
+        Event::C222 => {
+            let own = tables.of_222.as_ref().unwrap();
+            question.of_states(&Small222::new(own), event, Some(own))
+        }
+        Event::C333 | Event::Oh333 => {
+            question.of_states(&Draw333::new(), Event::C333, tables.of_333.as_ref())
+        }
+        Event::C555 => question.of_moves(&CubeMoves::<5> {}),
+        Event::C666 => question.of_moves(&CubeMoves::<6> {}),
+        Event::C777 => question.of_moves(&CubeMoves::<7> {}),
+        Event::Clock => question.of_states(&ClockNumbers, event, Some(&())),
+        Event::Minx => question.of_moves(&MegaminxMoves),
+        Event::Pyram => {
+            let own = tables.of_pyram.as_ref().unwrap();
+            question.of_states(&SmallPyram::new(own), event, Some(own))
+        }
+        Event::Skewb => {
+            let own = tables.of_skewb.as_ref().unwrap();
+            question.of_states(&SmallSkewb::new(own), event, Some(own))
+        }
+        Event::Sq1 => question.of_states(&DrawSq1::new(), event, tables.of_sq1.as_ref()),
+        Event::Bf333 => question.of_states(&DrawHeld::new(), event, tables.of_333.as_ref()),
+        Event::Fm333 => question.of_states(&DrawFewest::new(), event, tables.of_333.as_ref()),
+    }
+}
