@@ -33,7 +33,7 @@ use Rattle.scr_sheet.specs.declared.fault.Fault.TheVariants as fault
 use Rattle.scr_sheet.specs.Causes.{LacksTables}
 use Rattle.std.specs.Result.{result_map_both}
 use Rattle.scr_sheet.specs.Check.{expected_lines, fault_of_check, rounds_in, InputComesTo, ReadsInput, EndsChecking, tested_events, TakesList, ReadsListPart, TakesInput, EndsReading}
-use Rattle.scr_sheet.proofs.RunLaws.{each_asked}
+use Rattle.scr_sheet.proofs.FairParts.{each_asked}
 
 -- what a check found, as the end of a run
 abbrev pub end_of_check : Result (Unit {0}) CheckFault → Result (Unit {0}) Fault

@@ -42,7 +42,7 @@ use Rattle.scr_sheet.specs.Outcome.{IsLed, EndsParts, EndsMaking, Ends, IsPerfor
 use Rattle.scr_sheet.specs.Headline.{AreFairScrambles, IsFairRound, AreFairRounds, no_round, another, IsFairLine, WritesOnly, IsFairRun}
 use Rattle.scr_sheet.proofs.SlotOrder.{round-in_order}
 use Rattle.scr_sheet.proofs.PartLaws.{EachSlot-map}
-use Rattle.scr_sheet.proofs.RunLaws.{IsFairPart}
+use Rattle.scr_sheet.proofs.FairParts.{IsFairPart}
 
 -- the scrambles of slots of an event that is drawn fairly
 fair_scrambles : (scrambling : Scrambling) (settings : Settings) (least stream : ℕ) (scrambles : List Written)

@@ -11,4 +11,3 @@ pub mod Ready
 pub mod Room
 pub mod Sizes
 pub mod Status
-pub mod Task

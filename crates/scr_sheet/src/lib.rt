@@ -5,14 +5,14 @@
 //! or checks a sheet that somebody printed; and tells what goes wrong. The contract of `run` is the headline of the
 //! repository: whatever goes wrong outside, what was read and written, what was told and the status are those of an end
 //! that the definitions allow (`specs/Outcome.antt`), and wherever the tables are built, each round is drawn fairly.
-//! `laws` says that a list has one sheet, and which runs must end with it.
+//! What follows from these definitions (that a list has one sheet, which runs must end with it, what a status tells)
+//! stands above, in `scr_run_laws`.
 #![tactic(auto)]
 
 mod check;
 mod exit;
 mod fault;
 mod host;
-pub mod laws;
 mod load;
 mod making;
 mod parts;

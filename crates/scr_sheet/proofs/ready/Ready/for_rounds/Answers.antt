@@ -2,7 +2,7 @@ use Rattle.std.proofs.Common.{inl, inr, refl, sym, subst}
 use Rattle.std.proofs.lemmas.Result.{err_from_is_err_and}
 use Rattle.scr_slots.specs.Tables.{IsBuildCause}
 use Rattle.scr_sheet.proofs.RoomLaws.{taken-for}
-use Rattle.scr_sheet.proofs.RunLaws.{events_of_parts, each_asked, parts_of_rounds-fair}
+use Rattle.scr_sheet.proofs.FairParts.{events_of_parts, each_asked, parts_of_rounds-fair}
 use Rattle.scr_sheet.proofs.ready.Ready.for_rounds.Goals as goal
 
 pub returns-clause-ready : goal.returns-clause-ready

@@ -1,0 +1,11 @@
+pub mod RunLaws
+pub mod StatusLaws
+pub mod CheckLaws
+pub mod CheckRuns
+pub mod CauseLaws
+pub mod EndLaws
+pub mod MemoryLaws
+pub mod NetLaws
+pub mod OneReading
+pub mod OwnLines
+pub mod OwnSheet

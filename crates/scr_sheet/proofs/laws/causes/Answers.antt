@@ -1,5 +1,0 @@
-use Rattle.scr_sheet.proofs.CauseLaws.{input-cause, output-cause, usage-cause, list-cause}
-use Rattle.scr_sheet.proofs.laws.causes.Goals as goal
-
-pub returns : goal.returns
-returns c = record { input = input-cause; output = output-cause; words = usage-cause; list = list-cause }

@@ -1,5 +1,0 @@
-use Rattle.scr_sheet.proofs.CheckRuns.{check-ends}
-use Rattle.scr_sheet.proofs.laws.checks.Goals as goal
-
-pub returns : goal.returns
-returns c = λ words outcome source out err settings input answer run comes. check-ends run answer comes

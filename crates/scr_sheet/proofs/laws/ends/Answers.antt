@@ -1,5 +1,0 @@
-use Rattle.scr_sheet.proofs.EndLaws.{run-done, run-memory, run-tables}
-use Rattle.scr_sheet.proofs.laws.ends.Goals as goal
-
-pub returns : goal.returns
-returns c = record { well = run-done; memory = run-memory; tables = run-tables }

@@ -1,5 +1,0 @@
-use Rattle.scr_sheet.proofs.LoadRounds.{load_rounds-IsRounds}
-use Rattle.scr_sheet.proofs.laws.load_lists.Goals as goal
-
-pub returns-clause-each : goal.returns-clause-each
-returns-clause-each c = load_rounds-IsRounds

@@ -1,5 +1,0 @@
-use Rattle.scr_sheet.proofs.MemoryLaws.{memory-alike, memory-few, memory-unwritten}
-use Rattle.scr_sheet.proofs.laws.want_of_memory.Goals as goal
-
-pub returns : goal.returns
-returns c = record { seed = memory-alike; nothing = memory-unwritten; unjudged = memory-few }
