@@ -7,3 +7,7 @@ pub mod TextLemmas
 pub mod SheetLemmas
 pub mod OnlyLemmas
 pub mod WalkLemmas
+pub mod LeftLemmas
+pub mod GroupLemmas
+pub mod SlotLemmas
+pub mod TellLemmas

@@ -14,10 +14,10 @@ use Rattle.scr_read.specs.declared.piece.Piece.{Piece}
 use Rattle.scr_read.specs.declared.piece.Piece.TheVariants as piece
 use Rattle.scr_read.specs.Heads.{HeadOf}
 use Rattle.scr_read.specs.Sheets.{SheetRound, listed, AreGroup, IsSheetRound, text_from, IsSheet}
-use Rattle.scr_read.specs.Reading.{Place, Start, Between, InGroup, rounds_begun, head_of, group_pieces, pieces_of, IsHeading, IsRead}
+use Rattle.scr_read.specs.Reading.{Place, Start, Between, InGroup, rounds_begun, head_of, slot_pieces, group_pieces, pieces_of, IsHeading, IsRead}
 use Rattle.scr_read.proofs.StepLemmas.{IsFit, no_end, goes_on, labels-fit}
 use Rattle.scr_read.proofs.TextLemmas.{slots_text, groups_text, round_text-is}
-use Rattle.scr_read.proofs.SheetLemmas.{slot_pieces, IsOf, sheet_read}
+use Rattle.scr_read.proofs.SheetLemmas.{IsOf, sheet_read}
 
 -- ---- the rounds of a text
 
@@ -81,7 +81,7 @@ headed k text line rest head pieces cut is it =
       few = omega (arith, few);
     }
 
-own_scramble : (s : Written) (event : Event) → s.event ≡ event → s ≡ record { event = event; turns = s.turns }
+pub own_scramble : (s : Written) (event : Event) → s.event ≡ event → s ≡ record { event = event; turns = s.turns }
 own_scramble s event is = ap (λ e. record { event = e; turns = s.turns }) is
 
 parse : (place : Place) (pieces : List Piece) (text : List ℕ) → IsFit place → rounds_begun place ≤ 256 → IsRead place text pieces

@@ -1,5 +1,5 @@
 -- A sheet is read as the pieces of its rounds.
-use Rattle.std.proofs.Common.{◌≡◌, ℕ, suc, ◌+◌, ◌<◌, ◌≤◌, List, [], ◌∷◌, ◌++◌, length, map, refl, sym, ap, subst, ◌∙◌, arith, append_assoc}
+use Rattle.std.proofs.Common.{◌≡◌, ℕ, suc, ◌+◌, ◌<◌, ◌≤◌, List, [], ◌∷◌, ◌++◌, length, refl, sym, ap, subst, ◌∙◌, arith, append_assoc}
 use Rattle.std.specs.Prelude.{All, codes}
 use Rattle.std.proofs.lemmas.List.Elements.{All-head, All-tail}
 use Rattle.scr_notation.specs.declared.event.Event.{Event}
@@ -12,12 +12,8 @@ use Rattle.scr_round.proofs.LineLaws.{length-labels_from}
 use Rattle.scr_read.specs.declared.piece.Piece.{Piece}
 use Rattle.scr_read.specs.declared.piece.Piece.TheVariants as piece
 use Rattle.scr_read.specs.Sheets.{SheetRound, listed, AreGroup, IsSheetRound, text_from, IsSheet}
-use Rattle.scr_read.specs.Reading.{Place, Start, Between, InGroup, rounds_begun, IsWhole, as_round, head_of, group_pieces, pieces_of, IsRead}
+use Rattle.scr_read.specs.Reading.{Place, Start, Between, InGroup, rounds_begun, IsWhole, as_round, head_of, slot_pieces, group_pieces, pieces_of, IsRead}
 use Rattle.scr_read.proofs.TextLemmas.{slots_text, group_text, groups_text, round_text-is}
-
--- the pieces of the slots of a group
-abbrev pub slot_pieces : Event → List (List Turn) → List Piece
-slot_pieces event group = map (λ turns. piece.Slot (record { event = event; turns = turns })) group
 
 abbrev pub IsOf : Event → List Turn → Type 0
 IsOf event turns = IsWritten (record { event = event; turns = turns })
@@ -73,7 +69,7 @@ groups_read rounds event done letter (group ∷ groups) rest pieces is few all r
     (sym (append_assoc (slot_pieces event group) (piece.GroupEnd ∷ more) pieces)) here
 
 -- the head of a round is that of one with one group
-one_round : (round : SheetRound) → IsRound (listed round) → IsRound (as_round (head_of round))
+pub one_round : (round : SheetRound) → IsRound (listed round) → IsRound (as_round (head_of round))
 one_round round is = record { some_groups = omega arith; few_groups = omega arith; least = is.least; name = is.name }
 
 pub rounds_read : (place : Place) (k : ℕ) (rounds : List SheetRound) → IsWhole place → rounds_begun place ≡ k → k + length rounds ≤ 256

@@ -1,7 +1,6 @@
 -- Lines that were read, and what may follow them.
 use Rattle.std.proofs.Common.{◌≡◌, inl, inr, ℕ, zero, suc, ◌+◌, ◌<◌, List, [], ◌∷◌, ◌++◌, length, map, refl, sym, ap, subst, ◌∙◌, arith, append_assoc, length-append, lit<, lit≤}
-use Rattle.std.specs.Prelude.{All, true, false, Option, Some, None, Ok, Err}
-use Rattle.std.specs.Option.{is_some}
+use Rattle.std.specs.Prelude.{All, Option, Some, None, Ok, Err}
 use Rattle.std.proofs.lemmas.List.Elements.{All-nil, All-cons}
 use Rattle.scr_notation.specs.declared.event.Event.{Event}
 use Rattle.scr_notation.specs.declared.turn.Turn.{Turn}
@@ -14,19 +13,14 @@ use Rattle.scr_round.proofs.LineLaws.{length-labels_from}
 use Rattle.scr_read.specs.declared.piece.Piece.{Piece}
 use Rattle.scr_read.specs.declared.piece.Piece.TheVariants as piece
 use Rattle.scr_read.specs.Sheets.{SheetRound, AreGroup, IsSheet}
-use Rattle.scr_read.specs.Reading.{Place, Start, Between, InGroup, Reading, IsLine, IsRead, IsAtFault, ReadsPiece, fresh}
+use Rattle.scr_read.specs.Reading.{Place, Start, Between, InGroup, Reading, slot_pieces, IsLine, IsRead, Walks, IsAtFault, ReadsPiece, fresh}
 use Rattle.scr_read.specs.declared.fault.SheetFault.{SheetFault}
 use Rattle.scr_read.specs.Steps.{Reads}
-use Rattle.scr_read.specs.Faults.{IsOneLine, ShareFirstLine, IsFirstAtFault}
+use Rattle.scr_read.specs.Faults.{IsOneLine, ShareFirstLine, IsFirstAtFault, IsFirstFault}
 use Rattle.scr_read.proofs.StepLemmas.{IsFit, clean, fit_next, goes_on, no_end, fault_unread}
 use Rattle.scr_read.proofs.TextLemmas.{slots_text, group_text}
-use Rattle.scr_read.proofs.SheetLemmas.{slot_pieces, IsOf, slots_read, group_read, sheet_read}
+use Rattle.scr_read.proofs.SheetLemmas.{IsOf, slots_read, group_read, sheet_read}
 use Rattle.scr_read.proofs.OnlyLemmas.{sheet_of}
-
--- from one place to another these lines may stand
-abbrev pub Walks : Place → List (List ℕ) → Place → Type 0
-Walks place [] end = place ≡ end
-Walks place (line ∷ lines) end = (x : Piece) × (next : Place) × IsLine place line x next × Walks next lines end
 
 walk_more : (place : Place) (lines : List (List ℕ)) (end : Place) (line : List ℕ) (x : Piece) (next : Place) → Walks place lines end
     → IsLine end line x next → Walks place (lines ++ line ∷ []) next
@@ -168,17 +162,25 @@ first_at_fault text reader number has fault is =
 
 -- ---- what an answer of the reader tells
 
-pub after_some : (text : List ℕ) (reader after : Reading) (found : Option Piece) → HasRead text reader → Reads reader after (Ok found)
-    → is_some found ≡ true → HasRead text after × (length after.rest < length reader.rest)
-after_some text reader after None has reads some = absurd (cc)
-after_some text reader after (Some x) has reads some =
-    (read_more text reader after x has reads, read_shorter reader after x reads)
+pub after_some : (text : List ℕ) (reader after : Reading) (found : Option Piece) (x : Piece) → HasRead text reader
+    → Reads reader after (Ok found) → found ≡ Some x → HasRead text after
+after_some text reader after (Some y) x has reads is = read_more text reader after y has reads
+after_some text reader after None x has reads is = absurd (cc)
 
 pub after_none : (text : List ℕ) (reader after : Reading) (found : Option Piece) → HasRead text reader → Reads reader after (Ok found)
-    → is_some found ≡ false → (rounds : List SheetRound) × IsSheet text rounds
-after_none text reader after None has reads none = read_all text reader has (reads.0, reads.1)
-after_none text reader after (Some x) has reads none = absurd (cc)
+    → found ≡ None → (rounds : List SheetRound) × IsSheet text rounds
+after_none text reader after (Some y) has reads is = absurd (cc)
+after_none text reader after None has reads is = read_all text reader has (reads.0, reads.1)
 
 pub after_fault : (text : List ℕ) (reader after : Reading) (fault : SheetFault) → HasRead text reader → Reads reader after (Err fault)
-    → IsFirstAtFault text fault.line
-after_fault text reader after fault has reads = first_at_fault text reader fault.line has reads.0 reads.1
+    → IsFirstFault text fault
+after_fault text reader after fault has reads = record {
+  line = first_at_fault text reader fault.line has reads.0 reads.1;
+  before = has.before;
+  place = reader.place;
+  rest = reader.rest;
+  text_is = has.is;
+  number_is = reads.1 ∙ ap (λ n. n + 1) has.count;
+  leads = has.walks;
+  cause = reads.2;
+}

@@ -4,8 +4,9 @@ use Rattle.std.specs.List.{list_any}
 use Rattle.scr_text.specs.Lines.{text_of_lines}
 use Rattle.scr_read.specs.declared.fault.SheetCause.{SheetCause}
 use Rattle.scr_read.specs.declared.fault.SheetCause.TheVariants as cause
+use Rattle.scr_read.specs.declared.fault.SheetFault.{SheetFault}
 use Rattle.scr_read.specs.Sheets.{SheetRound, IsSheet}
-use Rattle.scr_read.specs.Reading.{Place, Start, Between, InGroup}
+use Rattle.scr_read.specs.Reading.{Place, Start, Between, InGroup, Walks}
 
 -- no line feed stands in it, which is byte 10
 abbrev pub IsOneLine : List ℕ → Type 0
@@ -50,3 +51,15 @@ pub record IsFirstAtFault (text : List ℕ) (number : ℕ) : Type 0 where
   pub begins : (more : List ℕ) × (rounds : List SheetRound) × IsSheet (text_of_lines lines ++ more) rounds
   pub at_fault : (other : List ℕ) (rounds : List SheetRound) → ShareFirstLine rest other
       → IsSheet (text_of_lines lines ++ other) rounds → ⊥
+
+-- What is told of a text that is no sheet: its first line at fault, and the cause that is told of what is left of the
+-- text at the place where the lines before that line lead.
+pub record IsFirstFault (text : List ℕ) (fault : SheetFault) : Type 0 where
+  pub line : IsFirstAtFault text fault.line
+  pub before : List (List ℕ)
+  pub place : Place
+  pub rest : List ℕ
+  pub text_is : text ≡ text_of_lines before ++ rest
+  pub number_is : fault.line ≡ length before + 1
+  pub leads : Walks Start before place
+  pub cause : IsCause place rest fault.cause

@@ -4,3 +4,5 @@ pub mod Reading
 pub mod Faults
 pub mod Places
 pub mod Steps
+pub mod Groups
+pub mod Left

@@ -15,12 +15,15 @@ use Rattle.scr_read.specs.Sheets.{SheetRound}
 
 -- ---- the pieces of a sheet, one for each of its lines
 
+-- those of the slots of a group
+abbrev pub slot_pieces : Event → List (List Turn) → List Piece
+slot_pieces event group = map (λ turns. piece.Slot (record { event = event; turns = turns })) group
+
 -- those of a round's groups, the first of them with this number, from 0
 abbrev pub group_pieces : Event → ℕ → List (List (List Turn)) → List Piece
 group_pieces event number [] = []
 group_pieces event number (group ∷ groups) =
-    piece.Group number ∷ map (λ turns. piece.Slot (record { event = event; turns = turns })) group
-    ++ piece.GroupEnd ∷ group_pieces event (number + 1) groups
+    piece.Group number ∷ slot_pieces event group ++ piece.GroupEnd ∷ group_pieces event (number + 1) groups
 
 -- what the head of a round tells of it
 abbrev pub head_of : SheetRound → HeadOf
@@ -89,6 +92,11 @@ abbrev pub IsRead : Place → List ℕ → List Piece → Type 0
 IsRead place text [] = IsWhole place × (text ≡ [])
 IsRead place text (piece ∷ pieces) = (line : List ℕ) × (rest : List ℕ) × (next : Place)
     × (text ≡ line ++ 10 ∷ rest) × IsLine place line piece next × IsRead next rest pieces
+
+-- from one place to another these lines may stand
+abbrev pub Walks : Place → List (List ℕ) → Place → Type 0
+Walks place [] end = place ≡ end
+Walks place (line ∷ lines) end = (piece : Piece) × (next : Place) × IsLine place line piece next × Walks next lines end
 
 -- ---- a reader
 

@@ -1,8 +1,8 @@
 //! The reader of a sheet.
 
-ghost use Rattle.std.specs.Prelude.{◌≡◌, ◌-◌, ◌^◌, ◌<◌, List, length, OnOk, IfErr};
+ghost use Rattle.std.specs.Prelude.{◌≡◌, ◌+◌, ◌-◌, ◌^◌, ◌<◌, List, length, OnOk, IfErr};
 ghost use Rattle.scr_read.specs.Sheets.{SheetRound, IsSheet};
-ghost use Rattle.scr_read.specs.Faults.{IsFirstAtFault};
+ghost use Rattle.scr_read.specs.Faults.{IsFirstFault};
 ghost use Rattle.scr_read.specs.declared.piece.Piece.{Piece as Read};
 ghost use Rattle.scr_read.specs.Reading.{fresh, IsRead};
 ghost use Rattle.scr_read.specs.Steps.{Reads, Gives};
@@ -46,6 +46,13 @@ impl<'a> SheetReader<'a> {
         }
     }
 
+    /// The number of the next line, from 1.
+    pub(crate) fn line(&self) -> u32
+        ensures { result ≡ self.now.lines + 1 }
+    {
+        self.lines + 1
+    }
+
     /// Reads the next line; `None` at the end of the sheet. Where no sheet goes on as the text does to the end of its
     /// next line, it tells that line and what is wrong with it, and stays where it is.
     pub fn next(&mut self) -> Result<Option<Piece>, SheetFault>
@@ -78,13 +85,18 @@ impl<'a> SheetReader<'a> {
 }
 
 /// Reads a text to its end, which has less than 2^32 - 1 bytes: whether it is a sheet, and else its first line at
-/// fault.
+/// fault and its cause.
 pub fn read(text: &[u8]) -> Result<(), SheetFault>
     requires { length text.now < 2 ^ 32 - 1 }
     ensures sheet { OnOk result ((rounds : List SheetRound) × IsSheet text.now rounds) }
-    ensures fault { IfErr result (λ fault. IsFirstAtFault text.now fault.line) }
+    ensures fault { IfErr result (IsFirstFault text.now) }
 {
     let mut reader = SheetReader::new(text);
-    while reader.next()?.is_some() {}
-    Ok(())
+    loop {
+        match reader.next() {
+            Ok(Some(_piece)) => {}
+            Ok(None) => return Ok(()),
+            Err(fault) => return Err(fault),
+        }
+    }
 }

@@ -1,6 +1,7 @@
 //! Sheets that are read, and sheets that are spoilt at one place.
 
-use crate::{SheetCause, SheetFault, read};
+use crate::{SheetCause, SheetFault, SheetGroups, read};
+use scr_notation::Event;
 use std::alloc::{AllocError, Global};
 use std::test::Fail;
 
@@ -67,6 +68,13 @@ const CUT: [(usize, Option<(u32, SheetCause)>); 7] = [
     (87, Some((9, SheetCause::LineFeed))),
 ];
 
+/// The groups of the sheet: round, event, number, line with the name, scrambles, and the turns of the first of them.
+const GROUPS: [(u32, Event, u32, u32, usize, usize); 3] = [
+    (0, Event::C666, 0, 2, 5, 2),
+    (1, Event::Clock, 0, 10, 7, 0),
+    (1, Event::Clock, 1, 19, 7, 0),
+];
+
 /// What is told of a text, which is short.
 fn told(text: &[u8]) -> Option<Result<(), SheetFault>> {
     if text.len() < 1000 {
@@ -74,6 +82,21 @@ fn told(text: &[u8]) -> Option<Result<(), SheetFault>> {
     } else {
         None
     }
+}
+
+/// What is told of the next group.
+fn next_told(groups: &mut SheetGroups) -> Option<(u32, Event, u32, u32, usize, usize)> {
+    let group = groups.next()?;
+    let scrambles = group.scrambles();
+    let turns = scrambles[0].turns().len();
+    Some((
+        group.round(),
+        group.event(),
+        group.number(),
+        group.line(),
+        scrambles.len(),
+        turns,
+    ))
 }
 
 /// The sheet of a round of one group.
@@ -146,6 +169,20 @@ fn texts_that_end_early(rt: HostRuntime) -> Result<(), Fail> {
         if let Some((part, _)) = SHEET.as_bytes().split_at_checked(bytes) {
             assert_eq!(rt; told(part), Some(found), "{bytes}");
         }
+    }
+    Ok(())
+}
+
+#[test]
+fn groups_of_a_sheet(rt: HostRuntime) -> Result<(), Fail> {
+    match SheetGroups::of(SHEET.as_bytes()) {
+        Ok(mut groups) => {
+            for found in GROUPS {
+                assert_eq!(rt; next_told(&mut groups), Some(found));
+            }
+            assert_eq!(rt; next_told(&mut groups), None);
+        }
+        Err(fault) => assert_eq!(rt; fault.line, 0),
     }
     Ok(())
 }
