@@ -1,6 +1,6 @@
 -- What a file with the sets of its rounds is, part by part.
-use Rattle.std.proofs.Common.{◌≡◌, ℕ, suc, ◌+◌, ◌≤◌, max, Bool, true, false, List, [], ◌∷◌, ◌++◌, map, Option, Some, None, refl, sym, ap, subst, ◌∙◌, arith, append_assoc, append-nil, Bor, Global, Result, Ok, Err}
-use Rattle.std.specs.Prelude.{◌<◌, OnOk, All, IfOk, IfSome, cond, codes, nat_lt, length, position, slice_set, option_and_then}
+use Rattle.std.proofs.Common.{◌≡◌, ℕ, suc, ◌+◌, ◌≤◌, max, Bool, true, false, List, [], ◌∷◌, ◌++◌, map, Option, Some, None, refl, sym, ap, ◌∙◌, arith, Bor, Global, Result, Ok, Err}
+use Rattle.std.specs.Prelude.{◌<◌, All, IfOk, IfSome, cond, codes, nat_lt, length, position, slice_set, option_and_then}
 use Rattle.std.specs.Str.{bytes_eq}
 use Rattle.std.proofs.lemmas.List.Elements.{All-head, All-tail}
 use Rattle.std.specs.List.{position_or_len}
@@ -12,9 +12,9 @@ use Rattle.json.specs.Print.{IsNumber}
 use Rattle.json.specs.Json.{Json, null, boolean, number, string, array, object, Items, no_items, item, Members, no_members, member}
 use Rattle.json.specs.Value.{value_view, members_view, items_of, members_of}
 use Rattle.json.specs.Tree.{depth, items_depth, members_depth, HasNumbers, ItemsHaveNumbers, MembersHaveNumbers}
-use Rattle.scr_wcif.specs.Sheet.{SheetGroup, RoundSets, HaveNumbers}
+use Rattle.scr_wcif.specs.Sets.{ScrambleSet, RoundSets, HaveNumbers}
 use Rattle.scr_wcif.specs.Fields.{text_at}
-use Rattle.scr_wcif.specs.Filling.{texts_of, set_of, sets_of, with_member, with_field, groups_at, with_sets, filled_round, changed_items, each_item, changed_members, changed_at, changed_along, filled}
+use Rattle.scr_wcif.specs.Filling.{set_of, sets_of, with_member, with_field, sets_at, with_sets, filled_round, changed_items, each_item, changed_members, changed_at, changed_along, filled}
 
 -- ---- lists, as code holds them
 
@@ -113,9 +113,9 @@ appended key new name (m ∷ ms) none is =
     (appended key new name ms (absent-rest (has_key key) m ms (nat_lt (position_or_len (has_key key) ms) (length ms)) refl other none) is)
     ∙ ap (λ b. cond b (member m.0.now (value_view new) (members_view ms)) (member m.0.now (value_view m.1) (with_member key (value_view new) (members_view ms)))) (sym other)
 
-pub round-filled : (rounds : List RoundSets) (j new : Json) (groups : List SheetGroup) → Some groups ≡ option_and_then (groups_at rounds) (text_at (codes "id") j) →
-    new ≡ sets_of groups → with_field (codes "scrambleSets") new j ≡ filled_round rounds j
-round-filled rounds j new groups found is = ap (λ n. with_field (codes "scrambleSets") n j) is ∙ ap (λ o. with_sets o j) found
+pub round-filled : (rounds : List RoundSets) (j new : Json) (sets : List ScrambleSet) → Some sets ≡ option_and_then (sets_at rounds) (text_at (codes "id") j) →
+    new ≡ sets_of sets → with_field (codes "scrambleSets") new j ≡ filled_round rounds j
+round-filled rounds j new sets found is = ap (λ n. with_field (codes "scrambleSets") n j) is ∙ ap (λ o. with_sets o j) found
 
 -- ---- numbers stay numbers
 
@@ -176,34 +176,34 @@ numbers-texts : (texts : List (List ℕ)) → ItemsHaveNumbers (items_of (map st
 numbers-texts [] = tt
 numbers-texts (text ∷ texts) = (tt, numbers-texts texts)
 
-numbers-sets : (groups : List SheetGroup) → HaveNumbers groups → ItemsHaveNumbers (items_of (map set_of groups))
+numbers-sets : (sets : List ScrambleSet) → HaveNumbers sets → ItemsHaveNumbers (items_of (map set_of sets))
 numbers-sets [] all = tt
-numbers-sets (group ∷ groups) all = (
-  (All-head (λ (g : SheetGroup). IsNumber g.number) group groups all, (numbers-texts group.scrambles, (numbers-texts group.extras, tt))),
-  numbers-sets groups (All-tail (λ (g : SheetGroup). IsNumber g.number) group groups all),
+numbers-sets (set ∷ sets) all = (
+  (All-head (λ (s : ScrambleSet). IsNumber s.number) set sets all, (numbers-texts set.scrambles, (numbers-texts set.extras, tt))),
+  numbers-sets sets (All-tail (λ (s : ScrambleSet). IsNumber s.number) set sets all),
 )
 
-found-numbers : (rounds : List RoundSets) (id : List ℕ) → All (λ round. HaveNumbers round.groups) rounds
-    → IfSome (groups_at rounds id) HaveNumbers
+found-numbers : (rounds : List RoundSets) (id : List ℕ) → All (λ round. HaveNumbers round.sets) rounds
+    → IfSome (sets_at rounds id) HaveNumbers
 found-numbers [] id all = tt
 found-numbers (round ∷ more) id all =
-    at (bytes_eq round.id id) (found-numbers more id (All-tail (λ (r : RoundSets). HaveNumbers r.groups) round more all))
+    at (bytes_eq round.id id) (found-numbers more id (All-tail (λ (r : RoundSets). HaveNumbers r.sets) round more all))
   where
-    at : (b : Bool) → IfSome (groups_at more id) HaveNumbers → IfSome (cond b (Some round.groups) (groups_at more id)) HaveNumbers
-    at true later = All-head (λ (r : RoundSets). HaveNumbers r.groups) round more all
+    at : (b : Bool) → IfSome (sets_at more id) HaveNumbers → IfSome (cond b (Some round.sets) (sets_at more id)) HaveNumbers
+    at true later = All-head (λ (r : RoundSets). HaveNumbers r.sets) round more all
     at false later = later
 
-pub numbers-round : (rounds : List RoundSets) → All (λ round. HaveNumbers round.groups) rounds → (j : Json) → HasNumbers j
+pub numbers-round : (rounds : List RoundSets) → All (λ round. HaveNumbers round.sets) rounds → (j : Json) → HasNumbers j
     → HasNumbers (filled_round rounds j)
 numbers-round rounds them j all = at (text_at (codes "id") j)
   where
-    with : (o : Option (List SheetGroup)) → IfSome o HaveNumbers → HasNumbers (with_sets o j)
+    with : (o : Option (List ScrambleSet)) → IfSome o HaveNumbers → HasNumbers (with_sets o j)
     with None it = all
-    with (Some groups) it = numbers-with_field (codes "scrambleSets") (sets_of groups) j (numbers-sets groups it) all
+    with (Some sets) it = numbers-with_field (codes "scrambleSets") (sets_of sets) j (numbers-sets sets it) all
 
-    at : (o : Option (List ℕ)) → HasNumbers (with_sets (option_and_then (groups_at rounds) o) j)
+    at : (o : Option (List ℕ)) → HasNumbers (with_sets (option_and_then (sets_at rounds) o) j)
     at None = all
-    at (Some id) = with (groups_at rounds id) (found-numbers rounds id them)
+    at (Some id) = with (sets_at rounds id) (found-numbers rounds id them)
 
 -- ---- how deep it nests
 
@@ -257,16 +257,16 @@ depth-texts : (texts : List (List ℕ)) → items_depth (items_of (map string te
 depth-texts [] = omega arith
 depth-texts (text ∷ texts) = omega (arith, depth-texts texts)
 
-depth-sets : (groups : List SheetGroup) → items_depth (items_of (map set_of groups)) ≤ 2
+depth-sets : (sets : List ScrambleSet) → items_depth (items_of (map set_of sets)) ≤ 2
 depth-sets [] = omega arith
-depth-sets (group ∷ groups) = omega (arith, depth-texts group.scrambles, depth-texts group.extras, depth-sets groups)
+depth-sets (set ∷ sets) = omega (arith, depth-texts set.scrambles, depth-texts set.extras, depth-sets sets)
 
 pub depth-round : (rounds : List RoundSets) (j : Json) → depth (filled_round rounds j) ≤ max (depth j) 4
-depth-round rounds j = with (option_and_then (groups_at rounds) (text_at (codes "id") j))
+depth-round rounds j = with (option_and_then (sets_at rounds) (text_at (codes "id") j))
   where
-    with : (o : Option (List SheetGroup)) → depth (with_sets o j) ≤ max (depth j) 4
+    with : (o : Option (List ScrambleSet)) → depth (with_sets o j) ≤ max (depth j) 4
     with None = omega arith
-    with (Some groups) = omega (arith, depth-sets groups, depth-with_field (codes "scrambleSets") (sets_of groups) j)
+    with (Some sets) = omega (arith, depth-sets sets, depth-with_field (codes "scrambleSets") (sets_of sets) j)
 
 pub depth-filled : (rounds : List RoundSets) (j : Json) → depth (filled rounds j) ≤ max (depth j) 8
 depth-filled rounds j =

@@ -1,3 +1,7 @@
 pub mod ItemLemmas
 pub mod StepLemmas
 pub mod FillLemmas
+pub mod TakeLemmas
+pub mod PartLemmas
+pub mod FilledLemmas
+pub mod KeptLemmas

@@ -34,14 +34,14 @@ is_text wanted None = false
 is_text wanted (Some text) = bytes_eq text wanted
 
 -- the number of groups that a round of the file has
-abbrev pub groups_of : Json → Option ℕ
-groups_of json = option_and_then (number_between 1 26) (number_at (codes "scrambleSetCount") json)
+abbrev pub group_count : Json → Option ℕ
+group_count json = option_and_then (number_between 1 26) (number_at (codes "scrambleSetCount") json)
 
 -- round `number` of an event with this id, which is entry `place` of the events and has so many rounds
 abbrev pub round_of_entry : ℕ → List ℕ → ℕ → ℕ → Json → Result NamedRound FileFault
 round_of_entry place id count number json =
     if is_text (id_of_round id number) (text_at (codes "id") json)
-    then ok_or (option_map (λ groups. record { event = id; number = number; groups = groups; name = name_of_round count number }) (groups_of json))
+    then ok_or (option_map (λ groups. record { event = id; number = number; groups = groups; name = name_of_round count number }) (group_count json))
     (Round place number round.Groups)
     else Err (Round place number round.Id)
 

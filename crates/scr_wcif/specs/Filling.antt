@@ -4,22 +4,22 @@ use Rattle.std.specs.Str.{bytes_eq}
 use Rattle.json.specs.Json.{Json, null, boolean, number, string, array, object, Items, no_items, item, Members, no_members, member}
 use Rattle.json.specs.Value.{items_of}
 use Rattle.scr_wcif.specs.Fields.{text_at}
-use Rattle.scr_wcif.specs.Sheet.{SheetGroup, RoundSets}
+use Rattle.scr_wcif.specs.Sets.{ScrambleSet, RoundSets}
 
 -- ---- the sets of a round
 
 abbrev pub texts_of : List (List ℕ) → Json
 texts_of texts = array (items_of (map string texts))
 
--- a group
-abbrev pub set_of : SheetGroup → Json
-set_of group =
-    object (member (codes "id") (number group.number)
-    (member (codes "scrambles") (texts_of group.scrambles)
-    (member (codes "extraScrambles") (texts_of group.extras) no_members)))
+-- those of a group
+abbrev pub set_of : ScrambleSet → Json
+set_of set =
+    object (member (codes "id") (number set.number)
+    (member (codes "scrambles") (texts_of set.scrambles)
+    (member (codes "extraScrambles") (texts_of set.extras) no_members)))
 
-abbrev pub sets_of : List SheetGroup → Json
-sets_of groups = array (items_of (map set_of groups))
+abbrev pub sets_of : List ScrambleSet → Json
+sets_of sets = array (items_of (map set_of sets))
 
 -- ---- a round
 
@@ -38,18 +38,18 @@ with_field key new (string text) = string text
 with_field key new (array items) = array items
 with_field key new (object members) = object (with_member key new members)
 
--- the groups that stand under an id
-abbrev pub groups_at : List RoundSets → List ℕ → Option (List SheetGroup)
-groups_at [] id = None
-groups_at (round ∷ more) id = if bytes_eq round.id id then Some round.groups else groups_at more id
+-- the sets that stand under an id
+abbrev pub sets_at : List RoundSets → List ℕ → Option (List ScrambleSet)
+sets_at [] id = None
+sets_at (round ∷ more) id = if bytes_eq round.id id then Some round.sets else sets_at more id
 
-abbrev pub with_sets : Option (List SheetGroup) → Json → Json
+abbrev pub with_sets : Option (List ScrambleSet) → Json → Json
 with_sets None round = round
-with_sets (Some groups) round = with_field (codes "scrambleSets") (sets_of groups) round
+with_sets (Some sets) round = with_field (codes "scrambleSets") (sets_of sets) round
 
--- a round gets the sets of the groups that stand under its id, if any do
+-- a round gets the sets that stand under its id, if any do
 abbrev pub filled_round : List RoundSets → Json → Json
-filled_round rounds round = with_sets (option_and_then (groups_at rounds) (text_at (codes "id") round)) round
+filled_round rounds round = with_sets (option_and_then (sets_at rounds) (text_at (codes "id") round)) round
 
 -- ---- a file
 

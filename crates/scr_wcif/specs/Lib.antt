@@ -8,7 +8,12 @@ pub mod Message
 pub mod Status
 pub mod Outcome
 pub mod Made
-pub mod Sheet
+pub mod Exit
+pub mod Sets
+pub mod Parts
+pub mod Taking
+pub mod Gathering
 pub mod Filling
+pub mod Kept
 pub mod Placing
 pub mod Filled

@@ -1,6 +1,8 @@
 -- What goes wrong in a run, and the line that tells it.
 use Rattle.std.specs.Prelude.{ℕ, List, ◌++◌, codes}
 use Rattle.std.specs.Fmt.{decimal}
+use Rattle.scr_read.specs.declared.fault.SheetCause.{SheetCause}
+use Rattle.scr_read.specs.declared.fault.SheetCause.TheVariants as sheet
 use Rattle.scr_wcif.specs.declared.fault.EventCause.{EventCause}
 use Rattle.scr_wcif.specs.declared.fault.EventCause.TheVariants as event
 use Rattle.scr_wcif.specs.declared.fault.RoundCause.{RoundCause}
@@ -24,6 +26,16 @@ abbrev pub round_cause_text : RoundCause → List ℕ
 round_cause_text round.Id = codes "id"
 round_cause_text round.Groups = codes "scrambleSetCount"
 
+-- what is wrong with a line of a sheet
+abbrev pub sheet_cause_text : SheetCause → List ℕ
+sheet_cause_text sheet.End = codes "the sheet ends within a round"
+sheet_cause_text sheet.LineFeed = codes "no line feed ends the last line"
+sheet_cause_text sheet.Head = codes "no head of the next round"
+sheet_cause_text sheet.Group = codes "no name of the next group"
+sheet_cause_text sheet.Label = codes "not the label of the next scramble"
+sheet_cause_text sheet.Scramble = codes "no scramble of the event"
+sheet_cause_text sheet.GroupEnd = codes "no empty line behind the group"
+
 -- how a round of a sheet differs
 abbrev pub difference_text : Difference → List ℕ
 difference_text difference.Event = codes "another event"
@@ -31,9 +43,10 @@ difference_text difference.Groups = codes "another number of groups"
 difference_text difference.Missing = codes "missing"
 difference_text difference.More = codes "not in the file"
 
--- why a file tells no rounds, or doesn't take a sheet's; events and their rounds are counted from 1, and bytes from 0
+-- why a file tells no rounds, or doesn't take a sheet's; events, rounds and lines are counted from 1, and bytes from 0
 abbrev pub file_text : FileFault → List ℕ
-file_text file.TooLong = codes "file is longer than 67108864 bytes"
+file_text file.TooLong = codes "input is longer than 67108864 bytes"
+file_text file.NoParts = codes "no line ===== between a file and a sheet"
 file_text (file.NoText place) = codes "no UTF-8 at byte " ++ decimal place
 file_text (file.NoJson place) = codes "no JSON at byte " ++ decimal place
 file_text file.KeyTwice = codes "an object has a key twice"
@@ -41,12 +54,13 @@ file_text file.NoCompetition = codes "no competition: no list of events"
 file_text (file.Event number cause) = codes "event " ++ decimal number ++ codes ": " ++ event_cause_text cause
 file_text (file.Round event number cause) =
     codes "event " ++ decimal event ++ codes " round " ++ decimal number ++ codes ": " ++ round_cause_text cause
+file_text (file.SheetLine line why) = codes "sheet line " ++ decimal line ++ codes ": " ++ sheet_cause_text why
 file_text (file.Sheet number why) = codes "sheet round " ++ decimal number ++ codes ": " ++ difference_text why
 file_text file.Read = codes "input could not be read"
 
 -- what went wrong
 abbrev pub fault_text : Fault → List ℕ
-fault_text fault.Usage = codes "usage: list"
+fault_text fault.Usage = codes "usage: list | fill"
 fault_text (fault.File why) = file_text why
 fault_text fault.Write = codes "output could not be written"
 fault_text fault.NoMemory = codes "out of memory"

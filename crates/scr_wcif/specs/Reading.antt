@@ -1,10 +1,10 @@
--- What is read of an input, and what value its bytes are.
-use Rattle.std.specs.Prelude.{ℕ, ◌≡◌, ◌<◌, ◌≤◌, Some, None, List, length, Result, Ok, Err}
+-- How much is read of an input, and what value bytes are.
+use Rattle.std.specs.Prelude.{ℕ, ◌≡◌, Some, None, List}
 use Rattle.std.specs.Str.{IsUtf8}
 use Rattle.json.specs.Json.{Json, document}
 use Rattle.json.specs.Strict.{HasUniqueKeys}
-use Rattle.scr_outside.specs.Change.{Change, Gives, TellsEnd}
-use Rattle.scr_list.specs.Reading.{ReadsInPart}
+use Rattle.scr_host.specs.declared.input.InputFault.{InputFault}
+use Rattle.scr_host.specs.declared.input.InputFault.TheVariants as input
 use Rattle.scr_wcif.specs.declared.fault.FileFault.{FileFault}
 use Rattle.scr_wcif.specs.declared.fault.FileFault.TheVariants as file
 use Rattle.scr_wcif.specs.declared.fault.Fault.{Fault}
@@ -14,35 +14,11 @@ use Rattle.scr_wcif.specs.declared.fault.Fault.TheVariants as fault
 abbrev pub most_bytes : ℕ
 most_bytes = 67108864
 
--- The source was read to its end, which it told once, and gave these bytes.
-pub record ReadsWhole (source : Change) (bytes : List ℕ) : Type 0 where
-  pub gives : Gives source bytes
-  pub end : TellsEnd source
-  pub few : length bytes ≤ most_bytes
-
--- it gave more bytes than an input may have, and told no end
-pub record ReadsTooMany (source : Change) : Type 0 where
-  pub bytes : List ℕ
-  pub gives : Gives source bytes
-  pub no_end : source.ends_after ≡ source.ends_before
-  pub many : most_bytes < length bytes
-
--- some bytes were read, without a fault
-pub record ReadsSome (source : Change) : Type 0 where
-  pub bytes : List ℕ
-  pub gives : Gives source bytes
-
--- the input wasn't read whole, for this cause
-abbrev pub ReadsNone : Change → Fault → Type 0
-ReadsNone source (fault.File file.TooLong) = ReadsTooMany source
-ReadsNone source (fault.File file.Read) = ReadsInPart source (λ bytes. length bytes)
-ReadsNone source fault.NoMemory = ReadsSome source
-ReadsNone source other = ⊥
-
--- what a call took from a source that reads all of it, by what it answers
-abbrev pub ReadsInput : Change → Result (List ℕ) Fault → Type 0
-ReadsInput source (Ok bytes) = ReadsWhole source bytes
-ReadsInput source (Err why) = ReadsNone source why
+-- what went wrong where an input wasn't read whole
+abbrev pub fault_of : InputFault → Fault
+fault_of input.TooLong = fault.File file.TooLong
+fault_of input.Read = fault.File file.Read
+fault_of input.NoMemory = fault.NoMemory
 
 -- ---- the value
 

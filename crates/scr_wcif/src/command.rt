@@ -8,6 +8,8 @@ ghost use Rattle.scr_wcif.specs.Outcome.{command_of};
 pub enum Command {
     /// The list of a file's rounds.
     List,
+    /// A file with the scrambles of the sheet behind it.
+    Fill,
 }
 
 /// The command that words are; `None` where they are none.
@@ -16,6 +18,7 @@ pub(crate) fn command_of(words: &[&str]) -> Option<Command>
 {
     match words {
         [word] if *word == "list" => Some(Command::List),
+        [word] if *word == "fill" => Some(Command::Fill),
         _ => None,
     }
 }

@@ -2,8 +2,12 @@
 
 ghost use Rattle.std.specs.Prelude.{◌≡◌};
 ghost use Rattle.scr_wcif.specs.declared.fault.Fault.TheVariants.{File, NoMemory, Write};
+ghost use Rattle.scr_wcif.specs.declared.fault.FileFault.TheVariants.{SheetLine};
+ghost use Rattle.scr_wcif.specs.Reading.{fault_of};
 
+use scr_host::InputFault;
 use scr_outside::Failed;
+use scr_read::{SheetCause, SheetFault};
 use std::alloc::AllocError;
 
 /// Why an entry of the list of events tells no event. Where more than one applies, it is the first of: many, shape,
@@ -44,11 +48,14 @@ pub enum Difference {
     More,
 }
 
-/// Why a file tells no rounds, or doesn't take those of a sheet. Entries of lists are counted from 1, and bytes from 0.
+/// Why a file tells no rounds, or doesn't take those of a sheet. Entries of lists and lines are counted from 1, and bytes
+/// from 0.
 #[derive(Clone, Copy, Debug, PartialEq, Eq)]
 pub enum FileFault {
-    /// It has more than 67,108,864 bytes.
+    /// It has more than 67,108,864 bytes, with the sheet behind it where one is.
     TooLong,
+    /// No line `=====` stands in the input, behind which the sheet would be.
+    NoParts,
     /// It is no text: at this byte it isn't UTF-8.
     NoText {
         place: u32,
@@ -71,6 +78,11 @@ pub enum FileFault {
         event: u32,
         number: u32,
         cause: RoundCause,
+    },
+    /// The sheet is none: this line of it, counted behind the line `=====`, is its first at fault.
+    SheetLine {
+        line: u32,
+        cause: SheetCause,
     },
     /// The round of the sheet with this number, from 1, isn't the one that the file has there.
     Sheet {
@@ -102,6 +114,17 @@ impl From<FileFault> for Fault {
     }
 }
 
+impl From<SheetFault> for Fault {
+    ghost from_gives = { λ at fault. fault ≡ File (SheetLine at.line at.cause) };
+
+    fn from(at: SheetFault) -> Fault {
+        Fault::File(FileFault::SheetLine {
+            line: at.line,
+            cause: at.cause,
+        })
+    }
+}
+
 impl From<Failed> for Fault {
     ghost from_gives = { λ _ fault. fault ≡ Write };
 
@@ -115,5 +138,17 @@ impl From<AllocError> for Fault {
 
     fn from(_wanting: AllocError) -> Fault {
         Fault::NoMemory
+    }
+}
+
+impl From<InputFault> for Fault {
+    ghost from_gives = { λ input fault. fault ≡ fault_of input };
+
+    fn from(input: InputFault) -> Fault {
+        match input {
+            InputFault::TooLong => Fault::File(FileFault::TooLong),
+            InputFault::Read => Fault::File(FileFault::Read),
+            InputFault::NoMemory => Fault::NoMemory,
+        }
     }
 }

@@ -1,56 +1,82 @@
 //! A file with the scrambles of a sheet.
 
-ghost use Rattle.std.specs.Prelude.{All};
+ghost use Rattle.std.specs.Prelude.{◌≡◌, ◌-◌, ◌^◌, ◌<◌, ◌≤◌, All, List, Ok, Err, length};
 ghost use Rattle.json.specs.Json.{max_depth};
 ghost use Rattle.json.specs.Tree.{depth, HasNumbers};
 ghost use Rattle.json.specs.Value.{value_view};
-ghost use Rattle.std.specs.Prelude.{◌≤◌};
-ghost use Rattle.scr_wcif.specs.Sheet.{RoundHasNumbers};
-ghost use Rattle.scr_wcif.specs.Filled.{FillsValue, FillsFile};
+ghost use Rattle.scr_wcif.specs.Adding.{IsAnswer};
+ghost use Rattle.scr_wcif.specs.FileRound.{NamedRound};
+ghost use Rattle.scr_wcif.specs.FileRounds.{rounds_of_file};
+ghost use Rattle.scr_wcif.specs.Reading.{most_bytes};
+ghost use Rattle.scr_wcif.specs.Sets.{RoundHasNumbers};
+ghost use Rattle.scr_wcif.specs.Made.{FillsInput, FillsParts, FillsRounds};
 
-use crate::fault::Fault;
+use crate::fault::{Fault, FileFault};
 use crate::filling::filled;
 use crate::list::left_out;
+use crate::parts::parts_of;
 use crate::placing::placed_rounds;
 use crate::rounds::rounds_of_file;
-use crate::sheet::SheetRound;
+use crate::set::EventSets;
+use crate::taking::taken_sets;
 use crate::value::value_of;
 use json::{Scratch, Value, to_vec};
 use std::alloc::Global;
 
 /// The text of a file with the scrambles of a sheet, and what is told of the rounds that get none.
 #[derive(Drop)]
-pub struct FilledFile {
+pub(crate) struct FilledFile {
     /// The text, in UTF-8.
-    pub text: Vec<u8>,
+    pub(crate) text: Vec<u8>,
     /// A line for each round whose event the program hasn't.
-    pub told: String,
+    pub(crate) told: String,
 }
 
-/// The file that these bytes are with the scrambles of a sheet, whose rounds have to be those of the file's list: by
+/// The file of an input with the scrambles of the sheet behind it, whose rounds have to be those of the file's list: by
 /// their events and the numbers of their groups, in order.
-pub fn filled_text(alloc: Global, bytes: &[u8], sheet: &[SheetRound]) -> Result<FilledFile, Fault>
-    requires { All RoundHasNumbers sheet.now }
-    ensures { FillsFile bytes.now sheet.now result }
+pub(crate) fn filled_text(alloc: Global, input: &[u8]) -> Result<FilledFile, Fault>
+    requires { length input.now ≤ most_bytes }
+    ensures { FillsInput input.now result }
+{
+    let (file, sheet) = parts_of(input).ok_or(FileFault::NoParts)?;
+    filled_parts(alloc, file, sheet)
+}
+
+/// The same of the two parts.
+fn filled_parts(alloc: Global, file: &[u8], sheet: &[u8]) -> Result<FilledFile, Fault>
+    requires { length sheet.now < 2 ^ 32 - 1 }
+    ensures { FillsParts file.now sheet.now result }
 {
     let mut scratch = Scratch::new(alloc);
-    let file = value_of(alloc, bytes, &mut scratch)?;
-    filled_value(alloc, file, sheet)
+    let value = value_of(alloc, file, &mut scratch)?;
+    names_rounds(alloc, &value)?;
+    let sets = taken_sets(alloc, sheet)?;
+    filled_value(alloc, value, &sets)
 }
 
-/// The same of a file's value.
+/// That a file names rounds, or why it doesn't.
+fn names_rounds(alloc: Global, file: &Value<'_>) -> Result<(), Fault>
+    ensures { IsAnswer (λ _. (named : List NamedRound) × (rounds_of_file (value_view file.now) ≡ Ok named))
+        (λ why. rounds_of_file (value_view file.now) ≡ Err why) result }
+{
+    let _named = rounds_of_file(alloc, file)?;
+    Ok(())
+}
+
+/// The same of the file's value, which names rounds, and of the sets of the sheet's.
 fn filled_value<'a>(
     alloc: Global,
     file: Value<'a>,
-    sheet: &'a [SheetRound],
+    sets: &'a [EventSets],
 ) -> Result<FilledFile, Fault>
-    requires sheet { All RoundHasNumbers sheet.now }
+    requires numbers { All RoundHasNumbers sets.now }
     requires writable { HasNumbers (value_view file) }
     requires nests { depth (value_view file) ≤ max_depth }
-    ensures { FillsValue (value_view file.entry) sheet.now result }
+    ensures { (named : List NamedRound) → rounds_of_file (value_view file.entry) ≡ Ok named
+        → FillsRounds (value_view file.entry) named sets.now result }
 {
     let named = rounds_of_file(alloc, &file)?;
-    let placed = placed_rounds(alloc, &named, sheet)?;
+    let placed = placed_rounds(alloc, &named, sets)?;
     let told = left_out(alloc, &named)?;
     let filled = filled(alloc, file, &placed)?;
     let text = to_vec(alloc, &filled)?;

@@ -5,15 +5,15 @@ ghost use Rattle.std.specs.Str.{bytes_eq};
 ghost use Rattle.json.specs.Value.{value_view, members_view};
 ghost use Rattle.json.specs.Tree.{depth, HasNumbers};
 ghost use Rattle.json.specs.Json.{max_depth};
-ghost use Rattle.scr_wcif.specs.Sheet.{SetsHaveNumbers};
-ghost use Rattle.scr_wcif.specs.Filling.{with_member, with_field, groups_at, filled_round, each_item, changed_members, changed_along, filled};
+ghost use Rattle.scr_wcif.specs.Sets.{SetsHaveNumbers};
+ghost use Rattle.scr_wcif.specs.Filling.{with_member, with_field, sets_at, filled_round, each_item, changed_members, changed_along, filled};
 ghost use Rattle.json.specs.Json.{object};
 ghost use Rattle.scr_wcif.specs.Fields.{text_at};
 
 use crate::adding::add;
 use crate::field::text_at;
-use crate::sets::sets_of;
-use crate::sheet::{RoundSets, SheetGroup};
+use crate::set::{RoundSets, ScrambleSet};
+use crate::set_value::sets_of;
 use json::Value;
 use std::alloc::{AllocError, Global};
 
@@ -108,31 +108,31 @@ fn filled_round<'a>(
 ) -> Result<Value<'a>, AllocError>
     ensures { IfOk result (λ filled. value_view filled ≡ filled_round rounds.now (value_view round.entry)) }
 {
-    match groups_of_round(&round, rounds) {
-        Some(groups) => with_field(round, "scrambleSets", sets_of(alloc, groups)?),
+    match sets_of_round(&round, rounds) {
+        Some(sets) => with_field(round, "scrambleSets", sets_of(alloc, sets)?),
         None => Ok(round),
     }
 }
 
-/// The groups that stand under a round's id.
-fn groups_of_round<'a>(round: &Value<'a>, rounds: &[RoundSets<'a>]) -> Option<&'a [SheetGroup]>
-    ensures { option_map (λ groups. groups.now) result
-        ≡ option_and_then (groups_at rounds.now) (text_at (codes "id") (value_view round.now)) }
+/// The sets that stand under a round's id.
+fn sets_of_round<'a>(round: &Value<'a>, rounds: &[RoundSets<'a>]) -> Option<&'a [ScrambleSet]>
+    ensures { option_map (λ sets. sets.now) result
+        ≡ option_and_then (sets_at rounds.now) (text_at (codes "id") (value_view round.now)) }
 {
-    groups_at(rounds, text_at(round, "id")?)
+    sets_at(rounds, text_at(round, "id")?)
 }
 
-/// The groups that stand under an id. It calls itself at most once for each.
-fn groups_at<'a>(rounds: &[RoundSets<'a>], id: &str) -> Option<&'a [SheetGroup]>
-    ensures { option_map (λ groups. groups.now) result ≡ groups_at rounds.now id.now }
+/// The sets that stand under an id. It calls itself at most once for each.
+fn sets_at<'a>(rounds: &[RoundSets<'a>], id: &str) -> Option<&'a [ScrambleSet]>
+    ensures { option_map (λ sets. sets.now) result ≡ sets_at rounds.now id.now }
 {
     match rounds {
         [] => None,
         [round, rest @ ..] => {
             if round.id.as_str() == id {
-                Some(round.groups)
+                Some(round.sets)
             } else {
-                groups_at(rest, id)
+                sets_at(rest, id)
             }
         }
     }

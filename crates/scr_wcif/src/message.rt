@@ -3,10 +3,11 @@
 ghost use Rattle.std.specs.Prelude.{◌≡◌, ◌++◌, ◌+◌, ◌≤◌, length};
 ghost use Rattle.std.specs.Fmt.{decimal};
 ghost use Rattle.arrayvec.specs.ArrayString.{array_string_len};
-ghost use Rattle.scr_wcif.specs.Message.{message_of, file_text, event_cause_text, round_cause_text, difference_text};
+ghost use Rattle.scr_wcif.specs.Message.{message_of, file_text, event_cause_text, round_cause_text, sheet_cause_text, difference_text};
 
 use crate::fault::{Difference, EventCause, Fault, FileFault, RoundCause};
 use arrayvec::ArrayString;
+use scr_read::SheetCause;
 use scr_text::decimal;
 
 /// The length of the longest message, and a little more.
@@ -20,7 +21,7 @@ impl Fault {
         let mut line = ArrayString::new();
         line.push_str("scramble-wcif: ");
         match self {
-            Fault::Usage => line.push_str("usage: list"),
+            Fault::Usage => line.push_str("usage: list | fill"),
             Fault::File(why) => push_file(&mut line, why),
             Fault::Write => line.push_str("output could not be written"),
             Fault::NoMemory => line.push_str("out of memory"),
@@ -36,7 +37,8 @@ fn push_file(line: &mut ArrayString<LONGEST>, why: FileFault)
     ensures room { array_string_len line.new ≤ 120 }
 {
     match why {
-        FileFault::TooLong => line.push_str("file is longer than 67108864 bytes"),
+        FileFault::TooLong => line.push_str("input is longer than 67108864 bytes"),
+        FileFault::NoParts => line.push_str("no line ===== between a file and a sheet"),
         FileFault::NoText { place } => push_at(line, "no UTF-8 at byte ", place),
         FileFault::NoJson { place } => push_at(line, "no JSON at byte ", place),
         FileFault::KeyTwice => line.push_str("an object has a key twice"),
@@ -55,6 +57,11 @@ fn push_file(line: &mut ArrayString<LONGEST>, why: FileFault)
             push_at(line, " round ", number);
             line.push_str(": ");
             line.push_str(round_cause_words(cause));
+        }
+        FileFault::SheetLine { line: at, cause } => {
+            push_at(line, "sheet line ", at);
+            line.push_str(": ");
+            line.push_str(sheet_cause_words(cause));
         }
         FileFault::Sheet { number, difference } => {
             push_at(line, "sheet round ", number);
@@ -98,6 +105,22 @@ fn round_cause_words(cause: RoundCause) -> &'static str
     match cause {
         RoundCause::Id => "id",
         RoundCause::Groups => "scrambleSetCount",
+    }
+}
+
+/// What is wrong with a line of a sheet: a few words.
+fn sheet_cause_words(cause: SheetCause) -> &'static str
+    ensures words { result.now ≡ sheet_cause_text cause }
+    ensures few { length result.now ≤ 40 }
+{
+    match cause {
+        SheetCause::End => "the sheet ends within a round",
+        SheetCause::LineFeed => "no line feed ends the last line",
+        SheetCause::Head => "no head of the next round",
+        SheetCause::Group => "no name of the next group",
+        SheetCause::Label => "not the label of the next scramble",
+        SheetCause::Scramble => "no scramble of the event",
+        SheetCause::GroupEnd => "no empty line behind the group",
     }
 }
 

@@ -1,23 +1,23 @@
-//! Which groups of a sheet the rounds of a file get.
+//! Which sets of a sheet's rounds the rounds of a file get.
 
 ghost use Rattle.std.specs.Prelude.{◌≡◌, ◌+◌, ◌≤◌, [], All, filter, length, IfOk, OnOk};
 ghost use Rattle.scr_wcif.specs.Adding.{Adds, Gives};
 ghost use Rattle.scr_wcif.specs.Placing.{is_known, placed_round, placed_from, placed_rounds};
-ghost use Rattle.scr_wcif.specs.Sheet.{SetsHaveNumbers, RoundHasNumbers};
+ghost use Rattle.scr_wcif.specs.Sets.{SetsHaveNumbers, RoundHasNumbers};
 ghost use Rattle.scr_wcif.specs.declared.fault.FileFault.TheVariants.{Sheet};
 ghost use Rattle.scr_wcif.specs.declared.fault.Fault.TheVariants.{File};
 
 use crate::adding::add;
 use crate::fault::{Difference, Fault, FileFault};
 use crate::round::FileRound;
-use crate::sheet::{RoundSets, SheetRound};
+use crate::set::{EventSets, RoundSets};
 use std::alloc::Global;
 
-/// The groups of a sheet under the ids of the rounds that a file has in their places, or the first round that differs.
+/// The sets of a sheet's rounds under the ids of the rounds that a file has in their places, or the first round that differs.
 pub(crate) fn placed_rounds<'a>(
     alloc: Global,
     named: &[FileRound<'_>],
-    sheet: &'a [SheetRound],
+    sheet: &'a [EventSets],
 ) -> Result<Vec<RoundSets<'a>>, Fault>
     requires few { length named.now ≤ 256 }
     requires numbers { All RoundHasNumbers sheet.now }
@@ -34,7 +34,7 @@ fn push_placed<'a>(
     alloc: Global,
     number: u32,
     named: &[FileRound<'_>],
-    sheet: &'a [SheetRound],
+    sheet: &'a [EventSets],
     placed: &mut Vec<RoundSets<'a>>,
 ) -> Result<(), Fault>
     requires few { number + length named.now ≤ 300 }
@@ -62,7 +62,7 @@ fn push_placed<'a>(
 }
 
 /// That a sheet has no more rounds.
-fn no_more(number: u32, sheet: &[SheetRound]) -> Result<(), Fault>
+fn no_more(number: u32, sheet: &[EventSets]) -> Result<(), Fault>
     ensures { Gives (placed_from number [] sheet.now) (λ _. []) result }
 {
     match sheet {
@@ -71,12 +71,12 @@ fn no_more(number: u32, sheet: &[SheetRound]) -> Result<(), Fault>
     }
 }
 
-/// The groups of a sheet's round under the id of a file's.
+/// The sets of a sheet's round under the id of a file's.
 fn placed_round<'a>(
     alloc: Global,
     number: u32,
     named: &FileRound<'_>,
-    round: &'a SheetRound,
+    round: &'a EventSets,
 ) -> Result<RoundSets<'a>, Fault>
     requires { RoundHasNumbers round.now }
     ensures sets { Gives (placed_round number named.now round.now) (λ sets. sets) result }
@@ -85,13 +85,13 @@ fn placed_round<'a>(
     if round.event.id() != named.event {
         return Err(differs(number, Difference::Event));
     }
-    if round.groups.len() != usize::from(named.groups) {
+    if round.sets.len() != usize::from(named.groups) {
         return Err(differs(number, Difference::Groups));
     }
     let id = named.id(alloc)?;
     Ok(RoundSets {
         id,
-        groups: &round.groups,
+        sets: &round.sets,
     })
 }
 

@@ -1,24 +1,29 @@
 //! The top call.
 
-ghost use Rattle.std.specs.Prelude.{◌≡◌, ◌⊎◌, map, string_bytes};
+ghost use Rattle.std.specs.Prelude.{◌≡◌, ◌≤◌, map, length, string_bytes};
 ghost use Rattle.std.specs.Result.{result_map_both};
 ghost use Rattle.json.specs.Value.{value_view};
-ghost use Rattle.scr_outside.specs.Change.{change_of, intake_of, Gains, Falters};
+ghost use Rattle.scr_outside.specs.Change.{change_of, intake_of};
 ghost use Rattle.scr_wcif.specs.FileRounds.{rounds_of_file};
 ghost use Rattle.scr_wcif.specs.Adding.{IsAnswer};
+ghost use Rattle.scr_wcif.specs.Reading.{most_bytes};
 ghost use Rattle.scr_wcif.specs.Made.{told_text, ListsFile, ListsValue};
-ghost use Rattle.scr_wcif.specs.Outcome.{IsRun, Ends, EndsListing, WritesList, command_of, told_of};
+ghost use Rattle.scr_wcif.specs.Outcome.{IsRun, Ends, EndsReading, WritesList, WritesFilled, command_of};
 
 use crate::command::{Command, command_of};
 use crate::fault::Fault;
+use crate::filled::{FilledFile, filled_text};
 use crate::list::{left_out, list_of};
-use crate::reading::read_input;
 use crate::rounds::rounds_of_file;
 use crate::status::Status;
 use crate::value::value_of;
 use json::{Scratch, Value};
+use scr_host::{read_input, tell};
 use scr_outside::{Sink, Source, write_all};
 use std::alloc::Global;
+
+/// An input has at most so many bytes.
+pub const MOST_BYTES: usize = 67_108_864;
 
 /// The list of a file, and what is told of the rounds that it leaves out.
 #[derive(Drop)]
@@ -27,9 +32,10 @@ pub(crate) struct FileList {
     pub(crate) told: String,
 }
 
-/// Does all that the program does, on its words without its own name: reads a competition's file from `source`, writes
-/// the list of its rounds to `out`, tells on `err` which rounds the list leaves out, or what went wrong, and gives the
-/// status. A fault of `err` changes no status.
+/// Does all that the program does, on its words without its own name. On `list` it reads a competition's file from
+/// `source`, and writes the list of its rounds to `out`; on `fill` a file, and behind the line `=====` a sheet of the
+/// file's rounds, and writes the file with the sheet's scrambles. Nothing is written where either is at fault. It tells
+/// on `err` which rounds are left out, or what went wrong, and gives the status. A fault of `err` changes no status.
 pub fn run<'w, S: Source, O: Sink, E: Sink>(
     alloc: Global,
     words: &'w [&'w str],
@@ -66,6 +72,7 @@ fn perform<S: Source, O: Sink>(
 {
     match command_of(words) {
         Some(Command::List) => write_list(alloc, source, out),
+        Some(Command::Fill) => write_filled(alloc, source, out),
         None => Err(Fault::Usage),
     }
 }
@@ -76,10 +83,10 @@ fn write_list<S: Source, O: Sink>(
     source: &mut S,
     out: &mut O,
 ) -> Result<String, Fault>
-    ensures { EndsListing (intake_of S.left S.faults S.ends source.old source.new)
+    ensures { EndsReading WritesList (intake_of S.left S.faults S.ends source.old source.new)
         (change_of O.held O.faults out.old out.new) (told_text result) }
 {
-    let bytes = read_input(alloc, source)?;
+    let bytes = read_input(alloc, source, MOST_BYTES)?;
     write_list_of(alloc, &bytes, out)
 }
 
@@ -90,6 +97,30 @@ fn write_list_of<O: Sink>(alloc: Global, bytes: &Vec<u8>, out: &mut O) -> Result
     let made = list_of_bytes(alloc, bytes)?;
     write_all(out, made.list.as_str().as_bytes())?;
     let FileList { told, .. } = made;
+    Ok(told)
+}
+
+/// Reads a file and a sheet behind it, and writes the file with the sheet's scrambles.
+fn write_filled<S: Source, O: Sink>(
+    alloc: Global,
+    source: &mut S,
+    out: &mut O,
+) -> Result<String, Fault>
+    ensures { EndsReading WritesFilled (intake_of S.left S.faults S.ends source.old source.new)
+        (change_of O.held O.faults out.old out.new) (told_text result) }
+{
+    let bytes = read_input(alloc, source, MOST_BYTES)?;
+    write_filled_of(alloc, &bytes, out)
+}
+
+/// Writes the file of an input with the scrambles of the sheet behind it.
+fn write_filled_of<O: Sink>(alloc: Global, bytes: &Vec<u8>, out: &mut O) -> Result<String, Fault>
+    requires { length bytes.now.items ≤ most_bytes }
+    ensures { WritesFilled bytes.now.items (change_of O.held O.faults out.old out.new) (told_text result) }
+{
+    let made = filled_text(alloc, bytes)?;
+    write_all(out, &made.text)?;
+    let FilledFile { told, .. } = made;
     Ok(told)
 }
 
@@ -110,12 +141,4 @@ fn list_of_value(alloc: Global, file: &Value<'_>) -> Result<FileList, Fault>
     let list = list_of(alloc, &named)?;
     let told = left_out(alloc, &named)?;
     Ok(FileList { list, told })
-}
-
-/// Tells something, or a first part of it.
-pub(crate) fn tell<E: Sink>(err: &mut E, text: &str)
-    ensures { Gains (change_of E.held E.faults err.old err.new) text.now
-        ⊎ Falters (change_of E.held E.faults err.old err.new) text.now }
-{
-    let _ = write_all(err, text.as_bytes());
 }

@@ -3,7 +3,7 @@
 ghost use Rattle.std.specs.Prelude.{◌≡◌, [], ◌+◌, ◌-◌, ◌*◌, ◌≤◌, map, length, option_map, IfOk, IfSome, OnOk};
 ghost use Rattle.std.specs.Str.{bytes_eq};
 ghost use Rattle.json.specs.Value.{value_view, items_view};
-ghost use Rattle.scr_wcif.specs.FileRounds.{id_of_round, groups_of, round_of_entry, rounds_of_entries};
+ghost use Rattle.scr_wcif.specs.FileRounds.{id_of_round, group_count, round_of_entry, rounds_of_entries};
 ghost use Rattle.scr_wcif.specs.FileRounds.{is_left_out, is_event, stands_in, event_of_entry, rounds_of_events};
 ghost use Rattle.scr_wcif.specs.FileRounds.{told_event, checked_event, rounds_of_file};
 ghost use Rattle.scr_wcif.specs.Adding.{Adds, Gives, event_told, entry_told};
@@ -205,7 +205,7 @@ fn round_of_entry<'a>(
     if !is_id_of_round(alloc, told, id, number)? {
         return Err(Fault::File(wrong_id));
     }
-    let groups = groups_of(entry).ok_or(FileFault::Round {
+    let groups = group_count(entry).ok_or(FileFault::Round {
         event: place,
         number,
         cause: RoundCause::Groups,
@@ -227,8 +227,8 @@ fn is_id_of_round(alloc: Global, text: &str, id: &str, number: u32) -> Result<bo
 }
 
 /// The number of groups that a round has.
-fn groups_of(entry: &Value<'_>) -> Option<u8>
-    ensures value { result ≡ groups_of (value_view entry.now) }
+fn group_count(entry: &Value<'_>) -> Option<u8>
+    ensures value { result ≡ group_count (value_view entry.now) }
     ensures range { IfSome result (λ groups. (1 ≤ groups) × (groups ≤ 26)) }
 {
     let text = number_at(entry, "scrambleSetCount")?;

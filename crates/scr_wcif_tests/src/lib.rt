@@ -3,4 +3,6 @@
 #![tactic(auto)]
 
 #[cfg(test)]
+mod fills;
+#[cfg(test)]
 mod runs;

@@ -1,7 +1,7 @@
 use Rattle.std.proofs.Common.{◌-◌, take, drop, length}
 use Rattle.std.proofs.Common.{rules}
 use Rattle.std.specs.Prelude.{All}
-use Rattle.scr_wcif.specs.Sheet.{RoundHasNumbers, SetsHaveNumbers}
+use Rattle.scr_wcif.specs.Sets.{RoundHasNumbers, SetsHaveNumbers}
 use Rattle.scr_wcif.proofs.StepLemmas.{all-added, all-rest}
 use Rattle.scr_wcif.proofs.placing.+push_placed.Goals as goal
 

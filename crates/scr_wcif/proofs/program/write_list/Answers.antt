@@ -8,9 +8,9 @@ returns-in_err-bytes g c =
     rw (p.1, p.2)
     (inr (
       c.in_err-bytes.field-0.0,
-      refl,
       c.in_err-bytes.ensures,
       record { bytes = refl; faults = refl; ends = refl },
+      refl,
     ))
 
 pub returns : goal.returns

@@ -6,7 +6,7 @@ use Rattle.json.specs.Json.{string}
 use Rattle.json.specs.Value.{value_view}
 use Rattle.scr_wcif.proofs.StepLemmas.{split-first, grown-view}
 use Rattle.scr_wcif.proofs.FillLemmas.{view-String}
-use Rattle.scr_wcif.proofs.sets.+push_texts.Goals as goal
+use Rattle.scr_wcif.proofs.set_value.+push_texts.Goals as goal
 
 pub returns-in_ok-add-in-len1-up : goal.returns-in_ok-add-in-len1-up
 returns-in_ok-add-in-len1-up t c =

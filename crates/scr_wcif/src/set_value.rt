@@ -1,4 +1,4 @@
-//! The sets of a round, as a file has them.
+//! The sets of a round, as a file has them: as a value.
 
 ghost use Rattle.std.specs.Prelude.{◌≡◌, ◌++◌, map, IfOk, OnOk, string_bytes};
 ghost use Rattle.json.specs.Json.{string};
@@ -6,45 +6,45 @@ ghost use Rattle.json.specs.Value.{value_view};
 ghost use Rattle.scr_wcif.specs.Filling.{texts_of, set_of, sets_of};
 
 use crate::adding::add;
-use crate::sheet::SheetGroup;
+use crate::set::ScrambleSet;
 use json::Value;
 use std::alloc::{AllocError, Global};
 
-/// The sets of a round's groups.
-pub(crate) fn sets_of<'a>(alloc: Global, groups: &'a [SheetGroup]) -> Result<Value<'a>, AllocError>
-    ensures { IfOk result (λ sets. value_view sets ≡ sets_of groups.now) }
+/// The value of these sets.
+pub(crate) fn sets_of<'a>(alloc: Global, sets: &'a [ScrambleSet]) -> Result<Value<'a>, AllocError>
+    ensures { IfOk result (λ value. value_view value ≡ sets_of sets.now) }
 {
-    let mut sets = Vec::new(alloc);
-    push_sets(alloc, groups, &mut sets)?;
-    Ok(Value::Array(sets))
+    let mut values = Vec::new(alloc);
+    push_sets(alloc, sets, &mut values)?;
+    Ok(Value::Array(values))
 }
 
-/// Adds the sets of these groups. It calls itself once for each.
+/// Adds the values of these sets. It calls itself once for each.
 fn push_sets<'a>(
     alloc: Global,
-    groups: &'a [SheetGroup],
-    sets: &mut Vec<Value<'a>>,
+    sets: &'a [ScrambleSet],
+    values: &mut Vec<Value<'a>>,
 ) -> Result<(), AllocError>
-    ensures { OnOk result (map value_view sets.new.items ≡ map value_view sets.old.items ++ map set_of groups.now) }
+    ensures { OnOk result (map value_view values.new.items ≡ map value_view values.old.items ++ map set_of sets.now) }
 {
-    match groups {
+    match sets {
         [] => Ok(()),
-        [group, rest @ ..] => {
-            let set = set_of(alloc, group)?;
-            add(sets, set)?;
-            push_sets(alloc, rest, sets)
+        [set, rest @ ..] => {
+            let value = set_of(alloc, set)?;
+            add(values, value)?;
+            push_sets(alloc, rest, values)
         }
     }
 }
 
-/// The set of a group.
-fn set_of<'a>(alloc: Global, group: &'a SheetGroup) -> Result<Value<'a>, AllocError>
-    ensures { IfOk result (λ set. value_view set ≡ set_of group.now) }
+/// The value of a set.
+fn set_of<'a>(alloc: Global, set: &'a ScrambleSet) -> Result<Value<'a>, AllocError>
+    ensures { IfOk result (λ value. value_view value ≡ set_of set.now) }
 {
-    let scrambles = texts_of(alloc, &group.scrambles)?;
-    let extras = texts_of(alloc, &group.extras)?;
+    let scrambles = texts_of(alloc, &set.scrambles)?;
+    let extras = texts_of(alloc, &set.extras)?;
     let mut members = Vec::new(alloc);
-    add(&mut members, ("id", Value::Number(group.number.as_str())))?;
+    add(&mut members, ("id", Value::Number(set.number.as_str())))?;
     add(&mut members, ("scrambles", scrambles))?;
     add(&mut members, ("extraScrambles", extras))?;
     Ok(Value::Object(members))

@@ -1,0 +1,173 @@
+//! Runs that fill a file: what is written, and what is told of files and sheets that don't fit.
+
+use scr_outside::{MemSink, MemSource};
+use scr_wcif::{Status, run};
+use std::alloc::Global;
+use std::test::Fail;
+
+/// A file with what a sheet leaves as it is, up to the sets of a 6x6x6; sets, which a sheet replaces; and what stands
+/// behind them, up to a Clock without sets.
+const FRONT: &str =
+    "{\"formatVersion\":\"1.0\",\"name\":\"\\u00c4 \\\"Cup\\\" \\/ \\ud83c\\udfb2\",\"persons\":[{\"registration\":null}],\
+\"events\":[{\"id\":\"444\",\"rounds\":[{\"id\":\"444-r1\",\"scrambleSetCount\":1,\"scrambleSets\":[]}]},\
+{\"id\":\"666\",\"rounds\":[{\"id\":\"666-r1\",\"scrambleSetCount\":1,\"scrambleSets\":";
+
+const OLD_SETS: &str = "[{\"id\":7,\"scrambles\":[]}]";
+
+const BEHIND: &str = ",\"cutoff\":null}]},\
+{\"id\":\"clock\",\"rounds\":[{\"scrambleSetCount\":2,\"id\":\"clock-r1\",\"results\":[1.50,-0e1]";
+
+const END: &str =
+    "}],\"x\":{}}],\"schedule\":{\"events\":[{\"rounds\":[{\"id\":\"666-r1\"}]}]},\"extensions\":[]}";
+
+/// The file's front as it is written: without needless escapes.
+const WRITTEN: &str =
+    "{\"formatVersion\":\"1.0\",\"name\":\"Ä \\\"Cup\\\" / 🎲\",\"persons\":[{\"registration\":null}],\
+\"events\":[{\"id\":\"444\",\"rounds\":[{\"id\":\"444-r1\",\"scrambleSetCount\":1,\"scrambleSets\":[]}]},\
+{\"id\":\"666\",\"rounds\":[{\"id\":\"666-r1\",\"scrambleSetCount\":1,\"scrambleSets\":";
+
+/// The rounds of its sheet, and their sets.
+const SIX: &str =
+    "Round 1: 6x6x6 Cube, random moves, Final\nGroup A\n1. 3Uw U'\n2. Dw2\n3. B' Lw\nE1. F\nE2. F2\n\n";
+
+const CLOCK_A: &str =
+    "Round 2: Clock, at least 2\nGroup A\n1. UR1+\n2. UR2+\n3. y2\n4. ALL5-\n5. UL3-\nE1. U1+\nE2. U2+\n\n";
+
+const CLOCK_B: &str = "Group B\n1. DR1+\n2. DR2+\n3. y2\n4. ALL0+\n5. DL3-\nE1. L1+\nE2. L2+\n\n";
+
+const SIX_SETS: &str =
+    "[{\"id\":1,\"scrambles\":[\"3Uw U'\",\"Dw2\",\"B' Lw\"],\"extraScrambles\":[\"F\",\"F2\"]}]";
+
+const CLOCK_SETS: &str = ",\"scrambleSets\":[\
+{\"id\":1,\"scrambles\":[\"UR1+\",\"UR2+\",\"y2\",\"ALL5-\",\"UL3-\"],\"extraScrambles\":[\"U1+\",\"U2+\"]},\
+{\"id\":2,\"scrambles\":[\"DR1+\",\"DR2+\",\"y2\",\"ALL0+\",\"DL3-\"],\"extraScrambles\":[\"L1+\",\"L2+\"]}]";
+
+/// How a run ended, what it wrote, and what it told.
+type Ran = (Status, MemSink, MemSink);
+
+/// Runs the command `fill` on an input, where these reads and these writes fail.
+fn filled(alloc: Global, input: &str, reads: &[u32], writes: &[u32]) -> Result<Ran, Fail> {
+    let bytes = input.as_bytes().to_vec(alloc)?;
+    let mut source = MemSource::new(bytes, 100, reads.to_vec(alloc)?);
+    let mut out = MemSink::new(alloc, 20_000, 9, writes.to_vec(alloc)?)?;
+    let mut err = MemSink::new(alloc, 1_000, 100, Vec::new(alloc))?;
+    let status = run(alloc, &["fill"], &mut source, &mut out, &mut err);
+    Ok((status, out, err))
+}
+
+#[test]
+fn a_file_is_filled(rt: HostRuntime) -> Result<(), Fail> {
+    let alloc = rt.alloc();
+    let input = format!(in alloc;
+        "{FRONT}{OLD_SETS}{BEHIND}{END}\n=====\n{SIX}{CLOCK_A}{CLOCK_B}"
+    )?;
+    let wanted = format!(in alloc; "{WRITTEN}{SIX_SETS}{BEHIND}{CLOCK_SETS}{END}")?;
+    let (status, out, err) = filled(alloc, input.as_str(), &[], &[])?;
+    assert_eq!(rt; status, Status::Done);
+    assert_eq!(rt; out.contents(), wanted.as_bytes());
+    assert_eq!(rt;
+        err.contents(),
+        b"scramble-wcif: left out: 444 1: Final\n".as_slice()
+    );
+    let (status, out, _) = filled(alloc, input.as_str(), &[5], &[])?;
+    assert_eq!(rt; status, Status::ReadFault);
+    assert_eq!(rt; out.contents(), b"".as_slice());
+    let (status, out, _) = filled(alloc, input.as_str(), &[], &[2])?;
+    assert_eq!(rt; status, Status::WriteFault);
+    assert_eq!(rt; out.contents(), b"{\"formatV".as_slice());
+    Ok(())
+}
+
+#[test]
+fn what_does_not_fit_is_refused(rt: HostRuntime) -> Result<(), Fail> {
+    let alloc = rt.alloc();
+    let file = format!(in alloc; "{FRONT}{OLD_SETS}{BEHIND}{END}")?;
+    let file = file.as_str();
+    let other =
+        "Round 2: Skewb, at least 2\nGroup A\n1. U\n2. U\n3. U\n4. U\n5. U\nE1. U\nE2. U\n\n";
+    let third =
+        "Round 3: Skewb, at least 2\nGroup A\n1. U\n2. U\n3. U\n4. U\n5. U\nE1. U\nE2. U\n\n";
+    for (before, between, sheet, last, message) in [
+        (
+            file,
+            "\n",
+            SIX,
+            "",
+            "no line ===== between a file and a sheet",
+        ),
+        (
+            file,
+            "=====\n",
+            SIX,
+            "",
+            "no line ===== between a file and a sheet",
+        ),
+        (
+            file,
+            "\n=====",
+            "",
+            "",
+            "no line ===== between a file and a sheet",
+        ),
+        (
+            "[]",
+            "\n=====\n",
+            "",
+            "",
+            "no competition: no list of events",
+        ),
+        ("{\"events\":[]", "\n=====\n", "x", "", "no JSON at byte 13"),
+        (
+            file,
+            "\n=====\n=====\n",
+            SIX,
+            "",
+            "sheet line 1: no head of the next round",
+        ),
+        (
+            file,
+            "\n=====\n",
+            SIX,
+            "Round 2: Clock, at least 2\nGroup A\n1. U\n",
+            "sheet line 11: no scramble of the event",
+        ),
+        (
+            file,
+            "\n=====\n",
+            SIX,
+            "Round 2: Clock, at least 2\n",
+            "sheet line 10: the sheet ends within a round",
+        ),
+        (file, "\n=====\n", "", "", "sheet round 1: missing"),
+        (file, "\n=====\n", SIX, "", "sheet round 2: missing"),
+        (
+            file,
+            "\n=====\n",
+            SIX,
+            CLOCK_A,
+            "sheet round 2: another number of groups",
+        ),
+        (
+            file,
+            "\n=====\n",
+            SIX,
+            other,
+            "sheet round 2: another event",
+        ),
+    ] {
+        let input = format!(in alloc; "{before}{between}{sheet}{last}")?;
+        let (status, out, err) = filled(alloc, input.as_str(), &[], &[])?;
+        let told = format!(in alloc; "scramble-wcif: {message}\n")?;
+        assert_eq!(rt; err.contents(), told.as_bytes());
+        assert_eq!(rt; status, Status::Input);
+        assert_eq!(rt; out.contents(), b"".as_slice());
+    }
+    let input = format!(in alloc; "{file}\n=====\n{SIX}{CLOCK_A}{CLOCK_B}{third}")?;
+    let (status, _, err) = filled(alloc, input.as_str(), &[], &[])?;
+    assert_eq!(rt; status, Status::Input);
+    assert_eq!(rt;
+        err.contents(),
+        b"scramble-wcif: sheet round 3: not in the file\n".as_slice()
+    );
+    Ok(())
+}
