@@ -11,3 +11,4 @@ pub mod OneSkewb
 pub mod OnePyram
 pub mod OneOther
 pub mod OneCube
+pub mod OneLine

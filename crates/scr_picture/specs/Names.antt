@@ -1,6 +1,7 @@
 -- The names of the letters of pictures.
-use Rattle.std.specs.Prelude.{ℕ, List, [], ◌∷◌, ◌++◌, codes, flat_map}
-use Rattle.std.specs.List.{slice_index_or}
+use Rattle.std.specs.Prelude.{ℕ, ◌≡◌, false, List, [], ◌∷◌, ◌++◌, codes, flat_map}
+use Rattle.std.specs.List.{slice_index_or, list_any}
+use Rattle.scr_text.specs.Lines.{is_line_feed}
 use Rattle.scr_picture.specs.declared.names.Alphabet.{Alphabet}
 use Rattle.scr_picture.specs.declared.names.Alphabet.TheVariants.{Cube, Pyraminx, Megaminx, Hours, Units}
 
@@ -30,3 +31,7 @@ abbrev pub spaced_text : Alphabet → List ℕ → List ℕ
 spaced_text alphabet [] = []
 spaced_text alphabet (letter ∷ letters) =
     name_in alphabet letter ++ flat_map (λ other. 32 ∷ name_in alphabet other) letters
+
+-- a text in one line
+abbrev pub IsLine : List ℕ → Type 0
+IsLine text = list_any is_line_feed text ≡ false

@@ -1,7 +1,7 @@
 //! The names of letters, and texts of them.
 ghost use Rattle.std.specs.Prelude.{◌≡◌, ◌*◌, ◌≤◌, length};
 ghost use Rattle.arrayvec.specs.ArrayString.{array_string_len};
-ghost use Rattle.scr_picture.specs.Names.{joined_text, name_in, spaced_text};
+ghost use Rattle.scr_picture.specs.Names.{IsLine, joined_text, name_in, spaced_text};
 ghost use Rattle.scr_picture.specs.declared.names.Alphabet.TheVariants.{Cube, Pyraminx, Megaminx, Hours, Units};
 
 use arrayvec::ArrayString;
@@ -142,6 +142,7 @@ fn unit_name(letter: u8) -> &'static str
 pub(crate) fn joined(alphabet: Alphabet, letters: &[u8]) -> Text
     requires { length letters.now ≤ 132 }
     ensures bytes { result.bytes ≡ joined_text alphabet letters.now }
+    ensures line { IsLine result.bytes }
     ensures len { array_string_len result ≤ 3 * length letters.now }
 {
     let mut text = ArrayString::new();
@@ -154,7 +155,8 @@ pub(crate) fn joined(alphabet: Alphabet, letters: &[u8]) -> Text
 /// Letters with a space between two.
 pub(crate) fn spaced(alphabet: Alphabet, letters: &[u8]) -> Text
     requires { length letters.now ≤ 132 }
-    ensures { result.bytes ≡ spaced_text alphabet letters.now }
+    ensures bytes { result.bytes ≡ spaced_text alphabet letters.now }
+    ensures line { IsLine result.bytes }
 {
     let mut text = ArrayString::new();
     let Some((first, others)) = letters.split_first() else {

@@ -4,7 +4,7 @@ ghost use Rattle.std.specs.Option.{option_map};
 ghost use Rattle.arrayvec.specs.ArrayString.{array_string_len};
 ghost use Rattle.scr_net.specs.Nets.{IsSide};
 ghost use Rattle.scr_picture.specs.declared.names.Alphabet.TheVariants.{Hours};
-ghost use Rattle.scr_picture.specs.Names.{spaced_text};
+ghost use Rattle.scr_picture.specs.Names.{IsLine, spaced_text};
 ghost use Rattle.scr_picture.specs.Pictures.{row_letters, face_letters, net_letters, clock_hours, sq1_letters};
 ghost use Rattle.scr_picture.specs.Pictures.{picture_of, net_picture, pyram_picture, skewb_picture, minx_picture, clock_picture, sq1_picture};
 
@@ -26,13 +26,16 @@ pub struct Picture {
     letters: Text,
 }
 
-// Clauses see the text of the letters.
+// Clauses see the text of the letters, which is one line.
 impl Model for Picture {
     ghost use Rattle.std.specs.Prelude.{ℕ, List};
+    ghost use Rattle.scr_picture.specs.Names.{IsLine};
 
     ghost Value = { List ℕ };
 
     ghost view = { λ p. p.letters.bytes };
+
+    ghost invariant = { λ p. IsLine p.letters.bytes };
 }
 
 impl Picture {
@@ -55,9 +58,10 @@ impl Picture {
         }
     }
 
-    /// The text of its letters.
+    /// The text of its letters, which has no line feed.
     pub fn letters(&self) -> &str
-        ensures { result.now ≡ self.now }
+        ensures value { result.now ≡ self.now }
+        ensures line { IsLine self.now }
     {
         self.letters.as_str()
     }
@@ -127,7 +131,8 @@ fn skewb_picture(scramble: &Scramble) -> Option<Picture>
 /// The letters of a net.
 fn net_letters<const SIDE: usize>(net: &Net<SIDE>) -> Text
     requires { IsSide SIDE }
-    ensures { result.bytes ≡ net_letters SIDE net.now }
+    ensures bytes { result.bytes ≡ net_letters SIDE net.now }
+    ensures line { IsLine result.bytes }
 {
     let mut text = ArrayString::new();
     for face in 0..6 {
@@ -166,7 +171,8 @@ fn push_row<const SIDE: usize>(text: &mut Text, net: &Net<SIDE>, face: u8, row: 
 /// The letters of a Clock: the hours of its two sides.
 #[tactic(auto, unfolding(crate::specs::Pictures::clock_hours))]
 fn clock_letters(clock: &Clock) -> Text
-    ensures { result.bytes ≡ spaced_text Hours (clock_hours clock.now) }
+    ensures bytes { result.bytes ≡ spaced_text Hours (clock_hours clock.now) }
+    ensures line { IsLine result.bytes }
 {
     let d = clock.dials();
     let opposite = |hour: u8| (12 - hour) % 12;
@@ -196,7 +202,8 @@ fn clock_letters(clock: &Clock) -> Text
 /// The letters of a Square-1: its units and its equator.
 #[tactic(auto, unfolding(crate::specs::Pictures::sq1_letters))]
 fn sq1_letters(state: &Sq1) -> Text
-    ensures { result.bytes ≡ sq1_letters state.now }
+    ensures bytes { result.bytes ≡ sq1_letters state.now }
+    ensures line { IsLine result.bytes }
 {
     let units = state.units();
     let mut text = joined(Alphabet::Units, &units[..]);

@@ -20,4 +20,4 @@ unfolding solved_minx
 returns c =
     let moves = ap (λ m. play (stickers_after m) SOLVED_MINX c.turns.result.now) c.minx_moves.ensures.moves in
     let turns = ap (play (stickers_after minx_moves) SOLVED_MINX) c.turns.ensures.value in
-    ap Some c.spaced.ensures ∙ ap (option_map (spaced_text Megaminx)) (sym c.in_ok-letters.was ∙ c.played.ensures ∙ moves ∙ turns)
+    ap Some c.spaced.ensures.bytes ∙ ap (option_map (spaced_text Megaminx)) (sym c.in_ok-letters.was ∙ c.played.ensures ∙ moves ∙ turns)
