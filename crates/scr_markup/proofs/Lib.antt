@@ -1,0 +1,4 @@
+pub mod AddsLemmas
+pub mod EscapedLemmas
+pub mod PlainLemmas
+pub mod ReadingLemmas

@@ -1,0 +1,370 @@
+-- A text has at most one list of tokens: each piece ends at a byte that it can't have.
+use Rattle.std.proofs.Common.{◌≡◌, ℕ, Bool, true, false, eqb, List, [], ◌∷◌, ◌++◌, drop, get_or, refl, sym, ap, ◌∙◌, arith, append_assoc, inl, inr, subst}
+use Rattle.std.specs.Prelude.{not, ◌||◌, ◌==◌, codes, if◌then◌else◌}
+use Rattle.std.specs.List.{list_any, list_all}
+use Rattle.std.proofs.lemmas.Bool.Decides.{nat_tests, eqb_tells}
+use Rattle.std.proofs.lemmas.Bool.{false≢true, and_parts, or_parts}
+use Rattle.std.proofs.lemmas.List.{append-nil}
+use Rattle.std.proofs.lemmas.List.Folds.{list_any-append}
+use Rattle.scr_text.specs.Lines.{is_line_feed}
+use Rattle.scr_markup.specs.Tokens.{Attribute, Token, Open, Leaf, Close, is_name_byte, is_name, HasNoLineFeed, IsAttribute, AreAttributes, IsHead, IsToken, AreTokens, escaped_byte, escaped, attribute_text, attributes_text, head_text, end_text, token_line, text_of_tokens}
+
+-- ---- where a piece ends
+
+later : (b c : Bool) → (b || c) ≡ false → c ≡ false
+later true c h = absurd (false≢true (sym h))
+later false c h = h
+
+-- Two pieces that lack what ends them are one, if what follows them is.
+pub ends_once : (stops : ℕ → Bool) (xs ys : List ℕ) (c d : ℕ) (r s : List ℕ)
+    → list_any stops xs ≡ false → list_any stops ys ≡ false → stops c ≡ true → stops d ≡ true
+    → xs ++ c ∷ r ≡ ys ++ d ∷ s → (xs ≡ ys) × (c ≡ d) × (r ≡ s)
+ends_once stops [] [] c d r s hx hy hc hd e = (refl, cc, cc)
+ends_once stops [] (y ∷ ys) c d r s hx hy hc hd e =
+    let same : c ≡ y = cc in
+    let at : stops y ≡ true = subst (λ b. stops b ≡ true) same hc in
+    let none : (true || list_any stops ys) ≡ false = subst (λ b. (b || list_any stops ys) ≡ false) at hy in
+    absurd (false≢true (sym none))
+ends_once stops (x ∷ xs) [] c d r s hx hy hc hd e =
+    let same : x ≡ d = cc in
+    let at : stops x ≡ true = subst (λ b. stops b ≡ true) (sym same) hd in
+    let none : (true || list_any stops xs) ≡ false = subst (λ b. (b || list_any stops xs) ≡ false) at hx in
+    absurd (false≢true (sym none))
+ends_once stops (x ∷ xs) (y ∷ ys) c d r s hx hy hc hd e =
+    let same : x ≡ y = cc in
+    let more : xs ++ c ∷ r ≡ ys ++ d ∷ s = cc in
+    let rest = ends_once stops xs ys c d r s (later (stops x) (list_any stops xs) hx) (later (stops y) (list_any stops ys) hy) hc hd more in
+    let first = rest.0 in
+    (cc, rest.1, rest.2)
+
+-- ---- escaped texts
+
+-- the byte that an escaped text begins with, and what is left of the text
+first_byte : List ℕ → ℕ × List ℕ
+first_byte [] = (0, [])
+first_byte (c ∷ t) =
+    if c == 38 then
+    (if get_or t 0 0 == 97 then (38, drop 4 t)
+    else if get_or t 0 0 == 108 then (60, drop 3 t)
+    else if get_or t 0 0 == 103 then (62, drop 3 t)
+    else (34, drop 5 t))
+    else (c, t)
+
+-- what holds of the four names, and of a byte that has none, holds of each byte as it is escaped
+by_names : (P : ℕ → List ℕ → Type 0) → P 38 (codes "&amp;") → P 60 (codes "&lt;") → P 62 (codes "&gt;") → P 34 (codes "&quot;")
+    → ((b : ℕ) → eqb b 38 ≡ false → eqb b 60 ≡ false → eqb b 34 ≡ false → P b (b ∷ []))
+    → (b : ℕ) → P b (escaped_byte b)
+by_names P ampersand less greater quote plain b =
+    elim (eqb_tells b 38) [
+      | inl e ↦ rw e.1 ampersand
+      | inr n ↦ elim (eqb_tells b 60) [
+        | inl e ↦ rw e.1 less
+        | inr m ↦ elim (eqb_tells b 62) [
+          | inl e ↦ rw e.1 greater
+          | inr o ↦ elim (eqb_tells b 34) [
+            | inl e ↦ rw e.1 quote
+            | inr p ↦ rw (n.0, m.0, o.0, p.0) (plain b n.0 m.0 p.0)
+          ]
+        ]
+      ]
+    ]
+
+first_byte-escaped : (b : ℕ) (r : List ℕ) → first_byte (escaped_byte b ++ r) ≡ (b, r)
+unfolding first_byte
+first_byte-escaped b r =
+    by_names (λ c named. first_byte (named ++ r) ≡ (c, r)) refl refl refl refl (λ c n m p. rw n refl) b
+
+byte_once : (b c : ℕ) (r s : List ℕ) → escaped_byte b ++ r ≡ escaped_byte c ++ s → (b ≡ c) × (r ≡ s)
+byte_once b c r s e =
+    let pair : (b, r) ≡ (c, s) = sym (first_byte-escaped b r) ∙ ap first_byte e ∙ first_byte-escaped c s in
+    (ap (λ p. p.0) pair, ap (λ p. p.1) pair)
+
+some_bytes : (b : ℕ) (r : List ℕ) → [] ≡ escaped_byte b ++ r → ⊥
+some_bytes b r e = grind (arith, nat_tests)
+
+pub escaped_once : (x y : List ℕ) → escaped x ≡ escaped y → x ≡ y
+escaped_once [] [] e = refl
+escaped_once [] (c ∷ y) e = absurd (some_bytes c (escaped y) e)
+escaped_once (b ∷ x) [] e = absurd (some_bytes b (escaped x) (sym e))
+escaped_once (b ∷ x) (c ∷ y) e =
+    let first = byte_once b c (escaped x) (escaped y) e in
+    let same = first.0 in
+    let rest = escaped_once x y first.1 in
+    cc
+
+-- a byte that an escaped text lacks
+escaped_lacks : (p q : ℕ → Bool) → ((b : ℕ) → p b ≡ false → list_any q (escaped_byte b) ≡ false)
+    → (text : List ℕ) → list_any p text ≡ false → list_any q (escaped text) ≡ false
+escaped_lacks p q each [] none = refl
+escaped_lacks p q each (b ∷ text) none =
+    let parts = or_parts (p b) (list_any p text) none in
+    list_any-append q (escaped_byte b) (escaped text)
+    ∙ rw (each b parts.0) (escaped_lacks p q each text parts.1)
+
+nothing : ℕ → Bool
+nothing b = false
+
+lacks_nothing : (text : List ℕ) → list_any nothing text ≡ false
+unfolding nothing
+lacks_nothing [] = refl
+lacks_nothing (b ∷ text) = lacks_nothing text
+
+is_quote : ℕ → Bool
+is_quote b = b == 34
+
+is_less : ℕ → Bool
+is_less b = b == 60
+
+quote_named : (b : ℕ) → nothing b ≡ false → list_any is_quote (escaped_byte b) ≡ false
+unfolding is_quote
+quote_named b h =
+    by_names (λ c named. list_any is_quote named ≡ false) refl refl refl refl (λ c n m p. rw p refl) b
+
+less_named : (b : ℕ) → nothing b ≡ false → list_any is_less (escaped_byte b) ≡ false
+unfolding is_less
+less_named b h =
+    by_names (λ c named. list_any is_less named ≡ false) refl refl refl refl (λ c n m p. rw m refl) b
+
+line_feed_named : (b : ℕ) → is_line_feed b ≡ false → list_any is_line_feed (escaped_byte b) ≡ false
+line_feed_named =
+    by_names (λ c named. is_line_feed c ≡ false → list_any is_line_feed named ≡ false) (λ h. refl) (λ h. refl) (λ h. refl) (λ h. refl)
+    (λ c n m p h. rw h refl)
+
+-- ---- names
+
+-- whether a byte ends a name
+ends_name : ℕ → Bool
+ends_name b = not (is_name_byte b)
+
+all_but : (p q : ℕ → Bool) → ((b : ℕ) → p b ≡ true → q b ≡ false) → (xs : List ℕ) → list_all p xs ≡ true → list_any q xs ≡ false
+all_but p q each [] all = refl
+all_but p q each (x ∷ xs) all =
+    let parts = and_parts (p x) (list_all p xs) all in
+    rw (each x parts.0) (all_but p q each xs parts.1)
+
+name_lacks : (q : ℕ → Bool) → ((b : ℕ) → is_name_byte b ≡ true → q b ≡ false) → (name : List ℕ) → is_name name ≡ true
+    → list_any q name ≡ false
+name_lacks q each [] valid = refl
+name_lacks q each (b ∷ name) valid = all_but is_name_byte q each (b ∷ name) valid
+
+ends_no_name : (b : ℕ) → is_name_byte b ≡ true → ends_name b ≡ false
+unfolding ends_name
+ends_no_name b h = rw h refl
+
+no_line_feed : (b : ℕ) → is_name_byte b ≡ true → is_line_feed b ≡ false
+no_line_feed b h = grind (arith, nat_tests)
+
+-- a name is followed by a byte that it can't have
+name_once : (n m : List ℕ) (c d : ℕ) (r s : List ℕ) → is_name n ≡ true → is_name m ≡ true → is_name_byte c ≡ false
+    → is_name_byte d ≡ false → n ++ c ∷ r ≡ m ++ d ∷ s → (n ≡ m) × (c ≡ d) × (r ≡ s)
+unfolding ends_name
+name_once n m c d r s hn hm hc hd e =
+    ends_once ends_name n m c d r s (name_lacks ends_name ends_no_name n hn) (name_lacks ends_name ends_no_name m hm)
+    (ap not hc) (ap not hd) e
+
+-- ---- attributes
+
+-- an attribute and what follows it, piece by piece
+attribute_form : (a : Attribute) (t : List ℕ)
+    → attribute_text a ++ t ≡ 32 ∷ (a.key ++ 61 ∷ 34 ∷ (escaped a.value ++ 34 ∷ t))
+attribute_form a t = simp append_assoc
+
+-- what follows the name of an element
+after_name : List Attribute → List ℕ → List ℕ
+after_name attributes r = attributes_text attributes ++ 62 ∷ r
+
+after_name-cons : (a : Attribute) (xs : List Attribute) (r : List ℕ)
+    → after_name (a ∷ xs) r ≡ 32 ∷ (a.key ++ 61 ∷ 34 ∷ (escaped a.value ++ 34 ∷ after_name xs r))
+unfolding after_name
+after_name-cons a xs r =
+    append_assoc (attribute_text a) (attributes_text xs) (62 ∷ r) ∙ attribute_form a (attributes_text xs ++ 62 ∷ r)
+
+value_once : (v w : List ℕ) (r s : List ℕ) → escaped v ++ 34 ∷ r ≡ escaped w ++ 34 ∷ s → (v ≡ w) × (r ≡ s)
+unfolding is_quote
+value_once v w r s e =
+    let cut = ends_once is_quote (escaped v) (escaped w) 34 34 r s
+    (escaped_lacks nothing is_quote quote_named v (lacks_nothing v)) (escaped_lacks nothing is_quote quote_named w (lacks_nothing w)) refl refl e in
+    (escaped_once v w cut.0, cut.2)
+
+tails : (c d : ℕ) (r s : List ℕ) → c ∷ r ≡ d ∷ s → r ≡ s
+tails c d r s e = cc
+
+list_of_two : (a b : Attribute) (xs ys : List Attribute) → a.key ≡ b.key → a.value ≡ b.value → xs ≡ ys → a ∷ xs ≡ b ∷ ys
+list_of_two a b xs ys k v more =
+    let same : a ≡ b = ap (λ x. record { key = x; value = a.value }) k ∙ ap (λ x. record { key = b.key; value = x }) v in
+    cc
+
+apart_heads : (r s : List ℕ) → 62 ∷ r ≡ 32 ∷ s → ⊥
+apart_heads r s e = cc
+
+attributes_once : (xs ys : List Attribute) (r s : List ℕ) → AreAttributes xs → AreAttributes ys
+    → after_name xs r ≡ after_name ys s → (xs ≡ ys) × (r ≡ s)
+unfolding after_name
+attributes_once [] [] r s ha hb e = (refl, cc)
+attributes_once [] (b ∷ ys) r s ha hb e =
+    let apart : 62 ∷ r ≡ 32 ∷ (b.key ++ 61 ∷ 34 ∷ (escaped b.value ++ 34 ∷ after_name ys s)) = e ∙ after_name-cons b ys s in
+    absurd (apart_heads _ _ apart)
+attributes_once (a ∷ xs) [] r s ha hb e =
+    let apart : 62 ∷ s ≡ 32 ∷ (a.key ++ 61 ∷ 34 ∷ (escaped a.value ++ 34 ∷ after_name xs r)) = sym e ∙ after_name-cons a xs r in
+    absurd (apart_heads _ _ apart)
+attributes_once (a ∷ xs) (b ∷ ys) r s ha hb e =
+    let both : 32 ∷ (a.key ++ 61 ∷ 34 ∷ (escaped a.value ++ 34 ∷ after_name xs r)) ≡ 32 ∷ (b.key ++ 61 ∷ 34 ∷ (escaped b.value ++ 34 ∷ after_name ys s)) =
+    sym (after_name-cons a xs r) ∙ e ∙ after_name-cons b ys s in
+    let keys = name_once a.key b.key 61 61 (34 ∷ (escaped a.value ++ 34 ∷ after_name xs r)) (34 ∷ (escaped b.value ++ 34 ∷ after_name ys s))
+    ha.0.key hb.0.key refl refl (cc) in
+    let values = value_once a.value b.value (after_name xs r) (after_name ys s) (tails _ _ _ _ keys.2) in
+    let more = attributes_once xs ys r s ha.1 hb.1 values.1 in
+    (list_of_two a b xs ys keys.0 values.0 more.0, more.1)
+
+-- ---- tokens
+
+-- what begins an element, and what follows it
+head_form : (n : List ℕ) (xs : List Attribute) (r : List ℕ) → head_text n xs ++ r ≡ 60 ∷ (n ++ after_name xs r)
+unfolding after_name
+head_form n xs r = simp append_assoc
+
+-- the byte behind a name
+behind_name : (xs : List Attribute) (r : List ℕ) → (c : ℕ) × (t : List ℕ) × (after_name xs r ≡ c ∷ t) × (is_name_byte c ≡ false)
+unfolding after_name
+behind_name [] r = (62, r, refl, refl)
+behind_name (a ∷ xs) r = (32, _, after_name-cons a xs r, refl)
+
+same_cons : (c d : ℕ) (r s : List ℕ) → c ≡ d → r ≡ s → c ∷ r ≡ d ∷ s
+same_cons c d r s h t = cc
+
+head_once : (n m : List ℕ) (xs ys : List Attribute) (r s : List ℕ) → IsHead n xs → IsHead m ys
+    → n ++ after_name xs r ≡ m ++ after_name ys s → (n ≡ m) × (xs ≡ ys) × (r ≡ s)
+head_once n m xs ys r s hn hm e =
+    let f = behind_name xs r in
+    let g = behind_name ys s in
+    let both : n ++ f.0 ∷ f.1 ≡ m ++ g.0 ∷ g.1 = ap (λ t. n ++ t) (sym f.2) ∙ e ∙ ap (λ t. m ++ t) g.2 in
+    let names = name_once n m f.0 g.0 f.1 g.1 hn.named hm.named f.3 g.3 both in
+    let c = names.1 in
+    let t = names.2 in
+    let after : after_name xs r ≡ after_name ys s = f.2 ∙ same_cons _ _ _ _ c t ∙ sym g.2 in
+    let rest = attributes_once xs ys r s hn.valid hm.valid after in
+    (names.0, rest.0, rest.1)
+
+-- an element that begins and one that ends differ in the byte behind the first
+begins_or_ends : (n : List ℕ) (xs : List Attribute) (r t : List ℕ) → is_name n ≡ true → 60 ∷ (n ++ after_name xs r) ≡ 60 ∷ 47 ∷ t → ⊥
+begins_or_ends [] xs r t named e = absurd (false≢true named)
+begins_or_ends (b ∷ n) xs r t named e =
+    let slash : b ≡ 47 = cc in
+    let first : is_name_byte b ≡ true = (and_parts (is_name_byte b) (list_all is_name_byte n) named).0 in
+    let none : is_name_byte 47 ≡ true = subst (λ c. is_name_byte c ≡ true) slash first in
+    false≢true none
+
+not_nil : (xs ys : List ℕ) (c : ℕ) → [] ≡ xs ++ c ∷ ys → ⊥
+not_nil [] ys c e = cc
+not_nil (x ∷ xs) ys c e = cc
+
+-- an element that begins and a whole one differ in what follows the attributes
+begins_or_whole : (n m : List ℕ) (xs ys : List Attribute) (y : List ℕ) → IsHead n xs → IsHead m ys
+    → head_text n xs ≡ head_text m ys ++ escaped y ++ end_text m → ⊥
+begins_or_whole n m xs ys y hn hm e =
+    let both : 60 ∷ (n ++ after_name xs []) ≡ 60 ∷ (m ++ after_name ys (escaped y ++ end_text m)) =
+    sym (head_form n xs []) ∙ append-nil (head_text n xs) ∙ e ∙ append_assoc (head_text m ys) (escaped y) (end_text m) ∙ head_form m ys (escaped y ++ end_text m) in
+    let rest = head_once n m xs ys [] (escaped y ++ end_text m) hn hm (tails _ _ _ _ both) in
+    not_nil (escaped y) (47 ∷ (m ++ 62 ∷ [])) 60 rest.2
+
+open_once : (n m : List ℕ) (xs ys : List Attribute) → IsHead n xs → IsHead m ys → head_text n xs ≡ head_text m ys → Open n xs ≡ Open m ys
+open_once n m xs ys hn hm e =
+    let both : 60 ∷ (n ++ after_name xs []) ≡ 60 ∷ (m ++ after_name ys []) =
+    sym (head_form n xs []) ∙ ap (λ t. t ++ []) e ∙ head_form m ys [] in
+    let rest = head_once n m xs ys [] [] hn hm (tails _ _ _ _ both) in
+    let name = rest.0 in
+    let attributes = rest.1 in
+    cc
+
+text_once : (x y r s : List ℕ) → escaped x ++ 60 ∷ r ≡ escaped y ++ 60 ∷ s → x ≡ y
+unfolding is_less
+text_once x y r s e =
+    let cut = ends_once is_less (escaped x) (escaped y) 60 60 r s
+    (escaped_lacks nothing is_less less_named x (lacks_nothing x)) (escaped_lacks nothing is_less less_named y (lacks_nothing y)) refl refl e in
+    escaped_once x y cut.0
+
+leaf_once : (n m : List ℕ) (xs ys : List Attribute) (x y : List ℕ) → IsHead n xs → IsHead m ys
+    → head_text n xs ++ escaped x ++ end_text n ≡ head_text m ys ++ escaped y ++ end_text m → Leaf n xs x ≡ Leaf m ys y
+leaf_once n m xs ys x y hn hm e =
+    let both : 60 ∷ (n ++ after_name xs (escaped x ++ end_text n)) ≡ 60 ∷ (m ++ after_name ys (escaped y ++ end_text m)) =
+    sym (append_assoc (head_text n xs) (escaped x) (end_text n) ∙ head_form n xs (escaped x ++ end_text n))
+    ∙ e ∙ append_assoc (head_text m ys) (escaped y) (end_text m) ∙ head_form m ys (escaped y ++ end_text m) in
+    let rest = head_once n m xs ys (escaped x ++ end_text n) (escaped y ++ end_text m) hn hm (tails _ _ _ _ both) in
+    let name = rest.0 in
+    let attributes = rest.1 in
+    let text : x ≡ y = text_once x y (47 ∷ (n ++ 62 ∷ [])) (47 ∷ (m ++ 62 ∷ [])) rest.2 in
+    cc
+
+close_once : (n m : List ℕ) → is_name n ≡ true → is_name m ≡ true → end_text n ≡ end_text m → Close n ≡ Close m
+close_once n m hn hm e =
+    let behind : n ++ 62 ∷ [] ≡ m ++ 62 ∷ [] = cc in
+    let names = name_once n m 62 62 [] [] hn hm refl refl behind in
+    ap (λ x. Close x) names.0
+
+head_or_end : (n m : List ℕ) (xs : List Attribute) (r : List ℕ) → IsHead n xs → head_text n xs ++ r ≡ end_text m → ⊥
+head_or_end n m xs r hn e = begins_or_ends n xs r (m ++ 62 ∷ []) hn.named (sym (head_form n xs r) ∙ e)
+
+whole_or_end : (n m : List ℕ) (xs : List Attribute) (x : List ℕ) → IsHead n xs → head_text n xs ++ escaped x ++ end_text n ≡ end_text m → ⊥
+whole_or_end n m xs x hn e = head_or_end n m xs (escaped x ++ end_text n) hn (sym (append_assoc (head_text n xs) (escaped x) (end_text n)) ∙ e)
+
+-- a token by its kind: an element that begins, a whole one, and one that ends
+same_line : (t u : Token) → IsToken t → IsToken u → token_line t ≡ token_line u → t ≡ u
+same_line (Open n xs) (Open m ys) ht hu e = open_once n m xs ys ht hu e
+same_line (Open n xs) (Leaf m ys y) ht hu e = absurd (begins_or_whole n m xs ys y ht hu.0 e)
+same_line (Open n xs) (Close m) ht hu e = absurd (head_or_end n m xs [] ht (append-nil (head_text n xs) ∙ e))
+same_line (Leaf n xs x) (Open m ys) ht hu e = absurd (begins_or_whole m n ys xs x hu ht.0 (sym e))
+same_line (Leaf n xs x) (Leaf m ys y) ht hu e = leaf_once n m xs ys x y ht.0 hu.0 e
+same_line (Leaf n xs x) (Close m) ht hu e = absurd (whole_or_end n m xs x ht.0 e)
+same_line (Close n) (Open m ys) ht hu e = absurd (head_or_end m n ys [] hu (append-nil (head_text m ys) ∙ sym e))
+same_line (Close n) (Leaf m ys y) ht hu e = absurd (whole_or_end m n ys y hu.0 (sym e))
+same_line (Close n) (Close m) ht hu e = close_once n m ht hu e
+
+-- ---- lines
+
+-- a text in two parts lacks a byte if both lack it
+lacks-append : (q : ℕ → Bool) (xs ys : List ℕ) → list_any q xs ≡ false → list_any q ys ≡ false → list_any q (xs ++ ys) ≡ false
+lacks-append q xs ys hx hy = list_any-append q xs ys ∙ rw (hx, hy) refl
+
+escaped_one_line : (text : List ℕ) → HasNoLineFeed text → HasNoLineFeed (escaped text)
+escaped_one_line text h = escaped_lacks is_line_feed is_line_feed line_feed_named text h
+
+name_one_line : (n : List ℕ) → is_name n ≡ true → HasNoLineFeed n
+name_one_line n h = name_lacks is_line_feed no_line_feed n h
+
+attribute_one_line : (a : Attribute) → IsAttribute a → HasNoLineFeed (attribute_text a)
+attribute_one_line a h =
+    lacks-append is_line_feed (codes " " ++ a.key ++ codes "=\"" ++ escaped a.value) (codes "\"")
+    (lacks-append is_line_feed (codes " " ++ a.key ++ codes "=\"") (escaped a.value)
+    (lacks-append is_line_feed (codes " " ++ a.key) (codes "=\"") (name_one_line a.key h.key) refl) (escaped_one_line a.value h.value))
+    refl
+
+attributes_one_line : (xs : List Attribute) → AreAttributes xs → HasNoLineFeed (attributes_text xs)
+attributes_one_line [] h = refl
+attributes_one_line (a ∷ xs) h =
+    lacks-append is_line_feed (attribute_text a) (attributes_text xs) (attribute_one_line a h.0) (attributes_one_line xs h.1)
+
+head_one_line : (n : List ℕ) (xs : List Attribute) → IsHead n xs → HasNoLineFeed (head_text n xs)
+head_one_line n xs h =
+    lacks-append is_line_feed (codes "<" ++ n ++ attributes_text xs) (codes ">")
+    (lacks-append is_line_feed (codes "<" ++ n) (attributes_text xs) (name_one_line n h.named) (attributes_one_line xs h.valid)) refl
+
+end_one_line : (n : List ℕ) → is_name n ≡ true → HasNoLineFeed (end_text n)
+end_one_line n h = lacks-append is_line_feed (codes "</" ++ n) (codes ">") (name_one_line n h) refl
+
+token_one_line : (t : Token) → IsToken t → HasNoLineFeed (token_line t)
+token_one_line (Open n xs) h = head_one_line n xs h
+token_one_line (Leaf n xs x) h =
+    lacks-append is_line_feed (head_text n xs ++ escaped x) (end_text n)
+    (lacks-append is_line_feed (head_text n xs) (escaped x) (head_one_line n xs h.0) (escaped_one_line x h.1)) (end_one_line n h.0.named)
+token_one_line (Close n) h = end_one_line n h
+
+pub tokens_once : (ts us : List Token) → AreTokens ts → AreTokens us → text_of_tokens ts ≡ text_of_tokens us → ts ≡ us
+tokens_once [] [] ht hu e = refl
+tokens_once [] (u ∷ us) ht hu e = absurd (not_nil (token_line u) (text_of_tokens us) 10 e)
+tokens_once (t ∷ ts) [] ht hu e = absurd (not_nil (token_line t) (text_of_tokens ts) 10 (sym e))
+tokens_once (t ∷ ts) (u ∷ us) ht hu e =
+    let cut = ends_once is_line_feed (token_line t) (token_line u) 10 10 (text_of_tokens ts) (text_of_tokens us)
+    (token_one_line t ht.0) (token_one_line u hu.0) refl refl e in
+    let first = same_line t u ht.0 hu.0 cut.0 in
+    let rest = tokens_once ts us ht.1 hu.1 cut.2 in
+    cc
