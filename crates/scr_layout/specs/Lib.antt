@@ -1,0 +1,5 @@
+pub mod Shown
+pub mod Group
+pub mod Placed
+pub mod Texts
+pub mod Held
