@@ -1,0 +1,5 @@
+use Rattle.scr_markup.proofs.AddsLemmas.{adds_nothing, adds_then, adds_more, adds_as}
+use Rattle.scr_html.proofs.head.write_rules.Goals as goal
+
+pub loop-rule-preserved : goal.loop-rule-preserved
+loop-rule-preserved c = adds_then _ _ _ _ _ c.loop-rule.invariant c.in_ok-plain.ensures

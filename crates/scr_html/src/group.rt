@@ -1,0 +1,172 @@
+//! The pages of a group.
+
+ghost use Rattle.std.specs.Prelude.{◌≡◌, ◌+◌, ◌<◌, [], ◌∷◌, ◌++◌, OnOk, drop, flat_map, length, string_bytes, zip};
+ghost use Rattle.scr_markup.specs.Tokens.{Adds, HasNoLineFeed};
+ghost use Rattle.scr_notation.specs.Event.{per_group_of};
+ghost use Rattle.scr_layout.specs.Shown.{HasNoControl};
+ghost use Rattle.scr_layout.specs.Texts.{labels_of};
+ghost use Rattle.scr_html.specs.Pages.{head_marks, labelled, slot_marks, page_marks, attempt_marks};
+
+use crate::heads::write_heads;
+use crate::sizes::Sizes;
+use crate::slot::write_slot;
+use crate::tokens::{begin, end, plain};
+use scr_layout::{Group, label};
+use scr_notation::{Event, Scramble};
+use scr_text::decimal;
+use std::alloc::AllocError;
+
+/// So many moves fit on the page of an attempt.
+const FIELDS: u32 = 80;
+
+/// How pages of a group look.
+#[derive(Drop)]
+struct Look<'a> {
+    competition: &'a str,
+    pictures: bool,
+}
+
+/// Adds the pages of a group: one, or of fewest moves one for each attempt. Above the scrambles stands a competition's
+/// name, where it is not empty; with each stands its picture, where pictures are asked for.
+pub fn write_group(
+    page: &mut String,
+    group: &Group<'_>,
+    competition: &str,
+    pictures: bool,
+) -> Result<(), AllocError>
+    requires { HasNoControl competition.now }
+    ensures { OnOk result
+        (Adds (string_bytes page.old) (string_bytes page.new) (page_marks pictures group.now)) }
+{
+    let look = Look {
+        competition,
+        pictures,
+    };
+    match group.event() {
+        Event::Fm333 => write_attempts(page, group, &look),
+        _ => write_page(page, group, &look),
+    }
+}
+
+/// Adds one page with all scrambles of a group.
+fn write_page(page: &mut String, group: &Group<'_>, look: &Look<'_>) -> Result<(), AllocError>
+    requires { HasNoControl look.now.competition.now }
+    ensures { OnOk result (Adds (string_bytes page.old) (string_bytes page.new)
+        (head_marks group.now ++ flat_map (slot_marks look.now.pictures) (labelled group.now))) }
+{
+    let slots = u32::from(group.event().per_group()) + 2;
+    let style = Sizes::of(group, slots, look.pictures).style();
+    write_heads(page, group, look.competition, style.as_str())?;
+    write_slots(page, group, group.scrambles(), 0, look.pictures)?;
+    end(page, "section")?;
+    Ok(())
+}
+
+/// Adds these scrambles, which are the last of a group, from the one at a place on. It calls itself once for each.
+fn write_slots(
+    page: &mut String,
+    group: &Group<'_>,
+    scrambles: &[Scramble],
+    place: u32,
+    pictures: bool,
+) -> Result<(), AllocError>
+    requires { place + length scrambles.now ≡ per_group_of group.now.event + 2 }
+    ensures { OnOk result (Adds (string_bytes page.old) (string_bytes page.new)
+        (flat_map (slot_marks pictures) (zip (drop place (labels_of group.now.event)) scrambles.now))) }
+{
+    match scrambles {
+        [] => Ok(()),
+        [scramble, rest @ ..] => {
+            let label = label(group.event(), place);
+            write_slot(page, group, label, scramble, pictures)?;
+            write_slots(page, group, rest, place + 1, pictures)?;
+            Ok(())
+        }
+    }
+}
+
+/// Adds a page for each scramble of a group, with room for a solution.
+fn write_attempts(page: &mut String, group: &Group<'_>, look: &Look<'_>) -> Result<(), AllocError>
+    requires { HasNoControl look.now.competition.now }
+    ensures { OnOk result (Adds (string_bytes page.old) (string_bytes page.new)
+        (flat_map (attempt_marks look.now.pictures group.now) (labelled group.now))) }
+{
+    write_attempts_from(page, group, group.scrambles(), 0, look)
+}
+
+/// Adds a page for each of these scrambles, which are the last of a group, from the one at a place on. It calls itself once
+/// for each.
+fn write_attempts_from(
+    page: &mut String,
+    group: &Group<'_>,
+    scrambles: &[Scramble],
+    place: u32,
+    look: &Look<'_>,
+) -> Result<(), AllocError>
+    requires competition { HasNoControl look.now.competition.now }
+    requires places { place + length scrambles.now ≡ per_group_of group.now.event + 2 }
+    ensures { OnOk result (Adds (string_bytes page.old) (string_bytes page.new)
+        (flat_map (attempt_marks look.now.pictures group.now)
+        (zip (drop place (labels_of group.now.event)) scrambles.now))) }
+{
+    match scrambles {
+        [] => Ok(()),
+        [scramble, rest @ ..] => {
+            let label = label(group.event(), place);
+            write_attempt(page, group, label, scramble, look)?;
+            write_attempts_from(page, group, rest, place + 1, look)?;
+            Ok(())
+        }
+    }
+}
+
+/// Adds the page of an attempt.
+fn write_attempt(
+    page: &mut String,
+    group: &Group<'_>,
+    label: &str,
+    scramble: &Scramble,
+    look: &Look<'_>,
+) -> Result<(), AllocError>
+    requires competition { HasNoControl look.now.competition.now }
+    requires label { HasNoLineFeed label.now }
+    ensures { OnOk result (Adds (string_bytes page.old) (string_bytes page.new)
+        (attempt_marks look.now.pictures group.now (label.now, scramble.now))) }
+{
+    let style = Sizes::of(group, 2, look.pictures).style();
+    write_heads(page, group, look.competition, style.as_str())?;
+    write_slot(page, group, label, scramble, look.pictures)?;
+    write_fields(page)?;
+    end(page, "section")?;
+    Ok(())
+}
+
+/// Adds room for who solves and for a solution, with a field for each move.
+fn write_fields(page: &mut String) -> Result<(), AllocError>
+    ensures { OnOk result (Adds (string_bytes page.old) (string_bytes page.new) []) }
+{
+    begin(page, "footer")?;
+    plain(page, "span", "Competitor")?;
+    plain(page, "span", "Moves")?;
+    end(page, "footer")?;
+    begin(page, "ol")?;
+    write_numbers(page)?;
+    end(page, "ol")?;
+    Ok(())
+}
+
+fn write_numbers(page: &mut String) -> Result<(), AllocError>
+    ensures { OnOk result (Adds (string_bytes page.old) (string_bytes page.new) []) }
+{
+    for number in 1..=FIELDS {
+        write_number(page, number)?;
+    }
+    Ok(())
+}
+
+fn write_number(page: &mut String, number: u32) -> Result<(), AllocError>
+    ensures { OnOk result (Adds (string_bytes page.old) (string_bytes page.new) []) }
+{
+    let text = decimal(number);
+    plain(page, "li", text.as_str())
+}

@@ -1,0 +1,168 @@
+//! How large things are on a page, so that a group fits on one of A4 and of letter paper. Nothing of it is promised.
+
+ghost use Rattle.std.specs.Prelude.{◌≡◌, ◌+◌, ◌<◌, ◌≤◌, length};
+ghost use Rattle.arrayvec.specs.ArrayString.{array_string_len};
+ghost use Rattle.scr_markup.specs.Tokens.{HasNoLineFeed};
+
+use arrayvec::ArrayString;
+use scr_layout::{Group, Place, places, row_count};
+use scr_notation::Event;
+use scr_text::decimal;
+
+/// The room for scrambles below the heads of a page, in tenths of a point.
+const PAGE_HEIGHT: u32 = 6250;
+
+/// The room for words and a picture beside the labels, in tenths of a millimetre.
+const ROW_WIDTH: u32 = 1610;
+
+/// Letters are at most and at least so large, in tenths of a point.
+const LARGEST: u32 = 170;
+
+const SMALLEST: u32 = 60;
+
+/// A style has at most so many bytes.
+const STYLE_ROOM: usize = 112;
+
+/// How large things are on a page.
+#[derive(Clone, Copy)]
+pub(crate) struct Sizes {
+    /// The letters of words, in tenths of a point.
+    letters: u32,
+    /// The least height of a scramble, in tenths of a point.
+    slot: u32,
+    /// The width of a picture, in tenths of a millimetre.
+    picture: u32,
+    ghost in_range: { (letters < 10000) × (slot < 10000) × (picture < 10000) },
+}
+
+impl Sizes {
+    /// The largest that fit on a page with so many scrambles of a group, which are at least one.
+    pub(crate) fn of(group: &Group<'_>, slots: u32, pictures: bool) -> Sizes
+        requires { 0 < slots }
+    {
+        let (rows, columns) = extent(group);
+        let columns = columns + widest_word(group.event());
+        let picture = if pictures {
+            picture_width(group.event())
+        } else {
+            0
+        };
+        let height = PAGE_HEIGHT / slots;
+        let by_height = height.saturating_sub(80) * 100 / (rows * 115);
+        let by_width = points(ROW_WIDTH - picture) * 1000 / (columns * 605);
+        Sizes {
+            letters: by_height.min(by_width).min(LARGEST).max(SMALLEST),
+            slot: height.min(1300),
+            picture,
+        }
+    }
+
+    /// The style that gives them to the elements of a page.
+    pub(crate) fn style(self) -> ArrayString<STYLE_ROOM>
+        ensures { HasNoLineFeed result.bytes }
+    {
+        let mut style = ArrayString::new();
+        push_text(&mut style, "--letters:");
+        push_tenths(&mut style, self.letters);
+        push_text(&mut style, "pt;--slot:");
+        push_tenths(&mut style, self.slot);
+        push_text(&mut style, "pt;--picture:");
+        push_tenths(&mut style, self.picture);
+        push_text(&mut style, "mm");
+        style
+    }
+}
+
+/// Adds a number of tenths.
+fn push_tenths(text: &mut ArrayString<STYLE_ROOM>, tenths: u32)
+    requires line { HasNoLineFeed text.old.bytes }
+    requires room { array_string_len text.old ≤ 90 }
+    ensures line { HasNoLineFeed text.new.bytes }
+    ensures room { array_string_len text.new ≤ array_string_len text.old + 21 }
+{
+    push_number(text, tenths / 10);
+    push_text(text, ".");
+    push_number(text, tenths % 10);
+}
+
+fn push_number(text: &mut ArrayString<STYLE_ROOM>, number: u32)
+    requires line { HasNoLineFeed text.old.bytes }
+    requires room { array_string_len text.old ≤ 102 }
+    ensures line { HasNoLineFeed text.new.bytes }
+    ensures room { array_string_len text.new ≤ array_string_len text.old + 10 }
+{
+    let digits = decimal(number);
+    push_text(text, digits.as_str());
+}
+
+/// Adds a text in one line.
+fn push_text(text: &mut ArrayString<STYLE_ROOM>, more: &str)
+    requires line { HasNoLineFeed text.old.bytes }
+    requires more { HasNoLineFeed more.now }
+    requires room { array_string_len text.old + length more.now ≤ STYLE_ROOM }
+    ensures line { HasNoLineFeed text.new.bytes }
+    ensures room { array_string_len text.new ≡ array_string_len text.old + length more.now }
+{
+    text.push_str(more);
+}
+
+/// Millimetres as points, both in tenths.
+fn points(millimetres: u32) -> u32
+    requires { millimetres ≤ 1700 }
+    ensures { result ≤ 5000 }
+{
+    millimetres * 2835 / 1000
+}
+
+/// The most rows of a scramble of a group, and the most letters before a word of its rows.
+fn extent(group: &Group<'_>) -> (u32, u32)
+    ensures rows { (1 ≤ result.0) × (result.0 ≤ 256) }
+    ensures columns { result.1 ≤ 255 }
+{
+    let mut rows = 1;
+    let mut columns = 0;
+    for scramble in group.scrambles() {
+        let places = places(scramble);
+        rows = row_count(places.as_slice()).max(rows);
+        columns = last_column(places.as_slice()).max(columns);
+    }
+    (rows, columns)
+}
+
+/// The most letters before a word.
+fn last_column(places: &[Place]) -> u32
+    ensures { result ≤ 255 }
+{
+    let mut last = 0;
+    for place in places {
+        last = u32::from(place.column).max(last);
+    }
+    last
+}
+
+/// The most letters of a word of an event.
+fn widest_word(event: Event) -> u32
+    ensures { (1 ≤ result) × (result ≤ 7) }
+{
+    match event {
+        Event::C222 | Event::C333 | Event::Oh333 | Event::Fm333 | Event::Pyram | Event::Skewb => 2,
+        Event::C555 | Event::Bf333 | Event::Minx => 3,
+        Event::C666 | Event::C777 => 4,
+        Event::Clock => 5,
+        Event::Sq1 => 7,
+    }
+}
+
+/// How wide the picture of an event is, in tenths of a millimetre.
+fn picture_width(event: Event) -> u32
+    ensures { result ≤ 600 }
+{
+    match event {
+        Event::Skewb | Event::Pyram => 340,
+        Event::C222 | Event::C333 | Event::Oh333 => 380,
+        Event::C555 | Event::Clock => 410,
+        Event::Sq1 | Event::Bf333 => 440,
+        Event::Minx | Event::C666 | Event::C777 => 500,
+        Event::Fm333 => 560,
+    }
+}
