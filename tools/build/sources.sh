@@ -1,7 +1,7 @@
 # shellcheck shell=sh disable=SC2154 # crate is set by who reads this
 # What a program stands on in a folder of the repository, its copy, and a sum over it: read by bin/scramble, which keeps the
 # sum beside what it built, and by bin/package, which compares it with that of a commit. Which program is meant says the
-# variable crate, by the name of its crate: scramble, or scramble_wcif.
+# variable crate, by the name of its crate: scramble, scramble_wcif or scramble_pages.
 #
 # The sources are the files *.rt and *.antt of the crates that the program transitively needs, below src, specs and proofs; what
 # its stored run is made of; HANDLES; and of crates.txt the lines of these crates. Nothing else counts: neither tests, edits

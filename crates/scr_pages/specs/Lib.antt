@@ -1,0 +1,14 @@
+pub mod Asked
+pub mod Words
+pub mod Shown
+pub mod Slots
+pub mod Refusals
+pub mod Marked
+pub mod Passes
+pub mod Pages
+pub mod Writing
+pub mod Message
+pub mod Status
+pub mod Outcome
+pub mod Checked
+pub mod Exit

@@ -1,0 +1,137 @@
+//! The top call.
+
+ghost use Rattle.std.specs.Prelude.{◌≡◌, ◌≤◌, drop, length, map};
+ghost use Rattle.scr_outside.specs.Change.{change_of, intake_of};
+ghost use Rattle.scr_pages.specs.Words.{asked_of};
+ghost use Rattle.scr_pages.specs.Asked.{asked_for};
+ghost use Rattle.scr_pages.specs.Checked.{IsChecked};
+ghost use Rattle.scr_pages.specs.Outcome.{most_bytes, IsRun, Ends, EndsPrinting, Prints, PrintsSheet};
+
+use crate::asked::{Asked, asked_for};
+use crate::checking::{Checked, checked_sheet};
+use crate::fault::Fault;
+use crate::look::Look;
+use crate::status::Status;
+use crate::writing::write_groups;
+use scr_host::{read_input, tell};
+use scr_layout::fitting_name;
+use scr_outside::{Sink, Source};
+use scr_read::{SheetGroups, laws};
+use std::alloc::Global;
+
+/// An input has at most so many bytes.
+pub const MOST_BYTES: usize = 67_108_864;
+
+/// So many letters wide a competition's name is at most.
+const WIDTH: u32 = 72;
+
+/// Does all that the program does, on its words without its own name: reads a sheet from `source`, writes its pages to
+/// `out`, tells on `err` what went wrong, and gives the status. A fault of `err` changes no status.
+pub fn run<'w, S: Source, O: Sink, E: Sink>(
+    alloc: Global,
+    words: &'w [&'w str],
+    source: &mut S,
+    out: &mut O,
+    err: &mut E,
+) -> Status
+    ensures { IsRun (map (λ word. word.now) words.now) result
+        (intake_of S.left S.faults S.ends source.old source.new)
+        (change_of O.held O.faults out.old out.new) (change_of E.held E.faults err.old err.new) }
+{
+    match perform(alloc, words, source, out) {
+        Ok(()) => {
+            tell(err, "");
+            Status::of(Ok(()))
+        }
+        Err(fault) => {
+            tell(err, fault.message().as_str());
+            Status::of(Err(fault))
+        }
+    }
+}
+
+/// Does what the words ask for.
+fn perform<S: Source, O: Sink>(
+    alloc: Global,
+    words: &[&str],
+    source: &mut S,
+    out: &mut O,
+) -> Result<(), Fault>
+    ensures { Ends (asked_for (map (λ word. word.now) words.now))
+        (intake_of S.left S.faults S.ends source.old source.new)
+        (change_of O.held O.faults out.old out.new) result }
+{
+    match asked_for(words) {
+        Some(asked) => print_input(alloc, &asked, source, out),
+        None => Err(Fault::Usage),
+    }
+}
+
+/// Reads a sheet, and writes its pages.
+fn print_input<S: Source, O: Sink>(
+    alloc: Global,
+    asked: &Asked<'_>,
+    source: &mut S,
+    out: &mut O,
+) -> Result<(), Fault>
+    ensures { EndsPrinting (asked_of asked.now)
+        (intake_of S.left S.faults S.ends source.old source.new)
+        (change_of O.held O.faults out.old out.new) result }
+{
+    let bytes = read_input(alloc, source, MOST_BYTES)?;
+    print_bytes(alloc, asked, &bytes, out)
+}
+
+/// Writes the pages of a sheet, whose bytes these are.
+fn print_bytes<O: Sink>(
+    alloc: Global,
+    asked: &Asked<'_>,
+    bytes: &[u8],
+    out: &mut O,
+) -> Result<(), Fault>
+    requires { length bytes.now ≤ most_bytes }
+    ensures { Prints (asked_of asked.now) bytes.now (change_of O.held O.faults out.old out.new) result }
+{
+    let checked = checked_sheet(alloc, asked, bytes)?;
+    print_checked(alloc, asked, bytes, &checked, out)
+}
+
+/// The same of a sheet that was found to have pages.
+fn print_checked<O: Sink>(
+    alloc: Global,
+    asked: &Asked<'_>,
+    bytes: &[u8],
+    checked: &Checked,
+    out: &mut O,
+) -> Result<(), Fault>
+    requires few { length bytes.now ≤ most_bytes }
+    requires checked { IsChecked (asked_of asked.now) bytes.now checked.now }
+    ensures { Prints (asked_of asked.now) bytes.now (change_of O.held O.faults out.old out.new) result }
+{
+    laws::sheets_are_read_back();
+    let name = fitting_name(alloc, asked.name, WIDTH)?;
+    let look = Look {
+        html: asked.html,
+        pictures: asked.has_pictures(),
+        name: name.as_str(),
+    };
+    let mut groups = SheetGroups::of(bytes)?;
+    skip(&mut groups, checked.wanted.first);
+    write_groups(
+        alloc,
+        &look,
+        &checked.survey.marks,
+        &mut groups,
+        checked.wanted.count,
+        out,
+    )
+}
+
+/// Passes over so many groups.
+fn skip(groups: &mut SheetGroups<'_>, count: u32)
+    ensures { groups.new ≡ drop count groups.old }
+{
+    for _group in 0..count {
+        let _passed = groups.next();
+    }
+}
