@@ -1,5 +1,6 @@
-# Completion in bash: of the commands, options and events of scramble, of the options of scramble-pages, and of the command of
-# scramble-wcif. Numbers, seeds and names are not completed, and files behind < and > by bash itself.
+# Completion in bash: of the commands, options and events of scramble, of the options of scramble-pages, of the command of
+# scramble-wcif, and of the commands, options, files and folders of scramble-bundle. Numbers, seeds and names are not completed,
+# and files behind < and > by bash itself.
 
 # Of these words those that begin as what is typed.
 _scramble_offer() { COMPREPLY=($(compgen -W "$1" -- "${COMP_WORDS[COMP_CWORD]}")); }
@@ -31,14 +32,32 @@ _scramble() {
 
 _scramble_pages() {
     COMPREPLY=()
-    _scramble_options "--html --name"
+    case ${COMP_WORDS[COMP_CWORD - 1]} in
+        --pictures | --regulations) _scramble_offer "no yes" ;;
+        *) _scramble_options "--html --name --group --pictures --regulations" ;;
+    esac
 }
 
 _scramble_wcif() {
     COMPREPLY=()
-    [ "$COMP_CWORD" -ne 1 ] || _scramble_offer "list"
+    [ "$COMP_CWORD" -ne 1 ] || _scramble_offer "list fill"
+}
+
+_scramble_bundle() {
+    local options="--list --wcif" word=${COMP_WORDS[COMP_CWORD]} before=${COMP_WORDS[COMP_CWORD - 1]}
+    COMPREPLY=()
+    case $before in --name) return ;; esac
+    case ${COMP_WORDS[1]} in add) ;; verify) options= ;; *) options="--name $options --seed-file" ;; esac
+    if [[ $before != --* && $word == -* ]]; then
+        _scramble_options "$options"
+        return
+    fi
+    compopt -o filenames
+    if [[ $before == --* ]]; then mapfile -t COMPREPLY < <(compgen -f -- "$word"); return; fi
+    mapfile -t COMPREPLY < <(compgen -d -- "$word"; [ "$COMP_CWORD" -ne 1 ] || compgen -W "add verify" -- "$word")
 }
 
 complete -F _scramble scramble
+complete -F _scramble_bundle scramble-bundle
 complete -F _scramble_pages scramble-pages
 complete -F _scramble_wcif scramble-wcif
