@@ -1,6 +1,6 @@
 //! The pages of a group.
 
-ghost use Rattle.std.specs.Prelude.{◌≡◌, ◌+◌, ◌<◌, [], ◌∷◌, ◌++◌, OnOk, drop, flat_map, length, string_bytes, zip};
+ghost use Rattle.std.specs.Prelude.{◌≡◌, ◌+◌, ◌<◌, [], ◌++◌, OnOk, Some, drop, flat_map, length, slice_get, string_bytes, zip};
 ghost use Rattle.scr_markup.specs.Tokens.{Adds, HasNoLineFeed};
 ghost use Rattle.scr_notation.specs.Event.{per_group_of};
 ghost use Rattle.scr_layout.specs.Shown.{HasNoControl};
@@ -77,12 +77,21 @@ fn write_slots(
     match scrambles {
         [] => Ok(()),
         [scramble, rest @ ..] => {
-            let label = label(group.event(), place);
+            let label = label_of(group, place);
             write_slot(page, group, label, scramble, pictures)?;
             write_slots(page, group, rest, place + 1, pictures)?;
             Ok(())
         }
     }
+}
+
+/// The label of the scramble at a place of a group, from 0.
+fn label_of(group: &Group<'_>, place: u32) -> &'static str
+    requires { place < per_group_of group.now.event + 2 }
+    ensures label { slice_get (labels_of group.now.event) place ≡ Some result.now }
+    ensures line { HasNoLineFeed result.now }
+{
+    label(group.event(), place)
 }
 
 /// Adds a page for each scramble of a group, with room for a solution.
@@ -112,7 +121,7 @@ fn write_attempts_from(
     match scrambles {
         [] => Ok(()),
         [scramble, rest @ ..] => {
-            let label = label(group.event(), place);
+            let label = label_of(group, place);
             write_attempt(page, group, label, scramble, look)?;
             write_attempts_from(page, group, rest, place + 1, look)?;
             Ok(())

@@ -25,18 +25,18 @@ const RULES: &[&str] = &[
     "h3 { font-size: 12pt; line-height: 16pt; max-height: 16pt; overflow: hidden; }",
     "section p { padding-bottom: 4pt; }",
     "article { display: flex; align-items: center; min-height: var(--slot); padding: 3pt 0; border-top: 1pt dashed black; break-inside: avoid; page-break-inside: avoid; }",
-    "article header { flex: 0 0 25mm; }",
+    "article header { flex: 0 0 24mm; padding-right: 2mm; }",
     ".label { display: block; font-size: 16pt; line-height: 18pt; }",
     "small { display: block; font-size: 6.5pt; line-height: 8pt; }",
-    "article div { flex: 1 1 0; min-width: 0; font: bold var(--letters)/1.15 'Liberation Mono', 'DejaVu Sans Mono', 'Courier New', monospace; }",
-    "article p { position: relative; height: 1.15em; padding: 0; }",
+    "article div { flex: 1 1 0; min-width: 0; font: bold var(--letters)/var(--row) 'Liberation Mono', 'DejaVu Sans Mono', 'Courier New', monospace; }",
+    "article p { position: relative; height: var(--row); padding: 0; }",
     ".word { position: absolute; white-space: pre; }",
     ".picture { flex: none; width: var(--picture); height: auto; margin-left: 4mm; }",
     "footer { display: flex; border-top: 1pt dashed black; padding: 4mm 0; }",
     "footer span { flex: 1 1 0; height: 9mm; margin-right: 5mm; border-bottom: 1pt solid black; font-size: 8pt; }",
     "footer span + span { flex: 0 0 30mm; margin-right: 0; }",
     "ol { display: grid; grid-template-columns: repeat(8, 1fr); list-style: none; border-top: 0.5pt solid gray; border-left: 0.5pt solid gray; }",
-    "li { height: 11.5mm; padding: 0.5mm 1mm; border-right: 0.5pt solid gray; border-bottom: 0.5pt solid gray; font-size: 6.5pt; line-height: 8pt; color: dimgray; }",
+    "li { height: 13.5mm; padding: 0.5mm 1mm; border-right: 0.5pt solid gray; border-bottom: 0.5pt solid gray; font-size: 6.5pt; line-height: 8pt; color: dimgray; }",
 ];
 
 /// Begins a document of a competition's scrambles, whose name may be empty: up to its first page.

@@ -6,33 +6,42 @@ ghost use Rattle.scr_markup.specs.Tokens.{HasNoLineFeed};
 
 use arrayvec::ArrayString;
 use scr_layout::{Group, Place, places, row_count};
-use scr_notation::Event;
+use scr_notation::{Event, Turn};
 use scr_text::decimal;
 
 /// The room for scrambles below the heads of a page, in tenths of a point.
-const PAGE_HEIGHT: u32 = 6250;
+const PAGE_HEIGHT: u32 = 6300;
 
 /// The room for words and a picture beside the labels, in tenths of a millimetre.
-const ROW_WIDTH: u32 = 1610;
+const ROW_WIDTH: u32 = 1620;
 
-/// Letters are at most and at least so large, in tenths of a point.
+/// Letters are at most and at least so large, in tenths of a point. Where smaller ones were needed for a page, a group
+/// takes more pages, with letters of a size between.
 const LARGEST: u32 = 170;
 
-const SMALLEST: u32 = 60;
+const SMALLEST: u32 = 65;
+
+const BETWEEN: u32 = 100;
+
+/// A row of words is at least and at most so high, in hundredths of its letters' size.
+const LEAST_ROW: u32 = 115;
+
+const MOST_ROW: u32 = 145;
 
 /// A style has at most so many bytes.
-const STYLE_ROOM: usize = 112;
+const STYLE_ROOM: usize = 144;
 
 /// How large things are on a page.
 #[derive(Clone, Copy)]
 pub(crate) struct Sizes {
     /// The letters of words, in tenths of a point.
     letters: u32,
+    /// The height of a row of words, in tenths of a point.
+    row: u32,
     /// The least height of a scramble, in tenths of a point.
     slot: u32,
     /// The width of a picture, in tenths of a millimetre.
     picture: u32,
-    ghost in_range: { (letters < 10000) × (slot < 10000) × (picture < 10000) },
 }
 
 impl Sizes {
@@ -41,18 +50,21 @@ impl Sizes {
         requires { 0 < slots }
     {
         let (rows, columns) = extent(group);
-        let columns = columns + widest_word(group.event());
         let picture = if pictures {
             picture_width(group.event())
         } else {
             0
         };
-        let height = PAGE_HEIGHT / slots;
-        let by_height = height.saturating_sub(80) * 100 / (rows * 115);
-        let by_width = points(ROW_WIDTH - picture) * 1000 / (columns * 605);
+        let slot = PAGE_HEIGHT / slots;
+        let height = slot.saturating_sub(80);
+        let letters = letters_of(
+            height * 100 / (rows * LEAST_ROW),
+            points(ROW_WIDTH - picture) * 1000 / (columns * 605),
+        );
         Sizes {
-            letters: by_height.min(by_width).min(LARGEST).max(SMALLEST),
-            slot: height.min(1300),
+            letters,
+            row: row_of(height / rows, letters),
+            slot: slot.min(1300),
             picture,
         }
     }
@@ -64,6 +76,8 @@ impl Sizes {
         let mut style = ArrayString::new();
         push_text(&mut style, "--letters:");
         push_tenths(&mut style, self.letters);
+        push_text(&mut style, "pt;--row:");
+        push_tenths(&mut style, self.row);
         push_text(&mut style, "pt;--slot:");
         push_tenths(&mut style, self.slot);
         push_text(&mut style, "pt;--picture:");
@@ -76,7 +90,7 @@ impl Sizes {
 /// Adds a number of tenths.
 fn push_tenths(text: &mut ArrayString<STYLE_ROOM>, tenths: u32)
     requires line { HasNoLineFeed text.old.bytes }
-    requires room { array_string_len text.old ≤ 90 }
+    requires room { array_string_len text.old ≤ 120 }
     ensures line { HasNoLineFeed text.new.bytes }
     ensures room { array_string_len text.new ≤ array_string_len text.old + 21 }
 {
@@ -87,7 +101,7 @@ fn push_tenths(text: &mut ArrayString<STYLE_ROOM>, tenths: u32)
 
 fn push_number(text: &mut ArrayString<STYLE_ROOM>, number: u32)
     requires line { HasNoLineFeed text.old.bytes }
-    requires room { array_string_len text.old ≤ 102 }
+    requires room { array_string_len text.old ≤ 134 }
     ensures line { HasNoLineFeed text.new.bytes }
     ensures room { array_string_len text.new ≤ array_string_len text.old + 10 }
 {
@@ -114,41 +128,62 @@ fn points(millimetres: u32) -> u32
     millimetres * 2835 / 1000
 }
 
-/// The most rows of a scramble of a group, and the most letters before a word of its rows.
+/// The size of letters of which the first are the largest that fit by height, and the second by width.
+fn letters_of(by_height: u32, by_width: u32) -> u32
+    ensures { (1 ≤ result) × (result ≤ LARGEST) }
+{
+    let most = if by_height < SMALLEST {
+        BETWEEN
+    } else {
+        by_height.min(LARGEST)
+    };
+    by_width.min(most).max(1)
+}
+
+/// The height of a row of letters of a size, where it may be so high. All are in tenths of a point.
+fn row_of(room: u32, letters: u32) -> u32
+    requires { letters ≤ LARGEST }
+{
+    room.min(letters * MOST_ROW / 100)
+        .max(letters * LEAST_ROW / 100)
+}
+
+/// The most rows of a scramble of a group, and the most letters in a row.
 fn extent(group: &Group<'_>) -> (u32, u32)
     ensures rows { (1 ≤ result.0) × (result.0 ≤ 256) }
-    ensures columns { result.1 ≤ 255 }
+    ensures columns { (1 ≤ result.1) × (result.1 ≤ 300) }
 {
     let mut rows = 1;
-    let mut columns = 0;
+    let mut columns = 1;
     for scramble in group.scrambles() {
         let places = places(scramble);
         rows = row_count(places.as_slice()).max(rows);
-        columns = last_column(places.as_slice()).max(columns);
+        columns = width_of(scramble.event(), scramble.turns(), places.as_slice()).max(columns);
     }
     (rows, columns)
 }
 
-/// The most letters before a word.
-fn last_column(places: &[Place]) -> u32
-    ensures { result ≤ 255 }
+/// The most letters in a row of these turns of an event, which stand at these places.
+fn width_of(event: Event, turns: &[Turn], places: &[Place]) -> u32
+    ensures { result ≤ 300 }
 {
-    let mut last = 0;
-    for place in places {
-        last = u32::from(place.column).max(last);
+    let mut most = 0;
+    for (turn, place) in turns.iter().zip(places) {
+        most = (u32::from(place.column) + word_width(event, *turn)).max(most);
     }
-    last
+    most
 }
 
-/// The most letters of a word of an event.
-fn widest_word(event: Event) -> u32
-    ensures { (1 ≤ result) × (result ≤ 7) }
+/// At most so many letters has a turn of an event.
+fn word_width(event: Event, turn: Turn) -> u32
+    ensures { result ≤ 7 }
 {
     match event {
         Event::C222 | Event::C333 | Event::Oh333 | Event::Fm333 | Event::Pyram | Event::Skewb => 2,
         Event::C555 | Event::Bf333 | Event::Minx => 3,
         Event::C666 | Event::C777 => 4,
         Event::Clock => 5,
+        Event::Sq1 if matches!(turn, Turn::Twist) => 1,
         Event::Sq1 => 7,
     }
 }
@@ -159,10 +194,10 @@ fn picture_width(event: Event) -> u32
 {
     match event {
         Event::Skewb | Event::Pyram => 340,
-        Event::C222 | Event::C333 | Event::Oh333 => 380,
-        Event::C555 | Event::Clock => 410,
-        Event::Sq1 | Event::Bf333 => 440,
-        Event::Minx | Event::C666 | Event::C777 => 500,
+        Event::C222 | Event::C333 | Event::Oh333 | Event::Clock => 380,
+        Event::C555 | Event::Sq1 => 400,
+        Event::Bf333 | Event::Minx => 480,
+        Event::C666 | Event::C777 => 500,
         Event::Fm333 => 560,
     }
 }

@@ -1,19 +1,12 @@
-use Rattle.std.proofs.Common.{◌≡◌, Some, slice_get, subst}
 use Rattle.scr_layout.specs.Texts.{labels_of}
 use Rattle.scr_html.specs.Pages.{attempt_marks}
 use Rattle.scr_html.proofs.PartLemmas.{slots_first}
-use Rattle.scr_markup.proofs.AddsLemmas.{adds_nothing, adds_then, adds_more, adds_as}
-use Rattle.scr_html.proofs.TextLemmas.{label_one_line}
+use Rattle.scr_markup.proofs.AddsLemmas.{adds_then, adds_as}
 use Rattle.scr_html.proofs.group.+write_attempts_from.Goals as goal
-
-pub write_attempt-requires-clause-label : goal.write_attempt-requires-clause-label
-write_attempt-requires-clause-label t c = label_one_line c.event.result c.args.place c.label-label.result.now c.label-label.ensures.value
 
 pub returns-in_ok-write_attempts_from-in-len1-up : goal.returns-in_ok-write_attempts_from-in-len1-up
 returns-in_ok-write_attempts_from-in-len1-up t c =
-    let label = c.label-label.result.now in
-    let at : slice_get (labels_of c.args.group.now.event) c.args.place ≡ Some label =
-    subst (λ e. slice_get (labels_of e) c.args.place ≡ Some label) c.event.ensures.value c.label-label.ensures.value in
     adds_as _ _ _ _
-    (slots_first (attempt_marks c.args.look.now.pictures c.args.group.now) (labels_of c.args.group.now.event) c.args.place label c.args.scrambles.now c.scramble-item.result at c.in-len1-up.len_at_least c.scramble-item.is)
+    (slots_first (attempt_marks c.args.look.now.pictures c.args.group.now) (labels_of c.args.group.now.event) c.args.place c.label_of-label.result.now c.args.scrambles.now c.scramble-item.result
+    c.label_of-label.ensures.label c.in-len1-up.len_at_least c.scramble-item.is)
     (adds_then _ _ _ _ _ c.in_ok-write_attempt-in-len1-up.ensures c.in_ok-write_attempts_from-in-len1-up.ensures)
