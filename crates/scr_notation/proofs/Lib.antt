@@ -4,6 +4,7 @@ pub mod EachEvent
 pub mod LayersLaws
 pub mod NumberLaws
 pub mod SpellingLaws
+pub mod CandidateLaws
 pub mod TextLaws
 pub mod ReadLaws
 pub mod MergingLaws

@@ -14,6 +14,7 @@ pub mod AxisLetters
 pub mod Played
 pub mod Spelling
 pub mod Written
+pub mod Candidates
 pub mod Reading
 pub mod Turning
 pub mod Ranges

@@ -16,6 +16,7 @@
 //! powers.
 #![tactic(auto)]
 
+mod candidate;
 mod event;
 mod event_set;
 pub mod laws;

@@ -5,6 +5,7 @@ ghost use Rattle.scr_notation.specs.Spelling.{spelling, text_of};
 ghost use Rattle.scr_notation.specs.Written.{Written, IsWritten};
 ghost use Rattle.scr_notation.specs.Reading.{IsSpelling, place_after, IsFault, IsFirstFault, IsReadAs};
 
+use crate::candidate::candidate;
 use crate::event::Event;
 use crate::scramble::{MOST_TURNS, Scramble};
 use crate::spelling::spelled;
@@ -58,17 +59,20 @@ fn read_next(scramble: &mut Scramble, place: u32, word: &str) -> Result<u32, Not
     Ok(place + word.len() as u32 + 1)
 }
 
-/// The turn of this event that is spelled so.
+/// The turn of this event that is spelled so: the one that the word can be, if it is.
 fn read_turn(event: Event, word: &str) -> Option<Turn>
     ensures found { IfSome result (λ turn. IsTrue (permits event turn) × (spelling turn ≡ word.now)) }
     ensures none { IsNone result → IsSpelling event word.now → ⊥ }
 {
     let kind = event.kind();
-    for number in 0..turn_count(kind) {
-        let turn = turn_at(kind, number);
-        if spelled(event, turn).as_str() == word {
-            return Some(turn);
-        }
+    let number = candidate(kind, word.as_bytes());
+    if number >= turn_count(kind) {
+        return None;
     }
-    None
+    let turn = turn_at(kind, number);
+    if spelled(event, turn).as_str() == word {
+        Some(turn)
+    } else {
+        None
+    }
 }
