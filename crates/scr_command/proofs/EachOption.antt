@@ -6,8 +6,7 @@ use Rattle.std.specs.Str.{bytes_eq}
 use Rattle.std.proofs.lemmas.Slice.Eq.{bytes_eq-Decides}
 use Rattle.scr_command.specs.declared.options.OptionName.{OptionName}
 use Rattle.scr_command.specs.declared.options.OptionName.TheVariants.{Seed, Workers, Tries, Attempts, Short}
-use Rattle.scr_command.specs.OptionTable.{Text, all_options, flag_of, is_option}
-use Rattle.scr_command.specs.OptionsCommand.{option_name}
+use Rattle.scr_command.specs.OptionTable.{Text, all_options, flag_of, is_option, option_name}
 use Rattle.scr_command.specs.OptionWords.{spelled_option}
 
 -- two functions that agree on the list of the options agree on each option

@@ -1,11 +1,5 @@
 pub mod EachOption
-pub mod Ordinary
-pub mod Parsed
-pub mod Rows
-pub mod OptionRules
+pub mod OptionSteps
 pub mod Slots
 pub mod SpellingLaws
-pub mod Turns
-pub mod Walked
-pub mod WordForms
-pub mod OptionSteps
+pub mod Shared

@@ -8,7 +8,7 @@ use Rattle.scr_command.specs.OptionWords.{Given, attached_value, begins_with_hyp
 use Rattle.scr_command.proofs.OptionSteps.{option_read}
 use Rattle.scr_command.specs.Spelling.{AllFit, ReadsBack, ReadsNothingElse, WrittenOption, option_words, written_options}
 use Rattle.scr_command.proofs.EachOption.{each_alike, spelled}
-use Rattle.scr_command.proofs.WordForms.{attached-cons, option_spelling-cons, option_spelling-equals}
+use Rattle.scr_options.proofs.WordForms.{attached-cons, spelling-cons as option_spelling-cons, spelling-equals as option_spelling-equals}
 
 one_word : (k : OptionName) (v : Text)
     → (spelled_option (option_spelling (flag_of k ++ 61 ∷ v)) ≡ Some k) × (attached_value (flag_of k ++ 61 ∷ v) ≡ Some v)

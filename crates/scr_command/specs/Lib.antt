@@ -1,7 +1,5 @@
 pub mod OptionTable
 pub mod OptionWords
-pub mod Hyphens
-pub mod OptionsCommand
 pub mod Spelling
 pub mod Words
 pub mod Command

@@ -33,6 +33,9 @@ all_options = Seed ∷ Workers ∷ Tries ∷ Attempts ∷ Short ∷ []
 abbrev pub check_options : List OptionName
 check_options = Seed ∷ Attempts ∷ []
 
+abbrev pub option_name : OptionName → Text
+option_name option = (option_row option).name
+
 -- how words spell an option: two hyphens, and its name. There are no short forms, and a part of a spelling is none.
 abbrev pub flag_of : OptionName → Text
 flag_of option = codes "--" ++ (option_row option).name

@@ -1,9 +1,10 @@
 -- The options of a command, as the words of a command line give them: a grammar of our own, over the table of options.
-use Rattle.std.specs.Prelude.{ℕ, ◌==◌, ◌||◌, ◌&&◌, Bool, false, List, [], ◌∷◌, map, filter, find, length, slice_get, nat_le}
+use Rattle.std.specs.Prelude.{◌||◌, ◌&&◌, Bool, List, [], ◌∷◌, map, filter, find, length, slice_get, nat_le}
 use Rattle.std.specs.Prelude.{Option, Some, None, if◌then◌else◌, is_none, is_some, option_map, option_and_then}
 use Rattle.std.specs.Option.{option_map_or}
-use Rattle.std.specs.List.{after_first, before_first, list_all, list_any}
+use Rattle.std.specs.List.{list_all, list_any}
 use Rattle.std.specs.Str.{bytes_eq}
+pub use Rattle.scr_options.specs.OptionWords.{attached_value, begins_with_hyphen, is_equals, spelling_in as option_spelling}
 use Rattle.scr_command.specs.declared.options.OptionName.{OptionName}
 use Rattle.scr_command.specs.declared.options.OptionName.TheVariants.{Seed}
 use Rattle.scr_command.specs.OptionTable.{Text, all_options, flag_of, is_option}
@@ -15,24 +16,9 @@ pub record Given : Type 0 where
 
 -- ---- reading words as options with their values
 
-abbrev pub is_equals : ℕ → Bool
-is_equals c = c == 61
-
--- what stands before the first `=` of a word, or all of it
-abbrev pub option_spelling : Text → Text
-option_spelling word = before_first is_equals word
-
--- what stands after the first `=` of a word, if it has one; it may be anything, and empty too
-abbrev pub attached_value : Text → Option Text
-attached_value word = if list_any is_equals word then Some (after_first is_equals word) else None
-
 -- the option that a text spells
 abbrev pub spelled_option : Text → Option OptionName
 spelled_option text = find (λ option. bytes_eq (flag_of option) text) all_options
-
-abbrev pub begins_with_hyphen : Text → Bool
-begins_with_hyphen [] = false
-begins_with_hyphen (c ∷ rest) = c == 45
 
 abbrev pub with_given : OptionName → Text → Option (List Given) → Option (List Given)
 with_given option value = option_map (λ rest. record { option = option; value = value } ∷ rest)

@@ -12,9 +12,10 @@ ghost use Rattle.scr_text.specs.Steps.{and_then};
 ghost use Rattle.scr_command.specs.Reading.{IsRefusal, IsOptionsRefusal, IsCommand};
 
 use crate::options::{CHECK_OPTIONS, OptionName, Options, SHEET_OPTIONS, usual};
-use crate::splitting::{OptionsFault, SplitOptions, split_options};
+use crate::splitting::{SplitOptions, split_options};
 use scr_list::event_named;
 use scr_notation::Event;
+use scr_options::OptionsFault;
 use scr_text::number_within;
 use scr_words::{Seed, SeedFault, read_seed};
 use std::alloc::Global;

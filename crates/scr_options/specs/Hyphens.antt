@@ -2,7 +2,7 @@
 -- and two as the end of the options.
 use Rattle.std.specs.Prelude.{◌||◌, ◌≡◌, Bool, false, codes}
 use Rattle.std.specs.Str.{IsUtf8, bytes_eq}
-use Rattle.scr_command.specs.OptionTable.{Text}
+use Rattle.scr_options.specs.OptionWords.{Text}
 
 abbrev pub is_bare : Text → Bool
 is_bare word = bytes_eq word (codes "-") || bytes_eq word (codes "--")

@@ -1,8 +1,8 @@
 use Rattle.std.proofs.Common.{ℕ, ◌<◌, slice_index_or}
 use Rattle.std.specs.Borrow.{Bor}
-use Rattle.scr_command.specs.Hyphens.{IsOrdinary}
-use Rattle.scr_command.specs.OptionTable.{Text}
-use Rattle.scr_command.proofs.splitting.has_bare_hyphens.Given as goal
+use Rattle.scr_options.specs.Hyphens.{IsOrdinary}
+use Rattle.scr_options.specs.OptionWords.{Text}
+use Rattle.scr_options.proofs.splitting.has_bare_hyphens.Given as goal
 
 -- the words before this one are ordinary
 abbrev pub invariant-loop-word : goal.invariant-loop-word

@@ -1,6 +1,6 @@
 use Rattle.std.proofs.Common.{◌∙◌, sym, arith}
-use Rattle.scr_command.proofs.Ordinary.{bare_at, one_more_ordinary}
-use Rattle.scr_command.proofs.splitting.has_bare_hyphens.Goals as goal
+use Rattle.scr_options.proofs.Ordinary.{bare_at, one_more_ordinary}
+use Rattle.scr_options.proofs.splitting.has_bare_hyphens.Goals as goal
 
 pub returns-then-is_bare-clause-found : goal.returns-then-is_bare-clause-found
 returns-then-is_bare-clause-found c =

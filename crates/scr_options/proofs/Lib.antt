@@ -1,0 +1,7 @@
+pub mod OptionRules
+pub mod Rows
+pub mod WordForms
+pub mod Turns
+pub mod Walked
+pub mod Ordinary
+pub mod Parsed

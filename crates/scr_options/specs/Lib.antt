@@ -1,0 +1,5 @@
+pub mod OptionWords
+pub mod Hyphens
+pub mod Words
+pub mod OptionsCommand
+pub mod Split
