@@ -9,10 +9,12 @@
 
 mod exit;
 mod input;
+mod program;
 mod telling;
 mod words;
 
 pub use exit::Exit;
 pub use input::{InputFault, read_input};
+pub use program::{Program, run_on_host};
 pub use telling::{end_without_words, tell};
 pub use words::{NoWords, borrowed, words_of};

@@ -4,7 +4,6 @@ ghost use Rattle.std.specs.Prelude.{◌≡◌};
 ghost use Rattle.scr_outside.specs.Change.{change_of};
 ghost use Rattle.scr_host.specs.Exit.{IsTold, TellsWithoutWords, code_without_words};
 
-use crate::exit::Exit;
 use crate::words::NoWords;
 use scr_outside::{Sink, write_all};
 
@@ -17,15 +16,15 @@ pub fn tell<E: Sink>(err: &mut E, text: &str)
 
 /// Ends a program that has no words. Where memory was wanting for them it tells that by this message, and the exit code
 /// is this one; else it tells nothing, and the exit code is 1.
-pub fn end_without_words<E: Sink>(why: NoWords, code: u8, message: &str, err: &mut E) -> Exit
-    ensures exit { result ≡ code_without_words code why }
+pub fn end_without_words<E: Sink>(why: NoWords, code: u8, message: &str, err: &mut E) -> u8
+    ensures code { result ≡ code_without_words code why }
     ensures tells { TellsWithoutWords message.now why (change_of E.held E.faults err.old err.new) }
 {
     match why {
         NoWords::NoMemory => {
             tell(err, message);
-            Exit::of(code)
+            code
         }
-        NoWords::NotGiven => Exit::of(1),
+        NoWords::NotGiven => 1,
     }
 }

@@ -1,61 +1,35 @@
-//! A run on the system's words and streams.
-
-ghost use Rattle.std.specs.Prelude.{map};
-ghost use Rattle.std.specs.Result.{result_map_both};
-ghost use Rattle.scr_outside.specs.Change.{change_of, intake_of};
-ghost use Rattle.scr_host.specs.Exit.{EndsOnStreams, IsExitCode};
-ghost use Rattle.scr_pages.specs.Exit.{EndsPages};
+//! The program, by what it does on words.
 
 use crate::fault::Fault;
 use crate::program::run;
 use crate::status::Status;
-use scr_host::{Exit, NoWords, borrowed, end_without_words, words_of};
-use scr_outside::{Sink, Source, StdSink, StdSource};
+use scr_host::{NoWords, Program, end_without_words};
+use scr_outside::{Sink, Source};
 use std::alloc::Global;
 
-/// Runs on the words of the command line without the program's name, the standard input, output and error output, and
-/// gives the exit code with which the program has to end.
-pub fn run_on_host(host: &HostRuntime) -> Exit
-    ensures { IsExitCode EndsPages result }
-{
-    match words_of(host) {
-        Ok(owned) => match borrowed(host.alloc(), &owned) {
-            Ok(words) => run_on_streams(host, Ok(&words)),
-            Err(why) => run_on_streams(host, Err(why)),
-        },
-        Err(why) => run_on_streams(host, Err(why)),
-    }
-}
+/// `scramble-pages`, as a program: it does what [`run`] does, and ends with the exit code of that run's status. Where there
+/// are no words it tells want of memory, if that is why, and the exit code is that of it or 1.
+pub struct Pages;
 
-/// Runs on these words, over the system's streams.
-fn run_on_streams(host: &HostRuntime, words: Result<&[&str], NoWords>) -> Exit
-    ensures { EndsOnStreams EndsPages
-        (result_map_both (λ given. map (λ word. word.now) given.now) (λ why. why) words.entry) result }
-{
-    let mut source = StdSource::new(host.stdin());
-    let mut out = StdSink::new(host.stdout());
-    let mut err = StdSink::new(host.stderr());
-    run_on_words(host.alloc(), words, &mut source, &mut out, &mut err)
-}
+impl Program for Pages {
+    ghost use Rattle.scr_pages.specs.Exit.{EndsPages};
 
-/// Runs on these words, without the program's own name, and gives the exit code of the run's status. Where there are no
-/// words it tells want of memory, if that is why, and the exit code is that of it or 1.
-pub fn run_on_words<'w, S: Source, O: Sink, E: Sink>(
-    alloc: Global,
-    words: Result<&'w [&'w str], NoWords>,
-    source: &mut S,
-    out: &mut O,
-    err: &mut E,
-) -> Exit
-    ensures { EndsPages (result_map_both (λ given. map (λ word. word.now) given.now) (λ why. why) words.entry) result
-        (intake_of S.left S.faults S.ends source.old source.new)
-        (change_of O.held O.faults out.old out.new) (change_of E.held E.faults err.old err.new) }
-{
-    match words {
-        Ok(words) => Exit::of(run(alloc, words, source, out, err).code()),
-        Err(why) => {
-            let message = Fault::NoMemory.message();
-            end_without_words(why, Status::NoMemory.code(), message.as_str(), err)
+    ghost Ends = { EndsPages };
+
+    fn run_on_words<'w, S: Source, O: Sink, E: Sink>(
+        &self,
+        alloc: Global,
+        words: Result<&'w [&'w str], NoWords>,
+        source: &mut S,
+        out: &mut O,
+        err: &mut E,
+    ) -> u8 {
+        match words {
+            Ok(words) => run(alloc, words, source, out, err).code(),
+            Err(why) => {
+                let message = Fault::NoMemory.message();
+                end_without_words(why, Status::NoMemory.code(), message.as_str(), err)
+            }
         }
     }
 }

@@ -21,7 +21,7 @@ mod writing;
 
 pub use asked::Asked;
 pub use fault::Fault;
-pub use host::{run_on_host, run_on_words};
+pub use host::Pages;
 pub use program::{MOST_BYTES, run};
-pub use scr_host::Exit;
+pub use scr_host::{Exit, Program, run_on_host};
 pub use status::Status;

@@ -29,9 +29,9 @@ mod value;
 
 pub use command::Command;
 pub use fault::{Difference, EventCause, Fault, FileFault, RoundCause};
-pub use host::{run_on_host, run_on_words};
+pub use host::Wcif;
 pub use program::{MOST_BYTES, run};
 pub use round::FileRound;
 pub use rounds::rounds_of_file;
-pub use scr_host::Exit;
+pub use scr_host::{Exit, Program, run_on_host};
 pub use status::Status;
