@@ -1,5 +1,6 @@
 pub mod CubeTests
 pub mod ListedTurns
+pub mod Astray
 pub mod MinimaLaws
 pub mod Spaces
 pub mod FirstSteps

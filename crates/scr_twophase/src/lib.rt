@@ -5,7 +5,7 @@
 //! first of the first parts, in the order of words, that has a second part, joined with the least one;
 //! `specs/TwoParts.antt` says so over the lists of all words. [`scramble_333`] takes it back, and where none of the
 //! first parts that are tried has a second part, it is the scramble by stages. [`needs_333`] tests the minima 0 to 5
-//! over all words, and [`Draw333`] draws by it.
+//! over all words but those that can't bring so many pieces home, and [`Draw333`] draws by it.
 //!
 //! Both parts are found by the search of `scr_search`, which comes to what the lists have and counts each first part
 //! once. [`PruneTables`] hold what it goes by: for each part two tables, each of one of its coordinates beside that of

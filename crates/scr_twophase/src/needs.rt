@@ -1,12 +1,16 @@
 //! The minima of the 3x3x3.
-ghost use Rattle.std.specs.Prelude.{◌≡◌, ◌↔◌, ◌≤◌, IsTrue};
+ghost use Rattle.std.specs.Prelude.{◌≡◌, ◌↔◌, ◌≤◌, length, IsTrue};
 ghost use Rattle.scr_combinatorics.specs.Reach.{Needs};
 ghost use Rattle.scr_orbit.specs.PowerPuzzles.{power_puzzle};
-ghost use Rattle.scr_cube.specs.Cube333.{cube_powers};
-ghost use Rattle.scr_twophase.specs.Minima.{needs_turns};
+ghost use Rattle.scr_table.specs.Moves.{HasWordWithin};
+ghost use Rattle.scr_cube.specs.Cube333.{IsCube, cube_powers};
+ghost use Rattle.scr_twophase.specs.TwoParts.{is_solved as solved_test};
+ghost use Rattle.scr_twophase.specs.Minima.{astray, astray_most, face_moves, needs_turns};
 
 use scr_cube::{Cube, PowerTurned};
-use scr_table::{Moves, no_shorter};
+
+/// How many corners a turn moves, and how many edges.
+const MOVED: u32 = 4;
 
 /// Whether no word of fewer than `least` turns solves a cube. `least` is at most 5.
 pub fn needs_333(cube: &Cube, least: u32) -> bool
@@ -14,28 +18,63 @@ pub fn needs_333(cube: &Cube, least: u32) -> bool
     ensures test { result ≡ needs_turns cube.now least }
     ensures exact { IsTrue result ↔ Needs (power_puzzle cube_powers) cube.now least }
 {
-    no_shorter(&FaceTurns, cube, least)
+    if least == 0 {
+        return true;
+    }
+    !is_within(cube, least - 1)
 }
 
-/// The turns of a 3x3x3: U U2 U' R R2 R' F F2 F' D D2 D' L L2 L' B B2 B' are 0 to 17.
-struct FaceTurns;
-
-impl Moves for FaceTurns {
-    ghost use Rattle.scr_twophase.specs.Minima.{face_moves};
-
-    type State = Cube;
-
-    ghost moves = { λ _. face_moves };
-
-    fn count(&self) -> u32 {
-        18
+/// Whether a word of at most `most` turns, at most 4, solves a cube. Cubes that have more pieces astray than so many
+/// turns move are not turned.
+fn is_within(cube: &Cube, most: u32) -> bool
+    requires { most ≤ 4 }
+    ensures { IsTrue result ↔ HasWordWithin face_moves cube.now most }
+{
+    if is_solved(cube) {
+        return true;
     }
-
-    fn after(&self, state: &Cube, turn: u32) -> Option<Cube> {
-        Some(state.turned(turn as usize))
+    if most == 0 {
+        return false;
     }
-
-    fn is_solved(&self, state: &Cube) -> bool {
-        *state == Cube::solved()
+    if most_astray(cube) > MOVED * most {
+        return false;
     }
+    for turn in 0..18 {
+        if is_within(&cube.turned(turn), most - 1) {
+            return true;
+        }
+    }
+    false
+}
+
+/// Whether a cube is solved.
+fn is_solved(cube: &Cube) -> bool
+    ensures { result ≡ solved_test cube.now }
+{
+    *cube == Cube::solved()
+}
+
+/// How many corners of a cube are astray or how many edges, whichever are more.
+fn most_astray(cube: &Cube) -> u32
+    ensures most { result ≡ astray_most cube.now }
+    ensures valid { IsCube cube.now }
+{
+    let corners = pieces_astray(&cube.corners()[..], &cube.twists()[..]);
+    let edges = pieces_astray(&cube.edges()[..], &cube.flips()[..]);
+    corners.max(edges)
+}
+
+/// How many pieces of an orbit, at most 12, are astray: not at their places, or there with a digit other than 0.
+fn pieces_astray(pieces: &[u8], digits: &[u8]) -> u32
+    requires same_length { length digits.now ≡ length pieces.now }
+    requires few { length pieces.now ≤ 12 }
+    ensures { result ≡ astray pieces.now digits.now (length pieces.now) }
+{
+    let mut count = 0;
+    for place in 0..pieces.len() {
+        if usize::from(pieces[place]) != place || digits[place] != 0 {
+            count += 1;
+        }
+    }
+    count
 }

@@ -16,7 +16,6 @@ ghost use Rattle.scr_search.specs.Orderly.{after_turn, is_orderly, leads};
 ghost use Rattle.scr_twophase.specs.TwoParts.{is_solution, is_solved, joined};
 ghost use Rattle.scr_search.specs.Views.{IsPosition, Shows};
 ghost use Rattle.scr_twophase.specs.BothParts.{second_views};
-ghost use Rattle.scr_stages.specs.Stages.{domino_turns};
 
 use scr_coord::{Lists, PlaceTurn};
 use scr_cube::{Cube, corner_turns, edge_turns};
