@@ -33,7 +33,7 @@ use Rattle.scr_slots.specs.Slots.{Scrambling, ByState, ByMoves, IsSlotScramble, 
 use Rattle.scr_sheet.specs.Check.{ListLine, list_lines, IsLineAnswer, IsAnswerAt, expected_lines, check_settings, rounds_in, InputComesTo}
 use Rattle.scr_sheet.specs.Sheet.{settings_of, round_part, round_parts, EachSlot, AreScrambles, IsPartText, IsText}
 use Rattle.scr_run_laws.proofs.CheckRuns.{named-rounds}
-use Rattle.scr_run_laws.proofs.OneReading.{IsClean, either, joined, text-clean}
+use Rattle.scr_round.proofs.CleanLaws.{IsClean, either, joined, text-clean}
 use Rattle.scr_run_laws.proofs.OwnLines.{IsFit, round_lines-fit}
 
 -- ---- a slot

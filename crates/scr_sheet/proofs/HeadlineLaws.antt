@@ -44,6 +44,10 @@ use Rattle.scr_sheet.proofs.SlotOrder.{round-in_order}
 use Rattle.scr_sheet.proofs.PartLaws.{EachSlot-map}
 use Rattle.scr_sheet.proofs.FairParts.{IsFairPart}
 
+-- what the headline says of an event's scrambles
+abbrev AreFair : Event → Settings → ℕ → ℕ → List (List Turn) → Type 0
+AreFair event = AreFairScrambles (shown_of event)
+
 -- the scrambles of slots of an event that is drawn fairly
 fair_scrambles : (scrambling : Scrambling) (settings : Settings) (least stream : ℕ) (scrambles : List Written)
     → IsDrawnFairly scrambling least → EachSlot (IsSlotScramble scrambling settings least) stream scrambles
@@ -193,7 +197,7 @@ single-writes Is settings event side out ended so making =
 -- ---- rounds
 
 fair-round : (settings : Settings) (k : ℕ) (round : Round) (text : List ℕ) → IsRound round
-    → IsFairText settings (round_part k round) text → IsFairRound k settings text
+    → IsFairText settings (round_part k round) text → IsFairRound AreFair k settings text
 fair-round settings k round text is_round it =
     let order = round-in_order k round it.scrambles it.each_slot in
     record {
@@ -210,8 +214,8 @@ fair-round settings k round text is_round it =
 -- the first of a list's parts are rounds
 fair-rounds : (settings : Settings) (k : ℕ) (rounds : List Round) (led rest : List Part) (text : List ℕ)
     → All IsRound rounds → round_parts k rounds ≡ led ++ rest → IsText (IsFairText settings) led text
-    → AreFairRounds k settings text
-fair-rounds settings k rounds [] rest text each are fair = subst (AreFairRounds k settings) (sym fair) (no_round k settings)
+    → AreFairRounds AreFair k settings text
+fair-rounds settings k rounds [] rest text each are fair = subst (AreFairRounds AreFair k settings) (sym fair) (no_round k settings)
 fair-rounds settings k [] (part ∷ led) rest text each are fair =
     let none : ⊥ = cc in
     absurd none
@@ -220,7 +224,7 @@ fair-rounds settings k (round ∷ rounds) (part ∷ led) rest text each are fair
     let others : round_parts (k + 1) rounds ≡ led ++ rest = cc in
     let behind = fair-rounds settings (k + 1) rounds led rest fair.1 (All-tail IsRound round rounds each) others fair.3 in
     let here = fair-round settings k round fair.0 (All-head IsRound round rounds each) (subst (λ p. IsFairText settings p fair.0) same fair.2) in
-    subst (AreFairRounds k settings) (sym fair.4) (another k settings fair.0 fair.1 here behind)
+    subst (AreFairRounds AreFair k settings) (sym fair.4) (another k settings fair.0 fair.1 here behind)
 
 -- ---- the commands that write scrambles
 
@@ -292,11 +296,11 @@ sheet-words-asked words = and_then-asked IsSheet (ok_or (options_of all_options 
 -- ---- what they write
 
 abbrev IsBelow : Settings → List ℕ → Type 0
-IsBelow settings text = (below : List ℕ) × IsFairLine below settings text
+IsBelow settings text = (below : List ℕ) × IsFairLine AreFair below settings text
 
 -- the line of a scramble, and what is shown below it
 fair-line : (settings : Settings) (event : Event) (side : Option ℕ) (text : List ℕ) (it : IsFairSingle settings event side text)
-    → IsFairLine (shown_net side it.turns) settings text
+    → IsFairLine AreFair (shown_net side it.turns) settings text
 fair-line settings event side text it = record {
   event = event;
   turns = it.turns;
@@ -305,11 +309,11 @@ fair-line settings event side text it = record {
 }
 
 one-writes : (source out : Change) (ended : Result (Unit {0}) Fault) (asked : Result Command UsageFault)
-    → IsAsked IsOne asked → Ends asked source out ended → WritesOnly (IsFairLine []) out
-one-writes source out ended (Err usage) asks ends = nothing-written (IsFairLine []) out ends.1.1
+    → IsAsked IsOne asked → Ends asked source out ended → WritesOnly (IsFairLine AreFair []) out
+one-writes source out ended (Err usage) asks ends = nothing-written (IsFairLine AreFair []) out ends.1.1
 one-writes source out ended (Ok command) (event, seed, is) ends =
     let making = (subst (λ c. Ends (Ok c) source out ended) is ends).1 in
-    single-writes (IsFairLine []) _ event None out ended (fair-line _ event None) making
+    single-writes (IsFairLine AreFair []) _ event None out ended (fair-line _ event None) making
 
 net-writes : (source out : Change) (ended : Result (Unit {0}) Fault) (asked : Result Command UsageFault)
     → IsAsked IsNet asked → Ends asked source out ended → WritesOnly IsBelow out
@@ -320,7 +324,7 @@ net-writes source out ended (Ok command) (event, seed, is) ends =
 
 rounds-write : (settings : Settings) (rounds : List Round) → All IsRound rounds
     → (out : Change) (ended : Result (Unit {0}) Fault) → EndsMaking settings (round_parts 0 rounds) out ended
-    → WritesOnly (AreFairRounds 0) out
+    → WritesOnly (AreFairRounds AreFair 0) out
 rounds-write settings rounds each out ended making =
     let led = fair-making settings (round_parts 0 rounds) out ended making in
     record {
@@ -331,12 +335,12 @@ rounds-write settings rounds each out ended making =
     }
 
 sheet-writes : (source out : Change) (ended : Result (Unit {0}) Fault) (asked : Result Command UsageFault)
-    → IsAsked IsSheet asked → Ends asked source out ended → WritesOnly (AreFairRounds 0) out
-sheet-writes source out ended (Err usage) asks ends = nothing-written (AreFairRounds 0) out ends.1.1
+    → IsAsked IsSheet asked → Ends asked source out ended → WritesOnly (AreFairRounds AreFair 0) out
+sheet-writes source out ended (Err usage) asks ends = nothing-written (AreFairRounds AreFair 0) out ends.1.1
 sheet-writes source out ended (Ok command) (seed, options, is) ends =
     elim (subst (λ c. Ends (Ok c) source out ended) is ends) [
       | inl made ↦ rounds-write _ made.0 (rounds_of-IsRounds made.1.bytes made.0 made.1.says).each out ended made.2
-      | inr refused ↦ nothing-written (AreFairRounds 0) out refused.2.1
+      | inr refused ↦ nothing-written (AreFairRounds AreFair 0) out refused.2.1
     ]
 
 -- a run whose first word is this one, where each end of its command has written only such a text
@@ -351,10 +355,10 @@ word-writes Is name word words source out ended performed so is =
 
 -- whatever a run writes of scrambles is fair
 pub fair-run : (words : List (List ℕ)) (source out : Change) (ended : Result (Unit {0}) Fault)
-    → IsPerformed words source out ended → IsFairRun words out
+    → IsPerformed words source out ended → IsFairRun AreFair words out
 fair-run [] source out ended performed = tt
 fair-run (word ∷ words) source out ended performed = (
-  word-writes (IsFairLine []) (codes "one") word words source out ended performed (one-writes source out ended _ (one-asked words)),
+  word-writes (IsFairLine AreFair []) (codes "one") word words source out ended performed (one-writes source out ended _ (one-asked words)),
   word-writes IsBelow (codes "net") word words source out ended performed (net-writes source out ended _ (net-asked words)),
-  word-writes (AreFairRounds 0) (codes "sheet") word words source out ended performed (sheet-writes source out ended _ (sheet-words-asked words)),
+  word-writes (AreFairRounds AreFair 0) (codes "sheet") word words source out ended performed (sheet-writes source out ended _ (sheet-words-asked words)),
 )

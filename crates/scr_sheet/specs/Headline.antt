@@ -13,7 +13,6 @@ use Rattle.scr_round.specs.Round.{slots_of, heading}
 use Rattle.scr_slots.specs.declared.settings.Settings.{Settings}
 use Rattle.scr_slots.specs.Shown.{Shown, States, Moves, GivesDrawn, HasMoves, slot_numbers}
 use Rattle.scr_slots.specs.Slots.{first_stream}
-use Rattle.scr_slots.specs.Events.{shown_of}
 use Rattle.scr_sheet.specs.Sheet.{EachSlot}
 
 -- The slots on streams one after another are drawn fairly. Of a puzzle's states: by some numbers of them, every state
@@ -40,29 +39,31 @@ pub data StandInOrder : List (List Turn) → List ℕ → Type 0 where
   next : (before : List ℕ) (turns : List Turn) (others : List (List Turn)) (below : List ℕ) → HasNoDot before
       → StandInOrder others below → StandInOrder (turns ∷ others) (before ++ codes ". " ++ text_of turns ++ 10 ∷ below)
 
+-- ---- what a run writes, whatever is said of the scrambles of an event's slots, on streams one after another
+
 -- The text of a round, which is round k, counted from 0: its head, a line that names its event and its minimum, and
 -- below it the scrambles of its slots in order, which are fair.
-pub record IsFairRound (k : ℕ) (settings : Settings) (text : List ℕ) : Type 0 where
+pub record IsFairRound (AreFair : Event → Settings → ℕ → ℕ → List (List Turn) → Type 0) (k : ℕ) (settings : Settings) (text : List ℕ) : Type 0 where
   pub round : Round
   pub scrambles : List (List Turn)
   pub each_slot : length scrambles ≡ slots_of round
-  pub fair : AreFairScrambles (shown_of round.event) settings round.least (first_stream k) scrambles
+  pub fair : AreFair round.event settings round.least (first_stream k) scrambles
   pub below : List ℕ
   pub in_order : StandInOrder scrambles below
   pub one_line : list_all is_name_byte round.name ≡ true
   pub is : text ≡ heading k round ++ 10 ∷ below
 
 -- the text of rounds one after another, the first of them round k
-pub data AreFairRounds : ℕ → Settings → List ℕ → Type 0 where
-  no_round : (k : ℕ) (settings : Settings) → AreFairRounds k settings []
-  another : (k : ℕ) (settings : Settings) (first rest : List ℕ) → IsFairRound k settings first
-      → AreFairRounds (k + 1) settings rest → AreFairRounds k settings (first ++ rest)
+pub data AreFairRounds (AreFair : Event → Settings → ℕ → ℕ → List (List Turn) → Type 0) : ℕ → Settings → List ℕ → Type 0 where
+  no_round : (k : ℕ) (settings : Settings) → AreFairRounds AreFair k settings []
+  another : (k : ℕ) (settings : Settings) (first rest : List ℕ) → IsFairRound AreFair k settings first
+      → AreFairRounds AreFair (k + 1) settings rest → AreFairRounds AreFair k settings (first ++ rest)
 
 -- the line of the one scramble of an event, which is fair, on stream 0 and with no minimum; and below it this text
-pub record IsFairLine (below : List ℕ) (settings : Settings) (text : List ℕ) : Type 0 where
+pub record IsFairLine (AreFair : Event → Settings → ℕ → ℕ → List (List Turn) → Type 0) (below : List ℕ) (settings : Settings) (text : List ℕ) : Type 0 where
   pub event : Event
   pub turns : List Turn
-  pub fair : AreFairScrambles (shown_of event) settings 0 0 (turns ∷ [])
+  pub fair : AreFair event settings 0 0 (turns ∷ [])
   pub is : text ≡ text_of turns ++ 10 ∷ below
 
 -- What was written is nothing, or such a text for some settings; or a first part of it, where the output failed.
@@ -74,9 +75,9 @@ pub record WritesOnly (IsSuch : Settings → List ℕ → Type 0) (out : Change)
 
 -- What a run on these words writes of scrambles is fair: by `one` a line, by `net` a line with a text below it, by
 -- `sheet` rounds.
-abbrev pub IsFairRun : List (List ℕ) → Change → Type 0
-IsFairRun [] out = Unit {0}
-IsFairRun (command ∷ words) out =
-    (command ≡ codes "one" → WritesOnly (IsFairLine []) out)
-    × (command ≡ codes "net" → WritesOnly (λ settings text. (below : List ℕ) × IsFairLine below settings text) out)
-    × (command ≡ codes "sheet" → WritesOnly (AreFairRounds 0) out)
+abbrev pub IsFairRun : (Event → Settings → ℕ → ℕ → List (List Turn) → Type 0) → List (List ℕ) → Change → Type 0
+IsFairRun AreFair [] out = Unit {0}
+IsFairRun AreFair (command ∷ words) out =
+    (command ≡ codes "one" → WritesOnly (IsFairLine AreFair []) out)
+    × (command ≡ codes "net" → WritesOnly (λ settings text. (below : List ℕ) × IsFairLine AreFair below settings text) out)
+    × (command ≡ codes "sheet" → WritesOnly (AreFairRounds AreFair 0) out)

@@ -3,22 +3,23 @@
 ghost use Rattle.std.specs.Result.{result_map_both};
 ghost use Rattle.scr_outside.specs.Change.{change_of, intake_of};
 ghost use Rattle.scr_command.specs.Words.{texts};
-ghost use Rattle.scr_sheet.specs.Exit.{EndsProgram, EndsOnStreams, IsExitCode};
+ghost use Rattle.scr_host.specs.Exit.{EndsOnStreams, IsExitCode};
+ghost use Rattle.scr_sheet.specs.Exit.{EndsScramble};
 
-use crate::exit::{Exit, NoWords};
 use crate::fault::Fault;
-use crate::program::{run, tell};
+use crate::program::run;
+use crate::status::Status;
+use scr_host::{Exit, NoWords, borrowed, end_without_words, words_of};
 use scr_outside::{Sink, Source, StdSink, StdSource};
 use scr_workers::OpenGate;
 use std::alloc::Global;
-use std::env;
 use std::thread::Threads;
 
 /// Runs on the words of the command line without the program's name, the standard input, output and error output, and
 /// gives the exit code with which the program has to end. `rt` and `host` are the same runtime: the one starts threads,
 /// the other has the words and the streams.
 pub fn run_on_host<R: Threads + Sync>(rt: &R, host: &HostRuntime) -> Exit
-    ensures { IsExitCode result }
+    ensures { IsExitCode EndsScramble result }
 {
     match words_of(host) {
         Ok(owned) => match borrowed(host.alloc(), &owned) {
@@ -35,12 +36,12 @@ fn run_on_streams<R: Threads + Sync>(
     host: &HostRuntime,
     words: Result<&[&str], NoWords>,
 ) -> Exit
-    ensures { EndsOnStreams (result_map_both (λ given. texts given.now) (λ why. why) words.entry) result }
+    ensures { EndsOnStreams EndsScramble (result_map_both (λ given. texts given.now) (λ why. why) words.entry) result }
 {
     let mut source = StdSource::new(host.stdin());
     let mut out = StdSink::new(host.stdout());
     let mut err = StdSink::new(host.stderr());
-    run_on_words(rt, host.alloc(), words, &mut source, &mut out, &mut err)
+    Exit::of(run_on_words(rt, host.alloc(), words, &mut source, &mut out, &mut err))
 }
 
 /// Runs on these words, without the program's own name, and gives the exit code of the run's status. Where there are no
@@ -52,33 +53,16 @@ pub fn run_on_words<'w, R: Threads + Sync, S: Source, O: Sink, E: Sink>(
     source: &mut S,
     out: &mut O,
     err: &mut E,
-) -> Exit
-    ensures { EndsProgram (result_map_both (λ given. texts given.now) (λ why. why) words.entry) result
+) -> u8
+    ensures { EndsScramble (result_map_both (λ given. texts given.now) (λ why. why) words.entry) result
         (intake_of S.left S.faults S.ends source.old source.new)
         (change_of O.held O.faults out.old out.new) (change_of E.held E.faults err.old err.new) }
 {
     match words {
-        Ok(words) => Exit::of(run(rt, alloc, words, source, out, err, &OpenGate)),
-        Err(NoWords::NoMemory) => {
-            tell(err, Err(Fault::NoMemory));
-            Exit::without_words(NoWords::NoMemory)
-        }
-        Err(NoWords::NotGiven) => Exit::without_words(NoWords::NotGiven),
-    }
-}
-
-/// The words of the command line without the program's name, or why there are none.
-fn words_of(host: &HostRuntime) -> Result<Vec<String>, NoWords> {
-    Ok(env::args(host)?.skip(1).collect(host.alloc())?)
-}
-
-/// These words, borrowed.
-fn borrowed(alloc: Global, owned: &[String]) -> Result<Vec<&str>, NoWords> {
-    let mut words = Vec::new(alloc);
-    for word in owned {
-        if words.push(word.as_str()).is_err() {
-            return Err(NoWords::NoMemory);
+        Ok(words) => run(rt, alloc, words, source, out, err, &OpenGate).code(),
+        Err(why) => {
+            let message = Fault::NoMemory.message();
+            end_without_words(why, Status::NoMemory.code(), message.as_str(), err)
         }
     }
-    Ok(words)
 }

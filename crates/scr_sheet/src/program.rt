@@ -3,7 +3,8 @@
 ghost use Rattle.scr_outside.specs.Change.{change_of, intake_of};
 ghost use Rattle.scr_command.specs.Words.{texts};
 ghost use Rattle.scr_sheet.specs.Outcome.{IsRun, IsPerformed, Tells};
-ghost use Rattle.scr_sheet.specs.Headline.{IsFairRun};
+ghost use Rattle.scr_slots.specs.Events.{shown_of};
+ghost use Rattle.scr_sheet.specs.Headline.{AreFairScrambles, IsFairRun};
 
 use crate::check::{tests_of_list, write_check};
 use crate::fault::Fault;
@@ -17,7 +18,7 @@ use scr_check::ByteReader;
 use scr_check::laws::what_the_source_gave;
 use scr_command::{Command, read_command};
 use scr_list::read_rounds;
-use scr_outside::{Sink, Source, write_all};
+use scr_outside::{Sink, Source};
 use scr_slots::Tables;
 use scr_workers::Gate;
 use std::alloc::Global;
@@ -66,7 +67,8 @@ pub fn run<'w, R: Threads + Sync, S: Source, O: Sink, E: Sink, G: Gate + Sync>(
     // Of this, what speaks of fairness and of play alone: the slots of what is written are drawn fairly, and their
     // scrambles stand in order, each as it is spelled, and give the states that were drawn, within their puzzles'
     // bounds. What else a round has below its head, and what `net` writes below its line, is left to `whole`.
-    ensures headline { IsFairRun (texts words.now) (change_of O.held O.faults out.old out.new) }
+    ensures headline { IsFairRun (λ event. AreFairScrambles (shown_of event)) (texts words.now)
+        (change_of O.held O.faults out.old out.new) }
 {
     let ended = perform(rt, alloc, words, source, out, gate);
     tell(err, ended);
@@ -116,10 +118,10 @@ fn perform<R: Threads + Sync, S: Source, O: Sink, G: Gate + Sync>(
 }
 
 /// Tells what went wrong, if it did.
-pub(crate) fn tell<E: Sink>(err: &mut E, ended: Result<(), Fault>)
+fn tell<E: Sink>(err: &mut E, ended: Result<(), Fault>)
     ensures { Tells (change_of E.held E.faults err.old err.new) ended }
 {
     if let Err(fault) = ended {
-        let _ = write_all(err, fault.message().as_str().as_bytes());
+        scr_host::tell(err, fault.message().as_str());
     }
 }

@@ -3,7 +3,7 @@
 use super::{USAGE, ZEROS};
 use scr_outside::{MemSink, SliceSource};
 use scr_sheet::{NoWords, run_on_words};
-use std::process::{Abort, ExitCode, Termination};
+use std::process::Abort;
 use std::test::Fail;
 
 #[test]
@@ -33,9 +33,8 @@ fn exit_codes(rt: HostRuntime) -> Result<(), Fail> {
         let mut source = SliceSource::new(input.as_bytes());
         let mut out = MemSink::new(rt.alloc(), 4096, 4096, Vec::new(rt.alloc()))?;
         let mut err = MemSink::new(rt.alloc(), 256, 256, Vec::new(rt.alloc()))?;
-        let exit = run_on_words(&rt, rt.alloc(), words, &mut source, &mut out, &mut err);
-        let given = exit.report(&rt);
-        assert_eq!(rt; given, ExitCode::from(code));
+        let given = run_on_words(&rt, rt.alloc(), words, &mut source, &mut out, &mut err);
+        assert_eq!(rt; given, code);
         assert_eq!(rt; err.contents(), message.as_bytes());
     }
     Ok(())
