@@ -1,6 +1,6 @@
 -- The texts of a page have no line feed.
-use Rattle.std.proofs.Common.{◌≡◌, ℕ, suc, zero, ◌+◌, ◌-◌, ◌<◌, ◌≤◌, ◌^◌, true, false, pos, negsuc, List, [], ◌∷◌, ◌++◌, Some, refl, sym, ap, ◌∙◌, arith, get_or, subst, length, take, drop}
-use Rattle.std.specs.Prelude.{All, codes, decimal, slice_get, if◌then◌else◌, ◌==◌, ◌||◌, nat_le, Bool, not}
+use Rattle.std.proofs.Common.{◌≡◌, ℕ, suc, zero, ◌+◌, ◌-◌, ◌<◌, ◌≤◌, true, false, pos, negsuc, List, [], ◌∷◌, ◌++◌, Some, refl, arith, get_or, subst, length}
+use Rattle.std.specs.Prelude.{codes, decimal, slice_get, if◌then◌else◌, ◌==◌, nat_le, Bool, not}
 use Rattle.std.specs.Fmt.{digits}
 use Rattle.std.specs.List.{list_any, list_all, slice_index_or, position_or_len, prefix_len, before_first, after_first}
 use Rattle.std.proofs.lemmas.Bool.Decides.{nat_tests}
@@ -10,7 +10,7 @@ use Rattle.std.proofs.lemmas.List.Folds.{list_any_none}
 use Rattle.std.proofs.lemmas.List.Sums.{fails_before_first}
 use Rattle.std.proofs.lemmas.List.{length-drop}
 use Rattle.scr_notation.specs.declared.event.Event.{Event}
-use Rattle.scr_notation.specs.declared.event.Event.TheVariants.{C222, C333, Oh333, C555, C666, C777, Clock, Minx, Pyram, Skewb, Sq1, Bf333, Fm333}
+use Rattle.scr_notation.specs.declared.event.Event.TheVariants.{C222}
 use Rattle.scr_notation.specs.declared.turn.Turn.{Turn}
 use Rattle.scr_notation.specs.declared.turn.Turn.TheVariants.{Face, Axis, Tip, Layers, Twist, Pins, Over, Wide}
 use Rattle.scr_notation.specs.Event.{name_of}

@@ -1,16 +1,15 @@
 -- What calls one after another add.
-use Rattle.std.proofs.Common.{◌≡◌, ℕ, ◌+◌, ◌<◌, ◌≤◌, Bool, IsTrue, true, false, if◌then◌else◌, List, [], ◌∷◌, ◌++◌, drop, length, refl, sym, ap, ◌∙◌, subst, arith, append_assoc, append-nil, length-append, flat_map}
+use Rattle.std.proofs.Common.{◌≡◌, ℕ, ◌<◌, ◌≤◌, Bool, IsTrue, true, false, if◌then◌else◌, List, [], ◌∷◌, ◌++◌, drop, length, refl, sym, ap, ◌∙◌, subst, arith, append_assoc, append-nil, length-append, flat_map}
 use Rattle.std.specs.Prelude.{All}
-use Rattle.std.specs.List.{slice_split}
 use Rattle.std.proofs.lemmas.List.{drop-append-le}
 use Rattle.std.proofs.lemmas.List.Elements.{All-nil, All-cons, All-append, All-head, All-tail}
 use Rattle.std.proofs.lemmas.List.Splits.{slice_split_none}
 use Rattle.std.proofs.lemmas.Bool.{ne_eqb}
-use Rattle.scr_text.specs.Lines.{text_of_lines, lines_of}
+use Rattle.scr_text.specs.Lines.{text_of_lines}
 use Rattle.scr_text.specs.Parts.{IsLine}
 use Rattle.scr_text.proofs.LineLaws.{lines_of-text_of_lines, IsLine-plain}
 use Rattle.scr_text.proofs.WrittenLines.{text_of_lines-append}
-use Rattle.scr_text_pages.specs.Reading.{ReadSlot, ReadLines, read_lines, lines_read, slots_of_page, slots_of_text, is_form_feed}
+use Rattle.scr_text_pages.specs.Reading.{ReadSlot, ReadLines, read_lines, slots_of_page, slots_of_text, is_form_feed}
 use Rattle.scr_text_pages.specs.Adding.{IsPlainLine, AddsLines, AddsCut, AddsHead, AddsSlots, words_read, slots_read}
 use Rattle.scr_text_pages.proofs.ReadLemmas.{read-rows, read-slots, read-cut}
 use Rattle.scr_text_pages.proofs.SplitLemmas.{pages-between, no_pages}

@@ -1,20 +1,19 @@
 -- Lines to cut at, and lines for the eye alone.
-use Rattle.std.proofs.Common.{◌≡◌, ℕ, zero, suc, ◌+◌, ◌<◌, ◌≤◌, ◌⊎◌, inl, inr, Bool, true, false, cond, IsTrue, List, [], ◌∷◌, ◌++◌, length, drop, refl, sym, ap, ◌∙◌, subst, arith, append_assoc, append-nil, replicate}
+use Rattle.std.proofs.Common.{◌≡◌, ℕ, suc, ◌+◌, ◌<◌, ◌⊎◌, inl, inr, cond, IsTrue, List, [], ◌∷◌, ◌++◌, length, drop, refl, sym, ap, ◌∙◌, subst, arith, append_assoc, append-nil, replicate}
 use Rattle.std.specs.Prelude.{All, codes}
-use Rattle.std.specs.List.{prefix_len, list_all}
+use Rattle.std.specs.List.{prefix_len}
 use Rattle.std.proofs.Math.Seq.{drop-append_seam}
 use Rattle.std.proofs.lemmas.Bool.Decides.{nat_tests}
 use Rattle.std.proofs.lemmas.List.Elements.{All-nil, All-cons, All-append, All-head, All-tail, All-replicate}
-use Rattle.scr_text.specs.Lines.{text_of_lines}
 use Rattle.scr_notation.specs.declared.event.Event.{Event}
 use Rattle.scr_notation.specs.declared.event.Event.TheVariants.{C222}
 use Rattle.scr_notation.specs.Event.{name_of}
 use Rattle.scr_layout.specs.Group.{Group, IsGroup}
 use Rattle.scr_layout.specs.Texts.{tag_of}
-use Rattle.scr_text_pages.specs.Reading.{is_dash, is_cut_line, cut_text, read_lines}
+use Rattle.scr_text_pages.specs.Reading.{is_dash, cut_text}
 use Rattle.scr_text_pages.specs.Slots.{cut_text_of}
 use Rattle.scr_text_pages.specs.Adding.{IsPlainLine, AddsDashes, AddsCut, AddsPlain, AddsLines, words_read}
-use Rattle.scr_text_pages.proofs.PlainLemmas.{plain-append, plain-known, plain-cut_text, plain-one}
+use Rattle.scr_text_pages.proofs.PlainLemmas.{plain-append, plain-known, plain-cut_text}
 
 abbrev AreDashes : List ℕ → Type 0
 AreDashes text = All (λ byte. IsTrue (is_dash byte)) text

@@ -1,21 +1,20 @@
 -- The heads of a page.
-use Rattle.std.proofs.Common.{◌≡◌, ℕ, ◌+◌, ◌<◌, ◌≤◌, ◌^◌, Bool, true, false, IsTrue, if◌then◌else◌, List, [], ◌∷◌, ◌++◌, length, drop, refl, sym, ap, ◌∙◌, subst, arith, append_assoc, append-nil, eq-eqb}
-use Rattle.std.specs.Prelude.{All, codes, nat_lt, not, ◌==◌}
+use Rattle.std.proofs.Common.{◌≡◌, ℕ, ◌<◌, ◌≤◌, ◌^◌, Bool, true, false, IsTrue, if◌then◌else◌, List, [], ◌∷◌, ◌++◌, length, drop, refl, sym, ap, ◌∙◌, arith, append_assoc, append-nil}
+use Rattle.std.specs.Prelude.{All, codes, nat_lt, not}
 use Rattle.std.specs.Fmt.{decimal}
 use Rattle.std.specs.List.{list_all, slice_split}
-use Rattle.std.proofs.lemmas.List.Elements.{All-nil, All-cons, All-append, All-head, All-tail}
+use Rattle.std.proofs.lemmas.List.Elements.{All-nil, All-cons, All-head, All-tail}
 use Rattle.std.proofs.lemmas.List.Sums.{AllPass-from_list_all}
 use Rattle.std.proofs.lemmas.Bool.{not-true}
 use Rattle.scr_notation.specs.declared.event.Event.{Event}
 use Rattle.scr_notation.specs.declared.event.Event.TheVariants.{C222}
 use Rattle.scr_notation.specs.Event.{name_of}
 use Rattle.scr_text.specs.Lines.{has_bytes, text_of_lines, is_line_feed}
-use Rattle.scr_text.proofs.WrittenLines.{text_of_lines-append}
 use Rattle.scr_layout.specs.Group.{Group, IsGroup}
 use Rattle.scr_layout.specs.Held.{held_of}
 use Rattle.scr_layout.specs.Shown.{HasNoControl}
-use Rattle.scr_layout.specs.Texts.{title_of, round_line_of, group_letter, place_of, own_name}
-use Rattle.scr_text_pages.specs.Reading.{ReadLines, is_cut_line, read_lines, row_words}
+use Rattle.scr_layout.specs.Texts.{title_of, round_line_of, group_letter}
+use Rattle.scr_text_pages.specs.Reading.{ReadLines, is_cut_line, read_lines}
 use Rattle.scr_text_pages.specs.Adding.{IsPlainLine, AddsHead, AddsPlain}
 use Rattle.scr_text_pages.proofs.ReadLemmas.{read-row}
 use Rattle.scr_text_pages.proofs.PlainLemmas.{plain-known, plain-append, plain-decimal, plain-shown, plain-title, plain-round_line}

@@ -1,6 +1,6 @@
 -- What is read of lines one after another.
-use Rattle.std.proofs.Common.{◌≡◌, ℕ, Bool, true, false, if◌then◌else◌, List, [], ◌∷◌, ◌++◌, refl, sym, ap, ◌∙◌, append_assoc, append-nil}
-use Rattle.scr_text_pages.specs.Reading.{ReadSlot, ReadLines, is_cut_line, cut_text, row_words, with_line, read_lines}
+use Rattle.std.proofs.Common.{◌≡◌, ℕ, Bool, true, false, if◌then◌else◌, List, [], ◌∷◌, ◌++◌, refl, sym, ap, ◌∙◌, append_assoc}
+use Rattle.scr_text_pages.specs.Reading.{ReadSlot, ReadLines, is_cut_line, cut_text, row_words, read_lines}
 use Rattle.scr_text_pages.specs.Adding.{words_read, slots_read}
 
 -- with a line that is one to cut at, or isn't

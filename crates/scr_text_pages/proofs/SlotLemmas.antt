@@ -1,10 +1,8 @@
 -- The scrambles of a group, one after another.
-use Rattle.std.proofs.Common.{◌≡◌, ℕ, zero, suc, ◌+◌, ◌-◌, ◌<◌, ◌≤◌, ◌&&◌, Bool, true, false, Option, Some, None, slice_get, List, [], ◌∷◌, ◌++◌, length, get_or, take, drop, map, refl, sym, ap, ◌∙◌, subst, arith, append_assoc, append-nil}
-use Rattle.std.specs.Prelude.{All}
+use Rattle.std.proofs.Common.{◌≡◌, ℕ, zero, suc, ◌+◌, ◌-◌, ◌<◌, ◌≤◌, ◌&&◌, Bool, true, false, Some, slice_get, List, [], ◌∷◌, ◌++◌, length, get_or, take, drop, map, refl, sym, ap, ◌∙◌, subst, arith}
 use Rattle.std.specs.Fmt.{digits}
 use Rattle.std.specs.List.{list_all}
 use Rattle.std.proofs.lemmas.List.{drop-drop, take_all, take-take, take-append-drop, drop-take}
-use Rattle.std.proofs.lemmas.List.Sums.{AllPass-from_list_all}
 use Rattle.scr_notation.specs.declared.event.Event.{Event}
 use Rattle.scr_notation.specs.declared.event.Event.TheVariants.{C222}
 use Rattle.scr_notation.specs.Event.{per_group_of}
@@ -12,7 +10,6 @@ use Rattle.scr_notation.specs.Spelling.{spelling}
 use Rattle.scr_notation.specs.Written.{Written}
 use Rattle.scr_layout.specs.Group.{Group}
 use Rattle.scr_layout.specs.Texts.{labels_of}
-use Rattle.scr_text_pages.specs.Reading.{ReadSlot}
 use Rattle.scr_text_pages.specs.Slots.{labelled, slots_of_group, cut_text_of}
 use Rattle.scr_text_pages.specs.Adding.{is_label, slots_between}
 

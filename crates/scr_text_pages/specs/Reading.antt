@@ -1,6 +1,6 @@
 -- What is read back from pages of text. The first byte of a line tells what it is: a hyphen (45) begins a line to cut at,
 -- a space (32) or an E (69) a row of words, and any other a line that is for the eye alone. Our own choice.
-use Rattle.std.specs.Prelude.{ℕ, Bool, true, false, ◌||◌, ◌==◌, if◌then◌else◌, List, [], ◌∷◌, ◌++◌, drop, flat_map}
+use Rattle.std.specs.Prelude.{ℕ, Bool, false, ◌||◌, ◌==◌, if◌then◌else◌, List, [], ◌∷◌, ◌++◌, drop, flat_map}
 use Rattle.std.specs.List.{prefix_len, slice_split}
 use Rattle.scr_text.specs.Lines.{lines_of, line_words}
 

@@ -1,4 +1,4 @@
-use Rattle.scr_markup.proofs.AddsLemmas.{adds_nothing, adds_then, adds_more, adds_as}
+use Rattle.scr_markup.proofs.AddsLemmas.{adds_then}
 use Rattle.scr_html.proofs.group.write_numbers.Goals as goal
 
 pub loop-number-preserved : goal.loop-number-preserved

@@ -2,7 +2,7 @@ use Rattle.std.proofs.Common.{◌++◌, ap}
 use Rattle.std.specs.Prelude.{flat_map, zip}
 use Rattle.scr_layout.specs.Texts.{labels_of}
 use Rattle.scr_html.specs.Pages.{head_marks, slot_marks}
-use Rattle.scr_markup.proofs.AddsLemmas.{adds_nothing, adds_then, adds_more, adds_as}
+use Rattle.scr_markup.proofs.AddsLemmas.{adds_then, adds_more, adds_as}
 use Rattle.scr_html.proofs.group.write_page.Goals as goal
 
 pub returns : goal.returns

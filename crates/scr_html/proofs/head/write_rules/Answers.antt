@@ -1,4 +1,4 @@
-use Rattle.scr_markup.proofs.AddsLemmas.{adds_nothing, adds_then, adds_more, adds_as}
+use Rattle.scr_markup.proofs.AddsLemmas.{adds_then}
 use Rattle.scr_html.proofs.head.write_rules.Goals as goal
 
 pub loop-rule-preserved : goal.loop-rule-preserved

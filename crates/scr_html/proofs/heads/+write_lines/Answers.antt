@@ -1,7 +1,7 @@
 use Rattle.std.proofs.Common.{lit<, Some, None}
-use Rattle.scr_markup.proofs.AddsLemmas.{adds_nothing, adds_then, adds_more, adds_as}
+use Rattle.scr_markup.proofs.AddsLemmas.{adds_then}
 use Rattle.std.proofs.lemmas.Str.Pattern.{split_once_first}
-use Rattle.scr_html.proofs.TextLemmas.{before_line_feed, no_line_feed, rest_shorter}
+use Rattle.scr_html.proofs.TextLemmas.{before_line_feed, no_line_feed}
 use Rattle.scr_html.proofs.heads.+write_lines.Goals as goal
 
 pub plain-requires-clause-text : goal.plain-requires-clause-text

@@ -1,4 +1,4 @@
-use Rattle.std.proofs.Common.{refl, rules}
+use Rattle.std.proofs.Common.{refl}
 use Rattle.scr_html.proofs.TextLemmas.{above_controls}
 use Rattle.scr_html.proofs.heads.write_competition.Goals as goal
 

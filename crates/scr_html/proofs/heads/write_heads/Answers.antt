@@ -1,5 +1,4 @@
-use Rattle.std.proofs.Common.{rules}
-use Rattle.scr_markup.proofs.AddsLemmas.{adds_nothing, adds_then, adds_more, adds_as}
+use Rattle.scr_markup.proofs.AddsLemmas.{adds_then}
 use Rattle.scr_html.proofs.heads.write_heads.Goals as goal
 
 pub returns : goal.returns

@@ -1,4 +1,4 @@
-use Rattle.scr_markup.proofs.AddsLemmas.{adds_nothing, adds_then, adds_more}
+use Rattle.scr_markup.proofs.AddsLemmas.{adds_then}
 use Rattle.scr_html.proofs.heads.write_held.Goals as goal
 
 pub returns : goal.returns

@@ -1,4 +1,4 @@
-use Rattle.scr_markup.proofs.AddsLemmas.{adds_nothing, adds_then, adds_more}
+use Rattle.scr_markup.proofs.AddsLemmas.{adds_then, adds_more}
 use Rattle.scr_html.proofs.slot.write_slot.Goals as goal
 
 pub returns : goal.returns

@@ -1,7 +1,7 @@
 use Rattle.std.proofs.Common.{ap}
 use Rattle.scr_html.specs.Pages.{word_marks}
 use Rattle.scr_html.proofs.PartLemmas.{split_first}
-use Rattle.scr_markup.proofs.AddsLemmas.{adds_nothing, adds_then, adds_more, adds_as}
+use Rattle.scr_markup.proofs.AddsLemmas.{adds_then, adds_as}
 use Rattle.scr_html.proofs.words.+write_rows.Goals as goal
 
 pub returns-in_ok-write_rows-in-len1-up-places : goal.returns-in_ok-write_rows-in-len1-up-places

@@ -1,4 +1,4 @@
-use Rattle.scr_markup.proofs.AddsLemmas.{adds_nothing, adds_then, adds_more}
+use Rattle.scr_markup.proofs.AddsLemmas.{adds_then}
 use Rattle.scr_html.proofs.words.go_to_row.Goals as goal
 
 pub loop-row-preserved : goal.loop-row-preserved

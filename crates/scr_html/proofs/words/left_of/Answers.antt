@@ -1,4 +1,4 @@
-use Rattle.std.proofs.Common.{rules, arith}
+use Rattle.std.proofs.Common.{arith}
 use Rattle.scr_html.proofs.TextLemmas.{left_one_line}
 use Rattle.scr_html.proofs.words.left_of.Goals as goal
 

@@ -1,4 +1,3 @@
-use Rattle.std.proofs.Common.{refl, ap, ◌∙◌}
 use Rattle.scr_html.proofs.TextLemmas.{spelling_one_line}
 use Rattle.scr_html.proofs.words.write_word.Goals as goal
 

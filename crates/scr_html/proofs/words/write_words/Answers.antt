@@ -1,6 +1,6 @@
 use Rattle.std.proofs.Common.{ap}
 use Rattle.scr_html.specs.Pages.{word_marks}
-use Rattle.scr_markup.proofs.AddsLemmas.{adds_nothing, adds_then, adds_more, adds_as}
+use Rattle.scr_markup.proofs.AddsLemmas.{adds_then, adds_more, adds_as}
 use Rattle.scr_html.proofs.words.write_words.Goals as goal
 
 pub returns : goal.returns

@@ -1,5 +1,3 @@
-use Rattle.std.proofs.Common.{true, false, refl}
-use Rattle.scr_text.specs.Lines.{lines_of}
 use Rattle.scr_text_pages.proofs.SplitLemmas.{pages-between, no_pages}
 use Rattle.scr_text_pages.proofs.laws.pages_one_after_another.Goals as goal
 

@@ -1,4 +1,4 @@
-use Rattle.std.proofs.Common.{[], List, ap, sym, subst, string_bytes, take, drop, arith, ◌≤◌}
+use Rattle.std.proofs.Common.{List, sym, subst, string_bytes, take, drop, arith, ◌≤◌}
 use Rattle.scr_text_pages.specs.Reading.{ReadSlot}
 use Rattle.scr_text_pages.specs.Slots.{slots_of_group}
 use Rattle.scr_text_pages.specs.Adding.{AddsLines, slots_between, slots_read}

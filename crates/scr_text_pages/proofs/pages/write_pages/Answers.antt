@@ -1,4 +1,4 @@
-use Rattle.std.proofs.Common.{◌≡◌, ◌≤◌, ◌<◌, ◌+◌, ℕ, List, [], ◌∷◌, ◌++◌, take, refl, ap, sym, ◌∙◌, subst, arith, string_bytes}
+use Rattle.std.proofs.Common.{◌≡◌, ◌≤◌, ◌+◌, ℕ, List, ◌++◌, take, refl, ap, sym, ◌∙◌, subst, arith, string_bytes}
 use Rattle.scr_text.specs.Lines.{has_bytes}
 use Rattle.scr_notation.specs.Event.{per_group_of}
 use Rattle.scr_text_pages.specs.Reading.{ReadSlot}

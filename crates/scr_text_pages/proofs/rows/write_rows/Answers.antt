@@ -1,4 +1,4 @@
-use Rattle.std.proofs.Common.{[], ◌∷◌, map, string_bytes, ap, sym, ◌∙◌, length}
+use Rattle.std.proofs.Common.{[], ◌∷◌, map, string_bytes, ap, ◌∙◌, length}
 use Rattle.scr_notation.specs.Spelling.{spelling}
 use Rattle.scr_text_pages.proofs.rows.write_rows.Goals as goal
 

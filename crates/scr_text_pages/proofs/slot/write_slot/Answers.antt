@@ -5,7 +5,7 @@ use Rattle.scr_notation.specs.Written.{Written}
 use Rattle.scr_layout.specs.Texts.{labels_of}
 use Rattle.scr_text_pages.specs.Reading.{ReadSlot}
 use Rattle.scr_text_pages.specs.Slots.{cut_text_of}
-use Rattle.scr_text_pages.specs.Adding.{AddsLines, slots_read, words_read}
+use Rattle.scr_text_pages.specs.Adding.{AddsLines, slots_read}
 use Rattle.scr_text_pages.proofs.AddLemmas.{adds-cut, adds-words, adds-no_words}
 use Rattle.scr_text_pages.proofs.SlotLemmas.{is-label, one-slot}
 use Rattle.scr_text_pages.proofs.slot.write_slot.Goals as goal
