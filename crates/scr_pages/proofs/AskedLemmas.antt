@@ -1,14 +1,33 @@
--- What words ask for, word by word.
-use Rattle.std.proofs.Common.{◌≡◌, ◌-◌, ◌≤◌, ℕ, List, ◌∷◌, map, length, get_or, take, drop, ap, ◌∙◌, Option}
-use Rattle.std.specs.Borrow.{Bor}
-use Rattle.scr_pages.specs.Asked.{Asked, asked_by}
-use Rattle.scr_pages.proofs.StepLemmas.{split-default}
+-- What words ask for, by the values that they give.
+use Rattle.std.proofs.Common.{◌≡◌, ◌∙◌, refl, sym, ap, subst, List, Bool, false, Option, Some, None, Result, Ok, Err, IfOk, IfErr, IsErrAnd, option_map}
+use Rattle.std.specs.Prelude.{ok_or, option_and_then}
+use Rattle.std.specs.List.{list_any}
+use Rattle.scr_options.specs.Hyphens.{is_bare}
+use Rattle.scr_options.specs.OptionWords.{Text, Values, options_of}
+use Rattle.scr_options.specs.declared.splitting.OptionsFault.{OptionsFault}
+use Rattle.scr_options.specs.declared.splitting.OptionsFault.TheVariants as options
+use Rattle.scr_pages.specs.declared.asked.Asked.{Asked as Held}
+use Rattle.scr_pages.specs.declared.fault.Fault.{Fault}
+use Rattle.scr_pages.specs.declared.fault.Fault.TheVariants as fault
+use Rattle.scr_pages.specs.Asked.{asked_for, asked_in, page_options}
+use Rattle.scr_pages.specs.Words.{RefusesWords, asked_of, fault_of_options}
 
-abbrev pub texts : List (Bor (List ℕ)) → List (List ℕ)
-texts words = map (λ word. word.now) words
+-- words that weren't split weren't read
+pub not_split : {X : Type 0} (words : List Text) (why : OptionsFault) (r : Result X Fault) → IsErrAnd r (λ f. f ≡ fault_of_options why)
+    → (why ≡ options.Usage → options_of page_options words ≡ None) → (why ≡ options.NoMemory → list_any is_bare words ≡ false)
+    → IfErr r (RefusesWords words)
+not_split words options.Usage (Ok x) is usage memory = tt
+not_split words options.NoMemory (Ok x) is usage memory = tt
+not_split words options.Usage (Err f) is usage memory = subst (RefusesWords words) (sym is) (ap (option_and_then asked_in) (usage refl))
+not_split words options.NoMemory (Err f) is usage memory = subst (RefusesWords words) (sym is) (memory refl)
 
-pub after_first_word : (asked : Asked) (waits : Option (List ℕ)) (words : List (Bor (List ℕ))) (d : Bor (List ℕ)) (answer : Option Asked)
-    → 1 ≤ length words → asked_by asked waits ((get_or words 0 d).now ∷ texts (take (length words - 1) (drop 1 words))) ≡ answer
-    → asked_by asked waits (texts words) ≡ answer
-after_first_word asked waits words d answer some then =
-    ap (λ ws. asked_by asked waits (texts ws)) (split-default words d some) ∙ then
+-- and those that were are read by the values of their options
+pub split_asks : (words : List Text) (values : Values) (asked : Option Held) (r : Result Held Fault) → options_of page_options words ≡ Some values
+    → option_map asked_of asked ≡ asked_in values → r ≡ ok_or asked fault.Usage
+    → IfOk r (λ held. asked_for words ≡ Some (asked_of held)) × IfErr r (RefusesWords words)
+split_asks words values None r given is ends =
+    subst (λ e. IfOk e (λ held. asked_for words ≡ Some (asked_of held)) × IfErr e (RefusesWords words)) (sym ends)
+    (tt, ap (option_and_then asked_in) given ∙ sym is)
+split_asks words values (Some held) r given is ends =
+    subst (λ e. IfOk e (λ held. asked_for words ≡ Some (asked_of held)) × IfErr e (RefusesWords words)) (sym ends)
+    (ap (option_and_then asked_in) given ∙ sym is, tt)

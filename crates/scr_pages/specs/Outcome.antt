@@ -11,6 +11,7 @@ use Rattle.scr_pages.specs.declared.fault.Fault.{Fault}
 use Rattle.scr_pages.specs.declared.fault.Fault.TheVariants as fault
 use Rattle.scr_pages.specs.declared.status.Status.{Status}
 use Rattle.scr_pages.specs.Asked.{Asked, asked_for, has_pictures}
+use Rattle.scr_pages.specs.Words.{RefusesWords}
 use Rattle.scr_pages.specs.Shown.{shown_groups, chosen}
 use Rattle.scr_pages.specs.Slots.{Slot, slots_of, IsBarred, IsNear}
 use Rattle.scr_pages.specs.Refusals.{NoneIs, IsFirst, HasGroup, HasPages}
@@ -72,10 +73,11 @@ EndsPrinting asked source out ended =
     ((bytes : List ℕ) × GivesInput most_bytes source bytes × Prints asked bytes out ended)
     ⊎ ((why : InputFault) × (ended ≡ Err (fault.Input why)) × GivesNoInput most_bytes source why × IsUnchanged out)
 
--- words that ask for nothing read and write nothing
-abbrev pub Ends : Option Asked → Change → Change → Result (Unit {0}) Fault → Type 0
-Ends (Some asked) source out ended = EndsPrinting asked source out ended
-Ends None source out ended = IsUnchanged source × IsUnchanged out × (ended ≡ Err fault.Usage)
+-- How a run ends: words that were read as what they ask for were served, and those that weren't read and write nothing.
+abbrev pub Ends : List (List ℕ) → Change → Change → Result (Unit {0}) Fault → Type 0
+Ends words source out ended =
+    ((asked : Asked) × (asked_for words ≡ Some asked) × EndsPrinting asked source out ended)
+    ⊎ ((why : Fault) × (ended ≡ Err why) × RefusesWords words why × IsUnchanged source × IsUnchanged out)
 
 -- what is told of an end: nothing where all was written, or what went wrong
 abbrev pub told_of : Result (Unit {0}) Fault → List ℕ
@@ -86,6 +88,6 @@ told_of (Err why) = message_of why
 -- could not be written.
 pub record IsRun (words : List (List ℕ)) (outcome : Status) (source out err : Change) : Type 0 where
   pub ended : Result (Unit {0}) Fault
-  pub ends : Ends (asked_for words) source out ended
+  pub ends : Ends words source out ended
   pub answer : outcome ≡ status_of ended
   pub tells : IsTold (told_of ended) err

@@ -2,8 +2,10 @@
 
 ghost use Rattle.std.specs.Prelude.{◌≡◌};
 ghost use Rattle.scr_pages.specs.declared.fault.Fault.TheVariants.{Input, Sheet, Write, NoMemory};
+ghost use Rattle.scr_pages.specs.Words.{fault_of_options};
 
 use scr_host::InputFault;
+use scr_options::OptionsFault;
 use scr_outside::{Failed, NoMemory as WantOfMemory};
 use scr_read::SheetFault;
 use std::alloc::AllocError;
@@ -27,6 +29,17 @@ pub enum Fault {
     Write,
     /// Want of memory.
     NoMemory,
+}
+
+impl From<OptionsFault> for Fault {
+    ghost from_gives = { λ why fault. fault ≡ fault_of_options why };
+
+    fn from(why: OptionsFault) -> Fault {
+        match why {
+            OptionsFault::Usage => Fault::Usage,
+            OptionsFault::NoMemory => Fault::NoMemory,
+        }
+    }
 }
 
 impl From<InputFault> for Fault {

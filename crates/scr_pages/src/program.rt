@@ -3,7 +3,6 @@
 ghost use Rattle.std.specs.Prelude.{◌≡◌, ◌≤◌, drop, length, map};
 ghost use Rattle.scr_outside.specs.Change.{change_of, intake_of};
 ghost use Rattle.scr_pages.specs.Words.{asked_of};
-ghost use Rattle.scr_pages.specs.Asked.{asked_for};
 ghost use Rattle.scr_pages.specs.Checked.{IsChecked};
 ghost use Rattle.scr_pages.specs.Outcome.{most_bytes, IsRun, Ends, EndsPrinting, Prints, PrintsSheet};
 
@@ -57,13 +56,13 @@ fn perform<S: Source, O: Sink>(
     source: &mut S,
     out: &mut O,
 ) -> Result<(), Fault>
-    ensures { Ends (asked_for (map (λ word. word.now) words.now))
+    ensures { Ends (map (λ word. word.now) words.now)
         (intake_of S.left S.faults S.ends source.old source.new)
         (change_of O.held O.faults out.old out.new) result }
 {
-    match asked_for(words) {
-        Some(asked) => print_input(alloc, &asked, source, out),
-        None => Err(Fault::Usage),
+    match asked_for(alloc, words) {
+        Ok(asked) => print_input(alloc, &asked, source, out),
+        Err(why) => Err(why),
     }
 }
 
