@@ -5,12 +5,18 @@ Takes the built program, makes the sheet of a short list by it, turns a cube of 
 solved by `rubiks_dikcube` of Debian's package `rubiks`, and writes the solution taken back in the scramble's place. The
 program must find that this sheet agrees, and that it doesn't where one turn is left out.
 """
+import os
 import re
 import subprocess
 import sys
 
+sys.dont_write_bytecode = True
+sys.path.insert(0, os.path.dirname(os.path.dirname(os.path.abspath(__file__))))
+from event_table import scrambled_as  # noqa: E402
+
 SEED = '0' * 64
-LIST = '333 1\n333oh 1\n'
+# a group of each event that has the states and scrambles of a 3x3x3
+LIST = ''.join('%s 1\n' % event for event in scrambled_as('333'))
 
 # x goes right, y up, z to the front; a face is told by the way that it looks
 FACES = {'U': (0, 1, 0), 'D': (0, -1, 0), 'R': (1, 0, 0), 'L': (-1, 0, 0), 'F': (0, 0, 1), 'B': (0, 0, -1)}

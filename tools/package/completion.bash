@@ -1,13 +1,14 @@
+# shellcheck shell=bash
 # Completion in bash: of the commands, options and events of scramble, of the options of scramble-pages, of the command of
 # scramble-wcif, and of the commands, options, files and folders of scramble-bundle. Numbers, seeds and names are not completed,
 # and files behind < and > by bash itself.
 
 # Of these words those that begin as what is typed.
-_scramble_offer() { COMPREPLY=($(compgen -W "$1" -- "${COMP_WORDS[COMP_CWORD]}")); }
+_scramble_offer() { mapfile -t COMPREPLY < <(compgen -W "$1" -- "${COMP_WORDS[COMP_CWORD]}"); }
 
 # Of these options those that were not given yet, where no value of one is due.
 _scramble_options() {
-    local option offered= given=" ${COMP_WORDS[*]:0:COMP_CWORD} "
+    local option offered='' given=" ${COMP_WORDS[*]:0:COMP_CWORD} "
     case ${COMP_WORDS[COMP_CWORD - 1]} in --html) ;; = | --*) return ;; esac
     for option in $1; do
         case $given in *" $option "*) ;; *) offered="$offered $option" ;; esac

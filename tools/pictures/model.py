@@ -1,11 +1,17 @@
-"""What each of the thirteen events looks like after a scramble, by a second program that shares nothing with the proved one.
+"""What each of the thirteen events looks like after a scramble, by a second program that shares nothing with the proved one but
+the table of events: which there are, and which are cubes.
 
 letters(event, scramble) gives the text of a picture's letters in the order that docs/DEFINITIONS.md states.
 """
+import os
 import re
+import sys
 
-CUBES = ("222", "333", "333oh", "333bf", "333fm", "555", "666", "777")
-EVENTS = CUBES + ("pyram", "skewb", "minx", "sq1", "clock")
+sys.path.insert(0, os.path.dirname(os.path.dirname(os.path.abspath(__file__))))
+import event_table  # noqa: E402
+
+EVENTS = tuple(event.id for event in event_table.EVENTS)
+CUBES = tuple(event.id for event in event_table.EVENTS if event.kind == "Faces")
 
 
 # ---- cubes: a sticker is where its cubie stands, x to the right, y up and z to the front, and which way it looks
