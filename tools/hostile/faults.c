@@ -48,7 +48,12 @@ static void tell(void)
     if (file >= 0) syscall(SYS_write, file, line, size);
 }
 
-/* The program ends by this call, which runs no destructors. */
+/* A program with threads ends by this call, which runs no destructors; others by exit, which runs them. */
+__attribute__((destructor)) static void end(void)
+{
+    tell();
+}
+
 void _exit(int status)
 {
     tell();

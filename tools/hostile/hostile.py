@@ -8,6 +8,7 @@ The program has to be built (bin/scramble). What each case must give is told by 
 
 import argparse
 import fcntl
+import functools
 import itertools
 import os
 import pathlib
@@ -21,11 +22,18 @@ import time
 import tty
 from concurrent.futures import ThreadPoolExecutor
 
+import trials
+from trials import EAGAIN, EINTR, EIO, EPIPE, SECONDS, Ended, Tally, allocations, told, tried
+
 TOP = pathlib.Path(__file__).resolve().parents[2]
+sys.dont_write_bytecode = True
+sys.path.insert(0, str(TOP / "tools"))
+import event_table  # noqa: E402
+
 PROGRAM = TOP / "crates/scramble/out/scramble"
 ZEROS = "0" * 64
 SHEET = ["sheet", "--seed", ZEROS]
-EVENTS = "222 333 333oh 333bf 333fm pyram skewb sq1 clock minx 555 666 777".split()
+EVENTS = [event.id for event in event_table.EVENTS]
 COMPETITION = "".join(f"{event} 2\n" for event in EVENTS).encode()
 SMALL = b"clock 1\n"
 CHECK = ["check", "--seed", ZEROS]
@@ -33,49 +41,7 @@ SEPARATOR = b"=====\n"
 NO_MEMORY = b"scramble: out of memory\n"
 NOT_READ = b"scramble: input could not be read\n"
 NOT_WRITTEN = b"scramble: output could not be written\n"
-EINTR, EIO, EAGAIN, EPIPE = 4, 5, 11, 32
-SECONDS = 120
-
-
-class Tally:
-    """The cases of one heading, and those at fault."""
-
-    def __init__(self):
-        self.rows, self.faults = [], []
-
-    def heading(self, name):
-        self.name = name
-        self.rows.append([name, 0, 0])
-
-    def case(self, label, good, seen=""):
-        self.rows[-1][1] += 1
-        if not good:
-            self.rows[-1][2] += 1
-            self.faults.append(f"{self.name}: {label}: {seen}")
-
-
-class Ended:
-    """How a run ended: its status, and what it wrote."""
-
-    def __init__(self, status, out, err):
-        self.status, self.out, self.err = status, out, err
-
-    def __repr__(self):
-        return f"status {self.status}, {len(self.out)} bytes, {self.err!r}"
-
-
-def run(words, given=b"", faults={}, stdin=None, stdout=None, **more):
-    """Runs the program on these words and this input."""
-    environment = dict(os.environ)
-    if faults:
-        environment.update({name: str(value) for name, value in faults.items()}, LD_PRELOAD=str(FAULTS))
-    source = {"input": given} if stdin is None else {"stdin": stdin}
-    try:
-        ran = subprocess.run([PROGRAM, *words], env=environment, stdout=stdout or subprocess.PIPE, stderr=subprocess.PIPE,
-                             timeout=SECONDS, **source, **more)
-    except subprocess.TimeoutExpired:
-        return Ended("none: it did not end", b"", b"")
-    return Ended(ran.returncode, ran.stdout or b"", ran.stderr)
+run = functools.partial(trials.run, PROGRAM)
 
 
 def rounds_of(sheet):
@@ -86,11 +52,6 @@ def rounds_of(sheet):
 
 # ---- refused memory
 
-def tried(count, every):
-    """Of the numbers from 1 to the count the first and the last five hundred, and every so many between."""
-    return [number for number in range(1, count + 1) if number <= 500 or number > count - 500 or number % every == 0]
-
-
 def refused_memory(tally, pool, every=1):
     """Each allocation refused in turn, from the first to the last, or every so many of a long row: the program answers
     that it is out of memory and has written whole rounds, or none but a sheet's; or it did without."""
@@ -98,9 +59,7 @@ def refused_memory(tally, pool, every=1):
     for words, given in [([*SHEET, "--workers", "7"], COMPETITION), (["tables", "333"], b""), (["load", "3"], b""), (CHECK, checked)]:
         tally.heading("refused memory: " + " ".join(words).replace(ZEROS, "Z"))
         whole = run(words, given)
-        told = pathlib.Path(tempfile.mkdtemp()) / "calls"
-        run(words, given, {"CALLS": told})
-        count = int(told.read_text())
+        count = allocations(PROGRAM, words, given)
         wanted = rounds_of(whole.out) if words[0] == "sheet" else {b""}
 
         def refuse(number):
@@ -301,17 +260,10 @@ def main():
         real_streams(tally)
         refused_memory(tally, pool, asked.every)
         random_runs(tally, pool, asked.lists)
-    for name, cases, faults in tally.rows:
-        print(f"{cases:6} cases {faults:4} faults  {name}")
-    for fault in tally.faults[:20]:
-        print("at fault:", fault)
-    print(f"{sum(row[1] for row in tally.rows)} cases, {len(tally.faults)} faults")
-    return 1 if tally.faults else 0
+    return told(tally)
 
 
 if __name__ == "__main__":
     if not PROGRAM.exists():
         sys.exit("the program isn't built: run bin/scramble first")
-    FAULTS = pathlib.Path(tempfile.mkdtemp()) / "faults.so"
-    subprocess.run(["cc", "-O2", "-shared", "-fPIC", "-o", FAULTS, pathlib.Path(__file__).with_name("faults.c")], check=True)
     sys.exit(main())
