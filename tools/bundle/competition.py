@@ -1,0 +1,32 @@
+#!/usr/bin/env python3
+"""A made-up competition of 62 groups, in which each event of scramble has a round, as its own file (WCIF).
+
+    tools/bundle/competition.py > competition.json
+"""
+import json
+
+# How many groups each round of an event has. The first event is none of scramble's.
+GROUPS = {
+    "444": [2, 1], "333": [8, 4, 2, 1], "222": [6, 2, 1], "333oh": [4, 1], "pyram": [5, 2, 1], "skewb": [4, 1], "clock": [4, 1],
+    "sq1": [2, 1], "minx": [2, 1], "555": [2, 1], "666": [1], "777": [1], "333bf": [1, 1], "333fm": [1, 1]}
+NAMES = {1: [], 2: ["First round"], 3: ["First round", "Second round"], 4: ["First round", "Second round", "Semi-final"]}
+
+
+def file():
+    """The competition's file, with much else in it that is to be passed over."""
+    events = [{"id": event, "rounds": [
+        {"id": "%s-r%d" % (event, i + 1), "format": "a", "timeLimit": {"centiseconds": 60000}, "scrambleSetCount": count,
+         "scrambleSets": [], "results": []} for i, count in enumerate(counts)]} for event, counts in GROUPS.items()]
+    persons = [{"name": "Zoë %d" % i, "wcaId": None, "registration": {"eventIds": list(GROUPS)}} for i in range(200)]
+    return json.dumps({"formatVersion": "1.0", "id": "MyOpen2026", "name": "Öpen", "persons": persons, "events": events})
+
+
+def names():
+    """The names of the PDFs that its folder has."""
+    groups = ["%s %s %s" % (event, name, "ABCDEFGH"[i]) for event, counts in GROUPS.items() if event != "444"
+              for name, count in zip(NAMES[len(counts)] + ["Final"], counts) for i in range(count)]
+    return ["%02d %s" % (i + 1, name) for i, name in enumerate(groups)]
+
+
+if __name__ == "__main__":
+    print(file())
