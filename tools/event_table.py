@@ -1,7 +1,8 @@
-"""The one table of events, as `row_of` in crates/scr_notation/specs/Event.antt has it.
+"""The tables of events and of what is scrambled for them, as `row_of` and `puzzle_row_of` in
+crates/scr_notation/specs/Event.antt have them.
 
-EVENTS are its rows, in the order of the events' numbers. Scripts take from here which events there are, so that an event
-is added to none of them.
+EVENTS are the events, in the order of their numbers, each with what its puzzle's row says. Scripts take from here which events
+there are, so that an event is added to none of them.
 """
 import collections
 import os
@@ -10,14 +11,14 @@ import sys
 
 TOP = os.path.dirname(os.path.dirname(os.path.abspath(__file__)))
 TABLE = "crates/scr_notation/specs/Event.antt"
-SCRAMBLING = "crates/scr_slots/specs/Events.antt"
-ROW = re.compile(r'^row_of (\w+) = row \(codes "([^"]*)"\) \(codes "([^"]*)"\) (\w+|\([^)]*\)) (\d+) (None|\(up_to \d+ \d+\)) '
-                 r"(None|\(Some family\.\w+\)) (None|\(Some \d+\))$", re.M)
+ROW = re.compile(r'^row_of (\w+) = \(codes "([^"]*)", codes "([^"]*)", puzzle\.(\w+), (\d+)\)$', re.M)
+PUZZLE = re.compile(r"^puzzle_row_of puzzle\.(\w+) = puzzle_row (\w+|\([^)]*\)) (None|\(up_to \d+ \d+\)) (None|\(Some family\.\w+\)) "
+                    r"(true|false) (None|\(Some \d+\))$", re.M)
 
-# its name in code, its id, its name on sheets, its kind and what the kind's turns are of, the scrambles of a group without the
-# two extra ones, its greatest and its usual minimum (None where its moves are random), its family of tables, and how many layers
-# the cube has whose net is shown; None where it has none of these
-Event = collections.namedtuple("Event", "variant id name kind turns per_group greatest usual family net_side")
+# its name in code, its id, its name on sheets, its puzzle, the puzzle's kind and what the kind's turns are of, the scrambles of
+# a group without the two extra ones, its greatest and its usual minimum (None where its moves are random), its family of tables,
+# and how many layers the cube has whose net is shown; None where it has none of these
+Event = collections.namedtuple("Event", "variant id name puzzle kind turns per_group greatest usual family net_side")
 
 
 def read(path):
@@ -25,20 +26,22 @@ def read(path):
         return file.read()
 
 
-def row_from(found):
-    variant, id_, name, kind, per_group, minima, family, side = found.groups()
+def row_from(found, puzzles):
+    variant, id_, name, puzzle, per_group = found.groups()
+    _, kind, minima, family, _, side = puzzles[puzzle].groups()
     kind, *turns = kind.strip("()").split()
     greatest, usual = [int(number) for number in re.findall(r"\d+", minima)] or (None, None)
     family = family.strip("()").partition(".")[2] or None
     side = int(side.strip("()").split()[1]) if side != "None" else None
-    return Event(variant, id_, name, kind, tuple(turns), int(per_group), greatest, usual, family, side)
+    return Event(variant, id_, name, puzzle, kind, tuple(turns), int(per_group), greatest, usual, family, side)
 
 
 def table():
     """The rows, each event once, as the list of all events has them."""
     text = read(TABLE)
     order = re.search(r"^events = ((?:\w+ ∷ )+)\[\]$", text, re.M)[1].split(" ∷ ")[:-1]
-    rows = {found[1]: row_from(found) for found in ROW.finditer(text)}
+    puzzles = {found[1]: found for found in PUZZLE.finditer(text)}
+    rows = {found[1]: row_from(found, puzzles) for found in ROW.finditer(text)}
     if sorted(rows) != sorted(order):
         sys.exit("event_table: %s: the rows of `row_of` can't be read, or aren't those of `events`" % TABLE)
     return [rows[variant] for variant in order]
@@ -54,6 +57,5 @@ def puzzle_of(event):
 
 
 def scrambled_as(id_):
-    """The ids of the events that have the states and scrambles of one, which is among them: their lines are the same."""
-    lines = dict(re.findall(r"^scrambling_of (\w+) = (.*)$", read(SCRAMBLING), re.M))
-    return [event.id for event in EVENTS if lines[event.variant] == lines[BY_ID[id_].variant]]
+    """The ids of the events that have the states and scrambles of one, which is among them: they have its puzzle."""
+    return [event.id for event in EVENTS if event.puzzle == BY_ID[id_].puzzle]

@@ -7,7 +7,7 @@ import json
 
 # How many groups each round of an event has. The first event is none of scramble's.
 GROUPS = {
-    "444": [2, 1], "333": [8, 4, 2, 1], "222": [6, 2, 1], "333oh": [4, 1], "pyram": [5, 2, 1], "skewb": [4, 1], "clock": [4, 1],
+    "444": [2, 1], "333": [8, 6, 4, 1], "222": [6, 2, 1], "pyram": [5, 2, 1], "skewb": [4, 1], "clock": [4, 1],
     "sq1": [2, 1], "minx": [2, 1], "555": [2, 1], "666": [1], "777": [1], "333bf": [1, 1], "333fm": [1, 1]}
 NAMES = {1: [], 2: ["First round"], 3: ["First round", "Second round"], 4: ["First round", "Second round", "Semi-final"]}
 

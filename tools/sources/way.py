@@ -14,7 +14,7 @@ class Way:
         self.scopes, self.event = scopes, event
         self.functions, self.callers, self.unsure, self.several, self.unknown = [], {}, {}, set(), set()
         self.calls, self.acts, self.seen = {}, {}, set()
-        self.own = {"Event": {event.variant}, "Kind": {event.kind}, "Turn": TURNS[event.kind]}
+        self.own = {"Event": {event.variant}, "Puzzle": {event.puzzle}, "Kind": {event.kind}, "Turn": TURNS[event.kind]}
 
     def call(self, caller, function, env, candidates):
         """A call, which is followed unless the function does nothing, as a law."""
@@ -69,8 +69,8 @@ class Way:
         return any(all(name in self.own[enum] for enum, name in named) for named in self.variants(module, words))
 
     def settles(self, module, words, asked):
-        """Whether a pattern is met by whatever the event has there: it is the event itself, or its kind."""
-        is_one = asked and asked[0] == "own" and asked[1].name in ("Event", "Kind")
+        """Whether a pattern is met by whatever the event has there: it is the event itself, its puzzle, or its kind."""
+        is_one = asked and asked[0] == "own" and asked[1].name in ("Event", "Puzzle", "Kind")
         has_guard = any(text == "if" and kind == "word" for kind, text in words)
         return bool(is_one and not has_guard and any(named and all(name in self.own[enum] for enum, name in named)
                                                      for named in self.variants(module, words)))

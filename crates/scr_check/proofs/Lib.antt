@@ -3,6 +3,6 @@ pub mod PartLemmas
 pub mod ReadingLemmas
 pub mod FaultLemmas
 pub mod CheckLemmas
-pub mod HeldLemmas
+pub mod AheadLemmas
 pub mod ListLemmas
 pub mod LawLemmas

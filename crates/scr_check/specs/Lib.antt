@@ -1,4 +1,4 @@
-pub mod Held
+pub mod Ahead
 pub mod Lines
 pub mod Parts
 pub mod Reading

@@ -21,9 +21,9 @@ pub(crate) struct Ahead {
 
 impl Model for Ahead {
     ghost use Rattle.std.specs.Prelude.{◌≡◌, ◌≤◌, true, take, drop};
-    ghost use Rattle.scr_check.specs.Held.{Held};
+    ghost use Rattle.scr_check.specs.Ahead.{ReadAhead};
 
-    ghost Value = { Held };
+    ghost Value = { ReadAhead };
 
     ghost view = { λ a. record { bytes = drop a.from (take a.to a.buffer); ended = a.ended } };
 
@@ -31,7 +31,7 @@ impl Model for Ahead {
 }
 
 impl Ahead {
-    ghost use Rattle.scr_check.specs.Held.{most_held};
+    ghost use Rattle.scr_check.specs.Ahead.{most_ahead};
 
     /// Nothing, of a source that hasn't told its end.
     pub(crate) fn new() -> Ahead
@@ -59,7 +59,7 @@ impl Ahead {
         ensures unended { IfSome result (λ _. self.old.ended ≡ false) }
         ensures none { IfNone result ((self.old.bytes ≡ []) × (self.new ≡ self.old)) }
         ensures ended { self.new.ended ≡ self.old.ended }
-        ensures few { length self.new.bytes ≤ most_held }
+        ensures few { length self.new.bytes ≤ most_ahead }
     {
         if self.from == self.to {
             return None;
@@ -81,7 +81,7 @@ impl Ahead {
             (self.new.bytes ≡ []) × TellsEnd (intake_of S.left S.faults S.ends source.old source.new)) }
         ensures failed { OnErr result (Fails (intake_of S.left S.faults S.ends source.old source.new)) }
         ensures kept { OnErr result (self.new ≡ self.old) }
-        ensures few { length self.new.bytes ≤ most_held }
+        ensures few { length self.new.bytes ≤ most_ahead }
     {
         let count = read_into(source, &mut self.buffer)?;
         self.from = 0;

@@ -2,13 +2,13 @@
 
 ghost use Rattle.std.specs.Prelude.{◌≡◌, ◌+◌, ◌-◌, ◌^◌, ◌<◌, ◌≤◌, length};
 ghost use Rattle.scr_check.specs.Agreement.{AreLawful};
-ghost use Rattle.scr_check.specs.Held.{most_held};
+ghost use Rattle.scr_check.specs.Ahead.{most_ahead};
 ghost use Rattle.scr_check.specs.Reading.{reading, source_name};
 ghost use Rattle.scr_check.specs.Taken.{ChecksLine, ChecksSheet};
 
 use crate::expected::Expected;
 use crate::fault::CheckFault;
-use crate::line::{LINE_ROOM, read_line};
+use crate::line::{MOST_OF_LINE, read_line};
 use crate::reader::ByteReader;
 use arrayvec::ArrayVec;
 use scr_outside::Source;
@@ -24,7 +24,7 @@ pub fn check_lines<S: Source, X: Expected>(
 ) -> Result<(), CheckFault>
     requires { (X.lines expected.now).count < 2 ^ 32 - 1 }
     ensures same_source { source_name reader.new ≡ source_name reader.old }
-    ensures few_ahead { length (reading reader.new).ahead ≤ most_held }
+    ensures few_ahead { length (reading reader.new).ahead ≤ most_ahead }
     ensures sheet { ChecksSheet S.left S.faults S.ends (reading reader.old) (reading reader.new)
         (X.lines expected.now) result }
 {
@@ -54,7 +54,7 @@ fn check_line<S: Source, X: Expected>(
     ensures line { ChecksLine S.left S.faults S.ends (reading reader.old) (reading reader.new)
         (X.lines expected.now) line result }
 {
-    let mut text = ArrayVec::<u8, LINE_ROOM>::new();
+    let mut text = ArrayVec::<u8, MOST_OF_LINE>::new();
     let ended = read_line(reader, &mut text)?;
     if text.is_empty() && !ended {
         return Err(CheckFault::Differs { line });

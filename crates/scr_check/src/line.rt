@@ -9,12 +9,12 @@ use arrayvec::ArrayVec;
 use scr_outside::{Failed, Source};
 
 /// So many bytes of a line are taken at most: one more than a text that agrees has.
-pub(crate) const LINE_ROOM: usize = 1301;
+pub(crate) const MOST_OF_LINE: usize = 1301;
 
 /// Takes a line, or as much of it as there is room for, and says whether its line feed was taken.
 pub(crate) fn read_line<S: Source>(
     reader: &mut ByteReader<'_, S>,
-    text: &mut ArrayVec<u8, LINE_ROOM>,
+    text: &mut ArrayVec<u8, MOST_OF_LINE>,
 ) -> Result<bool, Failed>
     requires { text.old.items ≡ [] }
     ensures same_source { source_name reader.new ≡ source_name reader.old }

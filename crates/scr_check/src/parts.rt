@@ -1,7 +1,7 @@
 //! The list part of an input.
 
 ghost use Rattle.std.specs.Prelude.{◌≡◌, ◌≤◌, length, take, bytes_eq, IfOk, OnErr};
-ghost use Rattle.scr_check.specs.Held.{most_held};
+ghost use Rattle.scr_check.specs.Ahead.{most_ahead};
 ghost use Rattle.scr_check.specs.Parts.{list_room, separator, ends_line};
 ghost use Rattle.scr_check.specs.Reading.{reading, source_name};
 ghost use Rattle.scr_check.specs.Taken.{TakesListPart, StopsInPart};
@@ -27,7 +27,7 @@ pub fn list_part<S: Source>(
     reader: &mut ByteReader<'_, S>,
 ) -> Result<ArrayVec<u8, LIST_ROOM>, Failed>
     ensures same_source { source_name reader.new ≡ source_name reader.old }
-    ensures few_ahead { length (reading reader.new).ahead ≤ most_held }
+    ensures few_ahead { length (reading reader.new).ahead ≤ most_ahead }
     ensures part { IfOk result (λ list.
         TakesListPart S.left S.faults S.ends (reading reader.old) (reading reader.new) list.items) }
     ensures failed { OnErr result

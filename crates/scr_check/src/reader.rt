@@ -1,7 +1,7 @@
 //! A source's bytes one by one.
 
 ghost use Rattle.std.specs.Prelude.{◌≡◌, ◌↔◌, ◌≤◌, [], true, None, IfOk, OnErr, length};
-ghost use Rattle.scr_check.specs.Held.{most_held};
+ghost use Rattle.scr_check.specs.Ahead.{most_ahead};
 
 use crate::ahead::Ahead;
 use scr_outside::{Failed, Source};
@@ -11,7 +11,7 @@ use scr_outside::{Failed, Source};
 pub struct ByteReader<'a, S> {
     source: &'a mut S,
     ahead: Ahead,
-    pub ghost few_ahead: { length ahead.bytes ≤ most_held },
+    pub ghost few_ahead: { length ahead.bytes ≤ most_ahead },
 }
 
 impl<'a, S: Source> ByteReader<'a, S> {

@@ -200,7 +200,6 @@ mod tests {
         for (event, lines) in [
             (Event::C222, 11),
             (Event::C333, 11),
-            (Event::Oh333, 11),
             (Event::C555, 11),
             (Event::C666, 11),
             (Event::C777, 10),

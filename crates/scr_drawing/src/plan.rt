@@ -8,7 +8,7 @@ use crate::parts::{clock_part, megaminx_part, net_part, pyraminx_part, skewb_par
 use crate::path::PARTS;
 use crate::shape::Part;
 use crate::style::{self, Style};
-use scr_notation::Event;
+use scr_notation::{Event, Puzzle};
 
 /// What is drawn.
 #[derive(Clone, Copy)]
@@ -25,17 +25,17 @@ pub(crate) enum Plan {
 impl Plan {
     /// What is drawn of an event's puzzle.
     pub(crate) fn of(event: Event) -> Plan {
-        match event {
-            Event::C222 => Plan::Net(2),
-            Event::C333 | Event::Oh333 | Event::Bf333 | Event::Fm333 => Plan::Net(3),
-            Event::C555 => Plan::Net(5),
-            Event::C666 => Plan::Net(6),
-            Event::C777 => Plan::Net(7),
-            Event::Clock => Plan::Clock,
-            Event::Minx => Plan::Megaminx,
-            Event::Pyram => Plan::Pyraminx,
-            Event::Skewb => Plan::Skewb,
-            Event::Sq1 => Plan::Square1,
+        match event.puzzle() {
+            Puzzle::Cube222 => Plan::Net(2),
+            Puzzle::Cube333 | Puzzle::Held333 | Puzzle::Fewest333 => Plan::Net(3),
+            Puzzle::Cube555 => Plan::Net(5),
+            Puzzle::Cube666 => Plan::Net(6),
+            Puzzle::Cube777 => Plan::Net(7),
+            Puzzle::Clock => Plan::Clock,
+            Puzzle::Megaminx => Plan::Megaminx,
+            Puzzle::Pyraminx => Plan::Pyraminx,
+            Puzzle::Skewb => Plan::Skewb,
+            Puzzle::Square1 => Plan::Square1,
         }
     }
 

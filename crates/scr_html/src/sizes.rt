@@ -6,7 +6,7 @@ ghost use Rattle.scr_markup.specs.Tokens.{HasNoLineFeed};
 
 use arrayvec::ArrayString;
 use scr_layout::{Group, Place, places, row_count};
-use scr_notation::{Event, Turn};
+use scr_notation::{Event, Puzzle, Turn};
 use scr_text::decimal;
 
 /// The room for scrambles below the heads of a page, in tenths of a point.
@@ -178,13 +178,13 @@ fn width_of(event: Event, turns: &[Turn], places: &[Place]) -> u32
 fn word_width(event: Event, turn: Turn) -> u32
     ensures { result ≤ 7 }
 {
-    match event {
-        Event::C222 | Event::C333 | Event::Oh333 | Event::Fm333 | Event::Pyram | Event::Skewb => 2,
-        Event::C555 | Event::Bf333 | Event::Minx => 3,
-        Event::C666 | Event::C777 => 4,
-        Event::Clock => 5,
-        Event::Sq1 if matches!(turn, Turn::Twist) => 1,
-        Event::Sq1 => 7,
+    match event.puzzle() {
+        Puzzle::Cube222 | Puzzle::Cube333 | Puzzle::Fewest333 | Puzzle::Pyraminx | Puzzle::Skewb => 2,
+        Puzzle::Cube555 | Puzzle::Held333 | Puzzle::Megaminx => 3,
+        Puzzle::Cube666 | Puzzle::Cube777 => 4,
+        Puzzle::Clock => 5,
+        Puzzle::Square1 if matches!(turn, Turn::Twist) => 1,
+        Puzzle::Square1 => 7,
     }
 }
 
@@ -192,12 +192,12 @@ fn word_width(event: Event, turn: Turn) -> u32
 fn picture_width(event: Event) -> u32
     ensures { result ≤ 600 }
 {
-    match event {
-        Event::Skewb | Event::Pyram => 340,
-        Event::C222 | Event::C333 | Event::Oh333 | Event::Clock => 380,
-        Event::C555 | Event::Sq1 => 400,
-        Event::Bf333 | Event::Minx => 480,
-        Event::C666 | Event::C777 => 500,
-        Event::Fm333 => 560,
+    match event.puzzle() {
+        Puzzle::Skewb | Puzzle::Pyraminx => 340,
+        Puzzle::Cube222 | Puzzle::Cube333 | Puzzle::Clock => 380,
+        Puzzle::Cube555 | Puzzle::Square1 => 400,
+        Puzzle::Held333 | Puzzle::Megaminx => 480,
+        Puzzle::Cube666 | Puzzle::Cube777 => 500,
+        Puzzle::Fewest333 => 560,
     }
 }

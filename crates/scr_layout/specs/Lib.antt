@@ -2,4 +2,4 @@ pub mod Shown
 pub mod Group
 pub mod Placed
 pub mod Texts
-pub mod Held
+pub mod Holding

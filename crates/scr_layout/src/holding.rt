@@ -1,20 +1,17 @@
 //! How puzzles are held.
 
 ghost use Rattle.std.specs.Prelude.{◌≡◌};
-ghost use Rattle.scr_layout.specs.Held.{held_of};
+ghost use Rattle.scr_layout.specs.Holding.{held_of};
 
 use scr_notation::Event;
 
 /// How the puzzle of an event is held when its scramble begins (WCA Regulations, article 4d), in lines of at most 72
 /// letters, with a line feed between two.
-#[tactic(auto, unfolding(crate::specs::Held::held_of))]
+#[tactic(auto, unfolding(crate::specs::Holding::held_of))]
 pub fn held(event: Event) -> &'static str
     ensures { result.now ≡ held_of event }
 {
     match event {
-        Event::C222 | Event::C333 | Event::Oh333 | Event::C555 | Event::C666 | Event::C777 => {
-            "Hold the solved cube with white up and green in front."
-        }
         Event::Bf333 => {
             "Hold the solved cube with white up and green in front. Do the words\nwith w at the end too, and then don't turn the cube back: put it down,\nor hand it over, as it lies in the hand."
         }
@@ -30,5 +27,6 @@ pub fn held(event: Event) -> &'static str
         Event::Sq1 => {
             "Hold the solved Square-1 with the cut at the front a little to the left\nof the middle. Two sides can face you so: take the darker one."
         }
+        _ => "Hold the solved cube with white up and green in front.",
     }
 }

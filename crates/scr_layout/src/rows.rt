@@ -3,7 +3,7 @@
 ghost use Rattle.std.specs.Prelude.{◌≡◌, ◌<◌, ◌≤◌, length};
 
 use arrayvec::ArrayVec;
-use scr_notation::{Event, MOST_TURNS, Scramble, Turn};
+use scr_notation::{Event, MOST_TURNS, Puzzle, Scramble, Turn};
 
 /// Where a word stands.
 #[derive(Clone, Copy, Debug, Default, PartialEq, Eq)]
@@ -121,15 +121,15 @@ fn columns_of(event: Event) -> Columns
     ensures across { (5 ≤ result.across) × (result.across ≤ 15) }
     ensures width { result.width ≤ 12 }
 {
-    let (across, width) = match event {
-        Event::C222 | Event::Skewb => (11, 4),
-        Event::C333 | Event::Oh333 | Event::Fm333 => (10, 4),
-        Event::C555 | Event::Bf333 => (10, 5),
-        Event::C666 | Event::C777 => (10, 6),
-        Event::Clock => (9, 7),
-        Event::Minx => (11, 5),
-        Event::Pyram => (15, 4),
-        Event::Sq1 => (5, 12),
+    let (across, width) = match event.puzzle() {
+        Puzzle::Cube222 | Puzzle::Skewb => (11, 4),
+        Puzzle::Cube333 | Puzzle::Fewest333 => (10, 4),
+        Puzzle::Cube555 | Puzzle::Held333 => (10, 5),
+        Puzzle::Cube666 | Puzzle::Cube777 => (10, 6),
+        Puzzle::Clock => (9, 7),
+        Puzzle::Megaminx => (11, 5),
+        Puzzle::Pyraminx => (15, 4),
+        Puzzle::Square1 => (5, 12),
     };
     Columns { across, width }
 }

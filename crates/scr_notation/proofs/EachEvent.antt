@@ -1,9 +1,9 @@
 -- What is so of each event, computed once over all of them.
-use Rattle.std.proofs.Common.{◌≡◌, ℕ, ◌+◌, ◌<◌, Bool, true, IsTrue, Some, refl, sym, ap, ◌∙◌, zero-add}
+use Rattle.std.proofs.Common.{◌≡◌, ℕ, ◌+◌, ◌<◌, Bool, true, IsTrue, Some, refl, sym, ap, ◌∙◌, zero-add, lit<}
 use Rattle.std.specs.Prelude.{◌&&◌, nat_le, map, slice_get}
 use Rattle.std.specs.List.{range_with_len}
 use Rattle.std.specs.Option.{option_map}
-use Rattle.std.proofs.lemmas.Option.{slice_get-map, slice_get_within, get_or_from_slice_get}
+use Rattle.std.proofs.lemmas.Option.{same_Some, slice_get-map, slice_get_within, get_or_from_slice_get}
 use Rattle.std.proofs.lemmas.List.FromFn.{get_or-range_with_len}
 use Rattle.std.proofs.lemmas.Bool.{leb-true}
 use Rattle.scr_notation.specs.declared.event.Event.{Event}
@@ -14,21 +14,28 @@ use Rattle.scr_notation.specs.Event.{events, kind_of}
 use Rattle.scr_notation.specs.Kinds.{IsKind}
 use Rattle.scr_notation.proofs.Below.{and_first, and_second}
 
+-- each event has a number: the one list of events by which proofs tell one from another
+pub numbered : (event : Event) → (k : ℕ) × (k < 13) × (slice_get events k ≡ Some event)
+numbered C222 = (0, lit< tt, refl)
+numbered C333 = (1, lit< tt, refl)
+numbered Oh333 = (2, lit< tt, refl)
+numbered C555 = (3, lit< tt, refl)
+numbered C666 = (4, lit< tt, refl)
+numbered C777 = (5, lit< tt, refl)
+numbered Clock = (6, lit< tt, refl)
+numbered Minx = (7, lit< tt, refl)
+numbered Pyram = (8, lit< tt, refl)
+numbered Skewb = (9, lit< tt, refl)
+numbered Sq1 = (10, lit< tt, refl)
+numbered Bf333 = (11, lit< tt, refl)
+numbered Fm333 = (12, lit< tt, refl)
+
 -- two functions that agree on the list of the events agree on each event
 pub each_alike : {X : Type 0} (f g : Event → X) → map f events ≡ map g events → (event : Event) → f event ≡ g event
-each_alike f g all C222 = cc
-each_alike f g all C333 = cc
-each_alike f g all Oh333 = cc
-each_alike f g all C555 = cc
-each_alike f g all C666 = cc
-each_alike f g all C777 = cc
-each_alike f g all Clock = cc
-each_alike f g all Minx = cc
-each_alike f g all Pyram = cc
-each_alike f g all Skewb = cc
-each_alike f g all Sq1 = cc
-each_alike f g all Bf333 = cc
-each_alike f g all Fm333 = cc
+each_alike {X = X} f g all event =
+    let it = numbered event in
+    let here : (h : Event → X) → slice_get (map h events) it.0 ≡ Some (h event) = λ h. slice_get-map h events it.0 ∙ ap (option_map h) it.2 in
+    same_Some (f event) (g event) (sym (here f) ∙ ap (λ xs. slice_get xs it.0) all ∙ here g)
 
 -- a test that all events pass is passed by each
 pub each_passes : (test : Event → Bool) → map test events ≡ map (λ event. true) events → (event : Event)
@@ -38,22 +45,10 @@ each_passes test all event = each_alike test (λ e. true) all event
 -- ---- the events differ
 
 number_of : Event → ℕ
-number_of C222 = 0
-number_of C333 = 1
-number_of Oh333 = 2
-number_of C555 = 3
-number_of C666 = 4
-number_of C777 = 5
-number_of Clock = 6
-number_of Minx = 7
-number_of Pyram = 8
-number_of Skewb = 9
-number_of Sq1 = 10
-number_of Bf333 = 11
-number_of Fm333 = 12
+number_of event = (numbered event).0
 
 number-at : (n : ℕ) (event : Event) → slice_get events n ≡ Some event → number_of event ≡ n
-unfolding number_of
+unfolding number_of numbered
 number-at n event at =
     let below : n < 13 = slice_get_within events n event at in
     let read : slice_get (range_with_len 0 13) n ≡ Some (number_of event) = slice_get-map number_of events n ∙ ap (option_map number_of) at in

@@ -1,11 +1,9 @@
-//! The events.
+//! The events, and the puzzles that are scrambled for them.
 
 ghost use Rattle.std.specs.Prelude.{◌≡◌, ◌≤◌, IfSome, Some, slice_get};
-ghost use Rattle.scr_notation.specs.Event.{events, row_of, id_of, name_of, kind_of, per_group_of, minima_of, family_of, net_side_of, event_of};
+ghost use Rattle.scr_notation.specs.Event.{events, puzzle_row_of, id_of, name_of, puzzle_of, kind_of, per_group_of, minima_of, family_of, is_tested_by_table, net_side_of, event_of};
 ghost use Rattle.scr_notation.specs.Kinds.{IsKind};
 ghost use Rattle.scr_notation.specs.declared.event.Kind.TheVariants.{Faces, Axes};
-
-use Family::{Cube222, Cube333, Pyraminx, Skewb, Square1};
 
 /// An event (WCA Regulations, article 9), in the order of the events' numbers from 0.
 #[derive(Clone, Copy, Debug, PartialEq, Eq)]
@@ -36,6 +34,36 @@ pub enum Event {
     Bf333,
     /// 3x3x3 Fewest Moves.
     Fm333,
+}
+
+/// What is scrambled for an event, and how. Events that have it in common have the same turns, states and scrambles, and
+/// look alike.
+#[derive(Clone, Copy, Debug, PartialEq, Eq)]
+pub enum Puzzle {
+    /// The 2x2x2.
+    Cube222,
+    /// The 3x3x3.
+    Cube333,
+    /// The 3x3x3 that wide turns at the end leave held in any of 24 ways.
+    Held333,
+    /// The 3x3x3 whose scrambles begin and end with R' U' F.
+    Fewest333,
+    /// The 5x5x5.
+    Cube555,
+    /// The 6x6x6.
+    Cube666,
+    /// The 7x7x7.
+    Cube777,
+    /// The Clock.
+    Clock,
+    /// The Megaminx.
+    Megaminx,
+    /// The Pyraminx.
+    Pyraminx,
+    /// The Skewb.
+    Skewb,
+    /// The Square-1.
+    Square1,
 }
 
 /// A kind of puzzles, by the turns that they have.
@@ -83,10 +111,17 @@ pub enum Family {
 struct EventRow {
     id: &'static str,
     name: &'static str,
-    kind: Kind,
+    puzzle: Puzzle,
     per_group: u8,
+}
+
+/// What the table of puzzles has of one.
+#[derive(Clone, Copy)]
+struct PuzzleRow {
+    kind: Kind,
     minima: Option<Minima>,
     family: Option<Family>,
+    tested_by_table: bool,
     net_side: Option<u8>,
 }
 
@@ -122,12 +157,19 @@ impl Event {
         self.row().name
     }
 
+    /// What is scrambled for it.
+    pub fn puzzle(self) -> Puzzle
+        ensures { result ≡ puzzle_of self }
+    {
+        self.row().puzzle
+    }
+
     /// What its turns are.
     pub fn kind(self) -> Kind
         ensures value { result ≡ kind_of self }
         ensures depths { IsKind result }
     {
-        self.row().kind
+        self.puzzle().row().kind
     }
 
     /// How many scrambles a group has, without the two extra ones.
@@ -143,14 +185,21 @@ impl Event {
         ensures value { result ≡ minima_of self }
         ensures range { IfSome result (λ minima. (minima.usual ≤ minima.greatest) × (minima.greatest ≤ 15)) }
     {
-        self.row().minima
+        self.puzzle().row().minima
     }
 
     /// The family of its tables; `None` where its scrambles need no table.
     pub fn family(self) -> Option<Family>
         ensures { result ≡ family_of self }
     {
-        self.row().family
+        self.puzzle().row().family
+    }
+
+    /// Whether its states are tested by its table as they are drawn. (Those of others are tested by trying words.)
+    pub fn is_tested_by_table(self) -> bool
+        ensures { result ≡ is_tested_by_table self }
+    {
+        self.puzzle().row().tested_by_table
     }
 
     /// How many layers the cube has whose net is shown, 2 to 7; `None` where none is.
@@ -158,7 +207,7 @@ impl Event {
         ensures value { result ≡ net_side_of self }
         ensures range { IfSome result (λ side. (2 ≤ side) × (side ≤ 7)) }
     {
-        self.row().net_side
+        self.puzzle().row().net_side
     }
 
     /// Its number, which is its place among the events, from 0.
@@ -177,100 +226,77 @@ impl Event {
 
     /// Its row in the table of events.
     fn row(self) -> EventRow
-        ensures id { result.id.now ≡ (row_of self).id }
-        ensures name { result.name.now ≡ (row_of self).name }
-        ensures kind { result.kind ≡ (row_of self).kind }
-        ensures per_group { result.per_group ≡ (row_of self).per_group }
-        ensures minima { result.minima ≡ (row_of self).minima }
-        ensures family { result.family ≡ (row_of self).family }
-        ensures net_side { result.net_side ≡ (row_of self).net_side }
+        ensures id { result.id.now ≡ id_of self }
+        ensures name { result.name.now ≡ name_of self }
+        ensures puzzle { result.puzzle ≡ puzzle_of self }
+        ensures per_group { result.per_group ≡ per_group_of self }
     {
-        let (id, name, kind, per_group, minima, family, net_side) = match self {
-            Event::C222 => (
-                "222",
-                "2x2x2 Cube",
-                faces(1, 0),
-                5,
-                up_to(11, 4),
-                Some(Cube222),
-                Some(2),
-            ),
-            Event::C333 => (
-                "333",
-                "3x3x3 Cube",
-                faces(1, 1),
-                5,
-                up_to(5, 2),
-                Some(Cube333),
-                Some(3),
-            ),
-            Event::Oh333 => (
-                "333oh",
-                "3x3x3 One-Handed",
-                faces(1, 1),
-                5,
-                up_to(5, 2),
-                Some(Cube333),
-                Some(3),
-            ),
-            Event::C555 => ("555", "5x5x5 Cube", faces(2, 2), 5, None, None, Some(5)),
-            Event::C666 => ("666", "6x6x6 Cube", faces(3, 2), 3, None, None, Some(6)),
-            Event::C777 => ("777", "7x7x7 Cube", faces(3, 3), 3, None, None, Some(7)),
-            Event::Clock => ("clock", "Clock", Kind::PinSets, 5, up_to(3, 2), None, None),
-            Event::Minx => ("minx", "Megaminx", Kind::WideTurns, 5, None, None, None),
-            Event::Pyram => (
-                "pyram",
-                "Pyraminx",
-                axes(true),
-                5,
-                up_to(15, 6),
-                Some(Pyraminx),
-                None,
-            ),
-            Event::Skewb => (
-                "skewb",
-                "Skewb",
-                axes(false),
-                5,
-                up_to(11, 7),
-                Some(Skewb),
-                None,
-            ),
-            Event::Sq1 => (
-                "sq1",
-                "Square-1",
-                Kind::LayersAndTwist,
-                5,
-                up_to(4, 2),
-                Some(Square1),
-                None,
-            ),
-            Event::Bf333 => (
-                "333bf",
-                "3x3x3 Blindfolded",
-                faces(2, 1),
-                3,
-                up_to(5, 2),
-                Some(Cube333),
-                None,
-            ),
-            Event::Fm333 => (
-                "333fm",
-                "3x3x3 Fewest Moves",
-                faces(1, 1),
-                3,
-                up_to(5, 2),
-                Some(Cube333),
-                None,
-            ),
+        let (id, name, puzzle, per_group) = match self {
+            Event::C222 => ("222", "2x2x2 Cube", Puzzle::Cube222, 5),
+            Event::C333 => ("333", "3x3x3 Cube", Puzzle::Cube333, 5),
+            Event::Oh333 => ("333oh", "3x3x3 One-Handed", Puzzle::Cube333, 5),
+            Event::C555 => ("555", "5x5x5 Cube", Puzzle::Cube555, 5),
+            Event::C666 => ("666", "6x6x6 Cube", Puzzle::Cube666, 3),
+            Event::C777 => ("777", "7x7x7 Cube", Puzzle::Cube777, 3),
+            Event::Clock => ("clock", "Clock", Puzzle::Clock, 5),
+            Event::Minx => ("minx", "Megaminx", Puzzle::Megaminx, 5),
+            Event::Pyram => ("pyram", "Pyraminx", Puzzle::Pyraminx, 5),
+            Event::Skewb => ("skewb", "Skewb", Puzzle::Skewb, 5),
+            Event::Sq1 => ("sq1", "Square-1", Puzzle::Square1, 5),
+            Event::Bf333 => ("333bf", "3x3x3 Blindfolded", Puzzle::Held333, 3),
+            Event::Fm333 => ("333fm", "3x3x3 Fewest Moves", Puzzle::Fewest333, 3),
         };
         EventRow {
             id,
             name,
-            kind,
+            puzzle,
             per_group,
+        }
+    }
+}
+
+impl Puzzle {
+    /// Its row in the table of puzzles.
+    fn row(self) -> PuzzleRow
+        ensures { result ≡ puzzle_row_of self }
+    {
+        let (kind, minima, family, tested_by_table, net_side) = match self {
+            Puzzle::Cube222 => (
+                faces(1, 0),
+                up_to(11, 4),
+                Some(Family::Cube222),
+                true,
+                Some(2),
+            ),
+            Puzzle::Cube333 => (
+                faces(1, 1),
+                up_to(5, 2),
+                Some(Family::Cube333),
+                false,
+                Some(3),
+            ),
+            Puzzle::Held333 => (faces(2, 1), up_to(5, 2), Some(Family::Cube333), false, None),
+            Puzzle::Fewest333 => (faces(1, 1), up_to(5, 2), Some(Family::Cube333), false, None),
+            Puzzle::Cube555 => (faces(2, 2), None, None, false, Some(5)),
+            Puzzle::Cube666 => (faces(3, 2), None, None, false, Some(6)),
+            Puzzle::Cube777 => (faces(3, 3), None, None, false, Some(7)),
+            Puzzle::Clock => (Kind::PinSets, up_to(3, 2), None, false, None),
+            Puzzle::Megaminx => (Kind::WideTurns, None, None, false, None),
+            Puzzle::Pyraminx => (axes(true), up_to(15, 6), Some(Family::Pyraminx), true, None),
+            Puzzle::Skewb => (axes(false), up_to(11, 7), Some(Family::Skewb), true, None),
+            Puzzle::Square1 => (
+                Kind::LayersAndTwist,
+                up_to(4, 2),
+                Some(Family::Square1),
+                false,
+                None,
+            ),
+        };
+        PuzzleRow {
+            kind,
             minima,
             family,
+            tested_by_table,
             net_side,
         }
     }

@@ -1,7 +1,7 @@
 //! Events, turns and scrambles as the WCA writes them (WCA Regulations, articles 9 and 12). No puzzle stands here: the
 //! puzzles' crates say what turns do.
 //!
-//! Which events there are stands in `specs/Event.antt`; which turns the puzzle of an event has in `specs/Faces.antt`,
+//! Which events there are, and which puzzle is scrambled for each, stands in `specs/Event.antt`; which turns the puzzle of an event has in `specs/Faces.antt`,
 //! `Axes.antt`, `Layers.antt`, `Pins.antt` and `Wide.antt`; how turns are written in `specs/Spelling.antt`. `print` gives the
 //! text of a scramble, and `parse` is its inverse: an accepted text is the text of exactly the scramble that was read, and any
 //! other is refused at its first word at fault, with the byte at which that word begins. `inverse` is the reversed list of
@@ -29,7 +29,7 @@ mod turn;
 mod turned;
 mod turning;
 
-pub use event::{EVENTS, Event, Family, Kind, Minima};
+pub use event::{EVENTS, Event, Family, Kind, Minima, Puzzle};
 pub use event_set::EventSet;
 pub use letters::{Axes, Faces, Letters};
 pub use printing::print;

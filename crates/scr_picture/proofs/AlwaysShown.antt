@@ -9,12 +9,15 @@ use Rattle.scr_combinatorics.specs.Play.{play}
 use Rattle.scr_combinatorics.proofs.PlayLaws.{play-empty, play-first}
 use Rattle.scr_combinatorics.proofs.PlayedWhere.{played-turns}
 use Rattle.scr_notation.specs.declared.event.Event.{Event}
-use Rattle.scr_notation.specs.declared.event.Event.TheVariants.{C222, C333, Oh333, C555, C666, C777, Clock, Minx, Pyram, Skewb, Sq1, Bf333, Fm333}
+use Rattle.scr_notation.specs.declared.event.Event.TheVariants.{Minx, Pyram, Skewb}
+use Rattle.scr_notation.specs.declared.event.Puzzle.{Puzzle}
+use Rattle.scr_notation.specs.declared.event.Puzzle.TheVariants as puzzle
+use Rattle.scr_notation.specs.Event.{puzzle_of, puzzle_row_of}
 use Rattle.scr_notation.specs.declared.turn.Turn.{Turn}
 use Rattle.scr_notation.specs.declared.turn.Turn.TheVariants.{Face, Axis, Tip, Layers, Twist, Pins, Over, Wide}
 use Rattle.scr_notation.specs.Amounts.{is_amount}
 use Rattle.scr_notation.specs.Faces.{depths_of, is_face_turn}
-use Rattle.scr_notation.specs.Turns.{permits}
+use Rattle.scr_notation.specs.Turns.{has_turn, permits}
 use Rattle.scr_net.specs.Nets.{net_after, solved_net, turns_layers}
 use Rattle.scr_net.proofs.LayerTurns.{TellsTurns-net}
 use Rattle.scr_clock.specs.Dials.{solved}
@@ -25,7 +28,7 @@ use Rattle.scr_picture.specs.Stickers.{moved_times, move_of, stickers_after}
 use Rattle.scr_picture.specs.Megaminx.{minx_moves, solved_minx}
 use Rattle.scr_picture.specs.Pyraminx.{pyram_moves, solved_pyram_picture}
 use Rattle.scr_picture.specs.Skewb.{skewb_moves, solved_skewb_picture}
-use Rattle.scr_picture.specs.Pictures.{net_letters, net_picture, picture_of}
+use Rattle.scr_picture.specs.Pictures.{net_letters, net_picture, picture, picture_of}
 
 -- what is there is shown
 nothing-shown : {A B : Type 0} (f : A → B) (o : Option A) (a : A) → o ≡ Some a → option_map f o ≡ None → ⊥
@@ -135,19 +138,22 @@ map-none : {A B : Type 0} (f : A → B) (o : Option A) → option_map f o ≡ No
 map-none f None e = refl
 map-none f (Some a) e = absurd (cc)
 
-pub none_where_barred : (event : Event) (w : List Turn) → All (λ t. IsTrue (permits event t)) w
-    → picture_of event w ≡ None → (event ≡ Sq1) × (play sq1_after solved_sq1 w ≡ None)
+none_barred : (what : Puzzle) (w : List Turn) → All (λ t. IsTrue (has_turn (puzzle_row_of what).kind t)) w
+    → picture what w ≡ None → (what ≡ puzzle.Square1) × (play sq1_after solved_sq1 w ≡ None)
 unfolding minx_moves pyram_moves skewb_moves
-none_where_barred C222 w all none = absurd (net-shown 1 0 2 (lit< tt) (lit< tt) w all none)
-none_where_barred C333 w all none = absurd (net-shown 1 1 3 (lit< tt) (lit< tt) w all none)
-none_where_barred Oh333 w all none = absurd (net-shown 1 1 3 (lit< tt) (lit< tt) w all none)
-none_where_barred C555 w all none = absurd (net-shown 2 2 5 (lit< tt) (lit< tt) w all none)
-none_where_barred C666 w all none = absurd (net-shown 3 2 6 (lit< tt) (lit< tt) w all none)
-none_where_barred C777 w all none = absurd (net-shown 3 3 7 (lit< tt) (lit< tt) w all none)
-none_where_barred Bf333 w all none = absurd (net-shown 2 1 3 (lit< tt) (lit< tt) w all none)
-none_where_barred Fm333 w all none = absurd (net-shown 1 1 3 (lit< tt) (lit< tt) w all none)
-none_where_barred Clock w all none = absurd (none-or (clock_after solved w) ((defined-iff solved w).1 all) (map-none _ (clock_after solved w) none))
-none_where_barred Minx w all none = absurd (stickers-shown Minx 3 minx_moves solved_minx _ refl minx-move w all none)
-none_where_barred Pyram w all none = absurd (stickers-shown Pyram 8 pyram_moves solved_pyram_picture _ refl pyram-move w all none)
-none_where_barred Skewb w all none = absurd (stickers-shown Skewb 4 skewb_moves solved_skewb_picture _ refl axis-move w all none)
-none_where_barred Sq1 w all none = (refl, map-none _ (play sq1_after solved_sq1 w) none)
+none_barred puzzle.Cube222 w all none = absurd (net-shown 1 0 2 (lit< tt) (lit< tt) w all none)
+none_barred puzzle.Cube333 w all none = absurd (net-shown 1 1 3 (lit< tt) (lit< tt) w all none)
+none_barred puzzle.Held333 w all none = absurd (net-shown 2 1 3 (lit< tt) (lit< tt) w all none)
+none_barred puzzle.Fewest333 w all none = absurd (net-shown 1 1 3 (lit< tt) (lit< tt) w all none)
+none_barred puzzle.Cube555 w all none = absurd (net-shown 2 2 5 (lit< tt) (lit< tt) w all none)
+none_barred puzzle.Cube666 w all none = absurd (net-shown 3 2 6 (lit< tt) (lit< tt) w all none)
+none_barred puzzle.Cube777 w all none = absurd (net-shown 3 3 7 (lit< tt) (lit< tt) w all none)
+none_barred puzzle.Clock w all none = absurd (none-or (clock_after solved w) ((defined-iff solved w).1 all) (map-none _ (clock_after solved w) none))
+none_barred puzzle.Megaminx w all none = absurd (stickers-shown Minx 3 minx_moves solved_minx _ refl minx-move w all none)
+none_barred puzzle.Pyraminx w all none = absurd (stickers-shown Pyram 8 pyram_moves solved_pyram_picture _ refl pyram-move w all none)
+none_barred puzzle.Skewb w all none = absurd (stickers-shown Skewb 4 skewb_moves solved_skewb_picture _ refl axis-move w all none)
+none_barred puzzle.Square1 w all none = (refl, map-none _ (play sq1_after solved_sq1 w) none)
+
+pub none_where_barred : (event : Event) (w : List Turn) → All (λ t. IsTrue (permits event t)) w
+    → picture_of event w ≡ None → (puzzle_of event ≡ puzzle.Square1) × (play sq1_after solved_sq1 w ≡ None)
+none_where_barred event w all none = none_barred (puzzle_of event) w all none

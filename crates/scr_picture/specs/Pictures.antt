@@ -4,7 +4,9 @@ use Rattle.std.specs.List.{range_with_len}
 use Rattle.std.specs.Option.{option_map}
 use Rattle.scr_combinatorics.specs.Play.{play}
 use Rattle.scr_notation.specs.declared.event.Event.{Event}
-use Rattle.scr_notation.specs.declared.event.Event.TheVariants.{C222, C333, Oh333, C555, C666, C777, Clock, Minx, Pyram, Skewb, Sq1, Bf333, Fm333}
+use Rattle.scr_notation.specs.declared.event.Puzzle.{Puzzle}
+use Rattle.scr_notation.specs.declared.event.Puzzle.TheVariants as puzzle
+use Rattle.scr_notation.specs.Event.{puzzle_of}
 use Rattle.scr_notation.specs.declared.turn.Turn.{Turn}
 use Rattle.scr_net.specs.Nets.{Letters, cell, net_after, solved_net}
 use Rattle.scr_sq1.specs.Units.{Sq1State, solved_sq1, sq1_after}
@@ -61,18 +63,20 @@ clock_picture turns = option_map (λ dials. spaced_text Hours (clock_hours dials
 abbrev pub sq1_picture : List Turn → Option (List ℕ)
 sq1_picture turns = option_map sq1_letters (play sq1_after solved_sq1 turns)
 
--- The picture of the puzzle of an event after these turns.
+-- The picture of a puzzle after these turns, and of that of an event.
+abbrev pub picture : Puzzle → List Turn → Option (List ℕ)
+picture puzzle.Cube222 turns = net_picture 2 turns
+picture puzzle.Cube333 turns = net_picture 3 turns
+picture puzzle.Held333 turns = net_picture 3 turns
+picture puzzle.Fewest333 turns = net_picture 3 turns
+picture puzzle.Cube555 turns = net_picture 5 turns
+picture puzzle.Cube666 turns = net_picture 6 turns
+picture puzzle.Cube777 turns = net_picture 7 turns
+picture puzzle.Clock turns = clock_picture turns
+picture puzzle.Megaminx turns = minx_picture turns
+picture puzzle.Pyraminx turns = pyram_picture turns
+picture puzzle.Skewb turns = skewb_picture turns
+picture puzzle.Square1 turns = sq1_picture turns
+
 abbrev pub picture_of : Event → List Turn → Option (List ℕ)
-picture_of C222 turns = net_picture 2 turns
-picture_of C333 turns = net_picture 3 turns
-picture_of Oh333 turns = net_picture 3 turns
-picture_of Bf333 turns = net_picture 3 turns
-picture_of Fm333 turns = net_picture 3 turns
-picture_of C555 turns = net_picture 5 turns
-picture_of C666 turns = net_picture 6 turns
-picture_of C777 turns = net_picture 7 turns
-picture_of Clock turns = clock_picture turns
-picture_of Minx turns = minx_picture turns
-picture_of Pyram turns = pyram_picture turns
-picture_of Skewb turns = skewb_picture turns
-picture_of Sq1 turns = sq1_picture turns
+picture_of event = picture (puzzle_of event)

@@ -7,7 +7,9 @@ ghost use Rattle.scr_combinatorics.specs.Play.{play};
 ghost use Rattle.scr_orbit.specs.Orbits.{Orbit};
 ghost use Rattle.scr_orbit.specs.PowerPuzzles.{after_letter};
 ghost use Rattle.scr_notation.specs.declared.event.Event.{Event as EventOf};
-ghost use Rattle.scr_notation.specs.declared.event.Event.TheVariants.{C222, C333, Oh333, Bf333, Fm333, Minx, Pyram, Skewb, Clock, Sq1};
+ghost use Rattle.scr_notation.specs.declared.event.Event.TheVariants.{C222, Bf333, Minx, Pyram, Skewb, Clock, Sq1};
+ghost use Rattle.scr_notation.specs.declared.event.Puzzle.TheVariants as puzzle;
+ghost use Rattle.scr_notation.specs.Event.{puzzle_of};
 ghost use Rattle.scr_notation.specs.declared.turn.Turn.{Turn as Letter};
 ghost use Rattle.scr_notation.specs.Turning.{opposite};
 ghost use Rattle.scr_notation.specs.Turns.{permits};
@@ -30,7 +32,7 @@ ghost use Rattle.scr_picture.specs.Pictures.{clock_hours, net_letters, picture_o
 /// Turns of an event make a picture, but where one of a Square-1 is barred in its place.
 pub fn shown()
     ensures { (event : EventOf) (w : List Letter) → All (λ t. IsTrue (permits event t)) w → picture_of event w ≡ None
-        → (event ≡ Sq1) × (play sq1_after solved_sq1 w ≡ None) }
+        → (puzzle_of event ≡ puzzle.Square1) × (play sq1_after solved_sq1 w ≡ None) }
 {}
 
 /// Wherever turns lead the pieces of a 2x2x2, they make the picture of these pieces; and only one state has each
@@ -44,10 +46,10 @@ pub fn corners()
 
 /// And of a 3x3x3, in each event in which it isn't held another way.
 pub fn cube()
-    ensures shown { (event : EventOf) (w : List Letter) (c : CubeState) → Contains (C333 ∷ Oh333 ∷ Fm333 ∷ []) event
+    ensures shown { (event : EventOf) (w : List Letter) (c : CubeState) → Contains (puzzle.Cube333 ∷ puzzle.Fewest333 ∷ []) (puzzle_of event)
         → play (after_letter cube_powers) solved_cube w ≡ Some c
         → picture_of event w ≡ Some (net_letters 3 (net_of_cube c)) }
-    ensures one { (event : EventOf) (w v : List Letter) (c d : CubeState) → Contains (C333 ∷ Oh333 ∷ Fm333 ∷ []) event
+    ensures one { (event : EventOf) (w v : List Letter) (c d : CubeState) → Contains (puzzle.Cube333 ∷ puzzle.Fewest333 ∷ []) (puzzle_of event)
         → play (after_letter cube_powers) solved_cube w ≡ Some c → play (after_letter cube_powers) solved_cube v ≡ Some d
         → picture_of event w ≡ picture_of event v → c ≡ d }
 {}

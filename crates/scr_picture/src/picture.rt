@@ -6,7 +6,7 @@ ghost use Rattle.scr_net.specs.Nets.{IsSide};
 ghost use Rattle.scr_picture.specs.declared.names.Alphabet.TheVariants.{Hours};
 ghost use Rattle.scr_picture.specs.Names.{IsLine, spaced_text};
 ghost use Rattle.scr_picture.specs.Pictures.{row_letters, face_letters, net_letters, clock_hours, sq1_letters};
-ghost use Rattle.scr_picture.specs.Pictures.{picture_of, net_picture, pyram_picture, skewb_picture, minx_picture, clock_picture, sq1_picture};
+ghost use Rattle.scr_picture.specs.Pictures.{picture, picture_of, net_picture, pyram_picture, skewb_picture, minx_picture, clock_picture, sq1_picture};
 
 use crate::names::{Alphabet, Text, cube_name, joined, spaced};
 use crate::stickers::played;
@@ -16,7 +16,7 @@ use crate::tables::{
 use arrayvec::ArrayString;
 use scr_clock::Clock;
 use scr_net::Net;
-use scr_notation::{Event, Scramble};
+use scr_notation::{Puzzle, Scramble};
 use scr_sq1::Sq1;
 use std::marker::Model;
 
@@ -44,18 +44,7 @@ impl Picture {
     pub fn of(scramble: &Scramble) -> Option<Picture>
         ensures { result ≡ picture_of scramble.now.event scramble.now.turns }
     {
-        match scramble.event() {
-            Event::C222 => net_picture::<2>(scramble),
-            Event::C333 | Event::Oh333 | Event::Bf333 | Event::Fm333 => net_picture::<3>(scramble),
-            Event::C555 => net_picture::<5>(scramble),
-            Event::C666 => net_picture::<6>(scramble),
-            Event::C777 => net_picture::<7>(scramble),
-            Event::Clock => clock_picture(scramble),
-            Event::Minx => minx_picture(scramble),
-            Event::Pyram => pyram_picture(scramble),
-            Event::Skewb => skewb_picture(scramble),
-            Event::Sq1 => sq1_picture(scramble),
-        }
+        picture_of(scramble.event().puzzle(), scramble)
     }
 
     /// The text of its letters, which has no line feed.
@@ -64,6 +53,24 @@ impl Picture {
         ensures line { IsLine self.now }
     {
         self.letters.as_str()
+    }
+}
+
+/// The picture of this puzzle after a scramble.
+fn picture_of(puzzle: Puzzle, scramble: &Scramble) -> Option<Picture>
+    ensures { result ≡ picture puzzle scramble.now.turns }
+{
+    match puzzle {
+        Puzzle::Cube222 => net_picture::<2>(scramble),
+        Puzzle::Cube333 | Puzzle::Held333 | Puzzle::Fewest333 => net_picture::<3>(scramble),
+        Puzzle::Cube555 => net_picture::<5>(scramble),
+        Puzzle::Cube666 => net_picture::<6>(scramble),
+        Puzzle::Cube777 => net_picture::<7>(scramble),
+        Puzzle::Clock => clock_picture(scramble),
+        Puzzle::Megaminx => minx_picture(scramble),
+        Puzzle::Pyraminx => pyram_picture(scramble),
+        Puzzle::Skewb => skewb_picture(scramble),
+        Puzzle::Square1 => sq1_picture(scramble),
     }
 }
 

@@ -17,6 +17,7 @@ module _ (Are Other : Event → Settings → ℕ → ℕ → List (List Turn) �
   round k settings text h = record {
     round = h.round;
     scrambles = h.scrambles;
+    few_groups = h.few_groups;
     each_slot = h.each_slot;
     fair = follows h.round.event settings h.round.least (first_stream k) h.scrambles h.fair;
     below = h.below;

@@ -4,17 +4,19 @@ use Rattle.std.specs.Prelude.{if◌then◌else◌}
 use Rattle.scr_combinatorics.specs.Play.{play}
 use Rattle.scr_draw.specs.StateSpace.{IsFairFor}
 use Rattle.scr_notation.specs.declared.event.Event.{Event}
-use Rattle.scr_notation.specs.declared.event.Event.TheVariants.{C222, C333, Oh333, C555, C666, C777, Clock, Minx, Pyram, Skewb, Sq1, Bf333, Fm333}
+use Rattle.scr_notation.specs.declared.event.Puzzle.{Puzzle}
+use Rattle.scr_notation.specs.declared.event.Puzzle.TheVariants as puzzle
+use Rattle.scr_notation.specs.Event.{puzzle_of}
 use Rattle.scr_notation.specs.declared.turn.Turn.{Turn}
 use Rattle.scr_cube.specs.Cube333.{CubeState}
 use Rattle.scr_fewest.specs.Fewest.{is_framed}
 use Rattle.scr_slots.specs.declared.settings.Settings.{Settings}
 use Rattle.scr_slots.specs.Shown.{DrawnPuzzle, drawn_puzzle, GivesDrawn, States, slot_numbers}
-use Rattle.scr_slots.specs.Events.{at_most, shown_of}
+use Rattle.scr_slots.specs.Events.{at_most, shown_as, shown_of}
 use Rattle.scr_sheet.specs.Sheet.{EachSlot}
 use Rattle.scr_sheet.specs.Headline.{AreFairScrambles}
 use Rattle.scr_picture_laws.specs.Pictured.{pictures_333}
-use Rattle.scr_picture_laws.specs.FairPictures.{AreFairPictures}
+use Rattle.scr_picture_laws.specs.FairPictures.{AreFairPictures, AreFairPicturesOf}
 use Rattle.scr_picture_laws.proofs.TwoModels.{TwoModels, states, pictures, IsPermitted-shown}
 use Rattle.scr_picture_laws.proofs.FairShown.{picture_at, picture_space, IsFairFor-shown, Draws-shown}
 use Rattle.scr_picture_laws.proofs.ByWords.{EventModels, moved, follows, one_solved}
@@ -66,22 +68,26 @@ framed : (w : List Turn) (s : CubeState) (b : Bool) → (if b then play cubes.af
 framed w s true e = follows cubes w s e
 framed w s false e = absurd (cc)
 
+fair_by_puzzle : (what : Puzzle) (settings : Settings) (least stream : ℕ) (scrambles : List (List Turn))
+    → AreFairScrambles (shown_as what) settings least stream scrambles
+    → AreFairPicturesOf what settings least stream scrambles
+unfolding shown_as
+fair_by_puzzle puzzle.Cube222 = one_fair corners 11
+fair_by_puzzle puzzle.Cube333 = one_fair cubes 52
+fair_by_puzzle puzzle.Held333 = fair_shown held_cubes (play helds.after helds.solved) (play (moved helds) helds.solved_picture) (at_most 54) (follows helds)
+fair_by_puzzle puzzle.Fewest333 =
+    fair_shown (one_solved cubes) (λ w. if is_framed w then play cubes.after cubes.solved w else None)
+    (λ w. if is_framed w then pictures_333.played w else None) (at_most 58) (λ w s. framed w s (is_framed w))
+fair_by_puzzle puzzle.Cube555 = λ settings least stream scrambles h. tt
+fair_by_puzzle puzzle.Cube666 = λ settings least stream scrambles h. tt
+fair_by_puzzle puzzle.Cube777 = λ settings least stream scrambles h. tt
+fair_by_puzzle puzzle.Clock = λ settings least stream scrambles h. h
+fair_by_puzzle puzzle.Megaminx = λ settings least stream scrambles h. tt
+fair_by_puzzle puzzle.Pyraminx = one_fair pyraminxes 15
+fair_by_puzzle puzzle.Skewb = one_fair skewbs 11
+fair_by_puzzle puzzle.Square1 = λ settings least stream scrambles h. h
+
 pub fair_pictures : (event : Event) (settings : Settings) (least stream : ℕ) (scrambles : List (List Turn))
     → AreFairScrambles (shown_of event) settings least stream scrambles
     → AreFairPictures event settings least stream scrambles
-unfolding shown_of
-fair_pictures C222 = one_fair corners 11
-fair_pictures C333 = one_fair cubes 52
-fair_pictures Oh333 = one_fair cubes 52
-fair_pictures Bf333 = fair_shown held_cubes (play helds.after helds.solved) (play (moved helds) helds.solved_picture) (at_most 54) (follows helds)
-fair_pictures Fm333 =
-    fair_shown (one_solved cubes) (λ w. if is_framed w then play cubes.after cubes.solved w else None)
-    (λ w. if is_framed w then pictures_333.played w else None) (at_most 58) (λ w s. framed w s (is_framed w))
-fair_pictures Pyram = one_fair pyraminxes 15
-fair_pictures Skewb = one_fair skewbs 11
-fair_pictures Clock = λ settings least stream scrambles h. h
-fair_pictures Sq1 = λ settings least stream scrambles h. h
-fair_pictures C555 = λ settings least stream scrambles h. tt
-fair_pictures C666 = λ settings least stream scrambles h. tt
-fair_pictures C777 = λ settings least stream scrambles h. tt
-fair_pictures Minx = λ settings least stream scrambles h. tt
+fair_pictures event = fair_by_puzzle (puzzle_of event)

@@ -1,7 +1,9 @@
 -- What is promised of each event in pictures.
 use Rattle.std.specs.Prelude.{ℕ, List}
 use Rattle.scr_notation.specs.declared.event.Event.{Event}
-use Rattle.scr_notation.specs.declared.event.Event.TheVariants.{C222, C333, Oh333, C555, C666, C777, Clock, Minx, Pyram, Skewb, Sq1, Bf333, Fm333}
+use Rattle.scr_notation.specs.declared.event.Puzzle.{Puzzle}
+use Rattle.scr_notation.specs.declared.event.Puzzle.TheVariants as puzzle
+use Rattle.scr_notation.specs.Event.{puzzle_of}
 use Rattle.scr_notation.specs.declared.turn.Turn.{Turn}
 use Rattle.scr_net.specs.Nets.{Letters}
 use Rattle.scr_sq1.specs.Units.{Sq1State}
@@ -15,17 +17,19 @@ use Rattle.scr_picture_laws.specs.Pictured.{pictures_222, pictures_333, pictures
 -- turns reach and that needs so many is drawn by equally many lists of numbers, and no other by any; and these turns
 -- give the pictures that the slots' numbers draw. The pictures of a Clock and of a Square-1 are their dials and units.
 -- Of random moves nothing is said.
+abbrev pub AreFairPicturesOf : Puzzle → Settings → ℕ → ℕ → List (List Turn) → Type 0
+AreFairPicturesOf puzzle.Cube222 = AreFairScrambles (States Letters pictures_222)
+AreFairPicturesOf puzzle.Cube333 = AreFairScrambles (States Letters pictures_333)
+AreFairPicturesOf puzzle.Held333 = AreFairScrambles (States Letters pictures_held)
+AreFairPicturesOf puzzle.Fewest333 = AreFairScrambles (States Letters pictures_fewest)
+AreFairPicturesOf puzzle.Cube555 = λ settings least stream scrambles. Unit {0}
+AreFairPicturesOf puzzle.Cube666 = λ settings least stream scrambles. Unit {0}
+AreFairPicturesOf puzzle.Cube777 = λ settings least stream scrambles. Unit {0}
+AreFairPicturesOf puzzle.Clock = AreFairScrambles (States (List ℕ) drawn_clock)
+AreFairPicturesOf puzzle.Megaminx = λ settings least stream scrambles. Unit {0}
+AreFairPicturesOf puzzle.Pyraminx = AreFairScrambles (States (List ℕ) pictures_pyram)
+AreFairPicturesOf puzzle.Skewb = AreFairScrambles (States (List ℕ) pictures_skewb)
+AreFairPicturesOf puzzle.Square1 = AreFairScrambles (States Sq1State drawn_sq1)
+
 abbrev pub AreFairPictures : Event → Settings → ℕ → ℕ → List (List Turn) → Type 0
-AreFairPictures C222 = AreFairScrambles (States Letters pictures_222)
-AreFairPictures C333 = AreFairScrambles (States Letters pictures_333)
-AreFairPictures Oh333 = AreFairScrambles (States Letters pictures_333)
-AreFairPictures Fm333 = AreFairScrambles (States Letters pictures_fewest)
-AreFairPictures Bf333 = AreFairScrambles (States Letters pictures_held)
-AreFairPictures Pyram = AreFairScrambles (States (List ℕ) pictures_pyram)
-AreFairPictures Skewb = AreFairScrambles (States (List ℕ) pictures_skewb)
-AreFairPictures Clock = AreFairScrambles (States (List ℕ) drawn_clock)
-AreFairPictures Sq1 = AreFairScrambles (States Sq1State drawn_sq1)
-AreFairPictures C555 = λ settings least stream scrambles. Unit {0}
-AreFairPictures C666 = λ settings least stream scrambles. Unit {0}
-AreFairPictures C777 = λ settings least stream scrambles. Unit {0}
-AreFairPictures Minx = λ settings least stream scrambles. Unit {0}
+AreFairPictures event = AreFairPicturesOf (puzzle_of event)

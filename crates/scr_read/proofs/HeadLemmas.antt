@@ -1,6 +1,6 @@
 -- A line is the head of at most one round.
-use Rattle.std.proofs.Common.{◌≡◌, ℕ, ◌+◌, ◌^◌, ◌<◌, ◌≤◌, ◌==◌, true, false, List, [], ◌∷◌, ◌++◌, Some, refl, sym, ap, subst, ◌∙◌, arith, append_assoc, leb-true, lit<}
-use Rattle.std.specs.Prelude.{Option, None, codes, find, slice_get, nat_le}
+use Rattle.std.proofs.Common.{◌≡◌, ℕ, ◌+◌, ◌^◌, ◌<◌, ◌≤◌, ◌==◌, true, false, List, [], ◌∷◌, ◌++◌, Some, refl, sym, ap, subst, ◌∙◌, arith, append_assoc, leb-true}
+use Rattle.std.specs.Prelude.{Option, None, codes, find, nat_le}
 use Rattle.std.specs.Char.{is_ascii_digit}
 use Rattle.std.specs.Fmt.{decimal}
 use Rattle.std.specs.List.{list_any}
@@ -12,7 +12,6 @@ use Rattle.std.proofs.lemmas.Option.{same_Some}
 use Rattle.scr_text.specs.Numbers.{number_of_text}
 use Rattle.scr_text.proofs.NumberLaws.{digits_model, number_of_text-decimal}
 use Rattle.scr_notation.specs.declared.event.Event.{Event}
-use Rattle.scr_notation.specs.declared.event.Event.TheVariants.{C222, C333, Oh333, C555, C666, C777, Clock, Minx, Pyram, Skewb, Sq1, Bf333, Fm333}
 use Rattle.scr_notation.specs.declared.event.Minima.{Minima}
 use Rattle.scr_notation.specs.Event.{events, name_of, minima_of, greatest_of, greatest_in}
 use Rattle.scr_notation.proofs.EachEvent.{each_alike, each_passes}
@@ -20,22 +19,6 @@ use Rattle.scr_round.specs.Round.{minimum_text, own_name_text, heading}
 use Rattle.scr_round.proofs.CleanLaws.{Lacks, apart, lacks_by}
 use Rattle.scr_read.specs.Heads.{HeadOf}
 use Rattle.scr_read.specs.Reading.{as_round, IsHeading}
-
--- each event has a number
-pub numbered : (event : Event) → (k : ℕ) × (k < 13) × (slice_get events k ≡ Some event)
-numbered C222 = (0, lit< tt, refl)
-numbered C333 = (1, lit< tt, refl)
-numbered Oh333 = (2, lit< tt, refl)
-numbered C555 = (3, lit< tt, refl)
-numbered C666 = (4, lit< tt, refl)
-numbered C777 = (5, lit< tt, refl)
-numbered Clock = (6, lit< tt, refl)
-numbered Minx = (7, lit< tt, refl)
-numbered Pyram = (8, lit< tt, refl)
-numbered Skewb = (9, lit< tt, refl)
-numbered Sq1 = (10, lit< tt, refl)
-numbered Bf333 = (11, lit< tt, refl)
-numbered Fm333 = (12, lit< tt, refl)
 
 -- a head is what it is without a name, and then its name
 pub with_name : (k : ℕ) (event : Event) (least : ℕ) (name : List ℕ)

@@ -14,12 +14,12 @@ use Rattle.scr_command.specs.Command.{command_of, usual_options}
 use Rattle.scr_table.specs.declared.fault.BuildFault.{BuildFault}
 use Rattle.scr_table.specs.declared.fault.BuildFault.TheVariants as build
 use Rattle.scr_slots.specs.declared.settings.Settings.{Settings}
-use Rattle.scr_sheet.specs.declared.fault.Fault.{Fault}
-use Rattle.scr_sheet.specs.declared.fault.Fault.TheVariants as fault
-use Rattle.scr_sheet.specs.declared.status.Status.{Status}
-use Rattle.scr_sheet.specs.declared.status.Status.TheVariants as status
+use Rattle.scr_fault.specs.declared.fault.Fault.{Fault}
+use Rattle.scr_fault.specs.declared.fault.Fault.TheVariants as fault
+use Rattle.scr_fault.specs.declared.status.Status.{Status}
+use Rattle.scr_fault.specs.declared.status.Status.TheVariants as status
 use Rattle.scr_sheet.specs.Sheet.{Part, settings_of, round_parts, single_part}
-use Rattle.scr_sheet.specs.Causes.{fault_of_build}
+use Rattle.scr_fault.specs.Faults.{fault_of_build}
 use Rattle.scr_sheet.specs.Check.{ReadsInput, rounds_in}
 use Rattle.scr_sheet.specs.Outcome.{EndsMaking, EndsTelling, Ends, IsRun, gaining}
 use Rattle.scr_run_laws.proofs.RunLaws.{not_risen}

@@ -13,12 +13,13 @@ use Rattle.scr_command.specs.declared.command.UsageFault.{UsageFault}
 use Rattle.scr_table.specs.declared.fault.BuildFault.{BuildFault}
 use Rattle.scr_table.specs.declared.fault.BuildFault.TheVariants as build
 use Rattle.scr_slots.specs.declared.settings.Settings.{Settings}
-use Rattle.scr_sheet.specs.declared.fault.Fault.{Fault}
-use Rattle.scr_sheet.specs.declared.fault.Fault.TheVariants as fault
-use Rattle.scr_sheet.specs.declared.status.Status.TheVariants as status
-use Rattle.scr_sheet.specs.Causes.{fault_of_build}
+use Rattle.scr_fault.specs.declared.fault.Fault.{Fault}
+use Rattle.scr_fault.specs.declared.fault.Fault.TheVariants as fault
+use Rattle.scr_fault.specs.declared.status.Status.TheVariants as status
+use Rattle.scr_fault.specs.Faults.{fault_of_build}
 use Rattle.scr_sheet.specs.Check.{InputComesTo, ReadsInput, EndsChecking, rounds_in}
-use Rattle.scr_sheet.specs.Outcome.{EndsTelling, status_of}
+use Rattle.scr_fault.specs.Status.{status_of}
+use Rattle.scr_sheet.specs.Outcome.{EndsTelling}
 
 -- A list part is no list, or could not be read.
 abbrev pub ReadsNoListPart : Change → ListFault → Type 0

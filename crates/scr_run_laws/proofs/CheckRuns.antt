@@ -17,12 +17,14 @@ use Rattle.scr_command.specs.declared.command.UsageFault.{UsageFault}
 use Rattle.scr_table.specs.declared.fault.BuildFault.{BuildFault}
 use Rattle.scr_table.specs.declared.fault.BuildFault.TheVariants as build
 use Rattle.scr_slots.specs.declared.settings.Settings.{Settings}
-use Rattle.scr_sheet.specs.declared.fault.Fault.{Fault}
-use Rattle.scr_sheet.specs.declared.status.Status.{Status}
-use Rattle.scr_sheet.specs.Causes.{fault_of_build}
+use Rattle.scr_fault.specs.declared.fault.Fault.{Fault}
+use Rattle.scr_fault.specs.declared.status.Status.{Status}
+use Rattle.scr_fault.specs.Faults.{fault_of_build}
 use Rattle.std.specs.Result.{result_map_both}
-use Rattle.scr_sheet.specs.Check.{InputComesTo, expected_lines, fault_of_check, ReadsInput, EndsChecking, rounds_in}
-use Rattle.scr_sheet.specs.Outcome.{Ends, status_of}
+use Rattle.scr_fault.specs.Faults.{fault_of_check}
+use Rattle.scr_sheet.specs.Check.{InputComesTo, expected_lines, ReadsInput, EndsChecking, rounds_in}
+use Rattle.scr_fault.specs.Status.{status_of}
+use Rattle.scr_sheet.specs.Outcome.{Ends}
 use Rattle.scr_run_laws.proofs.CheckLaws.{EndsCheck}
 use Rattle.scr_run_laws.specs.Task.{IsUnhinderedCheck, EndsWith}
 use Rattle.scr_run_laws.proofs.RunLaws.{EndsTelling-same}

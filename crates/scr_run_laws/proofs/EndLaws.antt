@@ -15,13 +15,15 @@ use Rattle.scr_table.specs.declared.fault.BuildFault.TheVariants as build
 use Rattle.scr_table_text.specs.TableText.{IsTablesText}
 use Rattle.scr_slots.specs.declared.settings.Settings.{Settings}
 use Rattle.scr_slots.specs.Tables.{tables_for}
-use Rattle.scr_sheet.specs.declared.fault.Fault.{Fault}
-use Rattle.scr_sheet.specs.declared.fault.Fault.TheVariants as fault
-use Rattle.scr_sheet.specs.declared.status.Status.{Status}
-use Rattle.scr_sheet.specs.declared.status.Status.TheVariants as status
+use Rattle.scr_fault.specs.declared.fault.Fault.{Fault}
+use Rattle.scr_fault.specs.declared.fault.Fault.TheVariants as fault
+use Rattle.scr_fault.specs.declared.status.Status.{Status}
+use Rattle.scr_fault.specs.declared.status.Status.TheVariants as status
 use Rattle.scr_sheet.specs.Sheet.{Part}
-use Rattle.scr_sheet.specs.Outcome.{EndsParts, EndsMaking, EndsTables, EndsTelling, Ends, IsUnwritten, IsRun, Tells, status_of, TakesMemory}
-use Rattle.scr_sheet.specs.Causes.{LacksTables, fault_of_build}
+use Rattle.scr_fault.specs.Status.{status_of}
+use Rattle.scr_sheet.specs.Outcome.{EndsParts, EndsMaking, EndsTables, EndsTelling, Ends, IsUnwritten, IsRun, Tells, TakesMemory}
+use Rattle.scr_fault.specs.Faults.{fault_of_build}
+use Rattle.scr_sheet.specs.Causes.{LacksTables}
 use Rattle.scr_run_laws.proofs.StatusLaws.{end-of}
 use Rattle.scr_run_laws.proofs.CheckLaws.{check-input}
 

@@ -15,9 +15,9 @@ use Rattle.scr_command.specs.declared.command.UsageFault.{UsageFault}
 use Rattle.scr_command.specs.Command.{command_of, usual_options}
 use Rattle.scr_notation.specs.Event.{net_side_of}
 use Rattle.scr_slots.specs.declared.settings.Settings.{Settings}
-use Rattle.scr_sheet.specs.declared.fault.Fault.{Fault}
-use Rattle.scr_sheet.specs.declared.fault.Fault.TheVariants as fault
-use Rattle.scr_sheet.specs.declared.status.Status.TheVariants as status
+use Rattle.scr_fault.specs.declared.fault.Fault.{Fault}
+use Rattle.scr_fault.specs.declared.fault.Fault.TheVariants as fault
+use Rattle.scr_fault.specs.declared.status.Status.TheVariants as status
 use Rattle.scr_sheet.specs.Check.{InputComesTo, ReadsInput, EndsChecking, check_settings, rounds_in}
 use Rattle.scr_sheet.specs.Sheet.{Part, settings_of, single_part, round_parts}
 use Rattle.scr_sheet.specs.Outcome.{Ends, EndsMaking, EndsTelling, IsRun, IsUnwritten, TakesMemory}

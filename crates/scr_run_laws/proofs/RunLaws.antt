@@ -24,14 +24,16 @@ use Rattle.scr_slots.specs.declared.settings.Settings.{Settings}
 use Rattle.scr_slots.specs.Slots.{Scrambling, IsSlotScramble}
 use Rattle.scr_slots.specs.Outcomes.{HasOneAnswer}
 use Rattle.scr_slots.specs.Events.{scrambling_of}
-use Rattle.scr_sheet.specs.declared.fault.Fault.{Fault}
-use Rattle.scr_sheet.specs.declared.fault.Fault.TheVariants as fault
-use Rattle.scr_sheet.specs.declared.status.Status.{Status}
-use Rattle.scr_sheet.specs.declared.status.Status.TheVariants as status
+use Rattle.scr_fault.specs.declared.fault.Fault.{Fault}
+use Rattle.scr_fault.specs.declared.fault.Fault.TheVariants as fault
+use Rattle.scr_fault.specs.declared.status.Status.{Status}
+use Rattle.scr_fault.specs.declared.status.Status.TheVariants as status
 use Rattle.scr_sheet.specs.Sheet.{Part, round_parts, EachSlot, IsPartText, IsText, IsFirstWithout}
-use Rattle.scr_sheet.specs.Outcome.{IsStopped, EndsParts, EndsMaking, EndsTables, EndsTelling, Ends, IsUnwritten, gaining, status_of}
+use Rattle.scr_fault.specs.Status.{status_of}
+use Rattle.scr_sheet.specs.Outcome.{IsStopped, EndsParts, EndsMaking, EndsTables, EndsTelling, Ends, IsUnwritten, gaining}
 use Rattle.scr_sheet.proofs.PartLaws.{done-whole, whole-done}
-use Rattle.scr_sheet.specs.Causes.{LacksTables, fault_of_build}
+use Rattle.scr_fault.specs.Faults.{fault_of_build}
+use Rattle.scr_sheet.specs.Causes.{LacksTables}
 use Rattle.scr_run_laws.specs.Task.{IsTask, IsUnhindered, LacksScramble, EndsWith}
 
 -- ---- one text

@@ -4,11 +4,11 @@ use Rattle.std.specs.Prelude.{◌≢◌, Result}
 use Rattle.scr_list.specs.declared.fault.ListFault.{ListFault}
 use Rattle.scr_list.specs.declared.fault.ListFault.TheVariants as list
 use Rattle.scr_command.specs.declared.command.UsageFault.{UsageFault}
-use Rattle.scr_sheet.specs.declared.fault.Fault.{Fault}
-use Rattle.scr_sheet.specs.declared.fault.Fault.TheVariants as fault
-use Rattle.scr_sheet.specs.declared.status.Status.{Status}
-use Rattle.scr_sheet.specs.declared.status.Status.TheVariants as status
-use Rattle.scr_sheet.specs.Outcome.{status_of}
+use Rattle.scr_fault.specs.declared.fault.Fault.{Fault}
+use Rattle.scr_fault.specs.declared.fault.Fault.TheVariants as fault
+use Rattle.scr_fault.specs.declared.status.Status.{Status}
+use Rattle.scr_fault.specs.declared.status.Status.TheVariants as status
+use Rattle.scr_fault.specs.Status.{status_of}
 
 abbrev pub End : Type 0
 End = Result (Unit {0}) Fault

@@ -9,8 +9,8 @@ use Rattle.scr_command.specs.declared.command.Command.{Command}
 use Rattle.scr_command.specs.declared.command.Command.TheVariants.{One, Sheet, Tables, Load, Net, Check}
 use Rattle.scr_command.specs.Command.{usual_options, command_of}
 use Rattle.scr_slots.specs.declared.settings.Settings.{Settings}
-use Rattle.scr_sheet.specs.declared.status.Status.{Status}
-use Rattle.scr_sheet.specs.declared.status.Status.TheVariants as status
+use Rattle.scr_fault.specs.declared.status.Status.{Status}
+use Rattle.scr_fault.specs.declared.status.Status.TheVariants as status
 use Rattle.scr_sheet.specs.Sheet.{settings_of, Part, round_parts, single_part, IsFirstWithout}
 use Rattle.scr_sheet.specs.Load.{load_seed, load_rounds}
 use Rattle.scr_sheet.specs.Check.{check_settings}

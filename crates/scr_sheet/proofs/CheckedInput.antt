@@ -24,15 +24,16 @@ use Rattle.scr_list.proofs.RoundLemmas.{rounds_of-long}
 use Rattle.scr_notation.specs.declared.event.Event.{Event}
 use Rattle.scr_notation.specs.EventSets.{Has}
 use Rattle.scr_slots.specs.declared.settings.Settings.{Settings}
-use Rattle.scr_slots.specs.Agreement.{is_tested_by_table}
+use Rattle.scr_notation.specs.Event.{is_tested_by_table}
 use Rattle.scr_sheet.specs.declared.check.Tests.{Tests}
 use Rattle.scr_sheet.specs.Outcome.{EndsTelling}
 use Rattle.scr_sheet.specs.Ready.{ReadsTests, EndsHolding}
-use Rattle.scr_sheet.specs.declared.fault.Fault.{Fault}
-use Rattle.scr_sheet.specs.declared.fault.Fault.TheVariants as fault
+use Rattle.scr_fault.specs.declared.fault.Fault.{Fault}
+use Rattle.scr_fault.specs.declared.fault.Fault.TheVariants as fault
 use Rattle.scr_sheet.specs.Causes.{LacksTables}
 use Rattle.std.specs.Result.{result_map_both}
-use Rattle.scr_sheet.specs.Check.{expected_lines, fault_of_check, rounds_in, InputComesTo, ReadsInput, EndsChecking, tested_events, TakesList, ReadsListPart, TakesInput, EndsReading}
+use Rattle.scr_fault.specs.Faults.{fault_of_check}
+use Rattle.scr_sheet.specs.Check.{expected_lines, rounds_in, InputComesTo, ReadsInput, EndsChecking, tested_events, TakesList, ReadsListPart, TakesInput, EndsReading}
 use Rattle.scr_sheet.proofs.FairParts.{each_asked}
 
 -- what a check found, as the end of a run

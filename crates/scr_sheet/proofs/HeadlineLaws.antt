@@ -35,8 +35,8 @@ use Rattle.scr_slots.specs.Slots.{Scrambling, ByState, ByMoves, IsSlotScramble, 
 use Rattle.scr_slots.specs.Events.{scrambling_of, shown_of}
 use Rattle.scr_slots.proofs.EachEvent.{shown_by, same_shown}
 use Rattle.scr_slots.proofs.Listings.{Draws-alike}
-use Rattle.scr_sheet.specs.declared.fault.Fault.{Fault}
-use Rattle.scr_sheet.specs.declared.fault.Fault.TheVariants as fault
+use Rattle.scr_fault.specs.declared.fault.Fault.{Fault}
+use Rattle.scr_fault.specs.declared.fault.Fault.TheVariants as fault
 use Rattle.scr_sheet.specs.Sheet.{Part, round_part, round_parts, single_part, line_of, shown_net, EachSlot, IsPartText, IsText}
 use Rattle.scr_sheet.specs.Outcome.{IsLed, EndsParts, EndsMaking, Ends, IsPerformed, IsUnwritten}
 use Rattle.scr_sheet.specs.Headline.{AreFairScrambles, IsFairRound, AreFairRounds, no_round, another, IsFairLine, WritesOnly, IsFairRun}
@@ -203,6 +203,7 @@ fair-round settings k round text is_round it =
     record {
       round = round;
       scrambles = it.scrambles;
+      few_groups = is_round.few_groups;
       each_slot = it.each_slot;
       fair = it.fair;
       below = order.0;

@@ -11,8 +11,8 @@ use Rattle.scr_list.specs.declared.round.Round.{Round}
 use Rattle.scr_slots.specs.declared.settings.Settings.{Settings}
 use Rattle.scr_slots.specs.Slots.{Scrambling, IsSlotAnswer, IsSlotScramble, HasNoScramble}
 use Rattle.scr_slots.specs.Events.{scrambling_of}
-use Rattle.scr_sheet.specs.declared.fault.Fault.{Fault}
-use Rattle.scr_sheet.specs.declared.fault.Fault.TheVariants as fault
+use Rattle.scr_fault.specs.declared.fault.Fault.{Fault}
+use Rattle.scr_fault.specs.declared.fault.Fault.TheVariants as fault
 use Rattle.scr_round.specs.Round.{round_text}
 use Rattle.scr_round.specs.Made.{turns_of_each}
 use Rattle.scr_workers.specs.Answered.{AreAnswered}

@@ -12,8 +12,8 @@ use Rattle.scr_slots.specs.Slots.{IsDrawnFairly}
 use Rattle.scr_slots.specs.Tables.{IsBuildCause, HasTables}
 use Rattle.scr_table.specs.declared.fault.BuildFault.{BuildFault}
 use Rattle.scr_table.specs.declared.fault.BuildFault.TheVariants as build
-use Rattle.scr_sheet.specs.declared.fault.Fault.{Fault}
-use Rattle.scr_sheet.specs.Causes.{fault_of_build}
+use Rattle.scr_fault.specs.declared.fault.Fault.{Fault}
+use Rattle.scr_fault.specs.Faults.{fault_of_build}
 use Rattle.scr_sheet.specs.Load.{load_seed, load_rounds}
 use Rattle.scr_sheet.specs.Outcome.{EndsParts, EndsMaking, EndsLoad, Stops}
 use Rattle.scr_sheet.specs.Ready.{IsUnready, EndsAfter}

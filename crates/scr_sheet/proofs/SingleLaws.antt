@@ -11,8 +11,8 @@ use Rattle.scr_notation.specs.Written.{Written}
 use Rattle.scr_slots.specs.declared.settings.Settings.{Settings}
 use Rattle.scr_slots.specs.Slots.{IsDrawnFairly, IsSlotScramble, HasNoScramble}
 use Rattle.scr_slots.specs.Events.{scrambling_of}
-use Rattle.scr_sheet.specs.declared.fault.Fault.{Fault}
-use Rattle.scr_sheet.specs.declared.fault.Fault.TheVariants as fault
+use Rattle.scr_fault.specs.declared.fault.Fault.{Fault}
+use Rattle.scr_fault.specs.declared.fault.Fault.TheVariants as fault
 use Rattle.scr_sheet.specs.Sheet.{Part, IsPartText, single_part, line_of, shown_net}
 use Rattle.scr_sheet.specs.Outcome.{EndsMaking, EndsParts, IsUnwritten}
 use Rattle.scr_sheet.proofs.PartLaws.{first-stopped, first-broken, IsWhole-first}

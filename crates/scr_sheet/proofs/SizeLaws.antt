@@ -6,7 +6,7 @@ use Rattle.scr_outside.proofs.ChangeLemmas.{from_to, Gains-nothing}
 use Rattle.scr_check.specs.declared.fault.Missing.{Missing}
 use Rattle.scr_list.specs.declared.round.Round.{Round}
 use Rattle.scr_slots.specs.declared.settings.Settings.{Settings}
-use Rattle.scr_sheet.specs.declared.fault.Fault.TheVariants as fault
+use Rattle.scr_fault.specs.declared.fault.Fault.TheVariants as fault
 use Rattle.scr_sheet.specs.declared.load.Size.{Size}
 use Rattle.scr_sheet.specs.Sheet.{Part, IsPartText, round_part, round_parts}
 use Rattle.scr_sheet.specs.Outcome.{IsStopped, gaining}

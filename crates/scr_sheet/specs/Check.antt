@@ -7,7 +7,6 @@ use Rattle.std.specs.Str.{bytes_eq}
 use Rattle.scr_outside.specs.Change.{Change, Gives, TellsEnd}
 use Rattle.scr_check.specs.declared.fault.Missing.{Missing}
 use Rattle.scr_check.specs.declared.fault.CheckFault.{CheckFault}
-use Rattle.scr_check.specs.declared.fault.CheckFault.TheVariants as check
 use Rattle.scr_check.specs.Agreement.{ExpectedLines, ComesTo}
 use Rattle.scr_check.specs.Lines.{cut_lines}
 use Rattle.scr_check.specs.Parts.{list_part, sheet_part, list_room}
@@ -22,11 +21,13 @@ use Rattle.scr_list.specs.Rounds.{rounds_of}
 use Rattle.scr_notation.specs.declared.event.Event.{Event}
 use Rattle.scr_round.specs.Round.{Line, Fixed, Slot, round_lines}
 use Rattle.scr_slots.specs.declared.settings.Settings.{Settings}
-use Rattle.scr_slots.specs.Agreement.{TextAgrees, is_tested_by_table}
+use Rattle.scr_notation.specs.Event.{is_tested_by_table}
+use Rattle.scr_slots.specs.Agreement.{TextAgrees}
 use Rattle.scr_slots.specs.Events.{scrambling_of}
 use Rattle.scr_slots.specs.Slots.{HasNoScramble, first_stream}
-use Rattle.scr_sheet.specs.declared.fault.Fault.{Fault}
-use Rattle.scr_sheet.specs.declared.fault.Fault.TheVariants as fault
+use Rattle.scr_fault.specs.declared.fault.Fault.{Fault}
+use Rattle.scr_fault.specs.declared.fault.Fault.TheVariants as fault
+use Rattle.scr_fault.specs.Faults.{fault_of_check}
 use Rattle.scr_sheet.specs.Causes.{LacksTables}
 
 -- ---- the lines that are expected
@@ -81,12 +82,6 @@ expected_lines settings rounds =
 -- The rounds that its list part names, of which no more is read than tells that it is too long.
 abbrev pub rounds_in : List ℕ → Result (List Round) ListFault
 rounds_in input = rounds_of (take list_room (list_part input))
-
--- what a check found, as a fault of the run
-abbrev pub fault_of_check : CheckFault → Fault
-fault_of_check (check.Differs line) = fault.Differs line
-fault_of_check (check.Limit missing) = fault.DrawLimit missing
-fault_of_check check.Read = fault.List list.Read
 
 -- The list part is no list; or its rounds are these, and the sheet part was held against their lines.
 abbrev pub InputComesTo : Settings → Result (List Round) ListFault → List ℕ → Result (Unit {0}) Fault → Type 0

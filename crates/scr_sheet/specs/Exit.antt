@@ -3,10 +3,10 @@ use Rattle.std.specs.Prelude.{ℕ, List, Result}
 use Rattle.scr_outside.specs.Change.{Change}
 use Rattle.scr_host.specs.declared.words.NoWords.{NoWords}
 use Rattle.scr_host.specs.Exit.{RunsWithCode, EndsProgram}
-use Rattle.scr_sheet.specs.declared.fault.Fault.TheVariants as fault
-use Rattle.scr_sheet.specs.declared.status.Status.TheVariants as status
-use Rattle.scr_sheet.specs.Status.{code_of}
-use Rattle.scr_sheet.specs.Message.{message_of}
+use Rattle.scr_fault.specs.declared.fault.Fault.TheVariants as fault
+use Rattle.scr_fault.specs.declared.status.Status.TheVariants as status
+use Rattle.scr_fault.specs.Status.{code_of}
+use Rattle.scr_fault.specs.Message.{message_of}
 use Rattle.scr_sheet.specs.Outcome.{IsRun}
 
 -- the program ended with this exit code: that of a run on these words, or that for want of them

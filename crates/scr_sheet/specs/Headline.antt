@@ -1,6 +1,6 @@
 -- The headline: what is promised of fairness and of play where scrambles are written, by whatever the states are
 -- numbered, whichever scramble a state has, and however a sheet is laid out below the heads of its rounds.
-use Rattle.std.specs.Prelude.{◌≡◌, ◌⊎◌, ℕ, ◌+◌, ◌==◌, true, false, List, [], ◌∷◌, ◌++◌, Some, length, codes}
+use Rattle.std.specs.Prelude.{◌≡◌, ◌⊎◌, ℕ, ◌+◌, ◌≤◌, ◌==◌, true, false, List, [], ◌∷◌, ◌++◌, Some, length, codes}
 use Rattle.std.specs.List.{list_all, list_any}
 use Rattle.scr_outside.specs.Change.{Change, Gains, Falters}
 use Rattle.scr_draw.specs.StateSpace.{StateSpace, IsFairFor}
@@ -42,9 +42,10 @@ pub data StandInOrder : List (List Turn) → List ℕ → Type 0 where
 -- ---- what a run writes, whatever is said of the scrambles of an event's slots, on streams one after another
 
 -- The text of a round, which is round k, counted from 0: its head, a line that names its event and its minimum, and
--- below it the scrambles of its slots in order, which are fair.
+-- below it the scrambles of its slots in order, which are fair. It has at most 26 groups, so no two rounds share a stream.
 pub record IsFairRound (AreFair : Event → Settings → ℕ → ℕ → List (List Turn) → Type 0) (k : ℕ) (settings : Settings) (text : List ℕ) : Type 0 where
   pub round : Round
+  pub few_groups : round.groups ≤ 26
   pub scrambles : List (List Turn)
   pub each_slot : length scrambles ≡ slots_of round
   pub fair : AreFair round.event settings round.least (first_stream k) scrambles

@@ -5,9 +5,7 @@ pub mod Exit
 pub mod Headline
 pub mod Load
 pub mod Making
-pub mod Message
 pub mod Outcome
 pub mod Ready
 pub mod Room
 pub mod Sizes
-pub mod Status

@@ -7,7 +7,6 @@ use Rattle.scr_notation.specs.declared.event.Event.{Event}
 use Rattle.scr_notation.specs.Event.{net_side_of}
 use Rattle.scr_list.specs.declared.round.Round.{Round}
 use Rattle.scr_list.specs.declared.fault.ListFault.{ListFault}
-use Rattle.scr_list.specs.declared.fault.ListFault.TheVariants as list
 use Rattle.scr_command.specs.declared.command.Command.{Command}
 use Rattle.scr_command.specs.declared.command.Command.TheVariants.{One, Sheet, Tables, Load, Net, Check}
 use Rattle.scr_command.specs.declared.command.UsageFault.{UsageFault}
@@ -17,14 +16,14 @@ use Rattle.scr_slots.specs.declared.settings.Settings.{Settings}
 use Rattle.scr_slots.specs.Slots.{IsDrawnFairly}
 use Rattle.scr_slots.specs.Events.{scrambling_of}
 use Rattle.scr_slots.specs.Tables.{HasTables, tables_for}
-use Rattle.scr_sheet.specs.declared.fault.Fault.{Fault}
-use Rattle.scr_sheet.specs.declared.fault.Fault.TheVariants as fault
-use Rattle.scr_sheet.specs.declared.status.Status.{Status}
-use Rattle.scr_sheet.specs.declared.status.Status.TheVariants as status
+use Rattle.scr_fault.specs.declared.fault.Fault.{Fault}
+use Rattle.scr_fault.specs.declared.fault.Fault.TheVariants as fault
+use Rattle.scr_fault.specs.declared.status.Status.{Status}
 use Rattle.scr_sheet.specs.Sheet.{settings_of, IsFirstWithout, Part, round_parts, single_part, IsPartText, IsText}
 use Rattle.scr_sheet.specs.Load.{load_seed, load_rounds, load_text}
 use Rattle.scr_table_text.specs.TableText.{IsTablesText}
-use Rattle.scr_sheet.specs.Message.{message_of}
+use Rattle.scr_fault.specs.Message.{message_of}
+use Rattle.scr_fault.specs.Status.{status_of}
 use Rattle.scr_sheet.specs.Causes.{LacksTables}
 use Rattle.scr_sheet.specs.Check.{EndsChecking, check_settings}
 
@@ -139,18 +138,6 @@ pub record IsPerformed (words : List (List ℕ)) (source out : Change) (ended : 
 abbrev pub Tells : Change → Result (Unit {0}) Fault → Type 0
 Tells err (Ok _) = IsUnwritten err
 Tells err (Err fault) = Gains err (message_of fault) ⊎ Falters err (message_of fault)
-
--- the status of each end
-abbrev pub status_of : Result (Unit {0}) Fault → Status
-status_of (Ok _) = status.Done
-status_of (Err (fault.Usage usage)) = status.Usage
-status_of (Err (fault.List list.Read)) = status.ReadFault
-status_of (Err (fault.List list)) = status.List
-status_of (Err (fault.DrawLimit missing)) = status.DrawLimit
-status_of (Err fault.Write) = status.WriteFault
-status_of (Err fault.NoMemory) = status.NoMemory
-status_of (Err (fault.Gap table index)) = status.Gap
-status_of (Err (fault.Differs line)) = status.Differs
 
 -- What a run did: how it ended, the status that this has, and what was told of it.
 pub record IsRun (words : List (List ℕ)) (outcome : Status) (source out err : Change) : Type 0 where

@@ -11,16 +11,17 @@ use Rattle.scr_list.specs.RoundLists.{IsRounds}
 use Rattle.scr_notation.specs.declared.event.Event.{Event}
 use Rattle.scr_notation.specs.EventSets.{Has}
 use Rattle.scr_slots.specs.declared.settings.Settings.{Settings}
-use Rattle.scr_slots.specs.Agreement.{is_tested_by_table}
+use Rattle.scr_notation.specs.Event.{is_tested_by_table}
 use Rattle.scr_slots.specs.Tables.{IsBuildCause}
 use Rattle.scr_table.specs.declared.fault.BuildFault.{BuildFault}
 use Rattle.scr_table.specs.declared.fault.BuildFault.TheVariants as build
 use Rattle.scr_sheet.specs.declared.check.Tests.{Tests}
-use Rattle.scr_sheet.specs.declared.fault.Fault.{Fault}
-use Rattle.scr_sheet.specs.declared.fault.Fault.TheVariants as fault
+use Rattle.scr_fault.specs.declared.fault.Fault.{Fault}
+use Rattle.scr_fault.specs.declared.fault.Fault.TheVariants as fault
 use Rattle.scr_sheet.specs.declared.ready.Ready.{Ready}
-use Rattle.scr_sheet.specs.Causes.{fault_of_build, LacksTables}
-use Rattle.scr_sheet.specs.Check.{ReadsListPart, expected_lines, fault_of_check, tested_events}
+use Rattle.scr_sheet.specs.Causes.{LacksTables}
+use Rattle.scr_fault.specs.Faults.{fault_of_build, fault_of_check}
+use Rattle.scr_sheet.specs.Check.{ReadsListPart, expected_lines, tested_events}
 use Rattle.scr_sheet.specs.Outcome.{EndsTelling, Stops}
 use Rattle.scr_sheet.specs.Room.{IsRoomFor}
 

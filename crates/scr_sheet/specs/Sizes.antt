@@ -5,8 +5,8 @@ use Rattle.scr_check.specs.declared.fault.Missing.{Missing}
 use Rattle.scr_list.specs.declared.round.Round.{Round}
 use Rattle.scr_round.specs.Round.{slots_of}
 use Rattle.scr_slots.specs.declared.settings.Settings.{Settings}
-use Rattle.scr_sheet.specs.declared.fault.Fault.{Fault}
-use Rattle.scr_sheet.specs.declared.fault.Fault.TheVariants as fault
+use Rattle.scr_fault.specs.declared.fault.Fault.{Fault}
+use Rattle.scr_fault.specs.declared.fault.Fault.TheVariants as fault
 use Rattle.scr_sheet.specs.declared.load.Size.{Size}
 use Rattle.scr_sheet.specs.Load.{load_text}
 use Rattle.scr_sheet.specs.Sheet.{Part, IsPartText, round_parts}

@@ -2,22 +2,22 @@
 
 ghost use Rattle.std.specs.Prelude.{◌≡◌, ◌≤◌, filter, length, Err, IfOk};
 ghost use Rattle.scr_outside.specs.Change.{change_of};
-ghost use Rattle.scr_check.specs.Held.{most_held};
+ghost use Rattle.scr_check.specs.Ahead.{most_ahead};
 ghost use Rattle.scr_check.specs.Reading.{reading, source_name};
 ghost use Rattle.scr_list.specs.RoundLists.{IsRounds};
 ghost use Rattle.scr_list.specs.Reading.{listed};
-ghost use Rattle.scr_slots.specs.Agreement.{is_tested_by_table};
-ghost use Rattle.scr_sheet.specs.declared.fault.Fault.TheVariants.{NoMemory};
+ghost use Rattle.scr_notation.specs.Event.{is_tested_by_table};
+ghost use Rattle.scr_fault.specs.declared.fault.Fault.TheVariants.{NoMemory};
 ghost use Rattle.scr_sheet.specs.Check.{ReadsListPart, check_settings};
 ghost use Rattle.scr_sheet.specs.Ready.{AreTests, EndsHolding, ReadsTests};
 
-use crate::fault::Fault;
 use crate::sheet_lines::SheetLines;
 use arrayvec::ArrayVec;
 use scr_check::{ByteReader, check_lines, list_part};
+use scr_fault::Fault;
 use scr_list::{ListFault, ROUND_ROOM, Round, rounds_of};
 use scr_outside::{Sink, Source, write_line};
-use scr_slots::{Effort, Settings, Tables, is_tested_by_table};
+use scr_slots::{Effort, Settings, Tables};
 use scr_words::Seed;
 use std::alloc::Global;
 use std::thread::Threads;
@@ -81,7 +81,7 @@ fn read_list<S: Source>(
     reader: &mut ByteReader<'_, S>,
 ) -> Result<ArrayVec<Round, ROUND_ROOM>, ListFault>
     ensures same_source { source_name reader.new ≡ source_name reader.old }
-    ensures few_ahead { length (reading reader.new).ahead ≤ most_held }
+    ensures few_ahead { length (reading reader.new).ahead ≤ most_ahead }
     ensures rounds { IfOk result (λ rounds. IsRounds rounds.items) }
     ensures list { ReadsListPart S.left S.faults S.ends (reading reader.old) (reading reader.new) (listed result) }
 {
@@ -96,7 +96,7 @@ fn tested_rounds(rounds: &[Round]) -> ArrayVec<Round, ROUND_ROOM>
 {
     let mut tested = ArrayVec::new();
     for round in rounds {
-        if is_tested_by_table(round.event) {
+        if round.event.is_tested_by_table() {
             tested.push(round.copied());
         }
     }

@@ -6,9 +6,8 @@ ghost use Rattle.scr_command.specs.Words.{texts};
 ghost use Rattle.scr_host.specs.Exit.{EndsOnStreams, IsExitCode};
 ghost use Rattle.scr_sheet.specs.Exit.{EndsScramble};
 
-use crate::fault::Fault;
 use crate::program::run;
-use crate::status::Status;
+use scr_fault::{Fault, Status};
 use scr_host::{Exit, NoWords, borrowed, end_without_words, words_of};
 use scr_outside::{Sink, Source, StdSink, StdSource};
 use scr_workers::OpenGate;

@@ -10,7 +10,6 @@
 #![tactic(auto)]
 
 mod check;
-mod fault;
 mod host;
 mod load;
 mod making;
@@ -21,18 +20,16 @@ mod room;
 mod sheet_lines;
 mod single;
 mod slot_jobs;
-mod status;
 
-pub use fault::Fault;
 pub use host::{run_on_host, run_on_words};
 pub use making::{RoundFault, make_round};
 pub use program::run;
 pub use scr_check::Missing;
 pub use scr_command::{Command, CommandFault, Options, UsageFault, read_command};
+pub use scr_fault::{Fault, Status};
 pub use scr_host::{Exit, NoWords};
 pub use scr_list::{ListCause, ListFault, Round, read_rounds};
 pub use scr_notation::Event;
 pub use scr_round::{RoundResult, write_round};
 pub use scr_slots::Tables;
 pub use scr_workers::{Gate, OpenGate};
-pub use status::Status;

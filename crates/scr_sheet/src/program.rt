@@ -7,16 +7,15 @@ ghost use Rattle.scr_slots.specs.Events.{shown_of};
 ghost use Rattle.scr_sheet.specs.Headline.{AreFairScrambles, IsFairRun};
 
 use crate::check::{tests_of_list, write_check};
-use crate::fault::Fault;
 use crate::load::{load_rounds, load_seed, write_load};
 use crate::making::workers_of;
 use crate::parts::{write_event_tables, write_sheet};
 use crate::ready::Ready;
 use crate::single::write_single;
-use crate::status::Status;
 use scr_check::ByteReader;
 use scr_check::laws::what_the_source_gave;
 use scr_command::{Command, read_command};
+use scr_fault::{Fault, Status};
 use scr_list::read_rounds;
 use scr_outside::{Sink, Source};
 use scr_slots::Tables;
@@ -38,7 +37,7 @@ use std::thread::Threads;
 /// | 222, skewb | 11 turns |
 /// | pyram | 15 turns, tips included |
 /// | clock | 14 amounts |
-/// | 333, 333oh | 22 turns where the search for two parts finds them, else 52 |
+/// | 333, with one hand too | 22 turns where the search for two parts finds them, else 52 |
 /// | 333bf | that of 333, and at most two wide turns |
 /// | 333fm | that of 333, between R' U' F and R' U' F |
 /// | sq1 | 76 twists |

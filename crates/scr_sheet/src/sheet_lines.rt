@@ -4,7 +4,7 @@ ghost use Rattle.std.specs.Prelude.{◌≡◌, ◌+◌, ◌*◌, ◌<◌, ◌≤
 ghost use Rattle.scr_notation.specs.EventSets.{Has};
 ghost use Rattle.scr_list.specs.Rounds.{IsRound};
 ghost use Rattle.scr_list.specs.RoundLists.{IsRounds};
-ghost use Rattle.scr_slots.specs.Agreement.{is_tested_by_table};
+ghost use Rattle.scr_notation.specs.Event.{is_tested_by_table};
 ghost use Rattle.scr_sheet.specs.Check.{IsBehind, IsPlacedAt, IsLineAnswer, list_lines};
 ghost use Rattle.scr_round.specs.Round.{Slot};
 
@@ -28,7 +28,7 @@ impl<'a> Model for SheetLines<'a> {
     ghost use Rattle.std.specs.Prelude.{◌≤◌, All, IsTrue};
     ghost use Rattle.scr_notation.specs.EventSets.{Has};
     ghost use Rattle.scr_list.specs.RoundLists.{IsRounds};
-    ghost use Rattle.scr_slots.specs.Agreement.{is_tested_by_table};
+    ghost use Rattle.scr_notation.specs.Event.{is_tested_by_table};
     ghost use Rattle.scr_sheet.specs.Check.{SheetRounds};
 
     ghost Value = { SheetRounds };

@@ -26,7 +26,7 @@ use Rattle.scr_table_text.proofs.StateTexts.{IsTablesText-states}
 use Rattle.scr_outside.specs.Change.{Change}
 use Rattle.scr_small.specs.Tables.{BuiltTable, IsBuilt, small_line, small_lines}
 use Rattle.scr_slots.specs.TableLines.{family_lines}
-use Rattle.scr_slots.specs.Held.{HoldsTables, own_event}
+use Rattle.scr_slots.specs.Families.{HoldsTables, own_event}
 use Rattle.scr_slots.specs.Tables.{is_family, asks_for, family_tables, tables_asked, tables_for}
 use Rattle.scr_slots.proofs.FamilyLaws.{AreLinesOf-family}
 

@@ -1,9 +1,11 @@
--- What is so of each event: it has one answer a slot and one listing of its states, is drawn fairly where its tables
+-- What is so of whatever is scrambled: it has one answer a slot and one listing of its states, is drawn fairly where its tables
 -- are built, and is shown as it is scrambled.
 use Rattle.std.proofs.Common.{◌≡◌, ℕ, ◌≤◌, Bool, List, refl}
 use Rattle.scr_notation.specs.declared.event.Event.{Event}
 use Rattle.scr_notation.specs.declared.event.Event.TheVariants.{C222, C333, C555, C666, C777, Clock, Minx, Pyram, Skewb, Sq1, Bf333, Fm333}
-use Rattle.scr_notation.specs.Event.{greatest_of}
+use Rattle.scr_notation.specs.declared.event.Puzzle.{Puzzle}
+use Rattle.scr_notation.specs.declared.event.Puzzle.TheVariants as puzzle
+use Rattle.scr_notation.specs.Event.{greatest_of, puzzle_of}
 use Rattle.scr_notation.specs.EventSets.{Has}
 use Rattle.scr_notation.specs.declared.turn.Turn.{Turn}
 use Rattle.scr_bigs.specs.BigCubes.{cube_555, cube_666, cube_777}
@@ -37,7 +39,7 @@ use Rattle.scr_sq1short.proofs.ShortestLaws.{IsShortScramble-unique}
 use Rattle.scr_slots.specs.declared.settings.Effort.{Effort}
 use Rattle.scr_slots.specs.Shown.{DrawnPuzzle, RandomMoves, Shown, States, Moves}
 use Rattle.scr_slots.specs.Slots.{Scrambling, ByState, ByMoves, IsDrawnFairly}
-use Rattle.scr_slots.specs.Events.{scrambling_of, shown_of, IsScramble333Within, drawn_222, drawn_333, drawn_held, drawn_fewest, IsScrambleFewestWithin, drawn_pyram, drawn_skewb, drawn_clock, drawn_sq1, cube_random_moves, moves_minx}
+use Rattle.scr_slots.specs.Events.{scrambled_as, scrambling_of, shown_as, shown_of, IsScramble333Within, drawn_222, drawn_333, drawn_held, drawn_fewest, IsScrambleFewestWithin, drawn_pyram, drawn_skewb, drawn_clock, drawn_sq1, cube_random_moves, moves_minx}
 use Rattle.scr_slots.specs.Outcomes.{HasOneAnswer, HasOneListing}
 use Rattle.scr_slots.proofs.Listings.{HaveOneListing-numbered}
 use Rattle.scr_slots.proofs.OneAnswer.{IsOnly, HasOneAnswer-state, HasOneAnswer-moves}
@@ -61,31 +63,30 @@ by_states event drawn n IsScramble numbering only = record {
 by_moves : (event : Event) (random : RandomMoves) → IsLawful (ByMoves event random)
 by_moves event random = record { one_answer = HasOneAnswer-moves event random; one_listing = tt }
 
--- The last line is that of the 3x3x3, with two hands or with one.
-pub each_lawful : (event : Event) → IsLawful (scrambling_of event)
-unfolding scrambling_of
-each_lawful C222 =
+pub each_lawful : (what : Puzzle) → IsLawful (scrambled_as what)
+unfolding scrambled_as
+each_lawful puzzle.Cube222 =
     by_states C222 drawn_222 numbered_222 _ numbering_222 (λ effort state turns other reached. IsScrambleOf-unique numbered_puzzle_222 lawful_puzzle_222 state turns other)
-each_lawful C555 = by_moves C555 (cube_random_moves cube_555)
-each_lawful C666 = by_moves C666 (cube_random_moves cube_666)
-each_lawful C777 = by_moves C777 (cube_random_moves cube_777)
-each_lawful Clock =
-    by_states Clock drawn_clock clock_numbered _ clock_numbering (λ effort state turns other reached. IsScrambleOf-one state turns other)
-each_lawful Minx = by_moves Minx moves_minx
-each_lawful Pyram =
-    by_states Pyram drawn_pyram numbered_pyram _ pyram_numbering (λ effort state turns other reached. IsScramblePyram-unique state turns other)
-each_lawful Skewb =
-    by_states Skewb drawn_skewb skewb_numbered _ skewb_numbering (λ effort state turns other reached. IsScrambleOf-unique numbered_puzzle_skewb lawful_puzzle_skewb state turns other)
-each_lawful Sq1 =
-    by_states Sq1 drawn_sq1 sq1_numbered _ sq1_numbering (λ effort state turns other reached. IsShortScramble-unique effort.short state turns other)
-each_lawful Bf333 =
-    by_states Bf333 drawn_held held_numbered _ held_numbering (λ effort state turns other reached. IsScramble333bf-unique effort.tries state turns other)
-each_lawful Fm333 =
-    by_states Fm333 drawn_fewest cube_numbered IsScrambleFewestWithin cube_numbering
-    (λ effort state turns other reached a b. IsScrambleFewest-unique effort.tries state turns other a.0 b.0)
-each_lawful _ =
+each_lawful puzzle.Cube333 =
     by_states C333 drawn_333 cube_numbered IsScramble333Within cube_numbering
     (λ effort state turns other reached a b. IsScrambleBy-unique (two_parts state effort.tries) state turns other a.0 b.0)
+each_lawful puzzle.Held333 =
+    by_states Bf333 drawn_held held_numbered _ held_numbering (λ effort state turns other reached. IsScramble333bf-unique effort.tries state turns other)
+each_lawful puzzle.Fewest333 =
+    by_states Fm333 drawn_fewest cube_numbered IsScrambleFewestWithin cube_numbering
+    (λ effort state turns other reached a b. IsScrambleFewest-unique effort.tries state turns other a.0 b.0)
+each_lawful puzzle.Cube555 = by_moves C555 (cube_random_moves cube_555)
+each_lawful puzzle.Cube666 = by_moves C666 (cube_random_moves cube_666)
+each_lawful puzzle.Cube777 = by_moves C777 (cube_random_moves cube_777)
+each_lawful puzzle.Clock =
+    by_states Clock drawn_clock clock_numbered _ clock_numbering (λ effort state turns other reached. IsScrambleOf-one state turns other)
+each_lawful puzzle.Megaminx = by_moves Minx moves_minx
+each_lawful puzzle.Pyraminx =
+    by_states Pyram drawn_pyram numbered_pyram _ pyram_numbering (λ effort state turns other reached. IsScramblePyram-unique state turns other)
+each_lawful puzzle.Skewb =
+    by_states Skewb drawn_skewb skewb_numbered _ skewb_numbering (λ effort state turns other reached. IsScrambleOf-unique numbered_puzzle_skewb lawful_puzzle_skewb state turns other)
+each_lawful puzzle.Square1 =
+    by_states Sq1 drawn_sq1 sq1_numbered _ sq1_numbering (λ effort state turns other reached. IsShortScramble-unique effort.short state turns other)
 
 -- ---- fairness
 
@@ -99,8 +100,11 @@ abbrev pub shown_by : Scrambling → Shown
 shown_by (ByState S event drawn numbers IsScramble) = States S drawn
 shown_by (ByMoves event random) = Moves random
 
--- an event is scrambled as it is shown
+-- an event is scrambled as it is shown_as
+same : (what : Puzzle) → shown_by (scrambled_as what) ≡ shown_as what
+unfolding scrambled_as shown_as
+same puzzle.Cube222 = refl
+same _ = refl
+
 pub same_shown : (event : Event) → shown_by (scrambling_of event) ≡ shown_of event
-unfolding scrambling_of shown_of
-same_shown C222 = refl
-same_shown _ = refl
+same_shown event = same (puzzle_of event)

@@ -1,8 +1,7 @@
 -- Which texts agree with a slot, whoever wrote them.
-use Rattle.std.specs.Prelude.{◌≡◌, ◌↔◌, ℕ, Bool, true, false, IsTrue, Option, Some, None, List}
+use Rattle.std.specs.Prelude.{◌≡◌, ◌↔◌, ℕ, Bool, IsTrue, Option, Some, None, List}
 use Rattle.scr_draw.specs.StateSpace.{StateSpace, Draws}
 use Rattle.scr_notation.specs.declared.event.Event.{Event}
-use Rattle.scr_notation.specs.declared.event.Event.TheVariants.{C222, Pyram, Skewb}
 use Rattle.scr_notation.specs.declared.turn.Turn.{Turn}
 use Rattle.scr_notation.specs.Spelling.{text_of}
 use Rattle.scr_notation.specs.Written.{Written, IsWritten}
@@ -49,10 +48,3 @@ IsJudged scrambling settings least stream text =
 abbrev pub IsReadAs : Event → List ℕ → Option Written → Type 0
 IsReadAs event text (Some s) = IsWritten s × (s.event ≡ event) × (text_of s.turns ≡ text)
 IsReadAs event text None = (s : Written) → IsWritten s → s.event ≡ event → text_of s.turns ≡ text → ⊥
-
--- The states of an event are tested by its table as they are drawn. (Those of others are tested by trying words.)
-abbrev pub is_tested_by_table : Event → Bool
-is_tested_by_table C222 = true
-is_tested_by_table Pyram = true
-is_tested_by_table Skewb = true
-is_tested_by_table _ = false

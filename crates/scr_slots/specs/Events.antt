@@ -1,8 +1,11 @@
--- What each event is: the one place that says by event what a slot draws, what its scramble is and what is promised of
--- it.
+-- What is scrambled for each event: the one place that says by puzzle what a slot draws, what its scramble is and what
+-- is promised of it.
 use Rattle.std.specs.Prelude.{ℕ, ◌≤◌, List, length, None, IsTrue, is_some, if◌then◌else◌}
 use Rattle.scr_notation.specs.declared.event.Event.{Event}
-use Rattle.scr_notation.specs.declared.event.Event.TheVariants.{C222, C333, Oh333, C555, C666, C777, Clock, Minx, Pyram, Skewb, Sq1, Bf333, Fm333}
+use Rattle.scr_notation.specs.declared.event.Event.TheVariants.{C222, C333, C555, C666, C777, Clock, Minx, Pyram, Skewb, Sq1, Bf333, Fm333}
+use Rattle.scr_notation.specs.declared.event.Puzzle.{Puzzle}
+use Rattle.scr_notation.specs.declared.event.Puzzle.TheVariants as puzzle
+use Rattle.scr_notation.specs.Event.{puzzle_of}
 use Rattle.scr_notation.specs.declared.turn.Turn.{Turn}
 use Rattle.scr_combinatorics.specs.Play.{play}
 use Rattle.scr_orbit.specs.Orbits.{Orbit}
@@ -81,20 +84,23 @@ cube_random_moves cube = record { moves = cube_moves cube; AreFair = AreFairTurn
 abbrev pub moves_minx : RandomMoves
 moves_minx = record { moves = λ attempts. megaminx_moves; AreFair = AreFairBits }
 
-unfoldable pub shown_of : Event → Shown
-shown_of C222 = States Orbit drawn_222
-shown_of C333 = States CubeState drawn_333
-shown_of Oh333 = States CubeState drawn_333
-shown_of C555 = Moves (cube_random_moves cube_555)
-shown_of C666 = Moves (cube_random_moves cube_666)
-shown_of C777 = Moves (cube_random_moves cube_777)
-shown_of Clock = States (List ℕ) drawn_clock
-shown_of Minx = Moves moves_minx
-shown_of Pyram = States PyramState drawn_pyram
-shown_of Skewb = States SkewbState drawn_skewb
-shown_of Sq1 = States Sq1State drawn_sq1
-shown_of Bf333 = States HeldState drawn_held
-shown_of Fm333 = States CubeState drawn_fewest
+-- Of what is scrambled: the puzzle whose states are drawn, or the random moves.
+unfoldable pub shown_as : Puzzle → Shown
+shown_as puzzle.Cube222 = States Orbit drawn_222
+shown_as puzzle.Cube333 = States CubeState drawn_333
+shown_as puzzle.Held333 = States HeldState drawn_held
+shown_as puzzle.Fewest333 = States CubeState drawn_fewest
+shown_as puzzle.Cube555 = Moves (cube_random_moves cube_555)
+shown_as puzzle.Cube666 = Moves (cube_random_moves cube_666)
+shown_as puzzle.Cube777 = Moves (cube_random_moves cube_777)
+shown_as puzzle.Clock = States (List ℕ) drawn_clock
+shown_as puzzle.Megaminx = Moves moves_minx
+shown_as puzzle.Pyraminx = States PyramState drawn_pyram
+shown_as puzzle.Skewb = States SkewbState drawn_skewb
+shown_as puzzle.Square1 = States Sq1State drawn_sq1
+
+abbrev pub shown_of : Event → Shown
+shown_of event = shown_as (puzzle_of event)
 
 -- ---- which scramble a state has
 
@@ -104,28 +110,27 @@ abbrev pub IsScramble333Within : Effort → CubeState → List Turn → Type 0
 IsScramble333Within effort cube turns =
     IsScramble333 effort.tries cube turns × (IsTrue (is_some (two_parts cube effort.tries)) → length turns ≤ 22)
 
--- with two hands or with one
-abbrev pub scrambling_333 : Scrambling
-scrambling_333 = ByState CubeState C333 drawn_333 cube_numbers IsScramble333Within
-
 -- for fewest moves: that of the cube between the frames, and 28 turns where it is of two parts
 abbrev pub IsScrambleFewestWithin : Effort → CubeState → List Turn → Type 0
 IsScrambleFewestWithin effort cube turns =
     IsScrambleFewest effort.tries cube turns
     × (IsTrue (is_some (two_parts (between cube) effort.tries)) → length turns ≤ 28)
 
--- Puzzles other than the 3x3x3 and the Square-1 have one scramble, whatever the effort.
-unfoldable pub scrambling_of : Event → Scrambling
-scrambling_of C222 = ByState Orbit C222 drawn_222 numbers_222 (λ effort. IsScramble222)
-scrambling_of C333 = scrambling_333
-scrambling_of Oh333 = scrambling_333
-scrambling_of C555 = ByMoves C555 (cube_random_moves cube_555)
-scrambling_of C666 = ByMoves C666 (cube_random_moves cube_666)
-scrambling_of C777 = ByMoves C777 (cube_random_moves cube_777)
-scrambling_of Clock = ByState (List ℕ) Clock drawn_clock clock_numbers (λ effort. IsClockScramble)
-scrambling_of Minx = ByMoves Minx moves_minx
-scrambling_of Pyram = ByState PyramState Pyram drawn_pyram pyram_numbers (λ effort. IsScramblePyram)
-scrambling_of Skewb = ByState SkewbState Skewb drawn_skewb skewb_numbers (λ effort. IsScrambleSkewb)
-scrambling_of Sq1 = ByState Sq1State Sq1 drawn_sq1 sq1_numbers (λ effort. IsShortScramble effort.short)
-scrambling_of Bf333 = ByState HeldState Bf333 drawn_held held_numbers (λ effort. IsScramble333bf effort.tries)
-scrambling_of Fm333 = ByState CubeState Fm333 drawn_fewest cube_numbers IsScrambleFewestWithin
+-- How it is scrambled. The event in a line is the one by whose notation its scrambles are written. Puzzles other than
+-- the 3x3x3 and the Square-1 have one scramble, whatever the effort.
+unfoldable pub scrambled_as : Puzzle → Scrambling
+scrambled_as puzzle.Cube222 = ByState Orbit C222 drawn_222 numbers_222 (λ effort. IsScramble222)
+scrambled_as puzzle.Cube333 = ByState CubeState C333 drawn_333 cube_numbers IsScramble333Within
+scrambled_as puzzle.Held333 = ByState HeldState Bf333 drawn_held held_numbers (λ effort. IsScramble333bf effort.tries)
+scrambled_as puzzle.Fewest333 = ByState CubeState Fm333 drawn_fewest cube_numbers IsScrambleFewestWithin
+scrambled_as puzzle.Cube555 = ByMoves C555 (cube_random_moves cube_555)
+scrambled_as puzzle.Cube666 = ByMoves C666 (cube_random_moves cube_666)
+scrambled_as puzzle.Cube777 = ByMoves C777 (cube_random_moves cube_777)
+scrambled_as puzzle.Clock = ByState (List ℕ) Clock drawn_clock clock_numbers (λ effort. IsClockScramble)
+scrambled_as puzzle.Megaminx = ByMoves Minx moves_minx
+scrambled_as puzzle.Pyraminx = ByState PyramState Pyram drawn_pyram pyram_numbers (λ effort. IsScramblePyram)
+scrambled_as puzzle.Skewb = ByState SkewbState Skewb drawn_skewb skewb_numbers (λ effort. IsScrambleSkewb)
+scrambled_as puzzle.Square1 = ByState Sq1State Sq1 drawn_sq1 sq1_numbers (λ effort. IsShortScramble effort.short)
+
+abbrev pub scrambling_of : Event → Scrambling
+scrambling_of event = scrambled_as (puzzle_of event)

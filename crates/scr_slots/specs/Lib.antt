@@ -5,5 +5,5 @@ pub mod Agreement
 pub mod Outcomes
 pub mod Events
 pub mod Tables
-pub mod Held
+pub mod Families
 pub mod TableLines

@@ -1,9 +1,9 @@
 //! Whether a text agrees with a slot, by its event.
 
-ghost use Rattle.std.specs.Prelude.{◌≡◌, ◌≤◌, IsTrue};
-ghost use Rattle.scr_notation.specs.Event.{greatest_of};
+ghost use Rattle.std.specs.Prelude.{◌≤◌, IsTrue};
+ghost use Rattle.scr_notation.specs.Event.{greatest_of, is_tested_by_table};
 ghost use Rattle.scr_notation.specs.EventSets.{Has};
-ghost use Rattle.scr_slots.specs.Agreement.{IsJudged, IsReadAs, is_tested_by_table};
+ghost use Rattle.scr_slots.specs.Agreement.{IsJudged, IsReadAs};
 ghost use Rattle.scr_slots.specs.Events.{scrambling_of};
 
 use crate::asking::{Question, ask};
@@ -43,14 +43,6 @@ pub fn slot_agrees(
             text,
         },
     )
-}
-
-/// Whether the states of an event are tested by its table as they are drawn. (Those of others are tested by trying
-/// words.)
-pub fn is_tested_by_table(event: Event) -> bool
-    ensures { result ≡ is_tested_by_table event }
-{
-    matches!(event, Event::C222 | Event::Pyram | Event::Skewb)
 }
 
 /// Does this text agree with the slot on this stream? `least` is in its range, and there are at most 1,000,000 attempts.

@@ -1,11 +1,11 @@
-//! Questions to events, and the one place that tells by event who answers them.
+//! Questions to events, and the one place that tells by what is scrambled who answers them.
 
 ghost use Rattle.std.specs.Prelude.{◌≡◌, ◌≤◌, ℕ, Bool, IfSome, IsSome, IsTrue};
 ghost use Rattle.scr_combinatorics.specs.Numbered.{numbers_of};
-ghost use Rattle.scr_notation.specs.Event.{greatest_of};
+ghost use Rattle.scr_notation.specs.Event.{greatest_in, greatest_of, is_tested_by_table, puzzle_row_of};
 ghost use Rattle.scr_notation.specs.EventSets.{Has};
-ghost use Rattle.scr_slots.specs.Agreement.{is_tested_by_table};
-ghost use Rattle.scr_slots.specs.Events.{scrambling_of};
+ghost use Rattle.scr_slots.specs.Events.{scrambled_as, scrambling_of};
+ghost use Rattle.scr_slots.specs.Families.{HasTablesOf};
 ghost use Rattle.scr_slots.specs.Shown.{drawn_puzzle};
 ghost use Rattle.scr_slots.specs.Slots.{ByMoves, ByState};
 
@@ -14,7 +14,7 @@ use crate::moves::{CubeMoves, MegaminxMoves};
 use crate::tables::Tables;
 use scr_clock::ClockNumbers;
 use scr_fewest::DrawFewest;
-use scr_notation::Event;
+use scr_notation::{Event, Puzzle};
 use scr_small::{Small222, SmallPyram, SmallSkewb};
 use scr_sq1solve::DrawSq1;
 use scr_twophase::{Draw333, DrawHeld};
@@ -58,36 +58,50 @@ pub(crate) trait Question {
 
 /// The answer of an event to a question. The tables have the event where its states are tested by one, and where the
 /// question asks for what finds scrambles.
-#[tactic(auto, unfolding(crate::specs::Events::scrambling_of))]
 pub(crate) fn ask<Q: Question>(tables: &Tables, event: Event, question: &Q) -> Q::Answer
     requires asked { Q.may_ask question.now (greatest_of event) }
     requires tested { IsTrue (is_tested_by_table event) → Has tables.now event }
     requires solver { IsTrue Q.needs_solver → Has tables.now event }
     ensures { Q.is_answer question.now (greatest_of event) (scrambling_of event) result }
 {
-    match event {
-        Event::C222 => {
+    ask_puzzle(tables, event.puzzle(), question)
+}
+
+/// The answer of what is scrambled for an event.
+#[tactic(auto, unfolding(crate::specs::Events::scrambled_as))]
+fn ask_puzzle<Q: Question>(tables: &Tables, puzzle: Puzzle, question: &Q) -> Q::Answer
+    requires asked { Q.may_ask question.now (greatest_in (puzzle_row_of puzzle).minima) }
+    requires tested { IsTrue (puzzle_row_of puzzle).tested_by_table → HasTablesOf tables.now puzzle }
+    requires solver { IsTrue Q.needs_solver → HasTablesOf tables.now puzzle }
+    ensures { Q.is_answer question.now (greatest_in (puzzle_row_of puzzle).minima) (scrambled_as puzzle) result }
+{
+    match puzzle {
+        Puzzle::Cube222 => {
             let own = tables.of_222.as_ref().unwrap();
-            question.of_states(&Small222::new(own), event, Some(own))
+            question.of_states(&Small222::new(own), Event::C222, Some(own))
         }
-        Event::C333 | Event::Oh333 => {
+        Puzzle::Cube333 => {
             question.of_states(&Draw333::new(), Event::C333, tables.of_333.as_ref())
         }
-        Event::C555 => question.of_moves(&CubeMoves::<5> {}),
-        Event::C666 => question.of_moves(&CubeMoves::<6> {}),
-        Event::C777 => question.of_moves(&CubeMoves::<7> {}),
-        Event::Clock => question.of_states(&ClockNumbers, event, Some(&())),
-        Event::Minx => question.of_moves(&MegaminxMoves),
-        Event::Pyram => {
+        Puzzle::Held333 => {
+            question.of_states(&DrawHeld::new(), Event::Bf333, tables.of_333.as_ref())
+        }
+        Puzzle::Fewest333 => {
+            question.of_states(&DrawFewest::new(), Event::Fm333, tables.of_333.as_ref())
+        }
+        Puzzle::Cube555 => question.of_moves(&CubeMoves::<5> {}),
+        Puzzle::Cube666 => question.of_moves(&CubeMoves::<6> {}),
+        Puzzle::Cube777 => question.of_moves(&CubeMoves::<7> {}),
+        Puzzle::Clock => question.of_states(&ClockNumbers, Event::Clock, Some(&())),
+        Puzzle::Megaminx => question.of_moves(&MegaminxMoves),
+        Puzzle::Pyraminx => {
             let own = tables.of_pyram.as_ref().unwrap();
-            question.of_states(&SmallPyram::new(own), event, Some(own))
+            question.of_states(&SmallPyram::new(own), Event::Pyram, Some(own))
         }
-        Event::Skewb => {
+        Puzzle::Skewb => {
             let own = tables.of_skewb.as_ref().unwrap();
-            question.of_states(&SmallSkewb::new(own), event, Some(own))
+            question.of_states(&SmallSkewb::new(own), Event::Skewb, Some(own))
         }
-        Event::Sq1 => question.of_states(&DrawSq1::new(), event, tables.of_sq1.as_ref()),
-        Event::Bf333 => question.of_states(&DrawHeld::new(), event, tables.of_333.as_ref()),
-        Event::Fm333 => question.of_states(&DrawFewest::new(), event, tables.of_333.as_ref()),
+        Puzzle::Square1 => question.of_states(&DrawSq1::new(), Event::Sq1, tables.of_sq1.as_ref()),
     }
 }

@@ -6,7 +6,7 @@ ghost use Rattle.scr_notation.specs.declared.event.Family.TheVariants.{Cube333, 
 ghost use Rattle.scr_small.specs.Tables.{small_line};
 ghost use Rattle.scr_table.specs.Causes.{IsCauseOf};
 ghost use Rattle.scr_table.specs.Lines.{HasNoGap, TableLine};
-ghost use Rattle.scr_slots.specs.Held.{own_event};
+ghost use Rattle.scr_slots.specs.Families.{own_event};
 ghost use Rattle.scr_slots.specs.TableLines.{family_lines};
 
 use crate::cube_tables::CubeTables;

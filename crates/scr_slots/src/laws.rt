@@ -1,12 +1,10 @@
 //! What holds of slots whatever the code: calls that do nothing, whose contracts are the laws.
 
-ghost use Rattle.std.specs.Prelude.{◌≡◌, ℕ, ◌+◌, ◌≤◌, ◌<◌, [], ◌∷◌, filter};
+ghost use Rattle.std.specs.Prelude.{◌≡◌, ℕ, ◌+◌, ◌≤◌, ◌<◌};
 ghost use Rattle.scr_notation.specs.declared.event.Event.{Event as EventOf};
-ghost use Rattle.scr_notation.specs.declared.event.Event.TheVariants.{C222, Pyram, Skewb};
 ghost use Rattle.scr_notation.specs.declared.event.Family.{Family as FamilyOf};
 ghost use Rattle.scr_notation.specs.Event.{events, greatest_of};
 ghost use Rattle.scr_notation.specs.EventSets.{Has};
-ghost use Rattle.scr_slots.specs.Agreement.{is_tested_by_table};
 ghost use Rattle.scr_slots.specs.Events.{scrambling_of};
 ghost use Rattle.scr_slots.specs.Slots.{IsDrawnFairly, first_stream};
 ghost use Rattle.scr_slots.specs.Outcomes.{HasOneAnswer, HasOneListing};
@@ -87,9 +85,4 @@ impl Question for Fairness {
 /// No two slots of a list share a stream: a round has at most 182 slots.
 pub fn no_shared_stream()
     ensures { (k l i j : ℕ) → i < 182 → j < 182 → first_stream k + i ≡ first_stream l + j → (k ≡ l) × (i ≡ j) }
-{}
-
-/// The events whose states are tested by their tables as they are drawn.
-pub fn events_tested_by_table()
-    ensures { filter is_tested_by_table events ≡ C222 ∷ Pyram ∷ Skewb ∷ [] }
 {}

@@ -41,7 +41,7 @@ impl Model for Tables {
     ghost Value = { List Bool };
 
     ghost use Rattle.scr_notation.specs.declared.event.Family.TheVariants.{Cube222, Cube333, Pyraminx, Skewb, Square1};
-    ghost use Rattle.scr_slots.specs.Held.{HoldsTable, HoldsTables};
+    ghost use Rattle.scr_slots.specs.Families.{HoldsTable, HoldsTables};
 
     ghost view = { λ tables. tables.events };
 

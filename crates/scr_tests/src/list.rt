@@ -249,26 +249,3 @@ fn long_lists_of_version_2(rt: HostRuntime) -> Result<(), Fail> {
 fn a_round_again(rt: HostRuntime) {
     assert!(rt; are_rows(&[Round::default().copied()], &[ONE]));
 }
-
-#[test]
-fn the_table_of_events(rt: HostRuntime) {
-    for (event, per_group, minima) in [
-        (Event::C222, 5, Some((4, 11))),
-        (Event::C333, 5, Some((2, 5))),
-        (Event::Oh333, 5, Some((2, 5))),
-        (Event::C555, 5, None),
-        (Event::C666, 3, None),
-        (Event::C777, 3, None),
-        (Event::Clock, 5, Some((2, 3))),
-        (Event::Minx, 5, None),
-        (Event::Pyram, 5, Some((6, 15))),
-        (Event::Skewb, 5, Some((7, 11))),
-        (Event::Sq1, 5, Some((2, 4))),
-        (Event::Bf333, 3, Some((2, 5))),
-        (Event::Fm333, 3, Some((2, 5))),
-    ] {
-        assert_eq!(rt; event.per_group(), per_group);
-        let told = event.minima().map(|minima| (minima.usual, minima.greatest));
-        assert_eq!(rt; told, minima);
-    }
-}

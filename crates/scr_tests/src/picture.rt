@@ -14,7 +14,7 @@ fn known_pictures(rt: HostRuntime) {
             "UBULURUFURURFRBRDRFUFLFRFDFDFDLDRDBDLULBLFLDLBUBRBLBDB",
         ),
         (
-            Event::Oh333,
+            Event::C333,
             "U2 D2 R2 L2 F2 B2",
             "UDUDUDUDURLRLRLRLRFBFBFBFBFDUDUDUDUDLRLRLRLRLBFBFBFBFB",
         ),

@@ -1,10 +1,11 @@
 -- A Pyraminx as its edges, its axial pieces and its tips, its turns (WCA Regulations, article 12), and its number.
 --
 -- The axes are 0 U, 1 L, 2 R, 3 B: the corners above, at the left, at the right and at the back. An edge stands
--- between two of them; edge places and pieces are numbered 0 UL, 1 UR, 2 UB, 3 LR, 4 LB, 5 RB. Axial pieces and tips
--- stay at their axes. An axial piece's digit is how many thirds clockwise it stands turned, and a tip's how many it
--- stands turned against the axial piece below it. Without its tips the puzzle is known as the Tetraminx, which stands
--- here by itself, since it is what a search has to solve.
+-- between two of them; edge places and pieces are numbered 0 UL, 1 UR, 2 UB, 3 LR, 4 LB, 5 RB. Of each edge one sticker
+-- is marked: at home those on the faces L, F, R, F, D and R, in this order. Its flip is 0 where that sticker lies where
+-- the marked one of its place does when solved. Axial pieces and tips stay at their axes. An axial piece's digit is how
+-- many thirds clockwise it stands turned, and a tip's how many it stands turned against the axial piece below it. Without
+-- its tips the puzzle is known as the Tetraminx, which stands here by itself, since it is what a search has to solve.
 use Rattle.std.specs.Prelude.{ℕ, ◌/◌, List, [], ◌∷◌, ◌++◌, map, replicate, slice_index}
 use Rattle.std.specs.List.{zip}
 use Rattle.scr_combinatorics.specs.Permutations.{IsEven, permutation_number, half_at}

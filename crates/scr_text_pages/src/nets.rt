@@ -7,20 +7,20 @@ ghost use Rattle.scr_text_pages.specs.Adding.{AddsLines, AddsPlain, words_read};
 
 use crate::rows::write_spaces;
 use scr_net::Net;
-use scr_notation::{Event, Scramble};
+use scr_notation::{Event, Puzzle, Scramble};
 use std::alloc::AllocError;
 
 /// How many layers a cube has, if the puzzle of an event is one.
 pub(crate) fn side_of(event: Event) -> Option<u32>
     ensures { IfSome result (λ side. side ≤ 7) }
 {
-    match event {
-        Event::C222 => Some(2),
-        Event::C333 | Event::Oh333 | Event::Bf333 | Event::Fm333 => Some(3),
-        Event::C555 => Some(5),
-        Event::C666 => Some(6),
-        Event::C777 => Some(7),
-        Event::Clock | Event::Minx | Event::Pyram | Event::Skewb | Event::Sq1 => None,
+    match event.puzzle() {
+        Puzzle::Cube222 => Some(2),
+        Puzzle::Cube333 | Puzzle::Held333 | Puzzle::Fewest333 => Some(3),
+        Puzzle::Cube555 => Some(5),
+        Puzzle::Cube666 => Some(6),
+        Puzzle::Cube777 => Some(7),
+        Puzzle::Clock | Puzzle::Megaminx | Puzzle::Pyraminx | Puzzle::Skewb | Puzzle::Square1 => None,
     }
 }
 

@@ -2,7 +2,7 @@ use Rattle.std.proofs.Common.{arith, sym, refl}
 use Rattle.std.proofs.lemmas.Option.{get_or_from_slice_get}
 use Rattle.scr_notation.specs.Event.{events}
 use borrow.Author.Count.{below_more}
-use Rattle.scr_read.proofs.HeadLemmas.{numbered}
+use Rattle.scr_notation.proofs.EachEvent.{numbered}
 use Rattle.scr_read.proofs.head.read_head.Goals as goal
 
 pub loop-number-preserved : goal.loop-number-preserved

@@ -1,7 +1,7 @@
 use Rattle.std.proofs.Common.{ap, arith}
 use Rattle.std.specs.Prelude.{length}
 use Rattle.scr_list.specs.declared.round.Round.{Round}
-use Rattle.scr_slots.specs.Agreement.{is_tested_by_table}
+use Rattle.scr_notation.specs.Event.{is_tested_by_table}
 use Rattle.scr_sheet.proofs.CheckedInput.{tested-few}
 use Rattle.scr_sheet.proofs.check.tested_rounds.Goals as goal
 

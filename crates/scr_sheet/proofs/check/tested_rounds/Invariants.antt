@@ -1,7 +1,7 @@
 use Rattle.std.proofs.Common.{◌≡◌, take}
 use Rattle.std.specs.Prelude.{filter}
 use Rattle.scr_list.specs.declared.round.Round.{Round}
-use Rattle.scr_slots.specs.Agreement.{is_tested_by_table}
+use Rattle.scr_notation.specs.Event.{is_tested_by_table}
 use Rattle.scr_sheet.proofs.check.tested_rounds.Given as goal
 
 abbrev pub invariant-loop-round : goal.invariant-loop-round

@@ -4,7 +4,7 @@ use Rattle.std.proofs.lemmas.Result.{err_from_is_err_and}
 use Rattle.scr_list.specs.declared.round.Round.{Round}
 use Rattle.scr_notation.specs.declared.event.Event.{Event}
 use Rattle.scr_notation.specs.EventSets.{Has}
-use Rattle.scr_slots.specs.Agreement.{is_tested_by_table}
+use Rattle.scr_notation.specs.Event.{is_tested_by_table}
 use Rattle.scr_slots.specs.Tables.{IsBuildCause}
 use Rattle.scr_sheet.proofs.CheckedInput.{each_tested}
 use Rattle.scr_sheet.proofs.check.tests_of_list.Goals as goal

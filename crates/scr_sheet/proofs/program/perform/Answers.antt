@@ -6,8 +6,8 @@ use Rattle.scr_outside.proofs.ChangeLemmas.{Gains-nothing}
 use Rattle.scr_check.specs.Reading.{reading}
 use Rattle.scr_command.specs.declared.command.Command.{Command}
 use Rattle.scr_command.specs.Command.{command_of}
-use Rattle.scr_sheet.specs.declared.fault.Fault.{Fault}
-use Rattle.scr_sheet.specs.declared.fault.Fault.TheVariants as fault
+use Rattle.scr_fault.specs.declared.fault.Fault.{Fault}
+use Rattle.scr_fault.specs.declared.fault.Fault.TheVariants as fault
 use Rattle.scr_sheet.specs.Check.{EndsChecking, check_settings}
 use Rattle.scr_sheet.specs.Outcome.{Ends, IsPerformed, TakesMemory}
 use Rattle.scr_sheet.specs.Ready.{ReadsTests}

@@ -4,7 +4,7 @@ use Rattle.scr_table_text.specs.Counted.{WritesTables}
 use Rattle.scr_notation.specs.declared.event.Family.TheVariants as family
 use Rattle.scr_notation.specs.Event.{family_of}
 use Rattle.scr_notation.specs.EventSets.{Has}
-use Rattle.scr_slots.specs.Held.{HasFamily}
+use Rattle.scr_slots.specs.Families.{HasFamily}
 use Rattle.scr_slots.specs.TableLines.{family_lines}
 use Rattle.scr_slots.proofs.BuildCauses.{small-are, tables_for-none, texts-one}
 use Rattle.scr_slots.proofs.table_texts.write_tables_of.Goals as goal

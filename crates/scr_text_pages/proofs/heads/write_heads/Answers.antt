@@ -1,5 +1,5 @@
 use Rattle.std.proofs.Common.{string_bytes, ◌++◌, [], ◌∷◌, ap, ◌∙◌}
-use Rattle.scr_layout.specs.Held.{held_of}
+use Rattle.scr_layout.specs.Holding.{held_of}
 use Rattle.scr_text_pages.proofs.HeadLemmas.{heads-made}
 use Rattle.scr_text_pages.proofs.heads.write_heads.Goals as goal
 

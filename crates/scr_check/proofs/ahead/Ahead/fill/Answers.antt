@@ -1,6 +1,6 @@
 use Rattle.std.proofs.Common.{arith}
 use Rattle.std.proofs.lemmas.Result.{err_from_is_err_and}
-use Rattle.scr_check.proofs.HeldLemmas.{held-kept}
+use Rattle.scr_check.proofs.AheadLemmas.{held-kept}
 use Rattle.scr_check.proofs.ahead.Ahead.fill.Goals as goal
 
 pub returns-in_err-count-clause-kept : goal.returns-in_err-count-clause-kept

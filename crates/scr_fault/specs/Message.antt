@@ -10,8 +10,8 @@ use Rattle.scr_list.specs.declared.fault.ListFault.TheVariants as list
 use Rattle.scr_command.specs.declared.command.UsageFault.{UsageFault}
 use Rattle.scr_command.specs.declared.command.UsageFault.TheVariants.{No444, NoSeed, Grammar}
 use Rattle.scr_table.specs.Names.{name_text}
-use Rattle.scr_sheet.specs.declared.fault.Fault.{Fault}
-use Rattle.scr_sheet.specs.declared.fault.Fault.TheVariants as fault
+use Rattle.scr_fault.specs.declared.fault.Fault.{Fault}
+use Rattle.scr_fault.specs.declared.fault.Fault.TheVariants as fault
 
 -- why a text is no seed
 abbrev pub seed_fault_text : SeedFault → List ℕ

@@ -1,5 +1,5 @@
 use Rattle.std.proofs.Common.{append_assoc}
-use Rattle.scr_sheet.proofs.fault.push_list.Goals as goal
+use Rattle.scr_fault.proofs.fault.push_list.Goals as goal
 
 pub returns-in-TooLong-clause-bytes : goal.returns-in-TooLong-clause-bytes
 returns-in-TooLong-clause-bytes c =

@@ -1,8 +1,7 @@
 //! How runs end.
 
 ghost use Rattle.std.specs.Prelude.{◌≡◌};
-ghost use Rattle.scr_sheet.specs.Outcome.{status_of};
-ghost use Rattle.scr_sheet.specs.Status.{code_of};
+ghost use Rattle.scr_fault.specs.Status.{code_of, status_of};
 
 use crate::fault::Fault;
 use scr_list::ListFault;

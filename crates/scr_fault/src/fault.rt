@@ -2,11 +2,10 @@
 
 ghost use Rattle.std.specs.Prelude.{◌≡◌, ◌++◌, ◌≤◌, ◌<◌, length};
 ghost use Rattle.arrayvec.specs.ArrayString.{array_string_len};
-ghost use Rattle.scr_sheet.specs.declared.fault.Fault.TheVariants.{DrawLimit, List, NoMemory, Write};
-ghost use Rattle.scr_sheet.specs.declared.fault.MakeFault.TheVariants as make;
-ghost use Rattle.scr_sheet.specs.Causes.{fault_of_build, fault_of_command, fault_of_make};
-ghost use Rattle.scr_sheet.specs.Check.{fault_of_check};
-ghost use Rattle.scr_sheet.specs.Message.{message_of, usage_text, seed_fault_text, list_text, cause_text};
+ghost use Rattle.scr_fault.specs.declared.fault.Fault.TheVariants.{DrawLimit, List, NoMemory, Write};
+ghost use Rattle.scr_fault.specs.declared.fault.MakeFault.TheVariants as make;
+ghost use Rattle.scr_fault.specs.Faults.{fault_of_build, fault_of_command, fault_of_make, fault_of_check};
+ghost use Rattle.scr_fault.specs.Message.{message_of, usage_text, seed_fault_text, list_text, cause_text};
 
 use arrayvec::ArrayString;
 use scr_check::{CheckFault, Missing};
@@ -104,7 +103,7 @@ impl From<Missing> for Fault {
 
 /// Why scrambles were not made and written. No such fault is want of memory: what draws and writes takes none.
 #[derive(Clone, Copy, Debug)]
-pub(crate) enum MakeFault {
+pub enum MakeFault {
     /// The attempts of this slot gave no permitted state. Rounds and slots are counted from 1.
     DrawLimit(Missing),
     /// The output could not be written.

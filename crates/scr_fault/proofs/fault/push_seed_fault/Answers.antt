@@ -1,5 +1,5 @@
 use Rattle.std.proofs.Common.{append_assoc}
-use Rattle.scr_sheet.proofs.fault.push_seed_fault.Goals as goal
+use Rattle.scr_fault.proofs.fault.push_seed_fault.Goals as goal
 
 pub returns-in-Length-clause-bytes : goal.returns-in-Length-clause-bytes
 returns-in-Length-clause-bytes c =
