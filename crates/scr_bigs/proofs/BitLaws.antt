@@ -1,139 +1,149 @@
--- The bits of a Megaminx's number, row by row.
-use Rattle.std.proofs.Common.{◌≡◌, ℕ, suc, ◌+◌, ◌-◌, ◌*◌, ◌/◌, ◌%◌, ◌^◌, ◌<◌, ◌==◌, Bool, true, false, List, [], ◌∷◌, ◌++◌, length, replicate, take, drop, slice_index, Some, None, refl, sym, ap, ◌∙◌, append_assoc, append-nil, arith, lit<}
-use Rattle.std.specs.Prelude.{option_map, if◌then◌else◌, All}
-use Rattle.std.proofs.lemmas.List.{replicate-append-replicate, take_at, drop_at}
-use Rattle.std.proofs.Math.Nat.{div-div-eq-div-mul, div-one}
-use Rattle.scr_combinatorics.specs.Digits.{product, mixed_digits, mixed_number}
-use Rattle.scr_combinatorics.proofs.Digits.{length-mixed_digits, lists_one_to_one}
+-- The turns of a Megaminx by the bits of a number.
+use Rattle.std.proofs.Common.{◌≡◌, ℕ, zero, suc, ◌+◌, ◌*◌, ◌/◌, ◌%◌, ◌^◌, ◌<◌, ◌==◌, min, Bool, Some, List, [], ◌∷◌, ◌++◌, length, replicate, slice_index, refl, sym, ap, ◌∙◌, append_assoc, lit<, arith}
+use Rattle.std.specs.Prelude.{slice_get, if◌then◌else◌, All}
+use Rattle.std.specs.List.{flat_map, range_with_len}
+use Rattle.std.proofs.lemmas.Bool.{ne_eqb}
+use Rattle.std.proofs.lemmas.Option.{cond_some}
+use Rattle.std.proofs.lemmas.List.{flat_map_more}
+use Rattle.std.proofs.lemmas.List.FromFn.{map-range_with_len_more}
+use Rattle.std.proofs.lemmas.Nat.{shr-shr}
+use Rattle.std.proofs.Math.Nat.{div-one}
+use Rattle.scr_combinatorics.specs.Digits.{mixed_digits, mixed_number}
+use Rattle.scr_combinatorics.proofs.Digits.{lists_one_to_one}
 use Rattle.scr_draw.specs.Attempt.{answer, is_accepted, attempt_value}
 use Rattle.scr_draw.proofs.Accepted.{answered_equally}
 use Rattle.scr_notation.specs.declared.turn.Turn.{Turn}
 use Rattle.scr_notation.specs.declared.turn.Turn.TheVariants.{Wide}
-use Rattle.scr_bigs.specs.Megaminx.{bits_of, wide_turns, row_turns, rows_turns, megaminx_moves}
+use Rattle.scr_bigs.specs.Megaminx.{bits_of, row_turns, rows_turns, megaminx_moves}
 use Rattle.scr_bigs.specs.Fairness.{AreFairBits}
-use Rattle.scr_bigs.proofs.ChoiceLaws.{answer-accepted}
+use Rattle.scr_bigs.specs.Following.{AreMegaminxTurns}
+use Rattle.scr_bigs.proofs.ChoiceLaws.{answer-accepted, mapped}
+use Rattle.scr_bigs.proofs.Listed.{listed, length-listed, listed-at, listed-agree, range-more}
 
--- ---- within a row
+-- ---- the bits of a number
 
-wide_turns-next : (letter n rest : ℕ)
-    → wide_turns letter (mixed_digits (replicate (suc n) 2) rest)
-    ≡ Wide letter (rest % 2 == 1) ∷ wide_turns (1 - letter) (mixed_digits (replicate n 2) (rest / 2))
-unfolding wide_turns
-wide_turns-next letter n rest = refl
+bit-at : (n v k : ℕ) → k < n → slice_index (mixed_digits (replicate n 2) v) k ≡ v / 2 ^ k % 2
+bit-at zero v k below = absurd (omega arith)
+bit-at (suc n) v zero below = ap (λ w. w % 2) (sym (div-one v))
+bit-at (suc n) v (suc k) below =
+    let more : 1 + k ≡ suc k = omega arith in
+    bit-at n (v / 2) k (omega arith) ∙ ap (λ w. w % 2) (shr-shr v 1 k ∙ ap (λ j. v / 2 ^ j) more)
 
-wide_turns-end : (letter : ℕ) → wide_turns letter [] ≡ []
-unfolding wide_turns
-wide_turns-end letter = refl
+bit-of : (v k : ℕ) → k < 70 → slice_index (bits_of v) k ≡ v / 2 ^ k % 2
+unfolding bits_of
+bit-of v k below = bit-at 70 v k below
+
+-- ---- a row
+
+-- turn k of the row that a number's low bits give
+abbrev pub bit_turn : ℕ → ℕ → Turn
+bit_turn v k = Wide (k % 2) (v / 2 ^ k % 2 == 1)
+
+row-number : (v row : ℕ) → row < 7
+    → row_turns (bits_of v) row
+    ≡ listed (bit_turn (v / 2 ^ (10 * row))) 10 ++ Wide 2 (v / 2 ^ (10 * row) / 512 % 2 == 1) ∷ []
+unfolding row_turns
+row-number v row low =
+    ap (λ turns. turns ++ Wide 2 (slice_index (bits_of v) (10 * row + 9) == 1) ∷ [])
+    (listed-agree (λ k. Wide (k % 2) (slice_index (bits_of v) (10 * row + k) == 1)) (bit_turn (v / 2 ^ (10 * row))) 10
+    (λ k few. ap (λ b. Wide (k % 2) (b == 1)) (bit k few)))
+    ∙ ap (λ b. listed (bit_turn (v / 2 ^ (10 * row))) 10 ++ Wide 2 (b == 1) ∷ []) (bit 9 (lit< tt))
+  where
+    bit : (k : ℕ) → k < 10 → slice_index (bits_of v) (10 * row + k) ≡ v / 2 ^ (10 * row) / 2 ^ k % 2
+    bit k few = bit-of v (10 * row + k) (omega arith) ∙ ap (λ w. w % 2) (sym (shr-shr v (10 * row) k))
 
 -- one more turn of a row
-pub row-more : (all turns : List Turn) (place rest : ℕ) → place < 10
-    → all ≡ turns ++ wide_turns (place % 2) (mixed_digits (replicate (10 - place) 2) rest)
-    → all ≡ (turns ++ Wide (place % 2) (rest % 2 == 1) ∷ []) ++ wide_turns ((place + 1) % 2) (mixed_digits (replicate (10 - (place + 1)) 2) (rest / 2))
-row-more all turns place rest more so_far =
-    let left : 10 - place ≡ suc (10 - (place + 1)) = omega arith in
-    let letter : 1 - place % 2 ≡ (place + 1) % 2 = omega arith in
-    let n : ℕ = 10 - (place + 1) in
-    so_far
-    ∙ ap (λ m. turns ++ wide_turns (place % 2) (mixed_digits (replicate m 2) rest)) left
-    ∙ ap (λ w. turns ++ w) (wide_turns-next (place % 2) n rest)
-    ∙ ap (λ l. turns ++ Wide (place % 2) (rest % 2 == 1) ∷ wide_turns l (mixed_digits (replicate n 2) (rest / 2))) letter
-    ∙ sym (append_assoc turns (Wide (place % 2) (rest % 2 == 1) ∷ []) (wide_turns ((place + 1) % 2) (mixed_digits (replicate n 2) (rest / 2))))
+pub row-more : (old turns : List Turn) (bits rest place : ℕ) → turns ≡ old ++ listed (bit_turn bits) place
+    → rest ≡ bits / 2 ^ place
+    → turns ++ Wide (place % 2) (rest % 2 == 1) ∷ [] ≡ old ++ listed (bit_turn bits) (place + 1)
+row-more old turns bits rest place so_far is =
+    rw (so_far, is)
+    (append_assoc old (listed (bit_turn bits) place) (bit_turn bits place ∷ [])
+    ∙ ap (λ t. old ++ t) (sym (map-range_with_len_more (bit_turn bits) 0 place place (omega arith))))
 
-pub last-bit : (bits : ℕ) → slice_index (mixed_digits (replicate 10 2) bits) 9 ≡ bits / 512 % 2
-last-bit bits = ap (λ z. z % 2) (omega arith)
+pub rest-more : (bits rest place : ℕ) → rest ≡ bits / 2 ^ place → rest / 2 ≡ bits / 2 ^ (place + 1)
+rest-more bits rest place is = rw is (shr-shr bits place 1)
 
 -- all ten turns, and the turn of U
-pub row-end : (old turns : List Turn) (place bits rest : ℕ) → place ≡ 10
-    → old ++ wide_turns 0 (mixed_digits (replicate 10 2) bits) ≡ turns ++ wide_turns (place % 2) (mixed_digits (replicate (10 - place) 2) rest)
-    → turns ++ Wide 2 (bits / 512 % 2 == 1) ∷ [] ≡ old ++ row_turns (mixed_digits (replicate 10 2) bits)
-unfolding row_turns
-row-end old turns place bits rest whole so_far =
-    let none : 10 - place ≡ 0 = omega arith in
-    let made : old ++ wide_turns 0 (mixed_digits (replicate 10 2) bits) ≡ turns =
-    so_far ∙ ap (λ n. turns ++ wide_turns (place % 2) (mixed_digits (replicate n 2) rest)) none
-    ∙ ap (λ w. turns ++ w) (wide_turns-end (place % 2)) ∙ append-nil turns in
-    ap (λ t. t ++ Wide 2 (bits / 512 % 2 == 1) ∷ []) (sym made)
-    ∙ ap (λ b. (old ++ wide_turns 0 (mixed_digits (replicate 10 2) bits)) ++ Wide 2 (b == 1) ∷ []) (sym (last-bit bits))
-    ∙ append_assoc old (wide_turns 0 (mixed_digits (replicate 10 2) bits)) (Wide 2 (slice_index (mixed_digits (replicate 10 2) bits) 9 == 1) ∷ [])
+pub row-end : (old turns : List Turn) (v row bits place : ℕ) → row < 7 → bits ≡ v / 2 ^ (10 * row) → place ≡ 10
+    → turns ≡ old ++ listed (bit_turn bits) place
+    → turns ++ Wide 2 (bits / 512 % 2 == 1) ∷ [] ≡ old ++ row_turns (bits_of v) row
+row-end old turns v row bits place low are whole so_far =
+    rw (so_far, whole, are, row-number v row low) (append_assoc old (listed (bit_turn (v / 2 ^ (10 * row))) 10) _)
 
 -- ---- rows
 
-mixed_digits-append : (bases more : List ℕ) (v : ℕ)
-    → mixed_digits (bases ++ more) v ≡ mixed_digits bases v ++ mixed_digits more (v / product bases)
-mixed_digits-append [] more v = ap (mixed_digits more) (sym (div-one v))
-mixed_digits-append (b ∷ bases) more v =
-    ap (λ ds. v % b ∷ ds)
-    (mixed_digits-append bases more (v / b) ∙ ap (λ w. mixed_digits bases (v / b) ++ mixed_digits more w) (div-div-eq-div-mul v b (product bases)))
+pub rows-more : (bits : List ℕ) (turns : List Turn) (row : ℕ) → turns ≡ flat_map (row_turns bits) (range_with_len 0 row)
+    → turns ++ row_turns bits row ≡ flat_map (row_turns bits) (range_with_len 0 (row + 1))
+rows-more bits turns row so_far =
+    rw (so_far, range-more row) (flat_map_more (row_turns bits) [] (range_with_len 0 row) row)
 
--- the first ten of more bits, and the others
-bits-split : (n v : ℕ)
-    → mixed_digits (replicate (10 + n) 2) v ≡ mixed_digits (replicate 10 2) v ++ mixed_digits (replicate n 2) (v / 1024)
-bits-split n v =
-    ap (λ bases. mixed_digits bases v) (sym (replicate-append-replicate 10 n 2)) ∙ mixed_digits-append (replicate 10 2) (replicate n 2) v
-
-rows_turns-next : (rows : ℕ) (bits : List ℕ)
-    → rows_turns (suc rows) bits ≡ row_turns (take 10 bits) ++ rows_turns rows (drop 10 bits)
+pub rows-end : (bits : List ℕ) (turns : List Turn) (row : ℕ) → row ≡ 7
+    → turns ≡ flat_map (row_turns bits) (range_with_len 0 row) → rows_turns bits ≡ turns
 unfolding rows_turns
-rows_turns-next rows bits = refl
-
-pub rows_turns-end : (bits : List ℕ) → rows_turns 0 bits ≡ []
-unfolding rows_turns
-rows_turns-end bits = refl
-
-pub rows-step : (rows v : ℕ) → rows_turns (suc rows) (mixed_digits (replicate (10 * suc rows) 2) v)
-    ≡ row_turns (mixed_digits (replicate 10 2) v) ++ rows_turns rows (mixed_digits (replicate (10 * rows) 2) (v / 1024))
-rows-step rows v =
-    let first = mixed_digits (replicate 10 2) v in
-    let others = mixed_digits (replicate (10 * rows) 2) (v / 1024) in
-    let size : length first ≡ 10 = length-mixed_digits (replicate 10 2) v in
-    let count : 10 * suc rows ≡ 10 + 10 * rows = omega arith in
-    ap (λ n. rows_turns (suc rows) (mixed_digits (replicate n 2) v)) count
-    ∙ ap (rows_turns (suc rows)) (bits-split (10 * rows) v)
-    ∙ rows_turns-next rows (first ++ others)
-    ∙ ap (λ bits. row_turns bits ++ rows_turns rows (drop 10 (first ++ others))) (take_at first others 10 size)
-    ∙ ap (λ bits. row_turns first ++ rows_turns rows bits) (drop_at first others 10 size)
-
--- one more row
-pub rows-more : (all turns : List Turn) (row bits : ℕ) → row < 7
-    → all ≡ turns ++ rows_turns (7 - row) (mixed_digits (replicate (10 * (7 - row)) 2) bits)
-    → all ≡ (turns ++ row_turns (mixed_digits (replicate 10 2) bits))
-    ++ rows_turns (7 - (row + 1)) (mixed_digits (replicate (10 * (7 - (row + 1))) 2) (bits / 1024))
-rows-more all turns row bits more so_far =
-    let n : ℕ = 7 - (row + 1) in
-    let left : 7 - row ≡ suc n = omega arith in
-    so_far
-    ∙ ap (λ m. turns ++ rows_turns m (mixed_digits (replicate (10 * m) 2) bits)) left
-    ∙ ap (λ t. turns ++ t) (rows-step n bits)
-    ∙ sym (append_assoc turns (row_turns (mixed_digits (replicate 10 2) bits)) (rows_turns n (mixed_digits (replicate (10 * n) 2) (bits / 1024))))
-
--- all seven
-pub rows-end : (all turns : List Turn) (row bits : ℕ) → row ≡ 7
-    → all ≡ turns ++ rows_turns (7 - row) (mixed_digits (replicate (10 * (7 - row)) 2) bits) → all ≡ turns
-rows-end all turns row bits whole so_far =
-    let none : 7 - row ≡ 0 = omega arith in
-    so_far ∙ ap (λ n. turns ++ rows_turns n (mixed_digits (replicate (10 * (7 - row)) 2) bits)) none
-    ∙ ap (λ t. turns ++ t) (rows_turns-end _) ∙ append-nil turns
-
--- the bits of a number, as digits
-pub bits_of-digits : (v : ℕ) → bits_of v ≡ mixed_digits (replicate (10 * (7 - 0)) 2) v
-unfolding bits_of
-bits_of-digits v = refl
+rows-end bits turns row whole so_far = rw (so_far, whole) refl
 
 -- every number is accepted
 pub moves-accepted : (word : ℕ → ℕ) (place number : ℕ) → number ≡ attempt_value word place → number < 2 ^ 96
-    → megaminx_moves word place ≡ Some (rows_turns 7 (bits_of (number % 2 ^ 70)))
+    → megaminx_moves word place ≡ Some (rows_turns (bits_of (number % 2 ^ 70)))
 unfolding megaminx_moves
 moves-accepted word place number is below =
     let test : answer (2 ^ 70) (attempt_value word place) ≡ Some (number % 2 ^ 70) =
     ap (answer (2 ^ 70)) (sym is) ∙ sym (answer-accepted (2 ^ 70) number below) in
     rw test refl
 
--- ---- fairness
+-- ---- turns by their places
 
-answered-bits : (accepted : Bool) (r : ℕ) (bits : List ℕ)
-    → option_map bits_of (if accepted then Some r else None) ≡ Some bits → (accepted ≡ true) × (bits_of r ≡ bits)
-answered-bits true r bits is = (refl, cc)
-answered-bits false r bits is = cc
+-- turn p of the 77
+place_turn : List ℕ → ℕ → Turn
+place_turn bits p =
+    Wide (if p % 11 == 10 then 2 else p % 11 % 2) (slice_index bits (10 * (p / 11) + min (p % 11) 9) == 1)
+
+rows-listed : (bits : List ℕ) → rows_turns bits ≡ listed (place_turn bits) 77
+unfolding place_turn rows_turns row_turns
+rows-listed bits = refl
+
+turn-of-row : (bits : List ℕ) (row k : ℕ) → row < 7 → k < 11
+    → slice_get (rows_turns bits) (11 * row + k)
+    ≡ Some (Wide (if k == 10 then 2 else k % 2) (slice_index bits (10 * row + min k 9) == 1))
+unfolding place_turn
+turn-of-row bits row k low few =
+    let across : (11 * row + k) / 11 ≡ row = omega arith in
+    let along : (11 * row + k) % 11 ≡ k = omega arith in
+    ap (λ turns. slice_get turns (11 * row + k)) (rows-listed bits)
+    ∙ listed-at (place_turn bits) 77 (11 * row + k) (omega arith) ∙ rw (across, along) refl
+
+pub megaminx-turns : (v : ℕ) → AreMegaminxTurns v (rows_turns (bits_of v))
+megaminx-turns v = record {
+  count = ap length (rows-listed (bits_of v)) ∙ length-listed (place_turn (bits_of v)) 77;
+  turn = λ row k low few.
+      let other = ne_eqb k 10 (λ e. omega arith) in
+      let least : min k 9 ≡ k = omega arith in
+      let bit = bit-of v (10 * row + k) (omega arith) in
+      turn-of-row (bits_of v) row k low (omega arith) ∙ rw (other, least, bit) refl;
+  last = λ row low.
+      turn-of-row (bits_of v) row 10 low (lit< tt)
+      ∙ ap (λ b. Some (Wide 2 (b == 1))) (bit-of v (10 * row + 9) (omega arith));
+}
+
+pub megaminx-count : (word : ℕ → ℕ) (place : ℕ) (turns : List Turn) → megaminx_moves word place ≡ Some turns
+    → length turns ≡ 77
+unfolding megaminx_moves
+megaminx-count word place turns gives =
+    mapped (λ number. rows_turns (bits_of number)) (answer (2 ^ 70) (attempt_value word place)) turns gives
+    (λ v answered same. ap length (sym same) ∙ (megaminx-turns v).count)
+
+-- the last turn of a row goes the way of the turn of D before it
+pub last-turn : (v row : ℕ) (plus : Bool) → row < 7
+    → slice_get (rows_turns (bits_of v)) (11 * row + 9) ≡ Some (Wide 1 plus)
+    → slice_get (rows_turns (bits_of v)) (11 * row + 10) ≡ Some (Wide 2 plus)
+last-turn v row plus low turned =
+    let turns = megaminx-turns v in
+    let before : Some (Wide 1 (v / 2 ^ (10 * row + 9) % 2 == 1)) ≡ Some (Wide 1 plus) = sym (turns.turn row 9 low (lit< tt)) ∙ turned in
+    let way : (v / 2 ^ (10 * row + 9) % 2 == 1) ≡ plus = cc in
+    turns.last row low ∙ ap (λ to. Some (Wide 2 to)) way
+
+-- ---- fairness
 
 pub fair-bits : AreFairBits
 unfolding bits_of
@@ -152,10 +162,12 @@ fair-bits bits size each =
             let again = law.state_again bits valid in
             rw (accepted, place) (ap Some again),
         λ h.
-            let parts = answered-bits (is_accepted (2 ^ 70) v) (v % 2 ^ 70) bits h in
+            mapped bits_of (answer (2 ^ 70) v) bits h
+            (λ r answered same.
+            let parts = cond_some (is_accepted (2 ^ 70) v) (v % 2 ^ 70) r answered in
             let small : v % 2 ^ 70 < 2 ^ 70 = omega arith in
-            (count.tells v below).1
-            (parts.0, sym (law.number_again (v % 2 ^ 70) small) ∙ ap (mixed_number (replicate 70 2)) parts.1),
+            let again = sym (law.number_again (v % 2 ^ 70) small) ∙ ap (mixed_number (replicate 70 2)) (ap bits_of parts.1 ∙ same) in
+            (count.tells v below).1 (parts.0, again)),
       );
       counted = count.counted;
     }

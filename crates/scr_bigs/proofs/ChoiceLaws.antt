@@ -1,14 +1,16 @@
 -- Choices by numbers: what is drawn, and that it is fair.
 use Rattle.std.proofs.Common.{◌≡◌, ℕ, ◌*◌, ◌/◌, ◌%◌, ◌^◌, ◌<◌, ◌≤◌, Bool, true, false, ◌&&◌, Option, Some, None, is_some, List, [], ◌∷◌, length, zero, suc, refl, ap, ◌∙◌, arith}
-use Rattle.std.specs.Prelude.{slice_get, option_and_then, if◌then◌else◌, IsTrue, ◌↔◌}
+use Rattle.std.proofs.Math.Path.{fun_ext}
+use Rattle.std.specs.Prelude.{slice_get, option_map, option_and_then, if◌then◌else◌, Contains}
 use Rattle.std.specs.Option.{option_or}
 use Rattle.std.proofs.lemmas.Bool.{lt-ltb}
-use Rattle.std.proofs.lemmas.Option.{slice_get-get_or}
-use Rattle.scr_draw.specs.Attempt.{answer, is_accepted}
+use Rattle.std.proofs.lemmas.Option.{same_Some, cond_some, option_and_then_some, slice_get-get_or, slice_get_within, get_or_from_slice_get}
+use Rattle.scr_draw.specs.Attempt.{answer, attempt_values, is_accepted}
 use Rattle.scr_draw.specs.Drawn.{drawn, hit}
 use Rattle.scr_draw.specs.FirstHit.{numbers_read}
 use Rattle.scr_draw.proofs.Accepted.{answered_equally}
 use Rattle.scr_draw.proofs.Fairness.{quotient_some}
+use Rattle.scr_draw.proofs.FirstHit.{drawn_is_first}
 use Rattle.scr_bigs.specs.Choices.{choice_of, IsFairChoice}
 
 -- ---- a number that is accepted
@@ -16,49 +18,77 @@ use Rattle.scr_bigs.specs.Choices.{choice_of, IsFairChoice}
 pub answer-accepted : (count v : ℕ) → v < 2 ^ 96 / count * count → Some (v % count) ≡ answer count v
 answer-accepted count v below = let test = lt-ltb v (2 ^ 96 / count * count) below in rw test refl
 
--- ---- what is drawn of some choices is the one with the number that is drawn
+-- as what a number hits, where each state passes
+with_true : (accepted : Bool) (r : ℕ) → (if accepted && true then Some r else None) ≡ (if accepted then Some r else None)
+with_true true r = refl
+with_true false r = refl
 
--- a number that is accepted hits the number of its answer
-abbrev pub number_hit : ℕ → ℕ → Option ℕ
-number_hit count = hit count (λ number. number) (λ _. true)
+pub hit-answer : (count : ℕ) → hit count (λ (number : ℕ). number) (λ number. true) ≡ answer count
+hit-answer count = fun_ext (λ v. with_true (is_accepted count v) (v % count))
+
+-- ---- what is drawn
+
+-- what follows from what is made of an option
+pub mapped : {A B P : Type 0} (f : A → B) (o : Option A) (y : B) → option_map f o ≡ Some y
+    → ((x : A) → o ≡ Some x → f x ≡ y → P) → P
+mapped f None y is next = absurd (cc)
+mapped f (Some x) y is next = next x refl (same_Some (f x) y is)
+
+-- what follows from what is hit, where something always does, is drawn by as many numbers
+module _ {A B : Type 0} (hits : ℕ → Option A) (next : A → Option B) (there : (v : ℕ) (a : A) → hits v ≡ Some a → (b : B) × (next a ≡ Some b)) where
+  drawn-next : (values : List ℕ) → drawn (λ v. option_and_then next (hits v)) values ≡ option_and_then next (drawn hits values)
+  unfolding drawn
+  drawn-next [] = refl
+  drawn-next (v ∷ values) = at (hits v) (there v) (drawn-next values)
+    where
+      at : (o : Option A) → ((a : A) → o ≡ Some a → (b : B) × (next a ≡ Some b))
+          → drawn (λ w. option_and_then next (hits w)) values ≡ option_and_then next (drawn hits values)
+          → option_or (option_and_then next o) (drawn (λ w. option_and_then next (hits w)) values) ≡ option_and_then next (option_or o (drawn hits values))
+      at None found later = later
+      at (Some a) found later = let b = (found a refl).1 in rw b refl
+
+  read-next : (values : List ℕ) → numbers_read (λ v. option_and_then next (hits v)) values ≡ numbers_read hits values
+  unfolding numbers_read
+  read-next [] = refl
+  read-next (v ∷ values) = at (hits v) (there v) (read-next values)
+    where
+      at : (o : Option A) → ((a : A) → o ≡ Some a → (b : B) × (next a ≡ Some b))
+          → numbers_read (λ w. option_and_then next (hits w)) values ≡ numbers_read hits values
+          → (if is_some (option_and_then next o) then 1 else suc (numbers_read (λ w. option_and_then next (hits w)) values))
+          ≡ (if is_some o then 1 else suc (numbers_read hits values))
+      at None found later = ap suc later
+      at (Some a) found later = let b = (found a refl).1 in rw b refl
 
 -- what stands at a place of a list
-pub element : {X : Type 0} (xs : List X) (i : ℕ) → i < length xs → (x : X) × (slice_get xs i ≡ Some x)
+element : {X : Type 0} (xs : List X) (i : ℕ) → i < length xs → (x : X) × (slice_get xs i ≡ Some x)
 element [] i below = absurd (omega arith)
 element (x ∷ xs) zero below = (x, refl)
 element (x ∷ xs) (suc i) below = element xs i (omega arith)
 
+-- of some choices the one with the number that is drawn
 module _ {X : Type 0} (choices : List X) (some : 1 ≤ length choices) where
-  drawn-step : (accepted : Bool) (r : ℕ) (choice : Option X) (number : Option ℕ) → r < length choices
-      → choice ≡ option_and_then (slice_get choices) number
-      → option_or (option_and_then (slice_get choices) (if accepted then Some r else None)) choice
-      ≡ option_and_then (slice_get choices) (option_or (if accepted && true then Some r else None) number)
-  drawn-step true r choice number below same = let here = (element choices r below).1 in rw here refl
-  drawn-step false r choice number below same = same
+  there : (v i : ℕ) → answer (length choices) v ≡ Some i → (x : X) × (slice_get choices i ≡ Some x)
+  there v i is =
+      let place = (cond_some (is_accepted (length choices) v) (v % length choices) i is).1 in
+      element choices i (omega arith)
 
   pub drawn-choice : (values : List ℕ)
-      → drawn (choice_of choices) values ≡ option_and_then (slice_get choices) (drawn (number_hit (length choices)) values)
-  unfolding drawn choice_of
-  drawn-choice [] = refl
-  drawn-choice (v ∷ values) =
-      let below : v % length choices < length choices = omega arith in
-      drawn-step (is_accepted (length choices) v) (v % length choices) _ _ below (drawn-choice values)
+      → drawn (choice_of choices) values ≡ option_and_then (slice_get choices) (drawn (answer (length choices)) values)
+  unfolding choice_of
+  drawn-choice = drawn-next (answer (length choices)) (slice_get choices) there
 
-  read-step : (accepted : Bool) (r read : ℕ) → r < length choices
-      → (if is_some (option_and_then (slice_get choices) (if accepted then Some r else None)) then 1 else suc read)
-      ≡ (if is_some (if accepted && true then Some r else None) then 1 else suc read)
-  read-step true r read below = let here = (element choices r below).1 in rw here refl
-  read-step false r read below = refl
+  pub read-choice : (values : List ℕ) → numbers_read (choice_of choices) values ≡ numbers_read (answer (length choices)) values
+  unfolding choice_of
+  read-choice = read-next (answer (length choices)) (slice_get choices) there
 
-  pub numbers_read-choice : (values : List ℕ)
-      → numbers_read (choice_of choices) values ≡ numbers_read (number_hit (length choices)) values
-  unfolding numbers_read choice_of
-  numbers_read-choice [] = refl
-  numbers_read-choice (v ∷ values) =
-      let below : v % length choices < length choices = omega arith in
-      let rest = numbers_read-choice values in
-      read-step (is_accepted (length choices) v) (v % length choices) _ below
-      ∙ ap (λ n. if is_some (number_hit (length choices) v) then 1 else suc n) rest
+-- and what is drawn is one of them
+pub drawn-among : {X : Type 0} (choices : List X) (word : ℕ → ℕ) (place attempts : ℕ) (x : X)
+    → drawn (choice_of choices) (attempt_values word place attempts) ≡ Some x → Contains choices x
+unfolding choice_of
+drawn-among choices word place attempts x is =
+    let first = (drawn_is_first (choice_of choices) word place attempts x).0 is in
+    option_and_then_some (slice_get choices) _ x first.1.here
+    (λ i given at_i. (i, slice_get_within choices i x at_i, get_or_from_slice_get choices i x x at_i))
 
 -- ---- fairness
 
@@ -66,35 +96,24 @@ module _ {X : Type 0} (choices : List X) (some : 1 ≤ length choices) where
 abbrev pub Differ : {X : Type 0} → List X → Type 0
 Differ {X} xs = (i j : ℕ) (x : X) → slice_get xs i ≡ Some x → slice_get xs j ≡ Some x → i ≡ j
 
-module _ {X : Type 0} (choices : List X) (differ : Differ choices) where
-  accepted-at : (accepted : Bool) (r : ℕ) (x : X)
-      → option_and_then (slice_get choices) (if accepted then Some r else None) ≡ Some x
-      → (accepted ≡ true) × (slice_get choices r ≡ Some x)
-  accepted-at true r x is = (refl, is)
-  accepted-at false r x is = cc
-
-  tells-choice : (i : ℕ) (x : X) (v : ℕ) → slice_get choices i ≡ Some x
-      → (IsTrue (is_accepted (length choices) v) × (v % length choices ≡ i)) ↔ (choice_of choices v ≡ Some x)
-  unfolding choice_of
-  tells-choice i x v there = (
-    λ h. let accepted = h.0 in let place = h.1 in rw (accepted, place) there,
-    λ h.
-        let parts = accepted-at (is_accepted (length choices) v) (v % length choices) x h in
-        (parts.0, differ (v % length choices) i x parts.1 there),
-  )
-
-  pub choice-fair : 1 ≤ length choices → length choices ≤ 2 ^ 96 → IsFairChoice choices
-  choice-fair some fits = record {
-    some = quotient_some (length choices) some fits;
-    differ = differ;
-    equally = λ x there.
-        let at : slice_get choices there.0 ≡ Some x = slice_get-get_or choices there.0 x there.1 ∙ ap Some there.2 in
-        let count = answered_equally (length choices) there.0 there.1 in record {
-          test = count.test;
-          tells = λ v below.
-              let same = tells-choice there.0 x v at in
-              let tells = count.tells v below in
-              (λ h. same.0 (tells.0 h), λ h. tells.1 (same.1 h));
-          counted = count.counted;
-        };
-  }
+pub choice-fair : {X : Type 0} (choices : List X) → Differ choices → 1 ≤ length choices → length choices ≤ 2 ^ 96
+    → IsFairChoice choices
+unfolding choice_of
+choice-fair choices differ some fits = record {
+  some = quotient_some (length choices) some fits;
+  differ = differ;
+  equally = λ x there.
+      let at_x : slice_get choices there.0 ≡ Some x = slice_get-get_or choices there.0 x there.1 ∙ ap Some there.2 in
+      let count = answered_equally (length choices) there.0 there.1 in record {
+        test = count.test;
+        tells = λ v below. (
+          λ h. let parts = (count.tells v below).0 h in rw (parts.0, parts.1) at_x,
+          λ h.
+              option_and_then_some (slice_get choices) (answer (length choices) v) x h
+              (λ i given here.
+              let parts = cond_some (is_accepted (length choices) v) (v % length choices) i given in
+              (count.tells v below).1 (parts.0, parts.1 ∙ differ i there.0 x here at_x)),
+        );
+        counted = count.counted;
+      };
+}

@@ -1,9 +1,7 @@
-pub mod ListLaws
-pub mod TurnOrder
 pub mod ChoiceLaws
+pub mod Listed
+pub mod TurnOrder
 pub mod MoveLaws
-pub mod StepLaws
 pub mod BitLaws
-pub mod RowLaws
 pub mod FollowingLaws
 pub mod OnLiterals

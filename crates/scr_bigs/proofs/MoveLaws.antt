@@ -1,164 +1,157 @@
 -- Random moves turn by turn.
-use Rattle.std.proofs.Common.{◌≡◌, ℕ, suc, ◌+◌, ◌-◌, ◌*◌, ◌<◌, Option, Some, None, List, [], ◌∷◌, ◌++◌, refl, sym, ap, ◌∙◌, append_assoc, append-nil, arith}
-use Rattle.std.specs.Prelude.{option_map}
-use Rattle.scr_draw.specs.Attempt.{attempt_values}
+use Rattle.std.proofs.Common.{◌≡◌, ℕ, suc, ◌+◌, ◌-◌, ◌*◌, ◌<◌, ◌≤◌, Option, Some, None, Result, Ok, Err, List, [], ◌∷◌, ◌++◌, length, refl, sym, ap, ◌∙◌, append_assoc, append-nil, arith}
+use Rattle.std.specs.Prelude.{slice_get, option_map, option_and_then, OnErr}
+use Rattle.scr_draw.specs.Attempt.{answer, attempt_values}
 use Rattle.scr_draw.specs.Drawn.{drawn}
 use Rattle.scr_draw.specs.FirstHit.{numbers_read}
 use Rattle.scr_notation.specs.declared.turn.Turn.{Turn}
 use Rattle.scr_bigs.specs.Choices.{choice_of}
-use Rattle.scr_bigs.specs.BigCubes.{BigCube, cube_turns, turns_after}
+use Rattle.scr_bigs.specs.BigCubes.{IsSide, cube_turns, turns_after, turns_made}
 use Rattle.scr_bigs.specs.CubeMoves.{moves_from, attempts_read, cube_moves}
+use Rattle.scr_bigs.specs.LeftOut.{AreLeft, number_of_choice}
+use Rattle.scr_bigs.proofs.ChoiceLaws.{drawn-choice, read-choice}
+use Rattle.scr_bigs.proofs.TurnOrder.{all-left}
 
--- turns before those that follow
-abbrev pub behind : List Turn → Option (List Turn) → Option (List Turn)
+-- what holds anyway holds at an error
+pub OnErr-always : {X E P : Type 0} (r : Result X E) → P → OnErr r P
+OnErr-always (Ok x) p = tt
+OnErr-always (Err e) p = p
+
+-- what words come to: turns or none, and the place behind those that are read
+pub record Outcome : Type 0 where
+  pub turns : Option (List Turn)
+  pub place : ℕ
+
+-- that of a scramble
+abbrev pub scramble_outcome : ℕ → ℕ → (ℕ → ℕ) → ℕ → Outcome
+scramble_outcome side attempts word place = record {
+  turns = cube_moves side attempts word place;
+  place = place + 3 * attempts_read side attempts word (cube_turns side) place (turns_made side);
+}
+
+-- turns behind others
+behind : List Turn → Option (List Turn) → Option (List Turn)
 behind turns rest = option_map (λ (more : List Turn). turns ++ more) rest
 
-module _ (cube : BigCube) (attempts : ℕ) (word : ℕ → ℕ) where
-  module _ (choices : List Turn) (place more : ℕ) where
-    pub moves-next : (turn : Turn) → drawn (choice_of choices) (attempt_values word place attempts) ≡ Some turn
-        → moves_from cube attempts word choices place (suc more)
-        ≡ option_map (λ turns. turn ∷ turns)
-        (moves_from cube attempts word (turns_after cube turn)
-        (place + 3 * numbers_read (choice_of choices) (attempt_values word place attempts)) more)
-    unfolding moves_from
-    moves-next turn drawn_is = rw drawn_is refl
-
-    pub moves-refused : drawn (choice_of choices) (attempt_values word place attempts) ≡ None
-        → moves_from cube attempts word choices place (suc more) ≡ None
-    unfolding moves_from
-    moves-refused refused = rw refused refl
-
-    pub read-next : (turn : Turn) → drawn (choice_of choices) (attempt_values word place attempts) ≡ Some turn
-        → attempts_read cube attempts word choices place (suc more)
-        ≡ numbers_read (choice_of choices) (attempt_values word place attempts)
-        + attempts_read cube attempts word (turns_after cube turn)
-        (place + 3 * numbers_read (choice_of choices) (attempt_values word place attempts)) more
-    unfolding attempts_read
-    read-next turn drawn_is = rw drawn_is refl
-
-    pub read-refused : drawn (choice_of choices) (attempt_values word place attempts) ≡ None
-        → attempts_read cube attempts word choices place (suc more)
-        ≡ numbers_read (choice_of choices) (attempt_values word place attempts)
-    unfolding attempts_read
-    read-refused refused = rw refused (omega arith)
-
-  pub moves-end : (choices : List Turn) (place : ℕ) → moves_from cube attempts word choices place 0 ≡ Some []
-  unfolding moves_from
-  moves-end choices place = refl
-
-  pub read-end : (choices : List Turn) (place : ℕ) → attempts_read cube attempts word choices place 0 ≡ 0
-  unfolding attempts_read
-  read-end choices place = refl
-
--- So many turns are made: those of the scramble are they, and then the turns that the next words give.
-pub record AreMade (cube : BigCube) (attempts : ℕ) (word : ℕ → ℕ) (place : ℕ) (word_now : ℕ → ℕ) (choices : List Turn) (place_now made : ℕ) (turns : List Turn) : Type 0 where
-  pub same_words : word_now ≡ word
-  pub moves : cube_moves cube attempts word place ≡ behind turns (moves_from cube attempts word choices place_now (cube.turns - made))
-  pub read : place + 3 * attempts_read cube attempts word (cube_turns cube) place cube.turns
-      ≡ place_now + 3 * attempts_read cube attempts word choices place_now (cube.turns - made)
-
-behind-none : (rest : Option (List Turn)) → behind [] rest ≡ rest
+behind-none : (rest : Option (List Turn)) → rest ≡ behind [] rest
+unfolding behind
 behind-none None = refl
 behind-none (Some more) = refl
 
 behind-more : (turns : List Turn) (turn : Turn) (rest : Option (List Turn))
     → behind turns (option_map (λ more. turn ∷ more) rest) ≡ behind (turns ++ turn ∷ []) rest
+unfolding behind
 behind-more turns turn None = refl
 behind-more turns turn (Some more) = ap Some (sym (append_assoc turns (turn ∷ []) more))
 
-module _ {cube : BigCube} {attempts : ℕ} {word : ℕ → ℕ} {place : ℕ} where
-  pub none-made : AreMade cube attempts word place word (cube_turns cube) place 0 []
-  none-made = record {
-    same_words = refl;
-    moves =
-        ap (λ n. moves_from cube attempts word (cube_turns cube) place n) (omega arith)
-        ∙ sym (behind-none (moves_from cube attempts word (cube_turns cube) place (cube.turns - 0)));
-    read = ap (λ n. place + 3 * attempts_read cube attempts word (cube_turns cube) place n) (omega arith);
+module _ (side attempts : ℕ) (word : ℕ → ℕ) (turns choices : List Turn) (place : ℕ) where
+  -- that of so many turns more behind some turns
+  pub outcome : ℕ → Outcome
+  outcome more = record {
+    turns = behind turns (moves_from side attempts word choices place more);
+    place = place + 3 * attempts_read side attempts word choices place more;
   }
 
-  module _ {word_now : ℕ → ℕ} {choices : List Turn} {place_now made : ℕ} {turns : List Turn}
-      (so_far : AreMade cube attempts word place word_now choices place_now made turns) where
-    -- the attempts of the next turn, of the words that there were at the start
-    drawn-now : (o : Option Turn) → drawn (choice_of choices) (attempt_values word_now place_now attempts) ≡ o
-        → drawn (choice_of choices) (attempt_values word place_now attempts) ≡ o
-    drawn-now o is = ap (λ (w : ℕ → ℕ). drawn (choice_of choices) (attempt_values w place_now attempts)) (sym so_far.same_words) ∙ is
+  outcome-end : outcome 0 ≡ record { turns = Some turns; place = place }
+  unfolding outcome behind moves_from attempts_read
+  outcome-end =
+      let there : place + 3 * 0 ≡ place = omega arith in
+      λ i. record { turns = ap Some (append-nil turns) i; place = there i }
 
-    read-now : (read : ℕ) → numbers_read (choice_of choices) (attempt_values word_now place_now attempts) ≡ read
-        → numbers_read (choice_of choices) (attempt_values word place_now attempts) ≡ read
-    read-now read is = ap (λ (w : ℕ → ℕ). numbers_read (choice_of choices) (attempt_values w place_now attempts)) (sym so_far.same_words) ∙ is
+  outcome-refused : (more : ℕ) → drawn (choice_of choices) (attempt_values word place attempts) ≡ None
+      → outcome (suc more)
+      ≡ record { turns = None; place = place + 3 * numbers_read (choice_of choices) (attempt_values word place attempts) }
+  unfolding outcome behind moves_from attempts_read
+  outcome-refused more refused =
+      let read : ℕ = numbers_read (choice_of choices) (attempt_values word place attempts) in
+      let there : place + 3 * (read + 0) ≡ place + 3 * read = omega arith in
+      rw refused (λ i. record { turns = None; place = there i })
 
-    -- the place behind the attempts of the next turn
-    place-next : (place_next : ℕ)
-        → place_next ≡ place_now + 3 * numbers_read (choice_of choices) (attempt_values word_now place_now attempts)
-        → place_now + 3 * numbers_read (choice_of choices) (attempt_values word place_now attempts) ≡ place_next
-    place-next place_next there = ap (λ r. place_now + 3 * r) (read-now _ refl) ∙ sym there
+outcome-next : (side attempts : ℕ) (word : ℕ → ℕ) (turns choices : List Turn) (place more : ℕ) (turn : Turn)
+    → drawn (choice_of choices) (attempt_values word place attempts) ≡ Some turn
+    → outcome side attempts word turns choices place (suc more)
+    ≡ outcome side attempts word (turns ++ turn ∷ []) (turns_after side turn)
+    (place + 3 * numbers_read (choice_of choices) (attempt_values word place attempts)) more
+unfolding outcome moves_from attempts_read
+outcome-next side attempts word turns choices place more turn drawn_is =
+    let read : ℕ = numbers_read (choice_of choices) (attempt_values word place attempts) in
+    let rest : ℕ = attempts_read side attempts word (turns_after side turn) (place + 3 * read) more in
+    let there : place + 3 * (read + rest) ≡ place + 3 * read + 3 * rest = omega arith in
+    rw drawn_is (λ i. record { turns = behind-more turns turn (moves_from side attempts word (turns_after side turn) (place + 3 * read) more) i; place = there i })
 
-    module _ (more : made < cube.turns) where
-      left : cube.turns - made ≡ suc (cube.turns - (made + 1))
+-- So many turns are made, and so many from the first on are left out as the next one: the outcome is that of the turns so
+-- far and those that the next words give.
+pub record AreMade (side attempts : ℕ) (word : ℕ → ℕ) (place : ℕ) (word_now : ℕ → ℕ) (first count place_now made : ℕ) (turns : List Turn) : Type 0 where
+  pub same_words : word_now ≡ word
+  pub choices : List Turn
+  pub left : AreLeft side first count choices
+  pub so_far : scramble_outcome side attempts word place ≡ outcome side attempts word turns choices place_now (turns_made side - made)
+
+pub none-made : (side attempts : ℕ) (word : ℕ → ℕ) (place : ℕ) → IsSide side → AreMade side attempts word place word 0 0 place 0 []
+unfolding outcome
+none-made side attempts word place is =
+    let all : turns_made side ≡ turns_made side - 0 = omega arith in
+    record {
+      same_words = refl;
+      choices = cube_turns side;
+      left = all-left side is;
+      so_far =
+          (λ i. record {
+            turns = behind-none (cube_moves side attempts word place) i;
+            place = place + 3 * attempts_read side attempts word (cube_turns side) place (turns_made side);
+          })
+          ∙ ap (outcome side attempts word [] (cube_turns side) place) all;
+    }
+
+module _ {side attempts place : ℕ} {word word_now : ℕ → ℕ} {first count place_now made : ℕ} {turns : List Turn}
+    (made_so : AreMade side attempts word place word_now first count place_now made turns) where
+  -- all turns are made
+  pub all-made : (end : ℕ) → end ≤ made → end ≡ turns_made side → scramble_outcome side attempts word place ≡ record { turns = Some turns; place = place_now }
+  all-made end last whole =
+      let none : turns_made side - made ≡ 0 = omega arith in
+      made_so.so_far ∙ ap (outcome side attempts word turns made_so.choices place_now) none
+      ∙ outcome-end side attempts word turns made_so.choices place_now
+
+  -- what the next attempts draw, and behind which place they are
+  module _ (choice : Option ℕ) (place_next : ℕ)
+      (draws : drawn (answer (9 * (side - 1) - count)) (attempt_values word_now place_now attempts) ≡ choice)
+      (reads : place_next ≡ place_now + 3 * numbers_read (answer (9 * (side - 1) - count)) (attempt_values word_now place_now attempts)) where
+    some_left : 1 ≤ length made_so.choices
+    some_left = let some = made_so.left.some in let size = made_so.left.size in omega arith
+
+    draws_now : drawn (choice_of made_so.choices) (attempt_values word place_now attempts) ≡ option_and_then (slice_get made_so.choices) choice
+    draws_now =
+        drawn-choice made_so.choices some_left (attempt_values word place_now attempts)
+        ∙ ap (option_and_then (slice_get made_so.choices)) (rw (made_so.left.size, ← made_so.same_words) draws)
+
+    reads_now : place_next ≡ place_now + 3 * numbers_read (choice_of made_so.choices) (attempt_values word place_now attempts)
+    reads_now = rw (read-choice made_so.choices some_left, made_so.left.size, ← made_so.same_words) reads
+
+    module _ (end : ℕ) (more : made < end) (whole : end ≡ turns_made side) where
+      left : turns_made side - made ≡ suc (turns_made side - (made + 1))
       left = omega arith
 
-      -- one more turn is made
-      pub one-more : (turn : Turn) (word_next : ℕ → ℕ) (choices_next : List Turn) (place_next : ℕ)
-          → drawn (choice_of choices) (attempt_values word_now place_now attempts) ≡ Some turn
-          → turns_after cube turn ≡ choices_next → word_next ≡ word_now
-          → place_next ≡ place_now + 3 * numbers_read (choice_of choices) (attempt_values word_now place_now attempts)
-          → AreMade cube attempts word place word_next choices_next place_next (made + 1) (turns ++ turn ∷ [])
-      one-more turn word_next choices_next place_next drawn_is after same there =
-          let n : ℕ = cube.turns - (made + 1) in
-          let read = numbers_read (choice_of choices) (attempt_values word place_now attempts) in
-          let place_is = place-next place_next there in
-          let now = drawn-now (Some turn) drawn_is in
-          record {
-            same_words = same ∙ so_far.same_words;
-            moves =
-                so_far.moves
-                ∙ ap (behind turns) (ap (moves_from cube attempts word choices place_now) left ∙ moves-next cube attempts word choices place_now n turn now)
-                ∙ behind-more turns turn (moves_from cube attempts word (turns_after cube turn) (place_now + 3 * read) n)
-                ∙ ap (λ p. behind (turns ++ turn ∷ []) (moves_from cube attempts word (turns_after cube turn) p n)) place_is
-                ∙ ap (λ c. behind (turns ++ turn ∷ []) (moves_from cube attempts word c place_next n)) after;
-            read =
-                let step = ap (attempts_read cube attempts word choices place_now) left ∙ read-next cube attempts word choices place_now n turn now in
-                let next =
-                ap (λ p. attempts_read cube attempts word (turns_after cube turn) p n) place_is
-                ∙ ap (λ c. attempts_read cube attempts word c place_next n) after in
-                let before = so_far.read in
-                omega (arith, before, step, next, place_is);
-          }
-
-      -- all attempts of the next turn are refused
-      pub none-more : drawn (choice_of choices) (attempt_values word_now place_now attempts) ≡ None
-          → cube_moves cube attempts word place ≡ None
+      -- all of them are refused
+      pub none-more : choice ≡ None → scramble_outcome side attempts word place ≡ record { turns = None; place = place_next }
       none-more refused =
-          so_far.moves
-          ∙ ap (behind turns)
-          (ap (moves_from cube attempts word choices place_now) left
-          ∙ moves-refused cube attempts word choices place_now (cube.turns - (made + 1)) (drawn-now None refused))
+          made_so.so_far ∙ ap (outcome side attempts word turns made_so.choices place_now) left
+          ∙ outcome-refused side attempts word turns made_so.choices place_now (turns_made side - (made + 1))
+          (draws_now ∙ ap (option_and_then (slice_get made_so.choices)) refused)
+          ∙ ap (λ p. record { turns = None; place = p }) (sym reads_now)
 
-      pub none-more-read : (place_next : ℕ)
-          → drawn (choice_of choices) (attempt_values word_now place_now attempts) ≡ None
-          → place_next ≡ place_now + 3 * numbers_read (choice_of choices) (attempt_values word_now place_now attempts)
-          → place_next ≡ place + 3 * attempts_read cube attempts word (cube_turns cube) place cube.turns
-      none-more-read place_next refused there =
-          let place_is = place-next place_next there in
-          let step =
-          ap (attempts_read cube attempts word choices place_now) left
-          ∙ read-refused cube attempts word choices place_now (cube.turns - (made + 1)) (drawn-now None refused) in
-          let before = so_far.read in
-          omega (arith, before, step, place_is)
-
-    -- all turns are made
-    module _ (whole : made ≡ cube.turns) where
-      none-left : cube.turns - made ≡ 0
-      none-left = omega arith
-
-      pub all-made : cube_moves cube attempts word place ≡ Some turns
-      all-made =
-          so_far.moves
-          ∙ ap (behind turns) (ap (moves_from cube attempts word choices place_now) none-left ∙ moves-end cube attempts word choices place_now)
-          ∙ ap Some (append-nil turns)
-
-      pub all-made-read : place_now ≡ place + 3 * attempts_read cube attempts word (cube_turns cube) place cube.turns
-      all-made-read =
-          let last = ap (attempts_read cube attempts word choices place_now) none-left ∙ read-end cube attempts word choices place_now in
-          let before = so_far.read in
-          omega (arith, before, last)
+      -- one more turn is made
+      pub one-more : (number : ℕ) (turn : Turn) (word_next : ℕ → ℕ) (first_next count_next : ℕ) → choice ≡ Some number
+          → number < 9 * (side - 1) - count
+          → slice_get (cube_turns side) (number_of_choice first count number) ≡ Some turn
+          → AreLeft side first_next count_next (turns_after side turn) → word_next ≡ word_now
+          → AreMade side attempts word place word_next first_next count_next place_next (made + 1) (turns ++ turn ∷ [])
+      one-more number turn word_next first_next count_next chosen below there after same = record {
+        same_words = same ∙ made_so.same_words;
+        choices = turns_after side turn;
+        left = after;
+        so_far =
+            made_so.so_far ∙ ap (outcome side attempts word turns made_so.choices place_now) left
+            ∙ outcome-next side attempts word turns made_so.choices place_now (turns_made side - (made + 1)) turn
+            (draws_now ∙ ap (option_and_then (slice_get made_so.choices)) chosen ∙ made_so.left.each number below ∙ there)
+            ∙ ap (λ p. outcome side attempts word (turns ++ turn ∷ []) (turns_after side turn) p (turns_made side - (made + 1))) (sym reads_now);
+      }

@@ -1,24 +1,21 @@
 -- The turns of the big cubes by their numbers, and which of them may follow each.
-use Rattle.std.proofs.Common.{◌≡◌, ◌==◌, ℕ, ◌+◌, ◌-◌, ◌*◌, ◌/◌, ◌%◌, ◌<◌, ◌≤◌, Bool, true, false, List, length, map, Some, refl, sym, ap, ◌∙◌, subst, inl, inr, get_or, arith}
-use Rattle.std.proofs.lemmas.List.{length-map}
-use Rattle.std.specs.Prelude.{slice_get, filter, nat_lt, ◌&&◌, if◌then◌else◌, option_map, IsTrue, Contains}
-use Rattle.std.specs.List.{list_all}
-use Rattle.std.specs.Str.{bytes_eq}
-use Rattle.std.proofs.lemmas.Bool.{cases_eq, eqb-true, lt-ltb, le-ltb}
-use Rattle.std.proofs.lemmas.Option.{slice_get-map, slice_get-get_or, same_Some}
-use Rattle.std.proofs.lemmas.List.Sums.{AllPass-from_list_all}
-use Rattle.std.proofs.lemmas.Slice.Eq.{bytes_eq-Decides}
-use Rattle.scr_combinatorics.specs.Lists.{numbers_from}
-use Rattle.scr_combinatorics.proofs.Picks.{length-numbers_from, numbers_from-at}
+use Rattle.std.proofs.Common.{◌≡◌, ◌==◌, ℕ, ◌+◌, ◌-◌, ◌*◌, ◌/◌, ◌%◌, ◌<◌, Bool, true, not, ◌||◌, List, length, Some, refl, sym, ap, ◌∙◌, subst, inl, inr, arith}
+use Rattle.std.specs.Prelude.{◌≢◌, ◌⊎◌, ◌↔◌, slice_get, nat_lt, if◌then◌else◌, IsTrue}
+use Rattle.std.proofs.lemmas.Bool.Decides.{nat_tests}
+use Rattle.std.proofs.lemmas.Bool.{cases_eq, cond_both, or_cases, or_left, or_right, not-true}
+use Rattle.std.proofs.lemmas.Option.{slice_get-get_or, slice_get_within, same_Some}
 use Rattle.scr_notation.specs.declared.turn.Turn.{Turn}
 use Rattle.scr_notation.specs.declared.turn.Turn.TheVariants.{Face}
 use Rattle.scr_notation.specs.Turns.{permits}
-use Rattle.scr_bigs.specs.BigCubes.{IsSide, cube_of, cube_turns, may_follow, turns_after}
-use Rattle.scr_bigs.specs.LeftOut.{without}
-use Rattle.scr_bigs.proofs.ListLaws.{map-without, filter-map}
+use Rattle.scr_bigs.specs.BigCubes.{IsSide, cube_event, cube_turns, may_follow, turns_after}
+use Rattle.scr_bigs.specs.Fairness.{AreFairTurns}
+use Rattle.scr_bigs.specs.Following.{axis_of}
+use Rattle.scr_bigs.specs.LeftOut.{AreLeft, number_of_choice}
+use Rattle.scr_bigs.specs.Choices.{IsFairChoice}
+use Rattle.scr_bigs.proofs.Listed.{listed, length-listed, listed-at, listed-same, listed-fair}
 
 -- what holds of each of the three cubes
-pub by_side : (P : ℕ → Type 0) (side : ℕ) → IsSide side → P 5 → P 6 → P 7 → P side
+by_side : (P : ℕ → Type 0) (side : ℕ) → IsSide side → P 5 → P 6 → P 7 → P side
 by_side P side is five six seven =
     elim (cases_eq side 5) [
       | inl e ↦ subst P (sym e) five
@@ -29,20 +26,23 @@ by_side P side is five six seven =
           ]
     ]
 
--- how many turns there are, and their numbers
+-- how many turns there are
 abbrev pub turn_count : ℕ → ℕ
 turn_count side = 9 * (side - 1)
 
-abbrev numbers : ℕ → List ℕ
-numbers side = numbers_from 0 (turn_count side)
-
--- the turn with a number, by its slab's place in the order of its axis
-unfoldable pub turn_at_place : ℕ → ℕ → ℕ → ℕ → Turn
-turn_at_place side axis place amount =
+-- the turn with a number, by the place of its slab in the order of its axis
+unfoldable pub turn_numbered : ℕ → ℕ → Turn
+turn_numbered side n =
+    let axis = n / 3 / (side - 1) in
+    let place = n / 3 % (side - 1) in
+    let amount = n % 3 + 1 in
     if nat_lt place (side / 2) then Face axis (place + 1) amount else Face (axis + 3) (place - side / 2 + 1) amount
 
-unfoldable pub turn_numbered : ℕ → ℕ → Turn
-turn_numbered side n = turn_at_place side (n / 3 / (side - 1)) (n / 3 % (side - 1)) (n % 3 + 1)
+-- the number that a turn has
+unfoldable number_of : ℕ → Turn → ℕ
+number_of side (Face face layers amount) =
+    3 * (face % 3 * (side - 1) + (if nat_lt face 3 then layers - 1 else layers - 1 + side / 2)) + (amount - 1)
+number_of side _ = 0
 
 -- the turns that may not follow it, by their numbers: so many from the first on
 abbrev pub first_left_out : ℕ → ℕ → ℕ
@@ -51,132 +51,164 @@ first_left_out side n = 3 * (n / 3 - n / 3 % (side - 1))
 abbrev pub count_left_out : ℕ → ℕ → ℕ
 count_left_out side n = 3 * (n / 3 % (side - 1) + 1)
 
-pub turns_numbered : (side : ℕ) → IsSide side → cube_turns (cube_of side) ≡ map (turn_numbered side) (numbers side)
-unfolding cube_turns turn_numbered turn_at_place
-turns_numbered side is = by_side (λ s. cube_turns (cube_of s) ≡ map (turn_numbered s) (numbers s)) side is refl refl refl
+-- the turns that are left when so many from the first on are left out
+abbrev turns_left : ℕ → ℕ → ℕ → List Turn
+turns_left side first count = listed (λ choice. turn_numbered side (number_of_choice first count choice)) (turn_count side - count)
 
--- ---- what is computed of each turn
+-- it may be followed by the turn with another number: that is about another axis, or of a later slab
+follows : ℕ → ℕ → ℕ → Bool
+follows side m n = not (axis_of (turn_numbered side m) == axis_of (turn_numbered side n)) || nat_lt (m / 3) (n / 3)
 
--- the number that a turn has
-unfoldable pub number_of : ℕ → Turn → ℕ
-number_of side (Face face depth amount) =
-    3 * (face % 3 * (side - 1) + (if nat_lt face 3 then depth - 1 else depth - 1 + side / 2)) + (amount - 1)
-number_of side _ = 0
+-- ---- what is computed
 
-is_placed : ℕ → ℕ → Bool
-is_placed side n =
-    bytes_eq (filter (λ m. may_follow (cube_of side) (turn_numbered side n) (turn_numbered side m)) (numbers side))
-    (without (first_left_out side n) (count_left_out side n) (numbers side))
-    && (number_of side (turn_numbered side n) == n)
-    && permits (cube_of side).event (turn_numbered side n)
+turns-listed : (side : ℕ) → IsSide side → cube_turns side ≡ listed (turn_numbered side) (turn_count side)
+unfolding cube_turns turn_numbered
+turns-listed side is = by_side (λ s. cube_turns s ≡ listed (turn_numbered s) (turn_count s)) side is refl refl refl
 
-abbrev ArePlaced : ℕ → Type 0
-ArePlaced side = list_all (is_placed side) (numbers side) ≡ true
+-- of each turn: those that may follow it, and whether each may; its number; and whether it is one of the event
+record Facts : Type 0 where
+  after : List Turn
+  follow : List Bool
+  number : ℕ
+  permitted : Bool
 
-placed_555 : ArePlaced 5
-unfolding is_placed number_of turn_numbered turn_at_place
-placed_555 = refl
+facts_of : ℕ → ℕ → Facts
+facts_of side n = record {
+  after = turns_after side (turn_numbered side n);
+  follow = listed (λ m. may_follow (turn_numbered side n) (turn_numbered side m)) (turn_count side);
+  number = number_of side (turn_numbered side n);
+  permitted = permits (cube_event side) (turn_numbered side n);
+}
 
-placed_666 : ArePlaced 6
-unfolding is_placed number_of turn_numbered turn_at_place
-placed_666 = refl
+facts_told : ℕ → ℕ → Facts
+facts_told side n = record {
+  after = turns_left side (first_left_out side n) (count_left_out side n);
+  follow = listed (follows side n) (turn_count side);
+  number = n;
+  permitted = true;
+}
 
-placed_777 : ArePlaced 7
-unfolding is_placed number_of turn_numbered turn_at_place
-placed_777 = refl
+AreTold : ℕ → Type 0
+AreTold side = listed (facts_of side) (turn_count side) ≡ listed (facts_told side) (turn_count side)
 
--- so it is of each turn below the count
-pub record IsPlaced (side n : ℕ) : Type 0 where
-  pub follow : filter (λ m. may_follow (cube_of side) (turn_numbered side n) (turn_numbered side m)) (numbers side)
-      ≡ without (first_left_out side n) (count_left_out side n) (numbers side)
-  pub number : number_of side (turn_numbered side n) ≡ n
-  pub permitted : IsTrue (permits (cube_of side).event (turn_numbered side n))
+all_told : (side : ℕ) → IsSide side → AreTold side
+unfolding AreTold facts_of facts_told cube_turns turns_after turn_numbered number_of follows
+all_told side is = by_side AreTold side is refl refl refl
 
-parts : (a b : Bool) → (a && b) ≡ true → (a ≡ true) × (b ≡ true)
-parts true b is = (refl, is)
-parts false b is = cc
-
-number-at : (side n : ℕ) → n < turn_count side → get_or (numbers side) n 0 ≡ n
-number-at side n below = numbers_from-at 0 (turn_count side) n below ∙ omega arith
-
-pub placed : (side n : ℕ) → IsSide side → n < turn_count side → IsPlaced side n
-unfolding is_placed
-placed side n is below =
-    let all = by_side ArePlaced side is placed_555 placed_666 placed_777 in
-    let size = length-numbers_from 0 (turn_count side) in
-    let here = AllPass-from_list_all (is_placed side) (numbers side) all n 0 (omega (arith, size)) in
-    let test = subst (λ k. is_placed side k ≡ true) (number-at side n below) here in
-    let last = parts _ _ test in
-    let first = parts _ _ last.0 in record {
-      follow = (bytes_eq-Decides _ _).0 first.0;
-      number = eqb-true _ _ first.1;
-      permitted = last.1;
-    }
+told : (side n : ℕ) → IsSide side → n < turn_count side → facts_of side n ≡ facts_told side n
+unfolding AreTold
+told side n is below = listed-same (facts_of side) (facts_told side) (turn_count side) n (all_told side is) below
 
 -- ---- the turns by their numbers
 
-pub length-turns : (side : ℕ) → IsSide side → length (cube_turns (cube_of side)) ≡ turn_count side
-length-turns side is =
-    ap length (turns_numbered side is) ∙ length-map (numbers side) (turn_numbered side) ∙ length-numbers_from 0 (turn_count side)
-
-pub turn-at : (side n : ℕ) → IsSide side → n < turn_count side
-    → slice_get (cube_turns (cube_of side)) n ≡ Some (turn_numbered side n)
+pub turn-at : (side n : ℕ) → IsSide side → n < turn_count side → slice_get (cube_turns side) n ≡ Some (turn_numbered side n)
 turn-at side n is below =
-    let size = length-numbers_from 0 (turn_count side) in
-    let here = slice_get-get_or (numbers side) n 0 (omega (arith, size)) ∙ ap Some (number-at side n below) in
-    ap (λ turns. slice_get turns n) (turns_numbered side is) ∙ slice_get-map (turn_numbered side) (numbers side) n
-    ∙ ap (option_map (turn_numbered side)) here
+    ap (λ turns. slice_get turns n) (turns-listed side is) ∙ listed-at (turn_numbered side) (turn_count side) n below
+
+-- a turn that stands among them is that with the number of its place
+record IsNumbered (side n : ℕ) (turn : Turn) : Type 0 where
+  below : n < turn_count side
+  is : turn_numbered side n ≡ turn
+
+numbered : (side n : ℕ) (turn : Turn) → IsSide side → slice_get (cube_turns side) n ≡ Some turn → IsNumbered side n turn
+numbered side n turn is there =
+    let size = ap length (turns-listed side is) ∙ length-listed (turn_numbered side) (turn_count side) in
+    let within = slice_get_within (cube_turns side) n turn there in
+    let below : n < turn_count side = omega arith in
+    record { below = below; is = same_Some _ _ (sym (turn-at side n is below) ∙ there) }
+
+pub turn-permitted : (side n : ℕ) (turn : Turn) → IsSide side → slice_get (cube_turns side) n ≡ Some turn
+    → IsTrue (permits (cube_event side) turn)
+unfolding facts_of facts_told
+turn-permitted side n turn is there =
+    let known = numbered side n turn is there in
+    rw known.is at (ap (λ (f : Facts). f.permitted) (told side n is known.below))
 
 -- two numbers of one turn are the same
-pub same-number : (side m n : ℕ) → IsSide side → m < turn_count side → n < turn_count side
+same-number : (side m n : ℕ) → IsSide side → m < turn_count side → n < turn_count side
     → turn_numbered side m ≡ turn_numbered side n → m ≡ n
+unfolding facts_of facts_told
 same-number side m n is below below' same =
-    sym (placed side m is below).number ∙ ap (number_of side) same ∙ (placed side n is below').number
+    sym (ap (λ (f : Facts). f.number) (told side m is below)) ∙ ap (number_of side) same ∙ ap (λ (f : Facts). f.number) (told side n is below')
 
--- the turns that may follow a turn
-pub turns_after-numbered : (side n : ℕ) → IsSide side → n < turn_count side
-    → turns_after (cube_of side) (turn_numbered side n)
-    ≡ without (first_left_out side n) (count_left_out side n) (cube_turns (cube_of side))
-unfolding turns_after
-turns_after-numbered side n is below =
-    let test = may_follow (cube_of side) (turn_numbered side n) in
-    ap (filter test) (turns_numbered side is) ∙ filter-map (turn_numbered side) test (numbers side)
-    ∙ ap (map (turn_numbered side)) (placed side n is below).follow
-    ∙ map-without (turn_numbered side) (first_left_out side n) (count_left_out side n) (numbers side)
-    ∙ ap (without (first_left_out side n) (count_left_out side n)) (sym (turns_numbered side is))
+-- ---- the turns that are left
 
--- how many turns are left out
-pub left-out-within : (side n : ℕ) → IsSide side → n < turn_count side
-    → (first_left_out side n + count_left_out side n ≤ turn_count side) × (count_left_out side n < turn_count side)
-left-out-within side n is below =
-    by_side (λ s. n < turn_count s → (first_left_out s n + count_left_out s n ≤ turn_count s) × (count_left_out s n < turn_count s)) side is
-    (λ h. (omega arith, omega arith)) (λ h. (omega arith, omega arith)) (λ h. (omega arith, omega arith)) below
+choice-below : (side first count choice : ℕ) → choice < turn_count side - count → number_of_choice first count choice < turn_count side
+choice-below side first count choice below =
+    cond_both (nat_lt choice first) choice (choice + count) (λ n. n < turn_count side) (λ e. omega arith) (λ e. omega arith)
 
--- a turn of a big cube has a number
-pub record IsNumbered (side : ℕ) (turn : Turn) : Type 0 where
-  pub number : ℕ
-  pub below : number < turn_count side
-  pub is : turn ≡ turn_numbered side number
+choice-same : (first count i j : ℕ) → number_of_choice first count i ≡ number_of_choice first count j → i ≡ j
+choice-same first count i j same = grind (arith, nat_tests)
 
-pub numbered : (side : ℕ) (turn : Turn) → IsSide side → Contains (cube_turns (cube_of side)) turn → IsNumbered side turn
-numbered side turn is there =
-    let n : ℕ = there.0 in
-    let size = length-turns side is in
-    let below : n < turn_count side = omega (arith, there.1, size) in
-    let at : slice_get (cube_turns (cube_of side)) n ≡ Some turn =
-    slice_get-get_or (cube_turns (cube_of side)) n turn there.1 ∙ ap Some there.2 in
-    record { number = n; below = below; is = same_Some _ _ (sym at ∙ turn-at side n is below) }
+-- not all are left out
+some_left : (side n : ℕ) → IsSide side → count_left_out side n < turn_count side
+some_left side n is = let large = is.large in omega arith
 
--- ---- a turn by its slab's place
+-- those that may follow a turn
+after-numbered : (side n : ℕ) (turn : Turn) → IsSide side → slice_get (cube_turns side) n ≡ Some turn
+    → turns_after side turn ≡ turns_left side (first_left_out side n) (count_left_out side n)
+unfolding facts_of facts_told
+after-numbered side n turn is there =
+    let known = numbered side n turn is there in
+    ap (turns_after side) (sym known.is) ∙ ap (λ (f : Facts). f.after) (told side n is known.below)
 
--- at the near face of its axis
-pub turn-near : (side n : ℕ) → n / 3 % (side - 1) < side / 2
-    → turn_numbered side n ≡ Face (n / 3 / (side - 1)) (n / 3 % (side - 1) + 1) (n % 3 + 1)
-unfolding turn_numbered turn_at_place
-turn-near side n near = let test = lt-ltb (n / 3 % (side - 1)) (side / 2) near in rw test refl
+turns_left-left : (side first count : ℕ) (choices : List Turn) → IsSide side → count < turn_count side
+    → choices ≡ turns_left side first count → AreLeft side first count choices
+turns_left-left side first count choices is some same = record {
+  some = some;
+  size = ap length same ∙ length-listed _ (turn_count side - count);
+  each = λ choice below.
+      ap (λ turns. slice_get turns choice) same ∙ listed-at _ (turn_count side - count) choice below
+      ∙ sym (turn-at side (number_of_choice first count choice) is (choice-below side first count choice below));
+}
 
--- and at the far face
-pub turn-far : (side n : ℕ) → side / 2 ≤ n / 3 % (side - 1)
-    → turn_numbered side n ≡ Face (n / 3 / (side - 1) + 3) (n / 3 % (side - 1) - side / 2 + 1) (n % 3 + 1)
-unfolding turn_numbered turn_at_place
-turn-far side n far = let test = le-ltb (n / 3 % (side - 1)) (side / 2) far in rw test refl
+pub left-after : (side n : ℕ) (turn : Turn) → IsSide side → slice_get (cube_turns side) n ≡ Some turn
+    → AreLeft side (first_left_out side n) (count_left_out side n) (turns_after side turn)
+left-after side n turn is there =
+    turns_left-left side _ _ _ is (some_left side n is) (after-numbered side n turn is there)
+
+-- at first each turn is left
+pub all-left : (side : ℕ) → IsSide side → AreLeft side 0 0 (cube_turns side)
+unfolding cube_turns turn_numbered
+all-left side is =
+    turns_left-left side 0 0 (cube_turns side) is (let large = is.large in omega arith)
+    (by_side (λ s. cube_turns s ≡ turns_left s 0 0) side is refl refl refl)
+
+-- ---- which may follow which
+
+tells-follows : (a b c d : ℕ) → IsTrue (not (a == b) || nat_lt c d) ↔ ((a ≢ b) ⊎ (c < d))
+tells-follows a b c d = (λ h. grind (arith, nat_tests, or_cases, not-true), λ h. grind (arith, nat_tests, or_left, or_right))
+
+pub follow-tells : (side i j : ℕ) (before next : Turn) → IsSide side → slice_get (cube_turns side) i ≡ Some before
+    → slice_get (cube_turns side) j ≡ Some next
+    → IsTrue (may_follow before next) ↔ ((axis_of before ≢ axis_of next) ⊎ (i / 3 < j / 3))
+unfolding facts_of facts_told follows
+follow-tells side i j before next is at_i at_j =
+    let first = numbered side i before is at_i in
+    let second = numbered side j next is at_j in
+    let same = ap (λ (f : Facts). f.follow) (told side i is first.below) in
+    let here = rw (first.is, second.is) at (listed-same _ (follows side i) (turn_count side) j same second.below) in
+    rw here (tells-follows (axis_of before) (axis_of next) (i / 3) (j / 3))
+
+-- ---- fairness
+
+pub fair-turns : (side : ℕ) → IsSide side → AreFairTurns side
+fair-turns side is =
+    let large = is.large in
+    let small = is.small in
+    let turns : List Turn = cube_turns side in
+    record {
+      first =
+          subst IsFairChoice (sym (turns-listed side is))
+          (listed-fair (turn_numbered side) (turn_count side) (λ i j. same-number side i j is) (omega arith) (omega arith));
+      later = λ before there.
+          let n : ℕ = there.0 in
+          let at_n : slice_get turns n ≡ Some before = slice_get-get_or turns n before there.1 ∙ ap Some there.2 in
+          let some = some_left side n is in
+          subst IsFairChoice (sym (after-numbered side n before is at_n))
+          (listed-fair _ (turn_count side - count_left_out side n)
+          (λ i j low_i low_j same.
+          choice-same (first_left_out side n) (count_left_out side n) i j
+          (same-number side _ _ is (choice-below side _ _ i low_i) (choice-below side _ _ j low_j) same))
+          (omega arith) (omega arith));
+    }

@@ -5,13 +5,13 @@ use Rattle.scr_draw.specs.Attempt.{answer}
 use Rattle.scr_draw.specs.Count.{IsCount}
 use Rattle.scr_notation.specs.declared.turn.Turn.{Turn}
 use Rattle.scr_bigs.specs.Choices.{IsFairChoice}
-use Rattle.scr_bigs.specs.BigCubes.{BigCube, cube_turns, turns_after}
+use Rattle.scr_bigs.specs.BigCubes.{cube_turns, turns_after}
 use Rattle.scr_bigs.specs.Megaminx.{bits_of}
 
 -- the steps of a big cube: the first turn, and the turn after each turn
-pub record AreFairTurns (cube : BigCube) : Type 0 where
-  pub first : IsFairChoice (cube_turns cube)
-  pub later : (before : Turn) → Contains (cube_turns cube) before → IsFairChoice (turns_after cube before)
+pub record AreFairTurns (side : ℕ) : Type 0 where
+  pub first : IsFairChoice (cube_turns side)
+  pub later : (before : Turn) → Contains (cube_turns side) before → IsFairChoice (turns_after side before)
 
 -- the one step of a Megaminx: each list of seventy bits is given by 2 ^ 26 numbers
 abbrev pub AreFairBits : Type 0

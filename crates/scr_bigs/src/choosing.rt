@@ -1,8 +1,9 @@
 //! A choice that words make.
 
-ghost use Rattle.std.specs.Prelude.{◌≡◌, ◌+◌, ◌*◌, ◌^◌, ◌<◌, ◌≤◌, true, Some, None, IfOk, IfErr, OnErr};
-ghost use Rattle.scr_draw.specs.Attempt.{attempt_values};
-ghost use Rattle.scr_draw.specs.Drawn.{drawn, hit};
+ghost use Rattle.std.specs.Prelude.{◌≡◌, ◌+◌, ◌*◌, ◌^◌, ◌<◌, ◌≤◌, IfOk, IfErr};
+ghost use Rattle.std.specs.Result.{result_ok};
+ghost use Rattle.scr_draw.specs.Attempt.{answer, attempt_values};
+ghost use Rattle.scr_draw.specs.Drawn.{drawn};
 ghost use Rattle.scr_draw.specs.FirstHit.{numbers_read};
 
 use scr_draw::{DrawLimit, attempt};
@@ -14,17 +15,12 @@ pub(crate) fn choose<W: Words>(words: &mut W, count: u8, attempts: u32) -> Resul
     requires some { 1 ≤ count }
     requires few { attempts ≤ 1000000 }
     requires room { W.taken words.old ≤ 2 ^ 62 + 300000000 }
-    ensures number { let hits = hit count (λ number. number) (λ _. true) in
-        let values = attempt_values (W.word_at words.old) (W.taken words.old) attempts in
-        IfOk result (λ number. drawn hits values ≡ Some number) }
-    ensures refused { let hits = hit count (λ number. number) (λ _. true) in
-        let values = attempt_values (W.word_at words.old) (W.taken words.old) attempts in
-        OnErr result (drawn hits values ≡ None) }
+    ensures number { let values = attempt_values (W.word_at words.old) (W.taken words.old) attempts in
+        drawn (answer count) values ≡ result_ok result }
     ensures limit { IfErr result (λ limit. limit.words ≡ 3 * attempts) }
     ensures below { IfOk result (λ number. number < count) }
-    ensures taken { let hits = hit count (λ number. number) (λ _. true) in
-        let values = attempt_values (W.word_at words.old) (W.taken words.old) attempts in
-        W.taken words.new ≡ W.taken words.old + 3 * numbers_read hits values }
+    ensures taken { let values = attempt_values (W.word_at words.old) (W.taken words.old) attempts in
+        W.taken words.new ≡ W.taken words.old + 3 * numbers_read (answer count) values }
     ensures at_most { W.taken words.new ≤ W.taken words.old + 3 * attempts }
     ensures same_words { W.word_at words.new ≡ W.word_at words.old }
 {

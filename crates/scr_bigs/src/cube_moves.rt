@@ -1,15 +1,10 @@
 //! The random moves of a big cube.
 
-ghost use Rattle.std.specs.Prelude.{◌≡◌, ◌+◌, ◌-◌, ◌*◌, ◌^◌, ◌<◌, ◌≤◌, Some, None, IfOk, IfErr, IsTrue, OnErr, slice_get};
+ghost use Rattle.std.specs.Prelude.{◌≡◌, ◌+◌, ◌-◌, ◌*◌, ◌^◌, ◌<◌, ◌≤◌, Some, None, IfOk, IfErr, OnErr, slice_get};
 ghost use Rattle.scr_notation.specs.declared.turn.Turn.{Turn as Letter};
-ghost use Rattle.scr_notation.specs.Turns.{permits};
-ghost use Rattle.scr_draw.specs.Attempt.{attempt_values};
-ghost use Rattle.scr_draw.specs.Drawn.{drawn};
-ghost use Rattle.scr_draw.specs.FirstHit.{numbers_read};
-ghost use Rattle.scr_bigs.specs.Choices.{choice_of};
-ghost use Rattle.scr_bigs.specs.BigCubes.{IsSide, cube_of, cube_turns, turns_after};
+ghost use Rattle.scr_bigs.specs.BigCubes.{IsSide, cube_event, cube_turns, turns_after, turns_made};
 ghost use Rattle.scr_bigs.specs.CubeMoves.{cube_moves, attempts_read};
-ghost use Rattle.scr_bigs.specs.LeftOut.{without};
+ghost use Rattle.scr_bigs.specs.LeftOut.{AreLeft, number_of_choice};
 
 use crate::choosing::choose;
 use scr_draw::DrawLimit;
@@ -28,13 +23,13 @@ pub fn big_cube<W: Words, const SIDE: usize>(
     requires side { IsSide SIDE }
     requires few { attempts ≤ 1000000 }
     requires room { W.taken words.old ≤ 2 ^ 62 }
-    ensures event { IfOk result (λ scramble. scramble.event ≡ (cube_of SIDE).event) }
+    ensures event { IfOk result (λ scramble. scramble.event ≡ cube_event SIDE) }
     ensures turns { IfOk result (λ scramble.
-        cube_moves (cube_of SIDE) attempts (W.word_at words.old) (W.taken words.old) ≡ Some scramble.turns) }
-    ensures refused { OnErr result (cube_moves (cube_of SIDE) attempts (W.word_at words.old) (W.taken words.old) ≡ None) }
+        cube_moves SIDE attempts (W.word_at words.old) (W.taken words.old) ≡ Some scramble.turns) }
+    ensures refused { OnErr result (cube_moves SIDE attempts (W.word_at words.old) (W.taken words.old) ≡ None) }
     ensures limit { IfErr result (λ limit. limit.words ≡ 3 * attempts) }
-    ensures taken { let cube = cube_of SIDE in
-        let read = attempts_read cube attempts (W.word_at words.old) (cube_turns cube) (W.taken words.old) cube.turns in
+    ensures taken { let word = W.word_at words.old in
+        let read = attempts_read SIDE attempts word (cube_turns SIDE) (W.taken words.old) (turns_made SIDE) in
         W.taken words.new ≡ W.taken words.old + 3 * read }
     ensures at_most { W.taken words.new ≤ W.taken words.old + 300000000 }
     ensures same_words { W.word_at words.new ≡ W.word_at words.old }
@@ -43,8 +38,10 @@ pub fn big_cube<W: Words, const SIDE: usize>(
     let mut scramble = Scramble::new(event_of(side));
     let mut left_out = LeftOut { first: 0, count: 0 };
     for made in 0..turn_count(side) {
-        let turn = next_turn(words, side, &mut left_out, attempts)?;
-        push_turn(&mut scramble, turn);
+        let choice = choose(words, 9 * (side - 1) - left_out.count, attempts)?;
+        let number = number_of(left_out, choice);
+        push_turn(&mut scramble, turn_at(side, number));
+        left_out = left_out_after(side, number);
     }
     Ok(scramble)
 }
@@ -52,7 +49,7 @@ pub fn big_cube<W: Words, const SIDE: usize>(
 /// The event of a cube with so many layers.
 fn event_of(side: u8) -> Event
     requires { IsSide side }
-    ensures { result ≡ (cube_of side).event }
+    ensures { result ≡ cube_event side }
 {
     match side {
         5 => Event::C555,
@@ -64,8 +61,7 @@ fn event_of(side: u8) -> Event
 /// How many turns its scrambles have.
 fn turn_count(side: u8) -> u8
     requires { IsSide side }
-    ensures value { result ≡ (cube_of side).turns }
-    ensures few { result ≤ 100 }
+    ensures { result ≡ turns_made side }
 {
     match side {
         5 => 60,
@@ -82,51 +78,24 @@ struct LeftOut {
     count: u8,
 }
 
-/// The next turn: one of those that aren't left out. Those that may not follow it are left out then.
-fn next_turn<W: Words>(
-    words: &mut W,
-    side: u8,
-    left_out: &mut LeftOut,
-    attempts: u32,
-) -> Result<Turn, DrawLimit>
-    requires side { IsSide side }
-    requires within { left_out.old.first + left_out.old.count ≤ 9 * (side - 1) }
-    requires some { left_out.old.count < 9 * (side - 1) }
-    requires few { attempts ≤ 1000000 }
-    requires room { W.taken words.old ≤ 2 ^ 62 + 300000000 }
-    ensures turn { let choices = without left_out.old.first left_out.old.count (cube_turns (cube_of side)) in
-        let values = attempt_values (W.word_at words.old) (W.taken words.old) attempts in
-        IfOk result (λ turn. drawn (choice_of choices) values ≡ Some turn) }
-    ensures refused { let choices = without left_out.old.first left_out.old.count (cube_turns (cube_of side)) in
-        let values = attempt_values (W.word_at words.old) (W.taken words.old) attempts in
-        OnErr result (drawn (choice_of choices) values ≡ None) }
-    ensures limit { IfErr result (λ limit. limit.words ≡ 3 * attempts) }
-    ensures after { IfOk result (λ turn.
-        turns_after (cube_of side) turn ≡ without left_out.new.first left_out.new.count (cube_turns (cube_of side))) }
-    ensures of_event { IfOk result (λ turn. IsTrue (permits (cube_of side).event turn)) }
-    ensures within { left_out.new.first + left_out.new.count ≤ 9 * (side - 1) }
-    ensures some { left_out.new.count < 9 * (side - 1) }
-    ensures taken { let choices = without left_out.old.first left_out.old.count (cube_turns (cube_of side)) in
-        let values = attempt_values (W.word_at words.old) (W.taken words.old) attempts in
-        W.taken words.new ≡ W.taken words.old + 3 * numbers_read (choice_of choices) values }
-    ensures at_most { W.taken words.new ≤ W.taken words.old + 3 * attempts }
-    ensures same_words { W.word_at words.new ≡ W.word_at words.old }
+/// The number among all turns of a choice with a number among those that aren't left out.
+fn number_of(left_out: LeftOut, choice: u8) -> u8
+    requires { choice + left_out.count ≤ 255 }
+    ensures number { result ≡ number_of_choice left_out.first left_out.count choice }
+    ensures at_most { result ≤ choice + left_out.count }
 {
-    let choice = choose(words, 9 * (side - 1) - left_out.count, attempts)?;
-    let number = if choice < left_out.first {
+    if choice < left_out.first {
         choice
     } else {
         choice + left_out.count
-    };
-    *left_out = left_out_after(side, number);
-    Ok(turn_at(side, number))
+    }
 }
 
 /// The turn with this number among all turns, in the order of axis, slab and amount.
 fn turn_at(side: u8, number: u8) -> Turn
     requires side { IsSide side }
     requires below { number < 9 * (side - 1) }
-    ensures { slice_get (cube_turns (cube_of side)) number ≡ Some result }
+    ensures { slice_get (cube_turns side) number ≡ Some result }
 {
     let slabs = side - 1;
     let near = side / 2;
@@ -152,10 +121,8 @@ fn turn_at(side: u8, number: u8) -> Turn
 fn left_out_after(side: u8, number: u8) -> LeftOut
     requires side { IsSide side }
     requires below { number < 9 * (side - 1) }
-    ensures after { (turn : Letter) → slice_get (cube_turns (cube_of side)) number ≡ Some turn
-        → turns_after (cube_of side) turn ≡ without result.first result.count (cube_turns (cube_of side)) }
-    ensures within { result.first + result.count ≤ 9 * (side - 1) }
-    ensures some { result.count < 9 * (side - 1) }
+    ensures { (turn : Letter) → slice_get (cube_turns side) number ≡ Some turn
+        → AreLeft side result.first result.count (turns_after side turn) }
 {
     let slab = number / 3;
     let place = slab % (side - 1);

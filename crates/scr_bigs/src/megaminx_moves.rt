@@ -1,9 +1,8 @@
 //! The random moves of a Megaminx.
 
-ghost use Rattle.std.specs.Prelude.{◌≡◌, ◌+◌, ◌^◌, ◌≤◌, ◌++◌, Some, length, replicate};
-ghost use Rattle.scr_combinatorics.specs.Digits.{mixed_digits};
+ghost use Rattle.std.specs.Prelude.{◌≡◌, ◌+◌, ◌^◌, ◌<◌, ◌≤◌, ◌++◌, Some, length};
 ghost use Rattle.scr_notation.specs.declared.event.Event.TheVariants.{Minx};
-ghost use Rattle.scr_bigs.specs.Megaminx.{row_turns, megaminx_moves};
+ghost use Rattle.scr_bigs.specs.Megaminx.{bits_of, row_turns, megaminx_moves};
 
 use scr_draw::next_number;
 use scr_notation::{Event, Scramble, Turn, push_turn};
@@ -25,22 +24,23 @@ pub fn megaminx<W: Words>(words: &mut W) -> Scramble
     ensures same_words { W.word_at words.new ≡ W.word_at words.old }
 {
     let mut scramble = Scramble::new(Event::Minx);
-    let mut bits = next_number(words) % (1 << 70);
-    for row in 0..7u8 {
-        push_row(&mut scramble, bits);
-        bits /= 1024;
+    let number = next_number(words) % (1 << 70);
+    for row in 0..7u32 {
+        push_row(&mut scramble, number, row);
     }
     scramble
 }
 
-/// Adds a row by the ten low bits of a number.
-fn push_row(scramble: &mut Scramble, bits: u128)
+/// Adds a row by the bits of a number.
+fn push_row(scramble: &mut Scramble, number: u128, row: u32)
     requires of_megaminx { scramble.old.event ≡ Minx }
     requires room { length scramble.old.turns + 11 ≤ 160 }
+    requires row { row < 7 }
     ensures event { scramble.new.event ≡ scramble.old.event }
-    ensures turns { scramble.new.turns ≡ scramble.old.turns ++ row_turns (mixed_digits (replicate 10 2) bits) }
+    ensures turns { scramble.new.turns ≡ scramble.old.turns ++ row_turns (bits_of number) row }
     ensures eleven { length scramble.new.turns ≡ length scramble.old.turns + 11 }
 {
+    let bits = number >> (10 * row);
     let mut rest = bits;
     for place in 0..10 {
         let plus = rest % 2 == 1;

@@ -8,7 +8,6 @@ use Rattle.scr_notation.specs.declared.event.Puzzle.TheVariants as puzzle
 use Rattle.scr_notation.specs.Event.{greatest_of, puzzle_of}
 use Rattle.scr_notation.specs.EventSets.{Has}
 use Rattle.scr_notation.specs.declared.turn.Turn.{Turn}
-use Rattle.scr_bigs.specs.BigCubes.{cube_555, cube_666, cube_777}
 use Rattle.scr_combinatorics.specs.Numbered.{Numbered, numbers_of}
 use Rattle.scr_combinatorics.specs.Numbering.{IsNumbering}
 use Rattle.scr_clock.specs.Numbers.{clock_numbered}
@@ -75,9 +74,9 @@ each_lawful puzzle.Held333 =
 each_lawful puzzle.Fewest333 =
     by_states Fm333 drawn_fewest cube_numbered IsScrambleFewestWithin cube_numbering
     (λ effort state turns other reached a b. IsScrambleFewest-unique effort.tries state turns other a.0 b.0)
-each_lawful puzzle.Cube555 = by_moves C555 (cube_random_moves cube_555)
-each_lawful puzzle.Cube666 = by_moves C666 (cube_random_moves cube_666)
-each_lawful puzzle.Cube777 = by_moves C777 (cube_random_moves cube_777)
+each_lawful puzzle.Cube555 = by_moves C555 (cube_random_moves 5)
+each_lawful puzzle.Cube666 = by_moves C666 (cube_random_moves 6)
+each_lawful puzzle.Cube777 = by_moves C777 (cube_random_moves 7)
 each_lawful puzzle.Clock =
     by_states Clock drawn_clock clock_numbered _ clock_numbering (λ effort state turns other reached. IsScrambleOf-one state turns other)
 each_lawful puzzle.Megaminx = by_moves Minx moves_minx

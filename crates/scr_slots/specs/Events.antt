@@ -27,7 +27,6 @@ use Rattle.scr_clock.specs.Dials.{solved, clock_puzzle}
 use Rattle.scr_clock.specs.Numbers.{clock_numbers}
 use Rattle.scr_clock.specs.Held.{clock_after}
 use Rattle.scr_clock.specs.Written.{IsClockScramble}
-use Rattle.scr_bigs.specs.BigCubes.{BigCube, cube_555, cube_666, cube_777}
 use Rattle.scr_bigs.specs.CubeMoves.{cube_moves}
 use Rattle.scr_bigs.specs.Megaminx.{megaminx_moves}
 use Rattle.scr_bigs.specs.Fairness.{AreFairTurns, AreFairBits}
@@ -76,9 +75,9 @@ drawn_clock = drawn_puzzle clock_puzzle (clock_after solved) (at_most 15)
 abbrev pub drawn_sq1 : DrawnPuzzle Sq1State
 drawn_sq1 = drawn_puzzle sq1_puzzle (play sq1_after solved_sq1) IsWithinBounds
 
--- a big cube: each turn is one of those that may follow the one before
-abbrev pub cube_random_moves : BigCube → RandomMoves
-cube_random_moves cube = record { moves = cube_moves cube; AreFair = AreFairTurns cube }
+-- a big cube of so many layers: each turn is one of those that may follow the one before
+abbrev pub cube_random_moves : ℕ → RandomMoves
+cube_random_moves side = record { moves = cube_moves side; AreFair = AreFairTurns side }
 
 -- a Megaminx: the seventy bits of one attempt, whatever the attempts
 abbrev pub moves_minx : RandomMoves
@@ -90,9 +89,9 @@ shown_as puzzle.Cube222 = States Orbit drawn_222
 shown_as puzzle.Cube333 = States CubeState drawn_333
 shown_as puzzle.Held333 = States HeldState drawn_held
 shown_as puzzle.Fewest333 = States CubeState drawn_fewest
-shown_as puzzle.Cube555 = Moves (cube_random_moves cube_555)
-shown_as puzzle.Cube666 = Moves (cube_random_moves cube_666)
-shown_as puzzle.Cube777 = Moves (cube_random_moves cube_777)
+shown_as puzzle.Cube555 = Moves (cube_random_moves 5)
+shown_as puzzle.Cube666 = Moves (cube_random_moves 6)
+shown_as puzzle.Cube777 = Moves (cube_random_moves 7)
 shown_as puzzle.Clock = States (List ℕ) drawn_clock
 shown_as puzzle.Megaminx = Moves moves_minx
 shown_as puzzle.Pyraminx = States PyramState drawn_pyram
@@ -123,9 +122,9 @@ scrambled_as puzzle.Cube222 = ByState Orbit C222 drawn_222 numbers_222 (λ effor
 scrambled_as puzzle.Cube333 = ByState CubeState C333 drawn_333 cube_numbers IsScramble333Within
 scrambled_as puzzle.Held333 = ByState HeldState Bf333 drawn_held held_numbers (λ effort. IsScramble333bf effort.tries)
 scrambled_as puzzle.Fewest333 = ByState CubeState Fm333 drawn_fewest cube_numbers IsScrambleFewestWithin
-scrambled_as puzzle.Cube555 = ByMoves C555 (cube_random_moves cube_555)
-scrambled_as puzzle.Cube666 = ByMoves C666 (cube_random_moves cube_666)
-scrambled_as puzzle.Cube777 = ByMoves C777 (cube_random_moves cube_777)
+scrambled_as puzzle.Cube555 = ByMoves C555 (cube_random_moves 5)
+scrambled_as puzzle.Cube666 = ByMoves C666 (cube_random_moves 6)
+scrambled_as puzzle.Cube777 = ByMoves C777 (cube_random_moves 7)
 scrambled_as puzzle.Clock = ByState (List ℕ) Clock drawn_clock clock_numbers (λ effort. IsClockScramble)
 scrambled_as puzzle.Megaminx = ByMoves Minx moves_minx
 scrambled_as puzzle.Pyraminx = ByState PyramState Pyram drawn_pyram pyram_numbers (λ effort. IsScramblePyram)

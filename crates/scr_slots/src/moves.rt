@@ -1,9 +1,9 @@
 //! The events that are scrambled by random moves.
 
 ghost use Rattle.scr_notation.specs.declared.event.Event.TheVariants.{Minx};
-ghost use Rattle.scr_bigs.specs.BigCubes.{IsSide, cube_of};
+ghost use Rattle.scr_bigs.specs.BigCubes.{IsSide, cube_event};
 ghost use Rattle.scr_bigs.proofs.BitLaws.{fair-bits};
-ghost use Rattle.scr_bigs.proofs.StepLaws.{fair-turns};
+ghost use Rattle.scr_bigs.proofs.TurnOrder.{fair-turns};
 
 use crate::event::MoveEvent;
 use crate::settings::Settings;
@@ -20,9 +20,9 @@ pub(crate) struct CubeMoves<const SIDE: usize> {
 impl<const SIDE: usize> MoveEvent for CubeMoves<SIDE> {
     ghost use Rattle.scr_slots.specs.Events.{cube_random_moves};
 
-    ghost event = { λ _. (cube_of SIDE).event };
+    ghost event = { λ _. cube_event SIDE };
 
-    ghost random = { λ _. cube_random_moves (cube_of SIDE) };
+    ghost random = { λ _. cube_random_moves SIDE };
 
     fn scramble(&self, settings: &Settings, stream: u64) -> Option<Scramble> {
         let mut words = ChaChaWords::new(&settings.seed, stream);

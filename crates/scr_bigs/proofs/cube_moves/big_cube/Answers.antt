@@ -1,44 +1,52 @@
-use Rattle.std.proofs.Common.{◌≡◌, ◌<◌, length, ap, ◌∙◌, arith}
+use Rattle.std.proofs.Common.{None, Some, length, refl, sym, ap, ◌∙◌, arith}
 use Rattle.std.proofs.lemmas.List.{length_push}
 use Rattle.scr_notation.specs.Written.{Written}
-use Rattle.scr_bigs.specs.BigCubes.{cube_of}
-use Rattle.scr_bigs.proofs.MoveLaws.{one-more, none-more, none-more-read, all-made, all-made-read}
-use Rattle.scr_bigs.proofs.StepLaws.{OnErr-always}
+use Rattle.scr_bigs.proofs.MoveLaws.{Outcome, OnErr-always, none-made, one-more, none-more, all-made}
+use Rattle.scr_bigs.proofs.TurnOrder.{turn-permitted}
 use Rattle.scr_bigs.proofs.cube_moves.big_cube.Goals as goal
 
-pub returns-in_err-turn-clause-refused : goal.returns-in_err-turn-clause-refused
-returns-in_err-turn-clause-refused g c =
-    let more : c.loop-made.made < (cube_of g.row.SIDE).turns = omega (arith, c.loop-made-test.true, c.turn_count-made-end.ensures.value) in
-    OnErr-always c.from_residual.result (none-more c.loop-made.invariant.made more c.in_err-turn.ensures.refused)
+pub loop-made-init : goal.loop-made-init
+loop-made-init g c =
+    let none = ap (λ (s : Written). s.turns) c.new-scramble.ensures.value in
+    record {
+      made = rw none (none-made g.row.SIDE c.args.attempts _ _ c.requires.side);
+      event = ap (λ (s : Written). s.event) c.new-scramble.ensures.value ∙ c.event_of.ensures;
+      count = ap length none;
+      room = omega arith;
+    }
 
-pub returns-in_err-turn-clause-taken : goal.returns-in_err-turn-clause-taken
-returns-in_err-turn-clause-taken g c =
-    let more : c.loop-made.made < (cube_of g.row.SIDE).turns = omega (arith, c.loop-made-test.true, c.turn_count-made-end.ensures.value) in
-    none-more-read c.loop-made.invariant.made more _ c.in_err-turn.ensures.refused c.in_err-turn.ensures.taken
+pub returns-in_err-choice-clause-refused : goal.returns-in_err-choice-clause-refused
+returns-in_err-choice-clause-refused g c =
+    OnErr-always c.from_residual.result
+    (ap (λ (o : Outcome). o.turns) (none-more c.loop-made.invariant.made None _ c.in_err-choice.ensures.number c.choose.ensures.taken _ c.loop-made-test.true c.turn_count-made-end.ensures refl))
+
+pub returns-in_err-choice-clause-taken : goal.returns-in_err-choice-clause-taken
+returns-in_err-choice-clause-taken g c =
+    sym (ap (λ (o : Outcome). o.place) (none-more c.loop-made.invariant.made None _ c.in_err-choice.ensures.number c.choose.ensures.taken _ c.loop-made-test.true c.turn_count-made-end.ensures refl))
+
+pub push_turn-requires-clause-of_event : goal.push_turn-requires-clause-of_event
+push_turn-requires-clause-of_event g c =
+    rw c.loop-made.invariant.event (turn-permitted g.row.SIDE c.number_of-number.result c.turn_at.result c.requires.side c.turn_at.ensures)
 
 pub loop-made-preserved : goal.loop-made-preserved
 loop-made-preserved g c =
     let before = c.loop-made.invariant in
-    let more : c.loop-made.made < (cube_of g.row.SIDE).turns = omega (arith, c.loop-made-test.true, c.turn_count-made-end.ensures.value) in
     let turns = ap (λ (s : Written). s.turns) c.push_turn.ensures in
-    let size = ap length turns ∙ length_push c.loop-made.scramble.turns c.in_ok-turn.turn in
+    let size = ap length turns ∙ length_push c.loop-made.scramble.turns c.turn_at.result in
     record {
       made = rw turns
-          (one-more before.made more c.in_ok-turn.turn _ _ _ c.in_ok-turn.ensures.turn c.in_ok-turn.ensures.after c.in_ok-turn.ensures.same_words
-          c.in_ok-turn.ensures.taken);
+          (one-more before.made (Some c.in_ok-choice.choice) _ c.in_ok-choice.ensures.number c.choose.ensures.taken _ c.loop-made-test.true c.turn_count-made-end.ensures
+          c.in_ok-choice.choice c.turn_at.result _ _ _ refl c.in_ok-choice.ensures.below (rw c.number_of-number.ensures.number at c.turn_at.ensures)
+          (c.left_out_after-left_out.ensures c.turn_at.result c.turn_at.ensures) c.choose.ensures.same_words);
       event = ap (λ (s : Written). s.event) c.push_turn.ensures ∙ before.event;
       count = omega (arith, size, before.count);
-      within = c.in_ok-turn.ensures.within;
-      some = c.in_ok-turn.ensures.some;
-      room = omega (arith, before.room, c.in_ok-turn.ensures.at_most, c.requires.few);
+      room = omega (arith, before.room, c.choose.ensures.at_most, c.requires.few);
     }
 
 pub returns-clause-turns : goal.returns-clause-turns
 returns-clause-turns g c =
-    let whole : c.loop-made.made ≡ (cube_of g.row.SIDE).turns = omega (arith, c.loop-made-test.false, c.turn_count-made-end.ensures.value) in
-    all-made c.loop-made.invariant.made whole
+    ap (λ (o : Outcome). o.turns) (all-made c.loop-made.invariant.made _ c.loop-made-test.false c.turn_count-made-end.ensures)
 
 pub returns-clause-taken : goal.returns-clause-taken
 returns-clause-taken g c =
-    let whole : c.loop-made.made ≡ (cube_of g.row.SIDE).turns = omega (arith, c.loop-made-test.false, c.turn_count-made-end.ensures.value) in
-    all-made-read c.loop-made.invariant.made whole
+    sym (ap (λ (o : Outcome). o.place) (all-made c.loop-made.invariant.made _ c.loop-made-test.false c.turn_count-made-end.ensures))

@@ -1,4 +1,4 @@
-use Rattle.scr_bigs.proofs.StepLaws.{fair-turns}
+use Rattle.scr_bigs.proofs.TurnOrder.{fair-turns}
 use Rattle.scr_bigs.proofs.BitLaws.{fair-bits}
 use Rattle.scr_bigs.proofs.laws.fair_steps.Goals as goal
 

@@ -1,4 +1,4 @@
-use Rattle.scr_bigs.proofs.RowLaws.{last-turn}
+use Rattle.scr_bigs.proofs.BitLaws.{last-turn}
 use Rattle.scr_bigs.proofs.laws.last_turns.Goals as goal
 
 pub returns : goal.returns
