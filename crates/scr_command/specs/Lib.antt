@@ -1,8 +1,4 @@
 pub mod OptionTable
-pub mod OptionWords
-pub mod Spelling
-pub mod Words
 pub mod Command
 pub mod Reading
-pub mod Split
 pub mod SheetRows

@@ -1,12 +1,12 @@
 -- Words after `sheet` or `check` and a seed: which numbers they set, or that they are no command.
 use Rattle.std.specs.Prelude.{◌≡◌, ℕ, List, ◌∷◌, ◌++◌, codes, Ok, Err}
+use Rattle.scr_options.specs.OptionWords.{Text}
 use Rattle.scr_words.specs.declared.seed.Seed.{Seed}
 use Rattle.scr_words.specs.Seed.{seed_of}
 use Rattle.scr_command.specs.declared.options.Options.{Options}
 use Rattle.scr_command.specs.declared.command.Command.{Command}
 use Rattle.scr_command.specs.declared.command.Command.TheVariants.{Sheet, Check}
 use Rattle.scr_command.specs.declared.command.UsageFault.TheVariants.{Grammar}
-use Rattle.scr_command.specs.OptionTable.{Text}
 use Rattle.scr_command.specs.Command.{command_of}
 
 -- the command of this name with these digits of a seed and these words

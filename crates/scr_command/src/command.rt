@@ -3,19 +3,18 @@
 ghost use Rattle.std.specs.Prelude.{◌≡◌, ◌≤◌, [], ◌∷◌, IsTrue, Option, Some, MatchResult, option_map, Ok, IfOk, ok_or};
 ghost use Rattle.scr_command.specs.declared.command.UsageFault.TheVariants.{Grammar, NoSeed};
 ghost use Rattle.scr_command.specs.declared.command.CommandFault.TheVariants.{Usage, NoMemory};
-ghost use Rattle.scr_command.specs.OptionTable.{option_row, all_options, check_options, IsSettable};
-ghost use Rattle.scr_command.specs.OptionWords.{options_of};
-ghost use Rattle.scr_command.specs.Split.{found_values, fault_of_options};
-ghost use Rattle.scr_command.specs.Words.{texts};
+ghost use Rattle.scr_options.specs.OptionWords.{options_of};
+ghost use Rattle.scr_options.specs.Split.{found_values};
+ghost use Rattle.scr_options.specs.Words.{texts};
+ghost use Rattle.scr_command.specs.OptionTable.{option_row, sheet_options, check_options, IsSettable};
 ghost use Rattle.scr_command.specs.Command.{command_of, sheet_of, check_of, single_of, tables_of, load_of, event_for, number_in};
 ghost use Rattle.scr_text.specs.Steps.{and_then};
-ghost use Rattle.scr_command.specs.Reading.{IsRefusal, IsOptionsRefusal, IsCommand};
+ghost use Rattle.scr_command.specs.Reading.{IsRefusal, IsOptionsRefusal, IsCommand, fault_of_options};
 
-use crate::options::{CHECK_OPTIONS, OptionName, Options, SHEET_OPTIONS, usual};
-use crate::splitting::{SplitOptions, split_options};
+use crate::options::{OptionName, Options, SEED, check_options, sheet_options, usual};
 use scr_list::event_named;
 use scr_notation::Event;
-use scr_options::OptionsFault;
+use scr_options::{OptionsFault, SplitOptions, split_options};
 use scr_text::number_within;
 use scr_words::{Seed, SeedFault, read_seed};
 use std::alloc::Global;
@@ -175,11 +174,11 @@ fn read_event(event: &str) -> Result<Event, UsageFault>
 /// Reads the words after `sheet`.
 fn read_sheet(alloc: Global, words: &[&str]) -> Result<Command, CommandFault>
     ensures answer { MatchResult result
-        (λ command. and_then (ok_or (options_of all_options (texts words.now)) Grammar) sheet_of ≡ Ok command)
-        (IsOptionsRefusal sheet_of all_options (texts words.now)) }
+        (λ command. and_then (ok_or (options_of sheet_options (texts words.now)) Grammar) sheet_of ≡ Ok command)
+        (IsOptionsRefusal sheet_of sheet_options (texts words.now)) }
     ensures command { IfOk result IsCommand }
 {
-    let split = split_options(alloc, &SHEET_OPTIONS, words)?;
+    let split = split_options(alloc, &sheet_options(), words)?;
     Ok(read_options(&split)?)
 }
 
@@ -190,7 +189,7 @@ fn read_check(alloc: Global, words: &[&str]) -> Result<Command, CommandFault>
         (IsOptionsRefusal check_of check_options (texts words.now)) }
     ensures command { IfOk result IsCommand }
 {
-    let split = split_options(alloc, &CHECK_OPTIONS, words)?;
+    let split = split_options(alloc, &check_options(), words)?;
     Ok(read_seed_and_attempts(&split)?)
 }
 
@@ -205,7 +204,7 @@ fn read_options(split: &SplitOptions<'_>) -> Result<Command, UsageFault>
         attempts: read_number(split, OptionName::Attempts)?,
         short: read_number(split, OptionName::Short)?,
     };
-    let seed = split.value(OptionName::Seed).ok_or(UsageFault::Grammar)?;
+    let seed = split.value(SEED).ok_or(UsageFault::Grammar)?;
     let seed = read_seed(seed)?;
     Ok(Command::Sheet(seed, options))
 }
@@ -216,21 +215,21 @@ fn read_seed_and_attempts(split: &SplitOptions<'_>) -> Result<Command, UsageFaul
     ensures command { IfOk result IsCommand }
 {
     let attempts = read_number(split, OptionName::Attempts)?;
-    let seed = split.value(OptionName::Seed).ok_or(UsageFault::Grammar)?;
+    let seed = split.value(SEED).ok_or(UsageFault::Grammar)?;
     let seed = read_seed(seed)?;
     Ok(Command::Check(seed, attempts))
 }
 
 /// Reads an option's number in its range; the usual one stands where the option isn't there.
 fn read_number(split: &SplitOptions<'_>, option: OptionName) -> Result<u32, UsageFault>
-    ensures answer { result ≡ number_in (found_values split.now) option }
+    ensures answer { result ≡ number_in (found_values split.now) (option_row option) }
     ensures range { IfOk result (IsSettable (option_row option).range) }
 {
-    match (split.value(option), option.range()) {
-        (Some(text), Some(range)) => {
+    let range = option.range();
+    match split.value(option.name()) {
+        Some(text) => {
             number_within(text.as_bytes(), range.least, range.greatest).ok_or(UsageFault::Grammar)
         }
-        (Some(_), None) => Err(UsageFault::Grammar),
-        (None, _) => Ok(usual(option)),
+        None => Ok(usual(option)),
     }
 }

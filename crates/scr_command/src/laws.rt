@@ -1,19 +1,10 @@
-//! What the grammar is, apart from the order in which it reads words.
+//! What some words are by the definition of commands: numbers that they set, and words that are no command.
 
 ghost use Rattle.std.specs.Prelude.{◌≡◌, ◌⊎◌, List, [], ◌∷◌, codes, Err};
 ghost use Rattle.scr_command.specs.declared.command.UsageFault.TheVariants.{Grammar};
-ghost use Rattle.scr_command.specs.OptionTable.{Text};
-ghost use Rattle.scr_command.specs.Spelling.{ReadsBack, ReadsNothingElse};
+ghost use Rattle.scr_options.specs.OptionWords.{Text};
 ghost use Rattle.scr_command.specs.Command.{HasOptions, command_of};
 ghost use Rattle.scr_command.specs.SheetRows.{Sets, AreRefused, SetsAttempts, AreNoCheck};
-
-/// Words are read as a list of options exactly where they are a way to write that list: each option
-/// in one word with an `=` before its value, or in two, of which the second doesn't begin with a
-/// hyphen.
-pub fn words_write_what_is_read()
-    ensures back { ReadsBack }
-    ensures nothing_else { ReadsNothingElse }
-{}
 
 /// The numbers of a sheet: the usual ones, the least and the greatest, and those just outside.
 pub fn numbers_of_a_sheet()

@@ -1,13 +1,18 @@
 //! The options of commands, and the numbers that a run is made with.
 
-ghost use Rattle.std.specs.Prelude.{◌≡◌, Some};
-ghost use Rattle.scr_command.specs.OptionTable.{option_row, usual_number, all_options, check_options};
+ghost use Rattle.std.specs.Prelude.{◌≡◌};
+ghost use Rattle.scr_options.specs.OptionWords.{valued};
+ghost use Rattle.scr_options.specs.Words.{form_of, forms_of};
+ghost use Rattle.scr_command.specs.OptionTable.{option_row, sheet_options, check_options};
 
-/// An option of a command.
+use scr_options::OptionForm;
+
+/// The name of the option that gives the seed.
+pub(crate) const SEED: &str = "seed";
+
+/// An option that sets a number.
 #[derive(Clone, Copy, Debug, PartialEq, Eq)]
 pub enum OptionName {
-    /// The seed of the draws.
-    Seed,
     /// How many workers draw.
     Workers,
     /// How many first parts the solver of a 3x3x3 tries.
@@ -33,29 +38,8 @@ pub struct Range {
 #[derive(Clone, Copy)]
 struct OptionRow {
     name: &'static str,
-    range: Option<Range>,
+    range: Range,
 }
-
-/// All options.
-pub(crate) const OPTIONS: [OptionName; 5] = [
-    OptionName::Seed,
-    OptionName::Workers,
-    OptionName::Tries,
-    OptionName::Attempts,
-    OptionName::Short,
-];
-
-/// The options of the command `sheet`.
-pub const SHEET_OPTIONS: [OptionName; 5] = [
-    OptionName::Seed,
-    OptionName::Workers,
-    OptionName::Tries,
-    OptionName::Attempts,
-    OptionName::Short,
-];
-
-/// The options of the command `check`.
-pub const CHECK_OPTIONS: [OptionName; 2] = [OptionName::Seed, OptionName::Attempts];
 
 impl OptionName {
     /// Its name, which words spell behind two hyphens.
@@ -65,8 +49,8 @@ impl OptionName {
         self.row().name
     }
 
-    /// The numbers that it may set; `None` for the seed, which is no number.
-    pub fn range(self) -> Option<Range>
+    /// The numbers that it may set.
+    pub fn range(self) -> Range
         ensures { result ≡ (option_row self).range }
     {
         self.row().range
@@ -78,7 +62,6 @@ impl OptionName {
         ensures range { result.range ≡ (option_row self).range }
     {
         let (name, range) = match self {
-            OptionName::Seed => ("seed", None),
             OptionName::Workers => ("workers", from_to(1, 64, 1)),
             OptionName::Tries => ("tries", from_to(0, 100_000, 2000)),
             OptionName::Attempts => ("attempts", from_to(1, 1_000_000, 1000)),
@@ -86,26 +69,60 @@ impl OptionName {
         };
         OptionRow { name, range }
     }
+
+    /// As the splitting of words has it.
+    fn form(self) -> OptionForm
+        ensures { form_of result ≡ valued (option_row self).name }
+    {
+        valued(self.name())
+    }
 }
 
-fn from_to(least: u32, greatest: u32, usual: u32) -> Option<Range>
-    ensures { result ≡ Some (record { least = least; greatest = greatest; usual = usual }) }
+fn from_to(least: u32, greatest: u32, usual: u32) -> Range
+    ensures { result ≡ record { least = least; greatest = greatest; usual = usual } }
 {
-    Some(Range {
+    Range {
         least,
         greatest,
         usual,
-    })
+    }
 }
 
-/// The number of an option that isn't there; 0 for the seed.
+/// The number of an option that isn't there.
 pub(crate) fn usual(option: OptionName) -> u32
-    ensures { result ≡ usual_number (option_row option).range }
+    ensures { result ≡ (option_row option).range.usual }
 {
-    match option.range() {
-        Some(range) => range.usual,
-        None => 0,
+    option.range().usual
+}
+
+/// An option with a value.
+fn valued(name: &'static str) -> OptionForm
+    ensures { form_of result ≡ valued name.now }
+{
+    OptionForm {
+        name,
+        has_value: true,
     }
+}
+
+/// The options of the command `sheet`.
+pub(crate) fn sheet_options() -> [OptionForm; 5]
+    ensures { forms_of result ≡ sheet_options }
+{
+    [
+        valued(SEED),
+        OptionName::Workers.form(),
+        OptionName::Tries.form(),
+        OptionName::Attempts.form(),
+        OptionName::Short.form(),
+    ]
+}
+
+/// The options of the command `check`.
+pub(crate) fn check_options() -> [OptionForm; 2]
+    ensures { forms_of result ≡ check_options }
+{
+    [valued(SEED), OptionName::Attempts.form()]
 }
 
 /// How a sheet is made. The numbers never change a state that is drawn, but for the attempts, which may end a draw.

@@ -1,7 +1,9 @@
+pub mod WordForms
+pub mod Steps
 pub mod OptionRules
 pub mod Rows
-pub mod WordForms
 pub mod Turns
 pub mod Walked
 pub mod Ordinary
 pub mod Parsed
+pub mod SpellingLaws

@@ -3,8 +3,9 @@ use Rattle.std.proofs.Common.{◌≡◌, ◌∙◌, refl, sym, ap, cond, ℕ, ma
 use Rattle.std.specs.Prelude.{count_by, is_some}
 use Rattle.std.specs.List.{find, list_all, list_any}
 use Rattle.std.specs.Str.{bytes_eq}
-use Rattle.scr_options.specs.OptionWords.{Form, Text, spelled_form}
+use Rattle.scr_options.specs.OptionWords.{Form, Text, flag, valued}
 use Rattle.scr_options.specs.OptionsCommand.{raw_rule, options_app, shape_with}
+use Rattle.scr_options.proofs.WordForms.{form_spelled}
 use Rattle.clap.proofs.WalkLemmas.{find-map}
 use Rattle.clap.specs.Walk.{Row, Rule, arg_by_id, arg_by_index, arg_by_long, arg_by_short, has_row, is_early_multiple, used, with_values, without}
 use Rattle.clap.specs.Simple.{App, Shape, built, filled, filled_from, is_ready as is_ready_shape, is_ready_leaf, is_simple}
@@ -64,14 +65,14 @@ or_false true = refl
 or_false false = refl
 
 pub by_long : (forms : List Form) (name : Text)
-    → arg_by_long (rules_for forms) name ≡ option_map rule_for (spelled_form forms (45 ∷ 45 ∷ name))
+    → arg_by_long (rules_for forms) name ≡ option_map rule_for (form_spelled forms (45 ∷ 45 ∷ name))
 unfolding rule_for
 by_long [] name = refl
 by_long (form ∷ forms) name = go (bytes_eq form.name name) refl (by_long forms name)
   where
     go : (t : Bool) → bytes_eq form.name name ≡ t
-        → arg_by_long (rules_for forms) name ≡ option_map rule_for (spelled_form forms (45 ∷ 45 ∷ name))
-        → arg_by_long (rules_for (form ∷ forms)) name ≡ option_map rule_for (spelled_form (form ∷ forms) (45 ∷ 45 ∷ name))
+        → arg_by_long (rules_for forms) name ≡ option_map rule_for (form_spelled forms (45 ∷ 45 ∷ name))
+        → arg_by_long (rules_for (form ∷ forms)) name ≡ option_map rule_for (form_spelled (form ∷ forms) (45 ∷ 45 ∷ name))
     go true e rest = rw e refl
     go false e rest = rw e rest
 
@@ -89,12 +90,6 @@ unfolding rule_for
 none_required forms rows = ap (λ b. cond b (kind.MissingRequiredArgument ∷ []) []) (none_passes _ rule_for forms (λ form. refl))
 
 -- ---- a use of an option
-
-abbrev pub valued : Text → Form
-valued name = record { name = name; has_value = true }
-
-abbrev pub flag : Text → Form
-flag name = record { name = name; has_value = false }
 
 -- what an option's row has after a use that gives it this value
 abbrev pub with_row : Text → Text → List Row → List Row

@@ -9,9 +9,11 @@ use Rattle.std.proofs.lemmas.Bool.{cases_lt}
 use Rattle.std.proofs.lemmas.List.{get_or_default}
 use Rattle.std.proofs.lemmas.Bool.Decides.{nat_tests}
 use Rattle.std.proofs.lemmas.Str.{IsUtf8-past_char, encode_ascii, encodes-chars}
-use Rattle.scr_options.specs.Hyphens.{IsOrdinary, is_bare}
-use Rattle.scr_options.specs.OptionWords.{Form, Text, Values, attached_value, begins_with_hyphen, give, is_empty, is_nameless, options_read, spelled_form, spelling_in, spells}
+use Rattle.scr_options.specs.Hyphens.{IsOrdinary, is_bare, is_empty, is_nameless}
+use Rattle.scr_options.specs.OptionWords.{Form, Text, Values, begins_with_hyphen, give, options_of, options_read, spelled_form, values_with}
 use Rattle.scr_options.specs.Words.{texts}
+use Rattle.scr_options.proofs.WordForms.{form_spelled}
+use Rattle.scr_options.proofs.Steps.{no_values}
 use Rattle.scr_options.proofs.Walked.{AreLeft, IsLeft}
 
 is_byte : (c : ℕ) → (c == 45) ≡ true → c ≡ 45
@@ -71,7 +73,7 @@ none_bare (w ∷ words) h =
 
 -- ---- a lone hyphen or two are never in the grammar
 
-one_spells : (forms : List Form) → spelled_form forms (codes "-") ≡ None
+one_spells : (forms : List Form) → form_spelled forms (codes "-") ≡ None
 one_spells [] = refl
 one_spells (form ∷ forms) = one_spells forms
 
@@ -81,78 +83,62 @@ named_head : (form : Form) (name : Text) (b : Bool) (rest : Option Form) → (is
 named_head form [] b rest h none = cc
 named_head form (c ∷ name) b rest h none = none h
 
-two_spell : (forms : List Form) → list_any is_nameless forms ≡ false → spelled_form forms (codes "--") ≡ None
+two_spell : (forms : List Form) → list_any is_nameless forms ≡ false → form_spelled forms (codes "--") ≡ None
 two_spell [] h = refl
-two_spell (form ∷ forms) h = named_head form form.name (list_any is_nameless forms) (spelled_form forms (codes "--")) h (two_spell forms)
+two_spell (form ∷ forms) h = named_head form form.name (list_any is_nameless forms) (form_spelled forms (codes "--")) h (two_spell forms)
 
-module _ (forms : List Form) where
-  module _ (named : list_any is_nameless forms ≡ false) where
-    bare_word : (word : Text) → is_bare word ≡ true
-        → (begins_with_hyphen word ≡ true) × (spelled_form forms (spelling_in word) ≡ None)
-    bare_word word h = go (bytes_eq word (codes "-")) refl
-      where
-        one : word ≡ codes "-" → (begins_with_hyphen word ≡ true) × (spelled_form forms (spelling_in word) ≡ None)
-        one e = subst (λ w. (begins_with_hyphen w ≡ true) × (spelled_form forms (spelling_in w) ≡ None)) (sym e) (refl, one_spells forms)
+module _ (forms : List Form) (named : list_any is_nameless forms ≡ false) where
+  bare_word : (word : Text) → is_bare word ≡ true → (begins_with_hyphen word ≡ true) × (spelled_form forms word ≡ None)
+  bare_word word h = go (bytes_eq word (codes "-")) refl
+    where
+      one : word ≡ codes "-" → (begins_with_hyphen word ≡ true) × (spelled_form forms word ≡ None)
+      one e = subst (λ w. (begins_with_hyphen w ≡ true) × (spelled_form forms w ≡ None)) (sym e) (refl, one_spells forms)
 
-        two : word ≡ codes "--" → (begins_with_hyphen word ≡ true) × (spelled_form forms (spelling_in word) ≡ None)
-        two e = subst (λ w. (begins_with_hyphen w ≡ true) × (spelled_form forms (spelling_in w) ≡ None)) (sym e) (refl, two_spell forms named)
+      two : word ≡ codes "--" → (begins_with_hyphen word ≡ true) × (spelled_form forms word ≡ None)
+      two e = subst (λ w. (begins_with_hyphen w ≡ true) × (spelled_form forms w ≡ None)) (sym e) (refl, two_spell forms named)
 
-        go : (t : Bool) → bytes_eq word (codes "-") ≡ t
-            → (begins_with_hyphen word ≡ true) × (spelled_form forms (spelling_in word) ≡ None)
-        go true e = one ((bytes_eq-Decides word (codes "-")).0 e)
-        go false e = two ((bytes_eq-Decides word (codes "--")).0 (ap (λ t. t || bytes_eq word (codes "--")) (sym e) ∙ h))
+      go : (t : Bool) → bytes_eq word (codes "-") ≡ t → (begins_with_hyphen word ≡ true) × (spelled_form forms word ≡ None)
+      go true e = one ((bytes_eq-Decides word (codes "-")).0 e)
+      go false e = two ((bytes_eq-Decides word (codes "--")).0 (ap (λ t. t || bytes_eq word (codes "--")) (sym e) ∙ h))
 
-    -- what the words come to after a value
-    abbrev given_then : Values → Text → Text → List Text → Option Values
-    given_then s name value rest = option_and_then (λ more. options_read forms more None rest) (give name value s)
+  -- what a word that begins with a hyphen comes to
+  abbrev option_here : Values → Text → List Text → Option Form → Option Values
+  option_here s word rest o =
+      option_and_then (λ form. option_and_then (λ more. options_read forms more rest) (give form.name (values_with form word rest) s)) o
 
-    given_none : (s : Values) (name value : Text) (rest : List Text) → ((more : Values) → options_read forms more None rest ≡ None)
-        → given_then s name value rest ≡ None
-    given_none s name value rest none = go (give name value s)
-      where
-        go : (o : Option Values) → option_and_then (λ more. options_read forms more None rest) o ≡ None
-        go None = refl
-        go (Some more) = none more
+  refused_later : (s : Values) (word : Text) (rest : List Text) → ((more : Values) → options_read forms more rest ≡ None)
+      → (o : Option Form) → option_here s word rest o ≡ None
+  refused_later s word rest later None = refl
+  refused_later s word rest later (Some form) = go (give form.name (values_with form word rest) s)
+    where
+      go : (o : Option Values) → option_and_then (λ more. options_read forms more rest) o ≡ None
+      go None = refl
+      go (Some more) = later more
 
-    refused_here : (s : Values) (word : Text) (rest : List Text) (waiting : Option Text) → is_bare word ≡ true
-        → options_read forms s waiting (word ∷ rest) ≡ None
-    unfolding options_read
-    refused_here s word rest None h =
-        ap (λ o. option_and_then (λ form. spells form (attached_value word) (λ value. given_then s form.name value rest) (options_read forms s (Some form.name) rest)) o) (bare_word word h).1
-    refused_here s word rest (Some name) h = ap (λ t. cond t None (given_then s name word rest)) (bare_word word h).0
+  none_read : (words : List Text) → list_any is_bare words ≡ true → (s : Values) → options_read forms s words ≡ None
+  unfolding options_read
+  none_read [] h s = cc
+  none_read (word ∷ rest) h s = go (is_bare word) refl (none_read rest)
+    where
+      go : (t : Bool) → is_bare word ≡ t → (list_any is_bare rest ≡ true → (more : Values) → options_read forms more rest ≡ None)
+          → cond (begins_with_hyphen word) (option_here s word rest (spelled_form forms word)) (options_read forms s rest) ≡ None
+      go true e later =
+          let bare = bare_word word e in
+          (λ i. cond (bare.0 i) (option_here s word rest (bare.1 i)) (options_read forms s rest))
+      go false e later = by (begins_with_hyphen word) (later (ap (λ t. t || list_any is_bare rest) (sym e) ∙ h))
+        where
+          by : (t : Bool) → ((more : Values) → options_read forms more rest ≡ None)
+              → cond t (option_here s word rest (spelled_form forms word)) (options_read forms s rest) ≡ None
+          by true none = refused_later s word rest none (spelled_form forms word)
+          by false none = none s
 
-    refused_later : (s : Values) (word : Text) (rest : List Text) (waiting : Option Text)
-        → ((more : Values) (w : Option Text) → options_read forms more w rest ≡ None) → options_read forms s waiting (word ∷ rest) ≡ None
-    unfolding options_read
-    refused_later s word rest None h = go (spelled_form forms (spelling_in word)) (attached_value word)
-      where
-        by : (name : Text) (has_value : Bool) (v : Option Text)
-            → spells (record { name = name; has_value = has_value }) v (λ value. given_then s name value rest) (options_read forms s (Some name) rest) ≡ None
-        by name true None = h s (Some name)
-        by name true (Some v) = given_none s name v rest (λ more. h more None)
-        by name false None = given_none s name (codes "true") rest (λ more. h more None)
-        by name false (Some v) = refl
-
-        go : (o : Option Form) (v : Option Text)
-            → option_and_then (λ form. spells form v (λ value. given_then s form.name value rest) (options_read forms s (Some form.name) rest)) o ≡ None
-        go None v = refl
-        go (Some form) v = by form.name form.has_value v
-    refused_later s word rest (Some name) h = go (begins_with_hyphen word)
-      where
-        go : (t : Bool) → cond t None (given_then s name word rest) ≡ None
-        go true = refl
-        go false = given_none s name word rest (λ more. h more None)
-
-    pub none_read : (words : List Text) → list_any is_bare words ≡ true → (s : Values) (waiting : Option Text)
-        → options_read forms s waiting words ≡ None
-    none_read [] h s waiting = cc
-    none_read (word ∷ rest) h s waiting = go (is_bare word) refl (none_read rest)
-      where
-        go : (t : Bool) → is_bare word ≡ t
-            → (list_any is_bare rest ≡ true → (more : Values) (w : Option Text) → options_read forms more w rest ≡ None)
-            → options_read forms s waiting (word ∷ rest) ≡ None
-        go true e later = refused_here s word rest waiting e
-        go false e later = refused_later s word rest waiting (later (ap (λ t. t || list_any is_bare rest) (sym e) ∙ h))
+  pub none_given : (words : List Text) → list_any is_bare words ≡ true → options_of forms words ≡ None
+  none_given [] h = cc
+  none_given (word ∷ rest) h = go (begins_with_hyphen word) (none_read (word ∷ rest) h no_values)
+    where
+      go : (t : Bool) → options_read forms no_values (word ∷ rest) ≡ None → cond t (options_read forms no_values (word ∷ rest)) None ≡ None
+      go true none = none
+      go false none = refl
 
 -- ---- the loop that looks for them
 

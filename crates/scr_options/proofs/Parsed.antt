@@ -10,6 +10,7 @@ use Rattle.scr_options.specs.Split.{found_values, given}
 use Rattle.scr_options.specs.Words.{form_of, forms_of}
 use Rattle.scr_options.proofs.OptionRules.{built_is, rules_for, shape}
 use Rattle.scr_options.proofs.Rows.{no_rows_hold, row_under, row_value}
+use Rattle.scr_options.proofs.Steps.{from_start}
 use Rattle.scr_options.proofs.Walked.{AreLeft, agrees, values_by}
 use Rattle.clap.proofs.WalkLemmas.{first_value-rows, find_row}
 use Rattle.clap.specs.declared.parser.matches.Found.{Found}
@@ -58,6 +59,7 @@ module _ (forms : List Form) (words : List Text) where
   parser_agrees left =
       (λ i. values_by (fault_is i) (matches_are i))
       ∙ agrees forms words left None nothing_held _ tt refl refl no_rows_hold
+      ∙ from_start forms words
 
   -- a fault is a word or a use outside of the grammar
   pub fault_refused : (kind : ErrorKind) → AreLeft words → IsAmong kind (fault_of (options_app forms) words) → options_of forms words ≡ None

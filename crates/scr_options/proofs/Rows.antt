@@ -4,9 +4,10 @@ use Rattle.std.specs.Prelude.{option_and_then, slice_get}
 use Rattle.std.specs.List.{find}
 use Rattle.std.specs.Str.{bytes_eq}
 use Rattle.std.proofs.lemmas.Slice.Eq.{bytes_eq-Decides}
-use Rattle.scr_options.specs.OptionWords.{Form, Text, Values, no_values, with_value}
+use Rattle.scr_options.specs.OptionWords.{Form, Text, Values}
 use Rattle.scr_options.specs.Split.{given}
 use Rattle.scr_options.proofs.OptionRules.{rule_for, rules_for, with_row}
+use Rattle.scr_options.proofs.Steps.{no_values, with_value}
 use Rattle.clap.specs.Walk.{Row, at_row, has_row, more_values, with_default, with_values, without}
 use Rattle.clap.specs.Faults.{default_fault, defaults_fault}
 use Rattle.clap.specs.declared.parser.matches.ValueSource.{ValueSource}

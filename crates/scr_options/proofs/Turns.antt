@@ -4,8 +4,9 @@ use Rattle.std.specs.Prelude.{drop, encode_utf8, option_and_then, slice_get}
 use Rattle.std.specs.Option.{option_map_or}
 use Rattle.std.specs.Str.{bytes_eq, chars}
 use Rattle.std.proofs.lemmas.Slice.Eq.{bytes_eq-Decides}
-use Rattle.scr_options.specs.OptionWords.{Form, Text, attached_value, begins_with_hyphen, spelling_in}
-use Rattle.scr_options.proofs.OptionRules.{by_short, flag, no_positional, rule_for, rules_for, shape, valued}
+use Rattle.scr_options.specs.OptionWords.{Form, Text, begins_with_hyphen, flag, valued}
+use Rattle.scr_options.proofs.WordForms.{attached_value, spelling_in}
+use Rattle.scr_options.proofs.OptionRules.{by_short, no_positional, rule_for, rules_for, shape}
 use Rattle.clap.specs.Lexer.{long_of, long_of_rest, short_of, short_of_rest, strip_byte}
 use Rattle.clap.specs.Walk.{long_or_other, long_word as clap_long, short_or_plain, trailing, Held, Rule, Step, Waiting, Walk, after_flag, after_step, arg_by_id, arg_by_long, idle, long_met, option, positional, reacted, settled, used, used_by_id, walked}
 use Rattle.clap.specs.Kinds.{Kinds, or_else}

@@ -2,12 +2,13 @@
 use Rattle.std.proofs.Common.{◌≡◌, ◌∙◌, ◌⊎◌, inl, inr, refl, sym, ap, subst, cond, ℕ, ◌==◌, List, [], ◌∷◌, Bool, true, false, Option, Some, None, option_map, is_some, codes}
 use Rattle.std.specs.Prelude.{option_and_then, slice_get}
 use Rattle.std.specs.Str.{bytes_eq, chars}
-use Rattle.std.specs.List.{find, fold}
+use Rattle.std.specs.List.{fold}
 use Rattle.std.proofs.lemmas.Slice.Eq.{bytes_eq-Decides}
-use Rattle.scr_options.specs.OptionWords.{Form, Text, Values, attached_value, begins_with_hyphen, give, options_read, spelled_form, spelling_in, spells, with_value}
-use Rattle.scr_options.proofs.OptionRules.{by_id, by_long, flag, flag_fault, flag_used, no_value_fault, none_required, repeated, rule_for, rules_for, shape, value_fault, value_used, valued, with_row}
+use Rattle.scr_options.specs.OptionWords.{Form, Text, Values, begins_with_hyphen, flag, give, options_read, spelled_form, valued}
+use Rattle.scr_options.proofs.OptionRules.{by_id, by_long, flag_fault, flag_used, no_value_fault, none_required, repeated, rule_for, rules_for, shape, value_fault, value_used, with_row}
 use Rattle.scr_options.proofs.Rows.{RowsHold, defaults_keep, defaults_pass, first_use_holds, row_under, row_value}
-use Rattle.scr_options.proofs.WordForms.{long_attached, long_spelling, plain_spelling, short_spelling}
+use Rattle.scr_options.proofs.WordForms.{attached_value, find-passes, form_spelled, long_attached, long_spelling, plain-cons, plain-hyphen, plain_words, short_spelling, spelling_in}
+use Rattle.scr_options.proofs.Steps.{given_then, idle_hyphen, idle_plain, idle_read, one_value, option_read, plain_skipped, with_value}
 use Rattle.scr_options.proofs.Turns.{IsValued, at_word, given_flag, given_option, pending, pending_fault, pending_settled, short_refused, stray_word, unknown_option, unneeded_value, value_word, waiting_option}
 use Rattle.clap.specs.Walk.{Held, Row, Rule, Waiting, Walk, arg_by_long, finished, idle, option, reacted, settled, walked}
 use Rattle.clap.specs.Kinds.{Kinds, or_else}
@@ -44,16 +45,6 @@ IsLeft word = (begins_with_hyphen word ≡ false) ⊎ (IsLong word ⊎ IsShort w
 abbrev pub AreLeft : List Text → Type 0
 AreLeft [] = Unit {0}
 AreLeft (word ∷ rest) = IsLeft word × AreLeft rest
-
--- what a search finds passes its test
-passes-at : {X : Type 0} (p : X → Bool) (ys : List X) (x y : X) (b : Bool) → p y ≡ b → cond b (Some y) (find p ys) ≡ Some x
-    → (find p ys ≡ Some x → p x ≡ true) → p x ≡ true
-passes-at p ys x y true here found rest = cc
-passes-at p ys x y false here found rest = rest found
-
-find-passes : {X : Type 0} (p : X → Bool) (xs : List X) (x : X) → find p xs ≡ Some x → p x ≡ true
-find-passes p [] x found = cc
-find-passes p (y ∷ ys) x found = passes-at p ys x y (p y) refl found (find-passes p ys x)
 
 module _ (forms : List Form) where
   abbrev pub rules : List Rule
@@ -92,18 +83,18 @@ module _ (forms : List Form) where
   -- ---- words that spell options
 
   abbrev spelled : Text → Option Form
-  spelled rest = spelled_form forms (spelling_in (45 ∷ 45 ∷ rest))
+  spelled rest = spelled_form forms (45 ∷ 45 ∷ rest)
 
   found_is : (t : Text) (o : Option Form) → spelled t ≡ o → arg_by_long rules (spelling_in t) ≡ option_map rule_for o
-  found_is t o e = by_long forms (spelling_in t) ∙ ap (λ s. option_map rule_for (spelled_form forms s)) (sym (long_spelling t)) ∙ ap (option_map rule_for) e
+  found_is t o e = by_long forms (spelling_in t) ∙ ap (λ s. option_map rule_for (form_spelled forms s)) (sym (long_spelling t)) ∙ ap (option_map rule_for) e
 
   -- its spelling names an option
   named_is : (t : Text) (name : Text) → spelled t ≡ Some (valued name) → IsValued forms name
   named_is t name e =
-      let here : spelled_form forms (45 ∷ 45 ∷ spelling_in t) ≡ Some (valued name) = ap (spelled_form forms) (sym (long_spelling t)) ∙ e in
+      let here : form_spelled forms (45 ∷ 45 ∷ spelling_in t) ≡ Some (valued name) = ap (form_spelled forms) (sym (long_spelling t)) ∙ e in
       let same : name ≡ spelling_in t =
       (bytes_eq-Decides name (spelling_in t)).0 (find-passes (λ form. bytes_eq (45 ∷ 45 ∷ form.name) (45 ∷ 45 ∷ spelling_in t)) forms (valued name) here) in
-      by_id forms name ∙ ap (λ n. option_map rule_for (spelled_form forms (45 ∷ 45 ∷ n))) same ∙ ap (option_map rule_for) here
+      by_id forms name ∙ ap (λ n. option_map rule_for (form_spelled forms (45 ∷ 45 ∷ n))) same ∙ ap (option_map rule_for) here
 
   -- a fault of what is pending comes first, at any option
   long_fails : (waiting : Waiting) (h : Held) (c : ℕ) (t : Text) → IsFault (settle_fault rules false h)
@@ -148,16 +139,17 @@ module _ (forms : List Form) where
   IsWaiting None = Unit {0}
   IsWaiting (Some name) = IsValued forms name
 
+  -- what the grammar gives for the words from here on: where an option waits, the first of them are to be its value
+  abbrev read_at : Values → Option Text → List Text → Option Values
+  read_at s None words = idle_read forms s words
+  read_at s (Some name) words = option_and_then (λ more. options_read forms more words) (give name (plain_words words) s)
+
   abbrev Agrees : List Text → Type 0
   Agrees words = (waiting : Option Text) (h : Held) (s : Values) → IsWaiting waiting → h.skip ≡ 0 → settle_fault rules false h ≡ []
-      → RowsHold (settled rules h).rows s → parsed_from (walk_at waiting h) words ≡ options_read forms s waiting words
-
-  -- what the words come to after a use that gives this value
-  abbrev given_then : Values → Text → Text → List Text → Option Values
-  given_then s name value rest = option_and_then (λ more. options_read forms more None rest) (give name value s)
+      → RowsHold (settled rules h).rows s → parsed_from (walk_at waiting h) words ≡ read_at s waiting words
 
   module _ (h : Held) (s : Values) (zero : h.skip ≡ 0) (passes : settle_fault rules false h ≡ []) (holds : RowsHold (settled rules h).rows s) where
-    idle_end : parsed_from (walk_at None h) [] ≡ options_read forms s None []
+    idle_end : parsed_from (walk_at None h) [] ≡ read_at s None []
     unfolding options_read
     idle_end =
         let rows = (settled rules h).rows in
@@ -168,8 +160,7 @@ module _ (forms : List Form) where
     no_value_yet : (name : Text) → IsValued forms name → IsFault (settle_fault rules false (pending name [] (settled rules h)))
     no_value_yet name is = (kind.InvalidValue, [], pending_fault forms name [] (settled rules h) is ∙ no_value_fault name (settled rules h).rows)
 
-    waiting_end : (name : Text) → IsValued forms name → parsed_from (walk_at (Some name) h) [] ≡ options_read forms s (Some name) []
-    unfolding options_read
+    waiting_end : (name : Text) → IsValued forms name → parsed_from (walk_at (Some name) h) [] ≡ read_at s (Some name) []
     waiting_end name is = no_words (walk_at (Some name) h) ∙ refused_by _ _ (fault_first _ _ (no_value_yet name is))
 
     -- a second use of an option is a fault, and a first one isn't
@@ -184,14 +175,14 @@ module _ (forms : List Form) where
           → (reacted rules rule values h).rows ≡ with_row name value (settled rules h).rows
           → turn_fault (shape forms) [] (at_word h idle) word ≡ or_else (settle_fault rules false h) (use_fault false rule values (settled rules h).rows)
           → walked rules [] (at_word h idle) word ≡ at_word (reacted rules rule values h) idle
-          → parsed_from (walk_at None h) (word ∷ rest) ≡ given_then s name value rest
+          → parsed_from (walk_at None h) (word ∷ rest) ≡ given_then forms s name value rest
       used_in_word rule values name value word fault rows turn walk = go (s name) refl
         where
           turn_is : (o : Option Text) → s name ≡ o
               → turn_fault (shape forms) [] (at_word h idle) word ≡ cond (is_some o) (kind.ArgumentConflict ∷ []) []
           turn_is o e = turn ∙ (λ i. or_else (passes i) ((fault ∙ repeat_is name o e) i))
 
-          go : (o : Option Text) → s name ≡ o → parsed_from (walk_at None h) (word ∷ rest) ≡ given_then s name value rest
+          go : (o : Option Text) → s name ≡ o → parsed_from (walk_at None h) (word ∷ rest) ≡ given_then forms s name value rest
           go (Some u) full = fails_at (at_word h idle) word rest (kind.ArgumentConflict, [], turn_is (Some u) full) ∙ rw full refl
           go None free =
               goes_on (at_word h idle) (walk_at None (reacted rules rule values h)) word rest (turn_is None free) walk
@@ -201,19 +192,20 @@ module _ (forms : List Form) where
 
       -- an option where none waits
       idle_long : (c : ℕ) (t : Text)
-          → parsed_from (walk_at None h) ((45 ∷ 45 ∷ c ∷ t) ∷ rest) ≡ options_read forms s None ((45 ∷ 45 ∷ c ∷ t) ∷ rest)
-      unfolding options_read
+          → parsed_from (walk_at None h) ((45 ∷ 45 ∷ c ∷ t) ∷ rest) ≡ read_at s None ((45 ∷ 45 ∷ c ∷ t) ∷ rest)
       idle_long c t =
           go (spelled (c ∷ t)) (attached_value (c ∷ t)) refl refl
-          ∙ ap (λ v. option_and_then (λ form. spells form v (λ value. given_then s form.name value rest) (options_read forms s (Some form.name) rest)) (spelled (c ∷ t))) (sym (long_attached (c ∷ t)))
+          ∙ ap (λ v. option_read forms s rest v (spelled (c ∷ t))) (sym (long_attached (c ∷ t)))
+          ∙ sym (idle_hyphen forms s (45 ∷ 45 ∷ c ∷ t) rest refl)
         where
           by : (name : Text) (has_value : Bool) (v : Option Text) → spelled (c ∷ t) ≡ Some (record { name = name; has_value = has_value })
               → attached_value (c ∷ t) ≡ v
               → parsed_from (walk_at None h) ((45 ∷ 45 ∷ c ∷ t) ∷ rest)
-              ≡ spells (record { name = name; has_value = has_value }) v (λ value. given_then s name value rest) (options_read forms s (Some name) rest)
+              ≡ option_read forms s rest v (Some (record { name = name; has_value = has_value }))
           by name true (Some v) e a =
               let turn = given_option forms idle h c t name v (found_is (c ∷ t) _ e) a in
               used_in_word (rule_for (valued name)) (v ∷ []) name v _ (value_fault name (settled rules h).rows v) (value_used name (settled rules h).rows v) turn.0 turn.1
+              ∙ sym (one_value forms s name v rest)
           by name true None e a =
               let turn = waiting_option forms idle h c t name (found_is (c ∷ t) _ e) a in
               goes_on (at_word h idle) (walk_at (Some name) h) _ rest (turn.0 ∙ passes) turn.1
@@ -223,57 +215,48 @@ module _ (forms : List Form) where
           by name false None e a =
               let turn = given_flag forms idle h c t name (found_is (c ∷ t) _ e) a in
               used_in_word (rule_for (flag name)) [] name (codes "true") _ (flag_fault name (settled rules h).rows) (flag_used name (settled rules h).rows) turn.0 turn.1
+              ∙ sym (one_value forms s name (codes "true") rest)
 
           go : (o : Option Form) (v : Option Text) → spelled (c ∷ t) ≡ o → attached_value (c ∷ t) ≡ v
-              → parsed_from (walk_at None h) ((45 ∷ 45 ∷ c ∷ t) ∷ rest)
-              ≡ option_and_then (λ form. spells form v (λ value. given_then s form.name value rest) (options_read forms s (Some form.name) rest)) o
+              → parsed_from (walk_at None h) ((45 ∷ 45 ∷ c ∷ t) ∷ rest) ≡ option_read forms s rest v o
           go None v e a = fails_at (at_word h idle) _ rest (kind.UnknownArgument, [], unknown_option forms idle h c t (found_is (c ∷ t) None e))
           go (Some form) v e a = by form.name form.has_value v e a
 
       -- a word that spells none
-      abbrev option_word : Text → Option Form → Option Values
-      option_word word o =
-          option_and_then (λ form. spells form (attached_value word) (λ value. given_then s form.name value rest) (options_read forms s (Some form.name) rest)) o
-
-      idle_plain : (word : Text) → begins_with_hyphen word ≡ false
-          → parsed_from (walk_at None h) (word ∷ rest) ≡ options_read forms s None (word ∷ rest)
-      unfolding options_read
-      idle_plain word plain =
+      idle_other : (word : Text) → begins_with_hyphen word ≡ false
+          → parsed_from (walk_at None h) (word ∷ rest) ≡ read_at s None (word ∷ rest)
+      idle_other word plain =
           fails_at (at_word h idle) word rest (kind.UnknownArgument, [], stray_word forms h word plain)
-          ∙ ap (option_word word) (sym (plain_spelling forms word plain))
+          ∙ sym (idle_plain forms s word rest plain)
 
       idle_short : (word : Text) → IsShort word
-          → parsed_from (walk_at None h) (word ∷ rest) ≡ options_read forms s None (word ∷ rest)
-      unfolding options_read
+          → parsed_from (walk_at None h) (word ∷ rest) ≡ read_at s None (word ∷ rest)
       idle_short word short =
-          let none : spelled_form forms (spelling_in word) ≡ None = subst (λ w. spelled_form forms (spelling_in w) ≡ None) (sym short.3) (short_spelling forms short.0 short.1 short.4) in
-          fails_at (at_word h idle) word rest (short_fails idle h word zero short) ∙ ap (option_word word) (sym none)
+          let hyphen : begins_with_hyphen word ≡ true = ap begins_with_hyphen short.3 in
+          let none : spelled_form forms word ≡ None = subst (λ w. spelled_form forms w ≡ None) (sym short.3) (short_spelling forms short.0 short.1 short.4) in
+          fails_at (at_word h idle) word rest (short_fails idle h word zero short)
+          ∙ ap (option_read forms s rest (attached_value word)) (sym none)
+          ∙ sym (idle_hyphen forms s word rest hyphen)
 
       module _ (name : Text) (is : IsValued forms name) where
-        -- a word where an option waits for its value
-        abbrev value_here : Text → Bool → Option Values
-        value_here word hyphen = cond hyphen None (given_then s name word rest)
-
         waiting_short : (word : Text) → IsShort word
-            → parsed_from (walk_at (Some name) h) (word ∷ rest) ≡ options_read forms s (Some name) (word ∷ rest)
-        unfolding options_read
+            → parsed_from (walk_at (Some name) h) (word ∷ rest) ≡ read_at s (Some name) (word ∷ rest)
         waiting_short word short =
             let hyphen : begins_with_hyphen word ≡ true = ap begins_with_hyphen short.3 in
             fails_at (walk_at (Some name) h) word rest (short_fails (option name) (pending name [] (settled rules h)) word zero short)
-            ∙ ap (value_here word) (sym hyphen)
+            ∙ ap (λ p. option_and_then (λ more. options_read forms more (word ∷ rest)) (give name p s)) (sym (plain-hyphen word rest hyphen))
 
         waiting_long : (c : ℕ) (t : Text)
-            → parsed_from (walk_at (Some name) h) ((45 ∷ 45 ∷ c ∷ t) ∷ rest) ≡ options_read forms s (Some name) ((45 ∷ 45 ∷ c ∷ t) ∷ rest)
-        unfolding options_read
+            → parsed_from (walk_at (Some name) h) ((45 ∷ 45 ∷ c ∷ t) ∷ rest) ≡ read_at s (Some name) ((45 ∷ 45 ∷ c ∷ t) ∷ rest)
         waiting_long c t = fails_at (walk_at (Some name) h) _ rest (long_fails (option name) (pending name [] (settled rules h)) c t (no_value_yet name is))
 
         waiting_plain : (word : Text) → AreLeft rest → begins_with_hyphen word ≡ false
-            → parsed_from (walk_at (Some name) h) (word ∷ rest) ≡ options_read forms s (Some name) (word ∷ rest)
-        unfolding options_read
+            → parsed_from (walk_at (Some name) h) (word ∷ rest) ≡ read_at s (Some name) (word ∷ rest)
         waiting_plain word left plain =
             let turn = value_word forms name (settled rules h) word is plain in
             goes_on (walk_at (Some name) h) (at_word (pending name (word ∷ []) (settled rules h)) idle) word rest turn.0 turn.1
-            ∙ taken (s name) refl ∙ ap (value_here word) (sym plain)
+            ∙ taken (s name) refl ∙ sym (one_value forms s name word rest)
+            ∙ sym (λ i. option_and_then (λ more. plain_skipped forms more word rest plain i) (give name (plain-cons word rest plain i) s))
           where
             fault_is : (o : Option Text) → s name ≡ o
                 → settle_fault rules false (pending name (word ∷ []) (settled rules h)) ≡ cond (is_some o) (kind.ArgumentConflict ∷ []) []
@@ -281,7 +264,7 @@ module _ (forms : List Form) where
                 pending_fault forms name (word ∷ []) (settled rules h) is ∙ value_fault name (settled rules h).rows word ∙ repeat_is name o e
 
             taken : (o : Option Text) → s name ≡ o
-                → parsed_from (at_word (pending name (word ∷ []) (settled rules h)) idle) rest ≡ given_then s name word rest
+                → parsed_from (at_word (pending name (word ∷ []) (settled rules h)) idle) rest ≡ given_then forms s name word rest
             taken (Some u) full =
                 pending_fails rest (pending name (word ∷ []) (settled rules h)) left zero (kind.ArgumentConflict, [], fault_is (Some u) full)
                 ∙ rw full refl
@@ -298,10 +281,10 @@ module _ (forms : List Form) where
   agrees (word ∷ rest) left None h s is zero passes holds =
       let later = agrees rest left.1 in
       elim left.0 [
-        | inl plain ↦ idle_plain h s zero passes holds rest later word plain
+        | inl plain ↦ idle_other h s zero passes holds rest later word plain
         | inr (inr short) ↦ idle_short h s zero passes holds rest later word short
         | inr (inl long) ↦
-            subst (λ w. parsed_from (walk_at None h) (w ∷ rest) ≡ options_read forms s None (w ∷ rest)) (sym long.2) (idle_long h s zero passes holds rest later long.0 long.1)
+            subst (λ w. parsed_from (walk_at None h) (w ∷ rest) ≡ read_at s None (w ∷ rest)) (sym long.2) (idle_long h s zero passes holds rest later long.0 long.1)
       ]
   agrees (word ∷ rest) left (Some name) h s is zero passes holds =
       let later = agrees rest left.1 in
@@ -309,5 +292,5 @@ module _ (forms : List Form) where
         | inl plain ↦ waiting_plain h s zero passes holds rest later name is word left.1 plain
         | inr (inr short) ↦ waiting_short h s zero passes holds rest later name is word short
         | inr (inl long) ↦
-            subst (λ w. parsed_from (walk_at (Some name) h) (w ∷ rest) ≡ options_read forms s (Some name) (w ∷ rest)) (sym long.2) (waiting_long h s zero passes holds rest later name is long.0 long.1)
+            subst (λ w. parsed_from (walk_at (Some name) h) (w ∷ rest) ≡ read_at s (Some name) (w ∷ rest)) (sym long.2) (waiting_long h s zero passes holds rest later name is long.0 long.1)
       ]

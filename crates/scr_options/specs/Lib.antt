@@ -1,4 +1,5 @@
 pub mod OptionWords
+pub mod Spelling
 pub mod Hyphens
 pub mod Words
 pub mod OptionsCommand

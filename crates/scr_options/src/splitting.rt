@@ -7,8 +7,8 @@ ghost use Rattle.std.specs.Prelude.{◌≡◌, ◌<◌, ◌↔◌, ℕ, List, If
 ghost use Rattle.std.specs.List.{list_any, slice_index_or};
 ghost use Rattle.std.specs.Str.{IsUtf8};
 ghost use Rattle.clap.specs.Words.{FailsBy, app_of, fault_of, found_of, matches_of, rows_of, rule_of, with_rule};
-ghost use Rattle.scr_options.specs.Hyphens.{IsOrdinary, is_bare};
-ghost use Rattle.scr_options.specs.OptionWords.{is_nameless, options_of};
+ghost use Rattle.scr_options.specs.Hyphens.{IsOrdinary, is_bare, is_nameless};
+ghost use Rattle.scr_options.specs.OptionWords.{options_of};
 ghost use Rattle.scr_options.specs.OptionsCommand.{app_with, options_app, raw_rule};
 ghost use Rattle.scr_options.specs.Split.{found_values};
 ghost use Rattle.scr_options.specs.Words.{texts, form_of, forms_of};

@@ -41,6 +41,8 @@ fn values_given(rt: HostRuntime) {
     gives(&rt, alloc, &["--flag", "--value=-x=y"], true, Some("-x=y"));
     gives(&rt, alloc, &["--value", ""], false, Some(""));
     gives(&rt, alloc, &["--value="], false, Some(""));
+    gives(&rt, alloc, &["--value==x"], false, Some("=x"));
+    gives(&rt, alloc, &["--value=--value=x"], false, Some("--value=x"));
 }
 
 #[test]
@@ -50,6 +52,7 @@ fn words_refused(rt: HostRuntime) {
         ["--value=x", "--value=y"],
         ["--value", "--flag"],
         ["--value", "-"],
+        ["--value", "-x"],
         ["--flag=", "--value=x"],
         ["--flag", "x"],
         ["--fla", "--value=x"],

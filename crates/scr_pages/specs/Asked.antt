@@ -2,7 +2,7 @@
 use Rattle.std.specs.Prelude.{ℕ, Bool, true, false, if◌then◌else◌, Option, Some, None, option_map, option_and_then, unwrap_or, is_some, List, [], ◌∷◌, codes}
 use Rattle.std.specs.Str.{bytes_eq}
 use Rattle.scr_text.specs.Numbers.{number_between}
-use Rattle.scr_options.specs.OptionWords.{Form, Text, Values, options_of}
+use Rattle.scr_options.specs.OptionWords.{Form, Text, Values, flag, options_of, valued}
 
 -- pages as HTML, else as text; the name of the competition; the number of a group, from 1, that is wanted alone; whether
 -- there are pictures, where that is said; and whether Square-1s are held to the Regulations
@@ -16,12 +16,6 @@ pub record Asked : Type 0 where
 -- pictures stand in HTML, and not in text, where nothing is said of them
 abbrev pub has_pictures : Asked → Bool
 has_pictures asked = unwrap_or asked.pictures asked.html
-
-abbrev pub flag : Text → Form
-flag name = record { name = name; has_value = false }
-
-abbrev pub valued : Text → Form
-valued name = record { name = name; has_value = true }
 
 -- `--html`, `--name COMPETITION`, `--group N`, `--pictures no|yes` and `--regulations no|yes`
 abbrev pub page_options : List Form

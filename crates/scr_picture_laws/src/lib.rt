@@ -10,7 +10,7 @@
 #![tactic(auto)]
 
 ghost use Rattle.scr_outside.specs.Change.{change_of};
-ghost use Rattle.scr_command.specs.Words.{texts};
+ghost use Rattle.scr_options.specs.Words.{texts};
 ghost use Rattle.scr_sheet.specs.Headline.{IsFairRun};
 ghost use Rattle.scr_picture_laws.specs.FairPictures.{AreFairPictures};
 

@@ -18,10 +18,9 @@ use Rattle.scr_command.specs.declared.command.Command.TheVariants.{One, Sheet, N
 use Rattle.scr_command.specs.declared.command.UsageFault.{UsageFault}
 use Rattle.scr_command.specs.declared.command.UsageFault.TheVariants.{Grammar, NoSeed}
 use Rattle.scr_command.specs.declared.options.OptionName.TheVariants.{Workers, Tries, Attempts, Short}
-use Rattle.scr_command.specs.declared.options.OptionName.TheVariants as option
 use Rattle.scr_command.specs.declared.options.Options.{Options}
-use Rattle.scr_command.specs.OptionTable.{all_options}
-use Rattle.scr_command.specs.OptionWords.{Values, options_of}
+use Rattle.scr_command.specs.OptionTable.{option_row, sheet_options}
+use Rattle.scr_options.specs.OptionWords.{Values, options_of}
 use Rattle.scr_text.specs.Steps.{and_then}
 use Rattle.scr_command.specs.Command.{command_of, event_for, number_in, seeded, sheet_of}
 use Rattle.scr_list.specs.declared.round.Round.{Round}
@@ -283,16 +282,16 @@ net-asked (event ∷ seed ∷ more ∷ others) = tt
 
 sheet_of-asked : (values : Values) → IsAsked IsSheet (sheet_of values)
 sheet_of-asked values =
-    and_then-asked IsSheet (number_in values Workers) _ (λ workers.
-    and_then-asked IsSheet (number_in values Tries) _ (λ tries.
-    and_then-asked IsSheet (number_in values Attempts) _ (λ attempts.
-    and_then-asked IsSheet (number_in values Short) _ (λ short.
+    and_then-asked IsSheet (number_in values (option_row Workers)) _ (λ workers.
+    and_then-asked IsSheet (number_in values (option_row Tries)) _ (λ tries.
+    and_then-asked IsSheet (number_in values (option_row Attempts)) _ (λ attempts.
+    and_then-asked IsSheet (number_in values (option_row Short)) _ (λ short.
     let options : Options = record { workers = workers; tries = tries; attempts = attempts; short = short } in
-    and_then-asked IsSheet (ok_or (values option.Seed) Grammar) (seeded (λ s. Sheet s options)) (λ word.
+    and_then-asked IsSheet (ok_or (values (codes "seed")) Grammar) (seeded (λ s. Sheet s options)) (λ word.
     seeded-asked IsSheet (λ s. Sheet s options) (λ s. (s, options, refl)) word)))))
 
 sheet-words-asked : (words : List (List ℕ)) → IsAsked IsSheet (command_of (codes "sheet" ∷ words))
-sheet-words-asked words = and_then-asked IsSheet (ok_or (options_of all_options words) Grammar) sheet_of sheet_of-asked
+sheet-words-asked words = and_then-asked IsSheet (ok_or (options_of sheet_options words) Grammar) sheet_of sheet_of-asked
 
 -- ---- what they write
 

@@ -2,7 +2,7 @@
 
 ghost use Rattle.std.specs.Result.{result_map_both};
 ghost use Rattle.scr_outside.specs.Change.{change_of, intake_of};
-ghost use Rattle.scr_command.specs.Words.{texts};
+ghost use Rattle.scr_options.specs.Words.{texts};
 ghost use Rattle.scr_host.specs.Exit.{EndsOnStreams, IsExitCode};
 ghost use Rattle.scr_sheet.specs.Exit.{EndsScramble};
 

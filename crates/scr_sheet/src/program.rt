@@ -1,7 +1,7 @@
 //! The top call.
 
 ghost use Rattle.scr_outside.specs.Change.{change_of, intake_of};
-ghost use Rattle.scr_command.specs.Words.{texts};
+ghost use Rattle.scr_options.specs.Words.{texts};
 ghost use Rattle.scr_sheet.specs.Outcome.{IsRun, IsPerformed, Tells};
 ghost use Rattle.scr_slots.specs.Events.{shown_of};
 ghost use Rattle.scr_sheet.specs.Headline.{AreFairScrambles, IsFairRun};

@@ -10,61 +10,6 @@ const ZEROS: &str = "00000000000000000000000000000000000000000000000000000000000
 
 const BAD_DIGIT: &str = "000000000000000000000000000000000000000000000000000000000000000g";
 
-/// The values of seed, workers, tries and attempts.
-type Values<'w> = [Option<&'w str>; 4];
-
-/// Whether the words give the options of a sheet these values.
-fn takes(rt: &impl Abort, alloc: Global, words: &[&str], expected: Values<'_>) {
-    let split = split_options(alloc, &SHEET_OPTIONS, words);
-    assert!(rt; split.is_ok());
-    if let Ok(split) = split {
-        for (option, value) in SHEET_OPTIONS.iter().zip(expected.iter()) {
-            assert_eq!(rt; split.value(*option), *value);
-        }
-    }
-}
-
-fn with_seed(seed: &str) -> Values<'_> {
-    [Some(seed), None, None, None]
-}
-
-#[test]
-fn options_taken(rt: HostRuntime) {
-    let alloc = rt.alloc();
-    takes(&rt, alloc, &["--seed", "abc"], with_seed("abc"));
-    takes(&rt, alloc, &["--seed", ""], with_seed(""));
-    takes(&rt, alloc, &["--seed="], with_seed(""));
-    takes(&rt, alloc, &["--seed==Z"], with_seed("=Z"));
-    takes(&rt, alloc, &["--seed=-x"], with_seed("-x"));
-    takes(&rt, alloc, &["--seed=--seed=Z"], with_seed("--seed=Z"));
-    let all = [Some("Z"), Some("+1"), Some("01"), Some("")];
-    let own_words = [
-        "--attempts",
-        "",
-        "--workers",
-        "+1",
-        "--seed",
-        "Z",
-        "--tries",
-        "01",
-    ];
-    let one_word = ["--tries=01", "--attempts=", "--seed=Z", "--workers=+1"];
-    takes(&rt, alloc, &own_words, all);
-    takes(&rt, alloc, &one_word, all);
-}
-
-#[test]
-fn options_of_other_commands_refused(rt: HostRuntime) {
-    let own = [OptionName::Seed, OptionName::Attempts];
-    for (words, is_taken) in [
-        (["--seed=x", "--attempts=1"], true),
-        (["--seed=x", "--tries=1"], false),
-        (["--workers=1", "--seed=x"], false),
-    ] {
-        assert_eq!(&rt; split_options(rt.alloc(), &own, &words).is_ok(), is_taken);
-    }
-}
-
 fn reads(rt: &impl Abort, alloc: Global, words: &[&str], expected: Result<Command, CommandFault>) {
     assert_eq!(rt; read_command(alloc, words), expected);
 }

@@ -2,7 +2,7 @@ use Rattle.std.proofs.Common.{refl, ap}
 use Rattle.std.specs.Result.{result_map_both}
 use Rattle.scr_command.specs.declared.command.Command.TheVariants.{Check}
 use Rattle.scr_command.specs.declared.command.UsageFault.TheVariants.{NoSeed}
-use Rattle.scr_command.specs.OptionWords.{options_read}
+use Rattle.scr_options.specs.OptionWords.{options_read}
 use Rattle.scr_text.specs.Numbers.{number_between, number_of_text}
 use Rattle.scr_command.proofs.laws.numbers_of_a_check.Goals as goal
 

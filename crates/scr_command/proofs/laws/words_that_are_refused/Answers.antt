@@ -1,5 +1,6 @@
 use Rattle.std.proofs.Common.{refl}
-use Rattle.scr_command.specs.OptionWords.{options_read}
+use Rattle.scr_options.specs.OptionWords.{options_read}
+use Rattle.scr_text.specs.Numbers.{number_between, number_of_text}
 use Rattle.scr_command.proofs.laws.words_that_are_refused.Goals as goal
 
 pub returns-clause-twice : goal.returns-clause-twice
@@ -19,5 +20,5 @@ unfolding options_read
 returns-clause-without_value c = (λ digits. refl, λ digits. refl)
 
 pub returns-clause-without_seed : goal.returns-clause-without_seed
-unfolding options_read
+unfolding options_read number_between number_of_text
 returns-clause-without_seed c = refl

@@ -1,15 +1,13 @@
 use Rattle.std.proofs.Common.{◌∙◌, ⊎_elim}
 use Rattle.clap.specs.Words.{found_of}
-use Rattle.scr_options.specs.OptionWords.{no_values}
 use Rattle.scr_options.specs.Words.{forms_of, texts}
-use Rattle.std.specs.Prelude.{None}
-use Rattle.scr_options.proofs.Ordinary.{all_left, none_bare, none_read}
+use Rattle.scr_options.proofs.Ordinary.{all_left, none_bare, none_given}
 use Rattle.scr_options.proofs.Parsed.{fault_refused, matches_give}
 use Rattle.scr_options.proofs.splitting.split_options.Goals as goal
 
 pub returns-then-has_bare_hyphens-clause-usage : goal.returns-then-has_bare_hyphens-clause-usage
 returns-then-has_bare_hyphens-clause-usage c =
-    λ _. none_read (forms_of c.args.forms.now) c.requires (texts c.args.words.now) (c.has_bare_hyphens.ensures.found c.if-has_bare_hyphens.true) no_values None
+    λ _. none_given (forms_of c.args.forms.now) c.requires (texts c.args.words.now) (c.has_bare_hyphens.ensures.found c.if-has_bare_hyphens.true)
 
 pub returns-in-Ok-clause-ok : goal.returns-in-Ok-clause-ok
 returns-in-Ok-clause-ok c =

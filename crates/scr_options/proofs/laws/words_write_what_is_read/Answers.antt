@@ -1,5 +1,5 @@
-use Rattle.scr_command.proofs.SpellingLaws.{reads_back, reads_nothing_else}
-use Rattle.scr_command.proofs.laws.words_write_what_is_read.Goals as goal
+use Rattle.scr_options.proofs.SpellingLaws.{reads_back, reads_nothing_else}
+use Rattle.scr_options.proofs.laws.words_write_what_is_read.Goals as goal
 
 pub returns-clause-back : goal.returns-clause-back
 returns-clause-back c = reads_back
