@@ -11,13 +11,12 @@ use Rattle.std.proofs.Math.Nat.{div-one}
 use Rattle.scr_combinatorics.specs.Digits.{mixed_digits, mixed_number}
 use Rattle.scr_combinatorics.proofs.Digits.{lists_one_to_one}
 use Rattle.scr_draw.specs.Attempt.{answer, is_accepted, attempt_value}
-use Rattle.scr_draw.proofs.Accepted.{answered_equally}
 use Rattle.scr_notation.specs.declared.turn.Turn.{Turn}
 use Rattle.scr_notation.specs.declared.turn.Turn.TheVariants.{Wide}
 use Rattle.scr_bigs.specs.Megaminx.{bits_of, row_turns, rows_turns, megaminx_moves}
 use Rattle.scr_bigs.specs.Fairness.{AreFairBits}
 use Rattle.scr_bigs.specs.Following.{AreMegaminxTurns}
-use Rattle.scr_bigs.proofs.ChoiceLaws.{answer-accepted, mapped}
+use Rattle.scr_bigs.proofs.ChoiceLaws.{answer-accepted, answer-equally, mapped}
 use Rattle.scr_bigs.proofs.Listed.{listed, length-listed, listed-at, listed-agree, range-more}
 
 -- ---- the bits of a number
@@ -151,23 +150,17 @@ fair-bits bits size each =
     let law = lists_one_to_one 70 2 (lit< tt) in
     let valid : (length bits ≡ 70) × All (λ bit. bit < 2) bits = (size, each) in
     let number : ℕ = mixed_number (replicate 70 2) bits in
-    let count = answered_equally (2 ^ 70) number (law.below bits valid) in
+    let all = answer-equally (2 ^ 70) number (law.below bits valid) in
     record {
-      test = count.test;
-      tells = λ v below. (
-        λ h.
-            let parts = (count.tells v below).0 h in
-            let accepted = parts.0 in
-            let place = parts.1 in
-            let again = law.state_again bits valid in
-            rw (accepted, place) (ap Some again),
+      test = all.test;
+      tells = λ v low. (
+        λ h. let given = (all.tells v low).0 h in rw given (ap Some (law.state_again bits valid)),
         λ h.
             mapped bits_of (answer (2 ^ 70) v) bits h
-            (λ r answered same.
-            let parts = cond_some (is_accepted (2 ^ 70) v) (v % 2 ^ 70) r answered in
-            let small : v % 2 ^ 70 < 2 ^ 70 = omega arith in
-            let again = sym (law.number_again (v % 2 ^ 70) small) ∙ ap (mixed_number (replicate 70 2)) (ap bits_of parts.1 ∙ same) in
-            (count.tells v below).1 (parts.0, again)),
+            (λ r given same.
+            let place = (cond_some (is_accepted (2 ^ 70) v) (v % 2 ^ 70) r given).1 in
+            let small : r < 2 ^ 70 = omega arith in
+            (all.tells v low).1 (given ∙ ap Some (sym (law.number_again r small) ∙ ap (mixed_number (replicate 70 2)) same))),
       );
-      counted = count.counted;
+      counted = all.counted;
     }

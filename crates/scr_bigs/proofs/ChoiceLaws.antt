@@ -5,7 +5,8 @@ use Rattle.std.specs.Prelude.{slice_get, option_map, option_and_then, if◌then�
 use Rattle.std.specs.Option.{option_or}
 use Rattle.std.proofs.lemmas.Bool.{lt-ltb}
 use Rattle.std.proofs.lemmas.Option.{same_Some, cond_some, option_and_then_some, slice_get-get_or, slice_get_within, get_or_from_slice_get}
-use Rattle.scr_draw.specs.Attempt.{answer, attempt_values, is_accepted}
+use Rattle.scr_draw.specs.Attempt.{answer, attempt_values, is_accepted, quotient}
+use Rattle.scr_draw.specs.Count.{IsCount}
 use Rattle.scr_draw.specs.Drawn.{drawn, hit}
 use Rattle.scr_draw.specs.FirstHit.{numbers_read}
 use Rattle.scr_draw.proofs.Accepted.{answered_equally}
@@ -35,29 +36,26 @@ mapped f None y is next = absurd (cc)
 mapped f (Some x) y is next = next x refl (same_Some (f x) y is)
 
 -- what follows from what is hit, where something always does, is drawn by as many numbers
-module _ {A B : Type 0} (hits : ℕ → Option A) (next : A → Option B) (there : (v : ℕ) (a : A) → hits v ≡ Some a → (b : B) × (next a ≡ Some b)) where
-  drawn-next : (values : List ℕ) → drawn (λ v. option_and_then next (hits v)) values ≡ option_and_then next (drawn hits values)
-  unfolding drawn
-  drawn-next [] = refl
-  drawn-next (v ∷ values) = at (hits v) (there v) (drawn-next values)
-    where
-      at : (o : Option A) → ((a : A) → o ≡ Some a → (b : B) × (next a ≡ Some b))
-          → drawn (λ w. option_and_then next (hits w)) values ≡ option_and_then next (drawn hits values)
-          → option_or (option_and_then next o) (drawn (λ w. option_and_then next (hits w)) values) ≡ option_and_then next (option_or o (drawn hits values))
-      at None found later = later
-      at (Some a) found later = let b = (found a refl).1 in rw b refl
+module _ {A B : Type 0} (hits : ℕ → Option A) (next : A → Option B)
+    (there : (v : ℕ) (a : A) → hits v ≡ Some a → (b : B) × (next a ≡ Some b)) where
+  abbrev follows : ℕ → Option B
+  follows v = option_and_then next (hits v)
 
-  read-next : (values : List ℕ) → numbers_read (λ v. option_and_then next (hits v)) values ≡ numbers_read hits values
-  unfolding numbers_read
-  read-next [] = refl
-  read-next (v ∷ values) = at (hits v) (there v) (read-next values)
+  drawn-next : (values : List ℕ)
+      → (drawn follows values ≡ option_and_then next (drawn hits values))
+      × (numbers_read follows values ≡ numbers_read hits values)
+  unfolding drawn numbers_read
+  drawn-next [] = (refl, refl)
+  drawn-next (v ∷ values) = step (hits v) (there v) (drawn-next values)
     where
-      at : (o : Option A) → ((a : A) → o ≡ Some a → (b : B) × (next a ≡ Some b))
-          → numbers_read (λ w. option_and_then next (hits w)) values ≡ numbers_read hits values
-          → (if is_some (option_and_then next o) then 1 else suc (numbers_read (λ w. option_and_then next (hits w)) values))
-          ≡ (if is_some o then 1 else suc (numbers_read hits values))
-      at None found later = ap suc later
-      at (Some a) found later = let b = (found a refl).1 in rw b refl
+      step : (o : Option A) → ((a : A) → o ≡ Some a → (b : B) × (next a ≡ Some b))
+          → (drawn follows values ≡ option_and_then next (drawn hits values))
+          × (numbers_read follows values ≡ numbers_read hits values)
+          → (option_or (option_and_then next o) (drawn follows values) ≡ option_and_then next (option_or o (drawn hits values)))
+          × ((if is_some (option_and_then next o) then 1 else suc (numbers_read follows values))
+          ≡ (if is_some o then 1 else suc (numbers_read hits values)))
+      step None found later = (later.0, ap suc later.1)
+      step (Some a) found later = let b = (found a refl).1 in (rw b refl, rw b refl)
 
 -- what stands at a place of a list
 element : {X : Type 0} (xs : List X) (i : ℕ) → i < length xs → (x : X) × (slice_get xs i ≡ Some x)
@@ -73,13 +71,10 @@ module _ {X : Type 0} (choices : List X) (some : 1 ≤ length choices) where
       element choices i (omega arith)
 
   pub drawn-choice : (values : List ℕ)
-      → drawn (choice_of choices) values ≡ option_and_then (slice_get choices) (drawn (answer (length choices)) values)
+      → (drawn (choice_of choices) values ≡ option_and_then (slice_get choices) (drawn (answer (length choices)) values))
+      × (numbers_read (choice_of choices) values ≡ numbers_read (answer (length choices)) values)
   unfolding choice_of
   drawn-choice = drawn-next (answer (length choices)) (slice_get choices) there
-
-  pub read-choice : (values : List ℕ) → numbers_read (choice_of choices) values ≡ numbers_read (answer (length choices)) values
-  unfolding choice_of
-  read-choice = read-next (answer (length choices)) (slice_get choices) there
 
 -- and what is drawn is one of them
 pub drawn-among : {X : Type 0} (choices : List X) (word : ℕ → ℕ) (place attempts : ℕ) (x : X)
@@ -96,6 +91,18 @@ drawn-among choices word place attempts x is =
 abbrev pub Differ : {X : Type 0} → List X → Type 0
 Differ {X} xs = (i j : ℕ) (x : X) → slice_get xs i ≡ Some x → slice_get xs j ≡ Some x → i ≡ j
 
+-- a number has an answer as often as each other
+pub answer-equally : (count i : ℕ) → i < count → IsCount (λ v. answer count v ≡ Some i) (2 ^ 96) (quotient count)
+answer-equally count i below =
+    let all = answered_equally count i below in record {
+      test = all.test;
+      tells = λ v low. (
+        λ h. let parts = (all.tells v low).0 h in rw (parts.0, parts.1) refl,
+        λ h. (all.tells v low).1 (cond_some (is_accepted count v) (v % count) i h),
+      );
+      counted = all.counted;
+    }
+
 pub choice-fair : {X : Type 0} (choices : List X) → Differ choices → 1 ≤ length choices → length choices ≤ 2 ^ 96
     → IsFairChoice choices
 unfolding choice_of
@@ -104,16 +111,14 @@ choice-fair choices differ some fits = record {
   differ = differ;
   equally = λ x there.
       let at_x : slice_get choices there.0 ≡ Some x = slice_get-get_or choices there.0 x there.1 ∙ ap Some there.2 in
-      let count = answered_equally (length choices) there.0 there.1 in record {
-        test = count.test;
-        tells = λ v below. (
-          λ h. let parts = (count.tells v below).0 h in rw (parts.0, parts.1) at_x,
+      let all = answer-equally (length choices) there.0 there.1 in record {
+        test = all.test;
+        tells = λ v low. (
+          λ h. let given = (all.tells v low).0 h in rw given at_x,
           λ h.
               option_and_then_some (slice_get choices) (answer (length choices) v) x h
-              (λ i given here.
-              let parts = cond_some (is_accepted (length choices) v) (v % length choices) i given in
-              (count.tells v below).1 (parts.0, parts.1 ∙ differ i there.0 x here at_x)),
+              (λ i given here. (all.tells v low).1 (given ∙ ap Some (differ i there.0 x here at_x))),
         );
-        counted = count.counted;
+        counted = all.counted;
       };
 }

@@ -12,17 +12,20 @@ use Rattle.scr_bigs.specs.CubeMoves.{moves_from, cube_moves}
 use Rattle.scr_bigs.specs.Following.{AreCubeTurns}
 use Rattle.scr_bigs.proofs.ChoiceLaws.{mapped, drawn-among}
 
+abbrev IsOf : ℕ → Turn → Type 0
+IsOf side = Contains (cube_turns side)
+
 -- some turns, of which the first is one of these choices
 record IsChain (side : ℕ) (choices : List Turn) (n : ℕ) (turns : List Turn) : Type 0 where
   count : length turns ≡ n
-  each : All (Contains (cube_turns side)) turns
+  each : All (IsOf side) turns
   first : (turn : Turn) → slice_get turns 0 ≡ Some turn → Contains choices turn
   follow : (i : ℕ) (before next : Turn) → slice_get turns i ≡ Some before → slice_get turns (i + 1) ≡ Some next
       → IsTrue (may_follow before next)
 
 chain-none : (side : ℕ) (choices : List Turn) → IsChain side choices 0 []
 chain-none side choices =
-    record { count = refl; each = All-nil (Contains (cube_turns side)); first = λ turn at. cc; follow = λ i before next at at_next. cc }
+    record { count = refl; each = All-nil (IsOf side); first = λ turn at. cc; follow = λ i before next at at_next. cc }
 
 follow-more : (side : ℕ) (turn : Turn) (more : List Turn) (n : ℕ) → IsChain side (turns_after side turn) n more
     → (i : ℕ) (before next : Turn) → slice_get (turn ∷ more) i ≡ Some before
@@ -30,28 +33,29 @@ follow-more : (side : ℕ) (turn : Turn) (more : List Turn) (n : ℕ) → IsChai
 unfolding turns_after
 follow-more side turn more n chain zero before next at at_next =
     let same = same_Some turn before at in
-    let passes = All-contains (λ t. IsTrue (may_follow turn t)) (turns_after side turn) next (filter_passes (may_follow turn) (cube_turns side)) (chain.first next at_next) in
-    subst (λ t. IsTrue (may_follow t next)) same passes
+    let pass = filter_passes (may_follow turn) (cube_turns side) in
+    subst (λ t. IsTrue (may_follow t next)) same
+    (All-contains (λ t. IsTrue (may_follow turn t)) (turns_after side turn) next pass (chain.first next at_next))
 follow-more side turn more n chain (suc i) before next at at_next =
     let place : suc i + 1 ≡ suc (i + 1) = omega arith in
     chain.follow i before next at (ap (slice_get (turn ∷ more)) (sym place) ∙ at_next)
 
 chain-more : (side : ℕ) (choices : List Turn) (turn : Turn) (more : List Turn) (n : ℕ)
-    → All (Contains (cube_turns side)) choices → Contains choices turn → IsChain side (turns_after side turn) n more
+    → All (IsOf side) choices → Contains choices turn → IsChain side (turns_after side turn) n more
     → IsChain side choices (suc n) (turn ∷ more)
 chain-more side choices turn more n each among chain = record {
   count = ap suc chain.count;
-  each = All-cons (Contains (cube_turns side)) turn more (All-contains (Contains (cube_turns side)) choices turn each among) chain.each;
+  each = All-cons (IsOf side) turn more (All-contains (IsOf side) choices turn each among) chain.each;
   first = λ t at. subst (Contains choices) (same_Some turn t at) among;
   follow = follow-more side turn more n chain;
 }
 
-all_after : (side : ℕ) (turn : Turn) → All (Contains (cube_turns side)) (turns_after side turn)
+all_after : (side : ℕ) (turn : Turn) → All (IsOf side) (turns_after side turn)
 unfolding turns_after
-all_after side turn = All-filter (may_follow turn) (Contains (cube_turns side)) (cube_turns side) (All-contains_itself (cube_turns side))
+all_after side turn = All-filter (may_follow turn) (IsOf side) (cube_turns side) (All-contains_itself (cube_turns side))
 
 chain-of : (side attempts : ℕ) (word : ℕ → ℕ) (n : ℕ) (choices : List Turn) (place : ℕ) (turns : List Turn)
-    → All (Contains (cube_turns side)) choices → moves_from side attempts word choices place n ≡ Some turns
+    → All (IsOf side) choices → moves_from side attempts word choices place n ≡ Some turns
     → IsChain side choices n turns
 unfolding moves_from
 chain-of side attempts word zero choices place turns each is =
@@ -68,5 +72,6 @@ chain-of side attempts word (suc n) choices place turns each is =
 pub moves-turns : (side attempts place : ℕ) (word : ℕ → ℕ) (turns : List Turn)
     → cube_moves side attempts word place ≡ Some turns → AreCubeTurns side turns
 moves-turns side attempts place word turns is =
-    let chain = chain-of side attempts word (turns_made side) (cube_turns side) place turns (All-contains_itself (cube_turns side)) is in
+    let all = All-contains_itself (cube_turns side) in
+    let chain = chain-of side attempts word (turns_made side) (cube_turns side) place turns all is in
     record { count = chain.count; each = chain.each; follow = chain.follow }

@@ -39,10 +39,10 @@ turn_numbered side n =
     if nat_lt place (side / 2) then Face axis (place + 1) amount else Face (axis + 3) (place - side / 2 + 1) amount
 
 -- the number that a turn has
-unfoldable number_of : ℕ → Turn → ℕ
-number_of side (Face face layers amount) =
+unfoldable turn_number : ℕ → Turn → ℕ
+turn_number side (Face face layers amount) =
     3 * (face % 3 * (side - 1) + (if nat_lt face 3 then layers - 1 else layers - 1 + side / 2)) + (amount - 1)
-number_of side _ = 0
+turn_number side _ = 0
 
 -- the turns that may not follow it, by their numbers: so many from the first on
 abbrev pub first_left_out : ℕ → ℕ → ℕ
@@ -53,7 +53,8 @@ count_left_out side n = 3 * (n / 3 % (side - 1) + 1)
 
 -- the turns that are left when so many from the first on are left out
 abbrev turns_left : ℕ → ℕ → ℕ → List Turn
-turns_left side first count = listed (λ choice. turn_numbered side (number_of_choice first count choice)) (turn_count side - count)
+turns_left side first count =
+    listed (λ choice. turn_numbered side (number_of_choice first count choice)) (turn_count side - count)
 
 -- it may be followed by the turn with another number: that is about another axis, or of a later slab
 follows : ℕ → ℕ → ℕ → Bool
@@ -76,7 +77,7 @@ facts_of : ℕ → ℕ → Facts
 facts_of side n = record {
   after = turns_after side (turn_numbered side n);
   follow = listed (λ m. may_follow (turn_numbered side n) (turn_numbered side m)) (turn_count side);
-  number = number_of side (turn_numbered side n);
+  number = turn_number side (turn_numbered side n);
   permitted = permits (cube_event side) (turn_numbered side n);
 }
 
@@ -92,7 +93,7 @@ AreTold : ℕ → Type 0
 AreTold side = listed (facts_of side) (turn_count side) ≡ listed (facts_told side) (turn_count side)
 
 all_told : (side : ℕ) → IsSide side → AreTold side
-unfolding AreTold facts_of facts_told cube_turns turns_after turn_numbered number_of follows
+unfolding AreTold facts_of facts_told cube_turns turns_after turn_numbered turn_number follows
 all_told side is = by_side AreTold side is refl refl refl
 
 told : (side n : ℕ) → IsSide side → n < turn_count side → facts_of side n ≡ facts_told side n
@@ -129,11 +130,13 @@ same-number : (side m n : ℕ) → IsSide side → m < turn_count side → n < t
     → turn_numbered side m ≡ turn_numbered side n → m ≡ n
 unfolding facts_of facts_told
 same-number side m n is below below' same =
-    sym (ap (λ (f : Facts). f.number) (told side m is below)) ∙ ap (number_of side) same ∙ ap (λ (f : Facts). f.number) (told side n is below')
+    sym (ap (λ (f : Facts). f.number) (told side m is below)) ∙ ap (turn_number side) same
+    ∙ ap (λ (f : Facts). f.number) (told side n is below')
 
 -- ---- the turns that are left
 
-choice-below : (side first count choice : ℕ) → choice < turn_count side - count → number_of_choice first count choice < turn_count side
+choice-below : (side first count choice : ℕ) → choice < turn_count side - count
+    → number_of_choice first count choice < turn_count side
 choice-below side first count choice below =
     cond_both (nat_lt choice first) choice (choice + count) (λ n. n < turn_count side) (λ e. omega arith) (λ e. omega arith)
 
@@ -168,11 +171,14 @@ left-after side n turn is there =
     turns_left-left side _ _ _ is (some_left side n is) (after-numbered side n turn is there)
 
 -- at first each turn is left
-pub all-left : (side : ℕ) → IsSide side → AreLeft side 0 0 (cube_turns side)
+all-listed : (side : ℕ) → IsSide side → cube_turns side ≡ turns_left side 0 0
 unfolding cube_turns turn_numbered
+all-listed side is = by_side (λ s. cube_turns s ≡ turns_left s 0 0) side is refl refl refl
+
+pub all-left : (side : ℕ) → IsSide side → AreLeft side 0 0 (cube_turns side)
 all-left side is =
-    turns_left-left side 0 0 (cube_turns side) is (let large = is.large in omega arith)
-    (by_side (λ s. cube_turns s ≡ turns_left s 0 0) side is refl refl refl)
+    let large = is.large in
+    turns_left-left side 0 0 (cube_turns side) is (omega arith) (all-listed side is)
 
 -- ---- which may follow which
 
@@ -192,23 +198,24 @@ follow-tells side i j before next is at_i at_j =
 
 -- ---- fairness
 
+turns_left-fair : (side first count : ℕ) (choices : List Turn) → IsSide side → count < turn_count side
+    → choices ≡ turns_left side first count → IsFairChoice choices
+turns_left-fair side first count choices is some same =
+    let small = is.small in
+    subst IsFairChoice (sym same)
+    (listed-fair _ (turn_count side - count)
+    (λ i j low_i low_j e.
+    choice-same first count i j
+    (same-number side _ _ is (choice-below side first count i low_i) (choice-below side first count j low_j) e))
+    (omega arith) (omega arith))
+
 pub fair-turns : (side : ℕ) → IsSide side → AreFairTurns side
 fair-turns side is =
-    let large = is.large in
-    let small = is.small in
     let turns : List Turn = cube_turns side in
+    let left = all-left side is in
     record {
-      first =
-          subst IsFairChoice (sym (turns-listed side is))
-          (listed-fair (turn_numbered side) (turn_count side) (λ i j. same-number side i j is) (omega arith) (omega arith));
+      first = turns_left-fair side 0 0 turns is left.some (all-listed side is);
       later = λ before there.
-          let n : ℕ = there.0 in
-          let at_n : slice_get turns n ≡ Some before = slice_get-get_or turns n before there.1 ∙ ap Some there.2 in
-          let some = some_left side n is in
-          subst IsFairChoice (sym (after-numbered side n before is at_n))
-          (listed-fair _ (turn_count side - count_left_out side n)
-          (λ i j low_i low_j same.
-          choice-same (first_left_out side n) (count_left_out side n) i j
-          (same-number side _ _ is (choice-below side _ _ i low_i) (choice-below side _ _ j low_j) same))
-          (omega arith) (omega arith));
+          let here : slice_get turns there.0 ≡ Some before = slice_get-get_or turns there.0 before there.1 ∙ ap Some there.2 in
+          turns_left-fair side _ _ _ is (some_left side there.0 is) (after-numbered side there.0 before is here);
     }

@@ -1,5 +1,5 @@
 -- The tables of the puzzles that one table solves.
-use Rattle.std.specs.Prelude.{◌≡◌, List, Option, Some, None}
+use Rattle.std.specs.Prelude.{◌≡◌, ℕ, ◌+◌, List, Option, Some, None, slice_index}
 use Rattle.std.specs.Option.{option_to_list}
 use Rattle.scr_notation.specs.declared.event.Event.{Event}
 use Rattle.scr_notation.specs.declared.event.Event.TheVariants.{C222, Pyram, Skewb}
@@ -8,6 +8,8 @@ use Rattle.scr_notation.specs.declared.event.Family.TheVariants as family
 use Rattle.scr_notation.specs.Event.{family_of}
 use Rattle.scr_table.specs.Distances.{Distances}
 use Rattle.scr_table.specs.Lines.{TableLine, IsTableOf}
+use Rattle.scr_tetra.specs.PyramParts.{turned_count}
+use Rattle.scr_tetra.specs.Pyraminx.{PyramState, numbered_tetraminx}
 use Rattle.scr_small.specs.declared.state_table.StateTable.{StateTable}
 use Rattle.scr_small.specs.NumberedPuzzles.{NumberedPuzzle, state_line}
 use Rattle.scr_small.specs.Puzzles.{corners_line, pyramid_line, skewb_line}
@@ -50,6 +52,14 @@ small_lines event = option_to_list (small_line event)
 pub record BuiltTable : Type 0 where
   pub event : Event
   pub distances : Distances
+
+-- what stands in the table at a position
+abbrev pub entry_at : BuiltTable → ℕ → ℕ
+entry_at built position = slice_index built.distances.distances position
+
+-- of a Pyraminx that of the state without its tips, and one for each tip that stands turned
+abbrev pub pyram_entry : BuiltTable → PyramState → ℕ
+pyram_entry built s = entry_at built (numbered_tetraminx.number_of s.body) + turned_count s.tips
 
 -- It is the table of its event.
 pub record IsBuilt (built : BuiltTable) : Type 0 where

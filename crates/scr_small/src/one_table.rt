@@ -6,8 +6,7 @@ use scr_notation::{Letters, PowerTurned};
 
 /// A puzzle with numbered states and turns, whose states are two parts that turns move each by itself.
 pub trait OneTable: Numbering<State: PowerTurned> + Copy {
-    ghost use Rattle.std.specs.Prelude.{◌≡◌, ◌*◌, ◌<◌, ◌≤◌, ◌↔◌, Some};
-    ghost use Rattle.scr_combinatorics.specs.Numbering.{IsNumbering};
+    ghost use Rattle.std.specs.Prelude.{◌≡◌, ◌*◌, ◌<◌, ◌↔◌, Some};
     ghost use Rattle.scr_notation.specs.declared.turn.Turn.{Turn as Letter};
     ghost use Rattle.scr_small.specs.declared.state_table.StateTable.{StateTable as TableOf};
     ghost use Rattle.scr_small.specs.NumberedPuzzles.{NumberedPuzzle};
@@ -25,7 +24,8 @@ pub trait OneTable: Numbering<State: PowerTurned> + Copy {
     fn numbers() -> Self
         ensures count { (Self.numbered result).count ≡ shown.numbered.count }
         ensures states { (Self.numbered result).state_at ≡ shown.numbered.state_at }
-        ensures numbers { (Self.numbered result).number_of ≡ shown.numbered.number_of };
+        ensures numbers { (Self.numbered result).number_of ≡ shown.numbered.number_of }
+        ensures valid { (state : Self.State) → (Self.numbered result).IsValid state ↔ shown.numbered.IsValid state };
 
     /// Does nothing: each state is valid.
     fn is_valid(state: &Self::State)
@@ -38,16 +38,6 @@ pub trait OneTable: Numbering<State: PowerTurned> + Copy {
     /// Its turns are those of the states.
     ghost turned_by: { (shown.after ≡ Self.State.after) × (shown.letter_at ≡ Self.State.Kind.letters.letter_at)
         × (shown.turns ≡ Self.State.Kind.POWERS * Self.State.GENERATORS) };
-
-    /// Its valid states are those of the numbering.
-    ghost same_valid: { (numbers : Self) (state : Self.State)
-        → (Self.numbered numbers).IsValid state ↔ shown.numbered.IsValid state };
-
-    /// Its numbering is one.
-    ghost numbering: { IsNumbering shown.numbered };
-
-    /// Its turns have numbers of a byte.
-    ghost few_turns: { shown.turns ≤ 256 };
 
     /// The state with a number.
     final fn state_with(number: u32) -> Self::State

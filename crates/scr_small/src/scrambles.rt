@@ -1,10 +1,10 @@
 //! Scrambles and distances by a built table.
-ghost use Rattle.std.specs.Prelude.{ℕ, ◌≡◌, ◌≤◌, ◌↔◌, nat_le, IsTrue, List, Some, length, slice_index};
-ghost use Rattle.scr_combinatorics.specs.Play.{play};
+ghost use Rattle.std.specs.Prelude.{ℕ, ◌≡◌, ◌≤◌, ◌↔◌, nat_le, IsTrue};
 ghost use Rattle.scr_combinatorics.specs.Reach.{Needs};
-ghost use Rattle.scr_notation.specs.declared.turn.Turn.{Turn as Letter};
 ghost use Rattle.scr_table.specs.Distances.{Measures};
-ghost use Rattle.scr_small.specs.NumberedPuzzles.{puzzle_of, state_coordinate, IsScrambleOf};
+ghost use Rattle.scr_small.specs.NumberedPuzzles.{puzzle_of, state_coordinate};
+ghost use Rattle.scr_small.specs.SolvedByTable.{IsScrambleByTable};
+ghost use Rattle.scr_small.specs.Tables.{entry_at};
 
 use crate::one_table::OneTable;
 use crate::tables::SmallTables;
@@ -13,11 +13,7 @@ use scr_notation::{Scramble, inverse, numbered_scramble};
 /// The scramble of a state: the first word that solves it, taken back. The tables are those of the puzzle's event.
 pub fn scramble_of<P: OneTable>(tables: &SmallTables, state: &P::State) -> Scramble
     requires { tables.now.event ≡ P.TABLE.event }
-    ensures event { result.event ≡ P.TABLE.event }
-    ensures at_most { length result.turns ≤ P.TABLE.bound }
-    ensures scramble { IsScrambleOf P.shown state.now result.turns }
-    ensures only { (turns : List Letter) → IsScrambleOf P.shown state.now turns → turns ≡ result.turns }
-    ensures played { play P.shown.after P.shown.solved result.turns ≡ Some state.now }
+    ensures { IsScrambleByTable P.shown P.TABLE state.now result }
 {
     P::is_solved_by_table();
     let word = tables.descend(P::number(state));
@@ -27,7 +23,7 @@ pub fn scramble_of<P: OneTable>(tables: &SmallTables, state: &P::State) -> Scram
 /// How many turns a state is from solved, and so how many it needs. The tables are those of the puzzle's event.
 pub(crate) fn distance_of<P: OneTable>(tables: &SmallTables, state: &P::State) -> u32
     requires { tables.now.event ≡ P.TABLE.event }
-    ensures entry { result ≡ slice_index tables.now.distances.distances (P.shown.numbered.number_of state.now) }
+    ensures entry { result ≡ entry_at tables.now (P.shown.numbered.number_of state.now) }
     ensures at_most { result ≤ P.TABLE.bound }
     ensures exact { (least : ℕ) → (least ≤ result) ↔ Needs (puzzle_of P.shown) state.now least }
     ensures measures { Measures (state_coordinate P.shown) tables.now.distances }
@@ -40,8 +36,7 @@ pub(crate) fn distance_of<P: OneTable>(tables: &SmallTables, state: &P::State) -
 pub(crate) fn needs_of<P: OneTable>(tables: &SmallTables, state: &P::State, least: u32) -> bool
     requires { tables.now.event ≡ P.TABLE.event }
     ensures exact { IsTrue result ↔ Needs (puzzle_of P.shown) state.now least }
-    ensures tested { let entries = tables.now.distances.distances in
-        result ≡ nat_le least (slice_index entries (P.shown.numbered.number_of state.now)) }
+    ensures tested { result ≡ nat_le least (entry_at tables.now (P.shown.numbered.number_of state.now)) }
 {
     least <= distance_of::<P>(tables, state)
 }

@@ -1,12 +1,13 @@
 //! The 2x2x2: its scrambles, its minima, and how it is drawn.
-ghost use Rattle.std.specs.Prelude.{◌≡◌, ◌≤◌, ◌↔◌, nat_le, List, Some, IsTrue, length, slice_index};
+ghost use Rattle.std.specs.Prelude.{◌≡◌, ◌↔◌, nat_le, IsTrue};
 ghost use Rattle.scr_combinatorics.specs.Play.{play};
 ghost use Rattle.scr_combinatorics.specs.Reach.{Needs};
 ghost use Rattle.scr_orbit.specs.PowerPuzzles.{after_letter, power_puzzle};
 ghost use Rattle.scr_notation.specs.declared.event.Event.TheVariants.{C222};
-ghost use Rattle.scr_notation.specs.declared.turn.Turn.{Turn as Letter};
+ghost use Rattle.scr_notation.specs.Written.{at_most, IsTheScramble};
 ghost use Rattle.scr_cube.specs.Cube222.{powers_222, numbered_222, solved_222};
 ghost use Rattle.scr_small.specs.Puzzles.{IsScramble222};
+ghost use Rattle.scr_small.specs.Tables.{entry_at};
 
 use crate::one_table::OneTable;
 use crate::scrambles::{needs_of, scramble_of};
@@ -22,8 +23,6 @@ pub type Small222<'a> = SmallPuzzle<'a, Numbers222>;
 
 impl OneTable for Numbers222 {
     ghost use Rattle.std.specs.Prelude.{refl};
-    ghost use Rattle.std.proofs.Common.{lit≤};
-    ghost use Rattle.scr_cube.proofs.Numbered222.{numbering_222};
     ghost use Rattle.scr_small.specs.Puzzles.{numbered_puzzle_222};
     ghost use Rattle.scr_small.specs.Tables.{state_table_222};
 
@@ -50,23 +49,13 @@ impl OneTable for Numbers222 {
     fn is_solved_by_table() {}
 
     ghost turned_by = { (refl, refl, refl) };
-
-    ghost same_valid = { λ _ _. (λ valid. valid, λ valid. valid) };
-
-    ghost numbering = { numbering_222 };
-
-    ghost few_turns = { lit≤ tt };
 }
 
 /// The scramble of a 2x2x2, of at most 11 turns: the first word of turns that solves it, taken back. The tables are
 /// those of 222.
 pub fn scramble_222(tables: &SmallTables, state: &Corners222) -> Scramble
     requires { tables.now.event ≡ C222 }
-    ensures event { result.event ≡ C222 }
-    ensures at_most { length result.turns ≤ 11 }
-    ensures scramble { IsScramble222 state.now result.turns }
-    ensures only { (turns : List Letter) → IsScramble222 state.now turns → turns ≡ result.turns }
-    ensures played { play (after_letter powers_222) solved_222 result.turns ≡ Some state.now }
+    ensures { IsTheScramble C222 IsScramble222 (at_most 11) (play (after_letter powers_222) solved_222) state.now result }
 {
     scramble_of::<Numbers222>(tables, state)
 }
@@ -75,8 +64,7 @@ pub fn scramble_222(tables: &SmallTables, state: &Corners222) -> Scramble
 pub fn needs_222(tables: &SmallTables, state: &Corners222, least: u32) -> bool
     requires { tables.now.event ≡ C222 }
     ensures exact { IsTrue result ↔ Needs (power_puzzle powers_222) state.now least }
-    ensures tested { let entries = tables.now.distances.distances in
-        result ≡ nat_le least (slice_index entries (numbered_222.number_of state.now)) }
+    ensures tested { result ≡ nat_le least (entry_at tables.now (numbered_222.number_of state.now)) }
 {
     needs_of::<Numbers222>(tables, state, least)
 }

@@ -1,10 +1,10 @@
 //! A puzzle that one table solves, as an event that states are drawn of.
-ghost use Rattle.std.specs.Prelude.{◌≡◌, ◌≤◌, ◌↔◌, ℕ, nat_le, IsTrue, List, Some, length, slice_index};
+ghost use Rattle.std.specs.Prelude.{◌≡◌, ◌↔◌, ℕ, nat_le, IsTrue};
 ghost use Rattle.std.proofs.Props.{props};
-ghost use Rattle.scr_combinatorics.specs.Play.{play};
 ghost use Rattle.scr_combinatorics.specs.Reach.{Needs};
-ghost use Rattle.scr_notation.specs.declared.turn.Turn.{Turn as Letter};
-ghost use Rattle.scr_small.specs.NumberedPuzzles.{puzzle_of, IsScrambleOf};
+ghost use Rattle.scr_small.specs.NumberedPuzzles.{puzzle_of};
+ghost use Rattle.scr_small.specs.SolvedByTable.{IsScrambleByTable};
+ghost use Rattle.scr_small.specs.Tables.{entry_at};
 
 use crate::one_table::OneTable;
 use crate::scrambles::{needs_of, scramble_of};
@@ -20,7 +20,7 @@ pub struct SmallPuzzle<'a, P: OneTable> {
     puzzle: PhantomData<P>,
     ghost event: { tables.now.event ≡ P.TABLE.event },
     ghost exact: { (s : P.State) (least : ℕ) → P.shown.numbered.IsValid s
-        → IsTrue (nat_le least (slice_index tables.now.distances.distances (P.shown.numbered.number_of s)))
+        → IsTrue (nat_le least (entry_at tables.now (P.shown.numbered.number_of s)))
         ↔ Needs (puzzle_of P.shown) s least } by { Prim.hlevel props },
 }
 
@@ -39,11 +39,7 @@ impl<'a, P: OneTable> SmallPuzzle<'a, P> {
 
     /// The scramble of a state: the first word that solves it, taken back.
     pub fn scramble(&self, state: &P::State) -> Scramble
-        ensures event { result.event ≡ P.TABLE.event }
-        ensures at_most { length result.turns ≤ P.TABLE.bound }
-        ensures scramble { IsScrambleOf P.shown state.now result.turns }
-        ensures only { (turns : List Letter) → IsScrambleOf P.shown state.now turns → turns ≡ result.turns }
-        ensures played { play P.shown.after P.shown.solved result.turns ≡ Some state.now }
+        ensures { IsScrambleByTable P.shown P.TABLE state.now result }
     {
         scramble_of::<P>(self.tables, state)
     }
@@ -57,6 +53,7 @@ impl<P: OneTable> Numbering for SmallPuzzle<'_, P> {
     type State = P::State;
 
     fn count(&self) -> u128 {
+        P::is_solved_by_table();
         P::numbers().count()
     }
 
@@ -74,8 +71,7 @@ impl<P: OneTable> Permit<P::State> for SmallPuzzle<'_, P> {
 
     ghost greatest = { λ _. P.TABLE.bound };
 
-    ghost needs = { λ small s least.
-        nat_le least (slice_index small.tables.now.distances.distances (P.shown.numbered.number_of s)) };
+    ghost needs = { λ small s least. nat_le least (entry_at small.tables.now (P.shown.numbered.number_of s)) };
 
     fn needs_at_least(&self, state: &P::State, least: u32) -> bool {
         needs_of::<P>(self.tables, state, least)

@@ -1,16 +1,15 @@
 //! The Pyraminx: its scrambles, its minima, and how it is drawn. The table is that of the Pyraminx without tips.
-ghost use Rattle.std.specs.Prelude.{◌≡◌, ◌+◌, ◌<◌, ◌≤◌, ◌↔◌, ◌++◌};
-ghost use Rattle.std.specs.Prelude.{ℕ, nat_le, All, List, Some, IsTrue, length, slice_index};
+ghost use Rattle.std.specs.Prelude.{◌≡◌, ◌+◌, ◌<◌, ◌≤◌, ◌↔◌, ◌++◌, ℕ, nat_le, All, IsTrue, length};
 ghost use Rattle.std.proofs.Props.{props};
 ghost use Rattle.scr_combinatorics.specs.Play.{play};
 ghost use Rattle.scr_combinatorics.specs.Reach.{Needs};
 ghost use Rattle.scr_orbit.specs.PowerPuzzles.{after_letter, power_puzzle};
 ghost use Rattle.scr_notation.specs.declared.event.Event.TheVariants.{Pyram};
-ghost use Rattle.scr_notation.specs.declared.turn.Turn.{Turn as Letter};
+ghost use Rattle.scr_notation.specs.Written.{at_most, IsTheScramble};
 ghost use Rattle.scr_tetra.specs.PyramParts.{tips_word, turned_count};
-ghost use Rattle.scr_tetra.specs.Pyraminx.{numbered_tetraminx, numbered_pyram, PyramState, IsPyram};
-ghost use Rattle.scr_tetra.specs.Pyraminx.{pyram_powers, solved_pyram};
+ghost use Rattle.scr_tetra.specs.Pyraminx.{numbered_pyram, pyram_powers, solved_pyram, PyramState, IsPyram};
 ghost use Rattle.scr_small.specs.Puzzles.{IsScramblePyram};
+ghost use Rattle.scr_small.specs.Tables.{pyram_entry};
 
 use crate::one_table::OneTable;
 use crate::scrambles::{distance_of, scramble_of};
@@ -23,8 +22,6 @@ use scr_tetra::{PyramNumbers, Pyraminx, Tetraminx, TetraminxNumbers};
 
 impl OneTable for TetraminxNumbers {
     ghost use Rattle.std.specs.Prelude.{refl};
-    ghost use Rattle.std.proofs.Common.{lit≤};
-    ghost use Rattle.scr_tetra.proofs.NumberedPyram.{tetraminx_numbering};
     ghost use Rattle.scr_small.specs.Puzzles.{numbered_puzzle_tetraminx};
     ghost use Rattle.scr_small.specs.Tables.{state_table_tetraminx};
 
@@ -51,23 +48,13 @@ impl OneTable for TetraminxNumbers {
     fn is_solved_by_table() {}
 
     ghost turned_by = { (refl, refl, refl) };
-
-    ghost same_valid = { λ _ _. (λ valid. valid, λ valid. valid) };
-
-    ghost numbering = { tetraminx_numbering };
-
-    ghost few_turns = { lit≤ tt };
 }
 
 /// The scramble of a Pyraminx, of at most 15 turns: the first word of large turns that solves it without its tips,
 /// taken back, and then the tips. The tables are those of pyram.
 pub fn scramble_pyram(tables: &SmallTables, state: &Pyraminx) -> Scramble
     requires { tables.now.event ≡ Pyram }
-    ensures event { result.event ≡ Pyram }
-    ensures at_most { length result.turns ≤ 15 }
-    ensures scramble { IsScramblePyram state.now result.turns }
-    ensures only { (turns : List Letter) → IsScramblePyram state.now turns → turns ≡ result.turns }
-    ensures played { play (after_letter pyram_powers) solved_pyram result.turns ≡ Some state.now }
+    ensures { IsTheScramble Pyram IsScramblePyram (at_most 15) (play (after_letter pyram_powers) solved_pyram) state.now result }
 {
     let mut scramble = scramble_of::<TetraminxNumbers>(tables, &state.body());
     push_tips(&mut scramble, &state.tips());
@@ -96,8 +83,7 @@ fn push_tips(scramble: &mut Scramble, tips: &[u8])
 pub fn needs_pyram(tables: &SmallTables, state: &Pyraminx, least: u32) -> bool
     requires { tables.now.event ≡ Pyram }
     ensures exact { IsTrue result ↔ Needs (power_puzzle pyram_powers) state.now least }
-    ensures tested { let number = numbered_tetraminx.number_of state.now.body in
-        result ≡ nat_le least (slice_index tables.now.distances.distances number + turned_count state.now.tips) }
+    ensures tested { result ≡ nat_le least (pyram_entry tables.now state.now) }
 {
     let large = distance_of::<TetraminxNumbers>(tables, &state.body());
     least <= large + count_turned(&state.tips())
@@ -124,9 +110,7 @@ pub struct SmallPyram<'a> {
     tables: &'a SmallTables,
     ghost event: { tables.now.event ≡ Pyram },
     ghost exact: { (s : PyramState) (least : ℕ) → IsPyram s
-        → IsTrue (nat_le least
-        (slice_index tables.now.distances.distances (numbered_tetraminx.number_of s.body) + turned_count s.tips))
-        ↔ Needs (power_puzzle pyram_powers) s least } by { Prim.hlevel props },
+        → IsTrue (nat_le least (pyram_entry tables.now s)) ↔ Needs (power_puzzle pyram_powers) s least } by { Prim.hlevel props },
 }
 
 impl<'a> SmallPyram<'a> {
@@ -141,11 +125,7 @@ impl<'a> SmallPyram<'a> {
     /// The scramble of a state: the first word of large turns that solves it without its tips, taken back, and then the
     /// tips.
     pub fn scramble(&self, state: &Pyraminx) -> Scramble
-        ensures event { result.event ≡ Pyram }
-        ensures at_most { length result.turns ≤ 15 }
-        ensures scramble { IsScramblePyram state.now result.turns }
-        ensures only { (turns : List Letter) → IsScramblePyram state.now turns → turns ≡ result.turns }
-        ensures played { play (after_letter pyram_powers) solved_pyram result.turns ≡ Some state.now }
+        ensures { IsTheScramble Pyram IsScramblePyram (at_most 15) (play (after_letter pyram_powers) solved_pyram) state.now result }
     {
         scramble_pyram(self.tables, state)
     }
@@ -176,9 +156,7 @@ impl Permit<Pyraminx> for SmallPyram<'_> {
 
     ghost greatest = { λ _. 15 };
 
-    ghost needs = { λ small s least.
-        let entries = small.tables.now.distances.distances in
-        nat_le least (slice_index entries (numbered_tetraminx.number_of s.body) + turned_count s.tips) };
+    ghost needs = { λ small s least. nat_le least (pyram_entry small.tables.now s) };
 
     fn needs_at_least(&self, state: &Pyraminx, least: u32) -> bool {
         needs_pyram(self.tables, state, least)

@@ -1,12 +1,13 @@
 //! The Skewb: its scrambles, its minima, and how it is drawn.
-ghost use Rattle.std.specs.Prelude.{◌≡◌, ◌≤◌, ◌↔◌, nat_le, List, Some, IsTrue, length, slice_index};
+ghost use Rattle.std.specs.Prelude.{◌≡◌, ◌↔◌, nat_le, IsTrue};
 ghost use Rattle.scr_combinatorics.specs.Play.{play};
 ghost use Rattle.scr_combinatorics.specs.Reach.{Needs};
 ghost use Rattle.scr_orbit.specs.PowerPuzzles.{after_letter, power_puzzle};
 ghost use Rattle.scr_notation.specs.declared.event.Event.TheVariants.{Skewb as EventSkewb};
-ghost use Rattle.scr_notation.specs.declared.turn.Turn.{Turn as Letter};
+ghost use Rattle.scr_notation.specs.Written.{at_most, IsTheScramble};
 ghost use Rattle.scr_tetra.specs.Skewb.{skewb_powers, skewb_numbered, solved_skewb};
 ghost use Rattle.scr_small.specs.Puzzles.{IsScrambleSkewb};
+ghost use Rattle.scr_small.specs.Tables.{entry_at};
 
 use crate::one_table::OneTable;
 use crate::scrambles::{needs_of, scramble_of};
@@ -22,8 +23,6 @@ pub type SmallSkewb<'a> = SmallPuzzle<'a, SkewbNumbers>;
 
 impl OneTable for SkewbNumbers {
     ghost use Rattle.std.specs.Prelude.{refl};
-    ghost use Rattle.std.proofs.Common.{lit≤};
-    ghost use Rattle.scr_tetra.proofs.NumberedSkewb.{skewb_numbering};
     ghost use Rattle.scr_small.specs.Puzzles.{numbered_puzzle_skewb};
     ghost use Rattle.scr_small.specs.Tables.{state_table_skewb};
 
@@ -50,23 +49,13 @@ impl OneTable for SkewbNumbers {
     fn is_solved_by_table() {}
 
     ghost turned_by = { (refl, refl, refl) };
-
-    ghost same_valid = { λ _ _. (λ valid. valid, λ valid. valid) };
-
-    ghost numbering = { skewb_numbering };
-
-    ghost few_turns = { lit≤ tt };
 }
 
 /// The scramble of a Skewb, of at most 11 turns: the first word of turns that solves it, taken back. The tables are
 /// those of skewb.
 pub fn scramble_skewb(tables: &SmallTables, state: &Skewb) -> Scramble
     requires { tables.now.event ≡ EventSkewb }
-    ensures event { result.event ≡ EventSkewb }
-    ensures at_most { length result.turns ≤ 11 }
-    ensures scramble { IsScrambleSkewb state.now result.turns }
-    ensures only { (turns : List Letter) → IsScrambleSkewb state.now turns → turns ≡ result.turns }
-    ensures played { play (after_letter skewb_powers) solved_skewb result.turns ≡ Some state.now }
+    ensures { IsTheScramble EventSkewb IsScrambleSkewb (at_most 11) (play (after_letter skewb_powers) solved_skewb) state.now result }
 {
     scramble_of::<SkewbNumbers>(tables, state)
 }
@@ -75,8 +64,7 @@ pub fn scramble_skewb(tables: &SmallTables, state: &Skewb) -> Scramble
 pub fn needs_skewb(tables: &SmallTables, state: &Skewb, least: u32) -> bool
     requires { tables.now.event ≡ EventSkewb }
     ensures exact { IsTrue result ↔ Needs (power_puzzle skewb_powers) state.now least }
-    ensures tested { let entries = tables.now.distances.distances in
-        result ≡ nat_le least (slice_index entries (skewb_numbered.number_of state.now)) }
+    ensures tested { result ≡ nat_le least (entry_at tables.now (skewb_numbered.number_of state.now)) }
 {
     needs_of::<SkewbNumbers>(tables, state, least)
 }

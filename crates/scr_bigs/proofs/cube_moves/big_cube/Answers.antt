@@ -18,15 +18,20 @@ loop-made-init g c =
 pub returns-in_err-choice-clause-refused : goal.returns-in_err-choice-clause-refused
 returns-in_err-choice-clause-refused g c =
     OnErr-always c.from_residual.result
-    (ap (λ (o : Outcome). o.turns) (none-more c.loop-made.invariant.made None _ c.in_err-choice.ensures.number c.choose.ensures.taken _ c.loop-made-test.true c.turn_count-made-end.ensures refl))
+    (ap (λ (o : Outcome). o.turns)
+    (none-more c.loop-made.invariant.made None _ c.in_err-choice.ensures.number c.choose.ensures.taken
+    _ c.loop-made-test.true c.turn_count-made-end.ensures refl))
 
 pub returns-in_err-choice-clause-taken : goal.returns-in_err-choice-clause-taken
 returns-in_err-choice-clause-taken g c =
-    sym (ap (λ (o : Outcome). o.place) (none-more c.loop-made.invariant.made None _ c.in_err-choice.ensures.number c.choose.ensures.taken _ c.loop-made-test.true c.turn_count-made-end.ensures refl))
+    sym (ap (λ (o : Outcome). o.place)
+    (none-more c.loop-made.invariant.made None _ c.in_err-choice.ensures.number c.choose.ensures.taken
+    _ c.loop-made-test.true c.turn_count-made-end.ensures refl))
 
 pub push_turn-requires-clause-of_event : goal.push_turn-requires-clause-of_event
 push_turn-requires-clause-of_event g c =
-    rw c.loop-made.invariant.event (turn-permitted g.row.SIDE c.number_of-number.result c.turn_at.result c.requires.side c.turn_at.ensures)
+    rw c.loop-made.invariant.event
+    (turn-permitted g.row.SIDE c.number_of-number.result c.turn_at.result c.requires.side c.turn_at.ensures)
 
 pub loop-made-preserved : goal.loop-made-preserved
 loop-made-preserved g c =
@@ -35,8 +40,9 @@ loop-made-preserved g c =
     let size = ap length turns ∙ length_push c.loop-made.scramble.turns c.turn_at.result in
     record {
       made = rw turns
-          (one-more before.made (Some c.in_ok-choice.choice) _ c.in_ok-choice.ensures.number c.choose.ensures.taken _ c.loop-made-test.true c.turn_count-made-end.ensures
-          c.in_ok-choice.choice c.turn_at.result _ _ _ refl c.in_ok-choice.ensures.below (rw c.number_of-number.ensures.number at c.turn_at.ensures)
+          (one-more before.made (Some c.in_ok-choice.choice) _ c.in_ok-choice.ensures.number c.choose.ensures.taken
+          _ c.loop-made-test.true c.turn_count-made-end.ensures c.in_ok-choice.choice c.turn_at.result _ _ _ refl
+          c.in_ok-choice.ensures.below (rw c.number_of-number.ensures.number at c.turn_at.ensures)
           (c.left_out_after-left_out.ensures c.turn_at.result c.turn_at.ensures) c.choose.ensures.same_words);
       event = ap (λ (s : Written). s.event) c.push_turn.ensures ∙ before.event;
       count = omega (arith, size, before.count);
@@ -49,4 +55,5 @@ returns-clause-turns g c =
 
 pub returns-clause-taken : goal.returns-clause-taken
 returns-clause-taken g c =
-    sym (ap (λ (o : Outcome). o.place) (all-made c.loop-made.invariant.made _ c.loop-made-test.false c.turn_count-made-end.ensures))
+    let whole = all-made c.loop-made.invariant.made _ c.loop-made-test.false c.turn_count-made-end.ensures in
+    sym (ap (λ (o : Outcome). o.place) whole)

@@ -1,9 +1,10 @@
-use Rattle.std.proofs.Common.{ap, ◌∙◌, arith}
-use Rattle.scr_small.specs.NumberedPuzzles.{state_coordinate}
+use Rattle.std.proofs.Common.{ap, ◌∙◌, arith, rules}
+use Rattle.scr_small.specs.NumberedPuzzles.{state_coordinate, IsScrambleOf}
 use Rattle.scr_small.proofs.PuzzleLaws.{length-scramble, play-scrambled, IsScrambleOf-unique}
 use Rattle.scr_small.specs.Tables.{small_line}
 use Rattle.scr_small.proofs.BuiltTables.{IsTableOf-built}
 use Rattle.scr_small.proofs.WalkedWords.{All-turns, IsScrambleOf-walked}
+use Rattle.scr_small.proofs.scrambles.scramble_of.Given.{Over}
 use Rattle.scr_small.proofs.scrambles.scramble_of.Goals as goal
 
 pub descend-word-requires : goal.descend-word-requires
@@ -19,32 +20,29 @@ numbered_scramble-requires-clause-below g c =
     let each = All-turns (state_coordinate g.P.OneTable.shown) c.number.result c.descend-word.result.items first.leads in
     rw (c.TABLE.ensures, c.deref.ensures.0) (λ k d lt. omega (arith, each k d lt, l.own))
 
-pub returns-clause-scramble : goal.returns-clause-scramble
-returns-clause-scramble g c =
-    let p = g.P.OneTable in
+-- the word that was walked is the first, so that this is the scramble
+walked : (g : Over) (c : goal.After-inverse g) → IsScrambleOf g.P.OneTable.shown c.args.state.now c.inverse.result.turns
+walked g c =
     let l = c.is_solved_by_table.ensures in
     let first = rw (ap small_line c.requires ∙ l.of_event) at c.descend-word.ensures.first in
     rw (c.inverse.ensures.value, c.numbered_scramble.ensures, c.TABLE.ensures, c.deref.ensures.0, ← l.letters, ← l.taken_back)
-    (IsScrambleOf-walked p.shown l.lawful c.args.state.now c.number.ensures.valid c.number.result c.number.ensures.number _ first)
+    (IsScrambleOf-walked g.P.OneTable.shown l.lawful c.args.state.now c.number.ensures.valid c.number.result c.number.ensures.number _ first)
 
-pub returns-clause-only : goal.returns-clause-only
-returns-clause-only g c =
-    λ turns other. IsScrambleOf-unique g.P.OneTable.shown c.is_solved_by_table.ensures.lawful c.args.state.now turns c.inverse.result.turns other
-    (returns-clause-scramble g c)
-
-pub returns-clause-played : goal.returns-clause-played
-returns-clause-played g c =
-    play-scrambled g.P.OneTable.shown c.is_solved_by_table.ensures.lawful c.args.state.now c.inverse.result.turns c.number.ensures.valid
-    (returns-clause-scramble g c)
-
-pub returns-clause-at_most : goal.returns-clause-at_most
-returns-clause-at_most g c =
+pub returns : goal.returns
+returns g c =
     let p = g.P.OneTable in
     let l = c.is_solved_by_table.ensures in
+    let s = c.args.state.now in
+    let valid = c.number.ensures.valid in
+    let turns = c.inverse.result.turns in
     let tables = c.args.tables.now in
     let table = IsTableOf-built p.shown p.TABLE l tables c.requires c.descend-word.ensures.built in
-    let long = length-scramble p.shown l.lawful tables.distances table.measures c.args.state.now c.inverse.result.turns c.number.ensures.valid
-    (returns-clause-scramble g c) in
-    let within = table.measures.within (p.shown.numbered.number_of c.args.state.now)
-    (l.lawful.numbering.one_to_one.below c.args.state.now c.number.ensures.valid) in
-    omega (arith, long, within, table.bound)
+    let long = length-scramble p.shown l.lawful tables.distances table.measures s turns valid (walked g c) in
+    let within = table.measures.within (p.shown.numbered.number_of s) (l.lawful.numbering.one_to_one.below s valid) in
+    record {
+      of_event = search rules;
+      scramble = walked g c;
+      only = λ other is. IsScrambleOf-unique p.shown l.lawful s other turns is (walked g c);
+      within = omega (arith, long, within, table.bound);
+      gives = play-scrambled p.shown l.lawful s turns valid (walked g c);
+    }
