@@ -14,11 +14,14 @@ use Rattle.scr_combinatorics.specs.Words.{words_of}
 use Rattle.scr_table.proofs.WordLists.{All-flat_map, words_of-none}
 use Rattle.scr_search.specs.declared.near_set.NearBlock.{NearBlock}
 use Rattle.scr_search.specs.declared.near_set.NearSet.{NearSet}
-use Rattle.scr_search.specs.Near.{AreTakenBack, HasBits, IsInSet, IsNear, LeavesNear}
+use Rattle.scr_search.specs.declared.position.Extent.{Extent}
+use Rattle.scr_search.specs.declared.position.PartPosition.{PartPosition}
+use Rattle.scr_search.specs.Near.{HasBits, IsInSet, IsNear, LeavesNear}
 use Rattle.scr_search.specs.Search.{KeepsWays}
 use Rattle.scr_search.specs.Spread.{IsListed, IsSpread, IsThere, Listed, numbers_in}
 use Rattle.scr_search.specs.TurnSets.{contains_turn}
 use Rattle.scr_search.specs.Orderly.{after_turn, leads}
+use Rattle.scr_search.specs.Views.{AreViews, Shows, Views, part_number}
 use Rattle.scr_search.proofs.Leads.{leads-behind, leads-parts, leads-played}
 
 -- ---- words by their first turns
@@ -74,76 +77,76 @@ found_there P (Some (Ok list)) h there = h
 found_there P (Some (Err fault)) h there = absurd there
 found_there P None h there = absurd there
 
-module _ (turns : List ℕ) (IsSeen : CubeState → Type 0) (number : CubeState → ℕ) (test : CubeState → Bool) where
+module _ (v : Views) where
   -- the set of all numbers
-  pub IsNear-all : (most : ℕ) (Has : ℕ → Type 0) → ((n : ℕ) → Has n) → IsNear turns IsSeen number test most Has
-  IsNear-all most Has all = record { near = λ c n v seen le there way. all (number c) }
+  pub IsNear-all : (most : ℕ) (Has : ℕ → Type 0) → ((n : ℕ) → Has n) → IsNear v most Has
+  IsNear-all most Has all = record { near = λ c n w seen le there way. all (part_number v c) }
 
   -- no turn
-  pub IsNear-end : (end : ℕ) (Has : ℕ → Type 0) → ((c : CubeState) → IsSeen c → test c ≡ true → end ≡ number c)
-      → ((c : CubeState) → IsSeen c → end ≡ number c → Has end) → IsNear turns IsSeen number test 0 Has
+  pub IsNear-end : (end : ℕ) (Has : ℕ → Type 0)
+      → ((c : CubeState) → v.IsSeen c → v.ends c ≡ true → end ≡ part_number v c)
+      → ((c : CubeState) → v.IsSeen c → end ≡ part_number v c → Has end) → IsNear v 0 Has
   IsNear-end end Has ends has = record {
-    near = λ c n v seen le there way.
+    near = λ c n w seen le there way.
         let none : n ≡ 0 = omega (arith, le) in
-        let empty : v ≡ [] = words_of-none turns v (subst (λ m. Contains (words_of turns m) v) none there) in
-        let passes : test c ≡ true = sym (leads-played test c c [] (play-empty after_turn c)) ∙ ap (leads test c) (sym empty) ∙ way in
+        let empty : w ≡ [] = words_of-none v.turns w (subst (λ m. Contains (words_of v.turns m) w) none there) in
+        let passes : v.ends c ≡ true = sym (leads-played v.ends c c [] (play-empty after_turn c)) ∙ ap (leads v.ends c) (sym empty) ∙ way in
         subst Has (ends c seen passes) (has c seen (ends c seen passes));
   }
 
   -- a set that has more
   pub IsSpread-wider : (lists : List Listed) (block : ℕ) (Has More : ℕ → Type 0) → ((n : ℕ) → Has n → More n)
-      → IsSpread turns IsSeen number lists block Has → IsSpread turns IsSeen number lists block More
+      → IsSpread v lists block Has → IsSpread v lists block More
   IsSpread-wider lists block Has More wider h = record {
-    here = λ c seen at listed. wider (number c % 2 ^ 32) (h.here c seen at listed);
-    there = λ c d place seen at lt to listed. wider (number c % 2 ^ 32) (h.there c d place seen at lt to listed);
+    here = λ c seen at listed. wider (part_number v c % 2 ^ 32) (h.here c seen at listed);
+    there = λ c d place seen at lt to listed. wider (part_number v c % 2 ^ 32) (h.there c d place seen at lt to listed);
   }
 
+module _ (v : Views) (e : Extent) (are : AreViews v e) where
   -- one turn more, of a block
-  pub near_in_block : (backs : List ℕ) (most : ℕ) (lists : List Listed) (block : ℕ) (Has : ℕ → Type 0)
-      → AreTakenBack turns backs IsSeen → IsNear turns IsSeen number test most (IsListed lists)
-      → IsSpread turns IsSeen number lists block Has → (c : CubeState) (n : ℕ) (v : List ℕ) → IsSeen c
-      → number c / 2 ^ 32 ≡ block → n ≤ most + 1 → Contains (words_of turns n) v → leads test c v ≡ true
-      → Has (number c % 2 ^ 32)
-  near_in_block backs most lists block Has back h spread c n v seen at le there way =
+  near_in_block : (most : ℕ) (lists : List Listed) (block : ℕ) (Has : ℕ → Type 0) → IsNear v most (IsListed lists)
+      → IsSpread v lists block Has → (c : CubeState) (n : ℕ) (w : List ℕ) → v.IsSeen c
+      → part_number v c / 2 ^ 32 ≡ block → n ≤ most + 1 → Contains (words_of v.turns n) w → leads v.ends c w ≡ true
+      → Has (part_number v c % 2 ^ 32)
+  near_in_block most lists block Has h spread c n w seen at le there way =
       elim (cases_lt most n) [
         | inl more ↦
             let one : n ≡ suc most = omega (arith, le, more) in
-            let w = All-contains (BeginsWith turns most) (words_of turns (suc most)) v (words_of-first turns most)
-            (subst (λ m. Contains (words_of turns m) v) one there) in
-            let step = step_of test c (get_or turns w.place 0) w.others (ap (leads test c) (sym w.is) ∙ way) in
-            let seen_there = back.seen c step.there w.place seen w.below step.to in
-            spread.there c step.there w.place seen at w.below step.to (h.near step.there most w.others seen_there (omega arith) w.listed step.way)
-        | inr few ↦ spread.here c seen at (h.near c n v seen few there way)
+            let first = All-contains (BeginsWith v.turns most) (words_of v.turns (suc most)) w (words_of-first v.turns most)
+            (subst (λ m. Contains (words_of v.turns m) w) one there) in
+            let step = step_of v.ends c (get_or v.turns first.place 0) first.others (ap (leads v.ends c) (sym first.is) ∙ way) in
+            let seen_there = are.taken_back.seen c step.there first.place seen first.below step.to in
+            spread.there c step.there first.place seen at first.below step.to (h.near step.there most first.others seen_there (omega arith) first.listed step.way)
+        | inr few ↦ spread.here c seen at (h.near c n w seen few there way)
       ]
 
   -- of all blocks, as workers list them
-  pub IsNear-listed : (backs : List ℕ) (most : ℕ) (lists next : List Listed) → AreTakenBack turns backs IsSeen
-      → ((c : CubeState) → IsSeen c → number c / 2 ^ 32 < length next)
-      → AreAnswered (λ block out. IfOk out (λ list. IsSpread turns IsSeen number lists block (Contains list.items))) next
-      → ((k : ℕ) → k < length next → IsThere (slice_index_or next k None))
-      → IsNear turns IsSeen number test most (IsListed lists)
-      → IsNear turns IsSeen number test (most + 1) (IsListed next)
-  IsNear-listed backs most lists next back below answered all h = record {
-    near = λ c n v seen le there way.
-        let block : ℕ = number c / 2 ^ 32 in
+  pub IsNear-listed : (most : ℕ) (lists next : List Listed)
+      → ((c : CubeState) → v.IsSeen c → part_number v c / 2 ^ 32 < length next)
+      → AreAnswered (λ block out. IfOk out (λ list. IsSpread v lists block (Contains list.items))) next
+      → ((k : ℕ) → k < length next → IsThere (slice_index_or next k None)) → IsNear v most (IsListed lists)
+      → IsNear v (most + 1) (IsListed next)
+  IsNear-listed most lists next below answered all h = record {
+    near = λ c n w seen le there way.
+        let block : ℕ = part_number v c / 2 ^ 32 in
         let lt = below c seen in
-        let spread = found_there (λ xs. IsSpread turns IsSeen number lists block (Contains xs)) (slice_index_or next block None) (answered block lt) (all block lt) in
-        near_in_block backs most lists block (Contains (numbers_in (slice_index_or next block None))) back h spread c n v seen refl le there way;
+        let spread = found_there (λ xs. IsSpread v lists block (Contains xs)) (slice_index_or next block None) (answered block lt) (all block lt) in
+        near_in_block most lists block (Contains (numbers_in (slice_index_or next block None))) h spread c n w seen refl le there way;
   }
 
   -- and as they enter them into a near set
-  pub IsNear-entered : (backs : List ℕ) (most : ℕ) (lists : List Listed) (blocks : List NearBlock) (set : NearSet)
-      → AreTakenBack turns backs IsSeen → set.blocks.items ≡ blocks
-      → ((k : ℕ) (d : NearBlock) → k < length blocks → IsSpread turns IsSeen number lists k (HasBits (slice_index_or blocks k d).words))
-      → IsNear turns IsSeen number test most (IsListed lists) → IsNear turns IsSeen number test (most + 1) (IsInSet set)
-  IsNear-entered backs most lists blocks set back is spread h = record {
-    near = λ c n v seen le there way. record {
+  pub IsNear-entered : (most : ℕ) (lists : List Listed) (blocks : List NearBlock) (set : NearSet)
+      → set.blocks.items ≡ blocks
+      → ((k : ℕ) (d : NearBlock) → k < length blocks → IsSpread v lists k (HasBits (slice_index_or blocks k d).words))
+      → IsNear v most (IsListed lists) → IsNear v (most + 1) (IsInSet set)
+  IsNear-entered most lists blocks set is spread h = record {
+    near = λ c n w seen le there way. record {
       bits = λ block at.
-          let k : ℕ = number c / 2 ^ 32 in
+          let k : ℕ = part_number v c / 2 ^ 32 in
           let stands : slice_get blocks k ≡ Some block = ap (λ bs. slice_get bs k) (sym is) ∙ at in
-          let Spread : NearBlock → Type 0 = λ b. IsSpread turns IsSeen number lists k (HasBits b.words) in
+          let Spread : NearBlock → Type 0 = λ b. IsSpread v lists k (HasBits b.words) in
           let here = subst Spread (get_or_from_slice_get blocks k block block stands) (spread k block (slice_get_within blocks k block stands)) in
-          near_in_block backs most lists k (HasBits block.words) back h here c n v seen refl le there way;
+          near_in_block most lists k (HasBits block.words) h here c n w seen refl le there way;
     };
   }
 
@@ -152,11 +155,11 @@ module _ (turns : List ℕ) (IsSeen : CubeState → Type 0) (number : CubeState 
 none_in : (t : ℕ) → contains_turn 0 t ≡ true → ⊥
 none_in t h = false≢true (sym (ap (λ b. b == 1) (bit_at-zero t)) ∙ h)
 
-module _ (turns : List ℕ) (IsSeen : CubeState → Type 0) (number : CubeState → ℕ) (Shown : CubeState → Type 0) (Has : ℕ → Type 0) (all : ℕ) where
+module _ (v : Views) (at : PartPosition) (Has : ℕ → Type 0) (all : ℕ) where
   -- a turn that leads to what the set has is in
   abbrev IsIn : ℕ → ℕ → Type 0
   IsIn into t =
-      (c d : CubeState) → IsSeen c → Shown c → after_turn c (get_or turns t 0) ≡ Some d → Has (number d) → contains_turn into t ≡ true
+      (c d : CubeState) → Shows v c at → after_turn c (get_or v.turns t 0) ≡ Some d → Has (part_number v d) → contains_turn into t ≡ true
 
   -- Of all turns some are still to look at; of the others those are in that lead to what the set has.
   pub record AreLookedAt (others into : ℕ) : Type 0 where
@@ -179,7 +182,7 @@ module _ (turns : List ℕ) (IsSeen : CubeState → Type 0) (number : CubeState 
     pub AreLookedAt-next : (place left more : ℕ) (add : Bool) → contains_turn others place ≡ true
         → ((t : ℕ) → contains_turn left t ≡ (contains_turn others t && not (t == place))) → left < 2 ^ 18
         → ((t : ℕ) → contains_turn more t ≡ (contains_turn into t || (add && (t == place)))) → more < 2 ^ 18
-        → ((c d : CubeState) → IsSeen c → Shown c → after_turn c (get_or turns place 0) ≡ Some d → Has (number d) → add ≡ true)
+        → ((c d : CubeState) → Shows v c at → after_turn c (get_or v.turns place 0) ≡ Some d → Has (part_number v d) → add ≡ true)
         → AreLookedAt left more
     AreLookedAt-next place left more add taken rest few_left with few_more has = record {
       few_others = few_left;
@@ -197,27 +200,26 @@ module _ (turns : List ℕ) (IsSeen : CubeState → Type 0) (number : CubeState 
             | inl still ↦
                 elim (cases_eq t place) [
                   | inl same ↦
-                      inr (λ c d seen shown to there.
-                      let here = has c d seen shown (ap (λ u. after_turn c (get_or turns u 0)) (sym same) ∙ to) there in
+                      inr (λ c d shown to there.
+                      let here = has c d shown (ap (λ u. after_turn c (get_or v.turns u 0)) (sym same) ∙ to) there in
                       with t ∙ or_right (contains_turn into t) (add && (t == place)) (and_from add (t == place) here (eq-eqb t place same)))
                   | inr other ↦ inl (rest t ∙ and_from (contains_turn others t) (not (t == place)) still (ap not (ne_eqb t place other)))
                 ]
             | inr in_it ↦
-                inr (λ c d seen shown to there. with t ∙ or_left (contains_turn into t) (add && (t == place)) (in_it c d seen shown to there))
+                inr (λ c d shown to there. with t ∙ or_left (contains_turn into t) (add && (t == place)) (in_it c d shown to there))
           ];
     }
 
-    pub LeavesNear-looked : (backs : List ℕ) (test : CubeState → Bool) (c : CubeState) (more : ℕ) → others ≡ 0
-        → AreTakenBack turns backs IsSeen → IsNear turns IsSeen number test more Has → IsSeen c → Shown c
-        → LeavesNear turns test c more all into
-    LeavesNear-looked backs test c more none back near seen shown = record {
+    pub LeavesNear-looked : (e : Extent) → AreViews v e → (c : CubeState) (more : ℕ) → others ≡ 0 → IsNear v more Has
+        → Shows v c at → LeavesNear v.turns v.ends c more all into
+    LeavesNear-looked e are c more none near shown = record {
       among = h.into_among;
-      left = λ place v lt listed way is.
-          let step = step_of test c (get_or turns place 0) v way in
-          let there = near.near step.there more v (back.seen c step.there place seen lt step.to) (omega arith) listed step.way in
+      left = λ place w lt listed way is.
+          let step = step_of v.ends c (get_or v.turns place 0) w way in
+          let there = near.near step.there more w (are.taken_back.seen c step.there place shown.seen lt step.to) (omega arith) listed step.way in
           elim (h.each place is) [
             | inl still ↦ absurd (none_in place (ap (λ b. contains_turn b place) (sym none) ∙ still))
-            | inr in_it ↦ in_it c step.there seen shown step.to there
+            | inr in_it ↦ in_it c step.there shown step.to there
           ];
     }
 

@@ -148,6 +148,9 @@ module _ (v : Views) (e : Extent) (are : AreViews v e) (c : CubeState) (h : v.Is
   pub number-block : part_number v c / 2 ^ 32 ≡ v.middle.number c
   number-block = let few = low_part-lt in omega (arith, few)
 
+  pub block-lt : part_number v c / 2 ^ 32 < e.middles
+  block-lt = omega (arith, number-block, are.middle.along.valid c h, are.counts.2)
+
   pub low-one : (k : ℕ) → k ≡ low_part → k % e.ones ≡ v.one.number c
   low-one k is =
       ap (λ n. n % e.ones) is ∙ ap (λ n. low_part % n) (sym are.counts.0)

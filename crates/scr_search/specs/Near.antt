@@ -1,4 +1,4 @@
--- Near sets: sets of numbers that have those of all cubes from which few turns lead to a goal, and maybe others.
+-- Near sets: sets of numbers that have those of all cubes from which few turns lead to an end, and maybe others.
 use Rattle.std.specs.Prelude.{◌≡◌, ℕ, ◌*◌, ◌/◌, ◌%◌, ◌^◌, ◌<◌, ◌≤◌, Bool, Contains, IsTrue, List, length, slice_get, slice_index, Some, ◌∷◌}
 use Rattle.std.specs.Int.{bit_at}
 use Rattle.scr_cube.specs.Cube333.{CubeState}
@@ -6,25 +6,15 @@ use Rattle.scr_combinatorics.specs.Words.{words_of}
 use Rattle.scr_search.specs.declared.near_set.NearBlock.{NearBlock}
 use Rattle.scr_search.specs.declared.near_set.NearSet.{NearSet}
 use Rattle.scr_search.specs.TurnSets.{contains_turn}
-use Rattle.scr_search.specs.Orderly.{after_turn, leads}
+use Rattle.scr_search.specs.Orderly.{leads}
+use Rattle.scr_search.specs.Views.{Views, part_number}
 
 -- ---- sets of numbers
 
--- A set has the number of each cube from which a word of at most so many turns leads to one that passes a test.
-pub record IsNear (turns : List ℕ) (IsSeen : CubeState → Type 0) (number : CubeState → ℕ) (test : CubeState → Bool)
-    (most : ℕ) (Has : ℕ → Type 0) : Type 0 where
-  pub near : (c : CubeState) (n : ℕ) (v : List ℕ) → IsSeen c → n ≤ most → Contains (words_of turns n) v
-      → IsTrue (leads test c v) → Has (number c)
-
--- Each of these turns leads from a cube to one from which that at the place which stands at its own in a list leads
--- back.
-pub record AreTakenBack (turns backs : List ℕ) (IsSeen : CubeState → Type 0) : Type 0 where
-  pub below : (place : ℕ) → place < length turns → slice_index backs place < length turns
-  pub seen : (c d : CubeState) (place : ℕ) → IsSeen c → place < length turns
-      → after_turn c (slice_index turns place) ≡ Some d → IsSeen d
-  pub back : (c d : CubeState) (place : ℕ) → IsSeen c → place < length turns
-      → after_turn c (slice_index turns place) ≡ Some d
-      → after_turn d (slice_index turns (slice_index backs place)) ≡ Some c
+-- A set has the number of each cube from which a word of at most so many turns leads to an end of a part.
+pub record IsNear (v : Views) (most : ℕ) (Has : ℕ → Type 0) : Type 0 where
+  pub near : (c : CubeState) (n : ℕ) (w : List ℕ) → v.IsSeen c → n ≤ most → Contains (words_of v.turns n) w
+      → IsTrue (leads v.ends c w) → Has (part_number v c)
 
 -- ---- what a near set leaves
 

@@ -4,6 +4,7 @@ use Rattle.std.specs.declared.alloc.AllocError.{AllocError}
 use Rattle.std.specs.declared.alloc.Global.{Global}
 use Rattle.scr_cube.specs.Cube333.{CubeState}
 use Rattle.scr_search.specs.Orderly.{after_turn}
+use Rattle.scr_search.specs.Views.{Views, part_number}
 
 -- The numbers of a block, each told by its place in its block, where they were found.
 abbrev pub Listed : Type 0
@@ -24,10 +25,9 @@ IsThere _ = ⊥
 
 -- Of a block of numbers, each told by its place in it, a set has those that are listed, and those of its cubes from
 -- which one turn leads to a cube with a listed number.
-pub record IsSpread (turns : List ℕ) (IsSeen : CubeState → Type 0) (number : CubeState → ℕ) (lists : List Listed)
-    (block : ℕ) (Has : ℕ → Type 0) : Type 0 where
-  pub here : (c : CubeState) → IsSeen c → number c / 2 ^ 32 ≡ block → IsListed lists (number c)
-      → Has (number c % 2 ^ 32)
-  pub there : (c d : CubeState) (place : ℕ) → IsSeen c → number c / 2 ^ 32 ≡ block → place < length turns
-      → after_turn c (slice_index turns place) ≡ Some d
-      → IsListed lists (number d) → Has (number c % 2 ^ 32)
+pub record IsSpread (v : Views) (lists : List Listed) (block : ℕ) (Has : ℕ → Type 0) : Type 0 where
+  pub here : (c : CubeState) → v.IsSeen c → part_number v c / 2 ^ 32 ≡ block → IsListed lists (part_number v c)
+      → Has (part_number v c % 2 ^ 32)
+  pub there : (c d : CubeState) (place : ℕ) → v.IsSeen c → part_number v c / 2 ^ 32 ≡ block → place < length v.turns
+      → after_turn c (slice_index v.turns place) ≡ Some d
+      → IsListed lists (part_number v d) → Has (part_number v c % 2 ^ 32)

@@ -1,5 +1,5 @@
 -- A part of the solution as its tables see it: three coordinates, each of which has a number of a cube.
-use Rattle.std.specs.Prelude.{◌≡◌, ℕ, ◌+◌, ◌*◌, ◌^◌, ◌<◌, ◌≤◌, All, Bool, true, false, IsTrue, List, [], ◌∷◌, length}
+use Rattle.std.specs.Prelude.{◌≡◌, ℕ, ◌+◌, ◌*◌, ◌^◌, ◌<◌, ◌≤◌, All, Bool, true, false, IsTrue, List, [], ◌∷◌, Some, length, slice_index}
 use Rattle.scr_positions.specs.Coordinates.{Coordinate, IsGoal}
 use Rattle.scr_positions.specs.Products.{product_coordinate}
 use Rattle.scr_positions.specs.SearchSpaces.{Follows, positions}
@@ -8,7 +8,7 @@ use Rattle.scr_cube.specs.ListedTurns.{cube_space}
 use Rattle.scr_table.specs.Lines.{TableLine}
 use Rattle.scr_search.specs.declared.position.Extent.{Extent}
 use Rattle.scr_search.specs.declared.position.PartPosition.{PartPosition}
-use Rattle.scr_search.specs.Near.{AreTakenBack}
+use Rattle.scr_search.specs.Orderly.{after_turn}
 use Rattle.scr_search.specs.Search.{AreBehind}
 
 -- a coordinate, and its number of each cube
@@ -92,6 +92,16 @@ pub record Sees (v : Views) (view : View) : Type 0 where
       Follows (cube_space v.IsSeen v.turns (λ c. IsGoal view.coordinate (view.number c)))
       (positions view.coordinate) view.number
   pub ends : (c : CubeState) → v.IsSeen c → IsTrue (v.ends c) → IsGoal view.coordinate (view.number c)
+
+-- Each of these turns leads from a cube to one from which that at the place which stands at its own in a list leads
+-- back.
+pub record AreTakenBack (turns backs : List ℕ) (IsSeen : CubeState → Type 0) : Type 0 where
+  pub below : (place : ℕ) → place < length turns → slice_index backs place < length turns
+  pub seen : (c d : CubeState) (place : ℕ) → IsSeen c → place < length turns
+      → after_turn c (slice_index turns place) ≡ Some d → IsSeen d
+  pub back : (c d : CubeState) (place : ℕ) → IsSeen c → place < length turns
+      → after_turn c (slice_index turns place) ≡ Some d
+      → after_turn d (slice_index turns (slice_index backs place)) ≡ Some c
 
 -- All views do; they have so many positions, which find room in numbers of 32 bits; there are few turns, and each is
 -- taken back by one of them; the sets of those that may stand behind others are sets of them; and the end has this

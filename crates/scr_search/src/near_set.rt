@@ -1,15 +1,18 @@
 //! Near sets: bit tables that have the numbers of all cubes from which few turns lead to the end of a part, and some
 //! others.
-ghost use Rattle.std.specs.Prelude.{◌≡◌, ℕ, ◌+◌, ◌^◌, ◌<◌, ◌≤◌, IfOk, IsTrue, length, slice_index_or};
+ghost use Rattle.std.specs.Prelude.{◌≡◌, ℕ, ◌^◌, ◌<◌, ◌≤◌, IfOk, IsTrue, length, slice_index_or};
 ghost use Rattle.scr_cube.specs.Cube333.{CubeState};
 ghost use Rattle.scr_search.specs.Near.{HasBits, IsInSet, IsNear, LeavesNear, first_bit, second_bit, word_of};
 ghost use Rattle.scr_search.specs.Spread.{IsSpread};
 ghost use Rattle.scr_search.specs.declared.near_set.NearBlock.{NearBlock as Block};
 ghost use Rattle.scr_search.specs.TurnSets.{contains_turn};
+ghost use Rattle.scr_search.specs.Views.{Shows};
 
 use crate::numbers::{Listed, Numbers, numbers_within, spread};
-use crate::space::{BLOCK, Positions, Space};
+use crate::position::{BLOCK, PartPosition};
+use crate::search_tables::SearchTables;
 use crate::turn_set::TurnSet;
+use crate::views::PartViews;
 use std::alloc::{AllocError, Global};
 use std::thread::{Threads, for_each_mut};
 
@@ -91,21 +94,21 @@ impl NearSet {
     }
 
     /// The set of the cubes from which a word of at most `most` turns leads to an end, made by 1 to 64 workers.
-    pub fn build<R: Threads + Sync, S: Space + Sync>(
+    pub fn build<R: Threads + Sync, V: PartViews + Sync>(
         rt: &R,
         alloc: Global,
-        space: &S,
+        tables: &SearchTables<V>,
         most: u32,
         workers: u32,
     ) -> Result<NearSet, AllocError>
         requires most { 0 < most }
         requires workers { (1 ≤ workers) × (workers ≤ 64) }
-        ensures { IfOk result (λ set. IsNear S.turns S.IsSeen S.numbering S.ends most (IsInSet set)) }
+        ensures { IfOk result (λ set. IsNear V.views most (IsInSet set)) }
     {
-        S::turns_are_taken_back();
-        let lists = numbers_within(rt, alloc, space, most - 1, workers)?;
-        let mut blocks = vec![in alloc; NearBlock::EMPTY; S::blocks() as usize]?;
-        fill(rt, space, &lists[..], &mut blocks[..], workers);
+        let extent = V::extent();
+        let lists = numbers_within(rt, alloc, tables, most - 1, workers)?;
+        let mut blocks = vec![in alloc; NearBlock::EMPTY; extent.middles as usize]?;
+        fill(rt, tables, &lists[..], &mut blocks[..], workers);
         Ok(NearSet { blocks })
     }
 
@@ -122,21 +125,26 @@ impl NearSet {
 
     /// Of some turns those that lead from a position to a number that it has.
     #[inline]
-    pub fn turns_into<S: Positions>(&self, space: &S, at: S::Position, turns: TurnSet) -> TurnSet
+    pub(crate) fn turns_into<V: PartViews>(
+        &self,
+        tables: &SearchTables<V>,
+        at: PartPosition,
+        turns: TurnSet,
+    ) -> TurnSet
         requires few { turns.bits < 2 ^ 18 }
-        requires below { (place : ℕ) → IsTrue (contains_turn turns.bits place) → place < length S.turns }
-        ensures left { (c : CubeState) (more : ℕ) → IsNear S.turns S.IsSeen S.numbering S.ends more (IsInSet self.now)
-            → S.IsSeen c → S.Shows c at → LeavesNear S.turns S.ends c more turns.bits result.bits }
+        requires below { (place : ℕ) → IsTrue (contains_turn turns.bits place) → place < length V.views.turns }
+        ensures left { (c : CubeState) (more : ℕ) → IsNear V.views more (IsInSet self.now) → Shows V.views c at
+            → LeavesNear V.views.turns V.views.ends c more turns.bits result.bits }
         ensures few { result.bits < 2 ^ 18 }
     {
-        S::turns_are_taken_back();
+        V::are_views();
         if self.blocks.is_empty() {
             return turns;
         }
         let mut others = turns;
         let mut into = TurnSet::NONE;
         while let Some(place) = others.pop() {
-            let next = S::number_of(space.after(at, place));
+            let next = SearchTables::<V>::number_of(tables.after(at, place));
             into = into.with_if(place, self.has(next));
         }
         into
@@ -144,9 +152,9 @@ impl NearSet {
 }
 
 /// Enters into each block the numbers in it of the listed cubes, and of those to which one turn more leads.
-fn fill<R: Threads + Sync, S: Space + Sync>(
+fn fill<R: Threads + Sync, V: PartViews + Sync>(
     rt: &R,
-    space: &S,
+    tables: &SearchTables<V>,
     lists: &[Listed],
     blocks: &mut [NearBlock],
     workers: u32,
@@ -154,7 +162,7 @@ fn fill<R: Threads + Sync, S: Space + Sync>(
     requires few { length blocks.old ≤ 2 ^ 16 }
     requires workers { (1 ≤ workers) × (workers ≤ 64) }
     ensures { (k : ℕ) (d : Block) → k < length blocks.old
-        → IsSpread S.turns S.IsSeen S.numbering lists.now k (HasBits (slice_index_or blocks.new k d).words) }
+        → IsSpread V.views lists.now k (HasBits (slice_index_or blocks.new k d).words) }
 {
     for_each_mut(
         rt,
@@ -162,7 +170,7 @@ fn fill<R: Threads + Sync, S: Space + Sync>(
         workers as usize,
         &|block: usize, into: &mut NearBlock|
             requires { block < 2 ^ 16 }
-        { spread(space, lists, block as u32, into) },
+        { spread(tables, lists, block as u32, into) },
     );
 }
 

@@ -4,8 +4,11 @@ ghost use Rattle.scr_cube.specs.Cube333.{CubeState};
 ghost use Rattle.scr_search.specs.Near.{IsNear};
 ghost use Rattle.scr_search.specs.Spread.{IsListed, IsSpread, IsThere, numbers_in};
 ghost use Rattle.scr_search.specs.Orderly.{after_turn};
+ghost use Rattle.scr_search.specs.Views.{part_number};
 
-use crate::space::{BLOCK, Space};
+use crate::position::BLOCK;
+use crate::search_tables::SearchTables;
+use crate::views::PartViews;
 use scr_workers::{Jobs, OpenGate, run_chunks};
 use std::alloc::{AllocError, Global};
 use std::thread::Threads;
@@ -64,22 +67,29 @@ impl Growing {
 
 /// Enters those of the listed numbers that are of a block, and those of its cubes from which one turn leads to a listed
 /// one.
-pub(crate) fn spread<S: Space, N: Numbers>(space: &S, lists: &[Listed], block: u32, into: &mut N)
-    ensures { IsSpread S.turns S.IsSeen S.numbering lists.now block (N.Has into.new) }
+pub(crate) fn spread<V: PartViews, N: Numbers>(
+    tables: &SearchTables<V>,
+    lists: &[Listed],
+    block: u32,
+    into: &mut N,
+)
+    ensures { IsSpread V.views lists.now block (N.Has into.new) }
 {
-    S::turns_are_taken_back();
+    let extent = V::extent();
     enter_all(numbers_in(lists, block), into);
-    for place in 0..S::places() {
-        let from = space.block_after(block, place);
-        enter_turned(space, from, numbers_in(lists, from), S::back(place), into);
+    for place in 0..extent.turns {
+        let from = tables.block_after(block, place);
+        let back = extent.backs[place as usize];
+        enter_turned(tables, numbers_in(lists, from), back, into);
     }
 }
 
 /// How many numbers are entered so. It is but the room that is reserved for them: no clause says so, and none needs to.
-fn room_for<S: Space>(space: &S, lists: &[Listed], block: u32) -> usize {
+fn room_for<V: PartViews>(tables: &SearchTables<V>, lists: &[Listed], block: u32) -> usize {
+    let extent = V::extent();
     let mut room = numbers_in(lists, block).len();
-    for turn in 0..S::places() {
-        let from = space.block_after(block, turn);
+    for turn in 0..extent.turns {
+        let from = tables.block_after(block, turn);
         room = room.saturating_add(numbers_in(lists, from).len());
     }
     room
@@ -106,51 +116,50 @@ fn enter_all<N: Numbers>(numbers: &[u32], into: &mut N)
 
 /// Enters the numbers of the cubes to which the turn at a place leads from the cubes with some numbers of a block.
 #[inline]
-fn enter_turned<S: Space, N: Numbers>(
-    space: &S,
-    block: u32,
+fn enter_turned<V: PartViews, N: Numbers>(
+    tables: &SearchTables<V>,
     numbers: &[u32],
     place: u32,
     into: &mut N,
 )
-    requires { place < length S.turns }
-    ensures turned { (c d : CubeState) → S.IsSeen c → S.numbering c / 2 ^ 32 ≡ block → Contains numbers.now (S.numbering c % 2 ^ 32)
-        → after_turn c (slice_index S.turns place) ≡ Some d → N.Has into.new (S.numbering d % 2 ^ 32) }
+    requires { place < length V.views.turns }
+    ensures turned { (c d : CubeState) → V.views.IsSeen c → Contains numbers.now (part_number V.views c % 2 ^ 32)
+        → after_turn c (slice_index V.views.turns place) ≡ Some d → N.Has into.new (part_number V.views d % 2 ^ 32) }
     ensures kept { (other : ℕ) → N.Has into.old other → N.Has into.new other }
 {
     for number in numbers {
-        into.enter(space.number_after(block, *number, place));
+        into.enter(tables.number_after(*number, place));
     }
 }
 
 /// The numbers of the cubes from which a word of at most `most` turns leads to an end, found by 1 to 64 workers.
-pub(crate) fn numbers_within<R: Threads + Sync, S: Space + Sync>(
+pub(crate) fn numbers_within<R: Threads + Sync, V: PartViews + Sync>(
     rt: &R,
     alloc: Global,
-    space: &S,
+    tables: &SearchTables<V>,
     most: u32,
     workers: u32,
 ) -> Result<Vec<Listed>, AllocError>
     requires workers { (1 ≤ workers) × (workers ≤ 64) }
-    ensures { IfOk result (λ all. IsNear S.turns S.IsSeen S.numbering S.ends most (IsListed all.items)) }
+    ensures { IfOk result (λ all. IsNear V.views most (IsListed all.items)) }
 {
-    let mut all = end_alone::<S>(alloc)?;
+    let mut all = end_alone::<V>(alloc)?;
     for _turn in 0..most {
-        all = one_turn_more(rt, alloc, space, &all[..], workers)?;
+        all = one_turn_more(rt, alloc, tables, &all[..], workers)?;
     }
     Ok(all)
 }
 
 /// That of the cubes at the end.
-fn end_alone<S: Space>(alloc: Global) -> Result<Vec<Listed>, AllocError>
+fn end_alone<V: PartViews>(alloc: Global) -> Result<Vec<Listed>, AllocError>
     ensures few { IfOk result (λ all. length all.items ≤ 2 ^ 16) }
-    ensures blocks { IfOk result (λ all. (c : CubeState) → S.IsSeen c → S.numbering c / 2 ^ 32 < length all.items) }
-    ensures near { IfOk result (λ all. IsNear S.turns S.IsSeen S.numbering S.ends 0 (IsListed all.items)) }
+    ensures blocks { IfOk result (λ all. (c : CubeState) → V.views.IsSeen c → part_number V.views c / 2 ^ 32 < length all.items) }
+    ensures near { IfOk result (λ all. IsNear V.views 0 (IsListed all.items)) }
 {
-    let end = S::end();
+    let extent = V::extent();
     let mut all = Vec::new(alloc);
-    for block in 0..S::blocks() {
-        all.push(Some(Ok(alone(alloc, end, block)?)))?;
+    for block in 0..extent.middles {
+        all.push(Some(Ok(alone(alloc, extent.end, block)?)))?;
     }
     Ok(all)
 }
@@ -179,13 +188,13 @@ fn unlisted(alloc: Global, blocks: u32) -> Result<Vec<Listed>, AllocError>
 
 /// What workers find of the numbers with one turn more than those that are listed: a slot is a block.
 #[derive(Drop)]
-struct OneTurnMore<'a, S: Space> {
-    space: &'a S,
+struct OneTurnMore<'a, V: PartViews> {
+    tables: &'a SearchTables<V>,
     alloc: Global,
     lists: &'a [Listed],
 }
 
-impl<S: Space> Jobs for OneTurnMore<'_, S> {
+impl<V: PartViews> Jobs for OneTurnMore<'_, V> {
     ghost use Rattle.std.specs.Prelude.{Contains, IfOk, length};
     ghost use Rattle.scr_search.specs.Spread.{IsSpread};
 
@@ -193,37 +202,37 @@ impl<S: Space> Jobs for OneTurnMore<'_, S> {
 
     ghost slots = { λ s. length s.lists.now };
 
-    ghost is_answer = { λ s block out. IfOk out (λ list. IsSpread S.turns S.IsSeen S.numbering s.lists.now block (Contains list.items)) };
+    ghost is_answer = { λ s block out. IfOk out (λ list. IsSpread V.views s.lists.now block (Contains list.items)) };
 
     fn job(&self, slot: u32) -> Result<Vec<u32>, AllocError> {
-        let room = room_for(self.space, self.lists, slot);
+        let room = room_for(self.tables, self.lists, slot);
         let mut into = Growing {
             numbers: Vec::with_capacity(self.alloc, room)?,
             is_cut: false,
         };
-        spread(self.space, self.lists, slot, &mut into);
+        spread(self.tables, self.lists, slot, &mut into);
         into.in_order()
     }
 }
 
 /// The numbers with one turn more than those that are listed, and these.
-fn one_turn_more<R: Threads + Sync, S: Space + Sync>(
+fn one_turn_more<R: Threads + Sync, V: PartViews + Sync>(
     rt: &R,
     alloc: Global,
-    space: &S,
+    tables: &SearchTables<V>,
     lists: &[Listed],
     workers: u32,
 ) -> Result<Vec<Listed>, AllocError>
     requires workers { (1 ≤ workers) × (workers ≤ 64) }
     requires few { length lists.now ≤ 2 ^ 16 }
-    requires blocks { (c : CubeState) → S.IsSeen c → S.numbering c / 2 ^ 32 < length lists.now }
+    requires blocks { (c : CubeState) → V.views.IsSeen c → part_number V.views c / 2 ^ 32 < length lists.now }
     ensures blocks { IfOk result (λ all. length all.items ≡ length lists.now) }
-    ensures near { IfOk result (λ all. (most : ℕ) → IsNear S.turns S.IsSeen S.numbering S.ends most (IsListed lists.now)
-        → IsNear S.turns S.IsSeen S.numbering S.ends (most + 1) (IsListed all.items)) }
+    ensures near { IfOk result (λ all. (most : ℕ) → IsNear V.views most (IsListed lists.now)
+        → IsNear V.views (most + 1) (IsListed all.items)) }
 {
     let mut all = unlisted(alloc, lists.len() as u32)?;
     let jobs = OneTurnMore {
-        space,
+        tables,
         alloc,
         lists,
     };
@@ -235,20 +244,20 @@ fn one_turn_more<R: Threads + Sync, S: Space + Sync>(
 }
 
 /// Lists the numbers of each block, if there is memory for all.
-fn list_each<R: Threads + Sync, S: Space + Sync>(
+fn list_each<R: Threads + Sync, V: PartViews + Sync>(
     rt: &R,
-    jobs: &OneTurnMore<S>,
+    jobs: &OneTurnMore<V>,
     all: &mut [Listed],
     workers: u32,
 ) -> bool
     requires workers { (1 ≤ workers) × (workers ≤ 64) }
     requires blocks { length all.old ≡ length jobs.now.lists.now }
     requires few { length all.old ≤ 2 ^ 16 }
-    requires every { (c : CubeState) → S.IsSeen c → S.numbering c / 2 ^ 32 < length all.old }
-    ensures { (most : ℕ) → IsTrue result → IsNear S.turns S.IsSeen S.numbering S.ends most (IsListed jobs.now.lists.now)
-        → IsNear S.turns S.IsSeen S.numbering S.ends (most + 1) (IsListed all.new) }
+    requires every { (c : CubeState) → V.views.IsSeen c → part_number V.views c / 2 ^ 32 < length all.old }
+    ensures { (most : ℕ) → IsTrue result → IsNear V.views most (IsListed jobs.now.lists.now)
+        → IsNear V.views (most + 1) (IsListed all.new) }
 {
-    S::turns_are_taken_back();
+    V::are_views();
     run_chunks(rt, jobs, all, workers, &OpenGate);
     are_all_there(all)
 }

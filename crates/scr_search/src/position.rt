@@ -1,6 +1,10 @@
 //! Positions of a part, and how many there are.
 use scr_table::TableName;
 
+/// How many numbers a block has. The number of a cube in a part is that of a block, which is its position in the middle
+/// layer's coordinate, and one in it, which its positions in the part's own two coordinates make.
+pub const BLOCK: u64 = 1 << 32;
+
 /// What is seen of a cube in a part: its position in each of three coordinates.
 #[derive(Clone, Copy)]
 pub struct PartPosition {

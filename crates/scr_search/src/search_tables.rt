@@ -1,20 +1,20 @@
 //! What the search for a part goes by: where turns lead, the pruning tables, and the near set.
-ghost use Rattle.std.specs.Prelude.{◌≡◌, ℕ, ◌+◌, ◌-◌, ◌^◌, ◌<◌, ◌≤◌, All, Bool, IfErr, IfOk, IsTrue, List, false};
+ghost use Rattle.std.specs.Prelude.{◌≡◌, ℕ, ◌+◌, ◌-◌, ◌/◌, ◌%◌, ◌^◌, ◌<◌, ◌≤◌, All, Bool, IfErr, IfOk, IsTrue, List, Some, false, length, slice_index};
 ghost use Rattle.scr_positions.specs.Moves.{moves_coordinate};
 ghost use Rattle.scr_positions.specs.SearchSpaces.{ShowsSame};
 ghost use Rattle.scr_cube.specs.Cube333.{CubeState};
 ghost use Rattle.scr_table.specs.Causes.{IsCauseOf};
 ghost use Rattle.scr_table.specs.Lines.{HasNoGap};
 ghost use Rattle.scr_search.specs.Near.{IsInSet, IsNear};
+ghost use Rattle.scr_search.specs.Orderly.{after_turn};
 ghost use Rattle.scr_search.specs.Outlooks.{AreOutlooksOf, IsPruningTable};
 ghost use Rattle.scr_search.specs.Search.{IsAt, IsTestOf, KeepsWays, LeavesWays};
 ghost use Rattle.scr_search.specs.Views.{IsPosition, Shows, lines_of, one_line, other_line, part_number};
 
 use crate::near_set::{NEAR_AT, NearSet};
 use crate::outlook::{Outlook, outlooks};
-use crate::position::PartPosition;
+use crate::position::{BLOCK, PartPosition};
 use crate::pruning::{PruningTable, beside, index_beside};
-use crate::space::{BLOCK, Positions, Space};
 use crate::turn_set::{TurnSet, behind};
 use crate::views::PartViews;
 use crate::word::Word;
@@ -43,7 +43,7 @@ pub struct SearchTables<V: PartViews> {
     ghost middle_shown: { ShowsSame V.views.middle.coordinate (moves_coordinate middle) },
     ghost one_is: { IsPruningTable (one_line V.views V.extent) one_slice },
     ghost other_is: { IsPruningTable (other_line V.views V.extent) other_slice },
-    ghost near_is: { IsNear V.views.turns V.views.IsSeen (part_number V.views) V.views.ends 7 (IsInSet near) },
+    ghost near_is: { IsNear V.views 7 (IsInSet near) },
 }
 
 impl<V: PartViews> SearchTables<V> {
@@ -116,7 +116,7 @@ impl<V: PartViews> SearchTables<V> {
     pub fn take_in(&mut self, of_one: Vec<Outlook>, of_other: Vec<Outlook>, near: NearSet)
         requires of_one { AreOutlooksOf (one_line V.views V.extent) self.old.one_slice of_one.items }
         requires of_other { AreOutlooksOf (other_line V.views V.extent) self.old.other_slice of_other.items }
-        requires near { IsNear V.views.turns V.views.IsSeen (part_number V.views) V.views.ends 7 (IsInSet near) }
+        requires near { IsNear V.views 7 (IsInSet near) }
         ensures one { self.new.one_slice.distances ≡ self.old.one_slice.distances }
         ensures other { self.new.other_slice.distances ≡ self.old.other_slice.distances }
     {
@@ -159,67 +159,14 @@ impl<V: PartViews> SearchTables<V> {
             turns
         }
     }
-}
 
-impl<V: PartViews> Space for SearchTables<V> {
-    ghost use Rattle.scr_search.specs.Views.{part_number};
-
-    ghost turns = { V.views.turns };
-
-    ghost backs = { V.extent.backs };
-
-    ghost IsSeen = { V.views.IsSeen };
-
-    ghost numbering = { part_number V.views };
-
-    ghost ends = { V.views.ends };
-
+    /// Where the turn at a place leads.
     #[inline]
-    fn places() -> u32 {
-        V::extent().turns
-    }
-
-    #[inline]
-    fn back(place: u32) -> u32 {
-        V::extent().backs[place as usize]
-    }
-
-    #[inline]
-    fn number_after(&self, _block: u32, number: u32, place: u32) -> u32 {
-        let extent = V::extent();
-        let one = self.one.target(number % extent.ones, place);
-        let other = self.other.target(number / extent.ones, place);
-        other.wrapping_mul(extent.ones).wrapping_add(one)
-    }
-
-    fn end() -> u64 {
-        V::extent().end
-    }
-
-    fn blocks() -> u32 {
-        V::extent().middles
-    }
-
-    #[inline]
-    fn block_after(&self, block: u32, place: u32) -> u32 {
-        V::are_views();
-        self.middle.target(block, place)
-    }
-
-    fn turns_are_taken_back() {
-        V::are_views();
-    }
-}
-
-impl<V: PartViews> Positions for SearchTables<V> {
-    ghost use Rattle.scr_search.specs.Views.{Shows};
-
-    type Position = PartPosition;
-
-    ghost Shows = { Shows V.views };
-
-    #[inline]
-    fn after(&self, at: PartPosition, place: u32) -> PartPosition {
+    pub fn after(&self, at: PartPosition, place: u32) -> PartPosition
+        requires { place < length V.views.turns }
+        ensures { (c d : CubeState) → Shows V.views c at → after_turn c (slice_index V.views.turns place) ≡ Some d
+            → Shows V.views d result }
+    {
         V::are_views();
         PartPosition {
             one: self.one.target(at.one, place),
@@ -228,9 +175,37 @@ impl<V: PartViews> Positions for SearchTables<V> {
         }
     }
 
+    /// The number of the cubes that a position shows, if it shows any.
     #[inline]
-    fn number_of(at: PartPosition) -> u64 {
+    pub fn number_of(at: PartPosition) -> u64
+        ensures { (c : CubeState) → Shows V.views c at → result ≡ part_number V.views c }
+    {
         let low = at.other.wrapping_mul(V::extent().ones).wrapping_add(at.one);
         u64::from(at.middle) * BLOCK + u64::from(low)
+    }
+
+    /// The place in its block of the number of the cubes to which the turn at a place leads from those with a number,
+    /// which is told by its place in its block, if there are any.
+    #[inline]
+    pub(crate) fn number_after(&self, number: u32, place: u32) -> u32
+        requires { place < length V.views.turns }
+        ensures { (c d : CubeState) → V.views.IsSeen c → number ≡ part_number V.views c % 2 ^ 32
+            → after_turn c (slice_index V.views.turns place) ≡ Some d → result ≡ part_number V.views d % 2 ^ 32 }
+    {
+        let extent = V::extent();
+        let one = self.one.target(number % extent.ones, place);
+        let other = self.other.target(number / extent.ones, place);
+        other.wrapping_mul(extent.ones).wrapping_add(one)
+    }
+
+    /// The block to which the turn at a place leads from the cubes of a block, if there are any.
+    #[inline]
+    pub(crate) fn block_after(&self, block: u32, place: u32) -> u32
+        requires { place < length V.views.turns }
+        ensures { (c d : CubeState) → V.views.IsSeen c → block ≡ part_number V.views c / 2 ^ 32
+            → after_turn c (slice_index V.views.turns place) ≡ Some d → result ≡ part_number V.views d / 2 ^ 32 }
+    {
+        V::are_views();
+        self.middle.target(block, place)
     }
 }

@@ -13,7 +13,7 @@ use Rattle.scr_stages.specs.Numbers.{IsDominoCube}
 use Rattle.scr_stages.proofs.FiniteTests.{All-from_test}
 use Rattle.scr_twophase.specs.declared.first.TheConstants as all
 use Rattle.scr_twophase.specs.declared.second.TheConstants as ten
-use Rattle.scr_search.specs.Near.{AreTakenBack}
+use Rattle.scr_search.specs.Views.{AreTakenBack}
 use Rattle.scr_stages.specs.Stages.{domino_turns}
 use Rattle.scr_cube.specs.ListedTurns.{turn_numbers}
 use Rattle.scr_search.specs.Orderly.{after_turn}

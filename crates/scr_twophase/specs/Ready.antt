@@ -7,12 +7,12 @@ use Rattle.scr_twophase.specs.declared.ready.OutlookPair.{OutlookPair}
 use Rattle.scr_search.specs.Near.{IsInSet, IsNear}
 use Rattle.scr_search.specs.Outlooks.{AreOutlooksOf}
 use Rattle.scr_twophase.specs.Tables.{cornerslice_line, edgeslice_line, flipslice_line, twistslice_line}
-use Rattle.scr_search.specs.Views.{Views, part_number}
+use Rattle.scr_search.specs.Views.{Views}
 use Rattle.scr_twophase.specs.BothParts.{second_views}
 
 -- a near set of a part
 abbrev pub IsNearOf : Views → NearSet → Type 0
-IsNearOf v set = IsNear v.turns v.IsSeen (part_number v) v.ends 7 (IsInSet set)
+IsNearOf v set = IsNear v 7 (IsInSet set)
 
 -- outlooks of a table of each part: of flips and of corners, or of twists and of edges
 abbrev pub AreOutlookPair : Bool → PartTables → OutlookPair → Type 0

@@ -11,7 +11,7 @@ ghost use Rattle.scr_twophase.specs.BothParts.{first_views};
 use crate::first::{FirstPart, first_position, is_domino};
 use crate::second::SecondTables;
 use scr_cube::Cube;
-use scr_search::{Part, PartPosition, Positions, SearchTables, TurnSet, Word, search_within};
+use scr_search::{Part, PartPosition, SearchTables, TurnSet, Word, search_within};
 
 /// The quarter turns of R, F, L and B.
 const SIDE_QUARTERS: TurnSet = TurnSet { bits: 0x2_d168 };

@@ -24,8 +24,8 @@ use scr_outside::NoMemory;
 use scr_positions::MoveTable;
 use scr_rank::PermRank;
 use scr_search::{
-    Extent, NEAR, Part, PartPosition, PartViews, Positions, SearchTables, TurnSet, Word,
-    index_beside, search_within,
+    Extent, NEAR, Part, PartPosition, PartViews, SearchTables, TurnSet, Word, index_beside,
+    search_within,
 };
 use scr_stages::{
     DOMINO_TURNS, MIDDLE_EDGES, OUTER_EDGES, block_edges_turned, block_number, corners_turned,

@@ -1,13 +1,15 @@
 use Rattle.std.proofs.Common.{◌≡◌, ℕ, ◌+◌, ◌/◌, ◌%◌, ◌^◌, ◌<◌, List, None, Some, length, get_or, refl, sym, ap, ◌∙◌, subst, arith}
 use Rattle.std.specs.Prelude.{Contains, Ok}
 use Rattle.scr_search.specs.Spread.{IsListed, Listed, numbers_in}
+use Rattle.scr_search.specs.Views.{part_number}
 use Rattle.scr_search.proofs.NearLaws.{IsNear-end, each-pushed}
+use Rattle.scr_search.proofs.ViewLaws.{block-lt}
 use Rattle.scr_search.proofs.numbers.end_alone.Goals as goal
 
 pub loop-block-preserved : goal.loop-block-preserved
 loop-block-preserved g c =
     let all = c.loop-block.all.items in
-    let end = c.end-end.result in
+    let end = c.extent-extent.result.now.end in
     let one : Listed = Some (Ok c.in_ok-alone.field-0) in
     let Has : ℕ → Listed → Type 0 = λ k list. end / 2 ^ 32 ≡ k → Contains (numbers_in list) (end % 2 ^ 32) in
     let before = λ (k : ℕ) (lt : k < length all). c.loop-block.invariant.1 k (omega (arith, lt, c.loop-block.invariant.0)) in
@@ -17,13 +19,21 @@ loop-block-preserved g c =
       subst Each (sym c.in_ok-push.ensures.items) (λ k lt. each-pushed Has all one None before here k (omega (arith, lt, c.loop-block.invariant.0))),
     )
 
+pub returns-clause-few : goal.returns-clause-few
+returns-clause-few g c =
+    omega (arith, c.loop-block.invariant.0, c.loop-block.auto.block-end, c.extent-extent.ensures.views.block.2)
+
+pub returns-clause-blocks : goal.returns-clause-blocks
+returns-clause-blocks g c = λ cube seen.
+    let lt = block-lt g.V.PartViews.views c.extent-extent.result.now c.extent-extent.ensures.views cube seen in
+    omega (arith, lt, c.loop-block.invariant.0, c.loop-block-test.false)
+
 pub returns-clause-near : goal.returns-clause-near
 returns-clause-near g c =
-    let s = g.S.Space in
-    let end = c.end-end.result in
-    let all = c.loop-block.all.items in
-    IsNear-end s.turns s.IsSeen s.numbering s.ends end (IsListed all) c.end-end.ensures
+    let v = g.V.PartViews.views in
+    let e = c.extent-extent.result.now in
+    let are = c.extent-extent.ensures.views in
+    IsNear-end v e.end (IsListed c.loop-block.all.items) are.end
     (λ cube seen is.
-    let block : end / 2 ^ 32 ≡ s.numbering cube / 2 ^ 32 = ap (λ n. n / 2 ^ 32) is in
-    let few : end / 2 ^ 32 < c.blocks-block-end.result = omega (arith, block, c.blocks-block-end.ensures.all cube seen) in
-    c.loop-block.invariant.1 (end / 2 ^ 32) (omega (arith, few, c.loop-block-test.false)) refl)
+    let block : e.end / 2 ^ 32 ≡ part_number v cube / 2 ^ 32 = ap (λ n. n / 2 ^ 32) is in
+    c.loop-block.invariant.1 (e.end / 2 ^ 32) (omega (arith, block, block-lt v e are cube seen, c.loop-block-test.false)) refl)

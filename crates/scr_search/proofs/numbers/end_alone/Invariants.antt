@@ -5,5 +5,6 @@ use Rattle.scr_search.proofs.numbers.end_alone.Given as goal
 
 abbrev pub invariant-loop-block : goal.invariant-loop-block
 invariant-loop-block g l =
+    let end = l.extent.end in
     (length l.all.items ≡ l.block)
-    × ((k : ℕ) → k < l.block → l.end / 2 ^ 32 ≡ k → Contains (numbers_in (slice_index_or l.all.items k None)) (l.end % 2 ^ 32))
+    × ((k : ℕ) → k < l.block → end / 2 ^ 32 ≡ k → Contains (numbers_in (slice_index_or l.all.items k None)) (end % 2 ^ 32))

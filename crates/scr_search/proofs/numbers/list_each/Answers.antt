@@ -4,8 +4,5 @@ use Rattle.scr_search.proofs.numbers.list_each.Goals as goal
 
 pub returns : goal.returns
 returns g c = λ most there near.
-    let s = g.S.Space in
-    let next = c.run_chunks.new.out in
-    IsNear-listed s.turns s.IsSeen s.numbering s.ends s.backs most c.args.jobs.now.lists.now next c.turns_are_taken_back.ensures
-    (λ cube seen. omega (arith, c.requires.every cube seen)) c.run_chunks.ensures
-    (c.are_all_there.ensures there) near
+    IsNear-listed g.V.PartViews.views g.V.PartViews.extent c.are_views.ensures most c.args.jobs.now.lists.now c.run_chunks.new.out
+    (λ cube seen. omega (arith, c.requires.every cube seen)) c.run_chunks.ensures (c.are_all_there.ensures there) near

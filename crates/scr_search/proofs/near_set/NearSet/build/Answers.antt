@@ -9,14 +9,12 @@ use Rattle.scr_search.proofs.near_set.NearSet.build.Goals as goal
 
 pub returns : goal.returns
 returns g c =
-    let s = g.S.Space in
+    let v = g.V.PartViews.views in
     let before : ℕ = c.args.most - 1 in
     let one : before + 1 ≡ c.args.most = omega (arith, c.requires.most) in
     let blocks = c.fill.new.blocks in
     let set : NearSet = record { blocks = with_items c.in_ok-blocks.blocks blocks } in
-    let Near : ℕ → Type 0 = λ n. IsNear s.turns s.IsSeen s.numbering s.ends n (IsInSet set) in
-    let Lists : List Listed → Type 0 = λ lists. IsNear s.turns s.IsSeen s.numbering s.ends before (IsListed lists) in
-    subst Near one
-    (IsNear-entered s.turns s.IsSeen s.numbering s.ends s.backs before c.deref.result.now blocks set c.turns_are_taken_back.ensures
+    subst (λ n. IsNear v n (IsInSet set)) one
+    (IsNear-entered v c.extent-extent.result.now c.extent-extent.ensures.views before c.deref.result.now blocks set
     (with_items_is c.in_ok-blocks.blocks blocks (omega arith)) (λ k d lt. c.fill.ensures k d (omega (arith, lt)))
-    (subst Lists (sym c.deref.ensures.value) c.in_ok-lists.ensures))
+    (subst (λ lists. IsNear v before (IsListed lists)) (sym c.deref.ensures.value) c.in_ok-lists.ensures))

@@ -9,5 +9,4 @@ decreases-loop-place g l = length (turns_in l.others.bits)
 
 abbrev pub invariant-loop-place : goal.invariant-loop-place
 invariant-loop-place g l =
-    let s = g.S.Space in
-    AreLookedAt s.turns s.IsSeen s.numbering (λ c. g.S.Positions.Shows c l.at) (IsInSet l.self) l.fn.turns.bits l.others.bits l.into.bits
+    AreLookedAt g.V.PartViews.views l.at (IsInSet l.self) l.fn.turns.bits l.others.bits l.into.bits

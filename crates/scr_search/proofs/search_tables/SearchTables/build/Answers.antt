@@ -6,7 +6,7 @@ use Rattle.scr_table.specs.Lines.{HasNoGap}
 use Rattle.scr_table.proofs.LineLaws.{IfErr-cause, no_gap, no_gaps-line}
 use Rattle.scr_search.specs.Near.{IsInSet}
 use Rattle.scr_search.specs.Outlooks.{IsPruningTable}
-use Rattle.scr_search.specs.Views.{lines_of, one_line, other_line, part_number}
+use Rattle.scr_search.specs.Views.{lines_of, one_line, other_line}
 use Rattle.scr_search.proofs.BuiltLaws.{fits-beside}
 use Rattle.scr_search.proofs.NearLaws.{IsNear-all}
 use Rattle.scr_search.proofs.search_tables.SearchTables.build.Goals as goal
@@ -70,7 +70,7 @@ invariant_of-result g c =
           (c.in_ok-one_slice.ensures.table _ (c.beside.ensures.shows v.one.coordinate v.middle.coordinate (are.middle.turns ∙ sym are.one.turns) c.in_ok-one.ensures c.in_ok-middle.ensures));
       other_is = subst (λ x. IsPruningTable (other_line v x) c.in_ok-other_slice.other_slice) c.extent-extent.ensures.same
           (c.in_ok-other_slice.ensures.table _ (c.beside-2.ensures.shows v.other.coordinate v.middle.coordinate (are.middle.turns ∙ sym are.other.turns) c.in_ok-other.ensures c.in_ok-middle.ensures));
-      near_is = IsNear-all v.turns v.IsSeen (part_number v) v.ends 7 (IsInSet c.of_all.result) c.of_all.ensures;
+      near_is = IsNear-all v 7 (IsInSet c.of_all.result) c.of_all.ensures;
     }
 
 pub returns-clause-whole : goal.returns-clause-whole

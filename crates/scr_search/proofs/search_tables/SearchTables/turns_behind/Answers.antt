@@ -44,4 +44,4 @@ returns-then-left-eq-NEAR_AT-clause-kept g c = λ cube test h is.
     (c.behind.ensures.turns v.turns c.extent.ensures.views.behind.1) (c.behind.ensures.small (2 ^ length v.turns) c.extent.ensures.views.behind.0) c.and-turns.ensures.turns in
     KeepsWays-near v.turns v.ends test cube h.there word (c.args.left - 1) c.and-turns.result.bits c.turns_into.result.bits is.leads_there h.played all
     (subst (λ n. LeavesNear v.turns v.ends h.there n c.and-turns.result.bits c.turns_into.result.bits) (sym seven)
-    (c.turns_into.ensures.left h.there 7 c.args.self.now.near_is h.shows.seen h.shows))
+    (c.turns_into.ensures.left h.there 7 c.args.self.now.near_is h.shows))

@@ -1,10 +1,10 @@
 use Rattle.std.proofs.Common.{◌≡◌, ◌%◌, ◌/◌, sym, ◌∙◌}
 use Rattle.scr_positions.specs.Moves.{moves_coordinate}
 use Rattle.scr_search.proofs.ViewLaws.{low_part, low-made, low-one, low-other, number-low, seen-turned, shown-turned}
-use Rattle.scr_search.proofs.search_tables.SearchTablesSpace.number_after.Goals as goal
+use Rattle.scr_search.proofs.search_tables.SearchTables.number_after.Goals as goal
 
 pub returns : goal.returns
-returns g c = λ cube turned seen block number by.
+returns g c = λ cube turned seen number by.
     let v = g.V.PartViews.views in
     let e = c.extent-extent.result.now in
     let are = c.extent-extent.ensures.views in

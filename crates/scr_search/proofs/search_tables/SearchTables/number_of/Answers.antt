@@ -1,6 +1,6 @@
 use Rattle.std.proofs.Common.{arith}
 use Rattle.scr_search.proofs.ViewLaws.{low-made}
-use Rattle.scr_search.proofs.search_tables.SearchTablesPositions.number_of.Goals as goal
+use Rattle.scr_search.proofs.search_tables.SearchTables.number_of.Goals as goal
 
 pub returns : goal.returns
 returns g c = λ cube h.

@@ -1,7 +1,7 @@
 use Rattle.std.proofs.Common.{sym, ◌∙◌}
 use Rattle.scr_positions.specs.Moves.{moves_coordinate}
 use Rattle.scr_search.proofs.ViewLaws.{number-block, seen-turned, shown-turned}
-use Rattle.scr_search.proofs.search_tables.SearchTablesSpace.block_after.Goals as goal
+use Rattle.scr_search.proofs.search_tables.SearchTables.block_after.Goals as goal
 
 pub returns : goal.returns
 returns g c = λ cube turned seen at by.

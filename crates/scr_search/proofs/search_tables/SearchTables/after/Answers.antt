@@ -1,6 +1,6 @@
 use Rattle.scr_positions.specs.Moves.{moves_coordinate}
 use Rattle.scr_search.proofs.ViewLaws.{seen-turned, shown-turned}
-use Rattle.scr_search.proofs.search_tables.SearchTablesPositions.after.Goals as goal
+use Rattle.scr_search.proofs.search_tables.SearchTables.after.Goals as goal
 
 pub returns : goal.returns
 returns g c = λ cube turned shows by.

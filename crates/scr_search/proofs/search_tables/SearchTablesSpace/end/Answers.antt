@@ -1,4 +1,0 @@
-use Rattle.scr_search.proofs.search_tables.SearchTablesSpace.end.Goals as goal
-
-pub returns : goal.returns
-returns g c = c.extent.ensures.views.end
