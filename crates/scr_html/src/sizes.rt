@@ -179,7 +179,8 @@ fn word_width(event: Event, turn: Turn) -> u32
     ensures { result ≤ 7 }
 {
     match event.puzzle() {
-        Puzzle::Cube222 | Puzzle::Cube333 | Puzzle::Fewest333 | Puzzle::Pyraminx | Puzzle::Skewb => 2,
+        Puzzle::Cube222 | Puzzle::Cube333 | Puzzle::Fewest333 | Puzzle::Pyraminx | Puzzle::Skewb =>
+            2,
         Puzzle::Cube555 | Puzzle::Held333 | Puzzle::Megaminx => 3,
         Puzzle::Cube666 | Puzzle::Cube777 => 4,
         Puzzle::Clock => 5,

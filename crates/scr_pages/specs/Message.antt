@@ -3,20 +3,9 @@ use Rattle.std.specs.Prelude.{ℕ, List, ◌++◌, codes}
 use Rattle.std.specs.Fmt.{decimal}
 use Rattle.scr_host.specs.declared.input.InputFault.{InputFault}
 use Rattle.scr_host.specs.declared.input.InputFault.TheVariants as input
-use Rattle.scr_read.specs.declared.fault.SheetCause.{SheetCause}
-use Rattle.scr_read.specs.declared.fault.SheetCause.TheVariants as cause
+use Rattle.scr_read.specs.Causes.{cause_text}
 use Rattle.scr_pages.specs.declared.fault.Fault.{Fault}
 use Rattle.scr_pages.specs.declared.fault.Fault.TheVariants as fault
-
--- why a text is no sheet
-abbrev pub cause_text : SheetCause → List ℕ
-cause_text cause.End = codes "the sheet ends within a round"
-cause_text cause.LineFeed = codes "no line feed ends the last line"
-cause_text cause.Head = codes "no head of the next round"
-cause_text cause.Group = codes "no name of the next group"
-cause_text cause.Label = codes "not the label of the next scramble"
-cause_text cause.Scramble = codes "no scramble of the event"
-cause_text cause.GroupEnd = codes "no empty line behind the group"
 
 -- why an input wasn't read whole
 abbrev pub input_text : InputFault → List ℕ

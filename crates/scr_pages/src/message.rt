@@ -3,12 +3,11 @@
 ghost use Rattle.std.specs.Prelude.{◌≡◌, ◌++◌, ◌+◌, ◌≤◌, length, codes};
 ghost use Rattle.std.specs.Fmt.{decimal};
 ghost use Rattle.arrayvec.specs.ArrayString.{array_string_len};
-ghost use Rattle.scr_pages.specs.Message.{message_of, cause_text, input_text, line_text};
+ghost use Rattle.scr_pages.specs.Message.{message_of, input_text, line_text};
 
 use crate::fault::Fault;
 use arrayvec::ArrayString;
 use scr_host::InputFault;
-use scr_read::SheetCause;
 use scr_text::decimal;
 
 /// The length of the longest message, and a little more.
@@ -28,7 +27,7 @@ impl Fault {
             Fault::Input(why) => line.push_str(input_words(why)),
             Fault::Sheet(why) => {
                 push_line(&mut line, why.line);
-                line.push_str(cause_words(why.cause));
+                line.push_str(why.cause.text());
             }
             Fault::Barred(number) => {
                 push_line(&mut line, number);
@@ -72,21 +71,5 @@ fn input_words(why: InputFault) -> &'static str
         InputFault::TooLong => "input is longer than 67108864 bytes",
         InputFault::Read => "input could not be read",
         InputFault::NoMemory => "out of memory",
-    }
-}
-
-/// Why a text is no sheet: a few words.
-fn cause_words(cause: SheetCause) -> &'static str
-    ensures words { result.now ≡ cause_text cause }
-    ensures few { length result.now ≤ 40 }
-{
-    match cause {
-        SheetCause::End => "the sheet ends within a round",
-        SheetCause::LineFeed => "no line feed ends the last line",
-        SheetCause::Head => "no head of the next round",
-        SheetCause::Group => "no name of the next group",
-        SheetCause::Label => "not the label of the next scramble",
-        SheetCause::Scramble => "no scramble of the event",
-        SheetCause::GroupEnd => "no empty line behind the group",
     }
 }

@@ -7,12 +7,13 @@ use Rattle.scr_notation.specs.declared.event.Event.{Event}
 use Rattle.scr_notation.specs.declared.event.Puzzle.{Puzzle}
 use Rattle.scr_notation.specs.declared.event.Puzzle.TheVariants as puzzle
 use Rattle.scr_notation.specs.Event.{puzzle_of}
+use Rattle.scr_notation.specs.Written.{at_most}
 use Rattle.scr_notation.specs.declared.turn.Turn.{Turn}
 use Rattle.scr_cube.specs.Cube333.{CubeState}
 use Rattle.scr_fewest.specs.Fewest.{is_framed}
 use Rattle.scr_slots.specs.declared.settings.Settings.{Settings}
 use Rattle.scr_slots.specs.Shown.{DrawnPuzzle, drawn_puzzle, GivesDrawn, States, slot_numbers}
-use Rattle.scr_slots.specs.Events.{at_most, shown_as, shown_of}
+use Rattle.scr_slots.specs.Events.{shown_as, shown_of}
 use Rattle.scr_sheet.specs.Sheet.{EachSlot}
 use Rattle.scr_sheet.specs.Headline.{AreFairScrambles}
 use Rattle.scr_picture_laws.specs.Pictured.{pictures_333}

@@ -6,3 +6,4 @@ pub mod Places
 pub mod Steps
 pub mod Groups
 pub mod Left
+pub mod Causes

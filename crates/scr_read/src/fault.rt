@@ -1,5 +1,8 @@
 //! Why a text is no sheet.
 
+ghost use Rattle.std.specs.Prelude.{◌≡◌, ◌≤◌, length};
+ghost use Rattle.scr_read.specs.Causes.{cause_text};
+
 /// What is wrong with the first line at fault.
 #[derive(Clone, Copy, Debug, PartialEq, Eq)]
 pub enum SheetCause {
@@ -21,8 +24,11 @@ pub enum SheetCause {
 }
 
 impl SheetCause {
-    /// What a message says of it.
-    pub fn text(self) -> &'static str {
+    /// What a message says of it: a few words.
+    pub fn text(self) -> &'static str
+        ensures words { result.now ≡ cause_text self }
+        ensures few { length result.now ≤ 40 }
+    {
         match self {
             SheetCause::End => "the sheet ends within a round",
             SheetCause::LineFeed => "no line feed ends the last line",

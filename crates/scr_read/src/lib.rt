@@ -8,7 +8,7 @@
 //! the cause is told of the place where those lines lead. `SheetReader::next` gives the pieces one after another, and
 //! `SheetGroups` the groups of all rounds, each with its round, its numbers and its scrambles, with no fault to come.
 //! `laws` say that the pieces are the rounds' own, that a text is the sheet of at most one list of rounds, and that the
-//! groups tell that list.
+//! groups tell that list. [`first_line`] cuts a text behind its first line feed.
 #![tactic(auto)]
 
 mod fault;
@@ -25,6 +25,7 @@ mod reader;
 pub use fault::{SheetCause, SheetFault};
 pub use group::{GROUP_ROOM, SheetGroup};
 pub use groups::SheetGroups;
+pub use lines::first_line;
 pub use piece::{Head, Piece};
 pub use reader::{SheetReader, read};
 

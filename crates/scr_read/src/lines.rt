@@ -5,7 +5,7 @@ ghost use Rattle.scr_text.specs.Lines.{is_line_feed};
 ghost use Rattle.scr_read.specs.Faults.{IsOneLine, Begins};
 
 /// The first line of a text, without its line feed, and what follows; `None` where no line feed stands in the text.
-pub(crate) fn first_line(text: &[u8]) -> Option<(&[u8], &[u8])>
+pub fn first_line(text: &[u8]) -> Option<(&[u8], &[u8])>
     ensures { MatchOption result (IsOneLine text.now)
         (λ parts. (text.now ≡ parts.0.now ++ 10 ∷ parts.1.now) × IsOneLine parts.0.now) }
 {

@@ -6,6 +6,7 @@ use Rattle.scr_notation.specs.declared.event.Event.TheVariants.{C222, C333, C555
 use Rattle.scr_notation.specs.declared.event.Puzzle.{Puzzle}
 use Rattle.scr_notation.specs.declared.event.Puzzle.TheVariants as puzzle
 use Rattle.scr_notation.specs.Event.{puzzle_of}
+use Rattle.scr_notation.specs.Written.{at_most}
 use Rattle.scr_notation.specs.declared.turn.Turn.{Turn}
 use Rattle.scr_combinatorics.specs.Play.{play}
 use Rattle.scr_orbit.specs.Orbits.{Orbit}
@@ -35,10 +36,6 @@ use Rattle.scr_slots.specs.Shown.{DrawnPuzzle, drawn_puzzle, RandomMoves, Shown,
 use Rattle.scr_slots.specs.Slots.{Scrambling, ByState, ByMoves}
 
 -- ---- what is promised
-
--- at most so many turns
-abbrev pub at_most : ℕ → List Turn → Type 0
-at_most most turns = length turns ≤ most
 
 -- a puzzle of pieces, with scrambles of at most so many turns
 abbrev pub drawn_by_powers : {S R : Type 0} → PowerPuzzle S R Turn → ℕ → DrawnPuzzle S

@@ -20,7 +20,8 @@ pub(crate) fn side_of(event: Event) -> Option<u32>
         Puzzle::Cube555 => Some(5),
         Puzzle::Cube666 => Some(6),
         Puzzle::Cube777 => Some(7),
-        Puzzle::Clock | Puzzle::Megaminx | Puzzle::Pyraminx | Puzzle::Skewb | Puzzle::Square1 => None,
+        Puzzle::Clock | Puzzle::Megaminx | Puzzle::Pyraminx | Puzzle::Skewb | Puzzle::Square1 =>
+            None,
     }
 }
 

@@ -1,8 +1,7 @@
 -- What goes wrong in a run, and the line that tells it.
 use Rattle.std.specs.Prelude.{ℕ, List, ◌++◌, codes}
 use Rattle.std.specs.Fmt.{decimal}
-use Rattle.scr_read.specs.declared.fault.SheetCause.{SheetCause}
-use Rattle.scr_read.specs.declared.fault.SheetCause.TheVariants as sheet
+use Rattle.scr_read.specs.Causes.{cause_text}
 use Rattle.scr_wcif.specs.declared.fault.EventCause.{EventCause}
 use Rattle.scr_wcif.specs.declared.fault.EventCause.TheVariants as event
 use Rattle.scr_wcif.specs.declared.fault.RoundCause.{RoundCause}
@@ -26,16 +25,6 @@ abbrev pub round_cause_text : RoundCause → List ℕ
 round_cause_text round.Id = codes "id"
 round_cause_text round.Groups = codes "scrambleSetCount"
 
--- what is wrong with a line of a sheet
-abbrev pub sheet_cause_text : SheetCause → List ℕ
-sheet_cause_text sheet.End = codes "the sheet ends within a round"
-sheet_cause_text sheet.LineFeed = codes "no line feed ends the last line"
-sheet_cause_text sheet.Head = codes "no head of the next round"
-sheet_cause_text sheet.Group = codes "no name of the next group"
-sheet_cause_text sheet.Label = codes "not the label of the next scramble"
-sheet_cause_text sheet.Scramble = codes "no scramble of the event"
-sheet_cause_text sheet.GroupEnd = codes "no empty line behind the group"
-
 -- how a round of a sheet differs
 abbrev pub difference_text : Difference → List ℕ
 difference_text difference.Event = codes "another event"
@@ -54,7 +43,7 @@ file_text file.NoCompetition = codes "no competition: no list of events"
 file_text (file.Event number cause) = codes "event " ++ decimal number ++ codes ": " ++ event_cause_text cause
 file_text (file.Round event number cause) =
     codes "event " ++ decimal event ++ codes " round " ++ decimal number ++ codes ": " ++ round_cause_text cause
-file_text (file.SheetLine line why) = codes "sheet line " ++ decimal line ++ codes ": " ++ sheet_cause_text why
+file_text (file.SheetLine line why) = codes "sheet line " ++ decimal line ++ codes ": " ++ cause_text why
 file_text (file.Sheet number why) = codes "sheet round " ++ decimal number ++ codes ": " ++ difference_text why
 file_text file.Read = codes "input could not be read"
 

@@ -3,11 +3,10 @@
 ghost use Rattle.std.specs.Prelude.{◌≡◌, ◌++◌, ◌+◌, ◌≤◌, length};
 ghost use Rattle.std.specs.Fmt.{decimal};
 ghost use Rattle.arrayvec.specs.ArrayString.{array_string_len};
-ghost use Rattle.scr_wcif.specs.Message.{message_of, file_text, event_cause_text, round_cause_text, sheet_cause_text, difference_text};
+ghost use Rattle.scr_wcif.specs.Message.{message_of, file_text, event_cause_text, round_cause_text, difference_text};
 
 use crate::fault::{Difference, EventCause, Fault, FileFault, RoundCause};
 use arrayvec::ArrayString;
-use scr_read::SheetCause;
 use scr_text::decimal;
 
 /// The length of the longest message, and a little more.
@@ -61,7 +60,7 @@ fn push_file(line: &mut ArrayString<LONGEST>, why: FileFault)
         FileFault::SheetLine { line: at, cause } => {
             push_at(line, "sheet line ", at);
             line.push_str(": ");
-            line.push_str(sheet_cause_words(cause));
+            line.push_str(cause.text());
         }
         FileFault::Sheet { number, difference } => {
             push_at(line, "sheet round ", number);
@@ -105,22 +104,6 @@ fn round_cause_words(cause: RoundCause) -> &'static str
     match cause {
         RoundCause::Id => "id",
         RoundCause::Groups => "scrambleSetCount",
-    }
-}
-
-/// What is wrong with a line of a sheet: a few words.
-fn sheet_cause_words(cause: SheetCause) -> &'static str
-    ensures words { result.now ≡ sheet_cause_text cause }
-    ensures few { length result.now ≤ 40 }
-{
-    match cause {
-        SheetCause::End => "the sheet ends within a round",
-        SheetCause::LineFeed => "no line feed ends the last line",
-        SheetCause::Head => "no head of the next round",
-        SheetCause::Group => "no name of the next group",
-        SheetCause::Label => "not the label of the next scramble",
-        SheetCause::Scramble => "no scramble of the event",
-        SheetCause::GroupEnd => "no empty line behind the group",
     }
 }
 
