@@ -1,9 +1,11 @@
 //! The scramble of a Clock.
-ghost use Rattle.std.specs.Prelude.{◌≡◌, ◌+◌, ◌<◌, ◌≤◌, ◌==◌, List, length, ◌++◌, All, IsTrue};
+ghost use Rattle.std.specs.Prelude.{◌≡◌, ◌+◌, ◌<◌, ◌≤◌, ◌==◌, length, ◌++◌, All, IsTrue};
 ghost use Rattle.std.specs.List.{list_any};
 ghost use Rattle.scr_notation.specs.declared.event.Event.TheVariants.{Clock as ClockEvent};
-ghost use Rattle.scr_notation.specs.declared.turn.Turn.{Turn};
 ghost use Rattle.scr_notation.specs.Pins.{pin_sets};
+ghost use Rattle.scr_notation.specs.Written.{IsTheScramble, at_most};
+ghost use Rattle.scr_clock.specs.Dials.{solved};
+ghost use Rattle.scr_clock.specs.Held.{clock_after};
 ghost use Rattle.scr_clock.specs.Written.{pins_at, IsClockScramble};
 
 use crate::amounts::solve;
@@ -13,10 +15,8 @@ use scr_notation::{Event, PIN_SETS, Scramble, Turn};
 /// The scramble that leads from solved to this Clock: nine pin sets on the front and, behind `y2`, five on the back, by
 /// the amounts of `solve`. No other scramble leads there.
 pub fn scramble_clock(clock: &Clock) -> Scramble
-    ensures event { result.event ≡ ClockEvent }
+    ensures promised { IsTheScramble ClockEvent IsClockScramble (at_most 15) (clock_after solved) clock.now result }
     ensures fifteen { length result.turns ≡ 15 }
-    ensures scramble { IsClockScramble clock.now result.turns }
-    ensures only { (turns : List Turn) → IsClockScramble clock.now turns → turns ≡ result.turns }
 {
     let amounts = solve(clock);
     let mut scramble = Scramble::new(Event::Clock);

@@ -1,5 +1,5 @@
 -- What reading the words of the command line finds: a command that words can ask for, or why there is none.
-use Rattle.std.specs.Prelude.{◌≡◌, ◌≤◌, List, ℕ, Result, IsSome, Err, ok_or}
+use Rattle.std.specs.Prelude.{◌≡◌, ◌≤◌, List, Result, IsSome, Err, ok_or}
 use Rattle.scr_notation.specs.Event.{net_side_of}
 use Rattle.scr_options.specs.declared.splitting.OptionsFault.{OptionsFault}
 use Rattle.scr_options.specs.declared.splitting.OptionsFault.TheVariants as split

@@ -1,6 +1,7 @@
 -- Which held cubes turns reach, and how many they need: as the cube alone.
-use Rattle.std.proofs.Common.{◌≡◌, ℕ, List, ◌++◌, Some, refl, sym, ap, ◌∙◌, subst, arith, lit<}
-use Rattle.std.specs.Prelude.{◌↔◌, Contains}
+use Rattle.std.proofs.Common.{◌≡◌, ℕ, zero, suc, ◌-◌, ◌*◌, ◌/◌, ◌%◌, ◌<◌, List, [], ◌++◌, Some, refl, sym, ap, ◌∙◌, subst, arith, lit<}
+use Rattle.std.specs.Prelude.{◌↔◌, Contains, nat_lt, if◌then◌else◌, slice_index_or}
+use Rattle.std.proofs.lemmas.Bool.{cond_both}
 use Rattle.std.proofs.lemmas.List.Sums.{AllPass-from_list_all}
 use Rattle.scr_combinatorics.specs.Back.{back, IsTakenBack}
 use Rattle.scr_combinatorics.specs.Lists.{numbers_from}
@@ -18,9 +19,10 @@ use Rattle.scr_notation.specs.declared.turn.Turn.{Turn}
 use Rattle.scr_notation.specs.Turning.{opposite, turn_merging}
 use Rattle.scr_notation.specs.Turns.{permits}
 use Rattle.scr_cube.specs.Cube333.{IsCube, solved_cube, cube_powers}
-use Rattle.scr_cube.specs.Held.{HeldState, IsHeld, IsSolvedHeld, solved_held, held_cube_after, faces_turned, hold_word, hold_centres, hold_of, holds, held_puzzle}
+use Rattle.scr_cube.specs.Held.{HeldState, IsHeld, IsSolvedHeld, solved_upright, solved_turned, solved_held, whole_turned, held_cube_after, faces_turned, hold_word, hold_centres, hold_of, holds, held_puzzle}
+use Rattle.scr_cube.specs.declared.held.TheConstants.{HOLDS}
 use Rattle.scr_cube.proofs.Laws333.{IsCube-solved}
-use Rattle.scr_cube.proofs.Holds.{Contains-hold, hold_centres-are, hold_centres-of, hold_of-lt, IsHoldWord-each, centres_played}
+use Rattle.scr_cube.proofs.Holds.{at_each, of_holds, Contains-hold, Contains-whole, hold_centres-are, hold_centres-of, hold_of-lt, IsHoldWord-each, centres_played}
 use Rattle.scr_cube.proofs.HeldLaws.{step-of, IsHeld-after, held_cube_after-some, IsLawful-held, same_held, played-faces, played-centres, length-faces_turned, at_places}
 
 pub held_taken_back : IsTakenBack held_cube_after opposite IsHeld
@@ -42,9 +44,60 @@ TellsTurns-held = record {
 pub Contains-solved : Contains holds (numbers_from 0 6)
 Contains-solved = subst (Contains holds) (hold_centres-are 0 (lit< tt)) (Contains-hold 0 (lit< tt))
 
-pub IsSolvedHeld-solved : IsSolvedHeld solved_held
+-- ---- solved ones, however they are held
+
+-- turned as a whole so often
+pub turned_so_often : (place : ℕ) → place < 3 → (n : ℕ) (s : HeldState) → IsSolvedHeld s
+    → IsSolvedHeld (record { cube = s.cube; centres = whole_turned place s.centres n })
+unfolding whole_turned
+turned_so_often place low zero s is = is
+turned_so_often place low (suc n) s is =
+    solved_turned place (record { cube = s.cube; centres = whole_turned place s.centres n }) low (turned_so_often place low n s is)
+
+-- a hold's word turns the whole cube about R or F, and then about U
+about : ℕ → ℕ
+about first = if nat_lt first 4 then 1 else 2
+
+amount : ℕ → ℕ
+amount first = if nat_lt first 4 then first else 2 * first - 7
+
+about-lt : (first : ℕ) → about first < 3
+unfolding about
+about-lt first = cond_both (nat_lt first 4) 1 2 (λ x. x < 3) (λ _. lit< tt) (λ _. lit< tt)
+
+first_turned : ℕ → List ℕ
+first_turned hold = whole_turned (about (hold % 6)) (numbers_from 0 6) (amount (hold % 6))
+
+listed-turned : (hold : ℕ) → hold < 24 → slice_index_or HOLDS hold [] ≡ whole_turned 0 (first_turned hold) (hold / 6)
+unfolding first_turned about amount whole_turned
+listed-turned = at_each (λ hold. slice_index_or HOLDS hold []) (λ hold. whole_turned 0 (first_turned hold) (hold / 6)) 24 refl
+
+solved_with : List ℕ → HeldState
+solved_with centres = record { cube = solved_cube; centres = centres }
+
+IsSolvedHeld-listed : (hold : ℕ) → hold < 24 → IsSolvedHeld (solved_with (slice_index_or HOLDS hold []))
+unfolding solved_held solved_with first_turned
+IsSolvedHeld-listed hold lt =
+    let first = turned_so_often (about (hold % 6)) (about-lt (hold % 6)) (amount (hold % 6)) solved_held solved_upright in
+    subst (λ k. IsSolvedHeld (solved_with k)) (sym (listed-turned hold lt))
+    (turned_so_often 0 (lit< tt) (hold / 6) (solved_with (first_turned hold)) first)
+
+-- They are the solved cube in each of the holds.
+pub IsSolvedHeld-holds : (s : HeldState) → s.cube ≡ solved_cube → Contains holds s.centres → IsSolvedHeld s
+unfolding solved_with
+IsSolvedHeld-holds s is there =
+    subst (λ c. IsSolvedHeld (record { cube = c; centres = s.centres })) (sym is)
+    (of_holds (λ k. IsSolvedHeld (solved_with k)) IsSolvedHeld-listed s.centres there)
+
+pub solved-cube : (s : HeldState) → IsSolvedHeld s → s.cube ≡ solved_cube
 unfolding solved_held
-IsSolvedHeld-solved = record { cube = refl; centres = Contains-solved }
+solved-cube _ solved_upright = refl
+solved-cube _ (solved_turned place s low is) = solved-cube s is
+
+pub solved-there : (s : HeldState) → IsSolvedHeld s → Contains holds s.centres
+unfolding solved_held
+solved-there _ solved_upright = Contains-solved
+solved-there _ (solved_turned place s low is) = Contains-whole place s.centres 1 low (solved-there s is)
 
 -- The state before a hold's word, which is held as the solved cube is: the word taken back leads there, it turns back
 -- the faces of the cube that the word turns, and the word leads on to the state.
@@ -80,8 +133,9 @@ before-some s valid =
 pub IsReached-cube : (s : HeldState) → IsReached held_puzzle s → IsHeld s × IsReached (power_puzzle cube_powers) s.cube
 IsReached-cube s h =
     let start = h.1 in
-    let begins : IsHeld start = record { cube = subst IsCube (sym h.2.cube) IsCube-solved; centres = h.2.centres } in
-    (play-keeps held_cube_after IsHeld IsLawful-held.keeps start s h.0 begins h.3, (faces_turned start.centres h.0, start.cube, h.2.cube, played-faces start s h.0 h.3))
+    let cube = solved-cube start h.2 in
+    let begins : IsHeld start = record { cube = subst IsCube (sym cube) IsCube-solved; centres = solved-there start h.2 } in
+    (play-keeps held_cube_after IsHeld IsLawful-held.keeps start s h.0 begins h.3, (faces_turned start.centres h.0, start.cube, cube, played-faces start s h.0 h.3))
 
 pub from_solved : (s : HeldState) → IsHeld s → IsReached (power_puzzle cube_powers) s.cube
     → (w : List Turn) × (play held_cube_after solved_held w ≡ Some s)
@@ -99,7 +153,7 @@ pub IsReached-held : (s : HeldState)
     → IsReached held_puzzle s ↔ (IsHeld s × IsReached (power_puzzle cube_powers) s.cube)
 IsReached-held s = (
   IsReached-cube s,
-  λ h. let w = from_solved s h.0 h.1 in (w.0, solved_held, IsSolvedHeld-solved, w.1),
+  λ h. let w = from_solved s h.0 h.1 in (w.0, solved_held, solved_upright, w.1),
 )
 
 -- ---- needed
@@ -110,8 +164,8 @@ Needs-held s least there = (
   λ needs w end few played solved.
       let words = at_places s.cube end s.centres w there played in
       needs words.word (record { cube = end; centres = s.centres }) (omega (arith, few, count_once w, count_once words.word, words.size)) words.played
-      (record { cube = solved; centres = there }),
+      (IsSolvedHeld-holds (record { cube = end; centres = s.centres }) solved there),
   λ needs w end few played solved.
       needs (faces_turned s.centres w) end.cube
-      (omega (arith, few, count_once w, count_once (faces_turned s.centres w), length-faces_turned s.centres w)) (played-faces s end w played) solved.cube,
+      (omega (arith, few, count_once w, count_once (faces_turned s.centres w), length-faces_turned s.centres w)) (played-faces s end w played) (solved-cube end solved),
 )

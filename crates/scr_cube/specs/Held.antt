@@ -5,7 +5,7 @@
 -- A turn is done at a place: up, right, front, down, left or back, U R F D L B, which are 0 to 5. A face is named by
 -- its centre, that of a cube that is held as it was solved: the centres have the numbers of the places where they stand
 -- then. Corners and edges are told as on a cube that is not held otherwise, by their places among the centres.
-use Rattle.std.specs.Prelude.{◌≡◌, ℕ, zero, suc, ◌+◌, ◌/◌, ◌%◌, ◌==◌, if◌then◌else◌, List, [], ◌∷◌, ◌++◌, map, Contains, slice_index, slice_index_or, position, Option, None, unwrap_or}
+use Rattle.std.specs.Prelude.{◌≡◌, ℕ, zero, suc, ◌+◌, ◌/◌, ◌%◌, ◌==◌, ◌<◌, if◌then◌else◌, List, [], ◌∷◌, ◌++◌, map, Contains, slice_index, slice_index_or, position, Option, None, unwrap_or}
 use Rattle.std.specs.Option.{option_map, option_map_or}
 use Rattle.std.specs.Str.{bytes_eq}
 use Rattle.scr_combinatorics.specs.Lists.{numbers_from, pick}
@@ -97,10 +97,12 @@ pub record IsHeld (s : HeldState) : Type 0 where
   pub cube : IsCube s.cube
   pub centres : Contains holds s.centres
 
--- A solved cube, in any of the holds (WCA Regulations, article 10: a puzzle is solved however it is held).
-pub record IsSolvedHeld (s : HeldState) : Type 0 where
-  pub cube : s.cube ≡ solved_cube
-  pub centres : Contains holds s.centres
+-- A solved cube, however it is held: as it was solved, or turned as a whole, about U, R or F, so often (WCA Regulations,
+-- article 10: a puzzle is solved whichever way it stands).
+pub data IsSolvedHeld : HeldState → Type 0 where
+  solved_upright : IsSolvedHeld solved_held
+  solved_turned : (place : ℕ) (s : HeldState) → place < 3 → IsSolvedHeld s
+      → IsSolvedHeld (record { cube = s.cube; centres = whole_turned place s.centres 1 })
 
 -- Each turn counts once (WCA Regulations, article 4).
 abbrev pub held_puzzle : Puzzle HeldState

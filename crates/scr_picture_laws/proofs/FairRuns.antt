@@ -6,7 +6,7 @@ use Rattle.scr_notation.specs.declared.event.Event.{Event}
 use Rattle.scr_notation.specs.declared.turn.Turn.{Turn}
 use Rattle.scr_slots.specs.declared.settings.Settings.{Settings}
 use Rattle.scr_slots.specs.Slots.{first_stream}
-use Rattle.scr_slots.specs.Events.{shown_of}
+use Rattle.scr_slots.specs.Events.{promised_of}
 use Rattle.scr_sheet.specs.Headline.{AreFairScrambles, IsFairRound, AreFairRounds, no_round, another, IsFairLine, WritesOnly, IsFairRun}
 use Rattle.scr_picture_laws.specs.FairPictures.{AreFairPictures}
 use Rattle.scr_picture_laws.proofs.FairScrambles.{fair_pictures}
@@ -50,7 +50,7 @@ writes Is Other out other h = record {
 
 -- what the headline says of an event's scrambles
 abbrev AreFair : Event → Settings → ℕ → ℕ → List (List Turn) → Type 0
-AreFair event = AreFairScrambles (shown_of event)
+AreFair event = AreFairScrambles (promised_of event)
 
 pub run_pictured : (words : List (List ℕ)) (out : Change) → IsFairRun AreFair words out → IsFairRun AreFairPictures words out
 run_pictured [] out h = tt

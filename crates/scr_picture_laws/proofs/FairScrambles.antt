@@ -12,8 +12,8 @@ use Rattle.scr_notation.specs.declared.turn.Turn.{Turn}
 use Rattle.scr_cube.specs.Cube333.{CubeState}
 use Rattle.scr_fewest.specs.Fewest.{is_framed}
 use Rattle.scr_slots.specs.declared.settings.Settings.{Settings}
-use Rattle.scr_slots.specs.Shown.{DrawnPuzzle, drawn_puzzle, GivesDrawn, States, slot_numbers}
-use Rattle.scr_slots.specs.Events.{shown_as, shown_of}
+use Rattle.scr_slots.specs.Promised.{DrawnPuzzle, drawn_puzzle, GivesDrawn, States, slot_numbers}
+use Rattle.scr_slots.specs.Events.{promised_as, promised_of}
 use Rattle.scr_sheet.specs.Sheet.{EachSlot}
 use Rattle.scr_sheet.specs.Headline.{AreFairScrambles}
 use Rattle.scr_picture_laws.specs.Pictured.{pictures_333}
@@ -70,9 +70,9 @@ framed w s true e = follows cubes w s e
 framed w s false e = absurd (cc)
 
 fair_by_puzzle : (what : Puzzle) (settings : Settings) (least stream : ℕ) (scrambles : List (List Turn))
-    → AreFairScrambles (shown_as what) settings least stream scrambles
+    → AreFairScrambles (promised_as what) settings least stream scrambles
     → AreFairPicturesOf what settings least stream scrambles
-unfolding shown_as
+unfolding promised_as
 fair_by_puzzle puzzle.Cube222 = one_fair corners 11
 fair_by_puzzle puzzle.Cube333 = one_fair cubes 52
 fair_by_puzzle puzzle.Held333 = fair_shown held_cubes (play helds.after helds.solved) (play (moved helds) helds.solved_picture) (at_most 54) (follows helds)
@@ -89,6 +89,6 @@ fair_by_puzzle puzzle.Skewb = one_fair skewbs 11
 fair_by_puzzle puzzle.Square1 = λ settings least stream scrambles h. h
 
 pub fair_pictures : (event : Event) (settings : Settings) (least stream : ℕ) (scrambles : List (List Turn))
-    → AreFairScrambles (shown_of event) settings least stream scrambles
+    → AreFairScrambles (promised_of event) settings least stream scrambles
     → AreFairPictures event settings least stream scrambles
 fair_pictures event = fair_by_puzzle (puzzle_of event)

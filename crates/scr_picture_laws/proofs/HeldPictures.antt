@@ -12,10 +12,10 @@ use Rattle.scr_orbit.specs.Orbits.{solved_orbit}
 use Rattle.scr_notation.specs.declared.event.Event.TheVariants.{Bf333}
 use Rattle.scr_notation.specs.declared.turn.Turn.{Turn}
 use Rattle.scr_notation.specs.Turns.{permits}
-use Rattle.scr_cube.specs.Cube333.{solved_cube}
-use Rattle.scr_cube.specs.Held.{HeldState, IsSolvedHeld, held_cube_after, held_puzzle, holds, solved_held, whole_turned}
-use Rattle.scr_cube.proofs.Holds.{at_each, of_holds, Contains-whole}
-use Rattle.scr_cube.proofs.HeldReach.{TellsTurns-held, Contains-solved, IsSolvedHeld-solved, IsReached-cube, from_solved}
+use Rattle.scr_cube.specs.Cube333.{CubeState, solved_cube}
+use Rattle.scr_cube.specs.Held.{HeldState, IsSolvedHeld, solved_upright, solved_turned, held_cube_after, held_puzzle, holds, solved_held, whole_turned}
+use Rattle.scr_cube.proofs.Holds.{at_each, of_holds}
+use Rattle.scr_cube.proofs.HeldReach.{TellsTurns-held, turned_so_often, solved-cube, solved-there, IsReached-cube, from_solved}
 use Rattle.scr_net.specs.Nets.{Letters, net_of, net_after, quarter_net, solved_net}
 use Rattle.scr_net.specs.Pieces.{cube_letter, letter_of_pieces, net_of_held}
 use Rattle.scr_net.proofs.HeldNets.{IsHeld-solved, held_nets, listed}
@@ -59,68 +59,41 @@ near_quarter : (face : ℕ) → face < 3 → (centres : List ℕ) → whole_quar
 near_quarter face near centres =
     cond-true (nat_lt face 3) (whole_turned face centres 1) (whole_turned (face - 3) centres 3) (lt-ltb face 3 near)
 
-Contains-quarter : (face : ℕ) → face < 6 → (centres : List ℕ) → Contains holds centres
-    → Contains holds (whole_quarter face centres)
-Contains-quarter face low centres there = elim (cases_lt face 3) [
-  | inl near ↦ subst (Contains holds) (sym (near_quarter face near centres)) (Contains-whole face centres 1 near there)
-  | inr far ↦
-      subst (Contains holds) (sym (cond-false (nat_lt face 3) (whole_turned face centres 1) (whole_turned (face - 3) centres 3) (le-ltb face 3 far)))
-      (Contains-whole (face - 3) centres 3 (omega arith) there)
-]
+-- the picture of a solved cube that is turned as a whole
+quarter-held : (face : ℕ) → face < 6 → (s : HeldState) → IsSolvedHeld s
+    → quarter_net 3 face 3 (net_of_held s) ≡ net_of_held (record { cube = s.cube; centres = whole_quarter face s.centres })
+quarter-held face low s is =
+    let P : CubeState → Type 0 = λ c. quarter_net 3 face 3 (net_of_held (record { cube = c; centres = s.centres }))
+    ≡ net_of_held (record { cube = c; centres = whole_quarter face s.centres }) in
+    subst P (sym (solved-cube s is)) (quarter-solved face low s.centres (solved-there s is))
 
 -- ---- solved ones, held any way
 
-again : (place : ℕ) → place < 3 → (n : ℕ) (centres : List ℕ) → Contains holds centres → IsSolvedAnyWay (solved_in centres)
-    → IsSolvedAnyWay (solved_in (whole_turned place centres n))
-unfolding whole_turned
-again place low zero centres there is = is
-again place low (suc n) centres there is =
-    let before : List ℕ = whole_turned place centres n in
-    let held = Contains-whole place centres n low there in
-    subst IsSolvedAnyWay (quarter-solved place (omega arith) before held ∙ ap solved_in (near_quarter place low before))
-    (turned_whole place (solved_in before) (omega arith) (again place low n centres there is))
-
--- a hold's word turns the whole cube about R or F, and then about U
-about : ℕ → ℕ
-about first = if nat_lt first 4 then 1 else 2
-
-amount : ℕ → ℕ
-amount first = if nat_lt first 4 then first else 2 * first - 7
-
-first_turned : ℕ → List ℕ
-first_turned hold = whole_turned (about (hold % 6)) (numbers_from 0 6) (amount (hold % 6))
-
-listed-turned : (hold : ℕ) → hold < 24 → listed hold ≡ whole_turned 0 (first_turned hold) (hold / 6)
-unfolding first_turned about amount whole_turned
-listed-turned = at_each listed (λ hold. whole_turned 0 (first_turned hold) (hold / 6)) 24 refl
-
-about-lt : (first : ℕ) → about first < 3
-unfolding about
-about-lt first = cond_both (nat_lt first 4) 1 2 (λ x. x < 3) (λ _. lit< tt) (λ _. lit< tt)
-
-solved-listed : (hold : ℕ) → hold < 24 → IsSolvedAnyWay (solved_in (listed hold))
-unfolding first_turned
-solved-listed hold lt =
-    let low = about-lt (hold % 6) in
-    let first = again (about (hold % 6)) low (amount (hold % 6)) (numbers_from 0 6) Contains-solved (subst IsSolvedAnyWay (sym upright) as_solved) in
-    let there = Contains-whole (about (hold % 6)) (numbers_from 0 6) (amount (hold % 6)) low Contains-solved in
-    subst (λ k. IsSolvedAnyWay (solved_in k)) (sym (listed-turned hold lt)) (again 0 (lit< tt) (hold / 6) (first_turned hold) there first)
+IsSolvedHeld-quarter : (face : ℕ) → face < 6 → (s : HeldState) → IsSolvedHeld s
+    → IsSolvedHeld (record { cube = s.cube; centres = whole_quarter face s.centres })
+IsSolvedHeld-quarter face low s is =
+    let P : List ℕ → Type 0 = λ k. IsSolvedHeld (record { cube = s.cube; centres = k }) in
+    elim (cases_lt face 3) [
+      | inl near ↦ subst P (sym (near_quarter face near s.centres)) (turned_so_often face near 1 s is)
+      | inr far ↦
+          subst P (sym (cond-false (nat_lt face 3) (whole_turned face s.centres 1) (whole_turned (face - 3) s.centres 3) (le-ltb face 3 far)))
+          (turned_so_often (face - 3) (omega arith) 3 s is)
+    ]
 
 pub IsSolvedAnyWay-held : (s : HeldState) → IsSolvedHeld s → IsSolvedAnyWay (net_of_held s)
-IsSolvedAnyWay-held s h =
-    subst (λ c. IsSolvedAnyWay (net_of_held (record { cube = c; centres = s.centres }))) (sym h.cube)
-    (of_holds (λ k. IsSolvedAnyWay (solved_in k)) solved-listed s.centres h.centres)
-
-centres_of : (r : Letters) → IsSolvedAnyWay r → (centres : List ℕ) × Contains holds centres × (solved_in centres ≡ r)
-centres_of _ as_solved = (numbers_from 0 6, Contains-solved, upright)
-centres_of _ (turned_whole face net low is) =
-    let c = centres_of net is in
-    (whole_quarter face c.0, Contains-quarter face low c.0 c.1, sym (quarter-solved face low c.0 c.1) ∙ ap (quarter_net 3 face 3) c.2)
+unfolding solved_held
+IsSolvedAnyWay-held _ solved_upright = subst IsSolvedAnyWay (sym upright) as_solved
+IsSolvedAnyWay-held _ (solved_turned place s low is) =
+    let turned : List ℕ → HeldState = λ k. record { cube = s.cube; centres = k } in
+    subst IsSolvedAnyWay (quarter-held place (omega arith) s is ∙ ap (λ k. net_of_held (turned k)) (near_quarter place low s.centres))
+    (turned_whole place (net_of_held s) (omega arith) (IsSolvedAnyWay-held s is))
 
 pub held_of : (r : Letters) → IsSolvedAnyWay r → (s : HeldState) × IsSolvedHeld s × (net_of_held s ≡ r)
-held_of r is =
-    let c = centres_of r is in
-    (record { cube = solved_cube; centres = c.0 }, record { cube = refl; centres = c.1 }, c.2)
+unfolding solved_held
+held_of _ as_solved = (solved_held, solved_upright, upright)
+held_of _ (turned_whole face net low is) =
+    let s = held_of net is in
+    (record { cube = s.0.cube; centres = whole_quarter face s.0.centres }, IsSolvedHeld-quarter face low s.0 s.1, sym (quarter-held face low s.0 s.1) ∙ ap (quarter_net 3 face 3) s.2)
 
 -- ---- the two models
 
@@ -153,7 +126,7 @@ abbrev pub held_cubes : TwoModels HeldState Letters Turn
 held_cubes = record (one_solved helds) {
   IsSolved = IsSolvedHeld;
   IsSolvedPicture = IsSolvedAnyWay;
-  is_solved = IsSolvedHeld-solved;
+  is_solved = solved_upright;
   from_solved = reached_from;
   shows_solved = IsSolvedAnyWay-held;
   solved_shown = held_of;

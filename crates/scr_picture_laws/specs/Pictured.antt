@@ -11,7 +11,7 @@ use Rattle.scr_fewest.specs.Fewest.{is_framed}
 use Rattle.scr_picture.specs.Stickers.{stickers_after}
 use Rattle.scr_picture.specs.Pyraminx.{pyram_moves, solved_pyram_picture}
 use Rattle.scr_picture.specs.Skewb.{skewb_moves, solved_skewb_picture}
-use Rattle.scr_slots.specs.Shown.{DrawnPuzzle, drawn_puzzle}
+use Rattle.scr_slots.specs.Promised.{DrawnPuzzle, drawn_puzzle}
 
 -- What a turn makes of a picture, where it is a turn of the event; else nothing.
 abbrev pub turn_of : {P : Type 0} → Event → (P → Turn → Option P) → P → Turn → Option P

@@ -29,6 +29,7 @@ use Rattle.scr_slots.specs.declared.settings.Settings.{Settings}
 use Rattle.scr_slots.specs.Agreement.{TextAgrees}
 use Rattle.scr_slots.specs.Events.{scrambling_of}
 use Rattle.scr_slots.specs.Outcomes.{HasOneAnswer}
+use Rattle.scr_slots.specs.Promised.{Promised, States, Moves}
 use Rattle.scr_slots.specs.Slots.{Scrambling, ByState, ByMoves, IsSlotScramble, HasNoScramble, first_stream}
 use Rattle.scr_sheet.specs.Check.{ListLine, list_lines, IsLineAnswer, IsAnswerAt, expected_lines, check_settings, rounds_in, InputComesTo}
 use Rattle.scr_sheet.specs.Sheet.{settings_of, round_part, round_parts, EachSlot, AreScrambles, IsPartText, IsText}
@@ -39,10 +40,10 @@ use Rattle.scr_run_laws.proofs.OwnLines.{IsFit, round_lines-fit}
 -- ---- a slot
 
 -- Whether a text agrees with a slot doesn't depend on how much work its scramble took.
-text-agrees : (scrambling : Scrambling) (seed : Seed) (options : Options) (least stream : ℕ) (s : Written)
+text-agrees : {promised : Promised} (scrambling : Scrambling promised) (seed : Seed) (options : Options) (least stream : ℕ) (s : Written)
     → IsSlotScramble scrambling (settings_of seed options) least stream s
     → TextAgrees scrambling (check_settings seed options.attempts) least stream (text_of s.turns)
-text-agrees (ByState S event drawn numbers IsScramble) seed options least stream s is = record {
+text-agrees {promised = States S drawn} (ByState event numbers IsScramble) seed options least stream s is = record {
   scramble = s;
   written = is.written;
   event_is = is.event;
@@ -53,17 +54,17 @@ text-agrees (ByState S event drawn numbers IsScramble) seed options least stream
     is = record { state = is.turns.is.of_state.state; draws = is.turns.is.of_state.draws; lead = is.turns.is.of_state.gives };
   };
 }
-text-agrees (ByMoves event random) seed options least stream s is =
+text-agrees {promised = Moves random} (ByMoves event) seed options least stream s is =
     record { scramble = s; written = is.written; event_is = is.event; is = refl; agree = is.turns }
 
 -- And a slot that has a scramble is one that has some for the check.
-never-none : (scrambling : Scrambling) (seed : Seed) (options : Options) (least stream : ℕ) (s : Written)
+never-none : {promised : Promised} (scrambling : Scrambling promised) (seed : Seed) (options : Options) (least stream : ℕ) (s : Written)
     → HasOneAnswer scrambling least → IsSlotScramble scrambling (settings_of seed options) least stream s
     → HasNoScramble scrambling (check_settings seed options.attempts) least stream → ⊥
-never-none (ByState S event drawn numbers IsScramble) seed options least stream s one is none =
+never-none {promised = States S drawn} (ByState event numbers IsScramble) seed options least stream s one is none =
     let same = one (settings_of seed options) stream (Some s) None is none in
     cc
-never-none (ByMoves event random) seed options least stream s one is none =
+never-none {promised = Moves random} (ByMoves event) seed options least stream s one is none =
     let same = one (settings_of seed options) stream (Some s) None is none in
     cc
 

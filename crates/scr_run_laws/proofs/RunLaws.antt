@@ -21,6 +21,7 @@ use Rattle.scr_table.specs.declared.fault.BuildFault.{BuildFault}
 use Rattle.scr_table.specs.declared.fault.BuildFault.TheVariants as build
 use Rattle.scr_round.specs.Made.{turns_of_each}
 use Rattle.scr_slots.specs.declared.settings.Settings.{Settings}
+use Rattle.scr_slots.specs.Promised.{Promised}
 use Rattle.scr_slots.specs.Slots.{Scrambling, IsSlotScramble}
 use Rattle.scr_slots.specs.Outcomes.{HasOneAnswer}
 use Rattle.scr_slots.specs.Events.{scrambling_of}
@@ -42,7 +43,7 @@ use Rattle.scr_run_laws.specs.Task.{IsTask, IsUnhindered, LacksScramble, EndsWit
 abbrev pub IsDecided : Part → Type 0
 IsDecided part = HasOneAnswer (scrambling_of part.event) part.least
 
-module _ (settings : Settings) (scrambling : Scrambling) (least : ℕ) (decided : HasOneAnswer scrambling least) where
+module _ (settings : Settings) {promised : Promised} (scrambling : Scrambling promised) (least : ℕ) (decided : HasOneAnswer scrambling least) where
   EachSlot-one : (stream : ℕ) (some other : List Written) → length some ≡ length other
       → EachSlot (IsSlotScramble scrambling settings least) stream some
       → EachSlot (IsSlotScramble scrambling settings least) stream other → some ≡ other

@@ -29,10 +29,9 @@ use Rattle.scr_list.proofs.NameLemmas.{name-bytes}
 use Rattle.scr_list.proofs.RoundFacts.{rounds_of-IsRounds}
 use Rattle.scr_round.specs.Made.{turns_of_each}
 use Rattle.scr_slots.specs.declared.settings.Settings.{Settings}
-use Rattle.scr_slots.specs.Shown.{Shown, slot_numbers}
+use Rattle.scr_slots.specs.Promised.{Promised, States, Moves, slot_numbers}
 use Rattle.scr_slots.specs.Slots.{Scrambling, ByState, ByMoves, IsSlotScramble, IsDrawnFairly}
-use Rattle.scr_slots.specs.Events.{scrambling_of, shown_of}
-use Rattle.scr_slots.proofs.EachEvent.{shown_by, same_shown}
+use Rattle.scr_slots.specs.Events.{scrambling_of, promised_of}
 use Rattle.scr_slots.proofs.Listings.{Draws-alike}
 use Rattle.scr_fault.specs.declared.fault.Fault.{Fault}
 use Rattle.scr_fault.specs.declared.fault.Fault.TheVariants as fault
@@ -45,13 +44,13 @@ use Rattle.scr_sheet.proofs.FairParts.{IsFairPart}
 
 -- what the headline says of an event's scrambles
 abbrev AreFair : Event → Settings → ℕ → ℕ → List (List Turn) → Type 0
-AreFair event = AreFairScrambles (shown_of event)
+AreFair event = AreFairScrambles (promised_of event)
 
 -- the scrambles of slots of an event that is drawn fairly
-fair_scrambles : (scrambling : Scrambling) (settings : Settings) (least stream : ℕ) (scrambles : List Written)
+fair_scrambles : {promised : Promised} (scrambling : Scrambling promised) (settings : Settings) (least stream : ℕ) (scrambles : List Written)
     → IsDrawnFairly scrambling least → EachSlot (IsSlotScramble scrambling settings least) stream scrambles
-    → AreFairScrambles (shown_by scrambling) settings least stream (turns_of_each scrambles)
-fair_scrambles (ByState S event drawn numbers IsScramble) settings least stream scrambles fair each = (
+    → AreFairScrambles promised settings least stream (turns_of_each scrambles)
+fair_scrambles {promised = States S drawn} (ByState event numbers IsScramble) settings least stream scrambles fair each = (
   numbers.count,
   fair.state_at,
   (
@@ -68,7 +67,7 @@ fair_scrambles (ByState S event drawn numbers IsScramble) settings least stream 
         }) stream scrambles each,
   ),
 )
-fair_scrambles (ByMoves event random) settings least stream scrambles fair each =
+fair_scrambles {promised = Moves random} (ByMoves event) settings least stream scrambles fair each =
     (fair, EachSlot-map _ _ (λ (w : Written). w.turns) (λ s w is. is.turns) stream scrambles each)
 
 -- ---- parts
@@ -77,20 +76,18 @@ fair_scrambles (ByMoves event random) settings least stream scrambles fair each 
 record IsFairText (settings : Settings) (part : Part) (text : List ℕ) : Type 0 where
   scrambles : List (List Turn)
   each_slot : length scrambles ≡ part.slots
-  fair : AreFairScrambles (shown_of part.event) settings part.least part.first_stream scrambles
+  fair : AreFairScrambles (promised_of part.event) settings part.least part.first_stream scrambles
   is : text ≡ part.text scrambles
 
 -- so is the text of a part that is drawn fairly
 fair_text : (settings : Settings) (part : Part) (text : List ℕ) → IsFairPart part → IsPartText settings part text
     → IsFairText settings part text
-fair_text settings part text fair is =
-    let P : Shown → Type 0 = λ shown. AreFairScrambles shown settings part.least part.first_stream (turns_of_each is.scrambles) in
-    record {
-      scrambles = turns_of_each is.scrambles;
-      each_slot = length-map is.scrambles (λ (w : Written). w.turns) ∙ is.all.each_slot;
-      fair = subst P (same_shown part.event) (fair_scrambles (scrambling_of part.event) settings part.least part.first_stream is.scrambles fair is.all.each);
-      is = is.is;
-    }
+fair_text settings part text fair is = record {
+  scrambles = turns_of_each is.scrambles;
+  each_slot = length-map is.scrambles (λ (w : Written). w.turns) ∙ is.all.each_slot;
+  fair = fair_scrambles (scrambling_of part.event) settings part.least part.first_stream is.scrambles fair is.all.each;
+  is = is.is;
+}
 
 -- and of leading parts
 fair_texts : (settings : Settings) (led rest : List Part) (text : List ℕ) → All IsFairPart (led ++ rest)
@@ -165,7 +162,7 @@ led-one settings part (first ∷ second ∷ led) rest text are fair =
 -- the one scramble of a part, and what is written of it
 record IsFairSingle (settings : Settings) (event : Event) (side : Option ℕ) (text : List ℕ) : Type 0 where
   turns : List Turn
-  fair : AreFairScrambles (shown_of event) settings 0 0 (turns ∷ [])
+  fair : AreFairScrambles (promised_of event) settings 0 0 (turns ∷ [])
   is : text ≡ line_of turns ++ shown_net side turns
 
 fair-single : (settings : Settings) (event : Event) (side : Option ℕ) (text : List ℕ)
@@ -173,7 +170,7 @@ fair-single : (settings : Settings) (event : Event) (side : Option ℕ) (text : 
 fair-single settings event side text it = of_scrambles it.scrambles it.each_slot it.fair it.is
   where
     of_scrambles : (scrambles : List (List Turn)) → length scrambles ≡ 1
-        → AreFairScrambles (shown_of event) settings 0 0 scrambles → text ≡ (single_part event side).text scrambles
+        → AreFairScrambles (promised_of event) settings 0 0 scrambles → text ≡ (single_part event side).text scrambles
         → IsFairSingle settings event side text
     of_scrambles [] size fair is = absurd (omega (arith, size))
     of_scrambles (turns ∷ []) size fair is = record { turns = turns; fair = fair; is = is }

@@ -9,6 +9,7 @@ use Rattle.scr_outside.proofs.ChangeLemmas.{from_to, Gains-nothing, Gains-append
 use Rattle.scr_check.specs.declared.fault.Missing.{Missing}
 use Rattle.scr_list.specs.declared.round.Round.{Round}
 use Rattle.scr_slots.specs.declared.settings.Settings.{Settings}
+use Rattle.scr_slots.specs.Promised.{Promised}
 use Rattle.scr_slots.specs.Slots.{Scrambling, IsSlotAnswer, IsSlotScramble, HasNoScramble}
 use Rattle.scr_slots.specs.Events.{scrambling_of}
 use Rattle.scr_fault.specs.declared.fault.Fault.{Fault}
@@ -93,7 +94,7 @@ IsFirstNone-here answers before k d there led none =
     }
 
 -- answers that all are scrambles
-pub scrambles_of_answers : (scrambling : Scrambling) (settings : Settings) (least stream : ℕ) (scrambles : List Written)
+pub scrambles_of_answers : {promised : Promised} (scrambling : Scrambling promised) (settings : Settings) (least stream : ℕ) (scrambles : List Written)
     → EachSlot (IsSlotAnswer scrambling settings least) stream (map Some scrambles)
     → EachSlot (IsSlotScramble scrambling settings least) stream scrambles
 scrambles_of_answers scrambling settings least stream [] each = tt

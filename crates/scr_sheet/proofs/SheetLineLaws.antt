@@ -59,7 +59,7 @@ line_agreed settings k round (Fixed own) text short is =
     subst (λ t. length t ≤ 1300) (sym ((bytes_eq-Decides text own).0 agrees)) short
 line_agreed settings k round (Slot label slot) text short is =
     let it = is.1.0 refl in
-    let behind = agreed-short _ settings round.least _ it.behind it.agrees in
+    let behind = agreed-short (scrambling_of round.event) settings round.least (first_stream k + slot) it.behind it.agrees in
     let size = length-append label it.behind in
     subst (λ t. length t ≤ 1300) (sym it.is) (omega (arith, short, behind, size))
 

@@ -16,6 +16,7 @@ use Rattle.scr_list.specs.Rounds.{IsRound}
 use Rattle.scr_list.proofs.NameLemmas.{is_name-HasNameBytes}
 use Rattle.scr_round.specs.Round.{Line, Fixed, Slot, labels_from, slot_lines, group_lines, groups_lines, minimum_text, own_name_text, heading, round_lines}
 use Rattle.scr_slots.specs.declared.settings.Settings.{Settings}
+use Rattle.scr_slots.specs.Promised.{Promised}
 use Rattle.scr_slots.specs.Slots.{Scrambling}
 use Rattle.scr_slots.specs.Agreement.{TextAgrees}
 use Rattle.scr_sheet.specs.Check.{ListLine, list_lines}
@@ -114,7 +115,7 @@ list_lines-short k (round ∷ rounds) few each =
 -- ---- texts that agree
 
 -- a scramble's text has at most 1,280 bytes
-pub agreed-short : (scrambling : Scrambling) (settings : Settings) (least stream : ℕ) (text : List ℕ)
+pub agreed-short : {promised : Promised} (scrambling : Scrambling promised) (settings : Settings) (least stream : ℕ) (text : List ℕ)
     → TextAgrees scrambling settings least stream text → length text ≤ 1280
 agreed-short scrambling settings least stream text it =
     let size = length-text_of it.scramble.event it.scramble.turns it.written.permitted in

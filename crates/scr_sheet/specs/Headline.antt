@@ -11,7 +11,7 @@ use Rattle.scr_list.specs.declared.round.Round.{Round}
 use Rattle.scr_list.specs.Names.{is_name_byte}
 use Rattle.scr_round.specs.Round.{slots_of, heading}
 use Rattle.scr_slots.specs.declared.settings.Settings.{Settings}
-use Rattle.scr_slots.specs.Shown.{Shown, States, Moves, GivesDrawn, HasMoves, slot_numbers}
+use Rattle.scr_slots.specs.Promised.{Promised, States, Moves, GivesDrawn, HasMoves, slot_numbers}
 use Rattle.scr_slots.specs.Slots.{first_stream}
 use Rattle.scr_sheet.specs.Sheet.{EachSlot}
 
@@ -19,7 +19,7 @@ use Rattle.scr_sheet.specs.Sheet.{EachSlot}
 -- that turns reach and that needs so many is drawn by equally many lists of numbers, and no other state by any; and
 -- these turns give the states that the slots' numbers draw. Of random moves: each step takes each of its choices by
 -- equally many numbers, and the slots have those of their streams.
-abbrev pub AreFairScrambles : Shown → Settings → ℕ → ℕ → List (List Turn) → Type 0
+abbrev pub AreFairScrambles : Promised → Settings → ℕ → ℕ → List (List Turn) → Type 0
 AreFairScrambles (States S drawn) settings least stream scrambles =
     (count : ℕ) × (state_at : ℕ → S) × (
     let space : StateSpace S = record { count = count; state_at = state_at; puzzle = drawn.puzzle } in

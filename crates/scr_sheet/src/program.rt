@@ -3,7 +3,7 @@
 ghost use Rattle.scr_outside.specs.Change.{change_of, intake_of};
 ghost use Rattle.scr_options.specs.Words.{texts};
 ghost use Rattle.scr_sheet.specs.Outcome.{IsRun, IsPerformed, Tells};
-ghost use Rattle.scr_slots.specs.Events.{shown_of};
+ghost use Rattle.scr_slots.specs.Events.{promised_of};
 ghost use Rattle.scr_sheet.specs.Headline.{AreFairScrambles, IsFairRun};
 
 use crate::check::{tests_of_list, write_check};
@@ -66,7 +66,7 @@ pub fn run<'w, R: Threads + Sync, S: Source, O: Sink, E: Sink, G: Gate + Sync>(
     // Of this, what speaks of fairness and of play alone: the slots of what is written are drawn fairly, and their
     // scrambles stand in order, each as it is spelled, and give the states that were drawn, within their puzzles'
     // bounds. What else a round has below its head, and what `net` writes below its line, is left to `whole`.
-    ensures headline { IsFairRun (λ event. AreFairScrambles (shown_of event)) (texts words.now)
+    ensures headline { IsFairRun (λ event. AreFairScrambles (promised_of event)) (texts words.now)
         (change_of O.held O.faults out.old out.new) }
 {
     let ended = perform(rt, alloc, words, source, out, gate);

@@ -1,5 +1,5 @@
--- What is so of whatever is scrambled: it has one answer a slot and one listing of its states, is drawn fairly where its tables
--- are built, and is shown as it is scrambled.
+-- What is so of whatever is scrambled: it has one answer a slot and one listing of its states, and is drawn fairly where
+-- its tables are built.
 use Rattle.std.proofs.Common.{◌≡◌, ℕ, ◌≤◌, Bool, List, refl}
 use Rattle.scr_notation.specs.declared.event.Event.{Event}
 use Rattle.scr_notation.specs.declared.event.Event.TheVariants.{C222, C333, C555, C666, C777, Clock, Minx, Pyram, Skewb, Sq1, Bf333, Fm333}
@@ -36,9 +36,9 @@ use Rattle.scr_sq1.specs.Numbers.{sq1_numbered}
 use Rattle.scr_sq1.proofs.Numbering.{sq1_numbering}
 use Rattle.scr_sq1short.proofs.ShortestLaws.{IsShortScramble-unique}
 use Rattle.scr_slots.specs.declared.settings.Effort.{Effort}
-use Rattle.scr_slots.specs.Shown.{DrawnPuzzle, RandomMoves, Shown, States, Moves}
+use Rattle.scr_slots.specs.Promised.{DrawnPuzzle, RandomMoves, Promised, States, Moves}
 use Rattle.scr_slots.specs.Slots.{Scrambling, ByState, ByMoves, IsDrawnFairly}
-use Rattle.scr_slots.specs.Events.{scrambled_as, scrambling_of, shown_as, shown_of, IsScramble333Within, drawn_222, drawn_333, drawn_held, drawn_fewest, IsScrambleFewestWithin, drawn_pyram, drawn_skewb, drawn_clock, drawn_sq1, cube_random_moves, moves_minx}
+use Rattle.scr_slots.specs.Events.{scrambled_as, scrambling_of, promised_as, IsScramble333Within, IsScrambleFewestWithin}
 use Rattle.scr_slots.specs.Outcomes.{HasOneAnswer, HasOneListing}
 use Rattle.scr_slots.proofs.Listings.{HaveOneListing-numbered}
 use Rattle.scr_slots.proofs.OneAnswer.{IsOnly, HasOneAnswer-state, HasOneAnswer-moves}
@@ -47,63 +47,48 @@ use Rattle.scr_slots.proofs.OneAnswer.{IsOnly, HasOneAnswer-state, HasOneAnswer-
 
 -- Of how an event is scrambled this is so, whatever tables are built: a slot has one answer, and its states have one
 -- listing.
-pub record IsLawful (scrambling : Scrambling) : Type 0 where
+pub record IsLawful {promised : Promised} (scrambling : Scrambling promised) : Type 0 where
   pub one_answer : (least : ℕ) → HasOneAnswer scrambling least
   pub one_listing : HasOneListing scrambling
 
 -- where states are numbered, and each that turns reach has one scramble at most
-by_states : {S : Type 0} (event : Event) (drawn : DrawnPuzzle S) (n : Numbered S) (IsScramble : Effort → S → List Turn → Type 0)
-    → IsNumbering n → IsOnly drawn.puzzle IsScramble → IsLawful (ByState S event drawn (numbers_of n) IsScramble)
-by_states event drawn n IsScramble numbering only = record {
+by_states : {S : Type 0} {drawn : DrawnPuzzle S} (event : Event) (n : Numbered S) (IsScramble : Effort → S → List Turn → Type 0)
+    → IsNumbering n → IsOnly drawn.puzzle IsScramble → IsLawful {promised = States S drawn} (ByState event (numbers_of n) IsScramble)
+by_states {drawn = drawn} event n IsScramble numbering only = record {
   one_answer = λ least. HasOneAnswer-state event drawn (numbers_of n) IsScramble least numbering.some only;
   one_listing = HaveOneListing-numbered n drawn.puzzle numbering;
 }
 
-by_moves : (event : Event) (random : RandomMoves) → IsLawful (ByMoves event random)
-by_moves event random = record { one_answer = HasOneAnswer-moves event random; one_listing = tt }
+by_moves : {random : RandomMoves} (event : Event) → IsLawful {promised = Moves random} (ByMoves event)
+by_moves {random} event = record { one_answer = HasOneAnswer-moves event random; one_listing = tt }
 
 pub each_lawful : (what : Puzzle) → IsLawful (scrambled_as what)
-unfolding scrambled_as
+unfolding promised_as scrambled_as
 each_lawful puzzle.Cube222 =
-    by_states C222 drawn_222 numbered_222 _ numbering_222 (λ effort state turns other reached. IsScrambleOf-unique numbered_puzzle_222 lawful_puzzle_222 state turns other)
+    by_states C222 numbered_222 _ numbering_222 (λ effort state turns other reached. IsScrambleOf-unique numbered_puzzle_222 lawful_puzzle_222 state turns other)
 each_lawful puzzle.Cube333 =
-    by_states C333 drawn_333 cube_numbered IsScramble333Within cube_numbering
+    by_states C333 cube_numbered IsScramble333Within cube_numbering
     (λ effort state turns other reached a b. IsScrambleBy-unique (two_parts state effort.tries) state turns other a.0 b.0)
 each_lawful puzzle.Held333 =
-    by_states Bf333 drawn_held held_numbered _ held_numbering (λ effort state turns other reached. IsScramble333bf-unique effort.tries state turns other)
+    by_states Bf333 held_numbered _ held_numbering (λ effort state turns other reached. IsScramble333bf-unique effort.tries state turns other)
 each_lawful puzzle.Fewest333 =
-    by_states Fm333 drawn_fewest cube_numbered IsScrambleFewestWithin cube_numbering
+    by_states Fm333 cube_numbered IsScrambleFewestWithin cube_numbering
     (λ effort state turns other reached a b. IsScrambleFewest-unique effort.tries state turns other a.0 b.0)
-each_lawful puzzle.Cube555 = by_moves C555 (cube_random_moves 5)
-each_lawful puzzle.Cube666 = by_moves C666 (cube_random_moves 6)
-each_lawful puzzle.Cube777 = by_moves C777 (cube_random_moves 7)
+each_lawful puzzle.Cube555 = by_moves C555
+each_lawful puzzle.Cube666 = by_moves C666
+each_lawful puzzle.Cube777 = by_moves C777
 each_lawful puzzle.Clock =
-    by_states Clock drawn_clock clock_numbered _ clock_numbering (λ effort state turns other reached. IsScrambleOf-one state turns other)
-each_lawful puzzle.Megaminx = by_moves Minx moves_minx
+    by_states Clock clock_numbered _ clock_numbering (λ effort state turns other reached. IsScrambleOf-one state turns other)
+each_lawful puzzle.Megaminx = by_moves Minx
 each_lawful puzzle.Pyraminx =
-    by_states Pyram drawn_pyram numbered_pyram _ pyram_numbering (λ effort state turns other reached. IsScramblePyram-unique state turns other)
+    by_states Pyram numbered_pyram _ pyram_numbering (λ effort state turns other reached. IsScramblePyram-unique state turns other)
 each_lawful puzzle.Skewb =
-    by_states Skewb drawn_skewb skewb_numbered _ skewb_numbering (λ effort state turns other reached. IsScrambleOf-unique numbered_puzzle_skewb lawful_puzzle_skewb state turns other)
+    by_states Skewb skewb_numbered _ skewb_numbering (λ effort state turns other reached. IsScrambleOf-unique numbered_puzzle_skewb lawful_puzzle_skewb state turns other)
 each_lawful puzzle.Square1 =
-    by_states Sq1 drawn_sq1 sq1_numbered _ sq1_numbering (λ effort state turns other reached. IsShortScramble-unique effort.short state turns other)
+    by_states Sq1 sq1_numbered _ sq1_numbering (λ effort state turns other reached. IsShortScramble-unique effort.short state turns other)
 
 -- ---- fairness
 
 -- an event of a set is drawn fairly at each minimum up to the greatest
 abbrev pub IsFairIn : List Bool → Event → Type 0
 IsFairIn set event = Has set event → (least : ℕ) → least ≤ greatest_of event → IsDrawnFairly (scrambling_of event) least
-
--- ---- what is promised
-
-abbrev pub shown_by : Scrambling → Shown
-shown_by (ByState S event drawn numbers IsScramble) = States S drawn
-shown_by (ByMoves event random) = Moves random
-
--- an event is scrambled as it is shown_as
-same : (what : Puzzle) → shown_by (scrambled_as what) ≡ shown_as what
-unfolding scrambled_as shown_as
-same puzzle.Cube222 = refl
-same _ = refl
-
-pub same_shown : (event : Event) → shown_by (scrambling_of event) ≡ shown_of event
-same_shown event = same (puzzle_of event)

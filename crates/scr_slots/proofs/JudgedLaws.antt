@@ -13,7 +13,7 @@ use Rattle.scr_notation.specs.Written.{Written, IsWritten}
 use Rattle.scr_notation.proofs.ReadLaws.{one-scramble}
 use Rattle.scr_notation.proofs.TextLaws.{IsUtf8-text_of}
 use Rattle.scr_slots.specs.declared.settings.Settings.{Settings}
-use Rattle.scr_slots.specs.Shown.{RandomMoves, slot_numbers}
+use Rattle.scr_slots.specs.Promised.{RandomMoves, Moves, slot_numbers}
 use Rattle.scr_slots.specs.Slots.{ByMoves, ByListing, IsSlotAnswer}
 use Rattle.scr_slots.specs.Agreement.{LeadToDrawn, IsTextOf, IsTold, IsJudged, IsReadAs}
 use Rattle.scr_slots.proofs.Listings.{IsOutcome, one-outcome}
@@ -65,8 +65,8 @@ module _ {S : Type 0} (event : Event) (n : Numbers S) (puzzle : Puzzle S) (playe
 
 -- What is told of a text and random moves, of which there are some.
 pub judged-moves : (event : Event) (random : RandomMoves) (settings : Settings) (least stream : ℕ) (text : List ℕ) (s : Written)
-    → IsWritten s → IsSlotAnswer (ByMoves event random) settings least stream (Some s)
-    → IsJudged (ByMoves event random) settings least stream text (Some (bytes_eq (text_of s.turns) text))
+    → IsWritten s → IsSlotAnswer {promised = Moves random} (ByMoves event) settings least stream (Some s)
+    → IsJudged {promised = Moves random} (ByMoves event) settings least stream text (Some (bytes_eq (text_of s.turns) text))
 judged-moves event random settings least stream text s written has = (
   λ none. let same : Some s.turns ≡ None = sym has.turns ∙ none in cc,
   (

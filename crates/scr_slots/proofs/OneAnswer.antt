@@ -8,7 +8,7 @@ use Rattle.scr_notation.specs.declared.event.Event.{Event}
 use Rattle.scr_notation.specs.Written.{Written}
 use Rattle.scr_slots.specs.declared.settings.Effort.{Effort}
 use Rattle.scr_slots.specs.declared.settings.Settings.{Settings}
-use Rattle.scr_slots.specs.Shown.{DrawnPuzzle, RandomMoves, slot_numbers}
+use Rattle.scr_slots.specs.Promised.{DrawnPuzzle, RandomMoves, States, Moves, slot_numbers}
 use Rattle.scr_slots.specs.Slots.{ByState, ByMoves, IsSlotScramble}
 use Rattle.scr_slots.specs.Outcomes.{HasOneAnswer}
 use Rattle.scr_slots.proofs.Listings.{IsOutcome, one-outcome}
@@ -36,11 +36,11 @@ module _ {S : Type 0} (event : Event) (drawn : DrawnPuzzle S) (n : Numbers S) (I
 
   -- what the slot of a scramble draws
   drawn_of : (settings : Settings) (stream : ℕ) (a : Written)
-      → (is : IsSlotScramble (ByState S event drawn n IsScramble) settings least stream a)
+      → (is : IsSlotScramble {promised = States S drawn} (ByState event n IsScramble) settings least stream a)
       → IsDrawn settings stream (Some is.turns.is.of_state.state)
   drawn_of settings stream a is = record { state_at = is.turns.state_at; listing = is.turns.listing; is = is.turns.is.of_state.draws }
 
-  pub HasOneAnswer-state : HasOneAnswer (ByState S event drawn n IsScramble) least
+  pub HasOneAnswer-state : HasOneAnswer {promised = States S drawn} (ByState event n IsScramble) least
   HasOneAnswer-state settings stream (Some a) (Some b) first second =
       let one = first.turns.is in
       let two = second.turns.is in
@@ -59,7 +59,7 @@ module _ {S : Type 0} (event : Event) (drawn : DrawnPuzzle S) (n : Numbers S) (I
   HasOneAnswer-state settings stream None None first second = refl
 
 -- And a slot of random moves has those that its words give, or none.
-pub HasOneAnswer-moves : (event : Event) (random : RandomMoves) (least : ℕ) → HasOneAnswer (ByMoves event random) least
+pub HasOneAnswer-moves : (event : Event) (random : RandomMoves) (least : ℕ) → HasOneAnswer {promised = Moves random} (ByMoves event) least
 HasOneAnswer-moves event random least settings stream (Some a) (Some b) first second =
     ap Some (one_scramble_by a b (first.event ∙ sym second.event) (same_Some a.turns b.turns (sym first.turns ∙ second.turns)))
 HasOneAnswer-moves event random least settings stream (Some a) None first second =

@@ -32,7 +32,7 @@ use Rattle.scr_bigs.specs.CubeMoves.{cube_moves}
 use Rattle.scr_bigs.specs.Megaminx.{megaminx_moves}
 use Rattle.scr_bigs.specs.Fairness.{AreFairTurns, AreFairBits}
 use Rattle.scr_slots.specs.declared.settings.Effort.{Effort}
-use Rattle.scr_slots.specs.Shown.{DrawnPuzzle, drawn_puzzle, RandomMoves, Shown, States, Moves}
+use Rattle.scr_slots.specs.Promised.{DrawnPuzzle, drawn_puzzle, RandomMoves, Promised, States, Moves}
 use Rattle.scr_slots.specs.Slots.{Scrambling, ByState, ByMoves}
 
 -- ---- what is promised
@@ -41,36 +41,12 @@ use Rattle.scr_slots.specs.Slots.{Scrambling, ByState, ByMoves}
 abbrev pub drawn_by_powers : {S R : Type 0} → PowerPuzzle S R Turn → ℕ → DrawnPuzzle S
 drawn_by_powers p most = drawn_puzzle (power_puzzle p) (play (after_letter p) p.solved) (at_most most)
 
-abbrev pub drawn_222 : DrawnPuzzle Orbit
-drawn_222 = drawn_by_powers powers_222 11
-
-abbrev pub drawn_333 : DrawnPuzzle CubeState
-drawn_333 = drawn_by_powers cube_powers 52
-
 -- The 3x3x3 for fewest moves: two frames of three turns more. Turns that don't begin and end with R' U' F are no
 -- scramble.
 abbrev pub drawn_fewest : DrawnPuzzle CubeState
 drawn_fewest =
     drawn_puzzle (power_puzzle cube_powers)
     (λ turns. if is_framed turns then play (after_letter cube_powers) solved_cube turns else None) (at_most 58)
-
--- the 3x3x3 as it is held: two wide turns more
-abbrev pub drawn_held : DrawnPuzzle HeldState
-drawn_held = drawn_puzzle held_puzzle (play held_cube_after solved_held) (at_most 54)
-
-abbrev pub drawn_pyram : DrawnPuzzle PyramState
-drawn_pyram = drawn_by_powers pyram_powers 15
-
-abbrev pub drawn_skewb : DrawnPuzzle SkewbState
-drawn_skewb = drawn_by_powers skewb_powers 11
-
--- Clock: fourteen amounts and `y2`
-abbrev pub drawn_clock : DrawnPuzzle (List ℕ)
-drawn_clock = drawn_puzzle clock_puzzle (clock_after solved) (at_most 15)
-
--- the Square-1: at most 76 twists, and 153 turns
-abbrev pub drawn_sq1 : DrawnPuzzle Sq1State
-drawn_sq1 = drawn_puzzle sq1_puzzle (play sq1_after solved_sq1) IsWithinBounds
 
 -- a big cube of so many layers: each turn is one of those that may follow the one before
 abbrev pub cube_random_moves : ℕ → RandomMoves
@@ -80,23 +56,25 @@ cube_random_moves side = record { moves = cube_moves side; AreFair = AreFairTurn
 abbrev pub moves_minx : RandomMoves
 moves_minx = record { moves = λ attempts. megaminx_moves; AreFair = AreFairBits }
 
--- Of what is scrambled: the puzzle whose states are drawn, or the random moves.
-unfoldable pub shown_as : Puzzle → Shown
-shown_as puzzle.Cube222 = States Orbit drawn_222
-shown_as puzzle.Cube333 = States CubeState drawn_333
-shown_as puzzle.Held333 = States HeldState drawn_held
-shown_as puzzle.Fewest333 = States CubeState drawn_fewest
-shown_as puzzle.Cube555 = Moves (cube_random_moves 5)
-shown_as puzzle.Cube666 = Moves (cube_random_moves 6)
-shown_as puzzle.Cube777 = Moves (cube_random_moves 7)
-shown_as puzzle.Clock = States (List ℕ) drawn_clock
-shown_as puzzle.Megaminx = Moves moves_minx
-shown_as puzzle.Pyraminx = States PyramState drawn_pyram
-shown_as puzzle.Skewb = States SkewbState drawn_skewb
-shown_as puzzle.Square1 = States Sq1State drawn_sq1
+-- Of what is scrambled: the puzzle whose states are drawn, and of how few turns its scrambles are, or the random moves.
+-- A 3x3x3 as it is held has two wide turns more, a Clock fourteen amounts and `y2`, and a Square-1 at most 76 twists,
+-- and 153 turns.
+unfoldable pub promised_as : Puzzle → Promised
+promised_as puzzle.Cube222 = States Orbit (drawn_by_powers powers_222 11)
+promised_as puzzle.Cube333 = States CubeState (drawn_by_powers cube_powers 52)
+promised_as puzzle.Held333 = States HeldState (drawn_puzzle held_puzzle (play held_cube_after solved_held) (at_most 54))
+promised_as puzzle.Fewest333 = States CubeState drawn_fewest
+promised_as puzzle.Cube555 = Moves (cube_random_moves 5)
+promised_as puzzle.Cube666 = Moves (cube_random_moves 6)
+promised_as puzzle.Cube777 = Moves (cube_random_moves 7)
+promised_as puzzle.Clock = States (List ℕ) (drawn_puzzle clock_puzzle (clock_after solved) (at_most 15))
+promised_as puzzle.Megaminx = Moves moves_minx
+promised_as puzzle.Pyraminx = States PyramState (drawn_by_powers pyram_powers 15)
+promised_as puzzle.Skewb = States SkewbState (drawn_by_powers skewb_powers 11)
+promised_as puzzle.Square1 = States Sq1State (drawn_puzzle sq1_puzzle (play sq1_after solved_sq1) IsWithinBounds)
 
-abbrev pub shown_of : Event → Shown
-shown_of event = shown_as (puzzle_of event)
+abbrev pub promised_of : Event → Promised
+promised_of event = promised_as (puzzle_of event)
 
 -- ---- which scramble a state has
 
@@ -114,19 +92,20 @@ IsScrambleFewestWithin effort cube turns =
 
 -- How it is scrambled. The event in a line is the one by whose notation its scrambles are written. Puzzles other than
 -- the 3x3x3 and the Square-1 have one scramble, whatever the effort.
-unfoldable pub scrambled_as : Puzzle → Scrambling
-scrambled_as puzzle.Cube222 = ByState Orbit C222 drawn_222 numbers_222 (λ effort. IsScramble222)
-scrambled_as puzzle.Cube333 = ByState CubeState C333 drawn_333 cube_numbers IsScramble333Within
-scrambled_as puzzle.Held333 = ByState HeldState Bf333 drawn_held held_numbers (λ effort. IsScramble333bf effort.tries)
-scrambled_as puzzle.Fewest333 = ByState CubeState Fm333 drawn_fewest cube_numbers IsScrambleFewestWithin
-scrambled_as puzzle.Cube555 = ByMoves C555 (cube_random_moves 5)
-scrambled_as puzzle.Cube666 = ByMoves C666 (cube_random_moves 6)
-scrambled_as puzzle.Cube777 = ByMoves C777 (cube_random_moves 7)
-scrambled_as puzzle.Clock = ByState (List ℕ) Clock drawn_clock clock_numbers (λ effort. IsClockScramble)
-scrambled_as puzzle.Megaminx = ByMoves Minx moves_minx
-scrambled_as puzzle.Pyraminx = ByState PyramState Pyram drawn_pyram pyram_numbers (λ effort. IsScramblePyram)
-scrambled_as puzzle.Skewb = ByState SkewbState Skewb drawn_skewb skewb_numbers (λ effort. IsScrambleSkewb)
-scrambled_as puzzle.Square1 = ByState Sq1State Sq1 drawn_sq1 sq1_numbers (λ effort. IsShortScramble effort.short)
+unfoldable pub scrambled_as : (what : Puzzle) → Scrambling (promised_as what)
+unfolding promised_as
+scrambled_as puzzle.Cube222 = ByState C222 numbers_222 (λ effort. IsScramble222)
+scrambled_as puzzle.Cube333 = ByState C333 cube_numbers IsScramble333Within
+scrambled_as puzzle.Held333 = ByState Bf333 held_numbers (λ effort. IsScramble333bf effort.tries)
+scrambled_as puzzle.Fewest333 = ByState Fm333 cube_numbers IsScrambleFewestWithin
+scrambled_as puzzle.Cube555 = ByMoves C555
+scrambled_as puzzle.Cube666 = ByMoves C666
+scrambled_as puzzle.Cube777 = ByMoves C777
+scrambled_as puzzle.Clock = ByState Clock clock_numbers (λ effort. IsClockScramble)
+scrambled_as puzzle.Megaminx = ByMoves Minx
+scrambled_as puzzle.Pyraminx = ByState Pyram pyram_numbers (λ effort. IsScramblePyram)
+scrambled_as puzzle.Skewb = ByState Skewb skewb_numbers (λ effort. IsScrambleSkewb)
+scrambled_as puzzle.Square1 = ByState Sq1 sq1_numbers (λ effort. IsShortScramble effort.short)
 
-abbrev pub scrambling_of : Event → Scrambling
+abbrev pub scrambling_of : (event : Event) → Scrambling (promised_of event)
 scrambling_of event = scrambled_as (puzzle_of event)

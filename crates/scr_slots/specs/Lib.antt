@@ -1,4 +1,4 @@
-pub mod Shown
+pub mod Promised
 pub mod Ranges
 pub mod Slots
 pub mod Agreement

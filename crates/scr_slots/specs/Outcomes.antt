@@ -6,10 +6,11 @@ use Rattle.scr_combinatorics.specs.Reach.{Puzzle}
 use Rattle.scr_draw.specs.StateSpace.{StateSpace, Draws, IsFairFor}
 use Rattle.scr_notation.specs.Written.{Written}
 use Rattle.scr_slots.specs.declared.settings.Settings.{Settings}
+use Rattle.scr_slots.specs.Promised.{Promised, States, Moves}
 use Rattle.scr_slots.specs.Slots.{Scrambling, ByState, ByMoves, ByListing, IsSlotAnswer}
 
 -- A slot has one answer: one scramble at most, and either that or none.
-abbrev pub HasOneAnswer : Scrambling → ℕ → Type 0
+abbrev pub HasOneAnswer : {promised : Promised} → Scrambling promised → ℕ → Type 0
 HasOneAnswer scrambling least =
     (settings : Settings) (stream : ℕ) (answer other : Option Written) → IsSlotAnswer scrambling settings least stream answer
     → IsSlotAnswer scrambling settings least stream other → answer ≡ other
@@ -32,6 +33,6 @@ pub record HaveOneListing {S : Type 0} (numbers : Numbers S) (puzzle : Puzzle S)
       → ByEachListing numbers puzzle (λ space. IsFairFor space least)
 
 -- so of the states of an event
-abbrev pub HasOneListing : Scrambling → Type 0
-HasOneListing (ByState S event drawn numbers IsScramble) = HaveOneListing numbers drawn.puzzle
-HasOneListing (ByMoves event random) = Unit {0}
+abbrev pub HasOneListing : {promised : Promised} → Scrambling promised → Type 0
+HasOneListing {promised = States S drawn} (ByState event numbers IsScramble) = HaveOneListing numbers drawn.puzzle
+HasOneListing {promised = Moves random} (ByMoves event) = Unit {0}

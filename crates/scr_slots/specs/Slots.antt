@@ -9,18 +9,19 @@ use Rattle.scr_notation.specs.declared.turn.Turn.{Turn}
 use Rattle.scr_notation.specs.Written.{Written, IsWritten}
 use Rattle.scr_slots.specs.declared.settings.Effort.{Effort}
 use Rattle.scr_slots.specs.declared.settings.Settings.{Settings}
-use Rattle.scr_slots.specs.Shown.{DrawnPuzzle, RandomMoves, GivesDrawn, HasMoves, slot_numbers}
+use Rattle.scr_slots.specs.Promised.{DrawnPuzzle, RandomMoves, Promised, States, Moves, GivesDrawn, HasMoves, slot_numbers}
 
--- How an event is scrambled, and the event that its scrambles are of, by whose notation they are written: by the states
--- of a puzzle, each drawn by its number, where it is told which turns are the scramble of a state to which a solver
--- gives so much effort; or by random moves.
-pub data Scrambling : Type 1 where
-  ByState : (S : Type 0) → Event → DrawnPuzzle S → Numbers S → (Effort → S → List Turn → Type 0) → Scrambling
-  ByMoves : Event → RandomMoves → Scrambling
+-- How something is scrambled of which this is promised, and the event that its scrambles are of, by whose notation they
+-- are written: by states, each drawn by its number, where it is told which turns are the scramble of a state to which a
+-- solver gives so much effort; or by random moves.
+pub data Scrambling : Promised → Type 1 where
+  ByState : {S : Type 0} {drawn : DrawnPuzzle S} → Event → Numbers S → (Effort → S → List Turn → Type 0)
+      → Scrambling (States S drawn)
+  ByMoves : {random : RandomMoves} → Event → Scrambling (Moves random)
 
-abbrev pub event_of_scrambles : Scrambling → Event
-event_of_scrambles (ByState S event drawn numbers IsScramble) = event
-event_of_scrambles (ByMoves event random) = event
+abbrev pub event_of_scrambles : {promised : Promised} → Scrambling promised → Event
+event_of_scrambles (ByState event numbers IsScramble) = event
+event_of_scrambles (ByMoves event) = event
 
 -- It is so of what is drawn from, by a listing of the states: at each number below the count stands the state that has
 -- it. (There is one, and it makes no difference which: they are alike below the count.)
@@ -35,33 +36,33 @@ pub record IsDrawnScramble {S : Type 0} (drawn : DrawnPuzzle S) (IsScramble : Ef
   pub of_state : GivesDrawn drawn space least (slot_numbers settings stream) turns
   pub scramble : IsScramble settings.effort of_state.state turns
 
-abbrev pub AreSlotTurns : Scrambling → Settings → ℕ → ℕ → List Turn → Type 0
-AreSlotTurns (ByState S event drawn numbers IsScramble) settings least stream turns =
+abbrev pub AreSlotTurns : {promised : Promised} → Scrambling promised → Settings → ℕ → ℕ → List Turn → Type 0
+AreSlotTurns {promised = States S drawn} (ByState event numbers IsScramble) settings least stream turns =
     ByListing numbers drawn.puzzle (IsDrawnScramble drawn IsScramble settings least stream turns)
-AreSlotTurns (ByMoves event random) settings least stream turns = HasMoves random settings stream (Some turns)
+AreSlotTurns {promised = Moves random} (ByMoves event) settings least stream turns = HasMoves random settings stream (Some turns)
 
 -- A slot's scramble: its event and its turns, all of which the event has.
-pub record IsSlotScramble (scrambling : Scrambling) (settings : Settings) (least stream : ℕ) (scramble : Written) : Type 0 where
+pub record IsSlotScramble {promised : Promised} (scrambling : Scrambling promised) (settings : Settings) (least stream : ℕ) (scramble : Written) : Type 0 where
   pub event : scramble.event ≡ event_of_scrambles scrambling
   pub written : IsWritten scramble
   pub turns : AreSlotTurns scrambling settings least stream scramble.turns
 
 -- A slot has no scramble: each of its attempts misses, or all those of one of its random moves are refused.
-abbrev pub HasNoScramble : Scrambling → Settings → ℕ → ℕ → Type 0
-HasNoScramble (ByState S event drawn numbers IsScramble) settings least stream =
+abbrev pub HasNoScramble : {promised : Promised} → Scrambling promised → Settings → ℕ → ℕ → Type 0
+HasNoScramble {promised = States S drawn} (ByState event numbers IsScramble) settings least stream =
     ByListing numbers drawn.puzzle (λ space. Draws space least (slot_numbers settings stream) None)
-HasNoScramble (ByMoves event random) settings least stream = HasMoves random settings stream None
+HasNoScramble {promised = Moves random} (ByMoves event) settings least stream = HasMoves random settings stream None
 
 -- The answer of a slot: its scramble, or that it has none.
-abbrev pub IsSlotAnswer : Scrambling → Settings → ℕ → ℕ → Option Written → Type 0
+abbrev pub IsSlotAnswer : {promised : Promised} → Scrambling promised → Settings → ℕ → ℕ → Option Written → Type 0
 IsSlotAnswer scrambling settings least stream (Some scramble) = IsSlotScramble scrambling settings least stream scramble
 IsSlotAnswer scrambling settings least stream None = HasNoScramble scrambling settings least stream
 
 -- What fairness says of an event: every state that turns reach and that needs so many is drawn by equally many lists of
 -- numbers. Of random moves it says only that each step takes each of its choices by equally many numbers.
-abbrev pub IsDrawnFairly : Scrambling → ℕ → Type 0
-IsDrawnFairly (ByState S event drawn numbers IsScramble) least = ByListing numbers drawn.puzzle (λ space. IsFairFor space least)
-IsDrawnFairly (ByMoves event random) least = random.AreFair
+abbrev pub IsDrawnFairly : {promised : Promised} → Scrambling promised → ℕ → Type 0
+IsDrawnFairly {promised = States S drawn} (ByState event numbers IsScramble) least = ByListing numbers drawn.puzzle (λ space. IsFairFor space least)
+IsDrawnFairly {promised = Moves random} (ByMoves event) least = random.AreFair
 
 -- Slot 0 of round k of a list has this stream, both counted from 0, and slot j the stream j further on.
 abbrev pub first_stream : ℕ → ℕ

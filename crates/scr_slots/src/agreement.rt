@@ -63,7 +63,7 @@ impl Question for Agreement<'_> {
 
     ghost needs_solver = { false };
 
-    ghost is_answer = { λ slot _ scrambling told. IsJudged scrambling slot.settings slot.least slot.stream slot.text.now told };
+    ghost is_answer = { λ slot _ _ scrambling told. IsJudged scrambling slot.settings slot.least slot.stream slot.text.now told };
 
     fn of_states<E: StateEvent>(
         &self,

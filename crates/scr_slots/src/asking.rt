@@ -4,9 +4,9 @@ ghost use Rattle.std.specs.Prelude.{◌≡◌, ◌≤◌, ℕ, Bool, IfSome, IsS
 ghost use Rattle.scr_combinatorics.specs.Numbered.{numbers_of};
 ghost use Rattle.scr_notation.specs.Event.{greatest_in, greatest_of, is_tested_by_table, puzzle_row_of};
 ghost use Rattle.scr_notation.specs.EventSets.{Has};
-ghost use Rattle.scr_slots.specs.Events.{scrambled_as, scrambling_of};
+ghost use Rattle.scr_slots.specs.Events.{scrambled_as, scrambling_of, promised_as, promised_of};
 ghost use Rattle.scr_slots.specs.Families.{HasTablesOf};
-ghost use Rattle.scr_slots.specs.Shown.{drawn_puzzle};
+ghost use Rattle.scr_slots.specs.Promised.{States, Moves, drawn_puzzle};
 ghost use Rattle.scr_slots.specs.Slots.{ByMoves, ByState};
 
 use crate::event::{MoveEvent, StateEvent};
@@ -21,6 +21,7 @@ use scr_twophase::{Draw333, DrawHeld};
 
 /// A question to an event, with an answer for events whose states are drawn and one for events of random moves.
 pub(crate) trait Question {
+    ghost use Rattle.scr_slots.specs.Promised.{Promised};
     ghost use Rattle.scr_slots.specs.Slots.{Scrambling};
 
     /// Its answer.
@@ -33,7 +34,7 @@ pub(crate) trait Question {
     ghost needs_solver: { Bool };
 
     /// What answers it, of an event with this greatest minimum that is scrambled so.
-    ghost is_answer: { Self → ℕ → Scrambling → Self.Answer → Type 0 };
+    ghost is_answer: { Self → ℕ → (promised : Promised) → Scrambling promised → Self.Answer → Type 0 };
 
     /// Its answer of an event whose states are drawn, and whose scrambles are written as those of `notation`.
     fn of_states<E: StateEvent>(
@@ -46,14 +47,14 @@ pub(crate) trait Question {
         requires notation { notation ≡ E.event }
         requires solver { IsTrue needs_solver → IsSome solver }
         requires own { IfSome solver (λ found. E.is_own found.now) }
-        ensures { let drawn = drawn_puzzle (E.puzzle event.now) E.drawn.played E.drawn.IsWithin in
+        ensures { let drawn = drawn_puzzle (E.puzzle event.now) E.played E.is_within in
             let numbers = numbers_of (E.numbered event.now) in
-            is_answer self.now (E.greatest event.now) (ByState E.State E.event drawn numbers E.is_scramble) result };
+            is_answer self.now (E.greatest event.now) (States E.State drawn) (ByState E.event numbers E.is_scramble) result };
 
     /// Its answer of an event of random moves.
     fn of_moves<M: MoveEvent>(&self, moves: &M) -> Self::Answer
         requires { may_ask self.now 0 }
-        ensures { is_answer self.now 0 (ByMoves (M.event moves.now) (M.random moves.now)) result };
+        ensures { is_answer self.now 0 (Moves (M.random moves.now)) (ByMoves (M.event moves.now)) result };
 }
 
 /// The answer of an event to a question. The tables have the event where its states are tested by one, and where the
@@ -62,18 +63,17 @@ pub(crate) fn ask<Q: Question>(tables: &Tables, event: Event, question: &Q) -> Q
     requires asked { Q.may_ask question.now (greatest_of event) }
     requires tested { IsTrue (is_tested_by_table event) → Has tables.now event }
     requires solver { IsTrue Q.needs_solver → Has tables.now event }
-    ensures { Q.is_answer question.now (greatest_of event) (scrambling_of event) result }
+    ensures { Q.is_answer question.now (greatest_of event) (promised_of event) (scrambling_of event) result }
 {
     ask_puzzle(tables, event.puzzle(), question)
 }
 
 /// The answer of what is scrambled for an event.
-#[tactic(auto, unfolding(crate::specs::Events::scrambled_as))]
 fn ask_puzzle<Q: Question>(tables: &Tables, puzzle: Puzzle, question: &Q) -> Q::Answer
     requires asked { Q.may_ask question.now (greatest_in (puzzle_row_of puzzle).minima) }
     requires tested { IsTrue (puzzle_row_of puzzle).tested_by_table → HasTablesOf tables.now puzzle }
     requires solver { IsTrue Q.needs_solver → HasTablesOf tables.now puzzle }
-    ensures { Q.is_answer question.now (greatest_in (puzzle_row_of puzzle).minima) (scrambled_as puzzle) result }
+    ensures { Q.is_answer question.now (greatest_in (puzzle_row_of puzzle).minima) (promised_as puzzle) (scrambled_as puzzle) result }
 {
     match puzzle {
         Puzzle::Cube222 => {

@@ -1,6 +1,6 @@
 //! What an event gives, by which its slots are answered: states that are drawn, or random moves.
 
-ghost use Rattle.std.specs.Prelude.{◌≡◌, ◌↔◌, ◌≤◌, ℕ, IsTrue, List, Some};
+ghost use Rattle.std.specs.Prelude.{◌≡◌, ◌↔◌, ◌≤◌, ℕ, IsTrue, List, Option, Some};
 ghost use Rattle.scr_combinatorics.specs.Reach.{IsReached};
 ghost use Rattle.scr_notation.specs.declared.event.Event.{Event};
 ghost use Rattle.scr_notation.specs.declared.turn.Turn.{Turn};
@@ -13,8 +13,8 @@ use scr_notation::Scramble;
 /// what scrambles make of the solved puzzle.
 pub(crate) trait StateEvent: Numbering + Permit<<Self as Numbering>::State> {
     ghost use Rattle.scr_slots.specs.declared.settings.Effort.{Effort as EffortOf};
+    ghost use Rattle.scr_notation.specs.Written.{IsTheScramble};
     ghost use Rattle.scr_slots.specs.Ranges.{IsShort};
-    ghost use Rattle.scr_slots.specs.Shown.{DrawnPuzzle};
 
     /// What scrambles are found by: tables, or nothing.
     type Solver;
@@ -22,8 +22,11 @@ pub(crate) trait StateEvent: Numbering + Permit<<Self as Numbering>::State> {
     /// The event that its scrambles are of.
     ghost event: { Event };
 
-    /// What the turns of a scramble make of the solved puzzle, and of how few turns its scrambles are.
-    ghost drawn: { DrawnPuzzle Self.State };
+    /// What the turns of a scramble make of the solved puzzle.
+    ghost played: { List Turn → Option Self.State };
+
+    /// Of how few turns scrambles are.
+    ghost is_within: { List Turn → Type 0 };
 
     /// Which turns are the scramble of a state, to which it gives so much effort.
     ghost is_scramble: { EffortOf → Self.State → List Turn → Type 0 };
@@ -33,15 +36,12 @@ pub(crate) trait StateEvent: Numbering + Permit<<Self as Numbering>::State> {
 
     /// Whether a scramble, played on the solved puzzle, gives this state.
     fn leads_to(&self, scramble: &Scramble, state: &Self::State) -> bool
-        ensures { IsTrue result ↔ drawn.played scramble.now.turns ≡ Some state.now };
+        ensures { IsTrue result ↔ played scramble.now.turns ≡ Some state.now };
 
-    /// The scramble of a state: played on the solved puzzle it gives the state. The effort is in its range.
+    /// The scramble of a state, to which it gives so much effort. The effort is in its range.
     fn scramble(&self, solver: &Self::Solver, state: &Self::State, effort: Effort) -> Scramble
         requires { IsShort effort.short }
-        ensures event { result.event ≡ event }
-        ensures gives { drawn.played result.turns ≡ Some state.now }
-        ensures within { drawn.IsWithin result.turns }
-        ensures scramble { is_scramble effort state.now result.turns };
+        ensures { IsTheScramble event (is_scramble effort) is_within played state.now result };
 
     /// Does nothing: by what scrambles are found, the states that are numbered are those that turns reach.
     fn is_reached(&self, solver: &Self::Solver)
@@ -51,7 +51,7 @@ pub(crate) trait StateEvent: Numbering + Permit<<Self as Numbering>::State> {
 
 /// An event that is scrambled by random moves.
 pub(crate) trait MoveEvent {
-    ghost use Rattle.scr_slots.specs.Shown.{RandomMoves};
+    ghost use Rattle.scr_slots.specs.Promised.{RandomMoves, Moves};
     ghost use Rattle.scr_slots.specs.Slots.{ByMoves, IsSlotAnswer};
 
     /// The event that its scrambles are of.
@@ -64,7 +64,7 @@ pub(crate) trait MoveEvent {
     /// 1,000,000 attempts.
     fn scramble(&self, settings: &Settings, stream: u64) -> Option<Scramble>
         requires { settings.now.attempts ≤ 1000000 }
-        ensures { (least : ℕ) → IsSlotAnswer (ByMoves (event self.now) (random self.now)) settings.now least stream result };
+        ensures { (least : ℕ) → IsSlotAnswer {promised = Moves (random self.now)} (ByMoves (event self.now)) settings.now least stream result };
 
     /// Each of its steps is fair.
     ghost are_fair: { (moves : Self) → (random moves).AreFair };

@@ -71,7 +71,7 @@ impl Question for Fairness {
 
     ghost needs_solver = { true };
 
-    ghost is_answer = { λ _ greatest scrambling _. (least : ℕ) → least ≤ greatest → IsDrawnFairly scrambling least };
+    ghost is_answer = { λ _ greatest _ scrambling _. (least : ℕ) → least ≤ greatest → IsDrawnFairly scrambling least };
 
     fn of_states<E: StateEvent>(&self, event: &E, _notation: Event, solver: Option<&E::Solver>) {
         event.is_reached(solver.unwrap());

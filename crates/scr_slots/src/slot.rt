@@ -60,7 +60,7 @@ impl Question for Answer {
 
     ghost needs_solver = { true };
 
-    ghost is_answer = { λ slot _ scrambling answer. IsSlotAnswer scrambling slot.settings slot.least slot.stream answer };
+    ghost is_answer = { λ slot _ _ scrambling answer. IsSlotAnswer scrambling slot.settings slot.least slot.stream answer };
 
     fn of_states<E: StateEvent>(
         &self,

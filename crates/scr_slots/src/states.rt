@@ -3,12 +3,23 @@
 ghost use Rattle.std.specs.Prelude.{◌≡◌};
 ghost use Rattle.scr_notation.specs.declared.event.Event.TheVariants.{Bf333, C222, C333, Fm333, Pyram};
 ghost use Rattle.scr_notation.specs.declared.event.Event.TheVariants.{Clock as EventClock, Skewb as EventSkewb, Sq1 as EventSq1};
+ghost use Rattle.scr_notation.specs.Written.{at_most};
+ghost use Rattle.scr_combinatorics.specs.Play.{play};
+ghost use Rattle.scr_orbit.specs.PowerPuzzles.{after_letter};
+ghost use Rattle.scr_cube.specs.Cube222.{powers_222, solved_222};
+ghost use Rattle.scr_cube.specs.Cube333.{cube_powers, solved_cube};
+ghost use Rattle.scr_cube.specs.Held.{held_cube_after, solved_held};
+ghost use Rattle.scr_tetra.specs.Pyraminx.{pyram_powers, solved_pyram};
+ghost use Rattle.scr_tetra.specs.Skewb.{skewb_powers, solved_skewb};
+ghost use Rattle.scr_clock.specs.Dials.{solved};
+ghost use Rattle.scr_clock.specs.Held.{clock_after};
+ghost use Rattle.scr_sq1.specs.Units.{solved_sq1, sq1_after};
+ghost use Rattle.scr_sq1solve.specs.Counts.{IsWithinBounds};
 ghost use Rattle.scr_clock.specs.Written.{IsClockScramble};
 ghost use Rattle.scr_small.specs.Puzzles.{IsScramble222, IsScramblePyram, IsScrambleSkewb};
 ghost use Rattle.scr_sq1short.specs.ShortScrambles.{IsShortScramble};
 ghost use Rattle.scr_twophase.specs.HeldScramble.{IsScramble333bf};
-ghost use Rattle.scr_slots.specs.Events.{drawn_222, drawn_333, drawn_clock, drawn_fewest, drawn_held, drawn_pyram, drawn_skewb, drawn_sq1};
-ghost use Rattle.scr_slots.specs.Events.{IsScramble333Within, IsScrambleFewestWithin};
+ghost use Rattle.scr_slots.specs.Events.{IsScramble333Within, IsScrambleFewestWithin, drawn_fewest};
 
 use crate::cube_tables::CubeTables;
 use crate::event::StateEvent;
@@ -30,7 +41,9 @@ impl StateEvent for Small222<'_> {
 
     ghost event = { C222 };
 
-    ghost drawn = { drawn_222 };
+    ghost played = { play (after_letter powers_222) solved_222 };
+
+    ghost is_within = { at_most 11 };
 
     ghost is_scramble = { λ _. IsScramble222 };
 
@@ -54,7 +67,9 @@ impl StateEvent for SmallPyram<'_> {
 
     ghost event = { Pyram };
 
-    ghost drawn = { drawn_pyram };
+    ghost played = { play (after_letter pyram_powers) solved_pyram };
+
+    ghost is_within = { at_most 15 };
 
     ghost is_scramble = { λ _. IsScramblePyram };
 
@@ -78,7 +93,9 @@ impl StateEvent for SmallSkewb<'_> {
 
     ghost event = { EventSkewb };
 
-    ghost drawn = { drawn_skewb };
+    ghost played = { play (after_letter skewb_powers) solved_skewb };
+
+    ghost is_within = { at_most 11 };
 
     ghost is_scramble = { λ _. IsScrambleSkewb };
 
@@ -102,7 +119,9 @@ impl StateEvent for Draw333 {
 
     ghost event = { C333 };
 
-    ghost drawn = { drawn_333 };
+    ghost played = { play (after_letter cube_powers) solved_cube };
+
+    ghost is_within = { at_most 52 };
 
     ghost is_scramble = { IsScramble333Within };
 
@@ -124,7 +143,9 @@ impl StateEvent for DrawHeld {
 
     ghost event = { Bf333 };
 
-    ghost drawn = { drawn_held };
+    ghost played = { play held_cube_after solved_held };
+
+    ghost is_within = { at_most 54 };
 
     ghost is_scramble = { λ effort. IsScramble333bf effort.tries };
 
@@ -147,7 +168,9 @@ impl StateEvent for DrawFewest {
 
     ghost event = { Fm333 };
 
-    ghost drawn = { drawn_fewest };
+    ghost played = { drawn_fewest.played };
+
+    ghost is_within = { at_most 58 };
 
     ghost is_scramble = { IsScrambleFewestWithin };
 
@@ -169,7 +192,9 @@ impl StateEvent for ClockNumbers {
 
     ghost event = { EventClock };
 
-    ghost drawn = { drawn_clock };
+    ghost played = { clock_after solved };
+
+    ghost is_within = { at_most 15 };
 
     ghost is_scramble = { λ _. IsClockScramble };
 
@@ -191,7 +216,9 @@ impl StateEvent for DrawSq1 {
 
     ghost event = { EventSq1 };
 
-    ghost drawn = { drawn_sq1 };
+    ghost played = { play sq1_after solved_sq1 };
+
+    ghost is_within = { IsWithinBounds };
 
     ghost is_scramble = { λ effort. IsShortScramble effort.short };
 

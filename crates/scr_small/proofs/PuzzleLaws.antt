@@ -17,7 +17,7 @@ use Rattle.scr_positions.proofs.SearchLaws.{FindsTheSame-follows}
 use Rattle.scr_table.specs.Distances.{Distances, Measures}
 use Rattle.scr_orbit.proofs.Minima.{count_once}
 use Rattle.scr_table.proofs.FoundWords.{first_word}
-use Rattle.scr_small.specs.NumberedPuzzles.{NumberedPuzzle, puzzle_of, after_number, state_coordinate, IsFirstSolution, IsScrambleOf}
+use Rattle.scr_small.specs.NumberedPuzzles.{NumberedPuzzle, numbered_as_puzzle, after_number, state_coordinate, IsFirstSolution, IsScrambleOf}
 use Rattle.scr_small.specs.LawfulPuzzles.{IsNumberedPuzzle}
 
 -- what is so where a number is no less, is so where the test of it passes
@@ -70,9 +70,9 @@ module _ {S T : Type 0} (p : NumberedPuzzle S T) (l : IsNumberedPuzzle p) where
       )
 
   -- what turns reach is valid
-  pub IsValid-reached : (s : S) → IsReached (puzzle_of p) s → p.numbered.IsValid s
+  pub IsValid-reached : (s : S) → IsReached (numbered_as_puzzle p) s → p.numbered.IsValid s
   IsValid-reached s h =
-      IsReached-keeps (puzzle_of p) p.numbered.IsValid (λ r e. subst p.numbered.IsValid (sym e) l.solved) l.kept s h
+      IsReached-keeps (numbered_as_puzzle p) p.numbered.IsValid (λ r e. subst p.numbered.IsValid (sym e) l.solved) l.kept s h
 
   -- a word that solves a state, taken back, leads to it from solved
   pub play-scramble : (s : S) (w : List ℕ) → p.numbered.IsValid s → LeadsTo (after_number p) (λ r. r ≡ p.solved) s w
@@ -120,7 +120,7 @@ module _ {S T : Type 0} (p : NumberedPuzzle S T) (l : IsNumberedPuzzle p) where
         (IsDistance-first (after_number p) (λ r. r ≡ p.solved) s w first) (IsDistance-state s h)
 
     -- the valid states are those that turns reach
-    pub IsReached-iff : (s : S) → p.numbered.IsValid s ↔ IsReached (puzzle_of p) s
+    pub IsReached-iff : (s : S) → p.numbered.IsValid s ↔ IsReached (numbered_as_puzzle p) s
     IsReached-iff s = (
       λ h.
           let word = first_solution s h in
@@ -129,7 +129,7 @@ module _ {S T : Type 0} (p : NumberedPuzzle S T) (l : IsNumberedPuzzle p) where
     )
 
     -- a state needs so many turns exactly where its distance is no less
-    pub Needs-iff : (s : S) (least : ℕ) → p.numbered.IsValid s → (least ≤ distance_of s) ↔ Needs (puzzle_of p) s least
+    pub Needs-iff : (s : S) (least : ℕ) → p.numbered.IsValid s → (least ≤ distance_of s) ↔ Needs (numbered_as_puzzle p) s least
     Needs-iff s least h = (
       λ le v end few played solved.
           let word = numbered_word s end v played in
@@ -148,7 +148,7 @@ module _ {S T : Type 0} (p : NumberedPuzzle S T) (l : IsNumberedPuzzle p) where
 
     -- and so says the test of the table's entry
     pub tested-iff : (s : S) (least : ℕ) → p.numbered.IsValid s
-        → IsTrue (nat_le least (distance_of s)) ↔ Needs (puzzle_of p) s least
+        → IsTrue (nat_le least (distance_of s)) ↔ Needs (numbered_as_puzzle p) s least
     tested-iff s least h = tested_by least (distance_of s) (Needs-iff s least h)
 
     -- the scramble of a valid state has as many turns as its distance

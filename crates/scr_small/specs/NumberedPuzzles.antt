@@ -35,8 +35,8 @@ numbered_powers n p = record {
 }
 
 -- The puzzle that it is: each turn counts once (WCA Regulations, article 4).
-abbrev pub puzzle_of : {S T : Type 0} → NumberedPuzzle S T → Puzzle S
-puzzle_of {T = T} p = record { Turn = T; after = p.after; IsSolved = λ s. s ≡ p.solved; counted = λ t. 1 }
+abbrev pub numbered_as_puzzle : {S T : Type 0} → NumberedPuzzle S T → Puzzle S
+numbered_as_puzzle {T = T} p = record { Turn = T; after = p.after; IsSolved = λ s. s ≡ p.solved; counted = λ t. 1 }
 
 -- what the turn of a number makes of a state: over this, words of turn numbers are played
 abbrev pub after_number : {S T : Type 0} → NumberedPuzzle S T → S → ℕ → Option S

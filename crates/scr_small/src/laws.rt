@@ -14,7 +14,7 @@ ghost use Rattle.scr_tetra.specs.Pyraminx.{numbered_tetraminx, numbered_pyram, P
 ghost use Rattle.scr_tetra.specs.Pyraminx.{pyram_powers, solved_pyram};
 ghost use Rattle.scr_tetra.specs.PyramParts.{turned_count};
 ghost use Rattle.scr_small.specs.LawfulPuzzles.{IsNumberedPuzzle};
-ghost use Rattle.scr_small.specs.NumberedPuzzles.{puzzle_of, state_coordinate, IsScrambleOf};
+ghost use Rattle.scr_small.specs.NumberedPuzzles.{numbered_as_puzzle, state_coordinate, IsScrambleOf};
 ghost use Rattle.scr_small.specs.StateParts.{MovesByParts, low_part, high_part};
 ghost use Rattle.scr_small.specs.Puzzles.{numbered_puzzle_222, numbered_puzzle_skewb, coordinate_tetraminx, IsScramblePyram};
 ghost use Rattle.scr_small.specs.Puzzles.{corners_line, pyramid_line, skewb_line};
@@ -48,7 +48,7 @@ pub fn told_by_states()
 /// event.
 pub fn reached_by_table<P: OneTable>(tables: &SmallTables)
     requires { tables.now.event ≡ P.TABLE.event }
-    ensures { (s : P.State) → P.shown.numbered.IsValid s ↔ IsReached (puzzle_of P.shown) s }
+    ensures { (s : P.State) → P.shown.numbered.IsValid s ↔ IsReached (numbered_as_puzzle P.shown) s }
 {
     P::is_solved_by_table();
     let _table = tables.only();
@@ -67,10 +67,10 @@ pub fn pyram_reached_by_table(tables: &SmallTables)
 /// it from solved. With or without a table it has no two.
 pub fn measured<P: OneTable>()
     ensures reached { (table : Distances) → Measures (state_coordinate P.shown) table
-        → (s : P.State) → P.shown.numbered.IsValid s ↔ IsReached (puzzle_of P.shown) s }
+        → (s : P.State) → P.shown.numbered.IsValid s ↔ IsReached (numbered_as_puzzle P.shown) s }
     ensures needs { (table : Distances) → Measures (state_coordinate P.shown) table
         → (s : P.State) (least : ℕ) → P.shown.numbered.IsValid s
-        → (least ≤ slice_index table.distances (P.shown.numbered.number_of s)) ↔ Needs (puzzle_of P.shown) s least }
+        → (least ≤ slice_index table.distances (P.shown.numbered.number_of s)) ↔ Needs (numbered_as_puzzle P.shown) s least }
     ensures scrambled { (table : Distances) → Measures (state_coordinate P.shown) table
         → (s : P.State) → P.shown.numbered.IsValid s
         → (turns : List Letter) × IsScrambleOf P.shown s turns

@@ -2,7 +2,7 @@
 ghost use Rattle.std.specs.Prelude.{ℕ, ◌≡◌, ◌≤◌, ◌↔◌, nat_le, IsTrue};
 ghost use Rattle.scr_combinatorics.specs.Reach.{Needs};
 ghost use Rattle.scr_table.specs.Distances.{Measures};
-ghost use Rattle.scr_small.specs.NumberedPuzzles.{puzzle_of, state_coordinate};
+ghost use Rattle.scr_small.specs.NumberedPuzzles.{numbered_as_puzzle, state_coordinate};
 ghost use Rattle.scr_small.specs.SolvedByTable.{IsScrambleByTable};
 ghost use Rattle.scr_small.specs.Tables.{entry_at};
 
@@ -25,7 +25,7 @@ pub(crate) fn distance_of<P: OneTable>(tables: &SmallTables, state: &P::State) -
     requires { tables.now.event ≡ P.TABLE.event }
     ensures entry { result ≡ entry_at tables.now (P.shown.numbered.number_of state.now) }
     ensures at_most { result ≤ P.TABLE.bound }
-    ensures exact { (least : ℕ) → (least ≤ result) ↔ Needs (puzzle_of P.shown) state.now least }
+    ensures exact { (least : ℕ) → (least ≤ result) ↔ Needs (numbered_as_puzzle P.shown) state.now least }
     ensures measures { Measures (state_coordinate P.shown) tables.now.distances }
 {
     P::is_solved_by_table();
@@ -35,7 +35,7 @@ pub(crate) fn distance_of<P: OneTable>(tables: &SmallTables, state: &P::State) -
 /// Whether no word of fewer than `least` turns brings a state to solved. The tables are those of the puzzle's event.
 pub(crate) fn needs_of<P: OneTable>(tables: &SmallTables, state: &P::State, least: u32) -> bool
     requires { tables.now.event ≡ P.TABLE.event }
-    ensures exact { IsTrue result ↔ Needs (puzzle_of P.shown) state.now least }
+    ensures exact { IsTrue result ↔ Needs (numbered_as_puzzle P.shown) state.now least }
     ensures tested { result ≡ nat_le least (entry_at tables.now (P.shown.numbered.number_of state.now)) }
 {
     least <= distance_of::<P>(tables, state)

@@ -2,7 +2,7 @@
 ghost use Rattle.std.specs.Prelude.{◌≡◌, ◌↔◌, ℕ, nat_le, IsTrue};
 ghost use Rattle.std.proofs.Props.{props};
 ghost use Rattle.scr_combinatorics.specs.Reach.{Needs};
-ghost use Rattle.scr_small.specs.NumberedPuzzles.{puzzle_of};
+ghost use Rattle.scr_small.specs.NumberedPuzzles.{numbered_as_puzzle};
 ghost use Rattle.scr_small.specs.SolvedByTable.{IsScrambleByTable};
 ghost use Rattle.scr_small.specs.Tables.{entry_at};
 
@@ -21,7 +21,7 @@ pub struct SmallPuzzle<'a, P: OneTable> {
     ghost event: { tables.now.event ≡ P.TABLE.event },
     ghost exact: { (s : P.State) (least : ℕ) → P.shown.numbered.IsValid s
         → IsTrue (nat_le least (entry_at tables.now (P.shown.numbered.number_of s)))
-        ↔ Needs (puzzle_of P.shown) s least } by { Prim.hlevel props },
+        ↔ Needs (numbered_as_puzzle P.shown) s least } by { Prim.hlevel props },
 }
 
 impl<'a, P: OneTable> SmallPuzzle<'a, P> {
@@ -67,7 +67,7 @@ impl<P: OneTable> Numbering for SmallPuzzle<'_, P> {
 }
 
 impl<P: OneTable> Permit<P::State> for SmallPuzzle<'_, P> {
-    ghost puzzle = { λ _. puzzle_of P.shown };
+    ghost puzzle = { λ _. numbered_as_puzzle P.shown };
 
     ghost greatest = { λ _. P.TABLE.bound };
 

@@ -1,4 +1,4 @@
-use Rattle.std.proofs.Common.{length, ◌<◌, drop, ap, sym, ◌∙◌}
+use Rattle.std.proofs.Common.{◌≡◌, length, ◌<◌, drop, ap, sym, ◌∙◌, arith, rules}
 use Rattle.std.proofs.lemmas.List.Elements.{All-take, All-drop}
 use Rattle.scr_clock.specs.Dials.{solved}
 use Rattle.scr_clock.specs.Held.{clock_after}
@@ -18,27 +18,31 @@ push_pins-requires-2-clause-hours c =
     let amounts = c.solve-amounts in
     All-take (λ a. a < 12) 5 (drop 9 amounts.result) (All-drop (λ a. a < 12) 9 amounts.result amounts.ensures.amounts.below)
 
-pub returns-clause-scramble : goal.returns-clause-scramble
-returns-clause-scramble c =
-    let amounts = c.solve-amounts in
-    let are = all_written c.push.new.self c.push_pins-2.new.scramble amounts.result amounts.ensures.amounts
-    (front_pushed c.new-scramble.result c.push_pins.new.scramble c.push.new.self amounts.result c.push.result amounts.ensures.amounts
-    c.new-scramble.ensures.value c.push_pins.ensures c.push.ensures.exact c.push.ensures.pushed) c.push_pins-2.ensures in
-    record {
-      amounts = amounts.result;
-      hours = amounts.ensures.amounts;
-      turns_are = are;
-      gives = ap (clock_after solved) are ∙ amounts.ensures.gives;
-    }
+-- the turns are those of the amounts that were solved for
+are_written : (c : goal.After-push_pins-2) → c.push_pins-2.new.scramble.turns ≡ written c.solve-amounts.result
+are_written c =
+    all_written c.push.new.self c.push_pins-2.new.scramble c.solve-amounts.result c.solve-amounts.ensures.amounts
+    (front_pushed c.new-scramble.result c.push_pins.new.scramble c.push.new.self c.solve-amounts.result c.push.result c.solve-amounts.ensures.amounts
+    c.new-scramble.ensures.value c.push_pins.ensures c.push.ensures.exact c.push.ensures.pushed) c.push_pins-2.ensures
 
 pub returns-clause-fifteen : goal.returns-clause-fifteen
-unfolding returns-clause-scramble
-returns-clause-fifteen c =
-    ap length (returns-clause-scramble c).turns_are ∙ length-written c.solve-amounts.result c.solve-amounts.ensures.amounts
+returns-clause-fifteen c = ap length (are_written c) ∙ length-written c.solve-amounts.result c.solve-amounts.ensures.amounts
 
-pub returns-clause-only : goal.returns-clause-only
-unfolding returns-clause-scramble
-returns-clause-only c = λ turns other.
-    other.turns_are
-    ∙ ap written (c.solve-amounts.ensures.only other.amounts other.hours (sym (ap (clock_after solved) other.turns_are) ∙ other.gives))
-    ∙ sym (returns-clause-scramble c).turns_are
+pub returns-clause-promised : goal.returns-clause-promised
+returns-clause-promised c =
+    let amounts = c.solve-amounts in
+    let are = are_written c in
+    record {
+      of_event = search rules;
+      scramble = record {
+        amounts = amounts.result;
+        hours = amounts.ensures.amounts;
+        turns_are = are;
+        gives = ap (clock_after solved) are ∙ amounts.ensures.gives;
+      };
+      only = λ turns other.
+          other.turns_are
+          ∙ ap written (amounts.ensures.only other.amounts other.hours (sym (ap (clock_after solved) other.turns_are) ∙ other.gives)) ∙ sym are;
+      within = omega (arith, ap length are ∙ length-written amounts.result amounts.ensures.amounts);
+      gives = ap (clock_after solved) are ∙ amounts.ensures.gives;
+    }

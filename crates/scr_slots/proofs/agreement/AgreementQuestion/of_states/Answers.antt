@@ -6,7 +6,7 @@ pub returns-in-Some : goal.returns-in-Some
 returns-in-Some g c =
     let numbering = c.count-numbering.ensures.numbering in
     let slot = c.args.self.now in
-    judged-read g.E.StateEvent.event _ _ g.E.StateEvent.drawn.played slot.settings slot.least slot.stream slot.text.now numbering.some c.in-Ok.state
+    judged-read g.E.StateEvent.event _ _ g.E.StateEvent.played slot.settings slot.least slot.stream slot.text.now numbering.some c.in-Ok.state
     (by-numbering numbering (rw (c.new-words.ensures.words, c.new-words.ensures.none_taken) at c.in-Ok.ensures.draws))
     c.in-Some.scramble (rw c.requires.notation at c.in-Some.ensures) c.leads_to.result c.leads_to.ensures
 
@@ -18,6 +18,6 @@ pub returns : goal.returns
 returns g c =
     let numbering = c.count-numbering.ensures.numbering in
     let slot = c.args.self.now in
-    judged-unread g.E.StateEvent.event _ _ g.E.StateEvent.drawn.played slot.settings slot.least slot.stream slot.text.now numbering.some c.in-Ok.state
+    judged-unread g.E.StateEvent.event _ _ g.E.StateEvent.played slot.settings slot.least slot.stream slot.text.now numbering.some c.in-Ok.state
     (by-numbering numbering (rw (c.new-words.ensures.words, c.new-words.ensures.none_taken) at c.in-Ok.ensures.draws))
     (rw c.requires.notation at c.in-None.ensures)

@@ -3,7 +3,7 @@ use Rattle.scr_slots.proofs.slot.AnswerQuestion.of_states.Goals as goal
 
 pub returns-in-Ok : goal.returns-in-Ok
 returns-in-Ok g c = record {
-  event = c.scramble-scramble.ensures.event;
+  event = c.scramble-scramble.ensures.of_event;
   written = c.turns-turns.ensures.valid;
   turns = by-numbering c.count-numbering.ensures.numbering (record {
     of_state = record {

@@ -25,9 +25,9 @@ pub record RandomMoves : Type 1 where
   pub AreFair : Type 0
 
 -- What is promised of an event: of the states that are drawn of a puzzle, or of random moves.
-pub data Shown : Type 1 where
-  States : (S : Type 0) → DrawnPuzzle S → Shown
-  Moves : RandomMoves → Shown
+pub data Promised : Type 1 where
+  States : (S : Type 0) → DrawnPuzzle S → Promised
+  Moves : RandomMoves → Promised
 
 -- The numbers that the attempts of a slot read, on the slot's stream of the seed.
 abbrev pub slot_numbers : Settings → ℕ → List ℕ

@@ -1,5 +1,5 @@
 use Rattle.std.proofs.Common.{sym, subst}
-use Rattle.scr_tests.proofs.numbered.is_number.Goals as goal
+use Rattle.scr_puzzle_tests.proofs.numbered.is_number.Goals as goal
 
 pub number_of-requires : goal.number_of-requires
 number_of-requires g c =
