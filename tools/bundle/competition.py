@@ -4,11 +4,17 @@
     tools/bundle/competition.py > competition.json
 """
 import json
+import os
+import sys
 
-# How many groups each round of an event has. The first event is none of scramble's.
+sys.path.insert(0, os.path.join(os.path.dirname(os.path.abspath(__file__)), ".."))
+import event_table  # noqa: E402
+
+# How many groups each round of an event has; an event that isn't here has one round of one. The first is none of scramble's.
 GROUPS = {
     "444": [2, 1], "333": [8, 6, 4, 1], "222": [6, 2, 1], "pyram": [5, 2, 1], "skewb": [4, 1], "clock": [4, 1],
     "sq1": [2, 1], "minx": [2, 1], "555": [2, 1], "666": [1], "777": [1], "333bf": [1, 1], "333fm": [1, 1]}
+GROUPS.update((event.id, [1]) for event in event_table.EVENTS if event.id not in GROUPS)
 NAMES = {1: [], 2: ["First round"], 3: ["First round", "Second round"], 4: ["First round", "Second round", "Semi-final"]}
 
 

@@ -1,4 +1,4 @@
-"""What each of the thirteen events looks like after a scramble, by a second program that shares nothing with the proved one but
+"""What each event looks like after a scramble, by a second program that shares nothing with the proved one but
 the table of events: which there are, and which are cubes.
 
 letters(event, scramble) gives the text of a picture's letters in the order that docs/DEFINITIONS.md states.

@@ -1,7 +1,7 @@
 -- The scramble for fewest moves: a state has one, and it leads to the state.
 use Rattle.std.proofs.Common.{◌≡◌, ℕ, zero, suc, ◌+◌, ◌-◌, ◌≤◌, true, IsTrue, List, [], ◌∷◌, ◌++◌, Option, Some, length, refl, sym, ap, ◌∙◌, arith, length-append, append_assoc, le-leb}
 use Rattle.std.specs.Prelude.{◌==◌, ◌&&◌, nat_le, slice_index_or, unwrap_or}
-use Rattle.std.proofs.lemmas.Bool.{false≢true, eqb-true, leb-true}
+use Rattle.std.proofs.lemmas.Bool.{and_from, false≢true, eqb-true, leb-true}
 use Rattle.scr_combinatorics.specs.Back.{back}
 use Rattle.scr_combinatorics.specs.Play.{play}
 use Rattle.scr_combinatorics.proofs.PlayLaws.{play-append}
@@ -132,19 +132,6 @@ at_end [] ys n i is = ap (λ k. slice_index_or ys k Over) (let e : n ≡ i = ome
 at_end (x ∷ xs) ys zero i is = absurd (omega arith)
 at_end (x ∷ xs) ys (suc n) i is = at_end xs ys n i (omega arith)
 
-pub is_framed-framed : (middle : List Turn) → is_framed (framed middle) ≡ true
-unfolding is_framed frame is_frame_at
-is_framed-framed middle =
-    let turns = framed middle in
-    let n = length turns in
-    let size = length-framed middle in
-    let both = length-append frame middle in
-    let long : nat_le 6 n ≡ true = le-leb 6 n (omega (arith, size)) in
-    let first : is_turn 1 3 (slice_index_or turns (n - 3) Over) ≡ true = ap (is_turn 1 3) (at_end (frame ++ middle) frame (n - 3) 0 (omega (arith, size, both))) in
-    let second : is_turn 0 3 (slice_index_or turns (n - 3 + 1) Over) ≡ true = ap (is_turn 0 3) (at_end (frame ++ middle) frame (n - 3 + 1) 1 (omega (arith, size, both))) in
-    let third : is_turn 2 1 (slice_index_or turns (n - 3 + 2) Over) ≡ true = ap (is_turn 2 1) (at_end (frame ++ middle) frame (n - 3 + 2) 2 (omega (arith, size, both))) in
-    λ j. long j && (true && (first j && (second j && third j)))
-
 -- a turn that passes is the one
 is_turn-is : (face amount : ℕ) (t : Turn) → IsTrue (is_turn face amount t) → t ≡ Face face 1 amount
 is_turn-is face amount (Face own depth times) is =
@@ -175,6 +162,14 @@ frame_behind xs ys n i is =
     ∙ ap (λ t. is_turn 1 3 (slice_index_or ys i Over) && (is_turn 0 3 t && is_turn 2 1 third)) (at_end xs ys (n + 1) (i + 1) (omega (arith, is)))
     ∙ ap (λ t. is_turn 1 3 (slice_index_or ys i Over) && (is_turn 0 3 (slice_index_or ys (i + 1) Over) && is_turn 2 1 t))
     (at_end xs ys (n + 2) (i + 2) (omega (arith, is)))
+
+pub is_framed-framed : (middle : List Turn) → is_framed (framed middle) ≡ true
+unfolding is_framed frame is_frame_at
+is_framed-framed middle =
+    let n = length (framed middle) in
+    let size = length-framed middle in
+    let end = frame_behind (frame ++ middle) frame (n - 3) 0 (omega (arith, size, length-append frame middle, length-frame)) in
+    and_from (nat_le 6 n) (is_frame_at (framed middle) 0 && is_frame_at (framed middle) (n - 3)) (le-leb 6 n (omega (arith, size))) end
 
 -- turns whose last three pass end in the frame
 ends : (turns : List Turn) (n : ℕ) → length turns ≡ n + 3 → IsTrue (is_frame_at turns n)

@@ -1,9 +1,9 @@
 //! The scramble for fewest moves.
-ghost use Rattle.std.specs.Prelude.{◌≡◌, ◌+◌, ◌++◌, ◌≤◌, IsTrue, List, Some, is_some, length};
+ghost use Rattle.std.specs.Prelude.{◌≡◌, ◌+◌, ◌++◌, ◌≤◌, IsTrue, is_some, length};
 ghost use Rattle.scr_combinatorics.specs.Play.{play};
 ghost use Rattle.scr_orbit.specs.PowerPuzzles.{after_letter};
 ghost use Rattle.scr_notation.specs.declared.event.Event.TheVariants.{Fm333};
-ghost use Rattle.scr_notation.specs.declared.turn.Turn.{Turn as Letter};
+ghost use Rattle.scr_notation.specs.Written.{at_most, IsTheScramble};
 ghost use Rattle.scr_cube.specs.Cube333.{cube_powers, solved_cube};
 ghost use Rattle.scr_twophase.specs.TwoParts.{two_parts};
 ghost use Rattle.scr_fewest.specs.Fewest.{frame, between, is_frame_at, is_framed, is_turn, IsFramed, IsScrambleFewest};
@@ -22,14 +22,11 @@ pub fn scramble_333fm(
     cube: &Cube,
     tries: u32,
 ) -> Scramble
-    ensures event { result.event ≡ Fm333 }
-    ensures scramble { IsScrambleFewest tries cube.now result.turns }
-    ensures only { (turns : List Letter) → IsScrambleFewest tries cube.now turns → turns ≡ result.turns }
+    ensures scramble { IsTheScramble Fm333 (IsScrambleFewest tries) (at_most 58)
+        (play (after_letter cube_powers) solved_cube) cube.now result }
     ensures framed { IsFramed result.turns }
     ensures tested { IsTrue (is_framed result.turns) }
-    ensures at_most { length result.turns ≤ 58 }
     ensures few { IsTrue (is_some (two_parts (between cube.now) tries)) → length result.turns ≤ 28 }
-    ensures played { play (after_letter cube_powers) solved_cube result.turns ≡ Some cube.now }
 {
     let Some(back) = Cube::solved().play(&inverse(&frame())) else {
         unreachable!();

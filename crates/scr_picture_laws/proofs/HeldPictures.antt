@@ -1,9 +1,9 @@
 -- The pictures of a 3x3x3 that is held any way: those of solved ones are what turns of the whole cube make of the net.
-use Rattle.std.proofs.Common.{◌≡◌, ◌↔◌, ℕ, zero, suc, ◌-◌, ◌*◌, ◌/◌, ◌%◌, ◌<◌, List, Some, IsSome, refl, sym, ap, ◌∙◌, subst, inl, inr, lit<, arith}
+use Rattle.std.proofs.Common.{◌≡◌, ◌↔◌, ℕ, ◌-◌, ◌<◌, List, Some, IsSome, refl, sym, ap, ◌∙◌, subst, inl, inr, arith}
 use Rattle.std.specs.Prelude.{Contains, map, nat_lt, if◌then◌else◌}
 use Rattle.std.specs.List.{AllPass, range_with_len}
 use Rattle.std.specs.Option.{option_map}
-use Rattle.std.proofs.lemmas.Bool.{cases_lt, cond-true, cond-false, cond_both, lt-ltb, le-ltb}
+use Rattle.std.proofs.lemmas.Bool.{cases_lt, cond-true, cond-false, lt-ltb, le-ltb}
 use Rattle.scr_combinatorics.specs.Lists.{numbers_from}
 use Rattle.scr_combinatorics.specs.Play.{play}
 use Rattle.scr_combinatorics.proofs.PlayedWhere.{played-iff}

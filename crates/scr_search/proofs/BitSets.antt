@@ -3,6 +3,7 @@ use Rattle.std.proofs.Common.{◌≡◌, ◌≢◌, ◌⊎◌, ℕ, zero, suc, �
 use Rattle.std.specs.Prelude.{filter, ◌&&◌, ◌||◌, ◌==◌, not}
 use Rattle.std.specs.Int.{bit_at, trailing_zeros}
 use Rattle.std.specs.Int.Bits.{bit_and, bit_or}
+use Rattle.std.proofs.Math.Bool.{and-false, and-true, or-false, or-true}
 use Rattle.std.proofs.Math.Nat.{mod-le}
 use Rattle.std.proofs.Math.Pow.{pow-lt}
 use Rattle.std.proofs.lemmas.Bool.{cases_eq, cases_lt}
@@ -23,22 +24,6 @@ both_ones (suc zero) (suc (suc y)) a b = absurd (omega arith)
 
 pub has_turn-and : (a b t : ℕ) → contains_turn (bit_and a b) t ≡ (contains_turn a t && contains_turn b t)
 has_turn-and a b t = ap (λ x. x == 1) (bit_at_and a b t) ∙ both_ones (bit_at a t) (bit_at b t) (bit_at-lt a t) (bit_at-lt b t)
-
-or-true : (b : Bool) → (b || true) ≡ true
-or-true true = refl
-or-true false = refl
-
-pub or-false : (b : Bool) → (b || false) ≡ b
-or-false true = refl
-or-false false = refl
-
-and-true : (b : Bool) → (b && true) ≡ b
-and-true true = refl
-and-true false = refl
-
-and-false : (b : Bool) → (b && false) ≡ false
-and-false true = refl
-and-false false = refl
 
 pub has_turn-with : (bits turn t : ℕ) → turn < 18
     → contains_turn (bit_or bits (1 * 2 ^ turn % 2 ^ 32)) t ≡ (contains_turn bits t || (t == turn))

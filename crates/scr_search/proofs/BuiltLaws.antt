@@ -55,9 +55,9 @@ AreOutlooks-same : (c shown : Coordinate) → StaysBelow shown → ShowsSame c s
     → (distances : List ℕ) (all : List Outlook) → AreOutlooks shown distances all → AreOutlooks c distances all
 AreOutlooks-same c shown below same distances all o = record {
   each = λ p outlook at there. record {
-    kept = λ t q left to lt.
-        (o.each p outlook (subst (λ n. p < n) (sym same.count) at) there).kept t q left
-        ((Follows-same c shown (StaysBelow-same c shown below same) same).turned p t at ∙ ap (option_map (λ n. n)) to) lt;
+    kept = λ t q left few to here lt.
+        (o.each p outlook (subst (λ n. p < n) (sym same.count) at) there).kept t q left few
+        ((Follows-same c shown (StaysBelow-same c shown below same) same).turned p t at ∙ ap (option_map (λ n. n)) to) here lt;
   };
 }
 

@@ -8,7 +8,7 @@ use Rattle.std.proofs.lemmas.List.Elements.{All-head, All-tail}
 use Rattle.std.proofs.lemmas.Option.{same_Some, slice_get-get_or}
 use Rattle.scr_combinatorics.specs.Lists.{pick}
 use Rattle.scr_combinatorics.specs.Play.{play}
-use Rattle.scr_combinatorics.proofs.PlayLaws.{play-append, play-one}
+use Rattle.scr_combinatorics.proofs.PlayLaws.{play-append, play-one, play-parts}
 use Rattle.scr_orbit.specs.PowerPuzzles.{all_turns as cube_turns}
 use Rattle.scr_cube.specs.Cube333.{CubeState, cube_action, cube_powers}
 use Rattle.scr_cube.proofs.Laws333.{lawful_cube}
@@ -30,6 +30,19 @@ leads-parts test c w e = by (play after_turn c w) refl e
 pub leads-played : (test : CubeState → Bool) (c d : CubeState) (w : List ℕ) → play after_turn c w ≡ Some d
     → leads test c w ≡ test d
 leads-played test c d w e = ap (λ o. option_map_or test o false) e
+
+-- where a word with one turn more leads to a cube that passes, the others lead there from that to which the turn leads
+pub record IsStep (test : CubeState → Bool) (c : CubeState) (t : ℕ) (others : List ℕ) : Type 0 where
+  pub there : CubeState
+  pub to : after_turn c t ≡ Some there
+  pub way : leads test there others ≡ true
+
+pub step_of : (test : CubeState → Bool) (c : CubeState) (t : ℕ) (others : List ℕ) → leads test c (t ∷ others) ≡ true
+    → IsStep test c t others
+step_of test c t others way =
+    let whole = leads-parts test c (t ∷ others) way in
+    let parts = play-parts after_turn c whole.0 t others whole.1 in
+    record { there = parts.0; to = parts.1; way = leads-played test parts.0 whole.0 others parts.2 ∙ whole.2 }
 
 -- ---- words of places
 

@@ -1,5 +1,4 @@
 pub mod Leads
-pub mod Tries
 pub mod Orderly
 pub mod BitSets
 pub mod OutlookLaws

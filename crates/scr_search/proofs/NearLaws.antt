@@ -1,28 +1,27 @@
 -- Near sets have the numbers that they should, and what they leave of a set of turns keeps the ways.
-use Rattle.std.proofs.Common.{◌≡◌, ◌⊎◌, ℕ, suc, ◌+◌, ◌/◌, ◌%◌, ◌^◌, ◌<◌, ◌≤◌, Bool, true, List, [], ◌∷◌, ◌++◌, map, length, get_or, Some, inl, inr, refl, sym, ap, ◌∙◌, subst, ne_eqb, eq-eqb, eqb-true, arith, below_more}
-use Rattle.std.specs.Prelude.{All, Contains, Err, IfOk, IsSomeAnd, None, Ok, slice_get, slice_index_or, ◌&&◌, ◌||◌, ◌==◌, not}
+use Rattle.std.proofs.Common.{◌≡◌, ◌⊎◌, ℕ, suc, ◌+◌, ◌/◌, ◌%◌, ◌^◌, ◌<◌, ◌≤◌, Bool, true, List, [], ◌∷◌, ◌++◌, length, get_or, Some, inl, inr, refl, sym, ap, ◌∙◌, subst, ne_eqb, eq-eqb, eqb-true, arith, below_more}
+use Rattle.std.specs.Prelude.{Contains, Err, IfOk, IsSomeAnd, None, Ok, slice_get, slice_index_or, ◌&&◌, ◌||◌, ◌==◌, not}
 use Rattle.std.proofs.lemmas.Bool.{and_parts, and_from, cases_eq, cases_lt, false≢true, or_cases, or_left, or_right}
 use Rattle.std.proofs.lemmas.List.{get_or_append_left, get_or-append-add, get_or_default}
-use Rattle.std.proofs.lemmas.List.Elements.{All-contains, All-contains_itself, All-map, All-weaker}
+use Rattle.std.proofs.lemmas.List.Elements.{All-head, All-tail}
 use Rattle.std.proofs.lemmas.Nat.Bits.{bit_at-zero}
 use Rattle.std.proofs.lemmas.Option.{get_or_from_slice_get, slice_get_within}
-use Rattle.scr_combinatorics.specs.Play.{play}
-use Rattle.scr_combinatorics.proofs.PlayLaws.{play-empty, play-parts}
+use Rattle.scr_combinatorics.proofs.PlayLaws.{play-empty}
 use Rattle.scr_cube.specs.Cube333.{CubeState}
 use Rattle.scr_workers.specs.Answered.{AreAnswered}
 use Rattle.scr_combinatorics.specs.Words.{words_of}
-use Rattle.scr_table.proofs.WordLists.{All-flat_map, words_of-none}
+use Rattle.scr_table.proofs.ListedWords.{Contains-words_of, IsListed-listed}
+use Rattle.scr_table.proofs.WordLists.{words_of-none}
 use Rattle.scr_search.specs.declared.near_set.NearBlock.{NearBlock}
 use Rattle.scr_search.specs.declared.near_set.NearSet.{NearSet}
 use Rattle.scr_search.specs.declared.position.Extent.{Extent}
 use Rattle.scr_search.specs.declared.position.PartPosition.{PartPosition}
 use Rattle.scr_search.specs.Near.{HasBits, IsInSet, IsNear, LeavesNear}
-use Rattle.scr_search.specs.Search.{KeepsWays}
 use Rattle.scr_search.specs.Spread.{IsListed, IsSpread, IsThere, Listed, numbers_in}
 use Rattle.scr_search.specs.TurnSets.{contains_turn}
 use Rattle.scr_search.specs.Orderly.{after_turn, leads}
 use Rattle.scr_search.specs.Views.{AreViews, Shows, Views, part_number}
-use Rattle.scr_search.proofs.Leads.{leads-behind, leads-parts, leads-played}
+use Rattle.scr_search.proofs.Leads.{leads-played, step_of}
 
 -- ---- words by their first turns
 
@@ -34,28 +33,19 @@ pub record BeginsWith (turns : List ℕ) (more : ℕ) (word : List ℕ) : Type 0
   pub listed : Contains (words_of turns more) others
   pub is : word ≡ get_or turns place 0 ∷ others
 
-words_of-first : (turns : List ℕ) (more : ℕ) → All (BeginsWith turns more) (words_of turns (suc more))
-unfolding words_of
-words_of-first turns more =
-    All-flat_map (BeginsWith turns more) (λ t. map (λ w. t ∷ w) (words_of turns more)) turns (λ k d lt.
-    let t : ℕ = get_or turns k d in
-    All-map (BeginsWith turns more) (λ w. t ∷ w) (words_of turns more)
-    (All-weaker (Contains (words_of turns more)) (λ w. BeginsWith turns more (t ∷ w))
-    (λ w h. record { place = k; below = lt; others = w; listed = h; is = ap (λ u. u ∷ w) (get_or_default turns k d 0 lt) })
-    (words_of turns more) (All-contains_itself (words_of turns more))))
-
--- where a word with one turn more leads to a cube that passes, the others lead there from that to which the turn leads
-pub record IsStep (test : CubeState → Bool) (c : CubeState) (t : ℕ) (others : List ℕ) : Type 0 where
-  pub there : CubeState
-  pub to : after_turn c t ≡ Some there
-  pub way : leads test there others ≡ true
-
-pub step_of : (test : CubeState → Bool) (c : CubeState) (t : ℕ) (others : List ℕ) → leads test c (t ∷ others) ≡ true
-    → IsStep test c t others
-step_of test c t others way =
-    let whole = leads-parts test c (t ∷ others) way in
-    let parts = play-parts after_turn c whole.0 t others whole.1 in
-    record { there = parts.0; to = parts.1; way = leads-played test parts.0 whole.0 others parts.2 ∙ whole.2 }
+begins : (turns : List ℕ) (more : ℕ) (word : List ℕ) → Contains (words_of turns (suc more)) word
+    → BeginsWith turns more word
+begins turns more [] there = absurd (omega (arith, (IsListed-listed turns (suc more) [] there).size))
+begins turns more (t ∷ others) there =
+    let listed = IsListed-listed turns (suc more) (t ∷ others) there in
+    let first = All-head (Contains turns) t others listed.each in
+    record {
+      place = first.0;
+      below = first.1;
+      others = others;
+      listed = Contains-words_of turns more others (omega (arith, listed.size)) (All-tail (Contains turns) t others listed.each);
+      is = ap (λ u. u ∷ others) (sym (sym (get_or_default turns first.0 t 0 first.1) ∙ first.2));
+    }
 
 -- ---- level by level
 
@@ -84,14 +74,15 @@ module _ (v : Views) where
 
   -- no turn
   pub IsNear-end : (end : ℕ) (Has : ℕ → Type 0)
-      → ((c : CubeState) → v.IsSeen c → v.ends c ≡ true → end ≡ part_number v c)
+      → ((c : CubeState) → v.IsSeen c → v.ends c ≡ (part_number v c == end))
       → ((c : CubeState) → v.IsSeen c → end ≡ part_number v c → Has end) → IsNear v 0 Has
   IsNear-end end Has ends has = record {
     near = λ c n w seen le there way.
         let none : n ≡ 0 = omega (arith, le) in
         let empty : w ≡ [] = words_of-none v.turns w (subst (λ m. Contains (words_of v.turns m) w) none there) in
         let passes : v.ends c ≡ true = sym (leads-played v.ends c c [] (play-empty after_turn c)) ∙ ap (leads v.ends c) (sym empty) ∙ way in
-        subst Has (ends c seen passes) (has c seen (ends c seen passes));
+        let is : end ≡ part_number v c = sym (eqb-true (part_number v c) end (sym (ends c seen) ∙ passes)) in
+        subst Has is (has c seen is);
   }
 
   -- a set that has more
@@ -112,8 +103,7 @@ module _ (v : Views) (e : Extent) (are : AreViews v e) where
       elim (cases_lt most n) [
         | inl more ↦
             let one : n ≡ suc most = omega (arith, le, more) in
-            let first = All-contains (BeginsWith v.turns most) (words_of v.turns (suc most)) w (words_of-first v.turns most)
-            (subst (λ m. Contains (words_of v.turns m) w) one there) in
+            let first = begins v.turns most w (subst (λ m. Contains (words_of v.turns m) w) one there) in
             let step = step_of v.ends c (get_or v.turns first.place 0) first.others (ap (leads v.ends c) (sym first.is) ∙ way) in
             let seen_there = are.taken_back.seen c step.there first.place seen first.below step.to in
             spread.there c step.there first.place seen at first.below step.to (h.near step.there most first.others seen_there (omega arith) first.listed step.way)
@@ -222,20 +212,3 @@ module _ (v : Views) (at : PartPosition) (Has : ℕ → Type 0) (all : ℕ) wher
             | inr in_it ↦ in_it c step.there shown step.to there
           ];
     }
-
--- nothing is left out
-pub LeavesNear-all : (turns : List ℕ) (test : CubeState → Bool) (c : CubeState) (more bits : ℕ)
-    → LeavesNear turns test c more bits bits
-LeavesNear-all turns test c more bits = record { among = λ place h. h; left = λ place v lt listed way h. h }
-
--- What a near set leaves keeps the ways.
-pub KeepsWays-near : (turns : List ℕ) (goal : CubeState → Bool) (test : List ℕ → Bool) (c there : CubeState) (word : List ℕ) (more bits near : ℕ)
-    → ((w : List ℕ) → test w ≡ true → leads goal c w ≡ true) → play after_turn c word ≡ Some there
-    → KeepsWays turns test word more bits → LeavesNear turns goal there more bits near
-    → KeepsWays turns test word more near
-KeepsWays-near turns goal test c there word more bits near ways played keeps leaves = record {
-  kept = λ place v lt listed passes.
-      let t : ℕ = get_or turns place 0 in
-      leaves.left place v lt listed (sym (leads-behind goal c there word (t ∷ v) played) ∙ ways (word ++ t ∷ v) passes) (keeps.kept place v lt listed passes);
-  follow = λ place is. keeps.follow place (leaves.among place is);
-}

@@ -3,8 +3,7 @@ use Rattle.std.proofs.Common.{◌≡◌, ℕ, suc, ◌-◌, Bool, true, false, L
 use Rattle.std.specs.Prelude.{◌&&◌, slice_get}
 use Rattle.std.specs.Option.{option_map_or}
 use Rattle.std.proofs.lemmas.Bool.{and_parts, and_from}
-use Rattle.scr_search.specs.Orderly.{may_precede, is_orderly}
-use Rattle.scr_search.specs.Search.{may_end}
+use Rattle.scr_search.specs.Orderly.{may_end, may_precede, is_orderly}
 
 -- ---- the last letter
 

@@ -1,127 +1,106 @@
--- A search for the first word that gives something, word by word.
-use Rattle.std.proofs.Common.{◌≡◌, ℕ, suc, ◌+◌, ◌-◌, ◌<◌, ◌≤◌, Bool, true, false, cond, List, [], ◌∷◌, ◌++◌, length, map, Option, Some, None, refl, sym, ap, ◌∙◌, subst, arith}
-use Rattle.std.specs.Prelude.{filter}
-use Rattle.std.specs.List.{flat_map}
+-- A search for the first word that gives something, where some of the words are left to try, and then the others.
+use Rattle.std.proofs.Common.{◌≡◌, ℕ, zero, suc, ◌-◌, ◌<◌, Bool, true, false, cond, List, [], ◌∷◌, ◌++◌, length, take, Option, Some, None, refl, sym, ap, ◌∙◌, arith}
+use Rattle.std.specs.Prelude.{slice_get}
+use Rattle.std.specs.List.{filter_map, cons_option, flat_map}
 use Rattle.std.specs.Option.{option_or}
 use Rattle.std.proofs.lemmas.List.{length-append}
-use Rattle.scr_combinatorics.specs.Lists.{numbers_from}
-use Rattle.scr_combinatorics.specs.Words.{words_behind, words_within}
-use Rattle.scr_table.proofs.WordLists.{lengths_from, numbers_from-next, numbers_from-end, words_behind-within}
+use Rattle.std.proofs.lemmas.List.Elements.{filter_map-append}
 use Rattle.scr_search.specs.Search.{first_given, IsSearched}
-use Rattle.scr_search.proofs.Tries.{first_given-append, first_given-none, first_given-one, first_given-spent}
 
-module _ (gives : List ℕ → Option (List ℕ)) where
-  -- Of all words, where so many are tried, some are left to try, and so many tries.
-  pub record IsLeft (all : List (List ℕ)) (tries : ℕ) (others : List (List ℕ)) (left : ℕ) : Type 0 where
-    pub same : first_given gives tries all ≡ first_given gives left others
-    pub used : tries - length all ≡ left - length others
+take-append : {X : Type 0} (n : ℕ) (xs ys : List X) → take n (xs ++ ys) ≡ take n xs ++ take (n - length xs) ys
+take-append zero [] ys = refl
+take-append (suc n) [] ys = let all : suc n ≡ suc n - 0 = omega arith in ap (λ m. take m ys) all
+take-append zero (x ∷ xs) ys = let none : 0 - suc (length xs) ≡ 0 = omega arith in ap (λ m. take m ys) (sym none)
+take-append (suc n) (x ∷ xs) ys =
+    let rest : n - length xs ≡ suc n - suc (length xs) = omega arith in
+    ap (λ zs. x ∷ zs) (take-append n xs ys ∙ ap (λ m. take n xs ++ take m ys) rest)
 
-  module _ (all : List (List ℕ)) (tries : ℕ) (word : List ℕ) where
-    -- at the begin all are
-    pub IsLeft-all : (others : List (List ℕ)) → all ≡ others → IsLeft all tries others tries
-    IsLeft-all others e = record { same = ap (first_given gives tries) e; used = ap (λ ps. tries - length ps) e }
+first-append : {X : Type 0} (xs ys : List X) → slice_get (xs ++ ys) 0 ≡ option_or (slice_get xs 0) (slice_get ys 0)
+first-append [] ys = refl
+first-append (x ∷ xs) ys = refl
 
-    -- some were tried, and none of them gave anything
-    pub IsLeft-passed : (some others : List (List ℕ)) (left now : ℕ) (before after : List ℕ)
-        → IsLeft all tries (some ++ others) left → IsSearched gives some left before false after now
-        → IsLeft all tries others now
-    IsLeft-passed some others left now before after h s = record {
-      same = h.same ∙ first_given-append gives left some others ∙ ap (λ o. option_or o (first_given gives (left - length some) others)) s.given
-          ∙ ap (λ n. first_given gives n others) (sym (s.tried refl));
-      used = omega (arith, h.used, length-append some others, s.tried refl);
-    }
+first-option : {X : Type 0} (o : Option X) (xs : List X) → xs ≡ [] → slice_get (cons_option o xs) 0 ≡ o
+first-option None xs e = ap (λ ys. slice_get ys 0) e
+first-option (Some x) xs e = refl
 
-    -- one did
-    pub IsLeft-found : (some others : List (List ℕ)) (left now : ℕ) (before after : List ℕ)
-        → IsLeft all tries (some ++ others) left → IsSearched gives some left before true after now
-        → IsSearched gives all tries word true after now
-    IsLeft-found some others left now before after h s = record {
-      given = h.same ∙ first_given-append gives left some others ∙ ap (λ o. option_or o (first_given gives (left - length some) others)) s.given;
-      same = λ e. absurd (cc);
-      tried = λ e. absurd (cc);
-    }
+none-given : (gives : List ℕ → Option (List ℕ)) (tries : ℕ) → filter_map gives (take tries []) ≡ []
+none-given gives zero = refl
+none-given gives (suc tries) = refl
 
-    -- at the end none did
-    pub IsLeft-none : (left : ℕ) (after : List ℕ) → after ≡ word → IsLeft all tries [] left
-        → IsSearched gives all tries word false after left
-    IsLeft-none left after e h = record {
-      given = h.same ∙ first_given-none gives left;
-      same = λ f. e;
-      tried = λ f. omega (arith, h.used);
-    }
+-- some words, and then others with the tries that are left
+first_given-append : (gives : List ℕ → Option (List ℕ)) (tries : ℕ) (some others : List (List ℕ))
+    → first_given gives tries (some ++ others) ≡ option_or (first_given gives tries some) (first_given gives (tries - length some) others)
+unfolding first_given
+first_given-append gives tries some others =
+    ap (λ ps. slice_get (filter_map gives ps) 0) (take-append tries some others)
+    ∙ ap (λ ws. slice_get ws 0) (filter_map-append gives (take tries some) (take (tries - length some) others))
+    ∙ first-append (filter_map gives (take tries some)) (filter_map gives (take (tries - length some) others))
 
-  -- no word is looked at once all tries are made
-  pub IsSearched-spent : (words : List (List ℕ)) (tries : ℕ) (word : List ℕ) → tries ≡ 0
+module _ {gives : List ℕ → Option (List ℕ)} where
+  -- no word is looked at once all tries are made, and of no words none gives anything
+  pub IsSearched-spent : {words : List (List ℕ)} {tries : ℕ} {word : List ℕ} → tries ≡ 0
       → IsSearched gives words tries word false word tries
-  IsSearched-spent words tries word e = record {
-    given = ap (λ n. first_given gives n words) e ∙ first_given-spent gives words;
-    same = λ f. refl;
-    tried = λ f. omega (arith, e);
-  }
+  unfolding first_given
+  IsSearched-spent {words} {tries} e = record { given = ap (λ n. first_given gives n words) e; same = λ f. refl; tried = λ f. omega arith }
 
-  -- where there is none
-  pub IsSearched-none : (words : List (List ℕ)) (tries : ℕ) (word : List ℕ) → words ≡ []
+  pub IsSearched-none : {words : List (List ℕ)} {tries : ℕ} {word : List ℕ} → words ≡ []
       → IsSearched gives words tries word false word tries
-  IsSearched-none words tries word e = record {
-    given = ap (first_given gives tries) e ∙ first_given-none gives tries;
+  unfolding first_given
+  IsSearched-none {words} {tries} e = record {
+    given = ap (first_given gives tries) e ∙ ap (λ ws. slice_get ws 0) (none-given gives tries);
     same = λ f. refl;
     tried = λ f. omega (arith, ap length e);
   }
 
-  -- where there is one
-  pub IsSearched-one : (words : List (List ℕ)) (tries left : ℕ) (word after : List ℕ) (found : Bool) → words ≡ word ∷ []
-      → 0 < tries → gives word ≡ cond found (Some after) None → (found ≡ false → after ≡ word)
-      → (found ≡ false → left ≡ tries - 1) → IsSearched gives words tries word found after left
-  IsSearched-one words tries left word after found e some given same tried =
+  -- one that is tried
+  pub IsSearched-one : {words : List (List ℕ)} {tries left : ℕ} {word after : List ℕ} {found : Bool} → words ≡ word ∷ []
+      → 0 < tries → gives word ≡ cond found (Some after) None → (found ≡ false → after ≡ word) → left ≡ tries - 1
+      → IsSearched gives words tries word found after left
+  unfolding first_given
+  IsSearched-one {words} {tries} {left} {word} e some given same tried =
       let more : tries ≡ suc (tries - 1) = omega arith in
       record {
-        given = ap (first_given gives tries) e ∙ ap (λ n. first_given gives n (word ∷ [])) more ∙ first_given-one gives (tries - 1) word ∙ given;
+        given = ap (first_given gives tries) e ∙ ap (λ n. first_given gives n (word ∷ [])) more
+            ∙ first-option (gives word) (filter_map gives (take (tries - 1) [])) (none-given gives (tries - 1)) ∙ given;
         same = same;
-        tried = λ f. omega (arith, tried f, ap length e);
+        tried = λ f. omega (arith, ap length e);
       }
 
--- Through the words that go on from a word, by rising length up to so many turns, to those that pass a test.
-module _ (turns : List ℕ) (test : List ℕ → Bool) (gives : List ℕ → Option (List ℕ)) (word : List ℕ) (most tries : ℕ) where
-  abbrev all_words : List (List ℕ)
-  all_words = filter test (map (λ v. word ++ v) (words_within turns most))
+-- Of all words, of which so many are tried, those by some keys are left to try, and so many tries.
+pub record IsLeft (gives : List ℕ → Option (List ℕ)) (all : List (List ℕ)) (tries : ℕ) (by : ℕ → List (List ℕ)) (keys : List ℕ) (left : ℕ) : Type 0 where
+  pub given : first_given gives tries all ≡ first_given gives left (flat_map by keys)
+  pub used : tries - length all ≡ left - length (flat_map by keys)
 
-  abbrev longer : ℕ → List (List ℕ)
-  longer from = flat_map (words_behind turns test word) (numbers_from from (most + 1 - from))
+module _ {gives : List ℕ → Option (List ℕ)} {all : List (List ℕ)} {tries : ℕ} {by : ℕ → List (List ℕ)} where
+  -- at the begin all are
+  pub IsLeft-all : {keys : List ℕ} → all ≡ flat_map by keys → IsLeft gives all tries by keys tries
+  IsLeft-all e = record { given = ap (first_given gives tries) e; used = ap (λ ws. tries - length ws) e }
 
-  -- those with so many turns and more are left
-  pub record AreLongerLeft (from left : ℕ) : Type 0 where
-    pub words : IsLeft gives all_words tries (longer from) left
+  module _ {keys others : List ℕ} {key left : ℕ} {some : List (List ℕ)} (e : keys ≡ key ∷ others) (is : some ≡ by key) (h : IsLeft gives all tries by keys left) where
+    parts : flat_map by keys ≡ some ++ flat_map by others
+    parts = ap (flat_map by) e ∙ ap (λ ws. ws ++ flat_map by others) (sym is)
 
-  pub AreLongerLeft-begin : (least : ℕ) → ((n : ℕ) → n < least → words_behind turns test word n ≡ [])
-      → AreLongerLeft least tries
-  AreLongerLeft-begin least none =
-      let all : most + 1 ≡ most + 1 - 0 = omega arith in
-      record {
-        words = IsLeft-all gives all_words tries word (longer least)
-            (words_behind-within turns test word most ∙ ap (λ n. flat_map (words_behind turns test word) (numbers_from 0 n)) all
-            ∙ lengths_from (words_behind turns test word) least (most + 1) none);
-      }
+    first : {now : ℕ} {before after : List ℕ} (found : Bool) → IsSearched gives some left before found after now
+        → first_given gives tries all ≡ option_or (cond found (Some after) None) (first_given gives (left - length some) (flat_map by others))
+    first found s =
+        h.given ∙ ap (first_given gives left) parts ∙ first_given-append gives left some (flat_map by others)
+        ∙ ap (λ o. option_or o (first_given gives (left - length some) (flat_map by others))) s.given
 
-  module _ (from left : ℕ) (h : AreLongerLeft from left) where
-    next : from < most + 1 → IsLeft gives all_words tries (words_behind turns test word from ++ longer (from + 1)) left
-    next lt = subst (λ ns. IsLeft gives all_words tries (flat_map (words_behind turns test word) ns) left) (numbers_from-next from (most + 1) lt) h.words
+    -- those by the first key were tried, and none of them gave anything
+    pub IsLeft-passed : {now : ℕ} {before after : List ℕ} → IsSearched gives some left before false after now → IsLeft gives all tries by others now
+    IsLeft-passed s = record {
+      given = first false s ∙ ap (λ n. first_given gives n (flat_map by others)) (sym (s.tried refl));
+      used = omega (arith, h.used, ap length parts, length-append some (flat_map by others), s.tried refl);
+    }
 
-    module _ (lt : from < most + 1) (now : ℕ) (at after : List ℕ) (is : at ≡ word) where
-      pub AreLongerLeft-next : IsSearched gives (words_behind turns test at from) left at false after now
-          → AreLongerLeft (from + 1) now
-      AreLongerLeft-next s = record {
-        words = IsLeft-passed gives all_words tries word (words_behind turns test word from) (longer (from + 1)) left now at after (next lt)
-            (subst (λ w. IsSearched gives (words_behind turns test w from) left at false after now) is s);
-      }
+    -- one of them did
+    pub IsLeft-found : {now : ℕ} {before after word : List ℕ} → IsSearched gives some left before true after now
+        → IsSearched gives all tries word true after now
+    IsLeft-found s = record { given = first true s; same = λ f. absurd (cc); tried = λ f. absurd (cc) }
 
-      pub AreLongerLeft-found : IsSearched gives (words_behind turns test at from) left at true after now
-          → IsSearched gives all_words tries word true after now
-      AreLongerLeft-found s =
-          IsLeft-found gives all_words tries word (words_behind turns test word from) (longer (from + 1)) left now at after (next lt)
-          (subst (λ w. IsSearched gives (words_behind turns test w from) left at true after now) is s)
-
-    pub AreLongerLeft-end : most + 1 ≤ from → (after : List ℕ) → after ≡ word
-        → IsSearched gives all_words tries word false after left
-    AreLongerLeft-end le after same =
-        IsLeft-none gives all_words tries word left after same
-        (subst (λ ns. IsLeft gives all_words tries (flat_map (words_behind turns test word) ns) left) (numbers_from-end from (most + 1) le) h.words)
+  -- at the end none did
+  pub IsLeft-none : {keys word after : List ℕ} {left : ℕ} → keys ≡ [] → after ≡ word → IsLeft gives all tries by keys left
+      → IsSearched gives all tries word false after left
+  IsLeft-none {word = word} e same h =
+      let none = IsSearched-none {word = word} (ap (flat_map by) e) in
+      record { given = h.given ∙ none.given; same = λ f. same; tried = λ f. none.tried refl ∙ sym h.used }

@@ -1,24 +1,24 @@
--- A search through words, turn by turn.
-use Rattle.std.proofs.Common.{◌≡◌, ℕ, zero, suc, ◌+◌, ◌-◌, ◌^◌, ◌<◌, ◌≤◌, Bool, true, false, cond, List, [], ◌∷◌, ◌++◌, length, get_or, Option, Some, inl, inr, refl, sym, ap, ◌∙◌, subst, append_assoc, arith}
-use Rattle.std.specs.Prelude.{All, filter, ◌&&◌, ◌==◌}
+-- Which turns keep the words of a part that go on from a word, and what the words by these turns are.
+use Rattle.std.proofs.Common.{◌≡◌, ℕ, zero, suc, ◌+◌, ◌-◌, ◌^◌, ◌<◌, ◌≤◌, Bool, true, false, cond, List, [], ◌∷◌, ◌++◌, length, map, get_or, Some, inl, inr, refl, sym, ap, ◌∙◌, subst, append_assoc, arith}
+use Rattle.std.specs.Prelude.{Contains, filter, ◌&&◌, ◌==◌}
 use Rattle.std.specs.List.{flat_map}
 use Rattle.std.proofs.lemmas.Bool.{and_parts, and_from, cases_lt, false≢true}
 use Rattle.std.proofs.lemmas.List.{get_or_default}
-use Rattle.std.proofs.lemmas.List.Elements.{All-nil, All-cons, All-head, All-tail, filter-append}
 use Rattle.std.proofs.lemmas.Nat.Bits.{bit_at_above}
 use Rattle.scr_combinatorics.specs.Lists.{numbers_from, pick}
-use Rattle.scr_combinatorics.specs.Play.{play}
 use Rattle.scr_combinatorics.proofs.Picks.{pick-in_order, numbers_from-at, length-numbers_from}
 use Rattle.scr_cube.specs.Cube333.{CubeState}
-use Rattle.scr_combinatorics.specs.Words.{words_behind}
-use Rattle.scr_table.proofs.WordLists.{flat_map-kept, words_behind-none, words_behind-turns}
+use Rattle.scr_combinatorics.specs.Words.{words_behind, words_of, words_within}
+use Rattle.scr_table.proofs.WordLists.{flat_map-kept, lengths_from, words_behind-end, words_behind-none, words_behind-turns, words_behind-within, words_of-none}
+use Rattle.scr_search.specs.declared.position.PartPosition.{PartPosition}
 use Rattle.scr_search.specs.TurnSets.{contains_turn, turns_in}
-use Rattle.scr_cube.specs.ListedTurns.{turn_numbers}
-use Rattle.scr_search.specs.Orderly.{after_turn, is_orderly, leads}
-use Rattle.scr_search.specs.Search.{may_end, IsAt, IsSearched, KeepsWays, LeavesWays, MayFollow}
-use Rattle.scr_search.proofs.Leads.{leads-behind, not_so, turn_leads, played_more}
-use Rattle.scr_search.proofs.Orderly.{is_orderly-push, may_end-orderly}
-use Rattle.scr_search.proofs.Outcomes.{IsLeft, IsLeft-all, IsLeft-passed, IsLeft-found, IsLeft-none}
+use Rattle.scr_search.specs.Near.{LeavesNear}
+use Rattle.scr_search.specs.Orderly.{after_turn, ends_with, is_orderly, leads, may_end}
+use Rattle.scr_search.specs.Search.{IsAt, KeepsWays, MayFollow}
+use Rattle.scr_search.specs.Views.{Shows, Views, is_whole}
+use Rattle.scr_search.proofs.Leads.{leads-behind, leads-played, not_so, turn_leads, played_more}
+use Rattle.std.specs.Option.{option_map_or}
+use Rattle.scr_search.proofs.Orderly.{is_orderly-push, last-push, may_end-orderly}
 
 -- ---- turns, told by their places
 
@@ -31,53 +31,26 @@ pub flat_map-places : {X : Type 0} (f : ℕ → List X) (xs : List ℕ)
     → flat_map f xs ≡ flat_map (λ k. f (get_or xs k 0)) (numbers_from 0 (length xs))
 flat_map-places f xs = ap (flat_map f) (sym (pick-in_order xs)) ∙ flat_map-picked f xs (numbers_from 0 (length xs))
 
--- numbers that all fail add nothing
-filter-failing : (test : ℕ → Bool) (low n : ℕ) → ((k : ℕ) → low ≤ k → test k ≡ false)
-    → filter test (numbers_from low n) ≡ []
-filter-failing test low zero h = refl
-filter-failing test low (suc n) h =
-    ap (λ b. cond b (low ∷ filter test (numbers_from (suc low) n)) (filter test (numbers_from (suc low) n))) (h low (omega arith))
-    ∙ filter-failing test (suc low) n (λ k le. h k (omega arith))
-
-numbers_from-parts : (low n m : ℕ) → numbers_from low (n + m) ≡ numbers_from low n ++ numbers_from (low + n) m
-numbers_from-parts low zero m = let a : zero + m ≡ m = omega arith in let b : low ≡ low + zero = omega arith in ap (numbers_from low) a ∙ ap (λ k. numbers_from k m) b
-numbers_from-parts low (suc n) m =
-    let a : suc n + m ≡ suc (n + m) = omega arith in
-    let b : suc low + n ≡ low + suc n = omega arith in
-    ap (numbers_from low) a ∙ ap (λ xs. low ∷ xs) (numbers_from-parts (suc low) n m ∙ ap (λ k. numbers_from (suc low) n ++ numbers_from k m) b)
-
-append-none : {X : Type 0} (xs ys : List X) → ys ≡ [] → xs ++ ys ≡ xs
-append-none [] ys e = e
-append-none (x ∷ xs) ys e = ap (λ zs. x ∷ zs) (append-none xs ys e)
-
 -- where all that pass are below a number, more numbers add nothing
-filter-more : (test : ℕ → Bool) (n m : ℕ) → ((k : ℕ) → n ≤ k → test k ≡ false)
-    → filter test (numbers_from 0 (n + m)) ≡ filter test (numbers_from 0 n)
-filter-more test n m none =
-    let from : 0 + n ≡ n = omega arith in
-    ap (filter test) (numbers_from-parts 0 n m ∙ ap (λ k. numbers_from 0 n ++ numbers_from k m) from)
-    ∙ filter-append test (numbers_from 0 n) (numbers_from n m)
-    ∙ append-none (filter test (numbers_from 0 n)) (filter test (numbers_from n m)) (filter-failing test n m none)
+filter-more : (test : ℕ → Bool) (low n all : ℕ) → n ≤ all → ((k : ℕ) → low + n ≤ k → test k ≡ false)
+    → filter test (numbers_from low all) ≡ filter test (numbers_from low n)
+filter-more test low zero zero le none = refl
+filter-more test low (suc n) zero le none = absurd (omega arith)
+filter-more test low zero (suc all) le none =
+    ap (λ b. cond b (low ∷ filter test (numbers_from (suc low) all)) (filter test (numbers_from (suc low) all))) (none low (omega arith))
+    ∙ filter-more test (suc low) zero all (omega arith) (λ k from. none k (omega arith))
+filter-more test low (suc n) (suc all) le none =
+    ap (λ xs. cond (test low) (low ∷ xs) xs) (filter-more test (suc low) n all (omega arith) (λ k from. none k (omega arith)))
 
 -- the turns of a set, all of which are below a number
 turns_in-below : (bits n : ℕ) → bits < 2 ^ 18 → ((k : ℕ) → n ≤ k → contains_turn bits k ≡ false)
     → turns_in bits ≡ filter (contains_turn bits) (numbers_from 0 n)
 unfolding turns_in
 turns_in-below bits n small none =
-    let both : 18 + n ≡ n + 18 = omega arith in
-    sym (filter-more (contains_turn bits) 18 n (λ k le. ap (λ b. b == 1) (bit_at_above bits 18 k small le)))
-    ∙ ap (λ m. filter (contains_turn bits) (numbers_from 0 m)) both ∙ filter-more (contains_turn bits) n 18 none
-
-kept_if : (P : ℕ → Type 0) (b : Bool) (x : ℕ) (xs : List ℕ) → (b ≡ true → P x) → All P xs → All P (cond b (x ∷ xs) xs)
-kept_if P true x xs h others = All-cons P x xs (h refl) others
-kept_if P false x xs h others = others
-
-each_passes : (P : ℕ → Type 0) (test : ℕ → Bool) (xs : List ℕ) → ((x : ℕ) → test x ≡ true → P x)
-    → All P (filter test xs)
-each_passes P test [] f = All-nil P
-each_passes P test (x ∷ xs) f = kept_if P (test x) x (filter test xs) (f x) (each_passes P test xs f)
-
--- ---- the turns that keep the ways
+    elim (cases_lt n 18) [
+      | inl few ↦ filter-more (contains_turn bits) 0 n 18 (omega arith) (λ k le. none k (omega arith))
+      | inr many ↦ sym (filter-more (contains_turn bits) 0 18 n many (λ k le. ap (λ b. b == 1) (bit_at_above bits 18 k small (omega arith))))
+    ]
 
 pub below_count : (bits n place : ℕ) → bits < 2 ^ n → contains_turn bits place ≡ true → place < n
 below_count bits n place small is =
@@ -86,125 +59,139 @@ below_count bits n place small is =
       | inr above ↦ absurd (false≢true (sym (ap (λ b. b == 1) (bit_at_above bits n place small above)) ∙ is))
     ]
 
--- Ways to a goal are kept by a set that leaves them, of the turns that may stand behind the word.
-pub KeepsWays-left : (turns : List ℕ) (goal : CubeState → Bool) (test : List ℕ → Bool) (c there : CubeState) (word : List ℕ) (more by_tables behind both : ℕ)
-    → ((w : List ℕ) → test w ≡ true → (is_orderly w ≡ true) × (leads goal c w ≡ true))
-    → play after_turn c word ≡ Some there → LeavesWays turns goal there more by_tables
-    → ((place : ℕ) → place < length turns → contains_turn behind place ≡ may_end word (get_or turns place 0))
-    → behind < 2 ^ length turns
-    → ((place : ℕ) → contains_turn both place ≡ (contains_turn behind place && contains_turn by_tables place))
-    → KeepsWays turns test word more both
-KeepsWays-left turns goal test c there word more by_tables behind both ways played leaves may small and = record {
-  kept = λ place v lt listed passes.
-      let t : ℕ = get_or turns place 0 in
-      let w = ways (word ++ t ∷ v) passes in
-      and place ∙ and_from (contains_turn behind place) (contains_turn by_tables place) (may place lt ∙ may_end-orderly word t v w.0)
-      (leaves.left place v lt listed (sym (leads-behind goal c there word (t ∷ v) played) ∙ w.1));
-  follow = λ place is.
-      let first = (and_parts (contains_turn behind place) (contains_turn by_tables place) (sym (and place) ∙ is)).0 in
-      let lt = below_count behind (length turns) place small first in
-      record { below = lt; orderly = sym (may place lt) ∙ first };
-}
+-- ---- whole words
 
-module _ (turns : List ℕ) (test : List ℕ → Bool) (word : List ℕ) where
-  -- the words that go on by the turns of a set
-  pub words_by : ℕ → ℕ → List (List ℕ)
-  words_by more bits = flat_map (λ k. words_behind turns test (word ++ get_or turns k 0 ∷ []) more) (turns_in bits)
+whole-parts : (v : Views) (c : CubeState) (word : List ℕ) → is_whole v c word ≡ true
+    → (is_orderly word ≡ true) × (ends_with v.is_last word ≡ true) × (leads v.ends c word ≡ true)
+unfolding is_whole
+whole-parts v c word e =
+    let parts = and_parts (is_orderly word && ends_with v.is_last word) (leads v.ends c word) e in
+    let first = and_parts (is_orderly word) (ends_with v.is_last word) parts.0 in
+    (first.0, first.1, parts.1)
 
-  -- Where a set keeps the ways, these are all of the words.
-  words_kept : (more bits : ℕ) → bits < 2 ^ 18 → KeepsWays turns test word more bits
-      → words_behind turns test word (suc more) ≡ words_by more bits
-  unfolding words_by
-  words_kept more bits small keeps =
-      let f = λ (t : ℕ). words_behind turns test (word ++ t ∷ []) more in
-      let n = length turns in
-      words_behind-turns turns test word more
-      ∙ flat_map-places f turns
-      ∙ flat_map-kept (λ k. f (get_or turns k 0)) (contains_turn bits) (numbers_from 0 n) (λ j d lt out.
-      let k : ℕ = get_or (numbers_from 0 n) j d in
-      let inside : j < n = omega (arith, lt, length-numbers_from 0 n) in
-      let is : k ≡ j = get_or_default (numbers_from 0 n) j d 0 lt ∙ numbers_from-at 0 n j inside ∙ omega arith in
-      let below : k < n = omega (arith, is, inside) in
-      let t : ℕ = get_or turns k 0 in
-      words_behind-none turns test (word ++ t ∷ []) more (λ v there.
-      not_so (test ((word ++ t ∷ []) ++ v)) (λ passes.
-      false≢true (sym out ∙ keeps.kept k v below there (ap test (sym (append_assoc word (t ∷ []) v)) ∙ passes)))))
-      ∙ ap (flat_map (λ k. f (get_or turns k 0)))
-      (sym (turns_in-below bits n small (λ k le. not_so (contains_turn bits k) (λ e. omega (arith, le, (keeps.follow k e).below)))))
+-- a word that may be the last is whole where it leads to an end
+pub whole-at : {v : Views} {c : CubeState} {word : List ℕ} {at : PartPosition} (h : IsAt v c word at) (b : Bool)
+    → ends_with v.is_last word ≡ true → v.ends h.there ≡ b
+    → words_behind v.turns (is_whole v c) word 0 ≡ cond b (word ∷ []) []
+unfolding is_whole
+whole-at {v} {c} {word} h b last e =
+    words_behind-end v.turns (is_whole v c) word
+    ∙ ap (λ d. cond ((d && ends_with v.is_last word) && leads v.ends c word) (word ∷ []) []) h.orderly
+    ∙ ap (λ d. cond (d && leads v.ends c word) (word ∷ []) []) last
+    ∙ ap (λ d. cond d (word ∷ []) []) (leads-played v.ends c h.there word h.played ∙ e)
 
--- ---- turn by turn
+-- ---- the turns that keep the ways
 
-module _ (turns : List ℕ) (test : List ℕ → Bool) (gives : List ℕ → Option (List ℕ)) (word : List ℕ) (left tries : ℕ) where
-  -- Of the words that go on from a word by so many turns, those by the turns of a set are left to try.
-  pub record IsUnderWay (bits now : ℕ) : Type 0 where
-    pub words : IsLeft gives (words_behind turns test word left) tries (words_by turns test word (left - 1) bits) now
-    pub follow : All (MayFollow turns word) (turns_in bits)
-    pub few : bits < 2 ^ 18
+-- a set has each turn with which some word of so many leads from a cube to an end
+abbrev pub LeavesWays : Views → CubeState → ℕ → ℕ → Type 0
+LeavesWays v c left bits =
+    (place : ℕ) (w : List ℕ) → place < length v.turns → Contains (words_of v.turns (left - 1)) w
+    → leads v.ends c (get_or v.turns place 0 ∷ w) ≡ true → contains_turn bits place ≡ true
 
-  pub IsUnderWay-begin : (bits : ℕ) → (left ≡ 0 → ⊥) → KeepsWays turns test word (left - 1) bits → bits < 2 ^ 18
-      → IsUnderWay bits tries
-  unfolding turns_in
-  IsUnderWay-begin bits some keeps small =
-      let next : left ≡ suc (left - 1) = omega arith in
-      record {
-        words = IsLeft-all gives (words_behind turns test word left) tries word (words_by turns test word (left - 1) bits)
-            (ap (words_behind turns test word) next ∙ words_kept turns test word (left - 1) bits small keeps);
-        follow = each_passes (MayFollow turns word) (contains_turn bits) turn_numbers keeps.follow;
-        few = small;
+module _ {v : Views} {c : CubeState} {word : List ℕ} {at : PartPosition} (h : IsAt v c word at) where
+  way_on : (w : List ℕ) → is_whole v c (word ++ w) ≡ true → leads v.ends h.there w ≡ true
+  way_on w whole = sym (leads-behind v.ends c h.there word w h.played) ∙ (whole-parts v c (word ++ w) whole).2
+
+  -- where no word of so many turns leads on, none goes on from the word
+  pub none_behind : (n : ℕ) → ((w : List ℕ) → Contains (words_of v.turns n) w → leads v.ends h.there w ≡ false)
+      → words_behind v.turns (is_whole v c) word n ≡ []
+  none_behind n none =
+      words_behind-none v.turns (is_whole v c) word n (λ w listed.
+      not_so (is_whole v c (word ++ w)) (λ whole. false≢true (sym (none w listed) ∙ way_on w whole)))
+
+  module _ {left bits : ℕ} where
+    -- the turns that may stand behind the word
+    pub KeepsWays-behind : bits < 2 ^ length v.turns
+        → ((place : ℕ) → place < length v.turns → contains_turn bits place ≡ may_end word (get_or v.turns place 0))
+        → KeepsWays v c word left bits
+    KeepsWays-behind small may = record {
+      kept = λ place w lt listed whole.
+          may place lt ∙ may_end-orderly word (get_or v.turns place 0) w (whole-parts v c (word ++ get_or v.turns place 0 ∷ w) whole).0;
+      follow = λ place is. let lt = below_count bits (length v.turns) place small is in record { below = lt; orderly = sym (may place lt) ∙ is };
+    }
+
+    -- of turns that keep the ways those with which a near set leaves them
+    pub KeepsWays-near : {near : ℕ} → LeavesNear v.turns v.ends h.there (left - 1) bits near → KeepsWays v c word left bits
+        → KeepsWays v c word left near
+    KeepsWays-near leaves keeps = record {
+      kept = λ place w lt listed whole. leaves.left place w lt listed (way_on (get_or v.turns place 0 ∷ w) whole) (keeps.kept place w lt listed whole);
+      follow = λ place is. keeps.follow place (leaves.among place is);
+    }
+
+    -- those that are in another set too
+    module _ (other : ℕ) {both : ℕ} (and : (place : ℕ) → contains_turn both place ≡ (contains_turn bits place && contains_turn other place)) (keeps : KeepsWays v c word left bits) where
+      within : ((place : ℕ) (w : List ℕ) → place < length v.turns → Contains (words_of v.turns (left - 1)) w → is_whole v c (word ++ get_or v.turns place 0 ∷ w) ≡ true → contains_turn other place ≡ true)
+          → KeepsWays v c word left both
+      within kept = record {
+        kept = λ place w lt listed whole.
+            and place ∙ and_from (contains_turn bits place) (contains_turn other place) (keeps.kept place w lt listed whole) (kept place w lt listed whole);
+        follow = λ place is. keeps.follow place (and_parts (contains_turn bits place) (contains_turn other place) (sym (and place) ∙ is)).0;
       }
 
-  module _ (bits now : ℕ) (h : IsUnderWay bits now) where
-    others_by : (place other : ℕ) → turns_in bits ≡ place ∷ turns_in other
-        → IsLeft gives (words_behind turns test word left) tries
-        (words_behind turns test (word ++ get_or turns place 0 ∷ []) (left - 1) ++ words_by turns test word (left - 1) other) now
-    unfolding words_by
-    others_by place other e =
-        let f = λ (k : ℕ). words_behind turns test (word ++ get_or turns k 0 ∷ []) (left - 1) in
-        subst (λ ws. IsLeft gives (words_behind turns test word left) tries ws now) (ap (flat_map f) e) h.words
+      -- which leaves the ways
+      pub KeepsWays-and : LeavesWays v h.there left other → KeepsWays v c word left both
+      KeepsWays-and leaves = within (λ place w lt listed whole. leaves place w lt listed (way_on (get_or v.turns place 0 ∷ w) whole))
 
-    -- a turn of the set may stand behind the word
-    pub turn_follows : (place other : ℕ) → turns_in bits ≡ place ∷ turns_in other → MayFollow turns word place
-    turn_follows place other e =
-        All-head (MayFollow turns word) place (turns_in other) (subst (All (MayFollow turns word)) e h.follow)
+      -- or, where one turn is left, has those that may be the last
+      pub KeepsWays-last : left ≡ 1 → ((place : ℕ) → place < length v.turns → contains_turn other place ≡ v.is_last (get_or v.turns place 0))
+          → KeepsWays v c word left both
+      KeepsWays-last one is_last =
+          within (λ place w lt listed whole.
+          let t : ℕ = get_or v.turns place 0 in
+          let none : w ≡ [] = words_of-none v.turns w (subst (λ n. Contains (words_of v.turns n) w) (omega (arith, one)) listed) in
+          is_last place lt ∙ sym (ap (λ o. option_map_or v.is_last o true) (last-push word t)) ∙ ap (λ u. ends_with v.is_last (word ++ t ∷ u)) (sym none)
+          ∙ (whole-parts v c (word ++ t ∷ w) whole).1)
 
-    -- the words by that turn are searched, behind the word with the turn
-    module _ (place other later : ℕ) (pushed after : List ℕ) (e : turns_in bits ≡ place ∷ turns_in other) (is : pushed ≡ word ++ get_or turns place 0 ∷ []) where
-      behind_it : (found : Bool)
-          → IsSearched gives (words_behind turns test pushed (left - 1)) now pushed found after later
-          → IsSearched gives (words_behind turns test (word ++ get_or turns place 0 ∷ []) (left - 1)) now pushed found after later
-      behind_it found s = subst (λ w. IsSearched gives (words_behind turns test w (left - 1)) now pushed found after later) is s
+-- ---- words by the turns of a set
 
-      pub IsUnderWay-next : other < 2 ^ 18
-          → IsSearched gives (words_behind turns test pushed (left - 1)) now pushed false after later
-          → IsUnderWay other later
-      IsUnderWay-next few s = record {
-        words = IsLeft-passed gives (words_behind turns test word left) tries word (words_behind turns test (word ++ get_or turns place 0 ∷ []) (left - 1))
-            (words_by turns test word (left - 1) other) now later pushed after (others_by place other e) (behind_it false s);
-        follow = All-tail (MayFollow turns word) place (turns_in other) (subst (All (MayFollow turns word)) e h.follow);
-        few = few;
-      }
+-- the words of a part that go on from a word by a turn and then more
+abbrev pub words_by : Views → CubeState → List ℕ → ℕ → ℕ → List (List ℕ)
+words_by v c word more place = words_behind v.turns (is_whole v c) (word ++ get_or v.turns place 0 ∷ []) more
 
-      pub IsUnderWay-found : IsSearched gives (words_behind turns test pushed (left - 1)) now pushed true after later
-          → IsSearched gives (words_behind turns test word left) tries word true after later
-      IsUnderWay-found s =
-          IsLeft-found gives (words_behind turns test word left) tries word (words_behind turns test (word ++ get_or turns place 0 ∷ []) (left - 1))
-          (words_by turns test word (left - 1) other) now later pushed after (others_by place other e) (behind_it true s)
+-- all whole words that go on from a word by at most so many turns
+abbrev pub words_from : Views → CubeState → List ℕ → ℕ → List (List ℕ)
+words_from v c word most = filter (is_whole v c) (map (λ w. word ++ w) (words_within v.turns most))
 
-    pub IsUnderWay-end : (after : List ℕ) → after ≡ word → turns_in bits ≡ []
-        → IsSearched gives (words_behind turns test word left) tries word false after now
-    unfolding words_by
-    IsUnderWay-end after same e =
-        let f = λ (k : ℕ). words_behind turns test (word ++ get_or turns k 0 ∷ []) (left - 1) in
-        IsLeft-none gives (words_behind turns test word left) tries word now after same
-        (subst (λ ws. IsLeft gives (words_behind turns test word left) tries ws now) (ap (flat_map f) e) h.words)
+-- are those by so many turns each, from a number on of which no fewer lead on
+pub words_from-least : (v : Views) (c : CubeState) (word : List ℕ) (most least : ℕ)
+    → ((n : ℕ) → n < least → words_behind v.turns (is_whole v c) word n ≡ [])
+    → words_from v c word most ≡ flat_map (words_behind v.turns (is_whole v c) word) (numbers_from least (most + 1 - least))
+words_from-least v c word most least none =
+    let test = is_whole v c in
+    let all : most + 1 ≡ most + 1 - 0 = omega arith in
+    words_behind-within v.turns test word most ∙ ap (λ n. flat_map (words_behind v.turns test word) (numbers_from 0 n)) all
+    ∙ lengths_from (words_behind v.turns test word) least (most + 1) none
+
+-- Where a set keeps the ways, these are all of the words.
+pub words_kept : (v : Views) (c : CubeState) (word : List ℕ) (left bits : ℕ) → 0 < left → bits < 2 ^ 18
+    → KeepsWays v c word left bits
+    → words_behind v.turns (is_whole v c) word left ≡ flat_map (words_by v c word (left - 1)) (turns_in bits)
+words_kept v c word left bits some small keeps =
+    let test = is_whole v c in
+    let f = λ (t : ℕ). words_behind v.turns test (word ++ t ∷ []) (left - 1) in
+    let n : ℕ = length v.turns in
+    let one : left ≡ suc (left - 1) = omega arith in
+    ap (words_behind v.turns test word) one ∙ words_behind-turns v.turns test word (left - 1)
+    ∙ flat_map-places f v.turns
+    ∙ flat_map-kept (λ k. f (get_or v.turns k 0)) (contains_turn bits) (numbers_from 0 n) (λ j d lt out.
+    let k : ℕ = get_or (numbers_from 0 n) j d in
+    let inside : j < n = omega (arith, lt, length-numbers_from 0 n) in
+    let is : k ≡ j = get_or_default (numbers_from 0 n) j d 0 lt ∙ numbers_from-at 0 n j inside ∙ omega arith in
+    let below : k < n = omega (arith, is, inside) in
+    let t : ℕ = get_or v.turns k 0 in
+    words_behind-none v.turns test (word ++ t ∷ []) (left - 1) (λ w there.
+    not_so (test ((word ++ t ∷ []) ++ w)) (λ passes.
+    false≢true (sym out ∙ keeps.kept k w below there (ap test (sym (append_assoc word (t ∷ []) w)) ∙ passes)))))
+    ∙ ap (flat_map (λ k. f (get_or v.turns k 0)))
+    (sym (turns_in-below bits n small (λ k le. not_so (contains_turn bits k) (λ e. omega (arith, le, (keeps.follow k e).below)))))
 
 -- one turn more
-pub IsAt-turned : {At : Type 0} (Shows : CubeState → At → Type 0) (c : CubeState) (turns word : List ℕ) (at next : At) (place : ℕ)
-    → get_or turns place 0 < 18 → IsAt Shows c word at → MayFollow turns word place
-    → ((d e : CubeState) → Shows d at → after_turn d (get_or turns place 0) ≡ Some e → Shows e next)
-    → IsAt Shows c (word ++ get_or turns place 0 ∷ []) next
-IsAt-turned Shows c turns word at next place lt h may f =
-    let t : ℕ = get_or turns place 0 in
+pub IsAt-turned : (v : Views) (c : CubeState) (word : List ℕ) (at next : PartPosition) (place : ℕ)
+    → get_or v.turns place 0 < 18 → IsAt v c word at → MayFollow v word place
+    → ((d e : CubeState) → Shows v d at → after_turn d (get_or v.turns place 0) ≡ Some e → Shows v e next)
+    → IsAt v c (word ++ get_or v.turns place 0 ∷ []) next
+IsAt-turned v c word at next place lt h may f =
+    let t : ℕ = get_or v.turns place 0 in
     let to = turn_leads h.there t lt in
     record {
       there = to.0;

@@ -1,20 +1,17 @@
 -- What the tables of a part see of a cube goes along with its turns.
-use Rattle.std.proofs.Common.{◌≡◌, ℕ, ◌+◌, ◌*◌, ◌/◌, ◌%◌, ◌^◌, ◌<◌, Bool, true, false, cond, length, get_or, None, Some, refl, sym, ap, ◌∙◌, subst, eqb-true, arith}
+use Rattle.std.proofs.Common.{◌≡◌, ℕ, ◌+◌, ◌*◌, ◌/◌, ◌%◌, ◌^◌, ◌<◌, Bool, true, false, cond, length, get_or, None, Some, sym, ap, ◌∙◌, subst, arith}
 use Rattle.std.specs.Option.{option_map}
-use Rattle.std.specs.Prelude.{◌&&◌, ◌==◌}
-use Rattle.std.proofs.lemmas.Bool.{and_from, and_parts, lt-ltb}
+use Rattle.std.proofs.lemmas.Bool.{lt-ltb}
 use Rattle.std.proofs.lemmas.Nat.{mul-add-lt}
 use Rattle.scr_positions.specs.Coordinates.{Coordinate, IsGoal, moved}
-use Rattle.scr_positions.specs.Products.{product_coordinate}
 use Rattle.scr_positions.specs.SearchSpaces.{Follows, ShowsSame, positions}
 use Rattle.scr_positions.proofs.ProductLaws.{Follows-product, part-high, part-low}
 use Rattle.scr_cube.specs.Cube333.{CubeState}
 use Rattle.scr_cube.specs.ListedTurns.{cube_space, after_of}
 use Rattle.scr_search.specs.declared.position.Extent.{Extent}
-use Rattle.scr_search.specs.declared.position.PartPosition.{PartPosition}
 use Rattle.scr_search.specs.Orderly.{after_turn}
-use Rattle.scr_search.specs.Views.{AreViews, IsPosition, Sees, Shows, View, Views, index_beside, part_number, view_beside}
-use Rattle.scr_search.proofs.Leads.{after_of-place, same_test}
+use Rattle.scr_search.specs.Views.{AreViews, Sees, View, Views, index_beside, part_number, view_beside}
+use Rattle.scr_search.proofs.Leads.{after_of-place}
 
 -- ---- views
 
@@ -29,20 +26,16 @@ Sees-follows v IsEnd view turns f ends = record {
 }
 
 -- two side by side
-Sees-product : (v : Views) (low high : View) → Sees v low → Sees v high
-    → Sees v (record { coordinate = product_coordinate low.coordinate high.coordinate; number = λ c. low.number c + low.coordinate.count * high.number c })
-Sees-product v low high a b =
-    let IsLow : CubeState → Type 0 = λ c. IsGoal low.coordinate (low.number c) in
-    let IsHigh : CubeState → Type 0 = λ c. IsGoal high.coordinate (high.number c) in
-    Sees-follows v (λ c. IsLow c × IsHigh c)
-    (record { coordinate = product_coordinate low.coordinate high.coordinate; number = λ c. low.number c + low.coordinate.count * high.number c }) a.turns
-    (Follows-product v.IsSeen IsLow IsHigh (after_of v.turns) low.coordinate high.coordinate low.number high.number (b.turns ∙ sym a.turns) a.along b.along)
+Sees-product : {v : Views} {low high : View} → Sees v low → Sees v high → Sees v (view_beside false low high)
+Sees-product {v = v} {low = low} {high = high} a b =
+    Sees-follows v (λ c. IsGoal low.coordinate (low.number c) × IsGoal high.coordinate (high.number c)) (view_beside false low high) a.turns
+    (Follows-product v.IsSeen (λ c. IsGoal low.coordinate (low.number c)) (λ c. IsGoal high.coordinate (high.number c)) (after_of v.turns) low.coordinate high.coordinate low.number high.number (b.turns ∙ sym a.turns) a.along b.along)
     (λ c h end. (a.ends c h end, b.ends c h end))
 
-pub Sees-beside : (first : Bool) (v : Views) (own middle : View) → Sees v own → Sees v middle
+pub Sees-beside : {v : Views} {own middle : View} (first : Bool) → Sees v own → Sees v middle
     → Sees v (view_beside first own middle)
-Sees-beside false v own middle a b = Sees-product v own middle a b
-Sees-beside true v own middle a b = Sees-product v middle own b a
+Sees-beside false a b = Sees-product a b
+Sees-beside true a b = Sees-product b a
 
 module _ (v : Views) (view : View) (s : Sees v view) where
   -- turns keep what the part goes through
@@ -63,54 +56,6 @@ module _ (v : Views) (view : View) (s : Sees v view) where
       ∙ ap (option_map view.number) (after_of-place v.turns c place lt ∙ to)
 
 -- ---- positions
-
-pub IsPosition-shown : (v : Views) (e : Extent) → AreViews v e → (c : CubeState) (at : PartPosition) → Shows v c at
-    → IsPosition v at
-IsPosition-shown v e are c at h = record {
-  one = omega (arith, h.one, are.one.along.valid c h.seen);
-  other = omega (arith, h.other, are.other.along.valid c h.seen);
-  middle = omega (arith, h.middle, are.middle.along.valid c h.seen);
-}
-
--- the position of a cube
-abbrev position_of : Views → CubeState → PartPosition
-position_of v c = record { one = v.one.number c; other = v.other.number c; middle = v.middle.number c }
-
-Shows-of : (v : Views) (c : CubeState) → v.IsSeen c → Shows v c (position_of v c)
-Shows-of v c h = record { seen = h; one = refl; other = refl; middle = refl }
-
--- the test of a position at the end
-abbrev is_there : PartPosition → ℕ → Bool
-is_there at middle = (at.one == 0 && at.other == 0) && at.middle == middle
-
-position_parts : (at : PartPosition) (middle : ℕ) → is_there at middle ≡ true
-    → (at.one ≡ 0) × (at.other ≡ 0) × (at.middle ≡ middle)
-position_parts at middle e =
-    let whole = and_parts (at.one == 0 && at.other == 0) (at.middle == middle) e in
-    let both = and_parts (at.one == 0) (at.other == 0) whole.0 in
-    (eqb-true at.one 0 both.0, eqb-true at.other 0 both.1, eqb-true at.middle middle whole.1)
-
--- the number of the cubes at the end, where positions show which they are
-pub part_number-end : (v : Views) (c : CubeState) (middle : ℕ) → v.IsSeen c
-    → ((at : PartPosition) → Shows v c at → v.ends c ≡ is_there at middle) → v.ends c ≡ true
-    → 2 ^ 32 * middle ≡ part_number v c
-part_number-end v c middle h shown e =
-    let at = position_of v c in
-    let is = position_parts at middle (sym (shown at (Shows-of v c h)) ∙ e) in
-    omega (arith, is.0, ap (λ n. v.one.coordinate.count * n) is.1, is.2)
-
--- it agrees with another that says the same of each number
-pub tests_agree : (b : Bool) (at : PartPosition) (middle : ℕ)
-    → (b ≡ true → ((at.one == 0) ≡ true) × ((at.other == 0) ≡ true) × ((at.middle == middle) ≡ true))
-    → (((at.one == 0) ≡ true) × ((at.other == 0) ≡ true) × ((at.middle == middle) ≡ true) → b ≡ true)
-    → b ≡ is_there at middle
-tests_agree b at middle to from =
-    same_test b (is_there at middle)
-    (λ e. let all = to e in and_from (at.one == 0 && at.other == 0) (at.middle == middle) (and_from (at.one == 0) (at.other == 0) all.0 all.1) all.2)
-    (λ e.
-    let whole = and_parts (at.one == 0 && at.other == 0) (at.middle == middle) e in
-    let both = and_parts (at.one == 0) (at.other == 0) whole.0 in
-    from (both.0, both.1, whole.1))
 
 same_index : (f : ℕ → ℕ → ℕ → ℕ → ℕ) (n n' m m' i i' j j' : ℕ) → n ≡ n' → m ≡ m' → i ≡ i' → j ≡ j'
     → f n m i j ≡ f n' m' i' j'

@@ -1,7 +1,7 @@
 -- Orderly words of the turns of a cube, and where words lead.
 --
 -- A turn is told by its number: U U2 U' R R2 R' F F2 F' D D2 D' L L2 L' B B2 B' are 0 to 17.
-use Rattle.std.specs.Prelude.{ℕ, ◌/◌, ◌%◌, ◌==◌, ◌&&◌, nat_lt, Bool, true, false, if◌then◌else◌, List, ◌∷◌, Option}
+use Rattle.std.specs.Prelude.{ℕ, ◌-◌, ◌/◌, ◌%◌, ◌==◌, ◌&&◌, nat_lt, Bool, true, false, if◌then◌else◌, List, ◌∷◌, length, slice_get, Option}
 use Rattle.std.specs.Option.{option_map_or}
 use Rattle.scr_combinatorics.specs.Play.{play}
 use Rattle.scr_orbit.specs.PowerPuzzles.{after_letter}
@@ -23,6 +23,14 @@ may_precede first second = if axis_of first == axis_of second then nat_lt (first
 unfoldable pub is_orderly : List ℕ → Bool
 is_orderly (t ∷ u ∷ w) = may_precede t u && is_orderly (u ∷ w)
 is_orderly _ = true
+
+-- the word is empty, or its last turn passes a test
+abbrev pub ends_with : (ℕ → Bool) → List ℕ → Bool
+ends_with test word = option_map_or test (slice_get word (length word - 1)) true
+
+-- a turn may stand right behind a word
+unfoldable pub may_end : List ℕ → ℕ → Bool
+may_end word t = ends_with (λ last. may_precede last t) word
 
 -- ---- what turns lead to
 

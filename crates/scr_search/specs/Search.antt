@@ -1,56 +1,44 @@
--- What a search for two parts goes by.
-use Rattle.std.specs.Prelude.{◌≡◌, ℕ, ◌-◌, ◌/◌, ◌<◌, Contains, Bool, true, false, IsTrue, if◌then◌else◌, List, ◌∷◌, ◌++◌, length, take, slice_get, slice_index, Option, Some, None}
+-- What a search for a part of a solution goes by.
+use Rattle.std.specs.Prelude.{◌≡◌, ℕ, ◌-◌, ◌<◌, Contains, Bool, false, IsTrue, if◌then◌else◌, List, ◌∷◌, ◌++◌, length, take, slice_get, slice_index, Option, Some, None}
 use Rattle.std.specs.List.{filter_map}
-use Rattle.std.specs.Option.{option_map_or}
 use Rattle.scr_combinatorics.specs.Play.{play}
 use Rattle.scr_cube.specs.Cube333.{CubeState}
 use Rattle.scr_combinatorics.specs.Words.{words_of}
-use Rattle.scr_search.specs.Orderly.{may_precede, is_orderly, after_turn, leads}
+use Rattle.scr_search.specs.declared.position.PartPosition.{PartPosition}
+use Rattle.scr_search.specs.Orderly.{may_end, is_orderly, after_turn}
 use Rattle.scr_search.specs.TurnSets.{contains_turn}
-
--- a turn may stand right behind the last letter of a word, if it has one
-unfoldable pub may_end : List ℕ → ℕ → Bool
-may_end word t = option_map_or (λ last. may_precede last t) (slice_get word (length word - 1)) true
+use Rattle.scr_search.specs.Views.{Shows, Views, is_whole}
 
 -- ---- words
 
 -- An orderly word leads from a cube to one that a position shows.
-pub record IsAt {At : Type 0} (Shows : CubeState → At → Type 0) (c : CubeState) (word : List ℕ) (at : At) : Type 0 where
+pub record IsAt (v : Views) (c : CubeState) (word : List ℕ) (at : PartPosition) : Type 0 where
   pub there : CubeState
   pub played : play after_turn c word ≡ Some there
-  pub shows : Shows there at
+  pub shows : Shows v there at
   pub orderly : IsTrue (is_orderly word)
 
--- ---- turns, told by their places in a list
+-- An orderly word leads from a cube to one at the end of a part.
+pub record IsAtEnd (v : Views) (c : CubeState) (word : List ℕ) : Type 0 where
+  pub there : CubeState
+  pub played : play after_turn c word ≡ Some there
+  pub seen : v.IsSeen there
+  pub ends : IsTrue (v.ends there)
+  pub orderly : IsTrue (is_orderly word)
 
--- A set has each turn with which some word of so many turns behind it leads the cube to one that passes a test.
-pub record LeavesWays (turns : List ℕ) (test : CubeState → Bool) (c : CubeState) (more bits : ℕ) : Type 0 where
-  pub left : (place : ℕ) (v : List ℕ) → place < length turns → Contains (words_of turns more) v
-      → IsTrue (leads test c (slice_index turns place ∷ v)) → IsTrue (contains_turn bits place)
+-- ---- turns, told by their places
 
--- a turn of these that may stand right behind a word
-pub record MayFollow (turns word : List ℕ) (place : ℕ) : Type 0 where
-  pub below : place < length turns
-  pub orderly : IsTrue (may_end word (slice_index turns place))
+-- a turn of a part that may stand right behind a word
+pub record MayFollow (v : Views) (word : List ℕ) (place : ℕ) : Type 0 where
+  pub below : place < length v.turns
+  pub orderly : IsTrue (may_end word (slice_index v.turns place))
 
--- A set has each turn with which some word of so many turns behind it goes on from a word to one that passes a test.
--- All its turns may stand right behind the word.
-pub record KeepsWays (turns : List ℕ) (test : List ℕ → Bool) (word : List ℕ) (more bits : ℕ) : Type 0 where
-  pub kept : (place : ℕ) (v : List ℕ) → place < length turns → Contains (words_of turns more) v
-      → IsTrue (test (word ++ slice_index turns place ∷ v)) → IsTrue (contains_turn bits place)
-  pub follow : (place : ℕ) → IsTrue (contains_turn bits place) → MayFollow turns word place
-
--- A test of words passes only orderly ones that lead the cube to one that passes the other test.
-pub record IsTestOf (goal : CubeState → Bool) (c : CubeState) (test : List ℕ → Bool) : Type 0 where
-  pub orderly : (word : List ℕ) → IsTrue (test word) → IsTrue (is_orderly word)
-  pub leads_there : (word : List ℕ) → IsTrue (test word) → IsTrue (leads goal c word)
-
--- For each of six faces a set of the turns that may stand right behind one of it, and behind these the set of all
--- turns.
-pub record AreBehind (turns sets : List ℕ) : Type 0 where
-  pub each : (last place : ℕ) → last < 18 → place < length turns
-      → contains_turn (slice_index sets (last / 3)) place ≡ may_precede last (slice_index turns place)
-  pub all : (place : ℕ) → place < length turns → IsTrue (contains_turn (slice_index sets 6) place)
+-- A set has each turn with which some word of a part goes on from a word by so many turns. All its turns may stand right
+-- behind the word.
+pub record KeepsWays (v : Views) (c : CubeState) (word : List ℕ) (left bits : ℕ) : Type 0 where
+  pub kept : (place : ℕ) (w : List ℕ) → place < length v.turns → Contains (words_of v.turns (left - 1)) w
+      → IsTrue (is_whole v c (word ++ slice_index v.turns place ∷ w)) → IsTrue (contains_turn bits place)
+  pub follow : (place : ℕ) → IsTrue (contains_turn bits place) → MayFollow v word place
 
 -- ---- what a search comes to
 

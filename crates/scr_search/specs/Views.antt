@@ -1,5 +1,5 @@
 -- A part of the solution as its tables see it: three coordinates, each of which has a number of a cube.
-use Rattle.std.specs.Prelude.{◌≡◌, ℕ, ◌+◌, ◌*◌, ◌^◌, ◌<◌, ◌≤◌, All, Bool, true, false, IsTrue, List, [], ◌∷◌, Some, length, slice_index}
+use Rattle.std.specs.Prelude.{◌≡◌, ℕ, ◌+◌, ◌*◌, ◌/◌, ◌^◌, ◌<◌, ◌≤◌, ◌==◌, ◌&&◌, All, Bool, true, false, IsTrue, List, [], ◌∷◌, Some, length, slice_index}
 use Rattle.scr_positions.specs.Coordinates.{Coordinate, IsGoal}
 use Rattle.scr_positions.specs.Products.{product_coordinate}
 use Rattle.scr_positions.specs.SearchSpaces.{Follows, positions}
@@ -8,23 +8,30 @@ use Rattle.scr_cube.specs.ListedTurns.{cube_space}
 use Rattle.scr_table.specs.Lines.{TableLine}
 use Rattle.scr_search.specs.declared.position.Extent.{Extent}
 use Rattle.scr_search.specs.declared.position.PartPosition.{PartPosition}
-use Rattle.scr_search.specs.Orderly.{after_turn}
-use Rattle.scr_search.specs.Search.{AreBehind}
+use Rattle.scr_search.specs.Orderly.{after_turn, ends_with, is_orderly, leads, may_precede}
+use Rattle.scr_search.specs.TurnSets.{contains_turn}
 
 -- a coordinate, and its number of each cube
 pub record View : Type 0 where
   pub coordinate : Coordinate
   pub number : CubeState → ℕ
 
--- The turns of a part, by their numbers; the cubes that it goes through; the test of those to which its words lead; two
--- coordinates of its own, and that of the edges of the middle layer.
+-- The turns of a part, by their numbers; the test of those that may be the last of a word; how many turns stand before
+-- the part at most; the cubes that it goes through; the test of those to which its words lead; two coordinates of its
+-- own, and that of the edges of the middle layer.
 pub record Views : Type 1 where
   pub turns : List ℕ
+  pub is_last : ℕ → Bool
+  pub before : ℕ
   pub IsSeen : CubeState → Type 0
   pub ends : CubeState → Bool
   pub one : View
   pub other : View
   pub middle : View
+
+-- A whole word of a part: orderly, empty or with a last turn that may be the last, and one that leads to an end.
+unfoldable pub is_whole : Views → CubeState → List ℕ → Bool
+is_whole v c word = (is_orderly word && ends_with v.is_last word) && leads v.ends c word
 
 -- ---- positions
 
@@ -34,12 +41,6 @@ pub record Shows (v : Views) (c : CubeState) (at : PartPosition) : Type 0 where
   pub one : at.one ≡ v.one.number c
   pub other : at.other ≡ v.other.number c
   pub middle : at.middle ≡ v.middle.number c
-
--- the numbers of a position are those of positions
-pub record IsPosition (v : Views) (at : PartPosition) : Type 0 where
-  pub one : at.one < v.one.coordinate.count
-  pub other : at.other < v.other.coordinate.count
-  pub middle : at.middle < v.middle.coordinate.count
 
 -- the number of a cube among all that a part goes through: those of its own coordinates, in a block for each of the
 -- middle layer's
@@ -103,9 +104,15 @@ pub record AreTakenBack (turns backs : List ℕ) (IsSeen : CubeState → Type 0)
       → after_turn c (slice_index turns place) ≡ Some d
       → after_turn d (slice_index turns (slice_index backs place)) ≡ Some c
 
--- All views do; they have so many positions, which find room in numbers of 32 bits; there are few turns, and each is
--- taken back by one of them; the sets of those that may stand behind others are sets of them; and the end has this
--- number.
+-- For each of six faces a set of the turns that may stand right behind one of it, and behind these the set of all
+-- turns.
+pub record AreBehind (turns sets : List ℕ) : Type 0 where
+  pub each : (last place : ℕ) → last < 18 → place < length turns
+      → contains_turn (slice_index sets (last / 3)) place ≡ may_precede last (slice_index turns place)
+  pub all : (place : ℕ) → place < length turns → IsTrue (contains_turn (slice_index sets 6) place)
+
+-- All views do; they have so many positions, which find room in numbers of 32 bits; there are few turns, with these
+-- numbers, and each is taken back by one of them; the sets of those that may stand behind others, and of those that may be the last, are sets of them; and the end has this number.
 pub record AreViews (v : Views) (e : Extent) : Type 0 where
   pub one : Sees v v.one
   pub other : Sees v v.other
@@ -116,6 +123,10 @@ pub record AreViews (v : Views) (e : Extent) : Type 0 where
   pub block : (0 < e.ones) × (e.ones * e.others < 2 ^ 32) × (e.middles ≤ 2 ^ 16)
   pub slices : (e.ones * e.middles < 2 ^ 32) × (e.others * e.middles < 2 ^ 32)
   pub few : (length v.turns ≤ 18) × (e.bound ≤ 24) × (e.turns ≡ length v.turns)
+  pub numbers : (place : ℕ) → place < length v.turns
+      → (slice_index e.numbers place ≡ slice_index v.turns place) × (slice_index v.turns place < 18)
   pub taken_back : AreTakenBack v.turns e.backs v.IsSeen
   pub behind : All (λ set. set < 2 ^ length v.turns) e.behind × AreBehind v.turns e.behind
-  pub end : (c : CubeState) → v.IsSeen c → IsTrue (v.ends c) → e.end ≡ part_number v c
+  pub last : (place : ℕ) → place < length v.turns
+      → contains_turn e.last.bits place ≡ v.is_last (slice_index v.turns place)
+  pub end : (c : CubeState) → v.IsSeen c → v.ends c ≡ (part_number v c == e.end)

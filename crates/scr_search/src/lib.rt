@@ -1,15 +1,14 @@
 //! The search for a part of the solution of a 3x3x3, whatever the part.
 //!
-//! A [`Part`] says which turns may be the next of a word, where they lead, and what a whole word gives.
-//! [`search_within`] goes through the words depth first by rising length, and leaves out turns: the theorem is that it
-//! finds what the list of all words has, and that each word that is looked for counts one try. It holds for any leaving
-//! out that keeps every word to the end.
+//! A [`Part`] says which turns there are and which of them may be the last, gives three coordinates, each of which has
+//! a number of a cube, and says what a whole word gives. [`search_within`] goes through the words depth first by rising
+//! length, and leaves out turns: the theorem is that it finds what the list of all words has, and that each word that
+//! is looked for counts one try.
 //!
-//! What is left out [`SearchTables`] say. They are of a part as [`PartViews`] tell it: three coordinates, each of which
-//! has a number of a cube. A [`PruningTable`] is a distance table of two of them side by side, which says no more than
-//! the least number of turns, and an [`Outlook`] of a position keeps for each turn whether it leads nearer. Where many
-//! cubes are searched for, a [`NearSet`] leaves out more: a bit table that has all cubes from which few turns lead to
-//! the end of the part, and some others.
+//! What is left out [`SearchTables`] say. A [`PruningTable`] is a distance table of two coordinates side by side, which
+//! says no more than the least number of turns, and an [`Outlook`] of a position keeps for each turn whether it leads
+//! nearer. Where many cubes are searched for, a [`NearSet`] leaves out more: a bit table that has all cubes from which
+//! few turns lead to the end of the part, and some others.
 //!
 //! The crate stands on cubes (`scr_cube`), on coordinates (`scr_positions`), on distance tables (`scr_table`) and on
 //! workers (`scr_workers`). Which parts there are is said above it, in `scr_twophase`.
@@ -18,20 +17,20 @@
 mod near_set;
 mod numbers;
 mod outlook;
+mod part;
 mod position;
 mod pruning;
 mod search;
 mod search_tables;
 mod turn_set;
-mod views;
 mod word;
 
 pub use near_set::{NEAR, NearBlock, NearSet};
 pub use outlook::Outlook;
+pub use part::Part;
 pub use position::{BLOCK, Extent, PartPosition};
-pub use pruning::{PruningTable, index_beside};
-pub use search::{Part, search_within};
+pub use pruning::PruningTable;
+pub use search::search_within;
 pub use search_tables::SearchTables;
 pub use turn_set::TurnSet;
-pub use views::PartViews;
 pub use word::Word;

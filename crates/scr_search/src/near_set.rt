@@ -9,10 +9,10 @@ ghost use Rattle.scr_search.specs.TurnSets.{contains_turn};
 ghost use Rattle.scr_search.specs.Views.{Shows};
 
 use crate::numbers::{Listed, Numbers, numbers_within, spread};
+use crate::part::Part;
 use crate::position::{BLOCK, PartPosition};
 use crate::search_tables::SearchTables;
 use crate::turn_set::TurnSet;
-use crate::views::PartViews;
 use std::alloc::{AllocError, Global};
 use std::thread::{Threads, for_each_mut};
 
@@ -51,6 +51,7 @@ struct Seat {
 impl Seat {
     /// The seat of a number.
     #[inline]
+    #[tactic(auto, unfolding(crate::specs::Near::mixed, crate::specs::Near::word_of, crate::specs::Near::first_bit, crate::specs::Near::second_bit))]
     fn of(number: u32) -> Seat
         ensures word { result.word ≡ word_of number }
         ensures first { result.first ≡ first_bit number }
@@ -94,18 +95,18 @@ impl NearSet {
     }
 
     /// The set of the cubes from which a word of at most `most` turns leads to an end, made by 1 to 64 workers.
-    pub fn build<R: Threads + Sync, V: PartViews + Sync>(
+    pub fn build<R: Threads + Sync, P: Part + Sync>(
         rt: &R,
         alloc: Global,
-        tables: &SearchTables<V>,
+        tables: &SearchTables<P>,
         most: u32,
         workers: u32,
     ) -> Result<NearSet, AllocError>
         requires most { 0 < most }
         requires workers { (1 ≤ workers) × (workers ≤ 64) }
-        ensures { IfOk result (λ set. IsNear V.views most (IsInSet set)) }
+        ensures { IfOk result (λ set. IsNear P.views most (IsInSet set)) }
     {
-        let extent = V::extent();
+        let extent = P::extent();
         let lists = numbers_within(rt, alloc, tables, most - 1, workers)?;
         let mut blocks = vec![in alloc; NearBlock::EMPTY; extent.middles as usize]?;
         fill(rt, tables, &lists[..], &mut blocks[..], workers);
@@ -125,26 +126,26 @@ impl NearSet {
 
     /// Of some turns those that lead from a position to a number that it has.
     #[inline]
-    pub(crate) fn turns_into<V: PartViews>(
+    pub(crate) fn turns_into<P: Part>(
         &self,
-        tables: &SearchTables<V>,
+        tables: &SearchTables<P>,
         at: PartPosition,
         turns: TurnSet,
     ) -> TurnSet
         requires few { turns.bits < 2 ^ 18 }
-        requires below { (place : ℕ) → IsTrue (contains_turn turns.bits place) → place < length V.views.turns }
-        ensures left { (c : CubeState) (more : ℕ) → IsNear V.views more (IsInSet self.now) → Shows V.views c at
-            → LeavesNear V.views.turns V.views.ends c more turns.bits result.bits }
+        requires below { (place : ℕ) → IsTrue (contains_turn turns.bits place) → place < length P.views.turns }
+        ensures left { (c : CubeState) (more : ℕ) → IsNear P.views more (IsInSet self.now) → Shows P.views c at
+            → LeavesNear P.views.turns P.views.ends c more turns.bits result.bits }
         ensures few { result.bits < 2 ^ 18 }
     {
-        V::are_views();
+        P::are_views();
         if self.blocks.is_empty() {
             return turns;
         }
         let mut others = turns;
         let mut into = TurnSet::NONE;
         while let Some(place) = others.pop() {
-            let next = SearchTables::<V>::number_of(tables.after(at, place));
+            let next = SearchTables::<P>::number_of(tables.after(at, place));
             into = into.with_if(place, self.has(next));
         }
         into
@@ -152,9 +153,9 @@ impl NearSet {
 }
 
 /// Enters into each block the numbers in it of the listed cubes, and of those to which one turn more leads.
-fn fill<R: Threads + Sync, V: PartViews + Sync>(
+fn fill<R: Threads + Sync, P: Part + Sync>(
     rt: &R,
-    tables: &SearchTables<V>,
+    tables: &SearchTables<P>,
     lists: &[Listed],
     blocks: &mut [NearBlock],
     workers: u32,
@@ -162,7 +163,7 @@ fn fill<R: Threads + Sync, V: PartViews + Sync>(
     requires few { length blocks.old ≤ 2 ^ 16 }
     requires workers { (1 ≤ workers) × (workers ≤ 64) }
     ensures { (k : ℕ) (d : Block) → k < length blocks.old
-        → IsSpread V.views lists.now k (HasBits (slice_index_or blocks.new k d).words) }
+        → IsSpread P.views lists.now k (HasBits (slice_index_or blocks.new k d).words) }
 {
     for_each_mut(
         rt,

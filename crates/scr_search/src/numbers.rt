@@ -6,9 +6,9 @@ ghost use Rattle.scr_search.specs.Spread.{IsListed, IsSpread, IsThere, numbers_i
 ghost use Rattle.scr_search.specs.Orderly.{after_turn};
 ghost use Rattle.scr_search.specs.Views.{part_number};
 
+use crate::part::Part;
 use crate::position::BLOCK;
 use crate::search_tables::SearchTables;
-use crate::views::PartViews;
 use scr_workers::{Jobs, OpenGate, run_chunks};
 use std::alloc::{AllocError, Global};
 use std::thread::Threads;
@@ -67,15 +67,15 @@ impl Growing {
 
 /// Enters those of the listed numbers that are of a block, and those of its cubes from which one turn leads to a listed
 /// one.
-pub(crate) fn spread<V: PartViews, N: Numbers>(
-    tables: &SearchTables<V>,
+pub(crate) fn spread<P: Part, N: Numbers>(
+    tables: &SearchTables<P>,
     lists: &[Listed],
     block: u32,
     into: &mut N,
 )
-    ensures { IsSpread V.views lists.now block (N.Has into.new) }
+    ensures { IsSpread P.views lists.now block (N.Has into.new) }
 {
-    let extent = V::extent();
+    let extent = P::extent();
     enter_all(numbers_in(lists, block), into);
     for place in 0..extent.turns {
         let from = tables.block_after(block, place);
@@ -85,8 +85,8 @@ pub(crate) fn spread<V: PartViews, N: Numbers>(
 }
 
 /// How many numbers are entered so. It is but the room that is reserved for them: no clause says so, and none needs to.
-fn room_for<V: PartViews>(tables: &SearchTables<V>, lists: &[Listed], block: u32) -> usize {
-    let extent = V::extent();
+fn room_for<P: Part>(tables: &SearchTables<P>, lists: &[Listed], block: u32) -> usize {
+    let extent = P::extent();
     let mut room = numbers_in(lists, block).len();
     for turn in 0..extent.turns {
         let from = tables.block_after(block, turn);
@@ -116,15 +116,15 @@ fn enter_all<N: Numbers>(numbers: &[u32], into: &mut N)
 
 /// Enters the numbers of the cubes to which the turn at a place leads from the cubes with some numbers of a block.
 #[inline]
-fn enter_turned<V: PartViews, N: Numbers>(
-    tables: &SearchTables<V>,
+fn enter_turned<P: Part, N: Numbers>(
+    tables: &SearchTables<P>,
     numbers: &[u32],
     place: u32,
     into: &mut N,
 )
-    requires { place < length V.views.turns }
-    ensures turned { (c d : CubeState) → V.views.IsSeen c → Contains numbers.now (part_number V.views c % 2 ^ 32)
-        → after_turn c (slice_index V.views.turns place) ≡ Some d → N.Has into.new (part_number V.views d % 2 ^ 32) }
+    requires { place < length P.views.turns }
+    ensures turned { (c d : CubeState) → P.views.IsSeen c → Contains numbers.now (part_number P.views c % 2 ^ 32)
+        → after_turn c (slice_index P.views.turns place) ≡ Some d → N.Has into.new (part_number P.views d % 2 ^ 32) }
     ensures kept { (other : ℕ) → N.Has into.old other → N.Has into.new other }
 {
     for number in numbers {
@@ -133,17 +133,17 @@ fn enter_turned<V: PartViews, N: Numbers>(
 }
 
 /// The numbers of the cubes from which a word of at most `most` turns leads to an end, found by 1 to 64 workers.
-pub(crate) fn numbers_within<R: Threads + Sync, V: PartViews + Sync>(
+pub(crate) fn numbers_within<R: Threads + Sync, P: Part + Sync>(
     rt: &R,
     alloc: Global,
-    tables: &SearchTables<V>,
+    tables: &SearchTables<P>,
     most: u32,
     workers: u32,
 ) -> Result<Vec<Listed>, AllocError>
     requires workers { (1 ≤ workers) × (workers ≤ 64) }
-    ensures { IfOk result (λ all. IsNear V.views most (IsListed all.items)) }
+    ensures { IfOk result (λ all. IsNear P.views most (IsListed all.items)) }
 {
-    let mut all = end_alone::<V>(alloc)?;
+    let mut all = end_alone::<P>(alloc)?;
     for _turn in 0..most {
         all = one_turn_more(rt, alloc, tables, &all[..], workers)?;
     }
@@ -151,12 +151,12 @@ pub(crate) fn numbers_within<R: Threads + Sync, V: PartViews + Sync>(
 }
 
 /// That of the cubes at the end.
-fn end_alone<V: PartViews>(alloc: Global) -> Result<Vec<Listed>, AllocError>
+fn end_alone<P: Part>(alloc: Global) -> Result<Vec<Listed>, AllocError>
     ensures few { IfOk result (λ all. length all.items ≤ 2 ^ 16) }
-    ensures blocks { IfOk result (λ all. (c : CubeState) → V.views.IsSeen c → part_number V.views c / 2 ^ 32 < length all.items) }
-    ensures near { IfOk result (λ all. IsNear V.views 0 (IsListed all.items)) }
+    ensures blocks { IfOk result (λ all. (c : CubeState) → P.views.IsSeen c → part_number P.views c / 2 ^ 32 < length all.items) }
+    ensures near { IfOk result (λ all. IsNear P.views 0 (IsListed all.items)) }
 {
-    let extent = V::extent();
+    let extent = P::extent();
     let mut all = Vec::new(alloc);
     for block in 0..extent.middles {
         all.push(Some(Ok(alone(alloc, extent.end, block)?)))?;
@@ -188,13 +188,13 @@ fn unlisted(alloc: Global, blocks: u32) -> Result<Vec<Listed>, AllocError>
 
 /// What workers find of the numbers with one turn more than those that are listed: a slot is a block.
 #[derive(Drop)]
-struct OneTurnMore<'a, V: PartViews> {
-    tables: &'a SearchTables<V>,
+struct OneTurnMore<'a, P: Part> {
+    tables: &'a SearchTables<P>,
     alloc: Global,
     lists: &'a [Listed],
 }
 
-impl<V: PartViews> Jobs for OneTurnMore<'_, V> {
+impl<P: Part> Jobs for OneTurnMore<'_, P> {
     ghost use Rattle.std.specs.Prelude.{Contains, IfOk, length};
     ghost use Rattle.scr_search.specs.Spread.{IsSpread};
 
@@ -202,7 +202,7 @@ impl<V: PartViews> Jobs for OneTurnMore<'_, V> {
 
     ghost slots = { λ s. length s.lists.now };
 
-    ghost is_answer = { λ s block out. IfOk out (λ list. IsSpread V.views s.lists.now block (Contains list.items)) };
+    ghost is_answer = { λ s block out. IfOk out (λ list. IsSpread P.views s.lists.now block (Contains list.items)) };
 
     fn job(&self, slot: u32) -> Result<Vec<u32>, AllocError> {
         let room = room_for(self.tables, self.lists, slot);
@@ -216,19 +216,19 @@ impl<V: PartViews> Jobs for OneTurnMore<'_, V> {
 }
 
 /// The numbers with one turn more than those that are listed, and these.
-fn one_turn_more<R: Threads + Sync, V: PartViews + Sync>(
+fn one_turn_more<R: Threads + Sync, P: Part + Sync>(
     rt: &R,
     alloc: Global,
-    tables: &SearchTables<V>,
+    tables: &SearchTables<P>,
     lists: &[Listed],
     workers: u32,
 ) -> Result<Vec<Listed>, AllocError>
     requires workers { (1 ≤ workers) × (workers ≤ 64) }
     requires few { length lists.now ≤ 2 ^ 16 }
-    requires blocks { (c : CubeState) → V.views.IsSeen c → part_number V.views c / 2 ^ 32 < length lists.now }
+    requires blocks { (c : CubeState) → P.views.IsSeen c → part_number P.views c / 2 ^ 32 < length lists.now }
     ensures blocks { IfOk result (λ all. length all.items ≡ length lists.now) }
-    ensures near { IfOk result (λ all. (most : ℕ) → IsNear V.views most (IsListed lists.now)
-        → IsNear V.views (most + 1) (IsListed all.items)) }
+    ensures near { IfOk result (λ all. (most : ℕ) → IsNear P.views most (IsListed lists.now)
+        → IsNear P.views (most + 1) (IsListed all.items)) }
 {
     let mut all = unlisted(alloc, lists.len() as u32)?;
     let jobs = OneTurnMore {
@@ -244,20 +244,20 @@ fn one_turn_more<R: Threads + Sync, V: PartViews + Sync>(
 }
 
 /// Lists the numbers of each block, if there is memory for all.
-fn list_each<R: Threads + Sync, V: PartViews + Sync>(
+fn list_each<R: Threads + Sync, P: Part + Sync>(
     rt: &R,
-    jobs: &OneTurnMore<V>,
+    jobs: &OneTurnMore<P>,
     all: &mut [Listed],
     workers: u32,
 ) -> bool
     requires workers { (1 ≤ workers) × (workers ≤ 64) }
     requires blocks { length all.old ≡ length jobs.now.lists.now }
     requires few { length all.old ≤ 2 ^ 16 }
-    requires every { (c : CubeState) → V.views.IsSeen c → part_number V.views c / 2 ^ 32 < length all.old }
-    ensures { (most : ℕ) → IsTrue result → IsNear V.views most (IsListed jobs.now.lists.now)
-        → IsNear V.views (most + 1) (IsListed all.new) }
+    requires every { (c : CubeState) → P.views.IsSeen c → part_number P.views c / 2 ^ 32 < length all.old }
+    ensures { (most : ℕ) → IsTrue result → IsNear P.views most (IsListed jobs.now.lists.now)
+        → IsNear P.views (most + 1) (IsListed all.new) }
 {
-    V::are_views();
+    P::are_views();
     run_chunks(rt, jobs, all, workers, &OpenGate);
     are_all_there(all)
 }

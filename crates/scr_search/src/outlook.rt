@@ -1,5 +1,5 @@
 //! Which turns lead nearer to the goal of a pruning table, and which lead no farther.
-ghost use Rattle.std.specs.Prelude.{◌≡◌, ℕ, ◌+◌, ◌^◌, ◌<◌, ◌≤◌, IfOk, length, slice_index, slice_index_or};
+ghost use Rattle.std.specs.Prelude.{◌≡◌, ℕ, ◌+◌, ◌-◌, ◌*◌, ◌^◌, ◌<◌, ◌≤◌, IfOk, length, slice_index, slice_index_or};
 ghost use Rattle.scr_positions.specs.Coordinates.{AreSeen, value_at};
 ghost use Rattle.scr_search.specs.declared.outlook.Found.{Found as Finding};
 ghost use Rattle.scr_search.specs.declared.outlook.Outlook.{Outlook as Looking};
@@ -24,6 +24,19 @@ pub struct Outlook {
 }
 
 impl Outlook {
+    /// What is known of a position by its distance alone, at most 24: any turn may lead nearer.
+    #[inline]
+    pub(crate) fn at_distance(distance: u32) -> Outlook
+        requires { distance ≤ 24 }
+        ensures nearer { result.nearer ≡ (2 ^ 18 - 1) + distance * 2 ^ 18 }
+        ensures no_farther { result.no_farther ≡ 2 ^ 18 - 1 }
+    {
+        Outlook {
+            nearer: TURNS + (distance << 18),
+            no_farther: TURNS,
+        }
+    }
+
     /// The turns of which one may be the next where `left` turns may still be made.
     #[inline]
     #[tactic(auto, unfolding(crate::specs::Outlooks::turns_within))]
@@ -32,7 +45,9 @@ impl Outlook {
         ensures few { result.bits < 2 ^ 18 }
     {
         let distance = self.nearer >> 18;
-        if left <= distance {
+        if left < distance {
+            TurnSet::NONE
+        } else if left == distance {
             TurnSet {
                 bits: self.nearer & TURNS,
             }

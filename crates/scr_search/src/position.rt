@@ -1,4 +1,5 @@
 //! Positions of a part, and how many there are.
+use crate::turn_set::TurnSet;
 use scr_table::TableName;
 
 /// How many numbers a block has. The number of a cube in a part is that of a block, which is its position in the middle
@@ -21,10 +22,16 @@ pub struct PartPosition {
 pub struct Extent {
     /// How many turns there are.
     pub turns: u32,
+    /// How many of them a word has at most.
+    pub most: u32,
+    /// The number of each among the 18, and zeros behind these.
+    pub numbers: [u8; 18],
     /// For each of them the place of the one that takes it back, and zeros behind these.
     pub backs: [u32; 18],
     /// For each face of U R F D L B the set of the turns that may stand right behind one of it. Then that of all turns.
     pub behind: [u32; 7],
+    /// The set of the turns that may be the last of a word.
+    pub last: TurnSet,
     /// How many positions the first of its own coordinates has.
     pub ones: u32,
     /// How many the other has.

@@ -4,11 +4,11 @@ ghost use Rattle.scr_positions.specs.Coordinates.{Coordinate};
 ghost use Rattle.scr_positions.specs.Moves.{moves_coordinate};
 ghost use Rattle.scr_positions.specs.SearchSpaces.{ShowsSame};
 ghost use Rattle.scr_table.specs.Causes.{IsCause};
-ghost use Rattle.scr_search.specs.Outlooks.{IsPruningTable, turns_left};
+ghost use Rattle.scr_table.specs.Lines.{TableLine};
+ghost use Rattle.scr_search.specs.Outlooks.{IsOutlook, IsPruningTable};
 ghost use Rattle.scr_search.specs.Views.{beside, index_beside};
 
 use crate::outlook::Outlook;
-use crate::turn_set::TurnSet;
 use scr_positions::{Coord, MoveTable, Product};
 use scr_table::{BuildFault, DistanceTable, TableName};
 use std::alloc::Global;
@@ -59,18 +59,16 @@ impl PruningTable {
         self.distances.distance(position)
     }
 
-    /// The turns of which one may be the next from a position where `left` turns may still be made.
+    /// The outlook of a position, by its distance alone where none is found.
     #[inline]
-    #[tactic(auto, unfolding(crate::specs::Outlooks::turns_left))]
-    pub fn turns_within(&self, position: u32, left: u32) -> TurnSet
+    pub fn outlook(&self, position: u32) -> Outlook
         requires { position < length self.now.distances.distances }
-        ensures turns { result.bits ≡ turns_left self.now position left }
-        ensures few { result.bits < 2 ^ 18 }
+        ensures { (line : TableLine) → IsPruningTable line self.now
+            → IsOutlook line.coordinate self.now.distances.distances position result }
     {
         match self.outlooks.get(position as usize) {
-            Some(outlook) => outlook.turns_within(left),
-            None if self.distances.distance(position) <= left => TurnSet::ALL,
-            None => TurnSet::NONE,
+            Some(outlook) => *outlook,
+            None => Outlook::at_distance(self.distances.distance(position)),
         }
     }
 }
@@ -96,7 +94,13 @@ pub(crate) fn beside<'a>(
 
 /// The position that stands there for one of each, where they have so many.
 #[inline]
-pub fn index_beside(middle_first: bool, owns: u32, middles: u32, own: u32, middle: u32) -> u32
+pub(crate) fn index_beside(
+    middle_first: bool,
+    owns: u32,
+    middles: u32,
+    own: u32,
+    middle: u32,
+) -> u32
     requires own { own < owns }
     requires middle { middle < middles }
     requires fits { owns * middles < 2 ^ 32 }

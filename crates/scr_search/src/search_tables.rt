@@ -1,22 +1,24 @@
 //! What the search for a part goes by: where turns lead, the pruning tables, and the near set.
-ghost use Rattle.std.specs.Prelude.{◌≡◌, ℕ, ◌+◌, ◌-◌, ◌/◌, ◌%◌, ◌^◌, ◌<◌, ◌≤◌, All, Bool, IfErr, IfOk, IsTrue, List, Some, false, length, slice_index};
+ghost use Rattle.std.specs.Prelude.{◌≡◌, ℕ, ◌+◌, ◌-◌, ◌/◌, ◌%◌, ◌^◌, ◌<◌, ◌≤◌, All, Contains, IfErr, IfOk, IsTrue, List, Some, false, length, slice_index};
 ghost use Rattle.scr_positions.specs.Moves.{moves_coordinate};
 ghost use Rattle.scr_positions.specs.SearchSpaces.{ShowsSame};
+ghost use Rattle.scr_combinatorics.specs.Words.{words_of};
 ghost use Rattle.scr_cube.specs.Cube333.{CubeState};
 ghost use Rattle.scr_table.specs.Causes.{IsCauseOf};
 ghost use Rattle.scr_table.specs.Lines.{HasNoGap};
 ghost use Rattle.scr_search.specs.Near.{IsInSet, IsNear};
-ghost use Rattle.scr_search.specs.Orderly.{after_turn};
+ghost use Rattle.scr_search.specs.Orderly.{after_turn, leads};
 ghost use Rattle.scr_search.specs.Outlooks.{AreOutlooksOf, IsPruningTable};
-ghost use Rattle.scr_search.specs.Search.{IsAt, IsTestOf, KeepsWays, LeavesWays};
-ghost use Rattle.scr_search.specs.Views.{IsPosition, Shows, lines_of, one_line, other_line, part_number};
+ghost use Rattle.scr_search.specs.Search.{IsAt, KeepsWays};
+ghost use Rattle.scr_search.specs.TurnSets.{contains_turn};
+ghost use Rattle.scr_search.specs.Views.{Shows, lines_of, one_line, other_line, part_number, view_beside};
 
-use crate::near_set::{NEAR_AT, NearSet};
+use crate::near_set::{NEAR, NEAR_AT, NearSet};
 use crate::outlook::{Outlook, outlooks};
+use crate::part::Part;
 use crate::position::{BLOCK, PartPosition};
 use crate::pruning::{PruningTable, beside, index_beside};
 use crate::turn_set::{TurnSet, behind};
-use crate::views::PartViews;
 use crate::word::Word;
 use scr_positions::{Coord, MoveTable};
 use scr_table::BuildFault;
@@ -27,7 +29,7 @@ use std::thread::Threads;
 /// Where turns lead in the three coordinates of a part, its pruning tables, each of one of its own coordinates beside
 /// the middle layer's, and its near set, which is that of all cubes until it is built.
 #[derive(Drop)]
-pub struct SearchTables<V: PartViews> {
+pub struct SearchTables<P: Part> {
     one: MoveTable,
     other: MoveTable,
     middle: MoveTable,
@@ -37,30 +39,30 @@ pub struct SearchTables<V: PartViews> {
     pub other_slice: PruningTable,
     /// The near set: a word from a cube that it lacks to the part's end has more than seven turns.
     pub near: NearSet,
-    part: PhantomData<V>,
-    ghost one_shown: { ShowsSame V.views.one.coordinate (moves_coordinate one) },
-    ghost other_shown: { ShowsSame V.views.other.coordinate (moves_coordinate other) },
-    ghost middle_shown: { ShowsSame V.views.middle.coordinate (moves_coordinate middle) },
-    ghost one_is: { IsPruningTable (one_line V.views V.extent) one_slice },
-    ghost other_is: { IsPruningTable (other_line V.views V.extent) other_slice },
-    ghost near_is: { IsNear V.views 7 (IsInSet near) },
+    part: PhantomData<P>,
+    ghost one_shown: { ShowsSame P.views.one.coordinate (moves_coordinate one) },
+    ghost other_shown: { ShowsSame P.views.other.coordinate (moves_coordinate other) },
+    ghost middle_shown: { ShowsSame P.views.middle.coordinate (moves_coordinate middle) },
+    ghost one_is: { IsPruningTable (one_line P.views P.extent) one_slice },
+    ghost other_is: { IsPruningTable (other_line P.views P.extent) other_slice },
+    ghost near_is: { IsNear P.views 7 (IsInSet near) },
 }
 
-impl<V: PartViews> SearchTables<V> {
+impl<P: Part> SearchTables<P> {
     /// The tables, built by 1 to 64 workers, or why one isn't built.
     pub fn build<R: Threads + Sync>(
         rt: &R,
         alloc: Global,
         workers: u32,
-    ) -> Result<SearchTables<V>, BuildFault>
+    ) -> Result<SearchTables<P>, BuildFault>
         requires workers { (1 ≤ workers) × (workers ≤ 64) }
-        ensures whole { IfOk result (λ _. All HasNoGap (lines_of V.views V.extent)) }
-        ensures cause { IfErr result (IsCauseOf (lines_of V.views V.extent)) }
+        ensures whole { IfOk result (λ _. All HasNoGap (lines_of P.views P.extent)) }
+        ensures cause { IfErr result (IsCauseOf (lines_of P.views P.extent)) }
     {
-        let extent = V::extent();
-        let one = V::one_moves(alloc)?;
-        let other = V::other_moves(alloc)?;
-        let middle = V::middle_moves(alloc)?;
+        let extent = P::extent();
+        let one = P::one_moves(alloc)?;
+        let other = P::other_moves(alloc)?;
+        let middle = P::middle_moves(alloc)?;
         let one_slice = PruningTable::build(
             rt,
             alloc,
@@ -96,11 +98,11 @@ impl<V: PartViews> SearchTables<V> {
     ) -> Result<Vec<Outlook>, AllocError>
         requires workers { (1 ≤ workers) × (workers ≤ 64) }
         ensures one { IsTrue of_one
-            → IfOk result (λ all. AreOutlooksOf (one_line V.views V.extent) self.now.one_slice all.items) }
+            → IfOk result (λ all. AreOutlooksOf (one_line P.views P.extent) self.now.one_slice all.items) }
         ensures other { of_one ≡ false
-            → IfOk result (λ all. AreOutlooksOf (other_line V.views V.extent) self.now.other_slice all.items) }
+            → IfOk result (λ all. AreOutlooksOf (other_line P.views P.extent) self.now.other_slice all.items) }
     {
-        let extent = V::extent();
+        let extent = P::extent();
         if of_one {
             let moves = beside(extent.middle_first, &self.one, &self.middle);
             moves.stays_below();
@@ -114,9 +116,9 @@ impl<V: PartViews> SearchTables<V> {
 
     /// Takes in outlooks and a near set.
     pub fn take_in(&mut self, of_one: Vec<Outlook>, of_other: Vec<Outlook>, near: NearSet)
-        requires of_one { AreOutlooksOf (one_line V.views V.extent) self.old.one_slice of_one.items }
-        requires of_other { AreOutlooksOf (other_line V.views V.extent) self.old.other_slice of_other.items }
-        requires near { IsNear V.views 7 (IsInSet near) }
+        requires of_one { AreOutlooksOf (one_line P.views P.extent) self.old.one_slice of_one.items }
+        requires of_other { AreOutlooksOf (other_line P.views P.extent) self.old.other_slice of_other.items }
+        requires near { IsNear P.views 7 (IsInSet near) }
         ensures one { self.new.one_slice.distances ≡ self.old.one_slice.distances }
         ensures other { self.new.other_slice.distances ≡ self.old.other_slice.distances }
     {
@@ -125,49 +127,105 @@ impl<V: PartViews> SearchTables<V> {
         self.near = near;
     }
 
-    /// The turns of which one may be the next of a word of `left` turns to an end of the part, told by their places.
+    /// The position of a cube in the pruning table of the first of the part's own coordinates.
     #[inline]
-    fn turns_within(&self, at: PartPosition, left: u32) -> TurnSet
-        requires { IsPosition V.views at }
-        ensures kept { (c : CubeState) (more : ℕ) → left ≡ more + 1 → Shows V.views c at
-            → LeavesWays V.views.turns V.views.ends c more result.bits }
-        ensures few { result.bits < 2 ^ 18 }
+    fn one_index(at: PartPosition) -> u32
+        requires { (c : CubeState) × Shows P.views c at }
+        ensures below { result < (one_line P.views P.extent).coordinate.count }
+        ensures shown { (c : CubeState) → Shows P.views c at
+            → result ≡ (view_beside P.extent.middle_first P.views.one P.views.middle).number c }
     {
-        let extent = V::extent();
-        let first = extent.middle_first;
-        let one = index_beside(first, extent.ones, extent.middles, at.one, at.middle);
-        let other = index_beside(first, extent.others, extent.middles, at.other, at.middle);
-        let by_one = self.one_slice.turns_within(one, left);
-        let by_other = self.other_slice.turns_within(other, left);
-        by_one.and(by_other)
+        let extent = P::extent();
+        index_beside(
+            extent.middle_first,
+            extent.ones,
+            extent.middles,
+            at.one,
+            at.middle,
+        )
+    }
+
+    /// That in the table of the other.
+    #[inline]
+    fn other_index(at: PartPosition) -> u32
+        requires { (c : CubeState) × Shows P.views c at }
+        ensures below { result < (other_line P.views P.extent).coordinate.count }
+        ensures shown { (c : CubeState) → Shows P.views c at
+            → result ≡ (view_beside P.extent.middle_first P.views.other P.views.middle).number c }
+    {
+        let extent = P::extent();
+        index_beside(
+            extent.middle_first,
+            extent.others,
+            extent.middles,
+            at.other,
+            at.middle,
+        )
+    }
+
+    /// A number of turns of which no fewer lead from a position to an end of the part.
+    pub(crate) fn least_from(&self, at: PartPosition) -> u32
+        requires { (c : CubeState) × Shows P.views c at }
+        ensures { (c : CubeState) (n : ℕ) (w : List ℕ) → Shows P.views c at → n < result
+            → Contains (words_of P.views.turns n) w → leads P.views.ends c w ≡ false }
+    {
+        P::are_views();
+        let by_one = self.one_slice.distance(Self::one_index(at));
+        if self.near.has(Self::number_of(at)) {
+            by_one
+        } else {
+            by_one.max(NEAR + 1)
+        }
     }
 
     /// The turns of which one may be the next behind a word that leads to a position, where `left` turns, one or more,
     /// are still to be made.
     #[inline]
-    pub fn turns_behind(&self, word: &Word, at: PartPosition, left: u32) -> TurnSet
-        requires at { (c : CubeState) × IsAt (Shows V.views) c word.now at }
+    pub(crate) fn turns_behind(&self, word: &Word, at: PartPosition, left: u32) -> TurnSet
+        requires at { (c : CubeState) × IsAt P.views c word.now at }
         requires some { 0 < left }
-        ensures kept { (c : CubeState) (test : List ℕ → Bool) → IsAt (Shows V.views) c word.now at → IsTestOf V.views.ends c test
-            → KeepsWays V.views.turns test word.now (left - 1) result.bits }
+        ensures kept { (c : CubeState) → IsAt P.views c word.now at → KeepsWays P.views c word.now left result.bits }
+        ensures last { left ≡ 1 → (place : ℕ) → IsTrue (contains_turn result.bits place)
+            → IsTrue (P.views.is_last (slice_index P.views.turns place)) }
         ensures few { result.bits < 2 ^ 18 }
     {
-        let turns = behind(word, &V::extent().behind).and(self.turns_within(at, left));
-        if left == NEAR_AT {
+        let extent = P::extent();
+        let by_one = self
+            .one_slice
+            .outlook(Self::one_index(at))
+            .turns_within(left);
+        let by_other = self
+            .other_slice
+            .outlook(Self::other_index(at))
+            .turns_within(left);
+        let turns = behind(word, &extent.behind).and(by_one).and(by_other);
+        if left == 1 {
+            turns.and(extent.last)
+        } else if left == NEAR_AT {
             self.near.turns_into(self, at, turns)
         } else {
             turns
         }
     }
 
+    /// The turn at a place.
+    #[inline]
+    pub(crate) fn turn(place: u32) -> u8
+        requires { place < length P.views.turns }
+        ensures turn { result ≡ slice_index P.views.turns place }
+        ensures below { result < 18 }
+    {
+        P::extent().numbers[place as usize]
+    }
+
     /// Where the turn at a place leads.
     #[inline]
-    pub fn after(&self, at: PartPosition, place: u32) -> PartPosition
-        requires { place < length V.views.turns }
-        ensures { (c d : CubeState) → Shows V.views c at → after_turn c (slice_index V.views.turns place) ≡ Some d
-            → Shows V.views d result }
+    pub(crate) fn after(&self, at: PartPosition, place: u32) -> PartPosition
+        requires { place < length P.views.turns }
+        ensures { (c d : CubeState) → Shows P.views c at → after_turn c (slice_index P.views.turns place) ≡ Some d
+            → Shows P.views d result }
     {
-        V::are_views();
+        P::are_views();
         PartPosition {
             one: self.one.target(at.one, place),
             other: self.other.target(at.other, place),
@@ -177,10 +235,10 @@ impl<V: PartViews> SearchTables<V> {
 
     /// The number of the cubes that a position shows, if it shows any.
     #[inline]
-    pub fn number_of(at: PartPosition) -> u64
-        ensures { (c : CubeState) → Shows V.views c at → result ≡ part_number V.views c }
+    pub(crate) fn number_of(at: PartPosition) -> u64
+        ensures { (c : CubeState) → Shows P.views c at → result ≡ part_number P.views c }
     {
-        let low = at.other.wrapping_mul(V::extent().ones).wrapping_add(at.one);
+        let low = at.other.wrapping_mul(P::extent().ones).wrapping_add(at.one);
         u64::from(at.middle) * BLOCK + u64::from(low)
     }
 
@@ -188,11 +246,11 @@ impl<V: PartViews> SearchTables<V> {
     /// which is told by its place in its block, if there are any.
     #[inline]
     pub(crate) fn number_after(&self, number: u32, place: u32) -> u32
-        requires { place < length V.views.turns }
-        ensures { (c d : CubeState) → V.views.IsSeen c → number ≡ part_number V.views c % 2 ^ 32
-            → after_turn c (slice_index V.views.turns place) ≡ Some d → result ≡ part_number V.views d % 2 ^ 32 }
+        requires { place < length P.views.turns }
+        ensures { (c d : CubeState) → P.views.IsSeen c → number ≡ part_number P.views c % 2 ^ 32
+            → after_turn c (slice_index P.views.turns place) ≡ Some d → result ≡ part_number P.views d % 2 ^ 32 }
     {
-        let extent = V::extent();
+        let extent = P::extent();
         let one = self.one.target(number % extent.ones, place);
         let other = self.other.target(number / extent.ones, place);
         other.wrapping_mul(extent.ones).wrapping_add(one)
@@ -201,11 +259,11 @@ impl<V: PartViews> SearchTables<V> {
     /// The block to which the turn at a place leads from the cubes of a block, if there are any.
     #[inline]
     pub(crate) fn block_after(&self, block: u32, place: u32) -> u32
-        requires { place < length V.views.turns }
-        ensures { (c d : CubeState) → V.views.IsSeen c → block ≡ part_number V.views c / 2 ^ 32
-            → after_turn c (slice_index V.views.turns place) ≡ Some d → result ≡ part_number V.views d / 2 ^ 32 }
+        requires { place < length P.views.turns }
+        ensures { (c d : CubeState) → P.views.IsSeen c → block ≡ part_number P.views c / 2 ^ 32
+            → after_turn c (slice_index P.views.turns place) ≡ Some d → result ≡ part_number P.views d / 2 ^ 32 }
     {
-        V::are_views();
+        P::are_views();
         self.middle.target(block, place)
     }
 }

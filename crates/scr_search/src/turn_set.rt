@@ -1,7 +1,8 @@
 //! Sets of turns.
 ghost use Rattle.std.specs.Prelude.{◌≡◌, ℕ, ◌^◌, ◌<◌, ◌&&◌, ◌||◌, ◌==◌, ◌∷◌, [], All, List, MatchOption, IfNone, IfSome, IsTrue, length, not, slice_index};
-ghost use Rattle.scr_search.specs.Search.{may_end, AreBehind};
+ghost use Rattle.scr_search.specs.Orderly.{may_end};
 ghost use Rattle.scr_search.specs.TurnSets.{contains_turn, turns_in};
+ghost use Rattle.scr_search.specs.Views.{AreBehind};
 
 use crate::word::Word;
 

@@ -1,11 +1,11 @@
 -- What is so of whatever is scrambled: it has one answer a slot and one listing of its states, and is drawn fairly where
 -- its tables are built.
-use Rattle.std.proofs.Common.{◌≡◌, ℕ, ◌≤◌, Bool, List, refl}
+use Rattle.std.proofs.Common.{ℕ, ◌≤◌, Bool, List}
 use Rattle.scr_notation.specs.declared.event.Event.{Event}
 use Rattle.scr_notation.specs.declared.event.Event.TheVariants.{C222, C333, C555, C666, C777, Clock, Minx, Pyram, Skewb, Sq1, Bf333, Fm333}
 use Rattle.scr_notation.specs.declared.event.Puzzle.{Puzzle}
 use Rattle.scr_notation.specs.declared.event.Puzzle.TheVariants as puzzle
-use Rattle.scr_notation.specs.Event.{greatest_of, puzzle_of}
+use Rattle.scr_notation.specs.Event.{greatest_of}
 use Rattle.scr_notation.specs.EventSets.{Has}
 use Rattle.scr_notation.specs.declared.turn.Turn.{Turn}
 use Rattle.scr_combinatorics.specs.Numbered.{Numbered, numbers_of}
@@ -38,7 +38,7 @@ use Rattle.scr_sq1short.proofs.ShortestLaws.{IsShortScramble-unique}
 use Rattle.scr_slots.specs.declared.settings.Effort.{Effort}
 use Rattle.scr_slots.specs.Promised.{DrawnPuzzle, RandomMoves, Promised, States, Moves}
 use Rattle.scr_slots.specs.Slots.{Scrambling, ByState, ByMoves, IsDrawnFairly}
-use Rattle.scr_slots.specs.Events.{scrambled_as, scrambling_of, promised_as, IsScramble333Within, IsScrambleFewestWithin}
+use Rattle.scr_slots.specs.Events.{scrambled_as, scrambling_of, promised_as}
 use Rattle.scr_slots.specs.Outcomes.{HasOneAnswer, HasOneListing}
 use Rattle.scr_slots.proofs.Listings.{HaveOneListing-numbered}
 use Rattle.scr_slots.proofs.OneAnswer.{IsOnly, HasOneAnswer-state, HasOneAnswer-moves}
@@ -67,13 +67,12 @@ unfolding promised_as scrambled_as
 each_lawful puzzle.Cube222 =
     by_states C222 numbered_222 _ numbering_222 (λ effort state turns other reached. IsScrambleOf-unique numbered_puzzle_222 lawful_puzzle_222 state turns other)
 each_lawful puzzle.Cube333 =
-    by_states C333 cube_numbered IsScramble333Within cube_numbering
-    (λ effort state turns other reached a b. IsScrambleBy-unique (two_parts state effort.tries) state turns other a.0 b.0)
+    by_states C333 cube_numbered _ cube_numbering
+    (λ effort state turns other reached. IsScrambleBy-unique (two_parts state effort.tries) state turns other)
 each_lawful puzzle.Held333 =
     by_states Bf333 held_numbered _ held_numbering (λ effort state turns other reached. IsScramble333bf-unique effort.tries state turns other)
 each_lawful puzzle.Fewest333 =
-    by_states Fm333 cube_numbered IsScrambleFewestWithin cube_numbering
-    (λ effort state turns other reached a b. IsScrambleFewest-unique effort.tries state turns other a.0 b.0)
+    by_states Fm333 cube_numbered _ cube_numbering (λ effort state turns other reached. IsScrambleFewest-unique effort.tries state turns other)
 each_lawful puzzle.Cube555 = by_moves C555
 each_lawful puzzle.Cube666 = by_moves C666
 each_lawful puzzle.Cube777 = by_moves C777

@@ -1,6 +1,6 @@
 -- What is scrambled for each event: the one place that says by puzzle what a slot draws, what its scramble is and what
 -- is promised of it.
-use Rattle.std.specs.Prelude.{ℕ, ◌≤◌, List, length, None, IsTrue, is_some, if◌then◌else◌}
+use Rattle.std.specs.Prelude.{ℕ, List, None, if◌then◌else◌}
 use Rattle.scr_notation.specs.declared.event.Event.{Event}
 use Rattle.scr_notation.specs.declared.event.Event.TheVariants.{C222, C333, C555, C666, C777, Clock, Minx, Pyram, Skewb, Sq1, Bf333, Fm333}
 use Rattle.scr_notation.specs.declared.event.Puzzle.{Puzzle}
@@ -14,9 +14,9 @@ use Rattle.scr_orbit.specs.PowerPuzzles.{PowerPuzzle, after_letter, power_puzzle
 use Rattle.scr_cube.specs.Cube222.{numbers_222, powers_222}
 use Rattle.scr_cube.specs.Cube333.{CubeState, cube_numbers, cube_powers, solved_cube}
 use Rattle.scr_cube.specs.Held.{HeldState, solved_held, held_cube_after, held_puzzle, held_numbers}
-use Rattle.scr_twophase.specs.TwoParts.{two_parts, IsScramble333}
+use Rattle.scr_twophase.specs.TwoParts.{IsScramble333}
 use Rattle.scr_twophase.specs.HeldScramble.{IsScramble333bf}
-use Rattle.scr_fewest.specs.Fewest.{between, is_framed, IsScrambleFewest}
+use Rattle.scr_fewest.specs.Fewest.{is_framed, IsScrambleFewest}
 use Rattle.scr_tetra.specs.Pyraminx.{PyramState, pyram_powers, pyram_numbers}
 use Rattle.scr_tetra.specs.Skewb.{SkewbState, skewb_numbers, skewb_powers}
 use Rattle.scr_small.specs.Puzzles.{IsScramble222, IsScramblePyram, IsScrambleSkewb}
@@ -31,7 +31,6 @@ use Rattle.scr_clock.specs.Written.{IsClockScramble}
 use Rattle.scr_bigs.specs.CubeMoves.{cube_moves}
 use Rattle.scr_bigs.specs.Megaminx.{megaminx_moves}
 use Rattle.scr_bigs.specs.Fairness.{AreFairTurns, AreFairBits}
-use Rattle.scr_slots.specs.declared.settings.Effort.{Effort}
 use Rattle.scr_slots.specs.Promised.{DrawnPuzzle, drawn_puzzle, RandomMoves, Promised, States, Moves}
 use Rattle.scr_slots.specs.Slots.{Scrambling, ByState, ByMoves}
 
@@ -76,28 +75,16 @@ promised_as puzzle.Square1 = States Sq1State (drawn_puzzle sq1_puzzle (play sq1_
 abbrev pub promised_of : Event → Promised
 promised_of event = promised_as (puzzle_of event)
 
--- ---- which scramble a state has
-
--- the 3x3x3: its two parts, where one of so many first parts has a second, in at most 22 turns; and else the words of
--- the four stages, tidied; taken back
-abbrev pub IsScramble333Within : Effort → CubeState → List Turn → Type 0
-IsScramble333Within effort cube turns =
-    IsScramble333 effort.tries cube turns × (IsTrue (is_some (two_parts cube effort.tries)) → length turns ≤ 22)
-
--- for fewest moves: that of the cube between the frames, and 28 turns where it is of two parts
-abbrev pub IsScrambleFewestWithin : Effort → CubeState → List Turn → Type 0
-IsScrambleFewestWithin effort cube turns =
-    IsScrambleFewest effort.tries cube turns
-    × (IsTrue (is_some (two_parts (between cube) effort.tries)) → length turns ≤ 28)
+-- ---- how it is scrambled
 
 -- How it is scrambled. The event in a line is the one by whose notation its scrambles are written. Puzzles other than
 -- the 3x3x3 and the Square-1 have one scramble, whatever the effort.
 unfoldable pub scrambled_as : (what : Puzzle) → Scrambling (promised_as what)
 unfolding promised_as
 scrambled_as puzzle.Cube222 = ByState C222 numbers_222 (λ effort. IsScramble222)
-scrambled_as puzzle.Cube333 = ByState C333 cube_numbers IsScramble333Within
+scrambled_as puzzle.Cube333 = ByState C333 cube_numbers (λ effort. IsScramble333 effort.tries)
 scrambled_as puzzle.Held333 = ByState Bf333 held_numbers (λ effort. IsScramble333bf effort.tries)
-scrambled_as puzzle.Fewest333 = ByState Fm333 cube_numbers IsScrambleFewestWithin
+scrambled_as puzzle.Fewest333 = ByState Fm333 cube_numbers (λ effort. IsScrambleFewest effort.tries)
 scrambled_as puzzle.Cube555 = ByMoves C555
 scrambled_as puzzle.Cube666 = ByMoves C666
 scrambled_as puzzle.Cube777 = ByMoves C777

@@ -18,8 +18,10 @@ ghost use Rattle.scr_sq1solve.specs.Counts.{IsWithinBounds};
 ghost use Rattle.scr_clock.specs.Written.{IsClockScramble};
 ghost use Rattle.scr_small.specs.Puzzles.{IsScramble222, IsScramblePyram, IsScrambleSkewb};
 ghost use Rattle.scr_sq1short.specs.ShortScrambles.{IsShortScramble};
+ghost use Rattle.scr_fewest.specs.Fewest.{IsScrambleFewest};
 ghost use Rattle.scr_twophase.specs.HeldScramble.{IsScramble333bf};
-ghost use Rattle.scr_slots.specs.Events.{IsScramble333Within, IsScrambleFewestWithin, drawn_fewest};
+ghost use Rattle.scr_twophase.specs.TwoParts.{IsScramble333};
+ghost use Rattle.scr_slots.specs.Events.{drawn_fewest};
 
 use crate::cube_tables::CubeTables;
 use crate::event::StateEvent;
@@ -123,7 +125,7 @@ impl StateEvent for Draw333 {
 
     ghost is_within = { at_most 52 };
 
-    ghost is_scramble = { IsScramble333Within };
+    ghost is_scramble = { λ effort. IsScramble333 effort.tries };
 
     fn leads_to(&self, scramble: &Scramble, state: &Cube) -> bool {
         Cube::solved().play(scramble) == Some(*state)
@@ -172,7 +174,7 @@ impl StateEvent for DrawFewest {
 
     ghost is_within = { at_most 58 };
 
-    ghost is_scramble = { IsScrambleFewestWithin };
+    ghost is_scramble = { λ effort. IsScrambleFewest effort.tries };
 
     fn leads_to(&self, scramble: &Scramble, state: &Cube) -> bool {
         is_framed(scramble) && Cube::solved().play(scramble) == Some(*state)

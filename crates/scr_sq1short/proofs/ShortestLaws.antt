@@ -1,8 +1,9 @@
 -- The shortest of some totals: how it stays or gives way when a word more is looked at, and that there is but one.
-use Rattle.std.proofs.Common.{◌≡◌, ℕ, ◌+◌, ◌<◌, ◌≤◌, List, [], ◌∷◌, ◌++◌, length, take, get_or, Some, refl, sym, ap, ◌∙◌, subst, append_assoc, length-append, arith}
+use Rattle.std.proofs.Common.{◌≡◌, ℕ, ◌+◌, ◌-◌, ◌<◌, ◌≤◌, inl, inr, List, [], ◌∷◌, ◌++◌, length, take, get_or, Some, refl, sym, ap, ◌∙◌, subst, append_assoc, length-append, arith}
 use Rattle.std.specs.Prelude.{◌↔◌, All, Contains, slice_get}
-use Rattle.std.proofs.lemmas.List.{take_more, get_or-take, length-take}
-use Rattle.std.proofs.lemmas.List.Elements.{All-nil, All-cons, All-head, All-tail, All-append, All-weaker, All-contains, Contains-append_right}
+use Rattle.std.proofs.lemmas.Bool.{cases_order}
+use Rattle.std.proofs.lemmas.List.{take_more, get_or-take, length-take, get_or-append_right, get_or_append_left}
+use Rattle.std.proofs.lemmas.List.Elements.{All-nil, All-cons, All-append, All-weaker, All-contains}
 use Rattle.scr_combinatorics.specs.Back.{back}
 use Rattle.scr_combinatorics.specs.Stages.{IsStageWord}
 use Rattle.scr_combinatorics.proofs.StageLaws.{one_stage_word}
@@ -15,8 +16,7 @@ use Rattle.scr_sq1solve.specs.Counts.{twists_in, IsWithinBounds}
 use Rattle.scr_sq1solve.specs.Stages.{shape_stage, IsScrambleSq1}
 use Rattle.scr_sq1solve.specs.Totals.{shape_words, IsTotal}
 use Rattle.scr_sq1solve.proofs.Lengths.{twists-back}
-use Rattle.scr_sq1solve.proofs.ShapeWordLaws.{IsStageWord-listed}
-use Rattle.scr_sq1solve.proofs.TotalLaws.{IsTotal-unique, IsScrambleSq1-total, IsFirstTotal-scramble}
+use Rattle.scr_sq1solve.proofs.TotalLaws.{IsStageWord-listed, IsTotal-unique, IsScrambleSq1-total, IsFirstTotal-scramble}
 use Rattle.scr_sq1short.specs.ShortScrambles.{IsShortest, IsShortScramble}
 
 -- each total of a word has more twists than this one,
@@ -41,115 +41,110 @@ IsShortest-one s word total is = record {
   no_fewer_behind = All-nil (NoFewer s total);
 }
 
-module _ (s : Sq1State) (words : List (List ℕ)) (least : List Turn) (h : IsShortest s words least) where
-  -- no total of these words has fewer twists
-  pub NoFewer-words : All (λ v. (other : List Turn) → IsTotal s v other → twists_in least ≤ twists_in other) words
-  NoFewer-words =
-      subst (All (NoFewer s least)) (sym h.in_order)
-      (All-append (NoFewer s least) h.before (h.word ∷ h.behind)
-      (All-weaker (More s least) (NoFewer s least) (λ v more other is. omega (arith, more other is)) h.before h.more_before)
-      (All-cons (NoFewer s least) h.word h.behind (λ other is. omega (arith, ap twists_in (IsTotal-unique s h.word least other h.is is)))
-      h.no_fewer_behind))
+-- the word of a total has no other with fewer
+own : (s : Sq1State) (word : List ℕ) (total least : List Turn) → IsTotal s word total → twists_in least ≤ twists_in total
+    → NoFewer s least word
+own s word total least is le = λ other same. omega (arith, le, ap twists_in (IsTotal-unique s word total other is same))
 
-  module _ (word : List ℕ) (total : List Turn) (is : IsTotal s word total) where
-    -- a word more whose total has no fewer leaves the shortest,
-    pub IsShortest-kept : twists_in least ≤ twists_in total → IsShortest s (words ++ word ∷ []) least
-    IsShortest-kept no_fewer = record {
-      before = h.before;
-      word = h.word;
-      behind = h.behind ++ word ∷ [];
-      in_order = ap (λ ws. ws ++ word ∷ []) h.in_order ∙ append_assoc h.before (h.word ∷ h.behind) (word ∷ []);
-      is = h.is;
-      more_before = h.more_before;
-      no_fewer_behind =
-          All-append (NoFewer s least) h.behind (word ∷ []) h.no_fewer_behind
-          (All-cons (NoFewer s least) word [] (λ other same. omega (arith, no_fewer, ap twists_in (IsTotal-unique s word total other is same)))
-          (All-nil (NoFewer s least)));
-    }
+-- no total of these words has fewer twists
+NoFewer-words : (s : Sq1State) (words : List (List ℕ)) (least : List Turn) → IsShortest s words least
+    → All (λ v. (other : List Turn) → IsTotal s v other → twists_in least ≤ twists_in other) words
+NoFewer-words s words least h =
+    subst (All (NoFewer s least)) (sym h.in_order)
+    (All-append (NoFewer s least) h.before (h.word ∷ h.behind)
+    (All-weaker (More s least) (NoFewer s least) (λ v more other is. omega (arith, more other is)) h.before h.more_before)
+    (All-cons (NoFewer s least) h.word h.behind (own s h.word least least h.is (omega arith)) h.no_fewer_behind))
 
-    -- and one whose total has fewer takes its place
-    pub IsShortest-new : twists_in total < twists_in least → IsShortest s (words ++ word ∷ []) total
-    IsShortest-new fewer = record {
-      before = words;
-      word = word;
-      behind = [];
-      in_order = refl;
-      is = is;
-      more_before =
-          All-weaker (NoFewer s least) (More s total) (λ v no_fewer other there. omega (arith, fewer, no_fewer other there)) words NoFewer-words;
-      no_fewer_behind = All-nil (NoFewer s total);
-    }
-
--- a total as it is written
-pub record IsWritten (total : Written) : Type 0 where
-  pub event : total.event ≡ EventSq1
-  pub bounds : IsWithinBounds total.turns
-
--- the total that is the shortest of the words that were looked at
+-- the total that is the shortest of the words that were looked at, as it is written
 pub record IsLeast (s : Sq1State) (words : List (List ℕ)) (least : Written) : Type 0 where
   pub shortest : IsShortest s words least.turns
-  pub written : IsWritten least
+  pub event : least.event ≡ EventSq1
+  pub within : IsWithinBounds least.turns
 
 -- the words as they are looked at, one place after another
-module _ (s : Sq1State) (words : List (List ℕ)) where
-  pub IsLeast-begun : (word : List ℕ) (total : Written) → 0 < length words → word ≡ get_or words 0 []
-      → IsTotal s word total.turns → IsWritten total → IsLeast s (take 1 words) total
-  IsLeast-begun word total some at is written = record {
-    shortest = subst (λ ws. IsShortest s ws total.turns) (sym (take_more words 0 [] some ∙ ap (λ w. w ∷ []) (sym at)))
-        (IsShortest-one s word total.turns is);
-    written = written;
+module _ (s : Sq1State) (words : List (List ℕ)) (place : ℕ) (word : List ℕ) (inside : place < length words)
+    (at : word ≡ get_or words place []) (total : Written) (is : IsTotal s word total.turns)
+    (event : total.event ≡ EventSq1) (within : IsWithinBounds total.turns) where
+  one_more : take (place + 1) words ≡ take place words ++ word ∷ []
+  one_more = take_more words place [] inside ∙ ap (λ w. take place words ++ w ∷ []) (sym at)
+
+  pub IsLeast-begun : take place words ≡ [] → IsLeast s (take (place + 1) words) total
+  IsLeast-begun none = record {
+    shortest = subst (λ ws. IsShortest s ws total.turns) (sym (one_more ∙ ap (λ ws. ws ++ word ∷ []) none)) (IsShortest-one s word total.turns is);
+    event = event;
+    within = within;
   }
 
-  module _ (place : ℕ) (word : List ℕ) (inside : place < length words) (at : word ≡ get_or words place []) (least total : Written)
-      (h : IsLeast s (take place words) least) (is : IsTotal s word total.turns) where
-    by_words : (t : Written) → IsShortest s (take place words ++ word ∷ []) t.turns → IsWritten t
-        → IsLeast s (take (place + 1) words) t
-    by_words t shortest written = record {
-      shortest = subst (λ ws. IsShortest s ws t.turns) (ap (λ w. take place words ++ w ∷ []) at ∙ sym (take_more words place [] inside)) shortest;
-      written = written;
-    }
-
+  module _ (least : Written) (h : IsLeast s (take place words) least) where
+    -- a word more whose total has no fewer leaves the shortest,
     pub IsLeast-kept : twists_in least.turns ≤ twists_in total.turns → IsLeast s (take (place + 1) words) least
     IsLeast-kept no_fewer =
-        by_words least (IsShortest-kept s (take place words) least.turns h.shortest word total.turns is no_fewer) h.written
+        let k = h.shortest in
+        record {
+          shortest = record {
+            before = k.before;
+            word = k.word;
+            behind = k.behind ++ word ∷ [];
+            in_order = one_more ∙ ap (λ ws. ws ++ word ∷ []) k.in_order ∙ append_assoc k.before (k.word ∷ k.behind) (word ∷ []);
+            is = k.is;
+            more_before = k.more_before;
+            no_fewer_behind =
+                All-append (NoFewer s least.turns) k.behind (word ∷ []) k.no_fewer_behind
+                (All-cons (NoFewer s least.turns) word [] (own s word total.turns least.turns is no_fewer) (All-nil (NoFewer s least.turns)));
+          };
+          event = h.event;
+          within = h.within;
+        }
 
-    pub IsLeast-new : IsWritten total → twists_in total.turns < twists_in least.turns
-        → IsLeast s (take (place + 1) words) total
-    IsLeast-new written fewer =
-        by_words total (IsShortest-new s (take place words) least.turns h.shortest word total.turns is fewer) written
+    -- and one whose total has fewer takes its place
+    pub IsLeast-new : twists_in total.turns < twists_in least.turns → IsLeast s (take (place + 1) words) total
+    IsLeast-new fewer = record {
+      shortest = record {
+        before = take place words;
+        word = word;
+        behind = [];
+        in_order = one_more;
+        is = is;
+        more_before =
+            All-weaker (NoFewer s least.turns) (More s total.turns) (λ v no_fewer other there. omega (arith, fewer, no_fewer other there)) (take place words)
+            (NoFewer-words s (take place words) least.turns h.shortest);
+        no_fewer_behind = All-nil (NoFewer s total.turns);
+      };
+      event = event;
+      within = within;
+    }
 
 -- ---- there is but one
 
-All-behind : {X : Type 0} (P : X → Type 0) (xs : List X) (x : X) (ys : List X) → All P (xs ++ x ∷ ys) → P x
-All-behind P [] x ys h = All-head P x ys h
-All-behind P (z ∷ xs) x ys h = All-behind P xs x ys (All-tail P z (xs ++ x ∷ ys) h)
+module _ (s : Sq1State) (words : List (List ℕ)) where
+  -- what stands at the place of a shortest total's word
+  word-at : (t : List Turn) (a : IsShortest s words t) (d : List ℕ) → get_or words (length a.before) d ≡ a.word
+  word-at t a d =
+      ap (λ ws. get_or ws (length a.before) d) a.in_order
+      ∙ get_or-append_right a.before (a.word ∷ a.behind) (length a.before) (length a.before) d refl (omega arith)
+      ∙ ap (λ k. get_or (a.word ∷ a.behind) k d) {x = length a.before - length a.before} {y = 0} (omega arith)
 
--- by where their words stand
-one_at : (s : Sq1State) (us bs cs ds : List (List ℕ)) (v w : List ℕ) (t u : List Turn) → us ++ v ∷ bs ≡ cs ++ w ∷ ds
-    → IsTotal s v t → IsTotal s w u → All (More s t) us → All (NoFewer s t) bs → All (More s u) cs
-    → All (NoFewer s u) ds → t ≡ u
-one_at s [] bs [] ds v w t u e is other more no_fewer more_other no_fewer_other =
-    let same : v ≡ w = cc in
-    IsTotal-unique s w t u (subst (λ x. IsTotal s x t) same is) other
-one_at s [] bs (c ∷ cs) ds v w t u e is other more no_fewer more_other no_fewer_other =
-    let same : v ≡ c = cc in
-    let rest : bs ≡ cs ++ w ∷ ds = cc in
-    let there = All-behind (NoFewer s t) cs w ds (subst (All (NoFewer s t)) rest no_fewer) u other in
-    absurd (omega (arith, there, All-head (More s u) c cs more_other t (subst (λ x. IsTotal s x t) same is)))
-one_at s (a ∷ us) bs [] ds v w t u e is other more no_fewer more_other no_fewer_other =
-    let same : a ≡ w = cc in
-    let rest : us ++ v ∷ bs ≡ ds = cc in
-    let there = All-behind (NoFewer s u) us v bs (subst (All (NoFewer s u)) (sym rest) no_fewer_other) t is in
-    absurd (omega (arith, there, All-head (More s t) a us more u (subst (λ x. IsTotal s x u) (sym same) other)))
-one_at s (a ∷ us) bs (c ∷ cs) ds v w t u e is other more no_fewer more_other no_fewer_other =
-    let rest : us ++ v ∷ bs ≡ cs ++ w ∷ ds = cc in
-    one_at s us bs cs ds v w t u rest is other (All-tail (More s t) a us more) no_fewer (All-tail (More s u) c cs more_other) no_fewer_other
+  word-there : (t : List Turn) (a : IsShortest s words t) → Contains words a.word
+  word-there t a =
+      (length a.before, omega (arith, ap length a.in_order, length-append a.before (a.word ∷ a.behind)), word-at t a a.word)
 
-pub IsShortest-unique : (s : Sq1State) (words : List (List ℕ)) (t u : List Turn) → IsShortest s words t
-    → IsShortest s words u → t ≡ u
-IsShortest-unique s words t u a b =
-    one_at s a.before a.behind b.before b.behind a.word b.word t u (sym a.in_order ∙ b.in_order) a.is b.is a.more_before a.no_fewer_behind
-    b.more_before b.no_fewer_behind
+  -- none is no shorter than the other and stands before it
+  not_before : (t u : List Turn) (a : IsShortest s words t) (b : IsShortest s words u) → length a.before < length b.before → ⊥
+  not_before t u a b lt =
+      let at : get_or b.before (length a.before) [] ≡ a.word =
+      sym (ap (λ ws. get_or ws (length a.before) []) b.in_order ∙ get_or_append_left b.before (b.word ∷ b.behind) [] (length a.before) lt) ∙ word-at t a [] in
+      let no_fewer = All-contains (NoFewer s t) words b.word (NoFewer-words s words t a) (word-there u b) u b.is in
+      omega (arith, no_fewer, subst (More s u) at (b.more_before (length a.before) [] lt) t a.is)
+
+  IsShortest-unique : (t u : List Turn) → IsShortest s words t → IsShortest s words u → t ≡ u
+  IsShortest-unique t u a b =
+      elim (cases_order (length a.before) (length b.before)) [
+        | inl same ↦
+            let one : a.word ≡ b.word = sym (word-at t a []) ∙ ap (λ k. get_or words k []) same ∙ word-at u b [] in
+            IsTotal-unique s b.word t u (subst (λ w. IsTotal s w t) one a.is) b.is
+        | inr (inl less) ↦ absurd (not_before t u a b less)
+        | inr (inr more) ↦ absurd (not_before u t b a more)
+      ]
 
 pub IsShortScramble-unique : (short : ℕ) (s : Sq1State) (turns other : List Turn) → IsShortScramble short s turns
     → IsShortScramble short s other → turns ≡ other
@@ -201,13 +196,6 @@ IsShortScramble-one s turns valid = (
         taken_back = first.taken_back;
       },
 )
-
--- the word of a shortest total is one of the words
-word-there : (s : Sq1State) (words : List (List ℕ)) (total : List Turn) (h : IsShortest s words total)
-    → Contains words h.word
-word-there s words total h =
-    subst (λ ws. Contains ws h.word) (sym h.in_order)
-    (Contains-append_right h.before (h.word ∷ h.behind) h.word (0, omega arith, refl))
 
 more_taken : (fewer more : ℕ) (words : List (List ℕ)) (word : List ℕ) → fewer ≤ more → Contains (take fewer words) word
     → Contains (take more words) word

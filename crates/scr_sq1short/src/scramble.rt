@@ -1,10 +1,11 @@
 //! The short scramble.
-ghost use Rattle.std.specs.Prelude.{◌≡◌, ◌≤◌, List, Some, length};
+ghost use Rattle.std.specs.Prelude.{◌≡◌, ◌≤◌, List};
 ghost use Rattle.scr_combinatorics.specs.Play.{play};
 ghost use Rattle.scr_notation.specs.declared.event.Event.TheVariants.{Sq1 as EventSq1};
 ghost use Rattle.scr_notation.specs.declared.turn.Turn.{Turn as Letter};
+ghost use Rattle.scr_notation.specs.Written.{IsTheScramble};
 ghost use Rattle.scr_sq1.specs.Units.{solved_sq1, sq1_after};
-ghost use Rattle.scr_sq1solve.specs.Counts.{twists_in, twists_of};
+ghost use Rattle.scr_sq1solve.specs.Counts.{twists_in, twists_of, IsWithinBounds};
 ghost use Rattle.scr_sq1solve.specs.Stages.{IsScrambleSq1};
 ghost use Rattle.scr_sq1short.specs.ShortScrambles.{IsShortScramble};
 
@@ -18,13 +19,8 @@ use scr_sq1solve::{Sq1Tables, total_from};
 /// no memory is taken.
 pub fn scramble_sq1_short(tables: &Sq1Tables, state: &Sq1, short: u32) -> Scramble
     requires short { (1 ≤ short) × (short ≤ 1000) }
-    ensures event { result.event ≡ EventSq1 }
-    ensures scramble { IsShortScramble short state.now result.turns }
-    ensures only { (turns : List Letter) → IsShortScramble short state.now turns → turns ≡ result.turns }
+    ensures the_scramble { IsTheScramble EventSq1 (IsShortScramble short) IsWithinBounds (play sq1_after solved_sq1) state.now result }
     ensures no_more { (turns : List Letter) → IsScrambleSq1 state.now turns → twists_in result.turns ≤ twists_in turns }
-    ensures twists { twists_in result.turns ≤ 76 }
-    ensures at_most { length result.turns ≤ 153 }
-    ensures played { play sq1_after solved_sq1 result.turns ≡ Some state.now }
 {
     state.is_valid();
     let words = tables.shape_words(state, short);

@@ -1,26 +1,113 @@
--- How many twists and turns a scramble has at most.
-use Rattle.std.proofs.Common.{◌≡◌, ℕ, ◌+◌, ◌*◌, ◌≤◌, Bool, true, false, cond, IsTrue, List, [], ◌∷◌, ◌++◌, map, length, Option, Some, None, refl, sym, ap, ◌∙◌, arith}
-use Rattle.std.specs.Prelude.{ℤ, reverse, nat_lt, ◌%◌, ◌/◌, ◌==◌, pos, ◌-ℤ◌, ◌+ℤ◌, neg_ℤ, All}
-use Rattle.std.proofs.lemmas.Bool.{false≢true}
-use Rattle.std.proofs.lemmas.List.{length-append, length-reverse, length-map, reverse-append}
+-- Letters as words: how they are put together turn by turn, and how many turns and twists they have, and tidied words.
+use Rattle.std.proofs.Common.{◌≡◌, true, false, IsTrue, List, [], ◌∷◌, ◌++◌, refl, sym, ap, ◌∙◌, ℕ, ◌+◌, ◌*◌, ◌≤◌, Bool, cond, map, length, Option, Some, None, arith}
+use Rattle.std.specs.Prelude.{ℕ, ℤ, pos, negsuc, ◌%◌, nat_lt, flat_map, reverse, ◌/◌, ◌==◌, ◌-ℤ◌, ◌+ℤ◌, neg_ℤ, All}
+use Rattle.std.proofs.lemmas.Bool.{cond-true, cond-false, false≢true}
+use Rattle.std.proofs.lemmas.List.{append-nil, length-append, reverse-append}
+use Rattle.scr_notation.specs.declared.event.Event.TheVariants.{Sq1}
+use Rattle.scr_notation.specs.declared.turn.Turn.{Turn}
+use Rattle.scr_notation.specs.declared.turn.Turn.TheVariants.{Layers, Face, Twist}
+use Rattle.scr_notation.specs.Layers.{twelfths, are_still, is_layer_turn}
+use Rattle.scr_notation.specs.Turns.{permits}
+use Rattle.scr_notation.specs.Written.{Written}
+use Rattle.scr_notation.proofs.LayersLaws.{AreTwelfths-twelfths, layers_of_parts}
+use Rattle.scr_sq1solve.specs.Stages.{turn_word, quarter_word, shape_letter, pairing_letter, home_letter, edge_word, corner_word, quarters, squaring_letter}
+use Rattle.scr_sq1solve.specs.Letters.{first_word, step_word, letter_of, each_of}
+use Rattle.scr_sq1solve.specs.declared.stage_letters.Letters.TheVariants.{OfShapes, OfPairings, OfHome, Squarings, Quarters}
+use Rattle.scr_sq1solve.specs.declared.stage_letters.Step.{Step}
+use Rattle.scr_sq1solve.specs.declared.stage_letters.Step.TheVariants.{Turned, Twisted}
 use Rattle.std.proofs.lemmas.List.Elements.{All-nil, All-cons, All-head, All-tail}
 use Rattle.scr_combinatorics.specs.Play.{play, count_in}
 use Rattle.scr_combinatorics.specs.Back.{back}
 use Rattle.scr_combinatorics.specs.Tidy.{word_of, with_turn, tidy, begins_alike, IsTidy}
 use Rattle.scr_combinatorics.proofs.PlayLaws.{count_in-append, play-parts}
-use Rattle.scr_combinatorics.proofs.TidyLaws.{IsTidy-apart, IsTidy-rest}
-use Rattle.scr_notation.specs.declared.event.Event.TheVariants.{Sq1}
-use Rattle.scr_notation.specs.declared.turn.Turn.{Turn}
-use Rattle.scr_notation.specs.declared.turn.Turn.TheVariants.{Face, Axis, Tip, Layers, Twist, Pins, Over, Wide}
-use Rattle.scr_notation.specs.Layers.{twelfths, are_still}
+use Rattle.scr_combinatorics.proofs.TidyLaws.{IsTidy-apart, IsTidy-rest, IsTidy-tidy, tidy-own}
 use Rattle.scr_notation.specs.Turning.{opposite, are_alike, turns_merged, turn_merging}
-use Rattle.scr_notation.specs.Turns.{permits}
+use Rattle.scr_notation.proofs.MergingLaws.{IsMerging-event}
 use Rattle.scr_sq1.specs.Units.{Sq1State, sq1_after}
+use Rattle.scr_sq1.proofs.Lawful.{sq1_after-layers}
 use Rattle.scr_sq1solve.specs.declared.stage_letters.Letters.{Letters}
-use Rattle.scr_sq1solve.specs.declared.stage_letters.Letters.TheVariants.{OfShapes, OfPairings, OfHome, Squarings, Quarters}
-use Rattle.scr_sq1solve.specs.Stages.{turn_word, quarters, quarter_word, squaring_letter, shape_letter, pairing_letter, home_letter}
-use Rattle.scr_sq1solve.specs.Letters.{letter_of, each_of}
 use Rattle.scr_sq1solve.specs.Counts.{twists_of, twists_in, Costs}
+
+-- ---- turns of the layers
+
+-- the amounts of a turn, modulo 12, are those of one, unless neither layer is turned
+pub layers-permitted : (x y : ℤ) → are_still (twelfths x) (twelfths y) ≡ false
+    → IsTrue (is_layer_turn (Layers (twelfths x) (twelfths y)))
+layers-permitted x y some =
+    layers_of_parts (twelfths x) (twelfths y)
+    (record { top_within = (AreTwelfths-twelfths x).within; bottom_within = (AreTwelfths-twelfths y).within; some = some })
+
+pub turn_word-some : (x y : ℤ) → are_still (twelfths x) (twelfths y) ≡ false
+    → turn_word x y ≡ Layers (twelfths x) (twelfths y) ∷ []
+unfolding turn_word
+turn_word-some x y some = cond-false (are_still (twelfths x) (twelfths y)) [] (Layers (twelfths x) (twelfths y) ∷ []) some
+
+pub turn_word-none : (x y : ℤ) → are_still (twelfths x) (twelfths y) ≡ true → turn_word x y ≡ []
+unfolding turn_word
+turn_word-none x y still = cond-true (are_still (twelfths x) (twelfths y)) [] (Layers (twelfths x) (twelfths y) ∷ []) still
+
+-- ---- letters by their first turn and their later steps
+
+pub turn_word-same : {x y a b : ℤ} → x ≡ a → y ≡ b → turn_word x y ≡ turn_word a b
+turn_word-same {x} {y} {a} {b} top bottom = ap (λ z. turn_word z y) top ∙ ap (turn_word a) bottom
+
+abbrev steps : List Step → List Turn
+steps later = flat_map step_word later
+
+pub shape-steps : (n : ℕ) → shape_letter n ≡ first_word OfShapes n ++ steps (Twisted ∷ [])
+unfolding shape_letter
+shape-steps n = refl
+
+pub pairing-low : (n : ℕ) → nat_lt n 16 ≡ true
+    → pairing_letter n ≡ first_word OfPairings n ++ steps (Twisted ∷ Turned (pos 0) (pos 1) ∷ [])
+unfolding pairing_letter turn_word
+pairing-low n e = cond-true (nat_lt n 16) _ _ e ∙ ap (λ w. w ++ steps (Twisted ∷ Turned (pos 0) (pos 1) ∷ [])) (sym (cond-true (nat_lt n 16) _ _ e))
+
+pub pairing-high : (n : ℕ) → nat_lt n 16 ≡ false
+    → pairing_letter n ≡ first_word OfPairings n ++ steps (Twisted ∷ Turned (negsuc 0) (pos 0) ∷ [])
+unfolding pairing_letter turn_word
+pairing-high n e = cond-false (nat_lt n 16) _ _ e ∙ ap (λ w. w ++ steps (Twisted ∷ Turned (negsuc 0) (pos 0) ∷ [])) (sym (cond-false (nat_lt n 16) _ _ e))
+
+pub home-low : (n : ℕ) → nat_lt n 16 ≡ true → home_letter n
+    ≡ first_word OfHome n ++ steps (Turned (pos 0) (negsuc 0) ∷ Twisted ∷ Turned (pos 1) (pos 1) ∷ Twisted ∷ Turned (negsuc 0) (pos 0) ∷ [])
+unfolding home_letter turn_word
+home-low n e = ap (λ w. quarter_word (n % 16) ++ w) (cond-true (nat_lt n 16) edge_word corner_word e)
+
+pub home-high : (n : ℕ) → nat_lt n 16 ≡ false → home_letter n
+    ≡ first_word OfHome n ++ steps (Turned (pos 0) (negsuc 0) ∷ Twisted ∷ Turned (negsuc 1) (negsuc 1) ∷ Twisted ∷ Turned (pos 2) (pos 3) ∷ [])
+unfolding home_letter turn_word
+home-high n e = ap (λ w. quarter_word (n % 16) ++ w) (cond-false (nat_lt n 16) edge_word corner_word e)
+
+-- ---- letters that are written turn by turn
+
+abbrev pub written : List Turn → Written
+written turns = record { event = Sq1; turns = turns }
+
+-- no turn, or one, behind a word
+pub still-written : (v : Written) (x y a b : ℤ) → v.event ≡ Sq1 → a ≡ twelfths x → b ≡ twelfths y → are_still a b ≡ true
+    → v ≡ written (v.turns ++ turn_word x y)
+still-written v x y a b event top bottom still =
+    let is : are_still (twelfths x) (twelfths y) ≡ true = sym (ap (λ z. are_still z b) top ∙ ap (are_still (twelfths x)) bottom) ∙ still in
+    let none = turn_word-none x y is in
+    let whole = append-nil v.turns in
+    let same : (let w : Written = record { event = v.event; turns = v.turns } in w ≡ written (v.turns ++ turn_word x y)) = cc in
+    same
+
+pub layers-written : (v w : Written) (x y a b : ℤ) → v.event ≡ Sq1 → a ≡ twelfths x → b ≡ twelfths y
+    → are_still a b ≡ false → w ≡ record { event = v.event; turns = v.turns ++ Layers a b ∷ [] }
+    → w ≡ written (v.turns ++ turn_word x y)
+layers-written v w x y a b event top bottom some made =
+    let is : are_still (twelfths x) (twelfths y) ≡ false = sym (ap (λ z. are_still z b) top ∙ ap (are_still (twelfths x)) bottom) ∙ some in
+    let one = turn_word-some x y is in
+    cc
+
+pub layers-permitted-by : (v : Written) (x y a b : ℤ) → v.event ≡ Sq1 → a ≡ twelfths x → b ≡ twelfths y
+    → are_still a b ≡ false → IsTrue (permits v.event (Layers a b))
+layers-permitted-by v x y a b event top bottom some =
+    let is : are_still (twelfths x) (twelfths y) ≡ false = sym (ap (λ z. are_still z b) top ∙ ap (are_still (twelfths x)) bottom) ∙ some in
+    ap (λ e. permits e (Layers a b)) event
+    ∙ ap (λ z. is_layer_turn (Layers z b)) top ∙ ap (λ z. is_layer_turn (Layers (twelfths x) z)) bottom
+    ∙ layers-permitted x y is
 
 -- ---- turns and twists of letters
 
@@ -59,38 +146,22 @@ three a b c d = let whole = Costs-append (Costs-turn_word a b) (Costs-append Cos
 five : (a b c d e f : ℤ) → Costs (turn_word a b ++ Twist ∷ turn_word c d ++ Twist ∷ turn_word e f) 5 2
 five a b c d e f = let whole = Costs-append (three a b c d) (Costs-append Costs-twist (Costs-turn_word e f)) in whole
 
-Costs-shape : (n : ℕ) → Costs (shape_letter n) 2 1
-unfolding shape_letter
-Costs-shape n = let whole = Costs-append (Costs-turn_word (pos (n / 12) -ℤ pos 5) (pos (n % 12) -ℤ pos 5)) Costs-twist in whole
-
-Costs-pairing : (n : ℕ) → Costs (pairing_letter n) 3 1
-unfolding pairing_letter
-Costs-pairing n =
+pub Costs-letter : (letters : Letters) (n : ℕ)
+    → Costs (letter_of letters n) (each_of letters).turns (each_of letters).twists
+unfolding shape_letter pairing_letter quarter_word home_letter squaring_letter
+Costs-letter OfShapes n = let whole = Costs-append (Costs-turn_word (pos (n / 12) -ℤ pos 5) (pos (n % 12) -ℤ pos 5)) Costs-twist in whole
+Costs-letter OfPairings n =
     let top : ℤ = quarters (n / 4 % 4) in
     let bottom : ℤ = quarters (n % 4) in
     Costs-either (nat_lt n 16) (three top (bottom -ℤ pos 1) (pos 0) (pos 1)) (three (top +ℤ pos 1) bottom (neg_ℤ (pos 1)) (pos 0))
-
-Costs-quarter : (n : ℕ) → Costs (quarter_word n) 1 0
-unfolding quarter_word
-Costs-quarter n = Costs-turn_word (quarters (n / 4)) (quarters (n % 4))
-
-Costs-home : (n : ℕ) → Costs (home_letter n) 6 2
-unfolding home_letter
-Costs-home n =
+Costs-letter OfHome n =
     let exchange =
     Costs-either (nat_lt n 16) (five (pos 0) (neg_ℤ (pos 1)) (pos 1) (pos 1) (neg_ℤ (pos 1)) (pos 0))
     (five (pos 0) (neg_ℤ (pos 1)) (neg_ℤ (pos 2)) (neg_ℤ (pos 2)) (pos 2) (pos 3)) in
-    let whole = Costs-append (Costs-quarter (n % 16)) exchange in
+    let whole = Costs-append (Costs-turn_word (quarters (n % 16 / 4)) (quarters (n % 16 % 4))) exchange in
     whole
-
-pub Costs-letter : (letters : Letters) (n : ℕ)
-    → Costs (letter_of letters n) (each_of letters).turns (each_of letters).twists
-unfolding squaring_letter
-Costs-letter OfShapes n = Costs-shape n
-Costs-letter OfPairings n = Costs-pairing n
-Costs-letter OfHome n = Costs-home n
 Costs-letter Squarings n = Costs-turn_word (neg_ℤ (pos (n % 2))) (pos (n / 2))
-Costs-letter Quarters n = Costs-quarter n
+Costs-letter Quarters n = Costs-turn_word (quarters (n / 4)) (quarters (n % 4))
 
 -- ---- tidying adds no twists
 
@@ -103,30 +174,11 @@ kept_merged false t e = omega (arith, e)
 twists-merged : (t u : Turn) → twists_in (word_of (turns_merged t u)) ≤ twists_of t + twists_of u
 unfolding count_in word_of
 twists-merged (Face a b c) (Face d e f) = omega (arith, kept_merged ((c + f) % 4 == 0) (Face d e ((c + f) % 4)) refl)
-twists-merged (Face a b c) (Axis d e) = omega arith
-twists-merged (Face a b c) (Tip d e) = omega arith
-twists-merged (Face a b c) (Layers d e) = omega arith
-twists-merged (Face a b c) Twist = omega arith
-twists-merged (Face a b c) (Pins d e) = omega arith
-twists-merged (Face a b c) Over = omega arith
-twists-merged (Face a b c) (Wide d e) = omega arith
-twists-merged (Axis a b) u = omega arith
-twists-merged (Tip a b) u = omega arith
-twists-merged (Layers a b) (Face d e f) = omega arith
-twists-merged (Layers a b) (Axis d e) = omega arith
-twists-merged (Layers a b) (Tip d e) = omega arith
 twists-merged (Layers a b) (Layers d e) =
     let top : ℤ = twelfths (a +ℤ d) in
     let bottom : ℤ = twelfths (b +ℤ e) in
     omega (arith, kept_merged (are_still top bottom) (Layers top bottom) refl)
-twists-merged (Layers a b) Twist = omega arith
-twists-merged (Layers a b) (Pins d e) = omega arith
-twists-merged (Layers a b) Over = omega arith
-twists-merged (Layers a b) (Wide d e) = omega arith
-twists-merged Twist u = omega arith
-twists-merged (Pins a b) u = omega arith
-twists-merged Over u = omega arith
-twists-merged (Wide a b) u = omega arith
+twists-merged _ _ = omega arith
 
 twists-with_turn : (t : Turn) (w : List Turn) → twists_in (with_turn turn_merging t w) ≤ twists_of t + twists_in w
 unfolding with_turn count_in
@@ -145,78 +197,60 @@ twists-tidy (t ∷ w) = omega (arith, twists-with_turn t (tidy turn_merging w), 
 
 -- ---- a tidy word has a twist at every second place at least
 
--- a turn of the layers, or a twist
-abbrev pub OfSq1 : Turn → Type 0
-OfSq1 (Layers top bottom) = Unit {0}
-OfSq1 Twist = Unit {0}
-OfSq1 _ = ⊥
+-- turns of the layers, and twists
+abbrev AreOfSq1 : List Turn → Type 0
+AreOfSq1 w = All (λ t. IsTrue (is_layer_turn t)) w
 
-OfSq1-led : (s r : Sq1State) (t : Turn) → sq1_after s t ≡ Some r → OfSq1 t
+pub is_layer_turn-after : (s r : Sq1State) (t : Turn) → sq1_after s t ≡ Some r → IsTrue (is_layer_turn t)
 unfolding sq1_after
-OfSq1-led s r (Layers x y) e = tt
-OfSq1-led s r Twist e = tt
-OfSq1-led s r (Face a b c) e = absurd (cc)
-OfSq1-led s r (Axis a b) e = absurd (cc)
-OfSq1-led s r (Tip a b) e = absurd (cc)
-OfSq1-led s r (Pins a b) e = absurd (cc)
-OfSq1-led s r Over e = absurd (cc)
-OfSq1-led s r (Wide a b) e = absurd (cc)
+is_layer_turn-after s r (Layers x y) e = (sq1_after-layers s r x y e).letter
+is_layer_turn-after s r Twist e = refl
+is_layer_turn-after s r _ e = absurd (cc)
 
 -- the turns of a word that leads somewhere
-pub OfSq1-played : (s r : Sq1State) (w : List Turn) → play sq1_after s w ≡ Some r → All OfSq1 w
-OfSq1-played s r [] e = All-nil OfSq1
-OfSq1-played s r (t ∷ w) e =
+pub layer_turns-played : (s r : Sq1State) (w : List Turn) → play sq1_after s w ≡ Some r → All (λ t. IsTrue (is_layer_turn t)) w
+layer_turns-played s r [] e = All-nil (λ t. IsTrue (is_layer_turn t))
+layer_turns-played s r (t ∷ w) e =
     let parts = play-parts sq1_after s r t w e in
-    All-cons OfSq1 t w (OfSq1-led s parts.0 t parts.1) (OfSq1-played parts.0 r w parts.2)
+    All-cons (λ t. IsTrue (is_layer_turn t)) t w (is_layer_turn-after s parts.0 t parts.1) (layer_turns-played parts.0 r w parts.2)
 
-pub OfSq1-permitted : (t : Turn) → IsTrue (permits Sq1 t) → OfSq1 t
-OfSq1-permitted (Layers x y) e = tt
-OfSq1-permitted Twist e = tt
-OfSq1-permitted (Face a b c) e = absurd (false≢true e)
-OfSq1-permitted (Axis a b) e = absurd (false≢true e)
-OfSq1-permitted (Tip a b) e = absurd (false≢true e)
-OfSq1-permitted (Pins a b) e = absurd (false≢true e)
-OfSq1-permitted Over e = absurd (false≢true e)
-OfSq1-permitted (Wide a b) e = absurd (false≢true e)
+tail_of : (t : Turn) (w : List Turn) → AreOfSq1 (t ∷ w) → AreOfSq1 w
+tail_of = All-tail (λ t. IsTrue (is_layer_turn t))
 
-pub length-tidy : (w : List Turn) → IsTidy turn_merging w → All OfSq1 w → length w ≤ 2 * twists_in w + 1
+head_of : (t : Turn) (w : List Turn) → AreOfSq1 (t ∷ w) → IsTrue (is_layer_turn t)
+head_of = All-head (λ t. IsTrue (is_layer_turn t))
+
+pub length-tidy : (w : List Turn) → IsTidy turn_merging w → All (λ t. IsTrue (is_layer_turn t)) w
+    → length w ≤ 2 * twists_in w + 1
 unfolding count_in begins_alike
 length-tidy [] h a = omega arith
-length-tidy (Twist ∷ w) h a = omega (arith, length-tidy w (IsTidy-rest turn_merging Twist w h) (All-tail OfSq1 Twist w a))
+length-tidy (Twist ∷ w) h a = omega (arith, length-tidy w (IsTidy-rest turn_merging Twist w h) (tail_of Twist w a))
 length-tidy (Layers x y ∷ []) h a = omega arith
 length-tidy (Layers x y ∷ (Twist ∷ w)) h a =
     let rest = IsTidy-rest turn_merging (Layers x y) (Twist ∷ w) h in
-    omega (arith, length-tidy w (IsTidy-rest turn_merging Twist w rest) (All-tail OfSq1 Twist w (All-tail OfSq1 (Layers x y) (Twist ∷ w) a)))
+    omega (arith, length-tidy w (IsTidy-rest turn_merging Twist w rest) (tail_of Twist w (tail_of (Layers x y) (Twist ∷ w) a)))
 length-tidy (Layers x y ∷ (Layers u v ∷ w)) h a = absurd (false≢true (sym (IsTidy-apart turn_merging (Layers x y) (Layers u v ∷ w) h)))
-length-tidy (Layers x y ∷ (t ∷ w)) h a = absurd (All-head OfSq1 t w (All-tail OfSq1 (Layers x y) (t ∷ w) a))
-length-tidy (t ∷ w) h a = absurd (All-head OfSq1 t w a)
+length-tidy (Layers x y ∷ (t ∷ w)) h a = absurd (false≢true (head_of t w (tail_of (Layers x y) (t ∷ w) a)))
+length-tidy (t ∷ w) h a = absurd (false≢true (head_of t w a))
+
+pub IsTidy-sq1 : (w : List Turn) → IsTidy turn_merging (tidy turn_merging w)
+IsTidy-sq1 w = IsTidy-tidy turn_merging (λ t. IsTrue (permits Sq1 t)) (IsMerging-event Sq1 refl) w
+
+-- where the rest of a word is tidied before, the word comes out the same
+pub tidy-rest : (v w : List Turn) → tidy turn_merging (v ++ tidy turn_merging w) ≡ tidy turn_merging (v ++ w)
+unfolding tidy
+tidy-rest [] w = tidy-own turn_merging (tidy turn_merging w) (IsTidy-sq1 w)
+tidy-rest (t ∷ v) w = ap (with_turn turn_merging t) (tidy-rest v w)
 
 -- ---- a word taken back has as many
 
-twists-reverse : (w : List Turn) → twists_in (reverse w) ≡ twists_in w
-unfolding count_in
-twists-reverse [] = refl
-twists-reverse (t ∷ w) =
-    ap twists_in (reverse-append (t ∷ []) w)
-    ∙ omega (arith, twists-append (reverse w) (t ∷ []), twists-reverse w)
-
 twists-opposite : (t : Turn) → twists_of (opposite t) ≡ twists_of t
-twists-opposite (Face a b c) = refl
-twists-opposite (Axis a b) = refl
-twists-opposite (Tip a b) = refl
-twists-opposite (Layers a b) = refl
 twists-opposite Twist = refl
-twists-opposite (Pins a b) = refl
-twists-opposite Over = refl
-twists-opposite (Wide a b) = refl
-
-twists-opposites : (w : List Turn) → twists_in (map opposite w) ≡ twists_in w
-unfolding count_in
-twists-opposites [] = refl
-twists-opposites (t ∷ w) = omega (arith, twists-opposite t, twists-opposites w)
+twists-opposite _ = refl
 
 pub twists-back : (w : List Turn) → twists_in (back opposite w) ≡ twists_in w
-twists-back w = twists-reverse (map opposite w) ∙ twists-opposites w
-
-pub length-back : (w : List Turn) → length (back opposite w) ≡ length w
-length-back w = length-reverse (map opposite w) ∙ length-map w opposite
+unfolding count_in
+twists-back [] = refl
+twists-back (t ∷ w) =
+    ap twists_in (reverse-append (opposite t ∷ []) (map opposite w))
+    ∙ omega (arith, twists-append (reverse (map opposite w)) (opposite t ∷ []), twists-opposite t, twists-back w)

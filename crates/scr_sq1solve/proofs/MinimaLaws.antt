@@ -1,7 +1,6 @@
 -- The test of a minimum is exact, and so is a search that leaves out turns of the layers right after each other, and
 -- twists.
-use Rattle.std.proofs.Common.{◌≡◌, ℕ, suc, ◌+◌, ◌%◌, ◌/◌, ◌<◌, ◌≤◌, inl, inr, Bool, true, false, IsTrue, cond, List, []}
-use Rattle.std.proofs.Common.{◌∷◌, length, Option, Some, None, refl, sym, ap, ◌∙◌, subst, arith, eq-eqb, eqb-true}
+use Rattle.std.proofs.Common.{◌≡◌, ℕ, suc, ◌+◌, ◌%◌, ◌/◌, ◌<◌, ◌≤◌, inl, inr, Bool, true, false, IsTrue, cond, List, [], ◌∷◌, length, Option, Some, None, refl, sym, ap, ◌∙◌, subst, arith, eq-eqb, eqb-true}
 use Rattle.std.specs.Prelude.{◌↔◌, All, ◌==◌, ◌&&◌, not, nat_lt, ℤ, pos, ◌+ℤ◌, ◌-ℤ◌}
 use Rattle.std.proofs.lemmas.Bool.{cases_eq, cases_lt, cond-true, cond-false, lt-ltb, ne_eqb, and_parts, false≢true}
 use Rattle.scr_combinatorics.specs.Lists.{pick}
@@ -18,21 +17,19 @@ use Rattle.scr_notation.specs.declared.turn.Turn.TheVariants.{Layers, Twist}
 use Rattle.scr_notation.specs.Layers.{twelfths, are_still, is_layer_turn}
 use Rattle.scr_notation.specs.TurnNumbers.{layer_turn_at, turn_at}
 use Rattle.scr_notation.specs.Ranges.{same}
-use Rattle.scr_notation.proofs.LayersLaws.{AreTwelfths-twelfths, IsTwelfths, are_still-first, are_still-second}
-use Rattle.scr_notation.proofs.LayersLaws.{layers_of_parts, twelfths-own}
+use Rattle.scr_notation.proofs.LayersLaws.{are_still-first, are_still-second}
 use Rattle.scr_notation.proofs.NumberLaws.{numbered, has_turn_at}
 use Rattle.scr_table.specs.Moves.{after_move as number_turned, NeedsTurns, NeverHelps}
 use Rattle.scr_table.proofs.MovesLaws.{turned-turn}
 use Rattle.scr_table.proofs.StepLaws.{taken_where}
 use Rattle.scr_table.proofs.TriedWords.{needs_test-iff as tried-iff}
-use Rattle.scr_sq1.specs.Units.{Sq1State, IsSq1, is_open, after_layers, solved_sq1, clockwise, turn_places, turned}
-use Rattle.scr_sq1.specs.Units.{twisted, sq1_after, sq1_puzzle}
-use Rattle.scr_sq1.proofs.Places.{IsTurnTable-turn, turn_places-both, turn_places-none}
+use Rattle.scr_sq1.specs.Units.{Sq1State, IsSq1, is_open, after_layers, solved_sq1, clockwise, turn_places, turned, twisted, sq1_after, sq1_puzzle}
+use Rattle.scr_sq1.proofs.Places.{IsTurnTable-turn, turn_places-both}
 use Rattle.scr_sq1.proofs.Clockwise.{clockwise-lt, clockwise-twelfths, clockwise-sum}
-use Rattle.scr_sq1.proofs.Lawful.{pick_nothing, sq1_after-layers, sq1_after-by_layers, sq1_after-twist, twisted-twice}
-use Rattle.scr_sq1.proofs.Lawful.{IsLawful-sq1}
+use Rattle.scr_sq1.proofs.Lawful.{turned-still, sq1_after-layers, sq1_after-by_layers, sq1_after-twist, twisted-twice, IsLawful-sq1}
 use Rattle.scr_sq1solve.specs.Minima.{is_solved_sq1, sq1_moves, needs_test_sq1}
-use Rattle.scr_sq1solve.proofs.PairedLists.{same-true}
+use Rattle.scr_sq1solve.proofs.PairingStage.{same-true}
+use Rattle.scr_sq1solve.proofs.Lengths.{layers-permitted, is_layer_turn-after}
 
 -- ---- solved states
 
@@ -99,13 +96,6 @@ turned_together s x y z w =
     ∙ ap (λ n. pick s.units (turn_places n ((clockwise y + clockwise w) % 12))) (sym (clockwise-twelfths (x +ℤ z) ∙ clockwise-sum x z))
     ∙ ap (λ m. pick s.units (turn_places (clockwise (twelfths (x +ℤ z))) m)) (sym (clockwise-twelfths (y +ℤ w) ∙ clockwise-sum y w)))
 
-turned_nothing : (s : Sq1State) (x y : ℤ) → length s.units ≡ 24 → x ≡ pos 0 → y ≡ pos 0 → turned s x y ≡ s
-unfolding turned
-turned_nothing s x y size e f =
-    ap (λ us. let r : Sq1State = record { units = us; equator = s.equator } in r)
-    (ap (λ i. pick s.units (turn_places (clockwise i) (clockwise y))) e ∙ ap (λ i. pick s.units (turn_places 0 (clockwise i))) f
-    ∙ ap (pick s.units) turn_places-none ∙ pick_nothing s.units size)
-
 -- what one word of at most one turn makes
 abbrev MadeByOne : Sq1State → Sq1State → Type 0
 MadeByOne s q = (w : List ℕ) × (length w ≤ 1) × (play (number_turned sq1_moves) s w ≡ Some q)
@@ -113,22 +103,18 @@ MadeByOne s q = (w : List ℕ) × (length w ≤ 1) × (play (number_turned sq1_m
 by_none : (s q : Sq1State) → q ≡ s → MadeByOne s q
 by_none s q e = ([], omega arith, play-empty (number_turned sq1_moves) s ∙ ap Some (sym e))
 
-by_layers : (s q : Sq1State) (x y : ℤ) (b : Bool) → are_still x y ≡ b → length s.units ≡ 24 → IsTrue (is_open q.units)
-    → q ≡ turned s x y → (x ≡ twelfths x) → (y ≡ twelfths y) → MadeByOne s q
+by_layers : (s q : Sq1State) (x y : ℤ) (b : Bool) → are_still (twelfths x) (twelfths y) ≡ b → length s.units ≡ 24
+    → IsTrue (is_open q.units) → q ≡ turned s (twelfths x) (twelfths y) → MadeByOne s q
 unfolding turn_at
-by_layers s q x y true still size opened is tx ty =
-    by_none s q (is ∙ turned_nothing s x y size (are_still-first x y still) (are_still-second x y still))
-by_layers s q x y false some size opened is tx ty =
-    let within_x = AreTwelfths-twelfths x in
-    let within_y = AreTwelfths-twelfths y in
-    let letter : IsTrue (is_layer_turn (Layers x y)) =
-    layers_of_parts x y
-    (record { top_within = subst IsTwelfths (sym tx) within_x.within; bottom_within = subst IsTwelfths (sym ty) within_y.within; some = some }) in
-    let n = numbered LayersAndTwist (Layers x y) tt letter in (
+by_layers s q x y true still size opened is =
+    by_none s q (is ∙ turned-still s (twelfths x) (twelfths y) size (are_still-first (twelfths x) (twelfths y) still) (are_still-second (twelfths x) (twelfths y) still))
+by_layers s q x y false some size opened is =
+    let letter = layers-permitted x y some in
+    let n = numbered LayersAndTwist (Layers (twelfths x) (twelfths y)) tt letter in (
       n.0 ∷ [],
       omega arith,
       play-one (number_turned sq1_moves) s n.0 ∙ turned-number s n.0 size n.1 ∙ ap (sq1_after s) n.2
-          ∙ sq1_after-by_layers s x y letter (ap (λ r. is_open r.units) (sym is) ∙ opened) ∙ ap Some (sym is),
+          ∙ sq1_after-by_layers s (twelfths x) (twelfths y) letter (ap (λ r. is_open r.units) (sym is) ∙ opened) ∙ ap Some (sym is),
     )
 
 pub NeverHelps-idle : (first second : ℕ) → (first == 65) ≡ (second == 65) → NeverHelps sq1_moves first second
@@ -149,34 +135,21 @@ NeverHelps-idle first second alike = λ s r q e f.
           let w = bottom_of second in
           let one = sq1_after-layers s r x y (sym (ap (sq1_after s) (layers_number first apart)) ∙ a.made) in
           let two = sq1_after-layers r q z w (sym (ap (sq1_after r) (layers_number second other)) ∙ b.made) in
-          let top : ℤ = twelfths (x +ℤ z) in
-          let bottom : ℤ = twelfths (y +ℤ w) in
-          by_layers s q top bottom (are_still top bottom) refl a.size (ap (λ p. is_open p.units) two.is ∙ two.opened)
+          by_layers s q (x +ℤ z) (y +ℤ w) (are_still (twelfths (x +ℤ z)) (twelfths (y +ℤ w))) refl a.size
+          (ap (λ p. is_open p.units) two.is ∙ two.opened)
           (two.is ∙ ap (λ p. turned p z w) one.is ∙ turned_together s x y z w)
-          (sym (twelfths-twelfths (x +ℤ z))) (sym (twelfths-twelfths (y +ℤ w)))
     ]
-  where
-    twelfths-twelfths : (z : ℤ) → twelfths (twelfths z) ≡ twelfths z
-    twelfths-twelfths z = twelfths-own (twelfths z) (AreTwelfths-twelfths z).within
 
 -- ---- words of numbers and of turns
-
-turn-after : (s r : Sq1State) (t : Turn) → sq1_after s t ≡ Some r → IsTrue (is_layer_turn t)
-unfolding sq1_after
-turn-after s r (Layers x y) e = (sq1_after-layers s r x y e).letter
-turn-after s r Twist e = refl
-turn-after s r _ e = absurd (cc)
 
 numbers-of : (w : List Turn) (s end : Sq1State) → IsSq1 s → play sq1_after s w ≡ Some end
     → (ns : List ℕ) × (length ns ≡ length w) × (play (number_turned sq1_moves) s ns ≡ Some end)
 unfolding turn_at
 numbers-of [] s end valid e =
-    let here = play-empty sq1_after s in
-    let same : Some s ≡ Some end = sym here ∙ e in
-    ([], refl, play-empty (number_turned sq1_moves) s ∙ same)
+    ([], refl, play-empty (number_turned sq1_moves) s ∙ sym (play-empty sq1_after s) ∙ e)
 numbers-of (t ∷ w) s end valid e =
     let parts = play-parts sq1_after s end t w e in
-    let n = numbered LayersAndTwist t tt (turn-after s parts.0 t parts.1) in
+    let n = numbered LayersAndTwist t tt (is_layer_turn-after s parts.0 t parts.1) in
     let rest = numbers-of w parts.0 end (IsLawful-sq1.keeps s parts.0 t valid parts.1) parts.2 in (
       n.0 ∷ rest.0,
       ap suc rest.1,
@@ -186,9 +159,7 @@ numbers-of (t ∷ w) s end valid e =
 turns-of : (ns : List ℕ) (s end : Sq1State) → play (number_turned sq1_moves) s ns ≡ Some end
     → (w : List Turn) × (length w ≡ length ns) × (play sq1_after s w ≡ Some end)
 turns-of [] s end e =
-    let here = play-empty (number_turned sq1_moves) s in
-    let same : Some s ≡ Some end = sym here ∙ e in
-    ([], refl, play-empty sq1_after s ∙ same)
+    ([], refl, play-empty sq1_after s ∙ sym (play-empty (number_turned sq1_moves) s) ∙ e)
 turns-of (n ∷ ns) s end e =
     let parts = play-parts (number_turned sq1_moves) s end n ns e in
     let m = IsMoved-turned s parts.0 n parts.1 in

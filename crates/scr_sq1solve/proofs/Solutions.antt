@@ -1,16 +1,15 @@
 -- Where the tables are built, each state has exactly one solution, which leads to solved.
-use Rattle.std.proofs.Common.{◌≡◌, Bool, true, false, cond, List, [], ◌∷◌, ◌++◌, Some, refl, sym, ap, ◌∙◌, arith, lit<, lit≤}
-use Rattle.std.specs.Prelude.{◌↔◌}
+use Rattle.std.proofs.Common.{◌≡◌, Bool, true, false, cond, List, [], ◌∷◌, ◌++◌, Some, refl, sym, ap, ◌∙◌, arith, lit<, lit≤, ◌≤◌, length, ℕ, zero, suc, ◌+◌}
+use Rattle.std.specs.Prelude.{◌↔◌, not}
 use Rattle.std.specs.Option.{option_map}
 use Rattle.std.proofs.lemmas.Bool.{false≢true}
 use Rattle.std.proofs.lemmas.Option.{same_Some}
-use Rattle.scr_combinatorics.specs.Play.{play}
+use Rattle.scr_combinatorics.specs.Play.{play, count_in}
 use Rattle.scr_combinatorics.specs.Back.{back}
 use Rattle.scr_combinatorics.specs.Reach.{IsReached}
 use Rattle.scr_combinatorics.specs.Stages.{by_letters, spelled, IsSolution}
-use Rattle.scr_combinatorics.proofs.PlayLaws.{play-empty, play-one, play-append}
-use Rattle.scr_combinatorics.proofs.StageLaws as of_stages
-use Rattle.scr_combinatorics.proofs.StageLaws.{by_letters-played, play-stage_word, IsSolution-unique, Leads-solution, last_goal, solution_step, next_solution}
+use Rattle.scr_combinatorics.proofs.PlayLaws.{play-empty, play-one, play-append, play-parts}
+use Rattle.scr_combinatorics.proofs.StageLaws.{by_letters-played, play-stage_word, IsSolution-unique, Leads-solution, last_goal, solution_step, next_solution, CountsWithin, bounds, count-solution}
 use Rattle.scr_combinatorics.proofs.OneLetter.{Ends, no_letter, one_letter}
 use Rattle.scr_notation.specs.declared.turn.Turn.{Turn}
 use Rattle.scr_notation.specs.Turning.{opposite, turn_merging}
@@ -18,18 +17,23 @@ use Rattle.scr_table.specs.Distances.{Distances}
 use Rattle.scr_table.specs.Lines.{IsTableOf, AreTablesOf}
 use Rattle.scr_table.proofs.LineLaws.{table_of_line}
 use Rattle.scr_table.proofs.StageLaws.{end_valid, stage_word}
-use Rattle.scr_sq1.specs.Units.{Sq1State, IsSq1, solved_sq1, sq1_after, sq1_puzzle}
-use Rattle.scr_sq1.proofs.Lawful.{IsSq1-reached, sq1_taken_back, sq1_kept_by_tidy}
-use Rattle.scr_sq1solve.specs.Stages.{shape_stage, squaring_stage, pairing_stage, home_stage, last_stage, layer_stages}
-use Rattle.scr_sq1solve.specs.Stages.{equator_word, equator_stage, sq1_stages, IsScrambleSq1}
+use Rattle.scr_sq1.specs.Units.{Sq1State, IsSq1, solved_sq1, sq1_after, sq1_puzzle, turned, twisted}
+use Rattle.scr_sq1.proofs.Lawful.{IsSq1-reached, sq1_taken_back, sq1_kept_by_tidy, sq1_after-layers, sq1_after-twist}
+use Rattle.scr_sq1solve.specs.Stages.{shape_stage, squaring_stage, pairing_stage, home_stage, last_stage, layer_stages, equator_word, equator_stage, sq1_stages, IsScrambleSq1}
 use Rattle.scr_sq1solve.specs.Tables.{shapes_line, pairings_line, square_line, sq1_lines, shapes_index, pairings_index, square_index}
 use Rattle.scr_sq1solve.specs.Spaces.{IsNormalSq1, IsPairedSq1}
-use Rattle.scr_sq1solve.proofs.Bases.{keeps_sq1}
+use Rattle.scr_sq1solve.proofs.Renamed.{keeps_sq1, flipped, play-equator, play-flipped, layers-flipped}
 use Rattle.scr_sq1solve.proofs.ShapeStage.{Follows-shapes, StaysBelow-shapes}
 use Rattle.scr_sq1solve.proofs.PairingStage.{Follows-pairings, StaysBelow-pairings}
 use Rattle.scr_sq1solve.proofs.HomeStage.{Follows-square, StaysBelow-square}
-use Rattle.scr_sq1solve.proofs.Equator.{flipped, play-equator}
-use Rattle.scr_sq1solve.proofs.Flipped.{play-flipped, layers-flipped}
+use Rattle.scr_combinatorics.specs.Tidy.{tidy}
+use Rattle.scr_sq1solve.specs.Counts.{twists_of, twists_in, IsWithinBounds, turned_over}
+use Rattle.scr_sq1solve.specs.declared.stage_letters.Letters.{Letters}
+use Rattle.scr_sq1solve.specs.declared.stage_letters.Letters.TheVariants.{OfShapes, OfPairings, OfHome, Squarings, Quarters}
+use Rattle.scr_sq1solve.proofs.Lengths.{Costs-letter, twists-tidy, length-tidy, twists-back, IsTidy-sq1, layer_turns-played}
+use Rattle.scr_notation.specs.declared.turn.Turn.TheVariants.{Layers, Twist}
+use Rattle.scr_notation.proofs.TidyingLaws.{length-back}
+use Rattle.scr_combinatorics.proofs.StageLaws as of_stages
 
 -- ---- a solution leads to solved
 
@@ -53,49 +57,46 @@ play-solution s w a =
 
 -- ---- the solution of the layers, and before it the word that turns the equator, where that would stand turned
 
-module _ (s : Sq1State) (valid : IsSq1 s) (w : List Turn) (home : Sq1State) (played : play sq1_after s w ≡ Some home) (solved : last_stage.IsGoal home) where
+module _ (s : Sq1State) (valid : IsSq1 s) (w : List Turn) where
   -- where the layers are solved, the equator tells the state
-  is_home : (b : Bool) → home.equator ≡ b → home ≡ record { units = solved_sq1.units; equator = b }
-  is_home b is =
-      ap (λ us. let r : Sq1State = record { units = us; equator = home.equator } in r) solved
-      ∙ ap (λ e. let r : Sq1State = record { units = solved_sq1.units; equator = e } in r) is
+  upright : (us : List ℕ) → us ≡ solved_sq1.units → (let r : Sq1State = record { units = us; equator = false } in r ≡ solved_sq1)
+  upright us e = ap (λ xs. let r : Sq1State = record { units = xs; equator = false } in r) e
 
-  upright : home.equator ≡ false → play sq1_after s w ≡ Some solved_sq1
-  upright is = played ∙ ap Some (is_home false is)
+  over : (us : List ℕ) → us ≡ solved_sq1.units → play sq1_after s w ≡ Some (record { units = us; equator = true })
+      → play sq1_after (flipped s) w ≡ Some solved_sq1
+  over us e played = play-flipped s w valid ∙ ap (option_map flipped) played ∙ ap Some (upright us e)
 
-  turned : home.equator ≡ true → play sq1_after (flipped s) w ≡ Some solved_sq1
-  turned is = play-flipped s w valid ∙ ap (option_map flipped) played ∙ ap (λ r. Some (flipped r)) (is_home true is)
-
-  played_by : (b : Bool) → home.equator ≡ b
+  played_by : (us : List ℕ) (b : Bool) → us ≡ solved_sq1.units → play sq1_after s w ≡ Some (record { units = us; equator = b })
       → play sq1_after s ((let e : List Turn = cond b equator_word [] in e) ++ w) ≡ Some solved_sq1
-  played_by true is = play-append sq1_after s (flipped s) equator_word w (play-equator s valid) ∙ turned is
-  played_by false is = upright is
+  played_by us true e played = play-append sq1_after s (flipped s) equator_word w (play-equator s valid) ∙ over us e played
+  played_by us false e played = played ∙ ap Some (upright us e)
 
-  pub play-with_equator : play sq1_after s ((let e : List Turn = cond home.equator equator_word [] in e) ++ w) ≡ Some solved_sq1
-  play-with_equator = played_by home.equator refl
+  solved_by : (us : List ℕ) (b : Bool) → us ≡ solved_sq1.units → play sq1_after s w ≡ Some (record { units = us; equator = b })
+      → IsSolution sq1_after layer_stages s w
+      → IsSolution sq1_after sq1_stages s ((let e : List Turn = cond b equator_word [] in e) ++ w)
+  solved_by us true e played a =
+      let flipped_solution = layers-flipped s w valid a in
+      let ends : Ends sq1_after equator_stage s 0 (flipped s) =
+      record { below = lit< tt; played = play-equator s valid; goal = (w, flipped_solution, over us e played) } in
+      let apart : equator_stage.IsGoal s → ⊥ = λ goal.
+      let one = IsSolution-unique sq1_after layer_stages s goal.0 w goal.1 a in
+      let same = same_Some (record { units = us; equator = true }) solved_sq1 (sym played ∙ ap (play sq1_after s) (sym one) ∙ goal.2) in
+      false≢true (sym (ap (λ r. r.equator) same)) in
+      solution_step sq1_after equator_stage s (flipped s) (0 ∷ [])
+      (one_letter sq1_after equator_stage s (flipped s) 0 (lit≤ tt) apart ends (λ k q lt e. absurd (omega (arith, lt))))
+      (play-one (by_letters sq1_after 1 equator_stage.letter) s 0 ∙ by_letters-played sq1_after 1 equator_stage.letter s 0 (lit< tt) ∙ play-equator s valid)
+      layer_stages w flipped_solution
+  solved_by us false e played a =
+      solution_step sq1_after equator_stage s s [] (no_letter sq1_after equator_stage s (w, a, played ∙ ap Some (upright us e)))
+      (play-empty (by_letters sq1_after 1 equator_stage.letter) s) layer_stages w a
 
-  module _ (a : IsSolution sq1_after layer_stages s w) where
-    by_equator : (b : Bool) → home.equator ≡ b
-        → IsSolution sq1_after sq1_stages s ((let e : List Turn = cond b equator_word [] in e) ++ w)
-    by_equator true is =
-        let lettered = by_letters sq1_after 1 equator_stage.letter in
-        let flipped_solution = layers-flipped s w valid a in
-        let ends : Ends sq1_after equator_stage s 0 (flipped s) =
-        record { below = lit< tt; played = play-equator s valid; goal = (w, flipped_solution, turned is) } in
-        let apart : equator_stage.IsGoal s → ⊥ = λ goal.
-        let one = IsSolution-unique sq1_after layer_stages s goal.0 w goal.1 a in
-        let same = same_Some home solved_sq1 (sym played ∙ ap (play sq1_after s) (sym one) ∙ goal.2) in
-        false≢true (sym (ap (λ r. r.equator) same) ∙ is) in
-        solution_step sq1_after equator_stage s (flipped s) (0 ∷ [])
-        (one_letter sq1_after equator_stage s (flipped s) 0 (lit≤ tt) apart ends (λ k q lt e. absurd (omega (arith, lt))))
-        (play-one lettered s 0 ∙ by_letters-played sq1_after 1 equator_stage.letter s 0 (lit< tt) ∙ play-equator s valid)
-        layer_stages w flipped_solution
-    by_equator false is =
-        solution_step sq1_after equator_stage s s [] (no_letter sq1_after equator_stage s (w, a, upright is))
-        (play-empty (by_letters sq1_after 1 equator_stage.letter) s) layer_stages w a
+  module _ (home : Sq1State) (played : play sq1_after s w ≡ Some home) (solved : last_stage.IsGoal home) where
+    pub play-with_equator : play sq1_after s ((let e : List Turn = cond home.equator equator_word [] in e) ++ w) ≡ Some solved_sq1
+    play-with_equator = played_by home.units home.equator solved played
 
-    pub with_equator : IsSolution sq1_after sq1_stages s ((let e : List Turn = cond home.equator equator_word [] in e) ++ w)
-    with_equator = by_equator home.equator refl
+    pub with_equator : IsSolution sq1_after layer_stages s w
+        → IsSolution sq1_after sq1_stages s ((let e : List Turn = cond home.equator equator_word [] in e) ++ w)
+    with_equator = solved_by home.units home.equator solved played
 
 -- ---- there is one
 
@@ -158,3 +159,57 @@ pub play-scramble : (s : Sq1State) (w : List Turn) → IsSq1 s → IsScrambleSq1
 play-scramble s w valid h =
     of_stages.play-scramble sq1_after opposite turn_merging sq1_stages IsSq1 sq1_taken_back sq1_kept_by_tidy s solved_sq1 w valid h
     (play-solution s h.solution h.is)
+
+-- ---- how long it is
+
+-- each letter of the equator's stage has three twists, one of the first stage has one, and so on
+pub twists-solution : (s : Sq1State) (w : List Turn) → IsSolution sq1_after sq1_stages s w → twists_in w ≤ 76
+unfolding bounds CountsWithin count_in
+twists-solution s w h =
+    let each = λ (letters : Letters) (n : ℕ). (Costs-letter letters n).twists in
+    count-solution sq1_after twists_of sq1_stages (3 ∷ 1 ∷ 0 ∷ 1 ∷ 2 ∷ 0 ∷ []) s w
+    ((λ n. lit≤ tt), (each OfShapes, (each Squarings, (each OfPairings, (each OfHome, (each Quarters, tt)))))) h
+
+pub IsWithinBounds-scramble : (s : Sq1State) (w : List Turn) → IsSq1 s → IsScrambleSq1 s w → IsWithinBounds w
+IsWithinBounds-scramble s w valid h =
+    let tidied : List Turn = tidy turn_merging h.solution in
+    let few : twists_in tidied ≤ 76 = omega (arith, twists-tidy h.solution, twists-solution s h.solution h.is) in
+    let played = sq1_kept_by_tidy s solved_sq1 h.solution valid (play-solution s h.solution h.is) in
+    record {
+      twists = omega (arith, ap twists_in h.taken_back, twists-back tidied, few);
+      turns = omega (arith, ap length h.taken_back, length-back tidied, length-tidy tidied (IsTidy-sq1 h.solution) (layer_turns-played s solved_sq1 tidied played), few);
+    }
+
+-- ---- the equator
+
+turned_over-not : (n : ℕ) (b : Bool) → turned_over n (not b) ≡ not (turned_over n b)
+unfolding turned_over
+turned_over-not zero b = refl
+turned_over-not (suc n) b = ap not (turned_over-not n b)
+
+-- a turn of the layers leaves the equator, and a twist turns it over
+pub equator-played : (s r : Sq1State) (w : List Turn) → play sq1_after s w ≡ Some r
+    → r.equator ≡ turned_over (twists_in w) s.equator
+unfolding count_in turned_over turned twisted sq1_after
+equator-played s r [] e = ap (λ q. q.equator) (sym (same_Some s r (sym (play-empty sq1_after s) ∙ e)))
+equator-played s r (t ∷ w) e =
+    let parts = play-parts sq1_after s r t w e in
+    equator-played parts.0 r w parts.2 ∙ step t parts.0 parts.1
+  where
+    step : (u : Turn) (q : Sq1State) → sq1_after s u ≡ Some q
+        → turned_over (twists_in w) q.equator ≡ turned_over (twists_of u + twists_in w) s.equator
+    step (Layers x y) q made =
+        ap (λ p. turned_over (twists_in w) p.equator) (sq1_after-layers s q x y made).is ∙ ap (λ k. turned_over k s.equator) {x = twists_in w} {y = 0 + twists_in w} (omega arith)
+    step Twist q made =
+        ap (λ p. turned_over (twists_in w) p.equator) (sq1_after-twist s q made) ∙ turned_over-not (twists_in w) s.equator
+        ∙ ap (λ k. turned_over k s.equator) {x = suc (twists_in w)} {y = 1 + twists_in w} (omega arith)
+    step _ q made = absurd (cc)
+
+pub equator-solution : (s : Sq1State) (layers w : List Turn) → IsSq1 s → IsSolution sq1_after layer_stages s layers
+    → IsSolution sq1_after sq1_stages s w
+    → w ≡ (let e : List Turn = cond (turned_over (twists_in layers) s.equator) equator_word [] in e) ++ layers
+equator-solution s layers w valid a b =
+    let home = layers-end s layers a in
+    IsSolution-unique sq1_after sq1_stages s w ((let e : List Turn = cond home.0.equator equator_word [] in e) ++ layers) b
+    (with_equator s valid layers home.0 home.1 home.2 a)
+    ∙ ap (λ b. (let e : List Turn = cond b equator_word [] in e) ++ layers) (equator-played s home.0 layers home.1)

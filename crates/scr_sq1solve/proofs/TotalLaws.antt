@@ -1,31 +1,55 @@
--- The words to the square shape, and the totals that they begin: a word has but one, which solves the state, and that
--- of the first word taken back is the scramble.
-use Rattle.std.proofs.Common.{◌≡◌, ℕ, ◌<◌, Bool, false, cond, IsTrue, List, [], ◌∷◌, ◌++◌, Option, Some, None, refl, sym, ap, ◌∙◌, subst, arith}
-use Rattle.std.specs.Prelude.{◌↔◌, All}
+-- The words to the square shape, as a search finds them, and the totals that they begin: a word has but one, which
+-- solves the state, and that of the first word taken back is the scramble.
+use Rattle.std.proofs.Common.{◌≡◌, ℕ, ◌<◌, Bool, false, cond, IsTrue, List, [], ◌∷◌, ◌++◌, Option, Some, None, refl, sym, ap, ◌∙◌, subst, arith, ◌*◌, ◌≤◌, length, zero, suc, take, lit≤}
+use Rattle.std.specs.Prelude.{◌↔◌, All, Contains, slice_get}
 use Rattle.std.specs.Option.{option_map_or}
 use Rattle.std.proofs.Math.Bool.{not-not}
 use Rattle.std.proofs.lemmas.Option.{same_Some}
 use Rattle.scr_combinatorics.specs.Back.{back}
-use Rattle.scr_combinatorics.specs.FirstWord.{LeadsTo}
+use Rattle.scr_combinatorics.specs.FirstWord.{LeadsTo, IsFirstWord, IsEarlier}
 use Rattle.scr_combinatorics.specs.Play.{play}
-use Rattle.scr_combinatorics.specs.Stages.{by_letters, spelled, IsStageWord, IsSolution}
+use Rattle.scr_combinatorics.specs.Stages.{by_letters, spelled, IsStageWord, IsSolution, Stage}
 use Rattle.scr_combinatorics.specs.Tidy.{tidy}
 use Rattle.scr_combinatorics.proofs.PlayLaws.{play-empty, play-append, play-one}
-use Rattle.scr_combinatorics.proofs.StageLaws.{play-spelled, All-letters, play-stage_word, IsSolution-unique, Leads-solution, last_goal, by_letters-parts}
+use Rattle.scr_combinatorics.proofs.StageLaws.{play-spelled, All-letters, play-stage_word, IsSolution-unique, Leads-solution, last_goal, by_letters-parts, All-stage_word, count-spelled}
 use Rattle.scr_notation.specs.declared.turn.Turn.{Turn}
 use Rattle.scr_notation.specs.Turning.{opposite, turn_merging}
 use Rattle.scr_sq1.specs.Units.{Sq1State, IsSq1, solved_sq1, sq1_after}
 use Rattle.scr_sq1.proofs.Lawful.{sq1_taken_back, sq1_kept_by_tidy}
-use Rattle.scr_sq1solve.specs.Stages.{squaring_letter, squaring_stage, shape_letter, shape_stage, later_stages, layer_stages}
-use Rattle.scr_sq1solve.specs.Stages.{last_stage, equator_word, equator_stage, sq1_stages, IsScrambleSq1}
-use Rattle.scr_sq1solve.specs.Totals.{is_normal, is_squared, is_shape_word, equator_part, IsTotal}
-use Rattle.scr_sq1solve.proofs.Equator.{flipped, play-equator}
-use Rattle.scr_sq1solve.proofs.EndingTests.{TellsLetters, word-tested, tested-word}
-use Rattle.scr_sq1solve.proofs.Flipped.{layers-flipped}
-use Rattle.scr_sq1solve.proofs.ShapeStage.{IsEnding-squaring}
-use Rattle.scr_sq1solve.proofs.Bases.{keeps_sq1}
-use Rattle.scr_sq1solve.proofs.NormalLetters.{IsNormal-test}
+use Rattle.scr_sq1solve.specs.Stages.{squaring_letter, squaring_stage, shape_letter, shape_stage, later_stages, layer_stages, last_stage, equator_word, equator_stage, sq1_stages, IsScrambleSq1, pairing_stage, home_stage}
+use Rattle.scr_sq1solve.specs.Totals.{is_normal, is_squared, is_shape_word, equator_part, IsTotal, shape_words}
+use Rattle.scr_sq1solve.proofs.Renamed.{flipped, play-equator, layers-flipped, keeps_sq1}
+use Rattle.scr_sq1solve.proofs.Indexed.{ends-iff, word-iff}
+use Rattle.scr_sq1solve.proofs.ShapeStage.{IsEnding-squaring, Follows-shapes, StaysBelow-shapes}
+use Rattle.scr_sq1solve.proofs.PairingStage.{IsNormal-test}
 use Rattle.scr_sq1solve.proofs.Solutions.{with_equator, play-with_equator, one_scramble}
+use Rattle.std.proofs.Math.Nat.{mul-le-mul_right}
+use Rattle.std.proofs.lemmas.List.{append-nil}
+use Rattle.scr_combinatorics.proofs.OneLetter.{IsEnding}
+use Rattle.scr_orbit.proofs.Minima.{count_once}
+use Rattle.scr_positions.specs.Coordinates.{moved, IsGoal}
+use Rattle.scr_positions.specs.SearchSpaces.{positions, Follows}
+use Rattle.scr_table.specs.Distances.{Distances}
+use Rattle.scr_table.specs.Lines.{TableLine, IsTableOf}
+use Rattle.scr_table.specs.StageSpaces.{stage_space}
+use Rattle.scr_table.proofs.StageLaws.{end_valid, IsStageWord-first, stage_word}
+use Rattle.scr_sq1solve.specs.declared.stage_letters.Letters.{Letters}
+use Rattle.scr_sq1solve.specs.declared.stage_letters.Letters.TheVariants.{Squarings, Quarters}
+use Rattle.scr_sq1solve.specs.Letters.{stage_of, letter_of, each_of, IsWalk, IsWithinCosts}
+use Rattle.scr_sq1solve.specs.Counts.{twists_of, Costs}
+use Rattle.scr_sq1solve.proofs.Lengths.{Costs-letter, tidy-rest}
+use Rattle.scr_sq1solve.proofs.HomeStage.{IsEnding-last}
+use Rattle.std.proofs.lemmas.List.Elements.{All-weaker, All-contains_itself, filter_agree}
+use Rattle.std.specs.List.{AllPairs}
+use Rattle.scr_combinatorics.specs.Lists.{numbers_from}
+use Rattle.scr_positions.proofs.SearchLaws.{FindsTheSame-follows}
+use Rattle.scr_sq1solve.specs.SearchTables.{shapes_table}
+use Rattle.scr_sq1solve.specs.Tables.{shapes_coordinate, shapes_index, shapes_line}
+use Rattle.scr_combinatorics.specs.Words.{words_within}
+use Rattle.scr_table.specs.Words.{leads_to_goal, words_to_goal}
+use Rattle.scr_table.proofs.GoalWords.{LeadsTo-test, leads-LeadsTo}
+use Rattle.scr_table.proofs.TriedWords.{same_truth}
+use Rattle.scr_table.proofs.WordOrder.{IsEarlier-listed, Contains-listed, first-listed}
 
 -- ---- tests
 
@@ -35,21 +59,12 @@ some_tested : {A : Type 0} (test : A → Bool) (o : Option A) → IsTrue (option
 some_tested test None t = absurd (cc)
 some_tested test (Some a) t = (a, refl, t)
 
-TellsLetters-squaring : (s : Sq1State)
-    → TellsLetters squaring_stage s (λ n. option_map_or is_normal (play sq1_after s (squaring_letter n)) false)
-TellsLetters-squaring s = record {
-  passes = λ k r e. ap (λ o. option_map_or is_normal o false) e.played ∙ (IsNormal-test r).1 e.goal;
-  ends = λ k lt t.
-      let found = some_tested is_normal (play sq1_after s (squaring_letter k)) t in
-      (found.0, record { below = lt; played = found.1; goal = (IsNormal-test found.0).0 found.2 });
-}
-
 pub IsSquared-iff : (s : Sq1State) → IsTrue (is_squared s) ↔ shape_stage.IsGoal s
 unfolding is_squared
 IsSquared-iff s =
-    let test : ℕ → Bool = λ n. option_map_or is_normal (play sq1_after s (squaring_letter n)) false in
-    let tells = TellsLetters-squaring s in
-    (tested-word squaring_stage IsEnding-squaring s test tells, word-tested squaring_stage IsEnding-squaring s test tells)
+    let both = word-iff squaring_stage s IsEnding-squaring (λ n. option_map_or is_normal (play sq1_after s (squaring_letter n)) false)
+    (λ k lt. ends-iff squaring_stage s k lt (λ o. option_map_or is_normal o false) refl (λ r e. IsNormal-test r)) in
+    (both.1, both.0)
 
 -- where letters of the first stage lead
 abbrev after_shape_letter : Sq1State → ℕ → Option Sq1State
@@ -193,3 +208,197 @@ IsFirstTotal-scramble s turns valid h =
       of_word = of_word;
       taken_back = one_scramble s turns (back opposite total) h (IsScrambleSq1-total s word total valid of_word is);
     }
+
+-- the turns of a stage's word, where they are played
+pub IsWalk-played : (stage : Stage Sq1State Turn) (s end : Sq1State) (word : List ℕ) (turns : List Turn)
+    → IsStageWord sq1_after stage s word → turns ≡ spelled stage.letter word → play sq1_after s turns ≡ Some end
+    → IsWalk stage s turns end
+IsWalk-played stage s end word turns is are played = record {
+  word = word;
+  is = is;
+  turns_are = are;
+  end_is = same_Some is.first.leads.end end (sym (play-stage_word sq1_after stage s word is) ∙ ap (play sq1_after s) (sym are) ∙ played);
+}
+
+-- so many letters come to so many turns and twists
+pub Costs-spelled : (letters : Letters) (word : List ℕ) (most : ℕ) → length word ≤ most
+    → Costs (spelled (letter_of letters) word) (most * (each_of letters).turns) (most * (each_of letters).twists)
+Costs-spelled letters word most few =
+    let letter = letter_of letters in
+    let each = each_of letters in
+    record {
+      turns = omega (
+        arith,
+        count_once (spelled letter word),
+        count-spelled (λ t. 1) letter each.turns (λ n. omega (arith, count_once (letter n), (Costs-letter letters n).turns)) word,
+        mul-le-mul_right each.turns few,
+      );
+      twists = omega (
+        arith,
+        count-spelled twists_of letter each.twists (λ n. (Costs-letter letters n).twists) word,
+        mul-le-mul_right each.twists few,
+      );
+    }
+
+-- and so do those of a stage's word
+pub walk-costs : (letters : Letters) {s end : Sq1State} {turns : List Turn} → IsWalk (stage_of letters) s turns end
+    → IsWithinCosts letters turns
+walk-costs letters w = subst (IsWithinCosts letters) (sym w.turns_are) (Costs-spelled letters w.word (stage_of letters).bound w.is.within)
+
+-- what is so where a stage's word has led
+module _ {stage : Stage Sq1State Turn} {s end : Sq1State} {turns : List Turn} (w : IsWalk stage s turns end) where
+  pub walk-kept : (IsValid : Sq1State → Type 0) (line : TableLine) (view : Sq1State → ℕ)
+      → Follows (stage_space sq1_after stage IsValid) (positions line.coordinate) view → IsValid s → IsValid end
+  walk-kept IsValid line view follows valid =
+      subst IsValid w.end_is (end_valid sq1_after stage IsValid line view follows s w.word valid w.is)
+
+  pub walk-goal : stage.IsGoal end
+  walk-goal = subst stage.IsGoal w.end_is w.is.first.leads.goal
+
+  walk-played : play sq1_after s turns ≡ Some end
+  walk-played = ap (play sq1_after s) w.turns_are ∙ play-stage_word sq1_after stage s w.word w.is ∙ ap Some w.end_is
+
+-- ---- the solution
+
+-- a solution of some stages, and where it leads
+record Solves (some : List (Stage Sq1State Turn)) (s : Sq1State) (turns : List Turn) (home : Sq1State) : Type 0 where
+  is : IsSolution sq1_after some s turns
+  played : play sq1_after s turns ≡ Some home
+
+Solves-last : {stage : Stage Sq1State Turn} {s home : Sq1State} {turns : List Turn} → IsWalk stage s turns home
+    → Solves (stage ∷ []) s turns home
+Solves-last {stage} {s} {home} {turns} w = record {
+  is = (w.word, [], w.is, refl, w.turns_are ∙ sym (append-nil (spelled stage.letter w.word)));
+  played = walk-played w;
+}
+
+Solves-next : {stage : Stage Sq1State Turn} {rest : List (Stage Sq1State Turn)} {s end home : Sq1State} {turns more : List Turn}
+    → IsWalk stage s turns end → Solves rest end more home → Solves (stage ∷ rest) s (turns ++ more) home
+Solves-next {stage} {rest} {s} {end} {home} {turns} {more} w h = record {
+  is = (w.word, more, w.is, subst (λ r. IsSolution sq1_after rest r more) (sym w.end_is) h.is, ap (λ ts. ts ++ more) w.turns_are);
+  played = play-append sq1_after s end turns more (walk-played w) ∙ h.played;
+}
+
+-- where the rest of a word is tidied before
+onward : (v all : List Turn) {w rest : List Turn} → w ≡ tidy turn_merging (v ++ rest) → rest ≡ tidy turn_merging all
+    → w ≡ tidy turn_merging (v ++ all)
+onward v all here before = here ∙ ap (λ r. tidy turn_merging (v ++ r)) before ∙ tidy-rest v all
+
+module _ {s shaped normal paired homed home : Sq1State} {word : List ℕ} {shape squaring pairing homing last : List Turn}
+    (a : shape ≡ spelled shape_letter word) (led : play sq1_after s shape ≡ Some shaped)
+    (b : IsWalk squaring_stage shaped squaring normal) (c : IsWalk pairing_stage normal pairing paired)
+    (d : IsWalk home_stage paired homing homed) (e : IsWalk last_stage homed last home) where
+  -- the words, joined from their end and tidied whenever one is joined, are the total
+  pub IsTotal-joined : (first : List Turn) {h p q r w : List Turn} → h ≡ tidy turn_merging (homing ++ last)
+      → p ≡ tidy turn_merging (pairing ++ h) → q ≡ tidy turn_merging (squaring ++ p)
+      → r ≡ tidy turn_merging (shape ++ q) → first ≡ (let e : List Turn = cond home.equator equator_word [] in e)
+      → w ≡ tidy turn_merging (first ++ r) → IsTotal s word w
+  unfolding equator_part
+  IsTotal-joined first homed_is paired_is squared_is shaped_is first_is whole_is =
+      let later : List Turn = squaring ++ (pairing ++ (homing ++ last)) in
+      let solves = Solves-next b (Solves-next c (Solves-next d (Solves-last e))) in
+      let end : play sq1_after s (shape ++ later) ≡ Some home = play-append sq1_after s shaped shape later led ∙ solves.played in
+      let turned : first ≡ equator_part s (shape ++ later) =
+      first_is ∙ ap (λ o. let e : List Turn = cond (option_map_or (λ r. r.equator) o false) equator_word [] in e) (sym end) in
+      let whole =
+      onward first (shape ++ later) whole_is
+      (onward shape later shaped_is
+      (onward squaring (pairing ++ (homing ++ last)) squared_is (onward pairing (homing ++ last) paired_is homed_is)))
+      ∙ ap (λ f. tidy turn_merging (f ++ (shape ++ later))) turned in
+      record {
+        end = shaped;
+        shaped = ap (play sq1_after s) (sym a) ∙ led;
+        later = later;
+        solved = solves.is;
+        tidied = whole ∙ ap (λ ts. tidy turn_merging (equator_part s (ts ++ later) ++ (ts ++ later))) a;
+      }
+
+-- ---- stages of one letter at most
+
+pub IsEnding-short : (letters : Letters) → (stage_of letters).bound ≡ 1 → IsEnding sq1_after (stage_of letters)
+IsEnding-short Squarings short = IsEnding-squaring
+IsEnding-short Quarters short = IsEnding-last
+IsEnding-short _ short = absurd (omega (arith, short))
+
+-- ---- the words that the tables find
+
+pub below-word : (stage : Stage Sq1State Turn) (s : Sq1State) (w : List ℕ) → IsStageWord sq1_after stage s w
+    → stage.letters ≤ 144 → All (λ n. n < 144) w
+below-word stage s w is few =
+    let below = All-stage_word sq1_after stage s w is in λ k d lt. omega (arith, below k d lt, few)
+
+-- the word that a table of a line finds from a state's position
+module _ (stage : Stage Sq1State Turn) (IsValid : Sq1State → Type 0) (line : TableLine) (view : Sq1State → ℕ)
+    (follows : Follows (stage_space sq1_after stage IsValid) (positions line.coordinate) view) (bound : line.bound ≤ stage.bound)
+    (table : Distances) (is : IsTableOf line table) (s : Sq1State) (p : ℕ) (word : List ℕ) where
+  pub IsStageWord-found : IsValid s → p ≡ view s → IsFirstWord (moved line.coordinate) (IsGoal line.coordinate) p word
+      → IsStageWord sq1_after stage s word
+  IsStageWord-found valid at first =
+      IsStageWord-first sq1_after stage IsValid line view follows bound table is s word valid
+      (subst (λ q. IsFirstWord (moved line.coordinate) (IsGoal line.coordinate) q word) at first)
+
+-- ---- by the index
+
+module _ (s : Sq1State) (valid : IsSq1 s) where
+  leads-shape_word : (word : List ℕ) → leads_to_goal shapes_coordinate (shapes_index s) word ≡ is_shape_word s word
+  leads-shape_word word =
+      let i = shapes_index s in
+      let finds = (FindsTheSame-follows shapes_table.space (positions shapes_coordinate) shapes_index Follows-shapes).words s word valid in
+      same_truth (LeadsTo (by_letters sq1_after 144 shape_letter) shape_stage.IsGoal s word) (leads_to_goal shapes_coordinate i word) (is_shape_word s word)
+      (λ t. finds.1 (LeadsTo-test shapes_coordinate i word t), λ l. leads-LeadsTo shapes_coordinate i word (finds.0 l)) (IsShapeWord-iff s word)
+
+  -- the words that lead from the index to a goal
+  pub words-by_index : words_to_goal shapes_coordinate (shapes_index s) 13 ≡ shape_words s
+  unfolding words_to_goal shape_words
+  words-by_index =
+      filter_agree (leads_to_goal shapes_coordinate (shapes_index s)) (is_shape_word s) leads-shape_word (words_within (numbers_from 0 144) 13)
+
+-- ---- the first of them
+
+-- letters of the first stage have numbers below 144
+shape_letters : (s : Sq1State) (word : List ℕ)
+    → LeadsTo (by_letters sq1_after 144 shape_letter) shape_stage.IsGoal s word → All (λ n. n < 144) word
+shape_letters s word l = All-letters sq1_after 144 shape_letter s l.end word l.played
+
+pub IsStageWord-listed : (s : Sq1State) (word : List ℕ)
+    → slice_get (shape_words s) 0 ≡ Some word ↔ IsStageWord sq1_after shape_stage s word
+unfolding shape_words
+IsStageWord-listed s word =
+    let first =
+    first-listed (by_letters sq1_after 144 shape_letter) shape_stage.IsGoal s 144 13 (is_shape_word s) (IsShapeWord-iff s) (shape_letters s) word in
+    (λ e. let is = first.0 e in record { first = is.0; within = is.1 }, λ is. first.1 (is.first, is.within))
+
+-- they are listed in order, and all of them
+module _ (s : Sq1State) where
+  pub IsEarlier-shape_words : AllPairs IsEarlier (shape_words s)
+  unfolding shape_words
+  IsEarlier-shape_words =
+      IsEarlier-listed (by_letters sq1_after 144 shape_letter) shape_stage.IsGoal s 144 13 (is_shape_word s) (IsShapeWord-iff s) (shape_letters s)
+
+  pub Contains-shape_words : (word : List ℕ)
+      → Contains (shape_words s) word ↔ (length word ≤ 13) × IsTrue (is_shape_word s word)
+  unfolding shape_words
+  Contains-shape_words word =
+      let tells = IsShapeWord-iff s word in
+      let listed =
+      Contains-listed (by_letters sq1_after 144 shape_letter) shape_stage.IsGoal s 144 13 (is_shape_word s) (IsShapeWord-iff s) (shape_letters s) word in
+      (λ there. let is = listed.0 there in (is.0, tells.1 is.1), λ is. listed.1 (is.0, tells.0 is.1))
+
+-- what is so of words that pass and are short is so of each
+pub All-shape_words : (s : Sq1State) (P : List ℕ → Type 0)
+    → ((word : List ℕ) → (length word ≤ 13) × IsTrue (is_shape_word s word) → P word) → All P (shape_words s)
+All-shape_words s P each =
+    All-weaker (Contains (shape_words s)) P (λ word there. each word ((Contains-shape_words s word).0 there)) (shape_words s) (All-contains_itself (shape_words s))
+
+first-taken : (n : ℕ) (xs : List (List ℕ)) → 1 ≤ n → slice_get (take n xs) 0 ≡ slice_get xs 0
+first-taken zero xs some = absurd (omega arith)
+first-taken (suc n) [] some = refl
+first-taken (suc n) (x ∷ xs) some = refl
+
+-- where the table is built, there is a first one
+pub first-shape_word : (shapes : Distances) → IsTableOf shapes_line shapes → (s : Sq1State) → IsSq1 s → (wanted : ℕ)
+    → 1 ≤ wanted
+    → (word : List ℕ) × IsStageWord sq1_after shape_stage s word × (slice_get (take wanted (shape_words s)) 0 ≡ Some word)
+first-shape_word shapes built s valid wanted some =
+    let found = stage_word sq1_after shape_stage IsSq1 shapes_line shapes_index Follows-shapes (lit≤ tt) shapes built StaysBelow-shapes s valid in
+    (found.0, found.1, first-taken wanted (shape_words s) some ∙ (IsStageWord-listed s found.0).1 found.1)

@@ -1,9 +1,9 @@
 -- The letters of the stages, each kind by its name, and the turns that their words come to.
-use Rattle.std.specs.Prelude.{◌≡◌, ℕ, ◌/◌, ◌%◌, ◌≤◌, nat_lt, pos, ◌-ℤ◌, ◌+ℤ◌, if◌then◌else◌, List, [], ◌∷◌}
+use Rattle.std.specs.Prelude.{◌≡◌, ℕ, ◌*◌, ◌/◌, ◌%◌, ◌≤◌, nat_lt, pos, ◌-ℤ◌, ◌+ℤ◌, if◌then◌else◌, List, [], ◌∷◌}
 use Rattle.scr_notation.specs.declared.turn.Turn.{Turn}
 use Rattle.scr_notation.specs.declared.turn.Turn.TheVariants.{Twist}
 use Rattle.scr_sq1.specs.Units.{Sq1State, IsSq1, sq1_after}
-use Rattle.scr_sq1solve.specs.Counts.{Cost}
+use Rattle.scr_sq1solve.specs.Counts.{Cost, Costs}
 use Rattle.scr_sq1solve.specs.Spaces.{IsNormalSq1, IsPairedSq1}
 use Rattle.scr_sq1solve.specs.Tables.{shapes_index, pairings_index, square_index}
 use Rattle.scr_sq1solve.specs.Stages.{turn_word, quarters, quarter_word, squaring_letter, shape_stage, squaring_stage, pairing_stage, home_stage, last_stage}
@@ -63,6 +63,11 @@ each_of OfPairings = record { turns = 3; twists = 1 }
 each_of OfHome = record { turns = 6; twists = 2 }
 each_of Squarings = record { turns = 1; twists = 0 }
 each_of Quarters = record { turns = 1; twists = 0 }
+
+-- what a word of a stage has at most
+abbrev pub IsWithinCosts : Letters → List Turn → Type 0
+IsWithinCosts letters turns =
+    Costs turns ((stage_of letters).bound * (each_of letters).turns) ((stage_of letters).bound * (each_of letters).twists)
 
 -- A stage's table may reach so far: no farther than the stage, whose words have at most 24 of at most 144 letters.
 pub record IsInReach (stage : Stage Sq1State Turn) (bound : ℕ) : Type 0 where

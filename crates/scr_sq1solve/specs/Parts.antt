@@ -5,9 +5,9 @@ use Rattle.scr_positions.specs.Coordinates.{Coordinate}
 use Rattle.scr_positions.specs.Indexes.{indexed_coordinate}
 use Rattle.scr_notation.specs.declared.turn.Turn.{Turn}
 use Rattle.scr_notation.specs.declared.turn.Turn.TheVariants.{Twist}
-use Rattle.scr_sq1.specs.Units.{IsSq1, sq1_after}
+use Rattle.scr_sq1.specs.Units.{sq1_after}
 use Rattle.scr_sq1solve.specs.Stages.{turn_word}
-use Rattle.scr_sq1solve.specs.Tables.{shapes_index, shapes_state}
+use Rattle.scr_sq1solve.specs.Tables.{shapes_numbered}
 
 -- part n, for n below 12, turns the top by n - 5; part 12 + n turns the bottom by n - 5; and part 24 twists
 unfoldable pub shape_part : ℕ → List Turn
@@ -18,5 +18,4 @@ shape_part n =
 -- where they lead from the indexes of the table `shapes`; it has no goals
 abbrev pub shape_parts_coordinate : Coordinate
 shape_parts_coordinate =
-    indexed_coordinate (record { count = 7356; state_at = shapes_state; number_of = shapes_index; IsValid = IsSq1 }) 25
-    (by_letters sq1_after 25 shape_part) (λ i. false)
+    indexed_coordinate shapes_numbered 25 (by_letters sq1_after 25 shape_part) (λ i. false)

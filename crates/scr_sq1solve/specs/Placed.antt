@@ -9,9 +9,16 @@ use Rattle.scr_notation.specs.declared.turn.Turn.{Turn}
 use Rattle.scr_notation.specs.Ranges.{all_below, same}
 use Rattle.scr_sq1.specs.Units.{solved_sq1, sq1_after}
 use Rattle.scr_sq1.specs.Numbers.{corners_of, edges_of}
+use Rattle.scr_sq1solve.specs.declared.letter_places.Part.{Part}
+use Rattle.scr_sq1solve.specs.declared.letter_places.Part.TheVariants.{Corners, Edges}
 use Rattle.scr_sq1solve.specs.Stages.{mates}
 use Rattle.scr_sq1solve.specs.Tables.{units_after, carried_pairing}
 use Rattle.scr_sq1solve.specs.Totals.{is_normal}
+
+-- corners in unit order, or edges
+abbrev pub pieces : Part → List ℕ → List ℕ
+pieces Corners = corners_of
+pieces Edges = edges_of
 
 abbrev pub move_by : List ℕ → Rearrangement
 move_by places = record { places = places; added = [] }

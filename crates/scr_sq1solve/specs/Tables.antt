@@ -1,5 +1,6 @@
 -- The tables of the stages: what each is a table of, and how far it may reach.
 use Rattle.std.specs.Prelude.{ℕ, ◌+◌, ◌*◌, ◌/◌, ◌%◌, ◌==◌, Bool, false, if◌then◌else◌, List, [], ◌∷◌, map, slice_index, unwrap_or, Option, Some, None}
+use Rattle.std.specs.Option.{option_map}
 use Rattle.std.specs.List.{list_any}
 use Rattle.scr_combinatorics.specs.Lists.{numbers_from, pick, total}
 use Rattle.scr_combinatorics.specs.Numbered.{Numbered}
@@ -16,30 +17,28 @@ use Rattle.scr_notation.specs.declared.turn.Turn.{Turn}
 use Rattle.scr_table.specs.declared.name.TableName.TheVariants.{Shapes, Pairings, Square}
 use Rattle.scr_table.specs.Lines.{TableLine}
 use Rattle.scr_sq1.specs.Units.{Sq1State, IsSq1, solved_sq1, sq1_after}
-use Rattle.scr_sq1.specs.Shapes.{shape_of, shape_number, shape_at}
-use Rattle.scr_sq1.specs.Numbers.{corners_of, edges_of, laid, shape_word}
+use Rattle.scr_sq1.specs.Shapes.{shape_of, shape_number}
+use Rattle.scr_sq1.specs.Numbers.{corners_of, edges_of, laid, shape_word, sq1_of_digits}
 use Rattle.scr_sq1solve.specs.Stages.{oddness, shape_stage, squaring_stage, mates, pairing_of, pairing_letter, pairing_stage, home_stage, last_stage}
 use Rattle.scr_combinatorics.specs.Stages.{Stage, by_letters}
 
 -- ---- states by an index
 
--- a state, if there is one, has this index
-abbrev pub has_index : (Sq1State → ℕ) → ℕ → Option Sq1State → Bool
-has_index index_of i None = false
-has_index index_of i (Some s) = index_of s == i
-
--- the same of an index, if there is one
+-- an index, if there is one, is this one
 abbrev pub has_number : ℕ → Option ℕ → Bool
 has_number i None = false
 has_number i (Some n) = n == i
+
+-- a letter of the next stage leads from an index to that of the solved state
+abbrev pub leads_home : Numbered Sq1State → Stage Sq1State Turn → ℕ → ℕ → Bool
+leads_home n next i k = has_number (n.number_of solved_sq1) (option_map n.number_of (play sq1_after (n.state_at i) (next.letter k)))
 
 -- What a search for a stage's words sees that knows of a state its index alone: letters lead from index to index, and
 -- the goals are the indexes from which a letter of the next stage leads to that of the solved state.
 abbrev pub lettered_coordinate : Numbered Sq1State → Stage Sq1State Turn → Stage Sq1State Turn → Coordinate
 lettered_coordinate n stage next =
     indexed_coordinate n stage.letters (by_letters sq1_after stage.letters stage.letter)
-    (λ i. list_any (λ k. has_index n.number_of (n.number_of solved_sq1) (play sq1_after (n.state_at i) (next.letter k)))
-    (numbers_from 0 next.letters))
+    (λ i. list_any (leads_home n next i) (numbers_from 0 next.letters))
 
 -- ---- the shapes
 
@@ -47,20 +46,17 @@ lettered_coordinate n stage next =
 unfoldable pub shapes_index : Sq1State → ℕ
 shapes_index s = oddness s + 2 * shape_number (shape_of s.units)
 
--- eight pieces in order, or with the first two exchanged, so that the list is odd
-abbrev pub pieces_of_parity : ℕ → List ℕ
-pieces_of_parity odd = if odd == 0 then numbers_from 0 8 else 1 ∷ 0 ∷ numbers_from 2 6
-
+-- a state with this index: it has the shape, and the corners in order; the edges are in order too, or, as in list number 5040, the first
+-- two are exchanged, so that the list is odd
 unfoldable pub shapes_state : ℕ → Sq1State
-shapes_state i = record {
-  units = laid (shape_word (shape_at (i / 2))) (numbers_from 0 8) (pieces_of_parity (i % 2));
-  equator = false;
-}
+shapes_state i = sq1_of_digits (0 ∷ 0 ∷ 5040 * (i % 2) ∷ i / 2 ∷ [])
+
+-- states by this index
+abbrev pub shapes_numbered : Numbered Sq1State
+shapes_numbered = record { count = 7356; state_at = shapes_state; number_of = shapes_index; IsValid = IsSq1 }
 
 abbrev pub shapes_coordinate : Coordinate
-shapes_coordinate =
-    lettered_coordinate (record { count = 7356; state_at = shapes_state; number_of = shapes_index; IsValid = IsSq1 })
-    shape_stage squaring_stage
+shapes_coordinate = lettered_coordinate shapes_numbered shape_stage squaring_stage
 
 -- ---- the pairings
 
@@ -127,33 +123,49 @@ paired_at bits pairs =
     slice_index smaller (slice_index standing pair) + 2 * ((slice_index turned pair + slice_index is_larger place) % 2))
     (numbers_from 0 8)
 
--- The edges' bits of the first three pairs, their list of pairs, the corners' bits and their list of pairs, and how
--- many there are of each. The edges' last bit is told by the others, since both lists have one parity.
+-- such a list by its code: the number of the bits, above it that of the list of pairs
+unfoldable pub code_number : List ℕ → ℕ
+code_number pieces = bits_number pieces + 16 * pairs_number pieces
+
+-- the list with a code
+unfoldable pub code_at : ℕ → List ℕ
+code_at code = paired_at (code % 16) (code / 16)
+
+-- 1 where the list with this code is odd
+abbrev pub row_parity : ℕ → ℕ
+row_parity code = total (mixed_digits (2 ∷ 2 ∷ 2 ∷ 2 ∷ []) (code % 16)) % 2
+
+-- The codes stand in two rows, those of even lists and those of odd ones: the place of a code in its row leaves out the
+-- last bit, which the others and the row tell.
+abbrev pub place_in_row : ℕ → ℕ
+place_in_row code = code % 8 + 8 * (code / 16)
+
+-- the code at each of the 192 places of the even row, and behind them at those of the odd one
+abbrev pub code_in_row : ℕ → ℕ
+code_in_row r = r % 8 + 8 * ((total (mixed_digits (2 ∷ 2 ∷ 2 ∷ []) (r % 8)) + r / 192) % 2) + 16 * (r / 8 % 24)
+
+-- The place of the edges' code in its row, above it the corners' code. This tells the row, since both lists have one
+-- parity.
 unfoldable pub square_index : Sq1State → ℕ
-square_index s =
-    let cs : List ℕ = corners_of s.units in
-    let es : List ℕ = edges_of s.units in
-    mixed_number (8 ∷ 24 ∷ 16 ∷ 24 ∷ []) (bits_number es % 8 ∷ pairs_number es ∷ bits_number cs ∷ pairs_number cs ∷ [])
+square_index s = place_in_row (code_number (edges_of s.units)) + 192 * code_number (corners_of s.units)
 
--- the bit that makes a list of bits even
-abbrev pub last_bit : ℕ → ℕ → ℕ
-last_bit edge_bits corner_bits =
-    (total (mixed_digits (2 ∷ 2 ∷ 2 ∷ []) edge_bits) + total (mixed_digits (2 ∷ 2 ∷ 2 ∷ 2 ∷ []) corner_bits)) % 2
+-- where the edges' code of an index stands in the two rows
+abbrev pub row_place : ℕ → ℕ
+row_place i = i % 192 + 192 * row_parity (i / 192)
 
+-- a state with this index
 unfoldable pub square_state : ℕ → Sq1State
-square_state i =
-    let ds : List ℕ = mixed_digits (8 ∷ 24 ∷ 16 ∷ 24 ∷ []) i in
-    let bits : ℕ = slice_index ds 0 + 8 * last_bit (slice_index ds 0) (slice_index ds 2) in
-    record {
-      units = laid (shape_word (shape_of solved_sq1.units)) (paired_at (slice_index ds 2) (slice_index ds 3))
-          (paired_at bits (slice_index ds 1));
-      equator = false;
-    }
+square_state i = record {
+  units = laid (shape_word (shape_of solved_sq1.units)) (code_at (i / 192)) (code_at (code_in_row (row_place i)));
+  equator = false;
+}
+
+-- states by this index
+abbrev pub square_numbered : Numbered Sq1State
+square_numbered = record { count = 73728; state_at = square_state; number_of = square_index; IsValid = IsSq1 }
 
 abbrev pub square_coordinate : Coordinate
-square_coordinate =
-    lettered_coordinate (record { count = 73728; state_at = square_state; number_of = square_index; IsValid = IsSq1 })
-    home_stage last_stage
+square_coordinate = lettered_coordinate square_numbered home_stage last_stage
 
 -- ---- the tables
 

@@ -1,13 +1,13 @@
 //! Lists of pieces in which mates stand opposite to each other, as a coordinate.
 ghost use Rattle.std.specs.Prelude.{◌≡◌, All, length};
 ghost use Rattle.std.proofs.Props.{props};
+ghost use Rattle.scr_combinatorics.specs.Permutations.{IsPermutation};
 ghost use Rattle.scr_positions.specs.Coordinates.{StaysBelow};
 ghost use Rattle.scr_coord.specs.Projections.{projection};
 ghost use Rattle.scr_sq1solve.specs.Codes.{codes_view};
 ghost use Rattle.scr_sq1solve.specs.Placed.{KeepsMates, moves_of};
 
-use crate::pieces::{code_of, pieces_at};
-use scr_orbit::pick_into;
+use crate::pieces::{code_of, moved_pieces, pieces_at};
 use scr_positions::Coord;
 
 /// These lists, by their codes. The goal is the list in order.
@@ -15,7 +15,7 @@ use scr_positions::Coord;
 pub(crate) struct CodeLists<'a> {
     letters: &'a [[u8; 8]; 32],
     ghost size: { length letters.now ≡ 32 },
-    ghost valid: { All KeepsMates letters.now } by { Prim.hlevel props },
+    ghost valid: { All (IsPermutation 8) letters.now } by { Prim.hlevel props },
     ghost stays: { StaysBelow (projection codes_view (moves_of letters.now)) } by { Prim.hlevel props },
 }
 
@@ -42,13 +42,8 @@ impl Coord for CodeLists<'_> {
     }
 
     fn after(&self, position: u32, turn: u32) -> Option<u32> {
-        let mut pieces = [0; 8];
-        pick_into(
-            &pieces_at(position)[..],
-            &self.letters[turn as usize][..],
-            &mut pieces[..],
-        );
-        Some(code_of(&pieces))
+        let moved = moved_pieces(&pieces_at(position), &self.letters[turn as usize]);
+        Some(code_of(&moved))
     }
 
     fn is_goal(&self, position: u32) -> bool {

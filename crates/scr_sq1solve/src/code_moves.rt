@@ -8,15 +8,15 @@ ghost use Rattle.scr_positions.specs.SearchSpaces.{ShowsSame};
 ghost use Rattle.scr_sq1.specs.Numbers.{corners_of};
 ghost use Rattle.scr_sq1.specs.Units.{sq1_after};
 ghost use Rattle.scr_sq1solve.specs.declared.stage_letters.Letters.TheVariants.{OfHome, Quarters};
-ghost use Rattle.scr_sq1solve.specs.Codes.{codes_coordinate, row_parity, rows_coordinate};
+ghost use Rattle.scr_sq1solve.specs.Codes.{codes_coordinate, rows_coordinate};
 ghost use Rattle.scr_sq1solve.specs.Letters.{letter_of};
-ghost use Rattle.scr_sq1solve.specs.Tables.{square_coordinate, square_index, square_state, has_number};
+ghost use Rattle.scr_sq1solve.specs.Tables.{square_coordinate, square_index, square_state, has_number, row_parity, row_place};
 ghost use Rattle.scr_sq1solve.specs.Placed.{IsKept};
 ghost use Rattle.scr_combinatorics.specs.Stages.{by_letters};
 
 use crate::code_lists::CodeLists;
 use crate::edge_rows::EdgeRows;
-use crate::letter_places::letter_places;
+use crate::letter_places::{Part, letter_places};
 use crate::stage_letters::Letters;
 use scr_outside::NoMemory;
 use scr_positions::{Coord, MoveTable};
@@ -39,9 +39,10 @@ impl CodeMoves {
         requires { IsKept (letter_of letters) }
         ensures { IfOk result (λ moves. moves.letters ≡ letters) }
     {
-        let places = letter_places(letters);
-        let corners = MoveTable::build(alloc, &CodeLists::new(&places.corners))?;
-        let edges = MoveTable::build(alloc, &CodeLists::new(&places.edges))?;
+        let corner_places = letter_places(letters, Part::Corners);
+        let edge_places = letter_places(letters, Part::Edges);
+        let corners = MoveTable::build(alloc, &CodeLists::new(&corner_places))?;
+        let edges = MoveTable::build(alloc, &CodeLists::new(&edge_places))?;
         Ok(CodeMoves {
             corners,
             rows: MoveTable::build(alloc, &EdgeRows::new(&edges, letters))?,
@@ -86,7 +87,7 @@ impl CodeMoves {
     fn place_after(&self, position: u32, turn: u32) -> u32
         requires position { position < 73728 }
         requires turn { turn < 32 }
-        ensures value { Some result ≡ (moves_coordinate self.now.rows).after (position % 192 + 192 * row_parity (position / 192)) turn }
+        ensures value { Some result ≡ (moves_coordinate self.now.rows).after (row_place position) turn }
         ensures below { result < 384 }
     {
         target(

@@ -5,8 +5,9 @@ ghost use Rattle.scr_positions.specs.Coordinates.{StaysBelow};
 ghost use Rattle.scr_positions.specs.Moves.{moves_coordinate};
 ghost use Rattle.scr_positions.specs.SearchSpaces.{ShowsSame};
 ghost use Rattle.scr_sq1.specs.Numbers.{edges_of};
-ghost use Rattle.scr_sq1solve.specs.Codes.{code_in_row, codes_coordinate, rows_coordinate};
+ghost use Rattle.scr_sq1solve.specs.Codes.{codes_coordinate, rows_coordinate};
 ghost use Rattle.scr_sq1solve.specs.Letters.{letter_of};
+ghost use Rattle.scr_sq1solve.specs.Tables.{code_in_row};
 
 use crate::stage_letters::Letters;
 use scr_positions::{Coord, MoveTable};
@@ -57,8 +58,9 @@ impl Coord for EdgeRows<'_> {
     }
 
     fn after(&self, position: u32, turn: u32) -> Option<u32> {
-        let end = self.edges.after(code_in_row(position), turn)?;
-        Some(end % 8 + 8 * (end / 16))
+        self.edges
+            .after(code_in_row(position), turn)
+            .map(|code| code % 8 + 8 * (code / 16))
     }
 
     fn is_goal(&self, _position: u32) -> bool {

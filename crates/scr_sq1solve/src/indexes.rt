@@ -1,5 +1,5 @@
 //! The indexes of a state in the tables.
-ghost use Rattle.std.specs.Prelude.{◌≡◌, ◌+◌, ◌*◌, ◌/◌, ◌%◌, ◌<◌};
+ghost use Rattle.std.specs.Prelude.{◌≡◌, ◌<◌};
 ghost use Rattle.scr_sq1solve.specs.Tables.{shapes_index, pairings_index, square_index};
 
 use crate::pieces::{code_of, pairing_of};
@@ -32,16 +32,7 @@ pub(crate) fn square_index(state: &Sq1) -> u32
     ensures value { result ≡ square_index state.now }
     ensures below { result < 73728 }
 {
-    position_of(code_of(&state.edges()), code_of(&state.corners()))
-}
-
-/// The position of a list of edges and one of corners with these codes: the edges' last bit is told by the others.
-#[inline]
-pub(crate) fn position_of(edges: u32, corners: u32) -> u32
-    requires edges { edges < 384 }
-    requires corners { corners < 384 }
-    ensures value { result ≡ edges % 8 + 8 * (edges / 16 + 24 * corners) }
-    ensures below { result < 73728 }
-{
-    edges % 8 + 8 * (edges / 16 + 24 * corners)
+    // the last bit of the edges' code is told by the others and by the corners
+    let edges = code_of(&state.edges());
+    edges % 8 + 8 * (edges / 16) + 192 * code_of(&state.corners())
 }

@@ -1,7 +1,7 @@
 //! What the tables of the stages are called, what each is a table of, and how far it may reach.
 
 use crate::code_moves::SquareMoves;
-use crate::letter_places::letter_places;
+use crate::letter_places::{Part, letter_places};
 use crate::pairing_lists::PairingLists;
 use crate::shape_moves::ShapeMoves;
 use crate::stage_letters::Letters;
@@ -45,10 +45,13 @@ impl Line for PairingsLine {
     type Moves = Product<MoveTable, MoveTable>;
 
     fn moves(alloc: Global) -> Result<Product<MoveTable, MoveTable>, NoMemory> {
-        let places = letter_places(Letters::OfPairings);
-        let corners = PairingLists::new(&places.corners);
-        let edges = PairingLists::new(&places.edges);
-        Product::of_moves(alloc, &corners, &edges)
+        let corners = letter_places(Letters::OfPairings, Part::Corners);
+        let edges = letter_places(Letters::OfPairings, Part::Edges);
+        Product::of_moves(
+            alloc,
+            &PairingLists::new(&corners),
+            &PairingLists::new(&edges),
+        )
     }
 }
 

@@ -1,11 +1,12 @@
 //! Lists of pieces as the tables of the later stages see them.
-ghost use Rattle.std.specs.Prelude.{◌≡◌, ◌<◌, slice_index};
-ghost use Rattle.scr_combinatorics.specs.Permutations.{IsPermutation, place_of};
+ghost use Rattle.std.specs.Prelude.{◌≡◌, ◌+◌, ◌*◌, ◌<◌, All, slice_index};
+ghost use Rattle.scr_combinatorics.specs.Lists.{pick};
+ghost use Rattle.scr_combinatorics.specs.Permutations.{IsPermutation, permutation_number, place_of};
 ghost use Rattle.scr_combinatorics.specs.Pairings.{IsPairing};
 ghost use Rattle.scr_sq1solve.specs.Stages.{pairing_of};
-ghost use Rattle.scr_sq1solve.specs.Tables.{carried_pairing, is_larger, bits_number, pairs_number};
-ghost use Rattle.scr_sq1solve.specs.Codes.{code_number, code_at};
+ghost use Rattle.scr_sq1solve.specs.Tables.{carried_pairing, pair_of, is_larger, code_number, code_at};
 
+use scr_orbit::pick_into;
 use scr_rank::PermRank;
 use scr_rank::permutations::rank_permutation;
 
@@ -18,7 +19,7 @@ const PAIR_OF: [u8; 8] = [0, 1, 0, 1, 2, 3, 2, 3];
 /// 1 for the larger piece of each pair.
 const LARGER: [u8; 8] = [0, 0, 1, 1, 0, 0, 1, 1];
 
-/// The smaller piece of each pair.
+/// The smaller piece of each pair; of places it is the same.
 const SMALLER: [u8; 4] = [0, 1, 4, 5];
 
 /// The place of a number in a list of eight, or 8 where it isn't there.
@@ -58,6 +59,18 @@ pub(crate) fn carried_pairing(partners: &[u8; 8], places: &[u8; 8]) -> [u8; 8]
     carried
 }
 
+/// The pieces when they are moved, where each place gets the piece of a named place.
+pub(crate) fn moved_pieces(pieces: &[u8; 8], places: &[u8; 8]) -> [u8; 8]
+    requires pieces { IsPermutation 8 pieces.now }
+    requires places { IsPermutation 8 places.now }
+    ensures value { result ≡ pick pieces.now places.now }
+    ensures valid { IsPermutation 8 result }
+{
+    let mut moved = [0; 8];
+    pick_into(&pieces[..], &places[..], &mut moved[..]);
+    moved
+}
+
 /// The code of a list of pieces: for each pair of places a bit, which is 1 where the smaller place has the larger
 /// piece, and above the bits the number of the list of the pairs.
 pub(crate) fn code_of(pieces: &[u8; 8]) -> u32
@@ -65,30 +78,30 @@ pub(crate) fn code_of(pieces: &[u8; 8]) -> u32
     ensures value { result ≡ code_number pieces.now }
     ensures below { result < 384 }
 {
-    bits_of(pieces) + 16 * pairs_of(pieces)
+    let mut standing = [0; 4];
+    pick_into(&pieces[..], &SMALLER[..], &mut standing[..]);
+    bits_of(&standing) + 16 * pairs_of(&standing)
 }
 
-/// The number of the bits.
-fn bits_of(pieces: &[u8; 8]) -> u32
-    requires { IsPermutation 8 pieces.now }
-    ensures value { result ≡ bits_number pieces.now }
+/// The number of the bits, by the pieces on the smaller places.
+fn bits_of(standing: &[u8; 4]) -> u32
+    requires { All (λ piece. piece < 8) standing.now }
+    ensures value { result ≡ slice_index is_larger (slice_index standing.now 0) + 2 * (slice_index is_larger (slice_index standing.now 1)
+        + 2 * (slice_index is_larger (slice_index standing.now 2) + 2 * slice_index is_larger (slice_index standing.now 3))) }
     ensures below { result < 16 }
 {
-    larger(pieces[0]) + 2 * (larger(pieces[1]) + 2 * (larger(pieces[4]) + 2 * larger(pieces[5])))
+    larger(standing[0])
+        + 2 * (larger(standing[1]) + 2 * (larger(standing[2]) + 2 * larger(standing[3])))
 }
 
-/// The number of the list of the pairs.
-fn pairs_of(pieces: &[u8; 8]) -> u32
-    requires { IsPermutation 8 pieces.now }
-    ensures value { result ≡ pairs_number pieces.now }
+/// The number of the list of the pairs, by the pieces on the smaller places.
+fn pairs_of(standing: &[u8; 4]) -> u32
+    requires { All (λ piece. piece < 8) standing.now }
+    ensures value { result ≡ permutation_number (pick pair_of standing.now) }
     ensures below { result < 24 }
 {
-    let pairs = [
-        PAIR_OF[usize::from(pieces[0])],
-        PAIR_OF[usize::from(pieces[1])],
-        PAIR_OF[usize::from(pieces[4])],
-        PAIR_OF[usize::from(pieces[5])],
-    ];
+    let mut pairs = [0; 4];
+    pick_into(&PAIR_OF[..], &standing[..], &mut pairs[..]);
     rank_permutation(&pairs[..]) as u32
 }
 

@@ -1,10 +1,9 @@
 //! The scramble of a Square-1, by stages.
-ghost use Rattle.std.specs.Prelude.{◌≡◌, ◌≤◌, List, Some, length};
 ghost use Rattle.scr_combinatorics.specs.Play.{play};
 ghost use Rattle.scr_notation.specs.declared.event.Event.TheVariants.{Sq1 as EventSq1};
-ghost use Rattle.scr_notation.specs.declared.turn.Turn.{Turn as Letter};
+ghost use Rattle.scr_notation.specs.Written.{IsTheScramble};
 ghost use Rattle.scr_sq1.specs.Units.{solved_sq1, sq1_after};
-ghost use Rattle.scr_sq1solve.specs.Counts.{twists_in};
+ghost use Rattle.scr_sq1solve.specs.Counts.{IsWithinBounds};
 ghost use Rattle.scr_sq1solve.specs.Stages.{IsScrambleSq1};
 
 use crate::tables::Sq1Tables;
@@ -16,12 +15,7 @@ use scr_sq1::Sq1;
 /// The scramble of a Square-1, of at most 76 twists and 153 turns: its solution by the stages, in which neighbouring
 /// turns of the layers and neighbouring twists are merged, taken back. There is no refusal, and no memory is taken.
 pub fn scramble_sq1(tables: &Sq1Tables, state: &Sq1) -> Scramble
-    ensures event { result.event ≡ EventSq1 }
-    ensures twists { twists_in result.turns ≤ 76 }
-    ensures at_most { length result.turns ≤ 153 }
-    ensures scramble { IsScrambleSq1 state.now result.turns }
-    ensures only { (turns : List Letter) → IsScrambleSq1 state.now turns → turns ≡ result.turns }
-    ensures played { play sq1_after solved_sq1 result.turns ≡ Some state.now }
+    ensures { IsTheScramble EventSq1 IsScrambleSq1 IsWithinBounds (play sq1_after solved_sq1) state.now result }
 {
     state.is_valid();
     let word = stage_word(&tables.shapes, state);

@@ -8,7 +8,7 @@ ghost use Rattle.scr_notation.specs.declared.event.Event.TheVariants.{Sq1 as Eve
 ghost use Rattle.scr_notation.specs.declared.turn.Turn.{Turn as Letter};
 ghost use Rattle.scr_notation.specs.Turning.{opposite, turn_merging};
 ghost use Rattle.scr_sq1.specs.Units.{solved_sq1, sq1_after};
-ghost use Rattle.scr_sq1solve.specs.Counts.{twists_in};
+ghost use Rattle.scr_sq1solve.specs.Counts.{twists_in, Costs, IsWithinBounds};
 ghost use Rattle.scr_sq1solve.specs.Stages.{equator_word, shape_letter, shape_stage};
 ghost use Rattle.scr_sq1solve.specs.Totals.{is_shape_word, IsTotal};
 
@@ -29,8 +29,7 @@ pub fn total_from(tables: &Sq1Tables, state: &Sq1, shape_word: &[u8]) -> Scrambl
     ensures event { result.event ≡ EventSq1 }
     ensures total { IsTotal state.now shape_word.now result.turns }
     ensures only { (turns : List Letter) → IsTotal state.now shape_word.now turns → turns ≡ result.turns }
-    ensures twists { twists_in result.turns ≤ 76 }
-    ensures at_most { length result.turns ≤ 153 }
+    ensures within { IsWithinBounds result.turns }
     ensures solves { play sq1_after state.now result.turns ≡ Some solved_sq1 }
     ensures taken_back { play sq1_after solved_sq1 (back opposite result.turns) ≡ Some state.now }
 {
@@ -55,8 +54,7 @@ fn shape_walk(state: &Sq1, shape_word: &[u8]) -> Walk
     ensures turns { result.turns.turns ≡ spelled shape_letter shape_word.now }
     ensures end { play sq1_after state.now result.turns.turns ≡ Some result.end }
     ensures goal { shape_stage.IsGoal result.end }
-    ensures at_most { length result.turns.turns ≤ 26 }
-    ensures twists { twists_in result.turns.turns ≤ 13 }
+    ensures costs { Costs result.turns.turns 26 13 }
 {
     walked(Letters::OfShapes, shape_word, state)
 }

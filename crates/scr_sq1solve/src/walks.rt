@@ -1,11 +1,10 @@
 //! The words of the stages as turns, and where they lead.
-ghost use Rattle.std.specs.Prelude.{◌≡◌, ◌*◌, ◌<◌, ◌≤◌, ◌↔◌, All, IsSome, IsTrue, Some, length};
+ghost use Rattle.std.specs.Prelude.{◌≡◌, ◌<◌, ◌≤◌, ◌↔◌, All, IsSome, IsTrue, Some, length};
 ghost use Rattle.scr_combinatorics.specs.Play.{play};
 ghost use Rattle.scr_combinatorics.specs.Stages.{IsStageWord, HasStageWord, spelled};
 ghost use Rattle.scr_notation.specs.declared.event.Event.TheVariants.{Sq1 as EventSq1};
 ghost use Rattle.scr_sq1.specs.Units.{sq1_after};
-ghost use Rattle.scr_sq1solve.specs.Counts.{twists_in};
-ghost use Rattle.scr_sq1solve.specs.Letters.{stage_of, letter_of, starts_of, each_of, IsWalk};
+ghost use Rattle.scr_sq1solve.specs.Letters.{stage_of, letter_of, starts_of, IsWalk, IsWithinCosts};
 
 use crate::indexes::shapes_index;
 use crate::shape_moves::NORMAL;
@@ -39,8 +38,7 @@ pub(crate) fn stage_walk<L: StageLine>(table: &LineTable<L>, state: &Sq1) -> Wal
     ensures walk { IsWalk (stage_of L.LETTERS) state.now result.turns.turns result.end }
     ensures goal { (stage_of L.LETTERS).IsGoal result.end }
     ensures kept { starts_of L.LETTERS result.end }
-    ensures at_most { length result.turns.turns ≤ (stage_of L.LETTERS).bound * (each_of L.LETTERS).turns }
-    ensures twists { twists_in result.turns.turns ≤ (stage_of L.LETTERS).bound * (each_of L.LETTERS).twists }
+    ensures costs { IsWithinCosts L.LETTERS result.turns.turns }
 {
     L::is_found_by_index();
     let word = stage_word(table, state);
@@ -70,8 +68,7 @@ pub(crate) fn end_walk(letters: Letters, state: &Sq1) -> Walk
     ensures event { result.turns.event ≡ EventSq1 }
     ensures walk { IsWalk (stage_of letters) state.now result.turns.turns result.end }
     ensures goal { (stage_of letters).IsGoal result.end }
-    ensures at_most { length result.turns.turns ≤ (each_of letters).turns }
-    ensures twists { twists_in result.turns.turns ≤ (each_of letters).twists }
+    ensures costs { IsWithinCosts letters result.turns.turns }
 {
     for number in 0..letter_count(letters) {
         let turns = letter(letters, number);

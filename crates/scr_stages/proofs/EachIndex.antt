@@ -1,36 +1,31 @@
 -- Each number of a table is that of some cube of which the table speaks.
-use Rattle.std.proofs.Common.{◌≡◌, ℕ, ◌+◌, ◌*◌, ◌/◌, ◌%◌, ◌<◌, ◌≤◌, Bool, true, false, not, eqb-true, List, [], ◌∷◌, ◌++◌, length, refl, sym, ap, ◌∙◌, lit<, lit≤, arith}
-use Rattle.std.specs.Prelude.{All, ◌&&◌, ◌==◌}
+use Rattle.std.proofs.Common.{◌≡◌, ℕ, ◌+◌, ◌*◌, ◌/◌, ◌%◌, ◌<◌, not, List, ◌++◌, refl, sym, ap, ◌∙◌, lit<, arith}
 use Rattle.std.proofs.Math.Nat.{div-add-mod}
-use Rattle.std.proofs.lemmas.Bool.{and_parts}
-use Rattle.std.proofs.lemmas.List.{append-nil}
-use Rattle.std.proofs.lemmas.List.Elements.{All-head, All-tail, All-weaker, All-from_recursion}
 use Rattle.std.proofs.lemmas.Nat.{mod_below}
-use Rattle.scr_combinatorics.specs.Lists.{IsRearranged, lesser_count, numbers_from, pick}
-use Rattle.scr_combinatorics.specs.Permutations.{IsPermutation, is_permutation, factorial, inversions, parity, permutation_at, half_at}
+use Rattle.scr_combinatorics.specs.Lists.{numbers_from, pick}
+use Rattle.scr_combinatorics.specs.Permutations.{IsPermutation, factorial, inversions, parity, half_at}
 use Rattle.scr_combinatorics.specs.PlaceSets.{place_set_number, place_set_at}
 use Rattle.scr_combinatorics.specs.Twists.{twists_number, twists_at}
-use Rattle.scr_combinatorics.proofs.Counts.{one_if-ge}
 use Rattle.scr_combinatorics.proofs.Halves.{IsHalf, IsHalf-half_at}
-use Rattle.scr_combinatorics.proofs.PermutationLaws.{All-permutation, IsPermutation-from_test, IsPermutation-numbers_from, IsPermutation-rearranged, IsRearranged-permutations, IsRearranged-pick}
-use Rattle.scr_combinatorics.proofs.Picks.{length-pick, pick-from_order, pick-in_order, All-pick}
+use Rattle.scr_combinatorics.proofs.PermutationLaws.{All-permutation}
+use Rattle.scr_combinatorics.proofs.Picks.{pick-from_order}
 use Rattle.scr_combinatorics.proofs.Twists.{IsTwists-twists_at, twists_number-twists_at}
 use Rattle.scr_orbit.specs.Orbits.{zeros}
 use Rattle.scr_positions.proofs.StaysBelowLaws.{part_below}
 use Rattle.scr_coord.specs.Projections.{marked_places, stands_in}
-use Rattle.scr_coord.proofs.MarkedSteps.{marked-append}
 use Rattle.scr_cube.specs.Cube333.{CubeState, IsCube}
 use Rattle.scr_stages.specs.Stages.{middle_edges}
 use Rattle.scr_stages.specs.Numbers.{IsDominoCube, first_edges, flips_number, slice_number, tetrads_number, half_cubes}
 use Rattle.scr_stages.specs.SearchTables.{flips_table, slice_table, tetrads_table, halves_table}
 use Rattle.scr_stages.specs.Tables.{outer_places, flips_line, slice_line, tetrads_line, halves_line}
-use Rattle.scr_stages.specs.Tetrads.{arranged, in_block, shared_axis, axes_of, relation_number, relation_of, corner_index, corner_across, second_with, other_places, corners_related, corners_at}
-use Rattle.scr_stages.proofs.Blocks.{occurrences-append, pick-append, places_in}
-use Rattle.scr_stages.proofs.DominoLaws.{marked-none, IsPlaceSet-middle}
-use Rattle.scr_stages.proofs.EdgeBlocks.{joined_parts}
-use Rattle.scr_stages.proofs.FiniteTests.{IsPlaceSet-from_test, passes_below, test-below, all_pass, test-permutation}
+use Rattle.scr_stages.specs.Tetrads.{arranged, in_block, corner_index, corners_at}
+use Rattle.scr_stages.proofs.Blocks.{All-place_set, places_in}
+use Rattle.scr_stages.proofs.DominoLaws.{IsPlaceSet-middle, IsPlaceSet-outer, outer_only}
+use Rattle.scr_stages.proofs.EdgeBlocks.{IsBehind-middle, IsPermutation-behind, parity-behind, behind-picked}
+use Rattle.scr_stages.proofs.FiniteTests.{HasOwn, HasOwn-each, IsPlaceSet-own}
 use Rattle.scr_stages.proofs.HalfCubes.{IsZeroSum-still, half_cubes-numbered}
 use Rattle.scr_stages.proofs.KeptBlocks.{in_block-picked, kept_from-picked}
+use Rattle.scr_stages.proofs.TetradTests.{corners_indexed}
 
 -- Where any two numbers below two counts are those of one state, so is each number of which they are the parts.
 pub each_pair : {S : Type 0} (IsValid : S → Type 0) (low high : S → ℕ) (n m : ℕ)
@@ -46,24 +41,6 @@ each_pair IsValid low high n m gives i lt =
 
 -- ---- lists that the checker finds for each number
 
--- the list of n pieces that is found for a number, and has it
-record HasOwn (n : ℕ) (number_of : List ℕ → ℕ) (list_at : ℕ → List ℕ) (number : ℕ) : Type 0 where
-  permutation : IsPermutation n (list_at number)
-  same : number_of (list_at number) ≡ number
-
-own_test : ℕ → (List ℕ → ℕ) → (ℕ → List ℕ) → ℕ → Bool
-own_test n number_of list_at number = is_permutation n (list_at number) && (number_of (list_at number) == number)
-
-HasOwn-below : (n count : ℕ) (number_of : List ℕ → ℕ) (list_at : ℕ → List ℕ)
-    → passes_below (own_test n number_of list_at) count ≡ true → (number : ℕ) → number < count
-    → HasOwn n number_of list_at number
-unfolding own_test
-HasOwn-below n count number_of list_at all number lt =
-    let xs = list_at number in
-    let both = and_parts (is_permutation n xs) (number_of xs == number)
-    (test-below (own_test n number_of list_at) count number all lt) in
-    record { permutation = IsPermutation-from_test n xs both.0; same = eqb-true (number_of xs) number both.1 }
-
 -- the number of the set of places at which a block of n pieces stands
 abbrev pub set_of : ℕ → List ℕ → List ℕ → ℕ
 set_of n block xs = place_set_number n (places_in block xs)
@@ -78,19 +55,13 @@ placed n k block number =
 
 -- the edges of the middle layer at each of the 495 sets
 middle_placed : (number : ℕ) → number < 495 → HasOwn 12 (set_of 12 middle_edges) (placed 12 4 middle_edges) number
-unfolding passes_below place_set_at placed own_test
-middle_placed = HasOwn-below 12 495 (set_of 12 middle_edges) (placed 12 4 middle_edges) refl
+unfolding place_set_at placed
+middle_placed = HasOwn-each 12 495 (set_of 12 middle_edges) (placed 12 4 middle_edges) refl refl
 
 -- the first edges at each of the 70 sets of places above and below
 first_placed : (number : ℕ) → number < 70 → HasOwn 8 (set_of 8 first_edges) (placed 8 4 first_edges) number
-unfolding passes_below place_set_at placed own_test
-first_placed = HasOwn-below 8 70 (set_of 8 first_edges) (placed 8 4 first_edges) refl
-
--- the corners with each of the 420 indexes
-corners_indexed : (index : ℕ) → index < 420 → HasOwn 8 corner_index corners_at index
-unfolding passes_below permutation_at place_set_at own_test corners_at other_places corners_related corner_index relation_of
-    relation_number second_with corner_across axes_of shared_axis
-corners_indexed = HasOwn-below 8 420 corner_index corners_at refl
+unfolding place_set_at placed
+first_placed = HasOwn-each 8 70 (set_of 8 first_edges) (placed 8 4 first_edges) refl refl
 
 -- ---- cubes
 
@@ -136,35 +107,6 @@ each-halves i lt =
     let one = half_cubes-numbered.one_to_one in
     (half_cubes.state_at i, one.valid i lt, one.number_again i lt)
 
--- ---- one list behind another
-
-IsRearranged-append : (xs us ys vs : List ℕ) → IsRearranged xs us → IsRearranged ys vs
-    → IsRearranged (xs ++ ys) (us ++ vs)
-IsRearranged-append xs us ys vs f g k = omega (arith, occurrences-append k xs ys, occurrences-append k us vs, f k, g k)
-
-lesser_count-append : (x : ℕ) (ys zs : List ℕ) → lesser_count x (ys ++ zs) ≡ lesser_count x ys + lesser_count x zs
-lesser_count-append x [] zs = omega arith
-lesser_count-append x (y ∷ ys) zs = omega (arith, lesser_count-append x ys zs)
-
-lesser_count-none : (x : ℕ) (ys : List ℕ) → All (λ y. x ≤ y) ys → lesser_count x ys ≡ 0
-lesser_count-none x [] h = refl
-lesser_count-none x (y ∷ ys) h =
-    omega (arith, one_if-ge y x (All-head (λ y. x ≤ y) y ys h), lesser_count-none x ys (All-tail (λ y. x ≤ y) y ys h))
-
--- no pair falls whose first is of the one and whose second of the other, where that has the higher numbers
-inversions-append : (n : ℕ) (xs ys : List ℕ) → All (λ x. x < n) xs → All (λ y. n ≤ y) ys
-    → inversions (xs ++ ys) ≡ inversions xs + inversions ys
-inversions-append n [] ys low high = omega arith
-inversions-append n (x ∷ xs) ys low high =
-    let below : x < n = All-head (λ x. x < n) x xs low in
-    let above = All-weaker (λ y. n ≤ y) (λ y. x ≤ y) (λ y le. omega arith) ys high in
-    omega (
-      arith,
-      lesser_count-append x xs ys,
-      lesser_count-none x ys above,
-      inversions-append n xs ys (All-tail (λ x. x < n) x xs low) high,
-    )
-
 -- ---- dominoes
 
 -- the edges above and below, and those of the middle layer, in these orders
@@ -178,58 +120,30 @@ domino_of corners outer middle = record {
   edges = record { pieces = layers outer middle; digits = zeros 12 };
 }
 
--- the edges of the middle layer have the parity of their order
-middle_parities : all_pass (λ xs. parity (pick middle_edges xs) == parity xs) 4 ≡ true
-unfolding passes_below permutation_at
-middle_parities = refl
-
 module _ (outer middle : List ℕ) (o : IsPermutation 8 outer) (m : IsPermutation 4 middle) where
   IsPermutation-layers : IsPermutation 12 (layers outer middle)
-  IsPermutation-layers =
-      IsPermutation-rearranged 12 (numbers_from 0 12) (layers outer middle) (IsPermutation-numbers_from 12)
-      (IsRearranged-append outer_places outer middle_edges (pick middle_edges middle)
-      (IsRearranged-permutations 8 outer_places outer (IsPermutation-numbers_from 8) o)
-      (λ k. sym (IsRearranged-pick middle_edges middle m k)))
-
-  parity-layers : parity (layers outer middle) ≡ (parity outer + parity middle) % 2
-  parity-layers =
-      let above = All-from_recursion (λ x. 8 ≤ x) middle_edges (lit≤ tt, (lit≤ tt, (lit≤ tt, (lit≤ tt, tt)))) in
-      omega (
-        arith,
-        inversions-append 8 outer (pick middle_edges middle) (All-permutation 8 outer o)
-            (All-pick (λ x. 8 ≤ x) middle_edges middle above (All-permutation 4 middle m)),
-        eqb-true (parity (pick middle_edges middle)) (parity middle)
-            (test-permutation (λ xs. parity (pick middle_edges xs) == parity xs) 4 middle middle_parities m),
-      )
+  IsPermutation-layers = IsPermutation-behind 8 middle_edges IsBehind-middle outer middle o m
 
   -- the edges at the places of each layer
   layers-picked : (pick (layers outer middle) outer_places ≡ outer)
       × (pick (layers outer middle) middle_edges ≡ pick middle_edges middle)
-  layers-picked =
-      let edges = layers outer middle in
-      joined_parts (pick edges outer_places) (pick edges middle_edges) outer (pick middle_edges middle)
-      (length-pick edges outer_places ∙ sym o.size)
-      (sym (pick-append edges outer_places middle_edges)
-      ∙ ap (λ n. pick edges (numbers_from 0 n)) (sym IsPermutation-layers.size) ∙ pick-in_order edges)
+  layers-picked = behind-picked 8 middle_edges IsBehind-middle outer middle o m
 
   pub outer-layers : in_block outer_places (layers outer middle) ≡ outer
   outer-layers =
-      in_block-picked 12 8 outer_places (IsPlaceSet-from_test 12 8 outer_places refl refl) (layers outer middle) outer o
+      in_block-picked 12 8 outer_places (IsPlaceSet-own 12 8 outer_places refl refl) (layers outer middle) outer o
       (layers-picked.0 ∙ sym (pick-from_order 8 outer (All-permutation 8 outer o)))
 
   pub middle-layers : in_block middle_edges (layers outer middle) ≡ middle
   middle-layers = in_block-picked 12 4 middle_edges IsPlaceSet-middle (layers outer middle) middle m layers-picked.1
 
+  middle-kept : places_in middle_edges (layers outer middle) ≡ middle_edges
+  middle-kept = kept_from-picked 12 4 middle_edges IsPlaceSet-middle (layers outer middle) middle IsPermutation-layers m layers-picked.1
+
   first-layers : places_in first_edges (layers outer middle) ≡ places_in first_edges outer
   first-layers =
-      let IsOther : ℕ → Type 0 = λ x. stands_in first_edges x ≡ false in
-      let picked = pick middle_edges middle in
-      let each = All-from_recursion IsOther middle_edges (refl, (refl, (refl, (refl, tt)))) in
-      let none = All-pick IsOther middle_edges middle each (All-permutation 4 middle m) in
-      marked-append (stands_in first_edges) 0 outer picked
-      ∙ ap (λ ys. places_in first_edges outer ++ ys)
-      (marked-none (stands_in first_edges) (0 + length outer) picked none)
-      ∙ append-nil (places_in first_edges outer)
+      outer_only first_edges (layers outer middle) (All-place_set 0 8 first_edges IsPlaceSet-outer.increasing) IsPermutation-layers middle-kept
+      ∙ ap (places_in first_edges) layers-picked.0
 
   pub IsDominoCube-of : (corners : List ℕ) → IsPermutation 8 corners
       → parity corners ≡ (parity outer + parity middle) % 2 → IsDominoCube (domino_of corners outer middle)
@@ -237,14 +151,9 @@ module _ (outer middle : List ℕ) (o : IsPermutation 8 outer) (m : IsPermutatio
     cube = record {
       corners = IsZeroSum-still 8 3 corners (lit< tt) p;
       edges = IsZeroSum-still 12 2 (layers outer middle) (lit< tt) IsPermutation-layers;
-      same_parity = same ∙ sym parity-layers;
+      same_parity = same ∙ sym (parity-behind 8 middle_edges IsBehind-middle outer middle o m);
     };
-    domino = record {
-      no_flips = refl;
-      no_twists = refl;
-      middle = kept_from-picked 12 4 middle_edges IsPlaceSet-middle (layers outer middle) middle IsPermutation-layers m
-          layers-picked.1;
-    };
+    domino = record { no_flips = refl; no_twists = refl; middle = middle-kept };
   }
 
 -- the parity that mends a sum

@@ -1,32 +1,33 @@
--- Dominoes with the tetrads number of solved are numbered one to one, and half turns keep them.
+-- Dominoes with the tetrads number of solved are numbered one to one.
 use Rattle.std.proofs.Common.{◌≡◌, ℕ, ◌+◌, ◌*◌, ◌/◌, ◌%◌, ◌<◌, not, List, [], ◌∷◌, ◌++◌, map, slice_index, refl, sym, ap, ◌∙◌, subst, lit<, lit≤, arith}
 use Rattle.std.specs.Prelude.{◌&&◌}
 use Rattle.std.proofs.lemmas.Nat.{mod_below}
 use Rattle.scr_combinatorics.specs.Lists.{numbers_from, pick}
 use Rattle.scr_combinatorics.specs.Digits.{AreDigits}
 use Rattle.scr_combinatorics.specs.Numbering.{IsNumbering}
-use Rattle.scr_combinatorics.specs.Permutations.{IsPermutation, factorial, place_of, parity, inversions, permutation_number, permutation_at, half_at}
-use Rattle.scr_combinatorics.specs.PlaceSets.{place_set_number}
+use Rattle.scr_combinatorics.specs.Permutations.{IsPermutation, place_of, parity, inversions, inverse, permutation_number, permutation_at, half_at}
+use Rattle.scr_combinatorics.specs.PlaceSets.{IsPlaceSet, place_set_number}
 use Rattle.scr_combinatorics.proofs.Digits.{by_four_digits}
-use Rattle.scr_combinatorics.proofs.Halves.{half_lt, IsHalf-half_at, half_at-number}
+use Rattle.scr_combinatorics.proofs.Halves.{IsHalf, IsHalf-half_at, half_at-number}
 use Rattle.scr_combinatorics.proofs.Numberings.{GivesState, numbering_by_digits}
 use Rattle.scr_combinatorics.proofs.PermutationLaws.{at-permutation, IsPermutation-numbers_from}
-use Rattle.scr_combinatorics.proofs.PermutationNumbers.{permutation_number-lt, IsPermutation-at, permutation_number-at, permutation_at-number}
-use Rattle.scr_combinatorics.proofs.Picks.{pick-in_order}
+use Rattle.scr_combinatorics.proofs.PermutationNumbers.{permutations_one_to_one, IsPermutation-at, permutation_number-at, permutation_at-number}
 use Rattle.scr_combinatorics.proofs.PlaceSets.{place_set_number-injective}
 use Rattle.scr_orbit.specs.Orbits.{zeros, solved_orbit, IsZeroSumOrbit}
 use Rattle.scr_orbit.proofs.OrbitLaws.{same_orbit, IsZeroSumOrbit-solved}
-use Rattle.scr_coord.specs.Projections.{stands_in}
-use Rattle.scr_cube.specs.Cube333.{CubeState, IsCube}
+use Rattle.scr_orbit.proofs.Parts.{ap_both, ap_three}
+use Rattle.scr_cube.specs.Cube333.{CubeState, CubeTurn}
 use Rattle.scr_cube.proofs.Laws333.{same_cube}
-use Rattle.scr_stages.specs.Stages.{middle_edges, IsDomino}
-use Rattle.scr_stages.specs.Numbers.{IsDominoCube, first_edges, second_edges, IsHalfCube, half_digits, half_cube_of_digits, half_cubes, edges_of_blocks}
+use Rattle.scr_stages.specs.Stages.{middle_edges}
+use Rattle.scr_stages.specs.Numbers.{IsDominoCube, first_edges, second_edges, IsHalfCube, half_digits, half_cube_of_digits, half_cubes, edges_of_blocks, AreParts, ArePartNumbers}
 use Rattle.scr_stages.specs.Tetrads.{first_tetrad, second_tetrad, corner_index, corners_at, relation_of, in_block, other_places, half_corners_number, half_corners_at}
 use Rattle.scr_stages.proofs.Blocks.{places_in, pick-places, IsPermutation-order_in, pick-append, pick-arranged}
+use Rattle.scr_stages.proofs.FiniteTests.{pick-all}
 use Rattle.scr_stages.proofs.KeptBlocks.{kept_from-places, places_from-kept, kept_from-picked, in_block-picked, All-kept}
-use Rattle.scr_stages.proofs.EdgeBlocks.{AreOrders, block_places, IsPermutation-block_places, PicksBlocks-edges, IsPermutation-edges, parity-edges}
-use Rattle.scr_stages.proofs.TetradTests.{IsHalfList-at, corners_at-solved, corner_index-solved}
+use Rattle.scr_stages.proofs.EdgeBlocks.{PicksBlocks, block_places, IsPermutation-block_places, PicksBlocks-edges, IsPermutation-edges, parity-edges}
+use Rattle.scr_stages.proofs.TetradTests.{half_list, corner_index-half, corners_at-solved}
 use Rattle.scr_stages.proofs.TetradLaws.{IsPlaceSet-first, IsPlaceSet-places, relation-lt, other_places-are, first_order, label_of, label-lt, corners-relabelled}
+use Rattle.scr_stages.proofs.TurnFacts.{IsHalfTurn}
 use Rattle.scr_stages.proofs.DominoLaws.{Blocks-of, middle-at, IsPlaceSet-middle, IsPlaceSet-first_edges, IsPlaceSet-second_edges}
 use Rattle.scr_stages.proofs.StageSpaces.{same_parts, IsTetradsHome, IsTetradsHome-iff}
 
@@ -34,7 +35,7 @@ use Rattle.scr_stages.proofs.StageSpaces.{same_parts, IsTetradsHome, IsTetradsHo
 
 module _ (p : List ℕ) (h : IsPermutation 8 p) (same : corner_index p ≡ corner_index (numbers_from 0 8)) where
   -- each tetrad is at its own places
-  pub first_tetrad-kept : places_in first_tetrad p ≡ first_tetrad
+  first_tetrad-kept : places_in first_tetrad p ≡ first_tetrad
   unfolding corner_index
   first_tetrad-kept =
       let parts = same_parts 6 (relation_of p) (place_set_number 8 (places_in first_tetrad p)) (relation_of (numbers_from 0 8)) (place_set_number 8 first_tetrad)
@@ -58,134 +59,134 @@ module _ (p : List ℕ) (h : IsPermutation 8 p) (same : corner_index p ≡ corne
   pub half_corners_at-number : half_corners_at (half_corners_number p) ≡ p
   half_corners_at-number =
       let g = half_corners_at (half_corners_number p) in
-      let is = IsHalfList-at (half_corners_number p) half_corners_number-lt in
-      sym (ap (λ n. pick g (numbers_from 0 n)) (sym is.permutation.size) ∙ pick-in_order g)
+      sym (pick-all 8 g (half_list (half_corners_number p) half_corners_number-lt).permutation.size)
       ∙ ap (pick g) (sym corners_at-solved)
-      ∙ ap (λ i. pick g (corners_at i)) (sym (same ∙ corner_index-solved))
+      ∙ ap (λ i. pick g (corners_at i)) (sym same)
       ∙ ap (λ n. pick (half_corners_at n) (corners_at (corner_index p))) (sym label-number)
       ∙ corners-relabelled p h
 
 -- ---- the edges
 
 -- a block that holds its own pieces
-module _ (n k : ℕ) (block xs : List ℕ) (set : Rattle.scr_combinatorics.specs.PlaceSets.IsPlaceSet n k block) (h : IsPermutation n xs) (kept : places_in block xs ≡ block) where
+module _ (n k : ℕ) (block xs : List ℕ) (set : IsPlaceSet n k block) (h : IsPermutation n xs) (kept : places_in block xs ≡ block) where
   pub IsPermutation-in_block : IsPermutation k (in_block block xs)
   IsPermutation-in_block =
-      let P : List ℕ → Type 0 = λ places. IsPermutation k (map (λ x. place_of x block) (pick xs places)) in
-      subst P kept (IsPermutation-order_in n k block xs set h)
+      subst (λ places. IsPermutation k (map (λ x. place_of x block) (pick xs places))) kept (IsPermutation-order_in n k block xs set h)
 
   pub pick-in_block : pick block (in_block block xs) ≡ pick xs block
   pick-in_block = pick-places block (pick xs block) (All-kept n k block set xs kept)
 
--- the three blocks of edges, and what tells them
-module _ (c : CubeState) (d : IsDominoCube c) (home : IsTetradsHome c) where
-  abbrev pub first_block : List ℕ
-  first_block = in_block first_edges c.edges.pieces
+pub IsTetradsHome-half : (c : CubeState) → IsHalfCube c → IsTetradsHome c
+IsTetradsHome-half c h = (IsTetradsHome-iff c h.domino).0 h.index
 
-  abbrev pub second_block : List ℕ
-  second_block = in_block second_edges c.edges.pieces
+second_edges-kept : (c : CubeState) → IsDominoCube c → places_in first_edges c.edges.pieces ≡ first_edges
+    → places_in second_edges c.edges.pieces ≡ second_edges
+second_edges-kept c d home =
+    let p = c.edges.pieces in
+    let is = d.cube.edges.pieces in
+    kept_from-places 12 4 second_edges IsPlaceSet-second_edges p is.size (λ place lt.
+    (Blocks-of (slice_index p place) (at-permutation 12 p is place lt)).second
+    ∙ ap_both (λ a b. not a && not b) (places_from-kept 12 4 first_edges IsPlaceSet-first_edges p is.size home place lt) (middle-at c d place lt)
+    ∙ sym (Blocks-of place lt).second)
 
-  abbrev pub third_block : List ℕ
-  third_block = in_block middle_edges c.edges.pieces
+-- a block of four that has its own edges in each half cube, among which half turns carry them
+pub record IsHalfBlock (block : List ℕ) : Type 0 where
+  pub set : IsPlaceSet 12 4 block
+  pub kept : (c : CubeState) → IsHalfCube c → places_in block c.edges.pieces ≡ block
+  pub turn : (r : CubeTurn) → IsHalfTurn r → places_in block r.edges.places ≡ block
 
-  pub second_edges-kept : places_in second_edges c.edges.pieces ≡ second_edges
-  second_edges-kept =
-      let p = c.edges.pieces in
-      let is = d.cube.edges.pieces in
-      kept_from-places 12 4 second_edges IsPlaceSet-second_edges p is.size (λ place lt.
-      let piece = slice_index p place in
-      let first = places_from-kept 12 4 first_edges IsPlaceSet-first_edges p is.size home.first place lt in
-      let middle = middle-at c d place lt in
-      (Blocks-of piece (at-permutation 12 p is place lt)).second
-      ∙ ap (λ b. not b && not (stands_in middle_edges piece)) first
-      ∙ ap (λ b. not (stands_in first_edges place) && not b) middle
-      ∙ sym (Blocks-of place lt).second)
+pub IsHalfBlock-first : IsHalfBlock first_edges
+IsHalfBlock-first =
+    record { set = IsPlaceSet-first_edges; kept = λ c h. (IsTetradsHome-half c h).first; turn = λ r t. t.first }
 
-  pub AreOrders-blocks : AreOrders first_block second_block third_block
-  AreOrders-blocks = record {
-    first = IsPermutation-in_block 12 4 first_edges c.edges.pieces IsPlaceSet-first_edges d.cube.edges.pieces home.first;
-    second = IsPermutation-in_block 12 4 second_edges c.edges.pieces IsPlaceSet-second_edges d.cube.edges.pieces second_edges-kept;
-    third = IsPermutation-in_block 12 4 middle_edges c.edges.pieces IsPlaceSet-middle d.cube.edges.pieces d.domino.middle;
-  }
+pub IsHalfBlock-second : IsHalfBlock second_edges
+IsHalfBlock-second = record {
+  set = IsPlaceSet-second_edges;
+  kept = λ c h. second_edges-kept c h.domino (IsTetradsHome-half c h).first;
+  turn = λ r t. t.second;
+}
 
-  pub edges-again : edges_of_blocks first_block second_block third_block ≡ c.edges.pieces
-  unfolding edges_of_blocks
-  edges-again =
-      let p = c.edges.pieces in
-      let is = d.cube.edges.pieces in
-      let front = first_edges ++ second_edges in
-      let first = pick-in_block 12 4 first_edges p IsPlaceSet-first_edges is home.first in
-      let second = pick-in_block 12 4 second_edges p IsPlaceSet-second_edges is second_edges-kept in
-      let third = pick-in_block 12 4 middle_edges p IsPlaceSet-middle is d.domino.middle in
-      let picked : pick first_edges first_block ++ pick second_edges second_block ++ pick middle_edges third_block ≡ pick p block_places =
-      ap (λ xs. xs ++ pick second_edges second_block ++ pick middle_edges third_block) first
-      ∙ ap (λ xs. pick p first_edges ++ xs ++ pick middle_edges third_block) second
-      ∙ ap (λ xs. pick p first_edges ++ pick p second_edges ++ xs) third
-      ∙ sym (pick-append p front middle_edges ∙ ap (λ xs. xs ++ pick p middle_edges) (pick-append p first_edges second_edges)) in
-      ap (λ xs. pick xs (Rattle.scr_combinatorics.specs.Permutations.inverse block_places)) picked ∙ pick-arranged 12 p block_places is.size IsPermutation-block_places
+pub IsHalfBlock-middle : IsHalfBlock middle_edges
+IsHalfBlock-middle = record { set = IsPlaceSet-middle; kept = λ c h. h.domino.domino.middle; turn = λ r t. t.domino.middle }
 
-  -- the parity of the middle edges is what the others leave
-  pub parity-middle : (parity c.corners.pieces + parity first_block + parity second_block) % 2 ≡ parity third_block
-  parity-middle =
-      let sum = parity-edges first_block second_block third_block AreOrders-blocks in
-      let whole = ap parity edges-again in
-      omega (
-        arith,
-        sum,
-        whole,
-        d.cube.same_parity,
-        mod_below (inversions third_block) 2 (lit< tt),
-        mod_below (inversions c.corners.pieces) 2 (lit< tt),
-      )
+module _ (block : List ℕ) (b : IsHalfBlock block) (c : CubeState) (h : IsHalfCube c) where
+  pub block-order : IsPermutation 4 (in_block block c.edges.pieces)
+  block-order = IsPermutation-in_block 12 4 block c.edges.pieces b.set h.domino.cube.edges.pieces (b.kept c h)
+
+  block-number : permutation_number (in_block block c.edges.pieces) < 24
+  block-number = (permutations_one_to_one 4).below (in_block block c.edges.pieces) block-order
+
+  block-again : permutation_at 4 (permutation_number (in_block block c.edges.pieces)) ≡ in_block block c.edges.pieces
+  block-again = permutation_at-number 4 (in_block block c.edges.pieces) block-order
+
+  block-picked : pick block (in_block block c.edges.pieces) ≡ pick c.edges.pieces block
+  block-picked = pick-in_block 12 4 block c.edges.pieces b.set h.domino.cube.edges.pieces (b.kept c h)
 
 -- ---- a half cube, and its digits
 
 abbrev pub half_bases : List ℕ
 half_bases = 12 ∷ 24 ∷ 24 ∷ 96 ∷ []
 
-pub IsTetradsHome-half : (c : CubeState) → IsHalfCube c → IsTetradsHome c
-IsTetradsHome-half c h = (IsTetradsHome-iff c h.domino).0 h.index
+pub part_numbers : (c : CubeState) (middle second first corners : ℕ) → IsHalfCube c
+    → AreParts c middle second first corners → ArePartNumbers middle second first corners
+part_numbers c middle second first corners h is = record {
+  middle_below = omega (arith, is.middle_is, block-number middle_edges IsHalfBlock-middle c h);
+  second_below = omega (arith, is.second_is, block-number second_edges IsHalfBlock-second c h);
+  first_below = omega (arith, is.first_is, block-number first_edges IsHalfBlock-first c h);
+  corners_below = omega (arith, is.corners_is, half_corners_number-lt c.corners.pieces h.domino.cube.corners.pieces (IsTetradsHome-half c h).corners);
+}
 
-pub number-lt : (xs : List ℕ) → IsPermutation 4 xs → permutation_number xs < 24
-number-lt xs h = subst (λ n. permutation_number xs < factorial n) h.size (permutation_number-lt xs)
+module _ (c : CubeState) (h : IsHalfCube c) where
+  abbrev first : List ℕ
+  first = in_block first_edges c.edges.pieces
 
-pub AreDigits-half : (c : CubeState) → IsHalfCube c → AreDigits half_bases (half_digits c)
-unfolding half_digits
-AreDigits-half c h =
-    let d = h.domino in
-    let home = IsTetradsHome-half c h in
-    let orders = AreOrders-blocks c d home in (
-      half_lt 4 (third_block c d home) (lit≤ tt) orders.third,
-      (
-        number-lt (second_block c d home) orders.second,
-        (number-lt (first_block c d home) orders.first, (half_corners_number-lt c.corners.pieces d.cube.corners.pieces home.corners, tt)),
-      ),
-    )
+  abbrev second : List ℕ
+  second = in_block second_edges c.edges.pieces
 
-half_cube-again : (c : CubeState) → IsHalfCube c → half_cube_of_digits (half_digits c) ≡ c
-unfolding half_digits half_cube_of_digits
-half_cube-again c h =
-    let d = h.domino in
-    let home = IsTetradsHome-half c h in
-    let orders = AreOrders-blocks c d home in
-    let first = first_block c d home in
-    let second = second_block c d home in
-    let third = third_block c d home in
-    let q = half_corners_number c.corners.pieces in
-    let corners : half_corners_at q ≡ c.corners.pieces = half_corners_at-number c.corners.pieces d.cube.corners.pieces home.corners in
-    let first_is : permutation_at 4 (permutation_number first) ≡ first = permutation_at-number 4 first orders.first in
-    let second_is : permutation_at 4 (permutation_number second) ≡ second = permutation_at-number 4 second orders.second in
-    let half = permutation_number third / 2 in
-    let edges =
-    ap (λ xs. edges_of_blocks (permutation_at 4 (permutation_number first)) (permutation_at 4 (permutation_number second))
-    (half_at 4 ((parity xs + parity (permutation_at 4 (permutation_number first)) + parity (permutation_at 4 (permutation_number second))) % 2) half)) corners
-    ∙ ap (λ xs. edges_of_blocks xs (permutation_at 4 (permutation_number second))
-    (half_at 4 ((parity c.corners.pieces + parity xs + parity (permutation_at 4 (permutation_number second))) % 2) half)) first_is
-    ∙ ap (λ xs. edges_of_blocks first xs (half_at 4 ((parity c.corners.pieces + parity first + parity xs) % 2) half)) second_is
-    ∙ ap (λ odd. edges_of_blocks first second (half_at 4 odd half)) (parity-middle c d home)
-    ∙ ap (edges_of_blocks first second) (half_at-number 4 third (lit< tt) orders.third)
-    ∙ edges-again c d home in
-    same_cube _ c (same_orbit _ c.corners corners (sym d.domino.no_twists)) (same_orbit _ c.edges edges (sym d.domino.no_flips))
+  abbrev third : List ℕ
+  third = in_block middle_edges c.edges.pieces
+
+  edges-again : edges_of_blocks first second third ≡ c.edges.pieces
+  unfolding edges_of_blocks
+  edges-again =
+      let p = c.edges.pieces in
+      ap (λ xs. pick xs (inverse block_places))
+      (ap_three (λ xs ys zs. xs ++ ys ++ zs) (block-picked first_edges IsHalfBlock-first c h) (block-picked second_edges IsHalfBlock-second c h)
+      (block-picked middle_edges IsHalfBlock-middle c h)
+      ∙ sym (pick-append p (first_edges ++ second_edges) middle_edges ∙ ap (λ xs. xs ++ pick p middle_edges) (pick-append p first_edges second_edges)))
+      ∙ pick-arranged 12 p block_places h.domino.cube.edges.pieces.size IsPermutation-block_places
+
+  -- the parity of the middle edges is what the others leave
+  parity-middle : (parity c.corners.pieces + parity first + parity second) % 2 ≡ parity third
+  parity-middle =
+      omega (
+        arith,
+        parity-edges first second third (block-order first_edges IsHalfBlock-first c h) (block-order second_edges IsHalfBlock-second c h)
+            (block-order middle_edges IsHalfBlock-middle c h),
+        ap parity edges-again,
+        h.domino.cube.same_parity,
+        mod_below (inversions third) 2 (lit< tt),
+        mod_below (inversions c.corners.pieces) 2 (lit< tt),
+      )
+
+  AreDigits-half : AreDigits half_bases (half_digits c)
+  unfolding half_digits
+  AreDigits-half =
+      let below = part_numbers c _ _ _ _ h (record { middle_is = refl; second_is = refl; first_is = refl; corners_is = refl }) in
+      (omega (arith, below.middle_below), (below.second_below, (below.first_below, (below.corners_below, tt))))
+
+  half_cube-again : half_cube_of_digits (half_digits c) ≡ c
+  unfolding half_digits half_cube_of_digits
+  half_cube-again =
+      rw (
+        half_corners_at-number c.corners.pieces h.domino.cube.corners.pieces (IsTetradsHome-half c h).corners,
+        block-again first_edges IsHalfBlock-first c h,
+        block-again second_edges IsHalfBlock-second c h,
+        parity-middle,
+        half_at-number 4 third (lit< tt) (block-order middle_edges IsHalfBlock-middle c h),
+        edges-again,
+      )
+      (same_cube _ c (same_orbit _ c.corners refl (sym h.domino.domino.no_twists)) (same_orbit _ c.edges refl (sym h.domino.domino.no_flips)))
 
 -- ---- four digits give a half cube
 
@@ -194,55 +195,69 @@ pub IsZeroSum-still : (n m : ℕ) (xs : List ℕ) → 0 < m → IsPermutation n 
 unfolding solved_orbit
 IsZeroSum-still n m xs pos h = record { pieces = h; digits = (IsZeroSumOrbit-solved n m pos).digits }
 
-abbrev Gives : List ℕ → Type 0
+-- a block has its own edges, in this order
+pub record HasBlock (edges block order : List ℕ) : Type 0 where
+  pub kept : places_in block edges ≡ block
+  pub inside : in_block block edges ≡ order
+
+HasBlock-picked : (edges block order : List ℕ) → IsPlaceSet 12 4 block → IsPermutation 12 edges → IsPermutation 4 order
+    → pick edges block ≡ pick block order → HasBlock edges block order
+HasBlock-picked edges block order set h o e =
+    record { kept = kept_from-picked 12 4 block set edges order h o e; inside = in_block-picked 12 4 block set edges order o e }
+
+abbrev pub Gives : List ℕ → Type 0
 Gives = GivesState half_bases half_cube_of_digits half_digits IsHalfCube
 
-half_cube_of_four : (h s f q : ℕ) → h < 12 → s < 24 → f < 24 → q < 96 → Gives (h ∷ s ∷ f ∷ q ∷ [])
-unfolding half_cube_of_digits half_digits
-half_cube_of_four h s f q lh ls lf lq =
-    let corners = half_corners_at q in
-    let list = IsHalfList-at q lq in
-    let first = permutation_at 4 f in
-    let second = permutation_at 4 s in
-    let odd = (parity corners + parity first + parity second) % 2 in
-    let third = half_at 4 odd h in
-    let half = IsHalf-half_at 4 odd h lh (mod_below (parity corners + parity first + parity second) 2 (lit< tt)) in
-    let orders : AreOrders first second third =
-    record { first = IsPermutation-at 4 f lf; second = IsPermutation-at 4 s ls; third = half.permutation } in
-    let edges = edges_of_blocks first second third in
-    let is = IsPermutation-edges first second third orders in
-    let picks = PicksBlocks-edges first second third orders in
-    let c : CubeState = record { corners = record { pieces = corners; digits = zeros 8 }; edges = record { pieces = edges; digits = zeros 12 } } in
-    let cube : IsCube c = record {
-      corners = IsZeroSum-still 8 3 corners (lit< tt) list.permutation;
-      edges = IsZeroSum-still 12 2 edges (lit< tt) is;
-      same_parity = omega (arith, parity-edges first second third orders, half.same_parity, mod_below (inversions corners) 2 (lit< tt));
-    } in
-    let domino : IsDomino c = record {
-      no_flips = refl;
-      no_twists = refl;
-      middle = kept_from-picked 12 4 middle_edges IsPlaceSet-middle edges third is half.permutation picks.third;
-    } in
-    let home : IsTetradsHome c = record {
-      first = kept_from-picked 12 4 first_edges IsPlaceSet-first_edges edges first is orders.first picks.first;
-      corners = list.index ∙ sym corner_index-solved;
-    } in
-    let d : IsDominoCube c = record { cube = cube; domino = domino } in
-    let third_is : in_block middle_edges edges ≡ third = in_block-picked 12 4 middle_edges IsPlaceSet-middle edges third half.permutation picks.third in
-    let second_is : in_block second_edges edges ≡ second = in_block-picked 12 4 second_edges IsPlaceSet-second_edges edges second orders.second picks.second in
-    let first_is : in_block first_edges edges ≡ first = in_block-picked 12 4 first_edges IsPlaceSet-first_edges edges first orders.first picks.first in
-    record {
-      valid = record { domino = d; index = (IsTetradsHome-iff c d).1 home };
-      again = ap (λ x. x ∷ permutation_number (in_block second_edges edges) ∷ permutation_number (in_block first_edges edges) ∷ half_corners_number corners ∷ [])
-          (ap (λ xs. permutation_number xs / 2) third_is ∙ half.number)
-          ∙ ap (λ x. h ∷ x ∷ permutation_number (in_block first_edges edges) ∷ half_corners_number corners ∷ [])
-          (ap permutation_number second_is ∙ permutation_number-at 4 s ls)
-          ∙ ap (λ x. h ∷ s ∷ x ∷ half_corners_number corners ∷ []) (ap permutation_number first_is ∙ permutation_number-at 4 f lf)
-          ∙ ap (λ x. h ∷ s ∷ f ∷ x ∷ []) list.number;
-    }
+module _ (half s f q : ℕ) (lh : half < 12) (ls : s < 24) (lf : f < 24) (lq : q < 96) where
+  abbrev corners : List ℕ
+  corners = half_corners_at q
+
+  abbrev pub odd_left : ℕ
+  odd_left = (parity corners + parity (permutation_at 4 f) + parity (permutation_at 4 s)) % 2
+
+  abbrev pub edges : List ℕ
+  edges = edges_of_blocks (permutation_at 4 f) (permutation_at 4 s) (half_at 4 odd_left half)
+
+  left : IsHalf 4 odd_left half (half_at 4 odd_left half)
+  left = IsHalf-half_at 4 odd_left half lh (mod_below (parity corners + parity (permutation_at 4 f) + parity (permutation_at 4 s)) 2 (lit< tt))
+
+  are_edges : IsPermutation 12 edges
+  are_edges = IsPermutation-edges _ _ _ (IsPermutation-at 4 f lf) (IsPermutation-at 4 s ls) left.permutation
+
+  picks : PicksBlocks edges (permutation_at 4 f) (permutation_at 4 s) (half_at 4 odd_left half)
+  picks = PicksBlocks-edges _ _ _ (IsPermutation-at 4 f lf) (IsPermutation-at 4 s ls) left.permutation
+
+  pub third-in : HasBlock edges middle_edges (half_at 4 odd_left half)
+  third-in =
+      HasBlock-picked edges middle_edges (half_at 4 odd_left half) IsPlaceSet-middle are_edges left.permutation picks.third
+
+  pub half_cube_of_four : Gives (half ∷ s ∷ f ∷ q ∷ [])
+  unfolding half_cube_of_digits half_digits
+  half_cube_of_four =
+      let list = half_list q lq in
+      let first-in = HasBlock-picked edges first_edges (permutation_at 4 f) IsPlaceSet-first_edges are_edges (IsPermutation-at 4 f lf) picks.first in
+      let second-in = HasBlock-picked edges second_edges (permutation_at 4 s) IsPlaceSet-second_edges are_edges (IsPermutation-at 4 s ls) picks.second in
+      let c : CubeState = record { corners = record { pieces = corners; digits = zeros 8 }; edges = record { pieces = edges; digits = zeros 12 } } in
+      let d : IsDominoCube c = record {
+        cube = record {
+          corners = IsZeroSum-still 8 3 corners (lit< tt) list.permutation;
+          edges = IsZeroSum-still 12 2 edges (lit< tt) are_edges;
+          same_parity = omega (arith, parity-edges _ _ _ (IsPermutation-at 4 f lf) (IsPermutation-at 4 s ls) left.permutation, left.same_parity, mod_below (inversions corners) 2 (lit< tt));
+        };
+        domino = record { no_flips = refl; no_twists = refl; middle = third-in.kept };
+      } in
+      record {
+        valid = record { domino = d; index = (IsTetradsHome-iff c d).1 (record { first = first-in.kept; corners = corner_index-half q lq }) };
+        again = ap_both (λ x xs. x ∷ xs) (ap (λ xs. permutation_number xs / 2) third-in.inside ∙ left.number)
+            (ap_three (λ x y z. x ∷ y ∷ z ∷ []) (ap permutation_number second-in.inside ∙ permutation_number-at 4 s ls)
+            (ap permutation_number first-in.inside ∙ permutation_number-at 4 f lf) list.same);
+      }
+
+half_cube_gives : (ds : List ℕ) → AreDigits half_bases ds → Gives ds
+half_cube_gives = by_four_digits Gives 12 24 24 96 half_cube_of_four
 
 -- These cubes are numbered by the numbers below the count, one for each.
 pub half_cubes-numbered : IsNumbering half_cubes
 half_cubes-numbered =
-    numbering_by_digits half_bases half_cube_of_digits half_digits IsHalfCube (lit≤ tt) (lit≤ tt) (by_four_digits Gives 12 24 24 96 half_cube_of_four)
+    numbering_by_digits half_bases half_cube_of_digits half_digits IsHalfCube (lit≤ tt) (lit≤ tt) half_cube_gives
     (λ c h. record { below = AreDigits-half c h; again = half_cube-again c h })

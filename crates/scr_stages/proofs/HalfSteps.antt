@@ -1,99 +1,136 @@
--- A half turn of a half cube by its number: the four parts are turned each by itself.
-use Rattle.std.proofs.Common.{◌≡◌, ℕ, get_or, ◌+◌, ◌*◌, ◌/◌, ◌%◌, ◌<◌, Bool, true, cond, List, slice_index, Option, Some, None, refl, sym, ap, ◌∙◌, lit<, arith, eqb-true, lt-ltb}
-use Rattle.std.specs.Prelude.{◌==◌, nat_lt}
-use Rattle.std.specs.Option.{option_map}
-use Rattle.std.proofs.lemmas.Option.{slice_get-get_or}
-use Rattle.scr_combinatorics.specs.Digits.{mixed_digits}
-use Rattle.scr_combinatorics.specs.Permutations.{parity, permutation_number, permutation_at}
-use Rattle.scr_combinatorics.proofs.Digits.{mixed_digits-mixed_number}
-use Rattle.scr_combinatorics.proofs.PermutationNumbers.{permutation_at-number}
-use Rattle.scr_positions.specs.Coordinates.{Coordinate}
-use Rattle.scr_positions.specs.Moves.{Moves, moves_coordinate}
+-- A half turn of a half cube by its number: the four parts of the number are turned each by itself.
+use Rattle.std.proofs.Common.{◌≡◌, ℕ, List, map, refl, ◌+◌, ◌*◌, ◌/◌, ◌%◌, ◌<◌, cond, lt-ltb, [], ◌∷◌, get_or, Some, None, sym, ap, ◌∙◌, subst, lit<, arith}
+use Rattle.std.specs.Prelude.{All}
+use Rattle.std.proofs.lemmas.List.Elements.{All-map}
+use Rattle.scr_combinatorics.specs.Lists.{numbers_from}
+use Rattle.scr_combinatorics.specs.Permutations.{IsPermutation, permutation_number, parity, permutation_at, half_at}
+use Rattle.scr_combinatorics.proofs.PermutationLaws.{IsPermutation-numbers_from, IsPermutation-pick}
+use Rattle.scr_orbit.specs.Orbits.{Rearrangement, turned_orbit}
+use Rattle.scr_positions.specs.Coordinates.{StaysBelow, Coordinate}
 use Rattle.scr_positions.specs.SearchSpaces.{positions, Follows, ShowsSame}
-use Rattle.scr_positions.proofs.StaysBelowLaws.{StaysBelow-moves}
-use Rattle.scr_cube.specs.Cube333.{CubeState, cube_action}
+use Rattle.scr_coord.specs.Projections.{pieces_view}
+use Rattle.scr_coord.proofs.ListViews.{IsListView, IsListView-pieces, StaysBelow-projection}
+use Rattle.scr_cube.specs.ListedTurns.{cube_space, after_of}
 use Rattle.scr_stages.specs.Stages.{half_turns, middle_edges}
-use Rattle.scr_cube.specs.ListedTurns.{after_of}
-use Rattle.scr_stages.specs.Numbers.{first_edges, second_edges, IsHalfCube, AreParts, ArePartNumbers, half_digits, half_cubes}
-use Rattle.scr_stages.specs.Tables.{turns_of, half_corners_coordinate, half_block_coordinate, halves_coordinate}
-use Rattle.scr_stages.specs.Tetrads.{in_block, half_corners_number, half_corners_at}
+use Rattle.scr_stages.specs.Numbers.{IsHalfCube, first_edges, second_edges, AreParts, ArePartNumbers, half_digits, half_cube_of_digits, half_cubes}
+use Rattle.scr_stages.specs.Tables.{turns_of, corners_by, edges_by, block_turn, half_corners_coordinate, half_block_coordinate, halves_coordinate}
+use Rattle.scr_stages.specs.Tetrads.{corner_index, in_block, half_corners_number, half_corners_view, half_corners_at}
+use Rattle.scr_stages.proofs.Blocks.{All-places}
+use Rattle.scr_stages.proofs.KeptBlocks.{All-kept, in_block-turned}
+use Rattle.scr_stages.proofs.ViewLaws.{Follows-listed}
+use Rattle.scr_stages.proofs.TurnFacts.{halves_turns}
+use Rattle.scr_stages.proofs.TetradTests.{half_list, corner_index-half, parity-half}
+use Rattle.scr_stages.proofs.HalfCubes.{IsHalfBlock, block-order, half_corners_number-lt, half_corners_at-number, IsPermutation-in_block, IsTetradsHome-half, IsHalfBlock-first, IsHalfBlock-second, IsHalfBlock-middle, half_cubes-numbered, part_numbers, third-in, half_cube_of_four}
+use Rattle.scr_stages.proofs.HalfTurned.{corner_index-kept, halves_moves, IsHalfCube-after}
+use Rattle.std.specs.Option.{option_map}
+use Rattle.std.proofs.lemmas.Nat.{mod_below}
+use Rattle.std.proofs.lemmas.Option.{slice_get-get_or}
+use Rattle.scr_positions.specs.Moves.{Moves, moves_coordinate}
+use Rattle.scr_cube.specs.Cube333.{CubeState, cube_action}
+use Rattle.scr_cube.proofs.Holds.{at_both}
 use Rattle.scr_stages.specs.declared.half_moves.HalfMoves.{HalfMoves}
 use Rattle.scr_stages.specs.declared.half_parts.HalfParts.{HalfParts}
-use Rattle.scr_stages.proofs.FiniteTests.{passes_below, test-below}
-use Rattle.scr_stages.proofs.HalfCubes.{half_bases, number-lt, AreDigits-half, AreOrders-blocks, IsTetradsHome-half, half_corners_at-number, half_cubes-numbered, parity-middle}
-use Rattle.scr_stages.proofs.HalfTurned.{halves_moves}
-use Rattle.scr_stages.proofs.HalfParts.{IsHalfBlock, IsHalfBlock-first, IsHalfBlock-second, IsHalfBlock-middle, Follows-half_corners, Follows-half_block}
 
--- ---- the number of the middle edges, by its half and by parities
+-- ---- the corners
 
-parity_tells : ℕ → Bool
-parity_tells n = n == 2 * (n / 2) + (parity (permutation_at 4 n) + parity (permutation_at 4 (2 * (n / 2)))) % 2
+-- lists with the index of solved, as half turns make them
+pub record IsHalfList (p : List ℕ) : Type 0 where
+  pub permutation : IsPermutation 8 p
+  pub index : corner_index p ≡ corner_index (numbers_from 0 8)
 
-parity_tells_all : passes_below parity_tells 24 ≡ true
-unfolding passes_below parity_tells permutation_at
-parity_tells_all = refl
+IsListView-half_corners : IsListView half_corners_view IsHalfList (λ r. IsHalfList r.places)
+IsListView-half_corners = record {
+  one_to_one = record {
+    valid = λ q lt. record { permutation = (half_list q lt).permutation; index = corner_index-half q lt };
+    below = λ p h. half_corners_number-lt p h.permutation h.index;
+    number_again = λ q lt. (half_list q lt).same;
+    state_again = λ p h. half_corners_at-number p h.permutation h.index;
+  };
+  turned = λ p r h t. record {
+    permutation = IsPermutation-pick 8 p r.places h.permutation t.permutation;
+    index = corner_index-kept p r.places h.permutation t.permutation h.index t.index;
+  };
+  goal = record { permutation = IsPermutation-numbers_from 8; index = refl };
+}
 
--- which of two numbers it is
-pub number-by_half : (n : ℕ) → n < 24
-    → n ≡ 2 * (n / 2) + (parity (permutation_at 4 n) + parity (permutation_at 4 (2 * (n / 2)))) % 2
-unfolding parity_tells
-number-by_half n lt =
-    eqb-true n (2 * (n / 2) + (parity (permutation_at 4 n) + parity (permutation_at 4 (2 * (n / 2)))) % 2) (test-below parity_tells 24 n parity_tells_all lt)
+pub StaysBelow-half_corners : StaysBelow half_corners_coordinate
+StaysBelow-half_corners =
+    let IsMove : Rearrangement → Type 0 = λ r. IsHalfList r.places in
+    StaysBelow-projection half_corners_view IsHalfList IsMove (corners_by half_turns) IsListView-half_corners
+    (All-map IsMove (λ r. r.corners) (turns_of half_turns) (λ k d lt.
+    let turn = halves_turns k d lt in
+    record { permutation = turn.domino.slice.valid.corners.places; index = turn.index }))
+
+pub Follows-half_corners : Follows (cube_space IsHalfCube half_turns (λ c. c.corners.pieces ≡ numbers_from 0 8))
+    (positions half_corners_coordinate) (λ c. half_corners_number c.corners.pieces)
+unfolding turned_orbit
+Follows-half_corners =
+    Follows-listed halves_moves half_corners_view IsListView-half_corners (λ r. r.corners) (λ c. c.corners.pieces)
+    (λ c h. record { permutation = h.domino.cube.corners.pieces; index = (IsTetradsHome-half c h).corners }) (λ c r h t. refl)
+
+-- ---- a block of edges
+
+pub Follows-half_block : (block : List ℕ) → IsHalfBlock block
+    → Follows (cube_space IsHalfCube half_turns (λ c. in_block block c.edges.pieces ≡ numbers_from 0 4))
+    (positions (half_block_coordinate block)) (λ c. permutation_number (in_block block c.edges.pieces))
+unfolding turned_orbit
+Follows-half_block block b =
+    Follows-listed halves_moves (pieces_view 4) (IsListView-pieces 4) (λ r. block_turn block r.edges) (λ c. in_block block c.edges.pieces) (block-order block b)
+    (λ c r h t.
+    let ks = r.edges.places in
+    in_block-turned 12 4 block b.set c.edges.pieces ks h.domino.cube.edges.pieces.size (All-kept 12 4 block b.set ks (b.turn r t))
+    (All-places 12 4 block ks b.set t.domino.slice.valid.edges.places.size))
+
+-- half turns carry its edges among its places
+pub All-half_block : (block : List ℕ) → IsHalfBlock block
+    → All (λ r. IsPermutation 4 r.places) (map (block_turn block) (edges_by half_turns))
+All-half_block block b =
+    let IsMove : Rearrangement → Type 0 = λ r. IsPermutation 4 r.places in
+    All-map IsMove (block_turn block) (edges_by half_turns)
+    (All-map (λ r. IsMove (block_turn block r)) (λ r. r.edges) (turns_of half_turns) (λ k d lt.
+    let turn = halves_turns k d lt in
+    IsPermutation-in_block 12 4 block _ b.set turn.domino.slice.valid.edges.places (b.turn _ turn)))
 
 -- ---- the parts of the half cube with a number
 
-module _ (p : ℕ) (at : p < 663552) where
-  abbrev cube : CubeState
-  cube = half_cubes.state_at p
+-- the number of a list of four with a half and a parity
+number-by_half : (odd half : ℕ) → odd < 2 → half < 12
+    → permutation_number (half_at 4 odd half) ≡ 2 * half + (odd + parity (permutation_at 4 (2 * half))) % 2
+unfolding permutation_at half_at
+number-by_half =
+    at_both (λ odd half. permutation_number (half_at 4 odd half)) (λ odd half. 2 * half + (odd + parity (permutation_at 4 (2 * half))) % 2) 2 12 refl
 
-  pub half : IsHalfCube (half_cubes.state_at p)
-  half = half_cubes-numbered.one_to_one.valid p at
-
-  digits-at : half_digits cube ≡ mixed_digits half_bases p
-  digits-at =
-      sym (mixed_digits-mixed_number half_bases (half_digits cube) (lit< tt) (AreDigits-half cube half))
-      ∙ ap (mixed_digits half_bases) (half_cubes-numbered.one_to_one.number_again p at)
-
-  pub middle-at_half : permutation_number (in_block middle_edges cube.edges.pieces) / 2 ≡ p % 12
-  unfolding half_digits
-  middle-at_half = ap (λ ds. slice_index ds 0) digits-at
-
-  pub second-at : permutation_number (in_block second_edges cube.edges.pieces) ≡ p / 12 % 24
-  unfolding half_digits
-  second-at = ap (λ ds. slice_index ds 1) digits-at
-
-  pub first-at : permutation_number (in_block first_edges cube.edges.pieces) ≡ p / 12 / 24 % 24
-  unfolding half_digits
-  first-at = ap (λ ds. slice_index ds 2) digits-at
-
-  pub corners-at : half_corners_number cube.corners.pieces ≡ p / 12 / 24 / 24
-  unfolding half_digits
-  corners-at = ap (λ ds. slice_index ds 3) digits-at ∙ omega (arith, at)
-
-  -- the middle edges are told by the other parities
-  pub middle-at : permutation_number (in_block middle_edges cube.edges.pieces)
-      ≡ 2 * (p % 12) + (parity (half_corners_at (p / 12 / 24 / 24)) + parity (permutation_at 4 (p / 12 / 24 % 24)) + parity (permutation_at 4 (p / 12 % 24))
-      + parity (permutation_at 4 (2 * (p % 12)))) % 2
-  middle-at =
-      let d = half.domino in
-      let home = IsTetradsHome-half cube half in
-      let orders = AreOrders-blocks cube d home in
-      let third = in_block middle_edges cube.edges.pieces in
-      let corners = ap half_corners_at (sym corners-at) ∙ half_corners_at-number cube.corners.pieces d.cube.corners.pieces home.corners in
-      let first = ap (permutation_at 4) (sym first-at) ∙ permutation_at-number 4 (in_block first_edges cube.edges.pieces) orders.first in
-      let second = ap (permutation_at 4) (sym second-at) ∙ permutation_at-number 4 (in_block second_edges cube.edges.pieces) orders.second in
-      let told = number-by_half (permutation_number third) (number-lt third orders.third) in
-      omega (
+AreParts-digits : (half s f q : ℕ) → half < 12 → s < 24 → f < 24 → q < 96 → (odd : ℕ)
+    → odd ≡ parity (permutation_at 4 f) + parity (permutation_at 4 s) + parity (permutation_at 4 (2 * half))
+    → AreParts (half_cube_of_digits (half ∷ s ∷ f ∷ q ∷ [])) (2 * half + odd % 2) s f q
+unfolding half_cube_of_digits half_digits
+AreParts-digits half s f q lh ls lf lq odd e =
+    let again = (half_cube_of_four half s f q lh ls lf lq).again in
+    let sum = parity (half_corners_at q) + parity (permutation_at 4 f) + parity (permutation_at 4 s) in
+    record {
+      middle_is = omega (
         arith,
-        told,
-        middle-at_half,
-        ap (λ m. parity (permutation_at 4 (2 * m))) middle-at_half,
-        ap parity (permutation_at-number 4 third orders.third),
-        parity-middle cube d home,
-        ap parity corners,
-        ap parity first,
-        ap parity second,
-      )
+        e,
+        parity-half q lq,
+        ap permutation_number (third-in half s f q lh ls lf lq).inside,
+        number-by_half (sum % 2) half (mod_below sum 2 (lit< tt)) lh,
+      );
+      second_is = sym (ap (λ ds. get_or ds 1 0) again);
+      first_is = sym (ap (λ ds. get_or ds 2 0) again);
+      corners_is = sym (ap (λ ds. get_or ds 3 0) again);
+    }
+
+-- what the code tells of a number's parts
+pub AreParts-at : (p : ℕ) (at : p < 663552) (odd : ℕ)
+    → odd ≡ parity (permutation_at 4 (p / 12 / 24 % 24)) + parity (permutation_at 4 (p / 12 % 24)) + parity (permutation_at 4 (2 * (p % 12)))
+    → AreParts (half_cubes.state_at p) (2 * (p % 12) + odd % 2) (p / 12 % 24) (p / 12 / 24 % 24) (p / 12 / 24 / 24)
+AreParts-at p at odd e =
+    let q = p / 12 / 24 / 24 in
+    let lq : q < 96 = omega (arith, at) in
+    let same : q % 96 ≡ q = omega (arith, lq) in
+    subst (λ k. AreParts (half_cube_of_digits (p % 12 ∷ p / 12 % 24 ∷ p / 12 / 24 % 24 ∷ k ∷ [])) (2 * (p % 12) + odd % 2) (p / 12 % 24) (p / 12 / 24 % 24) q) (sym same)
+    (AreParts-digits (p % 12) (p / 12 % 24) (p / 12 / 24 % 24) q (mod_below p 12 (lit< tt)) (mod_below (p / 12) 24 (lit< tt))
+    (mod_below (p / 12 / 24) 24 (lit< tt)) lq odd e)
 
 -- the number of a half cube by its parts
 pub number-by_parts : (c : CubeState) (middle second first corners : ℕ) → AreParts c middle second first corners
@@ -101,43 +138,11 @@ pub number-by_parts : (c : CubeState) (middle second first corners : ℕ) → Ar
 unfolding half_digits
 number-by_parts c middle second first corners is = omega (arith, ap (λ n. n / 2) is.middle_is, is.second_is, is.first_is, is.corners_is)
 
--- what the code tells of a number's parts
-pub AreParts-at : (p : ℕ) (at : p < 663552) (odd : ℕ)
-    → odd ≡ parity (half_corners_at (p / 12 / 24 / 24)) + parity (permutation_at 4 (p / 12 / 24 % 24)) + parity (permutation_at 4 (p / 12 % 24))
-    + parity (permutation_at 4 (2 * (p % 12)))
-    → AreParts (half_cubes.state_at p) (2 * (p % 12) + odd % 2) (p / 12 % 24) (p / 12 / 24 % 24) (p / 12 / 24 / 24)
-AreParts-at p at odd e = record {
-  middle_is = ap (λ n. 2 * (p % 12) + n % 2) e ∙ sym (middle-at p at);
-  second_is = sym (second-at p at);
-  first_is = sym (first-at p at);
-  corners_is = sym (corners-at p at);
-}
+-- ---- a half turn in move tables
 
--- ---- a half turn of a half cube, by its parts
-
-module _ (c : CubeState) (half : IsHalfCube c) (t : ℕ) (lt : t < 6) where
-  abbrev after : Option CubeState
-  after = after_of half_turns c t
-
-  -- where a part leads, as all turns of a coordinate are there
-  part_after : (part : Coordinate) (IsGoal : CubeState → Type 0) (view : CubeState → ℕ) (q : ℕ)
-      → Follows (record { IsValid = IsHalfCube; after = after_of half_turns; IsGoal = IsGoal }) (positions part) view
-      → q ≡ view c → t < part.turns → part.after q t ≡ option_map view after
-  part_after part IsGoal view q f e within =
-      sym (ap (λ b. cond b (part.after q t) None) (lt-ltb t part.turns within))
-      ∙ ap (λ k. cond (nat_lt t part.turns) (part.after k t) None) e
-      ∙ f.turned c t half
-
-  pub corners_after : (q : ℕ) → q ≡ half_corners_number c.corners.pieces
-      → half_corners_coordinate.after q t ≡ option_map (λ d. half_corners_number d.corners.pieces) after
-  corners_after q e = part_after half_corners_coordinate _ (λ d. half_corners_number d.corners.pieces) q Follows-half_corners e lt
-
-  pub block_after : (block : List ℕ) → IsHalfBlock block → (q : ℕ)
-      → q ≡ permutation_number (in_block block c.edges.pieces)
-      → (half_block_coordinate block).after q t ≡ option_map (λ d. permutation_number (in_block block d.edges.pieces)) after
-  block_after block b q e = part_after (half_block_coordinate block) _ (λ d. permutation_number (in_block block d.edges.pieces)) q (Follows-half_block block b) e lt
-
--- ---- the same in move tables
+-- a number is the one to which a table leads
+abbrev pub IsTarget : Moves → ℕ → ℕ → ℕ → Type 0
+IsTarget moves q t r = (next : ℕ) → (moves_coordinate moves).after q t ≡ Some next → r ≡ next
 
 -- a half turn leads from every cube to one
 turned_cube : (c : CubeState) (t : ℕ) → t < 6 → (d : CubeState) × (after_of half_turns c t ≡ Some d)
@@ -147,66 +152,52 @@ turned_cube c t lt =
       halves_moves.after_is c t ∙ ap (option_map (cube_action.turned c)) (slice_get-get_or (turns_of half_turns) t cube_action.identity lt),
     )
 
--- a table that shows a coordinate leads below its count
-shown_below : (part : Coordinate) (moves : Moves) → ShowsSame part (moves_coordinate moves) → (q t r : ℕ)
-    → q < part.count → t < part.turns → (moves_coordinate moves).after q t ≡ Some r → r < part.count
-shown_below part moves shows q t r at turn e =
-    omega (arith, shows.count, StaysBelow-moves moves q t r (omega (arith, shows.count, at)) (omega (arith, shows.turns, turn)) e)
-
--- a number is the one to which a table leads
-abbrev pub IsTarget : Moves → ℕ → ℕ → ℕ → Type 0
-IsTarget moves q t r = (next : ℕ) → (moves_coordinate moves).after q t ≡ Some next → r ≡ next
-
-module _ (me : HalfMoves) (p : ℕ) (at : p < 663552) (parts : HalfParts)
-    (is : AreParts (half_cubes.state_at p) parts.middle parts.second parts.first parts.corners)
-    (below : ArePartNumbers parts.middle parts.second parts.first parts.corners) (t : ℕ) (lt : t < 6) where
-  abbrev start : CubeState
-  start = half_cubes.state_at p
-
-  to : (d : CubeState) × (after_of half_turns start t ≡ Some d)
-  to = turned_cube start t lt
+module _ (c d : CubeState) (half : IsHalfCube c) (t : ℕ) (lt : t < 6) (to : after_of half_turns c t ≡ Some d) where
+  -- Where moves show a part of half cubes, they lead from its number to that of the turned cube.
+  part_to : (part : Coordinate) (IsGoal : CubeState → Type 0) (view : CubeState → ℕ)
+      → Follows (cube_space IsHalfCube half_turns IsGoal) (positions part) view → t < part.turns → (moves : Moves)
+      → ShowsSame part (moves_coordinate moves) → (q r : ℕ) → q ≡ view c → IsTarget moves q t r → r ≡ view d
+  part_to part IsGoal view f turn moves shows q r e target =
+      target (view d) (shows.after q t (omega (arith, e, f.valid c half)) turn
+      ∙ ap (λ k. part.after k t) e
+      ∙ sym (ap (λ b. cond b (part.after (view c) t) None) (lt-ltb t part.turns turn))
+      ∙ f.turned c t half
+      ∙ ap (option_map view) to)
 
   block_to : (block : List ℕ) → IsHalfBlock block → (moves : Moves)
-      → ShowsSame (half_block_coordinate block) (moves_coordinate moves) → (q : ℕ)
-      → q ≡ permutation_number (in_block block start.edges.pieces) → q < 24
-      → (moves_coordinate moves).after q t ≡ Some (permutation_number (in_block block to.0.edges.pieces))
-  block_to block b moves shows q of q_lt =
-      shows.after q t q_lt lt ∙ block_after start (half p at) t lt block b q of
-      ∙ ap (option_map (λ d. permutation_number (in_block block d.edges.pieces))) to.1
+      → ShowsSame (half_block_coordinate block) (moves_coordinate moves) → (q r : ℕ)
+      → q ≡ permutation_number (in_block block c.edges.pieces) → IsTarget moves q t r
+      → r ≡ permutation_number (in_block block d.edges.pieces)
+  block_to block b =
+      part_to (half_block_coordinate block) _ (λ d. permutation_number (in_block block d.edges.pieces)) (Follows-half_block block b) lt
 
-  middle_to : (moves_coordinate me.middle).after parts.middle t ≡ Some (permutation_number (in_block middle_edges to.0.edges.pieces))
-  middle_to = block_to middle_edges IsHalfBlock-middle me.middle me.shows_middle parts.middle is.middle_is below.middle_below
+-- the parts are turned each by itself
+module _ (me : HalfMoves) (p : ℕ) (at : p < 663552) (parts turned : HalfParts)
+    (is : AreParts (half_cubes.state_at p) parts.middle parts.second parts.first parts.corners) (t : ℕ) (lt : t < 6)
+    (middle : IsTarget me.middle parts.middle t turned.middle) (second : IsTarget me.second parts.second t turned.second)
+    (first : IsTarget me.first parts.first t turned.first) (corners : IsTarget me.corners parts.corners t turned.corners) where
+  half : IsHalfCube (half_cubes.state_at p)
+  half = half_cubes-numbered.one_to_one.valid p at
 
-  second_to : (moves_coordinate me.second).after parts.second t ≡ Some (permutation_number (in_block second_edges to.0.edges.pieces))
-  second_to = block_to second_edges IsHalfBlock-second me.second me.shows_second parts.second is.second_is below.second_below
+  to : (d : CubeState) × (after_of half_turns (half_cubes.state_at p) t ≡ Some d)
+  to = turned_cube (half_cubes.state_at p) t lt
 
-  first_to : (moves_coordinate me.first).after parts.first t ≡ Some (permutation_number (in_block first_edges to.0.edges.pieces))
-  first_to = block_to first_edges IsHalfBlock-first me.first me.shows_first parts.first is.first_is below.first_below
+  AreParts-turned : AreParts to.0 turned.middle turned.second turned.first turned.corners
+  AreParts-turned =
+      let block = block_to (half_cubes.state_at p) to.0 half t lt to.1 in
+      record {
+        middle_is = block middle_edges IsHalfBlock-middle me.middle me.shows_middle parts.middle turned.middle is.middle_is middle;
+        second_is = block second_edges IsHalfBlock-second me.second me.shows_second parts.second turned.second is.second_is second;
+        first_is = block first_edges IsHalfBlock-first me.first me.shows_first parts.first turned.first is.first_is first;
+        corners_is = part_to (half_cubes.state_at p) to.0 half t lt to.1 half_corners_coordinate _ (λ d. half_corners_number d.corners.pieces)
+            Follows-half_corners lt me.corners me.shows_corners parts.corners turned.corners is.corners_is corners;
+      }
 
-  corners_to : (moves_coordinate me.corners).after parts.corners t ≡ Some (half_corners_number to.0.corners.pieces)
-  corners_to =
-      me.shows_corners.after parts.corners t below.corners_below lt ∙ corners_after start (half p at) t lt parts.corners is.corners_is
-      ∙ ap (option_map (λ d. half_corners_number d.corners.pieces)) to.1
+  pub turned_below : ArePartNumbers turned.middle turned.second turned.first turned.corners
+  turned_below =
+      part_numbers to.0 turned.middle turned.second turned.first turned.corners (IsHalfCube-after (half_cubes.state_at p) to.0 t half to.1) AreParts-turned
 
-  module _ (turned : HalfParts) (middle : IsTarget me.middle parts.middle t turned.middle) (second : IsTarget me.second parts.second t turned.second)
-      (first : IsTarget me.first parts.first t turned.first) (corners : IsTarget me.corners parts.corners t turned.corners) where
-    pub turned_below : ArePartNumbers turned.middle turned.second turned.first turned.corners
-    turned_below = record {
-      middle_below = omega (arith, middle _ middle_to, shown_below (half_block_coordinate middle_edges) me.middle me.shows_middle parts.middle t _ below.middle_below lt middle_to);
-      second_below = omega (arith, second _ second_to, shown_below (half_block_coordinate second_edges) me.second me.shows_second parts.second t _ below.second_below lt second_to);
-      first_below = omega (arith, first _ first_to, shown_below (half_block_coordinate first_edges) me.first me.shows_first parts.first t _ below.first_below lt first_to);
-      corners_below = omega (arith, corners _ corners_to, shown_below half_corners_coordinate me.corners me.shows_corners parts.corners t _ below.corners_below lt corners_to);
-    }
-
-    -- the parts of the turned cube are told by what the parts' turns tell
-    pub turned_number : (n : ℕ)
-        → ((cube : CubeState) → AreParts cube turned.middle turned.second turned.first turned.corners → n ≡ half_cubes.number_of cube)
-        → Some n ≡ halves_coordinate.after p t
-    turned_number n by =
-        ap Some (by to.0 (record {
-          middle_is = middle _ middle_to;
-          second_is = second _ second_to;
-          first_is = first _ first_to;
-          corners_is = corners _ corners_to;
-        }))
-        ∙ sym (ap (option_map half_cubes.number_of) to.1)
+  pub turned_number : (n : ℕ)
+      → ((cube : CubeState) → AreParts cube turned.middle turned.second turned.first turned.corners → n ≡ half_cubes.number_of cube)
+      → Some n ≡ halves_coordinate.after p t
+  turned_number n by = ap Some (by to.0 AreParts-turned) ∙ sym (ap (option_map half_cubes.number_of) to.1)

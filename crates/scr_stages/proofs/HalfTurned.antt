@@ -21,7 +21,7 @@ use Rattle.scr_positions.proofs.SearchLaws.{FindsTheSame-follows}
 use Rattle.scr_table.specs.Distances.{Distances, Measures}
 use Rattle.scr_table.proofs.FoundWords.{first_word}
 use Rattle.scr_cube.specs.Cube333.{CubeState, IsCube, CubeTurn, cube_action, cube_powers, solved_cube}
-use Rattle.scr_cube.proofs.Laws333.{lawful_cube}
+use Rattle.scr_cube.proofs.Laws333.{IsCube-solved, lawful_cube}
 use Rattle.scr_stages.specs.Stages.{IsHalfTurned, half_turns}
 use Rattle.scr_cube.specs.ListedTurns.{after_of}
 use Rattle.scr_stages.specs.Numbers.{IsDominoCube, first_edges, tetrads_number, IsHalfCube, half_cubes}
@@ -33,7 +33,7 @@ use Rattle.scr_coord.specs.Projections.{turned_set}
 use Rattle.scr_stages.proofs.ViewLaws.{TurnsStates, kept_by}
 use Rattle.scr_cube.proofs.ListedTurns.{after_of-is}
 use Rattle.scr_stages.proofs.TurnFacts.{after_of-turns, IsHalfTurn, All-numbers, halves_turns}
-use Rattle.scr_stages.proofs.TetradTests.{corners_at-solved, corner_index-solved}
+use Rattle.scr_stages.proofs.TetradTests.{corners_at-solved}
 use Rattle.scr_stages.proofs.TetradLaws.{corner_index-turned}
 use Rattle.scr_stages.proofs.DominoLaws.{IsDominoCube-turned, places-turned}
 use Rattle.scr_stages.proofs.StageSpaces.{IsTetradsHome-iff}
@@ -47,7 +47,7 @@ pub corner_index-kept : (p ks : List ℕ) → IsPermutation 8 p → IsPermutatio
     → corner_index (pick p ks) ≡ corner_index (numbers_from 0 8)
 corner_index-kept p ks h k e f =
     sym (corner_index-turned p ks h k)
-    ∙ ap (λ i. corner_index (pick (corners_at i) ks)) (e ∙ corner_index-solved)
+    ∙ ap (λ i. corner_index (pick (corners_at i) ks)) e
     ∙ ap (λ xs. corner_index (pick xs ks)) corners_at-solved
     ∙ ap corner_index (pick-from_order 8 ks (All-permutation 8 ks k))
     ∙ f
@@ -56,16 +56,15 @@ pub IsHalfCube-turned : (c : CubeState) (r : CubeTurn) → IsHalfCube c → IsHa
     → IsHalfCube (cube_action.turned c r)
 unfolding turned_orbit
 IsHalfCube-turned c r h t =
-    let d = h.domino in
     let home = IsTetradsHome-half c h in
-    let turned = IsDominoCube-turned c r d t.domino in
+    let turned = IsDominoCube-turned c r h.domino t.domino in
     let valid = t.domino.slice.valid in
     record {
       domino = turned;
       index = (IsTetradsHome-iff (cube_action.turned c r) turned).1 (record {
-        first = places-turned 12 2 first_edges c.edges r.edges d.cube.edges.pieces valid.edges.places
-            ∙ ap (λ places. turned_set places r.edges) home.first ∙ t.first_places;
-        corners = corner_index-kept c.corners.pieces r.corners.places d.cube.corners.pieces valid.corners.places home.corners t.index;
+        first = places-turned 12 2 first_edges c.edges r.edges h.domino.cube.edges.pieces valid.edges.places
+            ∙ ap (λ places. turned_set places r.edges) home.first ∙ t.first;
+        corners = corner_index-kept c.corners.pieces r.corners.places h.domino.cube.corners.pieces valid.corners.places home.corners t.index;
       });
     }
 
@@ -75,10 +74,6 @@ halves_moves = record { each = halves_turns; after_is = after_of-turns half_turn
 pub IsHalfCube-after : (c d : CubeState) (place : ℕ) → IsHalfCube c → after_of half_turns c place ≡ Some d
     → IsHalfCube d
 IsHalfCube-after = kept_by cube_action.turned (turns_of half_turns) (after_of half_turns) IsHalfCube IsHalfTurn halves_moves
-
-IsCube-solved : IsCube solved_cube
-unfolding solved_cube solved_orbit
-IsCube-solved = lawful_cube.lawful.reached (λ t. 1) solved_cube ([], solved_cube, refl, play-empty (after_letter cube_powers) solved_cube)
 
 pub IsHalfCube-solved : IsHalfCube solved_cube
 unfolding solved_cube solved_orbit
@@ -142,8 +137,7 @@ play-reversed after IsValid keeps undoes s r (t ∷ w) h e =
 pub IsHalfTurned-half_cube : (table : Distances) → Measures halves_coordinate table → (c : CubeState) → IsHalfCube c
     → IsHalfTurned c
 IsHalfTurned-half_cube table m c h =
-    let number = half_cubes.number_of c in
-    let found = first_word halves_coordinate StaysBelow-halves table m number (half_cubes-numbered.one_to_one.below c h) in
+    let found = first_word halves_coordinate StaysBelow-halves table m (half_cubes.number_of c) (half_cubes-numbered.one_to_one.below c h) in
     let leads =
     ((FindsTheSame-follows halves_table.space (positions halves_coordinate) half_cubes.number_of Follows-halves).words c
     found.0 h).1 found.1.leads in (

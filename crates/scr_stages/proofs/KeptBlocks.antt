@@ -1,25 +1,27 @@
 -- Blocks of places that hold their own pieces.
-use Rattle.std.proofs.Common.{◌≡◌, ℕ, ◌+◌, ◌<◌, Bool, true, false, List, [], ◌∷◌, map, length, get_or, slice_index, refl, sym, ap, ◌∙◌, subst, arith}
+use Rattle.std.proofs.Common.{◌≡◌, ℕ, ◌<◌, Bool, true, false, List, map, length, get_or, slice_index, refl, sym, ap, ◌∙◌, subst, arith}
 use Rattle.std.specs.Prelude.{All}
 use Rattle.std.proofs.lemmas.List.{get_or-map}
-use Rattle.std.proofs.lemmas.List.Elements.{All-head, All-tail, All-map}
+use Rattle.std.proofs.lemmas.List.Elements.{All-map}
+use Rattle.std.proofs.lemmas.Simd.{map-map}
 use Rattle.scr_combinatorics.specs.Lists.{occurrences, numbers_from, pick}
 use Rattle.scr_combinatorics.specs.Permutations.{IsPermutation, place_of}
 use Rattle.scr_combinatorics.specs.PlaceSets.{IsPlaceSet}
 use Rattle.scr_combinatorics.proofs.PermutationLaws.{at-permutation, All-permutation, injective-permutation, IsPermutation-numbers_from, place_of-lt, at-place_of}
-use Rattle.scr_combinatorics.proofs.Picks.{length-pick, pick-at, pick-in_order, pick-pick}
+use Rattle.scr_combinatorics.proofs.Picks.{length-pick, pick-at, pick-pick}
 use Rattle.scr_coord.specs.Projections.{marked_places, stands_in}
 use Rattle.scr_coord.proofs.MarkedLaws.{marked-own, marked-same}
-use Rattle.scr_coord.proofs.MarkedPieces.{stands_in-marked, marked-map}
+use Rattle.scr_coord.proofs.MarkedPieces.{marked-map}
 use Rattle.scr_stages.specs.Tetrads.{in_block}
-use Rattle.scr_stages.proofs.Blocks.{stands_in-at, occurs-stands_in, place_of-own, pick-places, places_in, All-marked, All-place_set}
+use Rattle.scr_stages.proofs.Blocks.{All-stands_in, occurs-stands_in, place_of-own, pick-places, places_in, stands_in-places, All-marked, All-place_set}
+use Rattle.scr_stages.proofs.FiniteTests.{map-back, map-same, pick-all}
 
 -- places whose pieces are marked where places are
 pub marked-by_places : (n : ℕ) (marked other : ℕ → Bool) (xs : List ℕ) → length xs ≡ n
     → ((place : ℕ) → place < n → marked (slice_index xs place) ≡ other place)
     → marked_places marked xs ≡ marked_places other (numbers_from 0 n)
 marked-by_places n marked other xs size h =
-    ap (marked_places marked) (sym (ap (λ m. pick xs (numbers_from 0 m)) (sym size) ∙ pick-in_order xs))
+    ap (marked_places marked) (sym (pick-all n xs size))
     ∙ marked-map marked (slice_index xs) 0 (numbers_from 0 n)
     ∙ marked-same (λ place. marked (slice_index xs place)) other 0 (numbers_from 0 n)
     (λ k d lt. h (get_or (numbers_from 0 n) k d) (All-permutation n (numbers_from 0 n) (IsPermutation-numbers_from n) k d lt))
@@ -35,31 +37,21 @@ module _ (n k : ℕ) (block : List ℕ) (set : IsPlaceSet n k block) where
   pub places_from-kept : (xs : List ℕ) → length xs ≡ n → places_in block xs ≡ block → (place : ℕ) → place < n
       → stands_in block (slice_index xs place) ≡ stands_in block place
   places_from-kept xs size kept place lt =
-      let here : 0 + place ≡ place = omega arith in
-      sym (stands_in-marked (stands_in block) 0 place xs (omega (arith, size))) ∙ ap (stands_in (places_in block xs)) here
-      ∙ ap (λ places. stands_in places place) kept
+      sym (stands_in-places (stands_in block) xs place (omega (arith, size))) ∙ ap (λ places. stands_in places place) kept
 
   -- the places of the block have its pieces
   pub All-kept : (xs : List ℕ) → places_in block xs ≡ block → All (λ x. stands_in block x ≡ true) (pick xs block)
   All-kept xs kept =
-      let P : List ℕ → Type 0 = λ places. All (λ x. stands_in block x ≡ true) (pick xs places) in
-      subst P kept (All-map-marked xs)
-    where
-      All-map-marked : (xs : List ℕ) → All (λ x. stands_in block x ≡ true) (pick xs (places_in block xs))
-      All-map-marked xs = All-map (λ x. stands_in block x ≡ true) (slice_index xs) (places_in block xs) (All-marked (stands_in block) xs)
+      subst (λ places. All (λ x. stands_in block x ≡ true) (pick xs places)) kept
+      (All-map (λ x. stands_in block x ≡ true) (slice_index xs) (places_in block xs) (All-marked (stands_in block) xs))
 
   -- Pieces that are picked from the block by a permutation are told by that.
   pub in_block-picked : (xs order : List ℕ) → IsPermutation k order → pick xs block ≡ pick block order
       → in_block block xs ≡ order
   in_block-picked xs order h e =
       ap (map (λ x. place_of x block)) e
-      ∙ own order (subst (λ m. All (λ j. j < m) order) (sym set.size) (All-permutation k order h))
-    where
-      own : (js : List ℕ) → All (λ j. j < length block) js → map (λ x. place_of x block) (pick block js) ≡ js
-      own [] below = refl
-      own (j ∷ js) below =
-          ap (λ y. y ∷ map (λ x. place_of x block) (pick block js)) (place_of-own 0 n j block set.increasing (All-head (λ i. i < length block) j js below))
-          ∙ ap (λ ys. j ∷ ys) (own js (All-tail (λ i. i < length block) j js below))
+      ∙ map-back (λ x. place_of x block) (slice_index block) order
+      (λ m d lt. place_of-own 0 n (get_or order m d) block set.increasing (omega (arith, All-permutation k order h m d lt, set.size)))
 
   -- And then all pieces of the block stand in it.
   module _ (xs order : List ℕ) (h : IsPermutation n xs) (o : IsPermutation k order) (e : pick xs block ≡ pick block order) where
@@ -78,7 +70,7 @@ module _ (n k : ℕ) (block : List ℕ) (set : IsPlaceSet n k block) where
         let there : slice_index block m ≡ place = at-place_of place block occurs in
         let stands : stands_in block (slice_index xs place) ≡ true =
         ap (λ i. stands_in block (slice_index xs i)) (sym there) ∙ ap (stands_in block) (at_block m m_lt)
-        ∙ stands_in-at block (slice_index order m) (omega (arith, at-permutation k order o m m_lt, set.size)) in
+        ∙ All-stands_in block (slice_index order m) 0 (omega (arith, at-permutation k order o m m_lt, set.size)) in
         sym p ∙ stands
     stands_by place lt true false p q =
         let piece : ℕ = slice_index xs place in
@@ -92,7 +84,7 @@ module _ (n k : ℕ) (block : List ℕ) (set : IsPlaceSet n k block) where
         at_block m m_lt ∙ ap (slice_index block) (at-place_of j order in_order) ∙ at-place_of piece block occurs in
         let below : slice_index block m < n = All-place_set 0 n block set.increasing m 0 (omega (arith, set.size)) in
         let place_is : slice_index block m ≡ place = injective-permutation n xs h (slice_index block m) place below lt same in
-        sym (stands_in-at block m (omega (arith, set.size))) ∙ ap (stands_in block) place_is ∙ q
+        sym (All-stands_in block m 0 (omega (arith, set.size))) ∙ ap (stands_in block) place_is ∙ q
 
     pub kept_from-picked : places_in block xs ≡ block
     kept_from-picked =
@@ -104,19 +96,13 @@ module _ (n k : ℕ) (block : List ℕ) (set : IsPlaceSet n k block) where
       → All (λ place. place < length ks) block
       → in_block block (pick xs ks) ≡ pick (in_block block xs) (in_block block ks)
   in_block-turned xs ks size kept below =
+      let tell : ℕ → ℕ = λ x. place_of x block in
       let places = in_block block ks in
-      ap (map (λ x. place_of x block)) (pick-pick xs ks block below ∙ ap (pick xs) (sym (pick-places block (pick ks block) kept))
-      ∙ sym (pick-pick xs block places (All-places ks kept)))
-      ∙ map-picked (λ x. place_of x block) (pick xs block) places (subst (λ m. All (λ j. j < m) places) (sym (length-pick xs block)) (All-places ks kept))
-    where
-      All-places : (ks : List ℕ) → All (λ x. stands_in block x ≡ true) (pick ks block)
-          → All (λ j. j < length block) (in_block block ks)
-      All-places ks kept =
-          All-map (λ j. j < length block) (λ x. place_of x block) (pick ks block)
-          (λ m d lt. place_of-lt (get_or (pick ks block) m d) block (occurs-stands_in (get_or (pick ks block) m d) block (kept m d lt)))
-
-      map-picked : (f : ℕ → ℕ) (ys js : List ℕ) → All (λ j. j < length ys) js → map f (pick ys js) ≡ pick (map f ys) js
-      map-picked f ys [] below = refl
-      map-picked f ys (j ∷ js) below =
-          ap (λ z. z ∷ map f (pick ys js)) (sym (get_or-map f ys j 0 0 (All-head (λ i. i < length ys) j js below)))
-          ∙ ap (λ zs. slice_index (map f ys) j ∷ zs) (map-picked f ys js (All-tail (λ i. i < length ys) j js below))
+      let inside : All (λ j. j < length block) places =
+      All-map (λ j. j < length block) tell (pick ks block)
+      (λ m d lt. place_of-lt (get_or (pick ks block) m d) block (occurs-stands_in (get_or (pick ks block) m d) block (kept m d lt))) in
+      let picked = pick xs block in
+      ap (map tell) (pick-pick xs ks block below ∙ ap (pick xs) (sym (pick-places block (pick ks block) kept)) ∙ sym (pick-pick xs block places inside))
+      ∙ map-map tell (slice_index picked) places
+      ∙ map-same (λ j. tell (slice_index picked j)) (slice_index (map tell picked)) places
+      (λ m d lt. sym (get_or-map tell picked (get_or places m d) 0 0 (omega (arith, inside m d lt, length-pick xs block))))

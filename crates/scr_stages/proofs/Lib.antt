@@ -11,13 +11,8 @@ pub mod StageSpaces
 pub mod EdgeBlocks
 pub mod HalfCubes
 pub mod HalfTurned
-pub mod ParitySteps
-pub mod HalfParts
 pub mod HalfSteps
 pub mod StageWords
 pub mod SolutionLaws
-pub mod FollowSteps
-pub mod PlaceSteps
-pub mod TetradTables
 pub mod EachIndex
 pub mod StateTables

@@ -15,19 +15,17 @@ use Rattle.scr_orbit.proofs.Minima.{count_once}
 use Rattle.scr_notation.specs.declared.turn.Turn.{Turn}
 use Rattle.scr_notation.specs.Turning.{opposite, turn_merging}
 use Rattle.scr_table.specs.Distances.{Distances}
-use Rattle.scr_table.specs.Lines.{IsTableOf, AreTablesOf}
+use Rattle.scr_table.specs.Lines.{AreTablesOf}
 use Rattle.scr_table.proofs.LineLaws.{table_of_line}
 use Rattle.scr_table.proofs.StageLaws.{stage_word}
 use Rattle.scr_cube.specs.Cube333.{CubeState, IsCube, cube_powers, solved_cube}
 use Rattle.scr_cube.proofs.Laws333.{lawful_cube}
 use Rattle.scr_cube.specs.ListedTurns.{letter_in, after_of, turn_numbers}
-use Rattle.scr_stages.specs.Stages.{stages, IsHalfTurned, IsStageScramble, slice_turns}
-use Rattle.scr_stages.specs.Stages.{flips_stage, slice_stage, tetrads_stage, halves_stage}
+use Rattle.scr_stages.specs.Stages.{stages, IsHalfTurned, IsStageScramble, slice_turns, flips_stage, slice_stage, tetrads_stage, halves_stage}
 use Rattle.scr_stages.specs.Numbers.{flips_number, slice_number, tetrads_number, half_cubes, IsUnflippedCube, IsDominoCube, IsHalfCube}
 use Rattle.scr_stages.specs.Tables.{flips_line, slice_line, tetrads_line, halves_line, stage_lines}
 use Rattle.scr_stages.proofs.StageSpaces.{Follows-flips, Follows-unflipped}
-use Rattle.scr_stages.proofs.HalfTurned.{IsHalfCube-half_turned, Follows-halves, StaysBelow-halves}
-use Rattle.scr_stages.proofs.HalfTurned.{tetrads_number-half_turned}
+use Rattle.scr_stages.proofs.HalfTurned.{IsHalfCube-half_turned, Follows-halves, StaysBelow-halves, tetrads_number-half_turned}
 use Rattle.scr_stages.proofs.StageWords.{StaysBelow-flips, StaysBelow-slice, StaysBelow-tetrads, Follows-half_turned}
 
 -- turns keep a cube valid
@@ -58,42 +56,35 @@ solution-played c s a =
     leads.played ∙ ap Some leads.goal
 
 -- Where the tables are built, each cube has a solution.
-module _ (of_flips of_slice of_tetrads of_halves : Distances) (is_flips : IsTableOf flips_line of_flips) (is_slice : IsTableOf slice_line of_slice)
-    (is_tetrads : IsTableOf tetrads_line of_tetrads) (is_halves : IsTableOf halves_line of_halves) (c : CubeState) (h : IsCube c) where
-  solution_by : (s : List Turn) × IsSolution (after_letter cube_powers) stages c s
-  solution_by =
-      let by_table = stage_word (after_letter cube_powers) in
-      let flips = by_table flips_stage IsCube flips_line flips_number Follows-flips (lit≤ tt) of_flips is_flips StaysBelow-flips c h in
-      let first = flips.1.first.leads in
-      let second_valid : IsUnflippedCube first.end =
-      record { cube = IsCube-played c first.end turn_numbers flips.0 h first.played; no_flips = first.goal } in
-      let slice =
-      by_table slice_stage IsUnflippedCube slice_line slice_number Follows-unflipped (lit≤ tt) of_slice is_slice StaysBelow-slice
-      first.end second_valid in
-      let second = slice.1.first.leads in
-      let third_valid : IsDominoCube second.end =
-      record { cube = IsCube-played first.end second.end slice_turns slice.0 second_valid.cube second.played; domino = second.goal } in
-      let tetrads =
-      by_table tetrads_stage IsDominoCube tetrads_line tetrads_number (Follows-half_turned of_halves is_halves) (lit≤ tt)
-      of_tetrads is_tetrads StaysBelow-tetrads second.end third_valid in
-      let third = tetrads.1.first.leads in
-      let halves =
-      by_table halves_stage IsHalfCube halves_line half_cubes.number_of Follows-halves (lit≤ tt) of_halves is_halves StaysBelow-halves
-      third.end (IsHalfCube-half_turned third.end third.goal) in
-      let next = next_solution (after_letter cube_powers) in
-      next flips_stage (slice_stage ∷ tetrads_stage ∷ halves_stage ∷ []) c flips
-      (next slice_stage (tetrads_stage ∷ halves_stage ∷ []) first.end slice
-      (next tetrads_stage (halves_stage ∷ []) second.end tetrads (next halves_stage [] third.end halves ([], refl))))
-
 pub solution : (tables : List Distances) → AreTablesOf stage_lines tables → (c : CubeState) → IsCube c
     → (s : List Turn) × IsSolution (after_letter cube_powers) stages c s
 solution tables built c h =
     let table = table_of_line stage_lines tables built in
-    let flips = table flips_line (0, lit< tt, refl) in
-    let slice = table slice_line (1, lit< tt, refl) in
-    let tetrads = table tetrads_line (2, lit< tt, refl) in
-    let halves = table halves_line (3, lit< tt, refl) in
-    solution_by flips.0 slice.0 tetrads.0 halves.0 flips.1 slice.1 tetrads.1 halves.1 c h
+    let of_flips = table flips_line (0, lit< tt, refl) in
+    let of_slice = table slice_line (1, lit< tt, refl) in
+    let of_tetrads = table tetrads_line (2, lit< tt, refl) in
+    let of_halves = table halves_line (3, lit< tt, refl) in
+    let by_table = stage_word (after_letter cube_powers) in
+    let flips = by_table flips_stage IsCube flips_line flips_number Follows-flips (lit≤ tt) of_flips.0 of_flips.1 StaysBelow-flips c h in
+    let first = flips.1.first.leads in
+    let second_valid : IsUnflippedCube first.end =
+    record { cube = IsCube-played c first.end turn_numbers flips.0 h first.played; no_flips = first.goal } in
+    let slice =
+    by_table slice_stage IsUnflippedCube slice_line slice_number Follows-unflipped (lit≤ tt) of_slice.0 of_slice.1 StaysBelow-slice first.end second_valid in
+    let second = slice.1.first.leads in
+    let third_valid : IsDominoCube second.end =
+    record { cube = IsCube-played first.end second.end slice_turns slice.0 second_valid.cube second.played; domino = second.goal } in
+    let tetrads =
+    by_table tetrads_stage IsDominoCube tetrads_line tetrads_number (Follows-half_turned of_halves.0 of_halves.1) (lit≤ tt)
+    of_tetrads.0 of_tetrads.1 StaysBelow-tetrads second.end third_valid in
+    let third = tetrads.1.first.leads in
+    let halves =
+    by_table halves_stage IsHalfCube halves_line half_cubes.number_of Follows-halves (lit≤ tt) of_halves.0 of_halves.1 StaysBelow-halves
+    third.end (IsHalfCube-half_turned third.end third.goal) in
+    let next = next_solution (after_letter cube_powers) in
+    next flips_stage (slice_stage ∷ tetrads_stage ∷ halves_stage ∷ []) c flips
+    (next slice_stage (tetrads_stage ∷ halves_stage ∷ []) first.end slice
+    (next tetrads_stage (halves_stage ∷ []) second.end tetrads (next halves_stage [] third.end halves ([], refl))))
 
 -- Where the tables are built, a domino has the index of solved exactly where half turns reach it.
 pub tetrads_number-built : (tables : List Distances) → AreTablesOf stage_lines tables → (c : CubeState) → IsDominoCube c

@@ -1,40 +1,34 @@
 -- The numbers of cubes go along with the turns of their stages.
-use Rattle.std.proofs.Common.{◌≡◌, ℕ, ◌+◌, ◌*◌, ◌<◌, List, map, length, refl, sym, ap, ◌∙◌, lit<, arith}
+use Rattle.std.proofs.Common.{◌≡◌, ℕ, ◌+◌, ◌*◌, ◌<◌, List, length, refl, sym, ◌∙◌, lit<, arith}
 use Rattle.std.specs.Prelude.{All, ◌↔◌}
 use Rattle.std.proofs.Math.Nat.{mul_comm}
 use Rattle.std.proofs.lemmas.Nat.{same_from_place}
 use Rattle.std.proofs.lemmas.List.{length-map}
-use Rattle.scr_combinatorics.specs.Lists.{numbers_from, pick}
+use Rattle.scr_combinatorics.specs.Lists.{numbers_from}
 use Rattle.scr_combinatorics.specs.PlaceSets.{IsPlaceSet, place_set_number}
-use Rattle.scr_combinatorics.specs.Twists.{IsTwists, twists_number, twists_at}
-use Rattle.scr_combinatorics.proofs.PlaceSets.{place_set_number-lt, place_set_number-injective, place_set_at-number}
-use Rattle.scr_combinatorics.proofs.Twists.{twists_number-lt, twists_number-injective, twists_at-number}
-use Rattle.scr_orbit.specs.Orbits.{zeros, turned_orbit, added_digits, solved_orbit}
-use Rattle.scr_orbit.proofs.OrbitLaws.{IsZeroSumOrbit-solved}
+use Rattle.scr_combinatorics.specs.Twists.{twists_number}
+use Rattle.scr_combinatorics.proofs.PlaceSets.{place_set_number-lt, place_set_number-injective}
+use Rattle.scr_orbit.specs.Orbits.{turned_orbit, solved_orbit}
+use Rattle.scr_orbit.proofs.Parts.{ap_both}
 use Rattle.scr_positions.specs.Products.{product_coordinate}
 use Rattle.scr_positions.specs.SearchSpaces.{positions, Follows}
 use Rattle.scr_positions.proofs.ProductLaws.{Follows-product}
-use Rattle.scr_coord.specs.Projections.{projection, twists_view, place_set_view, stands_in, turned_set}
+use Rattle.scr_coord.specs.Projections.{projection, twists_view, place_set_view, stands_in}
+use Rattle.scr_coord.proofs.ListViews.{IsListView-twists, IsListView-place_sets}
 use Rattle.scr_coord.proofs.MarkedPieces.{IsPlaceSet-marked}
 use Rattle.scr_cube.specs.Cube333.{CubeState, IsCube, IsCubeTurn, cube_action, solved_cube}
 use Rattle.scr_cube.proofs.Laws333.{cube_laws}
 use Rattle.scr_stages.specs.Stages.{HasNoFlips, IsUntwisted, IsInMiddle, IsDomino, middle_edges, slice_turns, domino_turns}
-use Rattle.scr_cube.specs.ListedTurns.{after_of, turn_numbers}
+use Rattle.scr_cube.specs.ListedTurns.{after_of, cube_space, turn_numbers}
 use Rattle.scr_stages.specs.Numbers.{flips_number, slice_number, first_edges, tetrads_number, IsUnflippedCube, IsDominoCube}
-use Rattle.scr_cube.specs.ListedTurns.{cube_space}
 use Rattle.scr_stages.specs.SearchTables.{flips_table, slice_table, tetrads_table}
 use Rattle.scr_stages.specs.Tables.{turns_of, corners_by, edges_by, block_turn, outer_places, flips_coordinate, slice_coordinate, tetrads_coordinate}
 use Rattle.scr_stages.specs.Tetrads.{corner_index, tetrads_view}
 use Rattle.scr_stages.proofs.Blocks.{places_in}
-use Rattle.scr_stages.proofs.ViewLaws.{TurnsStates, kept_by, Follows-viewed, Follows-goals, Follows-fewer}
-use Rattle.scr_stages.proofs.TurnFacts.{after_of-turns, All-turns, IsSliceTurn, IsDominoTurn, flips_numbers}
-use Rattle.scr_stages.proofs.TurnFacts.{slice_numbers, slice_each, tetrads_numbers, tetrads_each}
+use Rattle.scr_stages.proofs.ViewLaws.{TurnsStates, kept_by, Follows-viewed, Follows-listed, Follows-goals, Follows-fewer}
+use Rattle.scr_stages.proofs.TurnFacts.{after_of-turns, All-turns, IsSliceTurn, IsDominoTurn, flips_numbers, slice_numbers, slice_each, tetrads_numbers, tetrads_each}
 use Rattle.scr_stages.proofs.TetradLaws.{corner_index-lt, corner_index-turned}
 use Rattle.scr_stages.proofs.DominoLaws.{HasNoFlips-turned, places-turned, IsDominoCube-turned, IsPlaceSet-middle, IsPlaceSet-outer, IsPlaceSet-first_places, turned_set-outer}
-
-IsTwists-zeros : (n m : ℕ) → 0 < m → IsTwists n m (zeros n)
-unfolding solved_orbit
-IsTwists-zeros n m pos = (IsZeroSumOrbit-solved n m pos).digits
 
 -- ---- all cubes, by any turns
 
@@ -43,61 +37,32 @@ pub cube_moves : (numbers : List ℕ) → All (λ t. t < 18) numbers
 cube_moves numbers below =
     record { each = All-turns numbers below; after_is = after_of-turns numbers below; keeps = cube_laws.valid }
 
--- digits by their number, after a turn
-twists-turned : (n m : ℕ) (ds ks added : List ℕ) → 0 < n → 0 < m → IsTwists n m ds
-    → twists_number m (added_digits m (pick (twists_at n m (twists_number m ds)) ks) added) ≡ twists_number m (added_digits m (pick ds ks) added)
-twists-turned n m ds ks added some pos h = ap (λ xs. twists_number m (added_digits m (pick xs ks) added)) (twists_at-number n m ds some pos h)
-
-twists-goal : (n m : ℕ) (ds : List ℕ) → 0 < n → 0 < m → IsTwists n m ds
-    → (ds ≡ zeros n) ↔ (twists_number m ds ≡ twists_number m (zeros n))
-twists-goal n m ds some pos h =
-    (λ e. ap (twists_number m) e, λ e. twists_number-injective n m ds (zeros n) some h (IsTwists-zeros n m pos) e)
-
 pub IsPlaceSet-middle_places : (c : CubeState) → IsCube c → IsPlaceSet 12 4 (places_in middle_edges c.edges.pieces)
 IsPlaceSet-middle_places c h = IsPlaceSet-marked 12 4 (stands_in middle_edges) c.edges.pieces h.edges.pieces refl
 
 module _ (numbers : List ℕ) (below : All (λ t. t < 18) numbers) where
-  pub Follows-flips_by : Follows (cube_space IsCube numbers HasNoFlips)
-      (positions (projection (twists_view 12 2) (edges_by numbers))) flips_number
+  Follows-flips_by : Follows (cube_space IsCube numbers HasNoFlips) (positions (projection (twists_view 12 2) (edges_by numbers)))
+      flips_number
   unfolding turned_orbit
   Follows-flips_by =
-      Follows-viewed cube_action.turned (turns_of numbers) (after_of numbers) IsCube IsCubeTurn
-      (cube_moves numbers below) (twists_view 12 2)
-      (λ r. r.edges) flips_number HasNoFlips (λ c h. twists_number-lt 12 2 c.edges.digits h.edges.digits)
-      (λ c r h t. twists-turned 12 2 c.edges.digits r.edges.places r.edges.added (lit< tt) (lit< tt) h.edges.digits)
-      (λ c h. twists-goal 12 2 c.edges.digits (lit< tt) (lit< tt) h.edges.digits)
+      Follows-listed (cube_moves numbers below) (twists_view 12 2) (IsListView-twists 12 2 (lit< tt) (lit< tt)) (λ r. r.edges) (λ c. c.edges.digits)
+      (λ c h. h.edges.digits) (λ c r h t. refl)
 
   pub Follows-twists_by : Follows (cube_space IsCube numbers IsUntwisted)
       (positions (projection (twists_view 8 3) (corners_by numbers)))
       (λ c. twists_number 3 c.corners.digits)
   unfolding turned_orbit
   Follows-twists_by =
-      Follows-viewed cube_action.turned (turns_of numbers) (after_of numbers) IsCube IsCubeTurn
-      (cube_moves numbers below) (twists_view 8 3)
-      (λ r. r.corners) (λ c. twists_number 3 c.corners.digits) IsUntwisted
-      (λ c h. twists_number-lt 8 3 c.corners.digits h.corners.digits)
-      (λ c r h t. twists-turned 8 3 c.corners.digits r.corners.places r.corners.added (lit< tt) (lit< tt)
-      h.corners.digits)
-      (λ c h. twists-goal 8 3 c.corners.digits (lit< tt) (lit< tt) h.corners.digits)
+      Follows-listed (cube_moves numbers below) (twists_view 8 3) (IsListView-twists 8 3 (lit< tt) (lit< tt)) (λ r. r.corners) (λ c. c.corners.digits)
+      (λ c h. h.corners.digits) (λ c r h t. refl)
 
   pub Follows-middle_by : Follows (cube_space IsCube numbers IsInMiddle)
       (positions (projection (place_set_view 12 4 middle_edges) (edges_by numbers)))
       (λ c. place_set_number 12 (places_in middle_edges c.edges.pieces))
-  unfolding turned_orbit
   Follows-middle_by =
-      Follows-viewed cube_action.turned (turns_of numbers) (after_of numbers) IsCube IsCubeTurn
-      (cube_moves numbers below) (place_set_view 12 4 middle_edges)
-      (λ r. r.edges) (λ c. place_set_number 12 (places_in middle_edges c.edges.pieces)) IsInMiddle
-      (λ c h. place_set_number-lt 12 4 (places_in middle_edges c.edges.pieces) (IsPlaceSet-middle_places c h))
-      (λ c r h t.
-      ap (λ set. place_set_number 12 (turned_set set r.edges))
-      (place_set_at-number 12 4 (places_in middle_edges c.edges.pieces) (IsPlaceSet-middle_places c h))
-      ∙ ap (place_set_number 12) (sym (places-turned 12 2 middle_edges c.edges r.edges h.edges.pieces t.edges.places)))
-      (λ c h. (
-        λ e. ap (place_set_number 12) e,
-        λ e. place_set_number-injective 12 4 (places_in middle_edges c.edges.pieces) middle_edges
-            (IsPlaceSet-middle_places c h) IsPlaceSet-middle e,
-      ))
+      Follows-listed (cube_moves numbers below) (place_set_view 12 4 middle_edges) (IsListView-place_sets 12 4 middle_edges IsPlaceSet-middle) (λ r. r.edges)
+      (λ c. places_in middle_edges c.edges.pieces) IsPlaceSet-middle_places
+      (λ c r h t. places-turned 12 2 middle_edges c.edges r.edges h.edges.pieces t.edges.places)
 
   -- the twists beside the middle layer
   pub Follows-twists_beside : Follows (cube_space IsCube numbers (λ c. IsUntwisted c × IsInMiddle c))
@@ -106,10 +71,7 @@ module _ (numbers : List ℕ) (below : All (λ t. t < 18) numbers) where
       (projection (place_set_view 12 4 middle_edges) (edges_by numbers))))
       slice_number
   Follows-twists_beside =
-      Follows-product IsCube IsUntwisted IsInMiddle (after_of numbers)
-      (projection (twists_view 8 3) (corners_by numbers))
-      (projection (place_set_view 12 4 middle_edges) (edges_by numbers)) (λ c. twists_number 3 c.corners.digits)
-      (λ c. place_set_number 12 (places_in middle_edges c.edges.pieces)) same_turns Follows-twists_by Follows-middle_by
+      Follows-product IsCube IsUntwisted IsInMiddle (after_of numbers) _ _ _ _ same_turns Follows-twists_by Follows-middle_by
     where
       same_turns : length (edges_by numbers) ≡ length (corners_by numbers)
       same_turns = length-map (turns_of numbers) (λ r. r.edges) ∙ sym (length-map (turns_of numbers) (λ r. r.corners))
@@ -176,43 +138,26 @@ IsTetradsHome-iff c h =
           let parts = same_parts 70 (place_set_number 8 places) (corner_index c.corners.pieces) (place_set_number 8 first_edges) (corner_index (numbers_from 0 8))
           (place_set_number-lt 8 4 places set) (place_set_number-lt 8 4 first_edges IsPlaceSet-outer) (e ∙ tetrads_number-solved) in
           record { first = place_set_number-injective 8 4 places first_edges set IsPlaceSet-outer parts.0; corners = parts.1 },
-      λ home.
-          ap (λ set. place_set_number 8 set + 70 * corner_index c.corners.pieces) home.first
-          ∙ ap (λ i. place_set_number 8 first_edges + 70 * i) home.corners ∙ sym tetrads_number-solved,
+      λ home. ap_both (λ set i. place_set_number 8 set + 70 * i) home.first home.corners ∙ sym tetrads_number-solved,
     )
 
 pub Follows-tetrads : Follows tetrads_table.space (positions tetrads_coordinate) tetrads_number
 unfolding turned_orbit
 Follows-tetrads =
     let after = after_of domino_turns in
-    let IsFirst : CubeState → Type 0 = λ c. places_in first_edges c.edges.pieces ≡ first_edges in
-    let IsHome : CubeState → Type 0 = λ c. corner_index c.corners.pieces ≡ corner_index (numbers_from 0 8) in
-    let low = projection (place_set_view 8 4 first_edges) (map (block_turn outer_places) (edges_by domino_turns)) in
-    let high = projection tetrads_view (corners_by domino_turns) in
-    let low_number = λ (c : CubeState). place_set_number 8 (places_in first_edges c.edges.pieces) in
-    let high_number = λ (c : CubeState). corner_index c.corners.pieces in
-    let first : Follows (cube_space IsDominoCube domino_turns IsFirst) (positions low) low_number =
-    Follows-viewed cube_action.turned (turns_of domino_turns) after IsDominoCube IsDominoTurn tetrads_moves (place_set_view 8 4 first_edges)
-    (λ r. block_turn outer_places r.edges) low_number IsFirst
-    (λ c h. place_set_number-lt 8 4 (places_in first_edges c.edges.pieces) (IsPlaceSet-first_places c h))
+    let first = Follows-listed tetrads_moves (place_set_view 8 4 first_edges) (IsListView-place_sets 8 4 first_edges IsPlaceSet-outer)
+    (λ r. block_turn outer_places r.edges) (λ c. places_in first_edges c.edges.pieces) IsPlaceSet-first_places
     (λ c r h t.
-    let set = places_in first_edges c.edges.pieces in
-    let is = IsPlaceSet-first_places c h in
-    ap (λ places. place_set_number 8 (turned_set places (block_turn outer_places r.edges))) (place_set_at-number 8 4 set is)
-    ∙ ap (place_set_number 8) (turned_set-outer set r is t
-    ∙ sym (places-turned 12 2 first_edges c.edges r.edges h.cube.edges.pieces t.slice.valid.edges.places)))
-    (λ c h. (
-      λ e. ap (place_set_number 8) e,
-      λ e. place_set_number-injective 8 4 (places_in first_edges c.edges.pieces) first_edges (IsPlaceSet-first_places c h) IsPlaceSet-outer e,
-    )) in
-    let corners : Follows (cube_space IsDominoCube domino_turns IsHome) (positions high) high_number =
-    Follows-viewed cube_action.turned (turns_of domino_turns) after IsDominoCube IsDominoTurn tetrads_moves tetrads_view
-    (λ r. r.corners) high_number IsHome (λ c h. corner_index-lt c.corners.pieces h.cube.corners.pieces)
+    places-turned 12 2 first_edges c.edges r.edges h.cube.edges.pieces t.slice.valid.edges.places
+    ∙ sym (turned_set-outer (places_in first_edges c.edges.pieces) r (IsPlaceSet-first_places c h) t)) in
+    let corners = Follows-viewed cube_action.turned (turns_of domino_turns) after IsDominoCube IsDominoTurn tetrads_moves tetrads_view
+    (λ r. r.corners) (λ c. corner_index c.corners.pieces) (λ c. corner_index c.corners.pieces ≡ corner_index (numbers_from 0 8))
+    (λ c h. corner_index-lt c.corners.pieces h.cube.corners.pieces)
     (λ c r h t. corner_index-turned c.corners.pieces r.corners.places h.cube.corners.pieces t.slice.valid.corners.places)
     (λ c h. (λ e. e, λ e. e)) in
-    Follows-goals IsDominoCube (λ c. IsFirst c × IsHome c) (λ c. tetrads_number c ≡ tetrads_number solved_cube) after tetrads_coordinate tetrads_number
+    Follows-goals IsDominoCube _ (λ c. tetrads_number c ≡ tetrads_number solved_cube) after tetrads_coordinate tetrads_number
     (λ c h. (
       λ e. let home = (IsTetradsHome-iff c h).0 e in (home.first, home.corners),
       λ d. (IsTetradsHome-iff c h).1 (record { first = d.0; corners = d.1 }),
     ))
-    (Follows-product IsDominoCube IsFirst IsHome after low high low_number high_number refl first corners)
+    (Follows-product IsDominoCube _ _ after _ _ _ _ refl first corners)

@@ -1,15 +1,18 @@
--- Finite facts of tetrads, which the checker computes.
-use Rattle.std.proofs.Common.{◌≡◌, ℕ, ◌+◌, ◌*◌, ◌<◌, Bool, true, not, List, ◌++◌, refl, eqb-true}
-use Rattle.std.specs.Prelude.{◌&&◌, ◌==◌, slice_index}
-use Rattle.std.specs.Str.{bytes_eq}
-use Rattle.std.proofs.lemmas.Bool.{and_parts}
+-- Finite facts of tetrads, which the checker computes, and the tables of tetrads in the code.
+use Rattle.std.proofs.Common.{◌≡◌, ℕ, ◌+◌, ◌-◌, ◌*◌, ◌<◌, true, not, List, ◌++◌, refl, ap, ltb-true, [], ◌∷◌, length, get_or, lit<, arith}
+use Rattle.std.specs.Prelude.{nat_lt, slice_index, All, find, unwrap_or, slice_index_or}
 use Rattle.scr_combinatorics.specs.Lists.{numbers_from, pick}
-use Rattle.scr_combinatorics.specs.Permutations.{IsPermutation, is_permutation, permutation_number, permutation_at, inverse}
+use Rattle.scr_combinatorics.specs.Permutations.{IsPermutation, is_permutation, parity, permutation_number, permutation_at, inverse, place_of}
 use Rattle.scr_combinatorics.specs.PlaceSets.{place_set_at}
 use Rattle.scr_combinatorics.proofs.PermutationLaws.{IsPermutation-from_test}
 use Rattle.scr_coord.specs.Projections.{stands_in}
+use Rattle.scr_cube.proofs.Holds.{at_each, at_both}
 use Rattle.scr_stages.specs.Tetrads.{first_tetrad, second_tetrad, shared_axis, axes_of, relation_number, relation_of, corner_index, corner_across, second_with, other_places, corners_related, corners_at, half_corners_at, half_corners_number}
-use Rattle.scr_stages.proofs.FiniteTests.{passes_below, test-below, all_pass, test-permutation, agree, agree-same, same_list}
+use Rattle.scr_stages.proofs.FiniteTests.{HasOwn, HasOwn-each, on_all, at_permutation, at_permutations, pick-all}
+use Rattle.std.proofs.lemmas.Nat.{mod_below}
+use Rattle.std.proofs.lemmas.List.Elements.{All-map}
+use Rattle.scr_cube.specs.Stickers.{corner_faces}
+use Rattle.scr_stages.specs.declared.tetrads.TheConstants.{AXES, ACROSS, RELATED}
 
 -- ---- both tetrads in any order
 
@@ -21,165 +24,169 @@ in_orders s t = pick first_tetrad s ++ pick second_tetrad t
 abbrev pub relation_in_orders : List ℕ → List ℕ → ℕ
 relation_in_orders s t = relation_number (axes_of (pick first_tetrad s)) (axes_of (pick second_tetrad t))
 
+pub relation_in_orders-lt : (s t : List ℕ) → IsPermutation 4 s → IsPermutation 4 t → relation_in_orders s t < 6
+unfolding permutation_at axes_of shared_axis relation_number
+relation_in_orders-lt s t h k =
+    ltb-true (relation_in_orders s t) 6 (at_permutations (λ s t. nat_lt (relation_in_orders s t) 6) (λ s t. true) 4 4 refl s t h k)
+
 -- Of the lists of corners that have the index of solved, the number of that which makes both tetrads in these orders of
 -- those with the same relation in order.
 abbrev pub label_number : List ℕ → List ℕ → ℕ
 label_number s t = slice_index t 0 + 4 * permutation_number s
 
-relabelled : List ℕ → List ℕ → Bool
-relabelled s t = bytes_eq (pick (half_corners_at (label_number s t)) (corners_related (relation_in_orders s t))) (in_orders s t)
-
-relabelled_all : all_pass (λ s. all_pass (relabelled s) 4) 4 ≡ true
-unfolding passes_below permutation_at relabelled half_corners_at corners_related second_with corner_across axes_of shared_axis relation_number
-relabelled_all = refl
-
 pub in_orders-relabelled : (s t : List ℕ) → IsPermutation 4 s → IsPermutation 4 t
     → pick (half_corners_at (label_number s t)) (corners_related (relation_in_orders s t)) ≡ in_orders s t
-unfolding relabelled
-in_orders-relabelled s t a b =
-    same_list (pick (half_corners_at (label_number s t)) (corners_related (relation_in_orders s t))) (in_orders s t)
-    (test-permutation (relabelled s) 4 t (test-permutation (λ s. all_pass (relabelled s) 4) 4 s relabelled_all a) b)
+unfolding permutation_at half_corners_at corners_related second_with corner_across axes_of shared_axis relation_number
+in_orders-relabelled =
+    at_permutations (λ s t. pick (half_corners_at (label_number s t)) (corners_related (relation_in_orders s t))) in_orders 4 4 refl
 
 -- ---- axes
 
-axes_are_three : all_pass (λ s. is_permutation 3 (axes_of (pick first_tetrad s)) && is_permutation 3 (axes_of (pick second_tetrad s))) 4 ≡ true
-unfolding passes_below permutation_at axes_of shared_axis
-axes_are_three = refl
-
 pub IsPermutation-axes : (s : List ℕ) → IsPermutation 4 s
     → IsPermutation 3 (axes_of (pick first_tetrad s)) × IsPermutation 3 (axes_of (pick second_tetrad s))
-IsPermutation-axes s h =
-    let a = axes_of (pick first_tetrad s) in
-    let b = axes_of (pick second_tetrad s) in
-    let both = and_parts (is_permutation 3 a) (is_permutation 3 b)
-    (test-permutation (λ s. is_permutation 3 (axes_of (pick first_tetrad s)) && is_permutation 3 (axes_of (pick second_tetrad s))) 4 s axes_are_three h) in
-    (IsPermutation-from_test 3 a both.0, IsPermutation-from_test 3 b both.1)
-
-kept_by : List ℕ → List ℕ → List ℕ → Bool
-kept_by r a b = relation_number (pick r a) (pick r b) == relation_number a b
-
-kept_by_all : all_pass (λ r. all_pass (λ a. all_pass (kept_by r a) 3) 3) 3 ≡ true
-unfolding passes_below permutation_at kept_by relation_number
-kept_by_all = refl
+unfolding permutation_at axes_of shared_axis
+IsPermutation-axes s h = (
+  IsPermutation-from_test 3 (axes_of (pick first_tetrad s)) (at_permutation (λ s. is_permutation 3 (axes_of (pick first_tetrad s))) (λ s. true) 4 refl s h),
+  IsPermutation-from_test 3 (axes_of (pick second_tetrad s)) (at_permutation (λ s. is_permutation 3 (axes_of (pick second_tetrad s))) (λ s. true) 4 refl s h),
+)
 
 -- the relation of axes stays where both lists of axes are exchanged alike
 pub relation_number-kept : (r a b : List ℕ) → IsPermutation 3 r → IsPermutation 3 a → IsPermutation 3 b
     → relation_number (pick r a) (pick r b) ≡ relation_number a b
-unfolding kept_by
-relation_number-kept r a b hr ha hb =
-    eqb-true (relation_number (pick r a) (pick r b)) (relation_number a b)
-    (test-permutation (kept_by r a) 3 b
-    (test-permutation (λ a. all_pass (kept_by r a) 3) 3 a (test-permutation (λ r. all_pass (λ a. all_pass (kept_by r a) 3) 3) 3 r kept_by_all hr) ha) hb)
+unfolding permutation_at relation_number
+relation_number-kept r a b h =
+    at_permutations (λ a b. relation_number (pick r a) (pick r b)) relation_number 3 3
+    (at_permutation (λ r. on_all (λ a. on_all (λ b. relation_number (pick r a) (pick r b)) 3) 3)
+    (λ r. on_all (λ a. on_all (relation_number a) 3) 3) 3 refl r h) a b
 
 -- ---- the lists of corners that have the index of solved
-
-keeps_tetrad : ℕ → ℕ → Bool
-keeps_tetrad q corner = agree (stands_in first_tetrad (slice_index (half_corners_at q) corner)) (stands_in first_tetrad corner)
-
-keeps_tetrads_all : passes_below (λ q. passes_below (keeps_tetrad q) 8) 96 ≡ true
-unfolding passes_below permutation_at keeps_tetrad agree half_corners_at second_with corner_across axes_of shared_axis
-keeps_tetrads_all = refl
 
 -- they have each corner of the first tetrad at its places
 pub stands_in-half : (q corner : ℕ) → q < 96 → corner < 8
     → stands_in first_tetrad (slice_index (half_corners_at q) corner) ≡ stands_in first_tetrad corner
-unfolding keeps_tetrad
-stands_in-half q corner lq lc =
-    agree-same (stands_in first_tetrad (slice_index (half_corners_at q) corner)) (stands_in first_tetrad corner)
-    (test-below (keeps_tetrad q) 8 corner (test-below (λ q. passes_below (keeps_tetrad q) 8) 96 q keeps_tetrads_all lq) lc)
+unfolding permutation_at half_corners_at second_with corner_across axes_of shared_axis
+stands_in-half =
+    at_both (λ q corner. stands_in first_tetrad (slice_index (half_corners_at q) corner)) (λ q corner. stands_in first_tetrad corner) 96 8 refl
 
 -- how they exchange axes
-axes_turn : ℕ → List ℕ
+unfoldable pub axes_turn : ℕ → List ℕ
 axes_turn q = pick (axes_of (pick (half_corners_at q) first_tetrad)) (inverse (axes_of first_tetrad))
 
-turns_axes : ℕ → List ℕ → Bool
-turns_axes q s =
-    bytes_eq (axes_of (pick (half_corners_at q) (pick first_tetrad s))) (pick (axes_turn q) (axes_of (pick first_tetrad s)))
-    && bytes_eq (axes_of (pick (half_corners_at q) (pick second_tetrad s))) (pick (axes_turn q) (axes_of (pick second_tetrad s)))
-
-turns_axes_all : passes_below (λ q. is_permutation 3 (axes_turn q) && all_pass (turns_axes q) 4) 96 ≡ true
-unfolding passes_below permutation_at turns_axes axes_turn half_corners_at second_with corner_across axes_of shared_axis
-turns_axes_all = refl
+pub IsPermutation-axes_turn : (q : ℕ) → q < 96 → IsPermutation 3 (axes_turn q)
+unfolding permutation_at axes_turn half_corners_at second_with corner_across axes_of shared_axis
+IsPermutation-axes_turn q lt =
+    IsPermutation-from_test 3 (axes_turn q) (at_each (λ q. is_permutation 3 (axes_turn q)) (λ q. true) 96 refl q lt)
 
 -- they exchange the axes of both tetrads alike
-pub record TurnsAxes (q : ℕ) : Type 0 where
-  pub turn : List ℕ
-  pub is : IsPermutation 3 turn
-  pub first : (s : List ℕ) → IsPermutation 4 s
-      → axes_of (pick (half_corners_at q) (pick first_tetrad s)) ≡ pick turn (axes_of (pick first_tetrad s))
-  pub second : (s : List ℕ) → IsPermutation 4 s
-      → axes_of (pick (half_corners_at q) (pick second_tetrad s)) ≡ pick turn (axes_of (pick second_tetrad s))
+pub axes_turned : (q : ℕ) → q < 96 → (s : List ℕ) → IsPermutation 4 s
+    → (axes_of (pick (half_corners_at q) (pick first_tetrad s)) ≡ pick (axes_turn q) (axes_of (pick first_tetrad s)))
+    × (axes_of (pick (half_corners_at q) (pick second_tetrad s)) ≡ pick (axes_turn q) (axes_of (pick second_tetrad s)))
+unfolding permutation_at axes_turn half_corners_at second_with corner_across axes_of shared_axis
+axes_turned q lt s h =
+    let after : ℕ → List ℕ → List ℕ × List ℕ =
+    λ q s. (axes_of (pick (half_corners_at q) (pick first_tetrad s)), axes_of (pick (half_corners_at q) (pick second_tetrad s))) in
+    let turned : ℕ → List ℕ → List ℕ × List ℕ =
+    λ q s. (pick (axes_turn q) (axes_of (pick first_tetrad s)), pick (axes_turn q) (axes_of (pick second_tetrad s))) in
+    let both = at_permutation (after q) (turned q) 4 (at_each (λ q. on_all (after q) 4) (λ q. on_all (turned q) 4) 96 refl q lt) s h in
+    (ap (λ (x : List ℕ × List ℕ). x.0) both, ap (λ (x : List ℕ × List ℕ). x.1) both)
 
-pub TurnsAxes-half : (q : ℕ) → q < 96 → TurnsAxes q
-unfolding turns_axes
-TurnsAxes-half q lt =
-    let g = half_corners_at q in
-    let r = axes_turn q in
-    let here = and_parts (is_permutation 3 r) (all_pass (turns_axes q) 4)
-    (test-below (λ q. is_permutation 3 (axes_turn q) && all_pass (turns_axes q) 4) 96 q turns_axes_all lt) in
-    let both = λ (s : List ℕ) (h : IsPermutation 4 s).
-    and_parts (bytes_eq (axes_of (pick g (pick first_tetrad s))) (pick r (axes_of (pick first_tetrad s))))
-    (bytes_eq (axes_of (pick g (pick second_tetrad s))) (pick r (axes_of (pick second_tetrad s))))
-    (test-permutation (turns_axes q) 4 s here.1 h) in
-    record {
-      turn = r;
-      is = IsPermutation-from_test 3 r here.0;
-      first = λ s h. same_list (axes_of (pick g (pick first_tetrad s))) (pick r (axes_of (pick first_tetrad s))) (both s h).0;
-      second = λ s h. same_list (axes_of (pick g (pick second_tetrad s))) (pick r (axes_of (pick second_tetrad s))) (both s h).1;
-    }
+-- they are lists of corners, each with its number and with the index of solved
+pub half_list : (q : ℕ) → q < 96 → HasOwn 8 half_corners_number half_corners_at q
+unfolding permutation_at half_corners_at half_corners_number second_with corner_across axes_of shared_axis
+half_list = HasOwn-each 8 96 half_corners_number half_corners_at refl refl
 
-half_list : ℕ → Bool
-half_list q =
-    (is_permutation 8 (half_corners_at q) && (corner_index (half_corners_at q) == 138)) && (half_corners_number (half_corners_at q) == q)
+pub corner_index-half : (q : ℕ) → q < 96 → corner_index (half_corners_at q) ≡ corner_index (numbers_from 0 8)
+unfolding permutation_at half_corners_at corner_index relation_of relation_number second_with corner_across axes_of shared_axis
+corner_index-half = at_each (λ q. corner_index (half_corners_at q)) (λ q. corner_index (numbers_from 0 8)) 96 refl
 
-half_lists_all : passes_below half_list 96 ≡ true
-unfolding passes_below permutation_at half_list half_corners_at half_corners_number corner_index relation_of relation_number second_with corner_across axes_of shared_axis
-half_lists_all = refl
+-- half turns make of corners even lists alone
+pub parity-half : (q : ℕ) → q < 96 → parity (half_corners_at q) ≡ 0
+unfolding permutation_at half_corners_at second_with corner_across axes_of shared_axis
+parity-half = at_each (λ q. parity (half_corners_at q)) (λ q. 0) 96 refl
 
--- they are lists of corners, with the index of solved, each with its number
-pub record IsHalfList (q : ℕ) : Type 0 where
-  pub permutation : IsPermutation 8 (half_corners_at q)
-  pub index : corner_index (half_corners_at q) ≡ 138
-  pub number : half_corners_number (half_corners_at q) ≡ q
+-- ---- each index, and each relation
 
-pub IsHalfList-at : (q : ℕ) → q < 96 → IsHalfList q
-unfolding half_list
-IsHalfList-at q lt =
-    let g = half_corners_at q in
-    let whole = and_parts (is_permutation 8 g && (corner_index g == 138)) (half_corners_number g == q) (test-below half_list 96 q half_lists_all lt) in
-    let first = and_parts (is_permutation 8 g) (corner_index g == 138) whole.0 in
-    record {
-      permutation = IsPermutation-from_test 8 g first.0;
-      index = eqb-true (corner_index g) 138 first.1;
-      number = eqb-true (half_corners_number g) q whole.1;
-    }
-
--- ---- both tetrads with a relation
-
-related_all : passes_below (λ r. is_permutation 8 (corners_related r)) 6 ≡ true
-unfolding passes_below permutation_at corners_related second_with corner_across axes_of shared_axis
-related_all = refl
+-- the corners with each of the 420 indexes
+pub corners_indexed : (index : ℕ) → index < 420 → HasOwn 8 corner_index corners_at index
+unfolding permutation_at place_set_at corners_at other_places corners_related corner_index relation_of relation_number second_with corner_across axes_of shared_axis
+corners_indexed = HasOwn-each 8 420 corner_index corners_at refl refl
 
 pub IsPermutation-related : (r : ℕ) → r < 6 → IsPermutation 8 (corners_related r)
+unfolding permutation_at corners_related second_with corner_across axes_of shared_axis
 IsPermutation-related r lt =
-    IsPermutation-from_test 8 (corners_related r) (test-below (λ r. is_permutation 8 (corners_related r)) 6 r related_all lt)
+    IsPermutation-from_test 8 (corners_related r) (at_each (λ r. is_permutation 8 (corners_related r)) (λ r. true) 6 refl r lt)
+
+-- the other places of a set of four are the set with the same number from the end
+pub other_places-reversed : (number : ℕ) → number < 70
+    → place_set_at 8 4 (69 - number) ≡ other_places (place_set_at 8 4 number)
+unfolding place_set_at other_places
+other_places-reversed = at_each (λ k. place_set_at 8 4 (69 - k)) (λ k. other_places (place_set_at 8 4 k)) 70 refl
 
 -- what stands in the one tetrad doesn't stand in the other
-apart_all : passes_below (λ corner. agree (stands_in second_tetrad corner) (not (stands_in first_tetrad corner))) 8 ≡ true
-unfolding passes_below agree
-apart_all = refl
-
 pub stands_in-second : (corner : ℕ) → corner < 8 → stands_in second_tetrad corner ≡ not (stands_in first_tetrad corner)
-stands_in-second corner lt =
-    agree-same (stands_in second_tetrad corner) (not (stands_in first_tetrad corner))
-    (test-below (λ corner. agree (stands_in second_tetrad corner) (not (stands_in first_tetrad corner))) 8 corner apart_all lt)
+stands_in-second = at_each (stands_in second_tetrad) (λ corner. not (stands_in first_tetrad corner)) 8 refl
 
 -- ---- solved
 
-pub corners_at-solved : corners_at 138 ≡ numbers_from 0 8
-unfolding corners_at other_places corners_related second_with corner_across axes_of shared_axis permutation_at place_set_at
+pub corners_at-solved : corners_at (corner_index (numbers_from 0 8)) ≡ numbers_from 0 8
+unfolding corners_at other_places corners_related corner_index relation_of relation_number second_with corner_across axes_of shared_axis permutation_at place_set_at
 corners_at-solved = refl
 
-pub corner_index-solved : corner_index (numbers_from 0 8) ≡ 138
-unfolding corner_index relation_of relation_number axes_of shared_axis
-corner_index-solved = refl
+-- ---- the tables of tetrads in the code, where lists are read one by one
+
+axes-at : (a b : ℕ) → a < 8 → b < 8 → get_or (get_or AXES a []) b 0 ≡ shared_axis a b
+unfolding shared_axis
+axes-at = at_both (λ a b. get_or (get_or AXES a []) b 0) shared_axis 8 8 refl
+
+-- where the corners are read one by one
+pub axes_of-read : (xs : List ℕ) (a b c d : ℕ) → length xs ≡ 4 → All (λ x. x < 8) xs
+    → a ≡ get_or xs 0 0 → b ≡ get_or xs 1 0 → c ≡ get_or xs 2 0 → d ≡ get_or xs 3 0
+    → get_or (get_or AXES a []) b 0 ∷ get_or (get_or AXES a []) c 0 ∷ get_or (get_or AXES a []) d 0 ∷ [] ≡ axes_of xs
+unfolding axes_of
+axes_of-read xs a b c d e below ea eb ec ed =
+    let axis = λ (k : ℕ) (lt : k < 4). axes-at (get_or xs 0 0) (get_or xs k 0) (below 0 0 (omega (arith, e))) (below k 0 (omega (arith, e))) in
+    let first = axis 1 (lit< tt) in
+    let second = axis 2 (lit< tt) in
+    let third = axis 3 (lit< tt) in
+    let whole = ap axes_of (pick-all 4 xs e) in
+    cc
+
+-- the second tetrad by its axes
+
+across-at : (k axis : ℕ) → k < 4 → axis < 3
+    → get_or (get_or ACROSS k []) axis 0 ≡ corner_across (get_or second_tetrad k 0) axis
+unfolding corner_across shared_axis
+across-at = at_both (λ k axis. get_or (get_or ACROSS k []) axis 0) (λ k axis. corner_across (get_or second_tetrad k 0) axis) 4 3 refl
+
+pub second_with-read : (k : ℕ) (axes : List ℕ) (a b c : ℕ) → k < 4 → length axes ≡ 3 → All (λ axis. axis < 3) axes
+    → a ≡ get_or axes 0 0 → b ≡ get_or axes 1 0 → c ≡ get_or axes 2 0
+    → get_or second_tetrad k 0 ∷ get_or (get_or ACROSS k []) a 0 ∷ get_or (get_or ACROSS k []) b 0 ∷ get_or (get_or ACROSS k []) c 0 ∷ []
+    ≡ second_with (get_or second_tetrad k 0) axes
+unfolding second_with
+second_with-read k axes a b c lt e below ea eb ec =
+    let across = λ (j : ℕ) (lj : j < 3). across-at k (get_or axes j 0) lt (below j 0 (omega (arith, e))) in
+    let first = across 0 (lit< tt) in
+    let second = across 1 (lit< tt) in
+    let third = across 2 (lit< tt) in
+    let whole = ap (second_with (get_or second_tetrad k 0)) (pick-all 3 axes e) in
+    cc
+
+pub corners_related-table : (r : ℕ) → r < 6 → first_tetrad ++ get_or RELATED r [] ≡ corners_related r
+unfolding corners_related second_with corner_across axes_of shared_axis permutation_at
+corners_related-table = at_each (λ r. first_tetrad ++ get_or RELATED r []) corners_related 6 refl
+
+pub relation_number-read : (axes others : List ℕ) (a b c number : ℕ) → length axes ≡ 3
+    → a ≡ place_of (get_or axes 0 0) others → b ≡ place_of (get_or axes 1 0) others
+    → c ≡ place_of (get_or axes 2 0) others → number ≡ permutation_number (a ∷ b ∷ c ∷ [])
+    → number ≡ relation_number axes others
+unfolding relation_number
+relation_number-read axes others a b c number e ea eb ec is =
+    let whole = ap (λ xs. relation_number xs others) (pick-all 3 axes e) in cc
+
+-- axes are below 3
+pub All-axes : (xs : List ℕ) → All (λ axis. axis < 3) (axes_of xs)
+unfolding axes_of shared_axis
+All-axes [] = λ k d lt. absurd (omega arith)
+All-axes (x ∷ xs) =
+    All-map (λ axis. axis < 3) (shared_axis x) xs (λ k d lt.
+    mod_below (unwrap_or (find (stands_in (slice_index_or corner_faces (get_or xs k d) [])) (slice_index_or corner_faces x [])) 0) 3 (lit< tt))

@@ -3,14 +3,15 @@
 use Rattle.std.proofs.Common.{◌≡◌, ℕ, ◌<◌, Bool, true, false, cond, List, map, length, Option, Some, None, refl, sym, ap, ◌∙◌, subst}
 use Rattle.std.specs.Prelude.{All, nat_lt, slice_get, ◌↔◌}
 use Rattle.std.specs.Option.{option_map}
-use Rattle.std.proofs.lemmas.Bool.{eq-eqb, eqb-true, ltb-false}
+use Rattle.std.proofs.lemmas.Bool.{eq-eqb, eqb-true, ltb-false, lt-ltb}
 use Rattle.std.proofs.lemmas.Option.{slice_get-map, slice_get_past}
 use Rattle.scr_combinatorics.proofs.PlayLaws.{map-some}
 use Rattle.scr_orbit.specs.Orbits.{Rearrangement}
 use Rattle.scr_orbit.proofs.PowerLaws.{All-got}
-use Rattle.scr_positions.specs.Coordinates.{Coordinate}
-use Rattle.scr_positions.specs.SearchSpaces.{positions, Follows}
+use Rattle.scr_positions.specs.Coordinates.{Coordinate, StaysBelow, moved}
+use Rattle.scr_positions.specs.SearchSpaces.{SearchSpace, positions, Follows}
 use Rattle.scr_coord.specs.Projections.{ListView, projection}
+use Rattle.scr_coord.proofs.ListViews.{IsListView}
 
 -- What turns make of states, which of them are valid, and turns that are asked for: the turn of a number is at that
 -- place of a list, and keeps states valid.
@@ -56,6 +57,23 @@ module _ {S R : Type 0} (turned : S → R → S) (turns : List R) (after : S →
     );
   }
 
+-- So it is with the number of a list of the state, where the lists are numbered one to one and go along with turns.
+module _ {S R : Type 0} {turned : S → R → S} {turns : List R} {after : S → ℕ → Option S} {IsValid : S → Type 0} {IsTurn : R → Type 0}
+    (l : TurnsStates turned turns after IsValid IsTurn) (v : ListView) {IsList : List ℕ → Type 0} {IsMove : Rearrangement → Type 0}
+    (lists : IsListView v IsList IsMove) (part : R → Rearrangement) (list_of : S → List ℕ) (are : (s : S) → IsValid s → IsList (list_of s))
+    (goes : (s : S) (r : R) → IsValid s → IsTurn r → list_of (turned s r) ≡ v.turned (list_of s) (part r)) where
+  pub Follows-listed : Follows (record { IsValid = IsValid; after = after; IsGoal = λ s. list_of s ≡ v.goal })
+      (positions (projection v (map part turns))) (λ s. v.number_of (list_of s))
+  Follows-listed =
+      let one = lists.one_to_one in
+      Follows-viewed turned turns after IsValid IsTurn l v part (λ s. v.number_of (list_of s)) (λ s. list_of s ≡ v.goal)
+      (λ s h. one.below (list_of s) (are s h))
+      (λ s r h t. ap (λ xs. v.number_of (v.turned xs (part r))) (one.state_again (list_of s) (are s h)) ∙ ap v.number_of (sym (goes s r h t)))
+      (λ s h. (
+        λ e. ap v.number_of e,
+        λ e. sym (one.state_again (list_of s) (are s h)) ∙ ap v.list_at e ∙ one.state_again v.goal lists.goal,
+      ))
+
 -- What goes along with turns goes along with the same goals, however they are told,
 pub Follows-goals : {S : Type 0} (IsValid IsGoal IsOther : S → Type 0) (after : S → ℕ → Option S) (c : Coordinate) (view : S → ℕ)
     → ((s : S) → IsValid s → IsOther s ↔ IsGoal s)
@@ -80,3 +98,12 @@ Follows-fewer IsValid IsFewer IsGoal after c view are kept f = record {
   turned = λ s t h. f.turned s t (are s h);
   goals = λ s h. f.goals s (are s h);
 }
+
+-- Where each position is that of a state which goes along with turns, these lead from positions to positions.
+pub StaysBelow-each : {S : Type 0} (space : SearchSpace S) (c : Coordinate) (view : S → ℕ) → Follows space (positions c) view
+    → ((i : ℕ) → i < c.count → (s : S) × space.IsValid s × (view s ≡ i)) → StaysBelow c
+StaysBelow-each space c view f each p t q at turn e =
+    let s = each p at in
+    let found = map-some view (space.after s.0 t) q
+    (sym (f.turned s.0 t s.1) ∙ ap (λ k. moved c k t) s.2 ∙ ap (λ b. cond b (c.after p t) None) (lt-ltb t c.turns turn) ∙ e) in
+    subst (λ k. k < c.count) found.2 (f.valid found.0 (f.kept s.0 found.0 t s.1 found.1))

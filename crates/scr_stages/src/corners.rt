@@ -3,7 +3,7 @@ ghost use Rattle.std.specs.Prelude.{◌≡◌, ◌<◌};
 ghost use Rattle.scr_combinatorics.specs.Lists.{pick};
 ghost use Rattle.scr_combinatorics.specs.Permutations.{IsPermutation};
 ghost use Rattle.scr_combinatorics.specs.PlaceSets.{IsPlaceSet};
-ghost use Rattle.scr_stages.specs.Tetrads.{axes_of, corner_index, other_places, corners_at, places_of_tetrad};
+ghost use Rattle.scr_stages.specs.Tetrads.{axes_of, corner_index, corners_at, places_of_tetrad};
 
 use crate::corner_lists::CornerNumbers;
 use crate::places::arrange;
@@ -49,30 +49,17 @@ fn axes_at(corners: &[u8; 8], places: &[u8; 4]) -> [u8; 3]
     axes_of(&picked)
 }
 
-/// The eight places but for four of them, in increasing order.
-fn other_places(places: &[u8; 4]) -> [u8; 4]
-    requires { IsPlaceSet 8 4 places.now }
-    ensures { result ≡ other_places places.now }
-{
-    let mut others = [0; 4];
-    let mut found = 0;
-    for place in 0..8u8 {
-        if !places.contains(&place) {
-            others[found] = place;
-            found += 1;
-        }
-    }
-    others
-}
-
 /// The list of corners that is kept for an index, below 420.
 fn corners_at(index: u32) -> [u8; 8]
     requires { index < 420 }
     ensures list { result ≡ corners_at index }
     ensures valid { IsPermutation 8 result }
 {
-    let places = Choose::<8, 4>::unrank(u128::from(index / 6));
-    let order = joined(&places, &other_places(&places));
+    let set = index / 6;
+    let places = Choose::<8, 4>::unrank(u128::from(set));
+    // the other places are the set with the same number from the end
+    let others = Choose::<8, 4>::unrank(u128::from(69 - set));
+    let order = joined(&places, &others);
     let mut corners = [0; 8];
     arrange(
         &order[..],

@@ -8,10 +8,9 @@ ghost use Rattle.scr_positions.specs.SearchSpaces.{ShowsSame};
 ghost use Rattle.scr_stages.specs.Stages.{half_turns, middle_edges};
 ghost use Rattle.scr_stages.specs.Numbers.{first_edges, second_edges, AreParts, ArePartNumbers, half_cubes};
 ghost use Rattle.scr_stages.specs.Tables.{block_turn, edges_by, halves_coordinate, half_corners_coordinate, half_block_coordinate};
-ghost use Rattle.scr_stages.specs.Tetrads.{half_corners_at};
 
 use crate::corner_lists::CornerLists;
-use crate::half_corners::{HalfCorners, half_corners_at};
+use crate::half_corners::HalfCorners;
 use crate::half_parts::{FIRST_EDGES, HalfParts, MIDDLE_EDGES, SECOND_EDGES};
 use crate::stage_turns::{HALF_TURNS, block_edges_turned, corners_turned};
 use scr_coord::Lists;
@@ -21,7 +20,7 @@ use scr_rank::PermRank;
 use scr_rank::permutations::is_odd;
 use std::alloc::Global;
 
-/// The moves of the corners, of each block of edges, and the parities of their lists, 1 where a list is odd. Together
+/// The moves of the corners, of each block of edges, and the parities of lists of four, 1 where a list is odd. Together
 /// they are the coordinate of the cubes that half turns solve.
 #[derive(Drop)]
 pub(crate) struct HalfMoves {
@@ -29,13 +28,11 @@ pub(crate) struct HalfMoves {
     first: MoveTable,
     second: MoveTable,
     middle: MoveTable,
-    odd_corners: [u8; 96],
     odd: [u8; 24],
     ghost shows_corners: { ShowsSame half_corners_coordinate (moves_coordinate corners) },
     ghost shows_first: { ShowsSame (half_block_coordinate first_edges) (moves_coordinate first) },
     ghost shows_second: { ShowsSame (half_block_coordinate second_edges) (moves_coordinate second) },
     ghost shows_middle: { ShowsSame (half_block_coordinate middle_edges) (moves_coordinate middle) },
-    ghost corner_parities: { (q : ℕ) → q < 96 → slice_index odd_corners q ≡ parity (half_corners_at q) } by { Prim.hlevel props },
     ghost parities: { (k : ℕ) → k < 24 → slice_index odd k ≡ parity (permutation_at 4 k) } by { Prim.hlevel props },
     ghost stays: { StaysBelow halves_coordinate } by { Prim.hlevel props },
 }
@@ -63,17 +60,6 @@ fn parities() -> [u8; 24]
     odd
 }
 
-/// The parity of each list of corners that half turns lead to, by its number.
-fn corner_parities() -> [u8; 96]
-    ensures { (q : ℕ) → q < 96 → slice_index result q ≡ parity (half_corners_at q) }
-{
-    let mut odd = [0; 96];
-    for number in 0..96 {
-        odd[number] = u8::from(is_odd(&half_corners_at(number as u32)[..]));
-    }
-    odd
-}
-
 impl HalfMoves {
     /// The moves. Only memory can be wanting.
     pub fn build(alloc: Global) -> Result<HalfMoves, NoMemory> {
@@ -84,13 +70,12 @@ impl HalfMoves {
             first: block_moves(alloc, &FIRST_EDGES)?,
             second: block_moves(alloc, &SECOND_EDGES)?,
             middle: block_moves(alloc, &MIDDLE_EDGES)?,
-            odd_corners: corner_parities(),
             odd: parities(),
         })
     }
 
-    /// The parts of the cube with a number. Of two lists of middle edges with one half the cube has the one that makes
-    /// edges and corners both even or both odd.
+    /// The parts of the cube with a number. Half turns leave the corners even, so of two lists of middle edges with one
+    /// half the cube has the one that makes the edges even.
     #[inline]
     fn parts(&self, position: u32) -> HalfParts
         requires { position < 663552 }
@@ -103,8 +88,7 @@ impl HalfMoves {
         let rest = rest / 24;
         let first = rest % 24;
         let corners = rest / 24;
-        let odd = self.odd_corners[corners as usize]
-            + self.odd[first as usize]
+        let odd = self.odd[first as usize]
             + self.odd[second as usize]
             + self.odd[2 * half as usize];
         HalfParts {

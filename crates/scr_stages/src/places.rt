@@ -6,7 +6,8 @@ ghost use Rattle.scr_stages.specs.Tetrads.{arranged, in_block};
 /// The place of a number in a list, or the list's length where it isn't there.
 #[inline]
 pub(crate) fn place_of(number: u8, list: &[u8]) -> usize
-    ensures { result ≡ place_of number list.now }
+    ensures value { result ≡ place_of number list.now }
+    ensures within { result ≤ length list.now }
 {
     for place in 0..list.len() {
         if list[place] == number {
@@ -30,13 +31,14 @@ pub(crate) fn pieces_in_block(pieces: &[u8], block: &[u8], out: &mut [u8])
     }
 }
 
-/// Puts pieces at places, one after the other: `places` has each number below its length once.
+/// Puts pieces at places, one after the other: `places` has each number below its length, of at most 255, once.
 pub(crate) fn arrange(places: &[u8], pieces: &[u8], out: &mut [u8])
+    requires few { length out.old ≤ 255 }
     requires places { IsPermutation (length out.old) places.now }
     requires pieces { length pieces.now ≡ length out.old }
     ensures { out.new ≡ arranged places.now pieces.now }
 {
-    for from in 0..places.len() {
-        out[usize::from(places[from])] = pieces[from];
+    for place in 0..out.len() {
+        out[place] = pieces[place_of(place as u8, places)];
     }
 }

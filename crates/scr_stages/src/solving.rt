@@ -5,6 +5,7 @@ ghost use Rattle.scr_combinatorics.specs.Stages.{spelled, IsSolution};
 ghost use Rattle.scr_orbit.specs.PowerPuzzles.{after_letter};
 ghost use Rattle.scr_notation.specs.declared.event.Event.TheVariants.{C333};
 ghost use Rattle.scr_notation.specs.declared.turn.Turn.{Turn as Letter};
+ghost use Rattle.scr_notation.specs.Written.{at_most, IsTheScramble};
 ghost use Rattle.scr_cube.specs.Cube333.{IsCube, cube_powers, solved_cube};
 ghost use Rattle.scr_cube.specs.ListedTurns.{after_of, letter_in};
 ghost use Rattle.scr_stages.specs.Stages.{stages, IsStageScramble};
@@ -41,11 +42,7 @@ pub fn solve_stages(tables: &StageTables, cube: &Cube) -> Scramble
 /// The scramble of a cube by stages, of at most 52 turns: its solution, in which neighbouring turns of one face are
 /// merged, taken back.
 pub fn scramble_by_stages(tables: &StageTables, cube: &Cube) -> Scramble
-    ensures event { result.event ≡ C333 }
-    ensures at_most { length result.turns ≤ 52 }
-    ensures scramble { IsStageScramble cube.now result.turns }
-    ensures only { (turns : List Letter) → IsStageScramble cube.now turns → turns ≡ result.turns }
-    ensures played { play (after_letter cube_powers) solved_cube result.turns ≡ Some cube.now }
+    ensures { IsTheScramble C333 IsStageScramble (at_most 52) (play (after_letter cube_powers) solved_cube) cube.now result }
 {
     inverse(&tidy(&solve_stages(tables, cube)))
 }

@@ -1,5 +1,5 @@
 -- What the tests of dominoes and of the solved cube tell.
-use Rattle.std.proofs.Common.{◌≡◌, ℕ, true, IsTrue}
+use Rattle.std.proofs.Common.{◌≡◌, ℕ, IsTrue}
 use Rattle.std.proofs.Common.{refl, sym, ap, ◌∙◌, subst, eqb-true, eq-eqb}
 use Rattle.std.specs.Prelude.{◌&&◌, ◌==◌, ◌↔◌}
 use Rattle.std.specs.Str.{bytes_eq}
@@ -58,9 +58,6 @@ IsSolved-test c =
       λ same. subst (λ d. IsTrue (is_solved d)) (sym same) refl,
     )
 
--- a number is another one where a goal says so
-pub goal_number : (P : Type 0) (n m at goal : ℕ) → P ↔ IsTrue (n == m) → at ≡ n → m ≡ goal → P ↔ ((at == goal) ≡ true)
-goal_number P n m at goal h e f = (
-  λ p. eq-eqb at goal (e ∙ eqb-true n m (h.0 p) ∙ f),
-  λ t. h.1 (eq-eqb n m (sym e ∙ eqb-true at goal t ∙ sym f)),
-)
+-- a goal is reached where a number says so
+pub goal_number : (P : Type 0) (n m goal : ℕ) → P ↔ IsTrue (n == m) → m ≡ goal → P ↔ (n ≡ goal)
+goal_number P n m goal h e = (λ p. eqb-true n m (h.0 p) ∙ e, λ same. h.1 (eq-eqb n m (same ∙ sym e)))

@@ -1,11 +1,9 @@
 pub mod CubeTests
-pub mod ListedTurns
 pub mod Astray
 pub mod MinimaLaws
 pub mod Spaces
 pub mod FirstSteps
 pub mod SecondSteps
-pub mod SecondLaws
 pub mod WordSteps
 pub mod PartLaws
 pub mod TakenBack

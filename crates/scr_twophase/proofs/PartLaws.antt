@@ -1,10 +1,11 @@
 -- Two parts solve a cube, and their scramble leads to it.
-use Rattle.std.proofs.Common.{◌≡◌, ℕ, Bool, true, false, cond, List, [], ◌∷◌, ◌++◌, map, length, take, Option, Some, None, refl, sym, ap, ◌∙◌}
-use Rattle.std.specs.Prelude.{find, slice_get, MatchOption}
+use Rattle.std.proofs.Common.{◌≡◌, ℕ, zero, suc, true, List, [], ◌∷◌, ◌++◌, map, length, take, Option, Some, None, refl, sym, ap, ◌∙◌, arith}
+use Rattle.std.specs.Prelude.{Contains, slice_get, MatchOption}
 use Rattle.std.specs.List.{filter_map, cons_option}
 use Rattle.std.specs.Option.{option_map}
 use Rattle.std.proofs.lemmas.Bool.{and_parts}
 use Rattle.std.proofs.lemmas.List.{length-map, length-reverse}
+use Rattle.std.proofs.lemmas.List.Elements.{All-contains_itself}
 use Rattle.std.proofs.lemmas.Option.{same_Some}
 use Rattle.scr_combinatorics.specs.Play.{play}
 use Rattle.scr_combinatorics.specs.Back.{back}
@@ -14,43 +15,50 @@ use Rattle.scr_notation.specs.Turning.{opposite}
 use Rattle.scr_cube.specs.Cube333.{CubeState, solved_cube}
 use Rattle.scr_stages.proofs.SolutionLaws.{IsStageScramble-unique}
 use Rattle.scr_combinatorics.specs.Words.{words_within}
+use Rattle.scr_table.proofs.ListedWords.{found}
 use Rattle.scr_stages.specs.Stages.{IsStageScramble, domino_turns}
 use Rattle.scr_search.specs.Orderly.{after_turn, is_orderly, leads}
 use Rattle.scr_twophase.specs.TwoParts.{first_parts, is_solution, is_solved, joined, two_parts}
 use Rattle.scr_twophase.proofs.CubeTests.{IsSolved-test}
 use Rattle.scr_search.proofs.Leads.{leads-parts}
 
-given_by : {X Y : Type 0} (f : X → Option Y) (x : X) (o : Option Y) (ys : List Y) (y : Y) → f x ≡ o
-    → slice_get (cons_option o ys) 0 ≡ Some y → (slice_get ys 0 ≡ Some y → (z : X) × (f z ≡ Some y))
-    → (z : X) × (f z ≡ Some y)
-given_by f x None ys y is h others = others h
-given_by f x (Some z) ys y is h others = (x, is ∙ h)
+given_by : {X Y : Type 0} (f : X → Option Y) (x : X) (xs : List X) (o : Option Y) (ys : List Y) (y : Y) → f x ≡ o
+    → slice_get (cons_option o ys) 0 ≡ Some y → (slice_get ys 0 ≡ Some y → (z : X) × Contains xs z × (f z ≡ Some y))
+    → (z : X) × Contains (x ∷ xs) z × (f z ≡ Some y)
+given_by f x xs None ys y is h others =
+    let given = others h in
+    let below = given.1.1 in
+    (given.0, (suc given.1.0, omega (arith, below), given.1.2), given.2)
+given_by f x xs (Some z) ys y is h others = (x, (zero, omega arith, refl), is ∙ h)
 
-first_given : {X Y : Type 0} (f : X → Option Y) (xs : List X) (y : Y) → slice_get (filter_map f xs) 0 ≡ Some y
-    → (x : X) × (f x ≡ Some y)
-first_given f [] y e = absurd (cc)
-first_given f (x ∷ xs) y e = given_by f x (f x) (filter_map f xs) y refl e (λ h. first_given f xs y h)
-
-passes_by : {X : Type 0} (test : X → Bool) (y x : X) (b : Bool) (o : Option X) → test y ≡ b → cond b (Some y) o ≡ Some x
-    → (o ≡ Some x → test x ≡ true) → test x ≡ true
-passes_by test y x true o is h others = ap test (sym (same_Some y x h)) ∙ is
-passes_by test y x false o is h others = others h
-
-found_passes : {X : Type 0} (test : X → Bool) (xs : List X) (x : X) → find test xs ≡ Some x → test x ≡ true
-found_passes test [] x e = absurd (cc)
-found_passes test (y ∷ xs) x e = passes_by test y x (test y) (find test xs) refl e (λ h. found_passes test xs x h)
+-- what is given first, of so many from the front, is given for one of them
+first_given : {X Y : Type 0} (f : X → Option Y) (xs : List X) (n : ℕ) (y : Y)
+    → slice_get (filter_map f (take n xs)) 0 ≡ Some y → (x : X) × Contains xs x × (f x ≡ Some y)
+first_given f [] zero y e = absurd (cc)
+first_given f [] (suc n) y e = absurd (cc)
+first_given f (x ∷ xs) zero y e = absurd (cc)
+first_given f (x ∷ xs) (suc n) y e =
+    given_by f x xs (f x) (filter_map f (take n xs)) y refl e (λ h. first_given f xs n y h)
 
 joined_solves : (c : CubeState) (part w : List ℕ) → joined c part ≡ Some w → is_solution c w ≡ true
 unfolding joined
-joined_solves c part w e = found_passes (is_solution c) (map (λ v. part ++ v) (words_within domino_turns 10)) w e
+joined_solves c part w e =
+    let words = map (λ v. part ++ v) (words_within domino_turns 10) in
+    (found (is_solution c) (Contains words) words w (All-contains_itself words) e).1
 
--- two parts lead to solved
+-- two parts are a first part and its second
+pub two_parts-joined : (c : CubeState) (tries : ℕ) (w : List ℕ) → two_parts c tries ≡ Some w
+    → (first : List ℕ) × Contains (first_parts c) first × (joined c first ≡ Some w)
+unfolding two_parts
+two_parts-joined c tries w e = first_given (joined c) (first_parts c) tries w e
+
+-- they lead to solved
 pub two_parts-played : (c : CubeState) (tries : ℕ) (w : List ℕ) → two_parts c tries ≡ Some w
     → play after_turn c w ≡ Some solved_cube
-unfolding two_parts is_solution
+unfolding is_solution
 two_parts-played c tries w e =
-    let given = first_given (joined c) (take tries (first_parts c)) w e in
-    let solves = and_parts (is_orderly w) (leads is_solved c w) (joined_solves c given.0 w given.1) in
+    let given = two_parts-joined c tries w e in
+    let solves = and_parts (is_orderly w) (leads is_solved c w) (joined_solves c given.0 w given.2) in
     let to = leads-parts is_solved c w solves.1 in
     to.1 ∙ ap Some ((IsSolved-test to.0).0 to.2)
 

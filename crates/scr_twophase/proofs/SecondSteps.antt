@@ -1,7 +1,9 @@
 -- What a search for second parts sees: its positions, and where its words end.
-use Rattle.std.proofs.Common.{◌≡◌, ℕ, ◌<◌, Bool, true, false, cond, List, [], ◌∷◌, ◌++◌, map, length, get_or, Some, None, refl, sym, ap, ◌∙◌, subst, arith, lit<, lit≤}
-use Rattle.std.specs.Prelude.{◌&&◌, filter, slice_get}
-use Rattle.std.proofs.lemmas.Bool.{and_parts}
+use Rattle.std.proofs.Common.{◌≡◌, ℕ, ◌+◌, ◌-◌, ◌*◌, ◌<◌, Bool, true, cond, List, [], ◌∷◌, ◌++◌, map, length, get_or, get_or-take, Option, Some, None, refl, sym, ap, ◌∙◌, subst, arith, eqb-true, eq-eqb, lit<, lit≤}
+use Rattle.std.specs.Prelude.{◌&&◌, ◌==◌, filter, slice_get}
+use Rattle.std.specs.Option.{option_map_or}
+use Rattle.std.proofs.Math.Bool.{and-true}
+use Rattle.std.proofs.Math.Path.{fun_ext}
 use Rattle.std.proofs.lemmas.List.{get_or-map, length-map}
 use Rattle.std.proofs.lemmas.Option.{same_Some}
 use Rattle.scr_combinatorics.specs.Lists.{numbers_from, pick}
@@ -24,22 +26,22 @@ use Rattle.scr_stages.proofs.DominoLaws.{IsPlaceSet-middle}
 use Rattle.scr_stages.proofs.HalfCubes.{pick-in_block}
 use Rattle.scr_cube.proofs.ListedTurns.{length-turns}
 use Rattle.scr_stages.proofs.TurnFacts.{tetrads_numbers}
-use Rattle.scr_combinatorics.specs.Words.{words_behind, words_within}
-use Rattle.scr_table.proofs.WordLists.{find-filter, words_behind-end}
+use Rattle.scr_combinatorics.specs.Words.{words_within}
+use Rattle.scr_table.proofs.WordLists.{find-filter}
 use Rattle.scr_twophase.specs.declared.second.TheConstants.{SECOND_EXTENT}
 use Rattle.scr_search.specs.declared.position.PartPosition.{PartPosition}
 use Rattle.scr_search.specs.Orderly.{after_turn, is_orderly, leads}
 use Rattle.scr_twophase.specs.TwoParts.{is_solved, is_solution, joined}
 use Rattle.scr_twophase.specs.Tables.{corners_of, outer_edges_of, middle_edges_of}
-use Rattle.scr_search.specs.Search.{IsAt, IsSearched, IsTestOf, first_given}
-use Rattle.scr_twophase.specs.PartPositions.{carried, is_solved_position}
-use Rattle.scr_search.specs.Views.{AreViews, Shows, part_number}
+use Rattle.scr_search.specs.Search.{IsSearched, first_given}
+use Rattle.scr_twophase.specs.PartPositions.{carried}
+use Rattle.scr_search.specs.Views.{AreViews, Shows, is_whole, part_number}
 use Rattle.scr_twophase.specs.BothParts.{second_views}
-use Rattle.scr_search.proofs.Leads.{after_turn-is, turn-below, leads-played}
+use Rattle.scr_search.proofs.BitSets.{has_turn-all}
+use Rattle.scr_search.proofs.Leads.{after_turn-is, same_test, turn-below}
 use Rattle.scr_twophase.proofs.CubeTests.{same_cube, IsSolved-test, goal_number}
-use Rattle.scr_search.proofs.Outcomes.{IsSearched-none, IsSearched-one}
 use Rattle.scr_twophase.proofs.TakenBack.{AreTakenBack-ten}
-use Rattle.scr_search.proofs.ViewLaws.{Sees-follows, part_number-end, tests_agree}
+use Rattle.scr_search.proofs.ViewLaws.{Sees-follows}
 use Rattle.scr_twophase.proofs.WordSteps.{AreBehind-ten, sets_below}
 use Rattle.scr_twophase.specs.Spaces.{AreMiddleHome}
 use Rattle.scr_twophase.proofs.Spaces.{AreCornersHome, AreOuterHome, IsPlaceSet-outer_places, outer-kept, Follows-corners, Follows-outer_edges}
@@ -50,10 +52,6 @@ use Rattle.scr_twophase.proofs.Spaces.{Follows-middle_edges}
 -- what is so of the solved cube
 so_there : (P : CubeState → Type 0) → P solved_cube → (e : CubeState) → is_solved e ≡ true → P e
 so_there P home e test = subst P (sym ((IsSolved-test e).0 test)) home
-
--- the turn at a place of the ten
-pub domino_turn-lt : (place d : ℕ) → place < 10 → get_or domino_turns place d < 18
-domino_turn-lt place d lt = tetrads_numbers place d lt
 
 -- ---- tests
 
@@ -70,25 +68,28 @@ all_home c d outer middle =
     sym (pick-in_order p) ∙ ap (λ n. pick p (numbers_from 0 n)) is.size
     ∙ pick-append p outer_places middle_edges ∙ ap (λ xs. xs ++ pick p middle_edges) first ∙ ap (λ xs. outer_places ++ xs) last
 
--- a position shows whether a domino is solved
-pub is_solved-shown : (c : CubeState) (at : PartPosition) → Shows second_views c at
-    → is_solved c ≡ is_solved_position at
+-- the number of a domino says whether it is solved
+second_number : (c : CubeState) → IsDominoCube c → is_solved c ≡ (part_number second_views c == 0)
 unfolding solved_cube solved_orbit
-is_solved-shown c at h =
-    let corners = goal_number (AreCornersHome c) (corners_of c) (permutation_number (numbers_from 0 8)) at.one 0 (Follows-corners.goals c h.seen) h.one (permutation_number-in_order 8) in
-    let outer = goal_number (AreOuterHome c) (outer_edges_of c) (permutation_number (numbers_from 0 8)) at.other 0 (Follows-outer_edges.goals c h.seen) h.other (permutation_number-in_order 8) in
-    let middle = goal_number (AreMiddleHome c) (middle_edges_of c) (permutation_number (numbers_from 0 4)) at.middle 0 (Follows-middle_edges.goals c h.seen) h.middle (permutation_number-in_order 4) in
+second_number c h =
+    let corners = goal_number (AreCornersHome c) (corners_of c) (permutation_number (numbers_from 0 8)) 0 (Follows-corners.goals c h) (permutation_number-in_order 8) in
+    let outer = goal_number (AreOuterHome c) (outer_edges_of c) (permutation_number (numbers_from 0 8)) 0 (Follows-outer_edges.goals c h) (permutation_number-in_order 8) in
+    let middle = goal_number (AreMiddleHome c) (middle_edges_of c) (permutation_number (numbers_from 0 4)) 0 (Follows-middle_edges.goals c h) (permutation_number-in_order 4) in
     let tests = IsSolved-test c in
-    tests_agree (is_solved c) at 0
+    let number : ℕ = (corners_of c + 40320 * outer_edges_of c) + 4294967296 * middle_edges_of c in
+    same_test (is_solved c) (number == 0)
     (λ e.
     let s = tests.0 e in
-    (corners.0 (ap (λ d. d.corners.pieces) s), outer.0 (ap (λ d. in_block outer_places d.edges.pieces) s), middle.0 (ap (λ d. in_block middle_edges d.edges.pieces) s)))
-    (λ all.
-    tests.1 (same_cube c solved_cube (corners.1 all.0) h.seen.domino.no_twists (all_home c h.seen (outer.1 all.1) (middle.1 all.2)) h.seen.domino.no_flips))
-
--- the number of the solved cube
-second_number-solved : (c : CubeState) → IsDominoCube c → is_solved c ≡ true → 0 ≡ part_number second_views c
-second_number-solved c h e = part_number-end second_views c 0 h (is_solved-shown c) e
+    eq-eqb number 0 (omega (
+      arith,
+      corners.0 (ap (λ d. d.corners.pieces) s),
+      outer.0 (ap (λ d. in_block outer_places d.edges.pieces) s),
+      middle.0 (ap (λ d. in_block middle_edges d.edges.pieces) s),
+    )))
+    (λ e.
+    let is : number ≡ 0 = eqb-true number 0 e in
+    let home = all_home c h (outer.1 (omega (arith, is))) (middle.1 (omega (arith, is))) in
+    tests.1 (same_cube c solved_cube (corners.1 (omega (arith, is))) h.domino.no_twists home h.domino.no_flips))
 
 -- what a search for second parts sees
 pub AreViews-second : AreViews second_views SECOND_EXTENT
@@ -101,39 +102,27 @@ AreViews-second = record {
   block = (lit< tt, lit< tt, lit≤ tt);
   slices = (lit< tt, lit< tt);
   few = (lit≤ tt, lit≤ tt, refl);
+  numbers = λ place lt. (sym (get_or-take 10 SECOND_EXTENT.numbers place 0 lt), tetrads_numbers place 0 lt);
   taken_back = AreTakenBack-ten;
   behind = (sets_below 10 SECOND_EXTENT.behind refl, AreBehind-ten);
-  end = second_number-solved;
+  last = λ place lt. has_turn-all place (omega (arith, lt));
+  end = second_number;
 }
 
 -- ---- words
 
-pub IsTestOf-solution : (c : CubeState) → IsTestOf is_solved c (is_solution c)
-unfolding is_solution
-IsTestOf-solution c = record {
-  orderly = λ w e. (and_parts (is_orderly w) (leads is_solved c w) e).0;
-  leads_there = λ w e. (and_parts (is_orderly w) (leads is_solved c w) e).1;
-}
+-- any turn may be the last
+pub any_last : (o : Option ℕ) → option_map_or (λ _. true) o true ≡ true
+any_last None = refl
+any_last (Some t) = refl
 
--- a whole word is a solution where it leads to solved
-pub IsSearched-solution : (c : CubeState) (word : List ℕ) (at : PartPosition) (tries : ℕ) (found : Bool)
-    → IsAt (Shows second_views) c word at → 0 < tries → found ≡ is_solved_position at
-    → IsSearched (λ w. Some w) (words_behind domino_turns (is_solution c) word 0) tries word found word tries
-unfolding is_solution
-IsSearched-solution c word at tries found h some e = by found (sym (is ∙ sym e))
-  where
-    is : is_solution c word ≡ is_solved_position at
-    is = ap (λ b. b && leads is_solved c word) h.orderly ∙ leads-played is_solved c h.there word h.played ∙ is_solved-shown h.there at h.shows
-
-    words : (b : Bool) → b ≡ is_solution c word
-        → words_behind domino_turns (is_solution c) word 0 ≡ cond b (word ∷ []) []
-    words b same = words_behind-end domino_turns (is_solution c) word ∙ ap (λ d. cond d (word ∷ []) []) (sym same)
-
-    by : (b : Bool) → b ≡ is_solution c word
-        → IsSearched (λ w. Some w) (words_behind domino_turns (is_solution c) word 0) tries word b word tries
-    by true same =
-        IsSearched-one (λ w. Some w) (words_behind domino_turns (is_solution c) word 0) tries tries word word true (words true same) some refl (λ f. refl) (λ f. absurd (cc))
-    by false same = IsSearched-none (λ w. Some w) (words_behind domino_turns (is_solution c) word 0) tries word (words false same)
+-- so the whole words are the solutions
+whole_is : (c : CubeState) → is_whole second_views c ≡ is_solution c
+unfolding is_whole is_solution
+whole_is c =
+    fun_ext (λ w.
+    ap (λ b. (is_orderly w && b) && leads is_solved c w) (any_last (slice_get w (length w - 1)))
+    ∙ ap (λ b. b && leads is_solved c w) (and-true (is_orderly w)))
 
 -- ---- both parts
 
@@ -144,12 +133,13 @@ first_given-first (w ∷ words) = refl
 
 -- a first part joined with its second part is the first solution that goes on from it by at most ten turns
 pub joined-searched : (c : CubeState) (word after : List ℕ) (found : Bool) (left : ℕ)
-    → IsSearched (λ w. Some w) (filter (is_solution c) (map (λ v. word ++ v) (words_within domino_turns 10))) 1 word found after left
+    → IsSearched (λ w. Some w) (filter (is_whole second_views c) (map (λ v. word ++ v) (words_within domino_turns 10))) 1 word found after left
     → joined c word ≡ cond found (Some after) None
 unfolding joined
 joined-searched c word after found left s =
-    find-filter (is_solution c) (map (λ v. word ++ v) (words_within domino_turns 10))
-    ∙ sym (first_given-first (filter (is_solution c) (map (λ v. word ++ v) (words_within domino_turns 10)))) ∙ s.given
+    let words = map (λ v. word ++ v) (words_within domino_turns 10) in
+    find-filter (is_solution c) words ∙ sym (first_given-first (filter (is_solution c) words))
+    ∙ ap (λ test. first_given (λ w. Some w) 1 (filter test words)) (sym (whole_is c)) ∙ s.given
 
 -- ---- where words lead
 

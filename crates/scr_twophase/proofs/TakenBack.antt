@@ -18,7 +18,8 @@ use Rattle.scr_stages.specs.Stages.{domino_turns}
 use Rattle.scr_cube.specs.ListedTurns.{turn_numbers}
 use Rattle.scr_search.specs.Orderly.{after_turn}
 use Rattle.scr_search.proofs.Admissible.{IsCube-turned}
-use Rattle.scr_twophase.proofs.SecondLaws.{IsDominoCube-turned}
+use Rattle.scr_search.proofs.Leads.{after_of-place}
+use Rattle.scr_twophase.proofs.Spaces.{Follows-corners}
 
 -- each turn by the place of the one that takes it back, at its own place in a list that may be longer
 AreTakenBack-by : (turns backs : List ℕ) (IsSeen : CubeState → Type 0) → ((c : CubeState) → IsSeen c → IsCube c)
@@ -59,5 +60,6 @@ AreTakenBack-turns =
 pub AreTakenBack-ten : AreTakenBack domino_turns ten.SECOND_EXTENT.backs IsDominoCube
 unfolding face_turn_at
 AreTakenBack-ten =
-    AreTakenBack-by domino_turns ten.SECOND_EXTENT.backs IsDominoCube (λ c h. h.cube) (λ c d place h lt to. IsDominoCube-turned c d place h lt to) refl
+    AreTakenBack-by domino_turns ten.SECOND_EXTENT.backs IsDominoCube (λ c h. h.cube)
+    (λ c d place h lt to. Follows-corners.kept c d place h (after_of-place domino_turns c place lt ∙ to)) refl
     (All-from_test (λ k. nat_lt k 10) (λ k. k < 10) (λ k. ltb-true k 10) (take 10 ten.SECOND_EXTENT.backs) refl)

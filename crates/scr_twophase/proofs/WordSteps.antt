@@ -5,7 +5,7 @@ use Rattle.std.specs.List.{list_all}
 use Rattle.scr_stages.proofs.FiniteTests.{All-from_test, agree, agree-same, passes_below, test-below}
 use Rattle.scr_twophase.specs.declared.first.TheConstants as all
 use Rattle.scr_twophase.specs.declared.second.TheConstants as ten
-use Rattle.scr_search.specs.Search.{AreBehind}
+use Rattle.scr_search.specs.Views.{AreBehind}
 use Rattle.scr_stages.specs.Stages.{domino_turns}
 use Rattle.scr_cube.specs.ListedTurns.{turn_numbers}
 use Rattle.scr_search.specs.Orderly.{may_precede}

@@ -1,8 +1,7 @@
 -- What is found beside the tables of both parts: near sets, and outlooks.
-use Rattle.std.specs.Prelude.{Bool, true, false}
-use Rattle.scr_twophase.specs.declared.parts.PartTables.{PartTables}
 use Rattle.scr_twophase.specs.declared.ready.Others.{Others}
 use Rattle.scr_search.specs.declared.near_set.NearSet.{NearSet}
+use Rattle.scr_search.specs.declared.pruning.PruningTable.{PruningTable}
 use Rattle.scr_twophase.specs.declared.ready.OutlookPair.{OutlookPair}
 use Rattle.scr_search.specs.Near.{IsInSet, IsNear}
 use Rattle.scr_search.specs.Outlooks.{AreOutlooksOf}
@@ -14,17 +13,18 @@ use Rattle.scr_twophase.specs.BothParts.{second_views}
 abbrev pub IsNearOf : Views → NearSet → Type 0
 IsNearOf v set = IsNear v 7 (IsInSet set)
 
--- outlooks of a table of each part: of flips and of corners, or of twists and of edges
-abbrev pub AreOutlookPair : Bool → PartTables → OutlookPair → Type 0
-AreOutlookPair true parts pair =
-    AreOutlooksOf flipslice_line parts.first.one_slice pair.first.items
-    × AreOutlooksOf cornerslice_line parts.second.tables.one_slice pair.second.items
-AreOutlookPair false parts pair =
-    AreOutlooksOf twistslice_line parts.first.other_slice pair.first.items
-    × AreOutlooksOf edgeslice_line parts.second.tables.other_slice pair.second.items
+-- outlooks of a table of each part: of flips and of corners
+abbrev pub AreOnes : PruningTable → PruningTable → OutlookPair → Type 0
+AreOnes flips corners pair =
+    AreOutlooksOf flipslice_line flips pair.first.items × AreOutlooksOf cornerslice_line corners pair.second.items
+
+-- or of twists and of edges
+abbrev pub AreRest : PruningTable → PruningTable → OutlookPair → Type 0
+AreRest twists edges pair =
+    AreOutlooksOf twistslice_line twists pair.first.items × AreOutlooksOf edgeslice_line edges pair.second.items
 
 -- of all four tables, with the near set of the second part
-pub record AreOthers (parts : PartTables) (all : Others) : Type 0 where
-  pub ones : AreOutlookPair true parts all.ones
-  pub others : AreOutlookPair false parts all.others
+pub record AreOthers (flips twists corners edges : PruningTable) (all : Others) : Type 0 where
+  pub ones : AreOnes flips corners all.ones
+  pub others : AreRest twists edges all.others
   pub near : IsNearOf second_views all.near

@@ -1,9 +1,8 @@
 -- The two parts by which a 3x3x3 is solved (after Kociemba's two-phase algorithm), and the scramble that they give.
 --
 -- A turn is told by its number: U U2 U' R R2 R' F F2 F' D D2 D' L L2 L' B B2 B' are 0 to 17.
-use Rattle.std.specs.Prelude.{◌≡◌, ℕ, ◌-◌, ◌%◌, ◌==◌, ◌&&◌, not, Bool, true, List, ◌++◌, map, length, take, filter, find, slice_get, Option, MatchOption}
+use Rattle.std.specs.Prelude.{◌≡◌, ℕ, ◌%◌, ◌==◌, ◌&&◌, not, Bool, List, ◌++◌, map, take, filter, find, slice_get, Option, MatchOption}
 use Rattle.std.specs.List.{filter_map}
-use Rattle.std.specs.Option.{option_map_or}
 use Rattle.std.specs.Str.{bytes_eq}
 use Rattle.scr_combinatorics.specs.Lists.{numbers_from}
 use Rattle.scr_combinatorics.specs.Back.{back}
@@ -16,7 +15,7 @@ use Rattle.scr_cube.specs.Cube333.{CubeState}
 use Rattle.scr_stages.specs.Stages.{middle_edges, IsStageScramble, domino_turns}
 use Rattle.scr_cube.specs.ListedTurns.{turn_numbers}
 use Rattle.scr_combinatorics.specs.Words.{words_within}
-use Rattle.scr_search.specs.Orderly.{axis_of, is_orderly, leads}
+use Rattle.scr_search.specs.Orderly.{axis_of, ends_with, is_orderly, leads}
 
 -- ---- what the parts lead to
 
@@ -34,10 +33,13 @@ is_solved c =
 
 -- ---- first parts
 
--- the word is empty, or its last letter is a quarter turn of R, L, F or B
+-- a quarter turn of R, L, F or B
+abbrev pub is_side_quarter : ℕ → Bool
+is_side_quarter t = not (axis_of t == 0) && not (t % 3 == 1)
+
+-- the word is empty, or its last letter is such a turn
 unfoldable pub ends_in_quarter : List ℕ → Bool
-ends_in_quarter word =
-    option_map_or (λ t. not (axis_of t == 0) && not (t % 3 == 1)) (slice_get word (length word - 1)) true
+ends_in_quarter word = ends_with is_side_quarter word
 
 -- A first part: an orderly word that is empty or ends in a quarter turn of R, L, F or B, and leads to a domino.
 unfoldable pub is_first_part : CubeState → List ℕ → Bool

@@ -4,28 +4,34 @@ ghost use Rattle.scr_combinatorics.specs.Permutations.{IsPermutation};
 ghost use Rattle.scr_combinatorics.specs.PlaceSets.{IsPlaceSet};
 ghost use Rattle.scr_coord.specs.Projections.{marked_places, stands_in};
 ghost use Rattle.scr_stages.specs.Stages.{middle_edges};
-ghost use Rattle.scr_twophase.specs.PartPositions.{is_domino_position};
 ghost use Rattle.scr_search.specs.Views.{Shows};
 ghost use Rattle.scr_twophase.specs.BothParts.{first_views};
 
+use crate::second::{SecondPart, position_behind};
 use scr_coord::{PlaceSet, Twists, places_of};
 use scr_cube::Cube;
 use scr_outside::NoMemory;
 use scr_positions::MoveTable;
 use scr_rank::{Choose, TwistRank};
-use scr_search::{BLOCK, Extent, PartPosition, PartViews};
+use scr_search::{BLOCK, Extent, Part, PartPosition, SearchTables, TurnSet, Word, search_within};
 use scr_stages::{ALL_TURNS, MIDDLE_EDGES, corners_turned, edges_turned};
 use scr_table::TableName;
 use std::alloc::Global;
+
+/// The quarter turns of R, F, L and B.
+const SIDE_QUARTERS: TurnSet = TurnSet { bits: 0x2_d168 };
 
 /// All turns: behind a turn those of its face are left out, and behind one of D, L or B those of the opposite face too.
 /// Flips, twists, and sets of the places of the edges of the middle layer.
 static FIRST_EXTENT: Extent = Extent {
     turns: 18,
+    most: 12,
+    numbers: [0, 1, 2, 3, 4, 5, 6, 7, 8, 9, 10, 11, 12, 13, 14, 15, 16, 17],
     backs: [2, 1, 0, 5, 4, 3, 8, 7, 6, 11, 10, 9, 14, 13, 12, 17, 16, 15],
     behind: [
         0x3_fff8, 0x3_ffc7, 0x3_fe3f, 0x3_f1f8, 0x3_8fc7, 0x0_7e3f, 0x3_ffff,
     ],
+    last: SIDE_QUARTERS,
     ones: 2048,
     others: 2187,
     middles: 495,
@@ -36,17 +42,24 @@ static FIRST_EXTENT: Extent = Extent {
     bound: 12,
 };
 
-/// The first part: all cubes, by all turns, to the dominoes.
+/// The first part: all cubes, by all turns, to the dominoes. What a word of it gives is what its second part makes of
+/// it.
 #[derive(Clone, Copy)]
 pub(crate) struct FirstPart;
 
-impl PartViews for FirstPart {
+impl Part for FirstPart {
     ghost use Rattle.scr_twophase.specs.declared.first.TheConstants.{FIRST_EXTENT};
     ghost use Rattle.scr_twophase.specs.BothParts.{first_views};
+    ghost use Rattle.scr_twophase.specs.TwoParts.{joined};
+    ghost use Rattle.std.proofs.Common.{lit≤};
+
+    type Rest = SearchTables<SecondPart>;
 
     ghost views = { first_views };
 
     ghost extent = { FIRST_EXTENT };
+
+    ghost gives = { joined };
 
     #[inline]
     fn extent() -> &'static Extent {
@@ -65,6 +78,13 @@ impl PartViews for FirstPart {
         let edges = edges_turned(&ALL_TURNS);
         MoveTable::build(alloc, &PlaceSet::<12, 4>::new(&edges[..], MIDDLE_EDGES))
     }
+
+    fn give(rest: &SearchTables<SecondPart>, cube: &Cube, word: &mut Word) -> bool {
+        let at = position_behind(cube, word.turns());
+        search_within(rest, &(), cube, word, at, &mut 1)
+    }
+
+    ghost short = { lit≤ tt };
 }
 
 /// The position of a cube.
@@ -76,14 +96,6 @@ pub(crate) fn first_position(cube: &Cube) -> PartPosition
         other: TwistRank::<8, 3>::rank(&cube.twists()) as u32,
         middle: Choose::<12, 4>::rank(&middle_places(&cube.edges())) as u32,
     }
-}
-
-/// Whether a position is that of a domino: no flips, no twists, and the edges of the middle layer in it.
-#[inline]
-pub(crate) fn is_domino(at: PartPosition) -> bool
-    ensures { result ≡ is_domino_position at }
-{
-    at.one == 0 && at.other == 0 && at.middle == 494
 }
 
 /// The places of the edges of the middle layer, in increasing order.

@@ -1,12 +1,12 @@
 //! The 3x3x3 as it is held: its scramble, and its states as they are drawn.
-ghost use Rattle.std.specs.Prelude.{◌≡◌, ◌↔◌, ◌<◌, ◌≤◌, ◌++◌, ℕ, IfSome, IsTrue, List, [], Some, length, option_to_list, slice_index_or};
+ghost use Rattle.std.specs.Prelude.{◌≡◌, ◌↔◌, ◌<◌, ◌++◌, ℕ, IfSome, IsTrue, [], length, option_to_list, slice_index_or};
 ghost use Rattle.std.proofs.Props.{props};
 ghost use Rattle.scr_combinatorics.specs.Play.{play};
 ghost use Rattle.scr_combinatorics.specs.Reach.{Needs};
 ghost use Rattle.scr_notation.specs.declared.event.Event.TheVariants.{Bf333};
-ghost use Rattle.scr_notation.specs.declared.turn.Turn.{Turn as Letter};
 ghost use Rattle.scr_notation.specs.declared.turn.Turn.TheVariants.{Face};
 ghost use Rattle.scr_notation.specs.Turns.{permits};
+ghost use Rattle.scr_notation.specs.Written.{at_most, IsTheScramble};
 ghost use Rattle.scr_cube.specs.Held.{HeldState, IsHeld, first_holds, second_holds, hold_word, held_cube_after, held_numbered, held_puzzle, solved_held};
 ghost use Rattle.scr_twophase.specs.HeldScramble.{IsScramble333bf};
 ghost use Rattle.scr_twophase.specs.Minima.{needs_turns};
@@ -27,11 +27,7 @@ pub fn scramble_333bf(
     held: &Held,
     tries: u32,
 ) -> Scramble
-    ensures event { result.event ≡ Bf333 }
-    ensures scramble { IsScramble333bf tries held.now result.turns }
-    ensures only { (turns : List Letter) → IsScramble333bf tries held.now turns → turns ≡ result.turns }
-    ensures at_most { length result.turns ≤ 54 }
-    ensures played { play held_cube_after solved_held result.turns ≡ Some held.now }
+    ensures { IsTheScramble Bf333 (IsScramble333bf tries) (at_most 54) (play held_cube_after solved_held) held.now result }
 {
     let word = word_of_hold(held.hold());
     let Some(before) = held.play(&inverse(&word)) else {

@@ -1,14 +1,15 @@
 //! Laws of the two parts of a 3x3x3. The functions do nothing: what each ensures is the law.
 ghost use Rattle.std.specs.Prelude.{◌≡◌, ◌<◌, ◌≤◌, ◌↔◌, ℕ, All, Contains, IsSome, IsTrue, List, [], ◌∷◌, ◌++◌, Some};
-ghost use Rattle.std.specs.Prelude.{length};
+ghost use Rattle.std.specs.Prelude.{is_some, length};
 ghost use Rattle.scr_combinatorics.specs.Play.{play};
+ghost use Rattle.scr_notation.specs.declared.turn.Turn.{Turn};
 ghost use Rattle.scr_cube.specs.Cube333.{CubeState, solved_cube};
 ghost use Rattle.scr_combinatorics.specs.Words.{words_of};
 ghost use Rattle.scr_twophase.specs.Tables.{prune_lines};
 ghost use Rattle.scr_stages.specs.Stages.{domino_turns};
 ghost use Rattle.scr_cube.specs.ListedTurns.{turn_numbers};
 ghost use Rattle.scr_search.specs.Orderly.{after_turn};
-ghost use Rattle.scr_twophase.specs.TwoParts.{is_first_part, first_parts, is_solution, joined};
+ghost use Rattle.scr_twophase.specs.TwoParts.{is_first_part, first_parts, is_solution, joined, two_parts, IsScramble333};
 ghost use Rattle.scr_twophase.specs.SearchTables.{prune_tables};
 ghost use Rattle.scr_table.specs.TableStates.{AreLinesOf};
 
@@ -38,6 +39,15 @@ pub fn second_parts()
     ensures some { (c : CubeState) (first w : List ℕ) → length w ≤ 10 → All (Contains domino_turns) w
         → IsTrue (is_solution c (first ++ w)) → IsSome (joined c first) }
 {}
+
+/// Where a cube has two parts, its scramble has at most 22 turns: twelve of a first part, and ten of a second.
+pub fn few_turns()
+    ensures { (c : CubeState) (tries : ℕ) (turns : List Turn) → IsScramble333 tries c turns
+        → IsTrue (is_some (two_parts c tries)) → length turns ≤ 22 }
+{
+    first_parts();
+    second_parts();
+}
 
 /// The lines by which the tables are built are those of the tables as cubes tell them. From every cube with a number,
 /// of those of which a table speaks, a turn leads to one and the same number, that to which the line's coordinate

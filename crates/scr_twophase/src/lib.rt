@@ -18,7 +18,6 @@ mod first;
 mod held;
 pub mod laws;
 mod needs;
-mod parts;
 mod ready;
 mod scramble;
 mod second;

@@ -1,12 +1,13 @@
 //! What makes searches faster and changes no answer: the outlooks of both parts' tables, and their near sets, found
 //! side by side.
-ghost use Rattle.std.specs.Prelude.{◌≡◌, ◌≤◌, IfOk, true, false};
+ghost use Rattle.std.specs.Prelude.{◌≡◌, ◌≤◌, IfOk, IsTrue, false};
 ghost use Rattle.scr_twophase.specs.Built.{distances_of};
-ghost use Rattle.scr_twophase.specs.Ready.{AreOthers, AreOutlookPair, IsNearOf};
+ghost use Rattle.scr_twophase.specs.Ready.{AreOnes, AreOthers, AreRest, IsNearOf};
 ghost use Rattle.scr_twophase.specs.BothParts.{first_views};
 
-use crate::parts::PartTables;
-use scr_search::{NEAR, NearSet, Outlook};
+use crate::first::FirstPart;
+use crate::second::SecondPart;
+use scr_search::{NEAR, NearSet, Outlook, SearchTables};
 use scr_workers::{both, shared};
 use std::alloc::{AllocError, Global};
 use std::thread::Threads;
@@ -32,20 +33,19 @@ struct Others {
 pub(crate) fn prepare<R: Threads + Sync>(
     rt: &R,
     alloc: Global,
-    parts: &mut PartTables,
+    first: &mut SearchTables<FirstPart>,
+    second: &mut SearchTables<SecondPart>,
     workers: u32,
 ) -> Result<(), AllocError>
     requires workers { (1 ≤ workers) × (workers ≤ 64) }
-    ensures { distances_of parts.new ≡ distances_of parts.old }
+    ensures { distances_of first.new.one_slice first.new.other_slice second.new.one_slice second.new.other_slice
+        ≡ distances_of first.old.one_slice first.old.other_slice second.old.one_slice second.old.other_slice }
 {
-    let (first, others) = first_and_others(rt, alloc, parts, workers);
-    let first = first?;
+    let (near_first, others) = first_and_others(rt, alloc, first, second, workers);
+    let near_first = near_first?;
     let Others { ones, others, near } = others?;
-    parts.first.take_in(ones.first, others.first, first);
-    parts
-        .second
-        .tables
-        .take_in(ones.second, others.second, near);
+    first.take_in(ones.first, others.first, near_first);
+    second.take_in(ones.second, others.second, near);
     Ok(())
 }
 
@@ -53,12 +53,14 @@ pub(crate) fn prepare<R: Threads + Sync>(
 fn first_and_others<R: Threads + Sync>(
     rt: &R,
     alloc: Global,
-    parts: &PartTables,
+    first: &SearchTables<FirstPart>,
+    second: &SearchTables<SecondPart>,
     workers: u32,
 ) -> (Result<NearSet, AllocError>, Result<Others, AllocError>)
     requires workers { (1 ≤ workers) × (workers ≤ 64) }
     ensures first { IfOk result.0 (IsNearOf first_views) }
-    ensures others { IfOk result.1 (AreOthers parts.now) }
+    ensures others { IfOk result.1
+        (AreOthers first.now.one_slice first.now.other_slice second.now.one_slice second.now.other_slice) }
 {
     let (front, back) = shared(workers);
     both(
@@ -67,11 +69,12 @@ fn first_and_others<R: Threads + Sync>(
         || -> Result<NearSet, AllocError>
             requires { (1 ≤ front) × (front ≤ 64) }
             ensures { IfOk result (IsNearOf first_views) }
-        { NearSet::build(rt, alloc, &parts.first, NEAR, front) },
+        { NearSet::build(rt, alloc, first, NEAR, front) },
         || -> Result<Others, AllocError>
             requires { (1 ≤ back) × (back ≤ 64) }
-            ensures { IfOk result (AreOthers parts.entry.now) }
-        { find_others(rt, alloc, parts, back) },
+            ensures { IfOk result (AreOthers first.entry.now.one_slice first.entry.now.other_slice
+                second.entry.now.one_slice second.entry.now.other_slice) }
+        { find_others(rt, alloc, first, second, back) },
     )
 }
 
@@ -79,11 +82,12 @@ fn first_and_others<R: Threads + Sync>(
 fn find_others<R: Threads + Sync>(
     rt: &R,
     alloc: Global,
-    parts: &PartTables,
+    first: &SearchTables<FirstPart>,
+    second: &SearchTables<SecondPart>,
     workers: u32,
 ) -> Result<Others, AllocError>
     requires workers { (1 ≤ workers) × (workers ≤ 64) }
-    ensures { IfOk result (AreOthers parts.now) }
+    ensures { IfOk result (AreOthers first.now.one_slice first.now.other_slice second.now.one_slice second.now.other_slice) }
 {
     let (front, back) = shared(workers);
     let (ones, others) = both(
@@ -91,16 +95,16 @@ fn find_others<R: Threads + Sync>(
         workers,
         || -> Result<OutlookPair, AllocError>
             requires { (1 ≤ front) × (front ≤ 64) }
-            ensures { IfOk result (AreOutlookPair true parts.entry.now) }
-        { outlook_pair(rt, alloc, parts, true, front) },
+            ensures { IfOk result (AreOnes first.entry.now.one_slice second.entry.now.one_slice) }
+        { outlook_pair(rt, alloc, first, second, true, front) },
         || -> Result<OutlookPair, AllocError>
             requires { (1 ≤ back) × (back ≤ 64) }
-            ensures { IfOk result (AreOutlookPair false parts.entry.now) }
-        { outlook_pair(rt, alloc, parts, false, back) },
+            ensures { IfOk result (AreRest first.entry.now.other_slice second.entry.now.other_slice) }
+        { outlook_pair(rt, alloc, first, second, false, back) },
     );
     let ones = ones?;
     let others = others?;
-    let near = NearSet::build(rt, alloc, &parts.second.tables, NEAR, workers)?;
+    let near = NearSet::build(rt, alloc, second, NEAR, workers)?;
     Ok(Others { ones, others, near })
 }
 
@@ -108,14 +112,16 @@ fn find_others<R: Threads + Sync>(
 fn outlook_pair<R: Threads + Sync>(
     rt: &R,
     alloc: Global,
-    parts: &PartTables,
+    first: &SearchTables<FirstPart>,
+    second: &SearchTables<SecondPart>,
     of_one: bool,
     workers: u32,
 ) -> Result<OutlookPair, AllocError>
     requires workers { (1 ≤ workers) × (workers ≤ 64) }
-    ensures { IfOk result (AreOutlookPair of_one parts.now) }
+    ensures ones { IsTrue of_one → IfOk result (AreOnes first.now.one_slice second.now.one_slice) }
+    ensures rest { of_one ≡ false → IfOk result (AreRest first.now.other_slice second.now.other_slice) }
 {
-    let first = parts.first.outlooks(rt, alloc, of_one, workers)?;
-    let second = parts.second.tables.outlooks(rt, alloc, of_one, workers)?;
+    let first = first.outlooks(rt, alloc, of_one, workers)?;
+    let second = second.outlooks(rt, alloc, of_one, workers)?;
     Ok(OutlookPair { first, second })
 }

@@ -1,18 +1,19 @@
 //! The two parts of a cube, and the scramble that they give.
-ghost use Rattle.std.specs.Prelude.{◌≡◌, ◌≤◌, IfSome, IsTrue, List, Some, is_some, length, map};
+ghost use Rattle.std.specs.Prelude.{◌≡◌, ◌≤◌, IfSome, IsTrue, Some, is_some, length, map};
 ghost use Rattle.std.specs.Option.{option_map};
 ghost use Rattle.scr_combinatorics.specs.Play.{play};
 ghost use Rattle.scr_orbit.specs.PowerPuzzles.{after_letter};
 ghost use Rattle.scr_notation.specs.declared.event.Event.TheVariants.{C333};
-ghost use Rattle.scr_notation.specs.declared.turn.Turn.{Turn as Letter};
 ghost use Rattle.scr_notation.specs.TurnNumbers.{face_turn_at};
+ghost use Rattle.scr_notation.specs.Written.{at_most, IsTheScramble};
 ghost use Rattle.scr_cube.specs.Cube333.{IsCube, cube_powers, solved_cube};
 ghost use Rattle.scr_twophase.specs.TwoParts.{two_parts, IsScramble333};
 
-use crate::parts::joined_parts;
+use crate::first::first_position;
 use crate::tables::PruneTables;
 use scr_cube::Cube;
 use scr_notation::{Event, Scramble, inverse, numbered_scramble};
+use scr_search::{Word, search_within};
 use scr_stages::{StageTables, scramble_by_stages};
 
 /// The two parts of a cube, joined: the first of its first parts that has a second part, and that. At most `tries`
@@ -24,21 +25,29 @@ pub fn two_parts(tables: &PruneTables, cube: &Cube, tries: u32) -> Option<Scramb
     ensures played { IfSome result (λ s. play (after_letter cube_powers) cube.now s.turns ≡ Some solved_cube) }
     ensures valid { IsCube cube.now }
 {
-    match joined_parts(&tables.parts, cube, tries) {
-        Some(word) => Some(numbered_scramble(Event::C333, word.turns())),
-        None => None,
+    let at = first_position(cube);
+    let mut word = Word::empty();
+    let mut left = tries;
+    if search_within(
+        &tables.first,
+        &tables.second,
+        cube,
+        &mut word,
+        at,
+        &mut left,
+    ) {
+        Some(numbered_scramble(Event::C333, word.turns()))
+    } else {
+        None
     }
 }
 
 /// The scramble of a cube, for two hands or one: its two parts taken back, of at most 22 turns; and where none of its
 /// first `tries` first parts has a second part, the scramble by stages, of at most 52.
 pub fn scramble_333(prune: &PruneTables, stages: &StageTables, cube: &Cube, tries: u32) -> Scramble
-    ensures event { result.event ≡ C333 }
-    ensures scramble { IsScramble333 tries cube.now result.turns }
-    ensures only { (turns : List Letter) → IsScramble333 tries cube.now turns → turns ≡ result.turns }
-    ensures at_most { length result.turns ≤ 52 }
+    ensures scramble { IsTheScramble C333 (IsScramble333 tries) (at_most 52)
+        (play (after_letter cube_powers) solved_cube) cube.now result }
     ensures few { IsTrue (is_some (two_parts cube.now tries)) → length result.turns ≤ 22 }
-    ensures played { play (after_letter cube_powers) solved_cube result.turns ≡ Some cube.now }
 {
     match two_parts(prune, cube, tries) {
         Some(parts) => inverse(&parts),

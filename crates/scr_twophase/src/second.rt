@@ -1,6 +1,5 @@
 //! The second part: what a search for it sees of a domino, and where turns lead.
-ghost use Rattle.std.specs.Prelude.{◌≡◌, ◌^◌, ◌<◌, ◌≤◌, ℕ, All, Contains, IfOk, IsTrue, List, Some, None, false, if◌then◌else◌, length, map};
-ghost use Rattle.std.proofs.Common.{lit≤};
+ghost use Rattle.std.specs.Prelude.{◌≡◌, ◌^◌, ◌<◌, ◌≤◌, All, IfOk, Some, length, map};
 ghost use Rattle.scr_combinatorics.specs.Permutations.{IsPermutation, factorial};
 ghost use Rattle.scr_combinatorics.specs.Play.{play};
 ghost use Rattle.scr_positions.specs.Moves.{moves_coordinate};
@@ -10,11 +9,9 @@ ghost use Rattle.scr_cube.specs.Cube333.{CubeState};
 ghost use Rattle.scr_stages.specs.Numbers.{IsDominoCube};
 ghost use Rattle.scr_stages.specs.Stages.{domino_turns};
 ghost use Rattle.scr_stages.specs.Tables.{block_turn, edges_by};
-ghost use Rattle.scr_combinatorics.specs.Words.{words_of};
-ghost use Rattle.scr_twophase.specs.PartPositions.{carried, is_solved_position};
-ghost use Rattle.scr_search.specs.Orderly.{after_turn, is_orderly, leads};
-ghost use Rattle.scr_twophase.specs.TwoParts.{is_solution, is_solved, joined};
-ghost use Rattle.scr_search.specs.Views.{IsPosition, Shows};
+ghost use Rattle.scr_twophase.specs.PartPositions.{carried};
+ghost use Rattle.scr_search.specs.Orderly.{after_turn};
+ghost use Rattle.scr_search.specs.Views.{Shows};
 ghost use Rattle.scr_twophase.specs.BothParts.{second_views};
 
 use scr_coord::{Lists, PlaceTurn};
@@ -23,10 +20,7 @@ use scr_orbit::pick_into;
 use scr_outside::NoMemory;
 use scr_positions::MoveTable;
 use scr_rank::PermRank;
-use scr_search::{
-    Extent, NEAR, Part, PartPosition, PartViews, SearchTables, TurnSet, Word, index_beside,
-    search_within,
-};
+use scr_search::{Extent, Part, PartPosition, TurnSet, Word};
 use scr_stages::{
     DOMINO_TURNS, MIDDLE_EDGES, OUTER_EDGES, block_edges_turned, block_number, corners_turned,
 };
@@ -36,8 +30,11 @@ use std::alloc::Global;
 /// The ten turns that keep a domino. Lists of corners, of the edges above and below, and of those of the middle layer.
 static SECOND_EXTENT: Extent = Extent {
     turns: 10,
+    most: 10,
+    numbers: [0, 1, 2, 4, 7, 9, 10, 11, 13, 16, 0, 0, 0, 0, 0, 0, 0, 0],
     backs: [2, 1, 0, 3, 4, 7, 6, 5, 8, 9, 0, 0, 0, 0, 0, 0, 0, 0],
     behind: [0x3f8, 0x3f7, 0x3ef, 0x318, 0x2f7, 0x1ef, 0x3ff],
+    last: TurnSet::ALL,
     ones: 40_320,
     others: 40_320,
     middles: 24,
@@ -48,17 +45,23 @@ static SECOND_EXTENT: Extent = Extent {
     bound: 18,
 };
 
-/// The second part: the dominoes, by the ten turns that keep them, to solved.
+/// The second part: the dominoes, by the ten turns that keep them, to solved. A word of it gives itself.
 #[derive(Clone, Copy)]
 pub(crate) struct SecondPart;
 
-impl PartViews for SecondPart {
+impl Part for SecondPart {
     ghost use Rattle.scr_twophase.specs.declared.second.TheConstants.{SECOND_EXTENT};
     ghost use Rattle.scr_twophase.specs.BothParts.{second_views};
+    ghost use Rattle.std.specs.Prelude.{Some};
+    ghost use Rattle.std.proofs.Common.{lit≤};
+
+    type Rest = ();
 
     ghost views = { second_views };
 
     ghost extent = { SECOND_EXTENT };
+
+    ghost gives = { λ _ word. Some word };
 
     #[inline]
     fn extent() -> &'static Extent {
@@ -76,6 +79,13 @@ impl PartViews for SecondPart {
     fn middle_moves(alloc: Global) -> Result<MoveTable, NoMemory> {
         edge_moves(alloc, &MIDDLE_EDGES)
     }
+
+    #[inline]
+    fn give(_rest: &(), _cube: &Cube, _word: &mut Word) -> bool {
+        true
+    }
+
+    ghost short = { lit≤ tt };
 }
 
 /// Where the ten turns lead from the lists of the edges of a block of 1 to 12 places, among which they carry these.
@@ -94,7 +104,7 @@ fn edge_moves<const N: usize>(alloc: Global, block: &[u8; N]) -> Result<MoveTabl
 }
 
 /// The position of the domino to which some turns lead from a cube.
-fn position_behind(cube: &Cube, turns: &[u8]) -> PartPosition
+pub(crate) fn position_behind(cube: &Cube, turns: &[u8]) -> PartPosition
     requires turns { All (λ t. t < 18) turns.now }
     requires domino { (c : CubeState) × (play after_turn cube.now turns.now ≡ Some c) × IsDominoCube c }
     ensures { (c : CubeState) → play after_turn cube.now turns.now ≡ Some c → Shows second_views c result }
@@ -106,101 +116,6 @@ fn position_behind(cube: &Cube, turns: &[u8]) -> PartPosition
         other: block_number(&OUTER_EDGES, &edges),
         middle: block_number(&MIDDLE_EDGES, &edges),
     }
-}
-
-/// Whether a position is that of the solved cube.
-#[inline]
-fn is_solved(at: PartPosition) -> bool
-    ensures { result ≡ is_solved_position at }
-{
-    at.one == 0 && at.other == 0 && at.middle == 0
-}
-
-/// The tables of the second part. A search by them is for a second part, of the ten turns that keep a domino.
-#[derive(Drop)]
-pub(crate) struct SecondTables {
-    pub tables: SearchTables<SecondPart>,
-}
-
-impl SecondTables {
-    /// Makes of a first part what it is joined with its second part, if it has one.
-    pub fn joined(&self, cube: &Cube, word: &mut Word) -> bool
-        requires domino { (c : CubeState) × (play after_turn cube.now word.old ≡ Some c) × IsDominoCube c }
-        requires orderly { IsTrue (is_orderly word.old) }
-        requires few { length word.old ≤ 12 }
-        ensures joined { joined cube.now word.old ≡ (if result then Some word.new else None) }
-        ensures same { result ≡ false → word.new ≡ word.old }
-    {
-        let at = position_behind(cube, word.turns());
-        search_within(self, cube, word, at, 10, &mut 1)
-    }
-
-    /// How many turns a word from a position to solved has at least.
-    #[inline]
-    fn least_from(&self, at: PartPosition) -> u32
-        requires { IsPosition second_views at }
-        ensures { (c : CubeState) (n : ℕ) (v : List ℕ) → Shows second_views c at → n < result → Contains (words_of domino_turns n) v
-            → leads is_solved c v ≡ false }
-    {
-        let index = index_beside(
-            SECOND_EXTENT.middle_first,
-            SECOND_EXTENT.ones,
-            SECOND_EXTENT.middles,
-            at.one,
-            at.middle,
-        );
-        let by_corners = self.tables.one_slice.distance(index);
-        if self
-            .tables
-            .near
-            .has(SearchTables::<SecondPart>::number_of(at))
-        {
-            by_corners
-        } else {
-            by_corners.max(NEAR + 1)
-        }
-    }
-}
-
-impl Part for SecondTables {
-    type Position = PartPosition;
-
-    ghost turns = { domino_turns };
-
-    ghost most = { 22 };
-
-    ghost Shows = { Shows second_views };
-
-    ghost passes = { is_solution };
-
-    ghost gives = { λ _ word. Some word };
-
-    #[inline]
-    fn least(&self, _word: &Word, at: PartPosition) -> u32 {
-        self.least_from(at)
-    }
-
-    #[inline]
-    fn turns_from(&self, word: &Word, at: PartPosition, left: u32) -> TurnSet {
-        self.tables.turns_behind(word, at, left)
-    }
-
-    #[inline]
-    fn turn(place: u32) -> u8 {
-        DOMINO_TURNS[place as usize]
-    }
-
-    #[inline]
-    fn after(&self, at: PartPosition, place: u32) -> PartPosition {
-        self.tables.after(at, place)
-    }
-
-    #[inline]
-    fn at_end(&self, _cube: &Cube, _word: &mut Word, at: PartPosition, _tries: &mut u32) -> bool {
-        is_solved(at)
-    }
-
-    ghost short = { lit≤ tt };
 }
 
 /// Which piece stands at each place after some turns, by their numbers.

@@ -5,9 +5,8 @@ ghost use Rattle.scr_table.specs.Lines.{AreTablesOf, HasNoGap};
 ghost use Rattle.scr_twophase.specs.Tables.{first_lines, prune_lines, second_lines};
 
 use crate::first::FirstPart;
-use crate::parts::PartTables;
 use crate::ready::prepare;
-use crate::second::{SecondPart, SecondTables};
+use crate::second::SecondPart;
 use scr_search::SearchTables;
 use scr_table::{BuildFault, DistanceTable, TableName, TableSet, table_named};
 use scr_workers::{both, shared};
@@ -21,7 +20,8 @@ const MANY: u32 = 40;
 /// The pruning tables of both parts, with the moves by which a search goes.
 #[derive(Drop)]
 pub struct PruneTables {
-    pub(crate) parts: PartTables,
+    pub(crate) first: SearchTables<FirstPart>,
+    pub(crate) second: SearchTables<SecondPart>,
 }
 
 // Clauses see what stands in the tables.
@@ -34,9 +34,10 @@ impl Model for PruneTables {
 
     ghost Value = { List Distances };
 
-    ghost view = { λ t. distances_of t.parts };
+    ghost view = { λ t. distances_of t.first.one_slice t.first.other_slice t.second.one_slice t.second.other_slice };
 
-    ghost invariant = { λ t. AreTablesOf prune_lines (distances_of t.parts) };
+    ghost invariant = { λ t. AreTablesOf prune_lines
+        (distances_of t.first.one_slice t.first.other_slice t.second.one_slice t.second.other_slice) };
 }
 
 impl TableSet for PruneTables {
@@ -79,10 +80,8 @@ impl PruneTables {
             { SearchTables::build(rt, alloc, back) },
         );
         Ok(PruneTables {
-            parts: PartTables {
-                first: first?,
-                second: SecondTables { tables: second? },
-            },
+            first: first?,
+            second: second?,
         })
     }
 
@@ -100,7 +99,7 @@ impl PruneTables {
         ensures { self.new ≡ self.old }
     {
         if cubes >= MANY {
-            prepare(rt, alloc, &mut self.parts, workers)?;
+            prepare(rt, alloc, &mut self.first, &mut self.second, workers)?;
         }
         Ok(())
     }
@@ -112,10 +111,10 @@ impl PruneTables {
         ensures whole { All HasNoGap prune_lines }
     {
         [
-            &self.parts.first.one_slice.distances,
-            &self.parts.first.other_slice.distances,
-            &self.parts.second.tables.one_slice.distances,
-            &self.parts.second.tables.other_slice.distances,
+            &self.first.one_slice.distances,
+            &self.first.other_slice.distances,
+            &self.second.one_slice.distances,
+            &self.second.other_slice.distances,
         ]
     }
 }

@@ -19,18 +19,9 @@ loop-block-preserved g c =
       subst Each (sym c.in_ok-push.ensures.items) (λ k lt. each-pushed Has all one None before here k (omega (arith, lt, c.loop-block.invariant.0))),
     )
 
-pub returns-clause-few : goal.returns-clause-few
-returns-clause-few g c =
-    omega (arith, c.loop-block.invariant.0, c.loop-block.auto.block-end, c.extent-extent.ensures.views.block.2)
-
-pub returns-clause-blocks : goal.returns-clause-blocks
-returns-clause-blocks g c = λ cube seen.
-    let lt = block-lt g.V.PartViews.views c.extent-extent.result.now c.extent-extent.ensures.views cube seen in
-    omega (arith, lt, c.loop-block.invariant.0, c.loop-block-test.false)
-
 pub returns-clause-near : goal.returns-clause-near
 returns-clause-near g c =
-    let v = g.V.PartViews.views in
+    let v = g.P.Part.views in
     let e = c.extent-extent.result.now in
     let are = c.extent-extent.ensures.views in
     IsNear-end v e.end (IsListed c.loop-block.all.items) are.end

@@ -6,7 +6,7 @@ use Rattle.scr_search.proofs.numbers.enter_turned.Given as goal
 
 abbrev pub invariant-loop-number : goal.invariant-loop-number
 invariant-loop-number g l =
-    let v = g.V.PartViews.views in
+    let v = g.P.Part.views in
     let Has = g.N.Numbers.Has in
     ((n : ℕ) → Has l.initial.into n → Has l.into n)
     × ((k : ℕ) (c d : CubeState) → k < l.number-index → v.IsSeen c → get_or l.numbers k 0 ≡ part_number v c % 2 ^ 32

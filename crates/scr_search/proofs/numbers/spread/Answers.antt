@@ -6,34 +6,9 @@ use Rattle.scr_search.specs.Orderly.{after_turn}
 use Rattle.scr_search.specs.Views.{part_number}
 use Rattle.scr_search.proofs.numbers.spread.Goals as goal
 
-pub loop-place-init : goal.loop-place-init
-loop-place-init g c =
-    let v = g.V.PartViews.views in (
-      λ cube seen at listed.
-          let Listed : ℕ → Type 0 = λ block. Contains (numbers_in (slice_index_or c.args.lists.now block None)) (part_number v cube % 2 ^ 32) in
-          let Numbers : List ℕ → Type 0 = λ xs. Contains xs (part_number v cube % 2 ^ 32) in
-          let Has : ℕ → Type 0 = g.N.Numbers.Has c.enter_all.new.into in
-          let found = subst Numbers (sym c.numbers_in.ensures) (subst Listed at listed) in
-          subst Has found.2 (c.enter_all.ensures found.0 (part_number v cube % 2 ^ 32) found.1),
-      λ cube d place seen at lt to listed. absurd (omega (arith, lt)),
-    )
-
-pub block_after-from-requires : goal.block_after-from-requires
-block_after-from-requires g c = omega (arith, c.loop-place-test.true, c.extent-extent.ensures.views.few.2)
-
-pub bounds-extent-place : goal.bounds-extent-place
-bounds-extent-place g c =
-    let are = c.extent-extent.ensures.views in
-    omega (arith, c.loop-place-test.true, are.few.0, are.few.2)
-
-pub enter_turned-requires : goal.enter_turned-requires
-enter_turned-requires g c =
-    let are = c.extent-extent.ensures.views in
-    are.taken_back.below c.loop-place.place (omega (arith, c.loop-place-test.true, are.few.2))
-
 pub loop-place-preserved : goal.loop-place-preserved
 loop-place-preserved g c =
-    let v = g.V.PartViews.views in
+    let v = g.P.Part.views in
     let are = c.extent-extent.ensures.views in
     let p = c.loop-place.place in
     let turned = c.enter_turned.ensures in (
@@ -53,10 +28,3 @@ loop-place-preserved g c =
                 turned.kept (part_number v cube % 2 ^ 32) (c.loop-place.invariant.1 cube d place seen at (omega (arith, lt, other)) to listed)
           ],
     )
-
-pub returns : goal.returns
-returns g c = record {
-  here = c.loop-place.invariant.0;
-  there = λ cube d place seen at lt to listed.
-      c.loop-place.invariant.1 cube d place seen at (omega (arith, lt, c.loop-place-test.false, c.extent-extent.ensures.views.few.2)) to listed;
-}

@@ -7,7 +7,7 @@ use Rattle.scr_search.proofs.numbers.spread.Given as goal
 
 abbrev pub invariant-loop-place : goal.invariant-loop-place
 invariant-loop-place g l =
-    let v = g.V.PartViews.views in
+    let v = g.P.Part.views in
     let Has = g.N.Numbers.Has in
     ((c : CubeState) → v.IsSeen c → part_number v c / 2 ^ 32 ≡ l.block → IsListed l.lists (part_number v c) → Has l.into (part_number v c % 2 ^ 32))
     × ((c d : CubeState) (place : ℕ) → v.IsSeen c → part_number v c / 2 ^ 32 ≡ l.block → place < l.place → after_turn c (get_or v.turns place 0) ≡ Some d

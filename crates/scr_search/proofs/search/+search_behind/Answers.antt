@@ -1,78 +1,95 @@
-use Rattle.std.proofs.Common.{ℕ, ◌<◌, [], ◌∷◌, length, length-append, get_or, refl, sym, ap, ◌∙◌, subst, arith}
+use Rattle.std.proofs.Common.{◌≡◌, ℕ, ◌-◌, ◌<◌, not, [], ◌∷◌, ◌++◌, true, length, length-append, get_or, refl, sym, ap, ◌∙◌, subst, arith}
+use Rattle.std.specs.Prelude.{◌==◌}
+use Rattle.std.specs.Option.{option_map_or}
+use Rattle.std.proofs.lemmas.Bool.{and_parts}
 use Rattle.scr_combinatorics.specs.Words.{words_behind}
 use Rattle.scr_table.proofs.WordLists.{popped_word, pushed_word}
+use Rattle.scr_search.specs.Orderly.{ends_with}
 use Rattle.scr_search.specs.Search.{IsAt, IsSearched}
-use Rattle.scr_search.proofs.Outcomes.{IsSearched-spent}
-use Rattle.scr_search.proofs.SearchSteps.{IsAt-turned, IsUnderWay-begin, IsUnderWay-next, IsUnderWay-found, IsUnderWay-end, turn_follows}
+use Rattle.scr_search.specs.TurnSets.{contains_turn}
+use Rattle.scr_search.specs.Views.{is_whole}
+use Rattle.scr_search.proofs.Orderly.{last-push}
+use Rattle.scr_search.proofs.Outcomes.{IsLeft-all, IsLeft-found, IsLeft-none, IsLeft-passed, IsSearched-spent}
+use Rattle.scr_search.proofs.SearchSteps.{IsAt-turned, words_kept}
+use Rattle.scr_search.proofs.search.+search_behind.Given.{Over}
+use Rattle.scr_search.proofs.search.+search_behind.Goals.{After-push}
 use Rattle.scr_search.proofs.search.+search_behind.Goals as goal
 
 pub returns-then-tries-eq0 : goal.returns-then-tries-eq0
-returns-then-tries-eq0 g t c =
-    let cube = c.args.cube.now in
-    let word = c.args.word.now in
-    IsSearched-spent (g.P.Part.gives cube) (words_behind g.P.Part.turns (g.P.Part.passes cube) word c.args.left) c.args.tries.now word c.if-tries-eq0.true
+returns-then-tries-eq0 g t c = IsSearched-spent c.if-tries-eq0.true
 
 pub at_end-requires : goal.at_end-requires
 at_end-requires g t c = record {
   at = c.requires.at;
+  last = c.requires.last c.if-left-eq0.true;
   few = omega (arith, c.requires.few);
   tries = omega (arith, c.if-tries-eq0.false);
 }
 
 pub returns-then-left-eq0 : goal.returns-then-left-eq0
 returns-then-left-eq0 g t c =
+    let v = g.P.Part.views in
     let cube = c.args.cube.now in
-    let word = c.args.word.now in
-    subst (λ n. IsSearched (g.P.Part.gives cube) (words_behind g.P.Part.turns (g.P.Part.passes cube) word n) c.args.tries.now word c.at_end.result
+    subst (λ n. IsSearched (g.P.Part.gives cube) (words_behind v.turns (is_whole v cube) c.args.word.now n) c.args.tries.now c.args.word.now c.at_end.result
     c.at_end.new.word c.at_end.new.tries) (sym c.if-left-eq0.true) c.at_end.ensures
 
-pub turns_from-turns-requires : goal.turns_from-turns-requires
-turns_from-turns-requires g t c = record { at = (c.args.cube.now, c.requires.at); some = omega (arith, c.if-left-eq0.false) }
+pub turns_behind-turns-requires : goal.turns_behind-turns-requires
+turns_behind-turns-requires g t c = record { at = (c.args.cube.now, c.requires.at); some = omega (arith, c.if-left-eq0.false) }
 
 pub loop-place-init : goal.loop-place-init
 loop-place-init g t c =
-    let cube = c.args.cube.now in (
-      refl,
-      IsUnderWay-begin g.P.Part.turns (g.P.Part.passes cube) (g.P.Part.gives cube) c.args.word.now c.args.left c.args.tries.now
-          c.turns_from-turns.result.bits c.if-left-eq0.false (c.turns_from-turns.ensures.kept cube c.requires.at) c.turns_from-turns.ensures.few,
-    )
+    let turns = c.turns_behind-turns.ensures in
+    let keeps = turns.kept c.args.cube.now c.requires.at in
+    record {
+      same = refl;
+      words = IsLeft-all (words_kept g.P.Part.views c.args.cube.now c.args.word.now c.args.left c.turns_behind-turns.result.bits (omega (arith, c.if-left-eq0.false)) turns.few keeps);
+      follow = keeps.follow;
+      last = turns.last;
+      few = turns.few;
+    }
 
 pub after-next-requires : goal.after-next-requires
-after-next-requires g t c =
-    let cube = c.args.cube.now in
-    let may = turn_follows g.P.Part.turns (g.P.Part.passes cube) (g.P.Part.gives cube) c.args.word.now c.args.left c.args.tries.now c.loop-place.turns.bits
-    c.loop-place.tries c.loop-place.invariant.1 c.in-Some.place c.pop.new.self.bits c.in-Some.ensures.first in
-    record { at = (c.requires.at.there, c.requires.at.shows); place = may.below }
+after-next-requires g t c = (c.loop-place.invariant.follow c.in-Some.place c.in-Some.ensures.taken).below
 
 pub turn-requires : goal.turn-requires
-turn-requires g t c =
-    let cube = c.args.cube.now in
-    (turn_follows g.P.Part.turns (g.P.Part.passes cube) (g.P.Part.gives cube) c.args.word.now c.args.left c.args.tries.now c.loop-place.turns.bits
-    c.loop-place.tries c.loop-place.invariant.1 c.in-Some.place c.pop.new.self.bits c.in-Some.ensures.first).below
+turn-requires g t c = (c.loop-place.invariant.follow c.in-Some.place c.in-Some.ensures.taken).below
 
 pub push-requires : goal.push-requires
-push-requires g t c = record { turn = c.turn.ensures.below; room = omega (arith, ap length c.loop-place.invariant.0, c.requires.few, g.met.P.Part.short, c.if-left-eq0.false) }
+push-requires g t c = record {
+  turn = c.turn.ensures.below;
+  room = omega (arith, ap length c.loop-place.invariant.same, c.requires.few, g.met.P.Part.short, c.if-left-eq0.false);
+}
+
+-- the word with the turn
+pushed : (g : Over) (t : ℕ) (c : After-push g t) → c.push.new.self ≡ c.args.word.now ++ get_or g.P.Part.views.turns c.in-Some.place 0 ∷ []
+pushed g t c =
+    pushed_word c.push.new.self c.loop-place.word c.args.word.now c.turn.result (get_or g.P.Part.views.turns c.in-Some.place 0) c.push.ensures
+    c.loop-place.invariant.same c.turn.ensures.turn
 
 pub search_behind-requires : goal.search_behind-requires
 search_behind-requires g t c = λ κs lives.
+    let v = g.P.Part.views in
     let cube = c.args.cube.now in
     let word = c.args.word.now in
-    let turns = g.P.Part.turns in
     let place = c.in-Some.place in
-    let may = turn_follows turns (g.P.Part.passes cube) (g.P.Part.gives cube) word c.args.left c.args.tries.now c.loop-place.turns.bits
-    c.loop-place.tries c.loop-place.invariant.1 place c.pop.new.self.bits c.in-Some.ensures.first in
-    let pushed = pushed_word c.push.new.self c.loop-place.word word c.turn.result (get_or turns place 0) c.push.ensures
-    c.loop-place.invariant.0 c.turn.ensures.turn in
-    let below : get_or turns place 0 < 18 = omega (arith, c.turn.ensures.turn, c.turn.ensures.below) in (
+    let turn : ℕ = get_or v.turns place 0 in
+    let may = c.loop-place.invariant.follow place c.in-Some.ensures.taken in
+    let by = pushed g t (goal.at.search_behind-requires g t c).After-push in
+    let below : turn < 18 = omega (arith, c.turn.ensures.turn, c.turn.ensures.below) in
+    let at = IsAt-turned v cube word c.args.at c.after-next.result place below c.requires.at may c.after-next.ensures in (
       omega (arith, c.decreases, c.if-left-eq0.false),
       (
         lives.0,
         (
           lives.1,
           (
-            subst (λ w. IsAt g.P.Part.Shows cube w c.after-next.result) (sym pushed)
-                (IsAt-turned g.P.Part.Shows cube turns word c.args.at c.after-next.result place below c.requires.at may c.after-next.ensures),
-            omega (arith, ap length pushed, length-append word (get_or turns place 0 ∷ []), c.requires.few, c.if-left-eq0.false),
+            subst (λ w. IsAt v cube w c.after-next.result) (sym by) at,
+            (
+              λ none.
+                  subst (λ w. ends_with v.is_last w ≡ true) (sym by)
+                  (ap (λ o. option_map_or v.is_last o true) (last-push word turn) ∙ c.loop-place.invariant.last (omega (arith, none, c.if-left-eq0.false)) place c.in-Some.ensures.taken),
+              omega (arith, ap length by, length-append word (turn ∷ []), c.requires.few, c.if-left-eq0.false),
+            ),
           ),
         ),
       ),
@@ -80,31 +97,26 @@ search_behind-requires g t c = λ κs lives.
 
 pub returns-then-search_behind : goal.returns-then-search_behind
 returns-then-search_behind g t c =
-    let p = g.P.Part in
-    let cube = c.args.cube.now in
-    let word = c.args.word.now in
-    let turn : ℕ = get_or p.turns c.in-Some.place 0 in
-    IsUnderWay-found p.turns (p.passes cube) (p.gives cube) word c.args.left c.args.tries.now c.loop-place.turns.bits c.loop-place.tries c.loop-place.invariant.1
-    c.in-Some.place c.pop.new.self.bits c.search_behind.new.tries c.push.new.self c.search_behind.new.word c.in-Some.ensures.first
-    (pushed_word c.push.new.self c.loop-place.word word c.turn.result turn c.push.ensures c.loop-place.invariant.0 c.turn.ensures.turn)
-    c.if-search_behind.ensures
+    let v = g.P.Part.views in
+    let by = pushed g t (goal.at.returns-then-search_behind g t c).After-push in
+    IsLeft-found c.in-Some.ensures.first (ap (λ w. words_behind v.turns (is_whole v c.args.cube.now) w (c.args.left - 1)) by)
+    c.loop-place.invariant.words c.if-search_behind.ensures
 
 pub loop-place-preserved : goal.loop-place-preserved
 loop-place-preserved g t c =
-    let p = g.P.Part in
-    let cube = c.args.cube.now in
-    let before = c.args.word.now in
-    let pushed = pushed_word c.push.new.self c.loop-place.word before c.turn.result (get_or p.turns c.in-Some.place 0) c.push.ensures
-    c.loop-place.invariant.0 c.turn.ensures.turn in (
-      popped_word c.pop-in-Some.new.self c.search_behind.new.word before (get_or p.turns c.in-Some.place 0) c.pop-in-Some.ensures
-          (c.if-search_behind.ensures.same refl ∙ pushed),
-      IsUnderWay-next p.turns (p.passes cube) (p.gives cube) before c.args.left c.args.tries.now c.loop-place.turns.bits c.loop-place.tries
-          c.loop-place.invariant.1 c.in-Some.place c.pop.new.self.bits c.search_behind.new.tries c.push.new.self c.search_behind.new.word
-          c.in-Some.ensures.first pushed c.in-Some.ensures.few c.if-search_behind.ensures,
-    )
+    let v = g.P.Part.views in
+    let by = pushed g t (goal.at.loop-place-preserved g t c).After-push in
+    let among = λ (place : ℕ) (is : contains_turn c.pop.new.self.bits place ≡ true).
+    (and_parts (contains_turn c.loop-place.turns.bits place) (not (place == c.in-Some.place)) (sym (c.in-Some.ensures.others place) ∙ is)).0 in
+    record {
+      same = popped_word c.pop-in-Some.new.self c.search_behind.new.word c.args.word.now (get_or v.turns c.in-Some.place 0) c.pop-in-Some.ensures
+          (c.if-search_behind.ensures.same refl ∙ by);
+      words = IsLeft-passed c.in-Some.ensures.first (ap (λ w. words_behind v.turns (is_whole v c.args.cube.now) w (c.args.left - 1)) by)
+          c.loop-place.invariant.words c.if-search_behind.ensures;
+      follow = λ place is. c.loop-place.invariant.follow place (among place is);
+      last = λ one place is. c.loop-place.invariant.last one place (among place is);
+      few = c.in-Some.ensures.few;
+    }
 
 pub returns : goal.returns
-returns g t c =
-    let cube = c.args.cube.now in
-    IsUnderWay-end g.P.Part.turns (g.P.Part.passes cube) (g.P.Part.gives cube) c.args.word.now c.args.left c.args.tries.now c.loop-place.turns.bits
-    c.loop-place.tries c.loop-place.invariant.1 c.loop-place.word c.loop-place.invariant.0 c.in_default.ensures.first
+returns g t c = IsLeft-none c.in_default.ensures.first c.loop-place.invariant.same c.loop-place.invariant.words

@@ -1,6 +1,10 @@
-use Rattle.std.proofs.Common.{◌≡◌, length}
-use Rattle.scr_search.specs.TurnSets.{turns_in}
-use Rattle.scr_search.proofs.SearchSteps.{IsUnderWay}
+use Rattle.std.proofs.Common.{◌≡◌, ℕ, ◌-◌, ◌<◌, ◌^◌, true, get_or, length}
+use Rattle.scr_combinatorics.specs.Words.{words_behind}
+use Rattle.scr_search.specs.Search.{MayFollow}
+use Rattle.scr_search.specs.TurnSets.{contains_turn, turns_in}
+use Rattle.scr_search.specs.Views.{is_whole}
+use Rattle.scr_search.proofs.Outcomes.{IsLeft}
+use Rattle.scr_search.proofs.SearchSteps.{words_by}
 use Rattle.scr_search.proofs.search.+search_behind.Given as goal
 
 abbrev pub decreases-search_behind : goal.decreases-search_behind
@@ -10,5 +14,12 @@ abbrev pub decreases-loop-place : goal.decreases-loop-place
 decreases-loop-place g l = length (turns_in l.turns.bits)
 
 abbrev pub invariant-loop-place : goal.invariant-loop-place
-invariant-loop-place g l = (l.word ≡ l.initial.word)
-    × IsUnderWay g.P.Part.turns (g.P.Part.passes l.cube) (g.P.Part.gives l.cube) l.initial.word l.left l.initial.tries l.turns.bits l.tries
+invariant-loop-place g l =
+    let v = g.P.Part.views in
+    let word = l.initial.word in record {
+      same : l.word ≡ word;
+      words : IsLeft (g.P.Part.gives l.cube) (words_behind v.turns (is_whole v l.cube) word l.left) l.initial.tries (words_by v l.cube word (l.left - 1)) (turns_in l.turns.bits) l.tries;
+      follow : (place : ℕ) → contains_turn l.turns.bits place ≡ true → MayFollow v word place;
+      last : l.left ≡ 1 → (place : ℕ) → contains_turn l.turns.bits place ≡ true → v.is_last (get_or v.turns place 0) ≡ true;
+      few : l.turns.bits < 2 ^ 18;
+    }

@@ -1,47 +1,52 @@
-use Rattle.std.proofs.Common.{refl, sym, ap, ◌∙◌, length, subst, arith}
+use Rattle.std.proofs.Common.{◌≡◌, ◌+◌, ◌<◌, true, refl, sym, ap, ◌∙◌, length, subst, arith}
+use Rattle.scr_combinatorics.specs.Words.{words_behind}
+use Rattle.scr_table.proofs.WordLists.{numbers_from-next, numbers_from-end}
+use Rattle.scr_search.specs.Orderly.{ends_with}
 use Rattle.scr_search.specs.Search.{IsAt}
-use Rattle.scr_search.proofs.Outcomes.{AreLongerLeft-begin, AreLongerLeft-end, AreLongerLeft-found, AreLongerLeft-next}
+use Rattle.scr_search.specs.Views.{is_whole}
+use Rattle.scr_search.proofs.Outcomes.{IsLeft-all, IsLeft-found, IsLeft-none, IsLeft-passed}
+use Rattle.scr_search.proofs.SearchSteps.{none_behind, words_from-least}
 use Rattle.scr_search.proofs.search.search_within.Goals as goal
 
-pub least-left-requires : goal.least-left-requires
-least-left-requires g c = (c.args.cube.now, c.requires.at)
+pub least_from-left-requires : goal.least_from-left-requires
+least_from-left-requires g c = (c.requires.at.there, c.requires.at.shows)
 
 pub loop-left-init : goal.loop-left-init
 loop-left-init g c =
-    let p = g.P.Part in
-    let cube = c.args.cube.now in (
+    let h = c.requires.at in (
       refl,
-      AreLongerLeft-begin p.turns (p.passes cube) (p.gives cube) c.args.word.now c.args.most c.args.tries.now c.least-left.result
-          (λ n lt. c.least-left.ensures cube n c.requires.at lt),
+      IsLeft-all (words_from-least g.P.Part.views c.args.cube.now c.args.word.now g.P.Part.extent.most c.least_from-left.result
+          (λ n lt. none_behind h n (λ w. c.least_from-left.ensures h.there n w h.shows lt))),
     )
 
-pub search_behind-requires-clause-at : goal.search_behind-requires-clause-at
-search_behind-requires-clause-at g c = subst (λ w. IsAt g.P.Part.Shows c.args.cube.now w c.args.at) (sym c.loop-left.invariant.0) c.requires.at
-
-pub search_behind-requires-clause-few : goal.search_behind-requires-clause-few
-search_behind-requires-clause-few g c = omega (arith, ap length c.loop-left.invariant.0, c.requires.few, c.loop-left-test.true)
+pub search_behind-requires : goal.search_behind-requires
+search_behind-requires g c =
+    let same = c.loop-left.invariant.0 in
+    record {
+      at = subst (λ w. IsAt g.P.Part.views c.args.cube.now w c.args.at) (sym same) c.requires.at;
+      last = λ _. subst (λ w. ends_with g.P.Part.views.is_last w ≡ true) (sym same) c.requires.last;
+      few = omega (arith, ap length same, c.requires.few, c.loop-left-test.true, ap (λ e. e.most) c.extent.ensures.same);
+    }
 
 pub returns-then-search_behind : goal.returns-then-search_behind
 returns-then-search_behind g c =
-    let p = g.P.Part in
-    let cube = c.args.cube.now in
-    AreLongerLeft-found p.turns (p.passes cube) (p.gives cube) c.args.word.now c.args.most c.args.tries.now c.loop-left.left c.loop-left.tries
-    c.loop-left.invariant.1 c.loop-left-test.true c.search_behind.new.tries c.loop-left.word c.search_behind.new.word c.loop-left.invariant.0
-    c.if-search_behind.ensures
+    let v = g.P.Part.views in
+    let from = c.loop-left.left in
+    let lt : from < g.P.Part.extent.most + 1 = omega (arith, c.loop-left-test.true, ap (λ e. e.most) c.extent.ensures.same) in
+    IsLeft-found (numbers_from-next from (g.P.Part.extent.most + 1) lt)
+    (ap (λ w. words_behind v.turns (is_whole v c.args.cube.now) w from) c.loop-left.invariant.0) c.loop-left.invariant.1 c.if-search_behind.ensures
 
 pub loop-left-preserved : goal.loop-left-preserved
 loop-left-preserved g c =
-    let p = g.P.Part in
-    let cube = c.args.cube.now in (
+    let v = g.P.Part.views in
+    let from = c.loop-left.left in
+    let lt : from < g.P.Part.extent.most + 1 = omega (arith, c.loop-left-test.true, ap (λ e. e.most) c.extent.ensures.same) in (
       c.if-search_behind.ensures.same refl ∙ c.loop-left.invariant.0,
-      AreLongerLeft-next p.turns (p.passes cube) (p.gives cube) c.args.word.now c.args.most c.args.tries.now c.loop-left.left c.loop-left.tries
-          c.loop-left.invariant.1 c.loop-left-test.true c.search_behind.new.tries c.loop-left.word c.search_behind.new.word
-          c.loop-left.invariant.0 c.if-search_behind.ensures,
+      IsLeft-passed (numbers_from-next from (g.P.Part.extent.most + 1) lt)
+          (ap (λ w. words_behind v.turns (is_whole v c.args.cube.now) w from) c.loop-left.invariant.0) c.loop-left.invariant.1 c.if-search_behind.ensures,
     )
 
 pub returns : goal.returns
 returns g c =
-    let p = g.P.Part in
-    let cube = c.args.cube.now in
-    AreLongerLeft-end p.turns (p.passes cube) (p.gives cube) c.args.word.now c.args.most c.args.tries.now c.loop-left.left c.loop-left.tries
-    c.loop-left.invariant.1 c.loop-left-test.false c.loop-left.word c.loop-left.invariant.0
+    IsLeft-none (numbers_from-end c.loop-left.left (g.P.Part.extent.most + 1) (omega (arith, c.loop-left-test.false, ap (λ e. e.most) c.extent.ensures.same)))
+    c.loop-left.invariant.0 c.loop-left.invariant.1

@@ -1,10 +1,16 @@
-use Rattle.std.proofs.Common.{◌≡◌}
-use Rattle.scr_search.proofs.Outcomes.{AreLongerLeft}
+use Rattle.std.proofs.Common.{◌≡◌, ◌+◌, ◌-◌}
+use Rattle.scr_combinatorics.specs.Lists.{numbers_from}
+use Rattle.scr_combinatorics.specs.Words.{words_behind}
+use Rattle.scr_search.specs.Views.{is_whole}
+use Rattle.scr_search.proofs.Outcomes.{IsLeft}
+use Rattle.scr_search.proofs.SearchSteps.{words_from}
 use Rattle.scr_search.proofs.search.search_within.Given as goal
 
 abbrev pub invariant-loop-left : goal.invariant-loop-left
 invariant-loop-left g l =
     let p = g.P.Part in
     let word = l.initial.word in
+    let end = p.extent.most + 1 in
     (l.word ≡ word)
-    × AreLongerLeft p.turns (p.passes l.cube) (p.gives l.cube) word l.most l.initial.tries l.left l.tries
+    × IsLeft (p.gives l.cube) (words_from p.views l.cube word p.extent.most) l.initial.tries (words_behind p.views.turns (is_whole p.views l.cube) word)
+    (numbers_from l.left (end - l.left)) l.tries

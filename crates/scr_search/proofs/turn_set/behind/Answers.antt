@@ -1,8 +1,7 @@
 use Rattle.std.proofs.Common.{ap, ◌∙◌}
 use Rattle.std.specs.Option.{option_map_or}
 use Rattle.std.proofs.Common.{true, get_or}
-use Rattle.scr_search.specs.Orderly.{may_precede}
-use Rattle.scr_search.specs.Search.{may_end}
+use Rattle.scr_search.specs.Orderly.{may_end, may_precede}
 use Rattle.scr_search.specs.TurnSets.{contains_turn}
 use Rattle.scr_search.proofs.turn_set.behind.Goals as goal
 use Rattle.scr_search.proofs.turn_set.behind.Goals.{in-None, in-Some}

@@ -2,9 +2,8 @@ use Rattle.std.proofs.Common.{◌≡◌, Bool, List, Option, Some, None, refl, s
 use Rattle.std.specs.Prelude.{IfSome, IsTrue}
 use Rattle.scr_notation.specs.declared.event.Event.{Event}
 use Rattle.scr_notation.specs.declared.event.Family.{Family}
-use Rattle.scr_notation.specs.Event.{family_of, greatest_in, puzzle_of, puzzle_row_of}
+use Rattle.scr_notation.specs.Event.{family_of, puzzle_of, puzzle_row_of}
 use Rattle.scr_notation.specs.EventSets.{Has}
-use Rattle.scr_slots.specs.Events.{scrambled_as}
 use Rattle.scr_slots.specs.Families.{HasFamily, HasTablesOf}
 use Rattle.scr_slots.proofs.asking.ask.Goals as goal
 

@@ -1,4 +1,4 @@
-use Rattle.std.proofs.Common.{◌≡◌, arith, subst, take}
+use Rattle.std.proofs.Common.{◌≡◌, arith, length, subst, take}
 use Rattle.std.specs.Prelude.{All}
 use Rattle.std.proofs.lemmas.List.Elements.{All-more}
 use Rattle.std.proofs.lemmas.Option.{slice_get_within, get_or_from_slice_get}
@@ -14,6 +14,6 @@ loop-event-preserved c =
 pub returns : goal.returns
 returns c = λ event least has.
     let P = IsFairIn c.args.tables.now in
-    let size : c.loop-event.event-index ≡ 13 = omega arith in
+    let size : c.loop-event.event-index ≡ length events = omega arith in
     let each : All P events = subst (λ i. All P (take i events)) size c.loop-event.invariant in
     subst P (get_or_from_slice_get events has.number event C222 has.of_event) (each has.number C222 (slice_get_within events has.number event has.of_event)) has least

@@ -1,4 +1,4 @@
-use Rattle.std.proofs.Common.{◌≡◌, ◌+◌, ◌<◌, IsTrue, [], length, take, sym, ap, ◌∙◌, subst, arith}
+use Rattle.std.proofs.Common.{◌≡◌, ◌+◌, ◌<◌, IsTrue, [], length, take, refl, sym, ap, ◌∙◌, subst, arith}
 use Rattle.std.specs.Prelude.{Contains}
 use Rattle.std.proofs.lemmas.List.{take_all}
 use Rattle.std.proofs.lemmas.Option.{slice_get_within, get_or_from_slice_get}
@@ -9,9 +9,10 @@ use Rattle.scr_notation.specs.Written.{Written}
 use Rattle.scr_sq1.specs.Units.{solved_sq1, sq1_after}
 use Rattle.scr_sq1solve.specs.Counts.{twists_in}
 use Rattle.scr_sq1solve.specs.Totals.{is_shape_word}
-use Rattle.scr_sq1solve.proofs.Lengths.{twists-back, length-back}
+use Rattle.scr_notation.proofs.TidyingLaws.{length-back}
+use Rattle.scr_sq1solve.proofs.Lengths.{twists-back}
 use Rattle.scr_sq1solve.proofs.TotalLaws.{play-total_back}
-use Rattle.scr_sq1short.specs.ShortScrambles.{IsShortest}
+use Rattle.scr_sq1short.specs.ShortScrambles.{IsShortest, IsShortScramble}
 use Rattle.scr_sq1short.proofs.ShortestLaws.{IsLeast, IsLeast-begun, IsLeast-kept, IsLeast-new, IsShortScramble-unique, no_more_twists}
 use Rattle.scr_sq1short.proofs.scramble.scramble_sq1_short.Goals as goal
 use Rattle.scr_sq1short.proofs.scramble.scramble_sq1_short.Goals.{then-is_shorter, else-is_shorter}
@@ -33,8 +34,8 @@ loop-place-init c =
     let first = c.shape_words-words.ensures.first (omega (arith, c.requires.short.0)) in
     let words = c.shape_words-words.result in
     let total = c.total_from-least.ensures in
-    IsLeast-begun c.args.state.now words c.word.result.now c.total_from-least.result (slice_get_within words 0 first.0 first.2)
-    c.word.ensures.word total.total (record { event = total.event; bounds = record { twists = total.twists; turns = total.at_most } })
+    IsLeast-begun c.args.state.now words 0 c.word.result.now (slice_get_within words 0 first.0 first.2) c.word.ensures.word
+    c.total_from-least.result total.total total.event total.within refl
 
 pub loop-place-preserved : goal.loop-place-preserved
 loop-place-preserved c =
@@ -42,24 +43,22 @@ loop-place-preserved c =
     let words = c.shape_words-words.result in
     let place = c.loop-place.place in
     let word = c.word-in-loop-place in
-    let total = c.total_from-total.ensures in
+    let total = c.total_from-total in
+    let before = c.loop-place in
     let inside : place < length words = omega (arith, c.loop-place-test.true, c.len-place-end.ensures.count) in
     elim c.if-is_shorter.branch [
       | then-is_shorter w ↦
           subst (IsLeast s (take (place + 1) words)) (sym w.least-is)
-          (IsLeast-new s words place word.result.now inside word.ensures.word c.loop-place.least c.total_from-total.result
-          c.loop-place.invariant total.total
-          (record { event = total.event; bounds = record { twists = total.twists; turns = total.at_most } })
-          (omega (arith, w.if-is_shorter.true, c.twist_count.ensures, c.twist_count-in-loop-place.ensures)))
+          (IsLeast-new s words place word.result.now inside word.ensures.word total.result total.ensures.total total.ensures.event total.ensures.within
+          before.least before.invariant (omega (arith, w.if-is_shorter.true, c.twist_count.ensures, c.twist_count-in-loop-place.ensures)))
       | else-is_shorter w ↦
           subst (IsLeast s (take (place + 1) words)) (sym w.least-is)
-          (IsLeast-kept s words place word.result.now inside word.ensures.word c.loop-place.least c.total_from-total.result
-          c.loop-place.invariant total.total
-          (omega (arith, w.if-is_shorter.false, c.twist_count.ensures, c.twist_count-in-loop-place.ensures)))
+          (IsLeast-kept s words place word.result.now inside word.ensures.word total.result total.ensures.total total.ensures.event total.ensures.within
+          before.least before.invariant (omega (arith, w.if-is_shorter.false, c.twist_count.ensures, c.twist_count-in-loop-place.ensures)))
     ]
 
 pub inverse-requires : goal.inverse-requires
-inverse-requires c = λ clock. let event = c.loop-place.invariant.written.event in cc
+inverse-requires c = λ clock. let event = c.loop-place.invariant.event in cc
 
 -- all words are looked at
 whole : (c : goal.After-inverse) → take c.loop-place.place c.shape_words-words.result ≡ c.shape_words-words.result
@@ -69,21 +68,26 @@ whole c =
 made : (c : goal.After-inverse) → c.inverse.result.turns ≡ back opposite c.loop-place.least.turns
 made c = ap (λ (w : Written). w.turns) c.inverse.ensures.value
 
-pub returns-clause-event : goal.returns-clause-event
-returns-clause-event c = ap (λ (w : Written). w.event) c.inverse.ensures.value ∙ c.loop-place.invariant.written.event
-
-pub returns-clause-scramble : goal.returns-clause-scramble
-returns-clause-scramble c = record {
-  total = c.loop-place.least.turns;
-  shortest =
-      subst (λ words. IsShortest c.args.state.now words c.loop-place.least.turns) (whole c ∙ c.shape_words-words.ensures.words)
-      c.loop-place.invariant.shortest;
-  taken_back = made c;
-}
-
-pub returns-clause-only : goal.returns-clause-only
-returns-clause-only c = λ turns other.
-    IsShortScramble-unique c.args.short c.args.state.now turns c.inverse.result.turns other (returns-clause-scramble c)
+pub returns-clause-the_scramble : goal.returns-clause-the_scramble
+returns-clause-the_scramble c =
+    let s = c.args.state.now in
+    let least = c.loop-place.least in
+    let h = c.loop-place.invariant in
+    let is : IsShortScramble c.args.short s c.inverse.result.turns = record {
+      total = least.turns;
+      shortest = subst (λ words. IsShortest s words least.turns) (whole c ∙ c.shape_words-words.ensures.words) h.shortest;
+      taken_back = made c;
+    } in
+    record {
+      of_event = ap (λ (w : Written). w.event) c.inverse.ensures.value ∙ h.event;
+      scramble = is;
+      only = λ turns other. IsShortScramble-unique c.args.short s turns c.inverse.result.turns other is;
+      within = record {
+        twists = omega (arith, ap twists_in (made c), twists-back least.turns, h.within.twists);
+        turns = omega (arith, ap length (made c), length-back least.turns, h.within.turns);
+      };
+      gives = ap (play sq1_after solved_sq1) (made c) ∙ play-total_back s h.shortest.word least.turns c.is_valid.ensures h.shortest.is;
+    }
 
 pub returns-clause-no_more : goal.returns-clause-no_more
 returns-clause-no_more c = λ turns scramble.
@@ -98,15 +102,3 @@ returns-clause-no_more c = λ turns scramble.
       ap twists_in (made c),
       no_more_twists s words least turns first.0 c.is_valid.ensures shortest there first.1 scramble,
     )
-
-pub returns-clause-twists : goal.returns-clause-twists
-returns-clause-twists c = omega (arith, ap twists_in (made c), twists-back c.loop-place.least.turns, c.loop-place.invariant.written.bounds.twists)
-
-pub returns-clause-at_most : goal.returns-clause-at_most
-returns-clause-at_most c = omega (arith, ap length (made c), length-back c.loop-place.least.turns, c.loop-place.invariant.written.bounds.turns)
-
-pub returns-clause-played : goal.returns-clause-played
-returns-clause-played c =
-    let s = c.args.state.now in
-    let h = c.loop-place.invariant.shortest in
-    ap (play sq1_after solved_sq1) (made c) ∙ play-total_back s h.word c.loop-place.least.turns c.is_valid.ensures h.is

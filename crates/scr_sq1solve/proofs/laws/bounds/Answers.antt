@@ -1,4 +1,4 @@
-use Rattle.scr_sq1solve.proofs.Bounds.{twists-solution, IsWithinBounds-scramble}
+use Rattle.scr_sq1solve.proofs.Solutions.{twists-solution, IsWithinBounds-scramble}
 use Rattle.scr_sq1solve.proofs.laws.bounds.Goals as goal
 
 pub returns : goal.returns

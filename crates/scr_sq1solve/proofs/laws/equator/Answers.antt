@@ -1,4 +1,4 @@
-use Rattle.scr_sq1solve.proofs.EquatorLaws.{equator-played, equator-solution}
+use Rattle.scr_sq1solve.proofs.Solutions.{equator-played, equator-solution}
 use Rattle.scr_sq1solve.proofs.laws.equator.Goals as goal
 
 pub returns : goal.returns

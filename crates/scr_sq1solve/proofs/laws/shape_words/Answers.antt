@@ -1,5 +1,4 @@
-use Rattle.scr_sq1solve.proofs.ShapeWordLaws.{IsEarlier-shape_words, Contains-shape_words, IsStageWord-listed}
-use Rattle.scr_sq1solve.proofs.TotalLaws.{IsSquared-iff, IsShapeWord-iff}
+use Rattle.scr_sq1solve.proofs.TotalLaws.{IsEarlier-shape_words, Contains-shape_words, IsStageWord-listed, IsSquared-iff, IsShapeWord-iff}
 use Rattle.scr_sq1solve.proofs.laws.shape_words.Goals as goal
 
 pub returns : goal.returns

@@ -1,28 +1,19 @@
-use Rattle.std.proofs.Common.{[], ◌∷◌, slice_index, ap, ◌∙◌, lit<, arith}
-use Rattle.scr_combinatorics.specs.Permutations.{permutation_number}
-use Rattle.scr_combinatorics.proofs.PermutationLaws.{at-permutation}
+use Rattle.std.proofs.Common.{◌<◌, length, ap, ◌∙◌, subst, arith}
+use Rattle.scr_combinatorics.specs.Permutations.{factorial, permutation_number}
+use Rattle.scr_combinatorics.proofs.PermutationNumbers.{permutation_number-lt}
+use Rattle.scr_combinatorics.proofs.Picks.{length-pick}
 use Rattle.scr_sq1solve.specs.Tables.{pair_of}
-use Rattle.scr_sq1solve.proofs.Codes.{pairs-are}
 use Rattle.scr_sq1solve.proofs.pieces.pairs_of.Goals as goal
 
-pub bounds-from : goal.bounds-from
-bounds-from c = omega (arith, c.from.ensures, at-permutation 8 c.args.pieces.now c.requires 0 (lit< tt))
-
-pub bounds-from-2 : goal.bounds-from-2
-bounds-from-2 c = omega (arith, c.from-2.ensures, at-permutation 8 c.args.pieces.now c.requires 1 (lit< tt))
-
-pub bounds-from-3 : goal.bounds-from-3
-bounds-from-3 c = omega (arith, c.from-3.ensures, at-permutation 8 c.args.pieces.now c.requires 4 (lit< tt))
-
-pub bounds-from-4 : goal.bounds-from-4
-bounds-from-4 c = omega (arith, c.from-4.ensures, at-permutation 8 c.args.pieces.now c.requires 5 (lit< tt))
-
 pub returns-clause-value : goal.returns-clause-value
-returns-clause-value c =
-    let xs = c.args.pieces.now in
-    c.rank_permutation.ensures
-    ∙ ap (λ i. permutation_number (slice_index pair_of i ∷ slice_index pair_of c.from-2.result ∷ slice_index pair_of c.from-3.result ∷ slice_index pair_of c.from-4.result ∷ [])) c.from.ensures
-    ∙ ap (λ i. permutation_number (slice_index pair_of (slice_index xs 0) ∷ slice_index pair_of i ∷ slice_index pair_of c.from-3.result ∷ slice_index pair_of c.from-4.result ∷ [])) c.from-2.ensures
-    ∙ ap (λ i. permutation_number (slice_index pair_of (slice_index xs 0) ∷ slice_index pair_of (slice_index xs 1) ∷ slice_index pair_of i ∷ slice_index pair_of c.from-4.result ∷ [])) c.from-3.ensures
-    ∙ ap (λ i. permutation_number (slice_index pair_of (slice_index xs 0) ∷ slice_index pair_of (slice_index xs 1) ∷ slice_index pair_of (slice_index xs 4) ∷ slice_index pair_of i ∷ [])) c.from-4.ensures
-    ∙ pairs-are xs
+returns-clause-value c = c.rank_permutation.ensures ∙ ap permutation_number c.pick_into.ensures
+
+pub returns-clause-below : goal.returns-clause-below
+returns-clause-below c =
+    let pairs = c.pick_into.new.out in
+    let size = ap length c.pick_into.ensures ∙ length-pick pair_of c.args.standing.now ∙ c.told-standing in
+    let below : permutation_number pairs < 24 = subst (λ n. permutation_number pairs < factorial n) size (permutation_number-lt pairs) in
+    omega (arith, c.rank_permutation.ensures, below)
+
+pub overflow_cast-result : goal.overflow_cast-result
+overflow_cast-result c = omega (arith, returns-clause-below c)

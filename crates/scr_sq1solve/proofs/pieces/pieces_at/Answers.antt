@@ -1,8 +1,7 @@
 use Rattle.std.proofs.Common.{◌%◌, ◌<◌, sym, ap, ◌∙◌, subst, arith}
 use Rattle.scr_combinatorics.specs.Permutations.{IsPermutation, permutation_at}
 use Rattle.scr_combinatorics.proofs.PermutationLaws.{at-permutation}
-use Rattle.scr_sq1solve.proofs.ListCoordinates.{codes_one_to_one}
-use Rattle.scr_sq1solve.proofs.Codes.{larger-lt, pair-lt, turned-lt, pieces-are}
+use Rattle.scr_sq1solve.proofs.Codes.{codes_one_to_one, larger-lt, pair-lt, turned-lt, pieces-are}
 use Rattle.scr_sq1solve.proofs.pieces.pieces_at.Goals as goal
 
 pub bounds-from : goal.bounds-from

@@ -3,7 +3,7 @@ use Rattle.std.specs.Prelude.{pos}
 use Rattle.scr_combinatorics.specs.Play.{play}
 use Rattle.scr_sq1.specs.Units.{sq1_after}
 use Rattle.scr_sq1solve.specs.Parts.{shape_part}
-use Rattle.scr_sq1solve.proofs.ShapeParts.{amount, read-amount, after-amounts, play-top, play-bottom, play-twist}
+use Rattle.scr_sq1solve.proofs.ShapeStage.{amount, read-amount, after-amounts, play-top, play-bottom, play-twist}
 use Rattle.scr_sq1solve.proofs.shape_states.after_part.Goals as goal
 
 pub returns-then-part-lt12 : goal.returns-then-part-lt12

@@ -2,7 +2,7 @@ use Rattle.std.proofs.Common.{ap, ◌∙◌, arith}
 use Rattle.scr_combinatorics.specs.Digits.{mixed_digits}
 use Rattle.scr_sq1.specs.Numbers.{sq1_of_digits}
 use Rattle.scr_sq1.proofs.Numbering.{sq1_bases}
-use Rattle.scr_sq1solve.proofs.ShapeSteps.{index_state_number, state-of_index}
+use Rattle.scr_sq1solve.proofs.ShapeStage.{index_state_number, state-of_index}
 use Rattle.scr_sq1solve.proofs.shape_states.state_of.Goals as goal
 
 pub returns : goal.returns

@@ -1,7 +1,7 @@
 use Rattle.std.proofs.Common.{arith}
 use Rattle.std.proofs.lemmas.Int.{ints}
 use Rattle.scr_sq1solve.specs.Stages.{quarter_word, squaring_letter}
-use Rattle.scr_sq1solve.proofs.LetterWords.{turn_word-same}
+use Rattle.scr_sq1solve.proofs.Lengths.{turn_word-same}
 use Rattle.scr_sq1solve.proofs.stage_letters.first_turn.Goals as goal
 
 pub returns-in-OfHome : goal.returns-in-OfHome

@@ -1,5 +1,5 @@
 use Rattle.std.proofs.lemmas.Bool.{lt-ltb, le-ltb}
-use Rattle.scr_sq1solve.proofs.LetterWords.{shape-steps, pairing-low, pairing-high, home-low, home-high}
+use Rattle.scr_sq1solve.proofs.Lengths.{shape-steps, pairing-low, pairing-high, home-low, home-high}
 use Rattle.scr_sq1solve.proofs.stage_letters.later_steps.Goals as goal
 
 pub returns-in-OfShapes-clause-letter : goal.returns-in-OfShapes-clause-letter

@@ -2,7 +2,7 @@ use Rattle.std.proofs.Common.{rules, sym, ◌∙◌}
 use mir.Syntax.{w8}
 use mir.Val.{SFits}
 use Rattle.std.proofs.lemmas.Int.{to_z-of_z}
-use Rattle.scr_sq1solve.proofs.LetterWords.{still-written, layers-written, layers-permitted-by}
+use Rattle.scr_sq1solve.proofs.Lengths.{still-written, layers-written, layers-permitted-by}
 use Rattle.scr_sq1solve.proofs.stage_letters.push_layers.Goals as goal
 
 pub returns-then-are_still-clause-word : goal.returns-then-are_still-clause-word

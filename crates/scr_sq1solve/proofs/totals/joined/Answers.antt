@@ -6,8 +6,7 @@ use Rattle.scr_notation.specs.Turning.{turn_merging}
 use Rattle.scr_notation.specs.Turns.{permits}
 use Rattle.scr_notation.specs.Written.{Written}
 use Rattle.scr_sq1solve.specs.Counts.{twists_of, twists_in}
-use Rattle.scr_sq1solve.proofs.Lengths.{twists-tidy, length-tidy, OfSq1-permitted}
-use Rattle.scr_sq1solve.proofs.Joins.{IsTidy-sq1}
+use Rattle.scr_sq1solve.proofs.Lengths.{twists-tidy, length-tidy, IsTidy-sq1}
 use Rattle.scr_sq1solve.proofs.totals.joined.Goals as goal
 
 pub returns-clause-word : goal.returns-clause-word
@@ -28,6 +27,6 @@ returns-clause-twists c =
 pub returns-clause-short : goal.returns-clause-short
 returns-clause-short c =
     length-tidy c.tidy.result.turns (subst (IsTidy turn_merging) (sym (returns-clause-word c)) (IsTidy-sq1 (c.args.first.now.turns ++ c.args.second.now.turns)))
-    (λ k d lt. OfSq1-permitted _ (subst (λ e. All (λ t. IsTrue (permits e t)) c.tidy.result.turns) (ap (λ (w : Written). w.event) c.tidy.ensures.value
+    (subst (λ e. All (λ t. IsTrue (permits e t)) c.tidy.result.turns) (ap (λ (w : Written). w.event) c.tidy.ensures.value
     ∙ ap (λ (w : Written). w.event) c.push_all-2.ensures ∙ ap (λ (w : Written). w.event) c.push_all.ensures ∙ ap (λ (w : Written). w.event) c.new-both.ensures.value)
-    c.tidy.ensures.valid.permitted k d lt))
+    c.tidy.ensures.valid.permitted)

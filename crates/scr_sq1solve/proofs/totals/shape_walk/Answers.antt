@@ -4,8 +4,7 @@ use Rattle.scr_combinatorics.specs.Play.{play}
 use Rattle.scr_sq1.specs.Units.{sq1_after}
 use Rattle.scr_sq1solve.specs.Counts.{Costs}
 use Rattle.scr_sq1solve.specs.declared.stage_letters.Letters.TheVariants.{OfShapes}
-use Rattle.scr_sq1solve.proofs.TotalLaws.{All-shape_word, play-shape_word, shape_word-goal}
-use Rattle.scr_sq1solve.proofs.WalkLaws.{Costs-spelled}
+use Rattle.scr_sq1solve.proofs.TotalLaws.{All-shape_word, play-shape_word, shape_word-goal, Costs-spelled}
 use Rattle.scr_sq1solve.proofs.totals.shape_walk.Goals as goal
 
 pub walked-requires-clause-numbers : goal.walked-requires-clause-numbers
@@ -20,13 +19,7 @@ returns-clause-goal c =
     shape_word-goal s c.args.shape_word.now c.requires.shape_word c.walked.result.end
     (ap (play sq1_after s) (sym c.walked.ensures.turns) ∙ c.walked.ensures.end)
 
-costs : (c : goal.After-walked) → Costs c.walked.result.turns.turns 26 13
-costs c =
+pub returns-clause-costs : goal.returns-clause-costs
+returns-clause-costs c =
     subst (λ turns. Costs turns 26 13) (sym c.walked.ensures.turns)
     (Costs-spelled OfShapes c.args.shape_word.now 13 c.requires.short)
-
-pub returns-clause-at_most : goal.returns-clause-at_most
-returns-clause-at_most c = (costs c).turns
-
-pub returns-clause-twists : goal.returns-clause-twists
-returns-clause-twists c = (costs c).twists

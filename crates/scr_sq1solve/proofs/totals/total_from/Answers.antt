@@ -1,5 +1,4 @@
-use Rattle.scr_sq1solve.proofs.TotalLaws.{IsTotal-unique, play-total, play-total_back}
-use Rattle.scr_sq1solve.proofs.WalkLaws.{IsTotal-joined}
+use Rattle.scr_sq1solve.proofs.TotalLaws.{IsTotal-unique, play-total, play-total_back, IsTotal-joined}
 use Rattle.scr_sq1solve.proofs.totals.total_from.Goals as goal
 
 pub returns-clause-total : goal.returns-clause-total

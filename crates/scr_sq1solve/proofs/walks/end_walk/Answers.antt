@@ -4,7 +4,7 @@ use Rattle.scr_combinatorics.proofs.OneLetter.{Ends, ending_word, some_letter}
 use Rattle.scr_notation.specs.Written.{Written}
 use Rattle.scr_sq1.specs.Units.{sq1_after}
 use Rattle.scr_sq1solve.specs.Letters.{stage_of, letter_of}
-use Rattle.scr_sq1solve.proofs.WalkLaws.{IsEnding-short, IsWalk-played, walk-costs_one}
+use Rattle.scr_sq1solve.proofs.TotalLaws.{IsEnding-short, IsWalk-played, walk-costs}
 use Rattle.scr_sq1solve.proofs.walks.end_walk.Goals as goal
 
 pub unreachable-requires : goal.unreachable-requires
@@ -28,10 +28,5 @@ returns-then-is_ended-clause-walk c =
     IsWalk-played (stage_of letters) s end word.0 c.letter-turns.result.turns word.1 (written ∙ word.2)
     (ap (play sq1_after s) written ∙ played)
 
-pub returns-then-is_ended-clause-at_most : goal.returns-then-is_ended-clause-at_most
-returns-then-is_ended-clause-at_most c =
-    (walk-costs_one c.args.letters c.requires.short (returns-then-is_ended-clause-walk c)).turns
-
-pub returns-then-is_ended-clause-twists : goal.returns-then-is_ended-clause-twists
-returns-then-is_ended-clause-twists c =
-    (walk-costs_one c.args.letters c.requires.short (returns-then-is_ended-clause-walk c)).twists
+pub returns-then-is_ended-clause-costs : goal.returns-then-is_ended-clause-costs
+returns-then-is_ended-clause-costs c = walk-costs c.args.letters (returns-then-is_ended-clause-walk c)

@@ -1,8 +1,7 @@
 use Rattle.std.proofs.Common.{IsTrue, sym, ◌∙◌, subst, eqb-true, eq-eqb}
 use Rattle.std.specs.Prelude.{◌↔◌, ◌==◌}
 use Rattle.scr_sq1solve.specs.Letters.{stage_of}
-use Rattle.scr_sq1solve.proofs.ShapeStage.{IsNormal-iff}
-use Rattle.scr_sq1solve.proofs.ShapeSteps.{normal_index}
+use Rattle.scr_sq1solve.proofs.ShapeStage.{IsNormal-iff, normal_index}
 use Rattle.scr_sq1solve.proofs.walks.is_ended.Goals as goal
 
 pub returns-in-Squarings : goal.returns-in-Squarings

@@ -5,7 +5,7 @@ use Rattle.scr_combinatorics.specs.Stages.{spelled, IsStageWord}
 use Rattle.scr_combinatorics.proofs.StageLaws.{play-stage_word}
 use Rattle.scr_sq1.specs.Units.{sq1_after}
 use Rattle.scr_sq1solve.specs.Letters.{stage_of, letter_of, starts_of, index_by}
-use Rattle.scr_sq1solve.proofs.WalkLaws.{IsWalk-played, below-word, walk-goal, walk-kept, walk-costs}
+use Rattle.scr_sq1solve.proofs.TotalLaws.{IsWalk-played, below-word, walk-goal, walk-kept, walk-costs}
 use Rattle.scr_sq1solve.proofs.walks.stage_walk.Goals as goal
 
 pub walked-requires-clause-numbers : goal.walked-requires-clause-numbers
@@ -44,8 +44,5 @@ returns-clause-kept g c =
     let letters = g.L.StageLine.LETTERS in
     walk-kept (returns-clause-walk g c) (starts_of letters) g.L.Line.line (index_by letters) c.is_found_by_index.ensures.follows c.requires
 
-pub returns-clause-at_most : goal.returns-clause-at_most
-returns-clause-at_most g c = (walk-costs g.L.StageLine.LETTERS (returns-clause-walk g c)).turns
-
-pub returns-clause-twists : goal.returns-clause-twists
-returns-clause-twists g c = (walk-costs g.L.StageLine.LETTERS (returns-clause-walk g c)).twists
+pub returns-clause-costs : goal.returns-clause-costs
+returns-clause-costs g c = walk-costs g.L.StageLine.LETTERS (returns-clause-walk g c)

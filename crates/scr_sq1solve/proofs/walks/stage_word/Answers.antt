@@ -1,6 +1,6 @@
 use Rattle.std.proofs.Common.{ap, ◌∙◌}
 use Rattle.scr_sq1solve.specs.Letters.{stage_of, starts_of, index_by}
-use Rattle.scr_sq1solve.proofs.WalkLaws.{IsStageWord-found}
+use Rattle.scr_sq1solve.proofs.TotalLaws.{IsStageWord-found}
 use Rattle.scr_sq1solve.proofs.walks.stage_word.Goals as goal
 
 pub returns : goal.returns

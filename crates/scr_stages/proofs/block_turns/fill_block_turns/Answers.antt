@@ -1,5 +1,6 @@
 use Rattle.std.proofs.Common.{◌≡◌, ℕ, ◌+◌, ◌<◌, List, [], ◌∷◌, ◌++◌, map, length, take, set, get_or, sym, ap, ◌∙◌, arith}
-use Rattle.std.proofs.lemmas.List.{map-append, take_more, take_more_set, take_all, get_or-map}
+use Rattle.std.proofs.lemmas.List.{map_more, map_push, take_more_set, take_all, get_or-map}
+use Rattle.scr_orbit.proofs.Parts.{ap_both}
 use Rattle.scr_orbit.specs.PlaceTurns.{rearrangement_of}
 use Rattle.scr_orbit.specs.Orbits.{Rearrangement}
 use Rattle.scr_stages.specs.Tables.{block_turn, block_turns}
@@ -10,9 +11,7 @@ filled_more : {X Y : Type 0} (f : X → Y) (g : ℕ → Y) (out : List X) (numbe
     → at < length out → at < length numbers → map f (take at out) ≡ map g (take at numbers)
     → f y ≡ g (get_or numbers at 0) → map f (take (at + 1) (set out at y)) ≡ map g (take (at + 1) numbers)
 filled_more f g out numbers at y lt more so_far e =
-    ap (map f) (take_more_set out at y lt) ∙ map-append f (take at out) (y ∷ [])
-    ∙ ap (λ xs. xs ++ f y ∷ []) so_far ∙ ap (λ z. map g (take at numbers) ++ z ∷ []) e
-    ∙ sym (map-append g (take at numbers) (get_or numbers at 0 ∷ [])) ∙ ap (map g) (sym (take_more numbers at 0 more))
+    ap (map f) (take_more_set out at y lt) ∙ map_push f (take at out) y ∙ ap_both (λ ys z. ys ++ z ∷ []) so_far e ∙ sym (map_more g numbers at 0 more)
 
 pub loop-at-preserved : goal.loop-at-preserved
 loop-at-preserved g c =

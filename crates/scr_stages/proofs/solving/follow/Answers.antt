@@ -1,8 +1,11 @@
-use Rattle.std.proofs.Common.{◌≡◌, ◌<◌, ◌++◌, [], ◌∷◌, get_or, length, take, sym, ap, ◌∙◌, arith}
-use Rattle.std.proofs.lemmas.List.{append-nil, length-append, length-take-le, take_all}
-use Rattle.scr_combinatorics.specs.Play.{play}
-use Rattle.scr_combinatorics.proofs.PlayLaws.{play-empty}
+use Rattle.std.proofs.Common.{[], ◌∷◌, ◌++◌, get_or, length, take, sym, ap, ◌∙◌, arith}
+use Rattle.std.specs.Prelude.{option_and_then}
+use Rattle.std.proofs.lemmas.List.{append-nil, flat_map_more, length-append, take_more}
+use Rattle.std.proofs.lemmas.Option.{slice_get-get_or}
 use Rattle.scr_combinatorics.specs.Stages.{spelled}
+use Rattle.scr_combinatorics.proofs.PlayLaws.{play-empty}
+use Rattle.scr_combinatorics.proofs.StepLaws.{play-more, play-whole}
+use Rattle.scr_orbit.proofs.Parts.{ap_both}
 use Rattle.scr_orbit.specs.PowerPuzzles.{after_letter}
 use Rattle.scr_notation.specs.declared.event.Event.TheVariants.{C333}
 use Rattle.scr_notation.specs.Event.{kind_of}
@@ -11,31 +14,14 @@ use Rattle.scr_notation.proofs.NumberLaws.{turns_333}
 use Rattle.scr_notation.specs.Written.{Written}
 use Rattle.scr_cube.specs.Cube333.{cube_powers}
 use Rattle.scr_cube.specs.ListedTurns.{letter_in, after_of}
-use Rattle.scr_stages.proofs.FollowSteps.{follow_more, length-spelled, letters_more}
+use Rattle.scr_cube.proofs.ListedTurns.{after_of-is}
 use Rattle.scr_stages.proofs.solving.follow.Goals as goal
 
 pub loop-at-init : goal.loop-at-init
 loop-at-init c =
     let turns = c.args.solution.now.turns in
-    let written : c.args.solution.now ≡ record { event = C333; turns = turns ++ [] } =
-    ap {B = Written} (λ e. record { event = e; turns = turns }) c.requires.event
-    ∙ ap {B = Written} (λ ts. record { event = C333; turns = ts }) (sym (append-nil turns)) in
-    (play-empty (after_of c.args.turns.now) c.args.cube.now, written)
-
-pub push_numbered-requires-clause-room : goal.push_numbered-requires-clause-room
-push_numbered-requires-clause-room c =
-    let turns = c.args.turns.now in
-    let before = c.args.solution.now.turns in
-    let played = take c.loop-at.at c.args.word.now in
-    omega (
-      arith,
-      ap (λ s. length s.turns) c.loop-at.invariant.1,
-      length-append before (spelled (letter_in turns) played),
-      length-spelled turns played,
-      length-take-le c.loop-at.at c.args.word.now (omega (arith, c.loop-at-test.true)),
-      c.loop-at-test.true,
-      c.requires.room,
-    )
+    let written = ap_both {C = Written} (λ e ts. record { event = e; turns = ts }) c.requires.event (sym (append-nil turns)) in
+    record { played = play-empty (after_of c.args.turns.now) c.args.cube.now; written = written; longer = omega arith }
 
 pub loop-at-preserved : goal.loop-at-preserved
 loop-at-preserved c =
@@ -45,30 +31,29 @@ loop-at-preserved c =
     let before = c.args.solution.now.turns in
     let lt = c.loop-at-test.true in
     let place = c.from.ensures in
-    let there : get_or word at 0 < length turns = c.requires.word at 0 lt in
     let number = c.from-in-loop-at.ensures ∙ ap (λ k. get_or turns k 0) place in
-    let letter = ap (λ f. f (get_or turns c.from.result 0)) turns_333 ∙ ap (λ k. face_turn_at (get_or turns k 0)) place in (
-      follow_more turns c.args.cube.now c.loop-at.state c.turned-state.result word at lt there c.loop-at.invariant.0
-          (ap (λ t. (after_letter cube_powers) c.loop-at.state (face_turn_at t)) (sym number) ∙ c.turned-state.ensures),
-      c.push_numbered.ensures
-          ∙ ap {B = Written} (λ s. record { event = s.event; turns = s.turns ++ turn_at (kind_of s.event) (get_or turns c.from.result 0) ∷ [] }) c.loop-at.invariant.1
+    let letter = ap (λ f. f (get_or turns c.from.result 0)) turns_333 ∙ ap (λ k. face_turn_at (get_or turns k 0)) place in
+    record {
+      played = play-more (after_of turns) c.args.cube.now c.loop-at.state word at c.loop-at.invariant.played 0 lt
+          ∙ after_of-is turns c.loop-at.state (get_or word at 0)
+          ∙ ap (option_and_then (λ t. (after_letter cube_powers) c.loop-at.state (face_turn_at t))) (slice_get-get_or turns (get_or word at 0) 0 (c.requires.word at 0 lt))
+          ∙ ap (λ t. (after_letter cube_powers) c.loop-at.state (face_turn_at t)) (sym number)
+          ∙ c.turned-state.ensures;
+      written = c.push_numbered.ensures
+          ∙ ap {B = Written} (λ s. record { event = s.event; turns = s.turns ++ turn_at (kind_of s.event) (get_or turns c.from.result 0) ∷ [] }) c.loop-at.invariant.written
           ∙ ap {B = Written} (λ l. record { event = C333; turns = (before ++ spelled (letter_in turns) (take at word)) ++ l ∷ [] }) letter
-          ∙ ap {B = Written} (λ ts. record { event = C333; turns = ts }) (letters_more turns before word at lt),
-    )
+          ∙ ap {B = Written} (λ ts. record { event = C333; turns = ts })
+          (flat_map_more (letter_in turns) before (take at word) (get_or word at 0)
+          ∙ ap (λ w. before ++ spelled (letter_in turns) w) (sym (take_more word at 0 lt)));
+      longer = omega (
+        arith,
+        ap (λ s. length s.turns) c.push_numbered.ensures,
+        length-append c.loop-at.solution.turns (turn_at (kind_of c.loop-at.solution.event) (get_or turns c.from.result 0) ∷ []),
+        c.loop-at.invariant.longer,
+      );
+    }
 
 pub returns-clause-played : goal.returns-clause-played
 returns-clause-played c =
-    ap (play (after_of c.args.turns.now) c.args.cube.now) (sym (take_all c.loop-at.at c.args.word.now (omega (arith, c.loop-at-test.false))))
-    ∙ c.loop-at.invariant.0
-
-pub returns-clause-longer : goal.returns-clause-longer
-returns-clause-longer c =
-    let turns = c.args.turns.now in
-    let played = take c.loop-at.at c.args.word.now in
-    omega (
-      arith,
-      ap (λ s. length s.turns) c.loop-at.invariant.1,
-      length-append c.args.solution.now.turns (spelled (letter_in turns) played),
-      length-spelled turns played,
-      ap length (take_all c.loop-at.at c.args.word.now (omega (arith, c.loop-at-test.false))),
-    )
+    play-whole (after_of c.args.turns.now) c.args.cube.now c.loop-at.state c.args.word.now c.loop-at.at c.loop-at.invariant.played
+    (omega (arith, c.loop-at-test.false))

@@ -1,4 +1,4 @@
-use Rattle.scr_stages.proofs.TetradTables.{axes_of-read}
+use Rattle.scr_stages.proofs.TetradTests.{axes_of-read}
 use Rattle.scr_stages.proofs.tetrads.axes_of.Goals as goal
 
 pub returns : goal.returns

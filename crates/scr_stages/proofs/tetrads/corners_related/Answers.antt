@@ -1,5 +1,5 @@
 use Rattle.std.proofs.Common.{◌∙◌}
-use Rattle.scr_stages.proofs.TetradTables.{corners_related-table}
+use Rattle.scr_stages.proofs.TetradTests.{corners_related-table}
 use Rattle.scr_stages.proofs.tetrads.corners_related.Goals as goal
 
 pub returns : goal.returns

@@ -1,4 +1,4 @@
-use Rattle.scr_stages.proofs.TetradTables.{second_with-read}
+use Rattle.scr_stages.proofs.TetradTests.{second_with-read}
 use Rattle.scr_stages.proofs.tetrads.second_with.Goals as goal
 
 pub returns : goal.returns

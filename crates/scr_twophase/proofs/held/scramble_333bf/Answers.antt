@@ -11,6 +11,7 @@ use Rattle.scr_cube.specs.Cube333.{CubeState}
 use Rattle.scr_cube.specs.Held.{solved_held, held_cube_after, hold_word, hold_of}
 use Rattle.scr_cube.proofs.Holds.{hold_of-lt, IsHoldWord-each}
 use Rattle.scr_cube.proofs.HeldReach.{IsBefore, IsBefore-played, before-some}
+use Rattle.scr_twophase.specs.HeldScramble.{IsScramble333bf}
 use Rattle.scr_twophase.specs.TwoParts.{two_parts, IsScramble333}
 use Rattle.scr_twophase.proofs.HeldScrambles.{joined-played, IsScramble333bf-unique, permits-held}
 use Rattle.scr_twophase.proofs.held.scramble_333bf.Goals as goal
@@ -32,7 +33,7 @@ unreachable-requires c =
 pub with_event-scramble-requires : goal.with_event-scramble-requires
 with_event-scramble-requires c = λ t h.
     let Permitted : Event → Type 0 = λ e. IsTrue (permits e t) in
-    permits-held t (subst Permitted c.scramble_333-first.ensures.event h)
+    permits-held t (subst Permitted c.scramble_333-first.ensures.scramble.of_event h)
 
 -- the word has two turns at most
 pub push_all-requires-clause-room : goal.push_all-requires-clause-room
@@ -45,7 +46,7 @@ push_all-requires-clause-room c =
       ap length word,
       short.short,
       ap (λ (w : Written). length w.turns) c.with_event-scramble.ensures,
-      c.scramble_333-first.ensures.at_most,
+      c.scramble_333-first.ensures.scramble.within,
     )
 
 -- it leads to the state that the cube's scramble is for
@@ -64,9 +65,9 @@ joined c =
     ∙ ap (λ (s : Written). s.turns ++ c.word_of_hold-word.result.turns) c.with_event-scramble.ensures
     ∙ ap (λ w. c.scramble_333-first.result.turns ++ w) word
 
-pub returns-clause-scramble : goal.returns-clause-scramble
+scramble : (c : goal.After-push_all) → IsScramble333bf c.args.tries c.args.held.now c.push_all.new.scramble.turns
 unfolding solved_held
-returns-clause-scramble c =
+scramble c =
     let first = c.scramble_333-first.result.turns in
     let Own : CubeState → Type 0 = λ cube. IsScramble333 c.args.tries cube first in
     let Few : CubeState → Type 0 = λ cube. IsTrue (is_some (two_parts cube c.args.tries)) → length first ≤ 22 in
@@ -74,29 +75,22 @@ returns-clause-scramble c =
       before = c.in-Some.before.cube;
       turned_back = (before c).faces;
       first = first;
-      scramble = subst Own c.cube.ensures.same c.scramble_333-first.ensures.scramble;
+      scramble = subst Own c.cube.ensures.same c.scramble_333-first.ensures.scramble.scramble;
       few = subst Few c.cube.ensures.same c.scramble_333-first.ensures.few;
       joined = joined c;
     }
 
-pub returns-clause-only : goal.returns-clause-only
-returns-clause-only c = λ turns other.
-    IsScramble333bf-unique c.args.tries c.args.held.now turns c.push_all.new.scramble.turns other (returns-clause-scramble c)
-
-pub returns-clause-at_most : goal.returns-clause-at_most
-returns-clause-at_most c =
+pub returns : goal.returns
+unfolding solved_held
+returns c =
     let s = c.args.held.now in
-    let short = IsHoldWord-each (hold_of s.centres) (hold_of-lt s.centres c.hold.ensures.valid.centres) in
-    omega (
-      arith,
-      ap length (joined c),
-      length-append c.scramble_333-first.result.turns (hold_word (hold_of s.centres)),
-      short.short,
-      c.scramble_333-first.ensures.at_most,
-    )
-
-pub returns-clause-played : goal.returns-clause-played
-returns-clause-played c =
     let first = c.scramble_333-first.result.turns in
-    let cube = c.scramble_333-first.ensures.played ∙ ap Some c.cube.ensures.same in
-    ap (play held_cube_after solved_held) (joined c) ∙ joined-played c.args.held.now c.in-Some.before first (before c) cube
+    let short = IsHoldWord-each (hold_of s.centres) (hold_of-lt s.centres c.hold.ensures.valid.centres) in
+    let cube = c.scramble_333-first.ensures.scramble.gives ∙ ap Some c.cube.ensures.same in
+    record {
+      of_event = ap (λ (w : Written). w.event) c.push_all.ensures ∙ ap (λ (w : Written). w.event) c.with_event-scramble.ensures;
+      scramble = scramble c;
+      only = λ turns other. IsScramble333bf-unique c.args.tries s turns c.push_all.new.scramble.turns other (scramble c);
+      within = omega (arith, ap length (joined c), length-append first (hold_word (hold_of s.centres)), short.short, c.scramble_333-first.ensures.scramble.within);
+      gives = ap (play held_cube_after solved_held) (joined c) ∙ joined-played s c.in-Some.before first (before c) cube;
+    }

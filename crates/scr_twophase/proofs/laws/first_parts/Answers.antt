@@ -6,13 +6,12 @@ use Rattle.scr_combinatorics.specs.Play.{play}
 use Rattle.scr_orbit.specs.Orbits.{solved_orbit}
 use Rattle.scr_cube.specs.Cube333.{CubeState, solved_cube}
 use Rattle.scr_combinatorics.specs.Words.{words_within}
-use Rattle.scr_table.proofs.ListedWords.{Contains-words_within, IsWithin-listed, Contains-filter, Contains-passed}
+use Rattle.scr_table.proofs.ListedWords.{All-below, All-numbers, Contains-words_within, IsWithin-listed, Contains-filter, Contains-passed}
 use Rattle.scr_stages.proofs.FiniteTests.{All-from_test}
 use Rattle.scr_cube.specs.ListedTurns.{turn_numbers}
 use Rattle.scr_search.specs.Orderly.{after_turn, may_precede, is_orderly, leads}
 use Rattle.scr_twophase.specs.TwoParts.{ends_in_quarter, is_domino, is_first_part, first_parts}
 use Rattle.scr_search.proofs.Leads.{leads-played}
-use Rattle.scr_twophase.proofs.ListedTurns.{All-turns, All-below_18}
 use Rattle.scr_twophase.proofs.laws.first_parts.Goals as goal
 
 first_part : (c : CubeState) (w : List ℕ) → length w ≤ 12 → All (λ t. t < 18) w → IsTrue (is_first_part c w)
@@ -20,7 +19,7 @@ first_part : (c : CubeState) (w : List ℕ) → length w ≤ 12 → All (λ t. t
 unfolding first_parts
 first_part c w le below passes =
     Contains-filter (is_first_part c) (words_within turn_numbers 12) w
-    (Contains-words_within turn_numbers 12 w le (All-turns w below)) passes
+    (Contains-words_within turn_numbers 12 w le (All-numbers 18 w below)) passes
 
 -- what a first part is
 record IsFirstPart (c : CubeState) (w : List ℕ) : Type 0 where
@@ -33,7 +32,7 @@ unfolding first_parts
 IsFirstPart-listed c w there =
     let passed = Contains-passed (is_first_part c) (words_within turn_numbers 12) w there in
     let within = IsWithin-listed turn_numbers 12 w passed.0 in
-    record { size = within.size; below = All-below_18 w within.each; passes = passed.1 }
+    record { size = within.size; below = All-below 18 w within.each; passes = passed.1 }
 
 -- R F L B, three times
 abbrev twelve_turns : List ℕ

@@ -1,57 +1,67 @@
-use Rattle.std.proofs.Common.{◌<◌, Some, map, length, sym, ap, ◌∙◌, subst, arith}
+use Rattle.std.proofs.Common.{◌≡◌, ◌<◌, true, false, Some, [], map, length, refl, sym, ap, ◌∙◌, subst, arith}
 use Rattle.std.specs.Prelude.{All}
 use Rattle.std.specs.Option.{option_map}
 use Rattle.std.proofs.lemmas.List.{length-map}
 use Rattle.scr_combinatorics.specs.Play.{play}
+use Rattle.scr_combinatorics.proofs.PlayLaws.{play-empty}
 use Rattle.scr_orbit.specs.PowerPuzzles.{after_letter}
-use Rattle.scr_notation.specs.declared.event.Event.TheVariants.{C333}
-use Rattle.scr_notation.specs.Event.{kind_of}
-use Rattle.scr_notation.specs.TurnNumbers.{face_turn_at, turn_at}
+use Rattle.scr_notation.specs.TurnNumbers.{face_turn_at}
 use Rattle.scr_notation.proofs.NumberLaws.{turns_333}
-use Rattle.scr_cube.specs.Cube333.{cube_powers}
+use Rattle.scr_cube.specs.Cube333.{CubeState, cube_powers}
+use Rattle.scr_search.specs.declared.position.PartPosition.{PartPosition}
+use Rattle.scr_search.specs.Orderly.{after_turn, ends_with, is_orderly}
+use Rattle.scr_search.specs.Search.{IsAt}
+use Rattle.scr_search.specs.Views.{Shows}
+use Rattle.scr_twophase.specs.BothParts.{first_views}
+use Rattle.scr_twophase.specs.TwoParts.{is_side_quarter, two_parts}
+use Rattle.scr_twophase.proofs.FirstSteps.{two_parts-searched}
 use Rattle.scr_twophase.proofs.MinimaLaws.{play-spelled}
 use Rattle.scr_twophase.proofs.PartLaws.{two_parts-played}
 use Rattle.scr_twophase.proofs.scramble.two_parts.Goals as goal
 
-pub numbered_scramble-requires-clause-below : goal.numbered_scramble-requires-clause-below
-numbered_scramble-requires-clause-below c = subst (All (λ t. t < 18)) (sym c.turns.ensures.turns) c.turns.ensures.below
+begins : (c : CubeState) (at : PartPosition) → Shows first_views c at → IsAt first_views c [] at
+unfolding is_orderly
+begins c at shows = record { there = c; played = play-empty after_turn c; shows = shows; orderly = refl }
 
-pub numbered_scramble-requires-clause-few : goal.numbered_scramble-requires-clause-few
-numbered_scramble-requires-clause-few c = omega (arith, ap length c.turns.ensures.turns, c.turns.ensures.few)
+pub search_within-requires : goal.search_within-requires
+search_within-requires c =
+    let none = sym c.empty-word.ensures in
+    record {
+      at = subst (λ w. IsAt first_views c.args.cube.now w c.first_position-at.result) none (begins c.args.cube.now c.first_position-at.result c.first_position-at.ensures);
+      last = subst (λ w. ends_with is_side_quarter w ≡ true) none refl;
+      few = omega (arith, ap length c.empty-word.ensures);
+    }
 
-pub returns-in-Some-clause-event : goal.returns-in-Some-clause-event
-returns-in-Some-clause-event c = ap (λ s. s.event) c.numbered_scramble.ensures
+pub numbered_scramble-requires : goal.numbered_scramble-requires
+numbered_scramble-requires c = record {
+  below = subst (All (λ t. t < 18)) (sym c.turns.ensures.turns) c.turns.ensures.below;
+  few = omega (arith, ap length c.turns.ensures.turns, c.turns.ensures.few);
+}
 
-pub returns-in-Some-clause-parts : goal.returns-in-Some-clause-parts
-returns-in-Some-clause-parts c =
-    ap (λ s. Some s.turns) c.numbered_scramble.ensures ∙ ap (λ f. Some (map f c.turns.result.now)) turns_333
-    ∙ ap (λ w. Some (map face_turn_at w)) c.turns.ensures.turns
-    ∙ ap (option_map (map face_turn_at)) c.in-Some.ensures.parts
+-- what is found
+found : (c : goal.After-numbered_scramble) → two_parts c.args.cube.now c.args.tries ≡ Some c.search_within.new.word
+found c =
+    two_parts-searched c.args.cube.now c.empty-word.result c.search_within.new.word c.args.tries c.search_within.new.tries true
+    c.empty-word.ensures c.if-search_within.ensures
 
-pub returns-in-Some-clause-at_most : goal.returns-in-Some-clause-at_most
-returns-in-Some-clause-at_most c =
-    omega (
-      arith,
-      ap (λ s. length s.turns) c.numbered_scramble.ensures,
-      length-map c.turns.result.now (turn_at (kind_of C333)),
-      ap length c.turns.ensures.turns,
-      c.turns.ensures.few,
-    )
-
-pub returns-in-Some-clause-played : goal.returns-in-Some-clause-played
-returns-in-Some-clause-played c =
+pub returns-then-search_within : goal.returns-then-search_within
+returns-then-search_within c =
     let cube = c.args.cube.now in
-    ap (λ s. play (after_letter cube_powers) cube s.turns) c.numbered_scramble.ensures
-    ∙ ap (λ f. play (after_letter cube_powers) cube (map f c.turns.result.now)) turns_333
-    ∙ ap (λ w. play (after_letter cube_powers) cube (map face_turn_at w)) c.turns.ensures.turns
-    ∙ play-spelled cube c.in-Some.word
-    ∙ two_parts-played cube c.args.tries c.in-Some.word (sym c.in-Some.ensures.parts)
+    let word = c.search_within.new.word in
+    let spelled = ap (λ s. s.turns) c.numbered_scramble.ensures ∙ ap (λ f. map f c.turns.result.now) turns_333 ∙ ap (map face_turn_at) c.turns.ensures.turns in
+    record {
+      event = ap (λ s. s.event) c.numbered_scramble.ensures;
+      parts = ap Some spelled ∙ ap (option_map (map face_turn_at)) (sym (found c));
+      at_most = omega (arith, ap length spelled, length-map word face_turn_at, ap length c.turns.ensures.turns, c.turns.ensures.few);
+      played = ap (play (after_letter cube_powers) cube) spelled ∙ play-spelled cube word ∙ two_parts-played cube c.args.tries word (found c);
+      valid = c.first_position-at.ensures.seen;
+    }
 
-pub returns-in-Some-clause-valid : goal.returns-in-Some-clause-valid
-returns-in-Some-clause-valid c = c.joined_parts.ensures.valid
+pub returns-else-search_within-clause-parts : goal.returns-else-search_within-clause-parts
+returns-else-search_within-clause-parts c =
+    ap (option_map (map face_turn_at))
+    (sym (two_parts-searched c.args.cube.now c.empty-word.result c.search_within.new.word c.args.tries c.search_within.new.tries false
+    c.empty-word.ensures c.if-search_within.ensures))
 
-pub returns-in-None-clause-parts : goal.returns-in-None-clause-parts
-returns-in-None-clause-parts c = ap (option_map (map face_turn_at)) c.in-None.ensures.parts
-
-pub returns-in-None-clause-valid : goal.returns-in-None-clause-valid
-returns-in-None-clause-valid c = c.joined_parts.ensures.valid
+pub returns-else-search_within-clause-valid : goal.returns-else-search_within-clause-valid
+returns-else-search_within-clause-valid c = c.first_position-at.ensures.seen

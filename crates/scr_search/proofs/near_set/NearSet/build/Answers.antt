@@ -1,15 +1,15 @@
-use Rattle.std.proofs.Common.{◌≡◌, ℕ, ◌+◌, ◌-◌, List, subst, sym, arith}
+use Rattle.std.proofs.Common.{◌≡◌, ℕ, ◌+◌, ◌-◌, subst, sym, arith}
 use Rattle.std.specs.Vec.{with_items}
 use Rattle.std.proofs.lemmas.List.{with_items_is}
 use Rattle.scr_search.specs.declared.near_set.NearSet.{NearSet}
 use Rattle.scr_search.specs.Near.{IsInSet, IsNear}
-use Rattle.scr_search.specs.Spread.{IsListed, Listed}
+use Rattle.scr_search.specs.Spread.{IsListed}
 use Rattle.scr_search.proofs.NearLaws.{IsNear-entered}
 use Rattle.scr_search.proofs.near_set.NearSet.build.Goals as goal
 
 pub returns : goal.returns
 returns g c =
-    let v = g.V.PartViews.views in
+    let v = g.P.Part.views in
     let before : ℕ = c.args.most - 1 in
     let one : before + 1 ≡ c.args.most = omega (arith, c.requires.most) in
     let blocks = c.fill.new.blocks in

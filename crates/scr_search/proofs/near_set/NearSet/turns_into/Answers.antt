@@ -1,25 +1,17 @@
 use Rattle.std.proofs.Common.{subst, sym}
 use Rattle.scr_search.specs.Near.{IsInSet}
-use Rattle.scr_search.proofs.NearLaws.{AreLookedAt-begin, AreLookedAt-next, LeavesNear-looked}
+use Rattle.scr_search.proofs.NearLaws.{AreLookedAt-next, LeavesNear-looked}
 use Rattle.scr_search.proofs.near_set.NearSet.turns_into.Goals as goal
-
-pub loop-place-init : goal.loop-place-init
-loop-place-init g c =
-    AreLookedAt-begin g.V.PartViews.views c.args.at (IsInSet c.args.self.now) c.args.turns.bits c.requires.few
-
-pub after-requires : goal.after-requires
-after-requires g c =
-    c.requires.below c.in-Some.place (c.loop-place.invariant.others_among c.in-Some.place c.in-Some.ensures.taken)
 
 pub loop-place-preserved : goal.loop-place-preserved
 loop-place-preserved g c =
     let Has = IsInSet c.args.self.now in
-    AreLookedAt-next g.V.PartViews.views c.args.at Has c.args.turns.bits c.loop-place.others.bits c.loop-place.into.bits
+    AreLookedAt-next g.P.Part.views c.args.at Has c.args.turns.bits c.loop-place.others.bits c.loop-place.into.bits
     c.loop-place.invariant c.in-Some.place c.pop.new.self.bits c.with_if-into.result.bits c.has.result c.in-Some.ensures.taken c.in-Some.ensures.others
     c.in-Some.ensures.few c.with_if-into.ensures.turns c.with_if-into.ensures.few
     (λ cube next shown to there. c.has.ensures (subst Has (sym (c.number_of-next.ensures next (c.after.ensures cube next shown to))) there))
 
 pub returns-clause-left : goal.returns-clause-left
 returns-clause-left g c = λ cube more near shown.
-    LeavesNear-looked g.V.PartViews.views c.args.at (IsInSet c.args.self.now) c.args.turns.bits c.loop-place.others.bits
-    c.loop-place.into.bits c.loop-place.invariant g.V.PartViews.extent c.are_views.ensures cube more c.in_default.ensures.none near shown
+    LeavesNear-looked g.P.Part.views c.args.at (IsInSet c.args.self.now) c.args.turns.bits c.loop-place.others.bits
+    c.loop-place.into.bits c.loop-place.invariant g.P.Part.extent c.are_views.ensures cube more c.in_default.ensures.none near shown

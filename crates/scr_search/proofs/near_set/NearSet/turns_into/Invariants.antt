@@ -9,4 +9,4 @@ decreases-loop-place g l = length (turns_in l.others.bits)
 
 abbrev pub invariant-loop-place : goal.invariant-loop-place
 invariant-loop-place g l =
-    AreLookedAt g.V.PartViews.views l.at (IsInSet l.self) l.fn.turns.bits l.others.bits l.into.bits
+    AreLookedAt g.P.Part.views l.at (IsInSet l.self) l.fn.turns.bits l.others.bits l.into.bits

@@ -7,7 +7,7 @@ use Rattle.scr_search.proofs.numbers.OneTurnMoreJobs.job.Goals as goal
 
 pub returns : goal.returns
 returns g c =
-    let v = g.V.PartViews.views in
+    let v = g.P.Part.views in
     let lists = c.args.self.now.lists.now in
     let into = c.spread.new.into in
     let Has : ℕ → Type 0 = λ n. into.is_cut ≡ false → Contains into.numbers.items n in

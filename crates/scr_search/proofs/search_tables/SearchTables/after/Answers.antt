@@ -4,7 +4,7 @@ use Rattle.scr_search.proofs.search_tables.SearchTables.after.Goals as goal
 
 pub returns : goal.returns
 returns g c = λ cube turned shows by.
-    let v = g.V.PartViews.views in
+    let v = g.P.Part.views in
     let are = c.are_views.ensures in
     let self = c.args.self.now in
     let at = c.args.at in

@@ -5,8 +5,8 @@ use Rattle.scr_search.proofs.search_tables.SearchTables.block_after.Goals as goa
 
 pub returns : goal.returns
 returns g c = λ cube turned seen at by.
-    let v = g.V.PartViews.views in
-    let e = g.V.PartViews.extent in
+    let v = g.P.Part.views in
+    let e = g.P.Part.extent in
     let are = c.are_views.ensures in
     let self = c.args.self.now in
     let place = c.args.place in

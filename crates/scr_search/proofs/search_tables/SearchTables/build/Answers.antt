@@ -37,7 +37,7 @@ build-requires-2-clause-turns g c = λ κs lives. omega (arith, c.beside-2.ensur
 
 pub returns-in_err-one_slice-clause-cause : goal.returns-in_err-one_slice-clause-cause
 returns-in_err-one_slice-clause-cause g c =
-    let v = g.V.PartViews.views in
+    let v = g.P.Part.views in
     let e = c.extent-extent.result.now in
     let are = c.extent-extent.ensures.views in
     let r = c.from_residual-in_err-one_slice.result in
@@ -47,7 +47,7 @@ returns-in_err-one_slice-clause-cause g c =
 
 pub returns-in_err-other_slice-clause-cause : goal.returns-in_err-other_slice-clause-cause
 returns-in_err-other_slice-clause-cause g c =
-    let v = g.V.PartViews.views in
+    let v = g.P.Part.views in
     let e = c.extent-extent.result.now in
     let are = c.extent-extent.ensures.views in
     let r = c.from_residual-in_err-other_slice.result in
@@ -59,7 +59,7 @@ returns-in_err-other_slice-clause-cause g c =
 
 pub invariant_of-result : goal.invariant_of-result
 invariant_of-result g c =
-    let v = g.V.PartViews.views in
+    let v = g.P.Part.views in
     let e = c.extent-extent.result.now in
     let are = c.extent-extent.ensures.views in
     record {
@@ -75,7 +75,7 @@ invariant_of-result g c =
 
 pub returns-clause-whole : goal.returns-clause-whole
 returns-clause-whole g c =
-    let v = g.V.PartViews.views in
+    let v = g.P.Part.views in
     let e = c.extent-extent.result.now in
     let are = c.extent-extent.ensures.views in
     let one = c.in_ok-one_slice.ensures.table _ (c.beside.ensures.shows v.one.coordinate v.middle.coordinate (are.middle.turns ∙ sym are.one.turns) c.in_ok-one.ensures c.in_ok-middle.ensures) in

@@ -5,7 +5,7 @@ use Rattle.scr_search.proofs.search_tables.SearchTables.number_after.Goals as go
 
 pub returns : goal.returns
 returns g c = λ cube turned seen number by.
-    let v = g.V.PartViews.views in
+    let v = g.P.Part.views in
     let e = c.extent-extent.result.now in
     let are = c.extent-extent.ensures.views in
     let self = c.args.self.now in

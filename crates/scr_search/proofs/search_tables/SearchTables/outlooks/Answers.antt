@@ -5,7 +5,7 @@ use Rattle.scr_search.proofs.search_tables.SearchTables.outlooks.Goals as goal
 
 pub returns-then-of_one-clause-one : goal.returns-then-of_one-clause-one
 returns-then-of_one-clause-one g c = λ is.
-    let v = g.V.PartViews.views in
+    let v = g.P.Part.views in
     let are = c.extent-extent.ensures.views in
     let self = c.args.self.now in
     IfOk-outlooks (λ all. all.items) (one_line v) c.extent-extent.result.now _ c.extent-extent.ensures.same self.one_slice _ c.stays_below.ensures
@@ -14,7 +14,7 @@ returns-then-of_one-clause-one g c = λ is.
 
 pub returns-else-of_one-clause-other : goal.returns-else-of_one-clause-other
 returns-else-of_one-clause-other g c = λ is.
-    let v = g.V.PartViews.views in
+    let v = g.P.Part.views in
     let are = c.extent-extent.ensures.views in
     let self = c.args.self.now in
     IfOk-outlooks (λ all. all.items) (other_line v) c.extent-extent.result.now _ c.extent-extent.ensures.same self.other_slice _ c.stays_below-else-of_one.ensures

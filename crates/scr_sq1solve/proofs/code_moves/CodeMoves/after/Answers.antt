@@ -1,5 +1,5 @@
 use Rattle.std.proofs.Common.{refl}
-use Rattle.scr_sq1solve.proofs.CodeMovesLaws.{made}
+use Rattle.scr_sq1solve.proofs.HomeStage.{made}
 use Rattle.scr_sq1solve.proofs.code_moves.CodeMoves.after.Goals as goal
 
 pub returns : goal.returns

@@ -1,4 +1,4 @@
-use Rattle.scr_sq1solve.proofs.CodeMovesLaws.{corners-led}
+use Rattle.scr_sq1solve.proofs.HomeStage.{corners-led}
 use Rattle.scr_sq1solve.proofs.code_moves.CodeMoves.corners_after.Goals as goal
 
 pub target-requires-clause-led : goal.target-requires-clause-led

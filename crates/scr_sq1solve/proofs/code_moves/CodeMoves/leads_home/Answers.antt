@@ -1,4 +1,4 @@
-use Rattle.scr_sq1solve.proofs.CodeMovesLaws.{elsewhere, told_by_place}
+use Rattle.scr_sq1solve.proofs.HomeStage.{elsewhere, told_by_place}
 use Rattle.scr_sq1solve.proofs.code_moves.CodeMoves.leads_home.Goals as goal
 
 pub returns-then-corners_after-eq0 : goal.returns-then-corners_after-eq0

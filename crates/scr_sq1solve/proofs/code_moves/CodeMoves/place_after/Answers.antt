@@ -1,5 +1,5 @@
 use Rattle.std.proofs.Common.{◌+◌, ◌*◌, ◌%◌, ap}
-use Rattle.scr_sq1solve.proofs.CodeMovesLaws.{rows-led}
+use Rattle.scr_sq1solve.proofs.HomeStage.{rows-led}
 use Rattle.scr_sq1solve.proofs.code_moves.CodeMoves.place_after.Goals as goal
 
 pub target-requires-clause-led : goal.target-requires-clause-led

@@ -1,4 +1,4 @@
-use Rattle.scr_sq1solve.proofs.CodeSteps.{IsKept-home, IsKept-quarters}
+use Rattle.scr_sq1solve.proofs.PairingStage.{IsKept-home, IsKept-quarters}
 use Rattle.scr_sq1solve.proofs.HomeStage.{StaysBelow-square}
 use Rattle.scr_sq1solve.proofs.code_moves.SquareMoves.build.Goals as goal
 

@@ -1,13 +1,9 @@
 use Rattle.std.proofs.Common.{◌≡◌, false, take}
 use Rattle.std.specs.List.{list_any}
-use Rattle.scr_combinatorics.specs.Play.{play}
-use Rattle.scr_sq1.specs.Units.{sq1_after, solved_sq1}
 use Rattle.scr_combinatorics.specs.Lists.{numbers_from}
-use Rattle.scr_sq1solve.specs.Stages.{quarter_word}
-use Rattle.scr_sq1solve.specs.Tables.{square_index, square_state, has_index}
+use Rattle.scr_sq1solve.specs.Stages.{last_stage}
+use Rattle.scr_sq1solve.specs.Tables.{leads_home, square_numbered}
 use Rattle.scr_sq1solve.proofs.code_moves.SquareMovesCoord.is_goal.Given as goal
 
 abbrev pub invariant-loop-number : goal.invariant-loop-number
-invariant-loop-number l =
-    list_any (λ k. has_index square_index (square_index solved_sq1) (play sq1_after (square_state l.position) (quarter_word k)))
-    (take l.number (numbers_from 0 16)) ≡ false
+invariant-loop-number l = list_any (leads_home square_numbered last_stage l.position) (take l.number (numbers_from 0 16)) ≡ false

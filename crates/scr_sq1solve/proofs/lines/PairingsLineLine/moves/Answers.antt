@@ -1,11 +1,12 @@
 use Rattle.std.proofs.Common.{sym, subst}
 use Rattle.std.specs.Prelude.{All}
 use Rattle.scr_combinatorics.specs.Permutations.{IsPermutation}
-use Rattle.scr_sq1solve.proofs.KeptLetters.{moved-corners, moved-edges}
+use Rattle.scr_sq1solve.specs.declared.letter_places.Part.TheVariants.{Corners, Edges}
+use Rattle.scr_sq1solve.proofs.PairingStage.{All-moved}
 use Rattle.scr_sq1solve.proofs.lines.PairingsLineLine.moves.Goals as goal
 
-pub new-corners-requires : goal.new-corners-requires
-new-corners-requires c = subst (All (IsPermutation 8)) (sym c.letter_places-places.ensures.corners) moved-corners
+pub new-requires : goal.new-requires
+new-requires c = subst (All (IsPermutation 8)) (sym c.letter_places-corners.ensures) (All-moved Corners)
 
-pub new-edges-requires : goal.new-edges-requires
-new-edges-requires c = subst (All (IsPermutation 8)) (sym c.letter_places-places.ensures.edges) moved-edges
+pub new-requires-2 : goal.new-requires-2
+new-requires-2 c = subst (All (IsPermutation 8)) (sym c.letter_places-edges.ensures) (All-moved Edges)

@@ -1,7 +1,7 @@
 use Rattle.scr_sq1solve.proofs.MinimaLaws.{after-twist, after-number, top_of, bottom_of}
 use Rattle.std.proofs.Common.{arith}
 use Rattle.std.proofs.lemmas.Int.{ints}
-use Rattle.scr_sq1solve.proofs.ShapeParts.{after-amounts}
+use Rattle.scr_sq1solve.proofs.ShapeStage.{after-amounts}
 use Rattle.scr_sq1solve.proofs.minima.Sq1MovesMoves.after.Goals as goal
 
 pub returns-then-turn-eq-TWIST : goal.returns-then-turn-eq-TWIST

@@ -1,4 +1,4 @@
-use Rattle.scr_sq1solve.proofs.ListCoordinates.{StaysBelow-pairing_lists}
+use Rattle.scr_sq1solve.proofs.PairingStage.{StaysBelow-pairing_lists}
 use Rattle.scr_sq1solve.proofs.pairing_lists.PairingLists.new.Goals as goal
 
 pub invariant_of-result-clause-stays : goal.invariant_of-result-clause-stays

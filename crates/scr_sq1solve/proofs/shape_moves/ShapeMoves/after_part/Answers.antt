@@ -1,5 +1,5 @@
 use Rattle.std.proofs.Common.{◌∙◌}
-use Rattle.scr_sq1solve.proofs.ShapeParts.{part-seen, parts-below}
+use Rattle.scr_sq1solve.proofs.ShapeStage.{part-seen, parts-below}
 use Rattle.scr_sq1solve.proofs.shape_moves.ShapeMoves.after_part.Goals as goal
 
 pub returns-clause-value : goal.returns-clause-value

@@ -1,6 +1,6 @@
 use Rattle.std.proofs.Common.{◌+◌, sym, ap, ◌∙◌}
 use Rattle.std.specs.Prelude.{option_and_then}
-use Rattle.scr_sq1solve.proofs.ShapeParts.{part_after, layers-index}
+use Rattle.scr_sq1solve.proofs.ShapeStage.{part_after, layers-index}
 use Rattle.scr_sq1solve.proofs.shape_moves.ShapeMoves.turned.Goals as goal
 
 pub returns-in_err-topped-clause-value : goal.returns-in_err-topped-clause-value

@@ -5,7 +5,7 @@ use Rattle.scr_combinatorics.proofs.StageLaws.{by_letters-played}
 use Rattle.scr_sq1.specs.Units.{sq1_after}
 use Rattle.scr_sq1solve.specs.Stages.{shape_letter}
 use Rattle.scr_sq1solve.specs.Tables.{shapes_index, shapes_state}
-use Rattle.scr_sq1solve.proofs.ShapeParts.{part_after, letter-index}
+use Rattle.scr_sq1solve.proofs.ShapeStage.{part_after, letter-index}
 use Rattle.scr_sq1solve.proofs.shape_moves.ShapeMovesCoord.after.Goals as goal
 
 pub returns-in_err-turned : goal.returns-in_err-turned

@@ -2,7 +2,7 @@ use Rattle.std.proofs.Common.{◌++◌, ◌∷◌, [], sym, ap, ◌∙◌}
 use Rattle.scr_positions.specs.Moves.{each_below}
 use Rattle.scr_positions.proofs.MoveLaws.{each_below-none, each_below-more}
 use Rattle.scr_sq1solve.specs.Tables.{shapes_state}
-use Rattle.scr_sq1solve.proofs.ShapeParts.{StaysBelow-parts}
+use Rattle.scr_sq1solve.proofs.ShapeStage.{StaysBelow-parts}
 use Rattle.scr_sq1solve.proofs.shape_states.ShapeStates.build.Goals as goal
 
 pub loop-index-init : goal.loop-index-init

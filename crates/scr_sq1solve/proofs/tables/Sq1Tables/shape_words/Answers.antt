@@ -4,7 +4,7 @@ use Rattle.std.proofs.lemmas.List.Elements.{All-take}
 use Rattle.scr_sq1solve.specs.Tables.{shapes_coordinate}
 use Rattle.scr_sq1solve.specs.Totals.{is_shape_word, shape_words}
 use Rattle.scr_table.specs.Words.{words_to_goal}
-use Rattle.scr_sq1solve.proofs.ShapeWordLaws.{words-by_index, All-shape_words, short-shape_words, first-shape_word}
+use Rattle.scr_sq1solve.proofs.TotalLaws.{words-by_index, All-shape_words, first-shape_word}
 use Rattle.scr_sq1solve.proofs.tables.Sq1Tables.shape_words.Goals as goal
 
 pub returns-clause-words : goal.returns-clause-words
@@ -17,13 +17,13 @@ pub returns-clause-each : goal.returns-clause-each
 returns-clause-each c =
     let s = c.args.state.now in
     let Passes : List ℕ → Type 0 = λ word. IsTrue (is_shape_word s word) in
-    subst (All Passes) (sym (returns-clause-words c)) (All-take Passes c.args.wanted (shape_words s) (All-shape_words s))
+    subst (All Passes) (sym (returns-clause-words c)) (All-take Passes c.args.wanted (shape_words s) (All-shape_words s Passes (λ word is. is.1)))
 
 pub returns-clause-short : goal.returns-clause-short
 returns-clause-short c =
     let s = c.args.state.now in
     let Short : List ℕ → Type 0 = λ word. length word ≤ 13 in
-    subst (All Short) (sym (returns-clause-words c)) (All-take Short c.args.wanted (shape_words s) (short-shape_words s))
+    subst (All Short) (sym (returns-clause-words c)) (All-take Short c.args.wanted (shape_words s) (All-shape_words s Short (λ word is. is.0)))
 
 pub returns-clause-first : goal.returns-clause-first
 returns-clause-first c = λ some.

@@ -1,10 +1,8 @@
-use Rattle.std.proofs.Common.{ℕ, ◌<◌, List, [], length, get_or, map, ap, ◌∙◌, subst, sym}
+use Rattle.std.proofs.Common.{[], get_or, ap, ◌∙◌}
 use Rattle.scr_combinatorics.specs.Permutations.{IsPermutation}
 use Rattle.scr_combinatorics.proofs.PermutationLaws.{IsPermutation-pick}
 use Rattle.scr_orbit.specs.declared.placed.PlaceTurn.{PlaceTurn}
-use Rattle.scr_orbit.specs.PlaceTurns.{rearrangement_of}
 use Rattle.scr_orbit.proofs.OrbitLaws.{places_in}
-use Rattle.scr_coord.specs.Projections.{AreTurns}
 use Rattle.scr_coord.proofs.ProjectionLaws.{turn_read, after_read}
 use Rattle.scr_stages.specs.Tetrads.{corners_view}
 use Rattle.scr_stages.proofs.corner_lists.CornerListsCoord.after.Goals as goal
@@ -12,22 +10,18 @@ use Rattle.scr_stages.proofs.corner_lists.CornerListsCoord.after.Goals as goal
 abbrev none : PlaceTurn 8
 none = record { places = []; added = [] }
 
-turn_at : (turns : List (PlaceTurn 8)) (t : ℕ) → AreTurns (λ turn. IsPermutation 8 turn.places) turns
-    → t < length (map rearrangement_of turns) → IsPermutation 8 (get_or turns t none).places
-turn_at turns t valid lt = turn_read (λ turn. IsPermutation 8 turn.places) turns t none valid lt
-
 pub pick_into-requires-clause-places : goal.pick_into-requires-clause-places
 pick_into-requires-clause-places g c =
     let turns = c.args.self.now.turns.now in
-    places_in 8 (get_or turns c.args.turn none).places c.list_at.result (turn_at turns c.args.turn c.args.self.now.valid c.requires.turn)
-    c.list_at.ensures.valid.size
+    places_in 8 (get_or turns c.args.turn none).places c.list_at.result
+    (turn_read (λ turn. IsPermutation 8 turn.places) turns c.args.turn none c.args.self.now.valid c.requires.turn) c.list_at.ensures.valid.size
 
 pub number_of-requires : goal.number_of-requires
 number_of-requires g c =
     let turns = c.args.self.now.turns.now in
-    subst (IsPermutation 8) (sym c.pick_into.ensures)
+    rw c.pick_into.ensures
     (IsPermutation-pick 8 c.list_at.result (get_or turns c.args.turn none).places c.list_at.ensures.valid
-    (turn_at turns c.args.turn c.args.self.now.valid c.requires.turn))
+    (turn_read (λ turn. IsPermutation 8 turn.places) turns c.args.turn none c.args.self.now.valid c.requires.turn))
 
 pub returns : goal.returns
 returns g c =

@@ -9,12 +9,13 @@ parts_of middle second first corners = record { middle = middle; second = second
 pub number-requires : goal.number-requires
 number-requires c =
     let parts = c.parts-parts in
-    turned_below c.args.self.now c.args.position c.requires.position parts.result parts.ensures.parts parts.ensures.below c.args.turn c.requires.turn
-    (parts_of c.target.result c.target-2.result c.target-3.result c.target-4.result) c.target.ensures c.target-2.ensures c.target-3.ensures c.target-4.ensures
+    turned_below c.args.self.now c.args.position c.requires.position parts.result
+    (parts_of c.target.result c.target-2.result c.target-3.result c.target-4.result) parts.ensures.parts c.args.turn c.requires.turn
+    c.target.ensures c.target-2.ensures c.target-3.ensures c.target-4.ensures
 
 pub returns : goal.returns
 returns c =
     let parts = c.parts-parts in
-    turned_number c.args.self.now c.args.position c.requires.position parts.result parts.ensures.parts parts.ensures.below c.args.turn c.requires.turn
-    (parts_of c.target.result c.target-2.result c.target-3.result c.target-4.result) c.target.ensures c.target-2.ensures c.target-3.ensures c.target-4.ensures
-    c.number.result c.number.ensures.number
+    turned_number c.args.self.now c.args.position c.requires.position parts.result
+    (parts_of c.target.result c.target-2.result c.target-3.result c.target-4.result) parts.ensures.parts c.args.turn c.requires.turn
+    c.target.ensures c.target-2.ensures c.target-3.ensures c.target-4.ensures c.number.result c.number.ensures.number

@@ -1,9 +1,9 @@
-use Rattle.std.proofs.Common.{ap, ◌∙◌, arith}
+use Rattle.std.proofs.Common.{ap, ◌∙◌}
 use Rattle.scr_combinatorics.specs.Permutations.{permutation_number}
 use Rattle.scr_stages.specs.Stages.{middle_edges}
 use Rattle.scr_stages.specs.Numbers.{first_edges, second_edges}
 use Rattle.scr_stages.specs.Tetrads.{in_block, half_corners_number}
-use Rattle.scr_stages.proofs.HalfCubes.{half_corners_number-lt, IsTetradsHome-half}
+use Rattle.scr_stages.proofs.HalfCubes.{part_numbers}
 use Rattle.scr_stages.proofs.half_parts.HalfParts.of.Goals as goal
 
 pub returns-clause-parts : goal.returns-clause-parts
@@ -17,12 +17,4 @@ returns-clause-parts c =
     }
 
 pub returns-clause-below : goal.returns-clause-below
-returns-clause-below c =
-    let cube = c.args.cube.now in
-    let is = (returns-clause-parts c).corners_is in
-    record {
-      middle_below = c.block_number.ensures.below;
-      second_below = c.block_number-2.ensures.below;
-      first_below = c.block_number-3.ensures.below;
-      corners_below = omega (arith, is, half_corners_number-lt cube.corners.pieces c.requires.domino.cube.corners.pieces (IsTetradsHome-half cube c.requires).corners);
-    }
+returns-clause-below c = part_numbers c.args.cube.now _ _ _ _ c.requires (returns-clause-parts c)

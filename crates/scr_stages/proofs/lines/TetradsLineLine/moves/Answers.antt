@@ -5,12 +5,10 @@ use Rattle.scr_positions.specs.Products.{product_coordinate}
 use Rattle.scr_positions.proofs.SearchLaws.{IfOk-shows}
 use Rattle.scr_coord.specs.Projections.{projection, place_set_view}
 use Rattle.scr_stages.specs.Numbers.{first_edges}
-use Rattle.scr_stages.specs.Tables.{corners_by}
 use Rattle.scr_stages.specs.Tetrads.{tetrads_view}
-use Rattle.scr_stages.proofs.StageWords.{StaysBelow-corners, corner_moves, outer_moves}
+use Rattle.scr_stages.proofs.StageWords.{StaysBelow-corners, outer_moves}
 use Rattle.scr_stages.proofs.TurnFacts.{tetrads_numbers}
 use Rattle.scr_stages.proofs.lines.TetradsLineLine.moves.Goals as goal
-use Rattle.scr_stages.specs.Stages.{domino_turns}
 
 pub block_edges_turned-edges-requires : goal.block_edges_turned-edges-requires
 block_edges_turned-edges-requires c =
@@ -18,8 +16,7 @@ block_edges_turned-edges-requires c =
 
 pub new-indexes-requires-clause-stays : goal.new-indexes-requires-clause-stays
 new-indexes-requires-clause-stays c =
-    subst (λ moves. StaysBelow (projection tetrads_view moves)) (sym c.corners_turned-corners.ensures.turns)
-    (StaysBelow-corners (corners_by domino_turns) corner_moves)
+    subst (λ moves. StaysBelow (projection tetrads_view moves)) (sym c.corners_turned-corners.ensures.turns) StaysBelow-corners
 
 pub returns : goal.returns
 returns c =

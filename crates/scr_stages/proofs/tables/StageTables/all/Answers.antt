@@ -5,5 +5,4 @@ use Rattle.scr_stages.proofs.tables.StageTables.all.Goals as goal
 
 pub returns-clause-whole : goal.returns-clause-whole
 returns-clause-whole c =
-    let t = c.args.self.now in
-    no_gaps stage_lines (t.flips ∷ t.slice ∷ t.tetrads ∷ t.halves ∷ []) c.args.self.now.built
+    let t = c.args.self.now in no_gaps stage_lines (t.flips ∷ t.slice ∷ t.tetrads ∷ t.halves ∷ []) t.built

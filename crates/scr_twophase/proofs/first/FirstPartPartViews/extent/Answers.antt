@@ -1,5 +1,0 @@
-use Rattle.scr_twophase.proofs.FirstSteps.{AreViews-first}
-use Rattle.scr_twophase.proofs.first.FirstPartPartViews.extent.Goals as goal
-
-pub returns-clause-views : goal.returns-clause-views
-returns-clause-views c = AreViews-first

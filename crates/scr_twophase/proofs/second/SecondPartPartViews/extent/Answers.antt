@@ -1,5 +1,0 @@
-use Rattle.scr_twophase.proofs.SecondSteps.{AreViews-second}
-use Rattle.scr_twophase.proofs.second.SecondPartPartViews.extent.Goals as goal
-
-pub returns-clause-views : goal.returns-clause-views
-returns-clause-views c = AreViews-second
