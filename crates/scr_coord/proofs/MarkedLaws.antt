@@ -9,7 +9,7 @@ use Rattle.scr_combinatorics.specs.PlaceSets.{IsPlaceSetFrom, IsPlaceSet}
 use Rattle.scr_combinatorics.proofs.Counts.{one_if, total_by, total_by-rearranged}
 use Rattle.scr_combinatorics.proofs.PlaceSets.{IsPlaceSetFrom-lower}
 use Rattle.scr_combinatorics.proofs.PermutationLaws.{IsRearranged-permutations, IsPermutation-numbers_from}
-use Rattle.scr_orbit.specs.Orbits.{Rearrangement}
+use Rattle.scr_orbit.specs.Orbits.{Orbit}
 use Rattle.scr_coord.specs.Projections.{marked_from, stands_in, turned_set}
 
 -- ---- the places of marked pieces
@@ -97,13 +97,13 @@ marked-own low (suc count) n (x ∷ xs) e h =
     ]
 
 -- a turned set is a set of as many places
-pub IsPlaceSet-turned : (n k : ℕ) (set : List ℕ) (r : Rearrangement) → IsPlaceSet n k set → IsPermutation n r.places
+pub IsPlaceSet-turned : (n k : ℕ) (set : List ℕ) (r : Orbit) → IsPlaceSet n k set → IsPermutation n r.pieces
     → IsPlaceSet n k (turned_set set r)
 IsPlaceSet-turned n k set r h turn = record {
-  size = length-marked (stands_in set) 0 r.places
-      ∙ total_by-rearranged (λ x. one_if (stands_in set x)) r.places (numbers_from 0 n) (IsRearranged-permutations n r.places (numbers_from 0 n) turn (IsPermutation-numbers_from n))
+  size = length-marked (stands_in set) 0 r.pieces
+      ∙ total_by-rearranged (λ x. one_if (stands_in set x)) r.pieces (numbers_from 0 n) (IsRearranged-permutations n r.pieces (numbers_from 0 n) turn (IsPermutation-numbers_from n))
       ∙ sym (length-marked (stands_in set) 0 (numbers_from 0 n))
       ∙ ap length (marked-own 0 n n set (omega arith) h.increasing)
       ∙ h.size;
-  increasing = IsPlaceSetFrom-marked (stands_in set) 0 n r.places (omega (arith, turn.size));
+  increasing = IsPlaceSetFrom-marked (stands_in set) 0 n r.pieces (omega (arith, turn.size));
 }

@@ -8,7 +8,7 @@ use Rattle.scr_combinatorics.specs.Permutations.{IsPermutation}
 use Rattle.scr_combinatorics.specs.PlaceSets.{IsPlaceSet, place_set_number}
 use Rattle.scr_combinatorics.proofs.Counts.{one_if, total_by-rearranged}
 use Rattle.scr_combinatorics.proofs.PermutationLaws.{IsRearranged-permutations, IsPermutation-numbers_from}
-use Rattle.scr_orbit.specs.Orbits.{Rearrangement, IsOrbit, IsRearrangement, turned_orbit}
+use Rattle.scr_orbit.specs.Orbits.{Orbit, IsOrbit, turned_orbit}
 use Rattle.scr_orbit.proofs.OrbitLaws.{places_in, orbit_laws}
 use Rattle.scr_coord.specs.Projections.{marked_from, marked_places, stands_in, turned_set, place_set_view, projection, orbit_space}
 use Rattle.scr_coord.proofs.MarkedLaws.{length-marked, marked-same, stands_in-later, IsPlaceSetFrom-marked}
@@ -55,11 +55,11 @@ All-stand marked xs (k ∷ ks) below =
     (All-stand marked xs ks (All-tail (λ k. k < length xs) k ks below))
 
 -- After a turn marked pieces stand at the turned set of the places where they stood.
-pub marked-turned : (marked : ℕ → Bool) (xs : List ℕ) (r : Rearrangement) → All (λ k. k < length xs) r.places
-    → marked_places marked (pick xs r.places) ≡ turned_set (marked_places marked xs) r
+pub marked-turned : (marked : ℕ → Bool) (xs : List ℕ) (r : Orbit) → All (λ k. k < length xs) r.pieces
+    → marked_places marked (pick xs r.pieces) ≡ turned_set (marked_places marked xs) r
 marked-turned marked xs r below =
-    marked-map marked (λ k. slice_index xs k) 0 r.places
-    ∙ marked-same (λ k. marked (slice_index xs k)) (stands_in (marked_places marked xs)) 0 r.places (All-stand marked xs r.places below)
+    marked-map marked (λ k. slice_index xs k) 0 r.pieces
+    ∙ marked-same (λ k. marked (slice_index xs k)) (stands_in (marked_places marked xs)) 0 r.pieces (All-stand marked xs r.pieces below)
 
 -- and are as many as before
 pub IsPlaceSet-marked : (n k : ℕ) (marked : ℕ → Bool) (xs : List ℕ) → IsPermutation n xs
@@ -71,15 +71,15 @@ IsPlaceSet-marked n k marked xs h e = record {
   increasing = IsPlaceSetFrom-marked marked 0 n xs (omega (arith, h.size));
 }
 
-pub Follows-place_sets : (n m k : ℕ) (marked : ℕ → Bool) (home : List ℕ) (turns : List Rearrangement) → 0 < m → All (IsRearrangement n m) turns
+pub Follows-place_sets : (n m k : ℕ) (marked : ℕ → Bool) (home : List ℕ) (turns : List Orbit) → 0 < m → All (IsOrbit n m) turns
     → IsPlaceSet n k home → length (marked_places marked (numbers_from 0 n)) ≡ k
     → Follows (orbit_space m turns (IsOrbit n m) (λ o. marked_places marked o.pieces ≡ home)) (positions (projection (place_set_view n k home) turns))
     (λ o. place_set_number n (marked_places marked o.pieces))
 unfolding turned_orbit
 Follows-place_sets n m k marked home turns pos each set count =
     let l = IsListView-place_sets n k home set in
-    Follows-projection (place_set_view n k home) (IsPlaceSet n k) (IsRearrangement n m)
-    (record { one_to_one = l.one_to_one; turned = λ xs r h turn. l.turned xs r h turn.places; goal = l.goal })
-    (turned_orbit m) (IsOrbit n m) (λ o. marked_places marked o.pieces) (orbit_laws n m pos).valid
+    Follows-projection (place_set_view n k home) (IsPlaceSet n k) (IsOrbit n m)
+    (record { one_to_one = l.one_to_one; turned = λ xs r h turn. l.turned xs r h turn.pieces; goal = l.goal })
+    (turned_orbit m) (IsOrbit n m) (λ o. marked_places marked o.pieces) (orbit_laws n m pos).kept
     (λ o h. IsPlaceSet-marked n k marked o.pieces h.pieces count)
-    (λ o r h turn. marked-turned marked o.pieces r (places_in n r.places o.pieces turn.places h.pieces.size)) turns each
+    (λ o r h turn. marked-turned marked o.pieces r (places_in n r.pieces o.pieces turn.pieces h.pieces.size)) turns each

@@ -9,8 +9,8 @@ use Rattle.scr_combinatorics.specs.Twists.{IsTwists, twists_number}
 use Rattle.std.proofs.lemmas.List.{length-map}
 use Rattle.scr_combinatorics.specs.Permutations.{IsPermutation, permutation_number}
 use Rattle.scr_combinatorics.proofs.PlayLaws.{map-some}
-use Rattle.scr_orbit.specs.Orbits.{Rearrangement, IsOrbit, IsRearrangement, IsZeroSumOrbit, IsZeroSumRearrangement, turned_orbit, zeros}
-use Rattle.scr_orbit.specs.PlaceTurns.{rearrangement_of}
+use Rattle.scr_orbit.specs.Orbits.{Orbit, IsOrbit, IsZeroSumOrbit, turned_orbit, zeros}
+use Rattle.scr_orbit.specs.PlaceTurns.{made_by}
 use Rattle.scr_orbit.specs.declared.placed.PlaceTurn.{PlaceTurn}
 use Rattle.scr_orbit.proofs.OrbitLaws.{orbit_laws, zero_sum_laws}
 use Rattle.scr_orbit.proofs.Places.{turn-at}
@@ -23,34 +23,34 @@ use Rattle.scr_coord.proofs.ListViews.{IsListView, IsListView-twists, IsListView
 
 -- A turn that is read is one of those that are asked for.
 pub turn_read : {n : ℕ} (IsTurn : PlaceTurn n → Type 0) (turns : List (PlaceTurn n)) (t : ℕ) (turn : PlaceTurn n)
-    → AreTurns IsTurn turns → t < length (map rearrangement_of turns) → IsTurn (get_or turns t turn)
-turn_read IsTurn turns t turn valid lt = valid.each t turn (omega (arith, length-map turns rearrangement_of))
+    → AreTurns IsTurn turns → t < length (map made_by turns) → IsTurn (get_or turns t turn)
+turn_read IsTurn turns t turn valid lt = valid.each t turn (omega (arith, length-map turns made_by))
 
 -- The number of the turned list is where the turn leads.
 pub after_read : {n : ℕ} (v : ListView) (turns : List (PlaceTurn n)) (p t q : ℕ) (turn : PlaceTurn n) (seen : List ℕ)
-    → t < length (map rearrangement_of turns) → seen ≡ v.list_at p
-    → q ≡ v.number_of (v.turned seen (rearrangement_of (get_or turns t turn)))
-    → Some q ≡ (projection v (map rearrangement_of turns)).after p t
+    → t < length (map made_by turns) → seen ≡ v.list_at p
+    → q ≡ v.number_of (v.turned seen (made_by (get_or turns t turn)))
+    → Some q ≡ (projection v (map made_by turns)).after p t
 after_read v turns p t q turn seen lt e number =
-    ap Some (number ∙ ap (λ xs. v.number_of (v.turned xs (rearrangement_of (get_or turns t turn)))) e)
+    ap Some (number ∙ ap (λ xs. v.number_of (v.turned xs (made_by (get_or turns t turn)))) e)
     ∙ sym (ap (option_map (λ r. v.number_of (v.turned (v.list_at p) r)))
-    (turn-at turns (map rearrangement_of turns) t turn refl (omega (arith, length-map turns rearrangement_of))))
+    (turn-at turns (map made_by turns) t turn refl (omega (arith, length-map turns made_by))))
 
 -- Turns that keep the sum of the digits move the pieces.
 pub AreTurns-places : {n : ℕ} (base : ℕ) (turns : List (PlaceTurn n))
-    → AreTurns (λ turn. IsZeroSumRearrangement n base (rearrangement_of turn)) turns
+    → AreTurns (λ turn. IsZeroSumOrbit n base (made_by turn)) turns
     → AreTurns (λ turn. IsPermutation n turn.places) turns
-AreTurns-places base turns h = record { some = h.some; few = h.few; each = λ k d lt. (h.each k d lt).places }
+AreTurns-places base turns h = record { some = h.some; few = h.few; each = λ k d lt. (h.each k d lt).pieces }
 
 -- ---- projections go along with turns
 
-module _ {S : Type 0} (v : ListView) (IsList : List ℕ → Type 0) (IsTurn : Rearrangement → Type 0) (l : IsListView v IsList IsTurn)
-    (turned : S → Rearrangement → S) (IsValid : S → Type 0) (list_of : S → List ℕ)
-    (keeps : (s : S) (r : Rearrangement) → IsValid s → IsTurn r → IsValid (turned s r))
+module _ {S : Type 0} (v : ListView) (IsList : List ℕ → Type 0) (IsTurn : Orbit → Type 0) (l : IsListView v IsList IsTurn)
+    (turned : S → Orbit → S) (IsValid : S → Type 0) (list_of : S → List ℕ)
+    (keeps : (s : S) (r : Orbit) → IsValid s → IsTurn r → IsValid (turned s r))
     (seen : (s : S) → IsValid s → IsList (list_of s))
-    (moves : (s : S) (r : Rearrangement) → IsValid s → IsTurn r → list_of (turned s r) ≡ v.turned (list_of s) r) where
+    (moves : (s : S) (r : Orbit) → IsValid s → IsTurn r → list_of (turned s r) ≡ v.turned (list_of s) r) where
   -- where a turn leads, if there is one
-  step_by : (s : S) (o : Option Rearrangement) → IsValid s → ((r : Rearrangement) → o ≡ Some r → IsTurn r)
+  step_by : (s : S) (o : Option Orbit) → IsValid s → ((r : Orbit) → o ≡ Some r → IsTurn r)
       → option_map (λ r. v.number_of (v.turned (v.list_at (v.number_of (list_of s))) r)) o ≡ option_map (λ s. v.number_of (list_of s)) (option_map (turned s) o)
   step_by s None h turns = refl
   step_by s (Some r) h turns =
@@ -58,12 +58,12 @@ module _ {S : Type 0} (v : ListView) (IsList : List ℕ → Type 0) (IsTurn : Re
       ∙ ap (λ xs. Some (v.number_of xs)) (sym (moves s r h (turns r refl)))
 
   -- there is none past the last
-  guarded : (f : Rearrangement → ℕ) (turns : List Rearrangement) (t : ℕ) (b : Bool) → nat_lt t (length turns) ≡ b
+  guarded : (f : Orbit → ℕ) (turns : List Orbit) (t : ℕ) (b : Bool) → nat_lt t (length turns) ≡ b
       → cond b (option_map f (slice_get turns t)) None ≡ option_map f (slice_get turns t)
   guarded f turns t true e = refl
   guarded f turns t false e = ap (option_map f) (sym (slice_get_past turns t (ltb-false t (length turns) e)))
 
-  pub Follows-projection : (turns : List Rearrangement) → All IsTurn turns
+  pub Follows-projection : (turns : List Orbit) → All IsTurn turns
       → Follows (record { IsValid = IsValid; after = λ s t. option_map (turned s) (slice_get turns t); IsGoal = λ s. list_of s ≡ v.goal })
       (positions (projection v turns)) (λ s. v.number_of (list_of s))
   Follows-projection turns each = record {
@@ -82,19 +82,19 @@ module _ {S : Type 0} (v : ListView) (IsList : List ℕ → Type 0) (IsTurn : Re
     );
   }
 
-pub Follows-twists : (n base : ℕ) (turns : List Rearrangement) → 0 < n → 0 < base → All (IsZeroSumRearrangement n base) turns
+pub Follows-twists : (n base : ℕ) (turns : List Orbit) → 0 < n → 0 < base → All (IsZeroSumOrbit n base) turns
     → Follows (orbit_space base turns (IsZeroSumOrbit n base) (λ o. o.digits ≡ zeros n)) (positions (projection (twists_view n base) turns))
     (λ o. twists_number base o.digits)
 unfolding turned_orbit
 Follows-twists n base turns some pos each =
-    Follows-projection (twists_view n base) (IsTwists n base) (IsZeroSumRearrangement n base) (IsListView-twists n base some pos) (turned_orbit base)
-    (IsZeroSumOrbit n base) (λ o. o.digits) (zero_sum_laws n base pos).valid (λ o h. h.digits) (λ o r h k. refl) turns each
+    Follows-projection (twists_view n base) (IsTwists n base) (IsZeroSumOrbit n base) (IsListView-twists n base some pos) (turned_orbit base)
+    (IsZeroSumOrbit n base) (λ o. o.digits) (zero_sum_laws n base pos).kept (λ o h. h.digits) (λ o r h k. refl) turns each
 
-pub Follows-pieces : (n m : ℕ) (turns : List Rearrangement) → 0 < m → All (IsRearrangement n m) turns
+pub Follows-pieces : (n m : ℕ) (turns : List Orbit) → 0 < m → All (IsOrbit n m) turns
     → Follows (orbit_space m turns (IsOrbit n m) (λ o. o.pieces ≡ numbers_from 0 n)) (positions (projection (pieces_view n) turns))
     (λ o. permutation_number o.pieces)
 unfolding turned_orbit
 Follows-pieces n m turns pos each =
-    Follows-projection (pieces_view n) (IsPermutation n) (IsRearrangement n m)
-    (record { one_to_one = (IsListView-pieces n).one_to_one; turned = λ xs r h k. (IsListView-pieces n).turned xs r h k.places; goal = (IsListView-pieces n).goal })
-    (turned_orbit m) (IsOrbit n m) (λ o. o.pieces) (orbit_laws n m pos).valid (λ o h. h.pieces) (λ o r h k. refl) turns each
+    Follows-projection (pieces_view n) (IsPermutation n) (IsOrbit n m)
+    (record { one_to_one = (IsListView-pieces n).one_to_one; turned = λ xs r h k. (IsListView-pieces n).turned xs r h k.pieces; goal = (IsListView-pieces n).goal })
+    (turned_orbit m) (IsOrbit n m) (λ o. o.pieces) (orbit_laws n m pos).kept (λ o h. h.pieces) (λ o r h k. refl) turns each

@@ -6,7 +6,7 @@ use Rattle.scr_combinatorics.specs.Lists.{numbers_from, pick}
 use Rattle.scr_combinatorics.specs.Permutations.{factorial, permutation_number, permutation_at}
 use Rattle.scr_combinatorics.specs.PlaceSets.{binomial, place_set_number, place_set_at}
 use Rattle.scr_combinatorics.specs.Twists.{twists_number, twists_at}
-use Rattle.scr_orbit.specs.Orbits.{Orbit, Rearrangement, added_digits, turned_orbit, zeros}
+use Rattle.scr_orbit.specs.Orbits.{Orbit, added_digits, turned_orbit, zeros}
 use Rattle.scr_positions.specs.Coordinates.{Coordinate}
 use Rattle.scr_positions.specs.SearchSpaces.{SearchSpace}
 
@@ -15,12 +15,12 @@ pub record ListView : Type 0 where
   pub count : ℕ
   pub list_at : ℕ → List ℕ
   pub number_of : List ℕ → ℕ
-  pub turned : List ℕ → Rearrangement → List ℕ
+  pub turned : List ℕ → Orbit → List ℕ
   pub goal : List ℕ
 
 -- The coordinate that sees a list by its number: a turn leads to the number of the turned list of the list with this
 -- number.
-abbrev pub projection : ListView → List Rearrangement → Coordinate
+abbrev pub projection : ListView → List Orbit → Coordinate
 projection v turns = record {
   count = v.count;
   turns = length turns;
@@ -37,7 +37,7 @@ twists_view n base = record {
   count = base ^ (n - 1);
   list_at = twists_at n base;
   number_of = twists_number base;
-  turned = λ digits turn. added_digits base (pick digits turn.places) turn.added;
+  turned = λ digits turn. added_digits base (pick digits turn.pieces) turn.digits;
   goal = zeros n;
 }
 
@@ -56,8 +56,8 @@ stands_in xs x = list_any (λ y. y == x) xs
 
 -- The places at which the pieces of a set of places stand after a turn: those that get their piece from a place of the
 -- set.
-abbrev pub turned_set : List ℕ → Rearrangement → List ℕ
-turned_set set turn = marked_places (stands_in set) turn.places
+abbrev pub turned_set : List ℕ → Orbit → List ℕ
+turned_set set turn = marked_places (stands_in set) turn.pieces
 
 -- The set of the k places at which marked pieces stand; the goal is the set `home`.
 abbrev pub place_set_view : ℕ → ℕ → List ℕ → ListView
@@ -75,14 +75,14 @@ pieces_view n = record {
   count = factorial n;
   list_at = permutation_at n;
   number_of = permutation_number;
-  turned = λ pieces turn. pick pieces turn.places;
+  turned = λ pieces turn. pick pieces turn.pieces;
   goal = numbers_from 0 n;
 }
 
 -- ---- what they are projections of
 
--- An orbit as a search sees it: the turn of a number turns it by the rearrangement at that place.
-abbrev pub orbit_space : ℕ → List Rearrangement → (Orbit → Type 0) → (Orbit → Type 0) → SearchSpace Orbit
+-- An orbit as a search sees it: the turn of a number turns it by the one at that place.
+abbrev pub orbit_space : ℕ → List Orbit → (Orbit → Type 0) → (Orbit → Type 0) → SearchSpace Orbit
 orbit_space modulus turns IsValid IsGoal = record {
   IsValid = IsValid;
   after = λ o t. option_map (turned_orbit modulus o) (slice_get turns t);

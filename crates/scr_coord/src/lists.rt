@@ -2,7 +2,7 @@
 ghost use Rattle.std.specs.Prelude.{◌≡◌, ◌^◌, ◌<◌, ◌≤◌, map};
 ghost use Rattle.std.proofs.Props.{props};
 ghost use Rattle.scr_combinatorics.specs.Permutations.{IsPermutation, factorial};
-ghost use Rattle.scr_orbit.specs.PlaceTurns.{rearrangement_of};
+ghost use Rattle.scr_orbit.specs.PlaceTurns.{made_by};
 ghost use Rattle.scr_coord.specs.Projections.{AreTurns, projection, pieces_view};
 
 use scr_orbit::{PlaceTurn, pick_into};
@@ -28,7 +28,7 @@ impl<'a, const N: usize> Lists<'a, N> {
         requires valid { AreTurns (λ turn. IsPermutation N turn.places) turns.now }
         requires fits { factorial N < 2 ^ 32 }
         ensures { ⟦<Lists<'a, N> as Coord>⟧.coordinate result
-            ≡ projection (pieces_view N) (map rearrangement_of turns.now) }
+            ≡ projection (pieces_view N) (map made_by turns.now) }
     {
         Lists { turns }
     }
@@ -36,10 +36,10 @@ impl<'a, const N: usize> Lists<'a, N> {
 
 impl<const N: usize> Coord for Lists<'_, N> {
     ghost use Rattle.std.specs.Prelude.{map};
-    ghost use Rattle.scr_orbit.specs.PlaceTurns.{rearrangement_of};
+    ghost use Rattle.scr_orbit.specs.PlaceTurns.{made_by};
     ghost use Rattle.scr_coord.specs.Projections.{projection, pieces_view};
 
-    ghost coordinate = { λ t. projection (pieces_view N) (map rearrangement_of t.turns.now) };
+    ghost coordinate = { λ t. projection (pieces_view N) (map made_by t.turns.now) };
 
     fn count(&self) -> u32 {
         count_permutations(N)

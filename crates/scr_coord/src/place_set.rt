@@ -4,7 +4,7 @@ ghost use Rattle.std.proofs.Props.{props};
 ghost use Rattle.scr_combinatorics.specs.Permutations.{IsPermutation};
 ghost use Rattle.scr_combinatorics.specs.PlaceSets.{IsPlaceSet, binomial};
 ghost use Rattle.scr_combinatorics.proofs.PlaceSets.{IsPlaceSet-prop};
-ghost use Rattle.scr_orbit.specs.PlaceTurns.{rearrangement_of};
+ghost use Rattle.scr_orbit.specs.PlaceTurns.{made_by};
 ghost use Rattle.scr_coord.specs.Projections.{AreTurns, projection, place_set_view, marked_places, stands_in};
 
 use scr_orbit::PlaceTurn;
@@ -35,7 +35,7 @@ impl<'a, const N: usize, const K: usize> PlaceSet<'a, N, K> {
         requires fits { binomial N K < 2 ^ 32 }
         requires home { IsPlaceSet N K home }
         ensures { ⟦<PlaceSet<'a, N, K> as Coord>⟧.coordinate result
-            ≡ projection (place_set_view N K home.entry) (map rearrangement_of turns.now) }
+            ≡ projection (place_set_view N K home.entry) (map made_by turns.now) }
     {
         PlaceSet { turns, home }
     }
@@ -59,10 +59,10 @@ pub fn places_of(set: &[u8], list: &[u8], out: &mut [u8])
 
 impl<const N: usize, const K: usize> Coord for PlaceSet<'_, N, K> {
     ghost use Rattle.std.specs.Prelude.{map};
-    ghost use Rattle.scr_orbit.specs.PlaceTurns.{rearrangement_of};
+    ghost use Rattle.scr_orbit.specs.PlaceTurns.{made_by};
     ghost use Rattle.scr_coord.specs.Projections.{projection, place_set_view};
 
-    ghost coordinate = { λ t. projection (place_set_view N K t.home) (map rearrangement_of t.turns.now) };
+    ghost coordinate = { λ t. projection (place_set_view N K t.home) (map made_by t.turns.now) };
 
     fn count(&self) -> u32 {
         count_sets(N, K) as u32

@@ -1,8 +1,8 @@
 //! The digits of an orbit, as a coordinate.
 ghost use Rattle.std.specs.Prelude.{◌≡◌, ◌-◌, ◌^◌, ◌<◌, ◌≤◌, map};
 ghost use Rattle.std.proofs.Props.{props};
-ghost use Rattle.scr_orbit.specs.Orbits.{IsZeroSumRearrangement};
-ghost use Rattle.scr_orbit.specs.PlaceTurns.{rearrangement_of};
+ghost use Rattle.scr_orbit.specs.Orbits.{IsZeroSumOrbit};
+ghost use Rattle.scr_orbit.specs.PlaceTurns.{made_by};
 ghost use Rattle.scr_coord.specs.Projections.{AreTurns, projection, twists_view};
 
 use scr_orbit::{PlaceTurn, add_digits, pick_into};
@@ -17,7 +17,7 @@ pub struct Twists<'a, const N: usize, const BASE: usize> {
     turns: &'a [PlaceTurn<N>],
     ghost size: { (1 ≤ N) × (N ≤ 12) },
     ghost base: { (1 ≤ BASE) × (BASE ≤ 12) },
-    ghost valid: { AreTurns (λ turn. IsZeroSumRearrangement N BASE (rearrangement_of turn)) turns.now } by { Prim.hlevel props },
+    ghost valid: { AreTurns (λ turn. IsZeroSumOrbit N BASE (made_by turn)) turns.now } by { Prim.hlevel props },
     ghost fits: { BASE ^ (N - 1) < 2 ^ 32 },
 }
 
@@ -27,10 +27,10 @@ impl<'a, const N: usize, const BASE: usize> Twists<'a, N, BASE> {
     pub fn new(turns: &'a [PlaceTurn<N>]) -> Twists<'a, N, BASE>
         requires size { (1 ≤ N) × (N ≤ 12) }
         requires base { (1 ≤ BASE) × (BASE ≤ 12) }
-        requires valid { AreTurns (λ turn. IsZeroSumRearrangement N BASE (rearrangement_of turn)) turns.now }
+        requires valid { AreTurns (λ turn. IsZeroSumOrbit N BASE (made_by turn)) turns.now }
         requires fits { BASE ^ (N - 1) < 2 ^ 32 }
         ensures { ⟦<Twists<'a, N, BASE> as Coord>⟧.coordinate result
-            ≡ projection (twists_view N BASE) (map rearrangement_of turns.now) }
+            ≡ projection (twists_view N BASE) (map made_by turns.now) }
     {
         Twists { turns }
     }
@@ -40,7 +40,7 @@ impl<const N: usize, const BASE: usize> Coord for Twists<'_, N, BASE> {
     ghost use Rattle.std.specs.Prelude.{map};
     ghost use Rattle.scr_coord.specs.Projections.{projection, twists_view};
 
-    ghost coordinate = { λ t. projection (twists_view N BASE) (map rearrangement_of t.turns.now) };
+    ghost coordinate = { λ t. projection (twists_view N BASE) (map made_by t.turns.now) };
 
     fn count(&self) -> u32 {
         (BASE as u32).pow((N - 1) as u32)

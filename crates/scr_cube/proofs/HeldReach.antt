@@ -21,7 +21,7 @@ use Rattle.scr_notation.specs.Turns.{permits}
 use Rattle.scr_cube.specs.Cube333.{IsCube, solved_cube, cube_powers}
 use Rattle.scr_cube.specs.Held.{HeldState, IsHeld, IsSolvedHeld, solved_upright, solved_turned, solved_held, whole_turned, held_cube_after, faces_turned, hold_word, hold_centres, hold_of, holds, held_puzzle}
 use Rattle.scr_cube.specs.declared.held.TheConstants.{HOLDS}
-use Rattle.scr_cube.proofs.Laws333.{IsCube-solved}
+use Rattle.scr_cube.proofs.Laws333.{cube_laws}
 use Rattle.scr_cube.proofs.Holds.{at_each, of_holds, Contains-hold, Contains-whole, hold_centres-are, hold_centres-of, hold_of-lt, IsHoldWord-each, centres_played}
 use Rattle.scr_cube.proofs.HeldLaws.{step-of, IsHeld-after, held_cube_after-some, IsLawful-held, same_held, played-faces, played-centres, length-faces_turned, at_places}
 
@@ -134,7 +134,7 @@ pub IsReached-cube : (s : HeldState) → IsReached held_puzzle s → IsHeld s ×
 IsReached-cube s h =
     let start = h.1 in
     let cube = solved-cube start h.2 in
-    let begins : IsHeld start = record { cube = subst IsCube (sym cube) IsCube-solved; centres = solved-there start h.2 } in
+    let begins : IsHeld start = record { cube = subst IsCube (sym cube) cube_laws.solved; centres = solved-there start h.2 } in
     (play-keeps held_cube_after IsHeld IsLawful-held.keeps start s h.0 begins h.3, (faces_turned start.centres h.0, start.cube, cube, played-faces start s h.0 h.3))
 
 pub from_solved : (s : HeldState) → IsHeld s → IsReached (power_puzzle cube_powers) s.cube

@@ -6,7 +6,7 @@ use Rattle.std.proofs.lemmas.Option.{slice_get-get_or, slice_get_past}
 use Rattle.scr_combinatorics.specs.Play.{play}
 use Rattle.scr_combinatorics.specs.Stages.{by_letters}
 use Rattle.scr_combinatorics.proofs.PlayLaws.{play-one}
-use Rattle.scr_orbit.specs.Actions.{all_powers}
+use Rattle.scr_orbit.specs.Monoids.{all_powers}
 use Rattle.scr_orbit.specs.PowerPuzzles.{after_letter, all_turns}
 use Rattle.scr_notation.specs.TurnNumbers.{face_turn_at}
 use Rattle.scr_cube.specs.Cube333.{CubeState, cube_powers}

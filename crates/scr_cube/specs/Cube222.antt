@@ -6,7 +6,7 @@ use Rattle.std.specs.Prelude.{ℕ, List, [], ◌∷◌, slice_index}
 use Rattle.scr_combinatorics.specs.Permutations.{permutation_number, permutation_at}
 use Rattle.scr_combinatorics.specs.Twists.{twists_number, twists_at}
 use Rattle.scr_combinatorics.specs.Numbered.{Numbers, numbers_by_digits, Numbered, numbered_by_digits}
-use Rattle.scr_orbit.specs.Orbits.{Orbit, Rearrangement, IsZeroSumOrbit, zeros, solved_orbit, orbit_action}
+use Rattle.scr_orbit.specs.Orbits.{Orbit, IsZeroSumOrbit, zeros, solved_orbit, orbit_monoid}
 use Rattle.scr_orbit.specs.PowerPuzzles.{PowerPuzzle}
 use Rattle.scr_notation.specs.declared.turn.Turn.{Turn}
 use Rattle.scr_notation.specs.FaceLetters.{letters_of_faces}
@@ -16,20 +16,19 @@ abbrev pub IsCorners222 : Orbit → Type 0
 IsCorners222 = IsZeroSumOrbit 7 3
 
 -- The quarter turns of U, R and F: which place's corner comes to each place, and the twist added.
-abbrev pub quarters_222 : List Rearrangement
+abbrev pub quarters_222 : List Orbit
 quarters_222 =
-    record { places = 3 ∷ 0 ∷ 1 ∷ 2 ∷ 4 ∷ 5 ∷ 6 ∷ []; added = zeros 7 }
-    ∷ record { places = 4 ∷ 1 ∷ 2 ∷ 0 ∷ 6 ∷ 5 ∷ 3 ∷ []; added = 2 ∷ 0 ∷ 0 ∷ 1 ∷ 1 ∷ 0 ∷ 2 ∷ [] }
-    ∷ record { places = 1 ∷ 5 ∷ 2 ∷ 3 ∷ 0 ∷ 4 ∷ 6 ∷ []; added = 1 ∷ 2 ∷ 0 ∷ 0 ∷ 2 ∷ 1 ∷ 0 ∷ [] }
+    record { pieces = 3 ∷ 0 ∷ 1 ∷ 2 ∷ 4 ∷ 5 ∷ 6 ∷ []; digits = zeros 7 }
+    ∷ record { pieces = 4 ∷ 1 ∷ 2 ∷ 0 ∷ 6 ∷ 5 ∷ 3 ∷ []; digits = 2 ∷ 0 ∷ 0 ∷ 1 ∷ 1 ∷ 0 ∷ 2 ∷ [] }
+    ∷ record { pieces = 1 ∷ 5 ∷ 2 ∷ 3 ∷ 0 ∷ 4 ∷ 6 ∷ []; digits = 1 ∷ 2 ∷ 0 ∷ 0 ∷ 2 ∷ 1 ∷ 0 ∷ [] }
     ∷ []
 
-unfoldable pub solved_222 : Orbit
+abbrev pub solved_222 : Orbit
 solved_222 = solved_orbit 7
 
 -- The 2x2x2 as data. Its 9 turns are U U2 U' R R2 R' F F2 F', in the order of their numbers.
-abbrev pub powers_222 : PowerPuzzle Orbit Rearrangement Turn
-powers_222 =
-    record { letters = letters_of_faces; action = orbit_action 7 3; generators = quarters_222; solved = solved_222 }
+abbrev pub powers_222 : PowerPuzzle Orbit Turn
+powers_222 = record { letters = letters_of_faces; monoid = orbit_monoid 7 3; generators = quarters_222 }
 
 -- ---- numbers
 

@@ -9,8 +9,8 @@ use Rattle.std.specs.List.{zip}
 use Rattle.scr_combinatorics.specs.Permutations.{parity, permutation_number, permutation_at, half_at}
 use Rattle.scr_combinatorics.specs.Twists.{twists_number, twists_at}
 use Rattle.scr_combinatorics.specs.Numbered.{Numbers, numbers_by_digits, Numbered, numbered_by_digits}
-use Rattle.scr_orbit.specs.Actions.{Action}
-use Rattle.scr_orbit.specs.Orbits.{Orbit, Rearrangement, IsZeroSumOrbit, IsZeroSumRearrangement, turned_orbit, composed, zeros, identity, solved_orbit}
+use Rattle.scr_orbit.specs.Monoids.{Monoid}
+use Rattle.scr_orbit.specs.Orbits.{Orbit, IsZeroSumOrbit, turned_orbit, zeros, solved_orbit}
 use Rattle.scr_orbit.specs.PowerPuzzles.{PowerPuzzle}
 use Rattle.scr_notation.specs.declared.turn.Turn.{Turn}
 use Rattle.scr_notation.specs.FaceLetters.{letters_of_faces}
@@ -27,60 +27,48 @@ pub record IsCube (c : CubeState) : Type 0 where
   pub edges : IsZeroSumOrbit 12 2 c.edges
   pub same_parity : parity c.corners.pieces ≡ parity c.edges.pieces
 
--- ---- turns
-
--- What a turn does to the corners and to the edges.
-pub record CubeTurn : Type 0 where
-  pub corners : Rearrangement
-  pub edges : Rearrangement
-
--- A turn that keeps cubes valid.
-pub record IsCubeTurn (r : CubeTurn) : Type 0 where
-  pub corners : IsZeroSumRearrangement 8 3 r.corners
-  pub edges : IsZeroSumRearrangement 12 2 r.edges
-  pub same_parity : parity r.corners.places ≡ parity r.edges.places
+-- ---- turns, each told by what it makes of the solved cube
 
 -- The quarter turns of U, R, F, D, L and B: which place's corner comes to each place, and what is added to its twist.
-abbrev pub corner_quarters : List Rearrangement
+abbrev pub corner_quarters : List Orbit
 corner_quarters =
-    record { places = 3 ∷ 0 ∷ 1 ∷ 2 ∷ 4 ∷ 5 ∷ 6 ∷ 7 ∷ []; added = zeros 8 }
-    ∷ record { places = 4 ∷ 1 ∷ 2 ∷ 0 ∷ 7 ∷ 5 ∷ 6 ∷ 3 ∷ []; added = 2 ∷ 0 ∷ 0 ∷ 1 ∷ 1 ∷ 0 ∷ 0 ∷ 2 ∷ [] }
-    ∷ record { places = 1 ∷ 5 ∷ 2 ∷ 3 ∷ 0 ∷ 4 ∷ 6 ∷ 7 ∷ []; added = 1 ∷ 2 ∷ 0 ∷ 0 ∷ 2 ∷ 1 ∷ 0 ∷ 0 ∷ [] }
-    ∷ record { places = 0 ∷ 1 ∷ 2 ∷ 3 ∷ 5 ∷ 6 ∷ 7 ∷ 4 ∷ []; added = zeros 8 }
-    ∷ record { places = 0 ∷ 2 ∷ 6 ∷ 3 ∷ 4 ∷ 1 ∷ 5 ∷ 7 ∷ []; added = 0 ∷ 1 ∷ 2 ∷ 0 ∷ 0 ∷ 2 ∷ 1 ∷ 0 ∷ [] }
-    ∷ record { places = 0 ∷ 1 ∷ 3 ∷ 7 ∷ 4 ∷ 5 ∷ 2 ∷ 6 ∷ []; added = 0 ∷ 0 ∷ 1 ∷ 2 ∷ 0 ∷ 0 ∷ 2 ∷ 1 ∷ [] }
+    record { pieces = 3 ∷ 0 ∷ 1 ∷ 2 ∷ 4 ∷ 5 ∷ 6 ∷ 7 ∷ []; digits = zeros 8 }
+    ∷ record { pieces = 4 ∷ 1 ∷ 2 ∷ 0 ∷ 7 ∷ 5 ∷ 6 ∷ 3 ∷ []; digits = 2 ∷ 0 ∷ 0 ∷ 1 ∷ 1 ∷ 0 ∷ 0 ∷ 2 ∷ [] }
+    ∷ record { pieces = 1 ∷ 5 ∷ 2 ∷ 3 ∷ 0 ∷ 4 ∷ 6 ∷ 7 ∷ []; digits = 1 ∷ 2 ∷ 0 ∷ 0 ∷ 2 ∷ 1 ∷ 0 ∷ 0 ∷ [] }
+    ∷ record { pieces = 0 ∷ 1 ∷ 2 ∷ 3 ∷ 5 ∷ 6 ∷ 7 ∷ 4 ∷ []; digits = zeros 8 }
+    ∷ record { pieces = 0 ∷ 2 ∷ 6 ∷ 3 ∷ 4 ∷ 1 ∷ 5 ∷ 7 ∷ []; digits = 0 ∷ 1 ∷ 2 ∷ 0 ∷ 0 ∷ 2 ∷ 1 ∷ 0 ∷ [] }
+    ∷ record { pieces = 0 ∷ 1 ∷ 3 ∷ 7 ∷ 4 ∷ 5 ∷ 2 ∷ 6 ∷ []; digits = 0 ∷ 0 ∷ 1 ∷ 2 ∷ 0 ∷ 0 ∷ 2 ∷ 1 ∷ [] }
     ∷ []
 
 -- The same of the edges, with what is added to their flips.
-abbrev pub edge_quarters : List Rearrangement
+abbrev pub edge_quarters : List Orbit
 edge_quarters =
-    record { places = 3 ∷ 0 ∷ 1 ∷ 2 ∷ 4 ∷ 5 ∷ 6 ∷ 7 ∷ 8 ∷ 9 ∷ 10 ∷ 11 ∷ []; added = zeros 12 }
-    ∷ record { places = 8 ∷ 1 ∷ 2 ∷ 3 ∷ 11 ∷ 5 ∷ 6 ∷ 7 ∷ 4 ∷ 9 ∷ 10 ∷ 0 ∷ []; added = zeros 12 }
-    ∷ record { places = 0 ∷ 9 ∷ 2 ∷ 3 ∷ 4 ∷ 8 ∷ 6 ∷ 7 ∷ 1 ∷ 5 ∷ 10 ∷ 11 ∷ []; added = 0 ∷ 1 ∷ 0 ∷ 0 ∷ 0 ∷ 1 ∷ 0 ∷ 0 ∷ 1 ∷ 1 ∷ 0 ∷ 0 ∷ [] }
-    ∷ record { places = 0 ∷ 1 ∷ 2 ∷ 3 ∷ 5 ∷ 6 ∷ 7 ∷ 4 ∷ 8 ∷ 9 ∷ 10 ∷ 11 ∷ []; added = zeros 12 }
-    ∷ record { places = 0 ∷ 1 ∷ 10 ∷ 3 ∷ 4 ∷ 5 ∷ 9 ∷ 7 ∷ 8 ∷ 2 ∷ 6 ∷ 11 ∷ []; added = zeros 12 }
-    ∷ record { places = 0 ∷ 1 ∷ 2 ∷ 11 ∷ 4 ∷ 5 ∷ 6 ∷ 10 ∷ 8 ∷ 9 ∷ 3 ∷ 7 ∷ []; added = 0 ∷ 0 ∷ 0 ∷ 1 ∷ 0 ∷ 0 ∷ 0 ∷ 1 ∷ 0 ∷ 0 ∷ 1 ∷ 1 ∷ [] }
+    record { pieces = 3 ∷ 0 ∷ 1 ∷ 2 ∷ 4 ∷ 5 ∷ 6 ∷ 7 ∷ 8 ∷ 9 ∷ 10 ∷ 11 ∷ []; digits = zeros 12 }
+    ∷ record { pieces = 8 ∷ 1 ∷ 2 ∷ 3 ∷ 11 ∷ 5 ∷ 6 ∷ 7 ∷ 4 ∷ 9 ∷ 10 ∷ 0 ∷ []; digits = zeros 12 }
+    ∷ record { pieces = 0 ∷ 9 ∷ 2 ∷ 3 ∷ 4 ∷ 8 ∷ 6 ∷ 7 ∷ 1 ∷ 5 ∷ 10 ∷ 11 ∷ []; digits = 0 ∷ 1 ∷ 0 ∷ 0 ∷ 0 ∷ 1 ∷ 0 ∷ 0 ∷ 1 ∷ 1 ∷ 0 ∷ 0 ∷ [] }
+    ∷ record { pieces = 0 ∷ 1 ∷ 2 ∷ 3 ∷ 5 ∷ 6 ∷ 7 ∷ 4 ∷ 8 ∷ 9 ∷ 10 ∷ 11 ∷ []; digits = zeros 12 }
+    ∷ record { pieces = 0 ∷ 1 ∷ 10 ∷ 3 ∷ 4 ∷ 5 ∷ 9 ∷ 7 ∷ 8 ∷ 2 ∷ 6 ∷ 11 ∷ []; digits = zeros 12 }
+    ∷ record { pieces = 0 ∷ 1 ∷ 2 ∷ 11 ∷ 4 ∷ 5 ∷ 6 ∷ 10 ∷ 8 ∷ 9 ∷ 3 ∷ 7 ∷ []; digits = 0 ∷ 0 ∷ 0 ∷ 1 ∷ 0 ∷ 0 ∷ 0 ∷ 1 ∷ 0 ∷ 0 ∷ 1 ∷ 1 ∷ [] }
     ∷ []
 
 -- Both at once.
-abbrev pub cube_quarters : List CubeTurn
+abbrev pub cube_quarters : List CubeState
 cube_quarters = map (λ r. record { corners = r.0; edges = r.1 }) (zip corner_quarters edge_quarters)
-
--- Turns rearrange corners and edges at once.
-abbrev pub cube_action : Action CubeState CubeTurn
-cube_action = record {
-  turned = λ c r. record { corners = turned_orbit 3 c.corners r.corners; edges = turned_orbit 2 c.edges r.edges };
-  composed = λ r q. record { corners = composed 3 r.corners q.corners; edges = composed 2 r.edges q.edges };
-  identity = record { corners = identity 8; edges = identity 12 };
-}
 
 unfoldable pub solved_cube : CubeState
 solved_cube = record { corners = solved_orbit 8; edges = solved_orbit 12 }
 
+-- Each corner place gets the corner from the place that the turn has there, and both twists are added; so do the edge
+-- places, with both flips.
+abbrev pub cube_monoid : Monoid CubeState
+cube_monoid = record {
+  turned = λ c r. record { corners = turned_orbit 3 c.corners r.corners; edges = turned_orbit 2 c.edges r.edges };
+  solved = solved_cube;
+}
+
 -- The 3x3x3 as data. Its 18 turns are U U2 U' R R2 R' F F2 F' D D2 D' L L2 L' B B2 B', in the order of their numbers.
-abbrev pub cube_powers : PowerPuzzle CubeState CubeTurn Turn
-cube_powers =
-    record { letters = letters_of_faces; action = cube_action; generators = cube_quarters; solved = solved_cube }
+abbrev pub cube_powers : PowerPuzzle CubeState Turn
+cube_powers = record { letters = letters_of_faces; monoid = cube_monoid; generators = cube_quarters }
 
 -- ---- numbers
 

@@ -5,7 +5,7 @@
 -- A turn is done at a place: up, right, front, down, left or back, U R F D L B, which are 0 to 5. A face is named by
 -- its centre, that of a cube that is held as it was solved: the centres have the numbers of the places where they stand
 -- then. Corners and edges are told as on a cube that is not held otherwise, by their places among the centres.
-use Rattle.std.specs.Prelude.{◌≡◌, ℕ, zero, suc, ◌+◌, ◌/◌, ◌%◌, ◌==◌, ◌<◌, if◌then◌else◌, List, [], ◌∷◌, ◌++◌, map, Contains, slice_index, slice_index_or, position, Option, None, unwrap_or}
+use Rattle.std.specs.Prelude.{ℕ, zero, suc, ◌+◌, ◌/◌, ◌%◌, ◌==◌, ◌<◌, if◌then◌else◌, List, [], ◌∷◌, ◌++◌, map, Contains, slice_index, slice_index_or, position, Option, None, unwrap_or}
 use Rattle.std.specs.Option.{option_map, option_map_or}
 use Rattle.std.specs.Str.{bytes_eq}
 use Rattle.scr_combinatorics.specs.Lists.{numbers_from, pick}

@@ -2,9 +2,9 @@
 use Rattle.std.specs.Prelude.{◌≡◌, ℕ, ◌-◌, ◌%◌, ◌==◌, if◌then◌else◌, List, [], ◌∷◌, map, remove, slice_get}
 use Rattle.std.specs.List.{filter_map}
 use Rattle.scr_combinatorics.specs.Lists.{pick}
-use Rattle.scr_orbit.specs.Actions.{power}
-use Rattle.scr_orbit.specs.Orbits.{Rearrangement}
-use Rattle.scr_cube.specs.Cube333.{CubeTurn, cube_quarters, cube_action}
+use Rattle.scr_orbit.specs.Monoids.{power}
+use Rattle.scr_orbit.specs.Orbits.{Orbit}
+use Rattle.scr_cube.specs.Cube333.{CubeState, cube_quarters, cube_monoid}
 
 -- A mirror: which corner place, edge place and face shows as which.
 pub record Mirror : Type 0 where
@@ -12,21 +12,21 @@ pub record Mirror : Type 0 where
   pub edges : List ℕ
   pub faces : List ℕ
 
--- A rearrangement as a mirror shows it: digits count the other way round.
-abbrev pub mirrored : ℕ → List ℕ → Rearrangement → Rearrangement
+-- A turn as a mirror shows it: digits count the other way round.
+abbrev pub mirrored : ℕ → List ℕ → Orbit → Orbit
 mirrored modulus shown r = record {
-  places = pick shown (pick r.places shown);
-  added = map (λ d. (modulus - d) % modulus) (pick r.added shown);
+  pieces = pick shown (pick r.pieces shown);
+  digits = map (λ d. (modulus - d) % modulus) (pick r.digits shown);
 }
 
-abbrev pub mirrored_turn : Mirror → CubeTurn → CubeTurn
+abbrev pub mirrored_turn : Mirror → CubeState → CubeState
 mirrored_turn m r = record { corners = mirrored 3 m.corners r.corners; edges = mirrored 2 m.edges r.edges }
 
 -- The mirror shows each face's quarter turn as a quarter turn the other way, of the face that it shows there.
 abbrev pub ShowsTurns : Mirror → Type 0
 ShowsTurns m =
     map (mirrored_turn m) cube_quarters
-    ≡ map (λ r. power cube_action r 3) (filter_map (slice_get cube_quarters) m.faces)
+    ≡ map (λ r. power cube_monoid r 3) (filter_map (slice_get cube_quarters) m.faces)
 
 -- Left and right are exchanged; up and down; front and back.
 abbrev pub left_right : Mirror
@@ -50,7 +50,7 @@ front_back = record {
   faces = 0 ∷ 1 ∷ 5 ∷ 3 ∷ 4 ∷ 2 ∷ [];
 }
 
--- A rearrangement of the 3x3x3's corners without place 6, which is DBL's; the 2x2x2 counts the place behind it as 6.
-abbrev pub without_dbl : Rearrangement → Rearrangement
+-- A turn of the 3x3x3's corners without place 6, which is DBL's; the 2x2x2 counts the place behind it as 6.
+abbrev pub without_dbl : Orbit → Orbit
 without_dbl r =
-    record { places = map (λ k. if k == 7 then 6 else k) (remove r.places 6); added = remove r.added 6 }
+    record { pieces = map (λ k. if k == 7 then 6 else k) (remove r.pieces 6); digits = remove r.digits 6 }

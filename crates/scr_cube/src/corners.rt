@@ -29,7 +29,7 @@ impl Model for Corners222 {
 
 impl Corners222 {
     /// The solved state.
-    #[tactic(auto, unfolding(crate::specs::Cube222::solved_222, scr_orbit::specs::Orbits::solved_orbit))]
+    #[tactic(auto, unfolding(scr_orbit::specs::Orbits::solved_orbit))]
     pub fn solved() -> Corners222
         ensures { result ≡ solved_222 }
     {

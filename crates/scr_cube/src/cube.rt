@@ -1,8 +1,7 @@
 //! The state of a 3x3x3.
 ghost use Rattle.std.specs.Prelude.{◌≡◌, ◌↔◌, IsSome, IfSome};
-ghost use Rattle.scr_orbit.specs.Inverses.{IsInverse};
-ghost use Rattle.scr_cube.specs.Composition.{cube_then};
-ghost use Rattle.scr_cube.specs.Cube333.{IsCube, solved_cube};
+ghost use Rattle.scr_orbit.specs.Monoids.{IsInverse};
+ghost use Rattle.scr_cube.specs.Cube333.{IsCube, cube_monoid, solved_cube};
 
 use scr_orbit::Placed;
 use scr_rank::permutations::is_odd;
@@ -99,7 +98,7 @@ impl Cube {
     /// both twists added modulo 3, and each edge place its edge so, with both flips added modulo 2. Where words lead
     /// from the solved cube to both, the one word and then the other lead here.
     pub fn then(&self, next: &Cube) -> Cube
-        ensures joined { result ≡ cube_then self.now next.now }
+        ensures joined { result ≡ cube_monoid.turned self.now next.now }
         ensures valid { IsCube self.now }
     {
         Cube {
@@ -110,7 +109,7 @@ impl Cube {
 
     /// The inverse: the one cube that is solved with this one, whichever comes first.
     pub fn inverse(&self) -> Cube
-        ensures inverse { IsInverse cube_then solved_cube IsCube self.now result }
+        ensures inverse { IsInverse cube_monoid IsCube self.now result }
         ensures valid { IsCube self.now }
     {
         Cube {

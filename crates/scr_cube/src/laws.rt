@@ -10,7 +10,7 @@ ghost use Rattle.scr_combinatorics.specs.Reach.{IsReached, Needs};
 ghost use Rattle.scr_combinatorics.specs.Back.{IsTakenBack};
 ghost use Rattle.scr_combinatorics.specs.Lawful.{IsLawful};
 ghost use Rattle.scr_combinatorics.specs.Tidy.{IsKeptByTidy};
-ghost use Rattle.scr_orbit.specs.Orbits.{Orbit, IsZeroSumRearrangement, zeros};
+ghost use Rattle.scr_orbit.specs.Orbits.{Orbit, zeros};
 ghost use Rattle.scr_orbit.specs.PowerPuzzles.{IsPowerPuzzle, HaveOrders, after_letter, power_puzzle};
 ghost use Rattle.scr_notation.specs.declared.event.Event.TheVariants.{Bf333, C222, C333};
 ghost use Rattle.scr_notation.specs.declared.turn.Turn.{Turn as Letter};
@@ -20,8 +20,8 @@ ghost use Rattle.scr_notation.specs.Turns.{permits};
 ghost use Rattle.scr_notation.specs.TurnNumbers.{face_turn_at};
 ghost use Rattle.scr_notation.specs.Spelling.{text_of};
 ghost use Rattle.scr_notation.specs.Played.{PlaysTurnsOf};
-ghost use Rattle.scr_cube.specs.Composition.{IsJoined, cube_then};
-ghost use Rattle.scr_cube.specs.Cube333.{CubeTurn, IsCube, IsCubeTurn, cube_quarters, cube_action, cube_powers, solved_cube, cube_numbered};
+ghost use Rattle.scr_cube.specs.Composition.{IsJoined};
+ghost use Rattle.scr_cube.specs.Cube333.{CubeState, IsCube, cube_quarters, cube_monoid, cube_powers, solved_cube, cube_numbered};
 ghost use Rattle.scr_cube.specs.Cube222.{IsCorners222, quarters_222, powers_222, solved_222, numbered_222};
 ghost use Rattle.scr_cube.specs.Held.{HeldState, IsHeld, whole_turned, held_cube_after, solved_held, faces_turned, hold_word, holds, held_puzzle, held_numbered};
 ghost use Rattle.scr_cube.specs.Stickers.{opposite_place};
@@ -31,12 +31,12 @@ ghost use Rattle.scr_cube.specs.Known.{known_orders, superflip, superflip_word, 
 use crate::cube::Cube;
 use scr_notation::Turn;
 
-/// The turns of both puzzles are lawful: they keep states valid, and composed turns act as one after the other; words
-/// are taken back and tidied, and each comes to one rearrangement, the same for every state. What turns reach is valid.
-/// A quarter turn has order 4, and each turn has the number that the notation gives it.
+/// The turns of both puzzles are lawful: they keep states valid, and two at once act as one after the other; words are
+/// taken back and tidied, and each comes to one turn, the same for every state. What turns reach is valid. A quarter
+/// turn has order 4, and each turn has the number that the notation gives it.
 pub fn turns()
-    ensures cube { IsPowerPuzzle cube_powers IsCube IsCubeTurn opposite turn_merging }
-    ensures corners { IsPowerPuzzle powers_222 IsCorners222 (IsZeroSumRearrangement 7 3) opposite turn_merging }
+    ensures cube { IsPowerPuzzle cube_powers IsCube opposite turn_merging }
+    ensures corners { IsPowerPuzzle powers_222 IsCorners222 opposite turn_merging }
 {}
 
 /// From each valid state turns lead to a state exactly where each of them is a turn of the event.
@@ -79,7 +79,8 @@ pub fn held_cubes()
 
 /// Of three cubes, one then another then the third, it is one whichever two are joined first.
 pub fn associative(a: &Cube, b: &Cube, c: &Cube)
-    ensures { cube_then (cube_then a.now b.now) c.now ≡ cube_then a.now (cube_then b.now c.now) }
+    ensures { cube_monoid.turned (cube_monoid.turned a.now b.now) c.now
+        ≡ cube_monoid.turned a.now (cube_monoid.turned b.now c.now) }
 {
     a.is_valid();
     b.is_valid();
@@ -88,8 +89,8 @@ pub fn associative(a: &Cube, b: &Cube, c: &Cube)
 
 /// The solved cube before a cube, or behind it, changes nothing.
 pub fn neutral(a: &Cube)
-    ensures before { cube_then solved_cube a.now ≡ a.now }
-    ensures behind { cube_then a.now solved_cube ≡ a.now }
+    ensures before { cube_monoid.turned solved_cube a.now ≡ a.now }
+    ensures behind { cube_monoid.turned a.now solved_cube ≡ a.now }
 {
     a.is_valid();
 }
@@ -131,12 +132,12 @@ pub fn symmetries()
     ensures left_right { ShowsTurns left_right }
     ensures up_down { ShowsTurns up_down }
     ensures front_back { ShowsTurns front_back }
-    ensures opposite_faces { (face : ℕ) (r q : CubeTurn)
+    ensures opposite_faces { (face : ℕ) (r q : CubeState)
         → face < 3 → slice_get cube_quarters face ≡ Some r → slice_get cube_quarters (face + 3) ≡ Some q
-        → cube_action.composed r q ≡ cube_action.composed q r }
+        → cube_monoid.turned r q ≡ cube_monoid.turned q r }
     ensures corners { map (λ r. without_dbl r.corners) (take 3 cube_quarters) ≡ quarters_222 }
-    ensures dbl { map (λ r. slice_index r.corners.places 6) (take 3 cube_quarters) ≡ 6 ∷ 6 ∷ 6 ∷ [] }
-    ensures dbl_untwisted { map (λ r. slice_index r.corners.added 6) (take 3 cube_quarters) ≡ 0 ∷ 0 ∷ 0 ∷ [] }
+    ensures dbl { map (λ r. slice_index r.corners.pieces 6) (take 3 cube_quarters) ≡ 6 ∷ 6 ∷ 6 ∷ [] }
+    ensures dbl_untwisted { map (λ r. slice_index r.corners.digits 6) (take 3 cube_quarters) ≡ 0 ∷ 0 ∷ 0 ∷ [] }
 {}
 
 /// States that are known from elsewhere, and a word to the superflip.

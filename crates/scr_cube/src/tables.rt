@@ -1,6 +1,6 @@
-//! All turns of both cubes, as rearrangements in the order of the turns' numbers: of each face the turns by one, two
-//! and three quarters. A wrong entry is refused, since the calls ensure that the tables are those of the definitions.
-ghost use Rattle.scr_orbit.specs.Orbits.{IsZeroSumRearrangement};
+//! All turns of both cubes, part by part, in the order of their numbers: of each face the turns by one, two and three
+//! quarters. A wrong entry is refused, since the calls ensure that the tables are those of the definitions.
+ghost use Rattle.scr_orbit.specs.Orbits.{IsZeroSumOrbit};
 ghost use Rattle.scr_orbit.specs.PlaceTurns.{IsTurnTable};
 ghost use Rattle.scr_orbit.specs.PowerPuzzles.{all_turns, part_turns};
 ghost use Rattle.scr_cube.specs.Cube333.{cube_powers};
@@ -12,7 +12,7 @@ use scr_orbit::{PlaceTurn, place_turns};
 /// `3 * face + amount - 1` is the face's, by `amount` quarters; the faces U R F D L B are 0 to 5.
 #[inline]
 pub fn corner_turns() -> &'static [PlaceTurn<8>]
-    ensures { IsTurnTable 18 (IsZeroSumRearrangement 8 3) (part_turns (λ r. r.corners) cube_powers) result.now }
+    ensures { IsTurnTable 18 (IsZeroSumOrbit 8 3) (part_turns (λ r. r.corners) cube_powers) result.now }
 {
     &CORNER_TABLE
 }
@@ -41,7 +41,7 @@ static CORNER_TABLE: [PlaceTurn<8>; 18] = place_turns![
 /// What the 18 turns of a 3x3x3 do to its edges, in the same order.
 #[inline]
 pub fn edge_turns() -> &'static [PlaceTurn<12>]
-    ensures { IsTurnTable 18 (IsZeroSumRearrangement 12 2) (part_turns (λ r. r.edges) cube_powers) result.now }
+    ensures { IsTurnTable 18 (IsZeroSumOrbit 12 2) (part_turns (λ r. r.edges) cube_powers) result.now }
 {
     &EDGE_TABLE
 }
@@ -70,7 +70,7 @@ static EDGE_TABLE: [PlaceTurn<12>; 18] = place_turns![
 /// What the nine turns of a 2x2x2 do to its corners, in the order of their numbers: U U2 U' R R2 R' F F2 F'.
 #[inline]
 pub fn turns_222() -> &'static [PlaceTurn<7>]
-    ensures { IsTurnTable 9 (IsZeroSumRearrangement 7 3) (all_turns powers_222) result.now }
+    ensures { IsTurnTable 9 (IsZeroSumOrbit 7 3) (all_turns powers_222) result.now }
 {
     &TABLE_222
 }

@@ -176,9 +176,9 @@ pub(crate) static PYRAMINX: Style = Style {
     ],
 };
 
-/// The name of a face of a Megaminx, which stands beside the face.
+/// A text beside what it names, in letters of a size.
 macro_rules! label {
-    ($x:expr, $y:expr, $name:expr) => {
+    ($x:expr, $y:expr, $size:expr, $text:expr) => {
         Element(
             "text",
             &[
@@ -186,10 +186,10 @@ macro_rules! label {
                 ("y", $y),
                 ("fill", BLACK),
                 ("stroke", "none"),
-                ("font-size", "9"),
+                ("font-size", $size),
                 ("font-family", "sans-serif"),
             ],
-            $name,
+            $text,
         )
     };
 }
@@ -208,10 +208,10 @@ pub(crate) static MEGAMINX: Style = Style {
     mark_line: "1.2",
     is_lines: false,
     under: &[
-        label!("60", "24", "U"),
-        label!("86", "125", "F"),
-        label!("184", "115", "D"),
-        label!("213", "18", "B"),
+        label!("60", "24", "9", "U"),
+        label!("86", "125", "9", "F"),
+        label!("184", "115", "9", "D"),
+        label!("213", "18", "9", "B"),
     ],
     inks: &[
         Ink(WHITE, NONE, BLACK),
@@ -275,9 +275,10 @@ macro_rules! side {
     };
 }
 
-/// A Clock: its two sides, its dials with a line at each hour, and a longer one at twelve.
+/// A Clock: its two sides, each named by when it is in front, its dials with a line at each hour, and a longer one at
+/// twelve.
 pub(crate) static CLOCK: Style = Style {
-    view_box: "0 0 242 118",
+    view_box: "0 0 242 136",
     width: "50mm",
     line: "2",
     mark_line: "7",
@@ -285,6 +286,8 @@ pub(crate) static CLOCK: Style = Style {
     under: &[
         side!("1", "#dfe6f5"),
         side!("125", "#2f3a52"),
+        label!("9", "132", "13", "in front at first"),
+        label!("131", "132", "13", "in front after y2"),
         Element(
             "path",
             &[

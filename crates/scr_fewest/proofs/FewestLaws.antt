@@ -9,11 +9,10 @@ use Rattle.scr_notation.specs.declared.turn.Turn.{Turn}
 use Rattle.scr_notation.specs.declared.turn.Turn.TheVariants.{Face, Over}
 use Rattle.scr_notation.specs.Turning.{opposite}
 use Rattle.scr_notation.proofs.Below.{and_first, and_second}
-use Rattle.scr_orbit.specs.Orbits.{rearrangement_to}
 use Rattle.scr_orbit.specs.PowerPuzzles.{after_letter}
-use Rattle.scr_cube.specs.Composition.{cube_then}
-use Rattle.scr_cube.specs.Cube333.{CubeState, IsCube, cube_powers, solved_cube}
-use Rattle.scr_cube.proofs.CompositionLaws.{IsJoining-cubes, IsCube-then, IsCube-played, play-then}
+use Rattle.scr_cube.specs.Cube333.{CubeState, IsCube, cube_monoid, cube_powers, solved_cube}
+use Rattle.scr_cube.proofs.CompositionLaws.{IsCube-played, play-then}
+use Rattle.scr_cube.proofs.Laws333.{cube_laws}
 use Rattle.scr_cube.proofs.OnLiterals.{cubes_on_literals}
 use Rattle.scr_twophase.specs.TwoParts.{two_parts}
 use Rattle.scr_twophase.proofs.PartLaws.{IsScrambleBy-unique}
@@ -41,12 +40,12 @@ pub frame_back-made : (start : CubeState) (forth undone : List Turn) (end : Opti
 frame_back-made start forth undone end a b c d =
     d ∙ ap (λ s. play (after_letter cube_powers) s undone) a ∙ ap (play (after_letter cube_powers) solved_cube) (c ∙ ap (back opposite) b) ∙ frame_back-played
 
-frame_and_back : cube_then frame_cube frame_back ≡ solved_cube
-unfolding cubes_on_literals frame frame_cube frame_back cube_then rearrangement_to
+frame_and_back : cube_monoid.turned frame_cube frame_back ≡ solved_cube
+unfolding cubes_on_literals frame frame_cube frame_back
 frame_and_back = refl
 
-back_and_frame : cube_then frame_back frame_cube ≡ solved_cube
-unfolding cubes_on_literals frame frame_cube frame_back cube_then rearrangement_to
+back_and_frame : cube_monoid.turned frame_back frame_cube ≡ solved_cube
+unfolding cubes_on_literals frame frame_cube frame_back
 back_and_frame = refl
 
 IsCube-frame : IsCube frame_cube
@@ -58,25 +57,24 @@ IsCube-frame_back = IsCube-played frame_back (back opposite frame) frame_back-pl
 -- ---- the cube between
 
 -- The frames give the state again: each undoes one of those that were taken back.
-between-again : (s : CubeState) → IsCube s → cube_then (cube_then frame_cube (between s)) frame_cube ≡ s
+between-again : (s : CubeState) → IsCube s → cube_monoid.turned (cube_monoid.turned frame_cube (between s)) frame_cube ≡ s
 unfolding between
 between-again s own =
-    let j = IsJoining-cubes in
-    let rest = cube_then s frame_back in
-    let rest_is = IsCube-then s frame_back own IsCube-frame_back in
-    let first : cube_then frame_cube (cube_then frame_back rest) ≡ rest =
-    sym (j.grouped frame_cube frame_back rest IsCube-frame IsCube-frame_back rest_is)
-    ∙ ap (λ c. cube_then c rest) frame_and_back ∙ j.solved_first rest rest_is in
-    ap (λ c. cube_then c frame_cube) first
-    ∙ j.grouped s frame_back frame_cube own IsCube-frame_back IsCube-frame
-    ∙ ap (cube_then s) back_and_frame ∙ j.solved_last s own
+    let rest = cube_monoid.turned s frame_back in
+    let rest_is = cube_laws.kept s frame_back own IsCube-frame_back in
+    let first : cube_monoid.turned frame_cube (cube_monoid.turned frame_back rest) ≡ rest =
+    sym (cube_laws.grouped frame_cube frame_back rest IsCube-frame IsCube-frame_back rest_is)
+    ∙ ap (λ c. cube_monoid.turned c rest) frame_and_back ∙ cube_laws.solved_first rest rest_is in
+    ap (λ c. cube_monoid.turned c frame_cube) first
+    ∙ cube_laws.grouped s frame_back frame_cube own IsCube-frame_back IsCube-frame
+    ∙ ap (cube_monoid.turned s) back_and_frame ∙ cube_laws.solved_last s own
 
 -- as it is made
-pub between-made : (s back rest b : CubeState) → back ≡ frame_back → rest ≡ cube_then s back → b ≡ cube_then back rest
+pub between-made : (s back rest b : CubeState) → back ≡ frame_back → rest ≡ cube_monoid.turned s back → b ≡ cube_monoid.turned back rest
     → b ≡ between s
 unfolding between
 between-made s back rest b e f g =
-    g ∙ ap (cube_then back) f ∙ ap (λ c. cube_then c (cube_then s c)) e
+    g ∙ ap (cube_monoid.turned back) f ∙ ap (λ c. cube_monoid.turned c (cube_monoid.turned s c)) e
 
 -- Words that lead from solved to what the frame taken back makes of a state lead on to the cube between.
 pub between-played : (s : CubeState) (v : List Turn) → IsCube s
@@ -86,7 +84,7 @@ unfolding between
 between-played s v own e =
     let there = play-then s frame_back (back opposite frame) own frame_back-played in
     play-append (after_letter cube_powers) solved_cube frame_back (back opposite frame) v frame_back-played
-    ∙ play-then frame_back (cube_then s frame_back) v IsCube-frame_back (e ∙ there)
+    ∙ play-then frame_back (cube_monoid.turned s frame_back) v IsCube-frame_back (e ∙ there)
 
 -- ---- the scramble
 
@@ -100,8 +98,8 @@ pub framed-played : (s : CubeState) (middle : List Turn) → IsCube s
     → play (after_letter cube_powers) solved_cube (framed middle) ≡ Some s
 framed-played s middle own played =
     let after = after_letter cube_powers in
-    let both = cube_then frame_cube (between s) in
-    let is = IsCube-then frame_cube (between s) IsCube-frame (IsCube-played (between s) middle played) in
+    let both = cube_monoid.turned frame_cube (between s) in
+    let is = cube_laws.kept frame_cube (between s) IsCube-frame (IsCube-played (between s) middle played) in
     let begun = play-append after solved_cube frame_cube frame middle frame-played ∙ play-then frame_cube (between s) middle IsCube-frame played in
     play-append after solved_cube both (frame ++ middle) frame begun
     ∙ play-then both frame_cube frame is frame-played ∙ ap Some (between-again s own)

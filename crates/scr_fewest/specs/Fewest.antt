@@ -8,8 +8,7 @@ use Rattle.scr_orbit.specs.PowerPuzzles.{after_letter}
 use Rattle.scr_notation.specs.declared.turn.Turn.{Turn}
 use Rattle.scr_notation.specs.declared.turn.Turn.TheVariants.{Face, Over}
 use Rattle.scr_notation.specs.Turning.{opposite}
-use Rattle.scr_cube.specs.Composition.{cube_then}
-use Rattle.scr_cube.specs.Cube333.{CubeState, cube_powers, solved_cube}
+use Rattle.scr_cube.specs.Cube333.{CubeState, cube_monoid, cube_powers, solved_cube}
 use Rattle.scr_twophase.specs.TwoParts.{IsScramble333}
 
 -- R' U' F
@@ -41,7 +40,7 @@ frame_back = unwrap_or (play (after_letter cube_powers) solved_cube (back opposi
 -- The cube that the frames of a state's scramble leave between them: the frame taken back, the state, and the frame
 -- taken back.
 unfoldable pub between : CubeState → CubeState
-between s = cube_then frame_back (cube_then s frame_back)
+between s = cube_monoid.turned frame_back (cube_monoid.turned s frame_back)
 
 -- The turns are two frames and between them the scramble of that cube, where so many first parts are tried.
 pub record IsScrambleFewest (tries : ℕ) (s : CubeState) (turns : List Turn) : Type 0 where

@@ -2,8 +2,10 @@
 use Rattle.std.specs.Prelude.{ℕ, ◌+◌, Bool, true, false, if◌then◌else◌, List, [], ◌∷◌, ◌++◌, map, flat_map, zip, codes, option_map, option_to_list}
 use Rattle.std.specs.Fmt.{decimal}
 use Rattle.scr_notation.specs.declared.event.Event.{Event}
-use Rattle.scr_notation.specs.declared.event.Event.TheVariants.{Fm333}
+use Rattle.scr_notation.specs.declared.event.Puzzle.{Puzzle}
+use Rattle.scr_notation.specs.declared.event.Puzzle.TheVariants as puzzle
 use Rattle.scr_notation.specs.declared.turn.Turn.{Turn}
+use Rattle.scr_notation.specs.Event.{puzzle_of}
 use Rattle.scr_notation.specs.Spelling.{spelling}
 use Rattle.scr_notation.specs.Written.{Written}
 use Rattle.scr_picture.specs.Pictures.{picture_of}
@@ -51,10 +53,24 @@ head_marks group = page_mark group ∷ told (codes "title") (title_of group) ∷
 abbrev pub labelled : Group → List (List ℕ × Written)
 labelled group = zip (labels_of group.event) group.scrambles
 
--- scrambles of this event have a page each, as competitors get it for an attempt
+-- scrambles of this puzzle have a page each, as competitors get it for an attempt: those of fewest moves
+abbrev pub has_page_each_as : Puzzle → Bool
+has_page_each_as puzzle.Cube222 = false
+has_page_each_as puzzle.Cube333 = false
+has_page_each_as puzzle.Held333 = false
+has_page_each_as puzzle.Fewest333 = true
+has_page_each_as puzzle.Cube555 = false
+has_page_each_as puzzle.Cube666 = false
+has_page_each_as puzzle.Cube777 = false
+has_page_each_as puzzle.Clock = false
+has_page_each_as puzzle.Megaminx = false
+has_page_each_as puzzle.Pyraminx = false
+has_page_each_as puzzle.Skewb = false
+has_page_each_as puzzle.Square1 = false
+
+-- and so have those of an event
 abbrev pub has_page_each : Event → Bool
-has_page_each Fm333 = true
-has_page_each _ = false
+has_page_each event = has_page_each_as (puzzle_of event)
 
 abbrev pub attempt_marks : Bool → Group → List ℕ × Written → List Mark
 attempt_marks pictures group slot = head_marks group ++ slot_marks pictures slot

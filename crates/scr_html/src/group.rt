@@ -5,14 +5,14 @@ ghost use Rattle.scr_markup.specs.Tokens.{Adds, HasNoLineFeed};
 ghost use Rattle.scr_notation.specs.Event.{per_group_of};
 ghost use Rattle.scr_layout.specs.Shown.{HasNoControl};
 ghost use Rattle.scr_layout.specs.Texts.{labels_of};
-ghost use Rattle.scr_html.specs.Pages.{head_marks, labelled, slot_marks, page_marks, attempt_marks};
+ghost use Rattle.scr_html.specs.Pages.{head_marks, has_page_each, labelled, slot_marks, page_marks, attempt_marks};
 
 use crate::heads::write_heads;
 use crate::sizes::Sizes;
 use crate::slot::write_slot;
 use crate::tokens::{begin, end, plain};
 use scr_layout::{Group, label};
-use scr_notation::{Event, Scramble};
+use scr_notation::{Event, Puzzle, Scramble};
 use scr_text::decimal;
 use std::alloc::AllocError;
 
@@ -42,9 +42,30 @@ pub fn write_group(
         competition,
         pictures,
     };
-    match group.event() {
-        Event::Fm333 => write_attempts(page, group, &look),
-        _ => write_page(page, group, &look),
+    if has_page_each(group.event()) {
+        write_attempts(page, group, &look)
+    } else {
+        write_page(page, group, &look)
+    }
+}
+
+/// Whether scrambles of an event have a page each.
+fn has_page_each(event: Event) -> bool
+    ensures { result ≡ has_page_each event }
+{
+    match event.puzzle() {
+        Puzzle::Fewest333 => true,
+        Puzzle::Cube222
+        | Puzzle::Cube333
+        | Puzzle::Held333
+        | Puzzle::Cube555
+        | Puzzle::Cube666
+        | Puzzle::Cube777
+        | Puzzle::Clock
+        | Puzzle::Megaminx
+        | Puzzle::Pyraminx
+        | Puzzle::Skewb
+        | Puzzle::Square1 => false,
     }
 }
 
@@ -56,7 +77,7 @@ fn write_page(page: &mut String, group: &Group<'_>, look: &Look<'_>) -> Result<(
 {
     let slots = u32::from(group.event().per_group()) + 2;
     let style = Sizes::of(group, slots, look.pictures).style();
-    write_heads(page, group, look.competition, style.as_str())?;
+    write_heads(page, group, look.competition, style.as_str(), look.pictures)?;
     write_slots(page, group, group.scrambles(), 0, look.pictures)?;
     end(page, "section")?;
     Ok(())
@@ -103,8 +124,8 @@ fn write_attempts(page: &mut String, group: &Group<'_>, look: &Look<'_>) -> Resu
     write_attempts_from(page, group, group.scrambles(), 0, look)
 }
 
-/// Adds a page for each of these scrambles, which are the last of a group, from the one at a place on. It calls itself once
-/// for each.
+/// Adds a page for each of these scrambles, which are the last of a group, from the one at a place on. It calls itself
+/// once for each.
 fn write_attempts_from(
     page: &mut String,
     group: &Group<'_>,
@@ -143,7 +164,7 @@ fn write_attempt(
         (attempt_marks look.now.pictures group.now (label.now, scramble.now))) }
 {
     let style = Sizes::of(group, 2, look.pictures).style();
-    write_heads(page, group, look.competition, style.as_str())?;
+    write_heads(page, group, look.competition, style.as_str(), look.pictures)?;
     write_slot(page, group, label, scramble, look.pictures)?;
     write_fields(page)?;
     end(page, "section")?;

@@ -10,8 +10,8 @@ use crate::tokens::{begin, end, plain};
 use scr_markup::open;
 use std::alloc::AllocError;
 
-/// The style of a document. Pages have no margins that a browser could print in, and room at their own edges, at each page
-/// that a long group takes. Sizes are those of the page (`crate::sizes`).
+/// The style of a document. Pages have no margins that a browser could print in, and room at their own edges, at each
+/// page that a long group takes. Sizes are those of the page (`crate::sizes`).
 const RULES: &[&str] = &[
     "@page { margin: 0; }",
     "* { box-sizing: border-box; margin: 0; padding: 0; }",
@@ -28,6 +28,8 @@ const RULES: &[&str] = &[
     "article header { flex: 0 0 24mm; padding-right: 2mm; }",
     ".label { display: block; font-size: 16pt; line-height: 18pt; }",
     "small { display: block; font-size: 6.5pt; line-height: 8pt; }",
+    "small + small { font-size: 8pt; line-height: 10pt; font-weight: bold; }",
+    "aside { padding-bottom: 4pt; font-size: 8pt; line-height: 10pt; }",
     "article div { flex: 1 1 0; min-width: 0; font: bold var(--letters)/var(--row) 'Liberation Mono', 'DejaVu Sans Mono', 'Courier New', monospace; }",
     "article p { position: relative; height: var(--row); padding: 0; }",
     ".word { position: absolute; white-space: pre; }",

@@ -8,18 +8,20 @@ ghost use Rattle.scr_html.specs.Pages.{told, page_mark, page_mark_of, head_marks
 
 use crate::tokens::{begin, end, marked, plain, valid};
 use arrayvec::ArrayString;
+use scr_drawing::legend;
 use scr_layout::{Group, held, round_line, title};
 use scr_markup::{leaf, open};
 use scr_text::decimal;
 use std::alloc::AllocError;
 
-/// Begins a page of a group, in a style: the competition's name, where it has one, the title, the line of the round, and
-/// how the puzzle is held.
+/// Begins a page of a group, in a style: the competition's name, where it has one, the title, the line of the round,
+/// how the puzzle is held, and with pictures what their marks mean.
 pub(crate) fn write_heads(
     page: &mut String,
     group: &Group<'_>,
     competition: &str,
     style: &str,
+    pictures: bool,
 ) -> Result<(), AllocError>
     requires competition { HasNoControl competition.now }
     requires style { HasNoLineFeed style.now }
@@ -30,6 +32,7 @@ pub(crate) fn write_heads(
     write_title(page, group)?;
     write_round(page, group)?;
     write_held(page, group)?;
+    write_legend(page, group, pictures)?;
     Ok(())
 }
 
@@ -128,4 +131,15 @@ fn write_lines(page: &mut String, text: &str) -> Result<(), AllocError>
             Ok(())
         }
     }
+}
+
+/// Adds what marks in pictures mean on paper without colours, where there are pictures with such marks.
+fn write_legend(page: &mut String, group: &Group<'_>, pictures: bool) -> Result<(), AllocError>
+    ensures { OnOk result (Adds (string_bytes page.old) (string_bytes page.new) []) }
+{
+    let text = legend(group.event());
+    if !pictures || text.is_empty() {
+        return Ok(());
+    }
+    plain(page, "aside", text)
 }

@@ -9,23 +9,34 @@ use scr_layout::{Group, Place, places, row_count};
 use scr_notation::{Event, Puzzle, Turn};
 use scr_text::decimal;
 
-/// The room for scrambles below the heads of a page, in tenths of a point.
+/// The room for the scrambles of a page below its heads, in tenths of a point.
 const PAGE_HEIGHT: u32 = 6300;
 
-/// The room for words and a picture beside the labels, in tenths of a millimetre.
+/// The room beside a scramble's label for its words and its picture, in tenths of a millimetre.
 const ROW_WIDTH: u32 = 1620;
 
-/// Letters are at most and at least so large, in tenths of a point. Where smaller ones were needed for a page, a group
-/// takes more pages, with letters of a size between.
+/// What the line above a scramble and the margins about it take of its height, in tenths of a point.
+const MARGINS: u32 = 80;
+
+/// The height of which no scramble needs more, in tenths of a point.
+const MOST_HEIGHT: u32 = 1300;
+
+/// The largest letters that words are written in, in tenths of a point.
 const LARGEST: u32 = 170;
 
+/// The smallest letters with which a group is put on one page, in tenths of a point.
 const SMALLEST: u32 = 65;
 
-const BETWEEN: u32 = 100;
+/// The letters of a group that would need smaller ones for one page and takes more pages, in tenths of a point.
+const ON_MORE_PAGES: u32 = 100;
 
-/// A row of words is at least and at most so high, in hundredths of its letters' size.
+/// How wide a letter is, in thousandths of its size. All are of one width.
+const LETTER_WIDTH: u32 = 605;
+
+/// The least height of a row of words, in hundredths of the size of its letters.
 const LEAST_ROW: u32 = 115;
 
+/// The greatest height of a row of words, in hundredths of the size of its letters.
 const MOST_ROW: u32 = 145;
 
 /// A style has at most so many bytes.
@@ -56,15 +67,15 @@ impl Sizes {
             0
         };
         let slot = PAGE_HEIGHT / slots;
-        let height = slot.saturating_sub(80);
+        let height = slot.saturating_sub(MARGINS);
         let letters = letters_of(
             height * 100 / (rows * LEAST_ROW),
-            points(ROW_WIDTH - picture) * 1000 / (columns * 605),
+            points(ROW_WIDTH - picture) * 1000 / (columns * LETTER_WIDTH),
         );
         Sizes {
             letters,
             row: row_of(height / rows, letters),
-            slot: slot.min(1300),
+            slot: slot.min(MOST_HEIGHT),
             picture,
         }
     }
@@ -133,7 +144,7 @@ fn letters_of(by_height: u32, by_width: u32) -> u32
     ensures { (1 ≤ result) × (result ≤ LARGEST) }
 {
     let most = if by_height < SMALLEST {
-        BETWEEN
+        ON_MORE_PAGES
     } else {
         by_height.min(LARGEST)
     };

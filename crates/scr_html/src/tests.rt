@@ -52,8 +52,8 @@ fn lines(page: &str, begin: &str) -> usize {
     page.lines().filter(|line| line.starts_with(begin)).count()
 }
 
-/// What no clause says: that the calls succeed where there is memory, and what a document begins and ends with. The marks
-/// of its pages are those of the definition.
+/// What no clause says: that the calls succeed where there is memory, and what a document begins and ends with. The
+/// marks of its pages are those of the definition.
 #[test]
 fn a_document(rt: HostRuntime) -> Result<(), Fail> {
     let mut page = String::new(rt.alloc());

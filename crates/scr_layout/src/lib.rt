@@ -1,5 +1,5 @@
-//! What the pages of a group say, whatever their form: its heads, how its puzzle is held, its labels, and where the words
-//! of a scramble stand in even rows; and a competition's name in one line.
+//! What the pages of a group say, whatever their form: its heads, how its puzzle is held, its labels, and where the
+//! words of a scramble stand in even rows; and a competition's name in one line.
 //!
 //! A [`Group`] is one of a sheet, with what is told of where it stands. The texts are definitions of their own
 //! (`specs/Texts.antt`, `specs/Holding.antt`), and each call gives just its text. Where a word stands is not promised,

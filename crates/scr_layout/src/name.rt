@@ -5,9 +5,9 @@ ghost use Rattle.scr_layout.specs.Shown.{HasNoControl, IsNoControl};
 
 use std::alloc::{AllocError, Global};
 
-/// A name that fits so wide a line, which is at least 3: whole, or cut, with three full stops behind it. A letter of three
-/// bytes and more counts as two wide. A space stands for what could move the line: controls, ends of lines and turns of the
-/// direction of writing; and one for spaces one after another, but none at the ends.
+/// A name that fits so wide a line, which is at least 3: whole, or cut, with three full stops behind it. A letter of
+/// three bytes and more counts as two wide. A space stands for what could move the line: controls, ends of lines and
+/// turns of the direction of writing; and one for spaces one after another, but none at the ends.
 pub fn fitting_name(alloc: Global, name: &str, most: u32) -> Result<String, AllocError>
     requires { 3 ≤ most }
     ensures { IfOk result (λ text. HasNoControl (string_bytes text)) }

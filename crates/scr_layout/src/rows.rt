@@ -3,7 +3,7 @@
 ghost use Rattle.std.specs.Prelude.{◌≡◌, ◌<◌, ◌≤◌, length};
 
 use arrayvec::ArrayVec;
-use scr_notation::{Event, MOST_TURNS, Puzzle, Scramble, Turn};
+use scr_notation::{MOST_TURNS, Puzzle, Scramble, Turn};
 
 /// Where a word stands.
 #[derive(Clone, Copy, Debug, Default, PartialEq, Eq)]
@@ -14,7 +14,7 @@ pub struct Place {
     pub column: u8,
 }
 
-/// How the words of an event are laid out.
+/// How the words of a puzzle are laid out.
 #[derive(Clone, Copy)]
 struct Columns {
     /// At most so many cells stand in a row.
@@ -26,12 +26,13 @@ struct Columns {
 /// In a row of ten cells and more a gap stands behind each fifth, and of eight rows and more one behind each fifth.
 const FIFTH: u32 = 5;
 
-/// Where the words of a scramble stand, one after another. A row has as many cells as the others or one more, so that none
-/// is left over for a row of its own. A cell is a word, but of a Square-1 a turn of the layers with the twist behind it.
+/// Where the words of a scramble stand, one after another. A row has as many cells as the others or one more, so that
+/// none is left over for a row of its own. A cell is a word, but of a Square-1 a turn of the layers with the twist
+/// behind it.
 pub fn places(scramble: &Scramble) -> ArrayVec<Place, MOST_TURNS>
     ensures { length result.items ≡ length scramble.now.turns }
 {
-    let event = scramble.event();
+    let puzzle = scramble.event().puzzle();
     let turns = scramble.turns();
     let cells = cell_count(turns).max(1);
     let mut places = ArrayVec::new();
@@ -41,7 +42,7 @@ pub fn places(scramble: &Scramble) -> ArrayVec<Place, MOST_TURNS>
             cell += 1;
         }
         let indent = if is_twist(*turn) { 8 } else { 0 };
-        places.push(place_of_cell(event, cells, cell.min(cells - 1), indent));
+        places.push(place_of_cell(puzzle, cells, cell.min(cells - 1), indent));
     }
     places
 }
@@ -82,13 +83,13 @@ fn is_twist(turn: Turn) -> bool {
 }
 
 /// Where a cell, or what stands behind an indent in it, has its place, of so many cells.
-fn place_of_cell(event: Event, cells: u32, cell: u32, indent: u32) -> Place
+fn place_of_cell(puzzle: Puzzle, cells: u32, cell: u32, indent: u32) -> Place
     requires cells { cells ≤ 160 }
     requires cell { cell < cells }
     requires indent { indent ≤ 8 }
 {
-    let Columns { across, width } = columns_of(event);
-    let (row, column) = row_and_column(event, across, cells, cell);
+    let Columns { across, width } = columns_of(puzzle);
+    let (row, column) = row_and_column(puzzle, across, cells, cell);
     let (row, column) = (row.min(100), column.min(15));
     let gaps = if cells.div_ceil(across) >= 8 {
         row / FIFTH
@@ -116,17 +117,17 @@ fn scaled(columns: u32, width: u32) -> u32
     columns * width
 }
 
-/// The columns of an event's rows.
-fn columns_of(event: Event) -> Columns
+/// The columns of a puzzle's rows.
+fn columns_of(puzzle: Puzzle) -> Columns
     ensures across { (5 ≤ result.across) × (result.across ≤ 15) }
     ensures width { result.width ≤ 12 }
 {
-    let (across, width) = match event.puzzle() {
+    let (across, width) = match puzzle {
         Puzzle::Cube222 | Puzzle::Skewb => (11, 4),
         Puzzle::Cube333 | Puzzle::Fewest333 => (10, 4),
         Puzzle::Cube555 | Puzzle::Held333 => (10, 5),
         Puzzle::Cube666 | Puzzle::Cube777 => (10, 6),
-        Puzzle::Clock => (9, 7),
+        Puzzle::Clock => (6, 7),
         Puzzle::Megaminx => (11, 5),
         Puzzle::Pyraminx => (15, 4),
         Puzzle::Square1 => (5, 12),
@@ -134,14 +135,19 @@ fn columns_of(event: Event) -> Columns
     Columns { across, width }
 }
 
-/// The row of a cell, and how many stand before it there. The second row of a Clock's scramble begins with its `y2`.
-fn row_and_column(event: Event, across: u32, cells: u32, cell: u32) -> (u32, u32)
+/// The row of a cell, and how many stand before it there. A Clock's scramble has its first four pairs of pins in a row,
+/// the other turns before its `y2` in the next, and this with all behind it in the last.
+fn row_and_column(puzzle: Puzzle, across: u32, cells: u32, cell: u32) -> (u32, u32)
     requires across { 0 < across }
     requires cells { cells ≤ 160 }
     requires cell { cell < cells }
 {
-    if matches!(event, Event::Clock) && cells == 15 {
-        return if cell < 9 { (0, cell) } else { (1, cell - 9) };
+    if matches!(puzzle, Puzzle::Clock) && cells == 15 {
+        return match cell {
+            0..4 => (0, cell),
+            4..9 => (1, cell - 4),
+            _ => (2, cell - 9),
+        };
     }
     let rows = cells.div_ceil(across);
     let least = cells / rows;

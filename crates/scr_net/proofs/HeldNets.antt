@@ -7,18 +7,18 @@ use Rattle.std.proofs.lemmas.Bool.{cases_lt, false≢true}
 use Rattle.std.proofs.lemmas.Option.{same_Some}
 use Rattle.scr_combinatorics.specs.Play.{play}
 use Rattle.scr_combinatorics.proofs.PlayLaws.{and_then-some, map-some, play-empty, play-first, play-parts}
-use Rattle.scr_orbit.specs.Actions.{power, power_of, power_table}
+use Rattle.scr_orbit.specs.Monoids.{power, power_of, power_table}
 use Rattle.scr_orbit.specs.PowerPuzzles.{after_letter}
-use Rattle.scr_orbit.proofs.ActionLaws.{IsTurn-power}
+use Rattle.scr_orbit.proofs.MonoidLaws.{IsValid-power}
 use Rattle.scr_notation.specs.declared.turn.Turn.{Turn}
 use Rattle.scr_notation.specs.declared.turn.Turn.TheVariants.{Face, Axis, Tip, Layers, Twist, Pins, Over, Wide}
 use Rattle.scr_notation.specs.FaceLetters.{quarters_of}
 use Rattle.scr_notation.proofs.FaceLaws.{IsQuartersOf-read}
 use Rattle.scr_notation.proofs.NumberLaws.{IsFaceTurn}
-use Rattle.scr_cube.specs.Cube333.{CubeState, CubeTurn, IsCube, IsCubeTurn, cube_quarters, cube_action, cube_powers, solved_cube}
+use Rattle.scr_cube.specs.Cube333.{CubeState, IsCube, cube_quarters, cube_monoid, cube_powers, solved_cube}
 use Rattle.scr_orbit.specs.Orbits.{solved_orbit}
 use Rattle.scr_cube.specs.Held.{HeldState, IsHeld, held_cube_after, holds, solved_held, whole_turned}
-use Rattle.scr_cube.proofs.Laws333.{lawful_cube, IsCube-solved}
+use Rattle.scr_cube.proofs.Laws333.{cube_laws}
 use Rattle.scr_cube.proofs.HeldReach.{Contains-solved}
 use Rattle.scr_cube.proofs.Holds.{at_each, of_holds, turned_face, centres_turned, Contains-whole, axis-kept, whole_turned-none, whole_turned-add}
 use Rattle.scr_cube.proofs.HeldLaws.{step-of, IsHeld-after, face_parts, near_place}
@@ -124,16 +124,16 @@ seen-wide place low centres s there h =
 
 module _ (place depth : ℕ) (low : place < 6) (seen : IsSeen depth place)
     (contains : (centres : List ℕ) → Contains holds centres → Contains holds (centres_turned centres place depth 1)) where
-  quarter-held : (c : CubeState) (centres : List ℕ) (q : CubeTurn) → IsCube c → Contains holds centres
+  quarter-held : (c : CubeState) (centres : List ℕ) (q : CubeState) → IsCube c → Contains holds centres
       → slice_get cube_quarters (turned_face centres place depth) ≡ Some q
       → quarter_net 3 place depth (net_of_held (record { cube = c; centres = centres }))
-      ≡ net_of_held (record { cube = cube_action.turned c q; centres = centres_turned centres place depth 1 })
+      ≡ net_of_held (record { cube = cube_monoid.turned c q; centres = centres_turned centres place depth 1 })
   unfolding quarter_net
   quarter-held c centres q own there found =
       let after : List ℕ = centres_turned centres place depth 1 in
       let face : ℕ = turned_face centres place depth in
       let letter : Sticker → ℕ = λ s. cube_letter c (seen_from centres s) in
-      net_of-same 3 (λ s. letter_at 3 (net_of 3 letter) (brought_from 2 place depth s)) (λ s. cube_letter (cube_action.turned c q) (seen_from after s)) (λ f row column lf lr lc.
+      net_of-same 3 (λ s. letter_at 3 (net_of 3 letter) (brought_from 2 place depth s)) (λ s. cube_letter (cube_monoid.turned c q) (seen_from after s)) (λ f row column lf lr lc.
       let s : Sticker = sticker_at 2 f row column in
       let is : IsSticker 2 s = IsSticker-at 2 f row column lf (omega arith) (omega arith) in
       let x : Sticker = seen_from after s in
@@ -145,27 +145,27 @@ module _ (place depth : ℕ) (low : place < 6) (seen : IsSeen depth place)
       ∙ each_sticker-at 3 (cube_comes_from face q) (cube_tests face q found) x.face (row_of 2 x.face x.point) (column_of 2 x.face x.point) of.face (omega arith) (omega arith) in
       letter_at-net_of 3 letter (brought_from 2 place depth s) (lit< tt) (IsSticker-brought 2 place depth s is)
       ∙ ap (cube_letter c) (seen centres s there is)
-      ∙ cube_letter-turned face q c x own (cube_turns face q found) tested)
+      ∙ cube_letter-turned face c q x own (cube_turns face q found) tested)
 
   module _ (kept : (centres : List ℕ) → Contains holds centres → turned_face (centres_turned centres place depth 1) place depth ≡ turned_face centres place depth)
       (none : (centres : List ℕ) → centres_turned centres place depth 0 ≡ centres)
       (more : (centres : List ℕ) (n : ℕ) → centres_turned (centres_turned centres place depth 1) place depth n ≡ centres_turned centres place depth (suc n)) where
-    power-held : (n : ℕ) (c : CubeState) (centres : List ℕ) (q : CubeTurn) → IsCube c → Contains holds centres
+    power-held : (n : ℕ) (c : CubeState) (centres : List ℕ) (q : CubeState) → IsCube c → Contains holds centres
         → slice_get cube_quarters (turned_face centres place depth) ≡ Some q
         → turned_net 3 place depth n (net_of_held (record { cube = c; centres = centres }))
-        ≡ net_of_held (record { cube = cube_action.turned c (power cube_action q n); centres = centres_turned centres place depth n })
+        ≡ net_of_held (record { cube = cube_monoid.turned c (power cube_monoid q n); centres = centres_turned centres place depth n })
     unfolding turned_net power
     power-held zero c centres q own there found =
-        ap (λ d. net_of_held (record { cube = d; centres = centres })) (sym (lawful_cube.lawful.acts.turned_by_none c own))
-        ∙ ap (λ k. net_of_held (record { cube = cube_action.turned c cube_action.identity; centres = k })) (sym (none centres))
+        ap (λ d. net_of_held (record { cube = d; centres = centres })) (sym (cube_laws.solved_last c own))
+        ∙ ap (λ k. net_of_held (record { cube = cube_monoid.turned c solved_cube; centres = k })) (sym (none centres))
     power-held (suc n) c centres q own there found =
         let turn = cube_turns (turned_face centres place depth) q found in
         let after : List ℕ = centres_turned centres place depth 1 in
         ap (turned_net 3 place depth n) (quarter-held c centres q own there found)
-        ∙ power-held n (cube_action.turned c q) after q (lawful_cube.lawful.acts.valid c q own turn) (contains centres there) (ap (slice_get cube_quarters) (kept centres there) ∙ found)
+        ∙ power-held n (cube_monoid.turned c q) after q (cube_laws.kept c q own turn) (contains centres there) (ap (slice_get cube_quarters) (kept centres there) ∙ found)
         ∙ ap (λ d. net_of_held (record { cube = d; centres = centres_turned after place depth n }))
-        (sym (lawful_cube.lawful.acts.turned_by_both c q (power cube_action q n) own turn (IsTurn-power cube_action IsCube IsCubeTurn lawful_cube.lawful.acts q n turn)))
-        ∙ ap (λ k. net_of_held (record { cube = cube_action.turned c (power cube_action q (suc n)); centres = k })) (more centres n)
+        (cube_laws.grouped c q (power cube_monoid q n) own turn (IsValid-power cube_monoid IsCube cube_laws q n turn))
+        ∙ ap (λ k. net_of_held (record { cube = cube_monoid.turned c (power cube_monoid q (suc n)); centres = k })) (more centres n)
 
 -- ---- one letter
 
@@ -177,18 +177,18 @@ two_layers place depth amount p ge = elim (cases_lt place 3) [
 
 -- what a letter of a face makes of a cube is a power of the face's quarter
 record IsPower (c d : CubeState) (face amount : ℕ) : Type 0 where
-  pub quarter : CubeTurn
+  pub quarter : CubeState
   pub found : slice_get cube_quarters face ≡ Some quarter
-  pub made : cube_action.turned c (power cube_action quarter amount) ≡ d
+  pub made : cube_monoid.turned c (power cube_monoid quarter amount) ≡ d
 
 power-of : (c d : CubeState) (face amount : ℕ) → after_letter cube_powers c (Face face 1 amount) ≡ Some d
     → IsPower c d face amount
 unfolding power_of
 power-of c d face amount e =
     let t : Turn = Face face 1 amount in
-    let read = map-some (cube_action.turned c) (power_table cube_action cube_quarters quarters_of t) d e in
-    let letter = and_then-some (power_of cube_action cube_quarters) (quarters_of t) read.0 read.1 in
-    let found = map-some (λ q. power cube_action q letter.0.exponent) (slice_get cube_quarters letter.0.generator) read.0 letter.2 in
+    let read = map-some (cube_monoid.turned c) (power_table cube_monoid cube_quarters quarters_of t) d e in
+    let letter = and_then-some (power_of cube_monoid cube_quarters) (quarters_of t) read.0 read.1 in
+    let found = map-some (λ q. power cube_monoid q letter.0.exponent) (slice_get cube_quarters letter.0.generator) read.0 letter.2 in
     let is = IsQuartersOf-read t letter.0 letter.1 in
     let whole = is.is in
     let same : letter.0.generator ≡ face = cc in
@@ -196,21 +196,21 @@ power-of c d face amount e =
     record {
       quarter = found.0;
       found = ap (slice_get cube_quarters) (sym same) ∙ found.1;
-      made = ap (λ n. cube_action.turned c (power cube_action found.0 n)) (sym often) ∙ ap (cube_action.turned c) found.2 ∙ read.2;
+      made = ap (λ n. cube_monoid.turned c (power cube_monoid found.0 n)) (sym often) ∙ ap (cube_monoid.turned c) found.2 ∙ read.2;
     }
 
 -- of one layer, and of two
-power-here : (place : ℕ) → place < 6 → (n : ℕ) (c : CubeState) (centres : List ℕ) (q : CubeTurn) → IsCube c
+power-here : (place : ℕ) → place < 6 → (n : ℕ) (c : CubeState) (centres : List ℕ) (q : CubeState) → IsCube c
     → Contains holds centres → slice_get cube_quarters (turned_face centres place 1) ≡ Some q
     → turned_net 3 place 1 n (net_of_held (record { cube = c; centres = centres }))
-    ≡ net_of_held (record { cube = cube_action.turned c (power cube_action q n); centres = centres_turned centres place 1 n })
+    ≡ net_of_held (record { cube = cube_monoid.turned c (power cube_monoid q n); centres = centres_turned centres place 1 n })
 power-here place low =
     power-held place 1 low (seen-here place low) (λ centres there. there) (λ centres there. refl) (λ centres. refl) (λ centres n. refl)
 
-power-wide : (place : ℕ) → place < 3 → (n : ℕ) (c : CubeState) (centres : List ℕ) (q : CubeTurn) → IsCube c
+power-wide : (place : ℕ) → place < 3 → (n : ℕ) (c : CubeState) (centres : List ℕ) (q : CubeState) → IsCube c
     → Contains holds centres → slice_get cube_quarters (turned_face centres place 2) ≡ Some q
     → turned_net 3 place 2 n (net_of_held (record { cube = c; centres = centres }))
-    ≡ net_of_held (record { cube = cube_action.turned c (power cube_action q n); centres = centres_turned centres place 2 n })
+    ≡ net_of_held (record { cube = cube_monoid.turned c (power cube_monoid q n); centres = centres_turned centres place 2 n })
 power-wide place low =
     power-held place 2 (omega arith) (seen-wide place low)
     (λ centres there. Contains-whole place centres 1 low there)
@@ -282,7 +282,7 @@ net-solved-held = refl
 
 pub IsHeld-solved : IsHeld solved_held
 unfolding solved_held
-IsHeld-solved = record { cube = IsCube-solved; centres = Contains-solved }
+IsHeld-solved = record { cube = cube_laws.solved; centres = Contains-solved }
 
 pub held_nets : (w : List Turn) → IsSome (play held_cube_after solved_held w)
     → play (net_after 3) (solved_net 3) w ≡ option_map net_of_held (play held_cube_after solved_held w)

@@ -11,7 +11,7 @@ use Rattle.scr_combinatorics.specs.Lists.{pick}
 use Rattle.scr_combinatorics.proofs.PermutationLaws.{All-permutation}
 use Rattle.scr_combinatorics.proofs.PlayLaws.{and_then-some, map-some}
 use Rattle.scr_combinatorics.proofs.Picks.{length-pick, pick-at}
-use Rattle.scr_orbit.specs.Orbits.{Orbit, Rearrangement, IsZeroSumOrbit, turned_orbit}
+use Rattle.scr_orbit.specs.Orbits.{Orbit, IsZeroSumOrbit, turned_orbit}
 use Rattle.scr_orbit.specs.Stickers.{standing}
 use Rattle.scr_orbit.proofs.DigitLaws.{added_digits-at}
 use Rattle.scr_cube.specs.Cube333.{CubeState}
@@ -59,11 +59,11 @@ number_at places name place digit = position (λ n. n == name) (standing (get_or
 
 -- A turn brings to a sticker of a place what stood at another's: the piece comes from there, and whatever its digit was,
 -- its sticker that is here now was there. Where no such piece is, the rest tells.
-abbrev pub comes_from : ℕ → ℕ → List (List ℕ) → Rearrangement → ℕ → ℕ → Bool → Option ℕ → Option ℕ → Bool
+abbrev pub comes_from : ℕ → ℕ → List (List ℕ) → Orbit → ℕ → ℕ → Bool → Option ℕ → Option ℕ → Bool
 comes_from n modulus places r face from rest None None = rest
 comes_from n modulus places r face from rest (Some k) (Some j) =
-    (nat_lt k n && (slice_index r.places k == j))
-    && list_all (λ d. same_place (number_at places face k ((d + slice_index r.added k) % modulus)) (number_at places from j d)) (range_with_len 0 modulus)
+    (nat_lt k n && (slice_index r.pieces k == j))
+    && list_all (λ d. same_place (number_at places face k ((d + slice_index r.digits k) % modulus)) (number_at places from j d)) (range_with_len 0 modulus)
 comes_from n modulus places r face from rest _ _ = false
 
 digit-below : (modulus : ℕ) (ds : List ℕ) (k : ℕ) → 0 < modulus → All (λ d. d < modulus) ds → slice_index ds k < modulus
@@ -72,35 +72,35 @@ digit-below modulus ds k some each = elim (cases_lt k (length ds)) [
   | inr le ↦ subst (λ d. d < modulus) (sym (get_or_past ds k 0 le)) some
 ]
 
-module _ (n modulus : ℕ) (places : List (List ℕ)) (o : Orbit) (r : Rearrangement) (some : 0 < modulus)
-    (below : All (λ d. d < modulus) o.digits) (size : length r.places ≡ n) (added : length r.added ≡ n) where
+module _ (n modulus : ℕ) (places : List (List ℕ)) (o r : Orbit) (some : 0 < modulus)
+    (below : All (λ d. d < modulus) o.digits) (size : length r.pieces ≡ n) (added : length r.digits ≡ n) where
   -- what stands at a place after a turn
   piece-turned : (k : ℕ) → k < n
-      → slice_index (turned_orbit modulus o r).pieces k ≡ slice_index o.pieces (slice_index r.places k)
+      → slice_index (turned_orbit modulus o r).pieces k ≡ slice_index o.pieces (slice_index r.pieces k)
   unfolding turned_orbit
-  piece-turned k lt = pick-at o.pieces r.places k (omega (arith, size))
+  piece-turned k lt = pick-at o.pieces r.pieces k (omega (arith, size))
 
   digit-turned : (k : ℕ) → k < n
-      → slice_index (turned_orbit modulus o r).digits k ≡ (slice_index o.digits (slice_index r.places k) + slice_index r.added k) % modulus
+      → slice_index (turned_orbit modulus o r).digits k ≡ (slice_index o.digits (slice_index r.pieces k) + slice_index r.digits k) % modulus
   unfolding turned_orbit
   digit-turned k lt =
-      added_digits-at modulus (pick o.digits r.places) r.added k (omega (arith, length-pick o.digits r.places, size, added)) (omega (arith, length-pick o.digits r.places, size))
-      ∙ ap (λ d. (d + slice_index r.added k) % modulus) (pick-at o.digits r.places k (omega (arith, size)))
+      added_digits-at modulus (pick o.digits r.pieces) r.digits k (omega (arith, length-pick o.digits r.pieces, size, added)) (omega (arith, length-pick o.digits r.pieces, size))
+      ∙ ap (λ d. (d + slice_index r.digits k) % modulus) (pick-at o.digits r.pieces k (omega (arith, size)))
 
   -- what shows at a place's sticker
   letter-turned : (face from k j : ℕ) → comes_from n modulus places r face from false (Some k) (Some j) ≡ true
       → (x : ℕ) × (piece_letter places (turned_orbit modulus o r) face k ≡ Some x) × (piece_letter places o from j ≡ Some x)
   letter-turned face from k j h =
-      let numbers : Bool = list_all (λ d. same_place (number_at places face k ((d + slice_index r.added k) % modulus)) (number_at places from j d)) (range_with_len 0 modulus) in
-      let both = and_parts (nat_lt k n && (slice_index r.places k == j)) numbers h in
-      let first = and_parts (nat_lt k n) (slice_index r.places k == j) both.0 in
+      let numbers : Bool = list_all (λ d. same_place (number_at places face k ((d + slice_index r.digits k) % modulus)) (number_at places from j d)) (range_with_len 0 modulus) in
+      let both = and_parts (nat_lt k n && (slice_index r.pieces k == j)) numbers h in
+      let first = and_parts (nat_lt k n) (slice_index r.pieces k == j) both.0 in
       let lt : k < n = ltb-true k n first.0 in
-      let there : slice_index r.places k ≡ j = eqb-true (slice_index r.places k) j first.1 in
+      let there : slice_index r.pieces k ≡ j = eqb-true (slice_index r.pieces k) j first.1 in
       let d : ℕ = slice_index o.digits j in
       let same =
-      same_place-same (number_at places face k ((d + slice_index r.added k) % modulus)) (number_at places from j d)
-      (passes (λ d. same_place (number_at places face k ((d + slice_index r.added k) % modulus)) (number_at places from j d)) modulus both.1 d (digit-below modulus o.digits j some below)) in
-      let digit : slice_index (turned_orbit modulus o r).digits k ≡ (d + slice_index r.added k) % modulus = digit-turned k lt ∙ ap (λ i. (slice_index o.digits i + slice_index r.added k) % modulus) there in
+      same_place-same (number_at places face k ((d + slice_index r.digits k) % modulus)) (number_at places from j d)
+      (passes (λ d. same_place (number_at places face k ((d + slice_index r.digits k) % modulus)) (number_at places from j d)) modulus both.1 d (digit-below modulus o.digits j some below)) in
+      let digit : slice_index (turned_orbit modulus o r).digits k ≡ (d + slice_index r.digits k) % modulus = digit-turned k lt ∙ ap (λ i. (slice_index o.digits i + slice_index r.digits k) % modulus) there in
       let piece : slice_index (turned_orbit modulus o r).pieces k ≡ slice_index o.pieces j = piece-turned k lt ∙ ap (slice_index o.pieces) there in
       let letters : List ℕ = get_or places (slice_index o.pieces j) [] in (
         slice_index letters same.0,

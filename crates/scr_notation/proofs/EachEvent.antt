@@ -1,5 +1,5 @@
 -- What is so of each event, computed once over all of them.
-use Rattle.std.proofs.Common.{◌≡◌, ℕ, ◌+◌, ◌<◌, Bool, true, IsTrue, Some, refl, sym, ap, ◌∙◌, zero-add, lit<}
+use Rattle.std.proofs.Common.{◌≡◌, ℕ, ◌+◌, ◌<◌, Bool, true, IsTrue, length, Some, refl, sym, ap, ◌∙◌, zero-add, lit<}
 use Rattle.std.specs.Prelude.{◌&&◌, nat_le, map, slice_get}
 use Rattle.std.specs.List.{range_with_len}
 use Rattle.std.specs.Option.{option_map}
@@ -15,7 +15,7 @@ use Rattle.scr_notation.specs.Kinds.{IsKind}
 use Rattle.scr_notation.proofs.Below.{and_first, and_second}
 
 -- each event has a number: the one list of events by which proofs tell one from another
-pub numbered : (event : Event) → (k : ℕ) × (k < 13) × (slice_get events k ≡ Some event)
+pub numbered : (event : Event) → (k : ℕ) × (k < length events) × (slice_get events k ≡ Some event)
 numbered C222 = (0, lit< tt, refl)
 numbered C333 = (1, lit< tt, refl)
 numbered Oh333 = (2, lit< tt, refl)
@@ -50,9 +50,9 @@ number_of event = (numbered event).0
 number-at : (n : ℕ) (event : Event) → slice_get events n ≡ Some event → number_of event ≡ n
 unfolding number_of numbered
 number-at n event at =
-    let below : n < 13 = slice_get_within events n event at in
-    let read : slice_get (range_with_len 0 13) n ≡ Some (number_of event) = slice_get-map number_of events n ∙ ap (option_map number_of) at in
-    sym (get_or_from_slice_get (range_with_len 0 13) n (number_of event) 0 read) ∙ get_or-range_with_len 0 13 n 0 below ∙ zero-add n
+    let below : n < length events = slice_get_within events n event at in
+    let read : slice_get (range_with_len 0 (length events)) n ≡ Some (number_of event) = slice_get-map number_of events n ∙ ap (option_map number_of) at in
+    sym (get_or_from_slice_get (range_with_len 0 (length events)) n (number_of event) 0 read) ∙ get_or-range_with_len 0 (length events) n 0 below ∙ zero-add n
 
 -- no two have one number
 pub one_number : (n other : ℕ) (event : Event) → slice_get events n ≡ Some event → slice_get events other ≡ Some event

@@ -36,8 +36,8 @@ pub enum Event {
     Fm333,
 }
 
-/// What is scrambled for an event, and how. Events that have it in common have the same turns, states and scrambles, and
-/// look alike.
+/// What is scrambled for an event, and how. Events that have it in common have the same turns, states and scrambles,
+/// and look alike.
 #[derive(Clone, Copy, Debug, PartialEq, Eq)]
 pub enum Puzzle {
     /// The 2x2x2.

@@ -10,7 +10,7 @@ use std::marker::Model;
 /// A set of events, as a flag for each of them.
 #[derive(Clone, Copy, Debug)]
 pub struct EventSet {
-    flags: [bool; 13],
+    flags: [bool; EVENTS.len()],
 }
 
 impl Model for EventSet {

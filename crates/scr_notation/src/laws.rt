@@ -19,8 +19,8 @@ ghost use Rattle.scr_notation.specs.Reading.{IsFirstFault};
 
 /// The events in the order of their numbers: how they are named, what is scrambled for them, how many scrambles a group
 /// has, and how many turns from solved states are at least, usually and at most (0 for events without minima), by which
-/// tables they are scrambled, which have states that are tested by a table, and how many layers the cube has whose net is
-/// shown.
+/// tables they are scrambled, which have states that are tested by a table, and how many layers the cube has whose net
+/// is shown.
 pub fn known_events()
     ensures ids { join_with_byte 32 (map id_of events)
         ≡ codes "222 333 333oh 555 666 777 clock minx pyram skewb sq1 333bf 333fm" }

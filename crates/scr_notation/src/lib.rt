@@ -1,11 +1,12 @@
-//! Events, turns and scrambles as the WCA writes them (WCA Regulations, articles 9 and 12). No puzzle stands here: the
-//! puzzles' crates say what turns do.
+//! Events, turns and scrambles as the WCA writes them (WCA Regulations, articles 9 and 12). Which puzzle is scrambled
+//! for an event is told here, and which turns that puzzle has; what they do to its states, the puzzle's crate says.
 //!
-//! Which events there are, and which puzzle is scrambled for each, stands in `specs/Event.antt`; which turns the puzzle of an event has in `specs/Faces.antt`,
-//! `Axes.antt`, `Layers.antt`, `Pins.antt` and `Wide.antt`; how turns are written in `specs/Spelling.antt`. `print` gives the
-//! text of a scramble, and `parse` is its inverse: an accepted text is the text of exactly the scramble that was read, and any
-//! other is refused at its first word at fault, with the byte at which that word begins. `inverse` is the reversed list of
-//! opposite turns, and `tidy` what is left when turns of one face, turns of layers and twists are merged, in whatever order.
+//! The events and their puzzles stand in the two tables of `specs/Event.antt`; the turns of a puzzle in
+//! `specs/Faces.antt`, `Axes.antt`, `Layers.antt`, `Pins.antt` and `Wide.antt`; how turns are written in
+//! `specs/Spelling.antt`. `print` gives the text of a scramble, and `parse` is its inverse: an accepted text is the
+//! text of exactly the scramble that was read, and any other is refused at its first word at fault, with the byte at
+//! which that word begins. `inverse` is the reversed list of opposite turns, and `tidy` what is left when turns of one
+//! face, turns of layers and twists are merged, in whatever order.
 //!
 //! Turns at faces ([`Faces`]), and those about axes and of tips ([`Axes`]), are powers of quarter turns and of thirds,
 //! as a half turn of a face is its quarter turn twice; each has its number (`specs/FaceLetters.antt`,

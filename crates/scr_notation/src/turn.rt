@@ -13,8 +13,8 @@ ghost use Rattle.scr_notation.specs.TurnNumbers.{turn_count, turn_at, face_turn_
 
 use crate::event::{Event, Kind};
 
-/// A turn (WCA Regulations, article 12). Which turns an event has stands in `specs/Turns.antt`, and how they are written in
-/// `specs/Spelling.antt`.
+/// A turn (WCA Regulations, article 12). Which turns an event has stands in `specs/Turns.antt`, and how they are written
+/// in `specs/Spelling.antt`.
 #[derive(Clone, Copy, Debug, PartialEq, Eq)]
 pub enum Turn {
     /// The `depth` outer layers at a face of a cube, clockwise by `amount` quarters. The faces U R F D L B are 0 to 5.

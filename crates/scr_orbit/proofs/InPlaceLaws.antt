@@ -5,9 +5,9 @@ use Rattle.std.specs.Option.{option_map}
 use Rattle.std.proofs.lemmas.Option.{slice_get-get_or}
 use Rattle.scr_combinatorics.specs.Lists.{numbers_from, pick}
 use Rattle.scr_combinatorics.proofs.Picks.{pick-in_order, length-numbers_from}
-use Rattle.scr_orbit.specs.Actions.{IsAction}
+use Rattle.scr_orbit.specs.Monoids.{IsMonoid}
 use Rattle.scr_orbit.specs.Orbits.{added_digits, zeros}
-use Rattle.scr_orbit.specs.InPlace.{AreDigitsInPlace, in_place_action}
+use Rattle.scr_orbit.specs.InPlace.{AreDigitsInPlace, in_place_monoid}
 use Rattle.scr_orbit.proofs.Parts.{IsMadeAt}
 use Rattle.scr_orbit.proofs.DigitLaws.{length-added_digits, All-added_digits, added_digits-assoc, length-zeros, All-zeros, added_digits-zeros, added_digits-to_zeros}
 
@@ -28,17 +28,13 @@ from_zeros n m ds a =
     ap (λ xs. added_digits m xs ds) (sym (ap (λ k. pick (zeros n) (numbers_from 0 k)) (sym (length-zeros n)) ∙ pick-in_order (zeros n)))
     ∙ added_digits-to_zeros m n (numbers_from 0 n) ds a.below (length-numbers_from 0 n ∙ sym a.size)
 
--- turns act on such digits
-pub in_place_laws : (n m : ℕ) → 0 < m → IsAction (in_place_action n m) (AreDigitsInPlace n m) (AreDigitsInPlace n m)
+pub in_place_laws : (n m : ℕ) → 0 < m → IsMonoid (in_place_monoid n m) (AreDigitsInPlace n m)
 in_place_laws n m pos = record {
-  valid = λ ds es a b. AreDigitsInPlace-added n m ds es pos a b;
-  closed = λ ds es a b. AreDigitsInPlace-added n m ds es pos a b;
-  neutral = AreDigitsInPlace-zeros n m pos;
+  kept = λ ds es a b. AreDigitsInPlace-added n m ds es pos a b;
+  solved = AreDigitsInPlace-zeros n m pos;
   grouped = λ ds es fs a b c. added_digits-assoc m ds es fs;
-  nothing_before = from_zeros n m;
-  nothing_after = added_digits-still n m;
-  turned_by_none = added_digits-still n m;
-  turned_by_both = λ ds es fs a b c. sym (added_digits-assoc m ds es fs);
+  solved_first = from_zeros n m;
+  solved_last = added_digits-still n m;
 }
 
 -- a row of a table, and the digits after a turn that is read from it

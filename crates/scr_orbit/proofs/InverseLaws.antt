@@ -1,4 +1,4 @@
--- Laws of orbits that are joined, one and then another, and of what undoes them.
+-- The inverse of an orbit: that it is one, and what it keeps.
 use Rattle.std.proofs.Common.{◌≡◌, ℕ, suc, ◌+◌, ◌-◌, ◌%◌, ◌<◌, List, [], ◌∷◌, length, map, get_or, refl, sym, ap, ◌∙◌, arith, lit<}
 use Rattle.std.specs.Prelude.{All}
 use Rattle.std.proofs.Math.Nat.{add-mod-mod, mod_self, mod-eq_of_lt}
@@ -10,77 +10,11 @@ use Rattle.scr_combinatorics.specs.Permutations.{IsPermutation, inverse, parity,
 use Rattle.scr_combinatorics.proofs.Parities.{inversions-numbers_from}
 use Rattle.scr_combinatorics.proofs.Picks.{length-pick, All-pick}
 use Rattle.scr_combinatorics.proofs.PermutationLaws.{IsPermutation-inverse, pick-inverse, inverse-at, length-inverse, place_of-lt, at-place_of}
-use Rattle.scr_orbit.specs.Inverses.{IsInverse}
-use Rattle.scr_orbit.specs.Orbits.{Orbit, Rearrangement, IsOrbit, IsRearrangement, IsZeroSumOrbit, IsZeroSumRearrangement, added_digits, turned_orbit, composed, zeros, identity, solved_orbit, rearrangement_to, orbit_then}
+use Rattle.scr_orbit.specs.Monoids.{IsInverse}
+use Rattle.scr_orbit.specs.Orbits.{Orbit, IsOrbit, IsZeroSumOrbit, added_digits, turned_orbit, zeros, solved_orbit, orbit_monoid}
 use Rattle.scr_orbit.proofs.DigitLaws.{total-zeros}
-use Rattle.scr_orbit.proofs.OrbitLaws.{same_orbit, places_in, total-turned, parity-turned, turned-composed, turned-identity, turned-solved, IsOrbit-zero_sum}
-
--- ---- states that are joined
-
--- Joining valid states: whichever two are joined first, and the solved state changes nothing.
-pub record IsJoining {S : Type 0} (joined : S → S → S) (solved : S) (IsValid : S → Type 0) : Type 0 where
-  pub grouped : (a b c : S) → IsValid a → IsValid b → IsValid c → joined (joined a b) c ≡ joined a (joined b c)
-  pub solved_first : (a : S) → IsValid a → joined solved a ≡ a
-  pub solved_last : (a : S) → IsValid a → joined a solved ≡ a
-
--- a state that is solved with another both ways is its inverse
-pub IsInverse-both : {S : Type 0} (joined : S → S → S) (solved : S) (IsValid : S → Type 0)
-    → IsJoining joined solved IsValid → (s r : S) → IsValid s → IsValid r → joined s r ≡ solved → joined r s ≡ solved
-    → IsInverse joined solved IsValid s r
-IsInverse-both joined solved IsValid j s r own valid after before = record {
-  valid = valid;
-  after = after;
-  before = before;
-  only_after = λ q h e.
-      sym (j.solved_first q h) ∙ ap (λ x. joined x q) (sym before) ∙ j.grouped r s q valid own h
-      ∙ ap (joined r) e ∙ j.solved_last r valid;
-  only_before = λ q h e.
-      sym (j.solved_last q h) ∙ ap (joined q) (sym after) ∙ sym (j.grouped q s r h own valid)
-      ∙ ap (λ x. joined x r) e ∙ j.solved_first r valid;
-}
-
--- where each state is solved with another, that is its inverse
-pub IsInverse-right : {S : Type 0} (joined : S → S → S) (solved : S) (IsValid : S → Type 0)
-    → IsJoining joined solved IsValid → (inverted : S → S) → ((s : S) → IsValid s → IsValid (inverted s))
-    → ((s : S) → IsValid s → joined s (inverted s) ≡ solved) → (s : S) → IsValid s
-    → IsInverse joined solved IsValid s (inverted s)
-IsInverse-right joined solved IsValid j inverted valid after s own =
-    let r = inverted s in
-    let r_is = valid s own in
-    let again : inverted r ≡ s =
-    sym (j.solved_first (inverted r) (valid r r_is)) ∙ ap (λ x. joined x (inverted r)) (sym (after s own))
-    ∙ j.grouped s r (inverted r) own r_is (valid r r_is) ∙ ap (joined s) (after r r_is) ∙ j.solved_last s own in
-    IsInverse-both joined solved IsValid j s r own r_is (after s own) (ap (joined r) (sym again) ∙ after r r_is)
-
--- ---- orbits
-
-pub IsRearrangement-to : (n m : ℕ) (o : Orbit) → IsOrbit n m o → IsRearrangement n m (rearrangement_to o)
-unfolding rearrangement_to
-IsRearrangement-to n m o h = record { places = h.pieces; size = h.size; below = h.below }
-
-pub IsZeroSumRearrangement-to : (n m : ℕ) (o : Orbit) → IsZeroSumOrbit n m o
-    → IsZeroSumRearrangement n m (rearrangement_to o)
-unfolding rearrangement_to
-IsZeroSumRearrangement-to n m o h = record { places = h.pieces; added = h.digits }
-
--- what an orbit is turned by comes to both, composed
-pub rearrangement_to-turned : (m : ℕ) (o : Orbit) (r : Rearrangement)
-    → rearrangement_to (turned_orbit m o r) ≡ composed m (rearrangement_to o) r
-unfolding rearrangement_to turned_orbit composed
-rearrangement_to-turned m o r = refl
-
-pub rearrangement_to-solved : (n : ℕ) → rearrangement_to (solved_orbit n) ≡ identity n
-unfolding rearrangement_to solved_orbit identity
-rearrangement_to-solved n = refl
-
-pub IsJoining-orbits : (n m : ℕ) → 0 < m → IsJoining (orbit_then m) (solved_orbit n) (IsOrbit n m)
-IsJoining-orbits n m pos = record {
-  grouped = λ a b c h k i.
-      sym (turned-composed n m a (rearrangement_to b) (rearrangement_to c) h (IsRearrangement-to n m b k) (IsRearrangement-to n m c i))
-      ∙ ap (turned_orbit m a) (sym (rearrangement_to-turned m b (rearrangement_to c)));
-  solved_first = turned-solved n m;
-  solved_last = λ a h. ap (turned_orbit m a) (rearrangement_to-solved n) ∙ turned-identity n m a h;
-}
+use Rattle.scr_orbit.proofs.OrbitLaws.{same_orbit, places_in, total-turned, parity-turned, orbit_laws, IsOrbit-zero_sum}
+use Rattle.scr_orbit.proofs.MonoidLaws.{IsInverse-right}
 
 -- ---- the inverse of an orbit
 
@@ -120,9 +54,9 @@ IsOrbit-inverse n m o pos h = record {
   below = All-opposite_digits m (pick o.digits (inverse o.pieces)) pos;
 }
 
-then-inverse_orbit : (n m : ℕ) (o : Orbit) → IsOrbit n m o → orbit_then m o (inverse_orbit m o) ≡ solved_orbit n
-unfolding inverse_orbit turned_orbit rearrangement_to solved_orbit
-then-inverse_orbit n m o h =
+turned-inverse_orbit : (n m : ℕ) (o : Orbit) → IsOrbit n m o → turned_orbit m o (inverse_orbit m o) ≡ solved_orbit n
+unfolding inverse_orbit turned_orbit solved_orbit
+turned-inverse_orbit n m o h =
     let from : List ℕ = inverse o.pieces in
     let picked : List ℕ = pick o.digits from in
     let below : All (λ d. d < m) picked =
@@ -131,10 +65,10 @@ then-inverse_orbit n m o h =
     same_orbit _ _ (pick-inverse n o.pieces h.pieces) (added-opposite_digits m picked below ∙ ap zeros size)
 
 pub IsInverse-orbit : (n m : ℕ) (o : Orbit) → 0 < m → IsOrbit n m o
-    → IsInverse (orbit_then m) (solved_orbit n) (IsOrbit n m) o (inverse_orbit m o)
+    → IsInverse (orbit_monoid n m) (IsOrbit n m) o (inverse_orbit m o)
 IsInverse-orbit n m o pos h =
-    IsInverse-right (orbit_then m) (solved_orbit n) (IsOrbit n m) (IsJoining-orbits n m pos) (inverse_orbit m)
-    (λ s k. IsOrbit-inverse n m s pos k) (then-inverse_orbit n m) o h
+    IsInverse-right (orbit_monoid n m) (IsOrbit n m) (orbit_laws n m pos) (inverse_orbit m)
+    (λ s k. IsOrbit-inverse n m s pos k) (turned-inverse_orbit n m) o h
 
 -- ---- lists that are inverted place by place
 
@@ -180,12 +114,12 @@ inverted_by_lists m o pieces digits a b = same_orbit _ _ a (b ∙ ap (λ ks. opp
 
 -- digits that sum to 0
 pub IsZeroSumOrbit-inverse : (n m : ℕ) (o p : Orbit) → IsZeroSumOrbit n m o → IsOrbit n m p
-    → orbit_then m p o ≡ solved_orbit n → IsZeroSumOrbit n m p
-unfolding rearrangement_to solved_orbit
+    → turned_orbit m p o ≡ solved_orbit n → IsZeroSumOrbit n m p
+unfolding solved_orbit
 IsZeroSumOrbit-inverse n m o p h k e =
     let o_is = IsOrbit-zero_sum n m o h in
-    let sum = total-turned n m p (rearrangement_to o) k (IsRearrangement-to n m o o_is) in
-    let none : total (orbit_then m p o).digits % m ≡ 0 = ap (λ (x : Orbit). total x.digits % m) e ∙ total-zeros m n in
+    let sum = total-turned n m p o k o_is in
+    let none : total (turned_orbit m p o).digits % m ≡ 0 = ap (λ (x : Orbit). total x.digits % m) e ∙ total-zeros m n in
     let left : (total p.digits + total o.digits) % m ≡ total p.digits % m =
     sym (add-mod-mod (total p.digits) (total o.digits) m) ∙ ap (λ z. (total p.digits + z) % m) h.digits.sum_fixed ∙ ap (λ z. z % m) (omega arith) in
     record {
@@ -197,12 +131,12 @@ same_parity : (a b : ℕ) → a < 2 → b < 2 → (a + b) % 2 ≡ 0 → a ≡ b
 same_parity a b h k e = omega arith
 
 -- and the parity
-pub parity-inverse_orbit : (n m : ℕ) (o p : Orbit) → IsOrbit n m o → IsOrbit n m p → orbit_then m p o ≡ solved_orbit n
+pub parity-inverse_orbit : (n m : ℕ) (o p : Orbit) → IsOrbit n m o → IsOrbit n m p → turned_orbit m p o ≡ solved_orbit n
     → parity p.pieces ≡ parity o.pieces
-unfolding rearrangement_to solved_orbit
+unfolding solved_orbit
 parity-inverse_orbit n m o p h k e =
-    let sum = parity-turned n m p (rearrangement_to o) k.pieces h.pieces in
-    let even : parity (orbit_then m p o).pieces ≡ 0 = ap (λ (x : Orbit). parity x.pieces) e ∙ ap (λ z. z % 2) (inversions-numbers_from 0 n) in
+    let sum = parity-turned n m p o k.pieces h.pieces in
+    let even : parity (turned_orbit m p o).pieces ≡ 0 = ap (λ (x : Orbit). parity x.pieces) e ∙ ap (λ z. z % 2) (inversions-numbers_from 0 n) in
     let one : parity p.pieces < 2 = mod_below _ 2 (lit< tt) in
     let other : parity o.pieces < 2 = mod_below _ 2 (lit< tt) in
     let none : (parity p.pieces + parity o.pieces) % 2 ≡ 0 = sym sum ∙ even in

@@ -3,7 +3,7 @@ pub mod OrbitLaws
 pub mod InverseLaws
 pub mod Places
 pub mod TableTests
-pub mod ActionLaws
+pub mod MonoidLaws
 pub mod PowerLaws
 pub mod NumberedTurns
 pub mod Orders

@@ -7,11 +7,11 @@ use Rattle.std.specs.List.{All, Contains, slice_get}
 use Rattle.std.specs.Option.{option_map}
 use Rattle.std.proofs.lemmas.Option.{slice_get-map, slice_get-get_or}
 use Rattle.scr_orbit.specs.declared.placed.PlaceTurn.{PlaceTurn}
-use Rattle.scr_orbit.specs.PlaceTurns.{rearrangement_of}
+use Rattle.scr_orbit.specs.PlaceTurns.{made_by}
 use Rattle.scr_combinatorics.specs.Lists.{occurrences, total, pick}
 use Rattle.scr_combinatorics.proofs.Counts.{occurrences-at, one_if-other}
 use Rattle.scr_combinatorics.proofs.Picks.{length-pick, pick-at, All-pick}
-use Rattle.scr_orbit.specs.Orbits.{Orbit, Rearrangement, added_digits, turned_orbit}
+use Rattle.scr_orbit.specs.Orbits.{Orbit, added_digits, turned_orbit}
 use Rattle.scr_orbit.proofs.OrbitLaws.{same_orbit}
 use Rattle.scr_orbit.proofs.Parts.{IsMadeAt}
 
@@ -56,11 +56,11 @@ total-take_suc (x ∷ xs) (suc k) lt = omega (arith, total-take_suc xs k (omega 
 
 -- ---- an orbit that is turned list by list
 
-pub turned_by_lists : (m : ℕ) (o : Orbit) (r : Rearrangement) (pieces picked digits : List ℕ)
-    → pieces ≡ pick o.pieces r.places → picked ≡ pick o.digits r.places → digits ≡ added_digits m picked r.added
+pub turned_by_lists : (m : ℕ) (o r : Orbit) (pieces picked digits : List ℕ)
+    → pieces ≡ pick o.pieces r.pieces → picked ≡ pick o.digits r.pieces → digits ≡ added_digits m picked r.digits
     → record { pieces = pieces; digits = digits } ≡ turned_orbit m o r
 unfolding turned_orbit
-turned_by_lists m o r pieces picked digits a b c = same_orbit _ _ a (c ∙ ap (λ xs. added_digits m xs r.added) b)
+turned_by_lists m o r pieces picked digits a b c = same_orbit _ _ a (c ∙ ap (λ xs. added_digits m xs r.digits) b)
 
 -- what is picked of digits below m is below m
 pub picked_below : (m : ℕ) (ds places picked : List ℕ) → All (λ d. d < m) ds → All (λ k. k < length ds) places
@@ -68,16 +68,16 @@ pub picked_below : (m : ℕ) (ds places picked : List ℕ) → All (λ d. d < m)
 picked_below m ds places picked low below e = subst (All (λ d. d < m)) (sym e) (All-pick (λ d. d < m) ds places low below)
 
 -- a turn read from a table of turns in arrays
-pub turn-at : {n : ℕ} (ts : List (PlaceTurn n)) (all : List Rearrangement) (k : ℕ) (d : PlaceTurn n)
-    → map rearrangement_of ts ≡ all → k < length ts → slice_get all k ≡ Some (rearrangement_of (get_or ts k d))
+pub turn-at : {n : ℕ} (ts : List (PlaceTurn n)) (all : List Orbit) (k : ℕ) (d : PlaceTurn n)
+    → map made_by ts ≡ all → k < length ts → slice_get all k ≡ Some (made_by (get_or ts k d))
 turn-at ts all k d e lt =
-    ap (λ rs. slice_get rs k) (sym e) ∙ slice_get-map rearrangement_of ts k ∙ ap (option_map rearrangement_of) (slice_get-get_or ts k d lt)
+    ap (λ rs. slice_get rs k) (sym e) ∙ slice_get-map made_by ts k ∙ ap (option_map made_by) (slice_get-get_or ts k d lt)
 
 -- and the orbit after it
-pub turned-at : {n : ℕ} {all : List Rearrangement} {o from to : Orbit} (m : ℕ) (ts : List (PlaceTurn n)) (k : ℕ) (d : PlaceTurn n)
-    → from ≡ o → map rearrangement_of ts ≡ all → k < length ts
-    → to ≡ turned_orbit m from (rearrangement_of (get_or ts k d)) → IsMadeAt all k (turned_orbit m o) to
+pub turned-at : {n : ℕ} {all : List Orbit} {o from to : Orbit} (m : ℕ) (ts : List (PlaceTurn n)) (k : ℕ) (d : PlaceTurn n)
+    → from ≡ o → map made_by ts ≡ all → k < length ts
+    → to ≡ turned_orbit m from (made_by (get_or ts k d)) → IsMadeAt all k (turned_orbit m o) to
 turned-at {all = all} {o = o} m ts k d same e lt made = record {
   is = ap (option_map (turned_orbit m o)) (turn-at ts all k d e lt)
-      ∙ ap Some (sym (made ∙ ap (λ x. turned_orbit m x (rearrangement_of (get_or ts k d))) same));
+      ∙ ap Some (sym (made ∙ ap (λ x. turned_orbit m x (made_by (get_or ts k d))) same));
 }

@@ -9,39 +9,39 @@ use Rattle.scr_combinatorics.specs.Tidy.{Merging}
 use Rattle.scr_combinatorics.proofs.PlayLaws.{and_then-some, map-some}
 use Rattle.scr_combinatorics.proofs.PlayedWhere.{TellsTurns, played-iff}
 use Rattle.scr_combinatorics.proofs.PowerLetterLaws.{TellsPowers}
-use Rattle.scr_orbit.specs.Actions.{power, power_of}
+use Rattle.scr_orbit.specs.Monoids.{power, power_of}
 use Rattle.scr_orbit.specs.PowerPuzzles.{PowerPuzzle, IsPowerPuzzle, letter_table, after_letter}
 
-module _ {S R T : Type 0} (p : PowerPuzzle S R T) (test : T → Bool) (tells : TellsPowers p.letters.power_at (length p.generators) test) where
-  in_table : (t : T) → IsTrue (test t) → (r : R) × (letter_table p t ≡ Some r)
+module _ {S T : Type 0} (p : PowerPuzzle S T) (test : T → Bool) (tells : TellsPowers p.letters.power_at (length p.generators) test) where
+  in_table : (t : T) → IsTrue (test t) → (r : S) × (letter_table p t ≡ Some r)
   unfolding power_of
   in_table t h =
       let found = tells.powers t h in
       elim (slice_get_cases p.generators found.0.generator).1 [
         | inl at ↦ (
-          power p.action at.0 found.0.exponent,
-          ap (option_and_then (power_of p.action p.generators)) found.1 ∙ ap (option_map (λ r. power p.action r found.0.exponent)) at.2,
+          power p.monoid at.0 found.0.exponent,
+          ap (option_and_then (power_of p.monoid p.generators)) found.1 ∙ ap (option_map (λ r. power p.monoid r found.0.exponent)) at.2,
         )
         | inr past ↦ absurd (omega (arith, past.0, found.2))
       ]
 
-  is_turn : (t : T) (r : R) → letter_table p t ≡ Some r → IsTrue (test t)
+  is_turn : (t : T) (r : S) → letter_table p t ≡ Some r → IsTrue (test t)
   unfolding power_of
   is_turn t r e =
-      let letter = and_then-some (power_of p.action p.generators) (p.letters.power_at t) r e in
-      let found = map-some (λ g. power p.action g letter.0.exponent) (slice_get p.generators letter.0.generator) r letter.2 in
+      let letter = and_then-some (power_of p.monoid p.generators) (p.letters.power_at t) r e in
+      let found = map-some (λ g. power p.monoid g letter.0.exponent) (slice_get p.generators letter.0.generator) r letter.2 in
       tells.only t letter.0 letter.1 (slice_get_within p.generators letter.0.generator found.0 found.1)
 
-  pub TellsTurns-powers : {IsValid : S → Type 0} {IsTurn : R → Type 0} {opposite : T → T} {m : Merging T}
-      → IsPowerPuzzle p IsValid IsTurn opposite m → TellsTurns (after_letter p) IsValid test
+  pub TellsTurns-powers : {IsValid : S → Type 0} {opposite : T → T} {merging : Merging T}
+      → IsPowerPuzzle p IsValid opposite merging → TellsTurns (after_letter p) IsValid test
   TellsTurns-powers law = record {
-    does = λ s t own h. let r = in_table t h in (p.action.turned s r.0, ap (option_map (p.action.turned s)) r.1);
-    only = λ s r t own e. let q = map-some (p.action.turned s) (letter_table p t) r e in is_turn t q.0 q.1;
+    does = λ s t own h. let r = in_table t h in (p.monoid.turned s r.0, ap (option_map (p.monoid.turned s)) r.1);
+    only = λ s r t own e. let q = map-some (p.monoid.turned s) (letter_table p t) r e in is_turn t q.0 q.1;
     keeps = law.lawful.kept;
   }
 
   -- so from valid states words are defined exactly where the test is true of all their letters
-  pub plays_turns : {IsValid : S → Type 0} {IsTurn : R → Type 0} {opposite : T → T} {m : Merging T}
-      → IsPowerPuzzle p IsValid IsTurn opposite m → (s : S) (w : List T) → IsValid s
+  pub plays_turns : {IsValid : S → Type 0} {opposite : T → T} {merging : Merging T}
+      → IsPowerPuzzle p IsValid opposite merging → (s : S) (w : List T) → IsValid s
       → IsSome (play (after_letter p) s w) ↔ AllPass test w
   plays_turns law = played-iff (TellsTurns-powers law)

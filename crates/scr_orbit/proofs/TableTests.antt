@@ -10,9 +10,9 @@ use Rattle.std.proofs.lemmas.List.Sums.{AllPass-from_list_all}
 use Rattle.scr_combinatorics.specs.Lists.{total, numbers_from}
 use Rattle.scr_combinatorics.specs.Permutations.{is_permutation}
 use Rattle.scr_combinatorics.proofs.PermutationLaws.{IsPermutation-from_test}
-use Rattle.scr_orbit.specs.Orbits.{Rearrangement, IsRearrangement, IsZeroSumRearrangement, identity, zeros}
+use Rattle.scr_orbit.specs.Orbits.{Orbit, IsOrbit, IsZeroSumOrbit, solved_orbit, zeros}
 use Rattle.scr_orbit.specs.declared.placed.PlaceTurn.{PlaceTurn}
-use Rattle.scr_orbit.specs.PlaceTurns.{rearrangement_of}
+use Rattle.scr_orbit.specs.PlaceTurns.{made_by}
 use Rattle.scr_orbit.specs.InPlace.{AreDigitsInPlace}
 use Rattle.scr_orbit.proofs.Parts.{ap_both}
 
@@ -28,59 +28,59 @@ and_three a b c h =
     let more = and_parts b c parts.1 in
     (parts.0, more.0, more.1)
 
--- a rearrangement of n places, as a test
-abbrev pub is_rearrangement : ℕ → ℕ → Rearrangement → Bool
-is_rearrangement n modulus r =
-    (is_permutation n r.places && (length r.added == n)) && list_all (λ d. nat_lt d modulus) r.added
+-- an orbit of n places, as a test
+abbrev pub is_orbit : ℕ → ℕ → Orbit → Bool
+is_orbit n modulus r =
+    (is_permutation n r.pieces && (length r.digits == n)) && list_all (λ d. nat_lt d modulus) r.digits
 
-pub IsRearrangement-from_test : (n m : ℕ) (r : Rearrangement) → is_rearrangement n m r ≡ true → IsRearrangement n m r
-IsRearrangement-from_test n m r h =
-    let sizes = is_permutation n r.places && (length r.added == n) in
-    let both = and_parts sizes (list_all (λ d. nat_lt d m) r.added) h in
-    let first = and_parts (is_permutation n r.places) (length r.added == n) both.0 in
+pub IsOrbit-from_test : (n m : ℕ) (r : Orbit) → is_orbit n m r ≡ true → IsOrbit n m r
+IsOrbit-from_test n m r h =
+    let sizes = is_permutation n r.pieces && (length r.digits == n) in
+    let both = and_parts sizes (list_all (λ d. nat_lt d m) r.digits) h in
+    let first = and_parts (is_permutation n r.pieces) (length r.digits == n) both.0 in
     record {
-      places = IsPermutation-from_test n r.places first.0;
-      size = eqb-true (length r.added) n first.1;
-      below = All-from_test (λ d. nat_lt d m) (λ d. d < m) (λ d. ltb-true d m) r.added both.1;
+      pieces = IsPermutation-from_test n r.pieces first.0;
+      size = eqb-true (length r.digits) n first.1;
+      below = All-from_test (λ d. nat_lt d m) (λ d. d < m) (λ d. ltb-true d m) r.digits both.1;
     }
 
 -- and so each turn of a table
-pub All-rearrangements : (n m : ℕ) (ts : List (PlaceTurn n))
-    → list_all (λ t. is_rearrangement n m (rearrangement_of t)) ts ≡ true → All (λ t. IsRearrangement n m (rearrangement_of t)) ts
-All-rearrangements n m ts h =
-    All-from_test (λ t. is_rearrangement n m (rearrangement_of t)) (λ t. IsRearrangement n m (rearrangement_of t))
-    (λ t. IsRearrangement-from_test n m (rearrangement_of t)) ts h
+pub All-orbits : (n m : ℕ) (ts : List (PlaceTurn n))
+    → list_all (λ t. is_orbit n m (made_by t)) ts ≡ true → All (λ t. IsOrbit n m (made_by t)) ts
+All-orbits n m ts h =
+    All-from_test (λ t. is_orbit n m (made_by t)) (λ t. IsOrbit n m (made_by t))
+    (λ t. IsOrbit-from_test n m (made_by t)) ts h
 
--- one that moves nothing
-abbrev pub is_still : ℕ → Rearrangement → Bool
-is_still n r = bytes_eq r.places (numbers_from 0 n) && bytes_eq r.added (zeros n)
+-- the solved one
+abbrev pub is_still : ℕ → Orbit → Bool
+is_still n r = bytes_eq r.pieces (numbers_from 0 n) && bytes_eq r.digits (zeros n)
 
-pub still : (n : ℕ) (r : Rearrangement) → is_still n r ≡ true → r ≡ identity n
-unfolding identity
+pub still : (n : ℕ) (r : Orbit) → is_still n r ≡ true → r ≡ solved_orbit n
+unfolding solved_orbit
 still n r h =
-    let both = and_parts (bytes_eq r.places (numbers_from 0 n)) (bytes_eq r.added (zeros n)) h in
-    ap_both (λ ks ds. record { places = ks; added = ds }) ((bytes_eq-Decides r.places (numbers_from 0 n)).0 both.0) ((bytes_eq-Decides r.added (zeros n)).0 both.1)
+    let both = and_parts (bytes_eq r.pieces (numbers_from 0 n)) (bytes_eq r.digits (zeros n)) h in
+    ap_both (λ ks ds. record { pieces = ks; digits = ds }) ((bytes_eq-Decides r.pieces (numbers_from 0 n)).0 both.0) ((bytes_eq-Decides r.digits (zeros n)).0 both.1)
 
--- one that keeps the sum of the digits
-abbrev pub is_zero_sum_turn : ℕ → ℕ → Rearrangement → Bool
-is_zero_sum_turn n modulus r = is_rearrangement n modulus r && (total r.added % modulus == 0)
+-- one whose digits sum to 0
+abbrev pub is_zero_sum : ℕ → ℕ → Orbit → Bool
+is_zero_sum n modulus r = is_orbit n modulus r && (total r.digits % modulus == 0)
 
-pub IsZeroSumRearrangement-from_test : (n m : ℕ) (r : Rearrangement) → is_zero_sum_turn n m r ≡ true
-    → IsZeroSumRearrangement n m r
-IsZeroSumRearrangement-from_test n m r h =
-    let both = and_parts (is_rearrangement n m r) (total r.added % m == 0) h in
-    let is = IsRearrangement-from_test n m r both.0 in
+pub IsZeroSumOrbit-from_test : (n m : ℕ) (r : Orbit) → is_zero_sum n m r ≡ true
+    → IsZeroSumOrbit n m r
+IsZeroSumOrbit-from_test n m r h =
+    let both = and_parts (is_orbit n m r) (total r.digits % m == 0) h in
+    let is = IsOrbit-from_test n m r both.0 in
     record {
-      places = is.places;
-      added = record { size = is.size; below = is.below; sum_fixed = eqb-true (total r.added % m) 0 both.1 };
+      pieces = is.pieces;
+      digits = record { size = is.size; below = is.below; sum_fixed = eqb-true (total r.digits % m) 0 both.1 };
     }
 
 -- and so each turn of a table
-pub All-zero_sum_turns : (n m : ℕ) (ts : List (PlaceTurn n))
-    → list_all (λ t. is_zero_sum_turn n m (rearrangement_of t)) ts ≡ true → All (λ t. IsZeroSumRearrangement n m (rearrangement_of t)) ts
-All-zero_sum_turns n m ts h =
-    All-from_test (λ t. is_zero_sum_turn n m (rearrangement_of t)) (λ t. IsZeroSumRearrangement n m (rearrangement_of t))
-    (λ t. IsZeroSumRearrangement-from_test n m (rearrangement_of t)) ts h
+pub All-zero_sum : (n m : ℕ) (ts : List (PlaceTurn n))
+    → list_all (λ t. is_zero_sum n m (made_by t)) ts ≡ true → All (λ t. IsZeroSumOrbit n m (made_by t)) ts
+All-zero_sum n m ts h =
+    All-from_test (λ t. is_zero_sum n m (made_by t)) (λ t. IsZeroSumOrbit n m (made_by t))
+    (λ t. IsZeroSumOrbit-from_test n m (made_by t)) ts h
 
 -- ---- digits of pieces that stay at their places
 

@@ -1,8 +1,7 @@
-pub mod Actions
+pub mod Monoids
 pub mod LawfulTurns
 pub mod PowerPuzzles
 pub mod Orbits
 pub mod PlaceTurns
 pub mod InPlace
-pub mod Inverses
 pub mod Stickers

@@ -2,15 +2,14 @@
 //! edge's flip. Everything here is over any number of places and any modulus, with no puzzle's name in it; the puzzles'
 //! crates and the coordinates of their states stand on it.
 //!
-//! A turn is a rearrangement of an orbit: for each place, which place's piece comes there and what is added to its digit.
-//! [`PlaceTurn`] is one in arrays, [`Placed`] an orbit in arrays; turning allocates nothing. `laws` says that turns keep
-//! orbits valid, what becomes of the sum of the digits and of the parity, and that rearrangements can be composed.
-//! Orbits can be joined, one and then another, and inverted.
-//! `specs/Actions.antt` has what puzzles share whose states are orbits: tables of turns, and words that come to one
-//! rearrangement; `specs/LawfulTurns.antt` says what holds of such a puzzle.
+//! A turn is told by what it makes of the solved orbit: which piece comes to each place, and what is added to its digit.
+//! So orbits are turns, too: they can be joined, one and then another, and inverted (`specs/Monoids.antt` says what
+//! holds of such states, whatever they are, and has tables of turns; `specs/LawfulTurns.antt` says what holds of such a
+//! puzzle). [`PlaceTurn`] is a turn in arrays, [`Placed`] an orbit in arrays; turning allocates nothing. `laws` says that
+//! turns keep orbits valid, what becomes of the sum of the digits and of the parity, and that two turns are one.
 //!
-//! A puzzle of pieces is data (`specs/PowerPuzzles.antt`): its letters, each a power of one of a few turns, what
-//! rearrangements make of its states, these turns, and its solved state. What holds of all such puzzles is one record,
+//! A puzzle of pieces is data (`specs/PowerPuzzles.antt`): its letters, each a power of one of a few turns, what turns
+//! make of its states, and these turns. What holds of all such puzzles is one record,
 //! which `proofs/PowerPuzzleLaws.antt` gives from one test of the turns, for each puzzle's crate to state;
 //! `proofs/TurnedAt.antt` says what the turn with a number makes of a state, `proofs/PlayedTurns.antt` which letters
 //! are turns.

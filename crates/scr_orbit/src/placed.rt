@@ -1,14 +1,14 @@
 //! Orbits and their turns in arrays.
 ghost use Rattle.std.specs.Prelude.{◌≡◌, ◌≤◌, ◌<◌, ◌↔◌, IsTrue};
-ghost use Rattle.scr_orbit.specs.Inverses.{IsInverse};
-ghost use Rattle.scr_orbit.specs.Orbits.{IsOrbit, IsRearrangement, IsZeroSumOrbit, orbit_then, turned_orbit, solved_orbit};
+ghost use Rattle.scr_orbit.specs.Monoids.{IsInverse};
+ghost use Rattle.scr_orbit.specs.Orbits.{IsOrbit, IsZeroSumOrbit, orbit_monoid, turned_orbit};
 
 use crate::turning::{add_digits, inverse_into, opposite_into, pick_into};
 use crate::validity::{are_twists, is_permutation};
 use std::marker::Model;
 
 /// A turn of an orbit of `N` places: place k gets the piece that stands at `places[k]`, and `added[k]` is added to its
-/// digit.
+/// digit. It is told by what it makes of the solved orbit: the pieces `places` with the digits `added`.
 #[derive(Clone, Copy, Debug, PartialEq, Eq)]
 pub struct PlaceTurn<const N: usize> {
     pub places: [u8; N],
@@ -42,7 +42,7 @@ impl<const N: usize> Model for Placed<N> {
 }
 
 impl<const N: usize> Placed<N> {
-    ghost use Rattle.scr_orbit.specs.PlaceTurns.{rearrangement_of};
+    ghost use Rattle.scr_orbit.specs.PlaceTurns.{made_by};
 
     /// The orbit with these pieces at the places, with these digits.
     pub fn new(pieces: [u8; N], digits: [u8; N]) -> Placed<N>
@@ -70,8 +70,8 @@ impl<const N: usize> Placed<N> {
     pub fn turned(&self, turn: &PlaceTurn<N>, modulus: u8) -> Placed<N>
         requires small { modulus ≤ 128 }
         requires valid { IsOrbit N modulus self.now }
-        requires turn { IsRearrangement N modulus (rearrangement_of turn.now) }
-        ensures { result ≡ turned_orbit modulus self.now (rearrangement_of turn.now) }
+        requires turn { IsOrbit N modulus (made_by turn.now) }
+        ensures { result ≡ turned_orbit modulus self.now (made_by turn.now) }
     {
         let mut pieces = [0; N];
         let mut digits = [0; N];
@@ -87,7 +87,7 @@ impl<const N: usize> Placed<N> {
         requires small { modulus ≤ 128 }
         requires valid { IsOrbit N modulus self.now }
         requires next { IsOrbit N modulus next.now }
-        ensures { result ≡ orbit_then modulus self.now next.now }
+        ensures { result ≡ turned_orbit modulus self.now next.now }
     {
         let turn = PlaceTurn {
             places: next.pieces,
@@ -102,7 +102,7 @@ impl<const N: usize> Placed<N> {
         requires few { N ≤ 256 }
         requires modulus { 0 < modulus }
         requires valid { IsOrbit N modulus self.now }
-        ensures { IsInverse (orbit_then modulus) (solved_orbit N) (IsOrbit N modulus) self.now result }
+        ensures { IsInverse (orbit_monoid N modulus) (IsOrbit N modulus) self.now result }
     {
         let mut pieces = [0; N];
         let mut digits = [0; N];

@@ -1,5 +1,5 @@
 -- What words ask for, by the values that they give.
-use Rattle.std.proofs.Common.{◌≡◌, ◌∙◌, refl, sym, ap, subst, List, Bool, false, Option, Some, None, Result, Ok, Err, IfOk, IfErr, IsErrAnd, option_map}
+use Rattle.std.proofs.Common.{◌≡◌, ◌∙◌, refl, sym, ap, subst, List, false, Option, Some, None, Result, Ok, Err, IfOk, IfErr, IsErrAnd, option_map}
 use Rattle.std.specs.Prelude.{ok_or, option_and_then}
 use Rattle.std.specs.List.{list_any}
 use Rattle.scr_options.specs.Hyphens.{is_bare}

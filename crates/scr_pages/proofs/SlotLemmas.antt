@@ -4,7 +4,8 @@ use Rattle.std.specs.Prelude.{All, ◌≢◌}
 use Rattle.std.proofs.lemmas.List.Concat.{flat_map-append}
 use Rattle.std.proofs.lemmas.List.Elements.{All-nil, All-cons, All-append, All-head, All-tail, All-map}
 use Rattle.scr_notation.specs.declared.event.Event.{Event}
-use Rattle.scr_notation.specs.declared.event.Event.TheVariants.{Sq1}
+use Rattle.scr_notation.specs.declared.event.Puzzle.TheVariants.{Square1}
+use Rattle.scr_notation.specs.Event.{puzzle_of}
 use Rattle.scr_notation.specs.declared.turn.Turn.{Turn}
 use Rattle.scr_notation.specs.Written.{Written}
 use Rattle.scr_read.specs.Groups.{GroupOf, scrambles_of}
@@ -96,26 +97,25 @@ events-are event turns = All-map (λ (s : Written). s.event ≡ event) (λ t. re
 -- ---- in groups
 
 abbrev pub OfSquare1 : (Slot → Type 0) → Type 0
-OfSquare1 Is = (slot : Slot) → Is slot → slot.scramble.event ≡ Sq1
+OfSquare1 Is = (slot : Slot) → Is slot → puzzle_of slot.scramble.event ≡ Square1
 
-of_event : (Is : Slot → Type 0) (event : Event) (line : ℕ) (turns : List (List Turn)) → OfSquare1 Is → event ≢ Sq1
+of_event : (Is : Slot → Type 0) (event : Event) (line : ℕ) (turns : List (List Turn)) → OfSquare1 Is → puzzle_of event ≢ Square1
     → NoneIs Is (slots_from line (scrambles_of event turns))
 of_event Is event line [] of other = All-nil (λ slot. Is slot → ⊥)
 of_event Is event line (t ∷ turns) of other =
     let one : Slot = record { line = line; scramble = record { event = event; turns = t } } in
     All-cons (λ slot. Is slot → ⊥) one (slots_from (line + 1) (scrambles_of event turns)) (λ is. other (of one is)) (of_event Is event (line + 1) turns of other)
 
--- a group of another event has no slot that only those of a Square-1 are
-pub none-other : (Is : Slot → Type 0) (group : GroupOf) → OfSquare1 Is → group.head.event ≢ Sq1 → NoneIs Is (slots_of_group group)
+-- a group of another puzzle has no slot that only those of a Square-1 are
+pub none-other : (Is : Slot → Type 0) (group : GroupOf) → OfSquare1 Is → puzzle_of group.head.event ≢ Square1 → NoneIs Is (slots_of_group group)
 none-other Is group of other = of_event Is group.head.event (group.line + 1) group.scrambles of other
 
 -- those of a Square-1's group are of it
 pub of_square_1 : (group : GroupOf) (scrambles : List Written) → scrambles ≡ scrambles_of group.head.event group.scrambles
-    → group.head.event ≡ Sq1 → All (λ (s : Written). s.event ≡ Sq1) scrambles
+    → puzzle_of group.head.event ≡ Square1 → All (λ (s : Written). puzzle_of s.event ≡ Square1) scrambles
 of_square_1 group scrambles are is =
-    subst (λ all. All (λ (s : Written). s.event ≡ Sq1) all) (sym are)
-    (subst (λ (e : Event). All (λ (s : Written). s.event ≡ e) (scrambles_of group.head.event group.scrambles)) is
-    (events-are group.head.event group.scrambles))
+    subst (λ all. All (λ (s : Written). puzzle_of s.event ≡ Square1) all) (sym are)
+    (λ k d below. ap puzzle_of (events-are group.head.event group.scrambles k d below) ∙ is)
 
 next : (done : List GroupOf) (group : GroupOf) → slots_of (done ++ group ∷ []) ≡ slots_of done ++ slots_of_group group
 next done group =

@@ -1,5 +1,5 @@
 -- How a run may end.
-use Rattle.std.specs.Prelude.{ℕ, ◌≡◌, ◌⊎◌, Bool, IsTrue, Option, Some, None, List, [], length, Result, Ok, Err}
+use Rattle.std.specs.Prelude.{ℕ, ◌≡◌, ◌⊎◌, Bool, IsTrue, Some, List, [], length, Result, Ok, Err}
 use Rattle.scr_outside.specs.Change.{Change, IsUnchanged}
 use Rattle.scr_host.specs.Exit.{IsTold}
 use Rattle.scr_host.specs.Input.{GivesInput, GivesNoInput}

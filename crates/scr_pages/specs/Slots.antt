@@ -3,7 +3,8 @@ use Rattle.std.specs.Prelude.{ℕ, ◌≡◌, ◌+◌, Some, None, List, [], ◌
 use Rattle.scr_combinatorics.specs.Play.{play}
 use Rattle.scr_combinatorics.specs.Reach.{Needs}
 use Rattle.scr_notation.specs.Written.{Written}
-use Rattle.scr_notation.specs.declared.event.Event.TheVariants.{Sq1}
+use Rattle.scr_notation.specs.declared.event.Puzzle.TheVariants.{Square1}
+use Rattle.scr_notation.specs.Event.{puzzle_of}
 use Rattle.scr_read.specs.Groups.{GroupOf, scrambles_of}
 use Rattle.scr_sq1.specs.Units.{Sq1State, solved_sq1, sq1_after, sq1_puzzle}
 
@@ -26,12 +27,12 @@ slots_of groups = flat_map slots_of_group groups
 
 -- it is of a Square-1, of which a turn is barred in its place
 pub record IsBarred (slot : Slot) : Type 0 where
-  pub event : slot.scramble.event ≡ Sq1
+  pub puzzle : puzzle_of slot.scramble.event ≡ Square1
   pub barred : play sq1_after solved_sq1 slot.scramble.turns ≡ None
 
 -- it is a Square-1 that fewer than eleven turns solve (WCA Regulations, article 4b3)
 pub record IsNear (slot : Slot) : Type 0 where
-  pub event : slot.scramble.event ≡ Sq1
+  pub puzzle : puzzle_of slot.scramble.event ≡ Square1
   pub state : Sq1State
   pub plays : play sq1_after solved_sq1 slot.scramble.turns ≡ Some state
   pub near : Needs sq1_puzzle state 11 → ⊥

@@ -7,8 +7,8 @@ use scr_host::{NoWords, Program, end_without_words};
 use scr_outside::{Sink, Source};
 use std::alloc::Global;
 
-/// `scramble-pages`, as a program: it does what [`run`] does, and ends with the exit code of that run's status. Where there
-/// are no words it tells want of memory, if that is why, and the exit code is that of it or 1.
+/// `scramble-pages`, as a program: it does what [`run`] does, and ends with the exit code of that run's status. Where
+/// there are no words it tells want of memory, if that is why, and the exit code is that of it or 1.
 pub struct Pages;
 
 impl Program for Pages {

@@ -2,7 +2,8 @@
 
 ghost use Rattle.std.specs.Prelude.{◌≡◌, ◌↔◌, ◌+◌, ◌^◌, ◌<◌, ◌≤◌, ℕ, [], All, length, IsTrue, IfOk, IfErr, OnOk};
 ghost use Rattle.std.specs.Bool.{OnTrue, OnFalse};
-ghost use Rattle.scr_notation.specs.declared.event.Event.TheVariants as the_event;
+ghost use Rattle.scr_notation.specs.declared.event.Puzzle.TheVariants as the_puzzle;
+ghost use Rattle.scr_notation.specs.Event.{puzzle_of};
 ghost use Rattle.scr_pages.specs.Marked.{with_groups};
 ghost use Rattle.scr_pages.specs.Slots.{slots_from, slots_of, slots_of_group, IsBarred, IsNear};
 ghost use Rattle.scr_pages.specs.Refusals.{NoneIs};
@@ -10,7 +11,7 @@ ghost use Rattle.scr_pages.specs.Passes.{AreFew, IsFound, FailsSurvey, FailsLook
 
 use crate::fault::Fault;
 use crate::marks::{RoundMark, mark_group};
-use scr_notation::{Event, Scramble};
+use scr_notation::{Event, Puzzle, Scramble};
 use scr_read::{SheetGroup, SheetGroups};
 use scr_sq1::Sq1;
 use scr_sq1far::{NearSolved, needs_sq1_far};
@@ -88,7 +89,7 @@ fn barred_line(group: &SheetGroup) -> Option<u32>
 
 /// The line of the first Square-1 of a group that fewer turns solve.
 fn near_line(near: &NearSolved, group: &SheetGroup) -> Option<u32>
-    requires event { group.now.head.event ≡ the_event.Sq1 }
+    requires puzzle { puzzle_of group.now.head.event ≡ the_puzzle.Square1 }
     requires line { group.now.line ≤ 65536 }
     ensures { IsFound IsNear (slots_of_group group.now) result }
 {
@@ -100,7 +101,7 @@ fn near_line(near: &NearSolved, group: &SheetGroup) -> Option<u32>
 /// for each.
 fn first_barred(line: u32, scrambles: &[Scramble]) -> Option<u32>
     requires room { line + length scrambles.now < 2 ^ 32 }
-    requires event { All (λ scramble. scramble.event ≡ the_event.Sq1) scrambles.now }
+    requires puzzle { All (λ scramble. puzzle_of scramble.event ≡ the_puzzle.Square1) scrambles.now }
     ensures { IsFound IsBarred (slots_from line scrambles.now) result }
 {
     match scrambles {
@@ -114,11 +115,11 @@ fn first_barred(line: u32, scrambles: &[Scramble]) -> Option<u32>
     }
 }
 
-/// The line of the first of these scrambles that fewer turns solve, the first of them in this line. It calls itself once
-/// for each.
+/// The line of the first of these scrambles that fewer turns solve, the first of them in this line. It calls itself
+/// once for each.
 fn first_near(near: &NearSolved, line: u32, scrambles: &[Scramble]) -> Option<u32>
     requires room { line + length scrambles.now < 2 ^ 32 }
-    requires event { All (λ scramble. scramble.event ≡ the_event.Sq1) scrambles.now }
+    requires puzzle { All (λ scramble. puzzle_of scramble.event ≡ the_puzzle.Square1) scrambles.now }
     ensures { IsFound IsNear (slots_from line scrambles.now) result }
 {
     match scrambles {
@@ -134,7 +135,7 @@ fn first_near(near: &NearSolved, line: u32, scrambles: &[Scramble]) -> Option<u3
 
 /// Whether fewer turns solve what a scramble makes of a Square-1.
 fn is_near(near: &NearSolved, scramble: &Scramble) -> bool
-    requires { scramble.now.event ≡ the_event.Sq1 }
+    requires { puzzle_of scramble.now.event ≡ the_puzzle.Square1 }
     ensures near { (line : ℕ) → OnTrue result (IsNear (record { line = line; scramble = scramble.now })) }
     ensures far { (line : ℕ) → OnFalse result (IsNear (record { line = line; scramble = scramble.now }) → ⊥) }
 {
@@ -144,8 +145,9 @@ fn is_near(near: &NearSolved, scramble: &Scramble) -> bool
     }
 }
 
+/// Whether an event's puzzle is the Square-1.
 fn is_square_1(event: Event) -> bool
-    ensures { IsTrue result ↔ (event ≡ the_event.Sq1) }
+    ensures { IsTrue result ↔ (puzzle_of event ≡ the_puzzle.Square1) }
 {
-    matches!(event, Event::Sq1)
+    matches!(event.puzzle(), Puzzle::Square1)
 }

@@ -15,8 +15,8 @@ use scr_outside::{Sink, write_all};
 use scr_read::SheetGroups;
 use std::alloc::Global;
 
-/// Writes the pages of the first so many of a sheet's groups, each group's in one piece. The text of one is in memory at a
-/// time.
+/// Writes the pages of the first so many of a sheet's groups, each group's in one piece. The text of one is in memory
+/// at a time.
 pub(crate) fn write_groups<O: Sink>(
     alloc: Global,
     look: &Look<'_>,

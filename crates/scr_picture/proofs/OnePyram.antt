@@ -1,5 +1,5 @@
 -- A Pyraminx is told by its picture.
-use Rattle.std.proofs.Common.{◌≡◌, ℕ, ◌+◌, ◌%◌, ◌<◌, Bool, true, List, [], Some, length, map, refl, sym, ap, ◌∙◌, lit<, arith}
+use Rattle.std.proofs.Common.{◌≡◌, ℕ, ◌+◌, ◌%◌, ◌<◌, Bool, true, List, [], Some, map, refl, sym, ap, ◌∙◌, lit<, arith}
 use Rattle.std.specs.Prelude.{All, ◌&&◌, is_none, slice_index, unwrap_or, codes}
 use Rattle.std.specs.List.{range_with_len}
 use Rattle.std.proofs.lemmas.Bool.{and_parts}
@@ -8,16 +8,17 @@ use Rattle.std.proofs.lemmas.List.{append-nil}
 use Rattle.scr_combinatorics.specs.Lists.{numbers_from}
 use Rattle.scr_combinatorics.specs.Play.{play}
 use Rattle.scr_combinatorics.proofs.PermutationLaws.{All-permutation, IsPermutation-from_test}
-use Rattle.scr_orbit.specs.Orbits.{Orbit, added_digits}
+use Rattle.scr_orbit.specs.Orbits.{Orbit}
 use Rattle.scr_orbit.specs.PowerPuzzles.{after_letter}
-use Rattle.scr_orbit.proofs.DigitLaws.{added_digits-at, length-added_digits, All-added_digits}
+use Rattle.scr_orbit.proofs.DigitLaws.{added_digits-at}
 use Rattle.scr_notation.specs.declared.turn.Turn.{Turn}
-use Rattle.scr_tetra.specs.Pyraminx.{PyramState, IsPyram, pyram_powers, solved_pyram}
+use Rattle.scr_tetra.specs.Pyraminx.{PyramState, IsPyram, at_axes, pyram_powers, solved_pyram}
 use Rattle.scr_tetra.proofs.PyramLaws.{lawful_pyram, same_pyram, same_tetraminx}
 use Rattle.scr_picture.specs.declared.names.Alphabet.TheVariants.{Pyraminx}
 use Rattle.scr_picture.specs.Names.{joined_text}
 use Rattle.scr_picture.specs.Pyraminx.{solved_pyram_picture}
-use Rattle.scr_picture.specs.Pieces.{at_axes, edge_stickers, axial_stickers, tip_stickers, place_with, sticker_of, pyram_sticker, pyram_shown}
+use Rattle.scr_picture.specs.Pieces.{edge_stickers, axial_stickers, tip_stickers, tips_of, place_with, sticker_of, pyram_sticker, pyram_shown}
+use Rattle.scr_picture.proofs.ShownPyram.{tips-in_place}
 use Rattle.scr_picture.proofs.OrbitStickers.{ShowsOrbit, elsewhere, same_orbit, shows}
 use Rattle.scr_picture.proofs.ReadTexts.{pyraminx_bytes, letter_of, read-joined, All-picked}
 
@@ -30,9 +31,6 @@ neither i = is_none (place_with edge_stickers i) && is_none (place_with axial_st
 
 any : ℕ → Bool
 any i = true
-
-abbrev tips_of : PyramState → List ℕ
-tips_of s = added_digits 3 s.body.axials s.tips
 
 -- four pieces at their axes
 four_axes : All (λ p. p < 4) (numbers_from 0 4)
@@ -58,13 +56,11 @@ module _ (s : PyramState) (own : IsPyram s) where
       shows 4 3 axial_stickers solved_pyram_picture 36 no_edge (pyram_sticker s) at_tips (at_axes s.body.axials) refl refl four_axes own.body.axials.size own.body.axials.below
       (λ i h. elsewhere edge_stickers s.body.edges i (at_axials i) h)
 
-  tips-size : length (tips_of s) ≡ 4
-  tips-size = length-added_digits 3 s.body.axials s.tips (own.body.axials.size ∙ sym own.tips.size) ∙ own.body.axials.size
-
   shows-tips : ShowsOrbit 4 3 tip_stickers solved_pyram_picture (pyram_shown s) (at_axes (tips_of s))
   unfolding pyram_shown pyram_sticker neither solved_pyram_picture
   shows-tips =
-      shows 4 3 tip_stickers solved_pyram_picture 36 neither (pyram_sticker s) (λ i. i) (at_axes (tips_of s)) refl refl four_axes tips-size (All-added_digits 3 s.body.axials s.tips (lit< tt))
+      let tips = tips-in_place s own in
+      shows 4 3 tip_stickers solved_pyram_picture 36 neither (pyram_sticker s) (λ i. i) (at_axes (tips_of s)) refl refl four_axes tips.size tips.below
       (λ i h.
       let both = and_parts (is_none (place_with edge_stickers i)) (is_none (place_with axial_stickers i)) h in
       elsewhere edge_stickers s.body.edges i (at_axials i) both.0 ∙ elsewhere axial_stickers (at_axes s.body.axials) i (at_tips i) both.1)

@@ -8,7 +8,7 @@ use Rattle.std.proofs.lemmas.Grind.{same_number_lists}
 use Rattle.std.proofs.lemmas.List.FromFn.{get_or-map-range_with_len, length-map-range_with_len}
 use Rattle.scr_combinatorics.specs.Lists.{pick}
 use Rattle.scr_combinatorics.proofs.Picks.{length-pick, pick-at}
-use Rattle.scr_orbit.specs.Orbits.{Orbit, Rearrangement, turned_orbit}
+use Rattle.scr_orbit.specs.Orbits.{Orbit, turned_orbit}
 use Rattle.scr_net.specs.Pieces.{piece_letter}
 use Rattle.scr_net.proofs.PieceLaws.{comes_from, passes, shown-turned}
 use Rattle.scr_net.proofs.OneOrbit.{Shows, all_own, all_tell, one_orbit, seen-by}
@@ -16,13 +16,13 @@ use Rattle.scr_picture.specs.Pieces.{place_with, sticker_of}
 
 -- ---- after a turn
 
-abbrev pub is_brought : ℕ → ℕ → List (List ℕ) → Rearrangement → ℕ → ℕ → Bool → Bool
+abbrev pub is_brought : ℕ → ℕ → List (List ℕ) → Orbit → ℕ → ℕ → Bool → Bool
 is_brought n modulus places r i from rest =
     comes_from n modulus places r i from rest (place_with places i) (place_with places from)
 
 -- the sticker that stands at a sticker, or the rest
-pub sticker-turned : (n modulus : ℕ) (places : List (List ℕ)) (o : Orbit) (r : Rearrangement) → 0 < modulus
-    → All (λ d. d < modulus) o.digits → length r.places ≡ n → length r.added ≡ n
+pub sticker-turned : (n modulus : ℕ) (places : List (List ℕ)) (o r : Orbit) → 0 < modulus
+    → All (λ d. d < modulus) o.digits → length r.pieces ≡ n → length r.digits ≡ n
     → (i from x y : ℕ) (rest : Bool) → (rest ≡ true → x ≡ y) → is_brought n modulus places r i from rest ≡ true
     → unwrap_or (sticker_of places (turned_orbit modulus o r) i) x ≡ unwrap_or (sticker_of places o from) y
 unfolding sticker_of

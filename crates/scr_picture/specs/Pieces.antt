@@ -3,10 +3,9 @@
 -- place on the solved puzzle; its sticker k stands at the place's sticker k plus its digit.
 use Rattle.std.specs.Prelude.{ℕ, ◌==◌, List, [], ◌∷◌, map, slice_index, Option, option_and_then, position, unwrap_or}
 use Rattle.std.specs.List.{list_any, range_with_len}
-use Rattle.scr_combinatorics.specs.Lists.{numbers_from}
 use Rattle.scr_orbit.specs.Orbits.{Orbit, added_digits}
 use Rattle.scr_net.specs.Pieces.{piece_letter}
-use Rattle.scr_tetra.specs.Pyraminx.{PyramState}
+use Rattle.scr_tetra.specs.Pyraminx.{PyramState, at_axes}
 use Rattle.scr_tetra.specs.Skewb.{SkewbState}
 use Rattle.scr_picture.specs.Pyraminx.{solved_pyram_picture}
 use Rattle.scr_picture.specs.Skewb.{solved_skewb_picture}
@@ -52,16 +51,15 @@ axial_stickers =
 abbrev pub tip_stickers : List (List ℕ)
 tip_stickers = (9 ∷ 0 ∷ 18 ∷ []) ∷ (35 ∷ 26 ∷ 4 ∷ []) ∷ (31 ∷ 8 ∷ 13 ∷ []) ∷ (27 ∷ 17 ∷ 22 ∷ []) ∷ []
 
--- pieces that stay at the four axes
-abbrev pub at_axes : List ℕ → Orbit
-at_axes digits = record { pieces = numbers_from 0 4; digits = digits }
-
 -- A tip stands turned as its digit and the axial piece below it together.
+abbrev pub tips_of : PyramState → List ℕ
+tips_of s = added_digits 3 s.body.axials s.tips
+
 unfoldable pub pyram_sticker : PyramState → ℕ → ℕ
 pyram_sticker s i =
     unwrap_or (sticker_of edge_stickers s.body.edges i)
     (unwrap_or (sticker_of axial_stickers (at_axes s.body.axials) i)
-    (unwrap_or (sticker_of tip_stickers (at_axes (added_digits 3 s.body.axials s.tips)) i) i))
+    (unwrap_or (sticker_of tip_stickers (at_axes (tips_of s)) i) i))
 
 unfoldable pub pyram_shown : PyramState → List ℕ
 pyram_shown s = map (λ i. slice_index solved_pyram_picture (pyram_sticker s i)) (range_with_len 0 36)

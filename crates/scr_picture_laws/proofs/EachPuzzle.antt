@@ -5,9 +5,7 @@ use Rattle.std.specs.Option.{option_map}
 use Rattle.scr_orbit.specs.Orbits.{Orbit}
 use Rattle.scr_orbit.specs.PowerPuzzles.{after_letter}
 use Rattle.scr_orbit.proofs.PlayedTurns.{plays_turns}
-use Rattle.scr_orbit.proofs.OrbitLaws.{IsZeroSumOrbit-solved}
 use Rattle.scr_combinatorics.specs.Play.{play}
-use Rattle.scr_combinatorics.proofs.PlayLaws.{play-empty}
 use Rattle.scr_notation.specs.declared.event.Event.TheVariants.{C222, C333, Pyram, Skewb}
 use Rattle.scr_notation.specs.declared.turn.Turn.{Turn}
 use Rattle.scr_notation.specs.Turns.{permits}
@@ -15,10 +13,10 @@ use Rattle.scr_notation.proofs.TellsPowers.{tells_axes, tells_faces}
 use Rattle.scr_cube.specs.Cube222.{IsCorners222, powers_222, solved_222}
 use Rattle.scr_cube.specs.Cube333.{CubeState, cube_powers, solved_cube}
 use Rattle.scr_cube.proofs.Laws222.{lawful_222}
-use Rattle.scr_cube.proofs.Laws333.{lawful_cube, IsCube-solved}
+use Rattle.scr_cube.proofs.Laws333.{lawful_cube}
 use Rattle.scr_tetra.specs.Skewb.{SkewbState, skewb_powers, solved_skewb}
 use Rattle.scr_tetra.specs.Pyraminx.{PyramState, IsPyram, pyram_powers, solved_pyram}
-use Rattle.scr_tetra.proofs.SkewbLaws.{lawful_skewb, IsSkewb-solved}
+use Rattle.scr_tetra.proofs.SkewbLaws.{lawful_skewb}
 use Rattle.scr_tetra.proofs.PyramLaws.{lawful_pyram}
 use Rattle.scr_net.specs.Nets.{Letters, net_after, solved_net}
 use Rattle.scr_net.specs.Pieces.{net_of_corners, net_of_cube}
@@ -38,7 +36,7 @@ use Rattle.scr_picture_laws.proofs.ByWords.{EventModels}
 -- ---- the Skewb
 
 pub skewb_plays : (w : List Turn) → IsSome (play (after_letter skewb_powers) solved_skewb w) ↔ AllPass (permits Skewb) w
-skewb_plays w = plays_turns skewb_powers (permits Skewb) (tells_axes false) lawful_skewb solved_skewb w IsSkewb-solved
+skewb_plays w = plays_turns skewb_powers (permits Skewb) (tells_axes false) lawful_skewb solved_skewb w lawful_skewb.lawful.joined.solved
 
 pub one_skewb : (w v : List Turn) (s r : SkewbState) → play (after_letter skewb_powers) solved_skewb w ≡ Some s
     → play (after_letter skewb_powers) solved_skewb v ≡ Some r → skewb_shown s ≡ skewb_shown r → s ≡ r
@@ -60,12 +58,8 @@ skewbs = record {
 
 -- ---- the Pyraminx
 
-IsPyram-solved : IsPyram solved_pyram
-IsPyram-solved =
-    lawful_pyram.lawful.reached (λ t. 1) solved_pyram ([], solved_pyram, refl, play-empty (after_letter pyram_powers) solved_pyram)
-
 pub pyram_plays : (w : List Turn) → IsSome (play (after_letter pyram_powers) solved_pyram w) ↔ AllPass (permits Pyram) w
-pyram_plays w = plays_turns pyram_powers (permits Pyram) (tells_axes true) lawful_pyram solved_pyram w IsPyram-solved
+pyram_plays w = plays_turns pyram_powers (permits Pyram) (tells_axes true) lawful_pyram solved_pyram w lawful_pyram.lawful.joined.solved
 
 pub one_pyram : (w v : List Turn) (s r : PyramState) → play (after_letter pyram_powers) solved_pyram w ≡ Some s
     → play (after_letter pyram_powers) solved_pyram v ≡ Some r → pyram_shown s ≡ pyram_shown r → s ≡ r
@@ -87,12 +81,8 @@ pyraminxes = record {
 
 -- ---- the 2x2x2
 
-IsCorners-solved : IsCorners222 solved_222
-unfolding solved_222
-IsCorners-solved = IsZeroSumOrbit-solved 7 3 (lit< tt)
-
 pub corners_plays : (w : List Turn) → IsSome (play (after_letter powers_222) solved_222 w) ↔ AllPass (permits C222) w
-corners_plays w = plays_turns powers_222 (permits C222) (tells_faces 0 (lit≤ tt)) lawful_222 solved_222 w IsCorners-solved
+corners_plays w = plays_turns powers_222 (permits C222) (tells_faces 0 (lit≤ tt)) lawful_222 solved_222 w lawful_222.lawful.joined.solved
 
 pub corners_played : (w : List Turn) (o : Orbit) → play (after_letter powers_222) solved_222 w ≡ Some o
     → play (net_after 2) (solved_net 2) w ≡ Some (net_of_corners o)
@@ -115,7 +105,7 @@ corners = record {
 -- ---- the 3x3x3
 
 pub cube_plays : (w : List Turn) → IsSome (play (after_letter cube_powers) solved_cube w) ↔ AllPass (permits C333) w
-cube_plays w = plays_turns cube_powers (permits C333) (tells_faces 1 (lit≤ tt)) lawful_cube solved_cube w IsCube-solved
+cube_plays w = plays_turns cube_powers (permits C333) (tells_faces 1 (lit≤ tt)) lawful_cube solved_cube w lawful_cube.lawful.joined.solved
 
 pub cube_played : (w : List Turn) (c : CubeState) → play (after_letter cube_powers) solved_cube w ≡ Some c
     → play (net_after 3) (solved_net 3) w ≡ Some (net_of_cube c)

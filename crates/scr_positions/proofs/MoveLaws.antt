@@ -4,7 +4,8 @@ use Rattle.std.specs.Prelude.{slice_index_or, unwrap_or}
 use Rattle.std.proofs.lemmas.Bool.{cases_eq, le-ltb, lt-ltb}
 use Rattle.std.proofs.lemmas.Nat.{mul-add-lt}
 use Rattle.std.proofs.lemmas.List.{get_or_append_left, get_or-append-add, length-append}
-use Rattle.scr_positions.specs.Coordinates.{Coordinate, StaysBelow, barred, target}
+use Rattle.scr_positions.specs.Coordinates.{Coordinate, StaysBelow, target}
+use Rattle.scr_positions.specs.declared.coordinate.TheConstants.{BARRED}
 use Rattle.scr_positions.specs.SearchSpaces.{ShowsSame}
 use Rattle.scr_positions.specs.Moves.{position_below, moves_coordinate, each_below, moves_row}
 
@@ -88,9 +89,9 @@ row_more c t p entry before now new kept e pushed =
     ∙ ap (λ k. before ++ (moves_row c t p ++ k ∷ [])) e ∙ ap (λ xs. before ++ xs) (sym (each_below-more (λ p. target c p t) p))
 
 -- an entry is read as it was written
-position-read : (count : ℕ) (o : Option ℕ) → count ≤ barred → ((q : ℕ) → o ≡ Some q → q < count)
-    → position_below count (unwrap_or o barred) ≡ o
-position-read count None small below = ap (λ b. cond b (Some barred) None) (le-ltb barred count small)
+position-read : (count : ℕ) (o : Option ℕ) → count ≤ BARRED → ((q : ℕ) → o ≡ Some q → q < count)
+    → position_below count (unwrap_or o BARRED) ≡ o
+position-read count None small below = ap (λ b. cond b (Some BARRED) None) (le-ltb BARRED count small)
 position-read count (Some q) small below = ap (λ b. cond b (Some q) None) (lt-ltb q count (below q refl))
 
 -- A table with all rows shows the same.

@@ -1,7 +1,7 @@
 -- Coordinates: what a search sees of a puzzle's states, as numbers. No puzzle stands here.
 use Rattle.std.specs.Prelude.{◌≡◌, ℕ, ◌+◌, ◌<◌, ◌≤◌, nat_lt, Bool, false, IsTrue, List, length, slice_index, Option, Some, None, if◌then◌else◌, unwrap_or}
 use Rattle.std.specs.Option.{option_map_or}
-use Rattle.scr_positions.specs.declared.coordinate.TheConstants.{NOWHERE}
+use Rattle.scr_positions.specs.declared.coordinate.TheConstants.{BARRED, NOWHERE}
 
 -- Positions, the numbers below a count; turns, the numbers below another; where a turn leads from a position, or
 -- nothing where it is barred there; and which positions are goals.
@@ -33,13 +33,9 @@ pub record IsNextGoal (c : Coordinate) (from position : ℕ) : Type 0 where
   pub goal : IsGoal c position
   pub first : HasNoGoal c from position
 
--- the mark of a barred turn, above each position that a number of 32 bits can be
-abbrev pub barred : ℕ
-barred = 4294967295
-
--- where a turn leads from a position, as a number: the mark where it is barred
+-- where a turn leads from a position, as a number: the mark above all positions where it is barred
 abbrev pub target : Coordinate → ℕ → ℕ → ℕ
-target c p t = unwrap_or (c.after p t) barred
+target c p t = unwrap_or (c.after p t) BARRED
 
 -- what stands at a position, or the mark where there is none
 abbrev pub value_at : List ℕ → Option ℕ → ℕ

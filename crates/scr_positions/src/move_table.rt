@@ -16,7 +16,7 @@ pub struct MoveTable {
     goals: Vec<bool>,
 }
 
-// A call wherever one is let go, in place of all that lets go of its parts.
+// By hand, so that the proof of whoever lets one go meets one call, and not the letting go of each of its parts.
 impl Drop for MoveTable {
     fn drop(self) {
         let MoveTable {

@@ -20,7 +20,7 @@ pub struct Product<L: Coord, H: Coord> {
     ghost fits: { (L.coordinate low).count * (H.coordinate high).count < 2 ^ 32 },
 }
 
-// A call wherever one is let go, in place of all that lets go of its parts.
+// By hand, so that the proof of whoever lets one go meets one call, and not the letting go of each of its parts.
 impl<L: Coord + Drop, H: Coord + Drop> Drop for Product<L, H> {
     fn drop(self) {
         let Product { low: _, high: _ } = self;

@@ -149,8 +149,8 @@ pub fn group_name(group: u32) -> ArrayString<FIXED_ROOM>
     name
 }
 
-/// The label of the scramble at a place of a group, from 0, which has `own` scrambles besides the extra ones: its number,
-/// from 1, and behind them E1 and E2.
+/// The label of the scramble at a place of a group, from 0, which has `own` scrambles besides the extra ones: its
+/// number, from 1, and behind them E1 and E2.
 pub fn label(own: u32, place: u32) -> ArrayString<LABEL_ROOM>
     requires own { own ≤ 5 }
     requires place { place < own + 2 }

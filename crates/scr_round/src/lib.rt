@@ -1,6 +1,7 @@
 //! One round of a sheet, made, and its text. A round is laid out as a list of lines (`specs/Round.antt`), each a fixed
 //! text or a label before the scramble of a slot: `line_at` gives any of them, and `write_round` writes one after
-//! another; `heading`, `group_name` and `label` are their parts, for a reader. Which scrambles the slots have is for the crates above. `laws` has whole rounds as text.
+//! another; `heading`, `group_name` and `label` are their parts, for a reader. Which scrambles the slots have is for
+//! the crates above. `laws` has whole rounds as text.
 #![tactic(auto)]
 
 pub mod laws;

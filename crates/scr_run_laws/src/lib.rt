@@ -86,8 +86,9 @@ pub fn checks()
 {}
 
 /// Want of memory tells nothing of what is drawn: whatever a run shows that ends so (what was taken of the input, that
-/// nothing was written, what was told) may be shown as well by a run that is asked for the same with any other seed. And
-/// it tells nothing of a sheet that is checked: of that 4,096 bytes at most were read, wherever its first fault stands.
+/// nothing was written, what was told) may be shown as well by a run that is asked for the same with any other seed.
+/// And it tells nothing of a sheet that is checked: of that 4,096 bytes at most were read, wherever its first fault
+/// stands.
 pub fn want_of_memory()
     ensures seed { (first : List ℕ) (words other : List (List ℕ)) (command : Command) (seed : Seed) (source out err : Change)
         → command_of (first ∷ words) ≡ Ok command → command_of (first ∷ other) ≡ Ok (with_seed seed command)

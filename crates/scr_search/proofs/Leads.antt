@@ -10,7 +10,7 @@ use Rattle.scr_combinatorics.specs.Lists.{pick}
 use Rattle.scr_combinatorics.specs.Play.{play}
 use Rattle.scr_combinatorics.proofs.PlayLaws.{play-append, play-one, play-parts}
 use Rattle.scr_orbit.specs.PowerPuzzles.{all_turns as cube_turns}
-use Rattle.scr_cube.specs.Cube333.{CubeState, cube_action, cube_powers}
+use Rattle.scr_cube.specs.Cube333.{CubeState, cube_monoid, cube_powers, solved_cube}
 use Rattle.scr_cube.proofs.Laws333.{lawful_cube}
 use Rattle.scr_cube.proofs.ListedTurns.{after_of-is, length-turns}
 use Rattle.scr_cube.specs.ListedTurns.{after_of}
@@ -67,14 +67,14 @@ play-places turns c (k ∷ places) below =
 
 -- each of the turns leads somewhere
 turn_leads-to : (c : CubeState) (t : ℕ) → t < 18
-    → after_turn c t ≡ Some (cube_action.turned c (get_or (cube_turns cube_powers) t cube_action.identity))
+    → after_turn c t ≡ Some (cube_monoid.turned c (get_or (cube_turns cube_powers) t solved_cube))
 unfolding cube_turns
 turn_leads-to c t lt =
-    ap (option_map (cube_action.turned c)) (sym (lawful_cube.numbered t)
-    ∙ slice_get-get_or (cube_turns cube_powers) t cube_action.identity (omega (arith, length-turns)))
+    ap (option_map (cube_monoid.turned c)) (sym (lawful_cube.numbered t)
+    ∙ slice_get-get_or (cube_turns cube_powers) t solved_cube (omega (arith, length-turns)))
 
 pub turn_leads : (c : CubeState) (t : ℕ) → t < 18 → (d : CubeState) × (after_turn c t ≡ Some d)
-turn_leads c t lt = (cube_action.turned c (get_or (cube_turns cube_powers) t cube_action.identity), turn_leads-to c t lt)
+turn_leads c t lt = (cube_monoid.turned c (get_or (cube_turns cube_powers) t solved_cube), turn_leads-to c t lt)
 
 -- there are no others
 no_state : (o : Option CubeState) (d : CubeState) → o ≡ None → o ≡ Some d → ⊥
@@ -87,10 +87,10 @@ turn-below c d t e =
       | inr le ↦ absurd (no_state (after_turn c t) d (lawful_cube.no_more c t le) e)
     ]
 
--- and where: the turn with the number rearranges the pieces
+-- and where: to what the turn with the number makes of the cube
 pub after_turn-is : (c d : CubeState) (t : ℕ) → after_turn c t ≡ Some d
-    → d ≡ cube_action.turned c (get_or (cube_turns cube_powers) t cube_action.identity)
-after_turn-is c d t to = same_Some d (cube_action.turned c (get_or (cube_turns cube_powers) t cube_action.identity)) (sym to ∙ (turn_leads-to c t (turn-below c d t to)))
+    → d ≡ cube_monoid.turned c (get_or (cube_turns cube_powers) t solved_cube)
+after_turn-is c d t to = same_Some d (cube_monoid.turned c (get_or (cube_turns cube_powers) t solved_cube)) (sym to ∙ (turn_leads-to c t (turn-below c d t to)))
 
 -- where words of turns lead behind a word
 pub leads-behind : (test : CubeState → Bool) (c there : CubeState) (word v : List ℕ)

@@ -37,8 +37,8 @@ use Rattle.scr_slots.specs.Slots.{Scrambling, ByState, ByMoves}
 -- ---- what is promised
 
 -- a puzzle of pieces, with scrambles of at most so many turns
-abbrev pub drawn_by_powers : {S R : Type 0} → PowerPuzzle S R Turn → ℕ → DrawnPuzzle S
-drawn_by_powers p most = drawn_puzzle (power_puzzle p) (play (after_letter p) p.solved) (at_most most)
+abbrev pub drawn_by_powers : {S : Type 0} → PowerPuzzle S Turn → ℕ → DrawnPuzzle S
+drawn_by_powers p most = drawn_puzzle (power_puzzle p) (play (after_letter p) p.monoid.solved) (at_most most)
 
 -- The 3x3x3 for fewest moves: two frames of three turns more. Turns that don't begin and end with R' U' F are no
 -- scramble.

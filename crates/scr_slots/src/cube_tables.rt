@@ -23,7 +23,7 @@ pub(crate) struct CubeTables {
     pub prune: PruneTables,
 }
 
-// A call wherever tables are let go, in place of all that lets go of their parts.
+// Not derived: a derived `Drop` drops part by part wherever tables are dropped, and this one is a single call.
 impl Drop for CubeTables {
     fn drop(self) {
         let CubeTables {

@@ -50,7 +50,7 @@ impl Model for Tables {
         × HoldsTable tables.events Skewb tables.of_skewb × HoldsTables tables.events Square1 tables.of_sq1 };
 }
 
-// A call wherever tables are let go, in place of all that lets go of their parts.
+// Not derived: a derived `Drop` drops part by part wherever tables are dropped, and this one is a single call.
 impl Drop for Tables {
     fn drop(self) {
         let Tables {

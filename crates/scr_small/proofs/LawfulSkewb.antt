@@ -4,7 +4,7 @@ use Rattle.scr_combinatorics.specs.Permutations.{permutation_number}
 use Rattle.scr_combinatorics.specs.Digits.{mixed_number}
 use Rattle.scr_notation.specs.TurnNumbers.{turn_at}
 use Rattle.scr_orbit.specs.Orbits.{Orbit, turned_orbit, solved_orbit}
-use Rattle.scr_tetra.specs.Skewb.{SkewbState, IsSkewb, IsSkewbTurn, skewb_powers, skewb_numbered, skewb_digits, skewb_of_digits, solved_skewb}
+use Rattle.scr_tetra.specs.Skewb.{SkewbState, IsSkewb, skewb_powers, skewb_numbered, skewb_digits, skewb_of_digits, solved_skewb}
 use Rattle.scr_tetra.proofs.NumberedSkewb.{skewb_numbering, AreDigits-skewb}
 use Rattle.scr_tetra.proofs.SkewbLaws.{lawful_skewb}
 use Rattle.scr_small.specs.LawfulPuzzles.{IsNumberedPuzzle}
@@ -17,7 +17,7 @@ use Rattle.scr_small.specs.SolvedByTable.{IsSolvedByTable}
 use Rattle.scr_small.proofs.TurnedByPowers.{IsNumberedPuzzle-powers, IsSolvedByTable-powers}
 
 pub lawful_puzzle_skewb : IsNumberedPuzzle numbered_puzzle_skewb
-lawful_puzzle_skewb = IsNumberedPuzzle-powers skewb_numbered skewb_powers IsSkewbTurn skewb_numbering lawful_skewb
+lawful_puzzle_skewb = IsNumberedPuzzle-powers skewb_numbered skewb_powers skewb_numbering lawful_skewb
 
 -- ---- the corners and the centres
 

@@ -6,7 +6,7 @@ use Rattle.scr_combinatorics.specs.Permutations.{permutation_number}
 use Rattle.scr_combinatorics.specs.Twists.{twists_number}
 use Rattle.scr_notation.specs.TurnNumbers.{turn_at}
 use Rattle.scr_orbit.specs.Orbits.{turned_orbit, solved_orbit, added_digits}
-use Rattle.scr_tetra.specs.Pyraminx.{TetraminxState, IsTetraminx, IsTetraminxTurn, tetraminx_powers, solved_tetraminx, numbered_tetraminx, tetraminx_digits, tetraminx_of_digits, thirds_number}
+use Rattle.scr_tetra.specs.Pyraminx.{TetraminxState, IsTetraminx, tetraminx_powers, solved_tetraminx, numbered_tetraminx, tetraminx_digits, tetraminx_of_digits, thirds_number}
 use Rattle.scr_tetra.proofs.NumberedPyram.{tetraminx_numbering, tetraminx_has_three}
 use Rattle.scr_tetra.proofs.PyramLaws.{lawful_tetraminx}
 use Rattle.scr_small.specs.LawfulPuzzles.{IsNumberedPuzzle}
@@ -19,7 +19,7 @@ use Rattle.scr_small.specs.SolvedByTable.{IsSolvedByTable}
 use Rattle.scr_small.proofs.TurnedByPowers.{IsNumberedPuzzle-powers, IsSolvedByTable-powers}
 
 pub lawful_puzzle_tetraminx : IsNumberedPuzzle numbered_puzzle_tetraminx
-lawful_puzzle_tetraminx = IsNumberedPuzzle-powers numbered_tetraminx tetraminx_powers IsTetraminxTurn tetraminx_numbering lawful_tetraminx
+lawful_puzzle_tetraminx = IsNumberedPuzzle-powers numbered_tetraminx tetraminx_powers tetraminx_numbering lawful_tetraminx
 
 -- ---- how pieces stand turned, and where edges stand
 
@@ -41,8 +41,8 @@ unfolding turned_orbit
 parts_tetraminx =
     MovesByParts-powers numbered_tetraminx tetraminx_powers lawful_puzzle_tetraminx 2592 360 refl digits_of
     (λ s. s.edges.pieces) told_tetraminx
-    (λ s r x e. ap (λ (q : List ℕ × List ℕ). (added_digits 3 q.0 x.axials, added_digits 2 (pick q.1 x.edges.places) x.edges.added)) e)
-    (λ s r x e. ap (λ ps. pick ps x.edges.places) e)
+    (λ s r x e. ap (λ (q : List ℕ × List ℕ). (added_digits 3 q.0 x.axials, added_digits 2 (pick q.1 x.edges.pieces) x.edges.digits)) e)
+    (λ s r x e. ap (λ ps. pick ps x.edges.pieces) e)
 
 -- ---- its table
 

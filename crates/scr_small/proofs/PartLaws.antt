@@ -53,19 +53,19 @@ pub record AreParts {S L H : Type 0} (n : Numbered S) (low_count : ℕ) (low_of 
   pub high_number : (s r : S) → n.IsValid s → n.IsValid r → high_of s ≡ high_of r
       → n.number_of s / low_count ≡ n.number_of r / low_count
 
-module _ {S R L H : Type 0} (n : Numbered S) (p : PowerPuzzle S R Turn) (l : IsNumberedPuzzle (numbered_powers n p))
+module _ {S L H : Type 0} (n : Numbered S) (p : PowerPuzzle S Turn) (l : IsNumberedPuzzle (numbered_powers n p))
     (low_count high_count : ℕ) (pairs : n.count ≡ low_count * high_count)
     (low_of : S → L) (high_of : S → H) (parts : AreParts n low_count low_of high_of)
-    (low_turned : (s r : S) (x : R) → low_of s ≡ low_of r → low_of (p.action.turned s x) ≡ low_of (p.action.turned r x))
-    (high_turned : (s r : S) (x : R) → high_of s ≡ high_of r → high_of (p.action.turned s x) ≡ high_of (p.action.turned r x)) where
-  -- what a letter makes of two states, it makes by one rearrangement
+    (low_turned : (s r x : S) → low_of s ≡ low_of r → low_of (p.monoid.turned s x) ≡ low_of (p.monoid.turned r x))
+    (high_turned : (s r x : S) → high_of s ≡ high_of r → high_of (p.monoid.turned s x) ≡ high_of (p.monoid.turned r x)) where
+  -- what a letter makes of two states, it makes by one turn
   made_of_both : (s r s' r' : S) (t : Turn) → after_letter p s t ≡ Some s' → after_letter p r t ≡ Some r'
-      → (x : R) × (p.action.turned s x ≡ s') × (p.action.turned r x ≡ r')
+      → (x : S) × (p.monoid.turned s x ≡ s') × (p.monoid.turned r x ≡ r')
   made_of_both s r s' r' t e f =
-      let one = map-some (p.action.turned s) (letter_table p t) s' e in
-      let two = map-some (p.action.turned r) (letter_table p t) r' f in
+      let one = map-some (p.monoid.turned s) (letter_table p t) s' e in
+      let two = map-some (p.monoid.turned r) (letter_table p t) r' f in
       let same : two.0 ≡ one.0 = same_Some two.0 one.0 (sym two.1 ∙ one.1) in
-      (one.0, one.2, ap (p.action.turned r) (sym same) ∙ two.2)
+      (one.0, one.2, ap (p.monoid.turned r) (sym same) ∙ two.2)
 
   -- states whose numbers agree in a part agree in the part
   same_low : (s r : S) → n.IsValid s → n.IsValid r → n.number_of s % low_count ≡ n.number_of r % low_count
@@ -93,6 +93,6 @@ module _ {S R L H : Type 0} (n : Numbered S) (p : PowerPuzzle S R Turn) (l : IsN
         parts.high_number s' r' (l.kept s s' t v e) (l.kept r r' t w f)
         (ap high_of (sym made.1) ∙ high_turned s r made.0 (same_high s r v w h) ∙ ap high_of made.2);
     alike = λ s r s' t v w e.
-        let read = map-some (p.action.turned s) (letter_table p t) s' e in
-        (p.action.turned r read.0, ap (option_map (p.action.turned r)) read.1);
+        let read = map-some (p.monoid.turned s) (letter_table p t) s' e in
+        (p.monoid.turned r read.0, ap (option_map (p.monoid.turned r)) read.1);
   }

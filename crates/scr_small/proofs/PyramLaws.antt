@@ -1,6 +1,6 @@
 -- What the table of the Pyraminx without tips says of the Pyraminx: its valid states are those that turns reach, what
 -- each needs, and its scramble.
-use Rattle.std.proofs.Common.{◌≡◌, ℕ, ◌+◌, ◌/◌, ◌≤◌, Bool, true, false, cond, IsTrue, List, [], ◌∷◌, ◌++◌, map, length, get_or, inl, inr, Some, refl, sym, ap, ◌∙◌, arith, lit≤, lit<}
+use Rattle.std.proofs.Common.{◌≡◌, ℕ, ◌+◌, ◌/◌, ◌≤◌, Bool, true, false, cond, IsTrue, List, [], ◌∷◌, ◌++◌, map, length, get_or, inl, inr, Some, refl, sym, ap, ◌∙◌, arith, lit≤}
 use Rattle.std.specs.Prelude.{nat_le, ◌==◌, ◌↔◌}
 use Rattle.std.proofs.lemmas.Bool.{cases_lt}
 use Rattle.std.proofs.lemmas.List.{length-append, length-map, length-reverse}
@@ -10,7 +10,6 @@ use Rattle.scr_combinatorics.specs.Reach.{IsReached, Needs}
 use Rattle.scr_combinatorics.proofs.PlayLaws.{play-append}
 use Rattle.scr_orbit.specs.Orbits.{zeros}
 use Rattle.scr_orbit.specs.PowerPuzzles.{after_letter, power_puzzle}
-use Rattle.scr_orbit.proofs.InPlaceLaws.{AreDigitsInPlace-zeros}
 use Rattle.scr_notation.specs.declared.turn.Turn.{Turn}
 use Rattle.scr_notation.specs.Turning.{opposite}
 use Rattle.scr_orbit.proofs.Minima.{count_once}
@@ -18,7 +17,7 @@ use Rattle.scr_table.specs.Distances.{Distances, Measures}
 use Rattle.scr_tetra.specs.Pyraminx.{numbered_tetraminx, tetraminx_powers, solved_tetraminx, PyramState, IsPyram, pyram_powers, solved_pyram, numbered_pyram, pyram_digits}
 use Rattle.scr_tetra.proofs.NumberedPyram.{thirds_one_to_one, tetraminx_numbering}
 use Rattle.scr_tetra.specs.PyramParts.{large_turns, turned_count, tips_word}
-use Rattle.scr_tetra.proofs.PyramLaws.{lawful_pyram, IsTetraminx-solved}
+use Rattle.scr_tetra.proofs.PyramLaws.{lawful_pyram}
 use Rattle.scr_tetra.proofs.PyramTips.{tips_word-played, length-tips_word}
 use Rattle.scr_tetra.proofs.PyramWords.{by_parts, with_tips}
 use Rattle.scr_small.proofs.PuzzleLaws.{tested_by, numbered_word, IsDistance-state, length-scramble, play-scrambled, scrambled, IsScrambleOf-unique}
@@ -47,17 +46,13 @@ position_of s h = omega (arith, thirds_one_to_one.below s.tips h.tips)
 
 -- ---- scrambles
 
-IsPyram-solved : IsPyram solved_pyram
-unfolding solved_pyram
-IsPyram-solved = record { body = IsTetraminx-solved; tips = AreDigitsInPlace-zeros 4 3 (lit< tt) }
-
 -- large turns that lead to the body, and then the turns of the tips, lead from solved to the state
 pub play-by_parts : (s : PyramState) → IsPyram s → (large : List Turn)
     → play (after_letter tetraminx_powers) solved_tetraminx large ≡ Some s.body
     → play (after_letter pyram_powers) solved_pyram (large ++ tips_word s.tips) ≡ Some s
 unfolding solved_pyram
 play-by_parts s h large e =
-    play-append (after_letter pyram_powers) _ _ large (tips_word s.tips) (with_tips solved_tetraminx s.body (zeros 4) large IsPyram-solved e)
+    play-append (after_letter pyram_powers) _ _ large (tips_word s.tips) (with_tips solved_tetraminx s.body (zeros 4) large lawful_pyram.lawful.joined.solved e)
     ∙ tips_word-played s.body s.tips h.body h.tips
 
 pub play-scrambled_pyram : (s : PyramState) (turns : List Turn) → IsPyram s → IsScramblePyram s turns
@@ -136,7 +131,7 @@ module _ (table : Distances) (m : Measures coordinate_tetraminx table) where
         let word : List Turn = back opposite found.0 in
         let long : length word ≡ pyram_distance s =
         length-reverse (map opposite found.0) ∙ length-map found.0 opposite ∙ length-scramble_pyram s found.0 h found.1 in
-        let solves = lawful_pyram.lawful.taken_back solved_pyram s found.0 IsPyram-solved (play-scrambled_pyram s found.0 h found.1) in
+        let solves = lawful_pyram.lawful.taken_back solved_pyram s found.0 lawful_pyram.lawful.joined.solved (play-scrambled_pyram s found.0 h found.1) in
         elim (cases_lt (pyram_distance s) least) [
           | inl less ↦ absurd (needs word solved_pyram (omega (arith, count_once word, long)) solves refl)
           | inr le ↦ le

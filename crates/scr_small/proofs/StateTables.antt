@@ -17,7 +17,7 @@ use Rattle.scr_small.proofs.Lawful222.{lawful_puzzle_222}
 use Rattle.scr_small.proofs.LawfulTetraminx.{lawful_puzzle_tetraminx}
 use Rattle.scr_small.proofs.LawfulSkewb.{lawful_puzzle_skewb}
 
-IsLineOf-powers : {S R : Type 0} (n : Numbered S) (p : PowerPuzzle S R Turn) → IsNumberedPuzzle (numbered_powers n p) → (name : TableName) (bound : ℕ)
+IsLineOf-powers : {S : Type 0} (n : Numbered S) (p : PowerPuzzle S Turn) → IsNumberedPuzzle (numbered_powers n p) → (name : TableName) (bound : ℕ)
     → IsLineOf (powers_table name (record { count = n.count; number_of = n.number_of; IsValid = n.IsValid }) p bound)
     (state_line (numbered_powers n p) name bound)
 IsLineOf-powers n p l name bound = record {

@@ -1,9 +1,8 @@
 -- Numbered states that are turned by powers of generators are a numbered puzzle, which one table solves.
-use Rattle.std.proofs.Common.{◌≡◌, ℕ, ◌*◌, ◌^◌, ◌<◌, ◌≤◌, [], Some, refl}
+use Rattle.std.proofs.Common.{◌≡◌, ℕ, ◌*◌, ◌^◌, ◌<◌, ◌≤◌, Some, refl}
 use Rattle.scr_combinatorics.specs.Numbered.{Numbered}
 use Rattle.scr_combinatorics.specs.Numbering.{IsNumbering}
-use Rattle.scr_combinatorics.proofs.PlayLaws.{play-empty}
-use Rattle.scr_orbit.specs.PowerPuzzles.{PowerPuzzle, IsPowerPuzzle, after_letter}
+use Rattle.scr_orbit.specs.PowerPuzzles.{PowerPuzzle, IsPowerPuzzle}
 use Rattle.scr_notation.specs.declared.turn.Turn.{Turn}
 use Rattle.scr_notation.specs.Event.{kind_of}
 use Rattle.scr_notation.specs.TurnNumbers.{turn_at, turn_count}
@@ -15,11 +14,11 @@ use Rattle.scr_small.specs.SolvedByTable.{IsSolvedByTable}
 use Rattle.scr_small.specs.StateParts.{MovesByParts}
 use Rattle.scr_small.specs.Tables.{small_line, table_line}
 
-pub IsNumberedPuzzle-powers : {S R : Type 0} (n : Numbered S) (p : PowerPuzzle S R Turn) (IsTurn : R → Type 0)
-    → IsNumbering n → IsPowerPuzzle p n.IsValid IsTurn opposite turn_merging → IsNumberedPuzzle (numbered_powers n p)
-IsNumberedPuzzle-powers n p IsTurn numbering powers = record {
+pub IsNumberedPuzzle-powers : {S : Type 0} (n : Numbered S) (p : PowerPuzzle S Turn) → IsNumbering n
+    → IsPowerPuzzle p n.IsValid opposite turn_merging → IsNumberedPuzzle (numbered_powers n p)
+IsNumberedPuzzle-powers n p numbering powers = record {
   numbering = numbering;
-  solved = powers.lawful.reached (λ t. 1) p.solved ([], p.solved, refl, play-empty (after_letter p) p.solved);
+  solved = powers.lawful.joined.solved;
   kept = powers.lawful.kept;
   taken_back = powers.lawful.taken_back;
   numbers = powers.numbers;
@@ -30,9 +29,9 @@ IsNumberedPuzzle-powers n p IsTurn numbering powers = record {
 abbrev AreSmall : ℕ → ℕ → StateTable → Type 0
 AreSmall turns all table = (turns ≤ all) × (turns ≤ 256) × (table.low * table.high < 2 ^ 32) × (table.bound ≤ 24)
 
-pub IsSolvedByTable-powers : {S R : Type 0} (n : Numbered S) (p : PowerPuzzle S R Turn) (table : StateTable)
+pub IsSolvedByTable-powers : {S : Type 0} (n : Numbered S) (p : PowerPuzzle S Turn) (table : StateTable)
     → IsNumberedPuzzle (numbered_powers n p) → MovesByParts (numbered_powers n p) table.low table.high
-    → n.number_of p.solved ≡ 0 → p.letters.letter_at ≡ turn_at (kind_of table.event)
+    → n.number_of p.monoid.solved ≡ 0 → p.letters.letter_at ≡ turn_at (kind_of table.event)
     → small_line table.event ≡ Some (table_line (numbered_powers n p) table)
     → AreSmall (numbered_powers n p).turns (turn_count (kind_of table.event)) table
     → IsSolvedByTable (numbered_powers n p) table

@@ -15,5 +15,5 @@ pub record IsFirstScramble {S T : Type 0} (after : S → T → Option S) (letter
   pub taken_back : turns ≡ back opposite (map letter_at solution)
 
 -- The same of states that are turned by powers of generators: the letters have the numbers of the powers.
-abbrev pub IsScrambleByPowers : {S R : Type 0} → PowerPuzzle S R Turn → S → List Turn → Type 0
-IsScrambleByPowers p = IsFirstScramble (after_letter p) p.letters.letter_at opposite_turn p.solved
+abbrev pub IsScrambleByPowers : {S : Type 0} → PowerPuzzle S Turn → S → List Turn → Type 0
+IsScrambleByPowers p = IsFirstScramble (after_letter p) p.letters.letter_at opposite_turn p.monoid.solved

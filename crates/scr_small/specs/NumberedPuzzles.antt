@@ -24,11 +24,11 @@ pub record NumberedPuzzle (S T : Type 0) : Type 1 where
   pub opposite : T → T
 
 -- Numbered states that are turned by powers of generators: the letters have the numbers of the powers.
-abbrev pub numbered_powers : {S R : Type 0} → Numbered S → PowerPuzzle S R Turn → NumberedPuzzle S Turn
+abbrev pub numbered_powers : {S : Type 0} → Numbered S → PowerPuzzle S Turn → NumberedPuzzle S Turn
 numbered_powers n p = record {
   numbered = n;
   after = (after_letter p);
-  solved = p.solved;
+  solved = p.monoid.solved;
   turns = power_turn_count p;
   letter_at = p.letters.letter_at;
   opposite = opposite_turn;

@@ -12,10 +12,10 @@ use Rattle.scr_tetra.specs.Skewb.{skewb_numbers, skewb_powers}
 
 -- The table of this name over the numbered states that powers of generators turn, where none is farther from solved
 -- than so many turns.
-abbrev pub powers_table : {S R : Type 0} → TableName → Numbers S → PowerPuzzle S R Turn → ℕ → SearchTable
+abbrev pub powers_table : {S : Type 0} → TableName → Numbers S → PowerPuzzle S Turn → ℕ → SearchTable
 powers_table {S} name n p most =
     let after = λ (s : S) (k : ℕ). after_letter p s (p.letters.letter_at k) in
-    table_over name (record { IsValid = n.IsValid; after = after; IsGoal = λ s. s ≡ p.solved }) n.number_of n.count most
+    table_over name (record { IsValid = n.IsValid; after = after; IsGoal = λ s. s ≡ p.monoid.solved }) n.number_of n.count most
 
 -- That each state is at most 11 turns from solved, of the Pyraminx without its tips, is known from elsewhere, and
 -- found when the table is built.

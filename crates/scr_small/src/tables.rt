@@ -29,7 +29,7 @@ enum OwnTable {
     Skewb(LineTable<PartsLine<SkewbNumbers>>),
 }
 
-// A call wherever one is let go, in place of all that lets go of its parts.
+// By hand, so that the proof of whoever lets one go meets one call, and not the letting go of each of its parts.
 impl Drop for SmallTables {
     fn drop(self) {
         let SmallTables { held: _ } = self;

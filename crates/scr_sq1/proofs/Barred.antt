@@ -1,5 +1,6 @@
 -- Letters lead nowhere exactly where one of them is barred in its place.
-use Rattle.std.proofs.Common.{◌≡◌, ◌⊎◌, inl, inr, ◌↔◌, Bool, true, false, cond, List, [], ◌∷◌, Option, Some, None, refl, sym, ap, ◌∙◌}
+use Rattle.std.proofs.Common.{arith, ◌≡◌, ◌⊎◌, inl, inr, ◌↔◌, Bool, true, false, cond, List, [], ◌∷◌, Option, Some, None, refl, sym, ap, ◌∙◌}
+use Rattle.std.proofs.lemmas.Bool.Decides.{nat_tests}
 use Rattle.std.specs.Prelude.{IsFalse, option_and_then}
 use Rattle.scr_combinatorics.specs.Play.{play}
 use Rattle.scr_combinatorics.proofs.PlayLaws.{play-empty, play-first, play-append}
@@ -23,11 +24,7 @@ some_or_none false x = (λ h. refl, λ h. refl)
 
 barred_letter : (s : Sq1State) (t : Turn) → sq1_after s t ≡ None → IsFalse (permits Sq1 t) ⊎ TurnsAcross s t
 unfolding sq1_after after_layers
-barred_letter s (Layers x y) e =
-    elim ((none_of (is_layer_turn (Layers x y)) (after_layers s x y)).0 e) [
-      | inl off ↦ inl off
-      | inr none ↦ inr ((some_or_none (is_open (turned s x y).units) (turned s x y)).0 none)
-    ]
+barred_letter s (Layers x y) e = grind (arith, nat_tests, none_of, some_or_none)
 barred_letter s Twist e = absurd (cc)
 barred_letter s _ e = inl refl
 

@@ -1,5 +1,6 @@
 -- Twelfths of a turn, counted clockwise from 0 to 11.
-use Rattle.std.proofs.Common.{◌≡◌, ℕ, ◌+◌, ◌*◌, ◌/◌, ◌%◌, ◌<◌, sym, ap, ◌∙◌, arith}
+use Rattle.std.proofs.Common.{◌≡◌, ℕ, ◌+◌, ◌*◌, ◌/◌, ◌%◌, ◌<◌, arith}
+use Rattle.std.proofs.lemmas.Bool.Decides.{nat_tests}
 use Rattle.std.specs.Prelude.{ℤ, pos, negsuc, neg_ℤ, ◌+ℤ◌}
 use Rattle.std.proofs.lemmas.Int.{ints}
 use Rattle.scr_notation.specs.Layers.{twelfths}
@@ -26,20 +27,10 @@ clockwise-only (negsuc m) n lt h = omega (arith, ints, h.same)
 
 pub clockwise-twelfths : (z : ℤ) → clockwise (twelfths z) ≡ clockwise z
 clockwise-twelfths z =
-    let t = AreTwelfths-twelfths z in
-    let c = IsClockwise-clockwise z in
-    clockwise-only (twelfths z) (clockwise z) (clockwise-lt z)
-    (record { turns = t.turns_more + c.turns; turns_more = t.turns + c.turns_more; same = omega (arith, ints, t.same, c.same) })
+    grind (arith, nat_tests, AreTwelfths-twelfths, IsClockwise-clockwise, clockwise-only, clockwise-lt, ints)
 
 pub clockwise-sum : (x z : ℤ) → clockwise (x +ℤ z) ≡ (clockwise x + clockwise z) % 12
-clockwise-sum x z =
-    let a = IsClockwise-clockwise x in
-    let b = IsClockwise-clockwise z in
-    let s : ℕ = clockwise x + clockwise z in
-    clockwise-only (x +ℤ z) (s % 12) (omega arith)
-    (record { turns = a.turns + b.turns; turns_more = a.turns_more + b.turns_more + s / 12; same = omega (arith, ints, a.same, b.same) })
+clockwise-sum x z = grind (arith, nat_tests, IsClockwise-clockwise, clockwise-only, ints)
 
 pub clockwise-back : (z : ℤ) → (clockwise z + clockwise (twelfths (neg_ℤ z))) % 12 ≡ 0
-clockwise-back z =
-    ap (λ n. (clockwise z + n) % 12) (clockwise-twelfths (neg_ℤ z)) ∙ sym (clockwise-sum z (neg_ℤ z))
-    ∙ ap clockwise {x = z +ℤ neg_ℤ z} {y = pos 0} (omega (arith, ints))
+clockwise-back z = grind (arith, nat_tests, clockwise-twelfths, clockwise-sum, ints)

@@ -1,5 +1,6 @@
 -- Units half by half: those whose corners lie in halves are the pieces of a shape, and the other way round.
 use Rattle.std.proofs.Common.{◌≡◌, ℕ, zero, suc, ◌+◌, ◌-◌, ◌*◌, ◌<◌, inl, inr, List, [], ◌∷◌, ◌++◌, length, take, drop, slice_index, refl, sym, ap, ◌∙◌, subst, arith}
+use Rattle.std.proofs.lemmas.Bool.Decides.{nat_tests}
 use Rattle.std.specs.Prelude.{All}
 use Rattle.std.proofs.lemmas.Bool.{cases_lt}
 use Rattle.std.proofs.lemmas.List.{take-append-drop, length-take-le, length-drop, get_or-take, get_or-drop, get_or_append_left, get_or-append-add, take_at, drop_at, length-append, nil_from_length}
@@ -23,12 +24,7 @@ pub record ArePaired (n : ℕ) (us : List ℕ) : Type 0 where
       → slice_index us (suc (suc k)) ≡ slice_index us k → ⊥
 
 pub ArePaired-in_halves : (us : List ℕ) → InHalves us → ArePaired 4 us
-ArePaired-in_halves us h = record {
-  size = h.size;
-  partners = h.partners;
-  no_third = λ k lt corner e f.
-      no_third us h k (suc k) (suc (suc k)) (omega arith) (omega arith) lt (omega (arith, f)) (sym f) (e ∙ sym f);
-}
+ArePaired-in_halves us h = grind (arith, nat_tests, no_third)
 
 module _ (n : ℕ) (us : List ℕ) (h : ArePaired (suc n) us) where
   first_size : length (take 6 us) ≡ 6
@@ -108,12 +104,7 @@ first_pieces n us h =
 
 pub HalfPieces-paired : (n : ℕ) (us : List ℕ) → ArePaired n us → HalfPieces n us
 unfolding halves_in shape_word
-HalfPieces-paired zero us h = record {
-  corners = [];
-  edges = [];
-  are = subst (λ vs. IsLaid vs [] [] []) (sym (nil_from_length us (omega (arith, h.size)))) IsLaid-none;
-  halves = record { size = refl; below = All-nil (λ h. h < 13); corners = refl };
-}
+HalfPieces-paired zero us h = grind (arith, nat_tests, nil_from_length, IsLaid-none, All-nil)
 HalfPieces-paired (suc n) us h =
     let p = first_pieces n us h in
     let q = HalfPieces-paired n (drop 6 us) (other_halves n us h) in
@@ -164,22 +155,11 @@ Parted-fits h hs cs es f =
 
 -- units behind six others
 HasPartner-later : (us vs : List ℕ) (k : ℕ) → length us ≡ 6 → HasPartner vs k → HasPartner (us ++ vs) (6 + k)
-HasPartner-later us vs k six h =
-    let at = λ (i : ℕ). ap (λ n. slice_index (us ++ vs) (n + i)) (sym six) ∙ get_or-append-add us vs i 0 in
-    let later : slice_index (us ++ vs) (suc (6 + k)) ≡ slice_index (us ++ vs) (6 + suc k) = ap (λ i. slice_index (us ++ vs) i) (omega arith) in
-    elim h [
-      | inl p ↦ inl (omega (arith, p.0), later ∙ at (suc k) ∙ p.1 ∙ sym (at k))
-      | inr p ↦ inr (6 + p.0, omega (arith, p.1), omega (arith, p.2), at p.0 ∙ p.3 ∙ sym (at k))
-    ]
+HasPartner-later us vs k six h = grind (arith, nat_tests, get_or-append-add)
 
 -- the first six
 HasPartner-first : (us vs : List ℕ) (k : ℕ) → length us ≡ 6 → k < 6 → FillsNext us k → HasPartner (us ++ vs) k
-HasPartner-first us vs k six lt h =
-    let at = λ (i : ℕ) (low : i < length us). get_or_append_left us vs 0 i low in
-    elim h [
-      | inl p ↦ inl (omega (arith, p.0), at (suc k) p.0 ∙ p.1 ∙ sym (at k (omega arith)))
-      | inr p ↦ inr (p.0, p.1, omega (arith, p.1), at p.0 (omega (arith, p.1)) ∙ p.2 ∙ sym (at k (omega arith)))
-    ]
+HasPartner-first us vs k six lt h = grind (arith, nat_tests, get_or_append_left)
 
 -- what is read of a shape's pieces
 pub record ShapeUnits (hs cs es : List ℕ) : Type 0 where

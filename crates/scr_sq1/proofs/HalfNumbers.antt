@@ -1,5 +1,6 @@
 -- The numbers of halves with so many corners, and so of shapes.
 use Rattle.std.proofs.Common.{◌≡◌, ℕ, zero, suc, ◌+◌, ◌-◌, ◌<◌, ◌≤◌, inl, inr, Bool, true, false, IsTrue, cond, not, List, [], ◌∷◌, ◌++◌, map, length, take, slice_index, refl, sym, ap, ◌∙◌, subst, arith}
+use Rattle.std.proofs.lemmas.Bool.Decides.{nat_tests}
 use Rattle.std.specs.Prelude.{◌==◌, ◌&&◌, nat_le, nat_lt, filter, flat_map}
 use Rattle.std.specs.List.{list_all, position_or_len}
 use Rattle.std.specs.Str.{bytes_eq}
@@ -64,10 +65,7 @@ module _ (f : ℕ → ℕ) where
   run_of-put [] i r lt inside = absurd (omega arith)
   run_of-put (k ∷ ks) zero r lt inside = ap (run_of f (k ∷ ks)) {x = 0 + r} {y = r} (omega arith) ∙ run_of-here k ks r inside
   run_of-put (k ∷ ks) (suc i) r lt inside =
-      let s : ℕ = f k + total (map f (take i ks)) + r in
-      let less : s - f k ≡ total (map f (take i ks)) + r = omega arith in
-      run_of-later k ks s (omega arith)
-      ∙ ap (λ p. let q : ℕ × ℕ = (suc p.0, p.1) in q) (ap (run_of f ks) less ∙ run_of-put ks i r (omega arith) inside)
+      grind (arith, nat_tests, run_of-later, run_of-put ks i r (omega arith) inside)
 
   -- a sum with one run more
   pub total-more : (ks : List ℕ) (i : ℕ) → i < length ks
@@ -107,11 +105,7 @@ StartsWith-halves n c h hs a = record {
 }
 
 pub AreHalves-starts : (n c h : ℕ) (hs : List ℕ) → StartsWith n c h hs → AreHalves (suc n) c (h ∷ hs)
-AreHalves-starts n c h hs s = record {
-  size = ap suc s.others.size;
-  below = All-cons (λ x. x < 13) h hs s.below s.others.below;
-  corners = omega (arith, s.few, s.others.corners);
-}
+AreHalves-starts n c h hs s = grind (arith, nat_tests, All-cons)
 
 -- in how many ways n halves can have c corners in all
 abbrev pub ways_to_have : ℕ → ℕ → ℕ
@@ -123,20 +117,11 @@ ways-none c = refl
 
 ways-suc : (n c : ℕ) → ways_to_have (suc n) c ≡ total (map (ways_after n c) corner_counts)
 unfolding ways_after
-ways-suc n c =
-    cond-true (nat_le 0 c) (total (map (ways_after n (c - 0)) corner_counts)) 0 (le-leb 0 c (omega arith))
-    ∙ ap (λ m. total (map (ways_after n m) corner_counts)) {x = c - 0} {y = c} (omega arith)
+ways-suc n c = grind (arith, nat_tests, le-leb)
 
 pub ways_after-few : (n c k : ℕ) → k ≤ c → ways_after n c k ≡ ways_to_have n (c - k)
 unfolding ways_after
-ways_after-few zero c k le =
-    elim (cases_eq c k) [
-      | inl same ↦
-          cond-true {A = ℕ} (c == k) 1 0 (eq-eqb c k same) ∙ sym (cond-true {A = ℕ} (c - k == 0) 1 0 (eq-eqb (c - k) 0 (omega arith)))
-      | inr more ↦
-          cond-false {A = ℕ} (c == k) 1 0 (ne_eqb c k more)
-          ∙ sym (cond-false {A = ℕ} (c - k == 0) 1 0 (ne_eqb (c - k) 0 (λ none. more (omega arith))))
-    ]
+ways_after-few zero c k le = grind (arith, nat_tests, eq-eqb, ne_eqb)
 ways_after-few (suc n) c k le =
     cond-true (nat_le k c) (total (map (ways_after n (c - k)) corner_counts)) 0 (le-leb k c le) ∙ sym (ways-suc n (c - k))
 
@@ -158,13 +143,7 @@ halves_number-cons n c h hs e = ap (λ m. numbers_before m c h + halves_number (
 run_within : (n c h : ℕ) → h < 13 → corner_count h ≤ c
     → numbers_before n c h + ways_to_have n (c - corner_count h) ≤ ways_to_have (suc n) c
 run_within n c h lt few =
-    omega (
-      arith,
-      ways-suc n c,
-      ways_after-few n c (corner_count h) few,
-      ap (ways_after n c) (corner_count-at h),
-      total-run (ways_after n c) corner_counts h (omega (arith, length-corner_counts)),
-    )
+    grind (arith, nat_tests, ways-suc, ways_after-few, corner_count, corner_count-at, total-run, length-corner_counts)
 
 pub halves_number-lt : (n c : ℕ) (hs : List ℕ) → AreHalves n c hs → halves_number c hs < ways_to_have n c
 unfolding halves_number
@@ -222,12 +201,7 @@ pub record HasNumber (n c r : ℕ) (hs : List ℕ) : Type 0 where
 
 pub HasNumber-at : (n c r : ℕ) → r < ways_to_have n c → HasNumber n c r (halves_at n c r)
 unfolding halves_number halves_at
-HasNumber-at zero c r lt =
-    let none : c ≡ 0 = elim (cases_eq c 0) [ inl e ↦ e | inr some ↦ absurd (omega (arith, ways-none c, cond-false {A = ℕ} (c == 0) 1 0 (ne_eqb c 0 some))) ] in
-    record {
-      halves = record { size = refl; below = All-nil (λ h. h < 13); corners = sym none };
-      number = omega (arith, ways-none c, cond-true {A = ℕ} (c == 0) 1 0 (eq-eqb c 0 none));
-    }
+HasNumber-at zero c r lt = grind (arith, nat_tests, ways-none, ne_eqb, All-nil, eq-eqb)
 HasNumber-at (suc n) c r lt =
     let f = first_half n c r lt in
     let rest = HasNumber-at n (c - corner_count f.half) f.rest f.inside in
@@ -291,27 +265,18 @@ with_first-few c h (gs ∷ xss) few =
 
 with_first-many : (c h : ℕ) (xss : List (List ℕ)) → c < corner_count h → with_first c h xss ≡ []
 with_first-many c h [] many = refl
-with_first-many c h (gs ∷ xss) many =
-    let k : ℕ = corner_count h in
-    let n : ℕ = total (pick corner_counts gs) in
-    cond-false (k + n == c) ((h ∷ gs) ∷ with_first c h xss) (with_first c h xss) (ne_eqb (k + n) c (λ same. omega (arith, same, many)))
-    ∙ with_first-many c h xss many
+with_first-many c h (gs ∷ xss) many = grind (arith, nat_tests, corner_count, ne_eqb, with_first-many c h xss many)
 
 with_corners-flat : (c : ℕ) (xss : List (List ℕ)) (ks : List ℕ)
     → with_corners c (flat_map (λ h. map (λ hs. h ∷ hs) xss) ks) ≡ flat_map (λ h. with_first c h xss) ks
 with_corners-flat c xss [] = refl
-with_corners-flat c xss (k ∷ ks) =
-    filter-append (λ gs. total (pick corner_counts gs) == c) (map (λ hs. k ∷ hs) xss) (flat_map (λ h. map (λ hs. h ∷ hs) xss) ks)
-    ∙ ap (λ xs. with_first c k xss ++ xs) (with_corners-flat c xss ks)
+with_corners-flat c xss (k ∷ ks) = grind (arith, nat_tests, filter-append, with_corners-flat c xss ks)
 
 -- the place of a list behind others that are not the same, and where it stands before them
 place_of_same : (h : ℕ) (hs : List ℕ) (xss : List (List ℕ))
     → place_in (h ∷ hs) (map (λ hs. h ∷ hs) xss) ≡ place_in hs xss
 place_of_same h hs [] = refl
-place_of_same h hs (gs ∷ xss) =
-    let same : bytes_eq (h ∷ hs) (h ∷ gs) ≡ bytes_eq hs gs = ap (λ b. b && bytes_eq hs gs) (eq-eqb h h refl) in
-    ap (λ b. let n : ℕ = cond (not b) (1 + place_in (h ∷ hs) (map (λ hs. h ∷ hs) xss)) 0 in n) same
-    ∙ ap (λ p. let n : ℕ = cond (not (bytes_eq hs gs)) (1 + p) 0 in n) (place_of_same h hs xss)
+place_of_same h hs (gs ∷ xss) = grind (arith, nat_tests, eq-eqb, place_of_same h hs xss)
 
 place_stays : (x : List ℕ) (xs ys : List (List ℕ)) → place_in x xs < length xs → place_in x (xs ++ ys) ≡ place_in x xs
 place_stays x [] ys lt = absurd (omega arith)
@@ -334,9 +299,7 @@ place_behind c g h hs (gs ∷ xss) ys lt =
 
     behind : (b : Bool) (r : List (List ℕ)) → place_in (h ∷ hs) (r ++ ys) ≡ length r + place_in (h ∷ hs) ys
         → (let zs : List (List ℕ) = cond b ((g ∷ gs) ∷ r) r in place_in (h ∷ hs) (zs ++ ys) ≡ length zs + place_in (h ∷ hs) ys)
-    behind true r e =
-        let same : 1 + place_in (h ∷ hs) (r ++ ys) ≡ suc (length r) + place_in (h ∷ hs) ys = omega (arith, e) in
-        ap (λ b. let n : ℕ = cond (not b) (1 + place_in (h ∷ hs) (r ++ ys)) 0 in n) other ∙ same
+    behind true r e = grind (arith, nat_tests, other)
     behind false r e = e
 
 -- from a first half on
@@ -353,14 +316,7 @@ module _ (c : ℕ) (xss : List (List ℕ)) (f : ℕ → ℕ) (sizes : (h : ℕ) 
   length_from : (m s : ℕ) → s + m ≡ 13
       → before s + length (flat_map (λ h. with_first c h xss) (numbers_from s m)) ≡ before 13
   length_from zero s e = omega (arith, ap before {x = s} {y = 13} (omega arith))
-  length_from (suc m) s e =
-      omega (
-        arith,
-        length-append (with_first c s xss) (flat_map (λ h. with_first c h xss) (numbers_from (suc s) m)),
-        sizes s,
-        before-more s (omega arith),
-        length_from m (suc s) (omega arith),
-      )
+  length_from (suc m) s e = grind (arith, nat_tests, length-append, before-more, length_from m (suc s) (omega arith))
 
   place_from : (h : ℕ) (hs : List ℕ) → h < 13 → place_in (h ∷ hs) (with_first c h xss) < length (with_first c h xss)
       → (m s : ℕ) → s + m ≡ 13 → s ≤ h
@@ -385,26 +341,12 @@ module _ (c : ℕ) (xss : List (List ℕ)) (f : ℕ → ℕ) (sizes : (h : ℕ) 
 listed_sizes : (n : ℕ) → ((c : ℕ) → length (with_corners c (words_of (numbers_from 0 13) n)) ≡ ways_to_have n c) → (c h : ℕ)
     → length (with_first c h (words_of (numbers_from 0 13) n)) ≡ ways_after n c (corner_count h)
 listed_sizes n sizes c h =
-    let k : ℕ = corner_count h in
-    elim (cases_lt c k) [
-      | inl many ↦ ap length (with_first-many c h (words_of (numbers_from 0 13) n) many) ∙ sym (ways_after-many n c k many)
-      | inr few ↦
-          ap length (with_first-few c h (words_of (numbers_from 0 13) n) few) ∙ length-map (with_corners (c - k) (words_of (numbers_from 0 13) n)) (λ hs. h ∷ hs)
-          ∙ sizes (c - k) ∙ sym (ways_after-few n c k few)
-    ]
+    grind (arith, nat_tests, corner_count, with_first-many, ways_after-many, with_first-few, length-map, ways_after-few)
 
 -- how many lists have c corners
 pub listed-length : (n c : ℕ) → length (with_corners c (words_of (numbers_from 0 13) n)) ≡ ways_to_have n c
 unfolding words_of before
-listed-length zero c =
-    elim (cases_eq c 0) [
-      | inl e ↦
-          ap length (cond-true (0 == c) ([] ∷ []) [] (eq-eqb 0 c (sym e)))
-          ∙ sym (ways-none c ∙ cond-true {A = ℕ} (c == 0) 1 0 (eq-eqb c 0 e))
-      | inr some ↦
-          ap length (cond-false (0 == c) ([] ∷ []) [] (ne_eqb 0 c (λ e. some (sym e))))
-          ∙ sym (ways-none c ∙ cond-false {A = ℕ} (c == 0) 1 0 (ne_eqb c 0 some))
-    ]
+listed-length zero c = grind (arith, nat_tests, eq-eqb, ways-none, ne_eqb)
 listed-length (suc n) c =
     let xss : List (List ℕ) = words_of (numbers_from 0 13) n in
     let whole : length (flat_map (λ h. with_first c h xss) (numbers_from 0 13)) ≡ total (map (ways_after n c) (take 13 corner_counts)) =

@@ -1,6 +1,7 @@
 -- The thirteen halves are all the ways to fill six units; which half six units are is told by the bits of their
 -- corners.
 use Rattle.std.proofs.Common.{◌≡◌, ℕ, zero, suc, ◌<◌, ◌≤◌, Bool, true, false, IsTrue, cond, List, [], ◌∷◌, map, length, take, drop, slice_index, refl, sym, ap, ◌∙◌, arith, eqb-true, eq-eqb}
+use Rattle.std.proofs.lemmas.Bool.Decides.{nat_tests}
 use Rattle.std.specs.Prelude.{◌+◌, ◌*◌, ◌&&◌, ◌==◌, nat_lt}
 use Rattle.std.specs.List.{position_or_len}
 use Rattle.std.specs.Str.{bytes_eq}
@@ -139,10 +140,7 @@ all_same_halves = refl
 
 same_half : (w : List Bool) → length w ≡ 6 → letters_half w ≡ place_of (bits_of w) half_bits
 unfolding is_same_half
-same_half w six =
-    let p : List Bool → Bool = λ w. cond (length w == 6) (is_same_half w) true in
-    eqb-true (letters_half w) (place_of (bits_of w) half_bits)
-    (sym (cond-true (length w == 6) (is_same_half w) true (eq-eqb (length w) 6 six)) ∙ every_word-at 6 p all_same_halves w (omega arith))
+same_half w six = grind (arith, nat_tests, every_word-at, all_same_halves)
 
 -- the letters of units
 abbrev pub letters_of : List ℕ → List ℕ
@@ -176,9 +174,4 @@ halves_in (suc n) units = half_of (take 6 units) ∷ halves_in n (drop 6 units)
 
 pub shape_of-halves : (units : List ℕ) → shape_of units ≡ halves_in 4 units
 unfolding shape_of halves_in
-shape_of-halves units =
-    let half : List ℕ → ℕ = λ us. half_of (take 6 us) in
-    let second : List ℕ = drop 6 units in
-    ap (λ us. half units ∷ half second ∷ half us ∷ half (drop 18 units) ∷ []) (sym (drop-drop 6 6 units))
-    ∙ ap (λ us. half units ∷ half second ∷ half (drop 6 second) ∷ half us ∷ [])
-    (sym (drop-drop 6 12 units) ∙ ap (drop 6) (sym (drop-drop 6 6 units)))
+shape_of-halves units = grind (arith, nat_tests, drop-drop)

@@ -1,6 +1,7 @@
 -- The two units of each corner lie in one half, side by side, where they are neighbours and no corner lies across the
 -- cut, and the other way round.
-use Rattle.std.proofs.Common.{◌≡◌, ℕ, zero, suc, ◌+◌, ◌-◌, ◌%◌, ◌<◌, ◌≤◌, ◌⊎◌, inl, inr, Bool, true, false, IsTrue, not, List, [], ◌∷◌, length, slice_index, cond, lit<, lit≤, refl, sym, ap, ◌∙◌, subst, arith, eqb-true, eq-eqb, ltb-true}
+use Rattle.std.proofs.Common.{◌≡◌, ℕ, zero, suc, ◌+◌, ◌%◌, ◌<◌, ◌≤◌, ◌⊎◌, inl, inr, Bool, true, false, IsTrue, not, List, [], ◌∷◌, length, slice_index, cond, refl, sym, ap, ◌∙◌, subst, arith, eqb-true, eq-eqb, ltb-true}
+use Rattle.std.proofs.lemmas.Bool.Decides.{nat_tests}
 use Rattle.std.specs.Prelude.{◌&&◌, ◌==◌}
 use Rattle.std.proofs.lemmas.Bool.{cases_eq, cases_lt, false≢true, and_parts, and_from, or_cases, or_left, or_right, lt-ltb, le-ltb, ne_eqb, cond-true, cond-false}
 use Rattle.scr_combinatorics.specs.Lists.{occurrences}
@@ -63,9 +64,7 @@ one_corner units j k lt e = and_from (is_corner (slice_index units j)) (slice_in
 
 pub of_one_corner : (units : List ℕ) (j k : ℕ) → IsTrue (are_of_one_corner units j k)
     → (slice_index units j < 8) × (slice_index units k ≡ slice_index units j)
-of_one_corner units j k h =
-    let both = and_parts (is_corner (slice_index units j)) (slice_index units k == slice_index units j) h in
-    (ltb-true (slice_index units j) 8 both.0, eqb-true (slice_index units k) (slice_index units j) both.1)
+of_one_corner units j k h = grind (arith, nat_tests, and_parts)
 
 -- the four places of the cut
 pub record IsOpen (units : List ℕ) : Type 0 where
@@ -90,53 +89,23 @@ is_open-layers units =
     two_and_two false b c d = refl
 
 pub IsOpen-test : (units : List ℕ) → IsTrue (is_open units) → IsOpen units
-IsOpen-test units h =
-    let a = are_of_one_corner units 11 0 in
-    let b = are_of_one_corner units 5 6 in
-    let c = are_of_one_corner units 23 12 in
-    let d = are_of_one_corner units 17 18 in
-    let both = and_parts (not a && not b) (not c && not d) (sym (is_open-layers units) ∙ h) in
-    let top = and_parts (not a) (not b) both.0 in
-    let bottom = and_parts (not c) (not d) both.1 in
-    record { top_back = not_true a top.0; top_front = not_true b top.1; bottom_front = not_true c bottom.0; bottom_back = not_true d bottom.1 }
+IsOpen-test units h = grind (arith, nat_tests, and_parts, is_open-layers, not_true)
 
 pub is_open-from : (units : List ℕ) → IsOpen units → IsTrue (is_open units)
-is_open-from units o =
-    let a = are_of_one_corner units 11 0 in
-    let b = are_of_one_corner units 5 6 in
-    let c = are_of_one_corner units 23 12 in
-    let d = are_of_one_corner units 17 18 in
-    is_open-layers units
-    ∙ and_from (not a && not b) (not c && not d)
-    (and_from (not a) (not b) (not_false a o.top_back) (not_false b o.top_front))
-    (and_from (not c) (not d) (not_false c o.bottom_front) (not_false d o.bottom_back))
+is_open-from units o = grind (arith, nat_tests, is_open-layers, and_from, not_false)
 
 -- ---- neighbours inside a half, and across the cut
 
 next_unit-inside : (k : ℕ) → k < 24 → k % 6 < 5 → next_unit k ≡ suc k
-next_unit-inside k lt inside =
-    cond-false (k == 11) 0 (cond (k == 23) 12 (k + 1)) (ne_eqb k 11 (λ e. omega arith))
-    ∙ cond-false (k == 23) 12 (k + 1) (ne_eqb k 23 (λ e. omega arith)) ∙ omega arith
+next_unit-inside k lt inside = grind (arith, nat_tests, ne_eqb)
 
 previous_unit-inside : (j : ℕ) → suc j < 24 → j % 6 < 5 → previous_unit (suc j) ≡ j
-previous_unit-inside j lt inside =
-    cond-false (suc j == 0) 11 (cond (suc j == 12) 23 (suc j - 1)) (ne_eqb (suc j) 0 (λ e. omega arith))
-    ∙ cond-false (suc j == 12) 23 (suc j - 1) (ne_eqb (suc j) 12 (λ e. omega arith)) ∙ omega arith
+previous_unit-inside j lt inside = grind (arith, nat_tests, ne_eqb)
 
 -- the units that are so far on in their halves
 module _ (P : ℕ → Type 0) (d : ℕ) (top_right : P d) (top_left : P (6 + d)) (bottom_right : P (12 + d)) (bottom_left : P (18 + d)) where
   by_half : (k : ℕ) → k < 24 → k % 6 ≡ d → P k
-  by_half k lt there =
-      elim (cases_eq k d) [
-        | inl e ↦ subst P (sym e) top_right
-        | inr a ↦ elim (cases_eq k (6 + d)) [
-          | inl e ↦ subst P (sym e) top_left
-          | inr b ↦ elim (cases_eq k (12 + d)) [
-            | inl e ↦ subst P (sym e) bottom_right
-            | inr c ↦ subst P {x = 18 + d} (omega arith) bottom_left
-          ]
-        ]
-      ]
+  by_half k lt there = grind (arith, nat_tests)
 
 module _ (units : List ℕ) (h : IsPutTogether units) where
   -- no corner goes on across the cut
@@ -162,24 +131,11 @@ module _ (units : List ℕ) (h : IsPutTogether units) where
 
   behind : (k : ℕ) → k < 24 → slice_index units k < 8 → slice_index units (next_unit k) ≡ slice_index units k
       → HasPartner units k
-  behind k lt corner e =
-      elim (cases_lt (k % 6) 5) [
-        | inl inside ↦ inl (inside, ap (λ i. slice_index units i) (sym (next_unit-inside k lt inside)) ∙ e)
-        | inr last ↦ absurd (not_behind k lt (omega arith) corner e)
-      ]
+  behind k lt corner e = grind (arith, nat_tests, next_unit-inside, not_behind)
 
   before : (k : ℕ) → k < 24 → slice_index units k < 8 → slice_index units (previous_unit k) ≡ slice_index units k
       → HasPartner units k
-  before k lt corner e =
-      elim (cases_eq (k % 6) 0) [
-        | inl first ↦ absurd (not_before k lt first corner e)
-        | inr inside ↦
-            let j : ℕ = k - 1 in
-            let is : suc j ≡ k = omega arith in
-            let low : j % 6 < 5 = omega arith in
-            let same : previous_unit k ≡ j = ap previous_unit (sym is) ∙ previous_unit-inside j (omega arith) low in
-            inr (j, is, low, ap (λ i. slice_index units i) (sym same) ∙ e)
-      ]
+  before k lt corner e = grind (arith, nat_tests, not_before, previous_unit-inside)
 
   pub InHalves-together : InHalves units
   InHalves-together = record {
@@ -207,11 +163,7 @@ module _ (units : List ℕ) (h : InHalves units) where
   -- a corner at the last unit of a half has its other unit before it
   partner_before : (j : ℕ) → suc j < 24 → 5 ≤ suc j % 6 → slice_index units (suc j) < 8
       → slice_index units j ≡ slice_index units (suc j)
-  partner_before j lt last corner =
-      elim (h.partners (suc j) lt corner) [
-        | inl p ↦ let inside = p.0 in absurd (omega arith)
-        | inr p ↦ let is = p.1 in ap (λ i. slice_index units i) {y = p.0} (omega arith) ∙ p.3
-      ]
+  partner_before j lt last corner = grind (arith, nat_tests)
 
   -- so its third unit would lie across the cut
   apart : (j k : ℕ) → suc j < 24 → 5 ≤ suc j % 6 → k < 24 → (suc j < k) ⊎ (k < j)
@@ -225,22 +177,11 @@ module _ (units : List ℕ) (h : InHalves units) where
       ]
 
   IsOpen-halves : IsOpen units
-  IsOpen-halves = record {
-    top_back = apart 10 0 (lit< tt) (lit≤ tt) (lit< tt) (inr (lit< tt));
-    top_front = apart 4 6 (lit< tt) (lit≤ tt) (lit< tt) (inl (lit< tt));
-    bottom_front = apart 22 12 (lit< tt) (lit≤ tt) (lit< tt) (inr (lit< tt));
-    bottom_back = apart 16 18 (lit< tt) (lit≤ tt) (lit< tt) (inl (lit< tt));
-  }
+  IsOpen-halves = grind (arith, nat_tests, apart)
 
   partner_fills : (k : ℕ) → k < 24 → HasPartner units k → IsTrue (fills_neighbour units k)
-  partner_fills k lt (inl p) =
-      or_left (slice_index units (next_unit k) == slice_index units k) (slice_index units (previous_unit k) == slice_index units k)
-      (eq-eqb (slice_index units (next_unit k)) (slice_index units k) (ap (λ i. slice_index units i) (next_unit-inside k lt p.0) ∙ p.1))
-  partner_fills k lt (inr p) =
-      let j = p.0 in
-      let same : previous_unit k ≡ j = ap previous_unit (sym p.1) ∙ previous_unit-inside j (omega (arith, p.1)) p.2 in
-      or_right (slice_index units (next_unit k) == slice_index units k) (slice_index units (previous_unit k) == slice_index units k)
-      (eq-eqb (slice_index units (previous_unit k)) (slice_index units k) (ap (λ i. slice_index units i) same ∙ p.3))
+  partner_fills k lt (inl p) = grind (arith, nat_tests, or_left, next_unit-inside)
+  partner_fills k lt (inr p) = grind (arith, nat_tests, previous_unit-inside, or_right)
 
   pub IsPutTogether-halves : IsPutTogether units
   IsPutTogether-halves = record {
@@ -297,12 +238,7 @@ module _ (s : Sq1State) (h : IsSq1 s) where
       ]
 
   pub InHalves-valid : InHalves s.units
-  InHalves-valid = record {
-    size = h.size;
-    corners = λ p lt. h.pieces p (omega arith) ∙ corner_fills p lt;
-    edges = λ p le lt. h.pieces p lt ∙ edge_fills p le;
-    partners = valid_partner;
-  }
+  InHalves-valid = grind (arith, nat_tests, corner_fills, edge_fills, valid_partner)
 
 pub IsSq1-halves : (units : List ℕ) → InHalves units → (equator : Bool)
     → IsSq1 (record { units = units; equator = equator })

@@ -1,5 +1,6 @@
 -- Pieces that lie one behind the other, and what is read of them.
-use Rattle.std.proofs.Common.{◌≡◌, ℕ, zero, suc, ◌+◌, ◌-◌, ◌*◌, ◌<◌, ◌≤◌, ◌⊎◌, inl, inr, Bool, true, false, not, List, [], ◌∷◌, ◌++◌, map, length, slice_index, IsTrue, eqb-true, refl, sym, ap, ◌∙◌, arith}
+use Rattle.std.proofs.Common.{◌≡◌, ℕ, zero, suc, ◌+◌, ◌-◌, ◌*◌, ◌<◌, ◌≤◌, ◌⊎◌, inl, inr, Bool, true, false, not, List, [], ◌∷◌, ◌++◌, map, length, slice_index, IsTrue, refl, sym, ap, ◌∙◌, arith}
+use Rattle.std.proofs.lemmas.Bool.Decides.{nat_tests}
 use Rattle.std.specs.Prelude.{◌==◌, All, filter}
 use Rattle.std.proofs.lemmas.Bool.{cases_lt, lt-ltb, le-ltb, cond-true, cond-false}
 use Rattle.std.proofs.lemmas.List.Elements.{All-append, All-nil, All-cons, All-head, All-tail}
@@ -99,11 +100,7 @@ even_tested = refl
 
 pick-even : (xs : List ℕ) → length xs ≡ 16 → pick xs even_places ≡ every_second xs
 pick-even xs size =
-    ext_get_or 0 (pick xs even_places) (every_second xs) (sym (length-every_second 8 xs size)) (λ k lt.
-    pick-at xs even_places k lt
-    ∙ ap (λ i. slice_index xs i)
-    (eqb-true (slice_index even_places k) (2 * k) (at_below (λ k. slice_index even_places k == 2 * k) 8 k even_tested lt))
-    ∙ sym (every_second-at xs k))
+    grind (arith, nat_tests, ext_get_or, length-every_second, pick-at, at_below, even_tested, every_second-at)
 
 pub corners_of-sixteen : (units : List ℕ) → length (filter is_corner units) ≡ 16
     → corners_of units ≡ every_second (filter is_corner units)
@@ -313,11 +310,7 @@ only_unit u low h = elim (h.partners 0 (omega arith) low) [ inl p ↦ omega (ari
 -- such units are pieces that lie one behind the other
 pub LaidPieces-whole : (us : List ℕ) → IsWhole us → LaidPieces us
 LaidPieces-whole [] h = record { word = []; corners = []; edges = []; are = IsLaid-none }
-LaidPieces-whole (u ∷ []) h =
-    elim (cases_lt u 8) [
-      | inl low ↦ absurd (only_unit u low h)
-      | inr high ↦ with_edge u [] high (record { word = []; corners = []; edges = []; are = IsLaid-none })
-    ]
+LaidPieces-whole (u ∷ []) h = grind (arith, nat_tests, only_unit, with_edge, IsLaid-none)
 LaidPieces-whole (u ∷ (v ∷ us)) h =
     elim (cases_lt u 8) [
       | inl low ↦

@@ -1,5 +1,6 @@
 -- The turns of a Square-1 are lawful.
 use Rattle.std.proofs.Common.{◌≡◌, ℕ, ◌+◌, ◌%◌, ◌<◌, Bool, true, false, IsTrue, cond, List, [], ◌∷◌, length, Option, Some, None, refl, sym, ap, ◌∙◌, subst, arith}
+use Rattle.std.proofs.lemmas.Bool.Decides.{nat_tests}
 use Rattle.std.specs.Prelude.{not, ℤ, pos, neg_ℤ, ◌+ℤ◌, All, nat_lt}
 use Rattle.std.proofs.lemmas.Bool.{false≢true, cond-true, cond-false, ltb-true}
 use Rattle.std.proofs.Math.Bool.{not-not}
@@ -8,10 +9,9 @@ use Rattle.scr_combinatorics.specs.Permutations.{IsPermutation}
 use Rattle.scr_combinatorics.proofs.Picks.{pick-pick, pick-in_order}
 use Rattle.scr_combinatorics.proofs.PermutationLaws.{All-permutation, IsPermutation-numbers_from}
 use Rattle.scr_combinatorics.specs.Play.{play}
-use Rattle.scr_combinatorics.specs.Tidy.{word_of}
+use Rattle.scr_combinatorics.specs.Tidy.{word_of, IsKeptByTidy}
 use Rattle.scr_combinatorics.specs.Lawful.{IsLawful}
 use Rattle.scr_combinatorics.specs.Back.{IsTakenBack}
-use Rattle.scr_combinatorics.specs.Tidy.{IsKeptByTidy}
 use Rattle.scr_combinatorics.specs.Reach.{IsReached}
 use Rattle.scr_combinatorics.proofs.PlayLaws.{play-empty, play-one, IsReached-keeps}
 use Rattle.scr_combinatorics.proofs.BackLaws.{IsTakenBack-lawful}
@@ -85,9 +85,7 @@ pub units_turned : (s : Sq1State) (x y : ℤ) (n m : ℕ) (units : List ℕ) →
     → units ≡ pick s.units (turn_places n m)
     → (let r : Sq1State = record { units = units; equator = s.equator } in r ≡ turned s x y)
 unfolding turned
-units_turned s x y n m units e f is =
-    ap (λ us. let r : Sq1State = record { units = us; equator = s.equator } in r)
-    (is ∙ ap (λ i. pick s.units (turn_places i m)) e ∙ ap (λ i. pick s.units (turn_places (clockwise x) i)) f)
+units_turned s x y n m units e f is = grind (arith, nat_tests)
 
 pub IsSq1-turned : (s : Sq1State) (x y : ℤ) → IsSq1 s → IsTrue (is_open (turned s x y).units) → IsSq1 (turned s x y)
 unfolding turned
@@ -134,10 +132,7 @@ turned_by-none s n m size e f =
 -- turned as far as two turns go together
 turned-sum : (s : Sq1State) (x y z w : ℤ) → turned (turned s x y) z w ≡ turned s (twelfths (x +ℤ z)) (twelfths (y +ℤ w))
 unfolding turned turned_by
-turned-sum s x y z w =
-    turned-both s x y z w
-    ∙ ap (λ n. turned_by s n ((clockwise y + clockwise w) % 12)) (sym (clockwise-twelfths (x +ℤ z) ∙ clockwise-sum x z))
-    ∙ ap (λ m. turned_by s (clockwise (twelfths (x +ℤ z))) m) (sym (clockwise-twelfths (y +ℤ w) ∙ clockwise-sum y w))
+turned-sum s x y z w = grind (arith, nat_tests, turned-both, clockwise-twelfths, clockwise-sum)
 
 -- and back
 turned-back : (s : Sq1State) (x y : ℤ) → length s.units ≡ 24
@@ -188,9 +183,7 @@ unfolding word_of
 layers_merge s q x y true still tx ty h opened is =
     play-empty sq1_after s ∙ ap Some (sym (is ∙ turned-still s x y h.size (are_still-first x y still) (are_still-second x y still)))
 layers_merge s q x y false some tx ty h opened is =
-    play-one sq1_after s (Layers x y)
-    ∙ sq1_after-by_layers s x y (layers_of_parts x y (record { top_within = tx; bottom_within = ty; some = some })) (ap (λ r. is_open r.units) (sym is) ∙ opened)
-    ∙ ap Some (sym is)
+    grind (arith, nat_tests, play-one, sq1_after-by_layers, layers_of_parts)
 
 merges : (s r q : Sq1State) (t u : Turn) → IsSq1 s → IsTrue (turn_merging.alike t u) → sq1_after s t ≡ Some r
     → sq1_after r u ≡ Some q → play sq1_after s (word_of (turn_merging.merged t u)) ≡ Some q

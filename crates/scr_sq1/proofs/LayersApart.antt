@@ -1,10 +1,11 @@
 -- A turn of both layers is one of the top, and then one of the bottom: whether a corner comes across the cut in a layer
 -- is told by how far that layer is turned.
-use Rattle.std.proofs.Common.{◌≡◌, ℕ, ◌<◌, Bool, true, false, cond, List, slice_index, Option, Some, None, sym, ap, ◌∙◌, arith, lit<}
-use Rattle.std.specs.Prelude.{◌&&◌, not, ◌==◌, ℤ, pos, option_and_then}
+use Rattle.std.proofs.Common.{◌≡◌, ℕ, ◌<◌, Bool, true, false, cond, List, slice_index, Option, Some, None, sym, ap, ◌∙◌, arith}
+use Rattle.std.proofs.lemmas.Bool.Decides.{nat_tests}
+use Rattle.std.specs.Prelude.{◌&&◌, not, ℤ, pos, option_and_then}
 use Rattle.scr_combinatorics.specs.Lists.{pick}
 use Rattle.scr_combinatorics.proofs.Picks.{pick-at}
-use Rattle.scr_sq1.specs.Units.{Sq1State, IsSq1, is_corner, are_of_one_corner, is_open, clockwise, place_before, turn_places, turned, after_layers}
+use Rattle.scr_sq1.specs.Units.{Sq1State, IsSq1, are_of_one_corner, is_open, clockwise, place_before, turn_places, turned, after_layers}
 use Rattle.scr_sq1.proofs.Places.{length-places_by, places_by-at}
 use Rattle.scr_sq1.proofs.Lawful.{turned-apart}
 use Rattle.scr_sq1.proofs.InHalves.{is_open-layers, is_open-valid}
@@ -20,10 +21,7 @@ unit-turned units n m k lt =
 
 pub of_one_corner-turned : (units : List ℕ) (n m j k : ℕ) → j < 24 → k < 24
     → are_of_one_corner (pick units (turn_places n m)) j k ≡ are_of_one_corner units (place_before n m j) (place_before n m k)
-of_one_corner-turned units n m j k lj lk =
-    let us : List ℕ = pick units (turn_places n m) in
-    ap (λ u. is_corner u && (slice_index us k == u)) (unit-turned units n m j lj)
-    ∙ ap (λ v. is_corner (slice_index units (place_before n m j)) && (v == slice_index units (place_before n m j))) (unit-turned units n m k lk)
+of_one_corner-turned units n m j k lj lk = grind (arith, nat_tests, unit-turned)
 
 abbrev top_open : List ℕ → ℕ → Bool
 top_open units n =
@@ -37,17 +35,7 @@ bottom_open units m =
 
 is_open-turned : (units : List ℕ) (n m : ℕ)
     → is_open (pick units (turn_places n m)) ≡ (top_open units n && bottom_open units m)
-is_open-turned units n m =
-    let us : List ℕ = pick units (turn_places n m) in
-    let one = of_one_corner-turned units n m in
-    is_open-layers us
-    ∙ ap (λ b. (not b && not (are_of_one_corner us 5 6)) && (not (are_of_one_corner us 23 12) && not (are_of_one_corner us 17 18)))
-    (one 11 0 (lit< tt) (lit< tt))
-    ∙ ap (λ b. (not (are_of_one_corner units (place_before n m 11) (place_before n m 0)) && not b)
-    && (not (are_of_one_corner us 23 12) && not (are_of_one_corner us 17 18))) (one 5 6 (lit< tt) (lit< tt))
-    ∙ ap (λ b. top_open units n && (not b && not (are_of_one_corner us 17 18))) (one 23 12 (lit< tt) (lit< tt))
-    ∙ ap (λ b. top_open units n && (not (are_of_one_corner units (place_before n m 23) (place_before n m 12)) && not b))
-    (one 17 18 (lit< tt) (lit< tt))
+is_open-turned units n m = grind (arith, nat_tests, of_one_corner-turned, is_open-layers)
 
 -- ---- turns
 

@@ -18,3 +18,4 @@ pub mod OnLiterals
 mod Steps
 mod ShapeSteps
 mod PieceSteps
+pub mod Cited

@@ -1,7 +1,8 @@
 -- Where the pieces of each unit stood before a turn.
-use Rattle.std.proofs.Common.{◌≡◌, ℕ, suc, ◌+◌, ◌-◌, ◌%◌, ◌<◌, ◌≤◌, inl, inr, Bool, true, IsTrue, cond, List, map, length, slice_index, refl, sym, ap, ◌∙◌, arith, eqb-true, lt-ltb}
+use Rattle.std.proofs.Common.{◌≡◌, ℕ, suc, ◌+◌, ◌-◌, ◌%◌, ◌<◌, ◌≤◌, Bool, true, IsTrue, List, map, length, slice_index, refl, sym, ap, ◌∙◌, arith, eqb-true, lt-ltb}
 use Rattle.std.specs.Prelude.{◌&&◌, ◌==◌, nat_lt, if◌then◌else◌}
-use Rattle.std.proofs.lemmas.Bool.{cases_lt, and_parts, cond-true, cond-false, le-ltb, ltb-true}
+use Rattle.std.proofs.lemmas.Bool.Decides.{nat_tests}
+use Rattle.std.proofs.lemmas.Bool.{and_parts, cond-true, cond-false, le-ltb, ltb-true}
 use Rattle.std.proofs.lemmas.List.{length-map, get_or-map, ext_get_or}
 use Rattle.scr_combinatorics.specs.Lists.{numbers_from, pick}
 use Rattle.scr_combinatorics.specs.Permutations.{IsPermutation, is_permutation}
@@ -51,26 +52,12 @@ pub place_before-bottom : (n m k : ℕ) → 12 ≤ k → place_before n m k ≡ 
 place_before-bottom n m k le = cond-false (nat_lt k 12) _ _ (le-ltb k 12 le)
 
 pub place_before-lt : (n m k : ℕ) → place_before n m k < 24
-place_before-lt n m k =
-    elim (cases_lt k 12) [
-      | inl top ↦ omega (arith, place_before-top n m k top)
-      | inr bottom ↦ omega (arith, place_before-bottom n m k bottom)
-    ]
+place_before-lt n m k = grind (arith, nat_tests)
 
 -- two turns are one
 place_before-both : (n m i j k : ℕ) → n < 12 → m < 12 → i < 12 → j < 12 → k < 24
     → place_before n m (place_before i j k) ≡ place_before ((n + i) % 12) ((m + j) % 12) k
-place_before-both n m i j k ln lm li lj lt =
-    elim (cases_lt k 12) [
-      | inl top ↦
-          let p : ℕ = place_before i j k in
-          let first : p ≡ (k + (12 - i)) % 12 = place_before-top i j k top in
-          omega (arith, first, place_before-top n m p (omega arith), place_before-top ((n + i) % 12) ((m + j) % 12) k top)
-      | inr bottom ↦
-          let p : ℕ = place_before i j k in
-          let first : p ≡ 12 + (k + (12 - j)) % 12 = place_before-bottom i j k bottom in
-          omega (arith, first, place_before-bottom n m p (omega arith), place_before-bottom ((n + i) % 12) ((m + j) % 12) k bottom)
-    ]
+place_before-both n m i j k ln lm li lj lt = grind (arith, nat_tests)
 
 pub turn_places-both : (n m i j : ℕ) → n < 12 → m < 12 → i < 12 → j < 12
     → pick (turn_places n m) (turn_places i j) ≡ turn_places ((n + i) % 12) ((m + j) % 12)
@@ -170,15 +157,4 @@ all_stay = refl
 
 pub StaysInHalf-twist : (k : ℕ) → k < 24 → StaysInHalf k
 unfolding stays_in_half
-StaysInHalf-twist k lt =
-    let both = and_parts (place_before_twist k % 6 == k % 6) (cond (nat_lt (k % 6) 5) (place_before_twist (suc k) == suc (place_before_twist k)) true)
-    (at_below stays_in_half 24 k all_stay lt) in
-    let here = twist_places-at k lt in
-    record {
-      at = ap (λ i. i % 6) here ∙ eqb-true (place_before_twist k % 6) (k % 6) both.0;
-      behind = λ inside.
-          twist_places-at (suc k) (omega arith)
-          ∙ eqb-true (place_before_twist (suc k)) (suc (place_before_twist k))
-          (sym (cond-true (nat_lt (k % 6) 5) (place_before_twist (suc k) == suc (place_before_twist k)) true (lt-ltb (k % 6) 5 inside)) ∙ both.1)
-          ∙ ap suc (sym here);
-    }
+StaysInHalf-twist k lt = grind (arith, nat_tests, and_parts, at_below, all_stay, twist_places-at)

@@ -1,7 +1,8 @@
 -- The tables of the halves, and the steps of the loops over shapes.
 use Rattle.std.proofs.Common.{◌≡◌, ℕ, zero, suc, ◌+◌, ◌-◌, ◌*◌, ◌^◌, ◌<◌, ◌≤◌, IsTrue, List, [], ◌∷◌, ◌++◌, length, take, drop, get_or, set, slice_index, refl, sym, ap, ◌∙◌, subst, arith, eqb-true, lit≤}
+use Rattle.std.proofs.lemmas.Bool.Decides.{nat_tests}
 use Rattle.std.specs.Prelude.{◌==◌}
-use Rattle.std.proofs.lemmas.List.{length-drop, drop-drop, length-set, take_all, append-nil, drop_more, take_more_set, append_assoc, at_drop_more, at_drop_all}
+use Rattle.std.proofs.lemmas.List.{length-append, length-take-le, length-drop, drop-drop, length-set, take_all, append-nil, drop_more, take_more_set, append_assoc, at_drop_more, at_drop_all}
 use Rattle.std.proofs.lemmas.Nat.{pow_pos}
 use Rattle.std.proofs.Math.Nat.{pow-suc}
 use Rattle.scr_notation.specs.Ranges.{all_below}
@@ -13,6 +14,34 @@ use Rattle.scr_sq1.specs.Units.{is_corner}
 use Rattle.scr_sq1.specs.Shapes.{half_words, corner_counts, corner_bits, half_of, shape_of, ways_after, run_of, AreHalves, IsShape, halves_at, shape_number, shape_at}
 use Rattle.scr_sq1.proofs.HalfNumbers.{ways_to_have, halves_number, shape_number-halves, run_of-here, run_of-later, StartsWith-halves, halves_number-cons, numbers_before, shapes_one_to_one, ways_of_shapes, first_half, halves_at-suc}
 use Rattle.scr_sq1.proofs.HalfWords.{corner_count, half_bits, half_of-bits, halves_in, shape_of-halves}
+
+-- ---- lists that are read off, element by element
+
+-- so much of a list stands in the first places, and the rest is left
+pub record IsReadTo {A : Type 0} (places found : ℕ) (out rest whole : List A) : Type 0 where
+  pub size : length out ≡ places
+  pub few : found ≤ places
+  pub read : take found out ++ rest ≡ whole
+
+module _ {A : Type 0} (places found : ℕ) (out rest whole : List A) (r : IsReadTo places found out rest whole) where
+  -- how many are left
+  left : length whole ≡ found + length rest
+  left = omega (arith, ap length r.read, length-append (take found out) rest, length-take-le found out (omega (arith, r.few, r.size)))
+
+  pub read_room : (x : A) (more : List A) → length whole ≡ places → rest ≡ x ∷ more → found < places
+  read_room x more all e = omega (arith, all, left, ap length e)
+
+  -- one more
+  pub read_more : (x : A) (more : List A) → found < places → rest ≡ x ∷ more
+      → IsReadTo places (found + 1) (set out found x) more whole
+  read_more x more room e = grind (arith, nat_tests, length-set, take_more_set, append_assoc)
+
+  -- all of them
+  pub read_all : places ≤ found → rest ≡ [] → out ≡ whole
+  read_all le e = grind (arith, nat_tests, take_all, append-nil)
+
+  pub read_whole : length whole ≡ places → rest ≡ [] → out ≡ whole
+  read_whole all e = read_all (omega (arith, all, left, ap length e)) e
 
 -- ---- the tables
 
@@ -113,14 +142,13 @@ counted_end corners number (h ∷ left) hs c = absurd (omega (arith, c.halves.si
 
 -- so many halves are made, and so many are left
 pub record MadeHalves (place n corners rest number : ℕ) (halves : List ℕ) : Type 0 where
-  pub size : length halves ≡ 4
   pub few : corners ≤ 8
   pub below : rest < ways_to_have n corners
-  pub made : take place halves ++ halves_at n corners rest ≡ shape_at number
+  pub made : IsReadTo 4 place halves (halves_at n corners rest) (shape_at number)
 
 pub made_start : (number : ℕ) → number < 3678 → MadeHalves 0 4 8 number number (0 ∷ 0 ∷ 0 ∷ 0 ∷ [])
 unfolding shape_at
-made_start number lt = record { size = refl; few = lit≤ tt; below = omega (arith, ways_of_shapes); made = refl }
+made_start number lt = grind (arith, nat_tests, ways_of_shapes)
 
 -- one half more
 pub record MadeStep (place n corners rest h left number : ℕ) (halves : List ℕ) : Type 0 where
@@ -140,15 +168,11 @@ made_step place n corners rest h left number halves lt m eh el =
       below = omega (arith, half, f.below);
       few = subst P (sym half) f.few;
       next = record {
-        size = length-set halves place h ∙ m.size;
         few = omega (arith, m.few);
         below = subst (λ x. left < ways_to_have n (corners - corner_count x)) (sym half) (omega (arith, more, f.inside));
-        made = ap (λ xs. xs ++ halves_at n (corners - corner_count h) left) (take_more_set halves place h (omega (arith, m.size)))
-            ∙ append_assoc (take place halves) (h ∷ []) (halves_at n (corners - corner_count h) left)
-            ∙ ap (λ x. take place halves ++ x ∷ halves_at n (corners - corner_count x) left) half
-            ∙ ap (λ r. take place halves ++ f.half ∷ halves_at n (corners - corner_count f.half) r) more
-            ∙ ap (λ xs. take place halves ++ xs) (sym (halves_at-suc n corners rest f))
-            ∙ m.made;
+        made = read_more 4 place halves _ _ m.made h _ lt
+            (halves_at-suc n corners rest f ∙ ap (λ x. x ∷ halves_at n (corners - corner_count x) f.rest) (sym half)
+            ∙ ap (λ r. h ∷ halves_at n (corners - corner_count h) r) (sym more));
       };
     }
 
@@ -156,38 +180,29 @@ pub made_end : (place n corners rest number : ℕ) (halves : List ℕ) → 4 ≤
     → MadeHalves place n corners rest number halves → halves ≡ shape_at number
 unfolding halves_at
 made_end place n corners rest number halves le e m =
-    sym (take_all place halves (omega (arith, m.size))) ∙ sym (append-nil (take place halves))
-    ∙ ap (λ k. take place halves ++ halves_at k corners rest) (sym e) ∙ m.made
+    read_all 4 place halves _ _ m.made le (ap (λ k. halves_at k corners rest) e)
 
 -- ---- the shape of units
 
 -- so many halves are read, and so many are left
-pub record ReadHalves (place n : ℕ) (units halves : List ℕ) : Type 0 where
-  pub size : length halves ≡ 4
-  pub read : take place halves ++ halves_in n (drop (6 * place) units) ≡ shape_of units
+abbrev pub ReadHalves : ℕ → ℕ → List ℕ → List ℕ → Type 0
+ReadHalves place n units halves = IsReadTo 4 place halves (halves_in n (drop (6 * place) units)) (shape_of units)
 
 pub read_start : (units : List ℕ) → ReadHalves 0 4 units (0 ∷ 0 ∷ 0 ∷ 0 ∷ [])
-read_start units = record { size = refl; read = sym (shape_of-halves units) }
+read_start units = record { size = refl; few = omega arith; read = sym (shape_of-halves units) }
 
 pub read_step : (place n h : ℕ) (units halves : List ℕ) → place < 4 → ReadHalves place (suc n) units halves
     → h ≡ half_of (take 6 (drop (6 * place) units)) → ReadHalves (place + 1) n units (set halves place h)
 unfolding halves_in
-read_step place n h units halves lt r e = record {
-  size = length-set halves place h ∙ r.size;
-  read = ap (λ xs. xs ++ halves_in n (drop (6 * (place + 1)) units)) (take_more_set halves place h (omega (arith, r.size)))
-      ∙ append_assoc (take place halves) (h ∷ []) (halves_in n (drop (6 * (place + 1)) units))
-      ∙ ap (λ x. take place halves ++ x ∷ halves_in n (drop (6 * (place + 1)) units)) e
-      ∙ ap (λ us. take place halves ++ half_of (take 6 (drop (6 * place) units)) ∷ halves_in n us)
-      (ap (λ k. drop k units) {x = 6 * (place + 1)} {y = 6 * place + 6} (omega arith) ∙ sym (drop-drop 6 (6 * place) units))
-      ∙ r.read;
-}
+read_step place n h units halves lt r e =
+    read_more 4 place halves _ _ r h _ lt
+    (ap (λ x. x ∷ halves_in n (drop 6 (drop (6 * place) units))) (sym e)
+    ∙ ap (λ us. h ∷ halves_in n us) (drop-drop 6 (6 * place) units ∙ ap (λ k. drop k units) (omega arith)))
 
 pub read_end : (place n : ℕ) (units halves : List ℕ) → 4 ≤ place → n ≡ 0 → ReadHalves place n units halves
     → halves ≡ shape_of units
 unfolding halves_in
-read_end place n units halves le e r =
-    sym (take_all place halves (omega (arith, r.size))) ∙ sym (append-nil (take place halves))
-    ∙ ap (λ k. take place halves ++ halves_in k (drop (6 * place) units)) (sym e) ∙ r.read
+read_end place n units halves le e r = read_all 4 place halves _ _ r le (ap (λ k. halves_in k (drop (6 * place) units)) e)
 
 -- ---- the same at a place
 
@@ -216,10 +231,7 @@ pub counted_next : (place corners number h before count : ℕ) (hs : List ℕ) �
     → before ≡ numbers_before (3 - place) corners h → count ≡ corner_count h
     → CountedStep (3 - place) corners number h (drop (place + 1) hs) hs
     → CountedHalves (4 - (place + 1)) (corners - count) (number + before) (drop (place + 1) hs) hs
-counted_next place corners number h before count hs lt eb ec s =
-    subst (λ n. CountedHalves n (corners - count) (number + before) (drop (place + 1) hs) hs) (places_after place lt)
-    (subst (λ k. CountedHalves (3 - place) (corners - k) (number + before) (drop (place + 1) hs) hs) (sym ec)
-    (subst (λ b. CountedHalves (3 - place) (corners - corner_count h) (number + b) (drop (place + 1) hs) hs) (sym eb) s.next))
+counted_next place corners number h before count hs lt eb ec s = grind (arith, nat_tests, places_after, corner_count)
 
 pub counted_whole : (place corners number : ℕ) (hs : List ℕ) → 4 ≤ place
     → CountedHalves (4 - place) corners number (drop place hs) hs → number ≡ shape_number hs
@@ -237,9 +249,7 @@ made_at place corners rest h left number halves lt m eh el =
 pub made_next : (place corners rest h left number count : ℕ) (halves : List ℕ) → place < 4 → count ≡ corner_count h
     → MadeStep place (3 - place) corners rest h left number halves
     → MadeHalves (place + 1) (4 - (place + 1)) (corners - count) left number (set halves place h)
-made_next place corners rest h left number count halves lt ec s =
-    subst (λ n. MadeHalves (place + 1) n (corners - count) left number (set halves place h)) (places_after place lt)
-    (subst (λ k. MadeHalves (place + 1) (3 - place) (corners - k) left number (set halves place h)) (sym ec) s.next)
+made_next place corners rest h left number count halves lt ec s = grind (arith, nat_tests, places_after)
 
 pub read_next : (place h : ℕ) (units halves : List ℕ) → place < 4 → ReadHalves place (4 - place) units halves
     → h ≡ half_of (take 6 (drop (6 * place) units))

@@ -33,12 +33,14 @@ pub fn turns()
 
 /// Turns lead from a state nowhere exactly where one of them, in its place, is no turn of the event or would turn a
 /// corner across the cut.
+#[tactic(auto, using(crate::proofs::Cited::played_where_none_is_barred))]
 pub fn played_where_none_is_barred()
     ensures { (s : Sq1State) (turns : List Letter) → (play sq1_after s turns ≡ None) ↔ IsBarredAlong s turns }
 {}
 
 /// A turn of the layers takes the piece in each unit so many units on, round its layer, and leaves the equator. A twist
 /// exchanges the right halves and turns the equator, and leaves the left halves.
+#[tactic(auto, using(crate::proofs::Cited::motions), unfolding(crate::specs::Units::twisted))]
 pub fn motions()
     ensures top { (s r : Sq1State) (top bottom : ℤ) (k : ℕ) → sq1_after s (Layers top bottom) ≡ Some r → k < 12
         → slice_index r.units ((k + clockwise top) % 12) ≡ slice_index s.units k }
@@ -55,6 +57,7 @@ pub fn motions()
 {}
 
 /// Turned over, the puzzle turns as before, with the layers' amounts exchanged.
+#[tactic(auto, using(crate::proofs::TurnedOver::layers_over, crate::proofs::TurnedOver::twist_over))]
 pub fn symmetry()
     ensures layers { (s : Sq1State) (top bottom : ℤ)
         → sq1_after (turned_over_sq1 s) (Layers bottom top) ≡ option_map turned_over_sq1 (sq1_after s (Layers top bottom)) }
@@ -80,6 +83,7 @@ pub fn shapes()
 {}
 
 /// Each number below the count is that of exactly one valid state, and each valid state has exactly one.
+#[tactic(auto, using(crate::proofs::Numbering::sq1_numbering))]
 pub fn numbering()
     ensures one_to_one { IsNumbering sq1_numbered }
     ensures states { sq1_numbered.count ≡ 2 * factorial 8 * factorial 8 * shape_count }

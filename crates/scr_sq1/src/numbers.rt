@@ -13,6 +13,7 @@ use scr_rank::{MixedRadix, PermRank};
 const SQ1_BASES: [u128; 4] = [2, 40320, 40320, 3678];
 
 /// The equator, the numbers of the list of corners and of the list of edges, and the number of the shape.
+#[tactic(auto, unfolding(crate::specs::Numbers::sq1_digits))]
 fn digits_of(state: &Sq1) -> [u128; 4]
     requires { IsSq1 state.now }
     ensures { result ≡ sq1_digits state.now }
@@ -38,6 +39,7 @@ impl NumberedStates<Sq1> for Sq1Numbers {
 impl Numbering for Sq1Numbers {
     type State = Sq1;
 
+    #[tactic(auto, using(crate::proofs::Cited::state_at), unfolding(crate::specs::Numbers::sq1_of_digits))]
     fn state_at(&self, number: u128) -> Sq1 {
         let [equator, corners, edges, shape] = MixedRadix::new(SQ1_BASES).unrank(number);
         let units = units_of(
@@ -48,10 +50,12 @@ impl Numbering for Sq1Numbers {
         Sq1::of_valid(units, equator == 1)
     }
 
+    #[tactic(auto, using(crate::proofs::Numbering::state_has_four))]
     fn number_of(&self, state: &Sq1) -> u128 {
         MixedRadix::new(SQ1_BASES).rank(&digits_of(state))
     }
 
+    #[tactic(auto, using(crate::proofs::Numbering::sq1_numbering))]
     fn count(&self) -> u128 {
         MixedRadix::new(SQ1_BASES).count()
     }

@@ -35,6 +35,7 @@ const HALVES: [[bool; 6]; 13] = [
 ];
 
 /// The corners of these units in unit order.
+#[tactic(auto, using(crate::proofs::Cited::corners_in))]
 pub(crate) fn corners_in(units: &[u8; UNITS]) -> [u8; 8]
     requires { length (filter is_corner units.now) ≡ 16 }
     ensures { result ≡ corners_of units.now }
@@ -55,6 +56,7 @@ pub(crate) fn corners_in(units: &[u8; UNITS]) -> [u8; 8]
 }
 
 /// The edges of these units in unit order, edge n for piece 8 + n.
+#[tactic(auto, using(crate::proofs::Cited::edges_in))]
 pub(crate) fn edges_in(units: &[u8; UNITS]) -> [u8; 8]
     requires { length (edges_of units.now) ≡ 8 }
     ensures { result ≡ edges_of units.now }
@@ -71,6 +73,7 @@ pub(crate) fn edges_in(units: &[u8; UNITS]) -> [u8; 8]
 }
 
 /// The units of the state with this shape, these corners and these edges, each in unit order.
+#[tactic(auto, using(crate::proofs::Cited::units_of))]
 pub(crate) fn units_of(halves: &[u8; 4], corners: &[u8; 8], edges: &[u8; 8]) -> [u8; UNITS]
     requires shape { IsShape halves.now }
     requires corners { IsPermutation 8 corners.now }
@@ -81,6 +84,7 @@ pub(crate) fn units_of(halves: &[u8; 4], corners: &[u8; 8], edges: &[u8; 8]) -> 
 }
 
 /// Which pieces of a shape are corners, one half behind the other.
+#[tactic(auto, using(crate::proofs::Cited::shape_word))]
 fn shape_word(halves: &[u8; 4]) -> [bool; PIECES]
     requires { IsShape halves.now }
     ensures { result ≡ shape_word halves.now }
@@ -94,6 +98,7 @@ fn shape_word(halves: &[u8; 4]) -> [bool; PIECES]
 }
 
 /// Puts the pieces of a half behind the first `from` of a word, and tells how many there are then.
+#[tactic(auto, using(crate::proofs::Cited::with_half))]
 fn with_half(word: &mut [bool; PIECES], from: usize, half: u8) -> usize
     requires half { half < 13 }
     requires room { from + length (half_word half) ≤ 16 }

@@ -57,6 +57,7 @@ impl Shape {
 }
 
 /// The shape of a state with these units.
+#[tactic(auto, using(crate::proofs::Cited::shape_in))]
 pub(crate) fn shape_in(units: &[u8; UNITS]) -> Shape
     requires { IsShape (shape_of units.now) }
     ensures { result ≡ shape_of units.now }
@@ -69,6 +70,7 @@ pub(crate) fn shape_in(units: &[u8; UNITS]) -> Shape
 }
 
 /// The half that six units are.
+#[tactic(auto, using(crate::proofs::ShapeSteps::half_table))]
 fn half_of(units: &[u8]) -> u8
     requires { length units.now ≡ 6 }
     ensures { result ≡ half_of units.now }
@@ -77,6 +79,7 @@ fn half_of(units: &[u8]) -> u8
 }
 
 /// Which of six units are of corners, unit k as bit k.
+#[tactic(auto, using(crate::proofs::Cited::corner_bits))]
 fn corner_bits(units: &[u8]) -> usize
     requires { length units.now ≡ 6 }
     ensures value { result ≡ corner_bits units.now }
@@ -91,6 +94,7 @@ fn corner_bits(units: &[u8]) -> usize
 }
 
 /// The number of a shape in dictionary order, below 3,678.
+#[tactic(auto, using(crate::proofs::Cited::shape_number))]
 pub fn shape_number(shape: &Shape) -> u32
     ensures number { result ≡ shape_number shape.now }
     ensures below { result < 3678 }
@@ -107,6 +111,7 @@ pub fn shape_number(shape: &Shape) -> u32
 }
 
 /// The shape with a number below 3,678: the only one that has it.
+#[tactic(auto, using(crate::proofs::Cited::shape_at))]
 pub fn shape_at(number: u32) -> Shape
     requires { number < 3678 }
     ensures shape { result ≡ shape_at number }
@@ -128,6 +133,7 @@ pub fn shape_at(number: u32) -> Shape
 
 /// How many lists of halves begin with a lower half than this one, where so many others follow and there are so many
 /// corners in all.
+#[tactic(auto, using(crate::proofs::Cited::numbers_before))]
 fn numbers_before(others: usize, corners: u8, half: u8) -> u32
     requires others { others ≤ 3 }
     requires corners { corners ≤ 8 }
@@ -142,6 +148,7 @@ fn numbers_before(others: usize, corners: u8, half: u8) -> u32
 }
 
 /// With which half a list with this number begins, and the number of the others: 13 where there is no such list.
+#[tactic(auto, using(crate::proofs::Cited::first_half))]
 fn first_half(others: usize, corners: u8, number: u32) -> (u8, u32)
     requires others { others ≤ 3 }
     requires corners { corners ≤ 8 }
@@ -160,6 +167,7 @@ fn first_half(others: usize, corners: u8, number: u32) -> (u8, u32)
 }
 
 /// In how many ways so many halves can follow one that has `taken` of so many corners.
+#[tactic(auto, using(crate::proofs::Cited::ways_after))]
 fn ways_after(others: usize, corners: u8, taken: u8) -> u32
     requires others { others ≤ 3 }
     requires corners { corners ≤ 8 }

@@ -41,6 +41,7 @@ impl Model for Sq1 {
 
 impl Sq1 {
     /// The solved state.
+    #[tactic(auto, using(crate::proofs::Cited::solved))]
     pub fn solved() -> Sq1
         ensures { result ≡ solved_sq1 }
     {
@@ -122,6 +123,7 @@ impl Sq1 {
     /// The state after the layers are turned by so many twelfths, from -5 to 6, each clockwise as seen from its own side.
     /// `None` comes exactly where a corner would lie across the cut.
     #[inline]
+    #[tactic(auto, using(crate::proofs::Cited::turn))]
     pub fn turn(&self, top: i8, bottom: i8) -> Option<Sq1>
         requires top { IsTrue (is_twelfths top) }
         requires bottom { IsTrue (is_twelfths bottom) }
@@ -141,6 +143,7 @@ impl Sq1 {
 
     /// The state after the half at the right of the cut is turned over, with its part of the equator.
     #[inline]
+    #[tactic(auto, using(crate::proofs::Cited::twist), unfolding(crate::specs::Units::twisted))]
     pub fn twist(&self) -> Sq1
         ensures { result ≡ twisted self.now }
     {
@@ -152,6 +155,7 @@ impl Sq1 {
 
     /// The state after the turns of a scramble. `None` comes exactly where one of them isn't a turn of a Square-1, or
     /// is barred in its place.
+    #[tactic(auto, using(crate::proofs::Cited::play))]
     pub fn play(&self, scramble: &Scramble) -> Option<Sq1>
         ensures { result ≡ play sq1_after self.now scramble.now.turns }
     {
@@ -164,6 +168,7 @@ impl Sq1 {
 }
 
 /// The state after a letter's turn. `None` comes exactly where it isn't a turn of a Square-1, or is barred.
+#[tactic(auto, unfolding(crate::specs::Units::sq1_after))]
 fn after(state: &Sq1, letter: Turn) -> Option<Sq1>
     ensures { result ≡ sq1_after state.now letter }
 {

@@ -14,6 +14,7 @@ const TWIST: [u8; UNITS] = [
 
 /// The units after the layers are turned by so many twelfths, each clockwise as seen from its own side.
 #[inline]
+#[tactic(auto, using(crate::proofs::Cited::turned))]
 pub(crate) fn turned(units: &[u8; UNITS], top: u8, bottom: u8) -> [u8; UNITS]
     requires top { top < 12 }
     requires bottom { bottom < 12 }
@@ -24,6 +25,7 @@ pub(crate) fn turned(units: &[u8; UNITS], top: u8, bottom: u8) -> [u8; UNITS]
 
 /// The units after a twist.
 #[inline]
+#[tactic(auto, unfolding(crate::specs::Units::twist_places))]
 pub(crate) fn twisted(units: &[u8; UNITS]) -> [u8; UNITS]
     ensures { result ≡ pick units.now twist_places }
 {
@@ -32,6 +34,7 @@ pub(crate) fn twisted(units: &[u8; UNITS]) -> [u8; UNITS]
 
 /// Each unit gets the piece that stood at its place.
 #[inline]
+#[tactic(auto, using(crate::proofs::Steps::picked_by_units))]
 fn moved(units: &[u8; UNITS], places: &[u8; UNITS]) -> [u8; UNITS]
     requires { All (λ place. place < 24) places.now }
     ensures { result ≡ pick units.now places.now }

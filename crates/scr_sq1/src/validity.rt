@@ -42,6 +42,7 @@ pub(crate) fn is_open_turned(units: &[u8; UNITS], top: u8, bottom: u8) -> bool
 
 /// Whether two units are of one corner once the layers are turned so.
 #[inline]
+#[tactic(auto, using(crate::proofs::Cited::come_of_one_corner))]
 fn come_of_one_corner(units: &[u8; UNITS], top: u8, bottom: u8, unit: u8, other: u8) -> bool
     requires top { top < 12 }
     requires bottom { bottom < 12 }
@@ -68,6 +69,7 @@ pub(crate) fn has_each_piece(units: &[u8; UNITS]) -> bool
 }
 
 /// How many units a piece fills.
+#[tactic(auto, using(crate::proofs::Cited::count))]
 fn count(units: &[u8; UNITS], piece: u8) -> usize
     ensures { result ≡ occurrences piece units.now }
 {

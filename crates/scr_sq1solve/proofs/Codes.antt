@@ -252,13 +252,13 @@ parity-code xs h = ap parity (sym (opposite-again xs h)) ∙ (IsCoded-below (cod
 
 -- ---- as a coordinate
 
-pub IsListView-codes : IsListView codes_view IsOpposite (λ turn. KeepsMates turn.places)
+pub IsListView-codes : IsListView codes_view IsOpposite (λ turn. KeepsMates turn.pieces)
 unfolding pairing_of
 IsListView-codes = record {
   one_to_one = codes_one_to_one;
   turned = λ xs turn h k. record {
-    permutation = IsPermutation-pick 8 xs turn.places h.permutation k.permutation;
-    paired = pairing_of-pick xs h.permutation turn.places k.permutation ∙ ap (λ ps. carried_pairing ps turn.places) h.paired ∙ k.mates_kept;
+    permutation = IsPermutation-pick 8 xs turn.pieces h.permutation k.permutation;
+    paired = pairing_of-pick xs h.permutation turn.pieces k.permutation ∙ ap (λ ps. carried_pairing ps turn.pieces) h.paired ∙ k.mates_kept;
   };
   goal = record { permutation = IsPermutation-numbers_from 8; paired = refl };
 }
@@ -266,8 +266,8 @@ IsListView-codes = record {
 pub StaysBelow-code_lists : (letters : List (List ℕ)) → All KeepsMates letters
     → StaysBelow (projection codes_view (moves_of letters))
 StaysBelow-code_lists letters each =
-    StaysBelow-projection codes_view IsOpposite (λ turn. KeepsMates turn.places) (moves_of letters) IsListView-codes
-    (All-map (λ turn. KeepsMates turn.places) move_by letters each)
+    StaysBelow-projection codes_view IsOpposite (λ turn. KeepsMates turn.pieces) (moves_of letters) IsListView-codes
+    (All-map (λ turn. KeepsMates turn.pieces) move_by letters each)
 
 -- ---- the pieces of a code, as the code makes them
 

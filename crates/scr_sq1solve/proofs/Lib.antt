@@ -10,3 +10,4 @@ mod PairingStage
 mod HomeStage
 pub mod Lengths
 pub mod StateTables
+pub mod Cited

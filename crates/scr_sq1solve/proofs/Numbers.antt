@@ -9,7 +9,7 @@ use Rattle.scr_combinatorics.proofs.Picks.{numbers_from-at, length-numbers_from}
 use Rattle.std.specs.Option.{option_map}
 use Rattle.scr_coord.specs.Projections.{ListView, projection}
 use Rattle.scr_coord.proofs.ListViews.{IsListView}
-use Rattle.scr_orbit.specs.Orbits.{Rearrangement}
+use Rattle.scr_orbit.specs.Orbits.{Orbit}
 use Rattle.scr_notation.specs.declared.turn.Turn.{Turn}
 use Rattle.scr_sq1solve.specs.Placed.{move_by}
 use Rattle.scr_sq1solve.specs.Tables.{units_after, letters_by}
@@ -67,7 +67,7 @@ filled_more f out n x d lt e so_far =
 -- ---- lists as coordinates
 
 -- where a letter leads from the number of a list
-pub letter-after : (v : ListView) {IsList : List ℕ → Type 0} {IsTurn : Rearrangement → Type 0} → IsListView v IsList IsTurn
+pub letter-after : (v : ListView) {IsList : List ℕ → Type 0} {IsTurn : Orbit → Type 0} → IsListView v IsList IsTurn
     → (pieces_of : List ℕ → List ℕ) (letter : ℕ → List Turn) (xs : List ℕ) → IsList xs → (t : ℕ) → t < 32
     → (projection v (letters_by pieces_of letter)).after (v.number_of xs) t
     ≡ Some (v.number_of (v.turned xs (move_by (pieces_of (units_after letter t)))))

@@ -191,19 +191,19 @@ pub IsKept-quarters : IsKept quarter_word
 unfolding are_normal keep_mates same carried_pairing units_after all_below play turn_word quarter_word sq1_after after_layers turned turn_places twisted twist_places oddness corners_of edges_of shape_of half_of half_words
 IsKept-quarters = record { normal = refl; opposite = refl }
 
-IsListView-pairings : IsListView pairings_view (IsPairing 8) (λ turn. IsPermutation 8 turn.places)
+IsListView-pairings : IsListView pairings_view (IsPairing 8) (λ turn. IsPermutation 8 turn.pieces)
 unfolding pairing_of
 IsListView-pairings = record {
   one_to_one = pairings_one_to_one 4;
-  turned = λ xs turn h p. IsPairing-carried xs turn.places h p;
+  turned = λ xs turn h p. IsPairing-carried xs turn.pieces h p;
   goal = IsPairing-of (numbers_from 0 8) (IsPermutation-numbers_from 8);
 }
 
 pub StaysBelow-pairing_lists : (letters : List (List ℕ)) → All (IsPermutation 8) letters
     → StaysBelow (projection pairings_view (moves_of letters))
 StaysBelow-pairing_lists letters each =
-    StaysBelow-projection pairings_view (IsPairing 8) (λ turn. IsPermutation 8 turn.places) (moves_of letters) IsListView-pairings
-    (All-map (λ turn. IsPermutation 8 turn.places) move_by letters each)
+    StaysBelow-projection pairings_view (IsPairing 8) (λ turn. IsPermutation 8 turn.pieces) (moves_of letters) IsListView-pairings
+    (All-map (λ turn. IsPermutation 8 turn.pieces) move_by letters each)
 
 -- Corners, or edges, of normal states.
 module _ (part : Part) where

@@ -14,7 +14,7 @@ codes_view = record {
   count = 384;
   list_at = code_at;
   number_of = code_number;
-  turned = λ pieces turn. pick pieces turn.places;
+  turned = λ pieces turn. pick pieces turn.pieces;
   goal = numbers_from 0 8;
 }
 

@@ -3,7 +3,7 @@
 use Rattle.std.specs.Prelude.{◌≡◌, ℕ, ◌&&◌, Bool, false, IsTrue, List, [], map}
 use Rattle.std.specs.Option.{option_map_or}
 use Rattle.scr_combinatorics.specs.Permutations.{IsPermutation}
-use Rattle.scr_orbit.specs.Orbits.{Rearrangement}
+use Rattle.scr_orbit.specs.Orbits.{Orbit}
 use Rattle.scr_combinatorics.specs.Play.{play}
 use Rattle.scr_notation.specs.declared.turn.Turn.{Turn}
 use Rattle.scr_notation.specs.Ranges.{all_below, same}
@@ -20,10 +20,10 @@ abbrev pub pieces : Part → List ℕ → List ℕ
 pieces Corners = corners_of
 pieces Edges = edges_of
 
-abbrev pub move_by : List ℕ → Rearrangement
-move_by places = record { places = places; added = [] }
+abbrev pub move_by : List ℕ → Orbit
+move_by places = record { pieces = places; digits = [] }
 
-abbrev pub moves_of : List (List ℕ) → List Rearrangement
+abbrev pub moves_of : List (List ℕ) → List Orbit
 moves_of letters = map move_by letters
 
 -- each place gets one piece, and mates that stand opposite to each other stand so again

@@ -1,5 +1,5 @@
 -- The tables of the stages: what each is a table of, and how far it may reach.
-use Rattle.std.specs.Prelude.{ℕ, ◌+◌, ◌*◌, ◌/◌, ◌%◌, ◌==◌, Bool, false, if◌then◌else◌, List, [], ◌∷◌, map, slice_index, unwrap_or, Option, Some, None}
+use Rattle.std.specs.Prelude.{ℕ, ◌+◌, ◌*◌, ◌/◌, ◌%◌, ◌==◌, Bool, false, List, [], ◌∷◌, map, slice_index, unwrap_or, Option, Some, None}
 use Rattle.std.specs.Option.{option_map}
 use Rattle.std.specs.List.{list_any}
 use Rattle.scr_combinatorics.specs.Lists.{numbers_from, pick, total}
@@ -7,7 +7,7 @@ use Rattle.scr_combinatorics.specs.Numbered.{Numbered}
 use Rattle.scr_combinatorics.specs.Permutations.{permutation_number, permutation_at, place_of}
 use Rattle.scr_combinatorics.specs.Digits.{mixed_number, mixed_digits}
 use Rattle.scr_combinatorics.specs.Pairings.{pairing_number, pairing_at}
-use Rattle.scr_orbit.specs.Orbits.{Rearrangement}
+use Rattle.scr_orbit.specs.Orbits.{Orbit}
 use Rattle.scr_combinatorics.specs.Play.{play}
 use Rattle.scr_positions.specs.Coordinates.{Coordinate}
 use Rattle.scr_positions.specs.Indexes.{indexed_coordinate}
@@ -65,9 +65,9 @@ shapes_coordinate = lettered_coordinate shapes_numbered shape_stage squaring_sta
 unfoldable pub units_after : (ℕ → List Turn) → ℕ → List ℕ
 units_after letter n = (unwrap_or (play sq1_after solved_sq1 (letter n)) solved_sq1).units
 
-abbrev pub letters_by : (List ℕ → List ℕ) → (ℕ → List Turn) → List Rearrangement
+abbrev pub letters_by : (List ℕ → List ℕ) → (ℕ → List Turn) → List Orbit
 letters_by pieces_of letter =
-    map (λ n. let r : Rearrangement = record { places = pieces_of (units_after letter n); added = [] } in r)
+    map (λ n. let r : Orbit = record { pieces = pieces_of (units_after letter n); digits = [] } in r)
     (numbers_from 0 32)
 
 -- partners when pieces are moved, where each place gets the piece of a named place
@@ -84,7 +84,7 @@ pairings_view = record {
   count = 105;
   list_at = pairing_at 4;
   number_of = pairing_number 4;
-  turned = λ partners turn. carried_pairing partners turn.places;
+  turned = λ partners turn. carried_pairing partners turn.pieces;
   goal = mates;
 }
 

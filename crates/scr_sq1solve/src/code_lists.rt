@@ -22,6 +22,7 @@ pub(crate) struct CodeLists<'a> {
 impl<'a> CodeLists<'a> {
     /// The coordinate of 32 letters, each told by the places from which the places get their pieces, which keep mates
     /// opposite to each other.
+    #[tactic(auto, using(crate::proofs::Cited::code_lists_new))]
     pub fn new(letters: &'a [[u8; 8]; 32]) -> CodeLists<'a>
         requires { All KeepsMates letters.now }
         ensures { result.letters.now ≡ letters.now }
@@ -46,6 +47,7 @@ impl Coord for CodeLists<'_> {
         Some(code_of(&moved))
     }
 
+    #[tactic(auto, unfolding(crate::specs::Tables::code_number, crate::specs::Tables::bits_number, crate::specs::Tables::pairs_number))]
     fn is_goal(&self, position: u32) -> bool {
         position == 0
     }

@@ -19,6 +19,7 @@ pub struct DrawSq1 {
 
 impl DrawSq1 {
     /// The Square-1.
+    #[tactic(auto, using(crate::proofs::Cited::exact_draw))]
     pub fn new() -> DrawSq1 {
         DrawSq1 {}
     }

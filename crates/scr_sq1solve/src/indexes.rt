@@ -9,6 +9,7 @@ use scr_sq1::{Sq1, shape_number};
 
 /// The index in the table `shapes`, below 7,356.
 #[inline]
+#[tactic(auto, using(crate::proofs::Cited::shapes_index), unfolding(crate::specs::Tables::shapes_index, crate::specs::Stages::oddness))]
 pub(crate) fn shapes_index(state: &Sq1) -> u32
     ensures value { result ≡ shapes_index state.now }
     ensures below { result < 7356 }
@@ -28,6 +29,7 @@ pub(crate) fn pairings_index(state: &Sq1) -> u32
 }
 
 /// The index in the table `square`, below 73,728, of a normal state in which mates stand opposite to each other.
+#[tactic(auto, unfolding(crate::specs::Tables::square_index))]
 pub(crate) fn square_index(state: &Sq1) -> u32
     ensures value { result ≡ square_index state.now }
     ensures below { result < 73728 }

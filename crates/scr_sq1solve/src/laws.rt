@@ -47,6 +47,7 @@ pub fn reached(tables: &Sq1Tables)
 
 /// Two normal states in which mates stand opposite to each other have one index in `square` exactly where they are
 /// equal, up to the equator.
+#[tactic(auto, using(crate::proofs::HomeStage::index_by_units, crate::proofs::HomeStage::same_layers))]
 pub fn layers()
     ensures { (s r : Sq1State) → IsPairedSq1 s → IsPairedSq1 r
         → (square_index s ≡ square_index r) ↔ (s.units ≡ r.units) }
@@ -100,6 +101,7 @@ pub fn totals()
 /// of those of which a table speaks, a letter of the table's stage leads to one and the same number, that to which the
 /// line's coordinate leads, or is barred as it is there; and all of them are at the coordinate's goal, or none. Each
 /// number below the table's count is that of such a state.
+#[tactic(auto, using(crate::proofs::Cited::told_by_states))]
 pub fn told_by_states()
     ensures { AreLinesOf sq1_tables sq1_lines }
 {}

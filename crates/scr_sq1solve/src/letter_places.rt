@@ -39,6 +39,7 @@ fn pieces(state: &Sq1, part: Part) -> [u8; 8]
 }
 
 /// What a letter makes of the solved state, which it doesn't bar.
+#[tactic(auto, unfolding(crate::specs::Tables::units_after))]
 fn after_solved(letters: Letters, number: u8) -> Sq1
     requires { number < 144 }
     ensures { result.units ≡ units_after (letter_of letters) number }

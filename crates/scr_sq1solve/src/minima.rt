@@ -40,6 +40,7 @@ impl Moves for Sq1Moves {
     }
 
     #[inline]
+    #[tactic(auto, using(crate::proofs::Cited::turned_by_number))]
     fn after(&self, state: &Sq1, turn: u32) -> Option<Sq1> {
         state.is_valid();
         if turn == TWIST {

@@ -25,6 +25,7 @@ pub(crate) struct PairingLists<'a> {
 
 impl<'a> PairingLists<'a> {
     /// The coordinate of 32 letters, each told by the places from which the places get their pieces.
+    #[tactic(auto, using(crate::proofs::Cited::pairing_lists_new))]
     pub fn new(letters: &'a [[u8; 8]; 32]) -> PairingLists<'a>
         requires { All (IsPermutation 8) letters.now }
         ensures { result.letters.now ≡ letters.now }
@@ -50,6 +51,7 @@ impl Coord for PairingLists<'_> {
         Some(Pairing8::rank(&carried) as u32)
     }
 
+    #[tactic(auto, unfolding(scr_combinatorics::specs::Pairings::pairing_number))]
     fn is_goal(&self, position: u32) -> bool {
         position == HOME
     }

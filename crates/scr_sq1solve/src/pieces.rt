@@ -36,6 +36,7 @@ pub(crate) fn place_of(number: u8, list: &[u8; 8]) -> u8
 }
 
 /// At each place the place of the mate of the piece that stands there.
+#[tactic(auto, unfolding(crate::specs::Stages::pairing_of, crate::specs::Tables::carried_pairing))]
 pub(crate) fn pairing_of(pieces: &[u8; 8]) -> [u8; 8]
     requires { IsPermutation 8 pieces.now }
     ensures value { result ≡ pairing_of pieces.now }
@@ -45,6 +46,7 @@ pub(crate) fn pairing_of(pieces: &[u8; 8]) -> [u8; 8]
 }
 
 /// Partners when pieces are moved, where each place gets the piece of a named place.
+#[tactic(auto, using(crate::proofs::Cited::carried_pairing), unfolding(crate::specs::Tables::carried_pairing))]
 pub(crate) fn carried_pairing(partners: &[u8; 8], places: &[u8; 8]) -> [u8; 8]
     requires partners { IsPairing 8 partners.now }
     requires places { IsPermutation 8 places.now }
@@ -60,6 +62,7 @@ pub(crate) fn carried_pairing(partners: &[u8; 8], places: &[u8; 8]) -> [u8; 8]
 }
 
 /// The pieces when they are moved, where each place gets the piece of a named place.
+#[tactic(auto, using(crate::proofs::Cited::moved_pieces))]
 pub(crate) fn moved_pieces(pieces: &[u8; 8], places: &[u8; 8]) -> [u8; 8]
     requires pieces { IsPermutation 8 pieces.now }
     requires places { IsPermutation 8 places.now }
@@ -73,6 +76,7 @@ pub(crate) fn moved_pieces(pieces: &[u8; 8], places: &[u8; 8]) -> [u8; 8]
 
 /// The code of a list of pieces: for each pair of places a bit, which is 1 where the smaller place has the larger
 /// piece, and above the bits the number of the list of the pairs.
+#[tactic(auto, using(crate::proofs::Cited::code_of), unfolding(crate::specs::Tables::code_number, crate::specs::Tables::bits_number, crate::specs::Tables::pairs_number))]
 pub(crate) fn code_of(pieces: &[u8; 8]) -> u32
     requires { IsPermutation 8 pieces.now }
     ensures value { result ≡ code_number pieces.now }
@@ -95,6 +99,7 @@ fn bits_of(standing: &[u8; 4]) -> u32
 }
 
 /// The number of the list of the pairs, by the pieces on the smaller places.
+#[tactic(auto, using(crate::proofs::Cited::pairs_of))]
 fn pairs_of(standing: &[u8; 4]) -> u32
     requires { All (λ piece. piece < 8) standing.now }
     ensures value { result ≡ permutation_number (pick pair_of standing.now) }
@@ -116,6 +121,7 @@ fn larger(piece: u8) -> u32
 }
 
 /// The list of pieces with a code, below 384, in which mates stand opposite to each other.
+#[tactic(auto, using(crate::proofs::Cited::pieces_at))]
 pub(crate) fn pieces_at(code: u32) -> [u8; 8]
     requires { code < 384 }
     ensures list { result ≡ code_at code }

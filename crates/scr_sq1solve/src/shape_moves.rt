@@ -33,6 +33,7 @@ pub(crate) struct ShapeMoves {
 
 impl ShapeMoves {
     /// The moves. Only memory can be wanting.
+    #[tactic(auto, using(crate::proofs::Cited::shape_moves_build))]
     pub fn build(alloc: Global) -> Result<ShapeMoves, NoMemory> {
         let states = ShapeStates::build(alloc)?;
         Ok(ShapeMoves {
@@ -42,6 +43,7 @@ impl ShapeMoves {
 
     /// The index after a part.
     #[inline]
+    #[tactic(auto, using(crate::proofs::Cited::part_of_shape_moves))]
     fn after_part(&self, index: u32, part: u32) -> Option<u32>
         requires index { index < 7356 }
         requires part { part < 25 }
@@ -53,6 +55,7 @@ impl ShapeMoves {
 
     /// The index after the layers are turned, each by 5 twelfths less than this.
     #[inline]
+    #[tactic(auto, using(crate::proofs::Cited::turned))]
     fn turned(&self, index: u32, top: u32, bottom: u32) -> Option<u32>
         requires index { index < 7356 }
         requires top { top < 12 }
@@ -78,6 +81,7 @@ impl Coord for ShapeMoves {
     }
 
     #[inline]
+    #[tactic(auto, using(crate::proofs::Cited::shape_moves_after))]
     fn after(&self, position: u32, turn: u32) -> Option<u32> {
         let turned = self.turned(position, turn / 12, turn % 12)?;
         self.after_part(turned, TWIST)

@@ -40,6 +40,7 @@ pub(crate) struct ShapeStates {
 
 impl ShapeStates {
     /// The states. Only memory can be wanting.
+    #[tactic(auto, using(crate::proofs::Cited::shape_states_build))]
     pub fn build(alloc: Global) -> Result<ShapeStates, AllocError> {
         let mut states = Vec::with_capacity(alloc, INDEXES as usize)?;
         for index in 0..INDEXES {
@@ -50,6 +51,7 @@ impl ShapeStates {
 
     /// The state that stands for an index.
     #[inline]
+    #[tactic(auto, using(crate::proofs::Cited::state_at))]
     fn state_at(&self, index: u32) -> &Sq1
         requires { index < 7356 }
         ensures { result.now ≡ shapes_state index }
@@ -60,6 +62,7 @@ impl ShapeStates {
 
 /// The state that stands for an index: the corners are in order, and so are the edges, but for two where the index is
 /// odd.
+#[tactic(auto, using(crate::proofs::Cited::state_of))]
 fn state_of(index: u32) -> Sq1
     requires { index < 7356 }
     ensures { result ≡ shapes_state index }
@@ -96,6 +99,7 @@ impl Coord for ShapeStates {
     }
 
     #[inline]
+    #[tactic(auto, using(crate::proofs::Cited::shape_states_after))]
     fn after(&self, position: u32, turn: u32) -> Option<u32> {
         // No state bars these two, which turn nothing: of the states that would be made and numbered here, a sixth is
         // spared.

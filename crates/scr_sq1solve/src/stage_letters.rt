@@ -93,6 +93,7 @@ pub(crate) fn word_of(letters: Letters, numbers: &[u8]) -> Scramble
 }
 
 /// The word that turns the equator alone.
+#[tactic(auto, unfolding(crate::specs::Stages::turn_word))]
 pub(crate) fn equator_word() -> Scramble
     ensures { result ≡ record { event = EventSq1; turns = equator_word } }
 {
@@ -115,6 +116,7 @@ fn push_letter(word: &mut Scramble, letters: Letters, number: u8)
 }
 
 /// By how many twelfths the letter with a number turns the top and the bottom at first.
+#[tactic(auto, using(crate::proofs::Cited::first_turn), unfolding(crate::specs::Stages::quarter_word, crate::specs::Stages::squaring_letter))]
 fn first_turn(letters: Letters, number: u8) -> (i16, i16)
     requires { number < 144 }
     ensures { turn_word result.0 result.1 ≡ first_word letters number }
@@ -188,6 +190,7 @@ fn push_step(word: &mut Scramble, step: Step)
 
 /// Adds a turn of the layers by so many twelfths, of which whole turns are dropped: where none is left, there is no
 /// turn.
+#[tactic(auto, using(crate::proofs::Cited::push_layers))]
 fn push_layers(word: &mut Scramble, top: i16, bottom: i16)
     requires event { word.old.event ≡ EventSq1 }
     requires room { length word.old.turns < 160 }

@@ -74,6 +74,7 @@ fn equator_part(state: &Sq1) -> Scramble
 }
 
 /// Two words one after the other, tidied. Together they have at most 160 turns.
+#[tactic(auto, using(crate::proofs::Cited::joined))]
 fn joined(first: &Scramble, second: &Scramble) -> Scramble
     requires first { first.now.event ≡ EventSq1 }
     requires second { second.now.event ≡ EventSq1 }

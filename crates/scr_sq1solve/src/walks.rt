@@ -46,6 +46,7 @@ pub(crate) fn stage_walk<L: StageLine>(table: &LineTable<L>, state: &Sq1) -> Wal
 }
 
 /// The turns of a word of at most 25 letters, whose numbers are below 144, and where they lead.
+#[tactic(auto, using(crate::proofs::Cited::walked))]
 pub(crate) fn walked(letters: Letters, numbers: &[u8], state: &Sq1) -> Walk
     requires numbers { All (λ number. number < 144) numbers.now }
     requires few { length numbers.now ≤ 25 }

@@ -6,56 +6,58 @@ use Rattle.std.proofs.lemmas.List.Elements.{All-head, All-tail, All-weaker}
 use Rattle.scr_combinatorics.specs.Lists.{pick}
 use Rattle.scr_combinatorics.specs.Permutations.{IsPermutation}
 use Rattle.scr_combinatorics.specs.PlaceSets.{IsPlaceSetFrom, IsPlaceSet}
-use Rattle.scr_combinatorics.proofs.PermutationLaws.{All-permutation}
+use Rattle.scr_combinatorics.proofs.PermutationLaws.{All-permutation, at-permutation}
 use Rattle.scr_combinatorics.proofs.Picks.{pick-from_order}
-use Rattle.scr_orbit.specs.Orbits.{Orbit, Rearrangement, turned_orbit, added_digits, zeros}
+use Rattle.scr_orbit.specs.Orbits.{Orbit, turned_orbit, added_digits, zeros}
 use Rattle.scr_orbit.proofs.DigitLaws.{added_digits-to_zeros, All-zeros, length-zeros}
 use Rattle.scr_orbit.proofs.OrbitLaws.{places_in as places_below}
 use Rattle.scr_coord.specs.Projections.{marked_from, stands_in, turned_set}
 use Rattle.scr_coord.proofs.MarkedLaws.{IsPlaceSetFrom-marked}
 use Rattle.scr_coord.proofs.MarkedPieces.{marked-turned, IsPlaceSet-marked}
 use Rattle.scr_coord.proofs.MarkedSteps.{marked-append}
-use Rattle.scr_cube.specs.Cube333.{CubeState, CubeTurn, cube_action}
+use Rattle.scr_cube.specs.Cube333.{CubeState, cube_monoid}
 use Rattle.scr_cube.proofs.Holds.{at_each}
 use Rattle.scr_cube.proofs.Laws333.{cube_laws}
-use Rattle.scr_stages.specs.Stages.{HasNoFlips, middle_edges}
-use Rattle.scr_stages.specs.Numbers.{first_edges, second_edges, IsDominoCube}
+use Rattle.scr_stages.specs.Stages.{middle_edges}
+use Rattle.scr_stages.specs.Numbers.{first_edges, second_edges, IsUnflippedCube, IsDominoCube}
 use Rattle.scr_stages.specs.Tables.{outer_places, block_turn}
-use Rattle.scr_stages.proofs.Blocks.{at-stands_in, All-place_set, places_in, pick-append, pick-places}
+use Rattle.scr_stages.specs.Tetrads.{in_block}
+use Rattle.scr_stages.proofs.Blocks.{at-stands_in, All-place_set, places_in, pick-append}
 use Rattle.scr_stages.proofs.EdgeBlocks.{IsBehind-middle}
-use Rattle.scr_stages.proofs.KeptBlocks.{places_from-kept, All-kept}
+use Rattle.scr_stages.proofs.KeptBlocks.{kept_from-places, places_from-kept, All-kept, IsPermutation-in_block, pick-in_block}
 use Rattle.scr_stages.proofs.FiniteTests.{IsPlaceSet-own, pick-all}
-use Rattle.scr_stages.proofs.TurnFacts.{IsSliceTurn, IsDominoTurn}
 
 -- ---- digits that stay 0
 
-zeros-turned : (n m : ℕ) (o : Orbit) (r : Rearrangement) → 0 < m → IsPermutation n r.places → o.digits ≡ zeros n
-    → r.added ≡ zeros n → (turned_orbit m o r).digits ≡ zeros n
+zeros-turned : (n m : ℕ) (o r : Orbit) → 0 < m → IsPermutation n r.pieces → o.digits ≡ zeros n
+    → r.digits ≡ zeros n → (turned_orbit m o r).digits ≡ zeros n
 unfolding turned_orbit
 zeros-turned n m o r pos h e f =
-    ap (λ ds. added_digits m (pick ds r.places) r.added) e ∙ ap (added_digits m (pick (zeros n) r.places)) f
-    ∙ added_digits-to_zeros m n r.places (zeros n) (All-zeros m n pos) (h.size ∙ sym (length-zeros n))
+    ap (λ ds. added_digits m (pick ds r.pieces) r.digits) e ∙ ap (added_digits m (pick (zeros n) r.pieces)) f
+    ∙ added_digits-to_zeros m n r.pieces (zeros n) (All-zeros m n pos) (h.size ∙ sym (length-zeros n))
 
-pub HasNoFlips-turned : (c : CubeState) (r : CubeTurn) → HasNoFlips c → IsSliceTurn r
-    → HasNoFlips (cube_action.turned c r)
-HasNoFlips-turned c r e t = zeros-turned 12 2 c.edges r.edges (lit< tt) t.valid.edges.places e t.no_flips
+pub IsUnflippedCube-turned : (c r : CubeState) → IsUnflippedCube c → IsUnflippedCube r
+    → IsUnflippedCube (cube_monoid.turned c r)
+IsUnflippedCube-turned c r h t = record {
+  cube = cube_laws.kept c r h.cube t.cube;
+  no_flips = zeros-turned 12 2 c.edges r.edges (lit< tt) t.cube.edges.pieces h.no_flips t.no_flips;
+}
 
 -- ---- where marked pieces stand
 
-pub places-turned : (n m : ℕ) (block : List ℕ) (o : Orbit) (r : Rearrangement) → IsPermutation n o.pieces
-    → IsPermutation n r.places → places_in block (turned_orbit m o r).pieces ≡ turned_set (places_in block o.pieces) r
+pub places-turned : (n m : ℕ) (block : List ℕ) (o r : Orbit) → IsPermutation n o.pieces
+    → IsPermutation n r.pieces → places_in block (turned_orbit m o r).pieces ≡ turned_set (places_in block o.pieces) r
 unfolding turned_orbit
-places-turned n m block o r h k = marked-turned (stands_in block) o.pieces r (places_below n r.places o.pieces k h.size)
+places-turned n m block o r h k = marked-turned (stands_in block) o.pieces r (places_below n r.pieces o.pieces k h.size)
 
-pub IsDominoCube-turned : (c : CubeState) (r : CubeTurn) → IsDominoCube c → IsDominoTurn r
-    → IsDominoCube (cube_action.turned c r)
+pub IsDominoCube-turned : (c r : CubeState) → IsDominoCube c → IsDominoCube r → IsDominoCube (cube_monoid.turned c r)
 IsDominoCube-turned c r h t = record {
-  cube = cube_laws.valid c r h.cube t.slice.valid;
+  cube = cube_laws.kept c r h.cube t.cube;
   domino = record {
-    no_flips = HasNoFlips-turned c r h.domino.no_flips t.slice;
-    no_twists = zeros-turned 8 3 c.corners r.corners (lit< tt) t.slice.valid.corners.places h.domino.no_twists t.no_twists;
-    middle = places-turned 12 2 middle_edges c.edges r.edges h.cube.edges.pieces t.slice.valid.edges.places
-        ∙ ap (λ places. turned_set places r.edges) h.domino.middle ∙ t.middle;
+    no_flips = zeros-turned 12 2 c.edges r.edges (lit< tt) t.cube.edges.pieces h.domino.no_flips t.domino.no_flips;
+    no_twists = zeros-turned 8 3 c.corners r.corners (lit< tt) t.cube.corners.pieces h.domino.no_twists t.domino.no_twists;
+    middle = places-turned 12 2 middle_edges c.edges r.edges h.cube.edges.pieces t.cube.edges.pieces
+        ∙ ap (λ places. turned_set places r.edges) h.domino.middle ∙ t.domino.middle;
   };
 }
 
@@ -72,6 +74,9 @@ IsPlaceSet-second_edges = IsPlaceSet-own 12 4 second_edges refl refl
 
 pub IsPlaceSet-outer : IsPlaceSet 8 4 first_edges
 IsPlaceSet-outer = IsPlaceSet-own 8 4 first_edges refl refl
+
+pub IsPlaceSet-outer_places : IsPlaceSet 12 8 outer_places
+IsPlaceSet-outer_places = IsPlaceSet-own 12 8 outer_places refl refl
 
 -- ---- the edges above and below
 
@@ -123,6 +128,22 @@ module _ (c : CubeState) (d : IsDominoCube c) where
       → stands_in middle_edges (slice_index c.edges.pieces place) ≡ stands_in middle_edges place
   middle-at = places_from-kept 12 4 middle_edges IsPlaceSet-middle c.edges.pieces d.cube.edges.pieces.size d.domino.middle
 
+  -- the edges above and below are those of a solved cube
+  pub outer-kept : places_in outer_places c.edges.pieces ≡ outer_places
+  outer-kept =
+      let p = c.edges.pieces in
+      let is = d.cube.edges.pieces in
+      kept_from-places 12 8 outer_places IsPlaceSet-outer_places p is.size (λ place lt.
+      let piece = Blocks-of (slice_index p place) (at-permutation 12 p is place lt) in
+      let own = Blocks-of place lt in
+      piece.outer ∙ piece.middle ∙ ap not (middle-at place lt) ∙ sym own.middle ∙ sym own.outer)
+
+  pub IsPermutation-outer : IsPermutation 8 (in_block outer_places c.edges.pieces)
+  IsPermutation-outer = IsPermutation-in_block 12 8 outer_places IsPlaceSet-outer_places c.edges.pieces d.cube.edges.pieces outer-kept
+
+  pub IsPermutation-middle : IsPermutation 4 (in_block middle_edges c.edges.pieces)
+  IsPermutation-middle = IsPermutation-in_block 12 4 middle_edges IsPlaceSet-middle c.edges.pieces d.cube.edges.pieces d.domino.middle
+
   -- the first edges stand above and below
   pub IsPlaceSet-first_places : IsPlaceSet 8 4 (places_in first_edges c.edges.pieces)
   IsPlaceSet-first_places =
@@ -137,10 +158,10 @@ module _ (c : CubeState) (d : IsDominoCube c) where
 -- ---- turns of the edges above and below
 
 -- a set of places above and below goes to the same set by the turn of these places
-pub turned_set-outer : (set : List ℕ) (r : CubeTurn) → IsPlaceSet 8 4 set → IsDominoTurn r
+pub turned_set-outer : (set : List ℕ) (r : CubeState) → IsPlaceSet 8 4 set → IsDominoCube r
     → turned_set set (block_turn outer_places r.edges) ≡ turned_set set r.edges
 turned_set-outer set r h t =
-    let ks = r.edges.places in
-    let outer = (block_turn outer_places r.edges).places in
-    ap (places_in set) (sym (pick-from_order 8 outer (All-permutation 8 outer t.outer_places)) ∙ pick-places outer_places (pick ks outer_places) t.outer.kept)
-    ∙ sym (outer_only set ks (All-place_set 0 8 set h.increasing) t.slice.valid.edges.places t.middle)
+    let ks = r.edges.pieces in
+    let outer = in_block outer_places ks in
+    ap (places_in set) (sym (pick-from_order 8 outer (All-permutation 8 outer (IsPermutation-outer r t))) ∙ pick-in_block 12 8 outer_places IsPlaceSet-outer_places ks (outer-kept r t))
+    ∙ sym (outer_only set ks (All-place_set 0 8 set h.increasing) t.cube.edges.pieces t.domino.middle)

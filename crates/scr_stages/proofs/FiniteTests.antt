@@ -3,7 +3,7 @@
 use Rattle.std.proofs.Common.{◌≡◌, ℕ, ◌<◌, Bool, true, false, not, List, [], ◌∷◌, length, map, get_or, refl, sym, ap, ◌∙◌, subst, arith}
 use Rattle.std.specs.List.{All, list_all, range_with_len}
 use Rattle.std.proofs.lemmas.List.{get_or-map, map-id}
-use Rattle.std.proofs.lemmas.List.Elements.{All-head, All-tail, All-weaker}
+use Rattle.std.proofs.lemmas.List.Elements.{All-head, All-tail}
 use Rattle.std.proofs.lemmas.List.Sums.{AllPass-from_list_all}
 use Rattle.std.proofs.lemmas.Simd.{map-map}
 use Rattle.scr_combinatorics.specs.Lists.{numbers_from, pick}
@@ -99,11 +99,6 @@ map-same f g (x ∷ xs) h =
 -- one that undoes another on each
 pub map-back : {X Y : Type 0} (f : Y → X) (g : X → Y) (xs : List X) → All (λ x. f (g x) ≡ x) xs → map f (map g xs) ≡ xs
 map-back f g xs h = map-map f g xs ∙ map-same (λ x. f (g x)) (λ x. x) xs h ∙ map-id xs
-
--- what a test shows of each
-pub All-from_test : {X : Type 0} (p : X → Bool) (P : X → Type 0) → ((x : X) → p x ≡ true → P x) → (xs : List X)
-    → list_all p xs ≡ true → All P xs
-All-from_test p P shows xs h = All-weaker (λ x. p x ≡ true) P shows xs (AllPass-from_list_all p xs h)
 
 -- ---- lists of places
 

@@ -14,20 +14,19 @@ use Rattle.scr_combinatorics.proofs.PermutationLaws.{at-permutation, IsPermutati
 use Rattle.scr_combinatorics.proofs.PermutationNumbers.{permutations_one_to_one, IsPermutation-at, permutation_number-at, permutation_at-number}
 use Rattle.scr_combinatorics.proofs.PlaceSets.{place_set_number-injective}
 use Rattle.scr_orbit.specs.Orbits.{zeros, solved_orbit, IsZeroSumOrbit}
-use Rattle.scr_orbit.proofs.OrbitLaws.{same_orbit, IsZeroSumOrbit-solved}
+use Rattle.scr_orbit.proofs.OrbitLaws.{same_orbit, zero_sum_laws}
 use Rattle.scr_orbit.proofs.Parts.{ap_both, ap_three}
-use Rattle.scr_cube.specs.Cube333.{CubeState, CubeTurn}
+use Rattle.scr_cube.specs.Cube333.{CubeState}
 use Rattle.scr_cube.proofs.Laws333.{same_cube}
 use Rattle.scr_stages.specs.Stages.{middle_edges}
 use Rattle.scr_stages.specs.Numbers.{IsDominoCube, first_edges, second_edges, IsHalfCube, half_digits, half_cube_of_digits, half_cubes, edges_of_blocks, AreParts, ArePartNumbers}
 use Rattle.scr_stages.specs.Tetrads.{first_tetrad, second_tetrad, corner_index, corners_at, relation_of, in_block, other_places, half_corners_number, half_corners_at}
-use Rattle.scr_stages.proofs.Blocks.{places_in, pick-places, IsPermutation-order_in, pick-append, pick-arranged}
+use Rattle.scr_stages.proofs.Blocks.{places_in, pick-append, pick-arranged}
 use Rattle.scr_stages.proofs.FiniteTests.{pick-all}
-use Rattle.scr_stages.proofs.KeptBlocks.{kept_from-places, places_from-kept, kept_from-picked, in_block-picked, All-kept}
+use Rattle.scr_stages.proofs.KeptBlocks.{kept_from-places, places_from-kept, kept_from-picked, in_block-picked, IsPermutation-in_block, pick-in_block}
 use Rattle.scr_stages.proofs.EdgeBlocks.{PicksBlocks, block_places, IsPermutation-block_places, PicksBlocks-edges, IsPermutation-edges, parity-edges}
 use Rattle.scr_stages.proofs.TetradTests.{half_list, corner_index-half, corners_at-solved}
 use Rattle.scr_stages.proofs.TetradLaws.{IsPlaceSet-first, IsPlaceSet-places, relation-lt, other_places-are, first_order, label_of, label-lt, corners-relabelled}
-use Rattle.scr_stages.proofs.TurnFacts.{IsHalfTurn}
 use Rattle.scr_stages.proofs.DominoLaws.{Blocks-of, middle-at, IsPlaceSet-middle, IsPlaceSet-first_edges, IsPlaceSet-second_edges}
 use Rattle.scr_stages.proofs.StageSpaces.{same_parts, IsTetradsHome, IsTetradsHome-iff}
 
@@ -67,15 +66,6 @@ module _ (p : List ℕ) (h : IsPermutation 8 p) (same : corner_index p ≡ corne
 
 -- ---- the edges
 
--- a block that holds its own pieces
-module _ (n k : ℕ) (block xs : List ℕ) (set : IsPlaceSet n k block) (h : IsPermutation n xs) (kept : places_in block xs ≡ block) where
-  pub IsPermutation-in_block : IsPermutation k (in_block block xs)
-  IsPermutation-in_block =
-      subst (λ places. IsPermutation k (map (λ x. place_of x block) (pick xs places))) kept (IsPermutation-order_in n k block xs set h)
-
-  pub pick-in_block : pick block (in_block block xs) ≡ pick xs block
-  pick-in_block = pick-places block (pick xs block) (All-kept n k block set xs kept)
-
 pub IsTetradsHome-half : (c : CubeState) → IsHalfCube c → IsTetradsHome c
 IsTetradsHome-half c h = (IsTetradsHome-iff c h.domino).0 h.index
 
@@ -89,29 +79,24 @@ second_edges-kept c d home =
     ∙ ap_both (λ a b. not a && not b) (places_from-kept 12 4 first_edges IsPlaceSet-first_edges p is.size home place lt) (middle-at c d place lt)
     ∙ sym (Blocks-of place lt).second)
 
--- a block of four that has its own edges in each half cube, among which half turns carry them
+-- a block of four that has its own edges in each half cube
 pub record IsHalfBlock (block : List ℕ) : Type 0 where
   pub set : IsPlaceSet 12 4 block
   pub kept : (c : CubeState) → IsHalfCube c → places_in block c.edges.pieces ≡ block
-  pub turn : (r : CubeTurn) → IsHalfTurn r → places_in block r.edges.places ≡ block
 
 pub IsHalfBlock-first : IsHalfBlock first_edges
-IsHalfBlock-first =
-    record { set = IsPlaceSet-first_edges; kept = λ c h. (IsTetradsHome-half c h).first; turn = λ r t. t.first }
+IsHalfBlock-first = record { set = IsPlaceSet-first_edges; kept = λ c h. (IsTetradsHome-half c h).first }
 
 pub IsHalfBlock-second : IsHalfBlock second_edges
-IsHalfBlock-second = record {
-  set = IsPlaceSet-second_edges;
-  kept = λ c h. second_edges-kept c h.domino (IsTetradsHome-half c h).first;
-  turn = λ r t. t.second;
-}
+IsHalfBlock-second =
+    record { set = IsPlaceSet-second_edges; kept = λ c h. second_edges-kept c h.domino (IsTetradsHome-half c h).first }
 
 pub IsHalfBlock-middle : IsHalfBlock middle_edges
-IsHalfBlock-middle = record { set = IsPlaceSet-middle; kept = λ c h. h.domino.domino.middle; turn = λ r t. t.domino.middle }
+IsHalfBlock-middle = record { set = IsPlaceSet-middle; kept = λ c h. h.domino.domino.middle }
 
 module _ (block : List ℕ) (b : IsHalfBlock block) (c : CubeState) (h : IsHalfCube c) where
   pub block-order : IsPermutation 4 (in_block block c.edges.pieces)
-  block-order = IsPermutation-in_block 12 4 block c.edges.pieces b.set h.domino.cube.edges.pieces (b.kept c h)
+  block-order = IsPermutation-in_block 12 4 block b.set c.edges.pieces h.domino.cube.edges.pieces (b.kept c h)
 
   block-number : permutation_number (in_block block c.edges.pieces) < 24
   block-number = (permutations_one_to_one 4).below (in_block block c.edges.pieces) block-order
@@ -120,7 +105,7 @@ module _ (block : List ℕ) (b : IsHalfBlock block) (c : CubeState) (h : IsHalfC
   block-again = permutation_at-number 4 (in_block block c.edges.pieces) block-order
 
   block-picked : pick block (in_block block c.edges.pieces) ≡ pick c.edges.pieces block
-  block-picked = pick-in_block 12 4 block c.edges.pieces b.set h.domino.cube.edges.pieces (b.kept c h)
+  block-picked = pick-in_block 12 4 block b.set c.edges.pieces (b.kept c h)
 
 -- ---- a half cube, and its digits
 
@@ -193,7 +178,7 @@ module _ (c : CubeState) (h : IsHalfCube c) where
 pub IsZeroSum-still : (n m : ℕ) (xs : List ℕ) → 0 < m → IsPermutation n xs
     → IsZeroSumOrbit n m (record { pieces = xs; digits = zeros n })
 unfolding solved_orbit
-IsZeroSum-still n m xs pos h = record { pieces = h; digits = (IsZeroSumOrbit-solved n m pos).digits }
+IsZeroSum-still n m xs pos h = record { pieces = h; digits = (zero_sum_laws n m pos).solved.digits }
 
 -- a block has its own edges, in this order
 pub record HasBlock (edges block order : List ℕ) : Type 0 where

@@ -5,28 +5,26 @@ use Rattle.std.proofs.lemmas.List.Elements.{All-map}
 use Rattle.scr_combinatorics.specs.Lists.{numbers_from}
 use Rattle.scr_combinatorics.specs.Permutations.{IsPermutation, permutation_number, parity, permutation_at, half_at}
 use Rattle.scr_combinatorics.proofs.PermutationLaws.{IsPermutation-numbers_from, IsPermutation-pick}
-use Rattle.scr_orbit.specs.Orbits.{Rearrangement, turned_orbit}
+use Rattle.scr_orbit.specs.Orbits.{Orbit, turned_orbit}
 use Rattle.scr_positions.specs.Coordinates.{StaysBelow, Coordinate}
 use Rattle.scr_positions.specs.SearchSpaces.{positions, Follows, ShowsSame}
-use Rattle.scr_coord.specs.Projections.{pieces_view}
-use Rattle.scr_coord.proofs.ListViews.{IsListView, IsListView-pieces, StaysBelow-projection}
+use Rattle.scr_coord.proofs.ListViews.{IsListView, StaysBelow-projection}
 use Rattle.scr_cube.specs.ListedTurns.{cube_space, after_of}
 use Rattle.scr_stages.specs.Stages.{half_turns, middle_edges}
 use Rattle.scr_stages.specs.Numbers.{IsHalfCube, first_edges, second_edges, AreParts, ArePartNumbers, half_digits, half_cube_of_digits, half_cubes}
 use Rattle.scr_stages.specs.Tables.{turns_of, corners_by, edges_by, block_turn, half_corners_coordinate, half_block_coordinate, halves_coordinate}
 use Rattle.scr_stages.specs.Tetrads.{corner_index, in_block, half_corners_number, half_corners_view, half_corners_at}
-use Rattle.scr_stages.proofs.Blocks.{All-places}
-use Rattle.scr_stages.proofs.KeptBlocks.{All-kept, in_block-turned}
 use Rattle.scr_stages.proofs.ViewLaws.{Follows-listed}
-use Rattle.scr_stages.proofs.TurnFacts.{halves_turns}
+use Rattle.scr_stages.proofs.StageSpaces.{Follows-block}
+use Rattle.scr_stages.proofs.TurnFacts.{halves_turns, All-block_turns}
 use Rattle.scr_stages.proofs.TetradTests.{half_list, corner_index-half, parity-half}
-use Rattle.scr_stages.proofs.HalfCubes.{IsHalfBlock, block-order, half_corners_number-lt, half_corners_at-number, IsPermutation-in_block, IsTetradsHome-half, IsHalfBlock-first, IsHalfBlock-second, IsHalfBlock-middle, half_cubes-numbered, part_numbers, third-in, half_cube_of_four}
+use Rattle.scr_stages.proofs.HalfCubes.{IsHalfBlock, block-order, half_corners_number-lt, half_corners_at-number, IsTetradsHome-half, IsHalfBlock-first, IsHalfBlock-second, IsHalfBlock-middle, half_cubes-numbered, part_numbers, third-in, half_cube_of_four}
 use Rattle.scr_stages.proofs.HalfTurned.{corner_index-kept, halves_moves, IsHalfCube-after}
 use Rattle.std.specs.Option.{option_map}
 use Rattle.std.proofs.lemmas.Nat.{mod_below}
 use Rattle.std.proofs.lemmas.Option.{slice_get-get_or}
 use Rattle.scr_positions.specs.Moves.{Moves, moves_coordinate}
-use Rattle.scr_cube.specs.Cube333.{CubeState, cube_action}
+use Rattle.scr_cube.specs.Cube333.{CubeState, cube_monoid, solved_cube}
 use Rattle.scr_cube.proofs.Holds.{at_both}
 use Rattle.scr_stages.specs.declared.half_moves.HalfMoves.{HalfMoves}
 use Rattle.scr_stages.specs.declared.half_parts.HalfParts.{HalfParts}
@@ -38,7 +36,7 @@ pub record IsHalfList (p : List ℕ) : Type 0 where
   pub permutation : IsPermutation 8 p
   pub index : corner_index p ≡ corner_index (numbers_from 0 8)
 
-IsListView-half_corners : IsListView half_corners_view IsHalfList (λ r. IsHalfList r.places)
+IsListView-half_corners : IsListView half_corners_view IsHalfList (λ r. IsHalfList r.pieces)
 IsListView-half_corners = record {
   one_to_one = record {
     valid = λ q lt. record { permutation = (half_list q lt).permutation; index = corner_index-half q lt };
@@ -47,49 +45,38 @@ IsListView-half_corners = record {
     state_again = λ p h. half_corners_at-number p h.permutation h.index;
   };
   turned = λ p r h t. record {
-    permutation = IsPermutation-pick 8 p r.places h.permutation t.permutation;
-    index = corner_index-kept p r.places h.permutation t.permutation h.index t.index;
+    permutation = IsPermutation-pick 8 p r.pieces h.permutation t.permutation;
+    index = corner_index-kept p r.pieces h.permutation t.permutation h.index t.index;
   };
   goal = record { permutation = IsPermutation-numbers_from 8; index = refl };
 }
 
+IsHalfList-half : (c : CubeState) → IsHalfCube c → IsHalfList c.corners.pieces
+IsHalfList-half c h = record { permutation = h.domino.cube.corners.pieces; index = (IsTetradsHome-half c h).corners }
+
 pub StaysBelow-half_corners : StaysBelow half_corners_coordinate
 StaysBelow-half_corners =
-    let IsMove : Rearrangement → Type 0 = λ r. IsHalfList r.places in
+    let IsMove : Orbit → Type 0 = λ r. IsHalfList r.pieces in
     StaysBelow-projection half_corners_view IsHalfList IsMove (corners_by half_turns) IsListView-half_corners
-    (All-map IsMove (λ r. r.corners) (turns_of half_turns) (λ k d lt.
-    let turn = halves_turns k d lt in
-    record { permutation = turn.domino.slice.valid.corners.places; index = turn.index }))
+    (All-map IsMove (λ r. r.corners) (turns_of half_turns) (λ k d lt. IsHalfList-half _ (halves_turns k d lt)))
 
 pub Follows-half_corners : Follows (cube_space IsHalfCube half_turns (λ c. c.corners.pieces ≡ numbers_from 0 8))
     (positions half_corners_coordinate) (λ c. half_corners_number c.corners.pieces)
 unfolding turned_orbit
 Follows-half_corners =
-    Follows-listed halves_moves half_corners_view IsListView-half_corners (λ r. r.corners) (λ c. c.corners.pieces)
-    (λ c h. record { permutation = h.domino.cube.corners.pieces; index = (IsTetradsHome-half c h).corners }) (λ c r h t. refl)
+    Follows-listed halves_moves half_corners_view IsListView-half_corners (λ r. r.corners) (λ c. c.corners.pieces) IsHalfList-half (λ c r h t. refl)
 
 -- ---- a block of edges
 
 pub Follows-half_block : (block : List ℕ) → IsHalfBlock block
     → Follows (cube_space IsHalfCube half_turns (λ c. in_block block c.edges.pieces ≡ numbers_from 0 4))
     (positions (half_block_coordinate block)) (λ c. permutation_number (in_block block c.edges.pieces))
-unfolding turned_orbit
-Follows-half_block block b =
-    Follows-listed halves_moves (pieces_view 4) (IsListView-pieces 4) (λ r. block_turn block r.edges) (λ c. in_block block c.edges.pieces) (block-order block b)
-    (λ c r h t.
-    let ks = r.edges.places in
-    in_block-turned 12 4 block b.set c.edges.pieces ks h.domino.cube.edges.pieces.size (All-kept 12 4 block b.set ks (b.turn r t))
-    (All-places 12 4 block ks b.set t.domino.slice.valid.edges.places.size))
+Follows-half_block block b = Follows-block half_turns halves_moves (λ c h. h.domino.cube) 4 block b.set b.kept
 
 -- half turns carry its edges among its places
 pub All-half_block : (block : List ℕ) → IsHalfBlock block
-    → All (λ r. IsPermutation 4 r.places) (map (block_turn block) (edges_by half_turns))
-All-half_block block b =
-    let IsMove : Rearrangement → Type 0 = λ r. IsPermutation 4 r.places in
-    All-map IsMove (block_turn block) (edges_by half_turns)
-    (All-map (λ r. IsMove (block_turn block r)) (λ r. r.edges) (turns_of half_turns) (λ k d lt.
-    let turn = halves_turns k d lt in
-    IsPermutation-in_block 12 4 block _ b.set turn.domino.slice.valid.edges.places (b.turn _ turn)))
+    → All (λ r. IsPermutation 4 r.pieces) (map (block_turn block) (edges_by half_turns))
+All-half_block block b = All-block_turns half_turns halves_turns 4 block (block-order block b)
 
 -- ---- the parts of the half cube with a number
 
@@ -147,9 +134,9 @@ IsTarget moves q t r = (next : ℕ) → (moves_coordinate moves).after q t ≡ S
 -- a half turn leads from every cube to one
 turned_cube : (c : CubeState) (t : ℕ) → t < 6 → (d : CubeState) × (after_of half_turns c t ≡ Some d)
 turned_cube c t lt =
-    let r = get_or (turns_of half_turns) t cube_action.identity in (
-      cube_action.turned c r,
-      halves_moves.after_is c t ∙ ap (option_map (cube_action.turned c)) (slice_get-get_or (turns_of half_turns) t cube_action.identity lt),
+    let r = get_or (turns_of half_turns) t solved_cube in (
+      cube_monoid.turned c r,
+      halves_moves.after_is c t ∙ ap (option_map (cube_monoid.turned c)) (slice_get-get_or (turns_of half_turns) t solved_cube lt),
     )
 
 module _ (c d : CubeState) (half : IsHalfCube c) (t : ℕ) (lt : t < 6) (to : after_of half_turns c t ≡ Some d) where

@@ -20,8 +20,8 @@ use Rattle.scr_positions.specs.SearchSpaces.{positions, Follows}
 use Rattle.scr_positions.proofs.SearchLaws.{FindsTheSame-follows}
 use Rattle.scr_table.specs.Distances.{Distances, Measures}
 use Rattle.scr_table.proofs.FoundWords.{first_word}
-use Rattle.scr_cube.specs.Cube333.{CubeState, IsCube, CubeTurn, cube_action, cube_powers, solved_cube}
-use Rattle.scr_cube.proofs.Laws333.{IsCube-solved, lawful_cube}
+use Rattle.scr_cube.specs.Cube333.{CubeState, IsCube, cube_monoid, cube_powers, solved_cube}
+use Rattle.scr_cube.proofs.Laws333.{cube_laws, lawful_cube}
 use Rattle.scr_stages.specs.Stages.{IsHalfTurned, half_turns}
 use Rattle.scr_cube.specs.ListedTurns.{after_of}
 use Rattle.scr_stages.specs.Numbers.{IsDominoCube, first_edges, tetrads_number, IsHalfCube, half_cubes}
@@ -32,7 +32,7 @@ use Rattle.scr_positions.proofs.IndexLaws.{Follows-numbered, StaysBelow-numbered
 use Rattle.scr_coord.specs.Projections.{turned_set}
 use Rattle.scr_stages.proofs.ViewLaws.{TurnsStates, kept_by}
 use Rattle.scr_cube.proofs.ListedTurns.{after_of-is}
-use Rattle.scr_stages.proofs.TurnFacts.{after_of-turns, IsHalfTurn, All-numbers, halves_turns}
+use Rattle.scr_stages.proofs.TurnFacts.{after_of-turns, All-numbers, halves_turns}
 use Rattle.scr_stages.proofs.TetradTests.{corners_at-solved}
 use Rattle.scr_stages.proofs.TetradLaws.{corner_index-turned}
 use Rattle.scr_stages.proofs.DominoLaws.{IsDominoCube-turned, places-turned}
@@ -52,33 +52,33 @@ corner_index-kept p ks h k e f =
     ∙ ap corner_index (pick-from_order 8 ks (All-permutation 8 ks k))
     ∙ f
 
-pub IsHalfCube-turned : (c : CubeState) (r : CubeTurn) → IsHalfCube c → IsHalfTurn r
-    → IsHalfCube (cube_action.turned c r)
+pub IsHalfCube-turned : (c r : CubeState) → IsHalfCube c → IsHalfCube r → IsHalfCube (cube_monoid.turned c r)
 unfolding turned_orbit
 IsHalfCube-turned c r h t =
     let home = IsTetradsHome-half c h in
+    let other = IsTetradsHome-half r t in
     let turned = IsDominoCube-turned c r h.domino t.domino in
-    let valid = t.domino.slice.valid in
+    let valid = t.domino.cube in
     record {
       domino = turned;
-      index = (IsTetradsHome-iff (cube_action.turned c r) turned).1 (record {
-        first = places-turned 12 2 first_edges c.edges r.edges h.domino.cube.edges.pieces valid.edges.places
-            ∙ ap (λ places. turned_set places r.edges) home.first ∙ t.first;
-        corners = corner_index-kept c.corners.pieces r.corners.places h.domino.cube.corners.pieces valid.corners.places home.corners t.index;
+      index = (IsTetradsHome-iff (cube_monoid.turned c r) turned).1 (record {
+        first = places-turned 12 2 first_edges c.edges r.edges h.domino.cube.edges.pieces valid.edges.pieces
+            ∙ ap (λ places. turned_set places r.edges) home.first ∙ other.first;
+        corners = corner_index-kept c.corners.pieces r.corners.pieces h.domino.cube.corners.pieces valid.corners.pieces home.corners other.corners;
       });
     }
 
-pub halves_moves : TurnsStates cube_action.turned (turns_of half_turns) (after_of half_turns) IsHalfCube IsHalfTurn
+pub halves_moves : TurnsStates cube_monoid.turned (turns_of half_turns) (after_of half_turns) IsHalfCube
 halves_moves = record { each = halves_turns; after_is = after_of-turns half_turns (All-numbers half_turns refl); keeps = IsHalfCube-turned }
 
 pub IsHalfCube-after : (c d : CubeState) (place : ℕ) → IsHalfCube c → after_of half_turns c place ≡ Some d
     → IsHalfCube d
-IsHalfCube-after = kept_by cube_action.turned (turns_of half_turns) (after_of half_turns) IsHalfCube IsHalfTurn halves_moves
+IsHalfCube-after = kept_by halves_moves
 
 pub IsHalfCube-solved : IsHalfCube solved_cube
 unfolding solved_cube solved_orbit
 IsHalfCube-solved =
-    record { domino = record { cube = IsCube-solved; domino = record { no_flips = refl; no_twists = refl; middle = refl } }; index = refl }
+    record { domino = record { cube = cube_laws.solved; domino = record { no_flips = refl; no_twists = refl; middle = refl } }; index = refl }
 
 -- so what half turns reach is such a cube
 pub IsHalfCube-half_turned : (c : CubeState) → IsHalfTurned c → IsHalfCube c

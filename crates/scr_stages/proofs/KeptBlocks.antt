@@ -13,7 +13,7 @@ use Rattle.scr_coord.specs.Projections.{marked_places, stands_in}
 use Rattle.scr_coord.proofs.MarkedLaws.{marked-own, marked-same}
 use Rattle.scr_coord.proofs.MarkedPieces.{marked-map}
 use Rattle.scr_stages.specs.Tetrads.{in_block}
-use Rattle.scr_stages.proofs.Blocks.{All-stands_in, occurs-stands_in, place_of-own, pick-places, places_in, stands_in-places, All-marked, All-place_set}
+use Rattle.scr_stages.proofs.Blocks.{IsPermutation-order_in, All-stands_in, occurs-stands_in, place_of-own, pick-places, places_in, stands_in-places, All-marked, All-place_set, All-places}
 use Rattle.scr_stages.proofs.FiniteTests.{map-back, map-same, pick-all}
 
 -- places whose pieces are marked where places are
@@ -44,6 +44,15 @@ module _ (n k : ℕ) (block : List ℕ) (set : IsPlaceSet n k block) where
   All-kept xs kept =
       subst (λ places. All (λ x. stands_in block x ≡ true) (pick xs places)) kept
       (All-map (λ x. stands_in block x ≡ true) (slice_index xs) (places_in block xs) (All-marked (stands_in block) xs))
+
+  -- which are told by a permutation
+  pub IsPermutation-in_block : (xs : List ℕ) → IsPermutation n xs → places_in block xs ≡ block
+      → IsPermutation k (in_block block xs)
+  IsPermutation-in_block xs h kept =
+      subst (λ places. IsPermutation k (map (λ x. place_of x block) (pick xs places))) kept (IsPermutation-order_in n k block xs set h)
+
+  pub pick-in_block : (xs : List ℕ) → places_in block xs ≡ block → pick block (in_block block xs) ≡ pick xs block
+  pick-in_block xs kept = pick-places block (pick xs block) (All-kept xs kept)
 
   -- Pieces that are picked from the block by a permutation are told by that.
   pub in_block-picked : (xs order : List ℕ) → IsPermutation k order → pick xs block ≡ pick block order
@@ -92,10 +101,11 @@ module _ (n k : ℕ) (block : List ℕ) (set : IsPlaceSet n k block) where
         stands_by place lt (stands_in block (slice_index xs place)) (stands_in block place) refl refl)
 
   -- a turn that carries the pieces at the places of the block among these
-  pub in_block-turned : (xs ks : List ℕ) → length xs ≡ n → All (λ x. stands_in block x ≡ true) (pick ks block)
-      → All (λ place. place < length ks) block
+  pub in_block-turned : (xs ks : List ℕ) → length xs ≡ n → length ks ≡ n → places_in block ks ≡ block
       → in_block block (pick xs ks) ≡ pick (in_block block xs) (in_block block ks)
-  in_block-turned xs ks size kept below =
+  in_block-turned xs ks size ks_size carried =
+      let kept = All-kept ks carried in
+      let below = All-places n k block ks set ks_size in
       let tell : ℕ → ℕ = λ x. place_of x block in
       let places = in_block block ks in
       let inside : All (λ j. j < length block) places =

@@ -1,10 +1,11 @@
 -- The numbers of cubes go along with the turns of their stages.
-use Rattle.std.proofs.Common.{◌≡◌, ℕ, ◌+◌, ◌*◌, ◌<◌, List, length, refl, sym, ◌∙◌, lit<, arith}
+use Rattle.std.proofs.Common.{◌≡◌, ℕ, ◌+◌, ◌*◌, ◌<◌, List, map, length, refl, sym, ◌∙◌, lit<, arith}
 use Rattle.std.specs.Prelude.{All, ◌↔◌}
 use Rattle.std.proofs.Math.Nat.{mul_comm}
 use Rattle.std.proofs.lemmas.Nat.{same_from_place}
 use Rattle.std.proofs.lemmas.List.{length-map}
 use Rattle.scr_combinatorics.specs.Lists.{numbers_from}
+use Rattle.scr_combinatorics.specs.Permutations.{permutation_number}
 use Rattle.scr_combinatorics.specs.PlaceSets.{IsPlaceSet, place_set_number}
 use Rattle.scr_combinatorics.specs.Twists.{twists_number}
 use Rattle.scr_combinatorics.proofs.PlaceSets.{place_set_number-lt, place_set_number-injective}
@@ -13,29 +14,30 @@ use Rattle.scr_orbit.proofs.Parts.{ap_both}
 use Rattle.scr_positions.specs.Products.{product_coordinate}
 use Rattle.scr_positions.specs.SearchSpaces.{positions, Follows}
 use Rattle.scr_positions.proofs.ProductLaws.{Follows-product}
-use Rattle.scr_coord.specs.Projections.{projection, twists_view, place_set_view, stands_in}
-use Rattle.scr_coord.proofs.ListViews.{IsListView-twists, IsListView-place_sets}
+use Rattle.scr_coord.specs.Projections.{projection, twists_view, place_set_view, pieces_view, stands_in}
+use Rattle.scr_coord.proofs.ListViews.{IsListView-twists, IsListView-place_sets, IsListView-pieces}
 use Rattle.scr_coord.proofs.MarkedPieces.{IsPlaceSet-marked}
-use Rattle.scr_cube.specs.Cube333.{CubeState, IsCube, IsCubeTurn, cube_action, solved_cube}
+use Rattle.scr_cube.specs.Cube333.{CubeState, IsCube, cube_monoid, solved_cube}
 use Rattle.scr_cube.proofs.Laws333.{cube_laws}
 use Rattle.scr_stages.specs.Stages.{HasNoFlips, IsUntwisted, IsInMiddle, IsDomino, middle_edges, slice_turns, domino_turns}
 use Rattle.scr_cube.specs.ListedTurns.{after_of, cube_space, turn_numbers}
 use Rattle.scr_stages.specs.Numbers.{flips_number, slice_number, first_edges, tetrads_number, IsUnflippedCube, IsDominoCube}
 use Rattle.scr_stages.specs.SearchTables.{flips_table, slice_table, tetrads_table}
 use Rattle.scr_stages.specs.Tables.{turns_of, corners_by, edges_by, block_turn, outer_places, flips_coordinate, slice_coordinate, tetrads_coordinate}
-use Rattle.scr_stages.specs.Tetrads.{corner_index, tetrads_view}
+use Rattle.scr_stages.specs.Tetrads.{corner_index, in_block, tetrads_view}
 use Rattle.scr_stages.proofs.Blocks.{places_in}
+use Rattle.scr_stages.proofs.KeptBlocks.{IsPermutation-in_block, in_block-turned}
 use Rattle.scr_stages.proofs.ViewLaws.{TurnsStates, kept_by, Follows-viewed, Follows-listed, Follows-goals, Follows-fewer}
-use Rattle.scr_stages.proofs.TurnFacts.{after_of-turns, All-turns, IsSliceTurn, IsDominoTurn, flips_numbers, slice_numbers, slice_each, tetrads_numbers, tetrads_each}
+use Rattle.scr_stages.proofs.TurnFacts.{after_of-turns, All-turns, flips_numbers, slice_numbers, slice_each, tetrads_numbers, tetrads_each}
 use Rattle.scr_stages.proofs.TetradLaws.{corner_index-lt, corner_index-turned}
-use Rattle.scr_stages.proofs.DominoLaws.{HasNoFlips-turned, places-turned, IsDominoCube-turned, IsPlaceSet-middle, IsPlaceSet-outer, IsPlaceSet-first_places, turned_set-outer}
+use Rattle.scr_stages.proofs.DominoLaws.{IsUnflippedCube-turned, places-turned, IsDominoCube-turned, IsPlaceSet-middle, IsPlaceSet-outer, IsPlaceSet-first_places, turned_set-outer}
 
 -- ---- all cubes, by any turns
 
 pub cube_moves : (numbers : List ℕ) → All (λ t. t < 18) numbers
-    → TurnsStates cube_action.turned (turns_of numbers) (after_of numbers) IsCube IsCubeTurn
+    → TurnsStates cube_monoid.turned (turns_of numbers) (after_of numbers) IsCube
 cube_moves numbers below =
-    record { each = All-turns numbers below; after_is = after_of-turns numbers below; keeps = cube_laws.valid }
+    record { each = All-turns numbers below; after_is = after_of-turns numbers below; keeps = cube_laws.kept }
 
 pub IsPlaceSet-middle_places : (c : CubeState) → IsCube c → IsPlaceSet 12 4 (places_in middle_edges c.edges.pieces)
 IsPlaceSet-middle_places c h = IsPlaceSet-marked 12 4 (stands_in middle_edges) c.edges.pieces h.edges.pieces refl
@@ -62,7 +64,7 @@ module _ (numbers : List ℕ) (below : All (λ t. t < 18) numbers) where
   Follows-middle_by =
       Follows-listed (cube_moves numbers below) (place_set_view 12 4 middle_edges) (IsListView-place_sets 12 4 middle_edges IsPlaceSet-middle) (λ r. r.edges)
       (λ c. places_in middle_edges c.edges.pieces) IsPlaceSet-middle_places
-      (λ c r h t. places-turned 12 2 middle_edges c.edges r.edges h.edges.pieces t.edges.places)
+      (λ c r h t. places-turned 12 2 middle_edges c.edges r.edges h.edges.pieces t.edges.pieces)
 
   -- the twists beside the middle layer
   pub Follows-twists_beside : Follows (cube_space IsCube numbers (λ c. IsUntwisted c × IsInMiddle c))
@@ -76,6 +78,22 @@ module _ (numbers : List ℕ) (below : All (λ t. t < 18) numbers) where
       same_turns : length (edges_by numbers) ≡ length (corners_by numbers)
       same_turns = length-map (turns_of numbers) (λ r. r.edges) ∙ sym (length-map (turns_of numbers) (λ r. r.corners))
 
+-- ---- the edges of a block
+
+-- The list of the edges of a block, which each of these cubes has at its own places.
+pub Follows-block : {IsValid : CubeState → Type 0} (numbers : List ℕ)
+    → TurnsStates cube_monoid.turned (turns_of numbers) (after_of numbers) IsValid → ((c : CubeState) → IsValid c → IsCube c)
+    → (k : ℕ) (block : List ℕ) → IsPlaceSet 12 k block
+    → ((c : CubeState) → IsValid c → places_in block c.edges.pieces ≡ block)
+    → Follows (cube_space IsValid numbers (λ c. in_block block c.edges.pieces ≡ numbers_from 0 k))
+    (positions (projection (pieces_view k) (map (λ r. block_turn block r.edges) (turns_of numbers))))
+    (λ c. permutation_number (in_block block c.edges.pieces))
+unfolding turned_orbit
+Follows-block numbers moves cube k block set kept =
+    Follows-listed moves (pieces_view k) (IsListView-pieces k) (λ r. block_turn block r.edges) (λ c. in_block block c.edges.pieces)
+    (λ c h. IsPermutation-in_block 12 k block set c.edges.pieces (cube c h).edges.pieces (kept c h))
+    (λ c r h t. in_block-turned 12 k block set c.edges.pieces r.edges.pieces (cube c h).edges.pieces.size (cube r t).edges.pieces.size (kept r t))
+
 -- ---- the first two stages
 
 pub Follows-flips : Follows flips_table.space (positions flips_coordinate) flips_number
@@ -84,13 +102,8 @@ Follows-flips = Follows-flips_by turn_numbers flips_numbers
 pub Follows-slice : Follows slice_table.space (positions slice_coordinate) slice_number
 Follows-slice = Follows-twists_beside slice_turns slice_numbers
 
-unflipped_moves : TurnsStates cube_action.turned (turns_of slice_turns) (after_of slice_turns)
-    IsUnflippedCube IsSliceTurn
-unflipped_moves = record {
-  each = slice_each;
-  after_is = after_of-turns slice_turns slice_numbers;
-  keeps = λ c r h t. record { cube = cube_laws.valid c r h.cube t.valid; no_flips = HasNoFlips-turned c r h.no_flips t };
-}
+unflipped_moves : TurnsStates cube_monoid.turned (turns_of slice_turns) (after_of slice_turns) IsUnflippedCube
+unflipped_moves = record { each = slice_each; after_is = after_of-turns slice_turns slice_numbers; keeps = IsUnflippedCube-turned }
 
 -- without flips it leads to dominoes
 pub Follows-unflipped : Follows (cube_space IsUnflippedCube slice_turns IsDomino) (positions slice_coordinate)
@@ -101,17 +114,12 @@ Follows-unflipped =
     Follows-goals IsUnflippedCube IsHome IsDomino after slice_coordinate slice_number
     (λ c h. (λ d. (d.no_twists, d.middle), λ d. record { no_flips = h.no_flips; no_twists = d.0; middle = d.1 }))
     (Follows-fewer IsCube IsUnflippedCube IsHome after slice_coordinate slice_number (λ c h. h.cube)
-    (kept_by cube_action.turned (turns_of slice_turns) after IsUnflippedCube IsSliceTurn unflipped_moves)
-    Follows-slice)
+    (kept_by unflipped_moves) Follows-slice)
 
 -- ---- dominoes
 
-pub tetrads_moves : TurnsStates cube_action.turned (turns_of domino_turns) (after_of domino_turns) IsDominoCube IsDominoTurn
-tetrads_moves = record {
-  each = tetrads_each;
-  after_is = after_of-turns domino_turns tetrads_numbers;
-  keeps = IsDominoCube-turned;
-}
+pub tetrads_moves : TurnsStates cube_monoid.turned (turns_of domino_turns) (after_of domino_turns) IsDominoCube
+tetrads_moves = record { each = tetrads_each; after_is = after_of-turns domino_turns tetrads_numbers; keeps = IsDominoCube-turned }
 
 -- the first edges and the corners are as in a solved cube, but for half turns
 pub record IsTetradsHome (c : CubeState) : Type 0 where
@@ -148,12 +156,12 @@ Follows-tetrads =
     let first = Follows-listed tetrads_moves (place_set_view 8 4 first_edges) (IsListView-place_sets 8 4 first_edges IsPlaceSet-outer)
     (λ r. block_turn outer_places r.edges) (λ c. places_in first_edges c.edges.pieces) IsPlaceSet-first_places
     (λ c r h t.
-    places-turned 12 2 first_edges c.edges r.edges h.cube.edges.pieces t.slice.valid.edges.places
+    places-turned 12 2 first_edges c.edges r.edges h.cube.edges.pieces t.cube.edges.pieces
     ∙ sym (turned_set-outer (places_in first_edges c.edges.pieces) r (IsPlaceSet-first_places c h) t)) in
-    let corners = Follows-viewed cube_action.turned (turns_of domino_turns) after IsDominoCube IsDominoTurn tetrads_moves tetrads_view
-    (λ r. r.corners) (λ c. corner_index c.corners.pieces) (λ c. corner_index c.corners.pieces ≡ corner_index (numbers_from 0 8))
+    let corners = Follows-viewed tetrads_moves tetrads_view (λ r. r.corners)
+    (λ c. corner_index c.corners.pieces) (λ c. corner_index c.corners.pieces ≡ corner_index (numbers_from 0 8))
     (λ c h. corner_index-lt c.corners.pieces h.cube.corners.pieces)
-    (λ c r h t. corner_index-turned c.corners.pieces r.corners.places h.cube.corners.pieces t.slice.valid.corners.places)
+    (λ c r h t. corner_index-turned c.corners.pieces r.corners.pieces h.cube.corners.pieces t.cube.corners.pieces)
     (λ c h. (λ e. e, λ e. e)) in
     Follows-goals IsDominoCube _ (λ c. tetrads_number c ≡ tetrads_number solved_cube) after tetrads_coordinate tetrads_number
     (λ c h. (

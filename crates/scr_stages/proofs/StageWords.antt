@@ -6,7 +6,7 @@ use Rattle.scr_combinatorics.specs.Lists.{pick}
 use Rattle.scr_combinatorics.specs.Permutations.{IsPermutation}
 use Rattle.scr_combinatorics.proofs.PermutationLaws.{IsPermutation-pick}
 use Rattle.scr_combinatorics.proofs.PlayLaws.{map-some}
-use Rattle.scr_orbit.specs.Orbits.{Rearrangement}
+use Rattle.scr_orbit.specs.Orbits.{Orbit}
 use Rattle.scr_orbit.proofs.PowerLaws.{All-got}
 use Rattle.scr_positions.specs.Coordinates.{StaysBelow}
 use Rattle.scr_positions.specs.SearchSpaces.{positions, Follows}
@@ -20,7 +20,8 @@ use Rattle.scr_stages.specs.Numbers.{flips_number, slice_number, tetrads_number,
 use Rattle.scr_stages.specs.SearchTables.{flips_table, slice_table, tetrads_table}
 use Rattle.scr_stages.specs.Tables.{turns_of, corners_by, edges_by, outer_places, block_turn, flips_coordinate, slice_coordinate, tetrads_coordinate, halves_line}
 use Rattle.scr_stages.specs.Tetrads.{corner_index, corners_at, tetrads_view}
-use Rattle.scr_stages.proofs.TurnFacts.{tetrads_each}
+use Rattle.scr_stages.proofs.DominoLaws.{IsPermutation-outer}
+use Rattle.scr_stages.proofs.TurnFacts.{tetrads_each, All-block_turns}
 use Rattle.scr_stages.proofs.TetradTests.{corners_indexed}
 use Rattle.scr_stages.proofs.TetradLaws.{corner_index-lt}
 use Rattle.scr_stages.proofs.ViewLaws.{Follows-goals, StaysBelow-each}
@@ -43,19 +44,15 @@ StaysBelow-tetrads = StaysBelow-each tetrads_table.space tetrads_coordinate tetr
 
 pub StaysBelow-corners : StaysBelow (projection tetrads_view (corners_by domino_turns))
 StaysBelow-corners p t q at turn e =
-    let IsMove : Rearrangement → Type 0 = λ r. IsPermutation 8 r.places in
-    let moves = All-map IsMove (λ r. r.corners) (turns_of domino_turns) (λ k d lt. (tetrads_each k d lt).slice.valid.corners.places) in
-    let found = map-some (λ r. corner_index (pick (corners_at p) r.places)) (slice_get (corners_by domino_turns) t) q e in
+    let IsMove : Orbit → Type 0 = λ r. IsPermutation 8 r.pieces in
+    let moves = All-map IsMove (λ r. r.corners) (turns_of domino_turns) (λ k d lt. (tetrads_each k d lt).cube.corners.pieces) in
+    let found = map-some (λ r. corner_index (pick (corners_at p) r.pieces)) (slice_get (corners_by domino_turns) t) q e in
     let made =
-    IsPermutation-pick 8 (corners_at p) found.0.places (corners_indexed p at).permutation (All-got IsMove (corners_by domino_turns) t found.0 moves found.1) in
-    subst (λ k. k < 420) found.2 (corner_index-lt (pick (corners_at p) found.0.places) made)
+    IsPermutation-pick 8 (corners_at p) found.0.pieces (corners_indexed p at).permutation (All-got IsMove (corners_by domino_turns) t found.0 moves found.1) in
+    subst (λ k. k < 420) found.2 (corner_index-lt (pick (corners_at p) found.0.pieces) made)
 
-pub outer_moves : All (λ r. IsPermutation 8 r.places) (map (block_turn outer_places) (edges_by domino_turns))
-outer_moves =
-    let IsMove : Rearrangement → Type 0 = λ r. IsPermutation 8 r.places in
-    let IsOuter : Rearrangement → Type 0 = λ r. IsMove (block_turn outer_places r) in
-    All-map IsMove (block_turn outer_places) (edges_by domino_turns)
-    (All-map IsOuter (λ r. r.edges) (turns_of domino_turns) (λ k d lt. (tetrads_each k d lt).outer_places))
+pub outer_moves : All (λ r. IsPermutation 8 r.pieces) (map (block_turn outer_places) (edges_by domino_turns))
+outer_moves = All-block_turns domino_turns tetrads_each 8 outer_places IsPermutation-outer
 
 -- ---- dominoes, where the halves are measured
 

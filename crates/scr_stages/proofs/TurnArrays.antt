@@ -1,55 +1,55 @@
--- Turns in arrays: what they are is told by the list of their rearrangements.
+-- Turns in arrays: what they are is told by what they make of the solved orbit.
 use Rattle.std.proofs.Common.{◌≡◌, ℕ, ◌<◌, ◌≤◌, List, [], map, length, get_or, refl, sym, ap, ◌∙◌, subst, arith}
 use Rattle.std.specs.Prelude.{All, slice_index_or}
 use Rattle.std.proofs.lemmas.List.{length-map, get_or-map}
 use Rattle.std.proofs.lemmas.List.Elements.{All-map}
 use Rattle.std.proofs.lemmas.Simd.{map-map}
 use Rattle.scr_combinatorics.specs.Lists.{numbers_from}
-use Rattle.scr_orbit.specs.Actions.{all_powers, power}
-use Rattle.scr_orbit.specs.Orbits.{IsZeroSumRearrangement, Rearrangement, added_digits, composed, identity}
+use Rattle.scr_orbit.specs.Monoids.{all_powers, power}
+use Rattle.scr_orbit.specs.Orbits.{IsZeroSumOrbit, Orbit, added_digits, turned_orbit, solved_orbit}
 use Rattle.scr_orbit.specs.declared.placed.PlaceTurn.{PlaceTurn}
-use Rattle.scr_orbit.specs.PlaceTurns.{rearrangement_of}
+use Rattle.scr_orbit.specs.PlaceTurns.{made_by}
 use Rattle.scr_orbit.specs.PowerPuzzles.{all_turns}
 use Rattle.scr_coord.specs.Projections.{AreTurns}
 use Rattle.scr_coord.proofs.ProjectionLaws.{AreTurns-places}
-use Rattle.scr_cube.specs.Cube333.{CubeTurn, IsCubeTurn, cube_action, cube_powers}
+use Rattle.scr_cube.specs.Cube333.{CubeState, IsCube, cube_powers, solved_cube}
 use Rattle.scr_cube.proofs.ListedTurns.{length-turns}
 use Rattle.scr_stages.specs.Tables.{block_turn, block_turns, turns_of}
 use Rattle.scr_stages.specs.Turned.{AreTurned}
 use Rattle.scr_stages.proofs.FiniteTests.{at_element, map-same}
 use Rattle.scr_stages.proofs.TurnFacts.{All-turns}
 
-pub AreTurns-moves : {n : ℕ} (IsMove : Rearrangement → Type 0) (turns : List (PlaceTurn n)) (moves : List Rearrangement)
-    → map rearrangement_of turns ≡ moves → All IsMove moves → (number : ℕ) → length moves ≡ number → 1 ≤ number
-    → number ≤ 256 → AreTurns (λ turn. IsMove (rearrangement_of turn)) turns
+pub AreTurns-moves : {n : ℕ} (IsMove : Orbit → Type 0) (turns : List (PlaceTurn n)) (moves : List Orbit)
+    → map made_by turns ≡ moves → All IsMove moves → (number : ℕ) → length moves ≡ number → 1 ≤ number
+    → number ≤ 256 → AreTurns (λ turn. IsMove (made_by turn)) turns
 AreTurns-moves IsMove turns moves e each number count some few =
-    let size : length turns ≡ length moves = sym (length-map turns rearrangement_of) ∙ ap length e in
+    let size : length turns ≡ length moves = sym (length-map turns made_by) ∙ ap length e in
     record {
       some = omega (arith, size, count);
       few = omega (arith, size, count);
       each = λ k d lt.
-          subst IsMove (ap (λ rs. get_or rs k (rearrangement_of d)) (sym e) ∙ get_or-map rearrangement_of turns k d (rearrangement_of d) lt)
-          (each k (rearrangement_of d) (omega (arith, size)));
+          subst IsMove (ap (λ rs. get_or rs k (made_by d)) (sym e) ∙ get_or-map made_by turns k d (made_by d) lt)
+          (each k (made_by d) (omega (arith, size)));
     }
 
-pub length-turned : (part : CubeTurn → Rearrangement) (numbers : List ℕ)
+pub length-turned : (part : CubeState → Orbit) (numbers : List ℕ)
     → length (map part (turns_of numbers)) ≡ length numbers
-length-turned part numbers = length-map (turns_of numbers) part ∙ length-map numbers (λ t. slice_index_or (all_turns cube_powers) t cube_action.identity)
+length-turned part numbers = length-map (turns_of numbers) part ∙ length-map numbers (λ t. slice_index_or (all_turns cube_powers) t solved_cube)
 
 -- ---- turns of a block by numbers
 
-module _ (part : CubeTurn → Rearrangement) (block : List ℕ) (numbers : List ℕ) (below : All (λ t. t < 18) numbers) where
-  abbrev numbered : ℕ → CubeTurn
-  numbered t = slice_index_or (all_turns cube_powers) t cube_action.identity
+module _ (part : CubeState → Orbit) (block : List ℕ) (numbers : List ℕ) (below : All (λ t. t < 18) numbers) where
+  abbrev numbered : ℕ → CubeState
+  numbered t = slice_index_or (all_turns cube_powers) t solved_cube
 
-  abbrev still : Rearrangement
-  still = record { places = []; added = [] }
+  abbrev still : Orbit
+  still = record { pieces = []; digits = [] }
 
   pub block_turns-parts : block_turns block (map part (all_turns cube_powers)) numbers ≡ map (block_turn block) (map part (turns_of numbers))
   block_turns-parts =
       map-same (λ t. block_turn block (slice_index_or (map part (all_turns cube_powers)) t still)) (λ t. block_turn block (part (numbered t))) numbers
       (λ k d lt.
-      ap (block_turn block) (get_or-map part (all_turns cube_powers) (get_or numbers k d) cube_action.identity still (omega (arith, length-turns, below k d lt))))
+      ap (block_turn block) (get_or-map part (all_turns cube_powers) (get_or numbers k d) solved_cube still (omega (arith, length-turns, below k d lt))))
       ∙ sym (map-map (block_turn block) part (turns_of numbers) ∙ map-map (λ r. block_turn block (part r)) numbered numbers)
 
   -- where what turns do to the places of a block is all that they do
@@ -59,33 +59,33 @@ module _ (part : CubeTurn → Rearrangement) (block : List ℕ) (numbers : List 
       map-map (block_turn block) part (turns_of numbers)
       ∙ map-same (λ r. block_turn block (part r)) part (turns_of numbers)
       (All-map (λ r. block_turn block (part r) ≡ part r) numbered numbers (λ k d lt.
-      at_element (λ r. block_turn block (part r)) part (all_turns cube_powers) whole (get_or numbers k d) cube_action.identity
+      at_element (λ r. block_turn block (part r)) part (all_turns cube_powers) whole (get_or numbers k d) solved_cube
       (omega (arith, length-turns, below k d lt))))
 
 -- ---- what turns by numbers do to all corners or edges
 
 pub corners_whole : map (λ r. block_turn (numbers_from 0 8) r.corners) (all_turns cube_powers) ≡ map (λ r. r.corners) (all_turns cube_powers)
-unfolding all_turns all_powers power composed identity added_digits
+unfolding all_turns all_powers power turned_orbit solved_cube solved_orbit added_digits
 corners_whole = refl
 
 pub edges_whole : map (λ r. block_turn (numbers_from 0 12) r.edges) (all_turns cube_powers) ≡ map (λ r. r.edges) (all_turns cube_powers)
-unfolding all_turns all_powers power composed identity added_digits
+unfolding all_turns all_powers power turned_orbit solved_cube solved_orbit added_digits
 edges_whole = refl
 
-module _ (n base : ℕ) (part : CubeTurn → Rearrangement)
+module _ (n base : ℕ) (part : CubeState → Orbit)
     (whole : map (λ r. block_turn (numbers_from 0 n) (part r)) (all_turns cube_powers) ≡ map part (all_turns cube_powers))
-    (turns : List (PlaceTurn n)) (table : List (PlaceTurn n)) (defined : map rearrangement_of table ≡ map part (all_turns cube_powers))
+    (turns : List (PlaceTurn n)) (table : List (PlaceTurn n)) (defined : map made_by table ≡ map part (all_turns cube_powers))
     (numbers : List ℕ) (below : All (λ t. t < 18) numbers)
-    (are : map rearrangement_of turns ≡ block_turns (numbers_from 0 n) (map rearrangement_of table) numbers) where
-  turned-by : map rearrangement_of turns ≡ map part (turns_of numbers)
+    (are : map made_by turns ≡ block_turns (numbers_from 0 n) (map made_by table) numbers) where
+  turned-by : map made_by turns ≡ map part (turns_of numbers)
   turned-by =
       are ∙ ap (λ all. block_turns (numbers_from 0 n) all numbers) defined
       ∙ block_turns-parts part (numbers_from 0 n) numbers below ∙ whole_turns part (numbers_from 0 n) numbers below whole
 
-  pub AreTurned-whole : ((r : CubeTurn) → IsCubeTurn r → IsZeroSumRearrangement n base (part r)) → (number : ℕ)
+  pub AreTurned-whole : ((r : CubeState) → IsCube r → IsZeroSumOrbit n base (part r)) → (number : ℕ)
       → length numbers ≡ number → 1 ≤ number → number ≤ 256 → AreTurned n base (map part (turns_of numbers)) turns
   AreTurned-whole valid number size some few =
-      let IsMove = IsZeroSumRearrangement n base in
+      let IsMove = IsZeroSumOrbit n base in
       let are_valid = AreTurns-moves IsMove turns (map part (turns_of numbers)) turned-by
       (All-map IsMove part (turns_of numbers) (λ k d lt. let r = slice_index_or (turns_of numbers) k d in valid r (All-turns numbers below k d lt)))
       number (length-turned part numbers ∙ size) some few in

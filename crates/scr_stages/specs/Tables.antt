@@ -1,7 +1,7 @@
 -- The tables of the stages: what each is a table of, and how far it may reach.
 use Rattle.std.specs.Prelude.{ℕ, List, [], ◌∷◌, map, slice_index_or}
 use Rattle.scr_combinatorics.specs.Lists.{numbers_from, pick}
-use Rattle.scr_orbit.specs.Orbits.{Rearrangement}
+use Rattle.scr_orbit.specs.Orbits.{Orbit}
 use Rattle.scr_orbit.specs.PowerPuzzles.{all_turns}
 use Rattle.scr_positions.specs.Coordinates.{Coordinate}
 use Rattle.scr_positions.specs.Indexes.{numbered_coordinate}
@@ -9,30 +9,30 @@ use Rattle.scr_positions.specs.Products.{product_coordinate}
 use Rattle.scr_coord.specs.Projections.{projection, twists_view, place_set_view, pieces_view}
 use Rattle.scr_table.specs.declared.name.TableName.TheVariants.{Flips, Slice, Tetrads, Halves}
 use Rattle.scr_table.specs.Lines.{TableLine}
-use Rattle.scr_cube.specs.Cube333.{CubeTurn, cube_action, cube_powers, solved_cube}
+use Rattle.scr_cube.specs.Cube333.{CubeState, cube_powers, solved_cube}
 use Rattle.scr_stages.specs.Stages.{middle_edges, half_turns, flips_stage, slice_stage, tetrads_stage, halves_stage, slice_turns, domino_turns}
 use Rattle.scr_cube.specs.ListedTurns.{after_of, turn_numbers}
 use Rattle.scr_stages.specs.Tetrads.{in_block, tetrads_view, half_corners_view}
 use Rattle.scr_stages.specs.Numbers.{first_edges, half_cubes}
 
 -- what the turns with these numbers do, to corners and to edges
-abbrev pub turns_of : List ℕ → List CubeTurn
-turns_of numbers = map (λ t. slice_index_or (all_turns cube_powers) t cube_action.identity) numbers
+abbrev pub turns_of : List ℕ → List CubeState
+turns_of numbers = map (λ t. slice_index_or (all_turns cube_powers) t solved_cube) numbers
 
-abbrev pub corners_by : List ℕ → List Rearrangement
+abbrev pub corners_by : List ℕ → List Orbit
 corners_by numbers = map (λ r. r.corners) (turns_of numbers)
 
-abbrev pub edges_by : List ℕ → List Rearrangement
+abbrev pub edges_by : List ℕ → List Orbit
 edges_by numbers = map (λ r. r.edges) (turns_of numbers)
 
 -- what a turn does to the pieces at the places of a block, which it carries among these
-abbrev pub block_turn : List ℕ → Rearrangement → Rearrangement
-block_turn block r = record { places = in_block block r.places; added = pick r.added block }
+abbrev pub block_turn : List ℕ → Orbit → Orbit
+block_turn block r = record { pieces = in_block block r.pieces; digits = pick r.digits block }
 
 -- what turns with these numbers do so, of a list of turns
-abbrev pub block_turns : List ℕ → List Rearrangement → List ℕ → List Rearrangement
+abbrev pub block_turns : List ℕ → List Orbit → List ℕ → List Orbit
 block_turns block turns numbers =
-    map (λ t. block_turn block (slice_index_or turns t (record { places = []; added = [] }))) numbers
+    map (λ t. block_turn block (slice_index_or turns t (record { pieces = []; digits = [] }))) numbers
 
 -- The flips.
 abbrev pub flips_coordinate : Coordinate

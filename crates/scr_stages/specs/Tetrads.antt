@@ -7,7 +7,7 @@ use Rattle.std.specs.Prelude.{ℕ, ◌+◌, ◌*◌, ◌/◌, ◌%◌, ◌==◌,
 use Rattle.scr_combinatorics.specs.Lists.{numbers_from, pick}
 use Rattle.scr_combinatorics.specs.Permutations.{place_of, inverse, permutation_number, permutation_at}
 use Rattle.scr_combinatorics.specs.PlaceSets.{place_set_number, place_set_at}
-use Rattle.scr_orbit.specs.Orbits.{Rearrangement}
+use Rattle.scr_orbit.specs.Orbits.{Orbit}
 use Rattle.scr_positions.specs.Coordinates.{Coordinate}
 use Rattle.scr_coord.specs.Projections.{ListView, projection, marked_places, stands_in}
 use Rattle.scr_cube.specs.Stickers.{corner_faces}
@@ -88,12 +88,12 @@ corners_view count list_at number_of = record {
   count = count;
   list_at = list_at;
   number_of = number_of;
-  turned = λ corners turn. pick corners turn.places;
+  turned = λ corners turn. pick corners turn.pieces;
   goal = numbers_from 0 8;
 }
 
 -- as a coordinate
-abbrev pub corners_coordinate : ℕ → (ℕ → List ℕ) → (List ℕ → ℕ) → List Rearrangement → Coordinate
+abbrev pub corners_coordinate : ℕ → (ℕ → List ℕ) → (List ℕ → ℕ) → List Orbit → Coordinate
 corners_coordinate count list_at number_of turns = projection (corners_view count list_at number_of) turns
 
 -- by their indexes

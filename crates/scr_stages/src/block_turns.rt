@@ -1,6 +1,6 @@
 //! Some of the turns of a puzzle, as what they do to the places of a block.
 ghost use Rattle.std.specs.Prelude.{◌≡◌, ◌<◌, ◌≤◌, All, map, length};
-ghost use Rattle.scr_orbit.specs.PlaceTurns.{rearrangement_of};
+ghost use Rattle.scr_orbit.specs.PlaceTurns.{made_by};
 ghost use Rattle.scr_stages.specs.Tables.{block_turn, block_turns};
 
 use crate::places::pieces_in_block;
@@ -10,7 +10,7 @@ use scr_orbit::{PlaceTurn, pick_into};
 fn block_turn<const N: usize, const M: usize>(turn: &PlaceTurn<N>, block: &[u8; M]) -> PlaceTurn<M>
     requires few { M ≤ 255 }
     requires block { All (λ place. place < N) block.now }
-    ensures { rearrangement_of result ≡ block_turn block.now (rearrangement_of turn.now) }
+    ensures { made_by result ≡ block_turn block.now (made_by turn.now) }
 {
     let mut places = [0; M];
     let mut added = [0; M];
@@ -30,7 +30,7 @@ fn fill_block_turns<const N: usize, const M: usize>(
     requires few { M ≤ 255 }
     requires block { All (λ place. place < N) block.now }
     requires numbers { All (λ t. t < length turns.now) numbers.now }
-    ensures { map rearrangement_of out.new ≡ block_turns block.now (map rearrangement_of turns.now) numbers.now }
+    ensures { map made_by out.new ≡ block_turns block.now (map made_by turns.now) numbers.now }
 {
     for at in 0..out.len() {
         out[at] = block_turn(&turns[usize::from(numbers[at])], block);
@@ -46,7 +46,7 @@ pub(crate) fn block_turns<const N: usize, const M: usize, const K: usize>(
     requires few { M ≤ 255 }
     requires block { All (λ place. place < N) block.now }
     requires numbers { All (λ t. t < length turns.now) numbers.now }
-    ensures { map rearrangement_of result ≡ block_turns block.now (map rearrangement_of turns.now) numbers.now }
+    ensures { map made_by result ≡ block_turns block.now (map made_by turns.now) numbers.now }
 {
     let none = PlaceTurn {
         places: [0; M],

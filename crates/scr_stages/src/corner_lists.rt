@@ -2,7 +2,7 @@
 ghost use Rattle.std.specs.Prelude.{◌≡◌, ◌<◌, map};
 ghost use Rattle.std.proofs.Props.{props};
 ghost use Rattle.scr_combinatorics.specs.Permutations.{IsPermutation};
-ghost use Rattle.scr_orbit.specs.PlaceTurns.{rearrangement_of};
+ghost use Rattle.scr_orbit.specs.PlaceTurns.{made_by};
 ghost use Rattle.scr_positions.specs.Coordinates.{StaysBelow};
 ghost use Rattle.scr_coord.specs.Projections.{AreTurns};
 ghost use Rattle.scr_stages.specs.Tetrads.{corners_coordinate};
@@ -45,7 +45,7 @@ pub(crate) struct CornerLists<'a, V: CornerNumbers> {
     turns: &'a [PlaceTurn<8>],
     by: PhantomData<V>,
     ghost valid: { AreTurns (λ turn. IsPermutation 8 turn.places) turns.now } by { Prim.hlevel props },
-    ghost stays: { StaysBelow (corners_coordinate V.view.count V.view.list_at V.view.number_of (map rearrangement_of turns.now)) } by { Prim.hlevel props },
+    ghost stays: { StaysBelow (corners_coordinate V.view.count V.view.list_at V.view.number_of (map made_by turns.now)) } by { Prim.hlevel props },
 }
 
 impl<'a, V: CornerNumbers> CornerLists<'a, V> {
@@ -53,7 +53,7 @@ impl<'a, V: CornerNumbers> CornerLists<'a, V> {
     /// lists.
     pub fn new(turns: &'a [PlaceTurn<8>]) -> CornerLists<'a, V>
         requires valid { AreTurns (λ turn. IsPermutation 8 turn.places) turns.now }
-        requires stays { StaysBelow (corners_coordinate V.view.count V.view.list_at V.view.number_of (map rearrangement_of turns.now)) }
+        requires stays { StaysBelow (corners_coordinate V.view.count V.view.list_at V.view.number_of (map made_by turns.now)) }
         ensures { result.turns.now ≡ turns.now }
     {
         CornerLists {
@@ -65,10 +65,10 @@ impl<'a, V: CornerNumbers> CornerLists<'a, V> {
 
 impl<V: CornerNumbers> Coord for CornerLists<'_, V> {
     ghost use Rattle.std.specs.Prelude.{map};
-    ghost use Rattle.scr_orbit.specs.PlaceTurns.{rearrangement_of};
+    ghost use Rattle.scr_orbit.specs.PlaceTurns.{made_by};
     ghost use Rattle.scr_stages.specs.Tetrads.{corners_coordinate};
 
-    ghost coordinate = { λ t. corners_coordinate V.view.count V.view.list_at V.view.number_of (map rearrangement_of t.turns.now) };
+    ghost coordinate = { λ t. corners_coordinate V.view.count V.view.list_at V.view.number_of (map made_by t.turns.now) };
 
     fn count(&self) -> u32 {
         V::count()

@@ -40,7 +40,7 @@ pub(crate) struct HalfMoves {
 /// The moves of a block of edges, among whose places half turns carry its edges.
 fn block_moves(alloc: Global, block: &[u8; 4]) -> Result<MoveTable, NoMemory>
     requires places { All (λ place. place < 12) block.now }
-    requires kept { All (λ r. IsPermutation 4 r.places) (map (block_turn block.now) (edges_by half_turns)) }
+    requires kept { All (λ r. IsPermutation 4 r.pieces) (map (block_turn block.now) (edges_by half_turns)) }
     ensures { IfOk result (λ table. ShowsSame (half_block_coordinate block.now) (moves_coordinate table)) }
 {
     MoveTable::build(

@@ -1,7 +1,7 @@
 //! The turns of the stages, and what turns do to corners, to edges, and to the edges of a block.
 ghost use Rattle.std.specs.Prelude.{◌≡◌, ◌<◌, ◌≤◌, All, map};
 ghost use Rattle.scr_combinatorics.specs.Permutations.{IsPermutation};
-ghost use Rattle.scr_orbit.specs.PlaceTurns.{rearrangement_of};
+ghost use Rattle.scr_orbit.specs.PlaceTurns.{made_by};
 ghost use Rattle.scr_coord.specs.Projections.{AreTurns};
 ghost use Rattle.scr_stages.specs.Tables.{block_turn, corners_by, edges_by};
 ghost use Rattle.scr_stages.specs.Turned.{AreTurned};
@@ -57,8 +57,8 @@ pub fn block_edges_turned<const M: usize, const K: usize>(
     requires few { K ≤ 256 }
     requires block { All (λ place. place < 12) block.now }
     requires numbers { All (λ t. t < 18) numbers.now }
-    requires kept { All (λ r. IsPermutation M r.places) (map (block_turn block.now) (edges_by numbers.now)) }
-    ensures turns { map rearrangement_of result ≡ map (block_turn block.now) (edges_by numbers.now) }
+    requires kept { All (λ r. IsPermutation M r.pieces) (map (block_turn block.now) (edges_by numbers.now)) }
+    ensures turns { map made_by result ≡ map (block_turn block.now) (edges_by numbers.now) }
     ensures places { AreTurns (λ turn. IsPermutation M turn.places) result }
 {
     block_turns(edge_turns(), block, numbers)

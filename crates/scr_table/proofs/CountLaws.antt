@@ -4,10 +4,11 @@ use Rattle.std.specs.Prelude.{count_by}
 use Rattle.std.proofs.Math.ListN.{set}
 use Rattle.std.proofs.lemmas.Bool.Decides.{eqb_tells}
 use Rattle.std.proofs.lemmas.List.Sums.{count_by_more_no, count_by_more_yes}
+use Rattle.scr_table.specs.declared.table.TheConstants.{GREATEST_BOUND}
 
 -- how many entries equal each number, after one entry more
 pub counted_more : (counts entries : List ℕ) (p e : ℕ) → p < length entries → get_or entries p 0 ≡ e → e < length counts
-    → ((d : ℕ) → d < 25 → get_or counts d 0 ≡ count_by (λ x. eqb x d) (take p entries)) → (d : ℕ) → d < 25
+    → ((d : ℕ) → d < GREATEST_BOUND + 1 → get_or counts d 0 ≡ count_by (λ x. eqb x d) (take p entries)) → (d : ℕ) → d < GREATEST_BOUND + 1
     → get_or (set counts e (get_or counts e 0 + 1)) d 0 ≡ count_by (λ x. eqb x d) (take (p + 1) entries)
 counted_more counts entries p e inside is room before d lt =
     elim (eqb_tells e d) [

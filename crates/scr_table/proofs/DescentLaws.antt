@@ -7,6 +7,7 @@ use Rattle.std.proofs.lemmas.Grind.{same_number_lists}
 use Rattle.scr_positions.specs.Coordinates.{Coordinate, StaysBelow, moved, IsGoal}
 use Rattle.scr_combinatorics.specs.FirstWord.{IsFirstWord, IsDistance, LowersFirst}
 use Rattle.scr_combinatorics.proofs.FirstWordLaws.{IsDistance-unique, IsDistance-lowers, IsGoal-distance, IsFirstWord-goal, IsFirstWord-cons}
+use Rattle.scr_table.specs.declared.table.TheConstants.{GREATEST_BOUND}
 use Rattle.scr_table.specs.Distances.{Distances, Measures}
 use Rattle.scr_table.proofs.StepLaws.{moved-turn, moved-below}
 
@@ -15,7 +16,7 @@ use Rattle.scr_table.proofs.StepLaws.{moved-turn, moved-below}
 pub record IsDescending (c : Coordinate) (table : Distances) (p : ℕ) (word : List ℕ) (at left : ℕ) : Type 0 where
   pub position : at < c.count
   pub distance : get_or table.distances at 0 ≡ left
-  pub room : length word + left ≤ 24
+  pub room : length word + left ≤ GREATEST_BOUND
   pub continues : (rest : List ℕ) → IsFirstWord (moved c) (IsGoal c) at rest
       → IsFirstWord (moved c) (IsGoal c) p (word ++ rest)
 
@@ -47,7 +48,7 @@ module _ (c : Coordinate) (below : StaysBelow c) (table : Distances) (m : Measur
         none t r (moved-turn c p t r moves).0 moves
         (IsDistance-unique (moved c) (IsGoal c) r _ lower (m.exact r (moved-below c below p t r lt moves)) d))
 
-  pub IsDescending-begun : (p left : ℕ) → p < c.count → get_or table.distances p 0 ≡ left → left ≤ 24
+  pub IsDescending-begun : (p left : ℕ) → p < c.count → get_or table.distances p 0 ≡ left → left ≤ GREATEST_BOUND
       → IsDescending c table p [] p left
   IsDescending-begun p left lt e small = record { position = lt; distance = e; room = omega arith; continues = λ rest f. f }
 

@@ -10,6 +10,7 @@ ghost use Rattle.scr_table.specs.Filled.{AreKnown, AreMarked, block_count};
 use crate::blocks::{BLOCK, Made, contains};
 use crate::levels::next_level;
 use crate::neighbours::step;
+use crate::table::GREATEST_BOUND;
 use scr_positions::{BARRED, Coord, NOWHERE};
 use std::alloc::{AllocError, Global};
 use std::thread::Threads;
@@ -19,7 +20,7 @@ use std::thread::Threads;
 pub(crate) const UNKNOWN: u8 = NOWHERE;
 
 /// The entries, one for each position: the position's distance, or `UNKNOWN` where no word of at most `bound` turns
-/// leads to a goal. `bound` is at most 24. 1 to 64 workers share the late levels.
+/// leads to a goal. `bound` is at most `GREATEST_BOUND`. 1 to 64 workers share the late levels.
 pub(crate) fn filled<R: Threads + Sync, C: Coord + Sync>(
     rt: &R,
     alloc: Global,
@@ -28,7 +29,7 @@ pub(crate) fn filled<R: Threads + Sync, C: Coord + Sync>(
     workers: u32,
 ) -> Result<Vec<u8>, AllocError>
     requires few_turns { (C.coordinate coord.now).turns ≤ 256 }
-    requires bound { bound ≤ 24 }
+    requires bound { bound ≤ GREATEST_BOUND }
     requires workers { (1 ≤ workers) × (workers ≤ 64) }
     ensures { IfOk result (λ entries. AreKnown (C.coordinate coord.now) bound entries.items) }
 {
@@ -50,7 +51,7 @@ fn fill<R: Threads + Sync, C: Coord + Sync>(
     requires entries { length entries.old ≡ (C.coordinate coord.now).count }
     requires blocks { length blocks.old ≡ block_count (length entries.old) }
     requires few_turns { (C.coordinate coord.now).turns ≤ 256 }
-    requires bound { bound ≤ 24 }
+    requires bound { bound ≤ GREATEST_BOUND }
     requires workers { (1 ≤ workers) × (workers ≤ 64) }
     ensures { AreKnown (C.coordinate coord.now) bound entries.new }
 {
@@ -73,7 +74,7 @@ fn fill<R: Threads + Sync, C: Coord + Sync>(
 fn early_levels<C: Coord>(coord: &C, entries: &mut [u8], bound: u8) -> u8
     requires entries { length entries.old ≡ (C.coordinate coord.now).count }
     requires few_turns { (C.coordinate coord.now).turns ≤ 256 }
-    requires bound { bound ≤ 24 }
+    requires bound { bound ≤ GREATEST_BOUND }
     ensures marked { AreMarked (C.coordinate coord.now) entries.new }
     ensures level { result ≤ bound }
 {
@@ -141,7 +142,7 @@ fn leads_to<C: Coord>(coord: &C, from: u32, to: u32) -> bool
 fn push_levels<C: Coord>(coord: &C, entries: &mut [u8], bound: u8) -> u8
     requires marked { AreMarked (C.coordinate coord.now) entries.old }
     requires few_turns { (C.coordinate coord.now).turns ≤ 256 }
-    requires bound { bound ≤ 24 }
+    requires bound { bound ≤ GREATEST_BOUND }
     ensures marked { AreMarked (C.coordinate coord.now) entries.new }
     ensures level { result ≤ bound }
 {
@@ -162,7 +163,7 @@ fn push_levels<C: Coord>(coord: &C, entries: &mut [u8], bound: u8) -> u8
 fn push_level<C: Coord>(coord: &C, entries: &mut [u8], level: u8) -> u32
     requires marked { AreMarked (C.coordinate coord.now) entries.old }
     requires few_turns { (C.coordinate coord.now).turns ≤ 256 }
-    requires level { level ≤ 24 }
+    requires level { level ≤ GREATEST_BOUND }
     ensures { AreMarked (C.coordinate coord.now) entries.new }
 {
     let mut targets = [BARRED; 256];
@@ -195,7 +196,7 @@ fn push_block<C: Coord>(
     requires marked { AreMarked (C.coordinate coord.now) entries.old }
     requires end { end ≤ length entries.old }
     requires few_turns { (C.coordinate coord.now).turns ≤ 256 }
-    requires level { level ≤ 24 }
+    requires level { level ≤ GREATEST_BOUND }
     ensures { AreMarked (C.coordinate coord.now) entries.new }
 {
     let turns = coord.turns();

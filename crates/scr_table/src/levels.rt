@@ -3,6 +3,7 @@
 ghost use Rattle.std.specs.Prelude.{◌≡◌, ℕ, ◌+◌, ◌^◌, ◌<◌, ◌≤◌, IsTrue, IfSome, None, length, slice_index, slice_index_or};
 ghost use Rattle.std.specs.Bool.{OnTrue, OnFalse};
 ghost use Rattle.scr_table.specs.Filled.{AreKnown, AreMarked, Agrees, IsNextEntry, IsThere, block_count, next_entry};
+ghost use Rattle.scr_table.specs.declared.table.TheConstants.{GREATEST_BOUND};
 
 use crate::blocks::{BLOCK, Made, contains, enter_blocks, unknown_block};
 use crate::fill::UNKNOWN;
@@ -22,7 +23,7 @@ struct NextLevel<'a, C: Coord> {
     checked: bool,
     ghost positions: { length entries.now ≡ (C.coordinate coord.now).count },
     ghost few: { length entries.now < 2 ^ 32 },
-    ghost early: { level ≤ 25 },
+    ghost early: { level ≤ GREATEST_BOUND + 1 },
 }
 
 impl<C: Coord> Jobs for NextLevel<'_, C> {
@@ -60,7 +61,7 @@ fn next_block<C: Coord>(
     requires entries { length entries.now ≡ (C.coordinate coord.now).count }
     requires end { end ≤ length entries.now }
     requires block { end ≤ start + 1024 }
-    requires level { level ≤ 25 }
+    requires level { level ≤ GREATEST_BOUND + 1 }
     ensures { (k : ℕ) → start + k < end
         → IsNextEntry (C.coordinate coord.now) level entries.now (start + k) (slice_index result k) }
 {
@@ -84,7 +85,7 @@ fn next_block<C: Coord>(
 /// The entry of a position on the next level, by the least that a turn leads to from it.
 #[inline]
 fn next_entry(entry: u8, least: u8, level: u8) -> u8
-    requires { level ≤ 25 }
+    requires { level ≤ GREATEST_BOUND + 1 }
     ensures { result ≡ next_entry level entry least }
 {
     if entry == UNKNOWN && least == level {
@@ -105,7 +106,7 @@ fn checked_block(
 ) -> Option<[u8; BLOCK]>
     requires end { end ≤ length entries.now }
     requires block { end ≤ start + 1024 }
-    requires level { level ≤ 25 }
+    requires level { level ≤ GREATEST_BOUND + 1 }
     ensures agree { IfSome result (λ _. (k : ℕ) → start + k < end
         → Agrees level (slice_index entries.now (start + k)) (slice_index least.now k)) }
     ensures next { IfSome result (λ next. (k : ℕ) → start + k < end
@@ -149,7 +150,7 @@ pub(crate) fn next_level<R: Threads + Sync, C: Coord + Sync>(
     requires marked { OnTrue checked (AreMarked (C.coordinate coord.now) entries.old) }
     requires known { OnFalse checked (AreKnown (C.coordinate coord.now) level entries.old) }
     requires blocks { length blocks.old ≡ block_count (length entries.old) }
-    requires level { level ≤ 25 }
+    requires level { level ≤ GREATEST_BOUND + 1 }
     requires workers { (1 ≤ workers) × (workers ≤ 64) }
     ensures known { OnTrue result (AreKnown (C.coordinate coord.now) (level + 1) entries.new) }
     ensures made { OnFalse checked (IsTrue result) }

@@ -33,6 +33,6 @@ pub use line_table::{Line, LineTable};
 pub use moves::{Moves, no_shorter};
 pub use name::TableName;
 pub use named::table_named;
-pub use table::DistanceTable;
+pub use table::{DistanceTable, GREATEST_BOUND};
 pub use table_set::TableSet;
 pub use words::FirstWords;

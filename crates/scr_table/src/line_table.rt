@@ -8,7 +8,7 @@ ghost use Rattle.scr_table.specs.Lines.{HasNoGap, IsTableOf};
 
 use crate::fault::BuildFault;
 use crate::name::TableName;
-use crate::table::DistanceTable;
+use crate::table::{DistanceTable, GREATEST_BOUND};
 use arrayvec::ArrayVec;
 use scr_outside::NoMemory;
 use scr_positions::Coord;
@@ -30,7 +30,7 @@ pub trait Line {
     fn reach() -> (TableName, u32)
         ensures name { result.0 ≡ line.name }
         ensures bound { result.1 ≡ line.bound }
-        ensures at_most { result.1 ≤ 24 }
+        ensures at_most { result.1 ≤ GREATEST_BOUND }
         ensures few_turns { line.coordinate.turns ≤ 256 };
 
     /// The moves by which it is built and walked down.
@@ -47,7 +47,7 @@ pub struct LineTable<L: Line> {
     pub(crate) distances: DistanceTable,
 }
 
-// A call wherever one is let go, in place of all that lets go of its parts.
+// By hand, so that the proof of whoever lets one go meets one call, and not the letting go of each of its parts.
 impl<L: Line> Drop for LineTable<L> {
     fn drop(self) {
         let LineTable {
@@ -102,7 +102,7 @@ impl<L: Line> LineTable<L> {
     }
 
     /// The first word from a position, below the number of positions, to a goal.
-    pub fn descend(&self, position: u32) -> ArrayVec<u8, 24>
+    pub fn descend(&self, position: u32) -> ArrayVec<u8, GREATEST_BOUND>
         requires { position < L.line.coordinate.count }
         ensures first { IsFirstWord (moved L.line.coordinate) (IsGoal L.line.coordinate) position result.items }
         ensures table { IsTableOf L.line self.now }

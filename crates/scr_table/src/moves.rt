@@ -6,8 +6,8 @@ ghost use Rattle.scr_table.specs.Moves.{MoveSet, NeedsTurns, NeverHelps, HasWord
 
 /// A puzzle whose states few turns are tried on. A turn may be refused.
 ///
-/// What `is_idle` promises, it promises of each value that contracts see as a `State`. Where it holds of valid states alone,
-/// `moves` has each turn of the others refused.
+/// What `is_idle` promises, it promises of each value that contracts see as a `State`. Where it holds of valid states
+/// alone, `moves` has each turn of the others refused.
 pub trait Moves {
     /// A state.
     type State: Drop;

@@ -18,6 +18,9 @@ use std::alloc::Global;
 use std::marker::Model;
 use std::thread::Threads;
 
+/// The greatest bound of a table: no position of one is more turns away from a goal.
+pub const GREATEST_BOUND: usize = 24;
+
 /// At each position of a coordinate the least number of turns to a goal.
 pub struct DistanceTable {
     name: TableName,
@@ -25,7 +28,7 @@ pub struct DistanceTable {
     entries: Entries,
 }
 
-// A call wherever one is let go, in place of all that lets go of its parts.
+// By hand, so that the proof of whoever lets one go meets one call, and not the letting go of each of its parts.
 impl Drop for DistanceTable {
     fn drop(self) {
         let DistanceTable {
@@ -39,17 +42,19 @@ impl Drop for DistanceTable {
 impl Model for DistanceTable {
     ghost use Rattle.std.specs.Prelude.{ℕ, ◌≤◌, slice_index};
     ghost use Rattle.scr_table.specs.Distances.{Distances};
+    ghost use Rattle.scr_table.specs.declared.table.TheConstants.{GREATEST_BOUND};
 
     ghost Value = { Distances };
 
     ghost view = { λ table. record { name = table.name; bound = table.bound; distances = table.entries } };
 
-    ghost invariant = { λ table. (table.bound ≤ 24) × ((p : ℕ) → slice_index table.entries p ≤ table.bound) };
+    ghost invariant = { λ table. (table.bound ≤ GREATEST_BOUND)
+        × ((p : ℕ) → slice_index table.entries p ≤ table.bound) };
 }
 
 impl DistanceTable {
     /// The table of a coordinate, or the first position that no word of at most `bound` turns leads to a goal from.
-    /// `bound` is at most 24, and there are at most 256 turns. 1 to 64 workers build it.
+    /// `bound` is at most `GREATEST_BOUND`, and there are at most 256 turns. 1 to 64 workers build it.
     pub fn build<R: Threads + Sync, C: Coord + Sync>(
         rt: &R,
         alloc: Global,
@@ -58,7 +63,7 @@ impl DistanceTable {
         bound: u32,
         workers: u32,
     ) -> Result<DistanceTable, BuildFault>
-        requires bound { bound ≤ 24 }
+        requires bound { bound ≤ GREATEST_BOUND }
         requires few_turns { (C.coordinate coord.now).turns ≤ 256 }
         requires workers { (1 ≤ workers) × (workers ≤ 64) }
         ensures named { IfOk result (λ table. table.name ≡ name) }
@@ -95,7 +100,7 @@ impl DistanceTable {
     /// The bound that it was built with.
     pub fn bound(&self) -> u32
         ensures value { result ≡ self.now.bound }
-        ensures at_most { result ≤ 24 }
+        ensures at_most { result ≤ GREATEST_BOUND }
     {
         self.bound
     }
@@ -106,7 +111,7 @@ impl DistanceTable {
         requires { position < length self.now.distances }
         ensures value { result ≡ slice_index self.now.distances position }
         ensures within_bound { result ≤ self.now.bound }
-        ensures at_most { result ≤ 24 }
+        ensures at_most { result ≤ GREATEST_BOUND }
     {
         u32::from(self.entries.get(position))
     }
@@ -128,17 +133,17 @@ impl DistanceTable {
     }
 
     /// How many positions there are at each distance.
-    pub fn counts(&self) -> [u32; 25]
-        ensures counted { (d : ℕ) → d < 25
+    pub fn counts(&self) -> [u32; GREATEST_BOUND + 1]
+        ensures counted { (d : ℕ) → d < GREATEST_BOUND + 1
             → slice_index result d ≡ count_by (λ distance. distance == d) self.now.distances }
-        ensures all { All (λ distance. distance < 25) self.now.distances }
+        ensures all { All (λ distance. distance < GREATEST_BOUND + 1) self.now.distances }
     {
         counts_of(&self.entries)
     }
 
     /// The first word from a position, below `positions`, to a goal. The table measures the coordinate, which has at
     /// most 256 turns.
-    pub fn descend<C: Coord>(&self, coord: &C, position: u32) -> ArrayVec<u8, 24>
+    pub fn descend<C: Coord>(&self, coord: &C, position: u32) -> ArrayVec<u8, GREATEST_BOUND>
         requires measures { Measures (C.coordinate coord.now) self.now }
         requires few_turns { (C.coordinate coord.now).turns ≤ 256 }
         requires position { position < length self.now.distances }
@@ -204,12 +209,12 @@ struct Descent {
     next: u32,
 }
 
-/// How many entries are equal to each number below 25. No entry is greater.
-fn counts_of(entries: &Entries) -> [u32; 25]
-    requires { (p : ℕ) → slice_index entries.now p ≤ 24 }
-    ensures { (d : ℕ) → d < 25 → slice_index result d ≡ count_by (λ entry. entry == d) entries.now }
+/// How many entries are equal to each number up to the greatest bound. No entry is greater.
+fn counts_of(entries: &Entries) -> [u32; GREATEST_BOUND + 1]
+    requires { (p : ℕ) → slice_index entries.now p ≤ GREATEST_BOUND }
+    ensures { (d : ℕ) → d < GREATEST_BOUND + 1 → slice_index result d ≡ count_by (λ entry. entry == d) entries.now }
 {
-    let mut counts = [0; 25];
+    let mut counts = [0; GREATEST_BOUND + 1];
     for position in 0..entries.len() {
         counts[usize::from(entries.get(position))] += 1;
     }

@@ -6,14 +6,15 @@ ghost use Rattle.scr_table.specs.Words.{goal_words_behind, words_to_goal};
 
 use crate::line_table::{Line, LineTable};
 use crate::neighbours::step;
+use crate::table::GREATEST_BOUND;
 use arrayvec::ArrayVec;
 use scr_positions::Coord;
 use std::marker::Model;
 
-/// Words of turn numbers, one after another: at most 1,000, each of at most 24 turns.
+/// Words of turn numbers, one after another: at most 1,000, each of at most `GREATEST_BOUND` turns.
 #[derive(Drop)]
 pub struct FirstWords {
-    words: ArrayVec<ArrayVec<u8, 24>, 1000>,
+    words: ArrayVec<ArrayVec<u8, GREATEST_BOUND>, 1000>,
 }
 
 // Clauses see the list of the words.
@@ -54,15 +55,15 @@ impl FirstWords {
     pub fn word(&self, place: usize) -> &[u8]
         requires { place < length self.now }
         ensures word { result.now ≡ slice_index_or self.now place [] }
-        ensures short { length result.now ≤ 24 }
+        ensures short { length result.now ≤ GREATEST_BOUND }
     {
         &self.words[place][..]
     }
 
-    /// Puts a word of at most 24 turns behind the others, where there is room.
+    /// Puts a word of at most `GREATEST_BOUND` turns behind the others, where there is room.
     fn push(&mut self, word: &[u8])
         requires room { length self.old < 1000 }
-        requires short { length word.now ≤ 24 }
+        requires short { length word.now ≤ GREATEST_BOUND }
         ensures { self.new ≡ self.old ++ word.now ∷ [] }
     {
         let mut copy = ArrayVec::new();
@@ -79,7 +80,7 @@ impl<L: Line> LineTable<L> {
     /// fewer. One that meets a goal on its way is one too. It takes no memory.
     pub fn first_words(&self, position: u32, most: u32, wanted: u32) -> FirstWords
         requires position { position < L.line.coordinate.count }
-        requires most { most ≤ 24 }
+        requires most { most ≤ GREATEST_BOUND }
         requires wanted { wanted ≤ 1000 }
         ensures { result ≡ take wanted (words_to_goal L.line.coordinate position most) }
     {
@@ -103,12 +104,12 @@ impl<L: Line> LineTable<L> {
         position: u32,
         left: u32,
         wanted: usize,
-        word: &mut ArrayVec<u8, 24>,
+        word: &mut ArrayVec<u8, GREATEST_BOUND>,
         found: &mut FirstWords,
     )
         requires position { position < L.line.coordinate.count }
         requires near { slice_index self.now.distances position ≤ left }
-        requires short { length word.old.items + left ≤ 24 }
+        requires short { length word.old.items + left ≤ GREATEST_BOUND }
         requires few { wanted ≤ 1000 }
         requires wanted { length found.old < wanted }
         ensures found { found.new ≡ take wanted (found.old ++ goal_words_behind L.line.coordinate position word.old.items left) }

@@ -2,13 +2,11 @@
 use Rattle.std.proofs.Common.{◌≡◌, ℕ, ◌<◌, List, [], ◌∷◌, sym, subst}
 use Rattle.std.specs.Prelude.{slice_index}
 use Rattle.scr_draw.specs.Count.{count_below}
-use Rattle.scr_outside.specs.Change.{Change}
-use Rattle.scr_text.specs.Lines.{text_of_lines}
 use Rattle.scr_table.specs.Lines.{TableLine}
 use Rattle.scr_table.specs.SearchTables.{SearchTable}
 use Rattle.scr_table.specs.TableStates.{IsLineOf, AreLinesOf, by_positions, all_by_positions}
 use Rattle.scr_table.proofs.TableStatesLaws.{IsAtDistance-states, IsAtDistance-positions}
-use Rattle.scr_table_text.specs.TableText.{head_text, count_lines, AreCounts, IsTableText, AreTableTexts, IsTablesText}
+use Rattle.scr_table_text.specs.TableText.{AreCounts, IsTableText, AreTableTexts, IsTablesText}
 
 AreCounts-states : (table : SearchTable) (line : TableLine) → IsLineOf table line → (counts : List ℕ)
     → AreCounts (by_positions line) counts → AreCounts table counts

@@ -12,7 +12,7 @@ ghost use Rattle.scr_table_text.specs.Counted.{AreEntryCounts, counted_text, tab
 
 use arrayvec::ArrayString;
 use scr_outside::{Failed, Sink, write_line};
-use scr_table::{DistanceTable, TableName};
+use scr_table::{DistanceTable, GREATEST_BOUND, TableName};
 use scr_text::decimal;
 
 /// Writes the texts of an event's tables, one after another, or the line of an event that has none. They are those of
@@ -55,7 +55,7 @@ pub fn write_table<O: Sink>(out: &mut O, table: &DistanceTable) -> Result<(), Fa
 
 /// Writes the head of a table, and the lines of these counts.
 fn write_counted<O: Sink>(out: &mut O, table: &DistanceTable, counts: &[u32]) -> Result<(), Failed>
-    requires { length counts.now ≤ 25 }
+    requires { length counts.now ≤ GREATEST_BOUND + 1 }
     ensures { Writes (change_of O.held O.faults out.old out.new) (counted_text table.now counts.now) result }
 {
     write_line(out, "", head(table).as_str())?;
@@ -79,7 +79,7 @@ fn head(table: &DistanceTable) -> ArrayString<64>
 
 /// Writes a line for each distance, from 0 on.
 fn write_counts<O: Sink>(out: &mut O, counts: &[u32]) -> Result<(), Failed>
-    requires { length counts.now ≤ 25 }
+    requires { length counts.now ≤ GREATEST_BOUND + 1 }
     ensures { Writes (change_of O.held O.faults out.old out.new) (text_of_lines (count_lines 0 counts.now)) result }
 {
     for (distance, count) in counts.iter().enumerate() {
@@ -104,12 +104,12 @@ fn labelled(distance: u32) -> ArrayString<11>
 }
 
 /// How many counts there are up to the last that isn't 0.
-fn line_count(counts: &[u32; 25]) -> usize
-    ensures few { result ≤ 25 }
+fn line_count(counts: &[u32; GREATEST_BOUND + 1]) -> usize
+    ensures few { result ≤ GREATEST_BOUND + 1 }
     ensures last { (d : ℕ) → result ≡ d + 1 → 0 < slice_index counts.now d }
-    ensures behind { (d : ℕ) → result ≤ d → d < 25 → slice_index counts.now d ≡ 0 }
+    ensures behind { (d : ℕ) → result ≤ d → d < GREATEST_BOUND + 1 → slice_index counts.now d ≡ 0 }
 {
-    for distance in (0..25usize).rev() {
+    for distance in (0..counts.len()).rev() {
         if counts[distance] > 0 {
             return distance + 1;
         }

@@ -1,5 +1,6 @@
 pub mod NumberedPyram
 pub mod NumberedSkewb
+mod EvenTurned
 pub mod SkewbLaws
 pub mod SkewbDigits
 pub mod SkewbOnLiterals
@@ -8,6 +9,5 @@ pub mod PyramLaws
 pub mod PyramTurns
 pub mod PyramLiterals
 pub mod PyramKnown
-pub mod PyramMinima
 pub mod PyramWords
 pub mod PyramTips

@@ -14,9 +14,10 @@ use Rattle.scr_combinatorics.proofs.Digits.{AreDigits-mixed_digits, AreDigits-re
 use Rattle.scr_combinatorics.proofs.Twists.{total-push, completed}
 use Rattle.scr_combinatorics.proofs.Numberings.{GivesState, numbering_by_digits}
 use Rattle.scr_combinatorics.proofs.EvenLists.{IsEvenPermutation, passes_all, test-even}
-use Rattle.scr_orbit.specs.Orbits.{Orbit, zeros}
+use Rattle.scr_orbit.specs.Orbits.{zeros}
 use Rattle.scr_orbit.proofs.DigitLaws.{All-zeros}
 use Rattle.scr_orbit.proofs.OrbitLaws.{same_orbit}
+use Rattle.scr_orbit.proofs.Parts.{ap_three}
 use Rattle.scr_tetra.specs.Skewb.{SkewbState, class_of, completing, IsSkewb, skewb_digits, skewb_of_digits, skewb_numbered}
 
 abbrev four_bases : List ℕ
@@ -149,11 +150,7 @@ zeros-below (d ∷ ds) below =
     ap (λ x. x ∷ zeros (length ds)) none ∙ ap (λ xs. d ∷ xs) (zeros-below ds (All-tail (λ d. d < 1) d ds below))
 
 pub same_skewb : (s t : SkewbState) → s.four ≡ t.four → s.three ≡ t.three → s.centres ≡ t.centres → s ≡ t
-same_skewb s t a b c =
-    let one : Orbit → SkewbState = λ o. record { four = o; three = s.three; centres = s.centres } in
-    let two : Orbit → SkewbState = λ o. record { four = t.four; three = o; centres = s.centres } in
-    let six : Orbit → SkewbState = λ o. record { four = t.four; three = t.three; centres = o } in
-    ap one a ∙ ap two b ∙ ap six c
+same_skewb s t a b c = ap_three (λ four three centres. record { four = four; three = three; centres = centres }) a b c
 
 pub AreDigits-skewb : (s : SkewbState) → IsSkewb s → AreDigits skewb_bases (skewb_digits s)
 unfolding skewb_digits

@@ -1,95 +1,26 @@
 -- Words of a Pyraminx by parts: what they do to the body, and how many tips they solve.
-use Rattle.std.proofs.Common.{◌≡◌, ℕ, zero, suc, ◌+◌, ◌-◌, ◌*◌, ◌%◌, ◌<◌, ◌≤◌, inl, inr, true, false, cond, List, [], ◌∷◌, Some, length, refl, sym, ap, ◌∙◌, subst, arith, eqb, ne_eqb}
+use Rattle.std.proofs.Common.{◌≡◌, ℕ, zero, suc, ◌+◌, ◌-◌, ◌/◌, ◌%◌, ◌<◌, ◌≤◌, inl, inr, true, false, cond, List, [], ◌∷◌, Some, length, refl, sym, ap, ◌∙◌, subst, arith, eqb, ne_eqb}
 use Rattle.std.specs.Prelude.{All, slice_get}
 use Rattle.std.specs.Option.{option_map}
 use Rattle.std.proofs.Math.Nat.{mod-eq_of_lt}
+use Rattle.std.proofs.lemmas.Bool.{cases_lt}
 use Rattle.std.proofs.lemmas.List.Elements.{All-head, All-tail, All-from_recursion}
 use Rattle.std.proofs.lemmas.Option.{same_Some}
 use Rattle.scr_combinatorics.specs.Play.{play}
-use Rattle.scr_combinatorics.proofs.PlayLaws.{and_then-some, play-empty, play-first, play-parts, map-some}
-use Rattle.scr_orbit.specs.Actions.{power, power_of, all_powers}
-use Rattle.scr_orbit.specs.Orbits.{composed, identity, added_digits}
+use Rattle.scr_combinatorics.proofs.PlayLaws.{play-empty, play-first, play-parts, map-some}
+use Rattle.scr_orbit.specs.Orbits.{added_digits}
 use Rattle.scr_orbit.specs.PowerPuzzles.{letter_table, after_letter, all_turns, part_turns}
 use Rattle.scr_orbit.proofs.PowerLaws.{All-got}
 use Rattle.scr_orbit.proofs.InPlaceLaws.{added_digits-still}
 use Rattle.scr_notation.specs.declared.turn.Turn.{Turn}
-use Rattle.scr_notation.specs.declared.turn.Turn.TheVariants.{Axis, Tip}
-use Rattle.scr_notation.specs.AxisLetters.{thirds_of}
-use Rattle.scr_notation.proofs.AxisLaws.{IsThirdsOf-read, axis_turn_at-axis, axis_turn_at-tip}
-use Rattle.scr_tetra.specs.Pyraminx.{TetraminxState, tetraminx_action, tetraminx_powers, PyramState, IsPyram, pyram_thirds, pyram_action, pyram_powers}
+use Rattle.scr_notation.specs.declared.turn.Turn.TheVariants.{Axis}
+use Rattle.scr_notation.specs.TurnNumbers.{axis_turn_at}
+use Rattle.scr_notation.proofs.AxisLaws.{axis_turn_at-axis, axis_turn_at-tip}
+use Rattle.scr_tetra.specs.Pyraminx.{TetraminxState, tetraminx_monoid, tetraminx_powers, PyramState, IsPyram, pyram_monoid, pyram_powers}
 use Rattle.scr_tetra.specs.PyramParts.{large_turns, tip_turn_count, turned_count}
 use Rattle.scr_tetra.proofs.PyramLaws.{large_turn, tip_turn, tetraminx_laws, lawful_tetraminx, lawful_pyram}
+use Rattle.scr_tetra.proofs.PyramLiterals.{pyram_on_literals}
 use Rattle.scr_tetra.proofs.PyramTurns.{large_at, tip_at, pyram_large}
-
--- ---- letters
-
--- what a letter makes of a state with its tips
-pub record IsLargeStep (s r : PyramState) (t : Turn) : Type 0 where
-  pub body : (after_letter tetraminx_powers) s.body t ≡ Some r.body
-  pub tips : r.tips ≡ s.tips
-
-pub record IsTipStep (s r : PyramState) : Type 0 where
-  pub body : r.body ≡ s.body
-  pub row : List ℕ
-  pub place : ℕ
-  pub there : slice_get (part_turns (λ r. r.axials) tetraminx_powers) place ≡ Some row
-  pub tips : r.tips ≡ added_digits 3 s.tips row
-
-axis_table : (axis amount : ℕ) → axis < 4 → 0 < amount → amount < 3
-    → letter_table pyram_powers (Axis axis amount) ≡ option_map large_turn (letter_table tetraminx_powers (Axis axis amount))
-unfolding all_turns
-axis_table axis amount there some few =
-    let n : ℕ = 2 * axis + (amount - 1) in
-    let letter = axis_turn_at-axis n axis amount refl there some few in
-    ap (letter_table pyram_powers) (sym letter) ∙ sym (lawful_pyram.numbered n) ∙ large_at n (omega arith)
-    ∙ ap (option_map large_turn) (lawful_tetraminx.numbered n ∙ ap (letter_table tetraminx_powers) letter)
-
-tip_table : (tip amount : ℕ) → 0 < amount → amount < 3
-    → letter_table pyram_powers (Tip tip amount) ≡ option_map tip_turn (slice_get (part_turns (λ r. r.axials) tetraminx_powers) (2 * tip + (amount - 1)))
-unfolding all_turns
-tip_table tip amount some few =
-    let k : ℕ = 2 * tip + (amount - 1) in
-    let letter = axis_turn_at-tip (8 + k) tip amount (omega arith) some few in
-    ap (letter_table pyram_powers) (sym letter) ∙ sym (lawful_pyram.numbered (8 + k)) ∙ tip_at (8 + k) k refl
-
-large_step : (s r : PyramState) (axis amount : ℕ) → axis < 4 → 0 < amount → amount < 3 → IsPyram s
-    → (after_letter pyram_powers) s (Axis axis amount) ≡ Some r → IsLargeStep s r (Axis axis amount)
-large_step s r axis amount there some few own e =
-    let turn = map-some (pyram_action.turned s) (letter_table pyram_powers (Axis axis amount)) r e in
-    let part = map-some large_turn (letter_table tetraminx_powers (Axis axis amount)) turn.0 (sym (axis_table axis amount there some few) ∙ turn.1) in
-    let made : pyram_action.turned s (large_turn part.0) ≡ r = ap (pyram_action.turned s) part.2 ∙ turn.2 in
-    record {
-      body = ap (option_map (tetraminx_action.turned s.body)) part.1 ∙ ap (λ x. Some x.body) made;
-      tips = sym (ap (λ x. x.tips) made) ∙ added_digits-still 4 3 s.tips own.tips;
-    }
-
-tip_step : (s r : PyramState) (tip amount : ℕ) → 0 < amount → amount < 3 → IsPyram s
-    → (after_letter pyram_powers) s (Tip tip amount) ≡ Some r → IsTipStep s r
-tip_step s r tip amount some few own e =
-    let turn = map-some (pyram_action.turned s) (letter_table pyram_powers (Tip tip amount)) r e in
-    let k : ℕ = 2 * tip + (amount - 1) in
-    let part = map-some tip_turn (slice_get (part_turns (λ r. r.axials) tetraminx_powers) k) turn.0 (sym (tip_table tip amount some few) ∙ turn.1) in
-    let made : pyram_action.turned s (tip_turn part.0) ≡ r = ap (pyram_action.turned s) part.2 ∙ turn.2 in
-    record {
-      body = sym (ap (λ x. x.body) made) ∙ tetraminx_laws.turned_by_none s.body own.body;
-      row = part.0;
-      place = k;
-      there = part.1;
-      tips = sym (ap (λ x. x.tips) made);
-    }
-
--- a letter that does something is a large turn or one of a tip
-letter_by : (P : Turn → Type 0) (s r : PyramState) (t : Turn) → (after_letter pyram_powers) s t ≡ Some r
-    → ((axis amount : ℕ) → axis < 4 → 0 < amount → amount < 3 → t ≡ Axis axis amount → P (Axis axis amount))
-    → ((tip amount : ℕ) → 0 < amount → amount < 3 → t ≡ Tip tip amount → P (Tip tip amount)) → P t
-letter_by P s r t e large tip =
-    let turn = map-some (pyram_action.turned s) (letter_table pyram_powers t) r e in
-    let p = and_then-some (power_of pyram_action pyram_thirds) (thirds_of t) turn.0 turn.1 in
-    let h = IsThirdsOf-read t p.0 p.1 in
-    elim h.is [
-      | inl a ↦ subst P (sym a.1) (large p.0.generator p.0.exponent a.0 h.some h.few a.1)
-      | inr b ↦ subst P (sym b.3) (tip b.0 p.0.exponent h.some h.few b.3)
-    ]
 
 -- ---- tips: a turn of one solves one tip at most
 
@@ -120,16 +51,43 @@ turned_count-added m (d ∷ ds) (e ∷ es) h below =
 
 -- each turn of a tip turns one
 one_turned : All (λ row. (turned_count row ≡ 1) × (length row ≡ 4)) (part_turns (λ r. r.axials) tetraminx_powers)
-unfolding all_turns all_powers power composed identity added_digits
+unfolding pyram_on_literals
 one_turned = All-from_recursion (λ row. (turned_count row ≡ 1) × (length row ≡ 4)) (part_turns (λ r. r.axials) tetraminx_powers)
     ((refl, refl), ((refl, refl), ((refl, refl), ((refl, refl), ((refl, refl), ((refl, refl), ((refl, refl), ((refl, refl), tt))))))))
 
-tip_count : (s r : PyramState) → IsPyram s → IsTipStep s r → turned_count s.tips ≤ turned_count r.tips + 1
-tip_count s r own h =
-    let row = All-got (λ row. (turned_count row ≡ 1) × (length row ≡ 4)) (part_turns (λ r. r.axials) tetraminx_powers) h.place h.row one_turned h.there in
-    let less = turned_count-added 3 s.tips h.row (own.tips.size ∙ sym row.1) own.tips.below in
-    let same : turned_count r.tips ≡ turned_count (added_digits 3 s.tips h.row) = ap turned_count h.tips in
-    omega (arith, less, same, row.0)
+-- ---- letters
+
+-- what a large turn makes of a state with its tips, and what a turn of a tip does
+pub record IsLargeStep (s r : PyramState) (n : ℕ) : Type 0 where
+  pub body : (after_letter tetraminx_powers) s.body (axis_turn_at n) ≡ Some r.body
+  pub tips : r.tips ≡ s.tips
+
+pub record IsTipStep (s r : PyramState) : Type 0 where
+  pub body : r.body ≡ s.body
+  pub tips : turned_count s.tips ≤ turned_count r.tips + 1
+
+large_step : (s r : PyramState) (n : ℕ) → n < 8 → IsPyram s → (after_letter pyram_powers) s (axis_turn_at n) ≡ Some r
+    → IsLargeStep s r n
+large_step s r n lt own e =
+    let turn = map-some (pyram_monoid.turned s) (letter_table pyram_powers (axis_turn_at n)) r e in
+    let part = map-some large_turn (slice_get (all_turns tetraminx_powers) n) turn.0 (sym (large_at n lt) ∙ lawful_pyram.numbered n ∙ turn.1) in
+    let made : pyram_monoid.turned s (large_turn part.0) ≡ r = ap (pyram_monoid.turned s) part.2 ∙ turn.2 in
+    record {
+      body = ap (option_map (tetraminx_monoid.turned s.body)) (sym (lawful_tetraminx.numbered n) ∙ part.1) ∙ ap (λ x. Some x.body) made;
+      tips = sym (ap (λ x. x.tips) made) ∙ added_digits-still 4 3 s.tips own.tips;
+    }
+
+tip_step : (s r : PyramState) (n k : ℕ) → n ≡ 8 + k → IsPyram s → (after_letter pyram_powers) s (axis_turn_at n) ≡ Some r
+    → IsTipStep s r
+tip_step s r n k is own e =
+    let turn = map-some (pyram_monoid.turned s) (letter_table pyram_powers (axis_turn_at n)) r e in
+    let rows : List (List ℕ) = part_turns (λ r. r.axials) tetraminx_powers in
+    let part = map-some tip_turn (slice_get rows k) turn.0 (sym (tip_at n k is) ∙ lawful_pyram.numbered n ∙ turn.1) in
+    let made : pyram_monoid.turned s (tip_turn part.0) ≡ r = ap (pyram_monoid.turned s) part.2 ∙ turn.2 in
+    let row = All-got (λ row. (turned_count row ≡ 1) × (length row ≡ 4)) rows k part.0 one_turned part.1 in
+    let less = turned_count-added 3 s.tips part.0 (own.tips.size ∙ sym row.1) own.tips.below in
+    let same : turned_count (added_digits 3 s.tips part.0) ≡ turned_count r.tips = ap (λ x. turned_count x.tips) made in
+    record { body = sym (ap (λ x. x.body) made) ∙ tetraminx_laws.solved_last s.body own.body; tips = omega (arith, less, same, row.0) }
 
 -- ---- words
 
@@ -142,23 +100,30 @@ pub record IsByParts (s end : PyramState) (w : List Turn) : Type 0 where
 with_letter : (s r end : PyramState) (t : Turn) (w : List Turn) → IsPyram s → (after_letter pyram_powers) s t ≡ Some r
     → IsByParts r end w → IsByParts s end (t ∷ w)
 with_letter s r end t w own e rest =
+    let number = lawful_pyram.numbers s r t e in
+    let n : ℕ = number.0 in
+    let again : (after_letter pyram_powers) s (axis_turn_at n) ≡ Some r = ap ((after_letter pyram_powers) s) number.2 ∙ e in
     let P : Turn → Type 0 = λ u. IsByParts s end (u ∷ w) in
-    letter_by P s r t e
-    (λ axis amount there some few is.
-    let step = large_step s r axis amount there some few own (sym (ap ((after_letter pyram_powers) s) is) ∙ e) in
-    let tips : turned_count r.tips ≡ turned_count s.tips = ap turned_count step.tips in
-    record {
-      body = play-first (after_letter tetraminx_powers) s.body r.body (Axis axis amount) (large_turns w) step.body ∙ rest.body;
-      tips = omega (arith, rest.tips, tips);
-      count = omega (arith, rest.count);
-    })
-    (λ tip amount some few is.
-    let step = tip_step s r tip amount some few own (sym (ap ((after_letter pyram_powers) s) is) ∙ e) in
-    record {
-      body = ap (λ b. play (after_letter tetraminx_powers) b (large_turns w)) (sym step.body) ∙ rest.body;
-      tips = omega (arith, rest.tips, tip_count s r own step);
-      count = omega (arith, rest.count);
-    })
+    elim (cases_lt n 8) [
+      | inl lt ↦
+          let letter = axis_turn_at-axis n (n / 2) (n % 2 + 1) (omega arith) (omega arith) (omega arith) (omega arith) in
+          let step = large_step s r n lt own again in
+          let body = sym (ap ((after_letter tetraminx_powers) s.body) letter) ∙ step.body in
+          let tips : turned_count r.tips ≡ turned_count s.tips = ap turned_count step.tips in
+          subst P (sym letter ∙ number.2) (record {
+            body = play-first (after_letter tetraminx_powers) s.body r.body (Axis (n / 2) (n % 2 + 1)) (large_turns w) body ∙ rest.body;
+            tips = omega (arith, rest.tips, tips);
+            count = omega (arith, rest.count);
+          })
+      | inr le ↦
+          let letter = axis_turn_at-tip n ((n - 8) / 2) (n % 2 + 1) (omega arith) (omega arith) (omega arith) in
+          let step = tip_step s r n (n - 8) (omega arith) own again in
+          subst P (sym letter ∙ number.2) (record {
+            body = ap (λ b. play (after_letter tetraminx_powers) b (large_turns w)) (sym step.body) ∙ rest.body;
+            tips = omega (arith, rest.tips, step.tips);
+            count = omega (arith, rest.count);
+          })
+    ]
 
 pub by_parts : (s end : PyramState) (w : List Turn) → IsPyram s → play (after_letter pyram_powers) s w ≡ Some end
     → IsByParts s end w

@@ -1,26 +1,29 @@
--- Laws of the turns of a Skewb: they act on its states, each axis's turn has order 3, and what follows of that.
-use Rattle.std.proofs.Common.{◌≡◌, ℕ, ◌+◌, ◌%◌, ◌<◌, Bool, true, List, refl, ap, ◌∙◌, arith, lit<, lit≤, eqb-true}
+-- Laws of the turns of a Skewb: with its states they are a monoid, each axis's turn has order 3, and what follows of
+-- that.
+use Rattle.std.proofs.Common.{◌≡◌, ℕ, ◌+◌, ◌%◌, ◌<◌, Bool, true, List, refl, arith, lit<, lit≤, eqb-true}
 use Rattle.std.specs.Prelude.{◌==◌, ◌&&◌, slice_index}
 use Rattle.std.proofs.lemmas.Bool.{and_parts}
 use Rattle.scr_combinatorics.specs.Lists.{total, pick}
-use Rattle.scr_combinatorics.specs.Permutations.{IsEven, parity, permutation_at, half_at}
-use Rattle.scr_orbit.specs.Actions.{IsAction, power}
-use Rattle.scr_orbit.specs.Orbits.{Orbit, Rearrangement, IsOrbit, IsRearrangement, turned_orbit, composed, identity, added_digits, solved_orbit, orbit_action}
+use Rattle.scr_combinatorics.specs.Permutations.{parity, permutation_at, half_at}
+use Rattle.scr_orbit.specs.Monoids.{IsMonoid}
+use Rattle.scr_orbit.specs.Orbits.{Orbit, IsOrbit, turned_orbit, orbit_monoid}
 use Rattle.scr_orbit.specs.PowerPuzzles.{IsPowerPuzzle, all_turns, part_turns}
-use Rattle.scr_orbit.proofs.OrbitLaws.{orbit_laws, IsOrbit-turned, IsOrbit-solved, total-turned, parity-turned}
-use Rattle.scr_orbit.proofs.Orders.{TellsIdentity}
-use Rattle.scr_orbit.proofs.Parts.{ap_three, pair_action, IsAction-pair, IsSeenAs, IsSeenAs-whole, IsAction-two, IsMadeAt, IsMadeAt-part, IsMadeAt-both}
-use Rattle.scr_orbit.proofs.TableTests.{and_three, is_still, still, is_rearrangement, IsRearrangement-from_test}
+use Rattle.scr_orbit.proofs.OrbitLaws.{orbit_laws, IsOrbit-turned, total-turned}
+use Rattle.scr_orbit.proofs.Orders.{TellsSolved}
+use Rattle.scr_orbit.proofs.Parts.{ap_three, pair_monoid, IsMonoid-pair, IsMonoid-seen, IsSeenAs, IsSeenAs-whole, IsMadeAt, IsMadeAt-part, IsMadeAt-both}
+use Rattle.scr_orbit.proofs.TableTests.{and_three, is_still, still, is_orbit, IsOrbit-from_test}
 use Rattle.scr_notation.specs.Turning.{opposite, turn_merging}
 use Rattle.scr_notation.proofs.AxisLaws.{axis_powers, axes_numbered}
 use Rattle.scr_orbit.proofs.PowerPuzzleLaws.{IsPowerPuzzle-from_test}
 use Rattle.scr_orbit.proofs.TurnedAt.{IsTurned, IsTurned-seen}
-use Rattle.scr_tetra.specs.Skewb.{SkewbState, class_of, IsSkewb, SkewbTurn, made_of_solved, IsSkewbTurn, skewb_action, skewb_powers, solved_skewb}
+use Rattle.scr_tetra.specs.Skewb.{SkewbState, class_of, IsSkewb, skewb_monoid, skewb_powers, solved_skewb}
+use Rattle.scr_tetra.proofs.EvenTurned.{even-turned}
+use Rattle.scr_tetra.proofs.SkewbOnLiterals.{skewb_on_literals}
 use Rattle.scr_combinatorics.proofs.EvenLists.{IsEvenPermutation, passes_all, test-even}
 
 -- ---- what even lists add up to
 
--- a number that is read from even lists adds up modulo 3 where one list is rearranged by another, as a test
+-- a number that is read from even lists adds up modulo 3 where one list is picked by another, as a test
 adds_with : (List ℕ → ℕ) → List ℕ → List ℕ → Bool
 adds_with f ps qs = f (pick ps qs) == (f ps + f qs) % 3
 
@@ -56,83 +59,32 @@ sums-added : (s t a b c d : ℕ) → s % 3 ≡ (a + b) % 3 → t ≡ (c + d) % 3
     → (s + t) % 3 ≡ 0
 sums-added s t a b c d e f g h = omega (arith, e, f, g, h)
 
-even-turned : (n m : ℕ) (o : Orbit) (r : Rearrangement) → IsOrbit n m o → IsRearrangement n m r → IsEven o.pieces
-    → IsEven r.places → IsEven (turned_orbit m o r).pieces
-even-turned n m o r h k e f = parity-turned n m o r h.pieces k.places ∙ ap (λ x. (x + parity r.places) % 2) e ∙ ap (λ x. (0 + x) % 2) f
-
--- a rearrangement as what it makes of the solved orbit
-turn_by : (n m : ℕ) (r : Rearrangement) → IsOrbit n m (record { pieces = r.places; digits = r.added })
-    → IsRearrangement n m r
-turn_by n m r h = record { places = h.pieces; size = h.size; below = h.below }
-
-pub IsSkewb-turned : (s : SkewbState) (r : SkewbTurn) → IsSkewb s → IsSkewbTurn r → IsSkewb (skewb_action.turned s r)
+pub IsSkewb-turned : (s r : SkewbState) → IsSkewb s → IsSkewb r → IsSkewb (skewb_monoid.turned s r)
 unfolding turned_orbit
-IsSkewb-turned s r h k =
-    let four = turn_by 4 3 r.four k.four in
-    let three = turn_by 3 3 r.three k.three in
-    let centres = turn_by 6 1 r.centres k.centres in
-    record {
-      four = IsOrbit-turned 4 3 s.four r.four (lit< tt) h.four four;
-      three = IsOrbit-turned 3 3 s.three r.three (lit< tt) h.three three;
-      centres = IsOrbit-turned 6 1 s.centres r.centres (lit< tt) h.centres centres;
-      even_four = even-turned 4 3 s.four r.four h.four four h.even_four k.even_four;
-      even_three = even-turned 3 3 s.three r.three h.three three h.even_three k.even_three;
-      even_centres = even-turned 6 1 s.centres r.centres h.centres centres h.even_centres k.even_centres;
-      twists_of_three =
-          sums-added _ _ _ _ _ _ (total-turned 3 3 s.three r.three h.three three)
-          (class-pick s.four.pieces r.four.places (record { permutation = h.four.pieces; even = h.even_four }) (record { permutation = k.four.pieces; even = k.even_four }))
-          h.twists_of_three k.twists_of_three;
-      twists_of_four =
-          sums-added _ _ _ _ _ _ (total-turned 4 3 s.four r.four h.four four)
-          (first-pick s.three.pieces r.three.places (record { permutation = h.three.pieces; even = h.even_three }) (record { permutation = k.three.pieces; even = k.even_three }))
-          h.twists_of_four k.twists_of_four;
-    }
-
-pub IsSkewb-solved : IsSkewb solved_skewb
-unfolding solved_skewb solved_orbit
-IsSkewb-solved = record {
-  four = IsOrbit-solved 4 3 (lit< tt);
-  three = IsOrbit-solved 3 3 (lit< tt);
-  centres = IsOrbit-solved 6 1 (lit< tt);
-  even_four = refl;
-  even_three = refl;
-  even_centres = refl;
-  twists_of_three = refl;
-  twists_of_four = refl;
+IsSkewb-turned s r h k = record {
+  four = IsOrbit-turned 4 3 s.four r.four (lit< tt) h.four k.four;
+  three = IsOrbit-turned 3 3 s.three r.three (lit< tt) h.three k.three;
+  centres = IsOrbit-turned 6 1 s.centres r.centres (lit< tt) h.centres k.centres;
+  even_four = even-turned 4 3 s.four r.four h.four.pieces k.four.pieces h.even_four k.even_four;
+  even_three = even-turned 3 3 s.three r.three h.three.pieces k.three.pieces h.even_three k.even_three;
+  even_centres = even-turned 6 1 s.centres r.centres h.centres.pieces k.centres.pieces h.even_centres k.even_centres;
+  twists_of_three =
+      sums-added _ _ _ _ _ _ (total-turned 3 3 s.three r.three h.three k.three)
+      (class-pick s.four.pieces r.four.pieces (record { permutation = h.four.pieces; even = h.even_four }) (record { permutation = k.four.pieces; even = k.even_four }))
+      h.twists_of_three k.twists_of_three;
+  twists_of_four =
+      sums-added _ _ _ _ _ _ (total-turned 4 3 s.four r.four h.four k.four)
+      (first-pick s.three.pieces r.three.pieces (record { permutation = h.three.pieces; even = h.even_three }) (record { permutation = k.three.pieces; even = k.even_three }))
+      h.twists_of_four k.twists_of_four;
 }
-
--- a state is its three orbits, and a turn its three rearrangements
-parts_of : SkewbState → Orbit × (Orbit × Orbit)
-parts_of s = (s.four, (s.three, s.centres))
-
-turn_parts_of : SkewbTurn → Rearrangement × (Rearrangement × Rearrangement)
-turn_parts_of r = (r.four, (r.three, r.centres))
-
-seen_by_parts : IsSeenAs skewb_action (pair_action (orbit_action 4 3) (pair_action (orbit_action 3 3) (orbit_action 6 1))) parts_of turn_parts_of
-unfolding parts_of turn_parts_of
-seen_by_parts =
-    IsSeenAs-whole (λ p. record { four = p.0; three = p.1.0; centres = p.1.1 }) (λ p. record { four = p.0; three = p.1.0; centres = p.1.1 })
-    (λ s. refl) (λ r. refl) (λ s r. refl) (λ r q. refl) refl
-
--- turns act on Skewbs
-pub skewb_laws : IsAction skewb_action IsSkewb IsSkewbTurn
-unfolding parts_of turn_parts_of solved_skewb solved_orbit identity composed turned_orbit
-skewb_laws =
-    IsAction-two skewb_action (orbit_action 4 3) (pair_action (orbit_action 3 3) (orbit_action 6 1)) parts_of turn_parts_of seen_by_parts (IsOrbit 4 3) (IsRearrangement 4 3)
-    (λ p. IsOrbit 3 3 p.0 × IsOrbit 6 1 p.1) (λ p. IsRearrangement 3 3 p.0 × IsRearrangement 6 1 p.1) (orbit_laws 4 3 (lit< tt))
-    (IsAction-pair (orbit_action 3 3) (orbit_action 6 1) (IsOrbit 3 3) (IsRearrangement 3 3) (IsOrbit 6 1) (IsRearrangement 6 1)
-    (orbit_laws 3 3 (lit< tt)) (orbit_laws 6 1 (lit< tt)))
-    IsSkewb IsSkewbTurn (λ s h. (h.four, (h.three, h.centres)))
-    (λ r h. (turn_by 4 3 r.four h.four, (turn_by 3 3 r.three h.three, turn_by 6 1 r.centres h.centres)))
-    (λ s r h k a b. IsSkewb-turned s r h k) (λ r q h k a b. IsSkewb-turned (made_of_solved r) q h k) IsSkewb-solved
 
 -- ---- tests that the checker computes
 
-unfoldable pub moves_nothing : SkewbTurn → Bool
+unfoldable pub moves_nothing : SkewbState → Bool
 moves_nothing r = is_still 4 r.four && (is_still 3 r.three && is_still 6 r.centres)
 
-pub tells_skewb : TellsIdentity skewb_action moves_nothing
-unfolding moves_nothing identity
+pub tells_skewb : TellsSolved skewb_monoid moves_nothing
+unfolding moves_nothing skewb_on_literals
 tells_skewb = record {
   shows = λ r h.
       let parts = and_three (is_still 4 r.four) (is_still 3 r.three) (is_still 6 r.centres) h in
@@ -141,47 +93,66 @@ tells_skewb = record {
   passes = refl;
 }
 
-rearranges : SkewbTurn → Bool
-rearranges r = is_rearrangement 4 3 r.four && (is_rearrangement 3 3 r.three && is_rearrangement 6 1 r.centres)
+are_orbits : SkewbState → Bool
+are_orbits s = is_orbit 4 3 s.four && (is_orbit 3 3 s.three && is_orbit 6 1 s.centres)
 
-is_even : SkewbTurn → Bool
-is_even r = (parity r.four.places == 0) && ((parity r.three.places == 0) && (parity r.centres.places == 0))
+are_even : SkewbState → Bool
+are_even s = (parity s.four.pieces == 0) && ((parity s.three.pieces == 0) && (parity s.centres.pieces == 0))
 
-sums_up : SkewbTurn → Bool
-sums_up r =
-    ((total r.three.added + class_of r.four.places) % 3 == 0) && ((total r.four.added + slice_index r.three.places 0) % 3 == 0)
+sums_up : SkewbState → Bool
+sums_up s =
+    ((total s.three.digits + class_of s.four.pieces) % 3 == 0) && ((total s.four.digits + slice_index s.three.pieces 0) % 3 == 0)
 
-is_turn : SkewbTurn → Bool
-is_turn r = rearranges r && (is_even r && sums_up r)
+is_skewb : SkewbState → Bool
+is_skewb s = are_orbits s && (are_even s && sums_up s)
 
-IsSkewbTurn-from_test : (r : SkewbTurn) → is_turn r ≡ true → IsSkewbTurn r
-unfolding is_turn rearranges is_even sums_up
-IsSkewbTurn-from_test r h =
-    let parts = and_three (rearranges r) (is_even r) (sums_up r) h in
-    let rearranged = and_three (is_rearrangement 4 3 r.four) (is_rearrangement 3 3 r.three) (is_rearrangement 6 1 r.centres) parts.0 in
-    let four = IsRearrangement-from_test 4 3 r.four rearranged.0 in
-    let three = IsRearrangement-from_test 3 3 r.three rearranged.1 in
-    let centres = IsRearrangement-from_test 6 1 r.centres rearranged.2 in
-    let even = and_three (parity r.four.places == 0) (parity r.three.places == 0) (parity r.centres.places == 0) parts.1 in
-    let sums = and_parts ((total r.three.added + class_of r.four.places) % 3 == 0) ((total r.four.added + slice_index r.three.places 0) % 3 == 0) parts.2 in
+IsSkewb-from_test : (s : SkewbState) → is_skewb s ≡ true → IsSkewb s
+unfolding is_skewb are_orbits are_even sums_up
+IsSkewb-from_test s h =
+    let parts = and_three (are_orbits s) (are_even s) (sums_up s) h in
+    let orbits = and_three (is_orbit 4 3 s.four) (is_orbit 3 3 s.three) (is_orbit 6 1 s.centres) parts.0 in
+    let even = and_three (parity s.four.pieces == 0) (parity s.three.pieces == 0) (parity s.centres.pieces == 0) parts.1 in
+    let sums = and_parts ((total s.three.digits + class_of s.four.pieces) % 3 == 0) ((total s.four.digits + slice_index s.three.pieces 0) % 3 == 0) parts.2 in
     record {
-      four = record { pieces = four.places; size = four.size; below = four.below };
-      three = record { pieces = three.places; size = three.size; below = three.below };
-      centres = record { pieces = centres.places; size = centres.size; below = centres.below };
-      even_four = eqb-true (parity r.four.places) 0 even.0;
-      even_three = eqb-true (parity r.three.places) 0 even.1;
-      even_centres = eqb-true (parity r.centres.places) 0 even.2;
-      twists_of_three = eqb-true ((total r.three.added + class_of r.four.places) % 3) 0 sums.0;
-      twists_of_four = eqb-true ((total r.four.added + slice_index r.three.places 0) % 3) 0 sums.1;
+      four = IsOrbit-from_test 4 3 s.four orbits.0;
+      three = IsOrbit-from_test 3 3 s.three orbits.1;
+      centres = IsOrbit-from_test 6 1 s.centres orbits.2;
+      even_four = eqb-true (parity s.four.pieces) 0 even.0;
+      even_three = eqb-true (parity s.three.pieces) 0 even.1;
+      even_centres = eqb-true (parity s.centres.pieces) 0 even.2;
+      twists_of_three = eqb-true ((total s.three.digits + class_of s.four.pieces) % 3) 0 sums.0;
+      twists_of_four = eqb-true ((total s.four.digits + slice_index s.three.pieces 0) % 3) 0 sums.1;
     }
 
--- ---- what follows of that
+pub IsSkewb-solved : IsSkewb solved_skewb
+unfolding is_skewb are_orbits are_even sums_up skewb_on_literals
+IsSkewb-solved = IsSkewb-from_test solved_skewb refl
 
-pub lawful_skewb : IsPowerPuzzle skewb_powers IsSkewb IsSkewbTurn opposite turn_merging
-unfolding is_turn rearranges is_even sums_up moves_nothing power composed identity added_digits
+-- ---- the monoid, and what follows of that
+
+-- a state is its three orbits
+parts_of : SkewbState → Orbit × (Orbit × Orbit)
+parts_of s = (s.four, (s.three, s.centres))
+
+seen_by_parts : IsSeenAs skewb_monoid (pair_monoid (orbit_monoid 4 3) (pair_monoid (orbit_monoid 3 3) (orbit_monoid 6 1))) parts_of
+unfolding parts_of skewb_on_literals
+seen_by_parts = IsSeenAs-whole (λ p. record { four = p.0; three = p.1.0; centres = p.1.1 }) (λ s. refl) (λ s r. refl) refl
+
+pub skewb_laws : IsMonoid skewb_monoid IsSkewb
+unfolding parts_of
+skewb_laws =
+    IsMonoid-seen skewb_monoid (pair_monoid (orbit_monoid 4 3) (pair_monoid (orbit_monoid 3 3) (orbit_monoid 6 1))) parts_of seen_by_parts
+    (λ p. IsOrbit 4 3 p.0 × (IsOrbit 3 3 p.1.0 × IsOrbit 6 1 p.1.1))
+    (IsMonoid-pair (orbit_monoid 4 3) (pair_monoid (orbit_monoid 3 3) (orbit_monoid 6 1)) (IsOrbit 4 3) (λ p. IsOrbit 3 3 p.0 × IsOrbit 6 1 p.1)
+    (orbit_laws 4 3 (lit< tt))
+    (IsMonoid-pair (orbit_monoid 3 3) (orbit_monoid 6 1) (IsOrbit 3 3) (IsOrbit 6 1) (orbit_laws 3 3 (lit< tt)) (orbit_laws 6 1 (lit< tt))))
+    IsSkewb (λ s h. (h.four, (h.three, h.centres))) IsSkewb-turned IsSkewb-solved
+
+pub lawful_skewb : IsPowerPuzzle skewb_powers IsSkewb opposite turn_merging
+unfolding is_skewb are_orbits are_even sums_up moves_nothing skewb_on_literals
 lawful_skewb =
-    IsPowerPuzzle-from_test skewb_powers IsSkewb IsSkewbTurn (record { numbered = axes_numbered; powers = axis_powers; few = lit≤ tt })
-    skewb_laws IsSkewb-solved moves_nothing tells_skewb is_turn IsSkewbTurn-from_test refl
+    IsPowerPuzzle-from_test skewb_powers IsSkewb (record { numbered = axes_numbered; powers = axis_powers; few = lit≤ tt }) skewb_laws
+    moves_nothing tells_skewb is_skewb IsSkewb-from_test refl
 
 -- the Skewb after a turn, and it is valid
 pub skewb_turned : (s : SkewbState) (four three centres : Orbit) (n : ℕ) → IsSkewb s
@@ -189,7 +160,7 @@ pub skewb_turned : (s : SkewbState) (four three centres : Orbit) (n : ℕ) → I
     → IsMadeAt (part_turns (λ r. r.three) skewb_powers) n (turned_orbit 3 s.three) three
     → IsMadeAt (part_turns (λ r. r.centres) skewb_powers) n (turned_orbit 1 s.centres) centres
     → IsTurned skewb_powers IsSkewb s n (record { four = four; three = three; centres = centres })
-unfolding parts_of turn_parts_of
+unfolding parts_of
 skewb_turned s four three centres n own first second third =
     IsTurned-seen skewb_powers lawful_skewb s (record { four = four; three = three; centres = centres }) n own seen_by_parts
     (IsMadeAt-both (IsMadeAt-part (λ r. r.four) (all_turns skewb_powers) first)

@@ -8,12 +8,13 @@
 -- its tips the puzzle is known as the Tetraminx, which stands here by itself, since it is what a search has to solve.
 use Rattle.std.specs.Prelude.{ℕ, ◌/◌, List, [], ◌∷◌, ◌++◌, map, replicate, slice_index}
 use Rattle.std.specs.List.{zip}
+use Rattle.scr_combinatorics.specs.Lists.{numbers_from}
 use Rattle.scr_combinatorics.specs.Permutations.{IsEven, permutation_number, half_at}
 use Rattle.scr_combinatorics.specs.Twists.{twists_number, twists_at}
 use Rattle.scr_combinatorics.specs.Digits.{mixed_number, mixed_digits}
 use Rattle.scr_combinatorics.specs.Numbered.{Numbers, numbers_by_digits, Numbered, numbered_by_digits}
-use Rattle.scr_orbit.specs.Actions.{Action}
-use Rattle.scr_orbit.specs.Orbits.{Orbit, Rearrangement, IsZeroSumOrbit, IsZeroSumRearrangement, added_digits, turned_orbit, composed, identity, solved_orbit, zeros}
+use Rattle.scr_orbit.specs.Monoids.{Monoid}
+use Rattle.scr_orbit.specs.Orbits.{Orbit, IsZeroSumOrbit, added_digits, turned_orbit, solved_orbit, zeros}
 use Rattle.scr_orbit.specs.InPlace.{AreDigitsInPlace}
 use Rattle.scr_orbit.specs.PowerPuzzles.{PowerPuzzle}
 use Rattle.scr_notation.specs.declared.turn.Turn.{Turn}
@@ -32,52 +33,39 @@ pub record IsTetraminx (s : TetraminxState) : Type 0 where
   pub even : IsEven s.edges.pieces
   pub axials : AreDigitsInPlace 4 3 s.axials
 
--- What a turn does to the edges, and what it adds to the axial pieces.
-pub record TetraminxTurn : Type 0 where
-  pub edges : Rearrangement
-  pub axials : List ℕ
-
--- A turn that keeps states valid.
-pub record IsTetraminxTurn (r : TetraminxTurn) : Type 0 where
-  pub edges : IsZeroSumRearrangement 6 2 r.edges
-  pub even : IsEven r.edges.places
-  pub axials : AreDigitsInPlace 4 3 r.axials
-
 -- The turns about U, L, R and B by a third: which place's edge comes to each place, and what is added to its flip.
-abbrev pub edge_thirds : List Rearrangement
+abbrev pub edge_thirds : List Orbit
 edge_thirds =
-    record { places = 1 ∷ 2 ∷ 0 ∷ 3 ∷ 4 ∷ 5 ∷ []; added = zeros 6 }
-    ∷ record { places = 4 ∷ 1 ∷ 2 ∷ 0 ∷ 3 ∷ 5 ∷ []; added = zeros 6 }
-    ∷ record { places = 0 ∷ 3 ∷ 2 ∷ 5 ∷ 4 ∷ 1 ∷ []; added = 0 ∷ 1 ∷ 0 ∷ 1 ∷ 0 ∷ 0 ∷ [] }
-    ∷ record { places = 0 ∷ 1 ∷ 5 ∷ 3 ∷ 2 ∷ 4 ∷ []; added = 0 ∷ 0 ∷ 1 ∷ 0 ∷ 1 ∷ 0 ∷ [] } ∷ []
+    record { pieces = 1 ∷ 2 ∷ 0 ∷ 3 ∷ 4 ∷ 5 ∷ []; digits = zeros 6 }
+    ∷ record { pieces = 4 ∷ 1 ∷ 2 ∷ 0 ∷ 3 ∷ 5 ∷ []; digits = zeros 6 }
+    ∷ record { pieces = 0 ∷ 3 ∷ 2 ∷ 5 ∷ 4 ∷ 1 ∷ []; digits = 0 ∷ 1 ∷ 0 ∷ 1 ∷ 0 ∷ 0 ∷ [] }
+    ∷ record { pieces = 0 ∷ 1 ∷ 5 ∷ 3 ∷ 2 ∷ 4 ∷ []; digits = 0 ∷ 0 ∷ 1 ∷ 0 ∷ 1 ∷ 0 ∷ [] } ∷ []
 
 -- What a third about each axis adds to pieces that stay at the four axes.
 abbrev pub thirds_in_place : List (List ℕ)
 thirds_in_place = (1 ∷ 0 ∷ 0 ∷ 0 ∷ []) ∷ (0 ∷ 1 ∷ 0 ∷ 0 ∷ []) ∷ (0 ∷ 0 ∷ 1 ∷ 0 ∷ []) ∷ (0 ∷ 0 ∷ 0 ∷ 1 ∷ []) ∷ []
 
 -- Such a turn moves edges and turns the axial piece of its axis.
-abbrev pub tetraminx_thirds : List TetraminxTurn
+abbrev pub tetraminx_thirds : List TetraminxState
 tetraminx_thirds = map (λ r. record { edges = r.0; axials = r.1 }) (zip edge_thirds thirds_in_place)
-
--- Turns rearrange the edges and turn the axial pieces at once.
-abbrev pub tetraminx_action : Action TetraminxState TetraminxTurn
-tetraminx_action = record {
-  turned = λ s r. record { edges = turned_orbit 2 s.edges r.edges; axials = added_digits 3 s.axials r.axials };
-  composed = λ r q. record { edges = composed 2 r.edges q.edges; axials = added_digits 3 r.axials q.axials };
-  identity = record { edges = identity 6; axials = zeros 4 };
-}
 
 unfoldable pub solved_tetraminx : TetraminxState
 solved_tetraminx = record { edges = solved_orbit 6; axials = zeros 4 }
 
--- The Tetraminx as data. Its 8 turns are U U' L L' R R' B B', in the order of their numbers.
-abbrev pub tetraminx_powers : PowerPuzzle TetraminxState TetraminxTurn Turn
-tetraminx_powers = record {
-  letters = letters_about_axes;
-  action = tetraminx_action;
-  generators = tetraminx_thirds;
+-- Turns move the edges and turn the axial pieces at once.
+abbrev pub tetraminx_monoid : Monoid TetraminxState
+tetraminx_monoid = record {
+  turned = λ s r. record { edges = turned_orbit 2 s.edges r.edges; axials = added_digits 3 s.axials r.axials };
   solved = solved_tetraminx;
 }
+
+-- The Tetraminx as data. Its 8 turns are U U' L L' R R' B B', in the order of their numbers.
+abbrev pub tetraminx_powers : PowerPuzzle TetraminxState Turn
+tetraminx_powers = record { letters = letters_about_axes; monoid = tetraminx_monoid; generators = tetraminx_thirds }
+
+-- Digits of pieces that stay at the four axes, as an orbit.
+abbrev pub at_axes : List ℕ → Orbit
+at_axes digits = record { pieces = numbers_from 0 4; digits = digits }
 
 -- ---- the Pyraminx: with its tips
 
@@ -89,36 +77,26 @@ pub record IsPyram (s : PyramState) : Type 0 where
   pub body : IsTetraminx s.body
   pub tips : AreDigitsInPlace 4 3 s.tips
 
-pub record PyramTurn : Type 0 where
-  pub body : TetraminxTurn
-  pub tips : List ℕ
+unfoldable pub solved_pyram : PyramState
+solved_pyram = record { body = solved_tetraminx; tips = zeros 4 }
 
-pub record IsPyramTurn (r : PyramTurn) : Type 0 where
-  pub body : IsTetraminxTurn r.body
-  pub tips : AreDigitsInPlace 4 3 r.tips
-
-abbrev pub pyram_action : Action PyramState PyramTurn
-pyram_action = record {
-  turned = λ s r. record { body = tetraminx_action.turned s.body r.body; tips = added_digits 3 s.tips r.tips };
-  composed = λ r q. record { body = tetraminx_action.composed r.body q.body; tips = added_digits 3 r.tips q.tips };
-  identity = record { body = tetraminx_action.identity; tips = zeros 4 };
+abbrev pub pyram_monoid : Monoid PyramState
+pyram_monoid = record {
+  turned = λ s r. record { body = tetraminx_monoid.turned s.body r.body; tips = added_digits 3 s.tips r.tips };
+  solved = solved_pyram;
 }
 
 -- A third about each axis, which leaves the tips as they stand to the axial pieces, and then a third of each tip
 -- alone: u, l, r and b.
-abbrev pub pyram_thirds : List PyramTurn
+abbrev pub pyram_thirds : List PyramState
 pyram_thirds =
     map (λ r. record { body = r; tips = zeros 4 }) tetraminx_thirds
-    ++ map (λ added. record { body = tetraminx_action.identity; tips = added }) thirds_in_place
-
-unfoldable pub solved_pyram : PyramState
-solved_pyram = record { body = solved_tetraminx; tips = zeros 4 }
+    ++ map (λ added. record { body = solved_tetraminx; tips = added }) thirds_in_place
 
 -- The Pyraminx as data. Its 16 turns are U U' L L' R R' B B', and then u u' l l' r r' b b', in the order of their
 -- numbers.
-abbrev pub pyram_powers : PowerPuzzle PyramState PyramTurn Turn
-pyram_powers =
-    record { letters = letters_about_axes; action = pyram_action; generators = pyram_thirds; solved = solved_pyram }
+abbrev pub pyram_powers : PowerPuzzle PyramState Turn
+pyram_powers = record { letters = letters_about_axes; monoid = pyram_monoid; generators = pyram_thirds }
 
 -- ---- numbers
 

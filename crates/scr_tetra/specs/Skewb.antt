@@ -10,8 +10,8 @@ use Rattle.scr_combinatorics.specs.Lists.{total}
 use Rattle.scr_combinatorics.specs.Permutations.{IsEven, permutation_number, half_at}
 use Rattle.scr_combinatorics.specs.Digits.{mixed_number, mixed_digits}
 use Rattle.scr_combinatorics.specs.Numbered.{Numbers, numbers_by_digits, Numbered, numbered_by_digits}
-use Rattle.scr_orbit.specs.Actions.{Action}
-use Rattle.scr_orbit.specs.Orbits.{Orbit, Rearrangement, IsOrbit, turned_orbit, composed, identity, solved_orbit, zeros}
+use Rattle.scr_orbit.specs.Monoids.{Monoid}
+use Rattle.scr_orbit.specs.Orbits.{Orbit, IsOrbit, turned_orbit, solved_orbit, zeros}
 use Rattle.scr_orbit.specs.PowerPuzzles.{PowerPuzzle}
 use Rattle.scr_notation.specs.declared.turn.Turn.{Turn}
 use Rattle.scr_notation.specs.AxisLetters.{letters_about_axes}
@@ -42,78 +42,54 @@ pub record IsSkewb (s : SkewbState) : Type 0 where
 
 -- ---- turns
 
--- What a turn does to the four, the three and the centres.
-pub record SkewbTurn : Type 0 where
-  pub four : Rearrangement
-  pub three : Rearrangement
-  pub centres : Rearrangement
-
--- What a turn makes of the solved Skewb.
-abbrev pub made_of_solved : SkewbTurn → SkewbState
-made_of_solved r = record {
-  four = record { pieces = r.four.places; digits = r.four.added };
-  three = record { pieces = r.three.places; digits = r.three.added };
-  centres = record { pieces = r.centres.places; digits = r.centres.added };
-}
-
--- A turn that keeps states valid is one that makes a valid one of the solved one.
-abbrev pub IsSkewbTurn : SkewbTurn → Type 0
-IsSkewbTurn r = IsSkewb (made_of_solved r)
-
 -- The clockwise turns by one third about U (the corner ULB), L (DLF), R (DRB) and B (DBL), of half of the Skewb each:
 -- which place's piece comes to each place of the four, and the twist added. UFR stands still, so each turns the half
 -- without it.
-abbrev pub four_thirds : List Rearrangement
+abbrev pub four_thirds : List Orbit
 four_thirds =
-    record { places = 1 ∷ 3 ∷ 2 ∷ 0 ∷ []; added = 2 ∷ 2 ∷ 0 ∷ 2 ∷ [] }
-    ∷ record { places = 3 ∷ 1 ∷ 0 ∷ 2 ∷ []; added = 2 ∷ 0 ∷ 2 ∷ 2 ∷ [] }
-    ∷ record { places = 0 ∷ 2 ∷ 3 ∷ 1 ∷ []; added = 0 ∷ 2 ∷ 2 ∷ 2 ∷ [] }
-    ∷ record { places = 0 ∷ 1 ∷ 2 ∷ 3 ∷ []; added = 0 ∷ 0 ∷ 0 ∷ 1 ∷ [] } ∷ []
+    record { pieces = 1 ∷ 3 ∷ 2 ∷ 0 ∷ []; digits = 2 ∷ 2 ∷ 0 ∷ 2 ∷ [] }
+    ∷ record { pieces = 3 ∷ 1 ∷ 0 ∷ 2 ∷ []; digits = 2 ∷ 0 ∷ 2 ∷ 2 ∷ [] }
+    ∷ record { pieces = 0 ∷ 2 ∷ 3 ∷ 1 ∷ []; digits = 0 ∷ 2 ∷ 2 ∷ 2 ∷ [] }
+    ∷ record { pieces = 0 ∷ 1 ∷ 2 ∷ 3 ∷ []; digits = 0 ∷ 0 ∷ 0 ∷ 1 ∷ [] } ∷ []
 
 -- The same of the three.
-abbrev pub three_thirds : List Rearrangement
+abbrev pub three_thirds : List Orbit
 three_thirds =
-    record { places = 0 ∷ 1 ∷ 2 ∷ []; added = 1 ∷ 0 ∷ 0 ∷ [] }
-    ∷ record { places = 0 ∷ 1 ∷ 2 ∷ []; added = 0 ∷ 1 ∷ 0 ∷ [] }
-    ∷ record { places = 0 ∷ 1 ∷ 2 ∷ []; added = 0 ∷ 0 ∷ 1 ∷ [] }
-    ∷ record { places = 2 ∷ 0 ∷ 1 ∷ []; added = 2 ∷ 2 ∷ 2 ∷ [] } ∷ []
+    record { pieces = 0 ∷ 1 ∷ 2 ∷ []; digits = 1 ∷ 0 ∷ 0 ∷ [] }
+    ∷ record { pieces = 0 ∷ 1 ∷ 2 ∷ []; digits = 0 ∷ 1 ∷ 0 ∷ [] }
+    ∷ record { pieces = 0 ∷ 1 ∷ 2 ∷ []; digits = 0 ∷ 0 ∷ 1 ∷ [] }
+    ∷ record { pieces = 2 ∷ 0 ∷ 1 ∷ []; digits = 2 ∷ 2 ∷ 2 ∷ [] } ∷ []
 
 -- And of the centres.
-abbrev pub centre_thirds : List Rearrangement
+abbrev pub centre_thirds : List Orbit
 centre_thirds =
-    record { places = 5 ∷ 1 ∷ 2 ∷ 3 ∷ 0 ∷ 4 ∷ []; added = zeros 6 }
-    ∷ record { places = 0 ∷ 1 ∷ 4 ∷ 2 ∷ 3 ∷ 5 ∷ []; added = zeros 6 }
-    ∷ record { places = 0 ∷ 3 ∷ 2 ∷ 5 ∷ 4 ∷ 1 ∷ []; added = zeros 6 }
-    ∷ record { places = 0 ∷ 1 ∷ 2 ∷ 4 ∷ 5 ∷ 3 ∷ []; added = zeros 6 } ∷ []
+    record { pieces = 5 ∷ 1 ∷ 2 ∷ 3 ∷ 0 ∷ 4 ∷ []; digits = zeros 6 }
+    ∷ record { pieces = 0 ∷ 1 ∷ 4 ∷ 2 ∷ 3 ∷ 5 ∷ []; digits = zeros 6 }
+    ∷ record { pieces = 0 ∷ 3 ∷ 2 ∷ 5 ∷ 4 ∷ 1 ∷ []; digits = zeros 6 }
+    ∷ record { pieces = 0 ∷ 1 ∷ 2 ∷ 4 ∷ 5 ∷ 3 ∷ []; digits = zeros 6 } ∷ []
 
 -- All three at once.
-abbrev pub skewb_thirds : List SkewbTurn
+abbrev pub skewb_thirds : List SkewbState
 skewb_thirds =
     map (λ r. record { four = r.0; three = r.1.0; centres = r.1.1 }) (zip four_thirds (zip three_thirds centre_thirds))
 
--- Turns rearrange the three orbits at once.
-abbrev pub skewb_action : Action SkewbState SkewbTurn
-skewb_action = record {
+unfoldable pub solved_skewb : SkewbState
+solved_skewb = record { four = solved_orbit 4; three = solved_orbit 3; centres = solved_orbit 6 }
+
+-- Turns move the pieces of the three orbits at once.
+abbrev pub skewb_monoid : Monoid SkewbState
+skewb_monoid = record {
   turned = λ s r. record {
     four = turned_orbit 3 s.four r.four;
     three = turned_orbit 3 s.three r.three;
     centres = turned_orbit 1 s.centres r.centres;
   };
-  composed = λ r q. record {
-    four = composed 3 r.four q.four;
-    three = composed 3 r.three q.three;
-    centres = composed 1 r.centres q.centres;
-  };
-  identity = record { four = identity 4; three = identity 3; centres = identity 6 };
+  solved = solved_skewb;
 }
 
-unfoldable pub solved_skewb : SkewbState
-solved_skewb = record { four = solved_orbit 4; three = solved_orbit 3; centres = solved_orbit 6 }
-
 -- The Skewb as data. Its 8 turns are U U' L L' R R' B B', in the order of their numbers.
-abbrev pub skewb_powers : PowerPuzzle SkewbState SkewbTurn Turn
-skewb_powers =
-    record { letters = letters_about_axes; action = skewb_action; generators = skewb_thirds; solved = solved_skewb }
+abbrev pub skewb_powers : PowerPuzzle SkewbState Turn
+skewb_powers = record { letters = letters_about_axes; monoid = skewb_monoid; generators = skewb_thirds }
 
 -- ---- numbers
 

@@ -1,7 +1,7 @@
 -- What turning a Skewb as a whole does to stickers. The faces U R F D L B are 0 to 5.
 use Rattle.std.specs.Prelude.{ℕ, List, [], ◌∷◌, map, slice_index}
 use Rattle.scr_orbit.specs.Stickers.{IsCarriedBy}
-use Rattle.scr_tetra.specs.Skewb.{SkewbTurn}
+use Rattle.scr_tetra.specs.Skewb.{SkewbState}
 
 -- The faces at which the stickers of each place of the four are, clockwise, that of U or D first: UFL, UBR, DFR, DBL.
 abbrev pub four_faces : List (List ℕ)
@@ -20,7 +20,7 @@ abbrev pub rotated_piece : List ℕ → List ℕ
 rotated_piece stickers = map (slice_index (1 ∷ 2 ∷ 0 ∷ 4 ∷ 5 ∷ 3 ∷ [])) stickers
 
 -- So it is with all three kinds of pieces.
-pub record CarriesAll (carried : List ℕ → List ℕ) (r : SkewbTurn) : Type 0 where
+pub record CarriesAll (carried : List ℕ → List ℕ) (r : SkewbState) : Type 0 where
   pub four : IsCarriedBy carried four_faces r.four
   pub three : IsCarriedBy carried three_faces r.three
   pub centres : IsCarriedBy carried centre_faces r.centres

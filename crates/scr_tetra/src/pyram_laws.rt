@@ -15,17 +15,17 @@ ghost use Rattle.scr_notation.specs.TurnNumbers.{axis_turn_at};
 ghost use Rattle.scr_notation.specs.Spelling.{text_of};
 ghost use Rattle.scr_notation.specs.Turning.{opposite, turn_merging};
 ghost use Rattle.scr_notation.specs.Played.{PlaysTurnsOf};
-ghost use Rattle.scr_tetra.specs.Pyraminx.{TetraminxState, IsTetraminx, IsTetraminxTurn, tetraminx_powers, numbered_tetraminx, PyramState, IsPyram, IsPyramTurn, pyram_powers, solved_pyram, numbered_pyram};
+ghost use Rattle.scr_tetra.specs.Pyraminx.{TetraminxState, IsTetraminx, tetraminx_powers, numbered_tetraminx, PyramState, IsPyram, pyram_powers, solved_pyram, numbered_pyram};
 ghost use Rattle.scr_tetra.specs.PyramHolds.{ShowsThirds, about_up, half_round};
 ghost use Rattle.scr_tetra.specs.PyramParts.{large_turns, tip_turn_count, turned_count, tips_word};
 ghost use Rattle.scr_tetra.specs.PyramKnown.{pyram_orders, edge_cycle, edge_flip, cycled, flipped, two_tips};
 
-/// The turns are lawful, with tips and without: they keep states valid, and composed turns act as one after the other;
-/// words are taken back, and each comes to one rearrangement, the same for every state. What turns reach is valid. A
-/// third has order 3, and each turn has the number that the notation gives it.
+/// The turns are lawful, with tips and without: they keep states valid, and what two come to does what one and then the
+/// other do; words are taken back and tidied, and each does to every state what it does to the solved one. What turns
+/// reach is valid. A third has order 3, and each turn has the number that the notation gives it.
 pub fn turns()
-    ensures pyraminx { IsPowerPuzzle pyram_powers IsPyram IsPyramTurn opposite turn_merging }
-    ensures tetraminx { IsPowerPuzzle tetraminx_powers IsTetraminx IsTetraminxTurn opposite turn_merging }
+    ensures pyraminx { IsPowerPuzzle pyram_powers IsPyram opposite turn_merging }
+    ensures tetraminx { IsPowerPuzzle tetraminx_powers IsTetraminx opposite turn_merging }
 {}
 
 /// From each valid state turns lead to a state exactly where each of them is a turn of the event; and without tips,

@@ -2,7 +2,7 @@
 //! third and by two. A wrong entry is refused, since the calls ensure that the tables are those of the definitions.
 ghost use Rattle.std.specs.Prelude.{◌≡◌, length, All};
 ghost use Rattle.scr_orbit.specs.InPlace.{AreDigitsInPlace};
-ghost use Rattle.scr_orbit.specs.Orbits.{IsZeroSumRearrangement};
+ghost use Rattle.scr_orbit.specs.Orbits.{IsZeroSumOrbit};
 ghost use Rattle.scr_orbit.specs.PlaceTurns.{IsTurnTable};
 ghost use Rattle.scr_orbit.specs.PowerPuzzles.{part_turns};
 ghost use Rattle.scr_tetra.specs.Pyraminx.{tetraminx_powers};
@@ -13,7 +13,7 @@ use scr_orbit::{PlaceTurn, place_turns};
 /// axes U L R B are 0 to 3.
 #[inline]
 pub fn edge_turns() -> &'static [PlaceTurn<6>]
-    ensures { IsTurnTable 8 (IsZeroSumRearrangement 6 2) (part_turns (λ r. r.edges) tetraminx_powers) result.now }
+    ensures { IsTurnTable 8 (IsZeroSumOrbit 6 2) (part_turns (λ r. r.edges) tetraminx_powers) result.now }
 {
     &EDGE_TABLE
 }

@@ -11,15 +11,15 @@ ghost use Rattle.scr_notation.specs.declared.turn.Turn.{Turn as Letter};
 ghost use Rattle.scr_notation.specs.Spelling.{text_of};
 ghost use Rattle.scr_notation.specs.Turning.{opposite, turn_merging};
 ghost use Rattle.scr_notation.specs.Played.{PlaysTurnsOf};
-ghost use Rattle.scr_tetra.specs.Skewb.{IsSkewb, IsSkewbTurn, skewb_powers, solved_skewb, skewb_numbered};
+ghost use Rattle.scr_tetra.specs.Skewb.{IsSkewb, skewb_powers, solved_skewb, skewb_numbered};
 ghost use Rattle.scr_tetra.specs.SkewbStickers.{CarriesAll, rotated_piece};
 ghost use Rattle.scr_tetra.specs.SkewbKnown.{skewb_orders, after_b_u, after_b_r, rotation, RotatesTurns};
 
-/// The turns are lawful: they keep states valid, and composed turns act as one after the other; words are taken back
-/// and tidied, and each comes to one rearrangement, the same for every state. What turns reach is valid. A turn by one
-/// third has order 3, and each turn has the number that the notation gives it.
+/// The turns are lawful: they keep states valid, and what two come to does what one and then the other do; words are
+/// taken back and tidied, and each does to every state what it does to the solved one. What turns reach is valid. A turn
+/// by one third has order 3, and each turn has the number that the notation gives it.
 pub fn turns()
-    ensures { IsPowerPuzzle skewb_powers IsSkewb IsSkewbTurn opposite turn_merging }
+    ensures { IsPowerPuzzle skewb_powers IsSkewb opposite turn_merging }
 {}
 
 /// From each valid state turns lead to a state exactly where each of them is a turn of the event.

@@ -1,6 +1,6 @@
-//! All turns of a Skewb, as rearrangements in the order of the turns' numbers: of each axis the turns by one and two
-//! thirds. A wrong entry is refused, since the calls ensure that the tables are those of the definitions.
-ghost use Rattle.scr_orbit.specs.Orbits.{IsRearrangement};
+//! What all turns of a Skewb make of its orbits, in the order of the turns' numbers: of each axis the turns by one and
+//! two thirds. A wrong entry is refused, since the calls ensure that the tables are those of the definitions.
+ghost use Rattle.scr_orbit.specs.Orbits.{IsOrbit};
 ghost use Rattle.scr_orbit.specs.PlaceTurns.{IsTurnTable};
 ghost use Rattle.scr_orbit.specs.PowerPuzzles.{part_turns};
 ghost use Rattle.scr_tetra.specs.Skewb.{skewb_powers};
@@ -11,7 +11,7 @@ use scr_orbit::{PlaceTurn, place_turns};
 /// the axis's, by `amount` thirds; the axes U L R B are 0 to 3.
 #[inline]
 pub fn four_turns() -> &'static [PlaceTurn<4>]
-    ensures { IsTurnTable 8 (IsRearrangement 4 3) (part_turns (λ r. r.four) skewb_powers) result.now }
+    ensures { IsTurnTable 8 (IsOrbit 4 3) (part_turns (λ r. r.four) skewb_powers) result.now }
 {
     &FOUR_TABLE
 }
@@ -30,7 +30,7 @@ static FOUR_TABLE: [PlaceTurn<4>; 8] = place_turns![
 /// What they do to the three corners, in the same order.
 #[inline]
 pub fn three_turns() -> &'static [PlaceTurn<3>]
-    ensures { IsTurnTable 8 (IsRearrangement 3 3) (part_turns (λ r. r.three) skewb_powers) result.now }
+    ensures { IsTurnTable 8 (IsOrbit 3 3) (part_turns (λ r. r.three) skewb_powers) result.now }
 {
     &THREE_TABLE
 }
@@ -49,7 +49,7 @@ static THREE_TABLE: [PlaceTurn<3>; 8] = place_turns![
 /// What they do to the centres, in the same order.
 #[inline]
 pub fn centre_turns() -> &'static [PlaceTurn<6>]
-    ensures { IsTurnTable 8 (IsRearrangement 6 1) (part_turns (λ r. r.centres) skewb_powers) result.now }
+    ensures { IsTurnTable 8 (IsOrbit 6 1) (part_turns (λ r. r.centres) skewb_powers) result.now }
 {
     &CENTRE_TABLE
 }

@@ -11,7 +11,7 @@ use Rattle.scr_notation.specs.declared.event.Event.TheVariants.{C222}
 use Rattle.scr_notation.specs.Event.{name_of}
 use Rattle.scr_text.specs.Lines.{has_bytes, text_of_lines, is_line_feed}
 use Rattle.scr_layout.specs.Group.{Group, IsGroup}
-use Rattle.scr_layout.specs.Holding.{held_of}
+use Rattle.scr_layout.specs.Holding.{held_as, held_of}
 use Rattle.scr_layout.specs.Shown.{HasNoControl}
 use Rattle.scr_layout.specs.Texts.{title_of, round_line_of, group_letter}
 use Rattle.scr_text_pages.specs.Reading.{ReadLines, is_cut_line, read_lines}
@@ -51,7 +51,7 @@ record IsHeldText (event : Event) : Type 0 where
   no_cut : have_no_cut (held_lines event) ≡ true
 
 held-is : (event : Event) → IsHeldText event
-unfolding held_lines held_of
+unfolding held_lines held_as
 held-is C222 = record { text = refl; plain = refl; no_cut = refl }
 held-is event = record { text = refl; plain = refl; no_cut = refl }
 

@@ -11,15 +11,15 @@ use Rattle.scr_combinatorics.proofs.Picks.{pick-at, length-pick}
 use Rattle.scr_combinatorics.proofs.PlayLaws.{map-some, play-empty, play-parts}
 use Rattle.scr_draw.specs.Count.{count_below}
 use Rattle.scr_draw.proofs.Counting.{count_step}
-use Rattle.scr_orbit.specs.Orbits.{Orbit, Rearrangement, IsOrbit, IsRearrangement, turned_orbit, added_digits}
+use Rattle.scr_orbit.specs.Orbits.{Orbit, IsOrbit, turned_orbit, added_digits}
 use Rattle.scr_orbit.specs.PowerPuzzles.{all_turns, letter_table}
 use Rattle.scr_orbit.proofs.DigitLaws.{added_digits-at}
-use Rattle.scr_orbit.proofs.OrbitLaws.{IsOrbit-zero_sum, IsRearrangement-zero_sum}
+use Rattle.scr_orbit.proofs.OrbitLaws.{IsOrbit-zero_sum}
 use Rattle.scr_orbit.proofs.Parts.{ap_both}
 use Rattle.scr_orbit.proofs.PowerLaws.{All-got}
 use Rattle.scr_orbit.proofs.TablesOnLiterals.{turns_on_literals}
 use Rattle.scr_notation.specs.TurnNumbers.{face_turn_at}
-use Rattle.scr_cube.specs.Cube333.{CubeState, CubeTurn, IsCube, IsCubeTurn, cube_action, cube_powers}
+use Rattle.scr_cube.specs.Cube333.{CubeState, IsCube, cube_monoid, cube_powers, solved_cube}
 use Rattle.scr_cube.proofs.Laws333.{lawful_cube}
 use Rattle.scr_search.specs.Orderly.{after_turn}
 use Rattle.scr_search.proofs.Admissible.{IsCube-turned}
@@ -97,58 +97,58 @@ count_both p q r (suc n) h =
     last true false false same = absurd (true≢false (same refl))
 
 -- what stands where a turn moves nothing stays as it is
-stays : (n m : ℕ) (o : Orbit) (r : Rearrangement) → IsOrbit n m o → IsRearrangement n m r → (k : ℕ) → k < n
-    → is_astray r.places r.added k ≡ false
+stays : (n m : ℕ) (o r : Orbit) → IsOrbit n m o → IsOrbit n m r → (k : ℕ) → k < n
+    → is_astray r.pieces r.digits k ≡ false
     → is_astray o.pieces o.digits k ≡ is_astray (turned_orbit m o r).pieces (turned_orbit m o r).digits k
 unfolding turned_orbit
 stays n m o r own turn k lt still =
-    let at_home : Bool = slice_index r.places k == k in
-    let as_is : Bool = slice_index r.added k == 0 in
+    let at_home : Bool = slice_index r.pieces k == k in
+    let as_is : Bool = slice_index r.digits k == 0 in
     let here = and_parts at_home as_is (not-false (at_home && as_is) still) in
-    let place : slice_index r.places k ≡ k = eqb-true (slice_index r.places k) k here.0 in
-    let added : slice_index r.added k ≡ 0 = eqb-true (slice_index r.added k) 0 here.1 in
-    let within : k < length r.places = omega (arith, lt, turn.places.size) in
-    let digits : List ℕ = pick o.digits r.places in
-    let sizes : length digits ≡ length r.added = length-pick o.digits r.places ∙ turn.places.size ∙ sym turn.size in
+    let place : slice_index r.pieces k ≡ k = eqb-true (slice_index r.pieces k) k here.0 in
+    let added : slice_index r.digits k ≡ 0 = eqb-true (slice_index r.digits k) 0 here.1 in
+    let within : k < length r.pieces = omega (arith, lt, turn.pieces.size) in
+    let digits : List ℕ = pick o.digits r.pieces in
+    let sizes : length digits ≡ length r.digits = length-pick o.digits r.pieces ∙ turn.pieces.size ∙ sym turn.size in
     let below : slice_index o.digits k < m = own.below k 0 (omega (arith, lt, own.size)) in
-    let piece : slice_index (pick o.pieces r.places) k ≡ slice_index o.pieces k =
-    pick-at o.pieces r.places k within ∙ ap (slice_index o.pieces) place in
+    let piece : slice_index (pick o.pieces r.pieces) k ≡ slice_index o.pieces k =
+    pick-at o.pieces r.pieces k within ∙ ap (slice_index o.pieces) place in
     let picked : slice_index digits k ≡ slice_index o.digits k =
-    pick-at o.digits r.places k within ∙ ap (slice_index o.digits) place in
-    let sum : slice_index digits k + slice_index r.added k ≡ slice_index o.digits k = omega (arith, picked, added) in
-    let digit : slice_index (added_digits m digits r.added) k ≡ slice_index o.digits k =
-    added_digits-at m digits r.added k sizes (omega (arith, lt, sizes, turn.size)) ∙ ap (λ z. z % m) sum ∙ mod-eq_of_lt below in
+    pick-at o.digits r.pieces k within ∙ ap (slice_index o.digits) place in
+    let sum : slice_index digits k + slice_index r.digits k ≡ slice_index o.digits k = omega (arith, picked, added) in
+    let digit : slice_index (added_digits m digits r.digits) k ≡ slice_index o.digits k =
+    added_digits-at m digits r.digits k sizes (omega (arith, lt, sizes, turn.size)) ∙ ap (λ z. z % m) sum ∙ mod-eq_of_lt below in
     let test : ℕ → ℕ → Bool = λ p d. not ((p == k) && (d == 0)) in
-    ap (λ z. test z (slice_index o.digits k)) (sym piece) ∙ ap (test (slice_index (pick o.pieces r.places) k)) (sym digit)
+    ap (λ z. test z (slice_index o.digits k)) (sym piece) ∙ ap (test (slice_index (pick o.pieces r.pieces) k)) (sym digit)
 
 -- so no more pieces come home than it moves
-brought_home : (n m : ℕ) (o : Orbit) (r : Rearrangement) → IsOrbit n m o → IsRearrangement n m r
-    → astray o.pieces o.digits n ≤ astray (turned_orbit m o r).pieces (turned_orbit m o r).digits n + astray r.places r.added n
+brought_home : (n m : ℕ) (o r : Orbit) → IsOrbit n m o → IsOrbit n m r
+    → astray o.pieces o.digits n ≤ astray (turned_orbit m o r).pieces (turned_orbit m o r).digits n + astray r.pieces r.digits n
 unfolding astray
 brought_home n m o r own turn =
-    count_both (is_astray o.pieces o.digits) (is_astray (turned_orbit m o r).pieces (turned_orbit m o r).digits) (is_astray r.places r.added) n
+    count_both (is_astray o.pieces o.digits) (is_astray (turned_orbit m o r).pieces (turned_orbit m o r).digits) (is_astray r.pieces r.digits) n
     (stays n m o r own turn)
 
 -- ---- the turns of a cube
 
-moves_four : CubeTurn → Bool
-moves_four r = nat_le (astray r.corners.places r.corners.added 8) 4 && nat_le (astray r.edges.places r.edges.added 12) 4
+moves_four : CubeState → Bool
+moves_four r = nat_le (astray r.corners.pieces r.corners.digits 8) 4 && nat_le (astray r.edges.pieces r.edges.digits 12) 4
 
 all_move_four : list_all moves_four (all_turns cube_powers) ≡ true
-unfolding moves_four turns_on_literals astray count_below
+unfolding moves_four turns_on_literals solved_cube astray count_below
 all_move_four = refl
 
-by_turn : (c : CubeState) (r : CubeTurn) → IsCube c → IsCubeTurn r → moves_four r ≡ true
-    → astray_most c ≤ astray_most (cube_action.turned c r) + 4
+by_turn : (c r : CubeState) → IsCube c → IsCube r → moves_four r ≡ true
+    → astray_most c ≤ astray_most (cube_monoid.turned c r) + 4
 unfolding moves_four astray_most
 by_turn c r own turn few =
-    let corners : ℕ = astray r.corners.places r.corners.added 8 in
-    let edges : ℕ = astray r.edges.places r.edges.added 12 in
+    let corners : ℕ = astray r.corners.pieces r.corners.digits 8 in
+    let edges : ℕ = astray r.edges.pieces r.edges.digits 12 in
     let parts = and_parts (nat_le corners 4) (nat_le edges 4) few in
     omega (
       arith,
-      brought_home 8 3 c.corners r.corners (IsOrbit-zero_sum 8 3 c.corners own.corners) (IsRearrangement-zero_sum 8 3 r.corners turn.corners),
-      brought_home 12 2 c.edges r.edges (IsOrbit-zero_sum 12 2 c.edges own.edges) (IsRearrangement-zero_sum 12 2 r.edges turn.edges),
+      brought_home 8 3 c.corners r.corners (IsOrbit-zero_sum 8 3 c.corners own.corners) (IsOrbit-zero_sum 8 3 r.corners turn.corners),
+      brought_home 12 2 c.edges r.edges (IsOrbit-zero_sum 12 2 c.edges own.edges) (IsOrbit-zero_sum 12 2 r.edges turn.edges),
       leb-true corners 4 parts.0,
       leb-true edges 4 parts.1,
     )
@@ -156,7 +156,7 @@ by_turn c r own turn few =
 turned_once : (c d : CubeState) (t : ℕ) → IsCube c → after_turn c t ≡ Some d
     → IsCube d × (astray_most c ≤ astray_most d + 4)
 turned_once c d t own e =
-    let made = map-some (cube_action.turned c) (letter_table cube_powers (face_turn_at t)) d e in
+    let made = map-some (cube_monoid.turned c) (letter_table cube_powers (face_turn_at t)) d e in
     let few = All-got (λ r. moves_four r ≡ true) (all_turns cube_powers) t made.0
     (AllPass-from_list_all moves_four (all_turns cube_powers) all_move_four) (lawful_cube.numbered t ∙ made.1) in
     let near = by_turn c made.0 own (lawful_cube.lawful.turns (face_turn_at t) made.0 made.1) few in

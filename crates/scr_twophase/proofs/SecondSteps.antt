@@ -13,17 +13,18 @@ use Rattle.scr_combinatorics.proofs.Picks.{pick-in_order}
 use Rattle.scr_combinatorics.proofs.PlayLaws.{play-parts}
 use Rattle.scr_coord.proofs.GoalNumbers.{permutation_number-in_order}
 use Rattle.scr_orbit.specs.declared.placed.PlaceTurn.{PlaceTurn}
-use Rattle.scr_orbit.specs.Orbits.{Rearrangement, solved_orbit, turned_orbit}
-use Rattle.scr_orbit.specs.PlaceTurns.{rearrangement_of}
+use Rattle.scr_orbit.specs.Orbits.{Orbit, solved_orbit, turned_orbit}
+use Rattle.scr_orbit.specs.PlaceTurns.{made_by}
 use Rattle.scr_orbit.specs.PowerPuzzles.{all_turns, part_turns}
-use Rattle.scr_cube.specs.Cube333.{CubeState, CubeTurn, cube_action, cube_powers, solved_cube}
+use Rattle.scr_cube.specs.Cube333.{CubeState, cube_monoid, cube_powers, solved_cube}
 use Rattle.scr_stages.specs.Stages.{middle_edges, domino_turns}
 use Rattle.scr_stages.specs.Numbers.{IsDominoCube}
 use Rattle.scr_stages.specs.Tables.{outer_places}
 use Rattle.scr_stages.specs.Tetrads.{in_block}
 use Rattle.scr_stages.proofs.Blocks.{pick-append}
-use Rattle.scr_stages.proofs.DominoLaws.{IsPlaceSet-middle}
-use Rattle.scr_stages.proofs.HalfCubes.{pick-in_block}
+use Rattle.scr_stages.proofs.DominoLaws.{IsPlaceSet-middle, IsPlaceSet-outer_places, outer-kept}
+use Rattle.std.proofs.lemmas.Simd.{map-map}
+use Rattle.scr_stages.proofs.KeptBlocks.{pick-in_block}
 use Rattle.scr_cube.proofs.ListedTurns.{length-turns}
 use Rattle.scr_stages.proofs.TurnFacts.{tetrads_numbers}
 use Rattle.scr_combinatorics.specs.Words.{words_within}
@@ -44,7 +45,7 @@ use Rattle.scr_twophase.proofs.TakenBack.{AreTakenBack-ten}
 use Rattle.scr_search.proofs.ViewLaws.{Sees-follows}
 use Rattle.scr_twophase.proofs.WordSteps.{AreBehind-ten, sets_below}
 use Rattle.scr_twophase.specs.Spaces.{AreMiddleHome}
-use Rattle.scr_twophase.proofs.Spaces.{AreCornersHome, AreOuterHome, IsPlaceSet-outer_places, outer-kept, Follows-corners, Follows-outer_edges}
+use Rattle.scr_twophase.proofs.Spaces.{AreCornersHome, AreOuterHome, Follows-corners, Follows-outer_edges}
 use Rattle.scr_twophase.proofs.Spaces.{Follows-middle_edges}
 
 -- ---- positions
@@ -62,9 +63,9 @@ all_home c d outer middle =
     let p = c.edges.pieces in
     let is = d.cube.edges.pieces in
     let first : pick p outer_places ≡ outer_places =
-    sym (pick-in_block 12 8 outer_places p IsPlaceSet-outer_places is (outer-kept c d)) ∙ ap (pick outer_places) outer in
+    sym (pick-in_block 12 8 outer_places IsPlaceSet-outer_places p (outer-kept c d)) ∙ ap (pick outer_places) outer in
     let last : pick p middle_edges ≡ middle_edges =
-    sym (pick-in_block 12 4 middle_edges p IsPlaceSet-middle is d.domino.middle) ∙ ap (pick middle_edges) middle in
+    sym (pick-in_block 12 4 middle_edges IsPlaceSet-middle p d.domino.middle) ∙ ap (pick middle_edges) middle in
     sym (pick-in_order p) ∙ ap (λ n. pick p (numbers_from 0 n)) is.size
     ∙ pick-append p outer_places middle_edges ∙ ap (λ xs. xs ++ pick p middle_edges) first ∙ ap (λ xs. outer_places ++ xs) last
 
@@ -144,24 +145,20 @@ joined-searched c word after found left s =
 -- ---- where words lead
 
 -- what a turn in an array carries where is what it does by its number
-module _ {n : ℕ} (part : CubeTurn → Rearrangement) (turns : List (PlaceTurn n)) (defined : map rearrangement_of turns ≡ part_turns part cube_powers) where
+module _ {n : ℕ} (part : CubeState → Orbit) (turns : List (PlaceTurn n)) (defined : map made_by turns ≡ part_turns part cube_powers) where
   turn-places : (t : ℕ) → t < 18
-      → get_or (map (λ u. u.places) turns) t [] ≡ (part (get_or (all_turns cube_powers) t cube_action.identity)).places
+      → get_or (map (λ u. u.places) turns) t [] ≡ (part (get_or (all_turns cube_powers) t solved_cube)).pieces
   turn-places t lt =
       let all = all_turns cube_powers in
       let few : t < length all = omega (arith, length-turns, lt) in
       let mapped : t < length (map part all) = omega (arith, length-map all part, few) in
-      ap (λ xs. get_or xs t []) (sym (map-map turns) ∙ ap (map (λ r. r.places)) defined)
-      ∙ get_or-map (λ r. r.places) (map part all) t (part cube_action.identity) [] mapped
-      ∙ ap (λ r. r.places) (get_or-map part all t cube_action.identity (part cube_action.identity) few)
-    where
-      map-map : (us : List (PlaceTurn n)) → map (λ r. r.places) (map rearrangement_of us) ≡ map (λ u. u.places) us
-      map-map [] = refl
-      map-map (u ∷ us) = ap (λ xs. u.places ∷ xs) (map-map us)
+      ap (λ xs. get_or xs t []) (sym (map-map (λ (r : Orbit). r.pieces) made_by turns) ∙ ap (map (λ r. r.pieces)) defined)
+      ∙ get_or-map (λ r. r.pieces) (map part all) t (part solved_cube) [] mapped
+      ∙ ap (λ r. r.pieces) (get_or-map part all t solved_cube (part solved_cube) few)
 
   -- the pieces of a kind are carried as the turns say
   pub carried-played : (pieces : CubeState → List ℕ)
-      → ((c : CubeState) (r : CubeTurn) → pieces (cube_action.turned c r) ≡ pick (pieces c) (part r).places)
+      → ((c r : CubeState) → pieces (cube_monoid.turned c r) ≡ pick (pieces c) (part r).pieces)
       → (c d : CubeState) (word : List ℕ) → play after_turn c word ≡ Some d
       → carried (map (λ u. u.places) turns) (pieces c) word ≡ pieces d
   unfolding play
@@ -169,18 +166,18 @@ module _ {n : ℕ} (part : CubeTurn → Rearrangement) (turns : List (PlaceTurn 
   carried-played pieces turned c d (t ∷ word) e =
       let parts = play-parts after_turn c d t word e in
       let next : pieces parts.0 ≡ pick (pieces c) (get_or (map (λ u. u.places) turns) t []) =
-      ap pieces (after_turn-is c parts.0 t parts.1) ∙ turned c (get_or (all_turns cube_powers) t cube_action.identity)
+      ap pieces (after_turn-is c parts.0 t parts.1) ∙ turned c (get_or (all_turns cube_powers) t solved_cube)
       ∙ ap (pick (pieces c)) (sym (turn-places t (turn-below c parts.0 t parts.1))) in
       ap (λ xs. carried (map (λ u. u.places) turns) xs word) (sym next) ∙ carried-played pieces turned parts.0 d word parts.2
 
 -- of corners and of edges
-pub corners-turned : (c : CubeState) (r : CubeTurn)
-    → (cube_action.turned c r).corners.pieces ≡ pick c.corners.pieces r.corners.places
+pub corners-turned : (c r : CubeState)
+    → (cube_monoid.turned c r).corners.pieces ≡ pick c.corners.pieces r.corners.pieces
 unfolding turned_orbit
 corners-turned c r = refl
 
-pub edges-turned : (c : CubeState) (r : CubeTurn)
-    → (cube_action.turned c r).edges.pieces ≡ pick c.edges.pieces r.edges.places
+pub edges-turned : (c r : CubeState)
+    → (cube_monoid.turned c r).edges.pieces ≡ pick c.edges.pieces r.edges.pieces
 unfolding turned_orbit
 edges-turned c r = refl
 

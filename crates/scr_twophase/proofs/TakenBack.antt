@@ -10,7 +10,7 @@ use Rattle.scr_notation.specs.Turning.{opposite}
 use Rattle.scr_cube.specs.Cube333.{CubeState, IsCube, cube_powers}
 use Rattle.scr_cube.proofs.Laws333.{lawful_cube}
 use Rattle.scr_stages.specs.Numbers.{IsDominoCube}
-use Rattle.scr_stages.proofs.FiniteTests.{All-from_test}
+use Rattle.scr_orbit.proofs.TableTests.{All-from_test}
 use Rattle.scr_twophase.specs.declared.first.TheConstants as all
 use Rattle.scr_twophase.specs.declared.second.TheConstants as ten
 use Rattle.scr_search.specs.Views.{AreTakenBack}

@@ -2,7 +2,8 @@
 use Rattle.std.proofs.Common.{◌≡◌, ℕ, ◌/◌, ◌^◌, ◌<◌, Bool, true, List, length, get_or, refl, ltb-true}
 use Rattle.std.specs.Prelude.{All, nat_lt}
 use Rattle.std.specs.List.{list_all}
-use Rattle.scr_stages.proofs.FiniteTests.{All-from_test, agree, agree-same, passes_below, test-below}
+use Rattle.scr_orbit.proofs.TableTests.{All-from_test}
+use Rattle.scr_stages.proofs.FiniteTests.{agree, agree-same, passes_below, test-below}
 use Rattle.scr_twophase.specs.declared.first.TheConstants as all
 use Rattle.scr_twophase.specs.declared.second.TheConstants as ten
 use Rattle.scr_search.specs.Views.{AreBehind}

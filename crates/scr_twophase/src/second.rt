@@ -93,7 +93,7 @@ fn edge_moves<const N: usize>(alloc: Global, block: &[u8; N]) -> Result<MoveTabl
     requires size { (1 ≤ N) × (N ≤ 12) }
     requires fits { factorial N < 2 ^ 32 }
     requires places { All (λ place. place < 12) block.now }
-    requires kept { All (λ r. IsPermutation N r.places) (map (block_turn block.now) (edges_by domino_turns)) }
+    requires kept { All (λ r. IsPermutation N r.pieces) (map (block_turn block.now) (edges_by domino_turns)) }
     ensures { IfOk result (λ table.
         ShowsSame (projection (pieces_view N) (map (block_turn block.now) (edges_by domino_turns))) (moves_coordinate table)) }
 {

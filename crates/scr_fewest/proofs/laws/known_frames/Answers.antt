@@ -1,7 +1,5 @@
 use Rattle.std.proofs.Common.{refl}
-use Rattle.scr_cube.specs.Composition.{cube_then}
 use Rattle.scr_cube.proofs.OnLiterals.{cubes_on_literals}
-use Rattle.scr_orbit.specs.Orbits.{rearrangement_to}
 use Rattle.scr_fewest.specs.Fewest.{frame, frame_back, between}
 use Rattle.scr_fewest.proofs.laws.known_frames.Goals as goal
 
@@ -14,9 +12,9 @@ unfolding cubes_on_literals frame
 returns-clause-taken_back c = refl
 
 pub returns-clause-two_frames : goal.returns-clause-two_frames
-unfolding cubes_on_literals frame frame_back between cube_then rearrangement_to
+unfolding cubes_on_literals frame frame_back between
 returns-clause-two_frames c = refl
 
 pub returns-clause-of_solved : goal.returns-clause-of_solved
-unfolding cubes_on_literals frame frame_back between cube_then rearrangement_to
+unfolding cubes_on_literals frame frame_back between
 returns-clause-of_solved c = refl

@@ -1,6 +1,6 @@
 use Rattle.std.proofs.Common.{sym, ap, ◌∙◌, ◌++◌, append-nil}
 use Rattle.std.specs.Prelude.{unwrap_or}
-use Rattle.scr_positions.specs.Coordinates.{barred}
+use Rattle.scr_positions.specs.declared.coordinate.TheConstants.{BARRED}
 use Rattle.scr_positions.proofs.MoveLaws.{row_of-none, row_more}
 use Rattle.scr_positions.proofs.move_table.push_turn.Goals as goal
 
@@ -13,4 +13,4 @@ pub loop-position-preserved : goal.loop-position-preserved
 loop-position-preserved g c =
     row_more (g.C.Coord.coordinate c.args.coord.now) c.args.turn c.loop-position.position c.unwrap_or.result c.args.targets.now.items
     c.loop-position.targets.items c.push.new.self.items c.loop-position.invariant
-    (c.unwrap_or.ensures ∙ ap (λ o. unwrap_or o barred) c.after.ensures) c.in_ok-push.ensures.items
+    (c.unwrap_or.ensures ∙ ap (λ o. unwrap_or o BARRED) c.after.ensures) c.in_ok-push.ensures.items

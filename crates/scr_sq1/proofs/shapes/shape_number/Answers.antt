@@ -1,11 +1,7 @@
 use Rattle.std.proofs.Common.{ap, ◌∙◌, arith, slice_index}
 use Rattle.scr_sq1.specs.Shapes.{shape_number}
-use Rattle.scr_sq1.proofs.HalfNumbers.{shapes_one_to_one}
-use Rattle.scr_sq1.proofs.ShapeSteps.{counted_start, counted_at, counted_next, counted_whole, counted_corners}
+use Rattle.scr_sq1.proofs.ShapeSteps.{counted_at, counted_next, counted_whole, counted_corners}
 use Rattle.scr_sq1.proofs.shapes.shape_number.Goals as goal
-
-pub loop-place-init : goal.loop-place-init
-loop-place-init c = counted_start c.shape.inside.halves c.shape.invariant
 
 pub overflow_add-number : goal.overflow_add-number
 overflow_add-number c =
@@ -32,12 +28,3 @@ pub returns-clause-number : goal.returns-clause-number
 returns-clause-number c =
     let l = c.loop-place in
     counted_whole l.place l.corners l.number c.shape.inside.halves c.loop-place-test.false l.invariant ∙ ap shape_number c.shape.view_is
-
-pub returns-clause-below : goal.returns-clause-below
-returns-clause-below c =
-    let l = c.loop-place in
-    omega (
-      arith,
-      counted_whole l.place l.corners l.number c.shape.inside.halves c.loop-place-test.false l.invariant,
-      shapes_one_to_one.below c.shape.inside.halves c.shape.invariant,
-    )

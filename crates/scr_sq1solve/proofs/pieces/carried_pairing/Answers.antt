@@ -2,7 +2,6 @@ use Rattle.std.proofs.Common.{ℕ, map, slice_index, sym, ◌∙◌, subst, arit
 use Rattle.std.proofs.lemmas.List.{ext_get_or, get_or-map, length-map}
 use Rattle.scr_combinatorics.specs.Pairings.{IsPairing}
 use Rattle.scr_combinatorics.specs.Permutations.{place_of}
-use Rattle.scr_combinatorics.proofs.PermutationLaws.{at-permutation}
 use Rattle.scr_sq1solve.specs.Tables.{carried_pairing}
 use Rattle.scr_sq1solve.proofs.Codes.{IsPairing-carried}
 use Rattle.scr_sq1solve.proofs.pieces.carried_pairing.Goals as goal
@@ -19,6 +18,3 @@ returns-clause-value c =
 pub returns-clause-valid : goal.returns-clause-valid
 returns-clause-valid c =
     subst (IsPairing 8) (sym (returns-clause-value c)) (IsPairing-carried c.args.partners.now c.args.places.now c.requires.partners c.requires.places)
-
-pub bounds-partners-from : goal.bounds-partners-from
-bounds-partners-from c = omega (arith, c.from.ensures, at-permutation 8 c.args.places.now c.requires.places c.loop-place.place (omega arith))

@@ -1,18 +1,15 @@
-use Rattle.std.proofs.Common.{◌≡◌, ℕ, ◌+◌, ◌*◌, ◌<◌, List, length, slice_index, sym, ap, ◌∙◌, subst, arith, ltb-true, refl}
+use Rattle.std.proofs.Common.{◌≡◌, ℕ, ◌<◌, List, length, sym, subst, ltb-true, refl}
 use Rattle.std.specs.Prelude.{All, nat_lt}
 use Rattle.scr_combinatorics.specs.Lists.{pick}
-use Rattle.scr_combinatorics.specs.Permutations.{IsPermutation, permutation_number}
+use Rattle.scr_combinatorics.specs.Permutations.{IsPermutation}
 use Rattle.scr_combinatorics.proofs.PermutationLaws.{All-permutation}
 use Rattle.scr_combinatorics.proofs.Picks.{All-pick}
 use Rattle.scr_notation.proofs.Below.{All-from_test}
-use Rattle.scr_sq1solve.specs.Tables.{is_larger, pair_of, smaller, bits_number, pairs_number, code_number}
+use Rattle.scr_sq1solve.specs.Tables.{smaller}
 use Rattle.scr_sq1solve.proofs.pieces.code_of.Goals as goal
 
 places_below : (xs : List ℕ) → IsPermutation 8 xs → All (λ k. k < length xs) smaller
 places_below xs p = subst (λ n. All (λ k. k < n) smaller) (sym p.size) (All-from_test (λ k. nat_lt k 8) (λ k. k < 8) (λ k. ltb-true k 8) smaller refl)
-
-pub pick_into-requires-clause-places : goal.pick_into-requires-clause-places
-pick_into-requires-clause-places c = places_below c.args.pieces.now c.requires
 
 standing_below : (xs ys : List ℕ) → IsPermutation 8 xs → ys ≡ pick xs smaller → All (λ piece. piece < 8) ys
 standing_below xs ys p is = subst (All (λ piece. piece < 8)) (sym is) (All-pick (λ piece. piece < 8) xs smaller (All-permutation 8 xs p) (places_below xs p))
@@ -22,13 +19,3 @@ bits_of-requires c = standing_below c.args.pieces.now _ c.requires c.pick_into.e
 
 pub pairs_of-requires : goal.pairs_of-requires
 pairs_of-requires c = standing_below c.args.pieces.now _ c.requires c.pick_into.ensures
-
-pub returns-clause-value : goal.returns-clause-value
-unfolding code_number bits_number pairs_number
-returns-clause-value c =
-    let larger : List ℕ → ℕ → ℕ = λ ys k. slice_index is_larger (slice_index ys k) in
-    omega (
-      arith,
-      c.bits_of.ensures.value ∙ ap (λ ys. larger ys 0 + 2 * (larger ys 1 + 2 * (larger ys 2 + 2 * larger ys 3))) c.pick_into.ensures,
-      c.pairs_of.ensures.value ∙ ap (λ ys. permutation_number (pick pair_of ys)) c.pick_into.ensures,
-    )

@@ -1,14 +1,7 @@
-use Rattle.std.proofs.Common.{◌%◌, ◌<◌, sym, ap, ◌∙◌, subst, arith}
+use Rattle.std.proofs.Common.{◌%◌, sym, ap, ◌∙◌, subst, arith}
 use Rattle.scr_combinatorics.specs.Permutations.{IsPermutation, permutation_at}
-use Rattle.scr_combinatorics.proofs.PermutationLaws.{at-permutation}
-use Rattle.scr_sq1solve.proofs.Codes.{codes_one_to_one, larger-lt, pair-lt, turned-lt, pieces-are}
+use Rattle.scr_sq1solve.proofs.Codes.{codes_one_to_one, larger-lt, turned-lt, pieces-are}
 use Rattle.scr_sq1solve.proofs.pieces.pieces_at.Goals as goal
-
-pub bounds-from : goal.bounds-from
-bounds-from c =
-    let pair : c.from-pair.result < 4 = subst (λ k. k < 4) (sym c.from-pair.ensures) (pair-lt c.loop-place.place c.loop-place-test.true) in
-    subst (λ k. k < 4) (sym c.from-in-loop-place.ensures)
-    (at-permutation 4 c.unrank-standing.result c.unrank-standing.ensures.valid c.from-pair.result pair)
 
 pub overflow_add-pieces : goal.overflow_add-pieces
 overflow_add-pieces c = omega (arith, turned-lt (c.args.code % 16) c.from-pair.result, larger-lt c.loop-place.place c.loop-place-test.true)

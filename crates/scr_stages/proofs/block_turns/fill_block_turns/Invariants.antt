@@ -1,7 +1,7 @@
 use Rattle.std.proofs.Common.{◌≡◌, map, take}
-use Rattle.scr_orbit.specs.PlaceTurns.{rearrangement_of}
+use Rattle.scr_orbit.specs.PlaceTurns.{made_by}
 use Rattle.scr_stages.specs.Tables.{block_turns}
 use Rattle.scr_stages.proofs.block_turns.fill_block_turns.Given as goal
 
 abbrev pub invariant-loop-at : goal.invariant-loop-at
-invariant-loop-at g l = map rearrangement_of (take l.at l.out) ≡ block_turns l.block (map rearrangement_of l.turns) (take l.at l.numbers)
+invariant-loop-at g l = map made_by (take l.at l.out) ≡ block_turns l.block (map made_by l.turns) (take l.at l.numbers)

@@ -13,6 +13,6 @@ returns-clause-turns g c =
 
 pub returns-clause-places : goal.returns-clause-places
 returns-clause-places g c =
-    AreTurns-moves (λ r. IsPermutation g.row.M r.places) c.block_turns.result (map (block_turn c.args.block.now) (edges_by c.args.numbers.now))
+    AreTurns-moves (λ r. IsPermutation g.row.M r.pieces) c.block_turns.result (map (block_turn c.args.block.now) (edges_by c.args.numbers.now))
     (returns-clause-turns g c) c.requires.kept
     _ (length-map (edges_by c.args.numbers.now) (block_turn c.args.block.now) ∙ length-turned (λ r. r.edges) c.args.numbers.now ∙ c.told-numbers) c.requires.some c.requires.few

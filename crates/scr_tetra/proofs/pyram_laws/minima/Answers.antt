@@ -1,5 +1,5 @@
 use Rattle.scr_orbit.proofs.Minima.{count_once}
-use Rattle.scr_tetra.proofs.PyramMinima.{two_needed, two_enough}
+use Rattle.scr_tetra.proofs.PyramKnown.{two_needed, two_enough}
 use Rattle.scr_tetra.proofs.pyram_laws.minima.Goals as goal
 
 pub returns : goal.returns

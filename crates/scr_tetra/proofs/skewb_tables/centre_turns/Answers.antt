@@ -1,9 +1,9 @@
 use Rattle.std.proofs.Common.{refl}
-use Rattle.scr_orbit.proofs.TableTests.{All-rearrangements}
-use Rattle.scr_orbit.proofs.TablesOnLiterals.{turns_on_literals}
+use Rattle.scr_orbit.proofs.TableTests.{All-orbits}
 use Rattle.scr_tetra.specs.declared.skewb_tables.TheConstants.{CENTRE_TABLE}
+use Rattle.scr_tetra.proofs.SkewbOnLiterals.{skewb_on_literals}
 use Rattle.scr_tetra.proofs.skewb_tables.centre_turns.Goals as goal
 
 pub returns : goal.returns
-unfolding turns_on_literals
-returns c = record { count = refl; defined = refl; valid = All-rearrangements 6 1 CENTRE_TABLE refl }
+unfolding skewb_on_literals
+returns c = record { count = refl; defined = refl; valid = All-orbits 6 1 CENTRE_TABLE refl }

@@ -7,7 +7,7 @@ use Rattle.scr_orbit.specs.Orbits.{solved_orbit}
 use Rattle.scr_cube.specs.Cube333.{CubeState, solved_cube}
 use Rattle.scr_combinatorics.specs.Words.{words_within}
 use Rattle.scr_table.proofs.ListedWords.{All-below, All-numbers, Contains-words_within, IsWithin-listed, Contains-filter, Contains-passed}
-use Rattle.scr_stages.proofs.FiniteTests.{All-from_test}
+use Rattle.scr_orbit.proofs.TableTests.{All-from_test}
 use Rattle.scr_cube.specs.ListedTurns.{turn_numbers}
 use Rattle.scr_search.specs.Orderly.{after_turn, may_precede, is_orderly, leads}
 use Rattle.scr_twophase.specs.TwoParts.{ends_in_quarter, is_domino, is_first_part, first_parts}

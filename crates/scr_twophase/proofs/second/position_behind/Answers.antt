@@ -14,12 +14,12 @@ below turns count is h = subst (λ n. All (λ t. t < n) turns) (sym is) h
 pub carried-corners-requires : goal.carried-corners-requires
 carried-corners-requires c =
     let all = c.corner_turns.ensures in
-    (lit< tt, (lit< tt, (λ k d lt. (all.valid k d lt).places, below c.args.turns.now (length c.corner_turns.result.now) all.count c.requires.turns)))
+    (lit< tt, (lit< tt, (λ k d lt. (all.valid k d lt).pieces, below c.args.turns.now (length c.corner_turns.result.now) all.count c.requires.turns)))
 
 pub carried-edges-requires : goal.carried-edges-requires
 carried-edges-requires c =
     let all = c.edge_turns.ensures in
-    (lit< tt, (lit< tt, (λ k d lt. (all.valid k d lt).places, below c.args.turns.now (length c.edge_turns.result.now) all.count c.requires.turns)))
+    (lit< tt, (lit< tt, (λ k d lt. (all.valid k d lt).pieces, below c.args.turns.now (length c.edge_turns.result.now) all.count c.requires.turns)))
 
 pub rank-requires : goal.rank-requires
 rank-requires c =

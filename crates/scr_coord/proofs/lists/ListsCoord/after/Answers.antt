@@ -1,6 +1,6 @@
 use Rattle.std.proofs.Common.{ap, ◌∙◌, get_or, subst, sym, arith}
 use Rattle.scr_combinatorics.specs.Permutations.{IsPermutation, permutation_number, permutation_at}
-use Rattle.scr_orbit.specs.PlaceTurns.{rearrangement_of}
+use Rattle.scr_orbit.specs.PlaceTurns.{made_by}
 use Rattle.scr_orbit.proofs.OrbitLaws.{places_in}
 use Rattle.scr_coord.specs.Projections.{pieces_view}
 use Rattle.scr_coord.proofs.ListViews.{IsListView-pieces}
@@ -18,7 +18,7 @@ pub rank-requires : goal.rank-requires
 rank-requires g c =
     let n = g.row.N in
     let me = c.args.self.now in
-    let r = rearrangement_of (get_or me.turns.now c.args.turn c.index-self-turn.result) in
+    let r = made_by (get_or me.turns.now c.args.turn c.index-self-turn.result) in
     let turn = turn_read (λ turn. IsPermutation n turn.places) me.turns.now c.args.turn c.index-self-turn.result me.valid c.requires.turn in
     let valid = (IsListView-pieces n).turned c.unrank-seen.result r c.unrank-seen.ensures.valid turn in
     (omega (arith, me.size), (me.size.1, subst (IsPermutation n) (sym c.pick_into.ensures) valid))

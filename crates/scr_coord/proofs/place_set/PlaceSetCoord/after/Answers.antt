@@ -3,7 +3,7 @@ use Rattle.std.proofs.lemmas.List.{length-replicate}
 use Rattle.scr_combinatorics.specs.Permutations.{IsPermutation}
 use Rattle.scr_combinatorics.specs.PlaceSets.{IsPlaceSet, place_set_number, place_set_at}
 use Rattle.scr_orbit.specs.declared.placed.PlaceTurn.{PlaceTurn}
-use Rattle.scr_orbit.specs.PlaceTurns.{rearrangement_of}
+use Rattle.scr_orbit.specs.PlaceTurns.{made_by}
 use Rattle.scr_coord.specs.Projections.{AreTurns, place_set_view, turned_set}
 use Rattle.scr_coord.proofs.MarkedLaws.{IsPlaceSet-turned}
 use Rattle.scr_coord.proofs.MarkedSteps.{set_le}
@@ -13,9 +13,9 @@ use Rattle.scr_coord.proofs.place_set.PlaceSetCoord.after.Goals as goal
 -- a turn that is read moves a set to a set
 set_turned : {n : ℕ} (k : ℕ) (set : List ℕ) (turns : List (PlaceTurn n)) (t : ℕ) (turn : PlaceTurn n)
     → IsPlaceSet n k set → AreTurns (λ turn. IsPermutation n turn.places) turns
-    → t < length (map rearrangement_of turns) → IsPlaceSet n k (turned_set set (rearrangement_of (get_or turns t turn)))
+    → t < length (map made_by turns) → IsPlaceSet n k (turned_set set (made_by (get_or turns t turn)))
 set_turned {n} k set turns t turn is valid lt =
-    IsPlaceSet-turned n k set (rearrangement_of (get_or turns t turn)) is (turn_read (λ turn. IsPermutation n turn.places) turns t turn valid lt)
+    IsPlaceSet-turned n k set (made_by (get_or turns t turn)) is (turn_read (λ turn. IsPermutation n turn.places) turns t turn valid lt)
 
 pub places_of-requires-clause-fits : goal.places_of-requires-clause-fits
 places_of-requires-clause-fits g c =

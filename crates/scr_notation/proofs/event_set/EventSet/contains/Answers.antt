@@ -10,7 +10,7 @@ pub returns : goal.returns
 returns c =
     let flags : List Bool = c.self.inside.flags in
     let n : ℕ = c.number.result in
-    let below : n < 13 = slice_get_within events n c.args.event c.number.ensures in
+    let below : n < length events = slice_get_within events n c.args.event c.number.ensures in
     let within : n < length flags = omega (arith, c.self.told, below) in
     let P : List Bool → Type 0 = λ set. Has set c.args.event in
     let Q : ℕ → Type 0 = λ k. slice_get flags k ≡ Some true in (

@@ -1,8 +1,8 @@
-use Rattle.std.proofs.Common.{◌≡◌, ℕ, List, Some, refl, sym, ap, ◌∙◌, subst}
+use Rattle.std.proofs.Common.{◌≡◌, ℕ, List, refl, sym, ap, ◌∙◌, subst}
 use Rattle.std.proofs.lemmas.Int.{to_z-of_z}
 use Rattle.scr_combinatorics.specs.Lists.{pick}
-use Rattle.scr_sq1.specs.Units.{Sq1State, IsSq1, is_open, clockwise, turn_places, turned, after_layers}
-use Rattle.scr_sq1.proofs.Lawful.{after_layers-open, after_layers-closed, units_turned, IsSq1-turned}
+use Rattle.scr_sq1.specs.Units.{Sq1State, IsSq1, is_open, clockwise, turn_places, turned}
+use Rattle.scr_sq1.proofs.Lawful.{units_turned, IsSq1-turned}
 use Rattle.scr_sq1.proofs.state.Sq1.turn.Goals as goal
 use Rattle.scr_sq1.proofs.state.Sq1.turn.Goals.{After-is_open_turned}
 
@@ -30,16 +30,3 @@ invariant_of-result c =
     let a = (goal.at.invariant_of-result c).After-is_open_turned in
     subst IsSq1 (sym (moved a c.turned.result c.turned.ensures))
     (IsSq1-turned (state a) c.args.top c.args.bottom c.self.invariant (tested a ∙ c.if-is_open_turned.true))
-
-pub returns-then-is_open_turned : goal.returns-then-is_open_turned
-returns-then-is_open_turned c =
-    let a = (goal.at.returns-then-is_open_turned c).After-is_open_turned in
-    ap Some (moved a c.turned.result c.turned.ensures)
-    ∙ sym (after_layers-open (state a) c.args.top c.args.bottom (tested a ∙ c.if-is_open_turned.true))
-    ∙ ap (λ r. after_layers r c.args.top c.args.bottom) c.self.view_is
-
-pub returns-else-is_open_turned : goal.returns-else-is_open_turned
-returns-else-is_open_turned c =
-    let a = (goal.at.returns-else-is_open_turned c).After-is_open_turned in
-    sym (after_layers-closed (state a) c.args.top c.args.bottom (tested a ∙ c.if-is_open_turned.false))
-    ∙ ap (λ r. after_layers r c.args.top c.args.bottom) c.self.view_is

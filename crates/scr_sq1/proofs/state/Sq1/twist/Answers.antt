@@ -1,6 +1,6 @@
-use Rattle.std.proofs.Common.{◌≡◌, ℕ, Bool, List, not, sym, ap, ◌∙◌, subst}
+use Rattle.std.proofs.Common.{◌≡◌, ℕ, Bool, List, sym, subst}
 use Rattle.scr_combinatorics.specs.Lists.{pick}
-use Rattle.scr_sq1.specs.Units.{Sq1State, IsSq1, twist_places, twisted}
+use Rattle.scr_sq1.specs.Units.{Sq1State, IsSq1, twist_places}
 use Rattle.scr_sq1.proofs.TurnLaws.{IsSq1-twisted}
 use Rattle.scr_sq1.proofs.state.Sq1.twist.Goals as goal
 
@@ -12,8 +12,3 @@ valid_units s units equator are h =
 pub invariant_of-result : goal.invariant_of-result
 invariant_of-result c =
     valid_units (record { units = c.self.inside.units; equator = c.self.inside.equator }) _ _ c.twisted.ensures c.self.invariant
-
-pub returns : goal.returns
-unfolding twisted
-returns c =
-    ap (λ us. let r : Sq1State = record { units = us; equator = not c.self.inside.equator } in r) c.twisted.ensures ∙ ap twisted c.self.view_is

@@ -1,12 +1,8 @@
-use Rattle.scr_sq1solve.proofs.MinimaLaws.{after-twist, after-number, top_of, bottom_of}
+use Rattle.scr_sq1solve.proofs.MinimaLaws.{after-number, top_of, bottom_of}
 use Rattle.std.proofs.Common.{arith}
 use Rattle.std.proofs.lemmas.Int.{ints}
 use Rattle.scr_sq1solve.proofs.ShapeStage.{after-amounts}
 use Rattle.scr_sq1solve.proofs.minima.Sq1MovesMoves.after.Goals as goal
-
-pub returns-then-turn-eq-TWIST : goal.returns-then-turn-eq-TWIST
-returns-then-turn-eq-TWIST c =
-    after-twist c.args.state.now c.twist.result c.args.turn c.is_valid.ensures c.if-turn-eq-TWIST.true c.twist.ensures
 
 pub returns-else-turn-eq-TWIST : goal.returns-else-turn-eq-TWIST
 returns-else-turn-eq-TWIST c =

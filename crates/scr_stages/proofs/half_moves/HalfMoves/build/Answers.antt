@@ -1,5 +1,5 @@
 use Rattle.std.proofs.Common.{map, sym, ap, ◌∙◌, subst}
-use Rattle.scr_orbit.specs.PlaceTurns.{rearrangement_of}
+use Rattle.scr_orbit.specs.PlaceTurns.{made_by}
 use Rattle.scr_positions.specs.Coordinates.{StaysBelow}
 use Rattle.scr_positions.specs.Moves.{moves_coordinate}
 use Rattle.scr_positions.specs.SearchSpaces.{ShowsSame}
@@ -26,7 +26,7 @@ block_moves-requires-3-clause-kept c = All-half_block _ IsHalfBlock-middle
 pub invariant_of-result : goal.invariant_of-result
 invariant_of-result c = record {
   shows_corners = subst (λ moves. ShowsSame (projection half_corners_view moves) (moves_coordinate c.in_ok-build.field-0))
-      (ap (map rearrangement_of) c.new-corners.ensures ∙ c.corners_turned-turns.ensures.turns) c.in_ok-build.ensures;
+      (ap (map made_by) c.new-corners.ensures ∙ c.corners_turned-turns.ensures.turns) c.in_ok-build.ensures;
   shows_first = c.in_ok-block_moves.ensures;
   shows_second = c.in_ok-block_moves-2.ensures;
   shows_middle = c.in_ok-block_moves-3.ensures;

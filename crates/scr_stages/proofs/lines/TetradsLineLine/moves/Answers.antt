@@ -1,5 +1,5 @@
 use Rattle.std.proofs.Common.{map, rules, lit<, lit≤, sym, ap, ◌∙◌, subst}
-use Rattle.scr_orbit.specs.PlaceTurns.{rearrangement_of}
+use Rattle.scr_orbit.specs.PlaceTurns.{made_by}
 use Rattle.scr_positions.specs.Coordinates.{StaysBelow}
 use Rattle.scr_positions.specs.Products.{product_coordinate}
 use Rattle.scr_positions.proofs.SearchLaws.{IfOk-shows}
@@ -22,5 +22,5 @@ pub returns : goal.returns
 returns c =
     let places = projection (place_set_view 8 4 first_edges) in
     let low = c.new-first.ensures ∙ ap places c.block_edges_turned-edges.ensures.turns in
-    let turns = ap (map rearrangement_of) c.new-indexes.ensures ∙ c.corners_turned-corners.ensures.turns in
+    let turns = ap (map made_by) c.new-indexes.ensures ∙ c.corners_turned-corners.ensures.turns in
     IfOk-shows c.of_moves.result _ _ _ (λ i. product_coordinate (low i) (projection tetrads_view (turns i))) c.of_moves.ensures
