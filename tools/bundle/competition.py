@@ -15,6 +15,7 @@ GROUPS = {
     "444": [2, 1], "333": [8, 6, 4, 1], "222": [6, 2, 1], "pyram": [5, 2, 1], "skewb": [4, 1], "clock": [4, 1],
     "sq1": [2, 1], "minx": [2, 1], "555": [2, 1], "666": [1], "777": [1], "333bf": [1, 1], "333fm": [1, 1]}
 GROUPS.update((event.id, [1]) for event in event_table.EVENTS if event.id not in GROUPS)
+ATTEMPTS_APART = "333fm"
 NAMES = {1: [], 2: ["First round"], 3: ["First round", "Second round"], 4: ["First round", "Second round", "Semi-final"]}
 
 
@@ -27,11 +28,18 @@ def file():
     return json.dumps({"formatVersion": "1.0", "id": "MyOpen2026", "name": "Öpen", "persons": persons, "events": events})
 
 
+def attempts():
+    """What stands behind the group in the names of the PDFs of a group of fewest moves, which has one for each attempt."""
+    count = event_table.BY_ID[ATTEMPTS_APART].per_group
+    return [" attempt %d" % (i + 1) for i in range(count)] + [" extra 1", " extra 2"]
+
+
 def names():
     """The names of the PDFs that its folder has."""
-    groups = ["%s %s %s" % (event, name, "ABCDEFGH"[i]) for event, counts in GROUPS.items() if event != "444"
-              for name, count in zip(NAMES[len(counts)] + ["Final"], counts) for i in range(count)]
-    return ["%02d %s" % (i + 1, name) for i, name in enumerate(groups)]
+    pdfs = ["%s %s %s%s" % (event, name, "ABCDEFGH"[i], attempt) for event, counts in GROUPS.items() if event != "444"
+            for name, count in zip(NAMES[len(counts)] + ["Final"], counts) for i in range(count)
+            for attempt in (attempts() if event == ATTEMPTS_APART else [""])]
+    return ["%02d %s" % (i + 1, name) for i, name in enumerate(pdfs)]
 
 
 if __name__ == "__main__":
