@@ -203,7 +203,7 @@ mod tests {
             (Event::C555, 11),
             (Event::C666, 11),
             (Event::C777, 10),
-            (Event::Clock, 8),
+            (Event::Clock, 10),
             (Event::Minx, 28),
             (Event::Pyram, 8),
             (Event::Skewb, 10),
