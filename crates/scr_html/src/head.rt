@@ -11,7 +11,8 @@ use scr_markup::open;
 use std::alloc::AllocError;
 
 /// The style of a document. Pages have no margins that a browser could print in, and room at their own edges, at each
-/// page that a long group takes. Sizes are those of the page (`crate::sizes`).
+/// page that a long group takes. Sizes are those of the page (`crate::sizes`). The rules are such as weasyprint 57 knows,
+/// too: it has no grid and no variable within `font`, and in a row of boxes it takes blocks alone.
 const RULES: &[&str] = &[
     "@page { margin: 0; }",
     "* { box-sizing: border-box; margin: 0; padding: 0; }",
@@ -30,15 +31,15 @@ const RULES: &[&str] = &[
     "small { display: block; font-size: 6.5pt; line-height: 8pt; }",
     "small + small { font-size: 8pt; line-height: 10pt; font-weight: bold; }",
     "aside { padding-bottom: 4pt; font-size: 8pt; line-height: 10pt; }",
-    "article div { flex: 1 1 0; min-width: 0; font: bold var(--letters)/var(--row) 'Liberation Mono', 'DejaVu Sans Mono', 'Courier New', monospace; }",
+    "article div { flex: 1 1 0; min-width: 0; font-family: 'Liberation Mono', 'DejaVu Sans Mono', 'Courier New', monospace; font-weight: bold; font-size: var(--letters); line-height: var(--row); }",
     "article p { position: relative; height: var(--row); padding: 0; }",
     ".word { position: absolute; white-space: pre; }",
     ".picture { flex: none; width: var(--picture); height: auto; margin-left: 4mm; }",
     "footer { display: flex; border-top: 1pt dashed black; padding: 4mm 0; }",
-    "footer span { flex: 1 1 0; height: 9mm; margin-right: 5mm; border-bottom: 1pt solid black; font-size: 8pt; }",
+    "footer span { display: block; flex: 1 1 0; height: 9mm; margin-right: 5mm; border-bottom: 1pt solid black; font-size: 8pt; }",
     "footer span + span { flex: 0 0 30mm; margin-right: 0; }",
-    "ol { display: grid; grid-template-columns: repeat(8, 1fr); list-style: none; border-top: 0.5pt solid gray; border-left: 0.5pt solid gray; }",
-    "li { height: 13.5mm; padding: 0.5mm 1mm; border-right: 0.5pt solid gray; border-bottom: 0.5pt solid gray; font-size: 6.5pt; line-height: 8pt; color: dimgray; }",
+    "ol { display: flex; flex-wrap: wrap; list-style: none; border-top: 0.5pt solid gray; border-left: 0.5pt solid gray; }",
+    "li { flex: 0 0 12.5%; height: 13.5mm; padding: 0.5mm 1mm; border-right: 0.5pt solid gray; border-bottom: 0.5pt solid gray; font-size: 6.5pt; line-height: 8pt; color: dimgray; }",
 ];
 
 /// Begins a document of a competition's scrambles, whose name may be empty: up to its first page.
