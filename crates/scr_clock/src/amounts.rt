@@ -1,16 +1,40 @@
 //! The scramble of a Clock as fourteen amounts.
 ghost use Rattle.std.specs.Prelude.{◌≡◌, ℕ, ◌%◌, List, Some};
+ghost use Rattle.std.specs.List.{sum};
+ghost use Rattle.std.specs.Simd.Lanes.{products};
 ghost use Rattle.scr_clock.specs.Dials.{IsClock, solved};
 ghost use Rattle.scr_clock.specs.Held.{clock_after};
 ghost use Rattle.scr_clock.specs.Written.{written};
 
 use crate::clock::Clock;
 
-/// The amounts, from 0 to 11, of the one scramble that leads from solved to this state.
+/// How often the hour of each dial counts in each amount, modulo 12, where minus once is eleven times.
 ///
-/// Minus is eleven times, modulo 12. The back turns alone move the back, so its dials give their amounts, and then what
-/// the front turns alone made of the front's corners. There each corner pin's amount is the centre less the two edges
-/// that it doesn't touch, plus the opposite corner; the other amounts follow in the same way.
+/// The rows are the pin sets in their order, UR DR DL UL U R D L ALL of the front and U R D L ALL of the back, and the
+/// columns the dials, UL U UR L C R DL D DR of the front and U L C R D of the back.
+///
+/// The back turns alone move the back, so its dials give their amounts. From each corner of the front they are taken
+/// back by its two edges of the back less the back's centre, which therefore stand with it in a row. There each corner
+/// pin's amount is the centre less the two edges that it doesn't touch, plus the opposite corner; the other amounts
+/// follow in the same way.
+const AMOUNTS: [[u8; 14]; 14] = [
+    [0, 0, 0, 11, 1, 0, 1, 11, 0, 0, 0, 11, 1, 1],
+    [1, 11, 0, 11, 1, 0, 0, 0, 0, 1, 0, 11, 1, 0],
+    [0, 11, 1, 0, 1, 11, 0, 0, 0, 1, 1, 11, 0, 0],
+    [0, 0, 0, 0, 1, 11, 0, 11, 1, 0, 1, 11, 0, 1],
+    [0, 0, 0, 1, 11, 1, 11, 1, 11, 0, 11, 2, 11, 10],
+    [11, 1, 0, 1, 11, 0, 11, 1, 0, 11, 0, 2, 10, 11],
+    [11, 1, 11, 1, 11, 1, 0, 0, 0, 10, 11, 2, 11, 0],
+    [0, 1, 11, 0, 11, 1, 0, 1, 11, 11, 10, 2, 0, 11],
+    [1, 11, 1, 11, 1, 11, 1, 11, 1, 2, 2, 8, 2, 2],
+    [0, 0, 0, 0, 0, 0, 0, 0, 0, 0, 0, 1, 0, 11],
+    [0, 0, 0, 0, 0, 0, 0, 0, 0, 0, 11, 1, 0, 0],
+    [0, 0, 0, 0, 0, 0, 0, 0, 0, 11, 0, 1, 0, 0],
+    [0, 0, 0, 0, 0, 0, 0, 0, 0, 0, 0, 1, 11, 0],
+    [0, 0, 0, 0, 0, 0, 0, 0, 0, 1, 1, 9, 1, 1],
+];
+
+/// The amounts, from 0 to 11, of the one scramble that leads from solved to this state.
 pub fn solve(clock: &Clock) -> [u8; 14]
     ensures amounts { IsClock result }
     ensures gives { clock_after solved (written result) ≡ Some clock.now }
@@ -18,37 +42,20 @@ pub fn solve(clock: &Clock) -> [u8; 14]
         → IsClock amounts → clock_after solved (written amounts) ≡ Some clock.now → amounts ≡ result }
 {
     let dials = clock.dials();
-    let (up, left, centre) = (dials[1] as u32, dials[3] as u32, dials[4] as u32);
-    let (right, down) = (dials[5] as u32, dials[7] as u32);
-    let (back_up, back_left, back_centre) = (dials[9] as u32, dials[10] as u32, dials[11] as u32);
-    let (back_right, back_down) = (dials[12] as u32, dials[13] as u32);
-    let up_left = dials[0] as u32 + back_up + back_right + 11 * back_centre;
-    let up_right = dials[2] as u32 + back_up + back_left + 11 * back_centre;
-    let down_left = dials[6] as u32 + back_right + back_down + 11 * back_centre;
-    let down_right = dials[8] as u32 + back_left + back_down + 11 * back_centre;
-    [
-        hour(centre + 11 * (left + down) + down_left),
-        hour(centre + 11 * (up + left) + up_left),
-        hour(centre + 11 * (up + right) + up_right),
-        hour(centre + 11 * (right + down) + down_right),
-        hour(left + right + down + 11 * (centre + down_left + down_right)),
-        hour(up + left + down + 11 * (centre + up_left + down_left)),
-        hour(up + left + right + 11 * (centre + up_left + up_right)),
-        hour(up + right + down + 11 * (centre + up_right + down_right)),
-        hour(
-            up_left + up_right + down_left + down_right + centre + 11 * (up + left + right + down),
-        ),
-        hour(back_centre + 11 * back_down),
-        hour(back_centre + 11 * back_left),
-        hour(back_centre + 11 * back_up),
-        hour(back_centre + 11 * back_right),
-        hour(back_up + back_left + back_right + back_down + 9 * back_centre),
-    ]
+    let mut amounts = [0; 14];
+    for turn in 0..14 {
+        amounts[turn] = hour(&AMOUNTS[turn], &dials);
+    }
+    amounts
 }
 
-/// The hour from 0 to 11 that a number of hours comes to.
-fn hour(hours: u32) -> u8
-    ensures { result ≡ hours % 12 }
+/// The hour from 0 to 11 that the dials come to, each counted so many times.
+fn hour(times: &[u8; 14], dials: &[u8; 14]) -> u8
+    ensures { result ≡ sum (products times.now dials.now) % 12 }
 {
+    let mut hours = 0;
+    for dial in 0..14 {
+        hours += times[dial] as u32 * dials[dial] as u32;
+    }
     (hours % 12) as u8
 }

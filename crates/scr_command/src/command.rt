@@ -1,6 +1,6 @@
 //! The words of the command line.
 
-ghost use Rattle.std.specs.Prelude.{◌≡◌, ◌≤◌, [], ◌∷◌, IsTrue, Option, Some, MatchResult, option_map, Ok, IfOk, ok_or};
+ghost use Rattle.std.specs.Prelude.{◌≡◌, ◌≤◌, [], ◌∷◌, false, codes, IsTrue, Option, Some, MatchResult, option_map, Ok, IfOk, ok_or};
 ghost use Rattle.scr_command.specs.declared.command.UsageFault.TheVariants.{Grammar, NoSeed};
 ghost use Rattle.scr_command.specs.declared.command.CommandFault.TheVariants.{Usage, NoMemory};
 ghost use Rattle.scr_options.specs.OptionWords.{options_of};
@@ -8,6 +8,7 @@ ghost use Rattle.scr_options.specs.Split.{found_values};
 ghost use Rattle.scr_options.specs.Words.{texts};
 ghost use Rattle.scr_command.specs.OptionTable.{option_row, sheet_options, check_options, IsSettable};
 ghost use Rattle.scr_command.specs.Command.{command_of, sheet_of, check_of, single_of, tables_of, load_of, event_for, number_in};
+ghost use Rattle.std.specs.Str.{bytes_eq};
 ghost use Rattle.scr_text.specs.Steps.{and_then};
 ghost use Rattle.scr_command.specs.Reading.{IsRefusal, IsOptionsRefusal, IsCommand, fault_of_options};
 
@@ -93,13 +94,42 @@ pub fn read_command(alloc: Global, words: &[&str]) -> Result<Command, CommandFau
 {
     match words {
         [] => Err(CommandFault::Usage(UsageFault::Grammar)),
-        [command, words @ ..] if *command == "sheet" => read_sheet(alloc, words),
-        [command, words @ ..] if *command == "one" => Ok(read_single(words, false)?),
-        [command, words @ ..] if *command == "tables" => Ok(read_tables(words)?),
-        [command, words @ ..] if *command == "load" => Ok(read_load(words)?),
-        [command, words @ ..] if *command == "net" => Ok(read_single(words, true)?),
-        [command, words @ ..] if *command == "check" => read_check(alloc, words),
-        [..] => Err(CommandFault::Usage(UsageFault::Grammar)),
+        [command, words @ ..] => read_words_after(alloc, command, words),
+    }
+}
+
+/// Reads the words after the name of a command.
+fn read_words_after(alloc: Global, command: &str, words: &[&str]) -> Result<Command, CommandFault>
+    ensures answer { MatchResult result (λ read. command_of (command.now ∷ texts words.now) ≡ Ok read)
+        (IsRefusal (command.now ∷ texts words.now)) }
+    ensures command { IfOk result IsCommand }
+{
+    if command == "sheet" {
+        read_sheet(alloc, words)
+    } else if command == "check" {
+        read_check(alloc, words)
+    } else {
+        Ok(read_without_options(command, words)?)
+    }
+}
+
+/// Reads the words after the name of a command that has no options.
+fn read_without_options(command: &str, words: &[&str]) -> Result<Command, UsageFault>
+    requires no_sheet { bytes_eq command.now (codes "sheet") ≡ false }
+    requires no_check { bytes_eq command.now (codes "check") ≡ false }
+    ensures answer { result ≡ command_of (command.now ∷ texts words.now) }
+    ensures command { IfOk result IsCommand }
+{
+    if command == "one" {
+        read_single(words, false)
+    } else if command == "tables" {
+        read_tables(words)
+    } else if command == "load" {
+        read_load(words)
+    } else if command == "net" {
+        read_single(words, true)
+    } else {
+        Err(UsageFault::Grammar)
     }
 }
 

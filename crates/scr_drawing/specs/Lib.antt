@@ -1,3 +1,4 @@
+pub mod Legend
 pub mod Told
 pub mod Outlines
 pub mod Styles

@@ -187,35 +187,3 @@ fn add_marks(page: &mut String, style: &Style, ink: &Ink, marks: &str) -> Result
         "",
     )
 }
-
-#[cfg(test)]
-mod tests {
-    use super::*;
-    use scr_notation::Scramble;
-    use std::test::Fail;
-
-    /// Each solved puzzle is drawn, in so many elements.
-    #[test]
-    fn solved_puzzles(rt: HostRuntime) -> Result<(), Fail> {
-        for (event, lines) in [
-            (Event::C222, 11),
-            (Event::C333, 11),
-            (Event::C555, 11),
-            (Event::C666, 11),
-            (Event::C777, 10),
-            (Event::Clock, 10),
-            (Event::Minx, 28),
-            (Event::Pyram, 8),
-            (Event::Skewb, 10),
-            (Event::Sq1, 11),
-            (Event::Bf333, 11),
-            (Event::Fm333, 11),
-        ] {
-            let picture = Picture::of(&Scramble::new(event)).ok_or("no picture")?;
-            let mut page = String::new(rt.alloc());
-            draw(&mut page, event, &picture)?;
-            assert_eq!(rt; page.lines().count(), lines, "{event:?}");
-        }
-        Ok(())
-    }
-}

@@ -1,2 +1,4 @@
 pub mod Exit
+pub mod Faults
 pub mod Input
+pub mod Runs

@@ -1,56 +1,35 @@
 //! The reading of a whole input.
 
-ghost use Rattle.std.specs.Prelude.{◌≡◌};
 ghost use Rattle.std.specs.Result.{result_map_both};
 ghost use Rattle.scr_outside.specs.Change.{intake_of};
 ghost use Rattle.scr_host.specs.Input.{ReadsInput};
-ghost use Rattle.scr_host.specs.declared.input.InputFault.TheVariants.{NoMemory};
 
+use crate::fault::Fault;
 use scr_outside::Source;
-use std::alloc::{AllocError, Global};
+use std::alloc::Global;
+
+/// An input has at most so many bytes.
+pub const MOST_BYTES: usize = 67_108_864;
 
 /// So many bytes are read at once.
 const PIECE_ROOM: usize = 16_384;
 
-/// Why an input wasn't read whole.
-#[derive(Clone, Copy, Debug, PartialEq, Eq)]
-pub enum InputFault {
-    /// It has more bytes than it may have.
-    TooLong,
-    /// The source failed.
-    Read,
-    /// Want of memory.
-    NoMemory,
-}
-
-impl From<AllocError> for InputFault {
-    ghost from_gives = { λ _ why. why ≡ NoMemory };
-
-    fn from(_wanting: AllocError) -> InputFault {
-        InputFault::NoMemory
-    }
-}
-
 /// Reads an input to its end, which the source tells once, or to a piece with the first byte past the most that it may
 /// have.
-pub fn read_input<S: Source>(
-    alloc: Global,
-    source: &mut S,
-    most: usize,
-) -> Result<Vec<u8>, InputFault>
-    ensures { ReadsInput most (intake_of S.left S.faults S.ends source.old source.new)
+pub fn read_input<S: Source, Own>(alloc: Global, source: &mut S) -> Result<Vec<u8>, Fault<Own>>
+    ensures { ReadsInput (intake_of S.left S.faults S.ends source.old source.new)
         (result_map_both (λ bytes. bytes.items) (λ why. why) result) }
 {
     let mut bytes = Vec::new(alloc);
     let mut piece = [0; PIECE_ROOM];
-    'pieces: while bytes.len() <= most {
+    'pieces: while bytes.len() <= MOST_BYTES {
         let Ok(count) = source.read(&mut piece) else {
-            return Err(InputFault::Read);
+            return Err(Fault::Read);
         };
         if count == 0 {
             return Ok(bytes);
         }
         bytes.extend_from_slice(&piece[..count])?;
     }
-    Err(InputFault::TooLong)
+    Err(Fault::TooLong)
 }

@@ -8,8 +8,10 @@ use Rattle.scr_notation.specs.declared.turn.Turn.{Turn}
 use Rattle.scr_notation.specs.Event.{puzzle_of}
 use Rattle.scr_notation.specs.Spelling.{spelling}
 use Rattle.scr_notation.specs.Written.{Written}
+use Rattle.scr_text.specs.Lines.{has_bytes}
 use Rattle.scr_picture.specs.Pictures.{picture_of}
 use Rattle.scr_drawing.specs.Told.{picture_mark}
+use Rattle.scr_drawing.specs.Legend.{legend_of}
 use Rattle.scr_layout.specs.Group.{Group}
 use Rattle.scr_layout.specs.Texts.{title_of, round_line_of, labels_of}
 use Rattle.scr_markup.specs.Tokens.{Mark}
@@ -17,6 +19,10 @@ use Rattle.scr_markup.specs.Tokens.{Mark}
 -- an element of a class that tells its text alone
 abbrev pub told : List ℕ → List ℕ → Mark
 told class text = record { class = class; values = []; text = text }
+
+-- the same, where there is a text
+abbrev pub told_if_any : List ℕ → List ℕ → List Mark
+told_if_any class text = if has_bytes text then told class text ∷ [] else []
 
 -- ---- a scramble
 
@@ -39,15 +45,20 @@ slot_marks pictures slot =
 -- ---- a group
 
 -- what a page begins with: an element `page` with the number of the round in the sheet and the letter of the group, the
--- title, and the line of the round
+-- competition's name, where it isn't empty, the title, the line of the round, and with pictures what their marks mean
 abbrev pub page_mark_of : List ℕ → List ℕ → Mark
 page_mark_of round letter = record { class = codes "page"; values = round ∷ letter ∷ []; text = [] }
 
 abbrev pub page_mark : Group → Mark
 page_mark group = page_mark_of (decimal group.sheet_round) ((65 + group.number) ∷ [])
 
-abbrev pub head_marks : Group → List Mark
-head_marks group = page_mark group ∷ told (codes "title") (title_of group) ∷ told (codes "round") (round_line_of group) ∷ []
+abbrev pub legend_marks : Bool → Event → List Mark
+legend_marks pictures event = if pictures then told_if_any (codes "legend") (legend_of event) else []
+
+abbrev pub head_marks : Bool → List ℕ → Group → List Mark
+head_marks pictures name group =
+    page_mark group ∷ told_if_any (codes "competition") name ++ told (codes "title") (title_of group)
+    ∷ told (codes "round") (round_line_of group) ∷ legend_marks pictures group.event
 
 -- its scrambles with their labels, in the order of the slots
 abbrev pub labelled : Group → List (List ℕ × Written)
@@ -72,15 +83,15 @@ has_page_each_as puzzle.Square1 = false
 abbrev pub has_page_each : Event → Bool
 has_page_each event = has_page_each_as (puzzle_of event)
 
-abbrev pub attempt_marks : Bool → Group → List ℕ × Written → List Mark
-attempt_marks pictures group slot = head_marks group ++ slot_marks pictures slot
+abbrev pub attempt_marks : Bool → List ℕ → Group → List ℕ × Written → List Mark
+attempt_marks pictures name group slot = head_marks pictures name group ++ slot_marks pictures slot
 
--- One page with all scrambles of a group, or a page for each.
-abbrev pub page_marks : Bool → Group → List Mark
-page_marks pictures group =
+-- One page with all scrambles of a group, or a page for each, below a competition's name; with pictures or without.
+abbrev pub page_marks : Bool → List ℕ → Group → List Mark
+page_marks pictures name group =
     if has_page_each group.event
-    then flat_map (attempt_marks pictures group) (labelled group)
-    else head_marks group ++ flat_map (slot_marks pictures) (labelled group)
+    then flat_map (attempt_marks pictures name group) (labelled group)
+    else head_marks pictures name group ++ flat_map (slot_marks pictures) (labelled group)
 
 -- ---- a document
 

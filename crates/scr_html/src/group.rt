@@ -36,7 +36,7 @@ pub fn write_group(
 ) -> Result<(), AllocError>
     requires { HasNoControl competition.now }
     ensures { OnOk result
-        (Adds (string_bytes page.old) (string_bytes page.new) (page_marks pictures group.now)) }
+        (Adds (string_bytes page.old) (string_bytes page.new) (page_marks pictures competition.now group.now)) }
 {
     let look = Look {
         competition,
@@ -73,7 +73,8 @@ fn has_page_each(event: Event) -> bool
 fn write_page(page: &mut String, group: &Group<'_>, look: &Look<'_>) -> Result<(), AllocError>
     requires { HasNoControl look.now.competition.now }
     ensures { OnOk result (Adds (string_bytes page.old) (string_bytes page.new)
-        (head_marks group.now ++ flat_map (slot_marks look.now.pictures) (labelled group.now))) }
+        (head_marks look.now.pictures look.now.competition.now group.now
+        ++ flat_map (slot_marks look.now.pictures) (labelled group.now))) }
 {
     let slots = u32::from(group.event().per_group()) + 2;
     let style = Sizes::of(group, slots, look.pictures).style();
@@ -119,7 +120,7 @@ fn label_of(group: &Group<'_>, place: u32) -> &'static str
 fn write_attempts(page: &mut String, group: &Group<'_>, look: &Look<'_>) -> Result<(), AllocError>
     requires { HasNoControl look.now.competition.now }
     ensures { OnOk result (Adds (string_bytes page.old) (string_bytes page.new)
-        (flat_map (attempt_marks look.now.pictures group.now) (labelled group.now))) }
+        (flat_map (attempt_marks look.now.pictures look.now.competition.now group.now) (labelled group.now))) }
 {
     write_attempts_from(page, group, group.scrambles(), 0, look)
 }
@@ -136,7 +137,7 @@ fn write_attempts_from(
     requires competition { HasNoControl look.now.competition.now }
     requires places { place + length scrambles.now ≡ per_group_of group.now.event + 2 }
     ensures { OnOk result (Adds (string_bytes page.old) (string_bytes page.new)
-        (flat_map (attempt_marks look.now.pictures group.now)
+        (flat_map (attempt_marks look.now.pictures look.now.competition.now group.now)
         (zip (drop place (labels_of group.now.event)) scrambles.now))) }
 {
     match scrambles {
@@ -161,7 +162,7 @@ fn write_attempt(
     requires competition { HasNoControl look.now.competition.now }
     requires label { HasNoLineFeed label.now }
     ensures { OnOk result (Adds (string_bytes page.old) (string_bytes page.new)
-        (attempt_marks look.now.pictures group.now (label.now, scramble.now))) }
+        (attempt_marks look.now.pictures look.now.competition.now group.now (label.now, scramble.now))) }
 {
     let style = Sizes::of(group, 2, look.pictures).style();
     write_heads(page, group, look.competition, style.as_str(), look.pictures)?;

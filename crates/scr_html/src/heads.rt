@@ -4,7 +4,7 @@ ghost use Rattle.std.specs.Prelude.{◌≡◌, ◌+◌, ◌<◌, [], ◌∷◌, 
 ghost use Rattle.scr_markup.specs.Tokens.{Adds, HasNoLineFeed};
 ghost use Rattle.scr_layout.specs.Shown.{HasNoControl};
 ghost use Rattle.scr_layout.specs.Texts.{title_of, round_line_of};
-ghost use Rattle.scr_html.specs.Pages.{told, page_mark, page_mark_of, head_marks};
+ghost use Rattle.scr_html.specs.Pages.{told, told_if_any, page_mark, page_mark_of, legend_marks, head_marks};
 
 use crate::tokens::{begin, end, marked, plain, valid};
 use arrayvec::ArrayString;
@@ -25,7 +25,7 @@ pub(crate) fn write_heads(
 ) -> Result<(), AllocError>
     requires competition { HasNoControl competition.now }
     requires style { HasNoLineFeed style.now }
-    ensures { OnOk result (Adds (string_bytes page.old) (string_bytes page.new) (head_marks group.now)) }
+    ensures { OnOk result (Adds (string_bytes page.old) (string_bytes page.new) (head_marks pictures competition.now group.now)) }
 {
     begin_page(page, group, style)?;
     write_competition(page, competition)?;
@@ -101,12 +101,18 @@ fn letter_of(group: &Group<'_>) -> ArrayString<4>
 /// Adds the name of a competition, where it has one. Its letters may run either way.
 fn write_competition(page: &mut String, competition: &str) -> Result<(), AllocError>
     requires { HasNoControl competition.now }
-    ensures { OnOk result (Adds (string_bytes page.old) (string_bytes page.new) []) }
+    ensures { OnOk result
+        (Adds (string_bytes page.old) (string_bytes page.new) (told_if_any (codes "competition") competition.now)) }
 {
     if competition.is_empty() {
         return Ok(());
     }
-    leaf(page, "h1", &[("dir", "auto")], competition)
+    leaf(
+        page,
+        "h1",
+        &[("class", "competition"), ("dir", "auto")],
+        competition,
+    )
 }
 
 /// Adds how the puzzle is held.
@@ -135,11 +141,15 @@ fn write_lines(page: &mut String, text: &str) -> Result<(), AllocError>
 
 /// Adds what marks in pictures mean on paper without colours, where there are pictures with such marks.
 fn write_legend(page: &mut String, group: &Group<'_>, pictures: bool) -> Result<(), AllocError>
-    ensures { OnOk result (Adds (string_bytes page.old) (string_bytes page.new) []) }
+    ensures { OnOk result
+        (Adds (string_bytes page.old) (string_bytes page.new) (legend_marks pictures group.now.event)) }
 {
-    let text = legend(group.event());
-    if !pictures || text.is_empty() {
+    if !pictures {
         return Ok(());
     }
-    plain(page, "aside", text)
+    let text = legend(group.event());
+    if text.is_empty() {
+        return Ok(());
+    }
+    marked(page, "aside", "legend", text)
 }

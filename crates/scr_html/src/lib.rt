@@ -18,6 +18,3 @@ mod words;
 
 pub use group::write_group;
 pub use head::{write_head, write_tail};
-
-#[cfg(test)]
-mod tests;

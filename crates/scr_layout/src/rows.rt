@@ -1,6 +1,7 @@
 //! Where the words of a scramble stand: in even rows, each below the other.
 
 ghost use Rattle.std.specs.Prelude.{◌≡◌, ◌<◌, ◌≤◌, length};
+ghost use Rattle.scr_layout.specs.Rows.{rows_of};
 
 use arrayvec::ArrayVec;
 use scr_notation::{MOST_TURNS, Puzzle, Scramble, Turn};
@@ -49,12 +50,14 @@ pub fn places(scramble: &Scramble) -> ArrayVec<Place, MOST_TURNS>
 
 /// How many rows these places take, with the gaps between: at least one.
 pub fn row_count(places: &[Place]) -> u32
-    ensures { result ≤ 256 }
+    ensures value { result ≡ rows_of places.now }
+    ensures few { result ≤ 256 }
 {
-    match places {
-        [.., last] => u32::from(last.row) + 1,
-        [] => 1,
+    let mut rows = 1;
+    for place in places {
+        rows = rows.max(u32::from(place.row) + 1);
     }
+    rows
 }
 
 /// How many cells turns fill.

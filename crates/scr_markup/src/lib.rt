@@ -11,6 +11,3 @@ pub mod laws;
 mod writing;
 
 pub use writing::{close, leaf, open};
-
-#[cfg(test)]
-mod tests;

@@ -98,6 +98,13 @@ abbrev seen_brought : ℕ → ℕ → List ℕ → Sticker → Sticker
 seen_brought depth place centres s =
     brought_from 2 (turned_face centres place depth) 1 (seen_from (centres_turned centres place depth 1) s)
 
+-- the same over all stickers, from the face and the centres, which are found once
+abbrev over_brought : ℕ → List ℕ → List (List (List Sticker))
+over_brought face after = over_stickers (λ s. brought_from 2 face 1 (seen_from after s))
+
+abbrev over_seen : ℕ → ℕ → ℕ → List (List (List Sticker))
+over_seen depth place hold = over_brought (turned_face (listed hold) place depth) (centres_turned (listed hold) place depth 1)
+
 abbrev IsSeen : ℕ → ℕ → Type 0
 IsSeen depth place = (centres : List ℕ) (s : Sticker) → Contains holds centres → IsSticker 2 s
     → brought_seen depth place centres s ≡ seen_brought depth place centres s
@@ -107,8 +114,8 @@ unfolding whole_turned
 seen-here place low centres s there h =
     of_holds (λ k. brought_seen 1 place k s ≡ seen_brought 1 place k s) (λ hold lt.
     at_sticker (brought_seen 1 place (listed hold)) (seen_brought 1 place (listed hold))
-    (at_each (λ hold. over_stickers (brought_seen 1 place (listed hold))) (λ hold. over_stickers (seen_brought 1 place (listed hold))) 24
-    (at_each (λ place. map (λ hold. over_stickers (brought_seen 1 place (listed hold))) (range_with_len 0 24)) (λ place. map (λ hold. over_stickers (seen_brought 1 place (listed hold))) (range_with_len 0 24)) 6 refl place low)
+    (at_each (λ hold. over_stickers (brought_seen 1 place (listed hold))) (over_seen 1 place) 24
+    (at_each (λ place. map (λ hold. over_stickers (brought_seen 1 place (listed hold))) (range_with_len 0 24)) (λ place. map (over_seen 1 place) (range_with_len 0 24)) 6 refl place low)
     hold lt) s h) centres there
 
 seen-wide : (place : ℕ) → place < 3 → IsSeen 2 place
@@ -116,8 +123,8 @@ unfolding whole_turned
 seen-wide place low centres s there h =
     of_holds (λ k. brought_seen 2 place k s ≡ seen_brought 2 place k s) (λ hold lt.
     at_sticker (brought_seen 2 place (listed hold)) (seen_brought 2 place (listed hold))
-    (at_each (λ hold. over_stickers (brought_seen 2 place (listed hold))) (λ hold. over_stickers (seen_brought 2 place (listed hold))) 24
-    (at_each (λ place. map (λ hold. over_stickers (brought_seen 2 place (listed hold))) (range_with_len 0 24)) (λ place. map (λ hold. over_stickers (seen_brought 2 place (listed hold))) (range_with_len 0 24)) 3 refl place low)
+    (at_each (λ hold. over_stickers (brought_seen 2 place (listed hold))) (over_seen 2 place) 24
+    (at_each (λ place. map (λ hold. over_stickers (brought_seen 2 place (listed hold))) (range_with_len 0 24)) (λ place. map (over_seen 2 place) (range_with_len 0 24)) 3 refl place low)
     hold lt) s h) centres there
 
 -- ---- one quarter at a place

@@ -1,5 +1,5 @@
 -- Laws of stickers: each is at a row and a column of its face, and quarter turns take stickers to stickers and back.
-use Rattle.std.proofs.Common.{◌≡◌, ℕ, zero, suc, ◌+◌, ◌%◌, ◌<◌, ◌≤◌, Bool, true, false, cond, leb, [], refl, ap, ◌∙◌, lit<, arith, eqb-true, leb-true, ltb-true}
+use Rattle.std.proofs.Common.{◌≡◌, ℕ, zero, suc, ◌+◌, ◌%◌, ◌<◌, ◌≤◌, Bool, true, false, cond, leb, List, [], ◌∷◌, get_or, refl, ap, ◌∙◌, lit<, arith, eqb-true, leb-true, ltb-true}
 use Rattle.std.specs.Prelude.{◌==◌, ◌&&◌, nat_le, nat_lt}
 use Rattle.std.proofs.lemmas.Bool.{and_parts}
 use Rattle.scr_space.specs.declared.spin.Point.{Point}
@@ -118,6 +118,28 @@ KeepsCount-quarter last face depth lt =
 -- where it takes what is on a face
 abbrev pub turned_face : ℕ → ℕ → ℕ → ℕ → ℕ
 turned_face last face depth from = face_at (rotated 2 (quarter last face depth) (point_at 2 from 1 1))
+
+-- the same, row by row
+abbrev pub turned_faces : List (List ℕ)
+turned_faces =
+    (0 ∷ 2 ∷ 4 ∷ 3 ∷ 5 ∷ 1 ∷ [])
+    ∷ (5 ∷ 1 ∷ 0 ∷ 2 ∷ 4 ∷ 3 ∷ [])
+    ∷ (1 ∷ 3 ∷ 2 ∷ 4 ∷ 0 ∷ 5 ∷ [])
+    ∷ (0 ∷ 5 ∷ 1 ∷ 3 ∷ 2 ∷ 4 ∷ [])
+    ∷ (2 ∷ 1 ∷ 3 ∷ 5 ∷ 4 ∷ 0 ∷ [])
+    ∷ (4 ∷ 0 ∷ 2 ∷ 1 ∷ 3 ∷ 5 ∷ []) ∷ []
+
+pub turned_faces-at : (last depth face from : ℕ) → face < 6 → from < 6
+    → get_or (get_or turned_faces face []) from 0 ≡ turned_face last face depth from
+turned_faces-at last depth face from lt lf =
+    each_face (λ face. get_or (get_or turned_faces face []) from 0 ≡ turned_face last face depth from)
+    (each_face (λ from. get_or (get_or turned_faces 0 []) from 0 ≡ turned_face last 0 depth from) refl refl refl refl refl refl from lf)
+    (each_face (λ from. get_or (get_or turned_faces 1 []) from 0 ≡ turned_face last 1 depth from) refl refl refl refl refl refl from lf)
+    (each_face (λ from. get_or (get_or turned_faces 2 []) from 0 ≡ turned_face last 2 depth from) refl refl refl refl refl refl from lf)
+    (each_face (λ from. get_or (get_or turned_faces 3 []) from 0 ≡ turned_face last 3 depth from) refl refl refl refl refl refl from lf)
+    (each_face (λ from. get_or (get_or turned_faces 4 []) from 0 ≡ turned_face last 4 depth from) refl refl refl refl refl refl from lf)
+    (each_face (λ from. get_or (get_or turned_faces 5 []) from 0 ≡ turned_face last 5 depth from) refl refl refl refl refl refl from lf)
+    face lt
 
 module _ (last depth : ℕ) where
   pub turned_face-below : (face from : ℕ) → face < 6 → from < 6 → turned_face last face depth from < 6

@@ -8,7 +8,5 @@
 
 pub mod laws;
 mod splitting;
-#[cfg(test)]
-mod tests;
 
 pub use splitting::{OptionForm, OptionsFault, SplitOptions, split_options};

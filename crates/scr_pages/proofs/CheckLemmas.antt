@@ -6,7 +6,7 @@ use Rattle.std.proofs.lemmas.List.{drop-drop}
 use Rattle.std.specs.List.{take-map, drop-map}
 use Rattle.scr_read.specs.Sheets.{SheetRound, IsSheet}
 use Rattle.scr_read.specs.Groups.{GroupOf, groups_of, GivesFirst}
-use Rattle.scr_pages.specs.declared.fault.Fault.{Fault}
+use Rattle.scr_pages.specs.Faults.{RunFault as Fault}
 use Rattle.scr_pages.specs.declared.survey.Survey.{Survey}
 use Rattle.scr_pages.specs.declared.checking.Checked.{Checked}
 use Rattle.scr_pages.specs.Asked.{Asked}
@@ -92,8 +92,9 @@ wanted-shown asked bytes checked is left are =
     ∙ sym (ap (map f) (is.wanted.are (groups_of rounds) (sym is.surveyed.count)))
     ∙ sym (chosen-map f asked.group (groups_of rounds))
 
-abbrev pub look_with : Bool → Bool → Bool → Look
-look_with html pictures has_name = record { html = html; pictures = pictures; has_name = has_name }
+abbrev pub look_with : Bool → Bool → List ℕ → Look
+look_with html pictures name = record { html = html; pictures = pictures; name = name }
 
-pub same-look : (html pictures others has_name : Bool) → pictures ≡ others → look_with html pictures has_name ≡ look_with html others has_name
-same-look html pictures others has_name same = ap (λ p. look_with html p has_name) same
+pub same-look : (html pictures others : Bool) (name other : List ℕ) → pictures ≡ others → name ≡ other
+    → look_with html pictures name ≡ look_with html others other
+same-look html pictures others name other same is = ap (λ p. look_with html p name) same ∙ ap (look_with html others) is

@@ -4,8 +4,9 @@ use Rattle.scr_read.specs.Sheets.{SheetRound, IsSheet}
 use Rattle.scr_read.specs.declared.fault.SheetFault.{SheetFault}
 use Rattle.scr_read.specs.Faults.{IsFirstFault}
 use Rattle.scr_read.specs.Groups.{GroupOf, groups_of}
-use Rattle.scr_pages.specs.declared.fault.Fault.{Fault}
-use Rattle.scr_pages.specs.declared.fault.Fault.TheVariants as fault
+use Rattle.scr_host.specs.declared.fault.Fault.TheVariants as fault
+use Rattle.scr_pages.specs.Faults.{RunFault as Fault}
+use Rattle.scr_pages.specs.declared.fault.PageFault.TheVariants as page
 use Rattle.scr_pages.specs.declared.survey.Survey.{Survey}
 use Rattle.scr_pages.specs.declared.checking.Wanted.{Wanted}
 use Rattle.scr_pages.specs.declared.checking.Checked.{Checked}
@@ -27,7 +28,7 @@ pub record IsSurveyed (bytes : List ℕ) (survey : Survey) : Type 0 where
 -- why bytes have no pages, whatever is asked for
 abbrev pub RefusesSurvey : List ℕ → Fault → Type 0
 RefusesSurvey bytes why =
-    ((cause : SheetFault) × (why ≡ fault.Sheet cause) × IsFirstFault bytes cause)
+    ((cause : SheetFault) × (why ≡ fault.Own (page.Sheet cause)) × IsFirstFault bytes cause)
     ⊎ ((rounds : List SheetRound) × IsSheet bytes rounds × FailsSurvey (groups_of rounds) why)
 
 -- so many groups, behind so many, are those that are chosen
@@ -45,5 +46,5 @@ pub record IsChecked (asked : Asked) (bytes : List ℕ) (checked : Checked) : Ty
 -- why the look at bytes that are a sheet ends early
 abbrev pub RefusesLook : List ℕ → Fault → Type 0
 RefusesLook bytes why =
-    ((cause : SheetFault) × (why ≡ fault.Sheet cause) × IsFirstFault bytes cause)
+    ((cause : SheetFault) × (why ≡ fault.Own (page.Sheet cause)) × IsFirstFault bytes cause)
     ⊎ ((rounds : List SheetRound) → IsSheet bytes rounds → FailsLook (groups_of rounds) why)

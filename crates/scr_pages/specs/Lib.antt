@@ -1,3 +1,4 @@
+pub mod Faults
 pub mod Asked
 pub mod Words
 pub mod Shown
@@ -8,7 +9,5 @@ pub mod Passes
 pub mod Pages
 pub mod Writing
 pub mod Message
-pub mod Status
 pub mod Outcome
 pub mod Checked
-pub mod Exit

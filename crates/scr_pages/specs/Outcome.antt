@@ -1,15 +1,15 @@
 -- How a run may end.
-use Rattle.std.specs.Prelude.{ℕ, ◌≡◌, ◌⊎◌, Bool, IsTrue, Some, List, [], length, Result, Ok, Err}
+use Rattle.std.specs.Prelude.{ℕ, ◌≡◌, ◌⊎◌, IsTrue, Some, List, [], length, Result, Ok, Err, OnOk}
 use Rattle.scr_outside.specs.Change.{Change, IsUnchanged}
-use Rattle.scr_host.specs.Exit.{IsTold}
-use Rattle.scr_host.specs.Input.{GivesInput, GivesNoInput}
-use Rattle.scr_host.specs.declared.input.InputFault.{InputFault}
+use Rattle.scr_host.specs.declared.fault.Fault.TheVariants as fault
+use Rattle.scr_host.specs.Input.{EndsReading}
+use Rattle.scr_host.specs.Runs.{outcome_of}
 use Rattle.scr_read.specs.Sheets.{SheetRound, IsSheet}
 use Rattle.scr_read.specs.Faults.{IsFirstFault}
 use Rattle.scr_read.specs.Groups.{groups_of}
-use Rattle.scr_pages.specs.declared.fault.Fault.{Fault}
-use Rattle.scr_pages.specs.declared.fault.Fault.TheVariants as fault
-use Rattle.scr_pages.specs.declared.status.Status.{Status}
+use Rattle.scr_layout.specs.Name.{fitting}
+use Rattle.scr_pages.specs.Faults.{RunFault as Fault}
+use Rattle.scr_pages.specs.declared.fault.PageFault.TheVariants as page
 use Rattle.scr_pages.specs.Asked.{Asked, asked_for, has_pictures}
 use Rattle.scr_pages.specs.Words.{RefusesWords}
 use Rattle.scr_pages.specs.Shown.{shown_groups, chosen}
@@ -17,18 +17,12 @@ use Rattle.scr_pages.specs.Slots.{Slot, slots_of, IsBarred, IsNear}
 use Rattle.scr_pages.specs.Refusals.{NoneIs, IsFirst, HasGroup, HasPages}
 use Rattle.scr_pages.specs.Pages.{Look}
 use Rattle.scr_pages.specs.Writing.{WritesPages}
-use Rattle.scr_pages.specs.Message.{message_of}
-use Rattle.scr_pages.specs.Status.{status_of}
-
--- an input has at most so many bytes
-abbrev pub most_bytes : ℕ
-most_bytes = 67108864
 
 -- ---- an input that was read
 
--- how pages look that are asked for, with the competition's name above or without one
-abbrev pub asked_look : Asked → Bool → Look
-asked_look asked has_name = record { html = asked.html; pictures = has_pictures asked; has_name = has_name }
+-- how pages look that are asked for: the competition's name stands in a line of 72
+abbrev pub asked_look : Asked → Look
+asked_look asked = record { html = asked.html; pictures = has_pictures asked; name = fitting 72 asked.name }
 
 -- Bytes are the sheet of these rounds, which has pages. Those of the groups that are asked for were written, or a first
 -- part of them.
@@ -36,8 +30,7 @@ pub record PrintsSheet (asked : Asked) (bytes : List ℕ) (out : Change) (ended 
   pub rounds : List SheetRound
   pub sheet : IsSheet bytes rounds
   pub has_pages : HasPages asked (groups_of rounds)
-  pub has_name : Bool
-  pub writes : WritesPages (asked_look asked has_name) (chosen asked.group (shown_groups rounds)) out ended
+  pub writes : WritesPages (asked_look asked) (chosen asked.group (shown_groups rounds)) out ended
 
 -- bytes are the sheet of some rounds, for whose groups and slots this holds
 pub record IsSheetWith (bytes : List ℕ) (Have : ℕ → List Slot → Type 0) : Type 0 where
@@ -48,11 +41,11 @@ pub record IsSheetWith (bytes : List ℕ) (Have : ℕ → List Slot → Type 0) 
 -- Why bytes have no pages: they are no sheet; a turn of a Square-1 in it is barred; it hasn't the group that is asked for;
 -- or fewer than eleven turns solve a Square-1 in it. Of more than one the first of these is told.
 abbrev pub Refuses : Asked → List ℕ → Fault → Type 0
-Refuses asked bytes (fault.Sheet why) = IsFirstFault bytes why
-Refuses asked bytes (fault.Barred line) = IsSheetWith bytes (λ groups slots. IsFirst IsBarred slots line)
-Refuses asked bytes (fault.NoGroup count) =
+Refuses asked bytes (fault.Own (page.Sheet why)) = IsFirstFault bytes why
+Refuses asked bytes (fault.Own (page.Barred line)) = IsSheetWith bytes (λ groups slots. IsFirst IsBarred slots line)
+Refuses asked bytes (fault.Own (page.NoGroup count)) =
     IsSheetWith bytes (λ groups slots. NoneIs IsBarred slots × (count ≡ groups) × (HasGroup asked.group groups → ⊥))
-Refuses asked bytes (fault.Near line) =
+Refuses asked bytes (fault.Own (page.Near line)) =
     IsSheetWith bytes (λ groups slots. NoneIs IsBarred slots × HasGroup asked.group groups × IsTrue asked.regulations
     × IsFirst IsNear slots line)
 Refuses asked bytes fault.NoMemory = Unit {0}
@@ -66,28 +59,12 @@ Prints asked bytes out ended =
 
 -- ---- a whole run
 
--- How a run ends that was asked for something: the input was read whole and printed, or it wasn't, and nothing was
--- written.
-abbrev pub EndsPrinting : Asked → Change → Change → Result (Unit {0}) Fault → Type 0
-EndsPrinting asked source out ended =
-    ((bytes : List ℕ) × GivesInput most_bytes source bytes × Prints asked bytes out ended)
-    ⊎ ((why : InputFault) × (ended ≡ Err (fault.Input why)) × GivesNoInput most_bytes source why × IsUnchanged out)
-
--- How a run ends: words that were read as what they ask for were served, and those that weren't read and write nothing.
-abbrev pub Ends : List (List ℕ) → Change → Change → Result (Unit {0}) Fault → Type 0
-Ends words source out ended =
-    ((asked : Asked) × (asked_for words ≡ Some asked) × EndsPrinting asked source out ended)
+-- How printing ends: words that were read as what they ask for were served, and those that weren't read and write nothing.
+abbrev pub EndsAsked : List (List ℕ) → Change → Change → Result (Unit {0}) Fault → Type 0
+EndsAsked words source out ended =
+    ((asked : Asked) × (asked_for words ≡ Some asked) × EndsReading (Prints asked) source out ended)
     ⊎ ((why : Fault) × (ended ≡ Err why) × RefusesWords words why × IsUnchanged source × IsUnchanged out)
 
--- what is told of an end: nothing where all was written, or what went wrong
-abbrev pub told_of : Result (Unit {0}) Fault → List ℕ
-told_of (Ok _) = []
-told_of (Err why) = message_of why
-
--- What a run did: how it ended, the status that this has, and what was told of it, or a first part of that where it
--- could not be written.
-pub record IsRun (words : List (List ℕ)) (outcome : Status) (source out err : Change) : Type 0 where
-  pub ended : Result (Unit {0}) Fault
-  pub ends : Ends words source out ended
-  pub answer : outcome ≡ status_of ended
-  pub tells : IsTold (told_of ended) err
+-- how a run ends: where all was written, there is nothing to be told
+abbrev pub Ends : List (List ℕ) → Change → Change → Result (List ℕ) Fault → Type 0
+Ends words source out ended = EndsAsked words source out (outcome_of ended) × OnOk ended (ended ≡ Ok [])

@@ -1,8 +1,9 @@
 -- How far the slots of a sheet were looked at.
 use Rattle.std.specs.Prelude.{ℕ, ◌≡◌, ◌≤◌, Option, Some, None, List, ◌++◌, All, length}
 use Rattle.scr_read.specs.Groups.{GroupOf}
-use Rattle.scr_pages.specs.declared.fault.Fault.{Fault}
-use Rattle.scr_pages.specs.declared.fault.Fault.TheVariants as fault
+use Rattle.scr_host.specs.declared.fault.Fault.TheVariants as fault
+use Rattle.scr_pages.specs.Faults.{RunFault as Fault}
+use Rattle.scr_pages.specs.declared.fault.PageFault.TheVariants as page
 use Rattle.scr_pages.specs.Slots.{Slot, slots_of, IsBarred, IsNear}
 use Rattle.scr_pages.specs.Refusals.{NoneIs, IsFirst}
 
@@ -24,12 +25,12 @@ pub record AreFew (groups : List GroupOf) : Type 0 where
 
 -- why the first pass over these groups ends early: a scramble can't be played, or memory is wanting
 abbrev pub FailsSurvey : List GroupOf → Fault → Type 0
-FailsSurvey groups (fault.Barred line) = IsFirst IsBarred (slots_of groups) line
+FailsSurvey groups (fault.Own (page.Barred line)) = IsFirst IsBarred (slots_of groups) line
 FailsSurvey groups fault.NoMemory = Unit {0}
 FailsSurvey groups other = ⊥
 
 -- why the look at these groups' Square-1s does
 abbrev pub FailsLook : List GroupOf → Fault → Type 0
-FailsLook groups (fault.Near line) = IsFirst IsNear (slots_of groups) line
+FailsLook groups (fault.Own (page.Near line)) = IsFirst IsNear (slots_of groups) line
 FailsLook groups fault.NoMemory = Unit {0}
 FailsLook groups other = ⊥

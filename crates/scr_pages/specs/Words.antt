@@ -6,8 +6,8 @@ use Rattle.scr_options.specs.OptionWords.{Text}
 use Rattle.scr_options.specs.declared.splitting.OptionsFault.{OptionsFault}
 use Rattle.scr_options.specs.declared.splitting.OptionsFault.TheVariants as options
 use Rattle.scr_pages.specs.declared.asked.Asked.{Asked as Held}
-use Rattle.scr_pages.specs.declared.fault.Fault.{Fault}
-use Rattle.scr_pages.specs.declared.fault.Fault.TheVariants as fault
+use Rattle.scr_host.specs.declared.fault.Fault.TheVariants as fault
+use Rattle.scr_pages.specs.Faults.{RunFault as Fault}
 use Rattle.scr_pages.specs.Asked.{Asked, asked_for}
 
 abbrev pub asked_of : Held → Asked

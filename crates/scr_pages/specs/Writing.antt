@@ -2,16 +2,15 @@
 use Rattle.std.specs.Prelude.{ℕ, ◌≡◌, Bool, IsTrue, List, [], ◌∷◌, ◌++◌, take, Result, Ok, Err}
 use Rattle.scr_outside.specs.Bytes.{IsFirstPart}
 use Rattle.scr_outside.specs.Change.{Change, Gains, Falters}
-use Rattle.scr_text.specs.Lines.{has_bytes}
 use Rattle.scr_layout.specs.Group.{Group}
-use Rattle.scr_pages.specs.declared.fault.Fault.{Fault}
-use Rattle.scr_pages.specs.declared.fault.Fault.TheVariants as fault
+use Rattle.scr_host.specs.declared.fault.Fault.TheVariants as fault
+use Rattle.scr_pages.specs.Faults.{RunFault as Fault}
 use Rattle.scr_pages.specs.declared.look.Look.{Look as Held}
 use Rattle.scr_pages.specs.Pages.{Look, ArePages}
 
 -- what pages look like, as code holds it
 abbrev pub look_of : Held → Look
-look_of look = record { html = look.html; pictures = look.pictures; has_name = has_bytes look.name.now }
+look_of look = record { html = look.html; pictures = look.pictures; name = look.name.now }
 
 -- a piece that goes on with pages by those of a group; the first group of all has no pages before
 abbrev pub GoesOn : Look → Bool → Group → List ℕ → Type 0

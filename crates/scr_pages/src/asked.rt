@@ -5,7 +5,7 @@ ghost use Rattle.scr_options.specs.Split.{found_values};
 ghost use Rattle.scr_pages.specs.Asked.{asked_for, asked_in, answer_of, group_of, has_pictures, read_value};
 ghost use Rattle.scr_pages.specs.Words.{asked_of, RefusesWords};
 
-use crate::fault::Fault;
+use crate::fault::{Fault, fault_of_options};
 use scr_options::{OptionForm, SplitOptions, split_options};
 use scr_text::number_within;
 use std::alloc::Global;
@@ -66,7 +66,10 @@ pub(crate) fn asked_for<'w>(alloc: Global, words: &'w [&'w str]) -> Result<Asked
     ensures asked { IfOk result (λ asked. asked_for (map (λ word. word.now) words.entry.now) ≡ Some (asked_of asked)) }
     ensures refused { IfErr result (λ why. RefusesWords (map (λ word. word.now) words.entry.now) why) }
 {
-    let split = split_options(alloc, &OPTIONS, words)?;
+    let split = match split_options(alloc, &OPTIONS, words) {
+        Ok(split) => split,
+        Err(why) => return Err(fault_of_options(why)),
+    };
     asked_in(&split).ok_or(Fault::Usage)
 }
 

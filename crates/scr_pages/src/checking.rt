@@ -3,15 +3,19 @@
 ghost use Rattle.std.specs.Prelude.{◌≡◌, ◌≤◌, List, length, OnOk, IfOk, IfErr};
 ghost use Rattle.scr_read.specs.Sheets.{SheetRound, IsSheet};
 ghost use Rattle.scr_read.specs.Groups.{groups_of};
-ghost use Rattle.scr_pages.specs.declared.fault.Fault.TheVariants.{NoGroup};
+ghost use Rattle.scr_read.specs.Faults.{IsFirstFault};
+ghost use Rattle.scr_read.specs.declared.fault.SheetFault.{SheetFault};
+ghost use Rattle.scr_host.specs.declared.fault.Fault.TheVariants.{Own};
+ghost use Rattle.scr_host.specs.Input.{most_bytes};
+ghost use Rattle.scr_pages.specs.declared.fault.PageFault.TheVariants.{NoGroup, Sheet};
 ghost use Rattle.scr_pages.specs.Words.{asked_of};
 ghost use Rattle.scr_pages.specs.Slots.{slots_of, IsNear};
 ghost use Rattle.scr_pages.specs.Refusals.{NoneIs, HasGroup};
-ghost use Rattle.scr_pages.specs.Outcome.{most_bytes, Refuses};
+ghost use Rattle.scr_pages.specs.Outcome.{Refuses};
 ghost use Rattle.scr_pages.specs.Checked.{IsSurveyed, RefusesSurvey, RefusesLook, IsWanted, IsChecked};
 
 use crate::asked::Asked;
-use crate::fault::Fault;
+use crate::fault::{Fault, PageFault};
 use crate::survey::{Survey, look, surveyed};
 use scr_read::{SheetGroups, laws};
 use std::alloc::Global;
@@ -54,14 +58,27 @@ fn survey_of(alloc: Global, bytes: &[u8]) -> Result<Survey, Fault>
     ensures ok { IfOk result (IsSurveyed bytes.now) }
     ensures err { IfErr result (RefusesSurvey bytes.now) }
 {
-    let mut groups = SheetGroups::of(bytes)?;
+    let mut groups = sheet_groups(bytes)?;
     surveyed(alloc, &mut groups)
+}
+
+/// All groups of a sheet.
+pub(crate) fn sheet_groups(bytes: &[u8]) -> Result<SheetGroups<'_>, Fault>
+    requires { length bytes.now ≤ most_bytes }
+    ensures groups { IfOk result (λ groups. (rounds : List SheetRound) × IsSheet bytes.now rounds
+        × (groups ≡ groups_of rounds)) }
+    ensures fault { IfErr result (λ why. (cause : SheetFault) × (why ≡ Own (Sheet cause)) × IsFirstFault bytes.now cause) }
+{
+    match SheetGroups::of(bytes) {
+        Ok(groups) => Ok(groups),
+        Err(why) => Err(Fault::Own(PageFault::Sheet(why))),
+    }
 }
 
 /// Which of so many groups are wanted: all, or the one with this number, from 1.
 fn wanted_groups(group: Option<u32>, groups: u32) -> Result<Wanted, Fault>
     ensures ok { IfOk result (IsWanted group groups) }
-    ensures err { IfErr result (λ why. (why ≡ NoGroup groups) × (HasGroup group groups → ⊥)) }
+    ensures err { IfErr result (λ why. (why ≡ Own (NoGroup groups)) × (HasGroup group groups → ⊥)) }
 {
     match group {
         None => Ok(Wanted {
@@ -72,7 +89,7 @@ fn wanted_groups(group: Option<u32>, groups: u32) -> Result<Wanted, Fault>
             first: number - 1,
             count: 1,
         }),
-        Some(_) => Err(Fault::NoGroup(groups)),
+        Some(_) => Err(Fault::Own(PageFault::NoGroup(groups))),
     }
 }
 
@@ -84,6 +101,6 @@ fn look_at(alloc: Global, bytes: &[u8]) -> Result<(), Fault>
     ensures err { IfErr result (RefusesLook bytes.now) }
 {
     laws::sheets_are_read_back();
-    let mut groups = SheetGroups::of(bytes)?;
+    let mut groups = sheet_groups(bytes)?;
     look(alloc, &mut groups)
 }

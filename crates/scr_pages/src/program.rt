@@ -1,62 +1,56 @@
-//! The top call.
+//! The program, by what it does on words.
 
 ghost use Rattle.std.specs.Prelude.{◌≡◌, ◌≤◌, drop, length, map};
 ghost use Rattle.scr_outside.specs.Change.{change_of, intake_of};
+ghost use Rattle.scr_host.specs.Input.{most_bytes, EndsReading};
 ghost use Rattle.scr_pages.specs.Words.{asked_of};
 ghost use Rattle.scr_pages.specs.Checked.{IsChecked};
-ghost use Rattle.scr_pages.specs.Outcome.{most_bytes, IsRun, Ends, EndsPrinting, Prints, PrintsSheet};
+ghost use Rattle.scr_pages.specs.Outcome.{EndsAsked, Prints, PrintsSheet};
 
 use crate::asked::{Asked, asked_for};
-use crate::checking::{Checked, checked_sheet};
-use crate::fault::Fault;
+use crate::checking::{Checked, checked_sheet, sheet_groups};
+use crate::fault::{Fault, PageFault};
 use crate::look::Look;
-use crate::status::Status;
 use crate::writing::write_groups;
-use scr_host::{read_input, tell};
+use scr_host::{Program, read_input};
 use scr_layout::fitting_name;
 use scr_outside::{Sink, Source};
 use scr_read::{SheetGroups, laws};
 use std::alloc::Global;
 
-/// An input has at most so many bytes.
-pub const MOST_BYTES: usize = 67_108_864;
-
 /// So many letters wide a competition's name is at most.
 const WIDTH: u32 = 72;
 
-/// Does all that the program does, on its words without its own name: reads a sheet from `source`, writes its pages to
-/// `out`, tells on `err` what went wrong, and gives the status. A fault of `err` changes no status.
-pub fn run<'w, S: Source, O: Sink, E: Sink>(
-    alloc: Global,
-    words: &'w [&'w str],
-    source: &mut S,
-    out: &mut O,
-    err: &mut E,
-) -> Status
-    ensures { IsRun (map (λ word. word.now) words.now) result
-        (intake_of S.left S.faults S.ends source.old source.new)
-        (change_of O.held O.faults out.old out.new) (change_of E.held E.faults err.old err.new) }
-{
-    match perform(alloc, words, source, out) {
-        Ok(()) => {
-            tell(err, "");
-            Status::of(Ok(()))
-        }
-        Err(fault) => {
-            tell(err, fault.message().as_str());
-            Status::of(Err(fault))
-        }
+/// `scramble-pages`, as a program: it reads a sheet, and writes its pages. It tells nothing where all went well.
+pub struct Pages;
+
+impl Program for Pages {
+    ghost use Rattle.scr_pages.specs.Outcome.{Ends};
+
+    type Own = PageFault;
+
+    ghost Ends = { Ends };
+
+    fn perform<'w, S: Source, O: Sink>(
+        &self,
+        alloc: Global,
+        words: &'w [&'w str],
+        source: &mut S,
+        out: &mut O,
+    ) -> Result<String, Fault> {
+        print_asked(alloc, words, source, out)?;
+        Ok(String::new(alloc))
     }
 }
 
 /// Does what the words ask for.
-fn perform<S: Source, O: Sink>(
+fn print_asked<S: Source, O: Sink>(
     alloc: Global,
     words: &[&str],
     source: &mut S,
     out: &mut O,
 ) -> Result<(), Fault>
-    ensures { Ends (map (λ word. word.now) words.now)
+    ensures { EndsAsked (map (λ word. word.now) words.now)
         (intake_of S.left S.faults S.ends source.old source.new)
         (change_of O.held O.faults out.old out.new) result }
 {
@@ -73,11 +67,11 @@ fn print_input<S: Source, O: Sink>(
     source: &mut S,
     out: &mut O,
 ) -> Result<(), Fault>
-    ensures { EndsPrinting (asked_of asked.now)
+    ensures { EndsReading (Prints (asked_of asked.now))
         (intake_of S.left S.faults S.ends source.old source.new)
         (change_of O.held O.faults out.old out.new) result }
 {
-    let bytes = read_input(alloc, source, MOST_BYTES)?;
+    let bytes = read_input(alloc, source)?;
     print_bytes(alloc, asked, &bytes, out)
 }
 
@@ -114,7 +108,7 @@ fn print_checked<O: Sink>(
         pictures: asked.has_pictures(),
         name: name.as_str(),
     };
-    let mut groups = SheetGroups::of(bytes)?;
+    let mut groups = sheet_groups(bytes)?;
     skip(&mut groups, checked.wanted.first);
     write_groups(
         alloc,

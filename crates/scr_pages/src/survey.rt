@@ -9,7 +9,7 @@ ghost use Rattle.scr_pages.specs.Slots.{slots_from, slots_of, slots_of_group, Is
 ghost use Rattle.scr_pages.specs.Refusals.{NoneIs};
 ghost use Rattle.scr_pages.specs.Passes.{AreFew, IsFound, FailsSurvey, FailsLook};
 
-use crate::fault::Fault;
+use crate::fault::{Fault, PageFault};
 use crate::marks::{RoundMark, mark_group};
 use scr_notation::{Event, Puzzle, Scramble};
 use scr_read::{SheetGroup, SheetGroups};
@@ -41,7 +41,7 @@ pub(crate) fn surveyed(alloc: Global, groups: &mut SheetGroups<'_>) -> Result<Su
     let mut count = 0;
     'groups: while let Some(group) = groups.next() {
         if let Some(line) = barred_line(&group) {
-            return Err(Fault::Barred(line));
+            return Err(Fault::Own(PageFault::Barred(line)));
         }
         mark_group(&mut marks, &group)?;
         count += 1;
@@ -66,7 +66,7 @@ pub(crate) fn look(alloc: Global, groups: &mut SheetGroups<'_>) -> Result<(), Fa
                 None => NearSolved::build(alloc)?,
             };
             if let Some(line) = near_line(&near, &group) {
-                return Err(Fault::Near(line));
+                return Err(Fault::Own(PageFault::Near(line)));
             }
             built = Some(near);
         }

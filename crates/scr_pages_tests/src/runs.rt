@@ -3,7 +3,7 @@
 ghost use Rattle.std.specs.Prelude.{◌<◌};
 
 use scr_outside::{MemSink, MemSource};
-use scr_pages::{Status, run};
+use scr_pages::{Pages, run_on_words};
 use std::alloc::Global;
 use std::test::Fail;
 
@@ -11,10 +11,10 @@ mod forms;
 mod printed;
 mod refusals;
 
-/// What a run gave.
+/// What a run gave: its exit code, what it wrote, and what it told.
 #[derive(Drop)]
 pub(crate) struct Ran {
-    pub status: Status,
+    pub code: u8,
     pub out: MemSink,
     pub err: MemSink,
 }
@@ -31,8 +31,8 @@ pub(crate) fn run_with(
     let mut source = MemSource::new(bytes, 1000, reads.to_vec(alloc)?);
     let mut out = MemSink::new(alloc, 4_000_000, 1000, writes.to_vec(alloc)?)?;
     let mut err = MemSink::new(alloc, 256, 256, Vec::new(alloc))?;
-    let status = run(alloc, words, &mut source, &mut out, &mut err);
-    Ok(Ran { status, out, err })
+    let code = run_on_words(&Pages, alloc, Ok(words), &mut source, &mut out, &mut err);
+    Ok(Ran { code, out, err })
 }
 
 /// A sheet in which the first of these texts stands in place of another; nothing where that isn't there.

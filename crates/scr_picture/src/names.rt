@@ -1,8 +1,8 @@
 //! The names of letters, and texts of them.
-ghost use Rattle.std.specs.Prelude.{◌≡◌, ◌*◌, ◌≤◌, length};
+ghost use Rattle.std.specs.Prelude.{◌≡◌, ◌*◌, ◌≤◌, All, length, map};
 ghost use Rattle.arrayvec.specs.ArrayString.{array_string_len};
-ghost use Rattle.scr_picture.specs.Names.{IsLine, joined_text, name_in, spaced_text};
-ghost use Rattle.scr_picture.specs.declared.names.Alphabet.TheVariants.{Cube, Pyraminx, Megaminx, Hours, Units};
+ghost use Rattle.scr_picture.specs.Names.{IsLine, joined_text, name_in, names_of, spaced_text};
+ghost use Rattle.scr_picture.specs.declared.names.Alphabet.TheVariants.{Cube};
 
 use arrayvec::ArrayString;
 
@@ -24,117 +24,36 @@ pub(crate) enum Alphabet {
     Units,
 }
 
+/// The names of the letters of a kind, in the order of their numbers.
+fn names_of(alphabet: Alphabet) -> &'static [&'static str]
+    ensures names { map (λ name. name.now) result.now ≡ names_of alphabet }
+    ensures short { All (λ name. length name.now ≤ 3) result.now }
+    ensures single { alphabet ≡ Cube → All (λ name. length name.now ≤ 1) result.now }
+{
+    match alphabet {
+        Alphabet::Cube => &["U", "R", "F", "D", "L", "B"],
+        Alphabet::Pyraminx => &["F", "R", "L", "D"],
+        Alphabet::Megaminx => &[
+            "U", "F", "R", "BR", "BL", "L", "D", "B", "DBR", "DR", "DL", "DBL",
+        ],
+        Alphabet::Hours => &[
+            "12", "1", "2", "3", "4", "5", "6", "7", "8", "9", "10", "11",
+        ],
+        Alphabet::Units => &[
+            "0", "1", "2", "3", "4", "5", "6", "7", "8", "9", "a", "b", "c", "d", "e", "f",
+        ],
+    }
+}
+
 /// The name of a letter; that of a number that is no letter is empty.
 pub(crate) fn name_in(alphabet: Alphabet, letter: u8) -> &'static str
     ensures value { result.now ≡ name_in alphabet letter }
     ensures short { length result.now ≤ 3 }
+    ensures single { alphabet ≡ Cube → length result.now ≤ 1 }
 {
-    match alphabet {
-        Alphabet::Cube => cube_name(letter),
-        Alphabet::Pyraminx => pyraminx_name(letter),
-        Alphabet::Megaminx => megaminx_name(letter),
-        Alphabet::Hours => hour_name(letter),
-        Alphabet::Units => unit_name(letter),
-    }
-}
-
-/// The name of a face of a cube.
-pub(crate) fn cube_name(letter: u8) -> &'static str
-    ensures value { result.now ≡ name_in Cube letter }
-    ensures short { length result.now ≤ 1 }
-{
-    match letter {
-        0 => "U",
-        1 => "R",
-        2 => "F",
-        3 => "D",
-        4 => "L",
-        5 => "B",
-        _ => "",
-    }
-}
-
-/// The name of a face of a Pyraminx.
-fn pyraminx_name(letter: u8) -> &'static str
-    ensures value { result.now ≡ name_in Pyraminx letter }
-    ensures short { length result.now ≤ 3 }
-{
-    match letter {
-        0 => "F",
-        1 => "R",
-        2 => "L",
-        3 => "D",
-        _ => "",
-    }
-}
-
-/// The name of a face of a Megaminx.
-fn megaminx_name(letter: u8) -> &'static str
-    ensures value { result.now ≡ name_in Megaminx letter }
-    ensures short { length result.now ≤ 3 }
-{
-    match letter {
-        0 => "U",
-        1 => "F",
-        2 => "R",
-        3 => "BR",
-        4 => "BL",
-        5 => "L",
-        6 => "D",
-        7 => "B",
-        8 => "DBR",
-        9 => "DR",
-        10 => "DL",
-        11 => "DBL",
-        _ => "",
-    }
-}
-
-/// The hour that a dial of a Clock shows.
-fn hour_name(letter: u8) -> &'static str
-    ensures value { result.now ≡ name_in Hours letter }
-    ensures short { length result.now ≤ 3 }
-{
-    match letter {
-        0 => "12",
-        1 => "1",
-        2 => "2",
-        3 => "3",
-        4 => "4",
-        5 => "5",
-        6 => "6",
-        7 => "7",
-        8 => "8",
-        9 => "9",
-        10 => "10",
-        11 => "11",
-        _ => "",
-    }
-}
-
-/// The hexadecimal digit of a piece of a Square-1.
-fn unit_name(letter: u8) -> &'static str
-    ensures value { result.now ≡ name_in Units letter }
-    ensures short { length result.now ≤ 1 }
-{
-    match letter {
-        0 => "0",
-        1 => "1",
-        2 => "2",
-        3 => "3",
-        4 => "4",
-        5 => "5",
-        6 => "6",
-        7 => "7",
-        8 => "8",
-        9 => "9",
-        10 => "a",
-        11 => "b",
-        12 => "c",
-        13 => "d",
-        14 => "e",
-        15 => "f",
-        _ => "",
+    match names_of(alphabet).get(usize::from(letter)) {
+        Some(name) => name,
+        None => "",
     }
 }
 

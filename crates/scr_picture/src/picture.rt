@@ -8,10 +8,10 @@ ghost use Rattle.scr_picture.specs.Names.{IsLine, spaced_text};
 ghost use Rattle.scr_picture.specs.Pictures.{row_letters, face_letters, net_letters, clock_hours, sq1_letters};
 ghost use Rattle.scr_picture.specs.Pictures.{picture, picture_of, net_picture, pyram_picture, skewb_picture, minx_picture, clock_picture, sq1_picture};
 
-use crate::names::{Alphabet, Text, cube_name, joined, spaced};
+use crate::names::{Alphabet, Text, joined, name_in, spaced};
 use crate::stickers::played;
 use crate::tables::{
-    SOLVED_MINX, SOLVED_PYRAM, SOLVED_SKEWB, minx_moves, pyram_moves, skewb_moves,
+    minx_moves, pyram_moves, skewb_moves, solved_minx, solved_pyram, solved_skewb,
 };
 use arrayvec::ArrayString;
 use scr_clock::Clock;
@@ -109,7 +109,7 @@ fn sq1_picture(scramble: &Scramble) -> Option<Picture>
 fn minx_picture(scramble: &Scramble) -> Option<Picture>
     ensures { result ≡ minx_picture scramble.now.turns }
 {
-    let letters = played(&SOLVED_MINX, minx_moves(), scramble.turns())?;
+    let letters = played(solved_minx(), minx_moves(), scramble.turns())?;
     Some(Picture {
         letters: spaced(Alphabet::Megaminx, &letters[..]),
     })
@@ -119,7 +119,7 @@ fn minx_picture(scramble: &Scramble) -> Option<Picture>
 fn pyram_picture(scramble: &Scramble) -> Option<Picture>
     ensures { result ≡ pyram_picture scramble.now.turns }
 {
-    let letters = played(&SOLVED_PYRAM, pyram_moves(), scramble.turns())?;
+    let letters = played(solved_pyram(), pyram_moves(), scramble.turns())?;
     Some(Picture {
         letters: joined(Alphabet::Pyraminx, &letters[..]),
     })
@@ -129,7 +129,7 @@ fn pyram_picture(scramble: &Scramble) -> Option<Picture>
 fn skewb_picture(scramble: &Scramble) -> Option<Picture>
     ensures { result ≡ skewb_picture scramble.now.turns }
 {
-    let letters = played(&SOLVED_SKEWB, skewb_moves(), scramble.turns())?;
+    let letters = played(solved_skewb(), skewb_moves(), scramble.turns())?;
     Some(Picture {
         letters: joined(Alphabet::Cube, &letters[..]),
     })
@@ -171,7 +171,7 @@ fn push_row<const SIDE: usize>(text: &mut Text, net: &Net<SIDE>, face: u8, row: 
     ensures len { array_string_len text.new ≤ array_string_len text.old + 7 }
 {
     for column in 0..SIDE {
-        text.push_str(cube_name(net.cell(face, row, column as u8)));
+        text.push_str(name_in(Alphabet::Cube, net.cell(face, row, column as u8)));
     }
 }
 

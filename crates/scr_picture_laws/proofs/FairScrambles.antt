@@ -10,7 +10,7 @@ use Rattle.scr_notation.specs.Event.{puzzle_of}
 use Rattle.scr_notation.specs.Written.{at_most}
 use Rattle.scr_notation.specs.declared.turn.Turn.{Turn}
 use Rattle.scr_cube.specs.Cube333.{CubeState}
-use Rattle.scr_fewest.specs.Fewest.{is_framed}
+use Rattle.scr_twophase.specs.Fewest.{is_framed}
 use Rattle.scr_slots.specs.declared.settings.Settings.{Settings}
 use Rattle.scr_slots.specs.Promised.{DrawnPuzzle, drawn_puzzle, GivesDrawn, States, slot_numbers}
 use Rattle.scr_slots.specs.Events.{promised_as, promised_of}

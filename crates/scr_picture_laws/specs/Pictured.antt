@@ -7,7 +7,7 @@ use Rattle.scr_notation.specs.declared.event.Event.TheVariants.{C222, C333, Pyra
 use Rattle.scr_notation.specs.declared.turn.Turn.{Turn}
 use Rattle.scr_notation.specs.Turns.{permits}
 use Rattle.scr_net.specs.Nets.{Letters, net_after, quarter_net, solved_net}
-use Rattle.scr_fewest.specs.Fewest.{is_framed}
+use Rattle.scr_twophase.specs.Fewest.{is_framed}
 use Rattle.scr_picture.specs.Stickers.{stickers_after}
 use Rattle.scr_picture.specs.Pyraminx.{pyram_moves, solved_pyram_picture}
 use Rattle.scr_picture.specs.Skewb.{skewb_moves, solved_skewb_picture}

@@ -3,10 +3,9 @@
 use crate::read;
 use scr_cube::{Cube, CubeNumbers, PowerTurned};
 use scr_draw::{Numbering, Permit};
-use scr_fewest::{DrawFewest, scramble_333fm};
 use scr_notation::{Event, print};
 use scr_stages::StageTables;
-use scr_twophase::PruneTables;
+use scr_twophase::{DrawFewest, PruneTables, scramble_333fm};
 use std::test::Fail;
 
 /// A known word to the superflip, of 20 turns.

@@ -28,6 +28,3 @@ pub use groups::SheetGroups;
 pub use lines::first_line;
 pub use piece::{Head, Piece};
 pub use reader::{SheetReader, read};
-
-#[cfg(test)]
-mod tests;

@@ -61,6 +61,12 @@ IsLineAnswer settings k round (Slot label slot) text (Err missing) =
     HasNoScramble (scrambling_of round.event) settings round.least (first_stream k + slot)
     × (missing ≡ record { round = k + 1; slot = slot + 1; words = 3 * settings.attempts })
 
+-- it is what is answered for a line of a round and a text
+pub record IsPlaceAnswer (settings : Settings) (k : ℕ) (round : Round) (place : ℕ) (text : List ℕ) (answer : Result Bool Missing) : Type 0 where
+  pub own : Line
+  pub there : slice_get (round_lines k round) place ≡ Some own
+  pub answered : IsLineAnswer settings k round own text answer
+
 -- what a checker's lines are those of
 pub record SheetRounds : Type 0 where
   pub settings : Settings

@@ -5,8 +5,8 @@ ghost use Rattle.scr_notation.specs.EventSets.{Has};
 ghost use Rattle.scr_list.specs.Rounds.{IsRound};
 ghost use Rattle.scr_list.specs.RoundLists.{IsRounds};
 ghost use Rattle.scr_notation.specs.Event.{is_tested_by_table};
-ghost use Rattle.scr_sheet.specs.Check.{IsBehind, IsPlacedAt, IsLineAnswer, list_lines};
-ghost use Rattle.scr_round.specs.Round.{Slot};
+ghost use Rattle.scr_sheet.specs.Check.{IsBehind, IsPlaceAnswer, IsPlacedAt, IsLineAnswer, list_lines};
+ghost use Rattle.scr_round.specs.Round.{Slot, round_lines};
 
 use scr_check::{Expected, Missing};
 use scr_list::Round;
@@ -67,20 +67,33 @@ impl Expected for SheetLines<'_> {
     }
 
     fn agrees(&self, line: u32, text: &[u8]) -> Result<bool, Missing> {
-        let (index, line) = place_of(self.rounds, line - 1);
+        let (index, place) = place_of(self.rounds, line - 1);
         let round = &self.rounds[index as usize];
-        let _few_slots = slots(round);
-        match line_at(index, round, line) {
-            SheetLine::Fixed(own) => Ok(text == own.as_str().as_bytes()),
-            SheetLine::Slot { label, slot } => slot_line_agrees(
-                self.tables,
-                self.settings,
-                index,
-                round,
-                label.as_str(),
-                slot,
-                text,
-            ),
+        line_agrees(self.tables, self.settings, index, round, place, text)
+    }
+}
+
+/// Whether a text agrees with a line of round `index` of a list; both are counted from 0.
+fn line_agrees(
+    tables: &Tables,
+    settings: &Settings,
+    index: u32,
+    round: &Round,
+    place: u32,
+    text: &[u8],
+) -> Result<bool, Missing>
+    requires tables { IsTrue (is_tested_by_table round.now.event) → Has tables.now round.now.event }
+    requires index { index < 256 }
+    requires round { IsRound round.now }
+    requires place { place < length (round_lines index round.now) }
+    requires attempts { settings.now.attempts ≤ 1000000 }
+    ensures { IsPlaceAnswer settings.now index round.now place text.now result }
+{
+    let _few_slots = slots(round);
+    match line_at(index, round, place) {
+        SheetLine::Fixed(own) => Ok(text == own.as_str().as_bytes()),
+        SheetLine::Slot { label, slot } => {
+            slot_line_agrees(tables, settings, index, round, label.as_str(), slot, text)
         }
     }
 }

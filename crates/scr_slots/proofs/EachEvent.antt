@@ -22,7 +22,7 @@ use Rattle.scr_cube.proofs.NumberedHeld.{held_numbering}
 use Rattle.scr_twophase.specs.TwoParts.{two_parts}
 use Rattle.scr_twophase.proofs.PartLaws.{IsScrambleBy-unique}
 use Rattle.scr_twophase.proofs.HeldScrambles.{IsScramble333bf-unique}
-use Rattle.scr_fewest.proofs.FewestLaws.{IsScrambleFewest-unique}
+use Rattle.scr_twophase.proofs.FewestLaws.{IsScrambleFewest-unique}
 use Rattle.scr_small.specs.Puzzles.{numbered_puzzle_222, numbered_puzzle_skewb}
 use Rattle.scr_small.proofs.Lawful222.{lawful_puzzle_222}
 use Rattle.scr_small.proofs.LawfulSkewb.{lawful_puzzle_skewb}

@@ -16,7 +16,7 @@ use Rattle.scr_cube.specs.Cube333.{CubeState, cube_numbers, cube_powers, solved_
 use Rattle.scr_cube.specs.Held.{HeldState, solved_held, held_cube_after, held_puzzle, held_numbers}
 use Rattle.scr_twophase.specs.TwoParts.{IsScramble333}
 use Rattle.scr_twophase.specs.HeldScramble.{IsScramble333bf}
-use Rattle.scr_fewest.specs.Fewest.{is_framed, IsScrambleFewest}
+use Rattle.scr_twophase.specs.Fewest.{is_framed, IsScrambleFewest}
 use Rattle.scr_tetra.specs.Pyraminx.{PyramState, pyram_powers, pyram_numbers}
 use Rattle.scr_tetra.specs.Skewb.{SkewbState, skewb_numbers, skewb_powers}
 use Rattle.scr_small.specs.Puzzles.{IsScramble222, IsScramblePyram, IsScrambleSkewb}

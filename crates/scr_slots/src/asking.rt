@@ -13,11 +13,10 @@ use crate::event::{MoveEvent, StateEvent};
 use crate::moves::{CubeMoves, MegaminxMoves};
 use crate::tables::Tables;
 use scr_clock::ClockNumbers;
-use scr_fewest::DrawFewest;
 use scr_notation::{Event, Puzzle};
 use scr_small::{Small222, SmallPyram, SmallSkewb};
 use scr_sq1solve::DrawSq1;
-use scr_twophase::{Draw333, DrawHeld};
+use scr_twophase::{Draw333, DrawFewest, DrawHeld};
 
 /// A question to an event, with an answer for events whose states are drawn and one for events of random moves.
 pub(crate) trait Question {

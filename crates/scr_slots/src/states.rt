@@ -18,7 +18,7 @@ ghost use Rattle.scr_sq1solve.specs.Counts.{IsWithinBounds};
 ghost use Rattle.scr_clock.specs.Written.{IsClockScramble};
 ghost use Rattle.scr_small.specs.Puzzles.{IsScramble222, IsScramblePyram, IsScrambleSkewb};
 ghost use Rattle.scr_sq1short.specs.ShortScrambles.{IsShortScramble};
-ghost use Rattle.scr_fewest.specs.Fewest.{IsScrambleFewest};
+ghost use Rattle.scr_twophase.specs.Fewest.{IsScrambleFewest};
 ghost use Rattle.scr_twophase.specs.HeldScramble.{IsScramble333bf};
 ghost use Rattle.scr_twophase.specs.TwoParts.{IsScramble333};
 ghost use Rattle.scr_slots.specs.Events.{drawn_fewest};
@@ -28,7 +28,6 @@ use crate::event::StateEvent;
 use crate::settings::Effort;
 use scr_clock::{Clock, ClockNumbers, laws as clock, scramble_clock};
 use scr_cube::{Corners222, Cube, Held, Numbers222, PowerTurned, laws as cubes};
-use scr_fewest::{DrawFewest, is_framed, scramble_333fm};
 use scr_notation::Scramble;
 use scr_small::{Small222, SmallPyram, SmallSkewb, SmallTables, laws as small};
 use scr_sq1::Sq1;
@@ -36,7 +35,9 @@ use scr_sq1short::scramble_sq1_short;
 use scr_sq1solve::{DrawSq1, Sq1Tables, laws as square};
 use scr_stages::laws as stages;
 use scr_tetra::{Pyraminx, Skewb, SkewbNumbers};
-use scr_twophase::{Draw333, DrawHeld, scramble_333, scramble_333bf};
+use scr_twophase::{
+    Draw333, DrawFewest, DrawHeld, is_framed, scramble_333, scramble_333bf, scramble_333fm,
+};
 
 impl StateEvent for Small222<'_> {
     type Solver = SmallTables;

@@ -4,5 +4,6 @@ pub mod TurnLaws
 pub mod Alternation
 pub mod KeyLaws
 pub mod LevelLaws
+pub mod FoundLaws
 pub mod Counted
 mod LayersLaws

@@ -1,3 +1,4 @@
 pub mod Within
 pub mod Alternating
 pub mod Levels
+pub mod Found

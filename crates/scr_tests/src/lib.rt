@@ -13,6 +13,8 @@ mod draw;
 #[cfg(test)]
 mod list;
 #[cfg(test)]
+mod options;
+#[cfg(test)]
 mod orbit;
 #[cfg(test)]
 mod outside;

@@ -1,18 +1,22 @@
 -- What calls one after another add.
-use Rattle.std.proofs.Common.{◌≡◌, ℕ, ◌<◌, ◌≤◌, Bool, IsTrue, true, false, if◌then◌else◌, List, [], ◌∷◌, ◌++◌, drop, length, refl, sym, ap, ◌∙◌, subst, arith, append_assoc, append-nil, length-append, flat_map}
+use Rattle.std.proofs.Common.{◌≡◌, ℕ, ◌<◌, ◌≤◌, Bool, IsTrue, true, false, if◌then◌else◌, List, [], ◌∷◌, ◌++◌, take, drop, length, refl, sym, ap, ◌∙◌, subst, arith, append_assoc, append-nil, length-append, flat_map}
 use Rattle.std.specs.Prelude.{All}
+use Rattle.std.specs.List.{position_or_len}
+use Rattle.std.proofs.Math.ListN.{get_or-append}
+use Rattle.std.proofs.Math.Seq.{get_or-append_seam, take-append_seam}
 use Rattle.std.proofs.lemmas.List.{drop-append-le}
+use Rattle.std.proofs.lemmas.List.Sums.{position_or_len_is}
 use Rattle.std.proofs.lemmas.List.Elements.{All-nil, All-cons, All-append, All-head, All-tail}
 use Rattle.std.proofs.lemmas.List.Splits.{slice_split_none}
 use Rattle.std.proofs.lemmas.Bool.{ne_eqb}
-use Rattle.scr_text.specs.Lines.{text_of_lines}
+use Rattle.scr_text.specs.Lines.{has_bytes, is_line_feed, text_of_lines}
 use Rattle.scr_text.specs.Parts.{IsLine}
 use Rattle.scr_text.proofs.LineLaws.{lines_of-text_of_lines, IsLine-plain}
 use Rattle.scr_text.proofs.WrittenLines.{text_of_lines-append}
-use Rattle.scr_text_pages.specs.Reading.{ReadSlot, ReadLines, read_lines, slots_of_page, slots_of_text, is_form_feed}
+use Rattle.scr_text_pages.specs.Reading.{ReadSlot, ReadLines, read_lines, slots_of_page, slots_of_text, is_form_feed, first_line}
 use Rattle.scr_text_pages.specs.Adding.{IsPlainLine, AddsLines, AddsCut, AddsHead, AddsSlots, words_read, slots_read}
 use Rattle.scr_text_pages.proofs.ReadLemmas.{read-rows, read-slots, read-cut}
-use Rattle.scr_text_pages.proofs.SplitLemmas.{pages-between, no_pages}
+use Rattle.scr_text_pages.proofs.SplitLemmas.{pages-between, no_pages, named-one, named-none, named-between}
 
 pub adds-none : (text : List ℕ) → AddsLines (words_read []) text text
 adds-none text = record { lines = []; text = sym (append-nil text); plain = All-nil IsPlainLine; reads = refl }
@@ -107,17 +111,38 @@ skip-append : (has_name : Bool) (lines more : List (List ℕ)) → (IsTrue has_n
 skip-append true lines more some = drop-append-le 1 lines more (some refl)
 skip-append false lines more some = refl
 
+-- the first line of a text
+line-place : (line rest : List ℕ) → IsPlainLine line → position_or_len is_line_feed (line ++ 10 ∷ rest) ≡ length line
+line-place line rest plain =
+    position_or_len_is is_line_feed (line ++ 10 ∷ rest) (length line) 0 (omega (arith, length-append line (10 ∷ rest)))
+    (λ k below. ap is_line_feed (get_or-append line (10 ∷ rest) 0 k below)
+    ∙ ne_eqb _ 10 (λ is. let above = plain k 0 below in omega (arith, is, above)))
+    (λ below. ap is_line_feed (get_or-append_seam line 10 rest 0))
+
+first-is : (line rest : List ℕ) → IsPlainLine line → first_line (line ++ 10 ∷ rest) ≡ line
+first-is line rest plain =
+    ap (λ n. take n (line ++ 10 ∷ rest)) (line-place line rest plain) ∙ take-append_seam line (10 ∷ rest)
+
+-- that of lines behind a name
+first-name : (name : List ℕ) (lines more : List (List ℕ)) → lines ≡ name ∷ drop 1 lines → All IsPlainLine lines
+    → first_line (text_of_lines (lines ++ more)) ≡ name
+first-name name lines more is plain =
+    ap (λ ls. first_line (text_of_lines (ls ++ more))) is
+    ∙ first-is name (text_of_lines (drop 1 lines ++ more)) (All-head IsPlainLine name (drop 1 lines) (subst (All IsPlainLine) is plain))
+
 -- heads and scrambles are a page, of which just these scrambles are read
-pub adds-page : (has_name : Bool) (slots : List ReadSlot) (a b c : List ℕ) → AddsHead has_name a b → AddsLines (slots_read slots) b c
-    → AddsSlots has_name slots a c
-adds-page has_name slots a b c h k =
+pub adds-page : (name : List ℕ) (slots : List ReadSlot) (a b c : List ℕ) → AddsHead name a b → AddsLines (slots_read slots) b c
+    → AddsSlots name slots a c
+adds-page name slots a b c h k =
+    let has_name = has_bytes name in
+    let some_line : IsTrue has_name → 1 ≤ length h.lines = λ is. let first = h.first is in omega (arith, ap length first) in
     let lines = h.lines ++ k.lines in
     let plain = All-append IsPlainLine h.lines k.lines h.plain k.plain in
     let n = skipped has_name in
-    let longer : IsTrue has_name → 1 ≤ length lines = λ is. let some = h.some is in omega (arith, some, length-append h.lines k.lines) in
+    let longer : IsTrue has_name → 1 ≤ length lines = λ is. let some = some_line is in omega (arith, some, length-append h.lines k.lines) in
     let behind = read-slots (drop n h.lines) k.lines (ap (λ (r : ReadLines). r.before) k.reads) in
     let read_page : (read_lines (drop n lines)).slots ≡ slots =
-    ap (λ ls. (read_lines ls).slots) (skip-append has_name h.lines k.lines h.some) ∙ ap (λ (r : ReadLines). r.slots) behind
+    ap (λ ls. (read_lines ls).slots) (skip-append has_name h.lines k.lines some_line) ∙ ap (λ (r : ReadLines). r.slots) behind
     ∙ ap (λ ss. ss ++ (read_lines k.lines).slots) h.no_slots ∙ ap (λ (r : ReadLines). r.slots) k.reads in
     let page : slots_of_page has_name (text_of_lines lines) ≡ slots =
     ap (λ ls. (read_lines (drop n ls)).slots) (lines_of-text_of_lines lines (plain-lines lines plain))
@@ -127,28 +152,33 @@ adds-page has_name slots a b c h k =
     record {
       pages = text_of_lines lines;
       text = text-then a b c h.lines k.lines h.text k.text;
+      named =
+          named-one name (text_of_lines lines) (lines-no_feed lines plain)
+          (λ is some. first-name name h.lines k.lines (h.first is) h.plain);
       reads =
           ap (flat_map (slots_of_page has_name)) (slice_split_none is_form_feed (text_of_lines lines) (lines-no_feed lines plain))
           ∙ append-nil (slots_of_page has_name (text_of_lines lines)) ∙ page;
     }
 
 -- pages, a form feed, and a page
-pub adds-pages : (has_name : Bool) (slots more : List ReadSlot) (a b fed c : List ℕ) → AddsSlots has_name slots a b → fed ≡ b ++ 12 ∷ []
-    → AddsSlots has_name more fed c → AddsSlots has_name (slots ++ more) a c
-adds-pages has_name slots more a b fed c h feed k = record {
+pub adds-pages : (name : List ℕ) (slots more : List ReadSlot) (a b fed c : List ℕ) → AddsSlots name slots a b → fed ≡ b ++ 12 ∷ []
+    → AddsSlots name more fed c → AddsSlots name (slots ++ more) a c
+adds-pages name slots more a b fed c h feed k = record {
   pages = h.pages ++ 12 ∷ k.pages;
   text =
       k.text ∙ ap (λ t. t ++ k.pages) feed ∙ ap (λ t. (t ++ 12 ∷ []) ++ k.pages) h.text
       ∙ append_assoc (a ++ h.pages) (12 ∷ []) k.pages ∙ append_assoc a h.pages (12 ∷ k.pages);
+  named = named-between name h.pages k.pages h.named k.named;
   reads =
-      pages-between has_name h.pages k.pages ∙ ap (λ s. s ++ slots_of_text has_name k.pages) h.reads
+      pages-between (has_bytes name) h.pages k.pages ∙ ap (λ s. s ++ slots_of_text (has_bytes name) k.pages) h.reads
       ∙ ap (λ s. slots ++ s) k.reads;
 }
 
 -- no pages
-pub adds-no_pages : (has_name : Bool) (text : List ℕ) → AddsSlots has_name [] text text
-adds-no_pages has_name text = record { pages = []; text = sym (append-nil text); reads = no_pages has_name }
+pub adds-no_pages : (name text : List ℕ) → AddsSlots name [] text text
+adds-no_pages name text =
+    record { pages = []; text = sym (append-nil text); named = named-none name; reads = no_pages (has_bytes name) }
 
 -- the first page
-pub adds-first : (has_name : Bool) (slots : List ReadSlot) (old text c : List ℕ) → text ≡ old → AddsSlots has_name slots text c → AddsSlots has_name slots old c
-adds-first has_name slots old text c same adds = subst (λ (t : List ℕ). AddsSlots has_name slots t c) same adds
+pub adds-first : (name : List ℕ) (slots : List ReadSlot) (old text c : List ℕ) → text ≡ old → AddsSlots name slots text c → AddsSlots name slots old c
+adds-first name slots old text c same adds = subst (λ (t : List ℕ). AddsSlots name slots t c) same adds

@@ -1,5 +1,5 @@
 -- The heads of a page.
-use Rattle.std.proofs.Common.{◌≡◌, ℕ, ◌<◌, ◌≤◌, ◌^◌, Bool, true, false, IsTrue, if◌then◌else◌, List, [], ◌∷◌, ◌++◌, length, drop, refl, sym, ap, ◌∙◌, arith, append_assoc, append-nil}
+use Rattle.std.proofs.Common.{◌≡◌, ℕ, ◌<◌, ◌^◌, Bool, true, false, IsTrue, if◌then◌else◌, List, [], ◌∷◌, ◌++◌, drop, refl, sym, ap, ◌∙◌, append_assoc, append-nil}
 use Rattle.std.specs.Prelude.{All, codes, nat_lt, not}
 use Rattle.std.specs.Fmt.{decimal}
 use Rattle.std.specs.List.{list_all, slice_split}
@@ -103,9 +103,10 @@ plain-behind : (first : Bool) (name : List ℕ) (lines : List (List ℕ)) → Is
 plain-behind true name lines plain all = All-cons IsPlainLine name lines plain all
 plain-behind false name lines plain all = all
 
-some-behind : (first : Bool) (name : List ℕ) (lines : List (List ℕ)) → IsTrue first → 1 ≤ length (behind first name lines)
-some-behind true name lines is = omega arith
-some-behind false name lines is = cc
+first-behind : (first : Bool) (name : List ℕ) (lines : List (List ℕ)) → IsTrue first
+    → behind first name lines ≡ name ∷ drop 1 (behind first name lines)
+first-behind true name lines is = refl
+first-behind false name lines is = cc
 
 read-behind : (first : Bool) (name : List ℕ) (lines : List (List ℕ)) → (read_lines lines).slots ≡ []
     → (read_lines (drop (if first then 1 else 0) (behind first name lines))).slots ≡ []
@@ -114,7 +115,7 @@ read-behind false name lines none = none
 
 pub heads-made : (group : Group) (name old a b c d e new : List ℕ) → IsGroup group → HasNoControl name
     → a ≡ old ++ (if has_bytes name then name ++ 10 ∷ [] else []) → b ≡ a ++ title_of group → AddsPlain b c → d ≡ c ++ 10 ∷ []
-    → e ≡ d ++ (round_line_of group ++ 10 ∷ []) → new ≡ e ++ (held_of group.event ++ 10 ∷ []) → AddsHead (has_bytes name) old new
+    → e ≡ d ++ (round_line_of group ++ 10 ∷ []) → new ≡ e ++ (held_of group.event ++ 10 ∷ []) → AddsHead name old new
 heads-made group name old a b c d e new is shown p q adds s t u =
     let others = other_lines group adds.more in
     let first = if has_bytes name then name ++ 10 ∷ [] else [] in
@@ -129,7 +130,7 @@ heads-made group name old a b c d e new is shown p q adds s t u =
           ∙ ap (λ x. old ++ (first ++ x)) (sym (text-others group adds.more ∙ split title adds.more (round_line_of group) held))
           ∙ ap (λ x. old ++ x) (sym (text-behind (has_bytes name) name others));
       plain = plain-behind (has_bytes name) name others (plain-shown name shown) (plain-others group adds.more is adds.plain);
-      some = some-behind (has_bytes name) name others;
+      first = first-behind (has_bytes name) name others;
       no_slots = read-behind (has_bytes name) name others (none-read others (no_cut-others group adds.more));
     }
   where

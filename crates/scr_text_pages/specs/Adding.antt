@@ -1,22 +1,23 @@
 -- What calls add to pages of text.
-use Rattle.std.specs.Prelude.{ℕ, ◌≡◌, ◌<◌, ◌≤◌, ◌-◌, nat_le, nat_lt, ◌&&◌, ◌||◌, Bool, IsTrue, true, if◌then◌else◌, List, [], ◌∷◌, ◌++◌, All, drop, take, length}
+use Rattle.std.specs.Prelude.{ℕ, ◌≡◌, ◌<◌, ◌-◌, nat_le, nat_lt, ◌&&◌, ◌||◌, Bool, IsTrue, true, if◌then◌else◌, List, [], ◌∷◌, ◌++◌, All, drop, take, length}
 use Rattle.std.specs.List.{list_all}
-use Rattle.scr_text.specs.Lines.{text_of_lines}
+use Rattle.scr_text.specs.Lines.{has_bytes, text_of_lines}
 use Rattle.scr_layout.specs.Group.{Group}
-use Rattle.scr_text_pages.specs.Reading.{ReadSlot, ReadLines, begins, is_cut_line, is_dash, cut_text, is_row, read_lines, row_words, slots_of_text}
+use Rattle.scr_text_pages.specs.Reading.{ReadSlot, ReadLines, begins, is_cut_line, is_dash, cut_text, is_row, read_lines, row_words, slots_of_text, AreNamed}
 use Rattle.scr_text_pages.specs.Slots.{slots_of_group}
 
 -- ---- pages
 
--- pages of which just these scrambles are read
-pub record AddsSlots (has_name : Bool) (slots : List ReadSlot) (before after : List ℕ) : Type 0 where
+-- pages that begin with this name, where it isn't empty, and of which just these scrambles are read
+pub record AddsSlots (name : List ℕ) (slots : List ReadSlot) (before after : List ℕ) : Type 0 where
   pub pages : List ℕ
   pub text : after ≡ before ++ pages
-  pub reads : slots_of_text has_name pages ≡ slots
+  pub named : AreNamed name pages
+  pub reads : slots_of_text (has_bytes name) pages ≡ slots
 
 -- those of a group
-abbrev pub AddsPages : Bool → Group → List ℕ → List ℕ → Type 0
-AddsPages has_name group before after = AddsSlots has_name (slots_of_group group) before after
+abbrev pub AddsPages : List ℕ → Group → List ℕ → List ℕ → Type 0
+AddsPages name group before after = AddsSlots name (slots_of_group group) before after
 
 -- the scrambles of a group from a place on and before another
 abbrev pub slots_between : ℕ → ℕ → Group → List ReadSlot
@@ -51,13 +52,13 @@ pub record AddsCut (of before after : List ℕ) : Type 0 where
   pub cut : is_cut_line line ≡ true
   pub says : cut_text line ≡ of
 
--- lines of which no scramble is read, where the first of them isn't read if there is a name
-pub record AddsHead (has_name : Bool) (before after : List ℕ) : Type 0 where
+-- lines of which no scramble is read, where the first of them is this name, if it isn't empty, and isn't read
+pub record AddsHead (name before after : List ℕ) : Type 0 where
   pub lines : List (List ℕ)
   pub text : after ≡ before ++ text_of_lines lines
   pub plain : All IsPlainLine lines
-  pub some : IsTrue has_name → 1 ≤ length lines
-  pub no_slots : (read_lines (drop (if has_name then 1 else 0) lines)).slots ≡ []
+  pub first : IsTrue (has_bytes name) → lines ≡ name ∷ drop 1 lines
+  pub no_slots : (read_lines (drop (if has_bytes name then 1 else 0) lines)).slots ≡ []
 
 -- a row that isn't ended, behind lines; in both these words stand so far
 pub record AddsRow (words : List (List ℕ)) (before after : List ℕ) : Type 0 where

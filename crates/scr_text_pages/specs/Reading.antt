@@ -1,8 +1,8 @@
 -- What is read back from pages of text. The first byte of a line tells what it is: a hyphen (45) begins a line to cut at,
 -- a space (32) or an E (69) a row of words, and any other a line that is for the eye alone. Our own choice.
-use Rattle.std.specs.Prelude.{ℕ, Bool, false, ◌||◌, ◌==◌, if◌then◌else◌, List, [], ◌∷◌, ◌++◌, drop, flat_map}
-use Rattle.std.specs.List.{prefix_len, slice_split}
-use Rattle.scr_text.specs.Lines.{lines_of, line_words}
+use Rattle.std.specs.Prelude.{ℕ, ◌≡◌, Bool, false, IsTrue, ◌||◌, ◌==◌, if◌then◌else◌, List, [], ◌∷◌, ◌++◌, All, drop, flat_map}
+use Rattle.std.specs.List.{before_first, prefix_len, slice_split}
+use Rattle.scr_text.specs.Lines.{has_bytes, is_line_feed, lines_of, line_words}
 
 abbrev pub begins : ℕ → List ℕ → Bool
 begins byte [] = false
@@ -59,3 +59,12 @@ is_form_feed byte = byte == 12
 -- the scrambles that are read of pages
 abbrev pub slots_of_text : Bool → List ℕ → List ReadSlot
 slots_of_text has_name text = flat_map (slots_of_page has_name) (slice_split is_form_feed text)
+
+-- the first line of a page
+abbrev pub first_line : List ℕ → List ℕ
+first_line page = before_first is_line_feed page
+
+-- each page on which something stands begins with a competition's name, where it isn't empty
+abbrev pub AreNamed : List ℕ → List ℕ → Type 0
+AreNamed name text =
+    IsTrue (has_bytes name) → All (λ page. IsTrue (has_bytes page) → first_line page ≡ name) (slice_split is_form_feed text)

@@ -25,7 +25,7 @@ pub(crate) fn write_heads(
     page: PageNumber,
 ) -> Result<(), AllocError>
     requires { HasNoControl competition.now }
-    ensures { OnOk result (AddsHead (has_bytes competition.now) (string_bytes text.old) (string_bytes text.new)) }
+    ensures { OnOk result (AddsHead competition.now (string_bytes text.old) (string_bytes text.new)) }
 {
     write_competition(text, competition)?;
     text.push_str(title(group).as_str())?;

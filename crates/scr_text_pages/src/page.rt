@@ -2,7 +2,6 @@
 
 ghost use Rattle.std.specs.Prelude.{◌+◌, ◌<◌, ◌≤◌, OnOk, string_bytes};
 ghost use Rattle.scr_notation.specs.Event.{per_group_of};
-ghost use Rattle.scr_text.specs.Lines.{has_bytes};
 ghost use Rattle.scr_layout.specs.Shown.{HasNoControl};
 ghost use Rattle.scr_text_pages.specs.Adding.{AddsLines, AddsSlots, slots_between, slots_read};
 
@@ -23,7 +22,7 @@ pub(crate) fn write_page(
     requires competition { HasNoControl competition.now }
     requires from { from ≤ spacing.end }
     requires end { spacing.end ≤ per_group_of group.now.event + 2 }
-    ensures { OnOk result (AddsSlots (has_bytes competition.now) (slots_between from spacing.end group.now)
+    ensures { OnOk result (AddsSlots competition.now (slots_between from spacing.end group.now)
         (string_bytes text.old) (string_bytes text.new)) }
 {
     write_heads(text, group, competition, page)?;

@@ -2,7 +2,6 @@
 
 ghost use Rattle.std.specs.Prelude.{◌≡◌, ◌+◌, ◌<◌, ◌≤◌, OnOk, string_bytes};
 ghost use Rattle.scr_notation.specs.Event.{per_group_of};
-ghost use Rattle.scr_text.specs.Lines.{has_bytes};
 ghost use Rattle.scr_layout.specs.Shown.{HasNoControl};
 ghost use Rattle.scr_text_pages.specs.Adding.{AddsPages};
 
@@ -35,7 +34,7 @@ pub fn write_pages(
 ) -> Result<(), AllocError>
     requires { HasNoControl competition.now }
     ensures { OnOk result
-        (AddsPages (has_bytes competition.now) group.now (string_bytes text.old) (string_bytes text.new)) }
+        (AddsPages competition.now group.now (string_bytes text.old) (string_bytes text.new)) }
 {
     let heads = head_lines(group, competition);
     let count = page_count(group, heads, pictures);

@@ -10,3 +10,4 @@ pub mod TakenBack
 pub mod HeldScrambles
 pub mod EachIndex
 pub mod StateTables
+pub mod FewestLaws

@@ -8,3 +8,4 @@ pub mod Ready
 pub mod Minima
 pub mod HeldScramble
 pub mod SearchTables
+pub mod Fewest

@@ -1,15 +1,22 @@
-//! Laws of the two parts of a 3x3x3. The functions do nothing: what each ensures is the law.
+//! Laws of the two parts of a 3x3x3, and of its scrambles for fewest moves. The functions do nothing: what each ensures is
+//! the law.
 ghost use Rattle.std.specs.Prelude.{◌≡◌, ◌<◌, ◌≤◌, ◌↔◌, ℕ, All, Contains, IsSome, IsTrue, List, [], ◌∷◌, ◌++◌, Some};
-ghost use Rattle.std.specs.Prelude.{is_some, length};
+ghost use Rattle.std.specs.Prelude.{codes, is_some, length};
+ghost use Rattle.std.specs.Option.{option_map};
+ghost use Rattle.scr_combinatorics.specs.Back.{back};
 ghost use Rattle.scr_combinatorics.specs.Play.{play};
+ghost use Rattle.scr_orbit.specs.PowerPuzzles.{after_letter};
 ghost use Rattle.scr_notation.specs.declared.turn.Turn.{Turn};
-ghost use Rattle.scr_cube.specs.Cube333.{CubeState, solved_cube};
+ghost use Rattle.scr_notation.specs.Spelling.{text_of};
+ghost use Rattle.scr_notation.specs.Turning.{opposite};
+ghost use Rattle.scr_cube.specs.Cube333.{CubeState, IsCube, cube_powers, solved_cube};
 ghost use Rattle.scr_combinatorics.specs.Words.{words_of};
 ghost use Rattle.scr_twophase.specs.Tables.{prune_lines};
 ghost use Rattle.scr_stages.specs.Stages.{domino_turns};
 ghost use Rattle.scr_cube.specs.ListedTurns.{turn_numbers};
 ghost use Rattle.scr_search.specs.Orderly.{after_turn};
 ghost use Rattle.scr_twophase.specs.TwoParts.{is_first_part, first_parts, is_solution, joined, two_parts, IsScramble333};
+ghost use Rattle.scr_twophase.specs.Fewest.{frame, between, is_framed, IsFramed};
 ghost use Rattle.scr_twophase.specs.SearchTables.{prune_tables};
 ghost use Rattle.scr_table.specs.TableStates.{AreLinesOf};
 
@@ -55,4 +62,29 @@ pub fn few_turns()
 /// cube.
 pub fn told_by_states()
     ensures { AreLinesOf prune_tables prune_lines }
+{}
+
+/// The frame taken back, and then any word that leads from solved to what the frame taken back makes of a cube, leads
+/// from solved to the cube that stands between.
+pub fn between_by_words()
+    ensures { (s : CubeState) (v : List Turn) → IsCube s
+        → play (after_letter cube_powers) solved_cube v ≡ play (after_letter cube_powers) s (back opposite frame)
+        → play (after_letter cube_powers) solved_cube (back opposite frame ++ v) ≡ Some (between s) }
+{}
+
+/// The frame as text, and taken back. Two frames alone leave nothing between; of solved they leave what the frame taken
+/// back gives when it is done twice.
+pub fn known_frames()
+    ensures spelled { text_of frame ≡ codes "R' U' F" }
+    ensures taken_back { text_of (back opposite frame) ≡ codes "F' U R" }
+    ensures two_frames { option_map between (play (after_letter cube_powers) solved_cube (frame ++ frame))
+        ≡ Some solved_cube }
+    ensures of_solved { play (after_letter cube_powers) solved_cube (back opposite frame ++ back opposite frame)
+        ≡ Some (between solved_cube) }
+{}
+
+/// The test of frames passes exactly the turns that stand between two of them, each its own: three turns that are the
+/// first and the last at once aren't enough.
+pub fn tested_frames()
+    ensures { (turns : List Turn) → IsTrue (is_framed turns) ↔ IsFramed turns }
 {}

@@ -7,6 +7,10 @@
 //! first parts that are tried has a second part, it is the scramble by stages. [`needs_333`] tests the minima 0 to 5
 //! over all words but those that can't bring so many pieces home, and [`Draw333`] draws by it.
 //!
+//! The 3x3x3 as it is held ([`scramble_333bf`], [`DrawHeld`]) and for fewest moves ([`scramble_333fm`],
+//! [`DrawFewest`]) are scrambled by the scramble of the cube that the word of the hold, or the two frames R' U' F,
+//! leave of a state; `laws` says of frames what is known of them.
+//!
 //! Both parts are found by the search of `scr_search`, which comes to what the lists have and counts each first part
 //! once. [`PruneTables`] hold what it goes by: for each part two tables, each of one of its coordinates beside that of
 //! the edges of the middle layer. The crate stands on that search, on the stages of `scr_stages`, on coordinates and on
@@ -14,6 +18,7 @@
 #![tactic(auto)]
 
 mod draw;
+mod fewest;
 mod first;
 mod held;
 pub mod laws;
@@ -24,6 +29,7 @@ mod second;
 mod tables;
 
 pub use draw::Draw333;
+pub use fewest::{DrawFewest, is_framed, scramble_333fm};
 pub use held::{DrawHeld, scramble_333bf};
 pub use needs::needs_333;
 pub use scramble::{scramble_333, two_parts};

@@ -7,11 +7,12 @@ use Rattle.std.proofs.lemmas.List.Elements.{All-cons, All-nil, All-append, All-t
 use Rattle.json.specs.Json.{Json, Items, item}
 use Rattle.scr_text.specs.Steps.{and_then}
 use Rattle.scr_wcif.specs.declared.fault.FileFault.{FileFault}
-use Rattle.scr_wcif.specs.declared.fault.Fault.{Fault}
-use Rattle.scr_wcif.specs.declared.fault.Fault.TheVariants as fault
+use Rattle.scr_host.specs.declared.fault.Fault.{Fault}
+use Rattle.scr_host.specs.declared.fault.Fault.TheVariants as fault
 use Rattle.scr_wcif.specs.FileRound.{NamedRound}
 use Rattle.scr_wcif.specs.FileRounds.{FileEvent, count_of, round_of_entry, rounds_of_entries, event_of_entry, rounds_of_events}
-use Rattle.scr_wcif.specs.Adding.{Adds, Gives}
+use Rattle.scr_host.specs.Faults.{IsOwn}
+use Rattle.scr_wcif.specs.Adding.{Adds}
 
 -- the first of some items, and the others
 pub split-first : {X : Type 0} (xs : List X) (first : X) → 1 ≤ length xs → first ≡ get_or xs 0 first
@@ -58,6 +59,15 @@ pub all-rest : {X : Type 0} (P : X → Type 0) (xs : List X) → 1 ≤ length xs
 all-rest P [] some all = absurd (omega arith)
 all-rest P (x ∷ xs) some all = subst (All P) (sym (take_all (length (x ∷ xs) - 1) xs (omega arith))) (All-tail P x xs all)
 
+-- a fault of the file stands for another cause
+pub for-own : {A B : FileFault → Type 0} → ((file : FileFault) → A file → B file) → (why : Fault FileFault) → IsOwn A why → IsOwn B why
+for-own f fault.Usage they = they
+for-own f fault.TooLong they = they
+for-own f fault.Read they = they
+for-own f (fault.Own file) they = f file they
+for-own f fault.Write they = they
+for-own f fault.NoMemory they = they
+
 -- ---- the rounds of an event
 
 rounds-step : (place : ℕ) (id : List ℕ) (count number : ℕ) (json : Json) (more : Items) (named : NamedRound) →
@@ -67,7 +77,7 @@ rounds-step : (place : ℕ) (id : List ℕ) (count number : ℕ) (json : Json) (
 rounds-step place id count number json more named is =
     ap (λ (r : Result NamedRound FileFault). and_then r (λ n. and_then (rounds_of_entries place id count (number + 1) more) (λ others. Ok (n ∷ others)))) is
 
-pub rounds-Adds : (place : ℕ) (id : List ℕ) (count number : ℕ) (json : Json) (more : Items) (named : NamedRound) (old mid new : List NamedRound) (result : Result (Unit {0}) Fault) →
+pub rounds-Adds : (place : ℕ) (id : List ℕ) (count number : ℕ) (json : Json) (more : Items) (named : NamedRound) (old mid new : List NamedRound) (result : Result (Unit {0}) (Fault FileFault)) →
     round_of_entry place id count number json ≡ Ok named → mid ≡ old ++ named ∷ [] → Adds (rounds_of_entries place id count (number + 1) more) mid new result →
     Adds (rounds_of_entries place id count number (item json more)) old new result
 rounds-Adds place id count number json more named old mid new (Ok done) is mid_is (others, they, new_is) = (
@@ -76,12 +86,10 @@ rounds-Adds place id count number json more named old mid new (Ok done) is mid_i
       ∙ ap (λ (r : Result (List NamedRound) FileFault). and_then r (λ others. Ok (named ∷ others))) they,
   new_is ∙ ap (λ l. l ++ others) mid_is ∙ append_assoc old (named ∷ []) others,
 )
-rounds-Adds place id count number json more named old mid new (Err (fault.File why)) is mid_is they =
+rounds-Adds place id count number json more named old mid new (Err why) is mid_is they =
+    for-own (λ file they.
     rounds-step place id count number json more named is
-    ∙ ap (λ (r : Result (List NamedRound) FileFault). and_then r (λ others. Ok (named ∷ others))) they
-rounds-Adds place id count number json more named old mid new (Err fault.NoMemory) is mid_is they = tt
-rounds-Adds place id count number json more named old mid new (Err fault.Write) is mid_is they = they
-rounds-Adds place id count number json more named old mid new (Err fault.Usage) is mid_is they = they
+    ∙ ap (λ (r : Result (List NamedRound) FileFault). and_then r (λ others. Ok (named ∷ others))) they) why they
 
 -- ---- the events
 
@@ -105,17 +113,15 @@ events-step : (place : ℕ) (before : List (List ℕ)) (json : Json) (more : Ite
 events-step place before json more told is = ap (λ (r : Result FileEvent FileFault). and_then r (then_rounds place before more)) is
 
 -- the rounds of an entry are at fault
-pub events-fail : (place : ℕ) (before : List (List ℕ)) (json : Json) (more : Items) (told : FileEvent) (old mid : List NamedRound) (why : Fault) →
+pub events-fail : (place : ℕ) (before : List (List ℕ)) (json : Json) (more : Items) (told : FileEvent) (old mid : List NamedRound) (why : Fault FileFault) →
     event_of_entry place before json ≡ Ok told → Adds (rounds_of_entries place told.id (count_of told.rounds) 1 told.rounds) old mid (Err why) →
     Adds (rounds_of_events place before (item json more)) old mid (Err why)
-events-fail place before json more told old mid (fault.File why) is they =
+events-fail place before json more told old mid why is they =
+    for-own (λ file they.
     events-step place before json more told is
-    ∙ ap (λ (r : Result (List NamedRound) FileFault). and_then r (then_more place before more told)) they
-events-fail place before json more told old mid fault.NoMemory is they = tt
-events-fail place before json more told old mid fault.Write is they = they
-events-fail place before json more told old mid fault.Usage is they = they
+    ∙ ap (λ (r : Result (List NamedRound) FileFault). and_then r (then_more place before more told)) they) why they
 
-pub events-Adds : (place : ℕ) (before later : List (List ℕ)) (json : Json) (more : Items) (told : FileEvent) (old mid new : List NamedRound) (result : Result (Unit {0}) Fault) →
+pub events-Adds : (place : ℕ) (before later : List (List ℕ)) (json : Json) (more : Items) (told : FileEvent) (old mid new : List NamedRound) (result : Result (Unit {0}) (Fault FileFault)) →
     event_of_entry place before json ≡ Ok told → Adds (rounds_of_entries place told.id (count_of told.rounds) 1 told.rounds) old mid (Ok tt) →
     later ≡ before ++ told.id ∷ [] → Adds (rounds_of_events (place + 1) later more) mid new result →
     Adds (rounds_of_events place before (item json more)) old new result
@@ -127,17 +133,15 @@ events-Adds place before later json more told old mid new result is (here, these
         events-step place before json more told is
         ∙ ap (λ (r : Result (List NamedRound) FileFault). and_then r (then_more place before more told)) these
 
-    at : (r : Result (Unit {0}) Fault) → Adds (rounds_of_events (place + 1) (before ++ told.id ∷ []) more) mid new r
+    at : (r : Result (Unit {0}) (Fault FileFault)) → Adds (rounds_of_events (place + 1) (before ++ told.id ∷ []) more) mid new r
         → Adds (rounds_of_events place before (item json more)) old new r
     at (Ok done) (others, are, new_is) = (
       here ++ others,
       first ∙ ap (λ (r : Result (List NamedRound) FileFault). and_then r (λ others. Ok (here ++ others))) are,
       new_is ∙ ap (λ l. l ++ others) mid_is ∙ append_assoc old here others,
     )
-    at (Err (fault.File why)) are = first ∙ ap (λ (r : Result (List NamedRound) FileFault). and_then r (λ others. Ok (here ++ others))) are
-    at (Err fault.NoMemory) are = tt
-    at (Err fault.Write) are = are
-    at (Err fault.Usage) are = are
+    at (Err why) are =
+        for-own (λ file they. first ∙ ap (λ (r : Result (List NamedRound) FileFault). and_then r (λ others. Ok (here ++ others))) they) why are
 
 pub later-ids : (ids later : List (Bor (List ℕ))) (id : Bor (List ℕ)) → later ≡ ids ++ id ∷ []
     → map (λ (id : Bor (List ℕ)). id.now) later ≡ map (λ (id : Bor (List ℕ)). id.now) ids ++ id.now ∷ []
@@ -145,7 +149,7 @@ later-ids ids later id is = ap (map now) is ∙ ids-snoc ids id
 
 -- ---- the whole file
 
-pub from-empty : (ids : List (Bor (List ℕ))) (old new : List NamedRound) (js : Items) (result : Result (Unit {0}) Fault) → ids ≡ [] → old ≡ [] →
+pub from-empty : (ids : List (Bor (List ℕ))) (old new : List NamedRound) (js : Items) (result : Result (Unit {0}) (Fault FileFault)) → ids ≡ [] → old ≡ [] →
     Adds (rounds_of_events 1 (map (λ (id : Bor (List ℕ)). id.now) ids) js) old new result → Adds (rounds_of_events 1 [] js) [] new result
 from-empty ids old new js result none bare they =
     let P : List (Bor (List ℕ)) → Type 0 = λ xs. Adds (rounds_of_events 1 (map (λ (id : Bor (List ℕ)). id.now) xs) js) old new result in
@@ -154,10 +158,3 @@ from-empty ids old new js result none bare they =
 
 pub whole-Ok : (wanted : Result (List NamedRound) FileFault) (new : List NamedRound) → Adds wanted [] new (Ok tt) → wanted ≡ Ok new
 whole-Ok wanted new (added, is, new_is) = is ∙ ap Ok (sym new_is)
-
-pub whole-Err : {X : Type 0} (view : X → List NamedRound) (wanted : Result (List NamedRound) FileFault) (new : List NamedRound) (why : Fault) →
-    Adds wanted [] new (Err why) → Gives wanted view (Err why)
-whole-Err view wanted new (fault.File why) they = they
-whole-Err view wanted new fault.NoMemory they = tt
-whole-Err view wanted new fault.Write they = they
-whole-Err view wanted new fault.Usage they = they

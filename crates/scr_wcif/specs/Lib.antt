@@ -5,10 +5,8 @@ pub mod Listed
 pub mod Adding
 pub mod Reading
 pub mod Message
-pub mod Status
 pub mod Outcome
 pub mod Made
-pub mod Exit
 pub mod Sets
 pub mod Parts
 pub mod Taking

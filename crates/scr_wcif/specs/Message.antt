@@ -2,6 +2,7 @@
 use Rattle.std.specs.Prelude.{ℕ, List, ◌++◌, codes}
 use Rattle.std.specs.Fmt.{decimal}
 use Rattle.scr_read.specs.Causes.{cause_text}
+use Rattle.scr_host.specs.Faults.{Telling}
 use Rattle.scr_wcif.specs.declared.fault.EventCause.{EventCause}
 use Rattle.scr_wcif.specs.declared.fault.EventCause.TheVariants as event
 use Rattle.scr_wcif.specs.declared.fault.RoundCause.{RoundCause}
@@ -10,8 +11,6 @@ use Rattle.scr_wcif.specs.declared.fault.Difference.{Difference}
 use Rattle.scr_wcif.specs.declared.fault.Difference.TheVariants as difference
 use Rattle.scr_wcif.specs.declared.fault.FileFault.{FileFault}
 use Rattle.scr_wcif.specs.declared.fault.FileFault.TheVariants as file
-use Rattle.scr_wcif.specs.declared.fault.Fault.{Fault}
-use Rattle.scr_wcif.specs.declared.fault.Fault.TheVariants as fault
 
 -- why an entry tells no event, and why one tells no round
 abbrev pub event_cause_text : EventCause → List ℕ
@@ -34,7 +33,6 @@ difference_text difference.More = codes "not in the file"
 
 -- why a file tells no rounds, or doesn't take a sheet's; events, rounds and lines are counted from 1, and bytes from 0
 abbrev pub file_text : FileFault → List ℕ
-file_text file.TooLong = codes "input is longer than 67108864 bytes"
 file_text file.NoParts = codes "no line ===== between a file and a sheet"
 file_text (file.NoText place) = codes "no UTF-8 at byte " ++ decimal place
 file_text (file.NoJson place) = codes "no JSON at byte " ++ decimal place
@@ -45,15 +43,12 @@ file_text (file.Round event number cause) =
     codes "event " ++ decimal event ++ codes " round " ++ decimal number ++ codes ": " ++ round_cause_text cause
 file_text (file.SheetLine line why) = codes "sheet line " ++ decimal line ++ codes ": " ++ cause_text why
 file_text (file.Sheet number why) = codes "sheet round " ++ decimal number ++ codes ": " ++ difference_text why
-file_text file.Read = codes "input could not be read"
 
--- what went wrong
-abbrev pub fault_text : Fault → List ℕ
-fault_text fault.Usage = codes "usage: list | fill"
-fault_text (fault.File why) = file_text why
-fault_text fault.Write = codes "output could not be written"
-fault_text fault.NoMemory = codes "out of memory"
-
--- the line that the program writes for it
-abbrev pub message_of : Fault → List ℕ
-message_of why = codes "scramble-wcif: " ++ fault_text why ++ codes "\n"
+-- how the program tells what goes wrong in it, and its exit code for each cause of its own
+abbrev pub telling : Telling FileFault
+telling = record {
+  program = codes "scramble-wcif";
+  usage = codes "list | fill";
+  text = file_text;
+  code = λ why. 3;
+}

@@ -3,22 +3,17 @@ use Rattle.std.specs.Prelude.{ℕ, ◌≡◌, ◌⊎◌, if◌then◌else◌, Op
 use Rattle.std.specs.Str.{bytes_eq}
 use Rattle.json.specs.Json.{Json}
 use Rattle.scr_outside.specs.Change.{Change, IsUnchanged, Gains, Falters}
-use Rattle.scr_host.specs.declared.input.InputFault.{InputFault}
-use Rattle.scr_host.specs.Exit.{IsTold}
-use Rattle.scr_host.specs.Input.{GivesInput, GivesNoInput}
+use Rattle.scr_host.specs.declared.fault.Fault.{Fault}
+use Rattle.scr_host.specs.declared.fault.Fault.TheVariants as fault
+use Rattle.scr_host.specs.Input.{EndsReading}
 use Rattle.scr_wcif.specs.declared.fault.FileFault.{FileFault}
-use Rattle.scr_wcif.specs.declared.fault.Fault.{Fault}
-use Rattle.scr_wcif.specs.declared.fault.Fault.TheVariants as fault
-use Rattle.scr_wcif.specs.declared.status.Status.{Status}
 use Rattle.scr_wcif.specs.declared.command.Command.{Command}
 use Rattle.scr_wcif.specs.declared.command.Command.TheVariants as command
 use Rattle.scr_wcif.specs.FileRound.{NamedRound}
 use Rattle.scr_wcif.specs.FileRounds.{rounds_of_file}
 use Rattle.scr_wcif.specs.Listed.{IsListOf, left_out_text}
-use Rattle.scr_wcif.specs.Reading.{most_bytes, fault_of, IsFile, IsNoFile}
+use Rattle.scr_wcif.specs.Reading.{IsFile, IsNoFile}
 use Rattle.scr_wcif.specs.Filled.{ComesToFilled, ComesToNone}
-use Rattle.scr_wcif.specs.Message.{message_of}
-use Rattle.scr_wcif.specs.Status.{status_of}
 
 -- ---- what words ask for
 
@@ -48,45 +43,33 @@ pub record ComesToList (bytes list told : List ℕ) : Type 0 where
 
 -- ---- what is written
 
--- What is written where an input comes to a text and to what is told with it: the text, or a first part of it where the
--- output failed; else nothing, for a cause. What is given is what is told.
-abbrev pub WritesText : (List ℕ → List ℕ → Type 0) → (FileFault → Type 0) → Change → Result (List ℕ) Fault → Type 0
-WritesText Comes Fails out (Ok told) = (text : List ℕ) × Comes text told × Gains out text
-WritesText Comes Fails out (Err fault.Write) = (text : List ℕ) × (told : List ℕ) × Comes text told × Falters out text
-WritesText Comes Fails out (Err (fault.File why)) = Fails why × IsUnchanged out
-WritesText Comes Fails out (Err fault.NoMemory) = IsUnchanged out
-WritesText Comes Fails out (Err fault.Usage) = ⊥
+-- a command makes this text of an input, and what is told with it: of a file its list, and of a file and a sheet the file
+-- with the sheet's scrambles
+abbrev pub ComesTo : Command → List ℕ → List ℕ → List ℕ → Type 0
+ComesTo command.List = ComesToList
+ComesTo command.Fill = ComesToFilled
 
--- of a file its list, and of a file and a sheet the file with the sheet's scrambles
-abbrev pub WritesList : List ℕ → Change → Result (List ℕ) Fault → Type 0
-WritesList input = WritesText (ComesToList input) (NamesNone input)
+-- why it makes none
+abbrev pub ComesToNothing : Command → List ℕ → FileFault → Type 0
+ComesToNothing command.List = NamesNone
+ComesToNothing command.Fill = ComesToNone
 
-abbrev pub WritesFilled : List ℕ → Change → Result (List ℕ) Fault → Type 0
-WritesFilled input = WritesText (ComesToFilled input) (ComesToNone input)
-
--- How a run ends that reads an input: it was read whole, and this comes of it; or it wasn't, and nothing was written.
-abbrev pub EndsReading : (List ℕ → Change → Result (List ℕ) Fault → Type 0) → Change → Change → Result (List ℕ) Fault → Type 0
-EndsReading Comes source out ended =
-    ((bytes : List ℕ) × GivesInput most_bytes source bytes × Comes bytes out ended)
-    ⊎ ((why : InputFault) × GivesNoInput most_bytes source why × IsUnchanged out × (ended ≡ Err (fault_of why)))
+-- What is written of an input that was read: the text that it comes to, or a first part of it where the output failed;
+-- else nothing, for a cause. What is given is what is told.
+abbrev pub Writes : Command → List ℕ → Change → Result (List ℕ) (Fault FileFault) → Type 0
+Writes command input out (Ok told) = (text : List ℕ) × ComesTo command input text told × Gains out text
+Writes command input out (Err fault.Write) = (text : List ℕ) × (told : List ℕ) × ComesTo command input text told × Falters out text
+Writes command input out (Err (fault.Own why)) = ComesToNothing command input why × IsUnchanged out
+Writes command input out (Err fault.NoMemory) = IsUnchanged out
+Writes command input out (Err other) = ⊥
 
 -- ---- a whole run
 
--- words that are no command read and write nothing
-abbrev pub Ends : Option Command → Change → Change → Result (List ℕ) Fault → Type 0
-Ends (Some command.List) source out ended = EndsReading WritesList source out ended
-Ends (Some command.Fill) source out ended = EndsReading WritesFilled source out ended
-Ends None source out ended = IsUnchanged source × IsUnchanged out × (ended ≡ Err fault.Usage)
+-- how a run ends that was asked for this; words that are no command read and write nothing
+abbrev pub EndsAsked : Option Command → Change → Change → Result (List ℕ) (Fault FileFault) → Type 0
+EndsAsked (Some command) source out ended = EndsReading (Writes command) source out ended
+EndsAsked None source out ended = IsUnchanged source × IsUnchanged out × (ended ≡ Err fault.Usage)
 
--- what is told of an end: the rounds that are left out, or what went wrong
-abbrev pub told_of : Result (List ℕ) Fault → List ℕ
-told_of (Ok told) = told
-told_of (Err why) = message_of why
-
--- What a run did: how it ended, the status that this has, and what was told of it, or a first part of that where it
--- could not be written.
-pub record IsRun (words : List (List ℕ)) (outcome : Status) (source out err : Change) : Type 0 where
-  pub ended : Result (List ℕ) Fault
-  pub ends : Ends (command_of words) source out ended
-  pub answer : outcome ≡ status_of ended
-  pub tells : IsTold (told_of ended) err
+-- how a run ends on these words
+abbrev pub Ends : List (List ℕ) → Change → Change → Result (List ℕ) (Fault FileFault) → Type 0
+Ends words = EndsAsked (command_of words)

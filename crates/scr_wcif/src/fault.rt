@@ -1,14 +1,10 @@
 //! What goes wrong in a run.
 
 ghost use Rattle.std.specs.Prelude.{◌≡◌};
-ghost use Rattle.scr_wcif.specs.declared.fault.Fault.TheVariants.{File, NoMemory, Write};
+ghost use Rattle.scr_host.specs.declared.fault.Fault.TheVariants.{Own};
 ghost use Rattle.scr_wcif.specs.declared.fault.FileFault.TheVariants.{SheetLine};
-ghost use Rattle.scr_wcif.specs.Reading.{fault_of};
 
-use scr_host::InputFault;
-use scr_outside::Failed;
 use scr_read::{SheetCause, SheetFault};
-use std::alloc::AllocError;
 
 /// Why an entry of the list of events tells no event. Where more than one applies, it is the first of: many, shape,
 /// unknown, twice, rounds.
@@ -52,8 +48,6 @@ pub enum Difference {
 /// from 0.
 #[derive(Clone, Copy, Debug, PartialEq, Eq)]
 pub enum FileFault {
-    /// It has more than 67,108,864 bytes, with the sheet behind it where one is.
-    TooLong,
     /// No line `=====` stands in the input, behind which the sheet would be.
     NoParts,
     /// It is no text: at this byte it isn't UTF-8.
@@ -89,66 +83,26 @@ pub enum FileFault {
         number: u32,
         difference: Difference,
     },
-    /// It could not be read.
-    Read,
 }
 
-/// What went wrong.
-#[derive(Clone, Copy, Debug, PartialEq, Eq)]
-pub enum Fault {
-    /// The words are no command.
-    Usage,
-    /// The file tells no rounds, or could not be read.
-    File(FileFault),
-    /// The output could not be written.
-    Write,
-    /// Want of memory.
-    NoMemory,
-}
+/// What went wrong in a run.
+pub type Fault = scr_host::Fault<FileFault>;
 
 impl From<FileFault> for Fault {
-    ghost from_gives = { λ file fault. fault ≡ File file };
+    ghost from_gives = { λ file fault. fault ≡ Own file };
 
     fn from(fault: FileFault) -> Fault {
-        Fault::File(fault)
+        Fault::Own(fault)
     }
 }
 
-impl From<SheetFault> for Fault {
-    ghost from_gives = { λ at fault. fault ≡ File (SheetLine at.line at.cause) };
-
-    fn from(at: SheetFault) -> Fault {
-        Fault::File(FileFault::SheetLine {
+impl From<SheetFault> for FileFault {
+    fn from(at: SheetFault) -> FileFault
+        ensures { result ≡ SheetLine at.line at.cause }
+    {
+        FileFault::SheetLine {
             line: at.line,
             cause: at.cause,
-        })
-    }
-}
-
-impl From<Failed> for Fault {
-    ghost from_gives = { λ _ fault. fault ≡ Write };
-
-    fn from(_failed: Failed) -> Fault {
-        Fault::Write
-    }
-}
-
-impl From<AllocError> for Fault {
-    ghost from_gives = { λ _ fault. fault ≡ NoMemory };
-
-    fn from(_wanting: AllocError) -> Fault {
-        Fault::NoMemory
-    }
-}
-
-impl From<InputFault> for Fault {
-    ghost from_gives = { λ input fault. fault ≡ fault_of input };
-
-    fn from(input: InputFault) -> Fault {
-        match input {
-            InputFault::TooLong => Fault::File(FileFault::TooLong),
-            InputFault::Read => Fault::File(FileFault::Read),
-            InputFault::NoMemory => Fault::NoMemory,
         }
     }
 }

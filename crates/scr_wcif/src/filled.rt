@@ -7,13 +7,14 @@ ghost use Rattle.json.specs.Value.{value_view};
 ghost use Rattle.scr_wcif.specs.Adding.{IsAnswer};
 ghost use Rattle.scr_wcif.specs.FileRound.{NamedRound};
 ghost use Rattle.scr_wcif.specs.FileRounds.{rounds_of_file};
-ghost use Rattle.scr_wcif.specs.Reading.{most_bytes};
+ghost use Rattle.scr_host.specs.Input.{most_bytes};
 ghost use Rattle.scr_wcif.specs.Sets.{RoundHasNumbers};
 ghost use Rattle.scr_wcif.specs.Made.{FillsInput, FillsParts, FillsRounds};
 
 use crate::fault::{Fault, FileFault};
 use crate::filling::filled;
 use crate::list::left_out;
+use crate::made::Made;
 use crate::parts::parts_of;
 use crate::placing::placed_rounds;
 use crate::rounds::rounds_of_file;
@@ -23,18 +24,9 @@ use crate::value::value_of;
 use json::{Scratch, Value, to_vec};
 use std::alloc::Global;
 
-/// The text of a file with the scrambles of a sheet, and what is told of the rounds that get none.
-#[derive(Drop)]
-pub(crate) struct FilledFile {
-    /// The text, in UTF-8.
-    pub(crate) text: Vec<u8>,
-    /// A line for each round whose event the program hasn't.
-    pub(crate) told: String,
-}
-
 /// The file of an input with the scrambles of the sheet behind it, whose rounds have to be those of the file's list: by
 /// their events and the numbers of their groups, in order.
-pub(crate) fn filled_text(alloc: Global, input: &[u8]) -> Result<FilledFile, Fault>
+pub(crate) fn filled_text(alloc: Global, input: &[u8]) -> Result<Made, Fault>
     requires { length input.now ≤ most_bytes }
     ensures { FillsInput input.now result }
 {
@@ -43,7 +35,7 @@ pub(crate) fn filled_text(alloc: Global, input: &[u8]) -> Result<FilledFile, Fau
 }
 
 /// The same of the two parts.
-fn filled_parts(alloc: Global, file: &[u8], sheet: &[u8]) -> Result<FilledFile, Fault>
+fn filled_parts(alloc: Global, file: &[u8], sheet: &[u8]) -> Result<Made, Fault>
     requires { length sheet.now < 2 ^ 32 - 1 }
     ensures { FillsParts file.now sheet.now result }
 {
@@ -64,11 +56,7 @@ fn names_rounds(alloc: Global, file: &Value<'_>) -> Result<(), Fault>
 }
 
 /// The same of the file's value, which names rounds, and of the sets of the sheet's.
-fn filled_value<'a>(
-    alloc: Global,
-    file: Value<'a>,
-    sets: &'a [EventSets],
-) -> Result<FilledFile, Fault>
+fn filled_value<'a>(alloc: Global, file: Value<'a>, sets: &'a [EventSets]) -> Result<Made, Fault>
     requires numbers { All RoundHasNumbers sets.now }
     requires writable { HasNumbers (value_view file) }
     requires nests { depth (value_view file) ≤ max_depth }
@@ -80,5 +68,5 @@ fn filled_value<'a>(
     let told = left_out(alloc, &named)?;
     let filled = filled(alloc, file, &placed)?;
     let text = to_vec(alloc, &filled)?;
-    Ok(FilledFile { text, told })
+    Ok(Made { text, told })
 }

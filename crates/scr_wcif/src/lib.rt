@@ -2,7 +2,7 @@
 //!
 //! The file is a JSON value, as the kit's crate `json` defines and reads it. What rounds it names is a definition of
 //! its own, a function of that value (`specs/FileRounds.antt`); the list is that of `scr_list`, whose law says that
-//! it is read back. The theorem is that of `run`: whatever the source and the sinks do, the list that was written names
+//! it is read back. The theorem is that of `run`, at [`Wcif`]: whatever the source and the sinks do, the list that was written names
 //! exactly the rounds of the file, or there is a cause why none was written, and it is told.
 #![tactic(auto)]
 
@@ -12,9 +12,9 @@ mod fault;
 mod field;
 mod filled;
 mod filling;
-mod host;
 pub mod laws;
 mod list;
+mod made;
 mod message;
 mod parts;
 mod placing;
@@ -23,15 +23,12 @@ mod round;
 mod rounds;
 mod set;
 mod set_value;
-mod status;
 mod taking;
 mod value;
 
 pub use command::Command;
 pub use fault::{Difference, EventCause, Fault, FileFault, RoundCause};
-pub use host::Wcif;
-pub use program::{MOST_BYTES, run};
+pub use program::Wcif;
 pub use round::FileRound;
 pub use rounds::rounds_of_file;
-pub use scr_host::{Exit, Program, run_on_host};
-pub use status::Status;
+pub use scr_host::{Exit, run, run_on_host, run_on_words};

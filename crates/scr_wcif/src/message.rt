@@ -3,76 +3,68 @@
 ghost use Rattle.std.specs.Prelude.{◌≡◌, ◌++◌, ◌+◌, ◌≤◌, length};
 ghost use Rattle.std.specs.Fmt.{decimal};
 ghost use Rattle.arrayvec.specs.ArrayString.{array_string_len};
-ghost use Rattle.scr_wcif.specs.Message.{message_of, file_text, event_cause_text, round_cause_text, difference_text};
+ghost use Rattle.scr_wcif.specs.Message.{event_cause_text, round_cause_text, difference_text};
 
-use crate::fault::{Difference, EventCause, Fault, FileFault, RoundCause};
+use crate::fault::{Difference, EventCause, FileFault, RoundCause};
 use arrayvec::ArrayString;
+use scr_host::{MESSAGE_ROOM, OwnFault};
 use scr_text::decimal;
 
-/// The length of the longest message, and a little more.
-const LONGEST: usize = 128;
+impl OwnFault for FileFault {
+    ghost use Rattle.scr_wcif.specs.Message.{telling};
 
-impl Fault {
-    /// The line that tells it, with its line feed.
-    pub fn message(self) -> ArrayString<LONGEST>
-        ensures { result.bytes ≡ message_of self }
-    {
-        let mut line = ArrayString::new();
-        line.push_str("scramble-wcif: ");
-        match self {
-            Fault::Usage => line.push_str("usage: list | fill"),
-            Fault::File(why) => push_file(&mut line, why),
-            Fault::Write => line.push_str("output could not be written"),
-            Fault::NoMemory => line.push_str("out of memory"),
-        }
-        line.push_str("\n");
-        line
+    ghost telling = { telling };
+
+    fn program() -> &'static str {
+        "scramble-wcif"
     }
-}
 
-fn push_file(line: &mut ArrayString<LONGEST>, why: FileFault)
-    requires { array_string_len line.old ≤ 15 }
-    ensures bytes { line.new.bytes ≡ line.old.bytes ++ file_text why }
-    ensures room { array_string_len line.new ≤ 120 }
-{
-    match why {
-        FileFault::TooLong => line.push_str("input is longer than 67108864 bytes"),
-        FileFault::NoParts => line.push_str("no line ===== between a file and a sheet"),
-        FileFault::NoText { place } => push_at(line, "no UTF-8 at byte ", place),
-        FileFault::NoJson { place } => push_at(line, "no JSON at byte ", place),
-        FileFault::KeyTwice => line.push_str("an object has a key twice"),
-        FileFault::NoCompetition => line.push_str("no competition: no list of events"),
-        FileFault::Event { number, cause } => {
-            push_at(line, "event ", number);
-            line.push_str(": ");
-            line.push_str(event_cause_words(cause));
+    fn usage() -> &'static str {
+        "list | fill"
+    }
+
+    fn push_text(self, line: &mut ArrayString<MESSAGE_ROOM>) {
+        match self {
+            FileFault::NoParts => line.push_str("no line ===== between a file and a sheet"),
+            FileFault::NoText { place } => push_at(line, "no UTF-8 at byte ", place),
+            FileFault::NoJson { place } => push_at(line, "no JSON at byte ", place),
+            FileFault::KeyTwice => line.push_str("an object has a key twice"),
+            FileFault::NoCompetition => line.push_str("no competition: no list of events"),
+            FileFault::Event { number, cause } => {
+                push_at(line, "event ", number);
+                line.push_str(": ");
+                line.push_str(event_cause_words(cause));
+            }
+            FileFault::Round {
+                event,
+                number,
+                cause,
+            } => {
+                push_at(line, "event ", event);
+                push_at(line, " round ", number);
+                line.push_str(": ");
+                line.push_str(round_cause_words(cause));
+            }
+            FileFault::SheetLine { line: at, cause } => {
+                push_at(line, "sheet line ", at);
+                line.push_str(": ");
+                line.push_str(cause.text());
+            }
+            FileFault::Sheet { number, difference } => {
+                push_at(line, "sheet round ", number);
+                line.push_str(": ");
+                line.push_str(difference_words(difference));
+            }
         }
-        FileFault::Round {
-            event,
-            number,
-            cause,
-        } => {
-            push_at(line, "event ", event);
-            push_at(line, " round ", number);
-            line.push_str(": ");
-            line.push_str(round_cause_words(cause));
-        }
-        FileFault::SheetLine { line: at, cause } => {
-            push_at(line, "sheet line ", at);
-            line.push_str(": ");
-            line.push_str(cause.text());
-        }
-        FileFault::Sheet { number, difference } => {
-            push_at(line, "sheet round ", number);
-            line.push_str(": ");
-            line.push_str(difference_words(difference));
-        }
-        FileFault::Read => line.push_str("input could not be read"),
+    }
+
+    fn code(self) -> u8 {
+        3
     }
 }
 
 /// Adds a few words and a number.
-fn push_at(line: &mut ArrayString<LONGEST>, words: &str, number: u32)
+fn push_at(line: &mut ArrayString<MESSAGE_ROOM>, words: &str, number: u32)
     requires words { length words.now ≤ 20 }
     requires room { array_string_len line.old ≤ 60 }
     ensures bytes { line.new.bytes ≡ line.old.bytes ++ (words.now ++ decimal number) }

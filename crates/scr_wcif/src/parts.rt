@@ -1,9 +1,9 @@
 //! The two parts of an input.
 
-ghost use Rattle.std.specs.Prelude.{◌≡◌, ◌∷◌, ◌++◌, ◌<◌, length, position, IfSome, MatchOption};
-ghost use Rattle.scr_text.specs.Lines.{is_line_feed};
-ghost use Rattle.scr_read.specs.Faults.{IsOneLine};
+ghost use Rattle.std.specs.Prelude.{MatchOption};
 ghost use Rattle.scr_wcif.specs.Parts.{AreParts, HasNoParts};
+
+use scr_read::first_line;
 
 /// The line between a file and a sheet.
 const BETWEEN: &[u8; 5] = b"=====";
@@ -21,23 +21,4 @@ pub(crate) fn parts_of(input: &[u8]) -> Option<(&[u8], &[u8])>
         rest = behind;
     }
     None
-}
-
-/// The first line of a text, without its line feed, and what follows; `None` where no line feed stands in the text.
-fn first_line(text: &[u8]) -> Option<(&[u8], &[u8])>
-    ensures { MatchOption result (IsOneLine text.now)
-        (λ parts. (text.now ≡ parts.0.now ++ 10 ∷ parts.1.now) × IsOneLine parts.0.now) }
-{
-    match line_feed(text) {
-        Some(end) => Some((&text[..end], &text[end + 1..])),
-        None => None,
-    }
-}
-
-/// The place of the first line feed.
-fn line_feed(text: &[u8]) -> Option<usize>
-    ensures place { result ≡ position is_line_feed text.now }
-    ensures within { IfSome result (λ end. end < length text.now) }
-{
-    text.iter().position(|byte| *byte == b'\n')
 }

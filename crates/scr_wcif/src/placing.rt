@@ -1,11 +1,11 @@
 //! Which sets of a sheet's rounds the rounds of a file get.
 
 ghost use Rattle.std.specs.Prelude.{◌≡◌, ◌+◌, ◌≤◌, [], All, filter, length, IfOk, OnOk};
+ghost use Rattle.scr_host.specs.declared.fault.Fault.TheVariants.{Own};
 ghost use Rattle.scr_wcif.specs.Adding.{Adds, Gives};
 ghost use Rattle.scr_wcif.specs.Placing.{is_known, placed_round, placed_from, placed_rounds};
 ghost use Rattle.scr_wcif.specs.Sets.{SetsHaveNumbers, RoundHasNumbers};
 ghost use Rattle.scr_wcif.specs.declared.fault.FileFault.TheVariants.{Sheet};
-ghost use Rattle.scr_wcif.specs.declared.fault.Fault.TheVariants.{File};
 
 use crate::adding::add;
 use crate::fault::{Difference, Fault, FileFault};
@@ -97,7 +97,7 @@ fn placed_round<'a>(
 
 /// The fault of a round of a sheet that differs.
 fn differs(number: u32, difference: Difference) -> Fault
-    ensures { result ≡ File (Sheet number difference) }
+    ensures { result ≡ Own (Sheet number difference) }
 {
-    Fault::File(FileFault::Sheet { number, difference })
+    Fault::Own(FileFault::Sheet { number, difference })
 }

@@ -203,7 +203,7 @@ fn round_of_entry<'a>(
     };
     let told = text_at(entry, "id").ok_or(wrong_id)?;
     if !is_id_of_round(alloc, told, id, number)? {
-        return Err(Fault::File(wrong_id));
+        return Err(Fault::Own(wrong_id));
     }
     let groups = group_count(entry).ok_or(FileFault::Round {
         event: place,

@@ -8,7 +8,7 @@ ghost use Rattle.scr_wcif.specs.Taking.{IsSheetOf, IsNoSheet};
 ghost use Rattle.scr_wcif.specs.Gathering.{set_of_group, with_last, with_group, with_groups};
 
 use crate::adding::add;
-use crate::fault::Fault;
+use crate::fault::{Fault, FileFault};
 use crate::set::{EventSets, ScrambleSet};
 use scr_notation::{Scramble, print};
 use scr_read::{SheetGroup, SheetGroups};
@@ -21,7 +21,10 @@ pub(crate) fn taken_sets(alloc: Global, text: &[u8]) -> Result<Vec<EventSets>, F
     ensures sets { IsAnswer (λ rounds. IsSheetOf text.now rounds.items) (IsNoSheet text.now) result }
     ensures numbers { IfOk result (λ rounds. All RoundHasNumbers rounds.items) }
 {
-    let groups = SheetGroups::of(text)?;
+    let groups = match SheetGroups::of(text) {
+        Ok(groups) => groups,
+        Err(at) => return Err(Fault::Own(FileFault::from(at))),
+    };
     let rounds = gathered(alloc, groups)?;
     Ok(rounds)
 }

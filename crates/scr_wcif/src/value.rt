@@ -26,16 +26,16 @@ pub(crate) fn value_of<'a>(
         Ok(text) => text,
         Err(error) => {
             let place = counted(error.valid_up_to());
-            return Err(Fault::File(FileFault::NoText { place }));
+            return Err(Fault::Own(FileFault::NoText { place }));
         }
     };
     match Value::parse_strict(alloc, text, scratch) {
         Ok(value) => Ok(value),
         Err(Error::Invalid) => {
             let place = counted(place_of_fault(alloc, text)?);
-            Err(Fault::File(FileFault::NoJson { place }))
+            Err(Fault::Own(FileFault::NoJson { place }))
         }
-        Err(Error::DuplicateKey) => Err(Fault::File(FileFault::KeyTwice)),
+        Err(Error::DuplicateKey) => Err(Fault::Own(FileFault::KeyTwice)),
         Err(_) => Err(Fault::NoMemory),
     }
 }

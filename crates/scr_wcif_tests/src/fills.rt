@@ -1,7 +1,7 @@
 //! Runs that fill a file: what is written, and what is told of files and sheets that don't fit.
 
 use scr_outside::{MemSink, MemSource};
-use scr_wcif::{Status, run};
+use scr_wcif::{Wcif, run_on_words};
 use std::alloc::Global;
 use std::test::Fail;
 
@@ -42,8 +42,8 @@ const CLOCK_SETS: &str = ",\"scrambleSets\":[\
 {\"id\":1,\"scrambles\":[\"UR1+\",\"UR2+\",\"y2\",\"ALL5-\",\"UL3-\"],\"extraScrambles\":[\"U1+\",\"U2+\"]},\
 {\"id\":2,\"scrambles\":[\"DR1+\",\"DR2+\",\"y2\",\"ALL0+\",\"DL3-\"],\"extraScrambles\":[\"L1+\",\"L2+\"]}]";
 
-/// How a run ended, what it wrote, and what it told.
-type Ran = (Status, MemSink, MemSink);
+/// The exit code of a run, what it wrote, and what it told.
+type Ran = (u8, MemSink, MemSink);
 
 /// Runs the command `fill` on an input, where these reads and these writes fail.
 fn filled(alloc: Global, input: &str, reads: &[u32], writes: &[u32]) -> Result<Ran, Fail> {
@@ -51,8 +51,9 @@ fn filled(alloc: Global, input: &str, reads: &[u32], writes: &[u32]) -> Result<R
     let mut source = MemSource::new(bytes, 100, reads.to_vec(alloc)?);
     let mut out = MemSink::new(alloc, 20_000, 9, writes.to_vec(alloc)?)?;
     let mut err = MemSink::new(alloc, 1_000, 100, Vec::new(alloc))?;
-    let status = run(alloc, &["fill"], &mut source, &mut out, &mut err);
-    Ok((status, out, err))
+    let words: [&str; 1] = ["fill"];
+    let code = run_on_words(&Wcif, alloc, Ok(&words), &mut source, &mut out, &mut err);
+    Ok((code, out, err))
 }
 
 #[test]
@@ -62,18 +63,18 @@ fn a_file_is_filled(rt: HostRuntime) -> Result<(), Fail> {
         "{FRONT}{OLD_SETS}{BEHIND}{END}\n=====\n{SIX}{CLOCK_A}{CLOCK_B}"
     )?;
     let wanted = format!(in alloc; "{WRITTEN}{SIX_SETS}{BEHIND}{CLOCK_SETS}{END}")?;
-    let (status, out, err) = filled(alloc, input.as_str(), &[], &[])?;
-    assert_eq!(rt; status, Status::Done);
+    let (code, out, err) = filled(alloc, input.as_str(), &[], &[])?;
+    assert_eq!(rt; code, 0);
     assert_eq!(rt; out.contents(), wanted.as_bytes());
     assert_eq!(rt;
         err.contents(),
         b"scramble-wcif: left out: 444 1: Final\n".as_slice()
     );
-    let (status, out, _) = filled(alloc, input.as_str(), &[5], &[])?;
-    assert_eq!(rt; status, Status::ReadFault);
+    let (code, out, _) = filled(alloc, input.as_str(), &[5], &[])?;
+    assert_eq!(rt; code, 5);
     assert_eq!(rt; out.contents(), b"".as_slice());
-    let (status, out, _) = filled(alloc, input.as_str(), &[], &[2])?;
-    assert_eq!(rt; status, Status::WriteFault);
+    let (code, out, _) = filled(alloc, input.as_str(), &[], &[2])?;
+    assert_eq!(rt; code, 6);
     assert_eq!(rt; out.contents(), b"{\"formatV".as_slice());
     Ok(())
 }
@@ -156,15 +157,15 @@ fn what_does_not_fit_is_refused(rt: HostRuntime) -> Result<(), Fail> {
         ),
     ] {
         let input = format!(in alloc; "{before}{between}{sheet}{last}")?;
-        let (status, out, err) = filled(alloc, input.as_str(), &[], &[])?;
+        let (code, out, err) = filled(alloc, input.as_str(), &[], &[])?;
         let told = format!(in alloc; "scramble-wcif: {message}\n")?;
         assert_eq!(rt; err.contents(), told.as_bytes());
-        assert_eq!(rt; status, Status::Input);
+        assert_eq!(rt; code, 3);
         assert_eq!(rt; out.contents(), b"".as_slice());
     }
     let input = format!(in alloc; "{file}\n=====\n{SIX}{CLOCK_A}{CLOCK_B}{third}")?;
-    let (status, _, err) = filled(alloc, input.as_str(), &[], &[])?;
-    assert_eq!(rt; status, Status::Input);
+    let (code, _, err) = filled(alloc, input.as_str(), &[], &[])?;
+    assert_eq!(rt; code, 3);
     assert_eq!(rt;
         err.contents(),
         b"scramble-wcif: sheet round 3: not in the file\n".as_slice()

@@ -1,7 +1,7 @@
 //! Runs on files as competitions have them, on files that are refused, and with inputs and outputs that fail.
 
 use scr_outside::{MemSink, MemSource};
-use scr_wcif::{Status, run};
+use scr_wcif::{Wcif, run_on_words};
 use std::alloc::Global;
 use std::test::Fail;
 
@@ -17,8 +17,8 @@ const LIST: &str = "version 2\nclock 26: First round\nclock 1: Final\n";
 
 const LEFT_OUT: &str = "scramble-wcif: left out: 444bf 1: Final\n";
 
-/// How a run ended, what it wrote, and what it told.
-type Ran = (Status, MemSink, MemSink);
+/// The exit code of a run, what it wrote, and what it told.
+type Ran = (u8, MemSink, MemSink);
 
 /// Runs the command `list` on a text, where these reads and these writes fail.
 fn listed(alloc: Global, text: &str, reads: &[u32], writes: &[u32]) -> Result<Ran, Fail> {
@@ -26,14 +26,15 @@ fn listed(alloc: Global, text: &str, reads: &[u32], writes: &[u32]) -> Result<Ra
     let mut source = MemSource::new(bytes, 100, reads.to_vec(alloc)?);
     let mut out = MemSink::new(alloc, 20_000, 9, writes.to_vec(alloc)?)?;
     let mut err = MemSink::new(alloc, 1_000, 100, Vec::new(alloc))?;
-    let status = run(alloc, &["list"], &mut source, &mut out, &mut err);
-    Ok((status, out, err))
+    let words: [&str; 1] = ["list"];
+    let code = run_on_words(&Wcif, alloc, Ok(&words), &mut source, &mut out, &mut err);
+    Ok((code, out, err))
 }
 
 #[test]
 fn a_list_is_written(rt: HostRuntime) -> Result<(), Fail> {
-    let (status, out, err) = listed(rt.alloc(), FILE, &[], &[])?;
-    assert_eq!(rt; status, Status::Done);
+    let (code, out, err) = listed(rt.alloc(), FILE, &[], &[])?;
+    assert_eq!(rt; code, 0);
     assert_eq!(rt; out.contents(), LIST.as_bytes());
     assert_eq!(rt; err.contents(), LEFT_OUT.as_bytes());
     Ok(())
@@ -41,15 +42,15 @@ fn a_list_is_written(rt: HostRuntime) -> Result<(), Fail> {
 
 #[test]
 fn faults_are_told(rt: HostRuntime) -> Result<(), Fail> {
-    let (status, out, err) = listed(rt.alloc(), FILE, &[3], &[])?;
-    assert_eq!(rt; status, Status::ReadFault);
+    let (code, out, err) = listed(rt.alloc(), FILE, &[3], &[])?;
+    assert_eq!(rt; code, 5);
     assert_eq!(rt; out.contents(), b"".as_slice());
     assert_eq!(rt;
         err.contents(),
         b"scramble-wcif: input could not be read\n".as_slice()
     );
-    let (status, out, err) = listed(rt.alloc(), FILE, &[], &[2])?;
-    assert_eq!(rt; status, Status::WriteFault);
+    let (code, out, err) = listed(rt.alloc(), FILE, &[], &[2])?;
+    assert_eq!(rt; code, 6);
     assert_eq!(rt; out.contents(), b"version 2".as_slice());
     assert_eq!(rt;
         err.contents(),
@@ -93,8 +94,8 @@ fn what_is_no_file_is_refused(rt: HostRuntime) -> Result<(), Fail> {
             "event 1 round 1: scrambleSetCount",
         ),
     ] {
-        let (status, out, err) = listed(rt.alloc(), text, &[], &[])?;
-        assert_eq!(rt; status, Status::Input);
+        let (code, out, err) = listed(rt.alloc(), text, &[], &[])?;
+        assert_eq!(rt; code, 3);
         assert_eq!(rt; out.contents(), b"".as_slice());
         let told = format!(in rt.alloc(); "scramble-wcif: {message}\n")?;
         assert_eq!(rt; err.contents(), told.as_bytes());

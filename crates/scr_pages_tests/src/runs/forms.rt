@@ -2,7 +2,6 @@
 
 use super::printed::sheet;
 use super::run_with;
-use scr_pages::Status;
 use std::alloc::{AllocError, Global};
 use std::test::Fail;
 
@@ -92,7 +91,7 @@ fn words_of_pages(rt: HostRuntime) -> Result<(), Fail> {
     ];
     for (words, (first, count, form, pictures)) in runs {
         let ran = run_with(alloc, words, sheet.as_str(), &[], &[])?;
-        assert_eq!(rt; ran.status, Status::Done);
+        assert_eq!(rt; ran.code, 0);
         assert_eq!(rt; ran.err.contents(), b"".as_slice());
         let page = str::from_utf8(ran.out.contents())?;
         let (read, begin) = match form {

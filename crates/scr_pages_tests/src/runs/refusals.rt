@@ -1,9 +1,9 @@
-//! Runs that write no pages, or only a first part of them, each with its status and its message.
+//! Runs that write no pages, or only a first part of them, each with its exit code and its message.
 
 use super::printed::{FIRST, sheet};
 use super::{run_with, with_text};
 use scr_outside::{MemSink, SliceSource};
-use scr_pages::{MOST_BYTES, Status, run};
+use scr_pages::{MOST_BYTES, Pages, run_on_words};
 use std::process::Abort;
 use std::test::Fail;
 
@@ -26,7 +26,7 @@ fn refused<R: Abort + AllocGlobal>(
     let told = format!(in rt.alloc(); "scramble-pages: {message}\n")?;
     let ran = run_with(rt.alloc(), &[word], sheet, &[], &[])?;
     assert_eq!(rt; ran.err.contents(), told.as_bytes());
-    assert_eq!(rt; ran.status.code(), code);
+    assert_eq!(rt; ran.code, code);
     assert_eq!(rt; ran.out.contents(), b"".as_slice());
     Ok(())
 }
@@ -47,7 +47,7 @@ fn words_that_ask_for_nothing(rt: HostRuntime) -> Result<(), Fail> {
     ];
     for words in words {
         let ran = run_with(rt.alloc(), words, "", &[1], &[])?;
-        assert_eq!(rt; ran.status, Status::Usage);
+        assert_eq!(rt; ran.code, 2);
         assert_eq!(rt; ran.err.contents(), told.as_bytes());
         assert_eq!(rt; ran.out.contents(), b"".as_slice());
     }
@@ -102,7 +102,7 @@ fn a_square_1_near_solved(rt: HostRuntime) -> Result<(), Fail> {
     refused(&rt, "--html", near.as_str(), 10, NEAR)?;
     refused(&rt, "--regulations=yes", near.as_str(), 10, NEAR)?;
     let ran = run_with(rt.alloc(), &["--regulations=no"], near.as_str(), &[], &[])?;
-    assert_eq!(rt; ran.status, Status::Done);
+    assert_eq!(rt; ran.code, 0);
     Ok(())
 }
 
@@ -113,8 +113,16 @@ fn an_input_that_is_too_long(rt: HostRuntime) -> Result<(), Fail> {
     let mut source = SliceSource::new(&bytes);
     let mut out = MemSink::new(rt.alloc(), 256, 256, Vec::new(rt.alloc()))?;
     let mut err = MemSink::new(rt.alloc(), 256, 256, Vec::new(rt.alloc()))?;
-    let status = run(rt.alloc(), &["--html"], &mut source, &mut out, &mut err);
-    assert_eq!(rt; status, Status::Input);
+    let words: [&str; 1] = ["--html"];
+    let code = run_on_words(
+        &Pages,
+        rt.alloc(),
+        Ok(&words),
+        &mut source,
+        &mut out,
+        &mut err,
+    );
+    assert_eq!(rt; code, 3);
     assert_eq!(rt;
         err.contents(),
         b"scramble-pages: input is longer than 67108864 bytes\n".as_slice()
@@ -129,7 +137,7 @@ fn reads_and_writes_that_fail(rt: HostRuntime) -> Result<(), Fail> {
     let sheet = sheet(rt.alloc(), 0, 13)?;
     for read in [1, 2, 3] {
         let ran = run_with(rt.alloc(), &["--html"], sheet.as_str(), &[read], &[])?;
-        assert_eq!(rt; ran.status, Status::ReadFault);
+        assert_eq!(rt; ran.code, 5);
         assert_eq!(rt;
             ran.err.contents(),
             b"scramble-pages: input could not be read\n".as_slice()
@@ -141,7 +149,7 @@ fn reads_and_writes_that_fail(rt: HostRuntime) -> Result<(), Fail> {
         for write in [1, 2, 3, 4] {
             let ran = run_with(rt.alloc(), &[form], sheet.as_str(), &[], &[write])?;
             let part = ran.out.contents();
-            assert_eq!(rt; ran.status, Status::WriteFault);
+            assert_eq!(rt; ran.code, 6);
             assert_eq!(rt;
                 ran.err.contents(),
                 b"scramble-pages: output could not be written\n".as_slice()

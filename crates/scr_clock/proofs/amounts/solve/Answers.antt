@@ -1,19 +1,29 @@
-use Rattle.std.proofs.Common.{◌≡◌, List, ℕ, [], ◌∷◌, sym, ap, ◌∙◌, subst}
+use Rattle.std.proofs.Common.{◌≡◌, List, [], ℕ, ◌%◌, get_or, sym, ap, ◌∙◌, subst, arith, length-set}
+use Rattle.std.specs.List.{sum}
+use Rattle.std.specs.Simd.Lanes.{products}
+use Rattle.std.proofs.lemmas.List.Edits.{fill_by_more}
 use Rattle.scr_clock.specs.Dials.{IsClock, solved}
 use Rattle.scr_clock.specs.Held.{clock_after}
 use Rattle.scr_clock.specs.Written.{written}
-use Rattle.scr_clock.proofs.AmountLaws.{amounts_of, IsClock-amounts_of, amounts_of-give, amounts_of-only}
+use Rattle.scr_clock.proofs.AmountLaws.{counts, amounts_of, amounts_by_rows, IsClock-amounts_of, amounts_of-give, amounts_of-only}
 use Rattle.scr_clock.proofs.amounts.solve.Goals as goal
 
-abbrev hours : goal.After-hour-14 → List ℕ
-hours c =
-    c.hour.result ∷ c.hour-2.result ∷ c.hour-3.result ∷ c.hour-4.result ∷ c.hour-5.result ∷ c.hour-6.result ∷ c.hour-7.result
-    ∷ c.hour-8.result ∷ c.hour-9.result ∷ c.hour-10.result ∷ c.hour-11.result ∷ c.hour-12.result ∷ c.hour-13.result ∷ c.hour-14.result ∷ []
+pub loop-turn-preserved : goal.loop-turn-preserved
+loop-turn-preserved c = record {
+  fourteen = omega (arith, length-set {A = ℕ});
+  by_rows = rw c.hour.ensures
+      (fill_by_more (λ k. sum (products (get_or counts k []) c.dials-dials.result) % 12) c.loop-turn.amounts c.loop-turn.turn 0
+      (omega (arith, c.loop-turn.invariant.fourteen)) c.loop-turn.invariant.by_rows);
+}
 
--- they are the sums of the dials
-hours_are : (c : goal.After-hour-14) → hours c ≡ amounts_of c.args.clock.now
-unfolding amounts_of
-hours_are c = let same = c.dials-dials.ensures.same in cc
+valid : (c : goal.After-loop-turn) → IsClock c.dials-dials.result
+valid c = let P : List ℕ → Type 0 = λ d. IsClock d in subst P (sym c.dials-dials.ensures.same) c.dials-dials.ensures.valid
+
+-- they are the hours of the rows
+hours_are : (c : goal.After-loop-turn) → c.loop-turn.amounts ≡ amounts_of c.args.clock.now
+hours_are c =
+    amounts_by_rows c.dials-dials.result c.loop-turn.amounts (valid c) c.loop-turn.invariant.fourteen (λ k l. c.loop-turn.invariant.by_rows k (omega arith))
+    ∙ ap amounts_of c.dials-dials.ensures.same
 
 pub returns-clause-amounts : goal.returns-clause-amounts
 returns-clause-amounts c =

@@ -1,5 +1,6 @@
 use Rattle.std.proofs.Common.{◌≡◌, ◌+◌, ◌-◌, vec_len}
 use Rattle.scr_outside.specs.Change.{intake_of, Gives}
+use Rattle.scr_host.specs.Input.{most_bytes}
 use Rattle.scr_host.proofs.input.read_input.Given as goal
 
 abbrev pub invariant-pieces : goal.invariant-pieces
@@ -9,4 +10,4 @@ invariant-pieces g l = record {
 }
 
 abbrev pub decreases-pieces : goal.decreases-pieces
-decreases-pieces g l = (l.most + 1) - vec_len l.bytes
+decreases-pieces g l = (most_bytes + 1) - vec_len l.bytes

@@ -1,7 +1,7 @@
 use Rattle.std.proofs.Common.{List, ◌∙◌, subst, inl}
-use Rattle.scr_text.specs.Lines.{has_bytes}
 use Rattle.scr_outside.specs.Change.{change_of}
 use Rattle.scr_layout.specs.Group.{Group}
+use Rattle.scr_layout.specs.Name.{fitting}
 use Rattle.scr_pages.specs.Words.{asked_of}
 use Rattle.scr_pages.specs.Asked.{has_pictures}
 use Rattle.scr_pages.specs.Pages.{Look}
@@ -36,7 +36,7 @@ returns g c =
     let same = c.sheets_are_read_back.ensures.one c.args.bytes.now sheet.0 is.surveyed.rounds sheet.1 is.surveyed.sheet in
     let asked = asked_of c.args.asked.now in
     let rounds = is.surveyed.rounds in
-    let has_name = has_bytes c.as_str.result.now in
+    let name = c.as_str.result.now in
     let left = wanted-left asked c.args.bytes.now c.args.checked.now is sheet.0 c.in_ok-groups.groups c.skip.new.groups same sheet.2 c.skip.ensures in
     let change = change_of g.O.Sink.held g.O.Sink.faults c.args.out.now c.write_groups.new.out in
     let written = c.write_groups.ensures rounds (c.deref.ensures.value ∙ is.surveyed.marks) in
@@ -44,10 +44,10 @@ returns g c =
       rounds = rounds;
       sheet = is.surveyed.sheet;
       has_pages = is.pages;
-      has_name = has_name;
       writes =
           subst (λ (look : Look). WritesPages look (chosen asked.group (shown_groups rounds)) change c.write_groups.result)
-          (same-look c.args.asked.now.html c.has_pictures.result (has_pictures asked) has_name c.has_pictures.ensures)
-          (subst (λ (gs : List Group). WritesPages (look_with c.args.asked.now.html c.has_pictures.result has_name) gs change c.write_groups.result)
+          (same-look c.args.asked.now.html c.has_pictures.result (has_pictures asked) name (fitting 72 asked.name) c.has_pictures.ensures
+          (c.as_str.ensures.value ∙ c.in_ok-name.ensures.value))
+          (subst (λ (gs : List Group). WritesPages (look_with c.args.asked.now.html c.has_pictures.result name) gs change c.write_groups.result)
           (wanted-shown asked c.args.bytes.now c.args.checked.now is c.skip.new.groups left) written);
     })

@@ -1,4 +1,4 @@
-use Rattle.std.proofs.Common.{◌++◌, ℕ, sym, ap, ◌∙◌, arith}
+use Rattle.std.proofs.Common.{◌++◌, ℕ, refl, sym, ap, ◌∙◌, arith}
 use Rattle.scr_net.specs.Nets.{cell}
 use Rattle.scr_picture.specs.declared.names.Alphabet.TheVariants.{Cube}
 use Rattle.scr_picture.specs.Names.{name_in}
@@ -11,8 +11,8 @@ loop-column-preserved g c =
     record {
       bytes =
           c.push_str.ensures.bytes
-          ∙ ap (λ t. c.loop-column.text.bytes ++ t) (c.cube_name.ensures.value ∙ ap (name_in Cube) c.cell.ensures.value)
+          ∙ ap (λ t. c.loop-column.text.bytes ++ t) (c.name_in.ensures.value ∙ ap (name_in Cube) c.cell.ensures.value)
           ∙ behind c.args.text.now.bytes c.loop-column.text.bytes _ (name c.loop-column.column) c.loop-column.invariant.bytes
           ∙ ap (λ t. c.args.text.now.bytes ++ t) (sym (flat_map_range name c.loop-column.column));
-      len = omega arith;
+      len = omega (arith, c.name_in.ensures.single refl);
     }

@@ -7,7 +7,7 @@ use Rattle.scr_wcif.proofs.taking.taken_sets.Goals as goal
 
 pub returns-clause-sets : goal.returns-clause-sets
 returns-clause-sets c =
-    let found = c.in_ok-groups.ensures.groups in
+    let found = c.in-Ok.ensures.groups in
     record {
       rounds = found.0;
       is = found.1;
@@ -16,6 +16,6 @@ returns-clause-sets c =
 
 pub returns-clause-numbers : goal.returns-clause-numbers
 returns-clause-numbers c =
-    let found = c.in_ok-groups.ensures.groups in
+    let found = c.in-Ok.ensures.groups in
     subst (All RoundHasNumbers) (sym (c.in_ok-rounds.ensures ∙ ap (with_groups []) found.2 ∙ rounds-groups 0 1 found.0 [] found.1.each))
     (rounds-numbers found.0 found.1.each)

@@ -4,6 +4,7 @@ use Rattle.std.specs.HashMap.{get}
 use Rattle.std.specs.Map.{lookup}
 use Rattle.scr_sq1.specs.Units.{sq1_puzzle}
 use Rattle.scr_sq1far.specs.Within.{IsWithin}
+use Rattle.scr_sq1far.specs.Found.{level_in}
 use Rattle.scr_sq1far.specs.Levels.{AreLevels, HasLevel, key_of}
 use Rattle.scr_sq1far.proofs.LevelLaws.{AreListed-none, AreLevels-first, TellNeeds-levels}
 use Rattle.scr_sq1far.proofs.WithinLaws.{IsWithin-solved}
@@ -14,19 +15,19 @@ add-requires-clause-near c = subst (λ q. IsWithin sq1_puzzle q 0) (sym c.solved
 
 pub add-requires-clause-listed : goal.add-requires-clause-listed
 add-requires-clause-listed c =
-    AreListed-none 0 (get nat_eq c.new-levels.result) c.new-states.result.items
-    (λ key. ap (lookup (nat_eq key)) c.new-levels.ensures.empty) (ap length c.new-states.ensures.items)
+    AreListed-none 0 (get nat_eq c.new.result) c.new-2.result.items
+    (λ key. ap (lookup (nat_eq key)) c.new.ensures.empty) (ap length c.new-2.ensures.items)
 
 pub loop-level-init : goal.loop-level-init
 loop-level-init c = record {
-  listed = c.in_ok-add.ensures.listed;
-  exact = AreLevels-first (get nat_eq c.add.new.levels) c.add.new.states.items c.in_ok-add.ensures.listed
-      (subst (λ q. HasLevel 0 (get nat_eq c.add.new.levels) (key_of q)) c.solved-solved.ensures c.in_ok-add.ensures.added);
+  listed = c.in_ok-add.ensures.found.listed;
+  exact = AreLevels-first (level_in c.add.new.self) c.add.new.self.states.items c.in_ok-add.ensures.found.listed
+      (subst (λ q. HasLevel 0 (level_in c.add.new.self) (key_of q)) c.solved-solved.ensures c.in_ok-add.ensures.added);
 }
 
 pub invariant_of-result : goal.invariant_of-result
 invariant_of-result c =
     let six : c.loop-level.level ≡ 6 = omega arith in
     record {
-      exact = TellNeeds-levels 6 (get nat_eq c.loop-level.levels) (subst (λ n. AreLevels n (get nat_eq c.loop-level.levels)) six c.loop-level.invariant.exact);
+      exact = TellNeeds-levels 6 (level_in c.loop-level.found) (subst (λ n. AreLevels n (level_in c.loop-level.found)) six c.loop-level.invariant.exact);
     }

@@ -1,6 +1,0 @@
-use Rattle.std.proofs.Common.{◌≡◌, length}
-use Rattle.std.specs.Prelude.{All}
-use Rattle.scr_html.proofs.tests.scrambles.Given as goal
-
-abbrev pub invariant-loop-slot : goal.invariant-loop-slot
-invariant-loop-slot l = All (λ scramble. scramble.event ≡ l.event) l.made.items × (length l.made.items ≡ l._slot)

@@ -1,0 +1,54 @@
+use Rattle.std.proofs.Common.{◌≡◌, ◌≤◌, ◌+◌, IsTrue, Some, length, sym, ap, ◌∙◌, subst, arith}
+use Rattle.std.specs.Prelude.{is_some}
+use Rattle.std.proofs.lemmas.Option.{same_Some}
+use Rattle.scr_combinatorics.specs.Play.{play}
+use Rattle.scr_orbit.specs.PowerPuzzles.{after_letter}
+use Rattle.scr_notation.specs.Written.{Written}
+use Rattle.scr_cube.specs.Cube333.{CubeState, cube_powers, solved_cube}
+use Rattle.scr_twophase.specs.TwoParts.{two_parts, IsScramble333}
+use Rattle.scr_twophase.specs.Fewest.{frame_back, between, is_framed, IsScrambleFewest}
+use Rattle.scr_twophase.proofs.FewestLaws.{framed, frame_back-made, between-made, framed-played, length-framed, is_framed-framed, IsScrambleFewest-unique}
+use Rattle.scr_twophase.proofs.fewest.scramble_333fm.Goals as goal
+
+-- the frame taken back leads somewhere
+pub unreachable-requires : goal.unreachable-requires
+unreachable-requires c =
+    c.in_default.not-Some frame_back
+    (frame_back-made c.solved.result c.frame.result.turns c.inverse.result.turns c.play.result c.solved.ensures
+    (ap (λ (w : Written). w.turns) c.frame.ensures) (ap (λ (w : Written). w.turns) c.inverse.ensures.value) c.play.ensures)
+
+-- the cube that is scrambled is the one between
+is_between : (c : goal.After-framed) → c.then-between.result ≡ between c.args.cube.now
+is_between c =
+    let back = frame_back-made c.solved.result c.frame.result.turns c.inverse.result.turns c.play.result c.solved.ensures
+    (ap (λ (w : Written). w.turns) c.frame.ensures) (ap (λ (w : Written). w.turns) c.inverse.ensures.value) c.play.ensures in
+    between-made c.args.cube.now c.in-Some.back c.then.result c.then-between.result
+    (same_Some c.in-Some.back frame_back (sym c.in-Some.is ∙ back)) c.then.ensures.joined c.then-between.ensures.joined
+
+whole : (c : goal.After-framed) → c.framed.result.turns ≡ framed c.scramble_333.result.turns
+whole c =
+    ap (λ (w : Written). w.turns) c.framed.ensures ∙ ap (λ (w : Written). framed w.turns) c.with_event-middle.ensures
+
+pub returns : goal.returns
+returns c =
+    let cube = c.args.cube.now in
+    let middle = c.scramble_333.result.turns in
+    let inner = c.scramble_333.ensures in
+    let Scramble : CubeState → Type 0 = λ b. IsScramble333 c.args.tries b middle in
+    let Few : CubeState → Type 0 = λ b. IsTrue (is_some (two_parts b c.args.tries)) → length middle ≤ 22 in
+    let size : length c.framed.result.turns ≡ length middle + 6 = ap length (whole c) ∙ length-framed middle in
+    let scramble : IsScrambleFewest c.args.tries cube c.framed.result.turns =
+    record { middle = middle; scramble = subst Scramble (is_between c) inner.scramble.scramble; whole = whole c } in
+    record {
+      scramble = record {
+        of_event = ap (λ (w : Written). w.event) c.framed.ensures;
+        scramble = scramble;
+        only = λ turns other. IsScrambleFewest-unique c.args.tries cube turns c.framed.result.turns other scramble;
+        within = omega (arith, size, inner.scramble.within);
+        gives = ap (play (after_letter cube_powers) solved_cube) (whole c)
+            ∙ framed-played cube middle c.then.ensures.valid (inner.scramble.gives ∙ ap Some (is_between c));
+      };
+      framed = record { middle = middle; whole = whole c };
+      tested = ap is_framed (whole c) ∙ is_framed-framed middle;
+      few = λ some. let least = subst Few (is_between c) inner.few some in omega (arith, size, least);
+    }

@@ -1,0 +1,153 @@
+//! The 3x3x3 for fewest moves: its scramble, which begins and ends with R' U' F, and its states as they are drawn.
+//!
+//! Between the two frames stands a scramble of the 3x3x3, for the cube that the frames leave of a state: the frame
+//! taken back, the state, and the frame taken back again (`specs/Fewest.antt`).
+
+ghost use Rattle.std.specs.Prelude.{◌≡◌, ◌+◌, ◌++◌, ◌≤◌, IsTrue, is_some, length};
+ghost use Rattle.scr_combinatorics.specs.Play.{play};
+ghost use Rattle.scr_orbit.specs.PowerPuzzles.{after_letter, power_puzzle};
+ghost use Rattle.scr_notation.specs.declared.event.Event.TheVariants.{Fm333};
+ghost use Rattle.scr_notation.specs.Written.{at_most, IsTheScramble};
+ghost use Rattle.scr_cube.specs.Cube333.{cube_numbered, cube_powers, solved_cube};
+ghost use Rattle.scr_twophase.specs.Fewest.{frame, between, is_frame_at, is_framed, is_turn, IsFramed, IsScrambleFewest};
+ghost use Rattle.scr_twophase.specs.Minima.{needs_turns};
+ghost use Rattle.scr_twophase.specs.TwoParts.{two_parts};
+
+use crate::draw::Draw333;
+use crate::scramble::scramble_333;
+use crate::tables::PruneTables;
+use scr_cube::{Cube, PowerTurned};
+use scr_draw::{NumberedStates, Numbering, Permit};
+use scr_notation::{Event, Scramble, Turn, inverse, numbered_scramble, push_all};
+use scr_stages::StageTables;
+
+/// The scramble of a cube, of the event 333fm: R' U' F, the scramble of the cube that stands between, and R' U' F
+/// again. It has at most 28 turns where one of the first `tries` first parts of the cube between has a second part, and
+/// else at most 58. Where turns of one face meet at the joints they stand as they are.
+pub fn scramble_333fm(
+    prune: &PruneTables,
+    stages: &StageTables,
+    cube: &Cube,
+    tries: u32,
+) -> Scramble
+    ensures scramble { IsTheScramble Fm333 (IsScrambleFewest tries) (at_most 58)
+        (play (after_letter cube_powers) solved_cube) cube.now result }
+    ensures framed { IsFramed result.turns }
+    ensures tested { IsTrue (is_framed result.turns) }
+    ensures few { IsTrue (is_some (two_parts (between cube.now) tries)) → length result.turns ≤ 28 }
+{
+    let Some(back) = Cube::solved().play(&inverse(&frame())) else {
+        unreachable!();
+    };
+    let between = back.then(&cube.then(&back));
+    let middle = scramble_333(prune, stages, &between, tries).with_event(Event::Fm333);
+    framed(&middle)
+}
+
+/// R' U' F, which are the turns number 5, 2 and 6.
+fn frame() -> Scramble
+    ensures { result ≡ record { event = Fm333; turns = frame } }
+{
+    numbered_scramble(Event::Fm333, &[5, 2, 6])
+}
+
+/// A scramble between two frames.
+fn framed(middle: &Scramble) -> Scramble
+    requires event { middle.now.event ≡ Fm333 }
+    requires room { length middle.now.turns ≤ 154 }
+    ensures { result ≡ record { event = Fm333; turns = frame ++ middle.now.turns ++ frame } }
+{
+    let mut scramble = frame();
+    push_all(&mut scramble, middle);
+    push_all(&mut scramble, &frame());
+    scramble
+}
+
+/// Whether the turns of a scramble are between two frames: at least six, of which the first three and the last three
+/// are R' U' F.
+#[tactic(auto, unfolding(crate::specs::Fewest::is_framed))]
+pub fn is_framed(scramble: &Scramble) -> bool
+    ensures { result ≡ is_framed scramble.now.turns }
+{
+    let turns = scramble.turns();
+    if turns.len() < 6 {
+        return false;
+    }
+    is_frame_at(turns, 0) && is_frame_at(turns, turns.len() - 3)
+}
+
+/// Whether the three turns from a place on are R' U' F.
+#[tactic(auto, unfolding(crate::specs::Fewest::is_frame_at))]
+fn is_frame_at(turns: &[Turn], place: usize) -> bool
+    requires { place + 3 ≤ length turns.now }
+    ensures { result ≡ is_frame_at turns.now place }
+{
+    is_turn(turns[place], 1, 3)
+        && is_turn(turns[place + 1], 0, 3)
+        && is_turn(turns[place + 2], 2, 1)
+}
+
+/// Whether a turn is that of a face alone, by this amount.
+fn is_turn(turn: Turn, face: u8, amount: u8) -> bool
+    ensures { result ≡ is_turn face amount turn }
+{
+    match turn {
+        Turn::Face {
+            face: own,
+            depth,
+            amount: times,
+        } => own == face && depth == 1 && times == amount,
+        _ => false,
+    }
+}
+
+/// The 3x3x3 for fewest moves: its states by their numbers, and the test of its minima, as those of the 3x3x3.
+#[derive(Clone, Copy)]
+pub struct DrawFewest {
+    cubes: Draw333,
+}
+
+impl DrawFewest {
+    /// The 3x3x3 for fewest moves.
+    pub fn new() -> DrawFewest {
+        DrawFewest {
+            cubes: Draw333::new(),
+        }
+    }
+}
+
+impl NumberedStates<Cube> for DrawFewest {
+    ghost numbered = { λ _. cube_numbered };
+}
+
+impl Numbering for DrawFewest {
+    type State = Cube;
+
+    fn count(&self) -> u128 {
+        self.cubes.count()
+    }
+
+    fn state_at(&self, number: u128) -> Cube {
+        self.cubes.state_at(number)
+    }
+
+    fn number_of(&self, state: &Cube) -> u128 {
+        self.cubes.number_of(state)
+    }
+}
+
+impl Permit<Cube> for DrawFewest {
+    ghost puzzle = { λ _. power_puzzle cube_powers };
+
+    ghost greatest = { λ _. 5 };
+
+    ghost needs = { λ _. needs_turns };
+
+    fn needs_at_least(&self, state: &Cube, least: u32) -> bool {
+        self.cubes.needs_at_least(state, least)
+    }
+
+    fn is_exact(&self) {
+        self.cubes.is_exact()
+    }
+}
