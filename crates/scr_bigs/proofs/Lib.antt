@@ -3,5 +3,3 @@ pub mod Listed
 pub mod TurnOrder
 pub mod MoveLaws
 pub mod BitLaws
-pub mod FollowingLaws
-pub mod OnLiterals

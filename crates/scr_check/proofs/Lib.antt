@@ -5,4 +5,3 @@ pub mod FaultLemmas
 pub mod CheckLemmas
 pub mod AheadLemmas
 pub mod ListLemmas
-pub mod LawLemmas

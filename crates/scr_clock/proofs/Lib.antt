@@ -8,4 +8,3 @@ pub mod AmountLaws
 pub mod Reached
 pub mod SideLaws
 pub mod ScrambleLaws
-pub mod OverLaws

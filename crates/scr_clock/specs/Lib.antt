@@ -4,4 +4,3 @@ pub mod Held
 pub mod Written
 pub mod Least
 pub mod Sides
-pub mod Known

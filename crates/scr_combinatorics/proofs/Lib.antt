@@ -17,7 +17,6 @@ pub mod PlayedWhere
 pub mod PowerLetterLaws
 pub mod BackLaws
 pub mod TidyLaws
-pub mod MergeLaws
 pub mod TidyPlay
 pub mod FirstWordLaws
 pub mod StageLaws

@@ -1,4 +1,3 @@
 pub mod OptionTable
 pub mod Command
 pub mod Reading
-pub mod SheetRows

@@ -6,11 +6,10 @@
 //! into the values of its options by `scr_options`, by the grammar that stands there. Numbers are read by `scr_text`,
 //! seeds by `scr_words`, events by `scr_list`. Its theorem is that of `read_command`: the command is the one of
 //! the definition, words that are none are refused for the cause that it gives, and want of memory
-//! comes only where the first word is `sheet` or `check`. `laws` has rows of the definition.
+//! comes only where the first word is `sheet` or `check`. Rows of the definition stand in `scr_laws`.
 #![tactic(auto)]
 
 mod command;
-pub mod laws;
 mod options;
 
 pub use command::{Command, CommandFault, UsageFault, read_command};

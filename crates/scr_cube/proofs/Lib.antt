@@ -4,12 +4,9 @@ pub mod OnLiterals
 pub mod Laws333
 pub mod Laws222
 pub mod CompositionLaws
-pub mod Known
-pub mod Minima
 pub mod Parity
 pub mod Holds
 pub mod HeldLaws
 pub mod HeldReach
 pub mod NumberedHeld
-pub mod WideTurns
 pub mod ListedTurns

@@ -3,6 +3,5 @@ pub mod Composition
 pub mod Cube222
 pub mod Held
 pub mod Stickers
-pub mod Symmetry
 pub mod Known
 pub mod ListedTurns

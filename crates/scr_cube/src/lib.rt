@@ -5,13 +5,13 @@
 //! (`specs/Cube333.antt`, `specs/Cube222.antt`), and all else follows by the one theory of puzzles of powers.
 //! [`corner_turns`], [`edge_turns`] and [`turns_222`] are all turns, part by part, for searches and coordinates; a
 //! wrong entry is refused. Both are turned by faces and by scrambles ([`PowerTurned`]). A cube that is held ([`Held`])
-//! is one with its six centres, which wide turns move (`specs/Held.antt`). A cube tells a turn, too, that which makes it
-//! of the solved one: so cubes can be joined, one and then another ([`Cube::then`]; `specs/Composition.antt`), and
-//! inverted ([`Cube::inverse`]). `laws` has what holds of both: that turns are lawful, that the numberings are one to
-//! one, that two words lead to the cubes of both joined, and what ties the tables to the puzzles themselves: mirror
-//! images, orders, known words and known numbers, and stickers of a cube that is held. That the tables are what turns
-//! do to stickers in space is said in `scr_net`. The crate stands on the notation of turns, on orbits, on the numbers of
-//! lists and on fair drawing.
+//! is one with its six centres, which wide turns move (`specs/Held.antt`). A cube tells a turn, too, that which makes
+//! it of the solved one: so cubes can be joined, one and then another ([`Cube::then`]; `specs/Composition.antt`), and
+//! inverted ([`Cube::inverse`]). What holds of both is said in `scr_puzzle_laws`: that turns are lawful, that the
+//! numberings are one to one, that two words lead to the cubes of both joined, and what ties the tables to the puzzles
+//! themselves, mirror images, orders, known words and known numbers, and stickers of a cube that is held. That the
+//! tables are what turns do to stickers in space is said in `scr_net_laws`. The crate stands on the notation of turns,
+//! on orbits, on the numbers of lists and on fair drawing.
 #![tactic(auto)]
 
 mod corners;

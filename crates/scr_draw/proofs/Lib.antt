@@ -1,5 +1,3 @@
-pub mod OnLiterals
-pub mod Spelled
 pub mod Counting
 pub mod Accepted
 pub mod CountedDraws

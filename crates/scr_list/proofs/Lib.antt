@@ -4,8 +4,3 @@ pub mod VersionLemmas
 pub mod RoundLemmas
 pub mod RoundFacts
 pub mod ReadLemmas
-pub mod PrintedLemmas
-pub mod OnLiterals
-pub mod FaultLemmas
-pub mod AnswerLemmas
-pub mod OnlyLemmas

@@ -6,4 +6,3 @@ pub mod Rounds
 pub mod RoundLists
 pub mod Reading
 pub mod Printed
-pub mod Faults

@@ -11,7 +11,6 @@
 mod event;
 mod fault;
 mod grammar;
-pub mod laws;
 mod name;
 mod read;
 mod round;

@@ -1,11 +1,6 @@
 pub mod StickerLaws
 pub mod NetLaws
 pub mod TurnLaws
-pub mod LettersKept
 pub mod PieceLaws
-pub mod PlayedNets
-pub mod HeldNets
-pub mod OneOrbit
-pub mod OneNet
 pub mod LayerTurns
 pub mod TextLaws

@@ -32,7 +32,8 @@ abbrev pub solved_net : ℕ → Letters
 solved_net side = net_of side (λ s. s.face)
 
 -- A quarter turn of so many layers at a face moves stickers with their letters: at each place stands the letter of the
--- sticker that the turn brings there. (That each sticker's letter is where the turn takes the sticker, `laws` says.)
+-- sticker that the turn brings there. (That each sticker's letter is where the turn takes the sticker,
+-- `stickers` of `scr_net_laws` says.)
 unfoldable pub quarter_net : ℕ → ℕ → ℕ → Letters → Letters
 quarter_net side face depth net = net_of side (λ s. letter_at side net (brought_from (side - 1) face depth s))
 

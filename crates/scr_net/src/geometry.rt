@@ -8,9 +8,9 @@ use scr_space::{Coordinate, Counted, Point, Spin};
 /// A sticker, at a point and on a face. The faces U R F D L B are 0 to 5. Of a point x counts from left to right, y from
 /// bottom to top and z from back to front, each from 0.
 #[derive(Clone, Copy)]
-pub(crate) struct Sticker {
-    pub(crate) point: Point,
-    pub(crate) face: u8,
+pub struct Sticker {
+    pub point: Point,
+    pub face: u8,
 }
 
 /// What is said of each of the faces U R F D L B.

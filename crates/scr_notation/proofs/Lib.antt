@@ -9,7 +9,6 @@ pub mod TextLaws
 pub mod ReadLaws
 pub mod MergingLaws
 pub mod OppositeLaws
-pub mod FaultLaws
 pub mod TidyingLaws
 pub mod FaceLaws
 pub mod AxisLaws

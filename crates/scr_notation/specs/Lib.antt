@@ -11,7 +11,6 @@ pub mod Turns
 pub mod TurnNumbers
 pub mod FaceLetters
 pub mod AxisLetters
-pub mod Played
 pub mod Spelling
 pub mod Written
 pub mod Candidates

@@ -6,4 +6,3 @@ pub mod Turns
 pub mod Walked
 pub mod Ordinary
 pub mod Parsed
-pub mod SpellingLaws

@@ -1,5 +1,4 @@
 pub mod OptionWords
-pub mod Spelling
 pub mod Hyphens
 pub mod Words
 pub mod OptionsCommand

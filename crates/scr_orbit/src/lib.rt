@@ -5,8 +5,9 @@
 //! A turn is told by what it makes of the solved orbit: which piece comes to each place, and what is added to its digit.
 //! So orbits are turns, too: they can be joined, one and then another, and inverted (`specs/Monoids.antt` says what
 //! holds of such states, whatever they are, and has tables of turns; `specs/LawfulTurns.antt` says what holds of such a
-//! puzzle). [`PlaceTurn`] is a turn in arrays, [`Placed`] an orbit in arrays; turning allocates nothing. `laws` says that
-//! turns keep orbits valid, what becomes of the sum of the digits and of the parity, and that two turns are one.
+//! puzzle). [`PlaceTurn`] is a turn in arrays, [`Placed`] an orbit in arrays; turning allocates nothing. That turns keep
+//! orbits valid, what becomes of the sum of the digits and of the parity, and that two turns are one, is said in
+//! `scr_laws`.
 //!
 //! A puzzle of pieces is data (`specs/PowerPuzzles.antt`): its letters, each a power of one of a few turns, what turns
 //! make of its states, and these turns. What holds of all such puzzles is one record,
@@ -15,7 +16,6 @@
 //! are turns.
 #![tactic(auto)]
 
-pub mod laws;
 mod placed;
 mod turning;
 mod validity;

@@ -5,14 +5,13 @@
 //! that never falls (`specs/Change.antt`, one word for each change). It stands on the standard library
 //! and `arrayvec` alone. Its theorem is that of `write_all` and `write_line`: the whole text was
 //! appended, or a first part of it and the count of faults rose. The adapters over the system's
-//! readers and writers are tied to these by what they say of their bytes. `laws` says what the words of
-//! the contracts refuse.
+//! readers and writers are tied to these by what they say of their bytes. What the words of the
+//! contracts refuse is said in `scr_laws`.
 #![tactic(auto)]
 
 mod calls;
 mod faults;
 mod fixed;
-pub mod laws;
 mod line;
 mod memory;
 mod sink;

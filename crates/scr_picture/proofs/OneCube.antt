@@ -18,8 +18,8 @@ use Rattle.scr_cube.proofs.Laws222.{lawful_222}
 use Rattle.scr_cube.proofs.HeldLaws.{IsHeld-after}
 use Rattle.scr_net.specs.Nets.{IsNet, Letters, cell}
 use Rattle.scr_net.specs.Pieces.{net_of_corners, net_of_cube, net_of_held}
-use Rattle.scr_net.proofs.HeldNets.{IsHeld-solved}
-use Rattle.scr_net.proofs.OneNet.{IsNet-corners, IsNet-cube, IsNet-held, one_corners, one_cube, one_held}
+use Rattle.scr_net_laws.proofs.HeldNets.{IsHeld-solved}
+use Rattle.scr_net_laws.proofs.OneNet.{IsNet-corners, IsNet-cube, IsNet-held, one_corners, one_cube, one_held}
 use Rattle.scr_picture.specs.declared.names.Alphabet.TheVariants.{Cube}
 use Rattle.scr_picture.specs.Names.{name_in}
 use Rattle.scr_picture.specs.Pictures.{row_letters, face_letters, net_letters}

@@ -11,7 +11,7 @@ use Rattle.scr_combinatorics.proofs.Picks.{length-pick, pick-at}
 use Rattle.scr_orbit.specs.Orbits.{Orbit, turned_orbit}
 use Rattle.scr_net.specs.Pieces.{piece_letter}
 use Rattle.scr_net.proofs.PieceLaws.{comes_from, passes, shown-turned}
-use Rattle.scr_net.proofs.OneOrbit.{Shows, all_own, all_tell, one_orbit, seen-by}
+use Rattle.scr_net_laws.proofs.OneOrbit.{Shows, all_own, all_tell, one_orbit, seen-by}
 use Rattle.scr_picture.specs.Pieces.{place_with, sticker_of}
 
 -- ---- after a turn

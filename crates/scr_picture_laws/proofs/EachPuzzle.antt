@@ -20,7 +20,7 @@ use Rattle.scr_tetra.proofs.SkewbLaws.{lawful_skewb}
 use Rattle.scr_tetra.proofs.PyramLaws.{lawful_pyram}
 use Rattle.scr_net.specs.Nets.{Letters, net_after, solved_net}
 use Rattle.scr_net.specs.Pieces.{net_of_corners, net_of_cube}
-use Rattle.scr_net.proofs.PlayedNets.{corners_nets, cube_nets}
+use Rattle.scr_net_laws.proofs.PlayedNets.{corners_nets, cube_nets}
 use Rattle.scr_picture.specs.Stickers.{stickers_after}
 use Rattle.scr_picture.specs.Skewb.{skewb_moves, solved_skewb_picture}
 use Rattle.scr_picture.specs.Pyraminx.{pyram_moves, solved_pyram_picture}

@@ -18,7 +18,7 @@ use Rattle.scr_cube.proofs.Holds.{at_each, of_holds}
 use Rattle.scr_cube.proofs.HeldReach.{TellsTurns-held, turned_so_often, solved-cube, solved-there, IsReached-cube, from_solved}
 use Rattle.scr_net.specs.Nets.{Letters, net_of, net_after, quarter_net, solved_net}
 use Rattle.scr_net.specs.Pieces.{cube_letter, letter_of_pieces, net_of_held}
-use Rattle.scr_net.proofs.HeldNets.{IsHeld-solved, held_nets, listed}
+use Rattle.scr_net_laws.proofs.HeldNets.{IsHeld-solved, held_nets, listed}
 use Rattle.scr_picture.specs.Pictures.{net_letters}
 use Rattle.scr_picture.proofs.OneCube.{one_held_shown}
 use Rattle.scr_picture_laws.specs.Pictured.{IsSolvedAnyWay, as_solved, turned_whole}

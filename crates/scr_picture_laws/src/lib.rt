@@ -2,11 +2,11 @@
 //! need not believe a table of pieces. A picture is what turns make of a solved puzzle by moving stickers in space
 //! (`scr_picture`, `scr_net`).
 //!
-//! `specs/Pictured.antt` says what puzzles of pictures are, and `specs/FairPictures.antt` what is promised of each event,
-//! in place of what the headline promises of its states. It holds since a picture shows a state: turns lead from picture to picture as they
-//! do from state to state, and only one state has each picture (`proofs/TwoModels.antt`, of any two models of a
-//! puzzle). So the same is reached, by as many turns, and a fair draw of states is one of pictures. No program stands on
-//! this crate.
+//! `specs/Pictured.antt` says what puzzles of pictures are, and `specs/FairPictures.antt` what is promised of each
+//! event, in place of what the headline promises of its states. It holds since a picture shows a state: turns lead from
+//! picture to picture as they do from state to state, and only one state has each picture (`proofs/TwoModels.antt`, of
+//! any two models of a puzzle). So the same is reached, by as many turns, and a fair draw of states is one of pictures.
+//! No program stands on this crate.
 #![tactic(auto)]
 
 ghost use Rattle.scr_outside.specs.Change.{change_of};

@@ -7,14 +7,13 @@
 //! A [`MoveTable`] is made of any coordinate, shows the same, and steps by one look into a list. [`Product`] puts two
 //! coordinates side by side; large tables are made over products of move tables.
 //!
-//! `laws` says that a search finds the same where a coordinate is put in place of another that shows the same
-//! (`specs/SearchSpaces.antt`). Over any states these are lemmas, for a puzzle's crate to state: `proofs/SearchLaws.antt`
-//! (views, one after another) and `proofs/ProductLaws.antt` (two views side by side). Coordinates that see an orbit's lists
-//! stand in `scr_coord`.
+//! A search finds the same where a coordinate is put in place of another that shows the same
+//! (`specs/SearchSpaces.antt`), as `scr_laws` states. Over any states these are lemmas, for a puzzle's crate to state:
+//! `proofs/SearchLaws.antt` (views, one after another) and `proofs/ProductLaws.antt` (two views side by side).
+//! Coordinates that see an orbit's lists stand in `scr_coord`.
 #![tactic(auto)]
 
 mod coordinate;
-pub mod laws;
 mod move_table;
 mod product;
 

@@ -9,6 +9,7 @@ use scr_small::{
     Small222, SmallPyram, SmallSkewb, SmallTables, laws, needs_222, needs_pyram, needs_skewb,
     scramble_222, scramble_pyram, scramble_skewb,
 };
+use scr_solver_laws::small as solver_laws;
 use scr_table::TableName;
 use scr_tetra::{PyramNumbers, Pyraminx, Skewb, SkewbNumbers, TetraminxNumbers};
 use scr_words::{ChaChaWords, ListWords, Seed, Words};
@@ -188,7 +189,7 @@ fn draws_of_222(rt: HostRuntime) -> Result<(), Fail> {
     expect_listed(&rt, &cube, &AFTER_U, 4, 1, None);
     expect_listed(&rt, &cube, &NO_WORDS, 1, 5, None);
     expect_listed(&rt, &cube, &NO_WORDS, 0, 1, Some(0));
-    laws::measured::<Numbers222>();
+    solver_laws::measured::<Numbers222>();
     laws::reached_by_table::<Numbers222>(&tables);
     draw_laws::drawn_fairly(&cube);
     Ok(())
@@ -208,7 +209,7 @@ fn scrambles_of_pyram(rt: HostRuntime) -> Result<(), Fail> {
         print(&pyraminx.scramble(&PyramNumbers.state_at(55))).as_str(),
         "u b'"
     );
-    laws::shown_by_parts::<TetraminxNumbers>();
+    solver_laws::shown_by_parts::<TetraminxNumbers>();
     laws::pyram_reached_by_table(&tables);
     draw_laws::drawn_fairly(&pyraminx);
     Ok(())
@@ -228,6 +229,6 @@ fn scrambles_of_skewb(rt: HostRuntime) -> Result<(), Fail> {
         print(&skewb.scramble(&SkewbNumbers.state_at(9423))).as_str(),
         "B"
     );
-    laws::shown_by_parts::<SkewbNumbers>();
+    solver_laws::shown_by_parts::<SkewbNumbers>();
     Ok(())
 }

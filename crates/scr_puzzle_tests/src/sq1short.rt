@@ -3,8 +3,7 @@
 use scr_draw::Numbering;
 use scr_notation::{Turn, print};
 use scr_sq1::{Sq1, Sq1Numbers};
-use scr_sq1short::scramble_sq1_short;
-use scr_sq1solve::Sq1Tables;
+use scr_sq1solve::{Sq1Tables, scramble_sq1_short};
 use std::test::Fail;
 
 /// Numbers of states, how many words are looked at, and how many twists the scramble may have: solved; solved but for

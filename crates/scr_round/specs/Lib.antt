@@ -1,4 +1,3 @@
 pub mod Round
-pub mod Rows
 pub mod SheetLine
 pub mod Made

@@ -5,7 +5,7 @@ use Rattle.scr_outside.specs.Bytes.{put_back, IsSpent}
 use Rattle.scr_outside.specs.Change.{Change}
 use Rattle.scr_check.specs.Lines.{cut_lines}
 use Rattle.scr_check.specs.Parts.{sheet_part}
-use Rattle.scr_check.proofs.LawLemmas.{one-answer}
+use Rattle.scr_text_laws.proofs.CheckLemmas.{one-answer}
 use Rattle.arrayvec.specs.ArrayVec.{ArrayVec}
 use Rattle.scr_list.specs.declared.fault.ListFault.{ListFault}
 use Rattle.scr_list.specs.declared.round.Round.{Round}

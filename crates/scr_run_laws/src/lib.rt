@@ -1,5 +1,5 @@
 //! What holds of sheets and of runs whatever the code: calls that do nothing, whose contracts are laws about the
-//! definitions of `scr_sheet` alone.
+//! definitions of `scr_sheet` alone; in [`slots`] about those of `scr_slots`.
 //!
 //! A list has one sheet, and a run that nothing hinders ends with the whole of it; what each status tells of its cause;
 //! that want of memory tells nothing of what is drawn; and that the program's own sheet agrees. No program stands on
@@ -48,9 +48,9 @@ ghost use Rattle.scr_list.specs.Rounds.{rounds_of};
 ghost use Rattle.scr_sheet.specs.Check.{check_settings};
 ghost use Rattle.scr_sheet.specs.Sheet.{settings_of};
 
-use scr_check::laws as check_laws;
-use scr_list::laws as list_laws;
-use scr_slots::laws as slot_laws;
+use scr_text_laws::{check, list};
+
+pub mod slots;
 
 /// A list has one sheet, and an event one line of `one`, and one of `net` with its net: made with the same settings,
 /// two are the same.
@@ -61,7 +61,7 @@ pub fn one_sheet()
         → IsText (IsPartText settings) (single_part event side ∷ []) text
         → IsText (IsPartText settings) (single_part event side ∷ []) other → text ≡ other }
 {
-    slot_laws::one_answer();
+    slots::one_answer();
 }
 
 /// Which runs must end with all that they are to write: those whose words are a command, where the source of a sheet
@@ -73,8 +73,8 @@ pub fn completeness()
     ensures limit { (words : List (List ℕ)) (outcome : Status) (source out err : Change) (settings : Settings) (parts : List Part)
         → IsUnhindered words outcome source out err settings parts → LacksScramble settings parts → EndsWith outcome DrawLimit }
 {
-    slot_laws::one_answer();
-    list_laws::lists_that_were_read();
+    slots::one_answer();
+    list::lists_that_were_read();
 }
 
 /// What a check of an input ends with whose source tells its bytes, where neither input nor output fails: the status of
@@ -166,6 +166,6 @@ pub fn own_sheet_agrees()
         → let input = list ++ (separator ++ 10 ∷ text) in
         InputComesTo (check_settings seed options.attempts) (rounds_in input) input (Ok tt) }
 {
-    check_laws::parts_are_read_back();
-    slot_laws::one_answer();
+    check::parts_are_read_back();
+    slots::one_answer();
 }

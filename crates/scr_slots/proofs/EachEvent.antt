@@ -34,7 +34,7 @@ use Rattle.scr_tetra.proofs.NumberedPyram.{pyram_numbering}
 use Rattle.scr_tetra.proofs.NumberedSkewb.{skewb_numbering}
 use Rattle.scr_sq1.specs.Numbers.{sq1_numbered}
 use Rattle.scr_sq1.proofs.Numbering.{sq1_numbering}
-use Rattle.scr_sq1short.proofs.ShortestLaws.{IsShortScramble-unique}
+use Rattle.scr_sq1solve.proofs.ShortestLaws.{IsShortScramble-unique}
 use Rattle.scr_slots.specs.declared.settings.Effort.{Effort}
 use Rattle.scr_slots.specs.Promised.{DrawnPuzzle, RandomMoves, Promised, States, Moves}
 use Rattle.scr_slots.specs.Slots.{Scrambling, ByState, ByMoves, IsDrawnFairly}

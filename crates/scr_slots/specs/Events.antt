@@ -22,7 +22,7 @@ use Rattle.scr_tetra.specs.Skewb.{SkewbState, skewb_numbers, skewb_powers}
 use Rattle.scr_small.specs.Puzzles.{IsScramble222, IsScramblePyram, IsScrambleSkewb}
 use Rattle.scr_sq1.specs.Units.{Sq1State, solved_sq1, sq1_after, sq1_puzzle}
 use Rattle.scr_sq1.specs.Numbers.{sq1_numbers}
-use Rattle.scr_sq1short.specs.ShortScrambles.{IsShortScramble}
+use Rattle.scr_sq1solve.specs.ShortScrambles.{IsShortScramble}
 use Rattle.scr_sq1solve.specs.Counts.{IsWithinBounds}
 use Rattle.scr_clock.specs.Dials.{solved, clock_puzzle}
 use Rattle.scr_clock.specs.Numbers.{clock_numbers}

@@ -10,8 +10,8 @@
 //! the answer of a slot ([`slot_answer`]), whether a text agrees with it ([`slot_agrees`]), and whether an event is
 //! drawn fairly. Each has one body for all events whose states are drawn and one for all of random moves, proved once;
 //! `ask` puts it to an event, and is the one place in code that tells by puzzle who answers. The contracts say that the
-//! answer is exactly the one that the definitions give: a scramble, or that there is none; `laws` say that a slot has
-//! one answer, and that no two slots of a list share a stream.
+//! answer is exactly the one that the definitions give: a scramble, or that there is none. No two slots of a list
+//! share a stream ([`laws::no_shared_stream`]), and a slot has one answer (`scr_run_laws`).
 #![tactic(auto)]
 
 mod agreement;

@@ -17,7 +17,7 @@ ghost use Rattle.scr_sq1.specs.Units.{solved_sq1, sq1_after};
 ghost use Rattle.scr_sq1solve.specs.Counts.{IsWithinBounds};
 ghost use Rattle.scr_clock.specs.Written.{IsClockScramble};
 ghost use Rattle.scr_small.specs.Puzzles.{IsScramble222, IsScramblePyram, IsScrambleSkewb};
-ghost use Rattle.scr_sq1short.specs.ShortScrambles.{IsShortScramble};
+ghost use Rattle.scr_sq1solve.specs.ShortScrambles.{IsShortScramble};
 ghost use Rattle.scr_twophase.specs.Fewest.{IsScrambleFewest};
 ghost use Rattle.scr_twophase.specs.HeldScramble.{IsScramble333bf};
 ghost use Rattle.scr_twophase.specs.TwoParts.{IsScramble333};
@@ -31,8 +31,7 @@ use scr_cube::{Corners222, Cube, Held, Numbers222, PowerTurned, laws as cubes};
 use scr_notation::Scramble;
 use scr_small::{Small222, SmallPyram, SmallSkewb, SmallTables, laws as small};
 use scr_sq1::Sq1;
-use scr_sq1short::scramble_sq1_short;
-use scr_sq1solve::{DrawSq1, Sq1Tables, laws as square};
+use scr_sq1solve::{DrawSq1, Sq1Tables, laws as square, scramble_sq1_short};
 use scr_stages::laws as stages;
 use scr_tetra::{Pyraminx, Skewb, SkewbNumbers};
 use scr_twophase::{

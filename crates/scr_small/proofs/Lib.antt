@@ -10,5 +10,4 @@ pub mod PyramLaws
 pub mod WalkedWords
 pub mod ShownByParts
 pub mod BuiltTables
-pub mod OnLiterals
 pub mod StateTables

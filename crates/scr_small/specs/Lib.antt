@@ -6,4 +6,3 @@ pub mod StateParts
 pub mod Puzzles
 pub mod Tables
 pub mod SolvedByTable
-pub mod Rows

@@ -4,16 +4,16 @@
 //! turns, the coordinate of the states' numbers, and the scramble of a state, which is the first word that solves it,
 //! taken back. `specs/Puzzles.antt` has the puzzles' data, and `specs/Tables.antt` that of their tables.
 //!
-//! What a table tells that measures the coordinate, the module `laws` says of any such puzzle: its valid states are
-//! those that turns reach, a state needs as many turns as its distance, and each has one scramble, which leads to it
-//! from solved. The table of the Pyraminx is over its states without tips; the laws say what it tells of those with
-//! tips.
+//! What a table tells that measures the coordinate is proved of any such puzzle: its valid states are those that turns
+//! reach ([`laws::reached_by_table`]), a state needs as many turns as its distance, and each has one scramble, which
+//! leads to it from solved. The table of the Pyraminx is over its states without tips, and tells of those with tips,
+//! too. `scr_solver_laws` states the rest.
 //!
 //! A state is two parts that turns move each by itself (`specs/StateParts.antt`), so that a table is filled over two
 //! move tables side by side. [`OneTable`] is what a puzzle gives beside its numbering and its turns, with these laws.
 //! [`SmallTables`] is the built table of an event; [`scramble_222`], [`scramble_pyram`], [`scramble_skewb`] and the
 //! tests of minima walk and read it. [`Small222`], [`SmallPyram`] and [`SmallSkewb`] are the events that fair drawing
-//! takes: a puzzle with its built tables. [`laws::reached_by_table`] says of them that turns reach what is numbered.
+//! takes: a puzzle with its built tables.
 #![tactic(auto)]
 
 pub mod laws;

@@ -4,11 +4,9 @@ use Rattle.scr_combinatorics.proofs.Numberings.{only_one}
 use Rattle.scr_combinatorics.proofs.PermutationLaws.{All-permutation}
 use Rattle.scr_combinatorics.proofs.PlayLaws.{play-empty}
 use Rattle.scr_combinatorics.proofs.StepLaws.{play-barred, play-more, play-whole}
-use Rattle.scr_sq1.proofs.Barred.{barred-iff}
 use Rattle.scr_sq1.proofs.HalfNumbers.{length-corner_counts, shapes_one_to_one, total-more, ways_after-few, ways_after-many}
 use Rattle.scr_sq1.proofs.Lawful.{IsSq1-solved, IsSq1-turned, after_layers-closed, after_layers-open, units_turned}
 use Rattle.scr_sq1.proofs.LayersApart.{of_one_corner-turned}
-use Rattle.scr_sq1.proofs.Motions.{bottom_moved, equator_kept, left_kept, moved_to_bottom, moved_to_top, top_moved}
 use Rattle.scr_sq1.proofs.PieceSteps.{IsKnownWord-below, corners_end, corners_first, corners_room, corners_same, corners_second, corners_start, edges_end, edges_more, edges_room, edges_same, edges_start, piece_more, put_end, put_more, put_room, put_start}
 use Rattle.scr_sq1.proofs.Places.{IsTurnTable-turn, place_before-lt}
 use Rattle.scr_sq1.proofs.ShapeSteps.{corner_bits-drop, corner_bits-lt, corners_table-listed, counted_at, counted_corners, counted_next, counted_start, counted_whole, made_at, made_end, made_next, made_start, read_end, read_next, read_start, run_of-end, run_of-found, run_of-next, ways_table}
@@ -16,8 +14,6 @@ use Rattle.scr_sq1.proofs.StatePieces.{AreCounted-halves, LaidState-pieces}
 use Rattle.scr_sq1.proofs.TurnLaws.{IsSq1-twisted}
 use Rattle.std.proofs.lemmas.Int.{to_z-of_z}
 use Rattle.std.proofs.lemmas.List.{length-set, take_all}
-
-pub ruleset played_where_none_is_barred = (barred-iff)
 
 pub ruleset with_half = (length-set, take_all, counted_corners, IsKnownWord-below, piece_more)
 
@@ -46,8 +42,6 @@ pub ruleset turned = (All-permutation, IsTurnTable-turn)
 pub ruleset come_of_one_corner = (place_before-lt, of_one_corner-turned)
 
 pub ruleset count = (occurrences-le_length)
-
-pub ruleset motions = (top_moved, bottom_moved, equator_kept, moved_to_bottom, moved_to_top, left_kept)
 
 pub ruleset corners_in = (corners_start, corners_room, corners_first, corners_second, corners_same, corners_end)
 

@@ -10,11 +10,6 @@ pub mod TurnLaws
 pub mod Clockwise
 pub mod Lawful
 pub mod LayersApart
-mod Barred
-mod Motions
-mod Minima
-mod TurnedOver
-pub mod OnLiterals
 mod Steps
 mod ShapeSteps
 mod PieceSteps

@@ -1,5 +1,3 @@
 pub mod Units
 pub mod Shapes
 pub mod Numbers
-pub mod Known
-pub mod Barred

@@ -5,14 +5,13 @@
 //! layers moves units, and is barred where a corner would lie across the cut; [`Sq1::twist`] is never barred, since no
 //! state of the type has a corner there. A [`Shape`] says where corners and edges lie, as the numbers of its four
 //! halves (`specs/Shapes.antt`); with the corners and the edges in unit order it tells the state, and numbers it
-//! (`specs/Numbers.antt`). The module `laws` has what holds: that turns are lawful, that the numberings are one to one,
-//! and what words that are known from elsewhere lead to.
+//! (`specs/Numbers.antt`). `scr_puzzle_laws` says what holds: that turns are lawful, that the numberings are one to
+//! one, and what words that are known from elsewhere lead to.
 //!
 //! No call allocates; `turn` and `twist` touch arrays of 24 bytes alone. The crate stands on the notation of turns, on
 //! the numbers of lists and on fair drawing.
 #![tactic(auto)]
 
-pub mod laws;
 mod numbers;
 mod pieces;
 mod shapes;

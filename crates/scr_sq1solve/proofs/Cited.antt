@@ -3,23 +3,20 @@ use Rattle.scr_combinatorics.proofs.PermutationLaws.{All-permutation, IsPermutat
 use Rattle.scr_combinatorics.proofs.PermutationNumbers.{permutation_number-lt}
 use Rattle.scr_combinatorics.proofs.Picks.{All-pick, length-pick}
 use Rattle.scr_combinatorics.proofs.PlayLaws.{count_in-append}
-use Rattle.scr_combinatorics.proofs.StageLaws.{by_letters-played, play-stage_word}
+use Rattle.scr_combinatorics.proofs.StageLaws.{by_letters-played}
 use Rattle.scr_notation.proofs.Below.{All-from_test}
 use Rattle.scr_orbit.proofs.OrbitLaws.{places_in}
 use Rattle.scr_positions.proofs.MoveLaws.{each_below-at, each_below-more, each_below-none, length-each_below}
 use Rattle.scr_sq1solve.proofs.Codes.{IsPairing-carried, StaysBelow-code_lists, codes_one_to_one, larger-lt, pair-lt, pieces-are, turned-lt}
-use Rattle.scr_sq1solve.proofs.Lengths.{IsTidy-sq1, home-high, home-low, layers-permitted-by, layers-written, length-tidy, pairing-high, pairing-low, shape-steps, still-written, turn_word-same, twists-tidy}
-use Rattle.scr_sq1solve.proofs.MinimaLaws.{NeedsTurns-iff, after-number, after-twist, needs_test-iff}
+use Rattle.scr_sq1solve.proofs.Lengths.{IsTidy-sq1, layers-permitted-by, layers-written, length-tidy, still-written, turn_word-same, twists-tidy}
+use Rattle.scr_sq1solve.proofs.MinimaLaws.{after-number, after-twist, needs_test-iff}
 use Rattle.scr_sq1solve.proofs.PairingStage.{StaysBelow-pairing_lists}
-use Rattle.scr_sq1solve.proofs.ShapeStage.{StaysBelow-parts, StaysBelow-shapes, after-amounts, layers-index, letter-index, part-made, part-seen, parts-below, play-bottom, play-top, play-twist, read-amount, squaring-tested, state-of_index, still-index, still-parts}
-use Rattle.scr_sq1solve.proofs.StateTables.{AreLinesOf-sq1}
-use Rattle.std.proofs.lemmas.Bool.{false≢true, le-ltb, lt-ltb, ne_eqb}
+use Rattle.scr_sq1solve.proofs.ShapeStage.{StaysBelow-parts, StaysBelow-shapes, after-amounts, layers-index, letter-index, part-made, part-seen, parts-below, state-of_index, still-index, still-parts}
+use Rattle.std.proofs.lemmas.Bool.{false≢true}
 use Rattle.std.proofs.lemmas.Int.{ints, to_z-of_z}
 use Rattle.std.proofs.lemmas.List.{ext_get_or, get_or-map, get_or_read, length-map}
 use Rattle.std.proofs.lemmas.List.Elements.{All-weaker}
 use Rattle.std.proofs.lemmas.Nat.{mod_below}
-
-pub ruleset told_by_states = (AreLinesOf-sq1)
 
 pub ruleset exact_draw = (needs_test-iff)
 

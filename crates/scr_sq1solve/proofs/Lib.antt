@@ -7,7 +7,8 @@ mod Renamed
 mod Indexed
 mod ShapeStage
 mod PairingStage
-mod HomeStage
+pub mod HomeStage
 pub mod Lengths
 pub mod StateTables
 pub mod Cited
+pub mod ShortestLaws

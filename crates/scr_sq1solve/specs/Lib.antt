@@ -9,3 +9,4 @@ pub mod Placed
 pub mod Minima
 pub mod Totals
 pub mod SearchTables
+pub mod ShortScrambles

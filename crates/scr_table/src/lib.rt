@@ -9,15 +9,14 @@
 //! such a test as a definition, by which puzzles say what theirs answers. Why a table isn't built, and why tables that
 //! are built one after another are not, stands in `specs/Causes.antt`: the first gap of the first table that has one.
 //! `specs/SearchTables.antt` says the same by the states of a puzzle, of which a position is a number, and
-//! `specs/TableStates.antt` when both are one. The contracts of the module `laws` say what callers need of distances,
-//! first words and causes, and that the minima of a set of moves are those of a puzzle.
+//! `specs/TableStates.antt` when both are one. What holds of distances, first words,
+//! causes and minima is said in `scr_laws`.
 #![tactic(auto)]
 
 mod blocks;
 mod entries;
 mod fault;
 mod fill;
-pub mod laws;
 mod levels;
 mod line_table;
 mod moves;

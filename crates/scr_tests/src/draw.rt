@@ -2,7 +2,8 @@ ghost use Rattle.std.specs.Prelude.{ℕ, ◌<◌, ◌↔◌, nat_le};
 ghost use Rattle.scr_combinatorics.specs.Reach.{IsReached};
 ghost use Rattle.scr_draw.specs.Row.{row_puzzle};
 
-use scr_draw::{DrawLimit, NumberedStates, Numbering, Permit, attempt, draw, laws};
+use scr_draw::{DrawLimit, NumberedStates, Numbering, Permit, attempt, draw};
+use scr_laws::draw as laws;
 use scr_words::{ChaChaWords, ListWords, Seed, Words};
 
 /// As many states as a 2x2x2 has, each shown by its number, which is also how many turns it needs.
@@ -114,6 +115,6 @@ fn draws_of_a_stream(rt: HostRuntime) {
     laws::each_equally(&Row);
     laws::same_ways(&Row, 2);
     is_reached();
-    laws::drawn_fairly(&Row);
+    scr_draw::laws::drawn_fairly(&Row);
     laws::first_hit(&Row, 2);
 }

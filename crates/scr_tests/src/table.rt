@@ -3,8 +3,9 @@ ghost use Rattle.scr_table.specs.Distances.{Measures};
 ghost use Rattle.scr_table.specs.Row.{row_coordinate};
 
 use arrayvec::ArrayVec;
+use scr_laws::table as laws;
 use scr_positions::Coord;
-use scr_table::{BuildFault, DistanceTable, Moves, TableName, laws, no_shorter, table_named};
+use scr_table::{BuildFault, DistanceTable, Moves, TableName, no_shorter, table_named};
 use std::alloc::Global;
 use std::process::Abort;
 use std::thread::Threads;

@@ -4,10 +4,8 @@ mod EvenTurned
 pub mod SkewbLaws
 pub mod SkewbDigits
 pub mod SkewbOnLiterals
-pub mod SkewbKnown
 pub mod PyramLaws
 pub mod PyramTurns
 pub mod PyramLiterals
-pub mod PyramKnown
 pub mod PyramWords
 pub mod PyramTips

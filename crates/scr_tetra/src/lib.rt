@@ -6,18 +6,16 @@
 //! puzzle is the table of its thirds over them (`specs/Pyraminx.antt`, `specs/Skewb.antt`), and all else follows by the
 //! one theory of puzzles of powers. [`edge_turns`], [`axial_turns`], [`four_turns`], [`three_turns`] and
 //! [`centre_turns`] are what all large turns make of each part, for searches and coordinates; a wrong entry is refused.
-//! They are turned by axes and by scrambles ([`PowerTurned`]). `pyram_laws` and `skewb_laws` have what holds: that turns
-//! are lawful, that the numberings are one to one, and what ties the tables to the puzzles themselves. The crate stands
-//! on the notation of turns, on orbits, on the numbers of lists and on fair drawing.
+//! They are turned by axes and by scrambles ([`PowerTurned`]). `scr_puzzle_laws` says what holds: that turns are
+//! lawful, that the numberings are one to one, and what ties the tables to the puzzles themselves. The crate stands on
+//! the notation of turns, on orbits, on the numbers of lists and on fair drawing.
 #![tactic(auto)]
 
-pub mod pyram_laws;
 mod pyram_numbers;
 mod pyram_tables;
 mod pyram_turned;
 mod pyraminx;
 mod skewb;
-pub mod skewb_laws;
 mod skewb_numbers;
 mod skewb_tables;
 mod skewb_turned;

@@ -2,11 +2,10 @@
 //!
 //! Round lists, commands, sheets and messages write numbers in one way, as decimal digits, and lists are
 //! made of lines and words. The definitions stand in `specs/`; the crate stands on the standard library
-//! and `arrayvec`, and takes no memory. Its theorems are in `laws`: each number has one text, which is
-//! read back as that number; lines and words that are written one after another are read back.
+//! and `arrayvec`, and takes no memory. Its theorems are laws of `scr_laws`: each number has one text,
+//! which is read back as that number; lines and words that are written one after another are read back.
 #![tactic(auto)]
 
-pub mod laws;
 mod lines;
 mod number;
 

@@ -9,7 +9,7 @@
 //!
 //! The 3x3x3 as it is held ([`scramble_333bf`], [`DrawHeld`]) and for fewest moves ([`scramble_333fm`],
 //! [`DrawFewest`]) are scrambled by the scramble of the cube that the word of the hold, or the two frames R' U' F,
-//! leave of a state; `laws` says of frames what is known of them.
+//! leave of a state; what is known of frames is said in `scr_solver_laws`.
 //!
 //! Both parts are found by the search of `scr_search`, which comes to what the lists have and counts each first part
 //! once. [`PruneTables`] hold what it goes by: for each part two tables, each of one of its coordinates beside that of
@@ -21,7 +21,6 @@ mod draw;
 mod fewest;
 mod first;
 mod held;
-pub mod laws;
 mod needs;
 mod ready;
 mod scramble;

@@ -1,9 +1,10 @@
 //! A competition's own file, in the WCA's interchange format (WCIF): the round list that it holds.
 //!
 //! The file is a JSON value, as the kit's crate `json` defines and reads it. What rounds it names is a definition of
-//! its own, a function of that value (`specs/FileRounds.antt`); the list is that of `scr_list`, whose law says that
-//! it is read back. The theorem is that of `run`, at [`Wcif`]: whatever the source and the sinks do, the list that was written names
-//! exactly the rounds of the file, or there is a cause why none was written, and it is told.
+//! its own, a function of that value (`specs/FileRounds.antt`); the list is that of `scr_list`, of which a law of
+//! `scr_text_laws` says that it is read back. The theorem is that of `run`, at [`Wcif`]: whatever the source and the
+//! sinks do, the list that was written names exactly the rounds of the file, or there is a cause why none was written,
+//! and it is told.
 #![tactic(auto)]
 
 mod adding;

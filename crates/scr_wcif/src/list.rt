@@ -11,8 +11,9 @@ ghost use Rattle.scr_wcif.specs.Listed.{HasUsual, listed_round, listed_rounds, l
 
 use crate::adding::add;
 use crate::round::FileRound;
-use scr_list::{Round, laws};
+use scr_list::Round;
 use scr_text::decimal;
+use scr_text_laws::list;
 use std::alloc::{AllocError, Global};
 
 /// The list of these rounds: those of them whose events the program has.
@@ -77,7 +78,7 @@ fn list_text(alloc: Global, rounds: &[Round]) -> Result<String, AllocError>
     ensures written { IfOk result (λ text. string_bytes text ≡ text_of_rounds version_2 without_minima rounds.now) }
     ensures read_back { IfOk result (λ text. rounds_of (string_bytes text) ≡ Ok rounds.now) }
 {
-    laws::reads_back(rounds);
+    list::reads_back(rounds);
     let mut text = String::from_str(alloc, "version 2\n")?;
     push_lines(rounds, &mut text)?;
     Ok(text)

@@ -1,4 +1,3 @@
 pub mod Seed
 pub mod Stream
-pub mod Runs
 pub mod Taken

@@ -1,4 +1,4 @@
-use Rattle.std.proofs.Common.{◌≡◌, ℕ, [], get_or, ap, ◌∙◌}
+use Rattle.std.proofs.Common.{ℕ, [], get_or, ap, ◌∙◌}
 use Rattle.scr_space.specs.declared.spin.Point.{Point}
 use Rattle.scr_space.specs.Spins.{rotated}
 use Rattle.scr_net.specs.declared.geometry.Sticker.{Sticker}

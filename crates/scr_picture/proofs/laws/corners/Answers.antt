@@ -9,7 +9,7 @@ use Rattle.scr_notation.specs.declared.event.Event.TheVariants.{C222}
 use Rattle.scr_notation.specs.declared.turn.Turn.{Turn}
 use Rattle.scr_cube.specs.Cube222.{powers_222, solved_222}
 use Rattle.scr_net.specs.Pieces.{net_of_corners}
-use Rattle.scr_net.proofs.PlayedNets.{corners_nets}
+use Rattle.scr_net_laws.proofs.PlayedNets.{corners_nets}
 use Rattle.scr_picture.specs.Pictures.{net_letters, picture_of}
 use Rattle.scr_picture.proofs.OneCube.{one_corners_shown}
 use Rattle.scr_picture.proofs.laws.corners.Goals as goal

@@ -11,7 +11,7 @@ use Rattle.scr_notation.specs.Event.{puzzle_of}
 use Rattle.scr_notation.specs.declared.turn.Turn.{Turn}
 use Rattle.scr_cube.specs.Cube333.{CubeState, cube_powers, solved_cube}
 use Rattle.scr_net.specs.Pieces.{net_of_cube}
-use Rattle.scr_net.proofs.PlayedNets.{cube_nets}
+use Rattle.scr_net_laws.proofs.PlayedNets.{cube_nets}
 use Rattle.scr_picture.specs.Pictures.{net_letters, net_picture, picture, picture_of}
 use Rattle.scr_picture.proofs.OneCube.{one_cube_shown}
 use Rattle.scr_picture.proofs.laws.cube.Goals as goal

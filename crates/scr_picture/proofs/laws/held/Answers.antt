@@ -7,7 +7,7 @@ use Rattle.scr_notation.specs.declared.event.Event.TheVariants.{Bf333}
 use Rattle.scr_notation.specs.declared.turn.Turn.{Turn}
 use Rattle.scr_cube.specs.Held.{HeldState, held_cube_after, solved_held}
 use Rattle.scr_net.specs.Pieces.{net_of_held}
-use Rattle.scr_net.proofs.HeldNets.{held_nets}
+use Rattle.scr_net_laws.proofs.HeldNets.{held_nets}
 use Rattle.scr_picture.specs.Pictures.{net_letters, picture_of}
 use Rattle.scr_picture.proofs.OneCube.{one_held_shown}
 use Rattle.scr_picture.proofs.laws.held.Goals as goal

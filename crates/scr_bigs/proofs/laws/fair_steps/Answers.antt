@@ -1,9 +1,0 @@
-use Rattle.scr_bigs.proofs.TurnOrder.{fair-turns}
-use Rattle.scr_bigs.proofs.BitLaws.{fair-bits}
-use Rattle.scr_bigs.proofs.laws.fair_steps.Goals as goal
-
-pub returns-clause-cubes : goal.returns-clause-cubes
-returns-clause-cubes c = fair-turns
-
-pub returns-clause-bits : goal.returns-clause-bits
-returns-clause-bits c = fair-bits

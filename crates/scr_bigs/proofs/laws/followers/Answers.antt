@@ -1,5 +1,0 @@
-use Rattle.scr_bigs.proofs.TurnOrder.{follow-tells}
-use Rattle.scr_bigs.proofs.laws.followers.Goals as goal
-
-pub returns : goal.returns
-returns c = follow-tells

@@ -1,5 +1,0 @@
-use Rattle.scr_bigs.proofs.BitLaws.{last-turn}
-use Rattle.scr_bigs.proofs.laws.last_turns.Goals as goal
-
-pub returns : goal.returns
-returns c = last-turn

@@ -1,5 +1,0 @@
-use Rattle.scr_clock.proofs.OverLaws.{turned_over-turned}
-use Rattle.scr_clock.proofs.laws.pins_by_symmetry.Goals as goal
-
-pub returns-clause-turned_over : goal.returns-clause-turned_over
-returns-clause-turned_over c = turned_over-turned

@@ -1,5 +1,0 @@
-use Rattle.scr_clock.proofs.ScrambleLaws.{defined-iff}
-use Rattle.scr_clock.proofs.laws.played_where_all_are_turns.Goals as goal
-
-pub returns : goal.returns
-returns c = defined-iff

@@ -1,5 +1,0 @@
-use Rattle.scr_clock.proofs.DialTurns.{turned_swap}
-use Rattle.scr_clock.proofs.laws.turns_commute.Goals as goal
-
-pub returns : goal.returns
-returns c = turned_swap

@@ -1,7 +1,0 @@
-use Rattle.std.proofs.Common.{refl}
-use Rattle.scr_orbit.specs.Orbits.{added_digits}
-use Rattle.scr_coord.proofs.laws.rows.Goals as goal
-
-pub returns-clause-digits : goal.returns-clause-digits
-unfolding added_digits
-returns-clause-digits c = refl

@@ -1,6 +1,0 @@
-use Rattle.scr_cube.proofs.HeldLaws.{IsLawful-held, played-faces}
-use Rattle.scr_cube.proofs.HeldReach.{held_taken_back, held_kept_by_tidy}
-use Rattle.scr_cube.proofs.laws.held_turns.Goals as goal
-
-pub returns : goal.returns
-returns c = record { lawful = IsLawful-held; taken_back = held_taken_back; tidied = held_kept_by_tidy; faces = played-faces }

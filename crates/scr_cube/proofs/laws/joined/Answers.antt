@@ -1,5 +1,0 @@
-use Rattle.scr_cube.proofs.CompositionLaws.{words_joined}
-use Rattle.scr_cube.proofs.laws.joined.Goals as goal
-
-pub returns : goal.returns
-returns c = words_joined c.args.v.now c.args.w.now c.requires.first c.requires.second

@@ -1,6 +1,0 @@
-use Rattle.scr_cube.proofs.Laws333.{lawful_cube}
-use Rattle.scr_cube.proofs.Laws222.{lawful_222}
-use Rattle.scr_cube.proofs.laws.turns.Goals as goal
-
-pub returns : goal.returns
-returns c = record { cube = lawful_cube; corners = lawful_222 }

@@ -1,5 +1,0 @@
-use Rattle.scr_draw.proofs.Spelled.{words_one_to_one}
-use Rattle.scr_draw.proofs.laws.each_number_once.Goals as goal
-
-pub returns : goal.returns
-returns c = words_one_to_one

@@ -1,0 +1,4 @@
+pub mod DrawOnLiterals
+pub mod Spelled
+pub mod SpellingLaws
+pub mod WordsOnLiterals

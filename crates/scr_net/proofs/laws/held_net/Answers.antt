@@ -1,5 +1,0 @@
-use Rattle.scr_net.proofs.HeldNets.{held_nets}
-use Rattle.scr_net.proofs.laws.held_net.Goals as goal
-
-pub returns : goal.returns
-returns c = held_nets c.args.scramble.now.turns c.requires

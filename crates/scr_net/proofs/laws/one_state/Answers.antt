@@ -1,5 +1,0 @@
-use Rattle.scr_net.proofs.OneNet.{one_corners, one_cube, one_held}
-use Rattle.scr_net.proofs.laws.one_state.Goals as goal
-
-pub returns : goal.returns
-returns c = record { cube = one_cube; held = one_held; corners = one_corners }

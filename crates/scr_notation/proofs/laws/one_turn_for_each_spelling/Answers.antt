@@ -1,5 +1,0 @@
-use Rattle.scr_notation.proofs.SpellingLaws.{one_spelling}
-use Rattle.scr_notation.proofs.laws.one_turn_for_each_spelling.Goals as goal
-
-pub returns : goal.returns
-returns c = one_spelling

@@ -1,0 +1,16 @@
+pub mod Barred
+pub mod BigsOnLiterals
+pub mod CubeKnown
+pub mod CubeMinima
+pub mod FaultLaws
+pub mod FollowingLaws
+pub mod MergeLaws
+pub mod Motions
+pub mod OverLaws
+pub mod PyramKnown
+pub mod SkewbKnown
+pub mod Sq1Cited
+pub mod Sq1Minima
+pub mod Sq1OnLiterals
+pub mod TurnedOver
+pub mod WideTurns

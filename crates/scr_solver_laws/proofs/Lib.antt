@@ -1,0 +1,2 @@
+pub mod SmallOnLiterals
+pub mod Sq1Cited

@@ -1,5 +1,0 @@
-use Rattle.scr_space.proofs.SpinLaws.{carried-exchange}
-use Rattle.scr_space.proofs.laws.exchanges.Goals as goal
-
-pub returns : goal.returns
-returns c = carried-exchange

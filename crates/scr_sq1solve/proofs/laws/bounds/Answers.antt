@@ -1,5 +1,0 @@
-use Rattle.scr_sq1solve.proofs.Solutions.{twists-solution, IsWithinBounds-scramble}
-use Rattle.scr_sq1solve.proofs.laws.bounds.Goals as goal
-
-pub returns : goal.returns
-returns c = record { solution = twists-solution; scramble = IsWithinBounds-scramble }

@@ -1,0 +1,58 @@
+//! The short scramble.
+ghost use Rattle.std.specs.Prelude.{◌≡◌, ◌≤◌, List};
+ghost use Rattle.scr_combinatorics.specs.Play.{play};
+ghost use Rattle.scr_notation.specs.declared.event.Event.TheVariants.{Sq1 as EventSq1};
+ghost use Rattle.scr_notation.specs.declared.turn.Turn.{Turn as Letter};
+ghost use Rattle.scr_notation.specs.Written.{IsTheScramble};
+ghost use Rattle.scr_sq1.specs.Units.{solved_sq1, sq1_after};
+ghost use Rattle.scr_sq1solve.specs.Counts.{twists_in, twists_of, IsWithinBounds};
+ghost use Rattle.scr_sq1solve.specs.Stages.{IsScrambleSq1};
+ghost use Rattle.scr_sq1solve.specs.ShortScrambles.{IsShortScramble};
+
+use crate::tables::Sq1Tables;
+use crate::totals::total_from;
+use scr_notation::{Scramble, Turn, inverse};
+use scr_sq1::Sq1;
+
+/// The scramble of a Square-1, of at most 76 twists and 153 turns, for which its first `short` words to the square
+/// shape are looked at, from 1 to 1,000, or all where there are fewer: of the solutions that they begin, that of the
+/// fewest twists, the earliest among equals, taken back. With 1 it is the scramble by stages. There is no refusal, and
+/// no memory is taken.
+pub fn scramble_sq1_short(tables: &Sq1Tables, state: &Sq1, short: u32) -> Scramble
+    requires short { (1 ≤ short) × (short ≤ 1000) }
+    ensures the_scramble { IsTheScramble EventSq1 (IsShortScramble short) IsWithinBounds (play sq1_after solved_sq1) state.now result }
+    ensures no_more { (turns : List Letter) → IsScrambleSq1 state.now turns → twists_in result.turns ≤ twists_in turns }
+{
+    state.is_valid();
+    let words = tables.shape_words(state, short);
+    let mut least = total_from(tables, state, words.word(0));
+    for place in 1..words.len() {
+        let total = total_from(tables, state, words.word(place));
+        let is_shorter = twist_count(&total) < twist_count(&least);
+        if is_shorter {
+            least = total;
+        }
+    }
+    inverse(&least)
+}
+
+/// How many of the turns are twists.
+fn twist_count(scramble: &Scramble) -> usize
+    ensures { result ≡ twists_in scramble.now.turns }
+{
+    let mut count = 0;
+    for turn in scramble.turns() {
+        count += twists_of(*turn);
+    }
+    count
+}
+
+/// One where a turn is a twist.
+fn twists_of(turn: Turn) -> usize
+    ensures { result ≡ twists_of turn }
+{
+    match turn {
+        Turn::Twist => 1,
+        _ => 0,
+    }
+}

@@ -1,5 +1,0 @@
-use Rattle.scr_stages.proofs.StateTables.{AreLinesOf-stages}
-use Rattle.scr_stages.proofs.laws.told_by_states.Goals as goal
-
-pub returns : goal.returns
-returns c = AreLinesOf-stages

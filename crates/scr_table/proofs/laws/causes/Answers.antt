@@ -1,5 +1,0 @@
-use Rattle.scr_table.proofs.LineLaws.{IsCauseOf-before, IsCauseOf-behind, no_gaps}
-use Rattle.scr_table.proofs.laws.causes.Goals as goal
-
-pub returns : goal.returns
-returns _ = record { before = IsCauseOf-before; behind = IsCauseOf-behind; no_gaps = no_gaps }

@@ -1,5 +1,0 @@
-use Rattle.scr_table.proofs.DescentLaws.{Measures-unique}
-use Rattle.scr_table.proofs.laws.one_table.Goals as goal
-
-pub returns : goal.returns
-returns _ = Measures-unique

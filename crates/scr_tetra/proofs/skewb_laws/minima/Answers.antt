@@ -1,6 +1,0 @@
-use Rattle.scr_orbit.proofs.Minima.{count_once}
-use Rattle.scr_tetra.proofs.SkewbKnown.{b_u_needs_one, two_enough}
-use Rattle.scr_tetra.proofs.skewb_laws.minima.Goals as goal
-
-pub returns : goal.returns
-returns c = record { counts = count_once; one_needed = b_u_needs_one; two_enough = two_enough }

@@ -1,0 +1,2 @@
+pub mod ListFaults
+pub mod RoundRows

@@ -1,5 +1,0 @@
-use Rattle.scr_twophase.proofs.FewestLaws.{between-played}
-use Rattle.scr_twophase.proofs.laws.between_by_words.Goals as goal
-
-pub returns : goal.returns
-returns c = between-played

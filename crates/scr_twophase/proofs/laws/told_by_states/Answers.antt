@@ -1,5 +1,0 @@
-use Rattle.scr_twophase.proofs.StateTables.{AreLinesOf-prune}
-use Rattle.scr_twophase.proofs.laws.told_by_states.Goals as goal
-
-pub returns : goal.returns
-returns c = AreLinesOf-prune
