@@ -8,27 +8,28 @@ use scr_words::Seed;
 use std::process::Abort;
 use std::test::Fail;
 
-// Forty cubes by nine workers, two hundred by sixty-four, twenty-six groups, twenty-six rounds, the largest tables, and the
-// longest list that follows from a number.
+const ROUNDS: &[u8] =
+    b"clock 1\nminx 1\n222 1\npyram 1\nskewb 1\nsq1 1\n333 1\n333oh 1\n333bf 1\n333fm 1\n555 1\n666 1\n777 1\nclock 1\nminx 1\n222 1\npyram 1\nskewb 1\nsq1 1\n333 1\n333oh 1\n333bf 1\n333fm 1\n555 1\n666 1\n777 1\n";
+
+const NINE: &[&str] = &["sheet", "--seed", ZEROS, "--workers", "9"];
+
+const MOST: &[&str] = &["sheet", "--seed", ZEROS, "--workers", "64"];
+
+/// Forty cubes by nine workers, two hundred by sixty-four, twenty-six groups, twenty-six rounds, the largest tables, and
+/// the longest list that follows from a number.
+static RUNS: [(&[&str], &[u8]); 7] = [
+    (NINE, b"333 6\n"),
+    (MOST, b"333 26\n333 3\n"),
+    (MOST, b"clock 26\n"),
+    (NINE, ROUNDS),
+    (&["tables", "333"], b""),
+    (&["tables", "sq1"], b""),
+    (&["load", "15"], b""),
+];
+
 #[test]
 fn large_runs_end_well(rt: HostRuntime) -> Result<(), Fail> {
-    let nine: &[&str] = &["sheet", "--seed", ZEROS, "--workers", "9"];
-    let most: &[&str] = &["sheet", "--seed", ZEROS, "--workers", "64"];
-    let rounds =
-        "clock 1\nminx 1\n222 1\npyram 1\nskewb 1\nsq1 1\n333 1\n333bf 1\n333fm 1\n555 1\n666 1\n777 1\n";
-    let mut twice = Vec::new(rt.alloc());
-    twice.extend_from_slice(rounds.as_bytes())?;
-    twice.extend_from_slice(rounds.as_bytes())?;
-    let runs: [(&[&str], &[u8]); 7] = [
-        (nine, b"333 6\n"),
-        (most, b"333 26\n333 3\n"),
-        (most, b"clock 26\n"),
-        (nine, &twice),
-        (&["tables", "333"], b""),
-        (&["tables", "sq1"], b""),
-        (&["load", "15"], b""),
-    ];
-    for (words, list) in runs {
+    for (words, list) in &RUNS {
         let ran = run_with(&rt, words, list, 4096, [&[], &[], &[]])?;
         assert_eq!(rt; ran.err.contents(), b"".as_slice());
         assert_eq!(rt; ran.code, 0);

@@ -9,37 +9,42 @@ use scr_table::TableName;
 use std::process::Abort;
 use std::test::Fail;
 
+const JOINED: &str = "--seed=0000000000000000000000000000000000000000000000000000000000000000";
+
+/// Words and a list, and what is written.
+static RUNS: [(&[&str], &str, &str); 7] = [
+    (&["one", "clock", ZEROS], "", SCRAMBLE),
+    (&["one", "minx", ZEROS], "", SCRAMBLE_MINX),
+    (&["tables", "clock"], "", "no tables\n"),
+    (&["tables", "777"], "", "no tables\n"),
+    (&["sheet", JOINED, "--workers=64"], "", ""),
+    (&["sheet", JOINED], " \n\t\r\n", ""),
+    (&["sheet", JOINED], "version 2\n\n", ""),
+];
+
 #[test]
 fn words_and_lists(rt: HostRuntime) -> Result<(), Fail> {
-    let joined = "--seed=0000000000000000000000000000000000000000000000000000000000000000";
-    let runs: [(&[&str], &str, &str); 7] = [
-        (&["one", "clock", ZEROS], "", SCRAMBLE),
-        (&["one", "minx", ZEROS], "", SCRAMBLE_MINX),
-        (&["tables", "clock"], "", "no tables\n"),
-        (&["tables", "777"], "", "no tables\n"),
-        (&["sheet", joined, "--workers=64"], "", ""),
-        (&["sheet", joined], " \n\t\r\n", ""),
-        (&["sheet", joined], "version 2\n\n", ""),
-    ];
-    for (words, list, out) in runs {
+    for (words, list, out) in &RUNS {
         check(&rt, words, list.as_bytes(), 0, out, "")?;
     }
     Ok(())
 }
 
+/// The nets of scrambled cubes, line by line.
+static NETS: [(&str, &[&str]); 6] = [
+    ("222", &NET_222),
+    ("333", &NET_333),
+    ("333oh", &NET_333),
+    ("555", &NET_555),
+    ("666", &NET_666),
+    ("777", &NET_777),
+];
+
 #[test]
 fn nets_of_scrambled_cubes(rt: HostRuntime) -> Result<(), Fail> {
-    let nets: [(&str, &[&str]); 6] = [
-        ("222", &NET_222),
-        ("333", &NET_333),
-        ("333oh", &NET_333),
-        ("555", &NET_555),
-        ("666", &NET_666),
-        ("777", &NET_777),
-    ];
-    for (event, lines) in nets {
+    for (event, lines) in &NETS {
         let mut text = Vec::new(rt.alloc());
-        for line in lines {
+        for line in *lines {
             text.extend_from_slice(line.as_bytes())?;
         }
         let ran = run_with(&rt, &["net", event, ZEROS], b"", 4096, [&[], &[], &[]])?;
@@ -49,53 +54,75 @@ fn nets_of_scrambled_cubes(rt: HostRuntime) -> Result<(), Fail> {
     Ok(())
 }
 
+/// Words that are refused, and what is told.
+static WORDS_REFUSED: [(&[&str], &str); 21] = [
+    (&["net", "444", ZEROS], NO_444),
+    (&["net", "pyram", ZEROS], USAGE),
+    (&["net", "333bf", ZEROS], USAGE),
+    (&["net", "333fm", ZEROS], USAGE),
+    (&["check", JOINED, "--tries=1"], USAGE),
+    (
+        &["check", "--seed", "abc"],
+        "scramble: seed has 3 characters, not 64\n",
+    ),
+    (&["tables", "444"], NO_444),
+    (&["tables", "magic"], USAGE),
+    (
+        &[
+            "one",
+            "clock",
+            "000000000000000000000000000000000000000000000000000000000000000g",
+        ],
+        "scramble: seed has no hexadecimal digit at 63\n",
+    ),
+    (
+        &["one", "clock", "-x"],
+        "scramble: seed has 2 characters, not 64\n",
+    ),
+    (
+        &["one", "clock", ""],
+        "scramble: seed has 0 characters, not 64\n",
+    ),
+    (&["one", "444", ZEROS], NO_444),
+    (&["one", "magic", ZEROS], USAGE),
+    (&["one", "clock"], USAGE),
+    (&["one", "clock", ZEROS, ZEROS], USAGE),
+    (&[], USAGE),
+    (&["sheet"], USAGE),
+    (
+        &[
+            "sheet",
+            "--seed==0000000000000000000000000000000000000000000000000000000000000000",
+        ],
+        "scramble: seed has 65 characters, not 64\n",
+    ),
+    (
+        &["sheet", "--seed", "abc"],
+        "scramble: seed has 3 characters, not 64\n",
+    ),
+    (&["sheet", JOINED, "--workers", "65"], USAGE),
+    (&["sheet", JOINED, "--attempts", "1000001"], USAGE),
+];
+
+/// Lists that are refused, and what is told.
+static LISTS_REFUSED: [(&str, &str); 8] = [
+    ("444 1", "scramble: line 1: 444 is not supported\n"),
+    ("\nclock 27", "scramble: line 2: groups\n"),
+    ("333", "scramble: line 1: words\n"),
+    ("444bf 1", "scramble: line 1: unknown event\n"),
+    ("clock 1 4", "scramble: line 1: minimum\n"),
+    ("version 2\nclock 1 :", "scramble: line 2: name\n"),
+    ("version 2\n: Final", "scramble: line 2: words\n"),
+    ("version 3", "scramble: line 1: unknown event\n"),
+];
+
 #[test]
 fn words_and_lists_refused(rt: HostRuntime) -> Result<(), Fail> {
-    let digit = "000000000000000000000000000000000000000000000000000000000000000g";
-    let joined = "--seed=0000000000000000000000000000000000000000000000000000000000000000";
-    let equals = "--seed==0000000000000000000000000000000000000000000000000000000000000000";
-    let not_a_digit = "scramble: seed has no hexadecimal digit at 63\n";
-    let of_two = "scramble: seed has 2 characters, not 64\n";
-    let of_three = "scramble: seed has 3 characters, not 64\n";
-    let of_none = "scramble: seed has 0 characters, not 64\n";
-    let of_65 = "scramble: seed has 65 characters, not 64\n";
-    let runs: [(&[&str], &str); 21] = [
-        (&["net", "444", ZEROS], NO_444),
-        (&["net", "pyram", ZEROS], USAGE),
-        (&["net", "333bf", ZEROS], USAGE),
-        (&["net", "333fm", ZEROS], USAGE),
-        (&["check", joined, "--tries=1"], USAGE),
-        (&["check", "--seed", "abc"], of_three),
-        (&["tables", "444"], NO_444),
-        (&["tables", "magic"], USAGE),
-        (&["one", "clock", digit], not_a_digit),
-        (&["one", "clock", "-x"], of_two),
-        (&["one", "clock", ""], of_none),
-        (&["one", "444", ZEROS], NO_444),
-        (&["one", "magic", ZEROS], USAGE),
-        (&["one", "clock"], USAGE),
-        (&["one", "clock", ZEROS, ZEROS], USAGE),
-        (&[], USAGE),
-        (&["sheet"], USAGE),
-        (&["sheet", equals], of_65),
-        (&["sheet", "--seed", "abc"], of_three),
-        (&["sheet", joined, "--workers", "65"], USAGE),
-        (&["sheet", joined, "--attempts", "1000001"], USAGE),
-    ];
-    for (words, err) in runs {
+    for (words, err) in &WORDS_REFUSED {
         check(&rt, words, b"", 2, "", err)?;
     }
-    for (list, err) in [
-        ("444 1", "scramble: line 1: 444 is not supported\n"),
-        ("\nclock 27", "scramble: line 2: groups\n"),
-        ("333", "scramble: line 1: words\n"),
-        ("444bf 1", "scramble: line 1: unknown event\n"),
-        ("clock 1 4", "scramble: line 1: minimum\n"),
-        ("version 2\nclock 1 :", "scramble: line 2: name\n"),
-        ("version 2\n: Final", "scramble: line 2: words\n"),
-        ("version 3", "scramble: line 1: unknown event\n"),
-    ] {
-        check(&rt, &["sheet", joined], list.as_bytes(), 3, "", err)?;
+    for (list, err) in &LISTS_REFUSED {
+        check(&rt, &["sheet", JOINED], list.as_bytes(), 3, "", err)?;
     }
     Ok(())
 }

@@ -12,57 +12,62 @@ struct Long {
     times: u32,
 }
 
+const TOO_LONG: &str = "scramble: list is longer than 4096 bytes\n";
+
+const TOO_MANY: &str = "scramble: line 65: too many rounds\n";
+
+/// A list, how many rounds it has, and what is told.
+static LISTS: [(Long, usize, &str); 5] = [
+    (
+        Long {
+            line: "clock 1\n",
+            piece: "clock 1\n",
+            times: 63,
+        },
+        64,
+        "",
+    ),
+    (
+        Long {
+            line: "clock 1\n",
+            piece: "clock 1\n",
+            times: 64,
+        },
+        0,
+        TOO_MANY,
+    ),
+    (
+        Long {
+            line: "clock 1\n",
+            piece: "\n",
+            times: 4088,
+        },
+        1,
+        "",
+    ),
+    (
+        Long {
+            line: "clock 1\n",
+            piece: "\n",
+            times: 4089,
+        },
+        0,
+        TOO_LONG,
+    ),
+    (
+        Long {
+            line: "444 1",
+            piece: "\n",
+            times: 4092,
+        },
+        0,
+        TOO_LONG,
+    ),
+];
+
 #[test]
 fn lists_at_their_limits(rt: HostRuntime) -> Result<(), Fail> {
-    let too_long = "scramble: list is longer than 4096 bytes\n";
-    let too_many = "scramble: line 65: too many rounds\n";
-    for (long, rounds, err) in [
-        (
-            Long {
-                line: "clock 1\n",
-                piece: "clock 1\n",
-                times: 63,
-            },
-            64,
-            "",
-        ),
-        (
-            Long {
-                line: "clock 1\n",
-                piece: "clock 1\n",
-                times: 64,
-            },
-            0,
-            too_many,
-        ),
-        (
-            Long {
-                line: "clock 1\n",
-                piece: "\n",
-                times: 4088,
-            },
-            1,
-            "",
-        ),
-        (
-            Long {
-                line: "clock 1\n",
-                piece: "\n",
-                times: 4089,
-            },
-            0,
-            too_long,
-        ),
-        (
-            Long {
-                line: "444 1",
-                piece: "\n",
-                times: 4092,
-            },
-            0,
-            too_long,
-        ),
-    ] {
+    for (long, rounds, err) in &LISTS {
         let mut list = Vec::new(rt.alloc());
         list.extend_from_slice(long.line.as_bytes())?;
         for _ in 0..long.times {
@@ -83,7 +88,7 @@ fn lists_at_their_limits(rt: HostRuntime) -> Result<(), Fail> {
             .count();
         assert_eq!(rt; ran.code, if err.is_empty() { 0 } else { 3 });
         assert_eq!(rt; ran.err.contents(), err.as_bytes());
-        assert_eq!(rt; lines, 10 * rounds);
+        assert_eq!(rt; lines, 10 * *rounds);
     }
     Ok(())
 }

@@ -27,43 +27,49 @@ fn told(rt: &impl AllocGlobal, rounds: u32, scrambles: u32, sheet: &[u8]) -> Res
     Ok(text)
 }
 
+/// A number; the seed and the list of its sheet; and how many rounds and scrambles that has.
+static LOADS: [(&str, &str, &str, u32, u32); 4] = [
+    ("0", ZEROS, "222 1", 1, 7),
+    (
+        "1",
+        "0100000000000000000000000000000000000000000000000000000000000000",
+        "333 2\n333oh 7",
+        2,
+        63,
+    ),
+    (
+        "258",
+        "0201000000000000000000000000000000000000000000000000000000000000",
+        "777 3\nclock 8\nminx 5",
+        3,
+        106,
+    ),
+    (
+        "15",
+        "0f00000000000000000000000000000000000000000000000000000000000000",
+        "666 8\n777 5\nclock 2\nminx 7\npyram 4\nskewb 1\nsq1 6\n222 3\n333 8\n333oh 5\n555 2\n666 7\n777 4\nclock 1\nminx 6\npyram 3",
+        16,
+        456,
+    ),
+];
+
+/// Calls that fail, and what is written before.
+static FAILING: [(u32, &str); 3] = [(1, ""), (2, "rounds 1\n"), (3, "rounds 1\nscrambles 7\n")];
+
 // What `load` tells of a sheet, against the sheet of the same rounds as a list. Neither reads more than it asks for.
 #[test]
 fn loads_are_sheets_that_are_counted(rt: HostRuntime) -> Result<(), Fail> {
-    for (number, seed, list, rounds, scrambles) in [
-        ("0", ZEROS, "222 1", 1, 7),
-        (
-            "1",
-            "0100000000000000000000000000000000000000000000000000000000000000",
-            "333 2\n333oh 7",
-            2,
-            63,
-        ),
-        (
-            "258",
-            "0201000000000000000000000000000000000000000000000000000000000000",
-            "777 3\nclock 8\nminx 5",
-            3,
-            106,
-        ),
-        (
-            "15",
-            "0f00000000000000000000000000000000000000000000000000000000000000",
-            "666 8\n777 5\nclock 2\nminx 7\npyram 4\nskewb 1\nsq1 6\n222 3\n333 8\n333oh 5\n555 2\n666 7\n777 4\nclock 1\nminx 6\npyram 3",
-            16,
-            456,
-        ),
-    ] {
+    for (number, seed, list, rounds, scrambles) in &LOADS {
         let words = ["sheet", "--seed", seed];
         let sheet = run_with(&rt, &words, list.as_bytes(), 4096, [&[], &[], &[]])?;
         assert_eq!(rt; sheet.code, 0);
-        let lines = told(&rt, rounds, scrambles, sheet.out.contents())?;
+        let lines = told(&rt, *rounds, *scrambles, sheet.out.contents())?;
         let load = run_with(&rt, &["load", number], b"x", 4096, [&[1], &[], &[]])?;
         assert_eq!(rt; load.code, 0);
         assert_eq!(rt; load.out.contents(), lines.as_slice());
     }
-    for (call, written) in [(1, ""), (2, "rounds 1\n"), (3, "rounds 1\nscrambles 7\n")] {
-        let failed = run_with(&rt, &["load", "0"], b"", 4096, [&[], &[call], &[]])?;
+    for (call, written) in &FAILING {
+        let failed = run_with(&rt, &["load", "0"], b"", 4096, [&[], &[*call], &[]])?;
         assert_eq!(rt; failed.code, 6);
         assert_eq!(rt; failed.out.contents(), written.as_bytes());
     }
